@@ -29,7 +29,7 @@ use Rattle.pg_dyn.proofs.lemmas.ByField as ByField
 use Rattle.pg_dyn.proofs.lemmas.ByComparands as ByComparands
 use Rattle.pg_dyn.proofs.lemmas.RecordsRead.{content_none}
 use Rattle.pg_dyn.proofs.lemmas.ItemLeaves.{item_is_key}
-use Rattle.pg_dyn.proofs.lemmas.ReplacingLaws.{content_number, type_of-kept_onto, unknown-message_of, type_of-with_parts, type_of-without_siblings}
+use Rattle.pg_dyn.proofs.lemmas.ReplacingLaws.{content_number, kept_means, type_of-kept_onto, unknown-message_of, type_of-with_parts, type_of-without_siblings}
 use Rattle.pg_dyn.proofs.lemmas.SelfSame.{plain_unknown}
 use Rattle.pg_dyn.proofs.lemmas.Leaves.{leaf_eq_self, same_leaf}
 
@@ -133,7 +133,7 @@ pub parts_keep_types : PartsKeepTypes
 parts_keep_types = (type_of-kept_onto, type_of-with_parts, type_of-without_siblings)
 
 pub contents_are_seen : ContentsAreSeen
-contents_are_seen = (content_number, item_is_key)
+contents_are_seen = (content_number, item_is_key, kept_means)
 
 plain_kept : (m : Kept) → kept.IsPlain m → model.IsPlain (message_of m)
 plain_kept (kept.ends type []) h = tt

@@ -10,7 +10,7 @@ use Rattle.pg_dyn.specs.declared.message_ref.ValueRef.{ValueRef}
 use Rattle.pg_dyn.specs.declared.message_ref.ValueRef.TheVariants as values
 use Rattle.pg_dyn.specs.declared.message_ref.MessageRef.TheInside.{Inside}
 use Rattle.pg_dyn.specs.Message.{Leaf, Int, F32, F64, Bytes, Part}
-use Rattle.pg_dyn.specs.Kept.{Kept, ends, KeptItem, Plain, Msg, IsPlainItem}
+use Rattle.pg_dyn.specs.Kept.{Kept, Manner, ends, KeptItem, Plain, Msg, IsPlainItem}
 use Rattle.pg_dyn.specs.Replacing.{kept_onto}
 use Rattle.pg_dyn.specs.Seen.{Rises}
 
@@ -23,9 +23,17 @@ leaf_of (values.Text text) = Bytes text.now
 leaf_of (values.Bytes bytes) = Bytes bytes.now
 leaf_of (values.Msg child) = Bytes []
 
+-- how a value is kept that is no message
+abbrev pub is_text : ValueRef → Bool
+is_text (values.Text text) = true
+is_text value = false
+
+abbrev pub manner : Bool → ValueRef → Manner
+manner listed value = record { listed = listed; text = is_text value }
+
 abbrev pub item_seen : Bool → ValueRef → KeptItem
 item_seen listed (values.Msg child) = Msg listed child.value
-item_seen listed value = Plain listed (leaf_of value)
+item_seen listed value = Plain (manner listed value) (leaf_of value)
 
 -- an item and an entry as parts of a number, a content by itself, and the contents of all fields
 abbrev pub item_part : ℕ → Bool → ValueRef → Part KeptItem
@@ -48,17 +56,23 @@ fields_onto fs later = kept_onto (all_seen fs) later
 abbrev pub kept_seen : Inside → Kept
 kept_seen a = fields_onto a.fields.items (ends a.type_id (map seen_record a.unknown.items))
 
--- What holds of every message: the numbers of its fields rise, no content is empty, the keys of its maps are no messages, and each of
--- its unknown records is one.
+-- What holds of every message: the numbers of its fields rise, no content is empty, the keys of its maps are numbers or texts, and
+-- each of its unknown records is one.
 
 abbrev pub IsKey : ValueRef → Type 0
 IsKey (values.Msg child) = ⊥
 IsKey value = ⊤
 
+-- a map's key is a number or a text, since no map has keys of type bytes
+abbrev pub IsMapKey : ValueRef → Type 0
+IsMapKey (values.Msg child) = ⊥
+IsMapKey (values.Bytes bytes) = ⊥
+IsMapKey value = ⊤
+
 abbrev pub HasKeys : ContentRef → Type 0
 HasKeys (contents.One value) = ⊤
 HasKeys (contents.Many vs) = ⊤
-HasKeys (contents.Map es) = AllByRecursion (λ (e : EntryRef). IsKey e.key) es.items
+HasKeys (contents.Map es) = AllByRecursion (λ (e : EntryRef). IsMapKey e.key) es.items
 
 -- a content holds something: without an item or an entry there is none
 abbrev pub IsFilled : ContentRef → Type 0

@@ -15,7 +15,7 @@ use Rattle.pg_dyn.specs.declared.message_ref.MessageRef.TheShapes.{weighed-Messa
 use Rattle.pg_dyn.specs.Message.{Leaf, Part}
 use Rattle.pg_dyn.specs.Kept.{Kept, ends, KeptItem, weight}
 use Rattle.pg_dyn.specs.Replacing.{kept_onto, kept_part}
-use Rattle.pg_dyn.specs.Borrowed.{all_seen, content_seen, entry_part, item_part, item_seen, kept_seen, IsKey, HasKeys, IsWellKept}
+use Rattle.pg_dyn.specs.Borrowed.{all_seen, content_seen, entry_part, item_part, item_seen, kept_seen, IsMapKey, HasKeys, IsWellKept}
 
 -- what more parts in front do
 abbrev Deeper : ℕ → Kept → Kept → Type 0
@@ -29,12 +29,12 @@ value_deep number key listed (values.Text n) later h = (omega arith, omega arith
 value_deep number key listed (values.Bytes n) later h = (omega arith, omega arith)
 value_deep number key listed (values.Msg child) later h = (omega arith, omega arith)
 
-key_deep : (v : ValueRef) → IsKey v → deep-ValueRef v ≡ 0
+key_deep : (v : ValueRef) → IsMapKey v → deep-ValueRef v ≡ 0
 key_deep (values.Int n) h = refl
 key_deep (values.F32 n) h = refl
 key_deep (values.F64 n) h = refl
 key_deep (values.Text n) h = refl
-key_deep (values.Bytes n) h = refl
+key_deep (values.Bytes n) h = absurd h
 key_deep (values.Msg child) h = absurd h
 
 -- parts in front of others
@@ -50,7 +50,7 @@ items_deep number (v ∷ vs) later h =
     (omega (arith, rest.0, first.0, first.1), omega (arith, rest.1, first.1))
 
 entries_deep : (number : ℕ) (es : List EntryRef) (later : Kept)
-    → AllByRecursion (λ (e : EntryRef). IsKey e.key) es → 1 ≤ weight later → Deeper (most (λ e. deep-EntryRef e) es) later (kept_onto (map (entry_part number) es) later)
+    → AllByRecursion (λ (e : EntryRef). IsMapKey e.key) es → 1 ≤ weight later → Deeper (most (λ e. deep-EntryRef e) es) later (kept_onto (map (entry_part number) es) later)
 entries_deep number [] later keys h = (omega arith, omega arith)
 entries_deep number (e ∷ es) later keys h =
     let rest = entries_deep number es later keys.1 h in

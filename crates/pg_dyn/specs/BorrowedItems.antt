@@ -10,7 +10,7 @@ use Rattle.pg_dyn.specs.declared.message_ref.ValueRef.{ValueRef}
 use Rattle.pg_dyn.specs.Borrowed.{item_seen, leaf_of}
 use Rattle.pg_dyn.specs.KeyOrder.{IsOfKind, Rise, rank_cmp}
 use Rattle.pg_dyn.specs.Message.{Leaf}
-use Rattle.pg_dyn.specs.PartsFit.{IsElementItem, IsScalarItem}
+use Rattle.pg_dyn.specs.PartsFit.{IsElementItem, IsElementKept, IsScalarItem, IsScalarKept}
 use Rattle.pg_dyn.specs.setting.Setting.{is_zero_kept}
 
 abbrev pub IsItemOf : Scalar → ValueRef → Type 0
@@ -18,6 +18,13 @@ IsItemOf s value = IsScalarItem s (item_seen false value)
 
 abbrev pub ItemFits : Shape → Element → ValueRef → Type 0
 ItemFits shape element value = IsElementItem shape element (item_seen false value)
+
+-- so are they, and texts where the scalar or element is string
+abbrev pub IsItemKept : Scalar → ValueRef → Type 0
+IsItemKept s value = IsScalarKept s (item_seen false value)
+
+abbrev pub ItemKept : Shape → Element → ValueRef → Type 0
+ItemKept shape element value = IsElementKept shape element (item_seen false value)
 
 abbrev pub is_zero_value : ValueRef → Bool
 is_zero_value value = is_zero_kept (item_seen false value)

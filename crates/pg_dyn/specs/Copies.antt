@@ -8,7 +8,7 @@ use Rattle.pg_dyn.specs.declared.message_ref.ValueRef.{ValueRef}
 use Rattle.pg_dyn.specs.Borrowed as borrowed
 use Rattle.pg_dyn.specs.Kept.{KeptItem}
 use Rattle.pg_dyn.specs.Message.{Part}
-use Rattle.pg_dyn.specs.Seen.{HasKeys, IsFilled, IsKey, content_seen, item_seen, leaf_of}
+use Rattle.pg_dyn.specs.Seen.{HasKeys, IsFilled, IsMapKey, content_seen, item_seen, leaf_of}
 
 abbrev pub IsItemCopy : ValueRef → Value → Type 0
 IsItemCopy lent copy = (listed : Bool) → item_seen listed copy ≡ borrowed.item_seen listed lent
@@ -19,7 +19,7 @@ entry_part number e = record { number = number; key = Some (leaf_of e.0); item =
 
 pub record IsEntryCopy (lent : EntryRef) (copy : Value × Value) : Type 0 where
   pub part : (number : ℕ) → entry_part number copy ≡ borrowed.entry_part number lent
-  pub key : borrowed.IsKey lent.key → IsKey copy.0
+  pub key : borrowed.IsMapKey lent.key → IsMapKey copy.0
 
 pub record IsContentCopy (lent : ContentRef) (copy : Content) : Type 0 where
   pub parts : (number : ℕ) → content_seen number copy ≡ borrowed.content_seen number lent

@@ -27,6 +27,7 @@ use Rattle.pg_dyn.specs.Laws.{of_number}
 use Rattle.pg_dyn.specs.Kept.{Kept, KeptItem, message_of, type_of}
 use Rattle.pg_dyn.specs.Kept as kept
 use Rattle.pg_dyn.specs.Seen.{IsKey, content_seen}
+use Rattle.pg_dyn.specs.Texts.{kept_in}
 use Rattle.pg_dyn.specs.ScalarItems.{IsItemOf}
 use Rattle.pg_dyn.specs.Replacing.{kept_onto, with_parts, without_siblings}
 
@@ -88,11 +89,13 @@ PartsKeepTypes =
     × ((n : ℕ) (ps : List (Part KeptItem)) (m : Kept) → type_of (with_parts n ps m) ≡ type_of m)
     × ((fs : List FieldShape) (f : FieldShape) (m : Kept) → type_of (without_siblings fs f m) ≡ type_of m)
 
--- The parts of a content have the number under which it stands, and an item of a scalar is no message.
+-- The parts of a content have the number under which it stands, an item of a scalar is no message, and parts mean the same in front of a
+-- message where they are kept as an element's.
 abbrev pub ContentsAreSeen : Type 0
 ContentsAreSeen =
     ((n : ℕ) (c : Content) → AllByRecursion (λ (p : Part KeptItem). p.number ≡ n) (content_seen n c))
     × ((s : Scalar) (v : Value) → IsItemOf s v → IsKey v)
+    × ((e : Element) (ps : List (Part KeptItem)) (later : Kept) → message_of (kept_onto (map (kept_in e) ps) later) ≡ message_of (kept_onto ps later))
 
 -- What is kept holds no unknown records just where the message that it means holds none.
 abbrev pub PlainIsKept : Type 0

@@ -16,7 +16,7 @@ is_listed fs number = is_listed_by (field_at fs number)
 -- just the items of repeated fields stand in lists, and each message inside says that it is of the type of its field
 abbrev pub PartsAgree : Shape → Kept → Type 0
 PartsAgree shape (ends type unknown) = ⊤
-PartsAgree shape (holds number key listed leaf later) = (is_listed (fields shape (type_of later)) number ≡ listed) × PartsAgree shape later
+PartsAgree shape (holds number key manner leaf later) = (is_listed (fields shape (type_of later)) number ≡ manner.listed) × PartsAgree shape later
 PartsAgree shape (nests number key listed child later) =
     (is_listed (fields shape (type_of later)) number ≡ listed) × (child_type (fields shape (type_of later)) number ≡ type_of child) × PartsAgree shape child
     × PartsAgree shape later

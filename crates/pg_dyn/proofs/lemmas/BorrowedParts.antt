@@ -1,5 +1,5 @@
 -- The parts of a message that borrows, and of its copy.
-use Rattle.std.proofs.Common.{Vec, Global, ◌≡◌, ◌≢◌, ℕ, zero, suc, ◌+◌, ◌<◌, List, [], ◌∷◌, ◌++◌, length, map, filter, get_or, take, true, false, Some, None, refl, ap, ap₂, sym, subst, ◌∙◌, arith, eq-eqb, ne_eqb}
+use Rattle.std.proofs.Common.{Vec, Global, ◌≡◌, ◌≢◌, ℕ, zero, suc, ◌+◌, ◌<◌, List, [], ◌∷◌, ◌++◌, length, map, filter, get_or, take, Bool, true, false, Some, None, refl, ap, ap₂, sym, subst, ◌∙◌, arith, eq-eqb, ne_eqb}
 use Rattle.std.specs.List.{AllByRecursion}
 use Rattle.std.proofs.lemmas.List.{append-nil, map-append, take_more}
 use Rattle.pg_schema.specs.declared.parts.field.TypeId.{TypeId}
@@ -22,7 +22,7 @@ use Rattle.pg_dyn.specs.Copies as copy
 use Rattle.pg_dyn.specs.Kept.{Kept, ends, KeptItem, Plain, Msg, of_number, parts_of, type_of, unknown_of}
 use Rattle.pg_dyn.specs.Message.{Leaf, Bytes, Part, is_of}
 use Rattle.pg_dyn.specs.Replacing.{kept_onto}
-use Rattle.pg_dyn.specs.Seen.{HasKeys, IsFilled, IsKey, Rises, item_seen}
+use Rattle.pg_dyn.specs.Seen.{HasKeys, IsFilled, IsMapKey, Rises, item_seen}
 use Rattle.pg_dyn.specs.Seen as seen
 use Rattle.pg_dyn.proofs.lemmas.KeptParts.{at_index}
 use Rattle.pg_dyn.proofs.Lists.{each-append, each-map, each_after, each_before, each_of_all, each_weaker, filter_all, filter_none, filter-append', flat_map-append', map_map}
@@ -94,13 +94,23 @@ record_at (r ∷ rs) (suc i) d inside h = record_at rs i d (omega arith) h.1
 
 -- Copies.
 
+-- whether an item is a text
+abbrev shown_text : KeptItem → Bool
+shown_text (Plain manner leaf) = manner.text
+shown_text (Msg listed child) = false
+
 -- the key of a copy is one where the key that is lent is
-pub key_copied : (r : ValueRef) (v : Value) → item_seen false v ≡ borrowed.item_seen false r → borrowed.IsKey r → IsKey v
+pub key_copied : (r : ValueRef) (v : Value) → item_seen false v ≡ borrowed.item_seen false r → borrowed.IsMapKey r → IsMapKey v
 key_copied r (owned.Int n) same h = tt
 key_copied r (owned.F32 n) same h = tt
 key_copied r (owned.F64 n) same h = tt
 key_copied r (owned.Text n) same h = tt
-key_copied r (owned.Bytes n) same h = tt
+key_copied (values.Int m) (owned.Bytes n) same h = cc
+key_copied (values.F32 m) (owned.Bytes n) same h = cc
+key_copied (values.F64 m) (owned.Bytes n) same h = cc
+key_copied (values.Text m) (owned.Bytes n) same h = let no : false ≡ true = ap shown_text same in absurd (cc)
+key_copied (values.Bytes m) (owned.Bytes n) same h = absurd h
+key_copied (values.Msg m) (owned.Bytes n) same h = absurd h
 key_copied (values.Int n) (owned.Msg child) same h = cc
 key_copied (values.F32 n) (owned.Msg child) same h = cc
 key_copied (values.F64 n) (owned.Msg child) same h = cc
@@ -170,7 +180,7 @@ list_copied rs vs same = record {
 }
 
 abbrev pub KeysCopied : List EntryRef → List (Value × Value) → Type 0
-KeysCopied lent copies = AllByRecursion (λ (e : EntryRef). borrowed.IsKey e.key) lent → AllByRecursion (λ (e : Value × Value). IsKey e.0) copies
+KeysCopied lent copies = AllByRecursion (λ (e : EntryRef). borrowed.IsMapKey e.key) lent → AllByRecursion (λ (e : Value × Value). IsMapKey e.0) copies
 
 pub map_copied : (rs : Vec EntryRef Global) (es : Vec (Value × Value) Global) → KeysCopied rs.items es.items → ((n : ℕ) → map (copy.entry_part n) es.items ≡ map (entry_part n) rs.items)
     → IsContentCopy (contents.Map rs) (held.Map es)
@@ -183,9 +193,9 @@ map_copied rs es keys same = record {
 pub keys_more : (lent : List EntryRef) (copies : List (Value × Value)) (i : ℕ) (e : EntryRef) (c : Value × Value) → i < length lent → e ≡ get_or lent i e
     → KeysCopied (take i lent) copies → IsEntryCopy e c → KeysCopied (take (i + 1) lent) (copies ++ c ∷ [])
 keys_more lent copies i e c inside is before new all =
-    let split = subst (AllByRecursion (λ (x : EntryRef). borrowed.IsKey x.key)) (take_more lent i e inside ∙ ap (λ x. take i lent ++ x ∷ []) (sym is)) all in
-    each-append (λ (x : Value × Value). IsKey x.0) copies (c ∷ []) (before (each_before (λ (x : EntryRef). borrowed.IsKey x.key) (take i lent) (e ∷ []) split))
-    (new.key (each_after (λ (x : EntryRef). borrowed.IsKey x.key) (take i lent) (e ∷ []) split).0, tt)
+    let split = subst (AllByRecursion (λ (x : EntryRef). borrowed.IsMapKey x.key)) (take_more lent i e inside ∙ ap (λ x. take i lent ++ x ∷ []) (sym is)) all in
+    each-append (λ (x : Value × Value). IsMapKey x.0) copies (c ∷ []) (before (each_before (λ (x : EntryRef). borrowed.IsMapKey x.key) (take i lent) (e ∷ []) split))
+    (new.key (each_after (λ (x : EntryRef). borrowed.IsMapKey x.key) (take i lent) (e ∷ []) split).0, tt)
 
 -- All contents.
 

@@ -18,7 +18,7 @@ use Rattle.pg_dyn.specs.Message.{Leaf, Part, Place, places, key_cmp}
 use Rattle.pg_dyn.specs.reading.Content.{is_sibling}
 use Rattle.pg_dyn.specs.encoding.Encoding.{child_type}
 use Rattle.pg_dyn.specs.Kept.{Kept, KeptItem, ends, holds, type_of, message_of}
-use Rattle.pg_dyn.specs.Seen.{leaf_of, content_seen, item_seen, value_onto, items_onto, entries_onto, content_onto, fields_onto, Rises, IsFilled, IsKey, HasKeys}
+use Rattle.pg_dyn.specs.Seen.{leaf_of, manner, content_seen, item_seen, value_onto, items_onto, entries_onto, content_onto, fields_onto, Rises, IsFilled, IsKey, IsMapKey, HasKeys}
 use Rattle.pg_dyn.specs.Belonging.{KeyFits, MayFollow, ComesBefore, IsPart, IsUnknown, IsMessage}
 use Rattle.pg_dyn.specs.Fits.{Fits, PartsAgree, is_listed, is_listed_by}
 use Rattle.pg_dyn.specs.PartsFit.{FieldHolds, HoldsItem, IsPartOf}
@@ -27,7 +27,7 @@ use Rattle.pg_dyn.specs.ContentFits.{ItemFits, KeysRise, ContentFits, HoldsConte
 use Rattle.pg_dyn.proofs.lemmas.Belonging.{child_type_is, fields-IsType}
 use Rattle.pg_dyn.proofs.lemmas.KeptParts.{unknown_of-items, unknown_of-entries, fields_keep}
 use Rattle.pg_dyn.proofs.Lists.{each_weaker, each_at, each_before, each_after}
-use Rattle.pg_dyn.proofs.lemmas.ItemLeaves.{in_range, item_of_range, ZeroFits, zero_of_child, leaf_to, leaf_back, child_of}
+use Rattle.pg_dyn.proofs.lemmas.ItemLeaves.{in_range, item_of_range, map_key_is_key, ZeroFits, zero_of_child, leaf_to, leaf_back, child_of}
 use Rattle.pg_dyn.proofs.lemmas.Fields.{field_of}
 use Rattle.pg_dyn.proofs.lemmas.PartsToFits.{HoldsParts, contents_whole}
 use Rattle.pg_dyn.proofs.lemmas.ReplacingLaws.{fields_from}
@@ -76,7 +76,7 @@ module _ (shape : Shape) (type : TypeId) where
   listed_back : (n : ℕ) (l : Bool) (later : Kept) (f : FieldShape) → type_of later ≡ type → field_at (fields shape type) n ≡ Some f → is_listed (fields shape (type_of later)) n ≡ l → is_repeated f.presence ≡ l
   listed_back n l later f same found is = sym (ap (λ t. is_listed (fields shape t) n) same ∙ ap is_listed_by found) ∙ is
 
-  leaf_off : (n : ℕ) (k : Option Leaf) (l : Bool) (v : Value) (later : Kept) → IsKey v → type_of later ≡ type → Whole (holds n k l (leaf_of v) later) → Here n k l v later × Whole later
+  leaf_off : (n : ℕ) (k : Option Leaf) (l : Bool) (v : Value) (later : Kept) → IsKey v → type_of later ≡ type → Whole (holds n k (manner l v) (leaf_of v) later) → Here n k l v later × Whole later
   leaf_off n k l v later key same h =
       let part = h.0.0 in
       let fits = leaf_back shape part.field.number part.field.presence part.field.element part.field.oneof v key h.0.1 in
@@ -331,7 +331,8 @@ module _ (shape : Shape) (type : TypeId) where
         let k = items_back n vs.items later same filled h in
         (k.0, k.1, many_takes k.0.presence k.0.element vs k.2 k.3, k.4, k.5)
     content_back n (contents.Map es) later same filled keys h =
-        let k = entries_back n es.items later same filled keys h in
+        let k =
+        entries_back n es.items later same filled (each_weaker (λ (e : Value × Value). IsMapKey e.0) (λ (e : Value × Value). IsKey e.0) (λ e. map_key_is_key e.0) es.items keys) h in
         (k.0, k.1, map_takes k.0.presence k.0.element es k.2.0 k.2.1 k.2.2 k.2.3, k.3, k.4)
 
     pub contents_back : (ms : List (ℕ × Content)) (us : List WireRecord) → AllByRecursion (λ (m : ℕ × Content). IsFilled m.1) ms → AllByRecursion (λ (m : ℕ × Content). HasKeys m.1) ms → Whole (shown ms us)

@@ -15,7 +15,7 @@ use Rattle.pg_dyn.specs.declared.message.Value.TheVariants as values
 use Rattle.pg_dyn.specs.Message.{is_zero}
 use Rattle.pg_dyn.specs.Coding.{InRange, scalar_form}
 use Rattle.pg_dyn.specs.Kept.{Plain, type_of}
-use Rattle.pg_dyn.specs.Seen.{leaf_of, item_seen, IsKey}
+use Rattle.pg_dyn.specs.Seen.{leaf_of, item_seen, manner, IsKey, IsMapKey}
 use Rattle.pg_dyn.specs.Belonging.{LeafFits, MayBeZero}
 use Rattle.pg_dyn.specs.Fits.{Fits}
 use Rattle.pg_dyn.specs.ScalarItems.{IsItemOf}
@@ -46,6 +46,15 @@ item_is_key s (values.Text x) h = tt
 item_is_key s (values.Bytes x) h = tt
 item_is_key s (values.Msg x) h = absurd h
 
+-- a map's key is one
+pub map_key_is_key : (v : Value) → IsMapKey v → IsKey v
+map_key_is_key (values.Int x) h = tt
+map_key_is_key (values.F32 x) h = tt
+map_key_is_key (values.F64 x) h = tt
+map_key_is_key (values.Text x) h = tt
+map_key_is_key (values.Bytes x) h = tt
+map_key_is_key (values.Msg x) h = h
+
 pub zero_of_key : (v : Value) → IsKey v → is_zero_value v ≡ is_zero (leaf_of v)
 zero_of_key (values.Int x) key = refl
 zero_of_key (values.F32 x) key = refl
@@ -54,7 +63,7 @@ zero_of_key (values.Text x) key = refl
 zero_of_key (values.Bytes x) key = refl
 zero_of_key (values.Msg x) key = absurd key
 
-pub key_seen : (v : Value) → IsKey v → item_seen false v ≡ Plain false (leaf_of v)
+pub key_seen : (v : Value) → IsKey v → item_seen false v ≡ Plain (manner false v) (leaf_of v)
 key_seen (values.Int x) h = refl
 key_seen (values.F32 x) h = refl
 key_seen (values.F64 x) h = refl

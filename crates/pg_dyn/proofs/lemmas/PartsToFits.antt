@@ -51,8 +51,8 @@ module _ (shape : Shape) (type : TypeId) where
   part_to : (n : ℕ) (k : Option Leaf) (item : KeptItem) (later : Kept) → type_of later ≡ type
       → (part : IsPart (fields shape type) n k (places (message_of later))) → HoldsItem shape part.field item → Whole later
       → Whole (kept_part n k item later)
-  part_to n k (Plain listed leaf) later same part item whole =
-      ((part, item.1, whole.0), (listed_is n listed later part.field same part.found item.0, whole.1))
+  part_to n k (Plain manner leaf) later same part item whole =
+      ((part, item.1, whole.0), (listed_is n manner.listed later part.field same part.found item.0, whole.1))
   part_to n k (Msg listed child) later same part item whole =
       let fits : Fits shape child = item.1 in
       let agrees : child_type (fields shape (type_of later)) n ≡ type_of child =
@@ -124,7 +124,7 @@ module _ (shape : Shape) (type : TypeId) where
 
   swapped : (n : ℕ) (k : Option Leaf) (item : KeptItem) (a b : Kept) → type_of a ≡ type_of b → places (message_of a) ≡ places (message_of b)
       → (Whole a → Whole b) → Whole (kept_part n k item a) → Whole (kept_part n k item b)
-  swapped n k (Plain listed leaf) a b same at rest h =
+  swapped n k (Plain manner leaf) a b same at rest h =
       let later = rest (h.0.2, h.1.1) in
       let part = h.0.0 in (
         (
@@ -138,7 +138,7 @@ module _ (shape : Shape) (type : TypeId) where
           h.0.1,
           later.0,
         ),
-        (subst (λ t. is_listed (fields shape t) n ≡ listed) same h.1.0, later.1),
+        (subst (λ t. is_listed (fields shape t) n ≡ manner.listed) same h.1.0, later.1),
       )
   swapped n k (Msg listed child) a b same at rest h =
       let later = rest (h.0.4, h.1.3) in

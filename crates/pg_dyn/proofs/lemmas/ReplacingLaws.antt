@@ -2,6 +2,7 @@
 use Rattle.std.proofs.Common.{◌≡◌, ℕ, List, [], ◌∷◌, ◌++◌, map, filter, flat_map, nat_lt, nat_eq, Bool, true, false, cond, not, ◌&&◌, Option, Some, None, refl, ap, ap₂, sym, ◌∙◌}
 use Rattle.std.specs.List.{AllByRecursion}
 use Rattle.std.proofs.lemmas.List.{append-nil}
+use Rattle.pg_schema.specs.declared.parts.field.Element.{Element}
 use Rattle.pg_schema.specs.declared.parts.field.TypeId.{TypeId}
 use Rattle.pg_schema.specs.Shape.{FieldShape}
 use Rattle.pg_wire.specs.Records.{WireRecord}
@@ -16,6 +17,7 @@ use Rattle.pg_dyn.specs.Seen.{leaf_of, item_seen, content_seen, value_onto, item
 use Rattle.pg_dyn.specs.FieldList.{fields_below, fields_above, put_field, remove_field}
 use Rattle.pg_dyn.specs.reading.Content.{is_sibling}
 use Rattle.pg_dyn.specs.Replacing.{kept_part, kept_onto, kept_from, with_parts, is_sibling_number, without_siblings}
+use Rattle.pg_dyn.specs.Texts.{kept_in, kept_item}
 use Rattle.pg_dyn.proofs.Lists.{filter_all, filter_none, filter-append', each_weaker, each-map, each_of_all, flat_map-append', list_any_none}
 use Rattle.pg_dyn.proofs.lemmas.NoSiblings.{no_sibling}
 
@@ -66,6 +68,24 @@ parts_of-kept_onto (p ∷ ps) later = (part_shown p.number p.key p.item (kept_on
 pub unknown_of-kept_onto : (ps : List (Part KeptItem)) (later : Kept) → unknown_of (kept_onto ps later) ≡ unknown_of later
 unknown_of-kept_onto [] later = refl
 unknown_of-kept_onto (p ∷ ps) later = (part_shown p.number p.key p.item (kept_onto ps later)).1 ∙ unknown_of-kept_onto ps later
+
+-- parts mean the same where they are kept as an element's
+pub kept_means : (e : Element) (ps : List (Part KeptItem)) (later : Kept) → message_of (kept_onto (map (kept_in e) ps) later) ≡ message_of (kept_onto ps later)
+kept_means e [] later = refl
+kept_means e (p ∷ ps) later =
+    one p.item (kept_onto (map (kept_in e) ps) later) ∙ ap (λ m. with_item p.item m) (kept_means e ps later) ∙ sym (plain p.item (kept_onto ps later))
+  where
+    with_item : KeptItem → Message → Message
+    with_item (Plain manner leaf) m = model.holds p.number p.key leaf m
+    with_item (Msg listed child) m = model.nests p.number p.key (message_of child) m
+
+    one : (item : KeptItem) (rest : Kept) → message_of (kept_part p.number p.key (kept_item e item) rest) ≡ with_item item (message_of rest)
+    one (Plain manner leaf) rest = refl
+    one (Msg listed child) rest = refl
+
+    plain : (item : KeptItem) (rest : Kept) → message_of (kept_part p.number p.key item rest) ≡ with_item item (message_of rest)
+    plain (Plain manner leaf) rest = refl
+    plain (Msg listed child) rest = refl
 
 pub type_of-kept_onto : (ps : List (Part KeptItem)) (later : Kept) → type_of (kept_onto ps later) ≡ type_of later
 type_of-kept_onto [] later = refl

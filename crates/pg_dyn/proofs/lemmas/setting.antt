@@ -1,5 +1,6 @@
 pub mod ContentChecks
 pub mod HeldAlone
+pub mod KeptVariants
 pub mod KeySorting
 pub mod LowestFault
 pub mod MembersOut

@@ -13,37 +13,37 @@ use Rattle.pg_dyn.specs.Borrowed as borrowed
 use Rattle.pg_dyn.specs.Kept.{Kept, KeptItem, Plain, Msg}
 use Rattle.pg_dyn.specs.Message.{Leaf, Int, F32, F64, Bytes, Part}
 use Rattle.pg_dyn.specs.PartsFit.{IsPartOf}
-use Rattle.pg_dyn.specs.Seen.{leaf_of}
+use Rattle.pg_dyn.specs.Seen.{is_text, leaf_of}
 
--- An item, whether or not it stands in a list.
+-- An item, whether or not it stands in a list. A leaf says whether it is a text.
 pub data Bare : Type 0 where
-  Lone : Leaf → Bare
+  Lone : Bool → Leaf → Bare
   Child : Kept → Bare
 
 abbrev pub IsLone : Bare → Type 0
-IsLone (Lone leaf) = ⊤
+IsLone (Lone text leaf) = ⊤
 IsLone (Child m) = ⊥
 
 -- the leaf; of a message no bytes
 abbrev pub bare_leaf : Bare → Leaf
-bare_leaf (Lone leaf) = leaf
+bare_leaf (Lone text leaf) = leaf
 bare_leaf (Child m) = Bytes []
 
 abbrev pub bare : KeptItem → Bare
-bare (Plain listed leaf) = Lone leaf
+bare (Plain manner leaf) = Lone manner.text leaf
 bare (Msg listed m) = Child m
 
 abbrev pub in_list : Bool → Bare → KeptItem
-in_list listed (Lone leaf) = Plain listed leaf
+in_list listed (Lone text leaf) = Plain (record { listed = listed; text = text }) leaf
 in_list listed (Child m) = Msg listed m
 
 abbrev pub owned_item : Value → Bare
 owned_item (owned.Msg child) = Child child.value
-owned_item value = Lone (leaf_of value)
+owned_item value = Lone (is_text value) (leaf_of value)
 
 abbrev pub lent_item : ValueRef → Bare
 lent_item (lent.Msg child) = Child child.value
-lent_item value = Lone (borrowed.leaf_of value)
+lent_item value = Lone (borrowed.is_text value) (borrowed.leaf_of value)
 
 abbrev pub leaf_lent : LeafRef → Leaf
 leaf_lent (leaves.Int n) = Int n

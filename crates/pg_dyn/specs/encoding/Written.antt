@@ -27,7 +27,7 @@ own_bytes shape m = enc shape (type_of m) (message_of m)
 
 -- an item with its bytes in the place of a message
 abbrev pub item_leaf : Shape → Bare → Leaf
-item_leaf shape (Lone leaf) = leaf
+item_leaf shape (Lone text leaf) = leaf
 item_leaf shape (Child m) = Bytes (own_bytes shape m)
 
 abbrev pub item_body : Shape → Element → Bare → List ℕ
@@ -81,7 +81,7 @@ LeafFits (elements.Enum e) leaf = InRange (form (elements.Enum e)) leaf
 LeafFits (elements.Message t) leaf = ⊥
 
 abbrev pub BareFits : Shape → Element → Bare → Type 0
-BareFits shape e (Lone leaf) = LeafFits e leaf
+BareFits shape e (Lone text leaf) = LeafFits e leaf
 BareFits shape e (Child m) = Fits shape m × (e ≡ elements.Message (type_of m))
 
 abbrev pub LeavesFit : {V : Type 0} → (V → Bare) → Element → List V → Type 0
@@ -127,7 +127,7 @@ abbrev pub inner_lengths : Shape → Kept → List ℕ
 inner_lengths shape m = lengths_behind shape (fields shape (type_of m)) 0 m
 
 abbrev pub item_lengths : Shape → Bare → List ℕ
-item_lengths shape (Lone leaf) = []
+item_lengths shape (Lone text leaf) = []
 item_lengths shape (Child m) = capped (length (own_bytes shape m)) ∷ inner_lengths shape m
 
 abbrev pub packed_lengths : {V : Type 0} → (V → Bare) → Element → List V → List ℕ

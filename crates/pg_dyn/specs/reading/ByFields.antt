@@ -16,11 +16,11 @@ use Rattle.pg_dyn.specs.declared.reading.stop.Stop.TheVariants as stops
 use Rattle.pg_dyn.specs.Optional.{all_some}
 use Rattle.pg_dyn.specs.Message.{Leaf}
 use Rattle.pg_dyn.specs.reading.Content.{content, counted, entry_in, takes}
-use Rattle.pg_dyn.specs.BorrowedItems.{ItemFits}
+use Rattle.pg_dyn.specs.BorrowedItems.{ItemKept}
 use Rattle.pg_dyn.specs.reading.Decoding.{all_readable, dec, read_part}
 use Rattle.pg_dyn.specs.reading.EntrySteps.{IsReadFrom}
 use Rattle.pg_dyn.specs.Kept.{message_of}
-use Rattle.pg_dyn.specs.BorrowedItems.{IsItemOf}
+use Rattle.pg_dyn.specs.BorrowedItems.{IsItemKept}
 use Rattle.pg_dyn.specs.Borrowed.{leaf_of}
 use Rattle.pg_dyn.specs.reading.Steps.{FieldReads, IsShallow, IsShallowIn, IsShallowRecord, Taken, part_of, parts_held}
 
@@ -55,7 +55,7 @@ BodiesGood shape levels type rs =
 -- the key and the value of the entry that the record holds
 abbrev pub IsEntryRead : Shape → Scalar → Element → WireRecord → EntryRef → Type 0
 IsEntryRead shape key element r e =
-    (leaf : Leaf) × (entry_in key element r ≡ Some (leaf_of e.key, leaf)) × IsReadFrom shape element leaf e.value × IsItemOf key e.key × ItemFits shape element e.value
+    (leaf : Leaf) × (entry_in key element r ≡ Some (leaf_of e.key, leaf)) × IsReadFrom shape element leaf e.value × IsItemKept key e.key × ItemKept shape element e.value
 
 -- each record that a field accepts has a reading, and holds no message that stands too deep
 abbrev pub RecordsGood : Shape → ℕ → List FieldShape → List WireRecord → Type 0

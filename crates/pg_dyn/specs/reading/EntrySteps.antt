@@ -9,7 +9,7 @@ use Rattle.pg_dyn.specs.declared.message_ref.ValueRef.{ValueRef}
 use Rattle.pg_dyn.specs.Message.{Leaf}
 use Rattle.pg_dyn.specs.Coding.{form, zero_leaf}
 use Rattle.pg_dyn.specs.reading.Content.{takes, plain_content, key_field, value_field}
-use Rattle.pg_dyn.specs.BorrowedItems.{ItemFits}
+use Rattle.pg_dyn.specs.BorrowedItems.{ItemKept}
 use Rattle.pg_dyn.specs.reading.Decoding.{read_item, dec}
 use Rattle.pg_dyn.specs.Borrowed.{item_seen}
 use Rattle.pg_dyn.specs.reading.Steps.{item_of}
@@ -34,7 +34,7 @@ PartIs shape element leaves (Some value) = (leaf : Leaf) × (leaves ≡ Some (le
 
 abbrev pub PartFits : Shape → Element → Option ValueRef → Type 0
 PartFits shape element None = ⊤
-PartFits shape element (Some value) = ItemFits shape element value
+PartFits shape element (Some value) = ItemKept shape element value
 
 abbrev pub PartRead : Shape → FieldShape → List WireRecord → Option ValueRef → Type 0
 PartRead shape f rs held = PartIs shape f.element (plain_content f (filter (takes f) rs)) held

@@ -7,7 +7,7 @@ use Rattle.pg_dyn.specs.declared.message_ref.ValueRef.{ValueRef}
 use Rattle.pg_dyn.specs.reading.Content.{leaves_in}
 use Rattle.pg_dyn.specs.reading.Held.{read_as}
 use Rattle.pg_dyn.specs.Optional.{all_some, joined}
-use Rattle.pg_dyn.specs.BorrowedItems.{IsItemOf}
+use Rattle.pg_dyn.specs.BorrowedItems.{IsItemKept}
 use Rattle.pg_dyn.specs.Borrowed.{leaf_of}
 
 -- each record's items can be read
@@ -17,4 +17,4 @@ AllRead f rs = AllByRecursion (λ r. is_some (leaves_in f r) ≡ true) rs
 -- these are the items of all the records
 abbrev pub AreItemsOf : FieldShape → List WireRecord → List ValueRef → Type 0
 AreItemsOf f rs values =
-    (option_map joined (all_some (map (leaves_in f) rs)) ≡ Some (map leaf_of values)) × AllByRecursion (IsItemOf (read_as f.element)) values
+    (option_map joined (all_some (map (leaves_in f) rs)) ≡ Some (map leaf_of values)) × AllByRecursion (IsItemKept (read_as f.element)) values

@@ -16,11 +16,11 @@ use Rattle.pg_dyn.specs.Message.{Item, Part}
 use Rattle.pg_dyn.specs.Message as model
 use Rattle.pg_dyn.specs.Coding.{element_at, form_wire, scalar_form}
 use Rattle.pg_dyn.specs.reading.Content.{packed_leaves, takes}
-use Rattle.pg_dyn.specs.BorrowedItems.{IsItemOf}
+use Rattle.pg_dyn.specs.BorrowedItems.{IsItemKept}
 use Rattle.pg_dyn.specs.reading.Decoding.{is_readable, dec}
 use Rattle.pg_dyn.specs.Kept.{KeptItem, Plain, Msg, message_of}
 use Rattle.pg_dyn.specs.Borrowed.{HasKeys, IsFilled, content_seen, leaf_of}
-use Rattle.pg_dyn.specs.PartsFit.{FieldHolds}
+use Rattle.pg_dyn.specs.PartsFit.{FieldHolds, IsElementKept}
 use Rattle.pg_dyn.specs.reading.Faults.{Code, Wire, NotUtf8, FaultIn, FaultOf}
 use Rattle.pg_dyn.specs.reading.TooDeep.{TooDeepIn, TooDeepOf}
 
@@ -36,10 +36,12 @@ abbrev pub parts_held : ℕ → Option ContentRef → List (Part KeptItem)
 parts_held number None = []
 parts_held number (Some content) = content_seen number content
 
--- the field holds nothing, or a content of such parts that isn't empty and whose keys are no messages
+-- the field holds nothing, or a content of such parts that isn't empty, whose keys are numbers or texts and whose items are texts where
+-- the field is of type string
 abbrev pub HeldFits : Shape → FieldShape → Option ContentRef → Type 0
 HeldFits shape f None = ⊤
 HeldFits shape f (Some content) = FieldHolds shape f (content_seen f.number content) × IsFilled content × HasKeys content
+    × AllByRecursion (λ (p : Part KeptItem). IsElementKept shape f.element p.item) (content_seen f.number content)
 
 -- Why reading is refused: memory was, or what the error names stands that many bytes behind a place.
 abbrev pub RefusedBy : (Code → ℕ → Type 0) → (ℕ → Type 0) → ℕ → DynError → Type 0
@@ -94,7 +96,7 @@ FieldReads shape f r = is_readable (dec shape) f r ≡ true
 -- A packed list is read behind items, and why it isn't.
 abbrev pub RowReads : Scalar → List ℕ → List ValueRef → List ValueRef → Type 0
 RowReads s body old new =
-    (values : List ValueRef) × (new ≡ old ++ values) × (packed_leaves (scalar_form s) body ≡ Some (map leaf_of values)) × AllByRecursion (IsItemOf s) values
+    (values : List ValueRef) × (new ≡ old ++ values) × (packed_leaves (scalar_form s) body ≡ Some (map leaf_of values)) × AllByRecursion (IsItemKept s) values
 
 abbrev pub RowRefused : Scalar → List ℕ → ℕ → DynError → Type 0
 RowRefused s body at e = (e ≡ errors.Memory) ⊎ ((fault : Fault) × (e ≡ errors.Wire (error_at fault at)) × (row (element_at (form_wire (scalar_form s))) body ≡ Err fault))

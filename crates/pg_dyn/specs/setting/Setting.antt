@@ -1,5 +1,5 @@
 -- What calls that set contents make of a message.
-use Rattle.std.specs.Prelude.{◌≡◌, ℕ, List, [], ◌∷◌, filter, flat_map, nat_eq, not, Bool, false, if◌then◌else◌, Option, Some, None}
+use Rattle.std.specs.Prelude.{◌≡◌, ℕ, List, [], ◌∷◌, map, filter, flat_map, nat_eq, not, Bool, false, if◌then◌else◌, Option, Some, None}
 use Rattle.std.specs.Ordering.{is_lt}
 use Rattle.pg_schema.specs.declared.parts.field.TypeId.{TypeId}
 use Rattle.pg_schema.specs.declared.parts.field.Presence.{Presence}
@@ -10,6 +10,7 @@ use Rattle.pg_dyn.specs.Message.{Leaf, Part, is_zero, key_cmp}
 use Rattle.pg_dyn.specs.Kept.{Kept, KeptItem, Plain, Msg, type_of, of_number, unknown_of}
 use Rattle.pg_dyn.specs.Seen.{content_seen}
 use Rattle.pg_dyn.specs.Replacing.{with_content}
+use Rattle.pg_dyn.specs.Texts.{kept_in}
 
 abbrev pub is_zero_kept : KeptItem → Bool
 is_zero_kept (Plain listed leaf) = is_zero leaf
@@ -29,7 +30,8 @@ abbrev pub by_rising_key : List (Part KeptItem) → List (Part KeptItem)
 by_rising_key [] = []
 by_rising_key (p ∷ ps) = put_entry p (by_rising_key ps)
 
--- what of a content a field holds: a zero in an implicit field is none, and a map's entries stand by rising key
+-- what of a content a field holds: a zero in an implicit field is none, a map's entries stand by rising key, and the items of a
+-- string field are texts, those of a bytes field none
 abbrev pub normalized_by : Presence → List (Part KeptItem) → List (Part KeptItem)
 normalized_by presences.Implicit ps = filter (λ p. not (is_zero_kept p.item)) ps
 normalized_by presences.Explicit ps = ps
@@ -37,7 +39,7 @@ normalized_by (presences.Repeated packed) ps = ps
 normalized_by (presences.Map key) ps = by_rising_key ps
 
 abbrev pub normalized : FieldShape → List (Part KeptItem) → List (Part KeptItem)
-normalized f ps = normalized_by f.presence ps
+normalized f ps = map (kept_in f.element) (normalized_by f.presence ps)
 
 -- The new message has the content in the field of the number, nothing in the other members of its oneof, and all else as before.
 abbrev pub IsSetTo : Shape → ℕ → Content → Kept → Kept → Type 0

@@ -1,6 +1,6 @@
 -- What a test of contents tells: nothing, or of what is wrong the error of the lowest code. A key that stands twice is told by a test of
 -- its own, since two contents of one oneof are told before it.
-use Rattle.std.specs.Prelude.{◌≡◌, ℕ, ◌<◌, ◌⊎◌, Bool, false, length, nat_eq, Some, Result, Ok, Err}
+use Rattle.std.specs.Prelude.{◌≡◌, ℕ, ◌<◌, ◌⊎◌, ⊤, Bool, true, false, length, nat_eq, Some, Result, Ok, Err}
 use Rattle.std.specs.List.{AllByRecursion}
 use Rattle.pg_schema.specs.declared.parts.field.TypeId.{TypeId}
 use Rattle.pg_schema.specs.declared.parts.field.Scalar.{Scalar}
@@ -8,7 +8,7 @@ use Rattle.pg_schema.specs.declared.parts.field.Element.{Element}
 use Rattle.pg_schema.specs.declared.parts.field.Element.TheVariants as elements
 use Rattle.pg_schema.specs.declared.parts.field.Presence.{Presence}
 use Rattle.pg_schema.specs.declared.parts.field.Presence.TheVariants as presences
-use Rattle.pg_schema.specs.Shape.{Shape, FieldShape, fields, field_at}
+use Rattle.pg_schema.specs.Shape.{Shape, FieldShape, fields, field_at, is_key}
 use Rattle.pg_dyn.specs.declared.error.DynError.{DynError}
 use Rattle.pg_dyn.specs.declared.message.Content.{Content}
 use Rattle.pg_dyn.specs.declared.message.Content.TheVariants as contents
@@ -19,6 +19,7 @@ use Rattle.pg_dyn.specs.Kept.{KeptItem}
 use Rattle.pg_dyn.specs.Message.{Leaf}
 use Rattle.pg_dyn.specs.Seen.{item_seen, leaf_of}
 use Rattle.pg_dyn.specs.ScalarItems.{IsItemOf}
+use Rattle.pg_dyn.specs.Texts.{kept_item}
 
 -- all is right, or the error is the lowest fault, and not that of a key twice
 abbrev pub Tells : Type 0 → (DynError → Type 0) → Result (Unit {0}) DynError → Type 0
@@ -50,9 +51,20 @@ pub record IsTaken (shape : Shape) (type : TypeId) (number : ℕ) (content : Con
   pub found : field_at (fields shape type) number ≡ Some f
   pub items : ItemsFit shape f.presence f.element content
 
+-- the keys of a map are of a type that keys may have
+abbrev pub MayHoldKeys : Presence → Type 0
+MayHoldKeys presences.Implicit = ⊤
+MayHoldKeys presences.Explicit = ⊤
+MayHoldKeys (presences.Repeated packed) = ⊤
+MayHoldKeys (presences.Map key) = is_key key ≡ true
+
 -- what a map shows of an entry, its key and its item
 abbrev pub entry_seen : Value × Value → Leaf × KeptItem
 entry_seen e = (leaf_of e.0, item_seen false e.1)
+
+-- so does a map whose values are of the element, of the entry as it keeps it
+abbrev pub entry_kept : Element → Value × Value → Leaf × KeptItem
+entry_kept element e = (leaf_of e.0, kept_item element (item_seen false e.1))
 
 -- a field holds nothing of the content
 abbrev pub is_nothing : Presence → Content → Bool

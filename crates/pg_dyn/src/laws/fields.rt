@@ -47,8 +47,8 @@ pub fn parts_keep_types()
     ensures { PartsKeepTypes }
 {}
 
-/// The parts of a content have the number under which it stands, and an item of a scalar is no
-/// message.
+/// The parts of a content have the number under which it stands, an item of a scalar is no message,
+/// and parts mean the same where they are kept as an element's.
 pub fn contents_are_seen()
     ensures { ContentsAreSeen }
 {}

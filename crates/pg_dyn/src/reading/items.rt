@@ -2,7 +2,7 @@
 
 ghost use Rattle.std.specs.Prelude.{◌≡◌};
 ghost use Rattle.pg_dyn.specs.Borrowed.{leaf_of};
-ghost use Rattle.pg_dyn.specs.BorrowedItems.{IsItemOf, is_zero_value};
+ghost use Rattle.pg_dyn.specs.BorrowedItems.{IsItemKept, is_zero_value};
 ghost use Rattle.pg_dyn.specs.Coding.{scalar_form, zero_leaf};
 ghost use Rattle.pg_dyn.specs.reading.Held.{IsHeldList, item_left};
 
@@ -48,7 +48,7 @@ pub(crate) fn list_left<'a>(values: Vec<ValueRef<'a>>) -> Option<ContentRef<'a>>
 // The zero item of a scalar.
 pub(crate) fn zero_of<'a>(scalar: Scalar) -> ValueRef<'a>
     ensures leaf { leaf_of result ≡ zero_leaf (scalar_form scalar) }
-    ensures item { IsItemOf scalar result }
+    ensures item { IsItemKept scalar result }
 {
     match scalar {
         Scalar::String => ValueRef::Text(""),

@@ -13,7 +13,7 @@ ghost use Rattle.pg_wire.specs.Reads.{seen_record};
 ghost use Rattle.pg_wire.specs.Records.{IsRecord, WireRecord};
 ghost use Rattle.pg_dyn.specs.reading.ByFields.{AllCount, AreGood, AreOf, BodiesGood, HoldsOf, IsChildOf, IsEntryRead, RecordsGood, StopsFor};
 ghost use Rattle.pg_dyn.specs.reading.Content.{is_unknown};
-ghost use Rattle.pg_dyn.specs.BorrowedItems.{ItemFits};
+ghost use Rattle.pg_dyn.specs.BorrowedItems.{ItemKept};
 ghost use Rattle.pg_dyn.specs.reading.Decoding.{dec, read_records};
 ghost use Rattle.pg_dyn.specs.Fits.{Fits};
 ghost use Rattle.pg_dyn.specs.reading.Gathering.{AreGathered, AreOneofRuns, IsCounted, NumbersRise};
@@ -21,6 +21,7 @@ ghost use Rattle.pg_dyn.specs.Kept.{ends, message_of, type_of};
 ghost use Rattle.pg_dyn.specs.Borrowed.{HasKeys, IsFilled, fields_onto};
 ghost use Rattle.pg_dyn.specs.Seen.{Rises};
 ghost use Rattle.pg_dyn.specs.reading.Steps.{HeldFits, IsShallowIn};
+ghost use Rattle.pg_dyn.specs.Texts.{KeepsTexts};
 
 use crate::message_ref::{ContentRef, EntryRef, MessageRef, ValueRef};
 use crate::reading::elements::scalar_of;
@@ -48,7 +49,7 @@ fn read_child<'a>(
     requires is_schema { IsSchema schema.now }
     requires type_id { type_id.index < length (shape_of schema.now) }
     ensures ok { IfOk result (IsChildOf (shape_of schema.now) type_id (map seen_record run.now)) }
-    ensures fits { IfOk result (ItemFits (shape_of schema.now) (elements.Message type_id)) }
+    ensures fits { IfOk result (ItemKept (shape_of schema.now) (elements.Message type_id)) }
     ensures good { OnOk result (BodiesGood (shape_of schema.now) levels type_id
         (map seen_record run.now)) }
     ensures err { IfErr result (StopsFor
@@ -260,6 +261,8 @@ fn read_contents<'a>(
         ≡ Some (message_of (fields_onto contents.items (ends type_id [])))) }
     ensures fits { IfOk result (λ contents. Fits (shape_of schema.now)
         (fields_onto contents.items (ends type_id []))) }
+    ensures texts { IfOk result (λ contents. (unknown : List WireRecord)
+        → KeepsTexts (shape_of schema.now) (fields_onto contents.items (ends type_id unknown))) }
     ensures kept { IfOk result (λ contents. Rises contents.items
         × AllByRecursion (λ c. IsFilled c.1) contents.items
         × AllByRecursion (λ c. HasKeys c.1) contents.items) }
@@ -307,6 +310,7 @@ fn read_gathered<'a>(
         → read_records (dec (shape_of schema.now)) (fields (shape_of schema.now) type_id) rs
         ≡ Some (message_of m)) }
     ensures fits { IfOk result (λ m. Fits (shape_of schema.now) m × (type_of m ≡ type_id)) }
+    ensures texts { IfOk result (KeepsTexts (shape_of schema.now)) }
     ensures good { OnOk result ((rs : List WireRecord)
         → AreGathered (shape_of schema.now) type_id rs gathered.entry
         → RecordsGood (shape_of schema.now) levels (fields (shape_of schema.now) type_id) rs) }
@@ -348,6 +352,7 @@ pub(crate) fn read_message<'a>(
     ensures ok { IfOk result (λ m. dec (shape_of schema.now) type_id bytes.now
         ≡ Some (message_of m)) }
     ensures fits { IfOk result (λ m. Fits (shape_of schema.now) m × (type_of m ≡ type_id)) }
+    ensures texts { IfOk result (KeepsTexts (shape_of schema.now)) }
     ensures shallow { OnOk result (IsShallowIn (shape_of schema.now) (suc levels)
         (fields (shape_of schema.now) type_id) bytes.now) }
     ensures err { IfErr result (StopsFor

@@ -5,7 +5,7 @@ ghost use Rattle.pg_schema.specs.declared.parts.field.Element.{Element as TheEle
 ghost use Rattle.pg_schema.specs.Shape.{Shape};
 ghost use Rattle.pg_wire.specs.Records.{WireRecord, records_of};
 ghost use Rattle.pg_dyn.specs.reading.ByFields.{StopsFor};
-ghost use Rattle.pg_dyn.specs.BorrowedItems.{ItemFits};
+ghost use Rattle.pg_dyn.specs.BorrowedItems.{ItemKept};
 ghost use Rattle.pg_dyn.specs.reading.EntryParts.{AreParts, ScalarsGood};
 ghost use Rattle.pg_dyn.specs.reading.EntrySteps.{PartFits, WholeItem};
 ghost use Rattle.pg_dyn.specs.reading.Held.{read_as};
@@ -90,7 +90,7 @@ pub(crate) fn or_zero<'a>(scalar: Scalar, held: Option<ValueRef<'a>>) -> ValueRe
         → read_as element ≡ scalar → WholeItem shape element held.entry result }
     ensures fits { (shape : Shape) (element : TheElement) → IsNoMessage element
         → read_as element ≡ scalar → PartFits shape element held.entry
-        → ItemFits shape element result }
+        → ItemKept shape element result }
 {
     match held {
         Some(value) => value,

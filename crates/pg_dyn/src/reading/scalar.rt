@@ -7,7 +7,7 @@ ghost use Rattle.pg_dyn.specs.Coding.{Text, form_wire, leaf_in, scalar_form, wor
 ghost use Rattle.pg_dyn.specs.declared.error.DynError.TheVariants as errors;
 ghost use Rattle.pg_dyn.specs.ScalarItems.{HasShape};
 ghost use Rattle.pg_dyn.specs.Borrowed.{leaf_of};
-ghost use Rattle.pg_dyn.specs.BorrowedItems.{IsItemOf};
+ghost use Rattle.pg_dyn.specs.BorrowedItems.{IsItemKept};
 ghost use Rattle.pg_dyn.specs.reading.ByFields.{StopsFor};
 ghost use Rattle.pg_dyn.specs.WordOf.{HasBits};
 
@@ -48,7 +48,7 @@ pub(crate) fn word_item<'a>(scalar: Scalar, word: u64) -> ValueRef<'a>
     requires bits { HasBits (form_wire (scalar_form scalar)) word }
     ensures leaf { (body : List ℕ) → word_in (form_wire (scalar_form scalar)) body ≡ word
         → leaf_in (scalar_form scalar) body ≡ Some (leaf_of result) }
-    ensures item { IsItemOf scalar result }
+    ensures item { IsItemKept scalar result }
 {
     match scalar {
         Scalar::Float => ValueRef::F32(word as u32),
@@ -63,7 +63,7 @@ pub(crate) fn word_item<'a>(scalar: Scalar, word: u64) -> ValueRef<'a>
 pub(crate) fn item_in<'a>(scalar: Scalar, body: &'a [u8]) -> Result<ValueRef<'a>, Stop>
     requires { HasShape (form_wire (scalar_form scalar)) body.now }
     ensures ok { IfOk result (λ value.
-        (leaf_in (scalar_form scalar) body.now ≡ Some (leaf_of value)) × IsItemOf scalar value) }
+        (leaf_in (scalar_form scalar) body.now ≡ Some (leaf_of value)) × IsItemKept scalar value) }
     ensures err { IfErr result (StopsFor (is_some (leaf_in (scalar_form scalar) body.now) ≡ true)) }
 {
     match scalar {

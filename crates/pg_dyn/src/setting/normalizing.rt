@@ -1,14 +1,17 @@
 //! Contents in the form in which a field holds them.
 
-ghost use Rattle.std.specs.Prelude.{◌≡◌, ℕ, Bool, map, true, false};
+ghost use Rattle.std.specs.Prelude.{◌≡◌, ◌||◌, ℕ, Bool, map, true, false};
 ghost use Rattle.std.specs.List.{AllByRecursion};
+ghost use Rattle.pg_schema.specs.declared.parts.field.Element.TheVariants as elements;
 ghost use Rattle.pg_schema.specs.Parts.{field_shape, shape_of};
 ghost use Rattle.pg_dyn.specs.setting.ContentFaults.{HasKeyTwice};
 ghost use Rattle.pg_dyn.specs.ContentFits.{ContentFits, ItemFits};
 ghost use Rattle.pg_dyn.specs.KeyOrder.{KeysAlike};
 ghost use Rattle.pg_dyn.specs.Seen.{content_seen, HasKeys, IsFilled, item_seen};
 ghost use Rattle.pg_dyn.specs.setting.Setting.{normalized};
-ghost use Rattle.pg_dyn.specs.setting.Told.{EntryFits, entry_seen, is_nothing, ItemsFit};
+ghost use Rattle.pg_dyn.specs.setting.Told.{EntryFits, entry_kept, entry_seen, is_nothing, ItemsFit, MayHoldKeys};
+ghost use Rattle.pg_dyn.specs.ScalarItems.{IsKeptAs};
+ghost use Rattle.pg_dyn.specs.Texts.{holds_bytes, kept_item};
 
 use crate::message::{Content, Value};
 use crate::setting::keys::sorted;
@@ -20,7 +23,8 @@ impl Value {
     fn kept_for(self, schema: &Schema, element: Element) -> Value
         requires { ItemFits (shape_of schema.now) element self }
         ensures fits { ItemFits (shape_of schema.now) element result }
-        ensures seen { (listed : Bool) → item_seen listed result ≡ item_seen listed self }
+        ensures seen { (listed : Bool) → item_seen listed result
+            ≡ kept_item element (item_seen listed self) }
     {
         match element {
             Element::Scalar(scalar) => self.kept_as(scalar),
@@ -30,25 +34,36 @@ impl Value {
 }
 
 // Whether items of the element come as text and as bytes.
-fn is_text(element: Element) -> bool {
+fn is_text(element: Element) -> bool
+    ensures { result ≡ holds_bytes element }
+{
     matches!(
         element,
         Element::Scalar(Scalar::String) | Element::Scalar(Scalar::Bytes)
     )
 }
 
+// Whether keys of the scalar or values of the element do.
+fn has_texts(key: Scalar, element: Element) -> bool
+    ensures { result ≡ (holds_bytes (elements.Scalar key) || holds_bytes element) }
+{
+    is_text(Element::Scalar(key)) || is_text(element)
+}
+
 // The items of a list as a field of the element keeps them.
 fn kept_values(schema: &Schema, element: Element, values: Vec<Value>) -> Vec<Value>
     requires { AllByRecursion (ItemFits (shape_of schema.now) element) values.items }
     ensures fit { AllByRecursion (ItemFits (shape_of schema.now) element) result.items }
-    ensures seen { map (item_seen true) result.items ≡ map (item_seen true) values.items }
+    ensures seen { map (item_seen true) result.items
+        ≡ map (λ value. kept_item element (item_seen true value)) values.items }
 {
+    if !is_text(element) {
+        return values;
+    }
     let mut kept = values;
-    if is_text(element) {
-        for value in kept.iter_mut() {
-            let taken = mem::replace(value, Value::Int(0));
-            *value = taken.kept_for(schema, element);
-        }
+    for value in kept.iter_mut() {
+        let taken = mem::replace(value, Value::Int(0));
+        *value = taken.kept_for(schema, element);
     }
     kept
 }
@@ -62,7 +77,8 @@ fn kept_entry(
 ) -> (Value, Value)
     requires { EntryFits (shape_of schema.now) key element entry }
     ensures fits { EntryFits (shape_of schema.now) key element result }
-    ensures seen { entry_seen result ≡ entry_seen entry }
+    ensures seen { entry_seen result ≡ entry_kept element entry }
+    ensures key { IsKeptAs key result.0 }
 {
     let (entry_key, value) = entry;
     (entry_key.kept_as(key), value.kept_for(schema, element))
@@ -77,14 +93,16 @@ fn kept_entries(
 ) -> Vec<(Value, Value)>
     requires { AllByRecursion (EntryFits (shape_of schema.now) key element) entries.items }
     ensures fit { AllByRecursion (EntryFits (shape_of schema.now) key element) result.items }
-    ensures seen { map entry_seen result.items ≡ map entry_seen entries.items }
+    ensures seen { map entry_seen result.items ≡ map (entry_kept element) entries.items }
+    ensures keys { AllByRecursion (λ e. IsKeptAs key e.0) result.items }
 {
+    if !has_texts(key, element) {
+        return entries;
+    }
     let mut kept = entries;
-    if is_text(Element::Scalar(key)) || is_text(element) {
-        for entry in kept.iter_mut() {
-            let taken = mem::replace(entry, (Value::Int(0), Value::Int(0)));
-            *entry = kept_entry(schema, key, element, taken);
-        }
+    for entry in kept.iter_mut() {
+        let taken = mem::replace(entry, (Value::Int(0), Value::Int(0)));
+        *entry = kept_entry(schema, key, element, taken);
     }
     kept
 }
@@ -108,6 +126,7 @@ impl Content {
     pub(crate) fn normalized(self, schema: &Schema, field: &Field) -> Content
         requires items { ItemsFit (shape_of schema.now) field.now.presence field.now.element self }
         requires alike { KeysAlike self }
+        requires keyed { MayHoldKeys field.now.presence }
         requires once { HasKeyTwice self → ⊥ }
         requires something { is_nothing field.now.presence self ≡ false }
         ensures seen { (number : ℕ) → content_seen number result

@@ -167,7 +167,7 @@ entry_in_turn n k v out first second third one two three =
 -- Items and entries as the parts of a field.
 
 pub bare_seen : (l : Bool) (x : Bare) → bare (in_list l x) ≡ x
-bare_seen l (Lone leaf) = refl
+bare_seen l (Lone text leaf) = refl
 bare_seen l (Child m) = refl
 
 leaf_of_element : (n : ℕ) (p : Presence) (e : Element) (o : Option ℕ) (leaf : Leaf) → belonging.LeafFits (record { number = n; presence = p; element = e; oneof = o }) leaf → LeafFits e leaf
@@ -176,7 +176,7 @@ leaf_of_element n p (elements.Enum t) o leaf h = h.0
 leaf_of_element n p (elements.Message t) o leaf h = absurd h
 
 bare_of : (shape : Shape) (f : FieldShape) (l : Bool) (x : Bare) → HoldsItem shape f (in_list l x) → BareFits shape f.element x
-bare_of shape f l (Lone leaf) h = leaf_of_element f.number f.presence f.element f.oneof leaf h.1
+bare_of shape f l (Lone text leaf) h = leaf_of_element f.number f.presence f.element f.oneof leaf h.1
 bare_of shape f l (Child m) h = (h.1, h.2)
 
 bare_held : (shape : Shape) (f : FieldShape) (item : KeptItem) → HoldsItem shape f item → BareFits shape f.element (bare item)
@@ -185,19 +185,19 @@ bare_held shape f (Msg l m) h = (h.1, h.2)
 
 -- an item of what can be packed is no message
 pub packed_lone : (shape : Shape) (e : Element) (x : Bare) → is_packable e ≡ true → BareFits shape e x → IsLone x
-packed_lone shape e (Lone leaf) can h = tt
+packed_lone shape e (Lone text leaf) can h = tt
 packed_lone shape e (Child m) can h = absurd (let no : is_packable (elements.Message (type_of m)) ≡ true = ap is_packable (sym h.1) ∙ can in cc)
 
 pub lone_fits : (shape : Shape) (e : Element) (x : Bare) → IsLone x → BareFits shape e x → LeafFits e (bare_leaf x)
-lone_fits shape e (Lone leaf) lone h = h
+lone_fits shape e (Lone text leaf) lone h = h
 lone_fits shape e (Child m) lone h = absurd lone
 
 lone_leaf : (shape : Shape) (x : Bare) → IsLone x → item_leaf shape x ≡ bare_leaf x
-lone_leaf shape (Lone leaf) lone = refl
+lone_leaf shape (Lone text leaf) lone = refl
 lone_leaf shape (Child m) lone = absurd lone
 
 lone_lengths : (shape : Shape) (x : Bare) → IsLone x → item_lengths shape x ≡ []
-lone_lengths shape (Lone leaf) lone = refl
+lone_lengths shape (Lone text leaf) lone = refl
 lone_lengths shape (Child m) lone = absurd lone
 
 pub packed_no_lengths : {V : Type 0} (item : V → Bare) (shape : Shape) (vs : List V) → AllByRecursion (λ v. IsLone (item v)) vs → flat_map (λ v. item_lengths shape (item v)) vs ≡ []

@@ -7,7 +7,7 @@ use Rattle.pg_dyn.specs.Replacing.{kept_onto, kept_part}
 use Rattle.pg_dyn.proofs.lemmas.encoding.EncodeSteps.{bare_seen}
 
 abbrev pub bare_weight : Bare → ℕ
-bare_weight (Lone leaf) = 0
+bare_weight (Lone text leaf) = 0
 bare_weight (Child m) = weight m
 
 -- the sum of the items' weights

@@ -15,7 +15,7 @@ use Rattle.pg_dyn.specs.declared.message_ref.ValueRef.{ValueRef}
 use Rattle.pg_dyn.specs.declared.message_ref.ValueRef.TheVariants as values
 use Rattle.pg_dyn.specs.reading.ByFields.{AreGood, AreOf, BodiesGood, HoldsOf, IsChildOf}
 use Rattle.pg_dyn.specs.reading.Content.{content, last_item, leaf_bytes, leaves_in, merged, plain_content, takes}
-use Rattle.pg_dyn.specs.BorrowedItems.{ItemFits}
+use Rattle.pg_dyn.specs.BorrowedItems.{ItemKept}
 use Rattle.pg_dyn.specs.reading.Decoding.{dec, is_child, read_item, read_part}
 use Rattle.pg_dyn.specs.Message.{Bytes, Item, Leaf, Msg, Part}
 use Rattle.pg_dyn.specs.Optional.{all_some, joined}
@@ -175,7 +175,7 @@ seen_some (r ∷ run) some e = not_nil (seen_record r) (map seen_record run) e
 -- a message for each record so far
 pub record AreRead (shape : Shape) (levels : ℕ) (f : FieldShape) (t : TypeId) (rs : List WireRecord) (vs : List ValueRef) : Type 0 where
   pub read : AreChildren shape t rs vs
-  pub fits : AllByRecursion (ItemFits shape (elements.Message t)) vs
+  pub fits : AllByRecursion (ItemKept shape (elements.Message t)) vs
   pub good : AreGood shape levels f rs
 
 module _ (shape : Shape) (levels : ℕ) (f : FieldShape) (t : TypeId) (is_message : f.element ≡ elements.Message t) (no_map : is_map f.presence ≡ false)
@@ -188,7 +188,7 @@ module _ (shape : Shape) (levels : ℕ) (f : FieldShape) (t : TypeId) (is_messag
 
   -- one record more
   pub read_more : (vs new : List ValueRef) (v : ValueRef) → AreOf f (map seen_record run) → AreRead shape levels f t (map seen_record (take place run)) vs
-      → IsChildOf shape t (map seen_record one) v → ItemFits shape (elements.Message t) v
+      → IsChildOf shape t (map seen_record one) v → ItemKept shape (elements.Message t) v
       → BodiesGood shape levels t (map seen_record one) → new ≡ vs ++ v ∷ [] → AreRead shape levels f t (map seen_record (take (place + 1) run)) new
   read_more vs new v are h child fits bodies is =
       let r = seen_record here.one in
@@ -202,8 +202,8 @@ module _ (shape : Shape) (levels : ℕ) (f : FieldShape) (t : TypeId) (is_messag
       record {
         read = subst (λ rs. AreChildren shape t rs new) (sym more) (subst (AreChildren shape t (so_far ++ r ∷ [])) (sym is)
             (children_more shape t so_far vs r v h.read (subst (λ rs. IsChildOf shape t rs v) cut child)));
-        fits = subst (AllByRecursion (ItemFits shape (elements.Message t))) (sym is)
-            (each-append (ItemFits shape (elements.Message t)) vs (v ∷ []) h.fits (fits, tt));
+        fits = subst (AllByRecursion (ItemKept shape (elements.Message t))) (sym is)
+            (each-append (ItemKept shape (elements.Message t)) vs (v ∷ []) h.fits (fits, tt));
         good = subst (AreGood shape levels f) (sym more) (each-append (λ q. FieldReads shape f q × IsShallow shape levels f q) so_far (r ∷ []) h.good good);
       }
 

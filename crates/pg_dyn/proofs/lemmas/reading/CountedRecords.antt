@@ -41,15 +41,18 @@ module _ (shape : Shape) (levels : ℕ) (fs : List FieldShape) (rising : Rising 
       taken : Taken fs (seen_record (get_or known place d)) f
       taken = record { found = found; taken = taken_there fs rising oneof_runs known are_records are_known place left was.counted inside d f found }
 
-      pub one_of : AreOf f (map seen_record (take (place + 1 - place) (drop place known)))
+      one_of : AreOf f (map seen_record (take (place + 1 - place) (drop place known)))
       one_of =
           subst (λ rs. AreOf f (map seen_record rs)) (sym (one_cut known place d inside)) ((seen_at IsRecord known place d inside are_records, taken.taken), tt)
 
-      pub one_some : take (place + 1 - place) (drop place known) ≢ []
+      one_some : take (place + 1 - place) (drop place known) ≢ []
       one_some none = of (sym (one_cut known place d inside) ∙ none)
         where
           of : get_or known place d ∷ [] ≡ [] → ⊥
           of e = cc
+
+      pub one_run : AreOf f (map seen_record (take (place + 1 - place) (drop place known))) × (take (place + 1 - place) (drop place known) ≢ [])
+      one_run = (one_of, one_some)
 
       pub one_good : RecordsGood shape levels fs (map seen_record known)
           → AreGood shape levels f (map seen_record (take (place + 1 - place) (drop place known)))

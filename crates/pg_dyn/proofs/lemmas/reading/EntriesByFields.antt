@@ -21,14 +21,14 @@ use Rattle.pg_dyn.specs.declared.reading.parts.Parts.{Parts}
 use Rattle.pg_dyn.specs.reading.ByFields.{AreGood, AreOf, BodiesGood, IsChildOf, IsEntryRead}
 use Rattle.pg_dyn.specs.Coding.{form, zero_leaf}
 use Rattle.pg_dyn.specs.reading.Content.{entry_part, is_accepted, key_field, leaves_in, merged, option_from, takes, value_field}
-use Rattle.pg_dyn.specs.BorrowedItems.{ItemFits}
+use Rattle.pg_dyn.specs.BorrowedItems.{ItemKept}
 use Rattle.pg_dyn.specs.reading.Decoding.{all_plain_readable, dec, entry_records, is_plain_readable, is_readable}
 use Rattle.pg_dyn.specs.reading.EntryParts.{AreParts, AreReadable, ScalarsGood}
 use Rattle.pg_dyn.specs.reading.EntrySteps.{IsMessageOf, IsReadFrom, PartFits, PartRead, WholeItem, entry_fields}
 use Rattle.pg_dyn.specs.Message.{Bytes, Item, Leaf, Plain}
 use Rattle.pg_dyn.specs.Optional.{first_or}
 use Rattle.pg_dyn.specs.reading.ReadingOn.{IsNoMessage}
-use Rattle.pg_dyn.specs.BorrowedItems.{IsItemOf}
+use Rattle.pg_dyn.specs.BorrowedItems.{IsItemKept}
 use Rattle.pg_dyn.specs.Borrowed.{leaf_of}
 use Rattle.pg_dyn.specs.reading.Steps.{FieldReads, IsShallow, IsShallowIn, IsShallowRecord, Taken, item_of}
 use Rattle.pg_dyn.specs.reading.TooDeep.{TooDeepOf}
@@ -279,7 +279,7 @@ plain_same a b k = cc
 
 pub entry_is_read : (shape : Shape) (key : Scalar) (e : Element) (r : WireRecord) (rs : List WireRecord) (k v : ValueRef) → records_of r.body ≡ Ok rs
     → PartWhole shape (key_field key) rs k → PartWhole shape (value_field e) rs v
-    → IsItemOf key k → ItemFits shape e v → IsEntryRead shape key e r (record { key = k; value = v })
+    → IsItemKept key k → ItemKept shape e v → IsEntryRead shape key e r (record { key = k; value = v })
 entry_is_read shape key e r rs k v records a b item fits =
     let k_is : a.0 ≡ leaf_of k = plain_same a.0 (leaf_of k) (a.2 ∙ ap (λ i. Some (item_of i)) (key_seen k (item_is_key key k item))) in (
       b.0,
@@ -310,7 +310,7 @@ module _ (shape : Shape) (levels : ℕ) (f : FieldShape) (key : Scalar) (of_map 
 
     -- the key is the one that was read, or the default
     abbrev pub IsWholeKey : ValueRef → Type 0
-    IsWholeKey k = WholeItem shape (elements.Scalar key) parts.key k × (PartFits shape (elements.Scalar key) parts.key → IsItemOf key k)
+    IsWholeKey k = WholeItem shape (elements.Scalar key) parts.key k × (PartFits shape (elements.Scalar key) parts.key → IsItemKept key k)
 
     key_whole : (k : ValueRef) → IsWholeKey k → PartWhole shape (key_field key) found.0 k
     key_whole k h = part_whole shape (key_field key) found.0 parts.key k (found.2.key_read shape) h.0
@@ -318,7 +318,7 @@ module _ (shape : Shape) (levels : ℕ) (f : FieldShape) (key : Scalar) (of_map 
     -- Of a value that is no message.
     module _ (scalar : IsNoMessage f.element) where
       pub scalar_entry : (k v : ValueRef) → IsWholeKey k → WholeItem shape f.element parts.value v
-          → (PartFits shape f.element parts.value → ItemFits shape f.element v) → IsEntryRead shape key f.element r (record { key = k; value = v })
+          → (PartFits shape f.element parts.value → ItemKept shape f.element v) → IsEntryRead shape key f.element r (record { key = k; value = v })
       scalar_entry k v h whole fits =
           entry_is_read shape key f.element r found.0 k v found.1 (key_whole k h)
           (part_whole shape (value_field f.element) found.0 parts.value v (found.2.value_read scalar shape) whole)
@@ -332,12 +332,12 @@ module _ (shape : Shape) (levels : ℕ) (f : FieldShape) (key : Scalar) (of_map 
       run_is : map seen_record run ≡ own (value_field f.element) found.0
       run_is = ap (map seen_record) taken ∙ found.2.child (subst IsMessageOf (sym is) tt)
 
-      pub child_entry : (k v : ValueRef) → IsWholeKey k → IsChildOf shape t (map seen_record run) v → ItemFits shape (elements.Message t) v
+      pub child_entry : (k v : ValueRef) → IsWholeKey k → IsChildOf shape t (map seen_record run) v → ItemKept shape (elements.Message t) v
           → IsEntryRead shape key f.element r (record { key = k; value = v })
       child_entry k v h child fits =
           entry_is_read shape key f.element r found.0 k v found.1 (key_whole k h)
           (child_whole shape f.element t found.0 v is are (subst (λ rs. IsChildOf shape t rs v) run_is child))
-          (h.1 (found.2.key_fits shape)) (subst (λ e. ItemFits shape e v) (sym is) fits)
+          (h.1 (found.2.key_fits shape)) (subst (λ e. ItemKept shape e v) (sym is) fits)
 
       pub child_good : BodiesGood shape levels t (map seen_record run) → AreGood shape levels f (r ∷ [])
       child_good good =

@@ -19,14 +19,14 @@ use Rattle.pg_dyn.specs.declared.message_ref.ValueRef.{ValueRef}
 use Rattle.pg_dyn.specs.declared.reading.parts.Parts.{Parts}
 use Rattle.pg_dyn.specs.Coding.{form, form_wire, leaf_in, scalar_form}
 use Rattle.pg_dyn.specs.reading.Content.{is_accepted, key_field, leaves_in, plain_content, same_wire, takes, value_field}
-use Rattle.pg_dyn.specs.BorrowedItems.{ItemFits}
+use Rattle.pg_dyn.specs.BorrowedItems.{ItemKept}
 use Rattle.pg_dyn.specs.reading.Decoding.{dec, is_child, is_plain_readable}
 use Rattle.pg_dyn.specs.reading.EntryParts.{AreParts, AreReadable, ScalarsGood}
 use Rattle.pg_dyn.specs.reading.EntrySteps.{IsMessageOf, IsReadFrom, PartIs, PartFits, PartRead}
 use Rattle.pg_dyn.specs.reading.Held.{read_as}
 use Rattle.pg_dyn.specs.Message.{Leaf}
 use Rattle.pg_dyn.specs.reading.ReadingOn.{IsNoMessage}
-use Rattle.pg_dyn.specs.BorrowedItems.{IsItemOf}
+use Rattle.pg_dyn.specs.BorrowedItems.{IsItemKept}
 use Rattle.pg_dyn.specs.Borrowed.{leaf_of}
 use Rattle.pg_dyn.specs.reading.Steps.{item_of}
 use Rattle.pg_dyn.proofs.lemmas.reading.FieldKinds.{form_as, no_both}
@@ -36,7 +36,7 @@ use Rattle.pg_dyn.proofs.Lists.{each-append, filter-append'}
 use Rattle.pg_dyn.proofs.lemmas.reading.ReadsOn.{singular_on}
 use Rattle.pg_dyn.proofs.lemmas.reading.RecordFronts.{Front}
 
-pub item_as : (shape : Shape) (e : Element) (v : ValueRef) → IsNoMessage e → IsItemOf (read_as e) v → ItemFits shape e v
+pub item_as : (shape : Shape) (e : Element) (v : ValueRef) → IsNoMessage e → IsItemKept (read_as e) v → ItemKept shape e v
 item_as shape (elements.Scalar s) v h item = item
 item_as shape (elements.Enum x) v h item = item
 item_as shape (elements.Message t) v h item = absurd h
@@ -83,14 +83,14 @@ some_leaves : (shape : Shape) (e : Element) (o : Option (List Leaf)) (held : Opt
 some_leaves shape e o None h = ([], h)
 some_leaves shape e o (Some v) h = (h.0 ∷ [], h.1)
 
-plain_read : (shape : Shape) (e : Element) (v : ValueRef) → IsNoMessage e → ItemFits shape e v → IsReadFrom shape e (leaf_of v) v
+plain_read : (shape : Shape) (e : Element) (v : ValueRef) → IsNoMessage e → ItemKept shape e v → IsReadFrom shape e (leaf_of v) v
 plain_read shape (elements.Scalar s) v h fits = ap (λ i. Some (item_of i)) (sym (key_seen v (item_is_key s v fits)))
 plain_read shape (elements.Enum x) v h fits = ap (λ i. Some (item_of i)) (sym (key_seen v (item_is_key Int32 v fits)))
 plain_read shape (elements.Message t) v h fits = absurd h
 
 module _ (n : ℕ) (e : Element) (scalar : IsNoMessage e) (rs : List WireRecord) (r : WireRecord) (at : r.number ≡ n)
     (own : same_wire r.wire (form_wire (form e)) ≡ true) (v : ValueRef) (leaf : leaf_in (scalar_form (read_as e)) r.body ≡ Some (leaf_of v))
-    (item : IsItemOf (read_as e) v) where
+    (item : IsItemKept (read_as e) v) where
   leaves : leaves_in (explicit n e) r ≡ Some (leaf_of v ∷ [])
   leaves = own_leaves (explicit n e) r (leaf_of v) own (ap (λ x. leaf_in x r.body) (form_as e) ∙ leaf)
 
@@ -123,7 +123,7 @@ unreadable n e r at own h =
 
 module _ (key : Scalar) (element : Element) (rs : List WireRecord) (r : WireRecord) (parts new : Parts) (h : AreParts key element rs parts) where
   pub key_added : (v : ValueRef) → r.number ≡ 1 → same_wire r.wire (form_wire (form (elements.Scalar key))) ≡ true
-      → leaf_in (scalar_form key) r.body ≡ Some (leaf_of v) → IsItemOf key v
+      → leaf_in (scalar_form key) r.body ≡ Some (leaf_of v) → IsItemKept key v
       → new.key ≡ Some v → new.value ≡ parts.value → new.child ≡ parts.child → AreParts key element (rs ++ r ∷ []) new
   key_added v at own leaf item key_is value_is child_is =
       let other : takes (value_field element) r ≡ false = other_number 1 2 element r at (omega arith) in
@@ -143,7 +143,7 @@ module _ (key : Scalar) (element : Element) (rs : List WireRecord) (r : WireReco
       }
 
   pub value_added : (v : ValueRef) → IsNoMessage element → r.number ≡ 2 → same_wire r.wire (form_wire (form element)) ≡ true
-      → leaf_in (scalar_form (read_as element)) r.body ≡ Some (leaf_of v) → IsItemOf (read_as element) v
+      → leaf_in (scalar_form (read_as element)) r.body ≡ Some (leaf_of v) → IsItemKept (read_as element) v
       → new.key ≡ parts.key → new.value ≡ Some v → AreParts key element (rs ++ r ∷ []) new
   value_added v scalar at own leaf item key_is value_is =
       let other : takes (key_field key) r ≡ false = other_number 2 1 (elements.Scalar key) r at (omega arith) in

@@ -17,7 +17,8 @@ use Rattle.pg_dyn.specs.reading.Gathering.{NumbersRise}
 use Rattle.pg_dyn.specs.Kept.{ends, message_of}
 use Rattle.pg_dyn.specs.Borrowed.{fields_onto}
 use Rattle.pg_dyn.specs.reading.Steps.{FieldReads, HeldFits, IsShallow, Taken}
-use Rattle.pg_dyn.proofs.lemmas.reading.ByFields.{ReadSoFar, one_field, whole_fits, whole_read, with_held}
+use Rattle.pg_dyn.specs.Texts.{KeepsTexts}
+use Rattle.pg_dyn.proofs.lemmas.reading.ByFields.{ReadSoFar, one_field, whole_fits, whole_read, whole_texts, with_held}
 use Rattle.pg_dyn.proofs.lemmas.reading.GoodRecords.{IsGood, each_good, good_by_field, good_each, good_of_field, same_found}
 use Rattle.pg_dyn.proofs.Lists.{each-append, each-map, each_both, each_weaker}
 use Rattle.pg_dyn.proofs.lemmas.Splitting.{found_number}
@@ -128,15 +129,18 @@ module _ (shape : Shape) (levels : ℕ) (type : TypeId) (sorted : List Record) w
               let same : h.1.1.0 ≡ f = same_found h.1.1.0 f (sym h.1.1.1.found ∙ ap (field_at (fields shape type)) h.0 ∙ found) in
               (h.1.0, subst (λ x. Taken (fields shape type) (seen_record r) x) same h.1.1.1)
 
-      pub are_of : AreOf f (map seen_record (take (end - place) (drop place sorted)))
+      are_of : AreOf f (map seen_record (take (end - place) (drop place sorted)))
       are_of = each_weaker (Own f) (λ r. IsRecord r × (takes f r ≡ true)) (λ r h. (h.0, h.1.taken)) (map seen_record rows) own_rows
 
-      pub some_rows : take (end - place) (drop place sorted) ≢ []
+      some_rows : take (end - place) (drop place sorted) ≢ []
       some_rows none = of (end - place) (omega arith) (subst (λ rs. take (end - place) rs ≡ []) (drop-cons sorted place d here) none)
         where
           of : (j : ℕ) → 0 < j → take j (get_or sorted place d ∷ drop (suc place) sorted) ≡ [] → ⊥
           of zero h e = omega arith
           of (suc j) h e = absurd (cc)
+
+      pub one_run : AreOf f (map seen_record (take (end - place) (drop place sorted))) × (take (end - place) (drop place sorted) ≢ [])
+      one_run = (are_of, some_rows)
 
       -- where all records are good, so are these
       pub good_run : RecordsGood shape levels (fields shape type) (map seen_record sorted)
@@ -190,7 +194,7 @@ module _ (shape : Shape) (levels : ℕ) (type : TypeId) (sorted : List Record) w
             (λ r h. let at = (subst (AllByRecursion (λ (s : Record). r.number < s.number)) (drop-cons sorted place d here) h).0 in omega
             (arith, number, at)) (take place sorted) was.below)
 
-        pub onward : (held : Option ContentRef) → HoldsOf shape f (map seen_record (take (end - place) (drop place sorted))) held → HeldFits shape f held
+        onward : (held : Option ContentRef) → HoldsOf shape f (map seen_record (take (end - place) (drop place sorted))) held → HeldFits shape f held
             → AreGood shape levels f (map seen_record (take (end - place) (drop place sorted))) → ReadUpTo end (cs ++ with_held f.number held)
         onward held holds fits good =
             let joined : map seen_record (take end sorted) ≡ map seen_record (take place sorted) ++ map seen_record rows =
@@ -210,6 +214,11 @@ module _ (shape : Shape) (levels : ℕ) (type : TypeId) (sorted : List Record) w
                   (each_both (λ r. FieldReads shape f r × IsShallow shape levels f r) (Own f) (map seen_record rows) good own_rows)));
             }
 
+        pub onward_by : (held : Option ContentRef) (new : List (ℕ × ContentRef)) → new ≡ cs ++ with_held f.number held
+            → HoldsOf shape f (map seen_record (take (end - place) (drop place sorted))) held → HeldFits shape f held
+            → AreGood shape levels f (map seen_record (take (end - place) (drop place sorted))) → ReadUpTo end new
+        onward_by held new is holds fits good = subst (ReadUpTo end) (sym is) (onward held holds fits good)
+
   -- All records.
   module _ (rising : Rising (fields shape type)) (all : AllCount (fields shape type) (map seen_record sorted)) (place : ℕ) (cs : List (ℕ × ContentRef))
       (was : ReadUpTo place cs) (none_left : length sorted ≤ place) where
@@ -219,13 +228,23 @@ module _ (shape : Shape) (levels : ℕ) (type : TypeId) (sorted : List Record) w
     whole : ReadSoFar shape type (map seen_record sorted) cs
     whole = subst (λ rs. ReadSoFar shape type (map seen_record rs) cs) all_taken was.read
 
-    pub all_good : RecordsGood shape levels (fields shape type) (map seen_record sorted)
+    all_good : RecordsGood shape levels (fields shape type) (map seen_record sorted)
     all_good =
         each_good shape levels (fields shape type) (map seen_record sorted)
         (subst (λ rs. AllByRecursion (IsGood shape levels (fields shape type)) (map seen_record rs)) all_taken was.good)
 
-    pub all_read : read_records (dec shape) (fields shape type) (map seen_record sorted) ≡ Some (message_of (fields_onto cs (ends type [])))
+    all_read : read_records (dec shape) (fields shape type) (map seen_record sorted) ≡ Some (message_of (fields_onto cs (ends type [])))
     all_read = whole_read shape type (map seen_record sorted) cs rising all whole all_good.0
 
-    pub all_fit : type.index < length shape → Fits shape (fields_onto cs (ends type []))
+    all_texts : (us : List WireRecord) → KeepsTexts shape (fields_onto cs (ends type us))
+    all_texts = whole_texts shape type (map seen_record sorted) cs rising all whole
+
+    all_fit : type.index < length shape → Fits shape (fields_onto cs (ends type []))
     all_fit there = whole_fits shape type (map seen_record sorted) cs rising all whole there
+
+    -- what is read, that it fits and keeps its texts, and that all records are good
+    pub all_are : type.index < length shape
+        → (read_records (dec shape) (fields shape type) (map seen_record sorted) ≡ Some (message_of (fields_onto cs (ends type []))))
+        × Fits shape (fields_onto cs (ends type [])) × ((us : List WireRecord) → KeepsTexts shape (fields_onto cs (ends type us)))
+        × RecordsGood shape levels (fields shape type) (map seen_record sorted)
+    all_are there = (all_read, all_fit there, all_texts, all_good)

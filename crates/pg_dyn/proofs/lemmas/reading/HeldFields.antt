@@ -7,19 +7,19 @@ use Rattle.pg_schema.specs.declared.parts.field.Presence.TheVariants as presence
 use Rattle.pg_schema.specs.declared.parts.field.Element.TheVariants as elements
 use Rattle.pg_schema.specs.declared.parts.field.Scalar.{Scalar}
 use Rattle.pg_schema.specs.declared.parts.field.TypeId.{TypeId}
-use Rattle.pg_schema.specs.Shape.{Shape, FieldShape, is_map, is_repeated}
+use Rattle.pg_schema.specs.Shape.{Shape, FieldShape, is_key, is_map, is_repeated}
 use Rattle.pg_dyn.specs.declared.message_ref.ContentRef.TheVariants as contents
 use Rattle.pg_dyn.specs.declared.message_ref.EntryRef.{EntryRef}
 use Rattle.pg_dyn.specs.declared.message_ref.ValueRef.{ValueRef}
 use Rattle.pg_dyn.specs.declared.message_ref.ValueRef.TheVariants as values
 use Rattle.pg_dyn.specs.Belonging.{KeyFits, MayFollow}
-use Rattle.pg_dyn.specs.Borrowed.{IsKey, entry_part, item_part, item_seen}
-use Rattle.pg_dyn.specs.BorrowedItems.{IsItemOf, ItemFits, KeysRise, key_of}
+use Rattle.pg_dyn.specs.Borrowed.{IsMapKey, entry_part, item_part, item_seen}
+use Rattle.pg_dyn.specs.BorrowedItems.{IsItemKept, ItemKept, KeysRise, key_of}
 use Rattle.pg_dyn.specs.Kept.{KeptItem, Plain, Msg}
 use Rattle.pg_dyn.specs.Message.{Part, key_cmp}
-use Rattle.pg_dyn.specs.PartsFit.{InOrder, IsPartOf}
+use Rattle.pg_dyn.specs.PartsFit.{InOrder, IsElementKept, IsPartOf}
 use Rattle.pg_dyn.specs.reading.Steps.{HeldFits}
-use Rattle.pg_dyn.proofs.lemmas.BorrowedItems.{LeafMayBeZero, in_range, item_is_key, value_holds}
+use Rattle.pg_dyn.proofs.lemmas.BorrowedItems.{LeafMayBeZero, in_range, kept_listed, map_key, value_holds}
 use Rattle.pg_dyn.proofs.Lists.{each-map, each_weaker}
 
 keyless : (p : Presence) → is_map p ≡ false → KeyFits p None
@@ -46,7 +46,7 @@ map_zero : (p : Presence) (key : Scalar) (item : KeptItem) → p ≡ presences.M
 map_zero p key (Plain listed leaf) is = rw is tt
 map_zero p key (Msg listed child) is = tt
 
-pub child_zero : (shape : Shape) (t : TypeId) (p : Presence) (v : ValueRef) → ItemFits shape (elements.Message t) v → LeafMayBeZero p (item_seen false v)
+pub child_zero : (shape : Shape) (t : TypeId) (p : Presence) (v : ValueRef) → ItemKept shape (elements.Message t) v → LeafMayBeZero p (item_seen false v)
 child_zero shape t p (values.Int x) h = absurd h
 child_zero shape t p (values.F32 x) h = absurd h
 child_zero shape t p (values.F64 x) h = absurd h
@@ -78,7 +78,7 @@ map_in_order p n key is (e ∷ es) rise = (each es rise.0, map_in_order p n key 
     each (x ∷ xs) h = (subst (λ q. MayFollow q (Some (key_of e)) (Some (key_of x))) (sym is) h.0, each xs h.1)
 
 module _ (shape : Shape) (f : FieldShape) where
-  pub one_held : (v : ValueRef) → is_repeated f.presence ≡ false → is_map f.presence ≡ false → ItemFits shape f.element v
+  pub one_held : (v : ValueRef) → is_repeated f.presence ≡ false → is_map f.presence ≡ false → ItemKept shape f.element v
       → LeafMayBeZero f.presence (item_seen false v) → HeldFits shape f (Some (contents.One v))
   one_held v singular no_map fits zero = (
     record {
@@ -87,21 +87,24 @@ module _ (shape : Shape) (f : FieldShape) where
     },
     tt,
     tt,
+    (fits, tt),
   )
 
-  pub list_held : (vs : Vec ValueRef Global) → is_repeated f.presence ≡ true → AllByRecursion (ItemFits shape f.element) vs.items → vs.items ≢ []
+  pub list_held : (vs : Vec ValueRef Global) → is_repeated f.presence ≡ true → AllByRecursion (ItemKept shape f.element) vs.items → vs.items ≢ []
       → HeldFits shape f (Some (contents.Many vs))
   list_held vs repeated fit some = (
     record {
       each = each-map (IsPartOf shape f) (item_part f.number true) vs.items
-          (each_weaker (ItemFits shape f.element) (λ (v : ValueRef). IsPartOf shape f (item_part f.number true v)) one vs.items fit);
+          (each_weaker (ItemKept shape f.element) (λ (v : ValueRef). IsPartOf shape f (item_part f.number true v)) one vs.items fit);
       in_order = list_in_order f.presence f.number repeated vs.items;
     },
     some,
     tt,
+    each-map (λ (p : Part KeptItem). IsElementKept shape f.element p.item) (item_part f.number true) vs.items
+        (each_weaker (ItemKept shape f.element) (λ v. IsElementKept shape f.element (item_seen true v)) (kept_listed true shape f.element) vs.items fit),
   )
     where
-      one : (v : ValueRef) → ItemFits shape f.element v → IsPartOf shape f (item_part f.number true v)
+      one : (v : ValueRef) → ItemKept shape f.element v → IsPartOf shape f (item_part f.number true v)
       one v h = record {
         number_is = refl;
         key_fits = list_keyless f.presence repeated;
@@ -110,18 +113,20 @@ module _ (shape : Shape) (f : FieldShape) where
 
   -- an entry is one of the map
   abbrev pub EntryFits : Scalar → EntryRef → Type 0
-  EntryFits key e = IsItemOf key e.key × ItemFits shape f.element e.value
+  EntryFits key e = IsItemKept key e.key × ItemKept shape f.element e.value
 
-  pub map_held : (key : Scalar) (es : Vec EntryRef Global) → f.presence ≡ presences.Map key → AllByRecursion (EntryFits key) es.items → KeysRise es.items
+  pub map_held : (key : Scalar) (es : Vec EntryRef Global) → f.presence ≡ presences.Map key → is_key key ≡ true → AllByRecursion (EntryFits key) es.items → KeysRise es.items
       → es.items ≢ [] → HeldFits shape f (Some (contents.Map es))
-  map_held key es is fit rise some = (
+  map_held key es is keyed fit rise some = (
     record {
       each = each-map (IsPartOf shape f) (entry_part f.number) es.items
           (each_weaker (EntryFits key) (λ (e : EntryRef). IsPartOf shape f (entry_part f.number e)) one es.items fit);
       in_order = map_in_order f.presence f.number key is es.items rise;
     },
     some,
-    each_weaker (EntryFits key) (λ (e : EntryRef). IsKey e.key) (λ e h. item_is_key key e.key h.0) es.items fit,
+    each_weaker (EntryFits key) (λ (e : EntryRef). IsMapKey e.key) (λ e h. map_key key e.key keyed h.0) es.items fit,
+    each-map (λ (p : Part KeptItem). IsElementKept shape f.element p.item) (entry_part f.number) es.items
+        (each_weaker (EntryFits key) (λ (e : EntryRef). IsElementKept shape f.element (item_seen false e.value)) (λ e h. h.1) es.items fit),
   )
     where
       one : (e : EntryRef) → EntryFits key e → IsPartOf shape f (entry_part f.number e)

@@ -15,7 +15,7 @@ use Rattle.pg_dyn.specs.declared.message_ref.ContentRef.{ContentRef}
 use Rattle.pg_dyn.specs.declared.message_ref.ContentRef.TheVariants as contents
 use Rattle.pg_dyn.specs.reading.ByFields.{HoldsOf, IsEntryRead}
 use Rattle.pg_dyn.specs.reading.Content.{by_key, content, entry_in, put}
-use Rattle.pg_dyn.specs.BorrowedItems.{AreAlike, IsItemOf, ItemFits, KeysRise, key_of}
+use Rattle.pg_dyn.specs.BorrowedItems.{AreAlike, IsItemKept, ItemKept, KeysRise, key_of}
 use Rattle.pg_dyn.specs.reading.Decoding.{dec, read_part}
 use Rattle.pg_dyn.specs.reading.Normalized.{place, placed}
 use Rattle.pg_dyn.specs.reading.EntrySteps.{IsReadFrom}
@@ -53,7 +53,7 @@ module _ (shape : Shape) (key : Scalar) (element : Element) where
 
   -- each entry fits
   pub entries_fit : (rs : List WireRecord) (es : List EntryRef) → AreEntriesRead shape key element rs es
-      → AllByRecursion (λ (e : EntryRef). IsItemOf key e.key × ItemFits shape element e.value) es
+      → AllByRecursion (λ (e : EntryRef). IsItemKept key e.key × ItemKept shape element e.value) es
   entries_fit [] [] h = tt
   entries_fit [] (e ∷ es) h = absurd h
   entries_fit (r ∷ rs) [] h = absurd h
@@ -62,7 +62,7 @@ module _ (shape : Shape) (key : Scalar) (element : Element) where
   pub entries_alike : (rs : List WireRecord) (es : List EntryRef) → is_key key ≡ true → AreEntriesRead shape key element rs es → AreAlike es
   entries_alike rs es scalar h =
       keys_alike es key scalar
-      (each_weaker (λ (e : EntryRef). IsItemOf key e.key × ItemFits shape element e.value) (λ (e : EntryRef). IsItemOf key e.key) (λ e k. k.0) es
+      (each_weaker (λ (e : EntryRef). IsItemKept key e.key × ItemKept shape element e.value) (λ (e : EntryRef). IsItemKept key e.key) (λ e k. k.0) es
       (entries_fit rs es h))
 
   -- The leaves of the entries, and what is read of them.
@@ -142,7 +142,7 @@ pub map_fits : (shape : Shape) (f : FieldShape) (key : Scalar) (rs : List WireRe
 map_fits shape f key rs es (contents.One v) is scalar some h made = absurd made
 map_fits shape f key rs es (contents.Many vs) is scalar some h made = absurd made
 map_fits shape f key rs es (contents.Map xs) is scalar some h made =
-    map_held shape f key xs is
+    map_held shape f key xs is scalar
     (subst (λ ys. AllByRecursion (EntryFits shape f key) ys) (sym made) (each_normalized (EntryFits shape f key) es (entries_fit shape key f.element rs es h)))
     (subst KeysRise (sym made) (normalized_rise es (entries_alike shape key f.element rs es scalar h)))
     (λ none. normalized_some es (there rs es h some) (sym made ∙ none))

@@ -18,7 +18,7 @@ use Rattle.pg_dyn.specs.WordOf.{HasBits}
 use Rattle.pg_dyn.specs.Coding.{form_wire, leaf_in, element_at, scalar_form, word_in}
 use Rattle.pg_dyn.specs.reading.Content.{packed_leaves, option_from}
 use Rattle.pg_dyn.specs.Optional.{all_some}
-use Rattle.pg_dyn.specs.BorrowedItems.{IsItemOf}
+use Rattle.pg_dyn.specs.BorrowedItems.{IsItemKept}
 use Rattle.pg_dyn.specs.Borrowed.{leaf_of}
 use Rattle.pg_dyn.proofs.Lists.{each-append}
 use Rattle.pg_dyn.proofs.lemmas.reading.ReadsOn.{all_some-append}
@@ -108,7 +108,7 @@ pub record RowSoFar (s : Scalar) (body : List ℕ) (start : ℕ) (old now : List
   pub values : List ValueRef
   pub now_is : now ≡ old ++ values
   pub leaves : all_some (map (leaf_in (scalar_form s)) done) ≡ Some (map leaf_of values)
-  pub items : AllByRecursion (IsItemOf s) values
+  pub items : AllByRecursion (IsItemKept s) values
   pub row_ok : (others : List (List ℕ)) → row (element_at (form_wire (scalar_form s))) (drop start body) ≡ Ok others → row (element_at (form_wire (scalar_form s))) body ≡ Ok (done ++ others)
   pub row_err : (f : Fault) → row (element_at (form_wire (scalar_form s))) (drop start body) ≡ Err f → row (element_at (form_wire (scalar_form s))) body ≡ Err f
 
@@ -126,7 +126,7 @@ module _ (s : Scalar) (body : List ℕ) (old : List ValueRef) where
   }
 
   module _ (start : ℕ) (now : List ValueRef) (a : RowSoFar s body start old now) where
-    pub row_done : length body ≤ start → (values : List ValueRef) × (now ≡ old ++ values) × (packed_leaves (scalar_form s) body ≡ Some (map leaf_of values)) × AllByRecursion (IsItemOf s) values
+    pub row_done : length body ≤ start → (values : List ValueRef) × (now ≡ old ++ values) × (packed_leaves (scalar_form s) body ≡ Some (map leaf_of values)) × AllByRecursion (IsItemKept s) values
     row_done end =
         let none : drop start body ≡ [] = drop_all start body end in
         let whole = a.row_ok [] (ap (row (element_at (form_wire (scalar_form s)))) none ∙ row-end (element_at (form_wire (scalar_form s))) (element_shortens (form_wire (scalar_form s)))) in
@@ -135,7 +135,7 @@ module _ (s : Scalar) (body : List ℕ) (old : List ValueRef) where
     pub row_broken : start < length body → (f : Fault) → element_at (form_wire (scalar_form s)) (drop start body) ≡ Err f → row (element_at (form_wire (scalar_form s))) body ≡ Err f
     row_broken inside f h = a.row_err f (row-stop (element_at (form_wire (scalar_form s))) (element_shortens (form_wire (scalar_form s))) (drop start body) f (omega (arith, length-drop start body)) h)
 
-    pub row_onward : (n : ℕ) (v : ValueRef) → IsOne (form_wire (scalar_form s)) (drop start body) n → leaf_in (scalar_form s) (take n (drop start body)) ≡ Some (leaf_of v) → IsItemOf s v → RowSoFar s body (start + n) old (now ++ v ∷ [])
+    pub row_onward : (n : ℕ) (v : ValueRef) → IsOne (form_wire (scalar_form s)) (drop start body) n → leaf_in (scalar_form s) (take n (drop start body)) ≡ Some (leaf_of v) → IsItemKept s v → RowSoFar s body (start + n) old (now ++ v ∷ [])
     row_onward n v one read item =
         let rest_is : drop n (drop start body) ≡ drop (start + n) body = drop-drop n start body in
         let step = row-step (element_at (form_wire (scalar_form s))) (element_shortens (form_wire (scalar_form s))) (drop start body) (take n (drop start body)) (drop n (drop start body)) one.0
@@ -148,7 +148,7 @@ module _ (s : Scalar) (body : List ℕ) (old : List ValueRef) where
           leaves = ap all_some (map-append (leaf_in (scalar_form s)) a.done (take n (drop start body) ∷ []))
               ∙ all_some-append (map (leaf_in (scalar_form s)) a.done) (leaf_in (scalar_form s) (take n (drop start body))) (map leaf_of a.values) (leaf_of v) a.leaves read
               ∙ ap (λ xs. Some xs) (sym (map-append leaf_of a.values (v ∷ [])));
-          items = each-append (IsItemOf s) a.values (v ∷ []) a.items (item, tt);
+          items = each-append (IsItemKept s) a.values (v ∷ []) a.items (item, tt);
           row_ok = λ others h.
               a.row_ok (take n (drop start body) ∷ others) (step ∙ ap (λ r. r >>= λ others. Ok (take n (drop start body) ∷ others)) h)
               ∙ ap (λ xs. Ok xs) (sym (append_assoc a.done (take n (drop start body) ∷ []) others));

@@ -16,7 +16,7 @@ use Rattle.pg_dyn.specs.declared.message_ref.ValueRef.{ValueRef}
 use Rattle.pg_dyn.specs.reading.ByFields.{AreGood, HoldsOf}
 use Rattle.pg_dyn.specs.Coding.{form, form_wire, leaf_in, scalar_form}
 use Rattle.pg_dyn.specs.reading.Content.{content, last_item, leaves_in, packed_leaves, plain_content, same_wire, takes}
-use Rattle.pg_dyn.specs.BorrowedItems.{ItemFits, is_zero_value}
+use Rattle.pg_dyn.specs.BorrowedItems.{ItemKept, is_zero_value}
 use Rattle.pg_dyn.specs.reading.Decoding.{dec, is_child, read_part}
 use Rattle.pg_dyn.specs.reading.Held.{IsHeldList, item_left, read_as}
 use Rattle.pg_dyn.specs.reading.ItemRuns.{AllRead, AreItemsOf}
@@ -24,7 +24,7 @@ use Rattle.pg_dyn.specs.Message.{Item, Leaf, Part, Plain, is_zero}
 use Rattle.pg_dyn.specs.Optional.{all_some, joined, last_of}
 use Rattle.pg_dyn.specs.reading.ReadingOn.{IsNoMessage}
 use Rattle.pg_dyn.specs.ScalarItems.{HasShape}
-use Rattle.pg_dyn.specs.BorrowedItems.{IsItemOf}
+use Rattle.pg_dyn.specs.BorrowedItems.{IsItemKept}
 use Rattle.pg_dyn.specs.Borrowed.{IsKey, item_seen, leaf_of}
 use Rattle.pg_dyn.specs.reading.Steps.{FieldReads, HeldFits, IsShallow, item_of, part_of, parts_held}
 use Rattle.pg_dyn.proofs.lemmas.reading.FieldKinds.{form_as, lists_no_map}
@@ -43,17 +43,17 @@ pub record ItemsSoFar (f : FieldShape) (rs : List WireRecord) (values : List Val
   pub rows : List (List Leaf)
   pub read : all_some (map (leaves_in f) rs) ≡ Some rows
   pub joined_is : joined rows ≡ map leaf_of values
-  pub items : AllByRecursion (IsItemOf (read_as f.element)) values
+  pub items : AllByRecursion (IsItemKept (read_as f.element)) values
 
 pub more_items : (f : FieldShape) (rs : List WireRecord) (r : WireRecord) (old more new : List ValueRef) → ItemsSoFar f rs old
-    → leaves_in f r ≡ Some (map leaf_of more) → AllByRecursion (IsItemOf (read_as f.element)) more
+    → leaves_in f r ≡ Some (map leaf_of more) → AllByRecursion (IsItemKept (read_as f.element)) more
     → new ≡ old ++ more → ItemsSoFar f (rs ++ r ∷ []) new
 more_items f rs r old more new h read items is = record {
   rows = h.rows ++ map leaf_of more ∷ [];
   read = ap all_some (map-append (leaves_in f) rs (r ∷ [])) ∙ all_some-append (map (leaves_in f) rs) (leaves_in f r) h.rows (map leaf_of more) h.read read;
   joined_is = joined-append h.rows (map leaf_of more) ∙ ap (λ xs. xs ++ map leaf_of more) h.joined_is ∙ sym (map-append leaf_of old more)
       ∙ ap (map leaf_of) (sym is);
-  items = subst (AllByRecursion (IsItemOf (read_as f.element))) (sym is) (each-append (IsItemOf (read_as f.element)) old more h.items items);
+  items = subst (AllByRecursion (IsItemKept (read_as f.element))) (sym is) (each-append (IsItemKept (read_as f.element)) old more h.items items);
 }
 
 -- The last item so far.
@@ -69,7 +69,7 @@ pub record LastSoFar (f : FieldShape) (rs : List WireRecord) (held : Option Valu
   pub none : held ≡ None → rs ≡ []
 
 pub new_last : (f : FieldShape) (rs : List WireRecord) (r : WireRecord) (held : Option ValueRef) (v : ValueRef) → LastSoFar f rs held
-    → leaves_in f r ≡ Some (leaf_of v ∷ []) → IsItemOf (read_as f.element) v → LastSoFar f (rs ++ r ∷ []) (Some v)
+    → leaves_in f r ≡ Some (leaf_of v ∷ []) → IsItemKept (read_as f.element) v → LastSoFar f (rs ++ r ∷ []) (Some v)
 new_last f rs r held v h read item = record {
   values = h.values ++ v ∷ [];
   so_far = more_items f rs r h.values (v ∷ []) (h.values ++ v ∷ []) h.so_far read (item, tt) refl;
@@ -178,7 +178,7 @@ plain_holds shape f rs ls held no_map scalar read is =
 
 -- A list.
 
-list_parts : (n : ℕ) (e : Element) (vs : List ValueRef) → AllByRecursion (IsItemOf (read_as e)) vs
+list_parts : (n : ℕ) (e : Element) (vs : List ValueRef) → AllByRecursion (IsItemKept (read_as e)) vs
     → leaf_parts n (map leaf_of vs) ≡ map part_of (map (λ value. record { number = n; key = None; item = item_seen true value }) vs)
 list_parts n e [] h = refl
 list_parts n e (v ∷ vs) h =
@@ -198,7 +198,7 @@ module _ (shape : Shape) (f : FieldShape) (repeated : is_repeated f.presence ≡
   rows_content None e = absurd (cc)
   rows_content (Some rows) e = rw repeated e
 
-  held_parts : (ws : List ValueRef) (o : Option ContentRef) → AllByRecursion (IsItemOf (read_as f.element)) ws → IsHeldList ws o
+  held_parts : (ws : List ValueRef) (o : Option ContentRef) → AllByRecursion (IsItemKept (read_as f.element)) ws → IsHeldList ws o
       → leaf_parts f.number (map leaf_of ws) ≡ map part_of (parts_held f.number o)
   held_parts [] None items k = refl
   held_parts [] (Some c) items k = absurd k
@@ -214,17 +214,17 @@ module _ (shape : Shape) (f : FieldShape) (repeated : is_repeated f.presence ≡
       plain_holds shape f rs (map leaf_of vs) held (lists_no_map f.presence repeated) scalar (rows_content (all_some (map (leaves_in f) rs)) h.0)
       (held_parts vs held h.1 is)
 
-  each_fits : (ws : List ValueRef) → AllByRecursion (IsItemOf (read_as f.element)) ws → AllByRecursion (ItemFits shape f.element) ws
+  each_fits : (ws : List ValueRef) → AllByRecursion (IsItemKept (read_as f.element)) ws → AllByRecursion (ItemKept shape f.element) ws
   each_fits [] k = tt
   each_fits (w ∷ ws) k = (item_as shape f.element w scalar k.0, each_fits ws k.1)
 
-  fits_held : (ws : List ValueRef) (o : Option ContentRef) → AllByRecursion (ItemFits shape f.element) ws → IsHeldList ws o → HeldFits shape f o
+  fits_held : (ws : List ValueRef) (o : Option ContentRef) → AllByRecursion (ItemKept shape f.element) ws → IsHeldList ws o → HeldFits shape f o
   fits_held ws None each k = tt
   fits_held [] (Some c) each k = absurd k
   fits_held (w ∷ ws) (Some (contents.One v)) each k = absurd k
   fits_held (w ∷ ws) (Some (contents.Map es)) each k = absurd k
   fits_held (w ∷ ws) (Some (contents.Many us)) each k =
-      list_held shape f us repeated (subst (AllByRecursion (ItemFits shape f.element)) (sym k) each) (λ none. some_none w ws (sym k ∙ none))
+      list_held shape f us repeated (subst (AllByRecursion (ItemKept shape f.element)) (sym k) each) (λ none. some_none w ws (sym k ∙ none))
     where
       some_none : (x : ValueRef) (xs : List ValueRef) → ◌≡◌ {A = List ValueRef} (x ∷ xs) [] → ⊥
       some_none x xs e = cc
@@ -282,8 +282,8 @@ not_zero (presences.Map k) v key h = rw (key_seen v key) tt
 
 module _ (shape : Shape) (f : FieldShape) (singular : is_repeated f.presence ≡ false) (no_map : is_map f.presence ≡ false) (scalar : IsNoMessage f.element)
     (rs : List WireRecord) (v : ValueRef) (h : LastSoFar f rs (Some v)) where
-  item : IsItemOf (read_as f.element) v
-  item = let k = subst (AllByRecursion (IsItemOf (read_as f.element))) h.last_is (each_last (IsItemOf (read_as f.element)) h.values h.so_far.items) in k.0
+  item : IsItemKept (read_as f.element) v
+  item = let k = subst (AllByRecursion (IsItemKept (read_as f.element))) h.last_is (each_last (IsItemKept (read_as f.element)) h.values h.so_far.items) in k.0
 
   pub last_holds : HoldsOf shape f rs (item_left f.presence v)
   last_holds =
@@ -298,7 +298,7 @@ module _ (shape : Shape) (f : FieldShape) (singular : is_repeated f.presence ≡
   pub last_fits : HeldFits shape f (item_left f.presence v)
   last_fits = of (is_implicit f.presence) (is_zero_value v) refl refl
     where
-      fits : ItemFits shape f.element v
+      fits : ItemKept shape f.element v
       fits = item_as shape f.element v scalar item
 
       key : IsKey v

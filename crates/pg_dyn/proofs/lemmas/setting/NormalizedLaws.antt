@@ -1,9 +1,10 @@
 -- Contents as their fields hold them.
-use Rattle.std.proofs.Common.{Vec, Global, Bool, true, false, Some, None, ◌≡◌, ℕ, zero, suc, ◌<◌, List, [], ◌∷◌, length, map, get_or, slice_set, nat_eq, eq-eqb, true≢false, refl, ap, sym, subst, ◌∙◌, arith}
+use Rattle.std.proofs.Common.{Vec, Global, Bool, true, false, Some, None, ◌≡◌, ℕ, zero, suc, ◌<◌, List, [], ◌∷◌, ◌++◌, length, map, take, cond, not, ◌+◌, ◌≤◌, get_or, slice_set, nat_eq, eq-eqb, true≢false, refl, ap, ap₂, sym, subst, ◌∙◌, arith}
 use Rattle.std.specs.List.{AllByRecursion}
 use Rattle.std.specs.List.Sorted.{IsPermutation}
 use Rattle.std.specs.declared.cmp.Ordering.TheVariants.{Less}
-use Rattle.std.proofs.lemmas.List.{length-map}
+use Rattle.std.proofs.lemmas.List.{length-map, take_all, take_more_set}
+use Rattle.std.proofs.Math.Seq.{take-append_seam}
 use Rattle.pg_schema.specs.declared.parts.field.Scalar.{Scalar}
 use Rattle.pg_schema.specs.declared.parts.field.Element.{Element}
 use Rattle.pg_schema.specs.declared.parts.field.Presence.{Presence}
@@ -15,14 +16,15 @@ use Rattle.pg_dyn.specs.declared.message.Value.{Value}
 use Rattle.pg_dyn.specs.declared.message.Value.TheVariants as values
 use Rattle.pg_dyn.specs.setting.ContentFaults.{HasEntryTwice}
 use Rattle.pg_dyn.specs.ContentFits.{ContentFits, ItemFits, KeysRise, is_zero_value}
-use Rattle.pg_dyn.specs.Kept.{KeptItem}
+use Rattle.pg_dyn.specs.Kept.{KeptItem, Plain, Msg}
 use Rattle.pg_dyn.specs.KeyOrder.{AreAlike}
-use Rattle.pg_dyn.specs.Message.{Leaf, key_cmp}
+use Rattle.pg_dyn.specs.Message.{Leaf, Part, key_cmp}
 use Rattle.pg_dyn.specs.Seen.{content_seen, item_seen, leaf_of}
 use Rattle.pg_dyn.specs.setting.Setting.{by_rising_key, is_zero_kept, normalized_by}
-use Rattle.pg_dyn.specs.setting.Told.{EntryFits, entry_seen, is_nothing, ItemsFit}
+use Rattle.pg_dyn.specs.setting.Told.{EntryFits, entry_kept, entry_seen, is_nothing, ItemsFit}
+use Rattle.pg_dyn.specs.Texts.{kept_in, kept_item}
 use Rattle.pg_dyn.proofs.lemmas.setting.KeySorting.{entry_part, sorted_is}
-use Rattle.pg_dyn.proofs.Lists.{map_map}
+use Rattle.pg_dyn.proofs.Lists.{each-append, map_map}
 
 first_same : {A : Type 0} {x y : A} {xs ys : List A} → x ∷ xs ≡ y ∷ ys → x ≡ y
 first_same e = cc
@@ -42,6 +44,13 @@ module _ {A : Type 0} where
   same_replaced f (y ∷ xs) zero d x inside e = ap (λ z. z ∷ map f xs) e
   same_replaced f (y ∷ xs) (suc i) d x inside e = ap (λ zs. f y ∷ zs) (same_replaced f xs i d x (omega arith) e)
 
+  pub each_up_to : (P : A → Type 0) (xs : List A) (i : ℕ) (x : A) → i < length xs → AllByRecursion P (take i xs) → P x → AllByRecursion P (take (i + 1) (slice_set xs i x))
+  each_up_to P xs i x inside h new = subst (AllByRecursion P) (sym (take_more_set xs i x inside)) (each-append P (take i xs) (x ∷ []) h (new, tt))
+
+  -- all of a vector's elements, written back into it
+  pub written_back : (xs more : List A) (n : ℕ) → length xs ≡ n → take n (xs ++ more) ≡ xs
+  written_back xs more n e = subst (λ k. take k (xs ++ more) ≡ xs) e (take-append_seam xs more)
+
   pub found_at : (P : A → Type 0) (xs : List A) (i : ℕ) (x : A) → i < length xs → x ≡ get_or xs i x → AllByRecursion P xs → P x
   found_at P xs i x inside is h = subst P (sym is) (at_index xs i inside h)
     where
@@ -50,10 +59,43 @@ module _ {A : Type 0} where
       at_index (y ∷ ys) zero inside h = h.0
       at_index (y ∷ ys) (suc k) inside h = at_index ys k (omega arith) h.1
 
+-- Elements replaced one by one, each by what shows what is kept of it.
+
+module _ {A B : Type 0} (view : A → B) (keep : B → B) (once : (b : B) → keep (keep b) ≡ keep b) where
+  -- up to a place they are kept, and all show what is kept of the old ones
+  pub record KeptUpTo (old items : List A) (i : ℕ) : Type 0 where
+    pub shown : map (λ x. keep (view x)) items ≡ map (λ x. keep (view x)) old
+    pub done : AllByRecursion (λ x. view x ≡ keep (view x)) (take i items)
+
+  pub kept_next : (old items : List A) (i : ℕ) (d new : A) → i < length items → view new ≡ keep (view (get_or items i d)) → KeptUpTo old items i
+      → KeptUpTo old (slice_set items i new) (i + 1)
+  kept_next old items i d new inside is h = record {
+    shown = same_replaced (λ x. keep (view x)) items i d new inside (ap keep is ∙ once (view (get_or items i d))) ∙ h.shown;
+    done = each_up_to (λ x. view x ≡ keep (view x)) items i new inside h.done (is ∙ sym (once (view (get_or items i d))) ∙ ap keep (sym is));
+  }
+
+  pub all_kept : (old items : List A) (i : ℕ) → length items ≤ i → KeptUpTo old items i → map view items ≡ map (λ x. keep (view x)) old
+  all_kept old items i none h = map_same items (subst (AllByRecursion (λ x. view x ≡ keep (view x))) (take_all i items none) h.done) ∙ h.shown
+    where
+      map_same : (xs : List A) → AllByRecursion (λ x. view x ≡ keep (view x)) xs → map view xs ≡ map (λ x. keep (view x)) xs
+      map_same [] h = refl
+      map_same (x ∷ xs) h = ap₂ (λ y ys. y ∷ ys) h.0 (map_same xs h.1)
+
 -- What a normalized content shows.
 
-shown_by : {A B C : Type 0} (g : B → C) (f : A → B) (xs ys : List A) → map f xs ≡ map f ys → map (λ x. g (f x)) xs ≡ map (λ x. g (f x)) ys
-shown_by g f xs ys e = sym (map_map g f xs) ∙ ap (map g) e ∙ map_map g f ys
+pub kept_once : (e : Element) (i : KeptItem) → kept_item e (kept_item e i) ≡ kept_item e i
+kept_once e (Plain manner leaf) = refl
+kept_once e (Msg listed child) = refl
+
+abbrev pub keep_entry : Element → Leaf × KeptItem → Leaf × KeptItem
+keep_entry e x = (x.0, kept_item e x.1)
+
+pub entry_once : (e : Element) (x : Leaf × KeptItem) → keep_entry e (keep_entry e x) ≡ keep_entry e x
+entry_once e x = ap (λ i. (x.0, i)) (kept_once e x.1)
+
+kept_zero : (e : Element) (i : KeptItem) → is_zero_kept (kept_item e i) ≡ is_zero_kept i
+kept_zero e (Plain manner leaf) = refl
+kept_zero e (Msg listed child) = refl
 
 pub zero_seen : (l : Bool) (v : Value) → is_zero_kept (item_seen l v) ≡ is_zero_value v
 zero_seen l (values.Int x) = refl
@@ -64,44 +106,63 @@ zero_seen l (values.Bytes x) = refl
 zero_seen l (values.Msg x) = refl
 
 module _ (shape : Shape) where
-  pub one_fits : (p : Presence) (e : Element) (v w : Value) → ItemsFit shape p e (contents.One v) → is_nothing p (contents.One v) ≡ false → ItemFits shape e w → item_seen false w ≡ item_seen false v → ContentFits shape p e (contents.One w)
-  one_fits presences.Implicit e v w items some fits seen = (fits, sym (zero_seen false w) ∙ ap is_zero_kept seen ∙ zero_seen false v ∙ some)
+  pub one_fits : (p : Presence) (e : Element) (v w : Value) → ItemsFit shape p e (contents.One v) → is_nothing p (contents.One v) ≡ false → ItemFits shape e w → item_seen false w ≡ kept_item e (item_seen false v)
+      → ContentFits shape p e (contents.One w)
+  one_fits presences.Implicit e v w items some fits seen = (fits, sym (zero_seen false w) ∙ ap is_zero_kept seen ∙ kept_zero e (item_seen false v) ∙ zero_seen false v ∙ some)
   one_fits presences.Explicit e v w items some fits seen = fits
   one_fits (presences.Repeated packed) e v w items some fits seen = absurd items
   one_fits (presences.Map key) e v w items some fits seen = absurd items
 
-  pub list_seen : (p : Presence) (e : Element) (vs : Vec Value Global) (ws : List Value) (n : ℕ) → ItemsFit shape p e (contents.Many vs) → map (item_seen true) ws ≡ map (item_seen true) vs.items
-      → map (λ v. record { number = n; key = None; item = item_seen true v }) ws ≡ normalized_by p (content_seen n (contents.Many vs))
+  pub one_seen : (p : Presence) (e : Element) (v w : Value) (n : ℕ) → is_nothing p (contents.One v) ≡ false → item_seen false w ≡ kept_item e (item_seen false v)
+      → content_seen n (contents.One w) ≡ map (kept_in e) (normalized_by p (content_seen n (contents.One v)))
+  one_seen presences.Implicit e v w n some seen =
+      ap (λ k. record { number = n; key = None; item = k } ∷ []) seen
+      ∙ ap (λ b. map (kept_in e) (cond (not b) (record { number = n; key = None; item = item_seen false v } ∷ []) [])) (sym (zero_seen false v ∙ some))
+  one_seen presences.Explicit e v w n some seen = ap (λ k. record { number = n; key = None; item = k } ∷ []) seen
+  one_seen (presences.Repeated packed) e v w n some seen = ap (λ k. record { number = n; key = None; item = k } ∷ []) seen
+  one_seen (presences.Map key) e v w n some seen = ap (λ k. record { number = n; key = None; item = k } ∷ []) seen
+
+  pub list_seen : (p : Presence) (e : Element) (vs : Vec Value Global) (ws : List Value) (n : ℕ) → ItemsFit shape p e (contents.Many vs) → map (item_seen true) ws ≡ map (λ v. kept_item e (item_seen true v)) vs.items
+      → map (λ v. record { number = n; key = None; item = item_seen true v }) ws ≡ map (kept_in e) (normalized_by p (content_seen n (contents.Many vs)))
   list_seen presences.Implicit e vs ws n items seen = absurd items
   list_seen presences.Explicit e vs ws n items seen = absurd items
-  list_seen (presences.Repeated packed) e vs ws n items seen = shown_by (λ (k : KeptItem). record { number = n; key = None; item = k }) (item_seen true) ws vs.items seen
+  list_seen (presences.Repeated packed) e vs ws n items seen =
+      sym (map_map (λ (k : KeptItem). record { number = n; key = None; item = k }) (item_seen true) ws)
+      ∙ ap (map (λ (k : KeptItem). record { number = n; key = None; item = k })) seen
+      ∙ map_map (λ (k : KeptItem). record { number = n; key = None; item = k }) (λ v. kept_item e (item_seen true v)) vs.items
+      ∙ sym (map_map (kept_in e) (λ v. record { number = n; key = None; item = item_seen true v }) vs.items)
   list_seen (presences.Map key) e vs ws n items seen = absurd items
 
   pub map_items : (p : Presence) (e : Element) (key : Scalar) (c : Content) (es : Vec (Value × Value) Global) → p ≡ presences.Map key → c ≡ contents.Map es → ItemsFit shape p e c → AllByRecursion (EntryFits shape key e) es.items
   map_items p e key c es is_p is_c h = subst (λ x. ItemsFit shape (presences.Map key) e x) is_c (subst (λ x. ItemsFit shape x e c) is_p h)
 
--- entries that show the same
-pub map_seen : (es fs ks : List (Value × Value)) → AreAlike es → (HasEntryTwice es → ⊥) → IsPermutation es fs → KeysRise fs → map entry_seen ks ≡ map entry_seen fs → (n : ℕ) → map (entry_part n) ks ≡ by_rising_key (map (entry_part n) es)
-map_seen es fs ks alike once moved rise seen n = shown_by (λ (x : Leaf × KeptItem). record { number = n; key = Some x.0; item = x.1 }) entry_seen ks fs seen ∙ sorted_is es fs alike once moved rise n
+abbrev part_of : ℕ → Leaf × KeptItem → Part KeptItem
+part_of n x = record { number = n; key = Some x.0; item = x.1 }
 
-all_rise : (k : Leaf) (ks fs : List (Value × Value)) → map entry_seen ks ≡ map entry_seen fs → AllByRecursion (λ (x : Value × Value). key_cmp k (leaf_of x.0) ≡ Less) fs → AllByRecursion (λ (x : Value × Value). key_cmp k (leaf_of x.0) ≡ Less) ks
-all_rise k [] fs seen h = tt
-all_rise k (x ∷ ks) [] seen h = absurd (cc)
-all_rise k (x ∷ ks) (f ∷ fs) seen h =
-    let head : entry_seen x ≡ entry_seen f = first_same seen in
-    let tail : map entry_seen ks ≡ map entry_seen fs = rest_same seen in
-    (ap (λ (y : Leaf × KeptItem). key_cmp k y.0) head ∙ h.0, all_rise k ks fs tail h.1)
+-- entries that show what is kept of them
+pub map_seen : (e : Element) (es fs ks : List (Value × Value)) → AreAlike es → (HasEntryTwice es → ⊥) → IsPermutation es fs → KeysRise fs → map entry_seen ks ≡ map (entry_kept e) fs → (n : ℕ) → map (entry_part n) ks ≡ map (kept_in e) (by_rising_key (map (entry_part n) es))
+map_seen e es fs ks alike once moved rise seen n =
+    sym (map_map (part_of n) entry_seen ks) ∙ ap (map (part_of n)) seen ∙ map_map (part_of n) (entry_kept e) fs ∙ sym (map_map (kept_in e) (entry_part n) fs)
+    ∙ ap (map (kept_in e)) (sorted_is es fs alike once moved rise n)
 
-pub keys_rise : (ks fs : List (Value × Value)) → map entry_seen ks ≡ map entry_seen fs → KeysRise fs → KeysRise ks
-keys_rise [] fs seen h = tt
-keys_rise (x ∷ ks) [] seen h = absurd (cc)
-keys_rise (x ∷ ks) (f ∷ fs) seen h =
-    let head : entry_seen x ≡ entry_seen f = first_same seen in
-    let tail : map entry_seen ks ≡ map entry_seen fs = rest_same seen in
-    (subst (λ l. AllByRecursion (λ (y : Value × Value). key_cmp l (leaf_of y.0) ≡ Less) ks) (sym (ap (λ (y : Leaf × KeptItem). y.0) head)) (all_rise (leaf_of f.0) ks fs tail h.0), keys_rise ks fs tail h.1)
+all_rise : (e : Element) (k : Leaf) (ks fs : List (Value × Value)) → map entry_seen ks ≡ map (entry_kept e) fs → AllByRecursion (λ (x : Value × Value). key_cmp k (leaf_of x.0) ≡ Less) fs → AllByRecursion (λ (x : Value × Value). key_cmp k (leaf_of x.0) ≡ Less) ks
+all_rise e k [] fs seen h = tt
+all_rise e k (x ∷ ks) [] seen h = absurd (cc)
+all_rise e k (x ∷ ks) (f ∷ fs) seen h =
+    let head : entry_seen x ≡ entry_kept e f = first_same seen in
+    let tail : map entry_seen ks ≡ map (entry_kept e) fs = rest_same seen in
+    (ap (λ (y : Leaf × KeptItem). key_cmp k y.0) head ∙ h.0, all_rise e k ks fs tail h.1)
 
-pub as_long : (ks fs : List (Value × Value)) → map entry_seen ks ≡ map entry_seen fs → length ks ≡ length fs
-as_long ks fs seen = sym (length-map ks entry_seen) ∙ ap length seen ∙ length-map fs entry_seen
+pub keys_rise : (e : Element) (ks fs : List (Value × Value)) → map entry_seen ks ≡ map (entry_kept e) fs → KeysRise fs → KeysRise ks
+keys_rise e [] fs seen h = tt
+keys_rise e (x ∷ ks) [] seen h = absurd (cc)
+keys_rise e (x ∷ ks) (f ∷ fs) seen h =
+    let head : entry_seen x ≡ entry_kept e f = first_same seen in
+    let tail : map entry_seen ks ≡ map (entry_kept e) fs = rest_same seen in
+    (subst (λ l. AllByRecursion (λ (y : Value × Value). key_cmp l (leaf_of y.0) ≡ Less) ks) (sym (ap (λ (y : Leaf × KeptItem). y.0) head)) (all_rise e (leaf_of f.0) ks fs tail h.0), keys_rise e ks fs tail h.1)
+
+pub as_long : (e : Element) (ks fs : List (Value × Value)) → map entry_seen ks ≡ map (entry_kept e) fs → length ks ≡ length fs
+as_long e ks fs seen = sym (length-map ks entry_seen) ∙ ap length seen ∙ length-map fs (entry_kept e)
 
 pub none_left : (es ks : List (Value × Value)) → length ks ≡ length es → nat_eq (length es) 0 ≡ false → ks ≡ [] → ⊥
 none_left es ks same some none = absurd (let zero_long : length es ≡ 0 = sym same ∙ ap length none in true≢false (sym (eq-eqb (length es) 0 zero_long) ∙ some))

@@ -27,8 +27,9 @@ use Rattle.pg_dyn.specs.Message.{Part, F32, F64}
 use Rattle.pg_dyn.specs.Replacing.{kept_from, with_parts, is_sibling_number, without_siblings}
 use Rattle.pg_dyn.specs.ScalarItems.{IsItemOf}
 use Rattle.pg_dyn.specs.Seen.{content_seen, item_seen, leaf_of, Rises, IsFilled, HasKeys}
-use Rattle.pg_dyn.specs.setting.Setting.{is_zero_kept, is_key_below, put_entry, by_rising_key, normalized_by}
-use Rattle.pg_dyn.specs.setting.Told.{EntryFits, is_nothing, ItemsFit}
+use Rattle.pg_dyn.specs.setting.Setting.{is_zero_kept, is_key_below, put_entry, by_rising_key, normalized, normalized_by}
+use Rattle.pg_dyn.specs.Texts.{kept_in}
+use Rattle.pg_dyn.specs.setting.Told.{EntryFits, is_nothing, ItemsFit, MayHoldKeys}
 use Rattle.pg_dyn.proofs.lemmas.TypeFields.{is_type, rising}
 use Rattle.pg_dyn.proofs.lemmas.FieldListLaws.{rises-filter, rises_put, rises_remove, each_put, each_removed}
 use Rattle.pg_dyn.proofs.lemmas.FitsByContents.{fits_from_contents, contents_from_fits}
@@ -92,6 +93,16 @@ pub content_alike : (parts : Parts) → IsSchema parts → (type : TypeId) (n : 
 content_alike parts h type n f c found items =
     alike_by (shape_of parts) f.presence f.element f.oneof c (each_at (IsField (length (shape_of parts))) (fields (shape_of parts) type) n f found (is_type parts h type).each).presence_fits items
 
+keyed_by : (p : Presence) (e : Element) (o : Option ℕ) → PresenceFits p e o → MayHoldKeys p
+keyed_by presences.Implicit e o fits = tt
+keyed_by presences.Explicit e o fits = tt
+keyed_by (presences.Repeated packed) e o fits = tt
+keyed_by (presences.Map key) e o fits = fits.1
+
+pub may_hold_keys : (parts : Parts) → IsSchema parts → (type : TypeId) (n : ℕ) (f : FieldShape) → field_at (fields (shape_of parts) type) n ≡ Some f → MayHoldKeys f.presence
+may_hold_keys parts h type n f found =
+    keyed_by f.presence f.element f.oneof (each_at (IsField (length (shape_of parts))) (fields (shape_of parts) type) n f found (is_type parts h type).each).presence_fits
+
 -- What a field holds of a content.
 
 no_items : (n : ℕ) → nat_eq n 0 ≡ true → n ≡ 0
@@ -107,15 +118,18 @@ normalized_none presences.Explicit = refl
 normalized_none (presences.Repeated packed) = refl
 normalized_none (presences.Map key) = refl
 
-pub nothing_normalized : (p : Presence) (c : Content) (n : ℕ) → is_nothing p c ≡ true → normalized_by p (content_seen n c) ≡ []
-nothing_normalized presences.Implicit (contents.One v) n h =
+nothing_left : (p : Presence) (c : Content) (n : ℕ) → is_nothing p c ≡ true → normalized_by p (content_seen n c) ≡ []
+nothing_left presences.Implicit (contents.One v) n h =
     ap (λ b. cond (not b) (record { number = n; key = None; item = item_seen false v } ∷ []) []) (zero_seen false v ∙ h)
-nothing_normalized presences.Explicit (contents.One v) n h = absurd (cc)
-nothing_normalized (presences.Repeated packed) (contents.One v) n h = absurd (cc)
-nothing_normalized (presences.Map key) (contents.One v) n h = absurd (cc)
-nothing_normalized p (contents.Many vs) n h = ap (λ (xs : List Value). normalized_by p (map (λ value. record { number = n; key = None; item = item_seen true value }) xs)) (empty_list vs.items h) ∙ normalized_none p
-nothing_normalized p (contents.Map es) n h =
+nothing_left presences.Explicit (contents.One v) n h = absurd (cc)
+nothing_left (presences.Repeated packed) (contents.One v) n h = absurd (cc)
+nothing_left (presences.Map key) (contents.One v) n h = absurd (cc)
+nothing_left p (contents.Many vs) n h = ap (λ (xs : List Value). normalized_by p (map (λ value. record { number = n; key = None; item = item_seen true value }) xs)) (empty_list vs.items h) ∙ normalized_none p
+nothing_left p (contents.Map es) n h =
     ap (λ (xs : List (Value × Value)). normalized_by p (map (λ (e : Value × Value). record { number = n; key = Some (leaf_of e.0); item = item_seen false e.1 }) xs)) (empty_list es.items h) ∙ normalized_none p
+
+pub nothing_normalized : (f : FieldShape) (c : Content) (n : ℕ) → is_nothing f.presence c ≡ true → normalized f (content_seen n c) ≡ []
+nothing_normalized f c n h = ap (map (kept_in f.element)) (nothing_left f.presence c n h)
 
 abbrev OfNumber : ℕ → List (Part KeptItem) → Type 0
 OfNumber n ps = AllByRecursion (λ (p : Part KeptItem). p.number ≡ n) ps
@@ -132,13 +146,20 @@ rising_number : (n : ℕ) (ps : List (Part KeptItem)) → OfNumber n ps → OfNu
 rising_number n [] h = tt
 rising_number n (p ∷ ps) h = put_number n p (by_rising_key ps) h.0 (rising_number n ps h.1)
 
-pub normalized_number : (p : Presence) (n : ℕ) (c : Content) → OfNumber n (normalized_by p (content_seen n c))
-normalized_number presences.Implicit n c =
+left_number : (p : Presence) (n : ℕ) (c : Content) → OfNumber n (normalized_by p (content_seen n c))
+left_number presences.Implicit n c =
     each_weaker (λ (q : Part KeptItem). (q.number ≡ n) × (not (is_zero_kept q.item) ≡ true)) (λ (q : Part KeptItem). q.number ≡ n) (λ q k. k.0) (filter (λ (q : Part KeptItem). not (is_zero_kept q.item)) (content_seen n c))
     (each-filter (λ (q : Part KeptItem). q.number ≡ n) (λ (q : Part KeptItem). not (is_zero_kept q.item)) (content_seen n c) (content_number n c))
-normalized_number presences.Explicit n c = content_number n c
-normalized_number (presences.Repeated packed) n c = content_number n c
-normalized_number (presences.Map key) n c = rising_number n (content_seen n c) (content_number n c)
+left_number presences.Explicit n c = content_number n c
+left_number (presences.Repeated packed) n c = content_number n c
+left_number (presences.Map key) n c = rising_number n (content_seen n c) (content_number n c)
+
+kept_number : (e : Element) (n : ℕ) (ps : List (Part KeptItem)) → OfNumber n ps → OfNumber n (map (kept_in e) ps)
+kept_number e n [] h = tt
+kept_number e n (p ∷ ps) h = (h.0, kept_number e n ps h.1)
+
+pub normalized_number : (f : FieldShape) (n : ℕ) (c : Content) → OfNumber n (normalized f (content_seen n c))
+normalized_number f n c = kept_number f.element n (normalized_by f.presence (content_seen n c)) (left_number f.presence n c)
 
 -- Without siblings before or after.
 

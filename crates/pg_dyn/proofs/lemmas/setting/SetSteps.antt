@@ -51,7 +51,7 @@ module _ (parts : Parts) (h : IsSchema parts) (n : ℕ) (c : Content) (f : Field
         f,
         taken.found,
         is_new ∙ ap (without_siblings fs f) is_put
-            ∙ siblings_after fs f f.number (no_self_sibling parts h (type_of m) f f.number found) ps m (normalized_number f.presence f.number c)
+            ∙ siblings_after fs f f.number (no_self_sibling parts h (type_of m) f f.number found) ps m (normalized_number f f.number c)
             ∙ ap (λ k. with_content (fields (shape_of parts) (type_of m)) f (normalized f (content_seen k c)) m) number,
       )
 

@@ -140,7 +140,7 @@ module _ (parts : Parts) (type : TypeId) where
       → new ≡ with_parts n (normalized f (content_seen n c)) m → IsWhole (shape_of parts) type (xs ++ (n, c) ∷ []) new
   whole_more xs n c f m new whole below found is_new =
       let ps = normalized f (content_seen n c) in
-      let own = normalized_number f.presence n c in
+      let own = normalized_number f n c in
       record {
         of_type = ap type_of is_new ∙ type_of-with_parts n ps m ∙ whole.of_type;
         contents = λ j. ⊎_elim

@@ -30,7 +30,7 @@ replace_siblings-requires c =
     let put_type : type_of put ≡ type_of c.args.self.now = ap type_of c.in_ok-put_content.ensures.ok ∙ type_of-with_parts f.number _ c.args.self.now in
     subst (λ (t : TypeId). IfSome c.held_siblings-members.result (λ members. without_siblings (map field_shape members.now) f c.put_content.new.self ≡ without_siblings (fields (shape_of c.args.schema.now) t) f c.put_content.new.self)) (sym put_type)
     (members_after (λ members. map field_shape members.now) (fields (shape_of c.args.schema.now) (type_of c.args.self.now)) f _ c.args.self.now put c.in_ok-put_content.ensures.ok
-    (normalized_number f.presence f.number c.args.content) c.held_siblings-members.result c.held_siblings-members.ensures)
+    (normalized_number f f.number c.args.content) c.held_siblings-members.result c.held_siblings-members.ensures)
 
 pub put_content-requires-clause-found : goal.put_content-requires-clause-found
 put_content-requires-clause-found c =

@@ -11,7 +11,7 @@ use Rattle.pg_dyn.specs.Kept.{type_of}
 use Rattle.pg_dyn.specs.Replacing.{with_parts, without_siblings}
 use Rattle.pg_dyn.specs.Seen.{IsFilled, HasKeys, Rises, record_seen}
 use Rattle.pg_dyn.proofs.lemmas.FieldListLaws.{rises_put, rises_remove, each_put, each_removed}
-use Rattle.pg_dyn.proofs.lemmas.setting.PutLaws.{content_alike, nothing_normalized, put_fits, removed_fits}
+use Rattle.pg_dyn.proofs.lemmas.setting.PutLaws.{content_alike, may_hold_keys, nothing_normalized, put_fits, removed_fits}
 use Rattle.pg_dyn.proofs.lemmas.ReplacingLaws.{shown, put_shows, remove_shows, type_shown}
 use Rattle.pg_dyn.proofs.message.Message.put_content.Goals as goal
 
@@ -32,7 +32,7 @@ returns-then-is_nothing-clause-ok c =
     let a = c.self.inside in
     let us = map record_seen a.unknown.items in
     let n = c.args.field.now.number in
-    let none = nothing_normalized c.args.field.now.presence c.args.content n (sym c.is_nothing.ensures ∙ c.if-is_nothing.true) in
+    let none = nothing_normalized (field_shape c.args.field.now) c.args.content n (sym c.is_nothing.ensures ∙ c.if-is_nothing.true) in
     ap (λ ms. shown a.type_id ms us) c.remove.ensures ∙ remove_shows a.type_id n a.fields.items us ∙ ap (with_parts n []) c.self.view_is ∙ ap (λ ps. with_parts c.args.field.now.number ps c.args.self.now) (sym none)
 
 pub returns-then-is_nothing-clause-fits : goal.returns-then-is_nothing-clause-fits
@@ -50,6 +50,10 @@ returns-then-is_nothing-clause-fits c =
 pub normalized-requires-clause-alike : goal.normalized-requires-clause-alike
 normalized-requires-clause-alike c =
     content_alike c.args.schema.now c.requires.is_schema (type_of c.args.self.now) c.args.field.now.number (field_shape c.args.field.now) c.args.content c.requires.found c.requires.items
+
+pub normalized-requires-clause-keyed : goal.normalized-requires-clause-keyed
+normalized-requires-clause-keyed c =
+    may_hold_keys c.args.schema.now c.requires.is_schema (type_of c.args.self.now) c.args.field.now.number (field_shape c.args.field.now) c.requires.found
 
 pub invariant_of-self-2 : goal.invariant_of-self-2
 invariant_of-self-2 c =

@@ -8,33 +8,28 @@ use Rattle.pg_dyn.specs.reading.ByFields.{AreGood, HoldsOf, IsEntryRead, Records
 use Rattle.pg_dyn.proofs.lemmas.reading.ByFields.{with_held}
 use Rattle.pg_dyn.proofs.lemmas.TypeFields.{is_field_of, rising}
 use Rattle.pg_dyn.proofs.lemmas.reading.FieldKinds.{is_no_message, lists_no_map, not_list, not_map}
-use Rattle.pg_dyn.proofs.lemmas.reading.FieldRuns.{ReadUpTo}
 use Rattle.pg_dyn.proofs.lemmas.reading.FieldRuns as runs
 use Rattle.pg_dyn.proofs.Lists.{each_weaker}
 use Rattle.std.specs.List.{AllByRecursion}
 use Rattle.pg_schema.specs.declared.parts.field.Element.TheVariants as elements
 use Rattle.pg_dyn.specs.declared.message_ref.ContentRef.TheVariants as contents
-use Rattle.pg_dyn.specs.BorrowedItems.{ItemFits}
+use Rattle.pg_dyn.specs.BorrowedItems.{ItemKept}
 use Rattle.pg_dyn.specs.reading.Steps.{HeldFits}
 use Rattle.pg_dyn.specs.Kept.{message_of, ends}
 use Rattle.pg_dyn.proofs.lemmas.reading.BodiesByFields as bodies
-use Rattle.pg_dyn.proofs.lemmas.reading.ChildrenByFields.{AreChildren}
 use Rattle.pg_dyn.proofs.lemmas.reading.ChildrenByFields as children
 use Rattle.pg_dyn.proofs.lemmas.reading.EntriesByFields as entries
-use Rattle.pg_dyn.proofs.lemmas.reading.MapsByFields.{AreEntriesRead}
 use Rattle.pg_dyn.proofs.lemmas.reading.MapsByFields as maps
 use Rattle.pg_dyn.proofs.lemmas.reading.StopSteps.{stopped, handed_on, stops_for}
 use Rattle.pg_dyn.proofs.reading.nested.+reading.Goals.{read_entry-in-Message+in_ok-value-in-Message, read_entry-in-Scalar, counted-in-Some+then-counts+in_ok-push, counted-in-Some+else-counts+in_ok-read_content+in-Some+in-One+in-Msg-1, counted-in-Some+else-counts+in_ok-read_content+in-Some+in-One+in-Int-1, counted-in-Some+else-counts+in_ok-read_content+in-Some+in-Many-1, counted-in-Some+else-counts+in_ok-read_content+in-Some+in-Map-1, counted-in-Some+else-counts+in_ok-read_content+in-None-1, counted-in_default, read_gathered-then-oneof_runs, read_gathered-else-oneof_runs+in_ok-left}
 use Rattle.pg_dyn.proofs.reading.nested.+reading.Goals as goal
 use Rattle.pg_wire.specs.declared.record.Record.{Record}
-use Rattle.pg_dyn.proofs.lemmas.reading.CountedRecords.{CountedUpTo}
 use Rattle.pg_dyn.proofs.lemmas.reading.CountedRecords as counting
 use Rattle.pg_dyn.proofs.lemmas.reading.Gathered.{counted_so_far}
 use Rattle.pg_dyn.proofs.lemmas.reading.HeldFields.{child_zero, list_held, one_held}
 use Rattle.pg_dyn.proofs.lemmas.ReplacingLaws.{type_of-kept_onto}
 use Rattle.pg_dyn.specs.Borrowed.{all_seen}
 use Rattle.pg_dyn.specs.Belonging.{IsUnknown}
-use Rattle.pg_dyn.proofs.lemmas.reading.GatheredReading.{IsLeft}
 use Rattle.pg_dyn.proofs.lemmas.reading.GatheredReading as gathered
 use Rattle.pg_wire.specs.Records.{IsRecord, WireRecord}
 use Rattle.pg_dyn.specs.reading.Gathering.{AreByNumber, AreGathered}
@@ -49,13 +44,10 @@ counted-read_content-requires t c =
     let up = rising c.args.schema.now c.requires.is_schema c.args.type_id in
     let l = c.loop-place in
     let f = field_shape c.in-Some.field.now in
-    let one =
-    counting.one_of shape c.args.levels fs up c.args.oneof_runs.now c.args.known.now c.requires.are_records c.requires.known l.place l.counted.items
+    let run =
+    counting.one_run shape c.args.levels fs up c.args.oneof_runs.now c.args.known.now c.requires.are_records c.requires.known l.place l.counted.items
     l.invariant c.loop-place-test.true _ f (sym c.in-Some.ensures.shape) in
-    let some =
-    counting.one_some shape c.args.levels fs up c.args.oneof_runs.now c.args.known.now c.requires.are_records c.requires.known l.place l.counted.items
-    l.invariant c.loop-place-test.true _ f (sym c.in-Some.ensures.shape) in
-    (omega arith, (c.requires.is_schema, (is_field_of c.args.schema.now c.requires.is_schema c.args.type_id _ f (sym c.in-Some.ensures.shape), (one, some))))
+    (omega arith, (c.requires.is_schema, (is_field_of c.args.schema.now c.requires.is_schema c.args.type_id _ f (sym c.in-Some.ensures.shape), run)))
 
 pub counted-returns-in_err-read_content-clause-err : goal.counted-returns-in_err-read_content-clause-err
 counted-returns-in_err-read_content-clause-err t c =
@@ -153,33 +145,23 @@ read_children-returns-in_err-child-clause-err t c =
     (lists_no_map f.presence c.requires.repeated) c.args.run.now place (place + 1 - place) c.loop-place-test.true (omega arith))
     c.in_err-child.ensures.err
 
-pub read_children-returns-clause-ok : goal.read_children-returns-clause-ok
-read_children-returns-clause-ok t c =
+pub read_children-returns : goal.read_children-returns
+read_children-returns t c =
     let shape = shape_of c.args.schema.now in
     let f = field_shape c.args.field.now in
     let l = c.loop-place in
-    children.children_held shape f c.args.type_id c.requires.of_type (lists_no_map f.presence c.requires.repeated)
-    (map seen_record c.args.run.now) l.values.items c.requires.repeated c.requires.run
-    (subst (λ rs. AreChildren shape c.args.type_id (map seen_record rs) l.values.items)
-    (take_all l.place c.args.run.now c.loop-place-test.false) l.invariant.read)
-
-pub read_children-returns-clause-fits : goal.read_children-returns-clause-fits
-read_children-returns-clause-fits t c =
-    let shape = shape_of c.args.schema.now in
-    let f = field_shape c.args.field.now in
-    let l = c.loop-place in
-    let read =
-    subst (λ rs. AreChildren shape c.args.type_id (map seen_record rs) l.values.items)
-    (take_all l.place c.args.run.now c.loop-place-test.false) l.invariant.read in
-    list_held shape f l.values c.requires.repeated
-    (subst (λ e. AllByRecursion (ItemFits shape e) l.values.items) (sym c.requires.of_type) l.invariant.fits)
-    (children.children_filled shape c.args.type_id (map seen_record c.args.run.now) l.values.items (children.seen_some c.args.run.now c.requires.some) read)
-
-pub read_children-returns-clause-good : goal.read_children-returns-clause-good
-read_children-returns-clause-good t c =
-    let l = c.loop-place in
-    subst (λ rs. AreGood (shape_of c.args.schema.now) c.args.levels (field_shape c.args.field.now) (map seen_record rs))
-    (take_all l.place c.args.run.now c.loop-place-test.false) l.invariant.good
+    let rs = map seen_record c.args.run.now in
+    let all = take_all l.place c.args.run.now c.loop-place-test.false in
+    let read = subst (λ run. children.AreChildren shape c.args.type_id (map seen_record run) l.values.items) all l.invariant.read in
+    record {
+      ok = children.children_held shape f c.args.type_id c.requires.of_type (lists_no_map f.presence c.requires.repeated) rs l.values.items
+          c.requires.repeated c.requires.run read;
+      fits = list_held shape f l.values c.requires.repeated
+          (subst (λ e. AllByRecursion (ItemKept shape e) l.values.items) (sym c.requires.of_type) l.invariant.fits)
+          (children.children_filled shape c.args.type_id rs l.values.items (children.seen_some c.args.run.now c.requires.some) read);
+      good = subst (λ run. AreGood shape c.args.levels f (map seen_record run)) all l.invariant.good;
+      err = tt;
+    }
 
 pub read_content-returns-in_err-child-in_default-Message-clause-err : goal.read_content-returns-in_err-child-in_default-Message-clause-err
 read_content-returns-in_err-child-in_default-Message-clause-err t c =
@@ -200,30 +182,22 @@ read_content-returns-in-Repeated-default t c =
       err = c.read_list.ensures.err shape c.args.levels;
     }
 
-pub read_content-returns-in_ok-child-in_default-Message-clause-ok : goal.read_content-returns-in_ok-child-in_default-Message-clause-ok
-read_content-returns-in_ok-child-in_default-Message-clause-ok t c =
-    let f = field_shape c.args.field.now in
-    children.child_held (shape_of c.args.schema.now) f c.in_default-Message.type_id c.in_default-Message.is-1
-    (not_map f.presence c.in_default-Message.not-Map-0) (map seen_record c.args.run.now) c.in_ok-child-in_default-Message.child
-    (not_list f.presence c.in_default-Message.not-Repeated-0)
-    (children.seen_some c.args.run.now c.requires.some) c.requires.run c.in_ok-child-in_default-Message.ensures.ok
-
-pub read_content-returns-in_ok-child-in_default-Message-clause-fits : goal.read_content-returns-in_ok-child-in_default-Message-clause-fits
-read_content-returns-in_ok-child-in_default-Message-clause-fits t c =
+pub read_content-returns-in_ok-child-in_default-Message : goal.read_content-returns-in_ok-child-in_default-Message
+read_content-returns-in_ok-child-in_default-Message t c =
     let shape = shape_of c.args.schema.now in
     let f = field_shape c.args.field.now in
     let m = c.in_default-Message in
     let v = c.in_ok-child-in_default-Message.child in
-    let fits = c.in_ok-child-in_default-Message.ensures.fits in
-    one_held shape f v (not_list f.presence m.not-Repeated-0) (not_map f.presence m.not-Map-0) (subst (λ e. ItemFits shape e v) (sym m.is-1) fits)
-    (child_zero shape m.type_id f.presence v fits)
-
-pub read_content-returns-in_ok-child-in_default-Message-clause-good : goal.read_content-returns-in_ok-child-in_default-Message-clause-good
-read_content-returns-in_ok-child-in_default-Message-clause-good t c =
-    let f = field_shape c.args.field.now in
-    children.good_from_bodies (shape_of c.args.schema.now) f c.in_default-Message.type_id c.in_default-Message.is-1
-    (not_map f.presence c.in_default-Message.not-Map-0) c.args.levels (map seen_record c.args.run.now)
-    c.requires.run c.in_ok-child-in_default-Message.ensures.good
+    let read = c.in_ok-child-in_default-Message.ensures in
+    let rs = map seen_record c.args.run.now in
+    let singular = not_list f.presence m.not-Repeated-0 in
+    let no_map = not_map f.presence m.not-Map-0 in
+    record {
+      ok = children.child_held shape f m.type_id m.is-1 no_map rs v singular (children.seen_some c.args.run.now c.requires.some) c.requires.run read.ok;
+      fits = one_held shape f v singular no_map (subst (λ e. ItemKept shape e v) (sym m.is-1) read.fits) (child_zero shape m.type_id f.presence v read.fits);
+      good = children.good_from_bodies shape f m.type_id m.is-1 no_map c.args.levels rs c.requires.run read.good;
+      err = tt;
+    }
 
 pub read_content-returns-in_default : goal.read_content-returns-in_default
 read_content-returns-in_default t c =
@@ -240,17 +214,12 @@ pub read_contents-read_content-requires : goal.read_contents-read_content-requir
 read_contents-read_content-requires t c =
     let shape = shape_of c.args.schema.now in
     let f = field_shape c.in-Some.field.now in
-    let of_run =
-    runs.are_of shape c.args.levels c.args.type_id c.args.sorted.now
+    let run =
+    runs.one_run shape c.args.levels c.args.type_id c.args.sorted.now
     (rising c.args.schema.now c.requires.is_schema c.args.type_id) c.requires.rise c.requires.count
     c.loop-place.place c.loop-place-test.true c.run_end-end.result c.run_end-end.ensures.later c.run_end-end.ensures.inside c.run_end-end.ensures.run _ f
     (sym c.in-Some.ensures.shape) in
-    let some =
-    runs.some_rows shape c.args.levels c.args.type_id c.args.sorted.now
-    (rising c.args.schema.now c.requires.is_schema c.args.type_id) c.requires.rise c.requires.count
-    c.loop-place.place c.loop-place-test.true c.run_end-end.result c.run_end-end.ensures.later c.run_end-end.ensures.inside c.run_end-end.ensures.run _ f
-    (sym c.in-Some.ensures.shape) in
-    (omega arith, (c.requires.is_schema, (is_field_of c.args.schema.now c.requires.is_schema c.args.type_id _ f (sym c.in-Some.ensures.shape), (of_run, some))))
+    (omega arith, (c.requires.is_schema, (is_field_of c.args.schema.now c.requires.is_schema c.args.type_id _ f (sym c.in-Some.ensures.shape), run)))
 
 pub read_contents-returns-in_err-content-clause-err : goal.read_contents-returns-in_err-content-clause-err
 read_contents-returns-in_err-content-clause-err t c =
@@ -263,56 +232,37 @@ read_contents-returns-in_err-content-clause-err t c =
     (sym c.in-Some.ensures.shape) in
     stopped _ _ c.from_residual.result _ c.from_residual.ensures.1 run c.in_err-content.ensures.err
 
-pub read_contents-returns-clause-ok : goal.read_contents-returns-clause-ok
-read_contents-returns-clause-ok t c =
-    runs.all_read (shape_of c.args.schema.now) c.args.levels c.args.type_id c.args.sorted.now
-    (rising c.args.schema.now c.requires.is_schema c.args.type_id) c.requires.count
-    c.loop-place.place c.loop-place.contents.items c.loop-place.invariant c.loop-place-test.false
-
-pub read_contents-returns-clause-fits : goal.read_contents-returns-clause-fits
-read_contents-returns-clause-fits t c =
-    runs.all_fit (shape_of c.args.schema.now) c.args.levels c.args.type_id c.args.sorted.now
-    (rising c.args.schema.now c.requires.is_schema c.args.type_id) c.requires.count
-    c.loop-place.place c.loop-place.contents.items c.loop-place.invariant c.loop-place-test.false c.requires.type_id
-
-pub read_contents-returns-clause-kept : goal.read_contents-returns-clause-kept
-read_contents-returns-clause-kept t c = let read = c.loop-place.invariant.read in (read.rises, read.filled, read.keys)
-
-pub read_contents-returns-clause-good : goal.read_contents-returns-clause-good
-read_contents-returns-clause-good t c =
-    runs.all_good (shape_of c.args.schema.now) c.args.levels c.args.type_id c.args.sorted.now
-    (rising c.args.schema.now c.requires.is_schema c.args.type_id) c.requires.count
-    c.loop-place.place c.loop-place.contents.items c.loop-place.invariant c.loop-place-test.false
+pub read_contents-returns : goal.read_contents-returns
+read_contents-returns t c =
+    let l = c.loop-place in
+    let all =
+    runs.all_are (shape_of c.args.schema.now) c.args.levels c.args.type_id c.args.sorted.now
+    (rising c.args.schema.now c.requires.is_schema c.args.type_id) c.requires.count l.place l.contents.items l.invariant c.loop-place-test.false
+    c.requires.type_id in
+    let read = l.invariant.read in
+    record { ok = all.0; fits = all.1; texts = all.2; kept = (read.rises, read.filled, read.keys); good = all.3; err = tt }
 
 pub read_contents-loop-place-preserved-in_ok-push : goal.read_contents-loop-place-preserved-in_ok-push
 read_contents-loop-place-preserved-in_ok-push t c =
     let shape = shape_of c.args.schema.now in
     let f = field_shape c.in-Some.field.now in
-    let next =
-    runs.onward shape c.args.levels c.args.type_id c.args.sorted.now
+    runs.onward_by shape c.args.levels c.args.type_id c.args.sorted.now
     (rising c.args.schema.now c.requires.is_schema c.args.type_id) c.requires.rise c.requires.count
     c.loop-place.place c.loop-place-test.true c.run_end-end.result c.run_end-end.ensures.later c.run_end-end.ensures.inside c.run_end-end.ensures.run _ f
-    (sym c.in-Some.ensures.shape)
-    c.loop-place.contents.items c.loop-place.invariant c.run_end-end.ensures.beyond c.in_ok-content.field-0 c.in_ok-content.ensures.ok
-    c.in_ok-content.ensures.fits c.in_ok-content.ensures.good in
-    subst (ReadUpTo shape c.args.levels c.args.type_id c.args.sorted.now c.run_end-end.result) (sym c.in_ok-push.ensures.items)
-    (subst (λ held. ReadUpTo shape c.args.levels c.args.type_id c.args.sorted.now c.run_end-end.result
-    (c.loop-place.contents.items ++ with_held f.number held)) c.in-Some-2.is next)
+    (sym c.in-Some.ensures.shape) c.loop-place.contents.items c.loop-place.invariant c.run_end-end.ensures.beyond c.in_ok-content.field-0 _
+    (c.in_ok-push.ensures.items ∙ ap (λ held. c.loop-place.contents.items ++ with_held f.number held) (sym c.in-Some-2.is))
+    c.in_ok-content.ensures.ok c.in_ok-content.ensures.fits c.in_ok-content.ensures.good
 
 pub read_contents-loop-place-preserved-in_default-2 : goal.read_contents-loop-place-preserved-in_default-2
 read_contents-loop-place-preserved-in_default-2 t c =
     let shape = shape_of c.args.schema.now in
     let f = field_shape c.in-Some.field.now in
-    let next =
-    runs.onward shape c.args.levels c.args.type_id c.args.sorted.now
+    runs.onward_by shape c.args.levels c.args.type_id c.args.sorted.now
     (rising c.args.schema.now c.requires.is_schema c.args.type_id) c.requires.rise c.requires.count
     c.loop-place.place c.loop-place-test.true c.run_end-end.result c.run_end-end.ensures.later c.run_end-end.ensures.inside c.run_end-end.ensures.run _ f
-    (sym c.in-Some.ensures.shape)
-    c.loop-place.contents.items c.loop-place.invariant c.run_end-end.ensures.beyond c.in_ok-content.field-0 c.in_ok-content.ensures.ok
-    c.in_ok-content.ensures.fits c.in_ok-content.ensures.good in
-    subst (ReadUpTo shape c.args.levels c.args.type_id c.args.sorted.now c.run_end-end.result) (append-nil c.loop-place.contents.items)
-    (subst (λ held. ReadUpTo shape c.args.levels c.args.type_id c.args.sorted.now c.run_end-end.result
-    (c.loop-place.contents.items ++ with_held f.number held)) c.in_default-2.is next)
+    (sym c.in-Some.ensures.shape) c.loop-place.contents.items c.loop-place.invariant c.run_end-end.ensures.beyond c.in_ok-content.field-0 _
+    (sym (append-nil c.loop-place.contents.items) ∙ ap (λ held. c.loop-place.contents.items ++ with_held f.number held) (sym c.in_default-2.is))
+    c.in_ok-content.ensures.ok c.in_ok-content.ensures.fits c.in_ok-content.ensures.good
 
 pub read_contents-loop-place-preserved : goal.read_contents-loop-place-preserved
 read_contents-loop-place-preserved t c =
@@ -394,7 +344,7 @@ pub read_gathered-read_contents-requires : goal.read_gathered-read_contents-requ
 read_gathered-read_contents-requires t c =
     let shape = shape_of c.args.schema.now in
     let (rs, are) = c.requires.gathered in
-    let left : IsLeft shape c.args.levels (fields shape c.args.type_id) rs c.if-oneof_runs.left.items =
+    let left : gathered.IsLeft shape c.args.levels (fields shape c.args.type_id) rs c.if-oneof_runs.left.items =
     elim c.if-oneof_runs.branch [
       | read_gathered-then-oneof_runs w ↦ rw w.left-is (gathered.all_left shape c.args.levels c.args.type_id rs c.args.gathered are w.if-oneof_runs.true)
       | read_gathered-else-oneof_runs+in_ok-left w ↦
@@ -414,7 +364,7 @@ read_gathered-returns-in_err-fields-clause-err t c =
     handed_on (λ e. (rs : List WireRecord) → AreGathered shape c.args.type_id rs c.args.gathered
     → StopsFor (RecordsGood shape c.args.levels (fields shape c.args.type_id) rs) e) c.from_residual-in_err-fields.result _ y is from
     (λ rs are.
-    let left : IsLeft shape c.args.levels (fields shape c.args.type_id) rs c.if-oneof_runs.left.items =
+    let left : gathered.IsLeft shape c.args.levels (fields shape c.args.type_id) rs c.if-oneof_runs.left.items =
     elim c.if-oneof_runs.branch [
       | read_gathered-then-oneof_runs w ↦ rw w.left-is (gathered.all_left shape c.args.levels c.args.type_id rs c.args.gathered are w.if-oneof_runs.true)
       | read_gathered-else-oneof_runs+in_ok-left w ↦
@@ -438,44 +388,35 @@ read_gathered-invariant_of-result t c =
           (gathered.unknown_are shape c.args.levels c.args.type_id rs c.args.gathered are);
     }
 
-pub read_gathered-returns-clause-ok : goal.read_gathered-returns-clause-ok
-read_gathered-returns-clause-ok t c rs are =
+pub read_gathered-returns : goal.read_gathered-returns
+read_gathered-returns t c =
     let shape = shape_of c.args.schema.now in
-    let left : IsLeft shape c.args.levels (fields shape c.args.type_id) rs c.if-oneof_runs.left.items =
-    elim c.if-oneof_runs.branch [
+    let up = rising c.args.schema.now c.requires.is_schema c.args.type_id in
+    let cs = c.in_ok-fields.fields.items in
+    let unknown = map seen_record c.args.gathered.unknown.items in
+    let left = c.if-oneof_runs.left.items in
+    let is_left : (rs : List WireRecord) → AreGathered shape c.args.type_id rs c.args.gathered → gathered.IsLeft shape c.args.levels (fields shape c.args.type_id) rs left =
+    λ rs are. elim c.if-oneof_runs.branch [
       | read_gathered-then-oneof_runs w ↦ rw w.left-is (gathered.all_left shape c.args.levels c.args.type_id rs c.args.gathered are w.if-oneof_runs.true)
       | read_gathered-else-oneof_runs+in_ok-left w ↦
           rw w.left-is
           (gathered.some_left shape c.args.levels c.args.type_id rs c.args.gathered are w.deref.result.now w.in_ok-left.left.items
           w.deref.ensures.value w.in_ok-left.ensures.ok w.in_ok-left.ensures.good)
     ] in
-    let by = subst (AreByNumber c.if-oneof_runs.left.items) (sym c.deref-2.ensures.value) c.in_ok-sorted.ensures in
-    gathered.read_of_all shape c.args.levels c.args.type_id rs c.args.gathered are
-    (rising c.args.schema.now c.requires.is_schema c.args.type_id) c.if-oneof_runs.left.items c.deref-2.result.now left by c.in_ok-fields.fields.items
-    c.in_ok-fields.ensures.good c.in_ok-fields.ensures.ok
-
-pub read_gathered-returns-clause-fits : goal.read_gathered-returns-clause-fits
-read_gathered-returns-clause-fits t c =
-    let shape = shape_of c.args.schema.now in
-    let (rs, are) = c.requires.gathered in (
-      gathered.fits_of_all shape c.args.levels c.args.type_id rs c.args.gathered are c.in_ok-fields.fields.items c.requires.type_id c.in_ok-fields.ensures.fits,
-      type_of-kept_onto (all_seen c.in_ok-fields.fields.items) (ends c.args.type_id (map seen_record c.args.gathered.unknown.items)),
-    )
-
-pub read_gathered-returns-clause-good : goal.read_gathered-returns-clause-good
-read_gathered-returns-clause-good t c rs are =
-    let shape = shape_of c.args.schema.now in
-    let left : IsLeft shape c.args.levels (fields shape c.args.type_id) rs c.if-oneof_runs.left.items =
-    elim c.if-oneof_runs.branch [
-      | read_gathered-then-oneof_runs w ↦ rw w.left-is (gathered.all_left shape c.args.levels c.args.type_id rs c.args.gathered are w.if-oneof_runs.true)
-      | read_gathered-else-oneof_runs+in_ok-left w ↦
-          rw w.left-is
-          (gathered.some_left shape c.args.levels c.args.type_id rs c.args.gathered are w.deref.result.now w.in_ok-left.left.items
-          w.deref.ensures.value w.in_ok-left.ensures.ok w.in_ok-left.ensures.good)
-    ] in
-    let by = subst (AreByNumber c.if-oneof_runs.left.items) (sym c.deref-2.ensures.value) c.in_ok-sorted.ensures in
-    gathered.good_after shape c.args.levels c.args.type_id rs c.args.gathered are
-    (rising c.args.schema.now c.requires.is_schema c.args.type_id) c.if-oneof_runs.left.items c.deref-2.result.now left by c.in_ok-fields.ensures.good
+    let by = subst (AreByNumber left) (sym c.deref-2.ensures.value) c.in_ok-sorted.ensures in
+    let (rs, are) = c.requires.gathered in
+    record {
+      ok = λ rs are. gathered.read_of_all shape c.args.levels c.args.type_id rs c.args.gathered are up left c.deref-2.result.now (is_left rs are) by cs
+          c.in_ok-fields.ensures.good c.in_ok-fields.ensures.ok;
+      fits = (
+        gathered.fits_of_all shape c.args.levels c.args.type_id rs c.args.gathered are cs c.requires.type_id c.in_ok-fields.ensures.fits,
+        type_of-kept_onto (all_seen cs) (ends c.args.type_id unknown),
+      );
+      texts = c.in_ok-fields.ensures.texts unknown;
+      good = λ rs are. gathered.good_after shape c.args.levels c.args.type_id rs c.args.gathered are up left c.deref-2.result.now (is_left rs are) by
+          c.in_ok-fields.ensures.good;
+      err = tt;
+    }
 
 pub read_map-loop-record-preserved : goal.read_map-loop-record-preserved
 read_map-loop-record-preserved t c =
@@ -497,40 +438,29 @@ read_map-last_of_keys-requires t c =
     maps.entries_alike (shape_of c.args.schema.now) c.args.key f.element (map seen_record (take l.record-index c.args.run.now)) l.entries.items
     (entries.key_of_map f.presence c.args.key f.element f.oneof c.requires.of_map c.requires.is_field.presence_fits) l.invariant.read
 
-pub read_map-returns-clause-ok : goal.read_map-returns-clause-ok
-read_map-returns-clause-ok t c =
+pub read_map-returns : goal.read_map-returns
+read_map-returns t c =
     let shape = shape_of c.args.schema.now in
     let f = field_shape c.args.field.now in
     let l = c.loop-record in
-    let read =
-    subst (λ rs. AreEntriesRead shape c.args.key f.element (map seen_record rs) l.entries.items)
-    (take_all l.record-index c.args.run.now c.loop-record-test.false) l.invariant.read in
-    maps.map_holds shape f c.args.key (map seen_record c.args.run.now) l.entries.items
-    (contents.Map c.in_ok-last_of_keys.field-0) c.requires.of_map read c.in_ok-last_of_keys.ensures
-
-pub read_map-returns-clause-fits : goal.read_map-returns-clause-fits
-read_map-returns-clause-fits t c =
-    let shape = shape_of c.args.schema.now in
-    let f = field_shape c.args.field.now in
-    let l = c.loop-record in
-    let read =
-    subst (λ rs. AreEntriesRead shape c.args.key f.element (map seen_record rs) l.entries.items)
-    (take_all l.record-index c.args.run.now c.loop-record-test.false) l.invariant.read in
-    maps.map_fits shape f c.args.key (map seen_record c.args.run.now) l.entries.items (contents.Map c.in_ok-last_of_keys.field-0) c.requires.of_map
-    (entries.key_of_map f.presence c.args.key f.element f.oneof c.requires.of_map c.requires.is_field.presence_fits)
-    (children.seen_some c.args.run.now c.requires.some) read c.in_ok-last_of_keys.ensures
-
-pub read_map-returns-clause-good : goal.read_map-returns-clause-good
-read_map-returns-clause-good t c =
-    let l = c.loop-record in
-    subst (λ rs. AreGood (shape_of c.args.schema.now) c.args.levels (field_shape c.args.field.now) (map seen_record rs))
-    (take_all l.record-index c.args.run.now c.loop-record-test.false) l.invariant.good
+    let rs = map seen_record c.args.run.now in
+    let all = take_all l.record-index c.args.run.now c.loop-record-test.false in
+    let read = subst (λ run. maps.AreEntriesRead shape c.args.key f.element (map seen_record run) l.entries.items) all l.invariant.read in
+    let held = contents.Map c.in_ok-last_of_keys.field-0 in
+    record {
+      ok = maps.map_holds shape f c.args.key rs l.entries.items held c.requires.of_map read c.in_ok-last_of_keys.ensures;
+      fits = maps.map_fits shape f c.args.key rs l.entries.items held c.requires.of_map
+          (entries.key_of_map f.presence c.args.key f.element f.oneof c.requires.of_map c.requires.is_field.presence_fits)
+          (children.seen_some c.args.run.now c.requires.some) read c.in_ok-last_of_keys.ensures;
+      good = subst (λ run. AreGood shape c.args.levels f (map seen_record run)) all l.invariant.good;
+      err = tt;
+    }
 
 pub counted-loop-place-init : goal.counted-loop-place-init
 counted-loop-place-init t c =
     let shape = shape_of c.args.schema.now in
     let fs = fields shape c.args.type_id in
-    subst (λ (xs : List Record). CountedUpTo shape c.args.levels fs c.args.oneof_runs.now c.args.known.now 0 xs) (sym c.new-counted.ensures.items)
+    subst (λ (xs : List Record). counting.CountedUpTo shape c.args.levels fs c.args.oneof_runs.now c.args.known.now 0 xs) (sym c.new-counted.ensures.items)
     (counting.none_counted shape c.args.levels fs (rising c.args.schema.now c.requires.is_schema c.args.type_id) c.args.oneof_runs.now c.args.known.now)
 
 pub counted-loop-place-preserved : goal.counted-loop-place-preserved

@@ -9,7 +9,7 @@ use Rattle.pg_dyn.specs.reading.ByFields.{StopsFor}
 use Rattle.pg_dyn.specs.Coding.{leaf_in, scalar_form}
 use Rattle.pg_dyn.specs.reading.Content.{leaves_in, packed_leaves, takes}
 use Rattle.pg_dyn.specs.reading.ItemRuns.{AllRead}
-use Rattle.pg_dyn.specs.BorrowedItems.{IsItemOf}
+use Rattle.pg_dyn.specs.BorrowedItems.{IsItemKept}
 use Rattle.pg_dyn.specs.Borrowed.{leaf_of}
 use Rattle.pg_dyn.proofs.lemmas.reading.FieldKinds.{lists_no_map}
 use Rattle.pg_dyn.proofs.lemmas.reading.ScalarRuns.{ItemsSoFar, item_there, more_items, own_item, own_shape, row_items, row_packable, row_there}
@@ -73,11 +73,11 @@ loop-record-preserved c =
           more_items f rs r l.values.items (v ∷ []) c.if-is_own.values.items l.invariant
           (own_item f r (leaf_of v) (sym c.is_own.ensures ∙ w.if-is_own.true)
           (ap (λ (s : Scalar). leaf_in (scalar_form s) r.body) (sym c.scalar_of-scalar.ensures) ∙ read.0))
-          (subst (λ (s : Scalar). IsItemOf s v) c.scalar_of-scalar.ensures read.1, tt) (ap (λ x. x.items) w.values-is ∙ w.in_ok-push.ensures.items)
+          (subst (λ (s : Scalar). IsItemKept s v) c.scalar_of-scalar.ensures read.1, tt) (ap (λ x. x.items) w.values-is ∙ w.in_ok-push.ensures.items)
       | else-is_own+in_ok-push_packed w ↦
           let read = w.in_ok-push_packed.ensures.ok in
           more_items f rs r l.values.items read.0 c.if-is_own.values.items l.invariant
           (row_items f r (sym c.is_own.ensures ∙ w.if-is_own.false)
           ∙ ap (λ (s : Scalar). packed_leaves (scalar_form s) r.body) (sym c.scalar_of-scalar.ensures) ∙ read.2)
-          (subst (λ (s : Scalar). AllByRecursion (IsItemOf s) read.0) c.scalar_of-scalar.ensures read.3) (ap (λ x. x.items) w.values-is ∙ read.1)
+          (subst (λ (s : Scalar). AllByRecursion (IsItemKept s) read.0) c.scalar_of-scalar.ensures read.3) (ap (λ x. x.items) w.values-is ∙ read.1)
     ])

@@ -7,7 +7,7 @@ use Rattle.pg_wire.specs.Records.{IsRecord}
 use Rattle.pg_dyn.specs.reading.ByFields.{AreGood, HoldsOf, StopsFor}
 use Rattle.pg_dyn.specs.Coding.{leaf_in, scalar_form}
 use Rattle.pg_dyn.specs.reading.Content.{takes}
-use Rattle.pg_dyn.specs.BorrowedItems.{IsItemOf}
+use Rattle.pg_dyn.specs.BorrowedItems.{IsItemKept}
 use Rattle.pg_dyn.specs.Borrowed.{leaf_of}
 use Rattle.pg_dyn.specs.reading.Steps.{FieldReads, HeldFits, IsShallow}
 use Rattle.pg_dyn.proofs.lemmas.reading.FieldRecords.{singular_wire}
@@ -52,7 +52,7 @@ loop-record-preserved c =
     (new_last f (map seen_record (take l.record-index c.args.run.now)) r l.held v l.invariant
     (own_item f r (leaf_of v) (singular_wire f r taken.1 c.requires.no_map c.requires.singular)
     (ap (λ (s : Scalar). leaf_in (scalar_form s) r.body) (sym c.scalar_of-scalar.ensures) ∙ read.0))
-    (subst (λ (s : Scalar). IsItemOf s v) c.scalar_of-scalar.ensures read.1))
+    (subst (λ (s : Scalar). IsItemKept s v) c.scalar_of-scalar.ensures read.1))
 
 pub returns-clause-ok : goal.returns-clause-ok
 returns-clause-ok c =

@@ -9,7 +9,7 @@ use Rattle.pg_dyn.specs.Coding.{leaf_in, scalar_form}
 use Rattle.pg_dyn.specs.reading.Content.{key_field, takes, value_field}
 use Rattle.pg_dyn.specs.reading.EntryParts.{ScalarsGood}
 use Rattle.pg_dyn.specs.reading.EntrySteps.{IsMessageOf}
-use Rattle.pg_dyn.specs.BorrowedItems.{IsItemOf}
+use Rattle.pg_dyn.specs.BorrowedItems.{IsItemKept}
 use Rattle.pg_dyn.proofs.lemmas.reading.EntryByParts.{child_added, key_added, none_added, not_explicit, unreadable, value_added}
 use Rattle.pg_dyn.proofs.lemmas.reading.FieldKinds.{no_message}
 use Rattle.pg_dyn.proofs.lemmas.reading.StopSteps.{handed_on, none_of_err, stops_for}
@@ -56,7 +56,7 @@ returns-in_ok-item_in-2 c = record {
       λ rs h. value_added c.args.key c.args.element rs (seen_record c.args.found) c.args.self.now _ h c.in_ok-item_in-2.field-0
       (no_message c.args.element c.in_default.not-Message) c.if-found-eq2.true (sym c.is_own-then-found-eq2.ensures ∙ c.if-is_own-2.true)
       (ap (λ (s : Scalar). leaf_in (scalar_form s) (seen_record c.args.found).body) (sym c.scalar_of.ensures) ∙ c.in_ok-item_in-2.ensures.ok.0)
-      (subst (λ (s : Scalar). IsItemOf s c.in_ok-item_in-2.field-0) c.scalar_of.ensures c.in_ok-item_in-2.ensures.ok.1) refl refl;
+      (subst (λ (s : Scalar). IsItemKept s c.in_ok-item_in-2.field-0) c.scalar_of.ensures c.in_ok-item_in-2.ensures.ok.1) refl refl;
   err = tt;
 }
 
