@@ -21,6 +21,7 @@ use Rattle.pg_dyn.specs.reading.Content.{same_oneof, is_sibling}
 use Rattle.pg_dyn.specs.Replacing.{kept_part, kept_onto, kept_from, is_sibling_number, with_content}
 use Rattle.pg_dyn.specs.Seen.{leaf_of, item_seen, content_seen}
 use Rattle.pg_dyn.specs.setting.Setting.{normalized, normalized_by, IsSetTo}
+use Rattle.pg_dyn.specs.Texts.{kept_in}
 use Rattle.pg_dyn.proofs.Lists.{each_at, each_weaker, list_any_none}
 use Rattle.pg_pairs.specs.declared.choice.Choice.{Choice}
 use Rattle.pg_pairs.specs.declared.choice.Pair.{Pair}
@@ -69,6 +70,15 @@ abbrev IsShort : {A : Type 0} → List A → Type 0
 IsShort [] = Unit {0}
 IsShort (p ∷ []) = Unit {0}
 IsShort (p ∷ q ∷ ps) = ⊥
+
+kept_short : (e : Element) (ps : List (Part KeptItem)) → IsShort ps → IsShort (map (kept_in e) ps)
+kept_short e [] h = tt
+kept_short e (p ∷ []) h = tt
+kept_short e (p ∷ q ∷ ps) h = absurd h
+
+kept_number : (e : Element) (n : ℕ) (ps : List (Part KeptItem)) → AllByRecursion (λ (p : Part KeptItem). p.number ≡ n) ps → AllByRecursion (λ (p : Part KeptItem). p.number ≡ n) (map (kept_in e) ps)
+kept_number e n [] h = tt
+kept_number e n (p ∷ ps) h = (h.0, kept_number e n ps h.1)
 
 short_back : {A B : Type 0} (f : A → B) (xs : List A) → IsShort (map f xs) → IsShort xs
 short_back f [] h = tt
@@ -226,12 +236,12 @@ module _ (enum_view : EnumView) (old new : Shape) (table : Table) (law : IsEnumV
         let ps = content_seen c.number content in
         let field_is : f' ≡ f = one_found (fields old pair.old) c.number f' f found' found in
         let made_is : made old pair.old ps ≡ carried_field enum_view f g c.case c.part (option_map message_of child) = content_made c.number content (ends pair.old []) ∙ is in
-        let stays : normalized f ps ≡ ps =
-        normalized_same old pair.old f.presence ps (subst (IsSettled f.presence) (sym made_is) (carried_normalized enum_view f g c.case c.part (option_map message_of child))) (nonzero content child made_is given) in
-        let m_made : m ≡ kept_from pair.old ps [] =
+        let stays : normalized f ps ≡ map (kept_in f.element) ps =
+        ap (map (kept_in f.element)) (normalized_same old pair.old f.presence ps (subst (IsSettled f.presence) (sym made_is) (carried_normalized enum_view f g c.case c.part (option_map message_of child))) (nonzero content child made_is given)) in
+        let m_made : m ≡ kept_from pair.old (map (kept_in f.element) ps) [] =
         m_is ∙ ap (λ x. with_content (fields old pair.old) x (normalized x ps) (ends pair.old [])) field_is
-        ∙ ap (λ qs. with_content (fields old pair.old) f qs (ends pair.old [])) stays ∙ with_content_empty old pair.old (fields old pair.old) f ps in
-        ap message_of m_made ∙ made_is ∙ sym (carried_is (option_map message_of child))
+        ∙ ap (λ qs. with_content (fields old pair.old) f qs (ends pair.old [])) stays ∙ with_content_empty old pair.old (fields old pair.old) f (map (kept_in f.element) ps) in
+        ap message_of m_made ∙ contents_are_seen.2 f.element ps (ends pair.old []) ∙ made_is ∙ sym (carried_is (option_map message_of child))
 
 -- The least contents of two fields.
 
@@ -272,10 +282,10 @@ module _ (type : TypeId) where
 
 module _ (enum_view : EnumView) (old new : Shape) (table : Table) (law : IsEnumView enum_view) (shape_old : IsShape old) (shape_new : IsShape new) (pair : Pair) (c : Choice) (among : IsAmong c (choices enum_view table old new pair)) where
   -- the least content of a field stays as it is where it is set
-  least_stays : (f : FieldShape) (ps : List (Part KeptItem)) → made old pair.old ps ≡ least_part f (model.ends []) → normalized f ps ≡ ps
+  least_stays : (f : FieldShape) (ps : List (Part KeptItem)) → made old pair.old ps ≡ least_part f (model.ends []) → normalized f ps ≡ map (kept_in f.element) ps
   least_stays f ps is =
-      normalized_same old pair.old f.presence ps (inr (subst (λ v. IsShort (places v)) (sym is) (least_short f.number f.presence f.element)))
-      (λ implicit. ap first_is_zero is ∙ least_nonzero f.number f.presence f.element implicit)
+      ap (map (kept_in f.element)) (normalized_same old pair.old f.presence ps (inr (subst (λ v. IsShort (places v)) (sym is) (least_short f.number f.presence f.element)))
+      (λ implicit. ap first_is_zero is ∙ least_nonzero f.number f.presence f.element implicit))
 
   pub carried_double : nat_eq c.case 6 ≡ true → (f e g : FieldShape) → field_at (fields old pair.old) c.number ≡ Some f → field_at (fields old pair.old) c.part ≡ Some e → field_at (fields new pair.new) c.number ≡ Some g → f.number ≡ c.number → e.number ≡ c.part → (first second : Content) (child : Option Message) → Puts c.number first (least_part f) → Puts c.part second (least_part e) → (m n : Kept) → IsSetTo old c.number first (ends pair.old []) m → IsSetTo old c.part second m n → message_of n ≡ carried enum_view old new pair c child
   carried_double six f e g found found_e at own own_e first second child puts puts_e m n (f', found', m_is) (e', found_e', n_is) =
@@ -286,16 +296,16 @@ module _ (enum_view : EnumView) (old new : Shape) (table : Table) (law : IsEnumV
       let (below, apart) = (choice_known enum_view law old new shape_old shape_new table pair c among).0 six in
       let rising = (fields_are_found.0 old pair.old shape_old).rising in
       let first_is : f' ≡ f = one_found (fields old pair.old) c.number f' f found' found in
-      let m_made : m ≡ kept_from pair.old ps [] =
+      let m_made : m ≡ kept_from pair.old (map (kept_in f.element) ps) [] =
       m_is ∙ ap (λ x. with_content (fields old pair.old) x (normalized x ps) (ends pair.old [])) first_is
-      ∙ ap (λ xs. with_content (fields old pair.old) f xs (ends pair.old [])) (least_stays f ps made_ps) ∙ with_content_empty old pair.old (fields old pair.old) f ps in
-      let type_is : type_of m ≡ pair.old = ap type_of m_made ∙ parts_keep_types.0 ps (ends pair.old []) in
+      ∙ ap (λ xs. with_content (fields old pair.old) f xs (ends pair.old [])) (least_stays f ps made_ps) ∙ with_content_empty old pair.old (fields old pair.old) f (map (kept_in f.element) ps) in
+      let type_is : type_of m ≡ pair.old = ap type_of m_made ∙ parts_keep_types.0 (map (kept_in f.element) ps) (ends pair.old []) in
       let second_is : e' ≡ e = one_found (fields old pair.old) c.part e' e (ap (λ t. field_at (fields old t) c.part) (sym type_is) ∙ found_e') found_e in
       let not_in : is_sibling_number (fields old pair.old) e c.number ≡ false =
       subst (λ k. is_sibling_number (fields old pair.old) e k ≡ false) own (not_sibling (fields old pair.old) rising f e (ap (field_at (fields old pair.old)) own ∙ found) (apart_sym f.oneof e.oneof (apart f e found found_e))) in
       let less : c.number < e.number = omega (arith, below, own_e) in
-      let behind = behind_short pair.old (fields old pair.old) e c.number ps qs (made_short old pair.old ps (least_part f (model.ends [])) made_ps (least_short f.number f.presence f.element)) (contents_are_seen.0 c.number first) not_in (lt-ltb c.number e.number less) (le-ltb e.number c.number (omega (arith, less))) in
-      let n_made : n ≡ kept_onto ps (kept_from pair.old qs []) =
+      let behind = behind_short pair.old (fields old pair.old) e c.number (map (kept_in f.element) ps) (map (kept_in e.element) qs) (kept_short f.element ps (made_short old pair.old ps (least_part f (model.ends [])) made_ps (least_short f.number f.presence f.element))) (kept_number f.element c.number ps (contents_are_seen.0 c.number first)) not_in (lt-ltb c.number e.number less) (le-ltb e.number c.number (omega (arith, less))) in
+      let n_made : n ≡ kept_onto (map (kept_in f.element) ps) (kept_from pair.old (map (kept_in e.element) qs) []) =
       n_is ∙ ap (λ t. with_content (fields old t) e' (normalized e' qs) m) type_is
       ∙ ap (λ x. with_content (fields old pair.old) x (normalized x qs) m) second_is
       ∙ ap₂ (λ xs x. with_content (fields old pair.old) e xs x) (least_stays e qs made_qs) m_made ∙ behind in
@@ -303,4 +313,6 @@ module _ (enum_view : EnumView) (old new : Shape) (table : Table) (law : IsEnumV
       ap₂ (λ x y. carried_of enum_view x y (field_at (fields old pair.old) c.part) c child) found at
       ∙ ap (λ (b : Bool). if b then carried_two f (field_at (fields old pair.old) c.part) else carried_field enum_view f g c.case c.part child) six
       ∙ ap (carried_two f) found_e in
-      ap message_of n_made ∙ content_made c.number first (kept_from pair.old qs []) ∙ puts (made old pair.old qs) ∙ ap (least_part f) made_qs ∙ sym carried_is
+      ap message_of n_made ∙ contents_are_seen.2 f.element ps (kept_from pair.old (map (kept_in e.element) qs) [])
+      ∙ content_made c.number first (kept_from pair.old (map (kept_in e.element) qs) []) ∙ puts (made old pair.old (map (kept_in e.element) qs))
+      ∙ ap (least_part f) (contents_are_seen.2 e.element qs (ends pair.old []) ∙ made_qs) ∙ sym carried_is

@@ -20,10 +20,10 @@ use Rattle.pg_dyn.specs.declared.message_ref.ValueRef.{ValueRef}
 use Rattle.pg_dyn.specs.declared.message_ref.ValueRef.TheVariants as values
 use Rattle.pg_dyn.specs.Message.{Item, Leaf, Part, is_zero, parts}
 use Rattle.pg_dyn.specs.Message as model
-use Rattle.pg_dyn.specs.Kept.{Kept, KeptItem, type_of, message_of, of_number}
+use Rattle.pg_dyn.specs.Kept.{Kept, KeptItem, Manner, type_of, message_of, of_number}
 use Rattle.pg_dyn.specs.Kept as kept
 use Rattle.pg_dyn.specs.Belonging.{KeyFits, LeafFits}
-use Rattle.pg_dyn.specs.Borrowed.{HasKeys, IsFilled, IsKey, leaf_of, item_part, entry_part, item_seen, content_seen}
+use Rattle.pg_dyn.specs.Borrowed.{HasKeys, IsFilled, IsKey, IsMapKey, leaf_of, manner, item_part, entry_part, item_seen, content_seen}
 use Rattle.pg_dyn.specs.BorrowedItems.{ItemFits, is_zero_value}
 use Rattle.pg_dyn.specs.PartsFit.{HoldsItem, HoldsPart, IsElementItem}
 use Rattle.pg_dyn.specs.setting.Setting.{is_zero_kept}
@@ -40,18 +40,27 @@ use Rattle.pg_pairs.proofs.SameSteps.{list_if, part_with, seen_keyed, of_number_
 
 -- an item of a field is one of its element
 
-leaf_item : (shape : Shape) (n : ℕ) (p : Presence) (e : Element) (o : Option ℕ) (leaf : Leaf) → LeafFits (record { number = n; presence = p; element = e; oneof = o }) leaf → IsElementItem shape e (kept.Plain false leaf)
-leaf_item shape n p (elements.Scalar s) o leaf h = h.0
-leaf_item shape n p (elements.Enum t) o leaf h = h.0
-leaf_item shape n p (elements.Message t) o leaf h = absurd h
+leaf_item : (shape : Shape) (n : ℕ) (p : Presence) (e : Element) (o : Option ℕ) (how : Manner) (leaf : Leaf) → LeafFits (record { number = n; presence = p; element = e; oneof = o }) leaf → IsElementItem shape e (kept.Plain how leaf)
+leaf_item shape n p (elements.Scalar s) o how leaf h = h.0
+leaf_item shape n p (elements.Enum t) o how leaf h = h.0
+leaf_item shape n p (elements.Message t) o how leaf h = absurd h
 
 item_fits : (shape : Shape) (f : FieldShape) (listed : Bool) (v : ValueRef) → HoldsItem shape f (item_seen listed v) → ItemFits shape f.element v
-item_fits shape f listed (values.Int n) h = leaf_item shape f.number f.presence f.element f.oneof (leaf_of (values.Int n)) h.1
-item_fits shape f listed (values.F32 n) h = leaf_item shape f.number f.presence f.element f.oneof (leaf_of (values.F32 n)) h.1
-item_fits shape f listed (values.F64 n) h = leaf_item shape f.number f.presence f.element f.oneof (leaf_of (values.F64 n)) h.1
-item_fits shape f listed (values.Text n) h = leaf_item shape f.number f.presence f.element f.oneof (leaf_of (values.Text n)) h.1
-item_fits shape f listed (values.Bytes n) h = leaf_item shape f.number f.presence f.element f.oneof (leaf_of (values.Bytes n)) h.1
+item_fits shape f listed (values.Int n) h = leaf_item shape f.number f.presence f.element f.oneof (manner false (values.Int n)) (leaf_of (values.Int n)) h.1
+item_fits shape f listed (values.F32 n) h = leaf_item shape f.number f.presence f.element f.oneof (manner false (values.F32 n)) (leaf_of (values.F32 n)) h.1
+item_fits shape f listed (values.F64 n) h = leaf_item shape f.number f.presence f.element f.oneof (manner false (values.F64 n)) (leaf_of (values.F64 n)) h.1
+item_fits shape f listed (values.Text n) h = leaf_item shape f.number f.presence f.element f.oneof (manner false (values.Text n)) (leaf_of (values.Text n)) h.1
+item_fits shape f listed (values.Bytes n) h = leaf_item shape f.number f.presence f.element f.oneof (manner false (values.Bytes n)) (leaf_of (values.Bytes n)) h.1
 item_fits shape f listed (values.Msg child) h = subst (λ (e : Element). IsElementItem shape e (kept.Msg false child.value)) (sym h.2) (h.1, refl)
+
+-- a map's key is no message
+map_key_is_key : (v : ValueRef) → IsMapKey v → IsKey v
+map_key_is_key (values.Int n) h = tt
+map_key_is_key (values.F32 n) h = tt
+map_key_is_key (values.F64 n) h = tt
+map_key_is_key (values.Text n) h = tt
+map_key_is_key (values.Bytes n) h = tt
+map_key_is_key (values.Msg child) h = h
 
 -- it stands in a list just where the field is repeated
 is_listed : (shape : Shape) (f : FieldShape) (listed : Bool) (v : ValueRef) → HoldsItem shape f (item_seen listed v) → is_repeated f.presence ≡ listed
@@ -102,9 +111,9 @@ module _ (shape : Shape) (type : TypeId) (n : ℕ) (f : FieldShape) (found : fie
       go (x ∷ xs) k = ((tt, value_fits None true x k.0), go xs k.1)
   keyed_fits (contents.Map es) keys h = go es.items keys h
     where
-      go : (xs : List EntryRef) → AllByRecursion (λ (e : EntryRef). IsKey e.key) xs → Fitting (map (entry_part n) xs) → AllByRecursion (HeldFits shape f.element) (map {B = Keyed} (λ (e : EntryRef). (Some e.key, e.value)) xs)
+      go : (xs : List EntryRef) → AllByRecursion (λ (e : EntryRef). IsMapKey e.key) xs → Fitting (map (entry_part n) xs) → AllByRecursion (HeldFits shape f.element) (map {B = Keyed} (λ (e : EntryRef). (Some e.key, e.value)) xs)
       go [] ks k = tt
-      go (x ∷ xs) ks k = ((ks.0, value_fits (Some (leaf_of x.key)) false x.value k.0), go xs ks.1 k.1)
+      go (x ∷ xs) ks k = ((map_key_is_key x.key ks.0, value_fits (Some (leaf_of x.key)) false x.value k.0), go xs ks.1 k.1)
 
   -- a singular field holds one item
   single_fits : (c : ContentRef) → IsFilled c → Fitting (content_seen n c) → is_singular f.presence ≡ true → IsSingle (Some c)
