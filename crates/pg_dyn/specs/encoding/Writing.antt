@@ -1,7 +1,7 @@
 -- The records that a writer makes of a field's content (Encoding guide, "Packed Repeated Fields", "Maps"). Child messages are
 -- still their bytes here. Shortest varints, one record for a packed list, and entries with key and value always are this
 -- profile's choices.
-use Rattle.std.specs.Prelude.{ℕ, List, [], ◌∷◌, ◌++◌, map, filter, flat_map, true, false, unwrap_or}
+use Rattle.std.specs.Prelude.{ℕ, List, [], ◌∷◌, ◌++◌, map, filter, flat_map, Bool, true, false, unwrap_or}
 use Rattle.pg_schema.specs.declared.parts.field.Scalar.{Scalar}
 use Rattle.pg_schema.specs.declared.parts.field.Element.{Element}
 use Rattle.pg_schema.specs.declared.parts.field.Element.TheVariants as elements
@@ -12,6 +12,13 @@ use Rattle.pg_wire.specs.declared.record.WireType.TheVariants.{Len}
 use Rattle.pg_wire.specs.Records.{WireRecord, written}
 use Rattle.pg_dyn.specs.Message.{Leaf, Part, is_of}
 use Rattle.pg_dyn.specs.Coding.{form, form_wire, body, zero_leaf}
+
+-- whether the items of a field stand in one record
+abbrev pub is_packed : Presence → Bool
+is_packed presences.Implicit = false
+is_packed presences.Explicit = false
+is_packed (presences.Repeated packed) = packed
+is_packed (presences.Map key) = false
 
 -- one record for one item
 abbrev pub item_record : ℕ → Element → Leaf → WireRecord

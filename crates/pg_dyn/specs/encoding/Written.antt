@@ -18,7 +18,7 @@ use Rattle.pg_dyn.specs.Coding.{InRange, body, form}
 use Rattle.pg_dyn.specs.Fits.{Fits}
 use Rattle.pg_dyn.specs.Kept.{Kept, ends, holds, nests, KeptItem, type_of, message_of}
 use Rattle.pg_dyn.specs.encoding.Lending.{Bare, Lone, Child, bare, bare_leaf}
-use Rattle.pg_dyn.specs.encoding.Writing.{bytes_of, entry_bytes, field_records, item_record}
+use Rattle.pg_dyn.specs.encoding.Writing.{bytes_of, entry_bytes, field_records, is_packed, item_record}
 use Rattle.pg_dyn.specs.encoding.Encoding.{cap, enc}
 
 -- the encoding of a message by the type that it says
@@ -96,13 +96,6 @@ abbrev pub front_bodies : Element → ℕ → Kept → List ℕ
 front_bodies e n (ends type unknown) = []
 front_bodies e n (holds number key listed leaf later) = if nat_eq number n then body (form e) leaf ++ front_bodies e n later else []
 front_bodies e n (nests number key listed child later) = []
-
--- whether the items of a field stand in one record
-abbrev pub is_packed : Presence → Bool
-is_packed presences.Implicit = false
-is_packed presences.Explicit = false
-is_packed (presences.Repeated packed) = packed
-is_packed (presences.Map key) = false
 
 -- the length of the body of the packed list at the front, where the field of its number is packed
 abbrev pub row_by : Option FieldShape → ℕ → Kept → List ℕ

@@ -26,8 +26,8 @@ use Rattle.pg_dyn.specs.encoding.Lending.{AreKeyed, AreKeyless, AreOf, Bare, Chi
 use Rattle.pg_dyn.specs.PartsFit.{HoldsItem, HoldsPart, IsPartOf}
 use Rattle.pg_dyn.specs.Replacing.{kept_onto}
 use Rattle.pg_dyn.specs.Seen.{Rises}
-use Rattle.pg_dyn.specs.encoding.Writing.{bytes_of, field_records, item_record}
-use Rattle.pg_dyn.specs.encoding.Written.{Adds, BareFits, CanBePacked, LeafFits, LeavesFit, MayNotAdd, MayNotWrite, capped, entry_record, field_lengths, field_written, is_packed, item_bytes, item_leaf, item_lengths, own_bytes, packed_body, packed_bytes, packed_lengths, parts_written, records_by, written_part}
+use Rattle.pg_dyn.specs.encoding.Writing.{bytes_of, field_records, is_packed, item_record}
+use Rattle.pg_dyn.specs.encoding.Written.{Adds, BareFits, CanBePacked, LeafFits, LeavesFit, MayNotAdd, MayNotWrite, capped, entry_record, field_lengths, field_written, item_bytes, item_leaf, item_lengths, own_bytes, packed_body, packed_bytes, packed_lengths, parts_written, records_by, written_part}
 use Rattle.pg_dyn.proofs.lemmas.Belonging.{fields-IsType}
 use Rattle.pg_dyn.proofs.lemmas.encoding.EncodedFields.{by_fields, encodes_by_fields, written_row}
 use Rattle.pg_dyn.proofs.lemmas.FitsChecks.{same_field}

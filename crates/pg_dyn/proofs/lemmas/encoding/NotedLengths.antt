@@ -13,7 +13,8 @@ use Rattle.pg_dyn.specs.encoding.Lending.{AreOf, HoldsParts, IsLone, all_parts, 
 use Rattle.pg_dyn.specs.PartsFit.{IsPartOf}
 use Rattle.pg_dyn.specs.Replacing.{kept_onto, kept_part}
 use Rattle.pg_dyn.specs.Seen.{Rises}
-use Rattle.pg_dyn.specs.encoding.Written.{capped, field_lengths, front_bodies, inner_lengths, is_packed, item_lengths, lengths_behind, lengths_by, packed_body, packed_lengths, parts_lengths, row_behind, row_by}
+use Rattle.pg_dyn.specs.encoding.Writing.{is_packed}
+use Rattle.pg_dyn.specs.encoding.Written.{capped, field_lengths, front_bodies, inner_lengths, item_lengths, lengths_behind, lengths_by, packed_body, packed_lengths, parts_lengths, row_behind, row_by}
 use Rattle.pg_dyn.proofs.lemmas.encoding.EncodedFields.{held_numbered}
 use Rattle.pg_dyn.proofs.lemmas.encoding.EncodeSteps.{HeldContents, field_is, lone_of_part, packable, packed_no_lengths, packs}
 use Rattle.pg_dyn.proofs.Lists.{each_weaker}
