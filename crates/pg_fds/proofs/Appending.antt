@@ -18,6 +18,7 @@ use Rattle.pg_dyn.specs.Message as model
 use Rattle.pg_dyn.specs.Replacing.{kept_from, with_parts, with_content}
 use Rattle.pg_dyn.specs.Seen.{content_seen, item_seen}
 use Rattle.pg_dyn.specs.setting.Setting.{IsSetTo, normalized}
+use Rattle.pg_dyn.specs.Texts.{kept_in, kept_item}
 use Rattle.pg_dyn.specs.Fits.{Fits}
 use Rattle.pg_dyn.specs.ContentFits.{ItemFits}
 use Rattle.pg_dyn.specs.setting.Told.{ItemsFit, TakesContent}
@@ -81,24 +82,27 @@ grown number ps old new h k is =
 
 -- ---- one item, and a list
 
-shown_item : (listed : Bool) (v : Value) → item_of (item_seen listed v) ≡ shown v
-shown_item listed (values.Int n) = refl
-shown_item listed (values.F32 n) = refl
-shown_item listed (values.F64 n) = refl
-shown_item listed (values.Text n) = refl
-shown_item listed (values.Bytes n) = refl
-shown_item listed (values.Msg n) = refl
+shown_kept : (e : Element) (listed : Bool) (v : Value) → item_of (kept_item e (item_seen listed v)) ≡ shown v
+shown_kept e listed (values.Int n) = refl
+shown_kept e listed (values.F32 n) = refl
+shown_kept e listed (values.F64 n) = refl
+shown_kept e listed (values.Text n) = refl
+shown_kept e listed (values.Bytes n) = refl
+shown_kept e listed (values.Msg n) = refl
 
 abbrev listed_part : ℕ → Value → Part KeptItem
 listed_part number value = record { number = number; key = None; item = item_seen true value }
 
-shown_list : (number : ℕ) (vs : List Value) → map part_item (map (listed_part number) vs) ≡ map (item number) (map shown vs)
-shown_list number [] = refl
-shown_list number (v ∷ vs) = ap₂ (λ i is. item number i ∷ is) (shown_item true v) (shown_list number vs)
+abbrev kept_list : Element → ℕ → List Value → List (Part KeptItem)
+kept_list e number vs = map (kept_in e) (map (listed_part number) vs)
 
-of_list : (number : ℕ) (vs : List Value) → greatest (map (listed_part number) vs) ≤ number
-of_list number [] = omega arith
-of_list number (v ∷ vs) = let later : greatest (map (listed_part number) vs) ≤ number = of_list number vs in omega (arith, later)
+shown_list : (e : Element) (number : ℕ) (vs : List Value) → map part_item (kept_list e number vs) ≡ map (item number) (map shown vs)
+shown_list e number [] = refl
+shown_list e number (v ∷ vs) = ap₂ (λ i is. item number i ∷ is) (shown_kept e true v) (shown_list e number vs)
+
+of_list : (e : Element) (number : ℕ) (vs : List Value) → greatest (kept_list e number vs) ≤ number
+of_list e number [] = omega arith
+of_list e number (v ∷ vs) = let later : greatest (kept_list e number vs) ≤ number = of_list e number vs in omega (arith, later)
 
 along : (fs gs : List FieldShape) (f : FieldShape) (number : ℕ) → fs ≡ gs → field_at fs number ≡ Some f → field_at gs number ≡ Some f
 along fs gs f number same = subst (λ x. field_at x number ≡ Some f) same
@@ -109,10 +113,11 @@ pub set_one : (shape : Shape) (type : TypeId) (number : ℕ) (e : Element) (v : 
 unfolding last_number
 set_one shape type number e v old new of_type field h (f, found, is) =
     let own : one number e ≡ f = same_Some (one number e) f (sym (along (fields shape type) (fields shape (type_of old)) (one number e) number (ap (fields shape) (sym of_type)) field) ∙ found) in
-    let made : new ≡ with_content (fields shape (type_of old)) (one number e) (content_seen number (contents.One v)) old =
+    let kept = map (kept_in e) (content_seen number (contents.One v)) in
+    let made : new ≡ with_content (fields shape (type_of old)) (one number e) kept old =
     subst (λ x. new ≡ with_content (fields shape (type_of old)) x (normalized x (content_seen number (contents.One v))) old) (sym own) is in
-    let all = grown number (content_seen number (contents.One v)) old new h (omega arith) (made ∙ appended (fields shape (type_of old)) (one number e) (content_seen number (contents.One v)) old refl h) in
-    (all.items ∙ ap (λ i. items_of old ++ item number i ∷ []) (shown_item false v), all.of_type, all.unknown, all.last)
+    let all = grown number kept old new h (omega arith) (made ∙ appended (fields shape (type_of old)) (one number e) kept old refl h) in
+    (all.items ∙ ap (λ i. items_of old ++ item number i ∷ []) (shown_kept e false v), all.of_type, all.unknown, all.last)
 
 pub set_many : (shape : Shape) (type : TypeId) (number : ℕ) (e : Element) (vs : List Value) (content : Content) (old new : Kept) → type_of old ≡ type → field_at (fields shape type) number ≡ Some (many number e)
     → last_number old < number → content_seen number content ≡ map (listed_part number) vs → IsSetTo shape number content old new
@@ -120,12 +125,12 @@ pub set_many : (shape : Shape) (type : TypeId) (number : ℕ) (e : Element) (vs 
 unfolding last_number
 set_many shape type number e vs content old new of_type field h seen (f, found, is) =
     let own : many number e ≡ f = same_Some (many number e) f (sym (along (fields shape type) (fields shape (type_of old)) (many number e) number (ap (fields shape) (sym of_type)) field) ∙ found) in
-    let made : new ≡ with_content (fields shape (type_of old)) (many number e) (content_seen number content) old =
+    let made : new ≡ with_content (fields shape (type_of old)) (many number e) (map (kept_in e) (content_seen number content)) old =
     subst (λ x. new ≡ with_content (fields shape (type_of old)) x (normalized x (content_seen number content)) old) (sym own) is in
-    let made_list : new ≡ with_content (fields shape (type_of old)) (many number e) (map (listed_part number) vs) old =
-    subst (λ ps. new ≡ with_content (fields shape (type_of old)) (many number e) ps old) seen made in
-    let all = grown number (map (listed_part number) vs) old new h (of_list number vs) (made_list ∙ appended (fields shape (type_of old)) (many number e) (map (listed_part number) vs) old refl h) in
-    (all.items ∙ ap (λ is. items_of old ++ is) (shown_list number vs), all.of_type, all.unknown, all.last)
+    let made_list : new ≡ with_content (fields shape (type_of old)) (many number e) (kept_list e number vs) old =
+    subst (λ ps. new ≡ with_content (fields shape (type_of old)) (many number e) (map (kept_in e) ps) old) seen made in
+    let all = grown number (kept_list e number vs) old new h (of_list e number vs) (made_list ∙ appended (fields shape (type_of old)) (many number e) (kept_list e number vs) old refl h) in
+    (all.items ∙ ap (λ is. items_of old ++ is) (shown_list e number vs), all.of_type, all.unknown, all.last)
 
 -- ---- children
 
