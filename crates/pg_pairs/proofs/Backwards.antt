@@ -12,7 +12,7 @@ use Rattle.pg_schema.specs.Shape.{Shape, FieldShape, PresenceFits, is_singular, 
 use Rattle.pg_dyn.specs.Message.{Leaf, Part, is_zero, key_cmp}
 use Rattle.pg_dyn.specs.Coding.{form, body, zero_leaf, InRange}
 use Rattle.pg_dyn.specs.Bodies.{IsReadAs}
-use Rattle.pg_dyn.specs.encoding.Writing.{key_of}
+use Rattle.pg_dyn.specs.encoding.Writing.{is_packed, key_of}
 use Rattle.pg_dyn.specs.reading.Decoding.{dec, is_child}
 use Rattle.pg_dyn.specs.encoding.Encoding.{element_type}
 use Rattle.pg_dyn.specs.Belonging.{MayBeZero}
@@ -20,7 +20,6 @@ use Rattle.pg_dyn.specs.Comparison.{numbers, Comparand, writes}
 use Rattle.pg_dyn.proofs.Lists.{each_weaker, each_both, each-map, each_of_all}
 use Rattle.pg_pairs.specs.Likeness.{like}
 use Rattle.pg_pairs.specs.ReadBack.{is_bool_of_zigzag}
-use Rattle.pg_pairs.specs.Returns.{is_packed}
 use Rattle.pg_pairs.specs.Gaps.{body_length}
 use Rattle.pg_pairs.specs.Contents.{total, IsAtMostOne, RisingKeys}
 use Rattle.pg_pairs.proofs.GapItems.{IsLeafy, implicit_leafy}

@@ -8,7 +8,7 @@ use Rattle.pg_schema.specs.declared.parts.field.Presence.{Presence}
 use Rattle.pg_schema.specs.Shape.{Shape, FieldShape, IsShape, fields, field_at, is_singular}
 use Rattle.pg_dyn.specs.Message.{Leaf, Bytes, Message, ends, holds, nests, IsPlain, unknown_of}
 use Rattle.pg_dyn.specs.Coding.{form, InRange}
-use Rattle.pg_dyn.specs.encoding.Writing.{bytes_of, records_in}
+use Rattle.pg_dyn.specs.encoding.Writing.{bytes_of, is_packed, records_in}
 use Rattle.pg_dyn.specs.encoding.Encoding.{cap, child_type, enc, encoded_parts}
 use Rattle.pg_dyn.specs.reading.Decoding.{dec}
 use Rattle.pg_dyn.specs.Belonging.{IsMessage, LeafFits}
@@ -20,7 +20,7 @@ use Rattle.pg_pairs.specs.declared.choice.Pair.{Pair}
 use Rattle.pg_pairs.specs.Among.{IsAmong}
 use Rattle.pg_pairs.specs.Covering.{children, message_pair}
 use Rattle.pg_pairs.specs.Reached.{LeadsTo, itself, onwards}
-use Rattle.pg_pairs.specs.Returns.{Returns, becomes_packed, is_packed}
+use Rattle.pg_pairs.specs.Returns.{Returns, becomes_packed}
 use Rattle.pg_pairs.specs.Home.{home, home_message, homeward, message_eq}
 use Rattle.pg_pairs.specs.Edges.{no_bounds}
 use Rattle.pg_pairs.specs.Contents.{ChildBound, has_children, is_child_kept}

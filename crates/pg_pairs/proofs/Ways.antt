@@ -10,14 +10,13 @@ use Rattle.pg_schema.specs.Shape.{FieldShape, is_singular, is_implicit, is_repea
 use Rattle.pg_dyn.specs.Message.{is_zero}
 use Rattle.pg_dyn.specs.Coding.{form, InRange}
 use Rattle.pg_dyn.specs.reading.Content.{last_item}
-use Rattle.pg_dyn.specs.encoding.Writing.{key_of}
+use Rattle.pg_dyn.specs.encoding.Writing.{is_packed, key_of}
 use Rattle.pg_dyn.specs.reading.Decoding.{Reader}
 use Rattle.pg_dyn.specs.Belonging.{MayBeZero}
 use Rattle.pg_dyn.specs.Comparison.{View, Comparand, writes}
 use Rattle.pg_dyn.proofs.Lists.{each_both}
 use Rattle.pg_pairs.specs.Likeness.{like}
 use Rattle.pg_pairs.specs.ReadBack.{is_bool_of_zigzag}
-use Rattle.pg_pairs.specs.Returns.{is_packed}
 use Rattle.pg_pairs.specs.Contents.{IsAtMostOne, RisingKeys}
 use Rattle.pg_pairs.proofs.Likeness.{like_wire}
 use Rattle.pg_pairs.proofs.GapItems.{IsLeafy}

@@ -1,18 +1,11 @@
 -- Types that a message may go through and come home from (Encoding guide, "Packed Repeated Fields"): what was singular isn't packed.
 use Rattle.std.specs.Prelude.{◌≡◌, Bool, false, ◌&&◌, Option, Some, None}
 use Rattle.std.specs.List.{list_any}
-use Rattle.pg_schema.specs.declared.parts.field.Presence.{Presence}
-use Rattle.pg_schema.specs.declared.parts.field.Presence.TheVariants as presences
 use Rattle.pg_schema.specs.Shape.{Shape, FieldShape, fields, field_at, is_singular}
+use Rattle.pg_dyn.specs.encoding.Writing.{is_packed}
 use Rattle.pg_pairs.specs.declared.choice.Pair.{Pair}
 use Rattle.pg_pairs.specs.Covering.{children}
 use Rattle.pg_pairs.specs.Reached.{LeadsTo}
-
-abbrev pub is_packed : Presence → Bool
-is_packed presences.Implicit = false
-is_packed presences.Explicit = false
-is_packed (presences.Repeated packed) = packed
-is_packed (presences.Map key) = false
 
 -- singular in the old type and packed in the new one
 abbrev pub becomes_packed : FieldShape → Option FieldShape → Bool

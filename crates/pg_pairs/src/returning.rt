@@ -4,7 +4,8 @@ ghost use Rattle.std.specs.Prelude.{◌≡◌, ◌↔◌, IsTrue, IfOk};
 ghost use Rattle.std.specs.List.{list_any};
 ghost use Rattle.pg_schema.specs.Parts.{field_shape, shape_of};
 ghost use Rattle.pg_schema.specs.Shape.{field_at, fields};
-ghost use Rattle.pg_pairs.specs.Returns.{Returns, becomes_packed, is_packed, packs};
+ghost use Rattle.pg_dyn.specs.encoding.Writing.{is_packed};
+ghost use Rattle.pg_pairs.specs.Returns.{Returns, becomes_packed, packs};
 
 use crate::choice::Pair;
 use crate::priced::Priced;
