@@ -157,13 +157,6 @@ map_more f g xs ys i x y inside is before new =
 
 -- Contents.
 
-pub one_copied : (r : ValueRef) (v : Value) → IsItemCopy r v → IsContentCopy (contents.One r) (held.One v)
-one_copied r v copy = record {
-  parts = λ n. ap (λ (item : KeptItem). record { number = n; key = None; item = item } ∷ []) (copy false);
-  filled = λ h. tt;
-  keys = λ h. tt;
-}
-
 no_nil : {A B C : Type 0} (f : A → C) (g : B → C) (xs : List A) (ys : List B) → map f xs ≡ map g ys → (ys ≡ [] → ⊥) → xs ≡ [] → ⊥
 no_nil f g [] [] same some e = some refl
 no_nil f g [] (y ∷ ys) same some e = cc

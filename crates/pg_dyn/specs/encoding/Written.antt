@@ -107,7 +107,7 @@ abbrev pub row_behind : List FieldShape → ℕ → ℕ → Kept → List ℕ
 row_behind fs before number m = if nat_eq number before then [] else row_by (field_at fs number) number m
 
 -- The lengths that are noted when a message is counted, in the order of the walk: of each packed list that of its body, of each message
--- inside its own and then those inside it. The part before is of the number that is told first.
+-- inside its own and then those inside it. The part before is of the number that is given first.
 abbrev pub lengths_behind : Shape → List FieldShape → ℕ → Kept → List ℕ
 lengths_behind shape fs before (ends type unknown) = []
 lengths_behind shape fs before (holds number key listed leaf later) =

@@ -14,7 +14,7 @@ use Rattle.pg_dyn.specs.declared.reading.oneof_runs.OneofRun.{OneofRun}
 use Rattle.pg_dyn.specs.declared.reading.oneof_runs.OneofRuns.{OneofRuns}
 use Rattle.pg_dyn.specs.reading.Content.{counted, is_unknown, takes}
 
--- the elements that pass the test, which is told their places
+-- the elements that pass the test, which gets their places
 abbrev pub filter_at : {A : Type 0} → (ℕ → A → Bool) → ℕ → List A → List A
 filter_at test place [] = []
 filter_at test place (x ∷ xs) = if test place x then x ∷ filter_at test (suc place) xs else filter_at test (suc place) xs

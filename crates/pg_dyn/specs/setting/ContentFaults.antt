@@ -1,4 +1,4 @@
--- What is wrong with contents that are handed to a message, and which of several faults is told: that of the lowest code
+-- What is wrong with contents that are handed to a message, and which of several faults is reported: that of the lowest code
 -- (this profile's choice).
 use Rattle.std.specs.Prelude.{◌≡◌, ℕ, ◌<◌, ◌⊎◌, ⊤, List, [], ◌∷◌, length, map, filter, flat_map, nat_eq, Bool, Some, None, option_and_then}
 use Rattle.pg_schema.specs.declared.parts.field.TypeId.{TypeId}

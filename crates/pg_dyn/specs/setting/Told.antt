@@ -1,5 +1,5 @@
--- What a test of contents tells: nothing, or of what is wrong the error of the lowest code. A key that stands twice is told by a test of
--- its own, since two contents of one oneof are told before it.
+-- What a test of contents reports: nothing, or of what is wrong the error of the lowest code. A key that stands twice is found by a test
+-- of its own, since two contents of one oneof are reported before it.
 use Rattle.std.specs.Prelude.{◌≡◌, ℕ, ◌<◌, ◌⊎◌, ⊤, Bool, true, false, length, nat_eq, Some, Result, Ok, Err}
 use Rattle.std.specs.List.{AllByRecursion}
 use Rattle.pg_schema.specs.declared.parts.field.TypeId.{TypeId}
@@ -26,7 +26,7 @@ abbrev pub Tells : Type 0 → (DynError → Type 0) → Result (Unit {0}) DynErr
 Tells Right Fault (Ok t) = Right
 Tells Right Fault (Err e) = IsLowest Fault e × (code e < 605)
 
--- the code of what is told; where nothing is, it is above all
+-- the code of what is reported; where nothing is, it is above all
 abbrev pub code_told : Result (Unit {0}) DynError → ℕ
 code_told (Ok t) = 1000
 code_told (Err e) = code e

@@ -210,9 +210,9 @@ pub(crate) fn push_packed<'a, M: Lends>(
     }
 }
 
-// A counted length, which is told where it isn't too long.
+// A counted length, where it isn't too long.
 pub(crate) fn not_too_long(len: usize) -> Result<usize, DynError>
-    ensures ok { IfOk result (λ told. (n : ℕ) → len ≡ capped n → told ≡ n) }
+    ensures ok { IfOk result (λ counted. (n : ℕ) → len ≡ capped n → counted ≡ n) }
     ensures err { IfErr result (λ e. (n : ℕ) → len ≡ capped n → MayNotWrite n e) }
 {
     if len > MAX_ENCODING_LEN {

@@ -64,7 +64,7 @@ pub fn decode_ref<'a>(
     match read_message(alloc, schema, type_id, bytes, limit - 1) {
         Ok(message) => Ok(message),
         Err(stop) => {
-            // The first fault in the bytes is told; where they have none, memory was refused.
+            // The first fault in the bytes is reported; where they have none, memory was refused.
             find_fault(schema, type_id, bytes, 0, limit - 1)?;
             match stop {
                 Stop::Memory => Err(DynError::Memory),

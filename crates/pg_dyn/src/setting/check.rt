@@ -110,7 +110,7 @@ pub(crate) fn check_item(scalar: Scalar, value: &Value) -> Result<(), DynError>
     }
 }
 
-/// Of two answers the one of the lower code, so that nothing is told only where both tell nothing.
+/// Of two answers the error of the lower code. `Ok` only where both are.
 pub(crate) fn lower(
     first: Result<(), DynError>,
     second: Result<(), DynError>,

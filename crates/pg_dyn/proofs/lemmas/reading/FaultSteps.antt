@@ -65,7 +65,7 @@ pub text_refused : (shape : Shape) (levels : ℕ) (f : FieldShape) (r : WireReco
 text_refused shape levels f r at e s no_map same h =
     subst (RefusedOf shape levels f r at) (sym h.0) (0, omega arith, faults.not_text f r no_map (same ∙ h.1) h.2)
 
--- what a test of an item that is no message tells
+-- what a test of an item that is no message reports
 pub record ScalarChecked (shape : Shape) (levels : ℕ) (e : Element) (r : WireRecord) (at : ℕ) (result : Result ⊤ DynError) : Type 0 where
   pub readable : OnOk result (ItemReads shape e r)
   pub shallow : OnOk result (IsShallowItem shape levels e r)

@@ -151,7 +151,7 @@ module _ {A : Type 0} (key : A → Leaf) where
       of [] = refl
       of (x ∷ xs) = refl
 
-  -- Rising entries are told by the entries of each key.
+  -- Rising entries are known by the entries of each key.
 
   stands_filtered : (test : A → Bool) (z : A) (xs : List A) → test z ≡ true → StandsIn z xs → StandsIn z (filter test xs)
   stands_filtered test z [] hit h = h

@@ -185,12 +185,6 @@ list_parts n e (v ∷ vs) h =
     ap₂ (λ (i : Item) ps. record { number = n; key = None; item = i } ∷ ps) (ap item_of (sym (key_listed true v (item_is_key (read_as e) v h.0))))
     (list_parts n e vs h.1)
 
-repeated_is : (p : Presence) → is_repeated p ≡ true → (packed : Bool) × (p ≡ presences.Repeated packed)
-repeated_is presences.Implicit h = absurd (cc)
-repeated_is presences.Explicit h = absurd (cc)
-repeated_is (presences.Repeated packed) h = (packed, refl)
-repeated_is (presences.Map key) h = absurd (cc)
-
 module _ (shape : Shape) (f : FieldShape) (repeated : is_repeated f.presence ≡ true) (scalar : IsNoMessage f.element) (rs : List WireRecord)
     (vs : List ValueRef) (held : Option ContentRef) (h : AreItemsOf f rs vs) (is : IsHeldList vs held) where
   rows_content : (o : Option (List (List Leaf))) → option_map joined o ≡ Some (map leaf_of vs)

@@ -1,4 +1,4 @@
--- What a test of one content tells.
+-- What a test of one content reports.
 use Rattle.std.proofs.Common.{Bool, Vec, Global, IsOk, IfErr, ◌≡◌, ℕ, ℤ, ◌<◌, ◌≤◌, ◌⊎◌, ⊎_elim, List, [], ◌∷◌, map, flat_map, Result, Ok, Err, Option, Some, None, true, inl, inr, refl, sym, subst, ◌∙◌, arith}
 use Rattle.std.specs.Prelude.{⊤}
 use Rattle.std.specs.List.{AllByRecursion}

@@ -48,7 +48,7 @@ module _ (P Q : Type 0) (F G : DynError → Type 0) (p : P → NoneEarly F) (q :
       ⊎_elim (λ is. subst (Tells (P × Q) (λ e. F e ⊎ G e)) (sym is) (first_lower a b x y (subst (λ k. code_told k ≤ code_told b) is le_b)))
       (λ is. subst (Tells (P × Q) (λ e. F e ⊎ G e)) (sym is) (second_lower a b x y (subst (λ k. code_told k ≤ code_told a) is le_a))) one
 
--- the same told in other words
+-- the same in other words
 pub told_so : (P Q : Type 0) (F G : DynError → Type 0) → (P → Q) → ((e : DynError) → F e → G e) → ((e : DynError) → code e < 605 → G e → F e) → (r : Result (Unit {0}) DynError) → Tells P F r → Tells Q G r
 told_so P Q F G right to back (Ok t) x = right x
 told_so P Q F G right to back (Err e) x = ((to e x.0.0, λ other low k. let early : code other < 605 = omega (arith, x.1) in x.0.1 other low (back other early k)), x.1)
@@ -62,7 +62,7 @@ take_more xs i x inside is = ap (λ n. take n xs) (add-one i) ∙ more xs i x in
     more (z ∷ ys) (suc k) y inside is = ap (λ ws. z ∷ ws) (more ys k y (omega arith) is)
 
 module _ {A : Type 0} (P : A → Type 0) (F : A → DynError → Type 0) (p : (x : A) → P x → NoneEarly (F x)) where
-  -- what is told of the elements of a row
+  -- what is reported of the elements of a row
   abbrev pub TellsRow : List A → Result (Unit {0}) DynError → Type 0
   TellsRow xs r = Tells (AllByRecursion P xs) (λ e. AnyOf (λ x. F x e) xs) r
 

@@ -24,7 +24,7 @@ use Rattle.pg_dyn.proofs.Lists.{each_of_all, list_any_none}
 use Rattle.pg_dyn.proofs.lemmas.setting.PutLaws.{no_self_sibling, siblings_after, normalized_number}
 use Rattle.pg_dyn.proofs.lemmas.Splitting.{found_number}
 
--- the lowest fault may be told
+-- the lowest fault may be reported
 pub may_refuse : (F : DynError → Type 0) (e : DynError) → IsLowest F e → MayRefuseFor F e
 may_refuse F errors.Memory h = tt
 may_refuse F errors.NoSuchField h = h

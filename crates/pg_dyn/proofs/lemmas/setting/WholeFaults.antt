@@ -1,4 +1,4 @@
--- What may be told of a row of contents.
+-- Which faults of a row of contents may be reported.
 use Rattle.std.proofs.Common.{◌≡◌, ℕ, option_and_then, ◌<◌, ◌≤◌, List, [], ◌∷◌, length, filter, flat_map, nat_eq, Bool, true, false, cond, not, ◌&&◌, Option, Some, None, inl, inr, refl, ap, ◌∙◌, arith, eq-eqb, ne_eqb}
 use Rattle.std.specs.List.{AllByRecursion}
 use Rattle.std.proofs.lemmas.Bool.{eqb-true}

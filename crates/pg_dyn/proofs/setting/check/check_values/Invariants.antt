@@ -1,4 +1,4 @@
--- what is told of the items so far
+-- what is reported of the items so far
 use Rattle.std.proofs.Common.{take}
 use Rattle.pg_schema.specs.Parts.{shape_of}
 use Rattle.pg_dyn.specs.setting.ContentFaults.{ElementFault}

@@ -1,4 +1,4 @@
--- what is told of the contents so far
+-- what is reported of the contents so far
 use Rattle.std.proofs.Common.{ℕ, take}
 use Rattle.pg_schema.specs.Parts.{shape_of}
 use Rattle.pg_dyn.specs.declared.message.Content.{Content}
