@@ -1,6 +1,6 @@
 -- What a writer makes of a message part by part, and the lengths that it counts ahead (Encoding guide, "Message Structure",
 -- "Packed Repeated Fields", "Maps").
-use Rattle.std.specs.Prelude.{◌≡◌, ◌⊎◌, ◌<◌, ⊤, ℕ, min, nat_eq, List, [], ◌∷◌, ◌++◌, map, flat_map, length, Bool, true, false, if◌then◌else◌, Option, Some, None}
+use Rattle.std.specs.Prelude.{◌≡◌, ◌⊎◌, ◌<◌, ⊤, ℕ, min, nat_eq, List, [], ◌∷◌, ◌++◌, map, flat_map, length, true, false, if◌then◌else◌, Option, Some, None}
 use Rattle.std.specs.List.{AllByRecursion}
 use Rattle.pg_schema.specs.declared.parts.field.Scalar.{Scalar}
 use Rattle.pg_schema.specs.declared.parts.field.Element.{Element}

@@ -1,5 +1,5 @@
 -- The lengths that are noted of a message are those of its contents, one after the other.
-use Rattle.std.proofs.Common.{◌≡◌, ℕ, ◌<◌, nat_eq, List, [], ◌∷◌, ◌++◌, length, flat_map, Bool, true, false, cond, Option, Some, None, refl, ap, ap₂, sym, ◌∙◌, arith, append_assoc, eq-eqb}
+use Rattle.std.proofs.Common.{◌≡◌, ℕ, ◌<◌, nat_eq, List, [], ◌∷◌, ◌++◌, length, flat_map, Bool, true, false, cond, Option, Some, refl, ap, ap₂, sym, ◌∙◌, arith, append_assoc, eq-eqb}
 use Rattle.std.proofs.lemmas.Bool.{ne_eqb}
 use Rattle.std.specs.List.{AllByRecursion}
 use Rattle.pg_schema.specs.declared.parts.field.TypeId.{TypeId}
@@ -10,7 +10,6 @@ use Rattle.pg_dyn.specs.Message.{Leaf, Part}
 use Rattle.pg_dyn.specs.Coding.{body, form}
 use Rattle.pg_dyn.specs.Kept.{Kept, ends, holds, KeptItem, Plain, Msg, type_of, unknown_of}
 use Rattle.pg_dyn.specs.encoding.Lending.{AreOf, HoldsParts, IsLone, all_parts, bare, bare_leaf}
-use Rattle.pg_dyn.specs.PartsFit.{IsPartOf}
 use Rattle.pg_dyn.specs.Replacing.{kept_onto, kept_part}
 use Rattle.pg_dyn.specs.Seen.{Rises}
 use Rattle.pg_dyn.specs.encoding.Writing.{is_packed}

@@ -15,7 +15,7 @@ use Rattle.pg_dyn.specs.declared.error.DynError.TheVariants as errors
 use Rattle.pg_dyn.specs.Coding.{Text, form, form_wire, element_at, leaf_in, scalar_form}
 use Rattle.pg_dyn.specs.reading.Content.{same_wire, is_accepted, is_unknown, leaves_in, packed_leaves}
 use Rattle.pg_dyn.specs.reading.Decoding.{is_child, all_readable, dec}
-use Rattle.pg_dyn.specs.reading.Faults.{Wire, NotUtf8, FaultIn, FaultOf, body_start}
+use Rattle.pg_dyn.specs.reading.Faults.{Wire, FaultIn, FaultOf, body_start}
 use Rattle.pg_dyn.specs.reading.Faults as faults
 use Rattle.pg_dyn.specs.reading.FaultSteps.{ItemReads}
 use Rattle.pg_dyn.specs.reading.Held.{read_as}

@@ -10,7 +10,7 @@ use Rattle.pg_dyn.specs.declared.message.Value.{Value}
 use Rattle.pg_dyn.specs.declared.message.Value.TheVariants as values
 use Rattle.pg_dyn.specs.Coding.{InRange, scalar_form}
 use Rattle.pg_dyn.specs.ContentFits.{ItemFits}
-use Rattle.pg_dyn.specs.Kept.{KeptItem, Manner, Plain}
+use Rattle.pg_dyn.specs.Kept.{KeptItem, Plain}
 use Rattle.pg_dyn.specs.Message.{Leaf, Bytes}
 use Rattle.pg_dyn.specs.ScalarItems.{IsItemOf, IsKeptAs}
 use Rattle.pg_dyn.specs.Seen.{IsMapKey, item_seen, leaf_of}
