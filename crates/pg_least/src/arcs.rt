@@ -77,7 +77,8 @@ fn add_arcs(
     Ok(())
 }
 
-/// The edges of those pairs in their order, with the places of the pairs that they lead from and to.
+/// The edges of those pairs in their order, with the places of the pairs that they lead from and
+/// to.
 fn arcs_in_order<G: Prices>(
     alloc: Global,
     graph: &G,
