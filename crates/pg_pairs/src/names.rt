@@ -83,7 +83,8 @@ fn rise_by_word(values: &[EnumValue]) -> bool
     values.is_sorted_by_key(|value| number_word(value.number))
 }
 
-/// The values with the number of this one, which stand together where the words of the numbers rise.
+/// The values with the number of this one, which stand together where the words of the numbers
+/// rise.
 fn values_beside<'a>(values: &'a [EnumValue], value: &EnumValue) -> &'a [EnumValue]
     requires { RiseByWord values.now }
     ensures { is_missing (map named result.now) (named value.now)
@@ -96,14 +97,6 @@ fn values_beside<'a>(values: &'a [EnumValue], value: &EnumValue) -> &'a [EnumVal
     &rest[..count]
 }
 
-/// Whether the value at the place has the number.
-fn has_number_at(values: &[EnumValue], place: usize, number: i32) -> bool {
-    match values.get(place) {
-        Some(value) => value.number == number,
-        None => false,
-    }
-}
-
 /// Whether the value at the place has the number and the name of this one.
 fn stands_at(others: &[EnumValue], place: usize, value: &EnumValue) -> bool
     ensures { result ≡ true → is_missing (map named others.now) (named value.now) ≡ false }
@@ -114,21 +107,47 @@ fn stands_at(others: &[EnumValue], place: usize, value: &EnumValue) -> bool
     }
 }
 
-/// Where the number stands among the values: behind the place if it does, else where it is first.
-/// Of a number that they lack this says nothing.
-fn place_of(values: &[EnumValue], rise: bool, number: i32, place: usize) -> usize {
+/// Where the value stands, sought from the place on and in front of it at once.
+fn nearest_place(others: &[EnumValue], place: usize, value: &EnumValue) -> Option<usize> {
+    for distance in 0..others.len() {
+        let behind = place.saturating_add(distance);
+        if stands_at(others, behind, value) {
+            return Some(behind);
+        }
+        let before = place.saturating_sub(distance + 1);
+        if stands_at(others, before, value) {
+            return Some(before);
+        }
+    }
+    None
+}
+
+/// Where the values with the number begin, where the words of the numbers rise.
+fn start_of(values: &[EnumValue], number: i32) -> usize {
+    let word = number_word(number);
+    values.partition_point(|value| number_word(value.number) < word)
+}
+
+/// Where the value stands among the others, sought first behind the place and then nearest to it;
+/// the place itself where they lack the value. A wrong answer would cost time alone, since what
+/// stands there is compared before anything is said of it.
+fn place_of(others: &[EnumValue], rise: bool, value: &EnumValue, place: usize) -> usize
+    requires { rise ≡ true → RiseByWord others.now }
+{
     let next = place.saturating_add(1);
-    if has_number_at(values, next, number) {
+    if stands_at(others, next, value) {
         return next;
     }
     if rise {
-        let word = number_word(number);
-        return values.partition_point(|value| number_word(value.number) < word);
+        let start = start_of(others, value.number);
+        let beside = values_beside(others, value);
+        let near = next.saturating_sub(start).min(beside.len());
+        return match nearest_place(beside, near, value) {
+            Some(found) => start.saturating_add(found),
+            None => place,
+        };
     }
-    values
-        .iter()
-        .position(|value| value.number == number)
-        .unwrap_or(place)
+    nearest_place(others, next.min(others.len()), value).unwrap_or(place)
 }
 
 /// The same as `is_missing`, sought first at the place, and then by halving where the words of the
@@ -178,19 +197,18 @@ fn is_lesser(number: i32, least: Option<i32>) -> bool
 }
 
 /// The least number that counts and that these values give a name that the others don't give it,
-/// though they have it. The values of two enums mostly stand in one order, so a name is sought first
-/// behind the place of the last one.
+/// though they have it. The values of two enums mostly stand in much the same order, so a value is
+/// sought first behind the place where one was last found.
 fn least_missing(values: &[EnumValue], others: &[EnumValue], zero: bool) -> Option<i32>
     ensures { result ≡ least_number (missing_numbers zero (map named values.now)
         (map named others.now)) }
 {
     let rise = rise_by_word(others);
     let mut least = None;
-    // No value was found yet: the first is sought from the start.
-    let mut place = usize::MAX;
+    let mut place = 0;
     for value in values {
         if counts(value.number, zero) && is_lesser(value.number, least) {
-            place = place_of(others, rise, value.number, place);
+            place = place_of(others, rise, value, place);
             if is_missing_beside(others, rise, place, value) {
                 least = Some(value.number);
             }
