@@ -92,7 +92,7 @@ is_plain (b ∷ digits) some all octal = go (eqb b 48) refl
         let base : base_of (b ∷ digits) ≡ 10 = rw e in
         inl ((e, all), ap (λ n. value n (b ∷ digits)) base)
 
--- and they are told by their first
+-- of digits in the base 8 each is octal
 plain_octal : (digits : List ℕ) (n : ℕ) → IsPlain digits n → eqb (base_of digits) 8 ≡ true → list_all is_octal_digit digits ≡ true
 plain_octal [] n h eight = refl
 plain_octal (b ∷ digits) n (inl (decimal, is)) eight =
