@@ -1,4 +1,4 @@
--- A fault that isn't 'unexpected' is told where its reason is due.
+-- A fault that isn't 'unexpected' is reported where its reason is due.
 use Rattle.std.proofs.Common.{◌≡◌, ℕ, zero, suc, Bool, true, false, cond, List, [], ◌∷◌, ◌++◌, length, length-append, refl, sym, ◌∙◌, ap, arith, ◌⊎◌, inl, inr, Ok, Err, append_assoc, subst}
 use Rattle.pg_lex.specs.Symbol.{Symbol, Placed}
 use Rattle.pg_syntax.specs.declared.error.Reason.{Reason}
@@ -14,11 +14,11 @@ use Rattle.pg_syntax.proofs.Trees.{symbols-append, stands_spell}
 use Rattle.pg_syntax.proofs.Law.{Found, bind_err, refuted}
 use Rattle.pg_syntax.proofs.Grammars.{law}
 
--- What is told of a reason, before the symbols w and behind the symbols v.
+-- What is said of a reason, before the symbols w and behind the symbols v.
 abbrev pub Telling : Type 1
 Telling = Reason → List Symbol → List Symbol → Type 0
 
--- The fault stands behind tokens and before others, between which that is told of its reason.
+-- The fault stands behind tokens and before others, between which that is said of its reason.
 pub record Stops (P : Telling) (p : Point) (f : Fault) : Type 0 where
   pub front : List Placed
   pub back : List Placed
@@ -46,7 +46,7 @@ told_as P Q p f turn (inr h) = inr (record {
 abbrev pub behind : (Tree → Type 0) → Telling → Telling
 behind D P r w = Behind D (P r w)
 
--- what is told behind a tree that was found
+-- what is said behind a tree that was found
 told_behind : (D : Tree → Type 0) (P : Telling) (p : Point) (t : Tree) (q : Point) (f : Fault) → Found D p t q → Told P q f → Told (behind D P) p f
 told_behind D P p t q f found (inl e) = inl e
 told_behind D P p t q f found (inr h) = inr (record {

@@ -10,5 +10,4 @@ pub mod Dues
 pub mod Files
 pub mod Messages
 pub mod Whole
-pub mod Joined
 pub mod OneTree

@@ -106,7 +106,7 @@ pub some_of : {X : Type 0} (xs : List X) (view : X → Placed) (test : Bool) →
 some_of [] view test e off = let wrong : true ≡ false = sym e ∙ off in cc
 some_of (x ∷ xs) view test e off = omega arith
 
--- a fault, told with its place
+-- a fault, reported with its place
 pub told : {X : Type 0} (g : Grammar) (xs : List X) (view : X → Placed) (end at : ℕ) (f : Fault) (error : SyntaxError) → Refused g f.reason f.left (map view xs)
     → at ≡ place_of end (drop (length xs - f.left) (map view xs)) → error ≡ error_of f.reason at → Tells g end (map view xs) error
 told g xs view end at f error h is said =
