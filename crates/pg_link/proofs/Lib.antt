@@ -1,6 +1,5 @@
 pub mod BridgeLaws
 pub mod DeclareLaws
-pub mod EntryLaws
 pub mod LeadLaws
 pub mod LookLaws
 pub mod MaskLaws

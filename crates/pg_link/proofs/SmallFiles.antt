@@ -89,8 +89,4 @@ small_files = record {
   message_behind_package = λ none. clash (standing 0 (declared Package (codes ".p"))) (standing 1 (declared Message (codes ".p"))) [] none refl refl;
   message_in_its_package = (inl refl, (inl refl, tt));
   package_of_two_files = (inr (_, refl, refl), (inl refl, tt));
-  entry_of_two_words = refl;
-  entry_of_digit = refl;
-  entry_of_inner_digit = refl;
-  entry_of_underscores = refl;
 }

@@ -75,13 +75,6 @@ same_text a b is = (bytes_eq-Decides a b).0 is
 pub text_same : (a b : Text) → a ≡ b → bytes_eq a b ≡ true
 text_same a b is = (bytes_eq-Decides a b).1 is
 
-other_by : (a b : Text) (c : Bool) → bytes_eq a b ≡ c → (a ≡ b → ⊥) → bytes_eq a b ≡ false
-other_by a b true is unlike = absurd (unlike (same_text a b is))
-other_by a b false is unlike = is
-
-pub other_text : (a b : Text) → (a ≡ b → ⊥) → bytes_eq a b ≡ false
-other_text a b unlike = other_by a b (bytes_eq a b) refl unlike
-
 apart_by : (files : List File) (path first : Text) (b : Bool) → bytes_eq first path ≡ b → is_path_of (paths_of files) path ≡ true
     → is_path_of (paths_of files) first ≡ false → bytes_eq first path ≡ false
 apart_by files path first true is has none =

@@ -1,6 +1,6 @@
 -- The names that a file declares, in the order of the words that declare them.
-use Rattle.std.specs.Prelude.{◌==◌, ℕ, Bool, true, List, [], ◌∷◌, ◌++◌, if◌then◌else◌, map, codes}
-use Rattle.std.specs.Char.{encode_utf8, to_ascii_uppercase}
+use Rattle.std.specs.Prelude.{ℕ, List, [], ◌∷◌, ◌++◌, map}
+use Rattle.pg_schema.specs.rules.DeclaredNames.{entry_name}
 use Rattle.pg_link.specs.declared.names.Kind.{Kind}
 use Rattle.pg_link.specs.declared.names.Kind.TheVariants as kinds
 use Rattle.pg_link.specs.Names.{Text, called}
@@ -21,23 +21,6 @@ pub data Declarations : Type 0 where
   Within : Kind → Word → Declarations → Declarations → Declarations
   -- no scope: an enum or a oneof; what is in it stands beside it
   Beside : Kind → Word → Declarations → Declarations → Declarations
-
--- ---- map entries (the rule of protoc: of `foo_bar` it is `FooBarEntry`)
-
--- a letter of an entry's name: `_` is dropped, and a letter that begins a part is upper case
-abbrev pub entry_letter : Bool → ℕ → Text
-entry_letter begins c = if c == 95 then [] else (if begins then to_ascii_uppercase c else c) ∷ []
-
--- a character of it, of any size
-abbrev pub entry_character : Bool → ℕ → Text
-entry_character begins c = if c == 95 then [] else encode_utf8 (if begins then to_ascii_uppercase c else c)
-
-abbrev pub entry_letters : Bool → Text → Text
-entry_letters begins [] = codes "Entry"
-entry_letters begins (c ∷ cs) = entry_letter begins c ++ entry_letters (c == 95) cs
-
-abbrev pub entry_name : Text → Text
-entry_name = entry_letters true
 
 -- ---- names, in a scope that is given by its own full name; outside of all it is the empty one
 

@@ -6,7 +6,7 @@ use Rattle.pg_link.specs.declared.names.Kind.TheVariants.{Message, Enum, Entry, 
 use Rattle.pg_link.specs.Names.{Text, Names}
 use Rattle.pg_link.specs.Resolves.{Reference, found}
 use Rattle.pg_link.specs.Files.{File, Import, Declared, InOrder, Differ, visible_names, all_names, seen_paths, import_paths, paths_of}
-use Rattle.pg_link.specs.Declares.{Word, Declarations, Done, Alone, MapField, Within, Beside, names_of_file, entry_name}
+use Rattle.pg_link.specs.Declares.{Word, Declarations, Done, Alone, MapField, Within, Beside, names_of_file}
 use Rattle.pg_link.specs.Standing.{Standing, NoneTwice, standing}
 use Rattle.pg_link.specs.Walk.{World, Entry as Read, IsLinked, outlines}
 
@@ -156,7 +156,3 @@ pub record SmallFiles : Type 0 where
   pub message_in_its_package : NoneTwice (names_in 0 message_p (word (codes "p") ∷ []))
   -- package p; in two files
   pub package_of_two_files : NoneTwice (names_in 0 Done (word (codes "p") ∷ []) ++ names_in 1 Done (word (codes "p") ∷ []))
-  pub entry_of_two_words : entry_name (codes "foo_bar") ≡ codes "FooBarEntry"
-  pub entry_of_digit : entry_name (codes "_1a") ≡ codes "1aEntry"
-  pub entry_of_inner_digit : entry_name (codes "foo_1bar") ≡ codes "Foo1barEntry"
-  pub entry_of_underscores : entry_name (codes "__") ≡ codes "Entry"

@@ -1,8 +1,7 @@
 -- The type names that a file uses, in the order of its text (proto3 language specification, "Normal field", "Oneof and
 -- oneof field", "Map field", "Service definition").
-use Rattle.std.specs.Prelude.{ℕ, Bool, true, false, List, [], ◌∷◌, ◌++◌, map, flat_map, codes, string_bytes, if◌then◌else◌}
-use Rattle.std.specs.List.{list_any}
-use Rattle.std.specs.Str.{bytes_eq}
+use Rattle.std.specs.Prelude.{ℕ, Bool, true, false, List, [], ◌∷◌, ◌++◌, map, flat_map, is_some, string_bytes, if◌then◌else◌}
+use Rattle.pg_schema.specs.ScalarWords.{scalar_of}
 use Rattle.pg_syntax.specs.declared.tree as tree
 use Rattle.pg_syntax.specs.declared.tree.Part.{Part, Row_of-Part, end_of-Part, more_of-Part}
 use Rattle.pg_syntax.specs.declared.tree.Part.TheVariants as parts
@@ -22,15 +21,8 @@ pub record Use : Type 0 where
 
 -- ---- scalars (proto3 language guide, "Scalar Value Types")
 
-abbrev pub scalar_words : List Text
-scalar_words = codes "double" ∷ codes "float" ∷ codes "int32" ∷ codes "int64" ∷ codes "uint32" ∷ codes "uint64" ∷ codes "sint32" ∷ codes "sint64"
-    ∷ codes "fixed32" ∷ codes "fixed64" ∷ codes "sfixed32" ∷ codes "sfixed64" ∷ codes "bool" ∷ codes "string" ∷ codes "bytes" ∷ []
-
-unfoldable pub is_scalar_word : Text → Bool
-is_scalar_word word = list_any (bytes_eq word) scalar_words
-
 abbrev pub is_scalar_alone : Text → List Text → Bool
-is_scalar_alone word [] = is_scalar_word word
+is_scalar_alone word [] = is_some (scalar_of word)
 is_scalar_alone word (part ∷ parts) = false
 
 -- in fields and maps such a word without a dot is no name

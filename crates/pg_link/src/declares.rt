@@ -6,6 +6,7 @@ ghost use Rattle.pg_link.specs.Outline as outline;
 
 use crate::index::push_word;
 use crate::names::Kind;
+use pg_schema::entry_name;
 use pg_syntax::tree::{
     Dotted, Enum, EnumPart, FileTree, MapField, Message, Name, Oneof, OneofPart, Part, Service,
     ServicePart, Statement,
@@ -99,36 +100,6 @@ fn add_enum(
 {
     declare(alloc, names, scope, Kind::Enum, &enumeration.name)?;
     add_enum_parts(alloc, names, scope, &enumeration.parts)
-}
-
-/// Appends a letter of the name of a map's entries to the text: `_` is dropped, and a letter that
-/// begins a part is upper case.
-fn push_entry_letter(text: &mut String, begins: bool, letter: char) -> Result<(), AllocError>
-    ensures { OnOk result (string_bytes text.new
-        ≡ string_bytes text.old ++ spec.entry_character begins letter) }
-{
-    if letter == '_' {
-        return Ok(());
-    }
-    if begins {
-        text.push(letter.to_ascii_uppercase())
-    } else {
-        text.push(letter)
-    }
-}
-
-/// The name of the type of a map field's entries.
-fn entry_name(alloc: Global, field: &str) -> Result<String, AllocError>
-    ensures { IfOk result (λ name. string_bytes name ≡ spec.entry_name field.now) }
-{
-    let mut name = String::new(alloc);
-    let mut begins = true;
-    for letter in field.chars() {
-        push_entry_letter(&mut name, begins, letter)?;
-        begins = letter == '_';
-    }
-    name.push_str("Entry")?;
-    Ok(name)
 }
 
 /// Appends a map field and the type of its entries.

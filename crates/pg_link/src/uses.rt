@@ -6,6 +6,7 @@ ghost use Rattle.pg_link.specs.Resolves.{reference};
 ghost use Rattle.pg_link.specs.Sites.{use_of};
 ghost use Rattle.pg_link.specs.Uses as spec;
 
+use pg_schema::Scalar;
 use pg_syntax::tree::{
     Dotted, FileTree, MapField, Message, Oneof, OneofPart, Part, Rpc, Service, ServicePart,
     Statement, TypeName,
@@ -22,30 +23,6 @@ pub(crate) struct Site<'a> {
     pub takes_enums: bool,
 }
 
-/// Whether a word is one of the scalar types (proto3 language guide, "Scalar Value Types").
-fn is_scalar_word(word: &str) -> bool
-    ensures { result ≡ spec.is_scalar_word word.now }
-{
-    match word {
-        "double" => true,
-        "float" => true,
-        "int32" => true,
-        "int64" => true,
-        "uint32" => true,
-        "uint64" => true,
-        "sint32" => true,
-        "sint64" => true,
-        "fixed32" => true,
-        "fixed64" => true,
-        "sfixed32" => true,
-        "sfixed64" => true,
-        "bool" => true,
-        "string" => true,
-        "bytes" => true,
-        _ => false,
-    }
-}
-
 /// Whether the type name of a field or map is one of the 15 scalar words. It then names no message
 /// type and no enum; with a dot in front or among them it always does (proto3 language guide,
 /// "Scalar Value Types").
@@ -55,7 +32,7 @@ pub(crate) fn is_scalar(name: &TypeName) -> bool
     if name.is_full || !name.path.more.is_empty() {
         return false;
     }
-    is_scalar_word(name.path.first.text.as_str())
+    Scalar::named(name.path.first.text.as_str()).is_some()
 }
 
 /// Appends a use.

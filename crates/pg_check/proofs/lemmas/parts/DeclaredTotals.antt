@@ -4,11 +4,11 @@ use Rattle.std.specs.List.{AllByRecursion}
 use Rattle.std.proofs.lemmas.Bool.{false≢true}
 use Rattle.std.proofs.lemmas.List.{append-nil}
 use Rattle.pg_link.specs.declared.target.Target.{Target}
-use Rattle.pg_link.specs.Declares.{Declarations, Done, Word, entry_name, names_in, package_names, package_scope, within as linked_within}
+use Rattle.pg_link.specs.Declares.{Declarations, Done, Word, names_in, package_names, package_scope, within as linked_within}
 use Rattle.pg_link.specs.Files.{Declared}
 use Rattle.pg_link.specs.Names.{Text, called}
 use Rattle.pg_link.specs.Outline.{all_of, file_names, of_enum, of_enum_part, of_oneof, of_oneof_part, of_part, of_row, of_service, of_service_part, of_statement, package_words, word}
-use Rattle.pg_schema.specs.rules.DeclaredNames.{within}
+use Rattle.pg_schema.specs.rules.DeclaredNames.{entry_name, within}
 use Rattle.pg_schema.specs.rules.Words.{is_word}
 use Rattle.pg_check.specs.rules.Enums as enums
 use Rattle.pg_check.specs.parts.MadeServices.{MadeMethod, MadeService, made_methods, made_service, made_services, service_in}

@@ -1,7 +1,5 @@
 -- Full names of the parts of linked files differ, and none is a part of a package.
-use Rattle.std.proofs.Common.{◌≡◌, ◌∙◌, ℕ, zero, suc, ◌+◌, ◌==◌, Bool, true, false, cond, nat_eq, List, [], ◌∷◌, ◌++◌, map, flat_map, codes, Option, Some, None, slice_get, is_some, string_bytes, sym, ap, refl, arith}
-use Rattle.std.specs.Char.{to_ascii_uppercase}
-use Rattle.std.proofs.lemmas.Bool.Decides.{nat_tests}
+use Rattle.std.proofs.Common.{◌≡◌, ◌∙◌, ℕ, zero, suc, ◌+◌, Bool, true, false, cond, List, [], ◌∷◌, ◌++◌, map, flat_map, codes, Option, Some, None, slice_get, is_some, string_bytes, sym, ap, refl, arith}
 use Rattle.std.proofs.lemmas.Option.{same_Some}
 use Rattle.pg_schema.specs.declared.parts.enum_type.EnumType.{EnumType}
 use Rattle.pg_schema.specs.declared.parts.enum_type.EnumValue as schema_values
@@ -17,11 +15,9 @@ use Rattle.pg_schema.specs.rules.DeclaredNames as names
 use Rattle.pg_schema.specs.rules.DeclaredNames.{declared_names, entry_names, entry_of, method_names, service_names, type_names, values_at, values_of, within}
 use Rattle.pg_schema.specs.rules.Enums.{value_names}
 use Rattle.pg_schema.specs.rules.Fields.{is_message}
-use Rattle.pg_schema.specs.JsonName.{in_camel_case}
 use Rattle.pg_schema.specs.rules.Messages.{field_names}
 use Rattle.pg_schema.specs.Shape.{is_map}
 use Rattle.pg_link.specs.declared.target.Target.{Target}
-use Rattle.pg_link.specs.Declares as linked
 use Rattle.pg_link.specs.Names.{Text}
 use Rattle.pg_check.specs.rules.Enums as enums
 use Rattle.pg_check.specs.parts.MadeEnums.{MadeEnum, MadeValue, enumeration, made_enum, made_values, value}
@@ -43,27 +39,6 @@ use Rattle.pg_syntax.specs.declared.tree.OneofPart.TheVariants as oneof_parts
 use Rattle.pg_syntax.specs.declared.tree.Part.{Part}
 use Rattle.pg_syntax.specs.declared.tree.Part.TheVariants as parts
 
--- ---- map entries have one name, however it is spelled
-
-same_test : (c : ℕ) → (c == 95) ≡ nat_eq c 95
-same_test c = grind (arith, nat_tests)
-
-letters_are : (begins : Bool) (cs : List ℕ) → linked.entry_letters begins cs ≡ in_camel_case begins cs ++ codes "Entry"
-letters_are begins [] = refl
-letters_are begins (c ∷ cs) =
-    ap (λ b. linked_letter b ++ linked.entry_letters b cs) (same_test c) ∙ by (nat_eq c 95) (letters_are true cs) (letters_are false cs)
-  where
-    linked_letter : Bool → List ℕ
-    linked_letter b = cond b [] (cond begins (to_ascii_uppercase c) c ∷ [])
-
-    by : (b : Bool) → linked.entry_letters true cs ≡ in_camel_case true cs ++ codes "Entry" → linked.entry_letters false cs ≡ in_camel_case false cs ++ codes "Entry"
-        → linked_letter b ++ linked.entry_letters b cs ≡ cond b (in_camel_case true cs) (cond begins (to_ascii_uppercase c) c ∷ in_camel_case false cs) ++ codes "Entry"
-    by true h k = h
-    by false h k = ap (λ t. cond begins (to_ascii_uppercase c) c ∷ t) k
-
-pub entry_is : (name : List ℕ) → linked.entry_name name ≡ names.entry_name name
-entry_is name = letters_are true name
-
 -- ---- the names of fields, oneofs and map entries of a body
 
 module _ (g : List ℕ → ℕ) where
@@ -81,10 +56,7 @@ module _ (g : List ℕ → ℕ) where
   oneof_names_are place [] = refl
   oneof_names_are place (oneof_parts.Empty span ∷ ps) = oneof_names_are place ps
   oneof_names_are place (oneof_parts.Option o ∷ ps) = oneof_names_are place ps
-  oneof_names_are place (oneof_parts.Map m ∷ ps) =
-      let entry : g (linked.entry_name (string_bytes m.name.text)) ≡ g (names.entry_name (string_bytes m.name.text)) = ap g (entry_is (string_bytes m.name.text)) in
-      let rest = oneof_names_are place ps in
-      omega (arith, entry, rest)
+  oneof_names_are place (oneof_parts.Map m ∷ ps) = let rest = oneof_names_are place ps in omega (arith, rest)
   oneof_names_are place (oneof_parts.Field f ∷ ps) = let rest = oneof_names_are place ps in omega (arith, rest)
 
   body_names_are : (place : ℕ) (ps : List Part) → total g (flat_map part_names ps) ≡ total member_counts (members_from place ps) + total g (oneofs ps)
@@ -104,7 +76,7 @@ module _ (g : List ℕ → ℕ) where
       one_part (parts.Oneof o) = let inner = oneof_names_are place o.parts.items in omega (arith, inner)
       one_part (parts.Option o) = refl
       one_part (parts.Reserved r) = refl
-      one_part (parts.Map m) = let entry : g (linked.entry_name (string_bytes m.name.text)) ≡ g (names.entry_name (string_bytes m.name.text)) = ap g (entry_is (string_bytes m.name.text)) in omega (arith, entry)
+      one_part (parts.Map m) = omega arith
       one_part (parts.Field f) = omega arith
 
   -- of a field as it is made
