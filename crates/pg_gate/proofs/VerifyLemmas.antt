@@ -24,7 +24,7 @@ use Rattle.pg_gate.specs.Answer.{IsNamed}
 use Rattle.pg_gate.specs.Failures.{call_failures_at}
 use Rattle.pg_gate.specs.Files.{IsSide}
 use Rattle.pg_gate.specs.Grants.{IsSidesFault, IsUngiven, IsVerified, IsVerifyError}
-use Rattle.pg_gate.specs.Verified.{HasFirstFault, IsClaimError, IsClaimFault, IsFaultOfClaim, IsHeldBy, IsPlaceOf, IsWhy}
+use Rattle.pg_gate.specs.Verified.{HasFirstFault, IsClaimError, IsClaimFault, IsFaultOfClaim, IsHeldBy, IsPlaceOf, IsClaimRefusal}
 use Rattle.pg_gate.specs.declared.call.error.CallError.{CallError}
 use Rattle.pg_gate.specs.declared.call.error.CallError.TheVariants as calls
 use Rattle.pg_gate.specs.declared.call.error.CertificateFault.TheVariants as certificates
@@ -100,7 +100,7 @@ no_bad_witness enum_view old new claim None is = is
 
 module _ (old new : Parts) (bytes : Text) where
   -- what is reported of an error that is why they are refused
-  pub claim_fault : (error : CertError) (fault : ClaimFault) → fault.error ≡ error → IsPlaceOf old new error fault.location → (error ≡ checks.Memory → ⊥) → IsWhy old new bytes error
+  pub claim_fault : (error : CertError) (fault : ClaimFault) → fault.error ≡ error → IsPlaceOf old new error fault.location → (error ≡ checks.Memory → ⊥) → IsClaimRefusal old new bytes error
       → IsClaimFault old new bytes fault
   claim_fault error fault same placed other (inl memory) = absurd (other memory)
   claim_fault error fault same placed other (inr is) = record {
@@ -109,7 +109,7 @@ module _ (old new : Parts) (bytes : Text) where
   }
 
   -- a text that isn't read certifies nothing
-  pub text_fault : (error : CertError) → (error ≡ checks.Memory) ⊎ ((error ≡ checks.BadText) × ((claim : Claim) → Certifies old new bytes claim → ⊥)) → IsWhy old new bytes error
+  pub text_fault : (error : CertError) → (error ≡ checks.Memory) ⊎ ((error ≡ checks.BadText) × ((claim : Claim) → Certifies old new bytes claim → ⊥)) → IsClaimRefusal old new bytes error
   text_fault error (inl memory) = inl memory
   text_fault error (inr bad) = inr (subst (λ e. IsFaultOfClaim old new bytes e) (sym bad.0) bad.1)
 
@@ -122,12 +122,12 @@ module _ (old new : Parts) (bytes : Text) where
     no_bad_check (inr (inl first)) = no_bad_text (view_in old new claim) (shape_of old) (shape_of new) claim.bounds claim.root first
     no_bad_check (inr (inr witness)) = no_bad_witness (view_in old new claim) (shape_of old) (shape_of new) claim claim.witness witness.1
 
-    by_first : (error : CertError) → (HasFirstFault old new bytes error → IsFaultOfClaim old new bytes error) → IsCheckFault error → IsWhy old new bytes error
+    by_first : (error : CertError) → (HasFirstFault old new bytes error → IsFaultOfClaim old new bytes error) → IsCheckFault error → IsClaimRefusal old new bytes error
     by_first error says (inl memory) = inl memory
     by_first error says (inr first) = inr (says (record { claim = claim; certifies = certifies; is_first = first }))
 
     -- the checker's error is the first fault
-    pub check_fault : (error : CertError) → IsCheckFault error → IsWhy old new bytes error
+    pub check_fault : (error : CertError) → IsCheckFault error → IsClaimRefusal old new bytes error
     check_fault checks.Memory is = inl refl
     check_fault checks.BadText is = absurd (no_bad_check is)
     check_fault checks.RootMissing is = by_first checks.RootMissing (λ first. first) is

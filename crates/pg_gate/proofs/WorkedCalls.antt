@@ -1,12 +1,12 @@
 -- The calls of small lists of words, by computation.
 use Rattle.std.specs.Prelude.{codes}
-use Rattle.std.proofs.Common.{◌≡◌, List, [], ◌∷◌, Option, Some, None, refl}
+use Rattle.std.proofs.Common.{◌≡◌, true, List, [], ◌∷◌, Option, Some, None, refl}
 use Rattle.std.specs.Borrow.{Bor}
 use Rattle.clap.proofs.OnLiterals.{clap_on_literals}
 use Rattle.clap.specs.Words.{Text}
 use Rattle.pg_dyn.specs.declared.view_name.ViewName.TheVariants as views
 use Rattle.pg_gate.specs.Call.{CallsFor, Request, call_with, types}
-use Rattle.pg_gate.specs.WorkedCalls.{WorkedCalls, gate_by, gate_words}
+use Rattle.pg_gate.specs.WorkedCalls.{WorkedCalls, asked_gate, gate_by, gate_words}
 
 -- some reference to the names of the views
 abbrev names : Bor (List (Bor Text))
@@ -30,6 +30,10 @@ behind_a_mark = refl
 no_view : call_with names (gate_words []) ≡ Some (gate_by views.Numbers)
 unfolding clap_on_literals
 no_view = refl
+
+with_readings : call_with names (gate_words (codes "--explain" ∷ [])) ≡ Some (asked_gate true views.Numbers)
+unfolding clap_on_literals
+with_readings = refl
 
 another_word : call_with names (gate_words (codes "--view" ∷ codes "other" ∷ [])) ≡ None
 unfolding clap_on_literals
@@ -65,6 +69,7 @@ worked_calls = record {
   by_names = calls _ _ by_names;
   behind_a_mark = calls _ _ behind_a_mark;
   no_view = calls _ _ no_view;
+  with_readings = calls _ _ with_readings;
   another_word = calls _ _ another_word;
   capitals = calls _ _ capitals;
   empty_word = calls _ _ empty_word;

@@ -73,8 +73,8 @@ IsFaultOfClaim old new bytes checks.WitnessLength = HasFirstFault old new bytes 
 IsFaultOfClaim old new bytes checks.WitnessKeeps = HasFirstFault old new bytes checks.WitnessKeeps
 
 -- a checker's error is why the bytes are refused, or says that memory ran out
-abbrev pub IsWhy : Parts → Parts → Text → CertError → Type 0
-IsWhy old new bytes error = (error ≡ checks.Memory) ⊎ IsFaultOfClaim old new bytes error
+abbrev pub IsClaimRefusal : Parts → Parts → Text → CertError → Type 0
+IsClaimRefusal old new bytes error = (error ≡ checks.Memory) ⊎ IsFaultOfClaim old new bytes error
 
 -- the pair that a fault is of
 abbrev pub pair_of : CertError → Option Pair

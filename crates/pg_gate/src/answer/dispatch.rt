@@ -44,7 +44,7 @@ struct Asked<'a> {
 
 /// What is reported of the answer with this certificate: the witness's bytes and steps, if any, and
 /// on request its readings.
-fn told(
+fn reported(
     alloc: Global,
     old: &Compiled,
     new: &Compiled,
@@ -104,7 +104,7 @@ fn finding_of(
     if certificate_only {
         certified(alloc, &old.schema, &new.schema, certificate)
     } else {
-        told(alloc, old, new, certificate, explain)
+        reported(alloc, old, new, certificate, explain)
     }
 }
 

@@ -112,7 +112,7 @@ fn fault_of(
 
 /// What a checker's error is reported as: where it is why bytes are refused, so is that.
 fn reported(alloc: Global, old: &Schema, new: &Schema, error: CertError) -> CallError
-    ensures { (bytes : List ℕ) → spec.IsWhy old.now new.now bytes error
+    ensures { (bytes : List ℕ) → spec.IsClaimRefusal old.now new.now bytes error
         → spec.IsClaimError old.now new.now bytes result }
 {
     if let CertError::Memory = error {

@@ -15,7 +15,7 @@ use std::alloc::{AllocError, Global};
 /// What help says of the statuses.
 const STATUSES: &str = "Statuses:
   0  compatible: the new reader sees all that the old writer writes; or a set is written, a message shown, or types named
-  1  breaks: it doesn't see all of some message, of both directions in either
+  1  breaks: it doesn't see all of some message; with --both, in one direction at least
   2  refused: a fault in a file, a certificate or bytes, or the message type is missing
   3  out of memory, or a file or the output failed
   4  help, the version, or a bad command line
@@ -38,8 +38,8 @@ const GATE_ANSWERS: &str = "Prints lines:
   witness HEX           one of these, behind breaks
   step NUMBER OLDFIELD OLDPLACE NEWFIELD NEWPLACE
                         each field on the way to what breaks in it
-  old, new              with --explain, behind these: before the lines of `show` for HEX by the type
-                        of that side, or its refusal's
+  old, new              with --explain, behind the steps: each stands before the lines of `show`
+                        for HEX by the type of that side, or before a refusal of it
   forward, backward     with --both, before the lines of either direction
   refused SIDE CODE PLACE
                         no answer, for a fault of the old or the new side; `man protogate` has each code
@@ -50,7 +50,7 @@ With --view names a number that both sides' enums have is another value if it ha
 
 Statuses:
   0  compatible: the new reader sees all that the old writer writes
-  1  breaks: it doesn't see all of some message, of both directions in either
+  1  breaks: it doesn't see all of some message; with --both, in one direction at least
   2  refused: a fault in a file, or the message type is missing
   3  out of memory, or a file or the output failed
   4  help, the version, or a bad command line
@@ -468,7 +468,7 @@ fn no_file(alloc: Global) -> Result<Error, AllocError>
 }
 
 /// The call of the subcommand of this name, or why there is none.
-fn call_met<'a>(alloc: Global, name: &str, found: &ArgMatches<'a>) -> Result<Call<'a>, Error>
+fn subcommand_call<'a>(alloc: Global, name: &str, found: &ArgMatches<'a>) -> Result<Call<'a>, Error>
     ensures call { IfOk result (λ call. spec.request_in (name.now, rows_of (found_of found.now))
         ≡ Some (spec.request_of call)) }
     ensures refused { IfErr result (λ error. kind_of error ≢ ErrorKind.OutOfMemory
@@ -490,5 +490,5 @@ pub(crate) fn call_of<'a>(alloc: Global, words: &'a [&'a str]) -> Result<Call<'a
     let command = whole_command(alloc, VIEW_NAMES.as_slice())?;
     let matches = command.try_get_matches_from(words)?;
     let (name, found) = matches.subcommand().unwrap();
-    call_met(alloc, name, found)
+    subcommand_call(alloc, name, found)
 }

@@ -57,7 +57,7 @@ returns-clause-call c =
     let below = sym c.subcommand.ensures.rows ∙ ap (option_map (λ p. rows_of (found_of p.1.now))) c.unwrap.ensures in
     let entered = subcommand_rows_of-Some c.in_ok-matches.matches name rows named below in
     let called = call_with-entered names words (app_of c.in_ok-command.command) c.in_ok-matches.matches (name, rows) shape (parse.kinds (ap is_simple_and_free shape ∙ free names)) parse.matches entered in
-    IfOk-weaker c.call_met.result _ _ (λ call met. record { names = names; are_names = are_names; by_clap = called ∙ met }) c.call_met.ensures.call
+    IfOk-weaker c.subcommand_call.result _ _ (λ call met. record { names = names; are_names = are_names; by_clap = called ∙ met }) c.subcommand_call.ensures.call
 
 pub returns-clause-refused : goal.returns-clause-refused
 returns-clause-refused c =
@@ -72,4 +72,4 @@ returns-clause-refused c =
     let below = sym c.subcommand.ensures.rows ∙ ap (option_map (λ p. rows_of (found_of p.1.now))) c.unwrap.ensures in
     let entered = subcommand_rows_of-Some c.in_ok-matches.matches name rows named below in
     let called = call_with-entered names words (app_of c.in_ok-command.command) c.in_ok-matches.matches (name, rows) shape (parse.kinds (ap is_simple_and_free shape ∙ free names)) parse.matches entered in
-    IfErr-weaker c.call_met.result _ _ (λ error no told. record { names = names; are_names = are_names; by_clap = called ∙ no told }) c.call_met.ensures.refused
+    IfErr-weaker c.subcommand_call.result _ _ (λ error no told. record { names = names; are_names = are_names; by_clap = called ∙ no told }) c.subcommand_call.ensures.refused
