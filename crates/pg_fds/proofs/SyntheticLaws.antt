@@ -4,11 +4,14 @@ use Rattle.std.specs.BTreeSet.{BTreeSet, contains_text}
 use Rattle.std.specs.Str.{bytes_eq}
 use Rattle.std.specs.List.{AllByRecursion}
 use Rattle.std.specs.String.{string_bytes}
+use Rattle.std.proofs.lemmas.Bool.{false≢true}
+use Rattle.std.proofs.lemmas.Slice.Eq.{bytes_eq-Decides}
 use denote.Ref.{Bor}
 use Rattle.pg_schema.specs.declared.parts.field.Field.{Field}
-use Rattle.pg_schema.specs.rules.TextSets.{is_among, IsSetOf}
-use Rattle.pg_schema.proofs.lemmas.rules.PairLemmas.{bytes_eq-sym}
+use Rattle.pg_schema.specs.rules.TextSets.{is_among}
+use Rattle.pg_schema.proofs.lemmas.rules.PairLemmas.{among_push, bytes_eq-sym}
 use Rattle.pg_fds.specs.Lent.{lent}
+use Rattle.pg_fds.specs.MadeNames.{HasMade, begins_made}
 use Rattle.pg_fds.specs.Synthetic.{freed, sign, synthetic_name, synthetic_oneofs}
 
 -- what holds of each holds of the one at a place
@@ -39,14 +42,42 @@ pub length-onto : (ms names : List (List ℕ)) → length (onto ms names) ≡ le
 length-onto [] names = omega arith
 length-onto (m ∷ ms) names = let rest = length-onto ms (m ∷ names) in omega (arith, rest)
 
+or_of : (a b : Bool) → cond a true b ≡ (a || b)
+or_of true b = refl
+or_of false b = refl
+
+or_turned : (a b : Bool) → (a || b) ≡ (b || a)
+or_turned true true = refl
+or_turned true false = refl
+or_turned false true = refl
+or_turned false false = refl
+
 -- one more name
-pub set_with : {Y : Type 0} (names : List (List ℕ)) (key : List ℕ) (old new : BTreeSet (String Y)) → ((cs : List ℕ) → contains_text new cs ≡ cond (bytes_eq key cs) true (contains_text old cs)) → IsSetOf names old → IsSetOf (key ∷ names) new
-set_with names key old new step held text =
-    step text ∙ (ap (λ b. cond (bytes_eq key text) true b) (held text) ∙ (or_of (bytes_eq key text) (is_among names text) ∙ ap (λ b. b || is_among names text) (bytes_eq-sym key text)))
+pub set_with : {Y : Type 0} (names : List (List ℕ)) (key : List ℕ) (old new : BTreeSet (String Y)) → ((cs : List ℕ) → contains_text new cs ≡ cond (bytes_eq key cs) true (contains_text old cs)) → HasMade names old → HasMade (key ∷ names) new
+set_with names key old new step held text begins =
+    step text ∙ (ap (λ b. cond (bytes_eq key text) true b) (held text begins) ∙ (or_of (bytes_eq key text) (is_among names text) ∙ ap (λ b. b || is_among names text) (bytes_eq-sym key text)))
+
+-- one more name behind the others
+pub made_more : {Y : Type 0} (done : List (List ℕ)) (key : List ℕ) (old new : BTreeSet (String Y)) → ((cs : List ℕ) → contains_text new cs ≡ cond (bytes_eq key cs) true (contains_text old cs)) → HasMade done old → HasMade (done ++ key ∷ []) new
+made_more done key old new step held text begins =
+    set_with done key old new step held text begins ∙ (or_turned (bytes_eq text key) (is_among done text) ∙ sym (among_push done key text))
+
+-- one more name that none of them meets
+pub made_others : {Y : Type 0} (done : List (List ℕ)) (key : List ℕ) (set : BTreeSet (String Y)) → begins_made key ≡ false → HasMade done set → HasMade (done ++ key ∷ []) set
+made_others done key set other held text begins =
+    held text begins ∙ (sym (or_false_right (is_among done text)) ∙ (ap (λ b. is_among done text || b) (sym (apart (bytes_eq text key) refl)) ∙ sym (among_push done key text)))
   where
-    or_of : (a b : Bool) → cond a true b ≡ (a || b)
-    or_of true b = refl
-    or_of false b = refl
+    or_false_right : (a : Bool) → (a || false) ≡ a
+    or_false_right true = refl
+    or_false_right false = refl
+
+    apart : (b : Bool) → bytes_eq text key ≡ b → bytes_eq text key ≡ false
+    apart true same = absurd (false≢true (sym other ∙ (ap begins_made (sym ((bytes_eq-Decides text key).0 same)) ∙ begins)))
+    apart false same = same
+
+-- what stands behind an `X` begins so
+pub sign_begins : (name made : List ℕ) → made ≡ sign ∷ name → begins_made made ≡ true
+sign_begins name made is = ap begins_made is
 
 -- ---- one more field
 

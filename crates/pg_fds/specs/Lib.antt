@@ -4,6 +4,7 @@ pub mod Places
 pub mod Items
 pub mod Fields
 pub mod Synthetic
+pub mod MadeNames
 pub mod Building
 pub mod Small
 pub mod Lent

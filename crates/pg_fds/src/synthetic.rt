@@ -1,18 +1,29 @@
 //! Names of synthetic oneofs. Each call is refused only where memory is.
 
-ghost use Rattle.std.specs.Prelude.{◌≡◌, ◌++◌, ◌∷◌, [], ℕ, List, IfOk, OnOk, length, map};
+ghost use Rattle.std.specs.Prelude.{◌≡◌, ◌++◌, ◌∷◌, [], ℕ, List, IfOk, OnOk, length, map, true};
 ghost use Rattle.std.specs.String.{string_bytes};
-ghost use Rattle.pg_schema.specs.rules.TextSets.{IsSetOf};
 ghost use Rattle.pg_fds.specs.Lent.{lent};
+ghost use Rattle.pg_fds.specs.MadeNames.{HasMade, begins_made};
 ghost use Rattle.pg_fds.specs.Synthetic.{freed, sign, synthetic_name, synthetic_oneofs, with_underscore};
 
 use pg_schema::Field;
 use std::alloc::{AllocError, Global};
 use std::collections::BTreeSet;
 
+// Whether the name begins as those do that are made here.
+fn begins_made(name: &str) -> bool
+    ensures { result ≡ begins_made name.now }
+{
+    match name.as_bytes() {
+        [first, ..] => *first == b'_' || *first == b'X',
+        [] => false,
+    }
+}
+
 // A `_` before the name, unless it begins with one.
 fn with_underscore(alloc: Global, name: &str) -> Result<String, AllocError>
-    ensures { IfOk result (λ made. string_bytes made ≡ with_underscore name.now) }
+    ensures made { IfOk result (λ made. string_bytes made ≡ with_underscore name.now) }
+    ensures begins { IfOk result (λ made. begins_made (string_bytes made) ≡ true) }
 {
     if name.as_bytes().first() == Some(&b'_') {
         return String::from_str(alloc, name);
@@ -38,7 +49,8 @@ fn freed(
     tries: usize,
     name: String,
 ) -> Result<String, AllocError>
-    ensures { IfOk result (λ made. (names : List (List ℕ)) → IsSetOf names taken.now
+    requires { begins_made (string_bytes name) ≡ true }
+    ensures { IfOk result (λ made. (names : List (List ℕ)) → HasMade names taken.now
         → string_bytes made ≡ freed tries names (string_bytes name)) }
 {
     let mut made = name;
@@ -51,12 +63,15 @@ fn freed(
     Ok(made)
 }
 
-// The set of these names.
+// The set of those of these names that begin as the names that are made, which meet no other.
 fn set_of(alloc: Global, names: &[String]) -> Result<BTreeSet<String>, AllocError>
-    ensures { IfOk result (IsSetOf (map string_bytes names.now)) }
+    ensures { IfOk result (HasMade (map string_bytes names.now)) }
 {
     let mut set = BTreeSet::new(alloc);
     for name in names {
+        if !begins_made(name) {
+            continue;
+        }
         set.insert(name.clone()?)?;
     }
     Ok(set)
@@ -71,13 +86,13 @@ fn push_synthetic(
     made: &mut Vec<String>,
     field: &Field,
 ) -> Result<(), AllocError>
-    ensures name { OnOk result ((names : List (List ℕ)) → IsSetOf names taken.old
+    ensures name { OnOk result ((names : List (List ℕ)) → HasMade names taken.old
         → tries ≡ length names
         → map string_bytes made.new.items ≡ map string_bytes made.old.items
         ++ synthetic_name names (string_bytes field.now.name) ∷ []) }
-    ensures taken { OnOk result ((names : List (List ℕ)) → IsSetOf names taken.old
+    ensures taken { OnOk result ((names : List (List ℕ)) → HasMade names taken.old
         → tries ≡ length names
-        → IsSetOf (synthetic_name names (string_bytes field.now.name) ∷ names) taken.new) }
+        → HasMade (synthetic_name names (string_bytes field.now.name) ∷ names) taken.new) }
 {
     let begun = with_underscore(alloc, &field.name)?;
     let name = freed(alloc, taken, tries, begun)?;

@@ -1,8 +1,8 @@
 use Rattle.std.proofs.Common.{◌≡◌, ◌+◌, length, map, ap, sym, subst, ◌∙◌, arith}
 use Rattle.std.proofs.lemmas.List.{length-map}
 use Rattle.std.specs.String.{string_bytes}
-use Rattle.pg_schema.specs.rules.TextSets.{IsSetOf}
 use Rattle.pg_fds.specs.Lent.{lent}
+use Rattle.pg_fds.specs.MadeNames.{HasMade}
 use Rattle.pg_fds.specs.Synthetic.{synthetic_name, synthetic_oneofs}
 use Rattle.pg_fds.proofs.SyntheticLaws.{length-onto, onto, onto-append, step_made}
 use Rattle.pg_fds.proofs.synthetic.synthetic_oneofs.Goals as goal
@@ -16,5 +16,5 @@ loop-field-preserved c =
     let name = c.in_ok-push_synthetic.ensures.name ns c.loop-field.invariant.taken same in
     record {
       made = step_made names done (map string_bytes c.push_synthetic.new.made.items) (synthetic_oneofs names (lent c.args.fields.now)) c.args.fields.now c.loop-field.field-index c.field-item.result c.loop-field-test.true c.field-item.is c.if-not-field.false name c.loop-field.invariant.made;
-      taken = subst (λ x. IsSetOf x c.push_synthetic.new.taken) (sym (ap (λ ms. onto ms names) name ∙ onto-append done names (synthetic_name ns (string_bytes c.field-item.result.now.name)))) (c.in_ok-push_synthetic.ensures.taken ns c.loop-field.invariant.taken same);
+      taken = subst (λ x. HasMade x c.push_synthetic.new.taken) (sym (ap (λ ms. onto ms names) name ∙ onto-append done names (synthetic_name ns (string_bytes c.field-item.result.now.name)))) (c.in_ok-push_synthetic.ensures.taken ns c.loop-field.invariant.taken same);
     }
