@@ -25,7 +25,7 @@ use Rattle.pg_least.specs.Exact.{IsBesideClaim, IsSearched, IsWitnessMessage}
 use Rattle.pg_gate.specs.Answer.{AreRoots, IsAnswer, IsAnswerBy, IsBroken, IsCompatible, IsLost, IsRefusedRoot, Lacks, NewSees, OldWrites, certificate_of}
 use Rattle.pg_gate.specs.ViewAnswer.{IsAnswerUnder}
 use Rattle.pg_gate.specs.Files.{IsFaultOfSide, IsSide, IsSideError}
-use Rattle.pg_gate.specs.Grants.{Between, IsAnswerOfFiles, IsFindingOf, IsGateError, IsGateReply, IsSidesError, IsSidesFault, Tells}
+use Rattle.pg_gate.specs.Grants.{Between, IsAnswerOfFiles, IsFindingOf, IsGateError, IsGateReply, IsSidesError, IsSidesFault, Reports}
 use Rattle.pg_gate.specs.declared.error.Side.TheVariants as sides
 use Rattle.pg_link.specs.Walk.{World}
 use Rattle.pg_gate.specs.declared.answer.gate.Answer.{Answer}
@@ -181,7 +181,7 @@ searched_by view old new root (answers.Breaks witness certificate) is =
 
 -- what is told of an answer's certificate is what is found
 pub found_by : (view : ViewName) (old new : Parts) (root : Text) (answer : Answer) (certificate_only explain : Bool) (finding : Finding) → IsAnswerUnder view old new root answer
-    → Tells old new (certificate_of answer) certificate_only explain finding → IsFindingOf view old new root certificate_only explain finding
+    → Reports old new (certificate_of answer) certificate_only explain finding → IsFindingOf view old new root certificate_only explain finding
 found_by view old new root (answers.Compatible certificate) false explain findings.Compatible is tells = record { certificate = certificate; named = is.0; compatible = is.1 }
 found_by view old new root (answers.Breaks message certificate) false explain findings.Compatible is tells = absurd (let no : ◌≡◌ {A = Option (List ℕ)} None (Some _) = sym tells ∙ is.1.bytes_are in cc)
 found_by view old new root (answers.Compatible certificate) false explain (findings.Breaks bytes steps readings) is tells = absurd (let no : ◌≡◌ {A = Option (List ℕ)} None (Some bytes.items) = sym is.1.no_witness ∙ tells.0 in cc)

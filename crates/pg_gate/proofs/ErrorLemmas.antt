@@ -3,7 +3,7 @@ use Rattle.std.proofs.Common.{◌≡◌, ◌∙◌, ℕ, Result, Ok, Err, IfErr,
 use Rattle.std.specs.Result.{IsErrAnd}
 use Rattle.pg_dyn.specs.declared.error.DynError.{DynError}
 use Rattle.pg_gate.specs.Errors.{IsCallError, IsError, IsMemory}
-use Rattle.pg_gate.specs.Failures.{call_failures_at, failures_at, failures_by, fault_failures, if_same, told_failures}
+use Rattle.pg_gate.specs.Failures.{call_failures_at, failures_at, failures_by, fault_failures, if_same, reported_failures}
 use Rattle.pg_gate.specs.Files.{IsErrorOf}
 use Rattle.pg_gate.specs.declared.call.error.CallError.{CallError}
 use Rattle.pg_gate.specs.declared.call.error.CallError.TheVariants as calls
@@ -53,7 +53,7 @@ if_same-zero sides.New sides.Old = refl
 if_same-zero sides.New sides.New = refl
 
 -- a side's own error tells of its source
-pub own : (F : Fault → Type 0) (side : Side) (error : GateError) → IsErrorOf F side error → failures_at side error ≡ told_failures error
+pub own : (F : Fault → Type 0) (side : Side) (error : GateError) → IsErrorOf F side error → failures_at side error ≡ reported_failures error
 own F side gates.Memory is = refl
 own F side gates.RootMissingOld is = refl
 own F side gates.RootMissingNew is = refl

@@ -11,4 +11,4 @@ use Rattle.pg_gate.specs.Files.{IsCompiled, IsUnwritten}
 pub unwritten : (w : World) (schema : Parts) → IsCompiled w schema → (error : FdsError) → (error ≡ sets.Memory → ⊥)
     → (error ≡ sets.Memory) ⊎ ((error ≡ sets.Bytes messages.TooLong) × HasNoSet schema) → IsUnwritten w error
 unwritten w schema compiled error other (inl memory) = absurd (other memory)
-unwritten w schema compiled error other (inr told) = record { schema = schema; compiled = compiled; is_told = told.0; has_none = told.1 }
+unwritten w schema compiled error other (inr told) = record { schema = schema; compiled = compiled; is_reported = told.0; has_none = told.1 }

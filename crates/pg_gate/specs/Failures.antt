@@ -25,13 +25,13 @@ certificate_failures (certificates.Failed file) = 1
 certificate_failures (certificates.Refused fault) = 0
 
 -- the failures of the one source that is asked
-abbrev pub told_failures : GateError → ℕ
-told_failures gates.Memory = 0
-told_failures gates.RootMissingOld = 0
-told_failures gates.RootMissingNew = 0
-told_failures (gates.Compile side fault) = fault_failures fault
-told_failures gates.WriteFailed = 0
-told_failures gates.BadHex = 0
+abbrev pub reported_failures : GateError → ℕ
+reported_failures gates.Memory = 0
+reported_failures gates.RootMissingOld = 0
+reported_failures gates.RootMissingNew = 0
+reported_failures (gates.Compile side fault) = fault_failures fault
+reported_failures gates.WriteFailed = 0
+reported_failures gates.BadHex = 0
 
 -- of a count that one side tells of, what is the other's
 abbrev pub if_same : Side → Side → ℕ → ℕ
@@ -61,7 +61,7 @@ failures_by tells (Ok x) = 0
 failures_by tells (Err error) = tells error
 
 abbrev pub source_failures : {X : Type 0} → Result X GateError → ℕ
-source_failures result = failures_by told_failures result
+source_failures result = failures_by reported_failures result
 
 abbrev pub side_failures : {X : Type 0} → Side → Result X GateError → ℕ
 side_failures side result = failures_by (failures_at side) result

@@ -49,12 +49,12 @@ pub record IsCompiled (w : World) (schema : Parts) : Type 0 where
 
 -- the files can't be linked for this reason, which isn't `Memory`
 pub record IsLinkFault (w : World) (error : LinkError) : Type 0 where
-  pub is_told : error ≡ links.Memory → ⊥
+  pub is_reported : error ≡ links.Memory → ⊥
   pub refuses : LinkRefuses w error
 
 -- the files break this rule, and the error isn't `Memory`
 pub record IsRuleFault (files : List Entry) (error : CheckError) : Type 0 where
-  pub is_told : error ≡ checks.Memory → ⊥
+  pub is_reported : error ≡ checks.Memory → ⊥
   pub refuses : IsRefused (linked_sources files) error
 
 -- linked files break this rule
@@ -98,12 +98,12 @@ pub record IsRead (give : Text → Text → Bool) (folder path : Text) (schema :
 
 -- the source may lack the set's file, or it failed
 pub record IsNotGiven (lack : Text → Bool) (folder path : Text) (error : LinkError) : Type 0 where
-  pub is_told : error ≡ links.Memory → ⊥
+  pub is_reported : error ≡ links.Memory → ⊥
   pub not_read : IsReadFault lack folder None path error
 
 -- bytes are refused as a set for this reason, which isn't `Memory`, and state no schema where it is one that says so
 pub record IsNoSet (bytes : Text) (error : FdsError) : Type 0 where
-  pub is_told : error ≡ sets.Memory → ⊥
+  pub is_reported : error ≡ sets.Memory → ⊥
   pub refuses : MayRefuseSet bytes error
   pub none_stated : NoneIsStated bytes error
 
@@ -174,7 +174,7 @@ pub record IsSetOf (w : World) (bytes : List ℕ) : Type 0 where
 pub record IsUnwritten (w : World) (error : FdsError) : Type 0 where
   pub schema : Parts
   pub compiled : IsCompiled w schema
-  pub is_told : error ≡ sets.Bytes messages.TooLong
+  pub is_reported : error ≡ sets.Bytes messages.TooLong
   pub has_none : HasNoSet schema
 
 -- what is wrong with files that no set is written of

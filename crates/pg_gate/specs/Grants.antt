@@ -117,23 +117,23 @@ IsGateReply view old new root certificate_only both explain (replies.Both forwar
 IsGateReply view old new root certificate_only both explain (replies.Refused refusal) = ⊥
 
 -- a finding tells a certificate's witness, its steps and, where they are asked for, its readings; or that it has none
-abbrev pub TellsAnswer : Parts → Parts → Claim → (explain : Bool) → Finding → Type 0
-TellsAnswer old new certificate explain findings.Compatible = certificate.witness ≡ None
-TellsAnswer old new certificate explain (findings.Breaks witness steps readings) =
+abbrev pub ReportsAnswer : Parts → Parts → Claim → (explain : Bool) → Finding → Type 0
+ReportsAnswer old new certificate explain findings.Compatible = certificate.witness ≡ None
+ReportsAnswer old new certificate explain (findings.Breaks witness steps readings) =
     (certificate.witness ≡ Some witness.items) × AreSteps old new certificate steps.items × IsExplained explain old new certificate.root witness.items readings
-TellsAnswer old new certificate explain (findings.Certified text breaks) = ⊥
-TellsAnswer old new certificate explain (findings.Verified verified) = ⊥
+ReportsAnswer old new certificate explain (findings.Certified text breaks) = ⊥
+ReportsAnswer old new certificate explain (findings.Verified verified) = ⊥
 
 -- a finding tells a certificate's text in version 2, and whether it has a witness
-abbrev pub TellsCertificate : Parts → Parts → Claim → Finding → Type 0
-TellsCertificate old new certificate findings.Compatible = ⊥
-TellsCertificate old new certificate (findings.Breaks witness steps readings) = ⊥
-TellsCertificate old new certificate (findings.Certified text breaks) = Certifies old new (string_bytes text) certificate × IsSecondText old new (string_bytes text) certificate × (breaks ≡ is_some certificate.witness)
-TellsCertificate old new certificate (findings.Verified verified) = ⊥
+abbrev pub ReportsCertificate : Parts → Parts → Claim → Finding → Type 0
+ReportsCertificate old new certificate findings.Compatible = ⊥
+ReportsCertificate old new certificate (findings.Breaks witness steps readings) = ⊥
+ReportsCertificate old new certificate (findings.Certified text breaks) = Certifies old new (string_bytes text) certificate × IsSecondText old new (string_bytes text) certificate × (breaks ≡ is_some certificate.witness)
+ReportsCertificate old new certificate (findings.Verified verified) = ⊥
 
-abbrev pub Tells : Parts → Parts → Claim → (certificate_only explain : Bool) → Finding → Type 0
-Tells old new certificate false explain finding = TellsAnswer old new certificate explain finding
-Tells old new certificate true explain finding = TellsCertificate old new certificate finding
+abbrev pub Reports : Parts → Parts → Claim → (certificate_only explain : Bool) → Finding → Type 0
+Reports old new certificate false explain finding = ReportsAnswer old new certificate explain finding
+Reports old new certificate true explain finding = ReportsCertificate old new certificate finding
 
 -- ---- certificates that are checked
 

@@ -36,7 +36,7 @@ IsUnspelled word = IsError ⊥ ⊥ (bytes_in word ≡ None) (λ side fault. ⊥)
 
 -- bytes that aren't read as a message, or as one that has no encoding, and the error isn't `Memory`
 pub record IsRefused (schema : Parts) (type : TypeId) (bytes : Text) (error : DynError) : Type 0 where
-  pub is_told : error ≡ messages.Memory → ⊥
+  pub is_reported : error ≡ messages.Memory → ⊥
   pub refuses : Refuses (shape_of schema) type bytes error
 
 abbrev pub IsUnread : Parts → TypeId → Text → CallError → Type 0

@@ -120,19 +120,19 @@ reaches start s (b ∷ bytes) left h = go (step s b) refl h (λ t k. reaches (st
     go None e k again = cc
 
 -- A fault of the scanner, behind bytes from a place on, names what begins there.
-abbrev pub Tells : LexError → ℕ → List ℕ → Type 0
-Tells e at bytes = (place_of e ≡ at) × Names e bytes
+abbrev pub Reports : LexError → ℕ → List ℕ → Type 0
+Reports e at bytes = (place_of e ≡ at) × Names e bytes
 
 -- A gap that isn't passed over ends at a comment without an end.
-pub skipped_fault : (at : ℕ) (bytes : List ℕ) (e : LexError) → skipped at bytes ≡ Err e → (gap rest : List ℕ) × (bytes ≡ gap ++ rest) × IsGap gap × Tells e (at + length gap) rest
+pub skipped_fault : (at : ℕ) (bytes : List ℕ) (e : LexError) → skipped at bytes ≡ Err e → (gap rest : List ℕ) × (bytes ≡ gap ++ rest) × IsGap gap × Reports e (at + length gap) rest
 unfolding skipped
 skipped_fault at bytes e h = go (skip bytes Between bytes) refl h
   where
-    begins_open : (left : List ℕ) → Reaches Between bytes bytes left → e ≡ errors.OpenComment (place_behind at bytes left) → (gap rest : List ℕ) × (bytes ≡ gap ++ rest) × IsGap gap × Tells e (at + length gap) rest
+    begins_open : (left : List ℕ) → Reaches Between bytes bytes left → e ≡ errors.OpenComment (place_behind at bytes left) → (gap rest : List ℕ) × (bytes ≡ gap ++ rest) × IsGap gap × Reports e (at + length gap) rest
     begins_open left (inl (gap, split, is, opens)) k = (gap, left, split, is, rw k (omega (arith, ap length split, length-append gap left), opens))
     begins_open left (inr (same, stays)) k = absurd stays
 
-    go : (s : Skipped) → skip bytes Between bytes ≡ s → skipped_at at bytes s ≡ Err e → (gap rest : List ℕ) × (bytes ≡ gap ++ rest) × IsGap gap × Tells e (at + length gap) rest
+    go : (s : Skipped) → skip bytes Between bytes ≡ s → skipped_at at bytes s ≡ Err e → (gap rest : List ℕ) × (bytes ≡ gap ++ rest) × IsGap gap × Reports e (at + length gap) rest
     go (Rest left) is k = cc
     go (Open left) is k = begins_open left (reaches bytes Between bytes left is) (let e : e ≡ errors.OpenComment (place_behind at bytes left) = cc in e)
 

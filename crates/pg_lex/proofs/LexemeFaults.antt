@@ -17,7 +17,7 @@ use Rattle.pg_lex.specs.Run.{if_some, ◌>>=◌}
 use Rattle.pg_lex.specs.Scan.{skip, Rest, has_x, base_of, hexadecimal, plain, number, body_len, resolved_at, text_of, literal_at, mark_at, lexeme, word_len}
 use Rattle.pg_lex.specs.Symbol.{Symbol, Word, Whole, Text, Mark}
 use Rattle.pg_lex.proofs.Bits.{both, either_false, same}
-use Rattle.pg_lex.proofs.GapFaults.{Tells, choice, settled_byte}
+use Rattle.pg_lex.proofs.GapFaults.{Reports, choice, settled_byte}
 use Rattle.pg_lex.proofs.LexemeLaws.{IsBody-found, body_len-again, begins-run, word_of_digit, hex_is_word, x_is_word}
 use Rattle.pg_lex.proofs.NumberLaws.{not_false, below, octal_digit, some_prefix}
 use Rattle.pg_lex.proofs.Prefixes.{prefix_len-append, begins-prefix, list_all-weaker}
@@ -183,7 +183,7 @@ module _ (at : ℕ) (rest : List ℕ) (stop : begins is_word_byte rest ≡ false
     float_behind (inl none) h = rw none (dotted rest (rw none at h))
     float_behind (inr exponent) h = begins_front (λ b. is_dot b || is_exponent b) tail rest (weaker tail exponent)
 
-    plain_fault : (e : LexError) → plain at digits tail rest ≡ Err e → Tells e at ((digits ++ tail) ++ rest)
+    plain_fault : (e : LexError) → plain at digits tail rest ≡ Err e → Reports e at ((digits ++ tail) ++ rest)
     unfolding plain
     plain_fault e h = elim (choice ((eqb (base_of digits) 8 && not (list_all is_octal_digit digits)) || not (eqb (length tail) 0 || begins is_exponent tail)) _ _ h) [
       | inl (bad, k) ↦ let is : BadCharacter at ≡ e = cc in rw (← is) (refl, inr (digit_first, spoiled_number bad))
@@ -208,7 +208,7 @@ module _ (at : ℕ) (rest : List ℕ) (stop : begins is_word_byte rest ≡ false
         digit_first = begins_front is_digit (digits ++ tail) rest (begins_front is_digit digits tail (first_of is_digit digits some all))
 
   -- the digits behind `0x`
-  hexadecimal_fault : (run : List ℕ) (e : LexError) → has_x run ≡ true → list_all is_word_byte run ≡ true → hexadecimal at (drop 2 run) ≡ Err e → Tells e at (run ++ rest)
+  hexadecimal_fault : (run : List ℕ) (e : LexError) → has_x run ≡ true → list_all is_word_byte run ≡ true → hexadecimal at (drop 2 run) ≡ Err e → Reports e at (run ++ rest)
   unfolding hexadecimal
   hexadecimal_fault [] e x letters h = cc
   hexadecimal_fault (a ∷ []) e x letters h = absurd (let wrong = (both (eqb a 48) false x).1 in cc)
@@ -246,7 +246,7 @@ module _ (at : ℕ) (rest : List ℕ) (stop : begins is_word_byte rest ≡ false
           spoiled_hex ds bad (subst IsHexadecimal (sym alike.0) is)
 
 -- a number
-pub number_fault : (at : ℕ) (run rest : List ℕ) (e : LexError) → begins is_digit run ≡ true → list_all is_word_byte run ≡ true → begins is_word_byte rest ≡ false → number at run rest ≡ Err e → Tells e at (run ++ rest)
+pub number_fault : (at : ℕ) (run rest : List ℕ) (e : LexError) → begins is_digit run ≡ true → list_all is_word_byte run ≡ true → begins is_word_byte rest ≡ false → number at run rest ≡ Err e → Reports e at (run ++ rest)
 unfolding number
 number_fault at run rest e digit letters stop h = elim (choice (has_x run) _ _ h) [
   | inl (x, k) ↦ hexadecimal_fault at rest stop run e x letters k
@@ -255,7 +255,7 @@ number_fault at run rest e digit letters stop h = elim (choice (has_x run) _ _ h
       let digits = take n run in
       let tail = drop n run in
       let whole : digits ++ tail ≡ run = take-append-drop n run in
-      subst (λ x. Tells e at (x ++ rest)) whole (plain_fault at rest stop digits tail (some_prefix is_digit run digit) (list_all-prefix is_digit run) (tail_no_digit tail (begins-prefix is_digit run))
+      subst (λ x. Reports e at (x ++ rest)) whole (plain_fault at rest stop digits tail (some_prefix is_digit run digit) (list_all-prefix is_digit run) (tail_no_digit tail (begins-prefix is_digit run))
       (ap (list_all is_word_byte) whole ∙ letters) (ap has_x whole ∙ other) (list_all-drop is_word_byte n run letters) e k)
 ]
   where
@@ -271,7 +271,7 @@ number_fault at run rest e digit letters stop h = elim (choice (has_x run) _ _ h
 -- ---- literals
 
 -- a literal
-literal_fault : (at quote : ℕ) (bytes : List ℕ) (e : LexError) → is_quote quote ≡ true → literal_at at quote bytes ≡ Err e → Tells e at (quote ∷ bytes)
+literal_fault : (at quote : ℕ) (bytes : List ℕ) (e : LexError) → is_quote quote ≡ true → literal_at at quote bytes ≡ Err e → Reports e at (quote ∷ bytes)
 unfolding literal_at text_of
 literal_fault at quote bytes e q h = go (body_len quote Plain bytes) refl h
   where
@@ -279,10 +279,10 @@ literal_fault at quote bytes e q h = go (body_len quote Plain bytes) refl h
     unresolved None k = (refl, cc)
     unresolved (Some text) k = cc
 
-    bad : (body rest : List ℕ) → bytes ≡ body ++ quote ∷ rest → IsBody quote body → ((text : List ℕ) → resolved body ≡ Some text → ¬ (is_utf8 text ≡ true)) → e ≡ BadEscape at → Tells e at (quote ∷ bytes)
+    bad : (body rest : List ℕ) → bytes ≡ body ++ quote ∷ rest → IsBody quote body → ((text : List ℕ) → resolved body ≡ Some text → ¬ (is_utf8 text ≡ true)) → e ≡ BadEscape at → Reports e at (quote ∷ bytes)
     bad body rest split inside none is = rw is (refl, (quote, body, rest, ap (λ x. quote ∷ x) split, q, inside, none))
 
-    text_fault : (body rest : List ℕ) → bytes ≡ body ++ quote ∷ rest → IsBody quote body → text_of at body ≡ Err e → Tells e at (quote ∷ bytes)
+    text_fault : (body rest : List ℕ) → bytes ≡ body ++ quote ∷ rest → IsBody quote body → text_of at body ≡ Err e → Reports e at (quote ∷ bytes)
     text_fault body rest split inside k = elim (bind_err (resolved_at at (resolved body)) _ e k) [
       | inl r ↦ let known = unresolved (resolved body) r in bad body rest split inside (λ text is utf8. let wrong = sym known.0 ∙ is in cc) known.1
       | inr (text, r, u) ↦ elim (choice (is_utf8 text) _ _ u) [
@@ -300,7 +300,7 @@ literal_fault at quote bytes e q h = go (body_len quote Plain bytes) refl h
             cc
 
     go : (o : Option ℕ) → body_len quote Plain bytes ≡ o
-        → if_some {B = Result (Symbol × ℕ) LexError} o (λ m. text_of at (take m bytes) >>= (λ text. Ok (Text text, m + 2))) (Err (OpenString at)) ≡ Err e → Tells e at (quote ∷ bytes)
+        → if_some {B = Result (Symbol × ℕ) LexError} o (λ m. text_of at (take m bytes) >>= (λ text. Ok (Text text, m + 2))) (Err (OpenString at)) ≡ Err e → Reports e at (quote ∷ bytes)
     go None open' k =
         let is : OpenString at ≡ e = cc in
         rw (← is) (refl, (quote, bytes, refl, q, λ body rest split inside. let again = body_len-again quote Plain body rest q inside in let none : body_len quote Plain (body ++ quote ∷ rest) ≡ None = ap (body_len quote Plain) (sym split) ∙ open' in cc))
@@ -312,7 +312,7 @@ literal_fault at quote bytes e q h = go (body_len quote Plain bytes) refl h
 -- ---- lexemes
 
 -- a mark
-mark_fault : (at b : ℕ) (bytes : List ℕ) (e : LexError) → mark_at at b bytes ≡ Err e → Tells e at (b ∷ bytes)
+mark_fault : (at b : ℕ) (bytes : List ℕ) (e : LexError) → mark_at at b bytes ≡ Err e → Reports e at (b ∷ bytes)
 unfolding mark_at
 mark_fault at b bytes e h = elim (choice (is_dot b && begins is_digit bytes) _ _ h) [
   | inl (float, k) ↦
@@ -323,13 +323,13 @@ mark_fault at b bytes e h = elim (choice (is_dot b && begins is_digit bytes) _ _
 ]
 
 -- Where no lexeme is read, between gaps, what the fault names begins the bytes.
-pub lexeme_fault : (at b : ℕ) (bytes : List ℕ) (e : LexError) → skip (b ∷ bytes) Between (b ∷ bytes) ≡ Rest (b ∷ bytes) → lexeme at (b ∷ bytes) ≡ Err e → Tells e at (b ∷ bytes)
+pub lexeme_fault : (at b : ℕ) (bytes : List ℕ) (e : LexError) → skip (b ∷ bytes) Between (b ∷ bytes) ≡ Rest (b ∷ bytes) → lexeme at (b ∷ bytes) ≡ Err e → Reports e at (b ∷ bytes)
 unfolding lexeme
 lexeme_fault at b bytes e settled h = elim (choice (is_letter b) _ _ h) [
   | inl (letter, k) ↦ absurd (let wrong : ◌≡◌ {A = Result (Symbol × ℕ) LexError} (Ok (Word (take (word_len all) all), word_len all)) (Err e) = k in cc)
   | inr (no_letter, h) ↦ elim (choice (is_digit b) _ _ h) [
     | inl (digit, k) ↦ elim (bind_err (number at (take (word_len all) all) (drop (word_len all) all)) _ e k) [
-      | inl r ↦ subst (Tells e at) (take-append-drop (word_len all) all) (number_fault at (take (word_len all) all) (drop (word_len all) all) e (begins-run is_digit b bytes (word_of_digit b digit) digit) (list_all-prefix is_word_byte all) (begins-prefix is_word_byte all) r)
+      | inl r ↦ subst (Reports e at) (take-append-drop (word_len all) all) (number_fault at (take (word_len all) all) (drop (word_len all) all) e (begins-run is_digit b bytes (word_of_digit b digit) digit) (list_all-prefix is_word_byte all) (begins-prefix is_word_byte all) r)
       | inr (v, r, u) ↦ absurd (let wrong : ◌≡◌ {A = Result (Symbol × ℕ) LexError} (Ok (Whole v, word_len all)) (Err e) = u in cc)
     ]
     | inr (none, h) ↦ elim (choice (is_quote b) _ _ h) [

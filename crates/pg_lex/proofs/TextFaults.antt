@@ -16,7 +16,7 @@ use Rattle.pg_lex.specs.Run.{run, ◌>>=◌, Fails}
 use Rattle.pg_lex.specs.Scan.{skip, Rest, skipped, lexeme, token, lexemes, scanned, has_mark, text_tokens}
 use Rattle.pg_lex.specs.Symbol.{Symbol, Word, Whole, Text, Mark, Placed}
 use Rattle.pg_lex.proofs.Bits.{both, same}
-use Rattle.pg_lex.proofs.GapFaults.{Tells, choice, skipped_fault, settled}
+use Rattle.pg_lex.proofs.GapFaults.{Reports, choice, skipped_fault, settled}
 use Rattle.pg_lex.proofs.GapLaws.{passes, Passes}
 use Rattle.pg_lex.proofs.LexemeFaults.{bind_err, lexeme_fault}
 use Rattle.pg_lex.proofs.LexemeLaws.{Reads, IsLexeme-read, bind_ok, whole_run}
@@ -127,7 +127,7 @@ before-gap at gap bytes rest (t ∷ ts) h (inner, word, more, split, is_gap, is,
 -- Bytes at a place have a front of tokens, behind which stands what the fault names.
 abbrev FaultIn : ℕ → List ℕ → LexError → Type 0
 FaultIn at bytes e = (front rest : List ℕ) × (ts : List Placed) × (bytes ≡ front ++ rest) × Spells at front ts × EndsLow front
-    × SpellsBefore at bytes ts rest × Tells e (at + length front) rest
+    × SpellsBefore at bytes ts rest × Reports e (at + length front) rest
 
 -- a gap in front
 FaultIn-gap : (at : ℕ) (gap left : List ℕ) (e : LexError) → IsGap gap → FaultIn (at + length gap) left e → FaultIn at (gap ++ left) e
@@ -143,7 +143,7 @@ FaultIn-gap at gap left e is (front, rest, ts, split, spelled, low, before, (pla
 )
 
 -- no lexeme, or a comment without an end, right here
-FaultIn-here : (at : ℕ) (bytes : List ℕ) (e : LexError) → Tells e at bytes → FaultIn at bytes e
+FaultIn-here : (at : ℕ) (bytes : List ℕ) (e : LexError) → Reports e at bytes → FaultIn at bytes e
 FaultIn-here at bytes e (place, names) = ([], bytes, [], refl, inl refl, inl refl, ([], refl, refl), (omega (arith, place), names))
 
 -- a lexeme in front

@@ -13,7 +13,7 @@ use Rattle.pg_syntax.specs.declared.error.SyntaxError.{SyntaxError}
 use Rattle.pg_syntax.specs.declared.error.SyntaxError.TheVariants as syntax
 use Rattle.pg_syntax.specs.Grammar.{Derives}
 use Rattle.pg_syntax.specs.Proto3 as grammar
-use Rattle.pg_syntax.specs.Refusals.{Tells}
+use Rattle.pg_syntax.specs.Refusals.{Reports}
 use Rattle.pg_syntax.specs.Tree.{Stands}
 use Rattle.pg_syntax.specs.Views as view
 use Rattle.pg_link.specs.Below.{path_below}
@@ -225,7 +225,7 @@ HasNoTokens e text = (e ≡ lex.Memory → ⊥) × LexRefuses e text
 
 -- no tree spells the text's tokens, for this reason; that memory ran out is none
 abbrev pub HasNoTree : SyntaxError → Text → Type 0
-HasNoTree e text = (e ≡ syntax.Memory → ⊥) × ((tokens : List Placed) × lexes text tokens × Tells (grammar.file 64) (length text) tokens e)
+HasNoTree e text = (e ≡ syntax.Memory → ⊥) × ((tokens : List Placed) × lexes text tokens × Reports (grammar.file 64) (length text) tokens e)
 
 -- a text's own fault
 abbrev pub IsTextFault : Text → Text → errors.LinkError → Type 0

@@ -10,7 +10,6 @@ ghost use Rattle.pg_pairs.specs.Returns.{Returns, becomes_packed, packs};
 use crate::choice::Pair;
 use crate::priced::Priced;
 use crate::prices::Prices;
-use crate::shown::is_singular;
 use crate::view::Numbers;
 use crate::walking::reached_pairs;
 use pg_schema::{Field, Presence, Schema, TypeId};
@@ -32,7 +31,7 @@ fn becomes_packed(new: &Schema, type_id: TypeId, field: &Field) -> bool
         (field_at (fields (shape_of new.now) type_id) field.now.number) }
 {
     match new.field(type_id, field.number) {
-        Some(beside) => is_singular(field) && is_packed(beside),
+        Some(beside) => field.presence.is_singular() && is_packed(beside),
         None => false,
     }
 }

@@ -3,7 +3,7 @@
 ghost use Rattle.std.specs.Prelude.{◌≡◌, ◌<◌, length, slice_get, option_map, Some, true, IfSome};
 ghost use Rattle.std.specs.Option.{option_copied};
 ghost use Rattle.pg_schema.specs.Parts.{field_shape};
-ghost use Rattle.pg_schema.specs.Shape.{is_implicit, is_singular};
+ghost use Rattle.pg_schema.specs.Shape.{is_implicit};
 ghost use Rattle.std.specs.Str.{bytes_eq};
 ghost use Rattle.pg_dyn.specs.Comparison.{hides_zero, same_key};
 ghost use Rattle.pg_dyn.specs.reading.Content.{leaf_bytes};
@@ -15,13 +15,6 @@ ghost use Rattle.pg_pairs.specs.Comparing.{IsSingle, keyed, keyed_if, keyed_show
 use crate::witness_content::Beside;
 use pg_dyn::{ContentRef, ValueRef};
 use pg_schema::{Field, Presence};
-
-/// Whether the field holds one item at most.
-pub(crate) fn is_singular(field: &Field) -> bool
-    ensures { result ≡ is_singular field.now.presence }
-{
-    matches!(field.presence, Presence::Implicit | Presence::Explicit)
-}
 
 /// Whether an item of zero isn't there for the field.
 fn is_implicit(field: &Field) -> bool
@@ -35,8 +28,8 @@ fn hides_zero(fields: &Beside<'_>) -> bool
     ensures { result ≡ hides_zero (field_shape fields.now.old.now)
         (field_shape fields.now.new.now) }
 {
-    is_singular(fields.old)
-        && is_singular(fields.new)
+    fields.old.presence.is_singular()
+        && fields.new.presence.is_singular()
         && (is_implicit(fields.old) || is_implicit(fields.new))
 }
 

@@ -106,13 +106,6 @@ fn unlike_content(alloc: Global, old: &Field, new: &Field) -> Result<Content, Al
     small_content(alloc, old, small)
 }
 
-/// Whether the field is one of a map.
-fn is_map(field: &Field) -> bool
-    ensures { result ≡ is_map field.now.presence }
-{
-    matches!(field.presence, Presence::Map { .. })
-}
-
 /// A content of that item, where there is one, of a field that is no map.
 fn some_content(
     alloc: Global,
@@ -129,7 +122,7 @@ fn some_content(
         → IfSome item (ItemFits shape field.now.element)
         → IfSome found (IsTakenBy shape field.now.presence field.now.element)) }
 {
-    if is_map(field) {
+    if field.presence.is_map() {
         return Ok(None);
     }
     match item {
@@ -152,7 +145,7 @@ fn child_content(
     ensures taken { IfOk result (λ found. (shape : Shape) → IfSome child (Fits shape)
         → IfSome found (IsTakenBy shape field.now.presence field.now.element)) }
 {
-    if is_map(field) {
+    if field.presence.is_map() {
         return Ok(None);
     }
     let Some(child) = child else {
@@ -197,7 +190,7 @@ fn lost_content(alloc: Global, old: &Field, new: &Field) -> Result<Option<Conten
         → ElementFits (length shape) old.now.element
         → IfSome found (IsTakenBy shape old.now.presence old.now.element)) }
 {
-    if is_map(old) {
+    if old.presence.is_map() {
         return Ok(None);
     }
     Ok(Some(lost_items(alloc, old, new)?))

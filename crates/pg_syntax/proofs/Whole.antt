@@ -13,7 +13,7 @@ use Rattle.pg_syntax.specs.declared.error.Refusal.{Refusal}
 use Rattle.pg_syntax.specs.declared.error.Refusal.TheVariants as refusals
 use Rattle.std.proofs.lemmas.List.{length-map}
 use Rattle.pg_syntax.specs.declared.error.SyntaxError.{SyntaxError}
-use Rattle.pg_syntax.specs.Refusals.{Alike, Refused, Fits, Tells, place_of, error_of}
+use Rattle.pg_syntax.specs.Refusals.{Alike, Refused, Fits, Reports, place_of, error_of}
 use Rattle.pg_syntax.proofs.Check.{check}
 use Rattle.pg_syntax.proofs.Law.{Wrong, Agree, Meets, rests, wrong_here, wrong_later}
 use Rattle.pg_syntax.proofs.Grammars.{law}
@@ -108,7 +108,7 @@ some_of (x ∷ xs) view test e off = omega arith
 
 -- a fault, reported with its place
 pub told : {X : Type 0} (g : Grammar) (xs : List X) (view : X → Placed) (end at : ℕ) (f : Fault) (error : SyntaxError) → Refused g f.reason f.left (map view xs)
-    → at ≡ place_of end (drop (length xs - f.left) (map view xs)) → error ≡ error_of f.reason at → Tells g end (map view xs) error
+    → at ≡ place_of end (drop (length xs - f.left) (map view xs)) → error ≡ error_of f.reason at → Reports g end (map view xs) error
 told g xs view end at f error h is said =
     let counted : length xs ≡ length (h.front ++ h.back) = sym (length-map xs view) ∙ ap length h.splits in
     let back : drop (length xs - f.left) (map view xs) ≡ h.back = ap (drop (length xs - f.left)) h.splits ∙ drop_front h.front h.back (length xs) f.left counted h.left_is in

@@ -47,8 +47,8 @@ error_of reasons.WeakImport at = errors.WeakImport at
 error_of reasons.NestedTooDeep at = errors.NestedTooDeep at
 
 -- What a refusal of the tokens says: memory ran out, or a reason stands at its place.
-abbrev pub Tells : Grammar → ℕ → List Placed → SyntaxError → Type 0
-Tells g end tokens error = (error ≡ errors.Memory) ⊎ ((reason : Reason) × (left : ℕ) × (h : Refused g reason left tokens) × (error ≡ error_of reason (place_of end h.back)))
+abbrev pub Reports : Grammar → ℕ → List Placed → SyntaxError → Type 0
+Reports g end tokens error = (error ≡ errors.Memory) ⊎ ((reason : Reason) × (left : ℕ) × (h : Refused g reason left tokens) × (error ≡ error_of reason (place_of end h.back)))
 
 abbrev pub Fits : Grammar → Refusal → List Placed → Type 0
 Fits g refusals.Memory tokens = Unit {0}

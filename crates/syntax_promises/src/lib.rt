@@ -7,7 +7,7 @@ ghost use Rattle.pg_lex.specs.Symbol.{placed};
 ghost use Rattle.pg_syntax.specs.Codes.{code_of};
 ghost use Rattle.pg_syntax.specs.Grammar.{Derives};
 ghost use Rattle.pg_syntax.specs.Proto3 as grammar;
-ghost use Rattle.pg_syntax.specs.Refusals.{Tells};
+ghost use Rattle.pg_syntax.specs.Refusals.{Reports};
 ghost use Rattle.pg_syntax.specs.Tree.{Stands, spell, symbols};
 ghost use Rattle.pg_syntax.specs.Views as view;
 
@@ -27,7 +27,7 @@ pub fn parse(alloc: Global, tokens: &[Token], end: usize) -> Result<FileTree, Sy
 
 /// What `parse` refuses.
 pub fn parse_refused(alloc: Global, bad: &[Token], end: usize) -> Result<FileTree, SyntaxError>
-    ensures { IfErr result (λ e. Tells (grammar.file 64) end (placed bad.now) e) }
+    ensures { IfErr result (λ e. Reports (grammar.file 64) end (placed bad.now) e) }
 {
     pg_syntax::parse(alloc, bad, end)
 }

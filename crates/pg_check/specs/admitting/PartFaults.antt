@@ -20,7 +20,7 @@ use Rattle.pg_schema.specs.declared.parts.Parts.{Parts}
 use Rattle.pg_schema.specs.rules.Fields.{stated_or}
 use Rattle.pg_schema.specs.rules.Files.{is_file_option}
 use Rattle.pg_schema.specs.rules.Messages.{have_members, is_member}
-use Rattle.pg_schema.specs.Shape.{is_key, is_packable}
+use Rattle.pg_schema.specs.Shape.{is_key, is_packable, is_singular}
 use Rattle.pg_check.specs.declared.rules.fault.Fault.{Fault}
 use Rattle.pg_check.specs.declared.rules.fault.Rule.{Rule}
 use Rattle.pg_check.specs.declared.rules.fault.Rule.TheVariants as rules
@@ -66,16 +66,9 @@ has_bad_key (presences.Map key) = not (is_key key)
 abbrev pub field_has_bad_key : Field → Bool
 field_has_bad_key f = has_bad_key f.presence
 
--- more than one item may stand in the field
-abbrev pub is_many : Presence → Bool
-is_many presences.Implicit = false
-is_many presences.Explicit = false
-is_many (presences.Repeated packed) = true
-is_many (presences.Map key) = true
-
 -- a member of a oneof that is repeated, a map or `optional`
 abbrev pub is_bad_member : Field → Bool
-is_bad_member f = is_some f.oneof && (is_many f.presence || f.states_optional)
+is_bad_member f = is_some f.oneof && (not (is_singular f.presence) || f.states_optional)
 
 -- packed, or stated to be, and no repeated field of numbers, bool or an enum
 abbrev pub is_badly_packed : Presence → Element → Option Bool → Bool

@@ -101,11 +101,7 @@ fn has_bad_key(field: &Field) -> bool
 fn is_bad_member(field: &Field) -> bool
     ensures { result ≡ spec.is_bad_member field.now }
 {
-    let is_many = match field.presence {
-        Presence::Implicit | Presence::Explicit => false,
-        Presence::Repeated { .. } | Presence::Map { .. } => true,
-    };
-    field.oneof.is_some() && (is_many || field.states_optional)
+    field.oneof.is_some() && (!field.presence.is_singular() || field.states_optional)
 }
 
 /// The field is packed, or stated to be, and may not.

@@ -8,7 +8,7 @@ ghost use Rattle.pg_gate.specs.Answer.{IsRefusedRoot};
 ghost use Rattle.pg_gate.specs.Call.{request_of, sides_of};
 ghost use Rattle.pg_gate.specs.Failures.{call_failures, side_failures};
 ghost use Rattle.pg_gate.specs.Files.{paths_of};
-ghost use Rattle.pg_gate.specs.Grants.{Between, Grants, IsErrorFor, IsFindingOf, IsGateError, IsGateReply, IsReplyFor, Tells, TellsAnswer, TellsCertificate, seen};
+ghost use Rattle.pg_gate.specs.Grants.{Between, Grants, IsErrorFor, IsFindingOf, IsGateError, IsGateReply, IsReplyFor, Reports, ReportsAnswer, ReportsCertificate, seen};
 ghost use Rattle.pg_link.specs.Walk.{world};
 
 use crate::answer::both_sides::{SideFiles, compile_both};
@@ -54,7 +54,7 @@ fn reported(
     requires searched { IsSearched (view_in old.now.schema new.now.schema certificate.now)
         (shape_of old.now.schema) (shape_of new.now.schema) certificate.now.root certificate.now }
     requires claim { IsClaimOf old.now.schema new.now.schema certificate.now }
-    ensures { IfOk result (TellsAnswer old.now.schema new.now.schema certificate.now explain) }
+    ensures { IfOk result (ReportsAnswer old.now.schema new.now.schema certificate.now explain) }
 {
     match certificate.witness() {
         Some(bytes) => {
@@ -78,7 +78,7 @@ fn certified(
     certificate: &Certificate,
 ) -> Result<Finding, AllocError>
     requires { IsClaimOf old.now new.now certificate.now }
-    ensures { IfOk result (TellsCertificate old.now new.now certificate.now) }
+    ensures { IfOk result (ReportsCertificate old.now new.now certificate.now) }
 {
     Ok(Finding::Certified {
         text: to_text(alloc, old, new, certificate)?,
@@ -98,7 +98,7 @@ fn finding_of(
     requires searched { IsSearched (view_in old.now.schema new.now.schema certificate.now)
         (shape_of old.now.schema) (shape_of new.now.schema) certificate.now.root certificate.now }
     requires claim { IsClaimOf old.now.schema new.now.schema certificate.now }
-    ensures { IfOk result (Tells old.now.schema new.now.schema certificate.now certificate_only
+    ensures { IfOk result (Reports old.now.schema new.now.schema certificate.now certificate_only
         explain) }
 {
     if certificate_only {

@@ -2,7 +2,7 @@
 
 ghost use Rattle.std.specs.Prelude.{◌≡◌};
 ghost use Rattle.pg_schema.specs.ScalarWords.{scalar_of};
-ghost use Rattle.pg_schema.specs.Shape.{is_packable};
+ghost use Rattle.pg_schema.specs.Shape.{is_map, is_packable, is_singular};
 
 use crate::parts::options::FieldOptions;
 
@@ -125,6 +125,22 @@ pub enum Presence {
         /// What the keys are.
         key: Scalar,
     },
+}
+
+impl Presence {
+    /// Whether a message has one item of the field at most.
+    pub fn is_singular(self) -> bool
+        ensures { result ≡ is_singular self }
+    {
+        matches!(self, Presence::Implicit | Presence::Explicit)
+    }
+
+    /// Whether the field is one of a map.
+    pub fn is_map(self) -> bool
+        ensures { result ≡ is_map self }
+    {
+        matches!(self, Presence::Map { .. })
+    }
 }
 
 /// A field of a message type.

@@ -11,7 +11,7 @@ ghost use Rattle.pg_schema.specs.rules.Messages.{field_names};
 use crate::json_name::in_camel_case;
 use crate::parts::Parts;
 use crate::parts::enum_type::{EnumType, EnumValue};
-use crate::parts::field::{EnumId, Field, Presence};
+use crate::parts::field::{EnumId, Field};
 use crate::parts::file::File;
 use crate::parts::message_type::MessageType;
 use crate::parts::service::{Method, Service};
@@ -121,7 +121,7 @@ fn push_entry_names(
         ≡ map string_bytes names.old.items ++ map (within scope.now) (entry_names fields.now)) }
 {
     for field in fields {
-        if matches!(field.presence, Presence::Map { .. }) {
+        if field.presence.is_map() {
             let entry = entry_name(alloc, &field.name)?;
             names.push(full_name(alloc, scope, &entry)?)?;
         }

@@ -20,7 +20,7 @@ impl EmptyStatements {
 }
 
 /// Appends a part of a message.
-pub fn add_part(parts: &mut Vec<Part>, part: Part) -> Result<(), AllocError>
+pub(crate) fn add_part(parts: &mut Vec<Part>, part: Part) -> Result<(), AllocError>
     ensures { OnOk result (view.all_nodes view.part parts.new.items
         ≡ view.all_nodes view.part parts.old.items ++ view.nodes (view.part part)) }
 {
@@ -41,7 +41,7 @@ pub fn add_part(parts: &mut Vec<Part>, part: Part) -> Result<(), AllocError>
 }
 
 /// Appends a part of a oneof.
-pub fn add_oneof_part(parts: &mut Vec<OneofPart>, part: OneofPart) -> Result<(), AllocError>
+pub(crate) fn add_oneof_part(parts: &mut Vec<OneofPart>, part: OneofPart) -> Result<(), AllocError>
     ensures { OnOk result (view.all_nodes view.oneof_part parts.new.items
         ≡ view.all_nodes view.oneof_part parts.old.items ++ view.nodes (view.oneof_part part)) }
 {
@@ -62,7 +62,7 @@ pub fn add_oneof_part(parts: &mut Vec<OneofPart>, part: OneofPart) -> Result<(),
 }
 
 /// Appends a part of an enum.
-pub fn add_enum_part(parts: &mut Vec<EnumPart>, part: EnumPart) -> Result<(), AllocError>
+pub(crate) fn add_enum_part(parts: &mut Vec<EnumPart>, part: EnumPart) -> Result<(), AllocError>
     ensures { OnOk result (view.all_nodes view.enum_part parts.new.items
         ≡ view.all_nodes view.enum_part parts.old.items ++ view.nodes (view.enum_part part)) }
 {
@@ -83,7 +83,7 @@ pub fn add_enum_part(parts: &mut Vec<EnumPart>, part: EnumPart) -> Result<(), Al
 }
 
 /// Appends a part of an rpc.
-pub fn add_rpc_part(parts: &mut Vec<RpcPart>, part: RpcPart) -> Result<(), AllocError>
+pub(crate) fn add_rpc_part(parts: &mut Vec<RpcPart>, part: RpcPart) -> Result<(), AllocError>
     ensures { OnOk result (view.all_nodes view.rpc_part parts.new.items
         ≡ view.all_nodes view.rpc_part parts.old.items ++ view.nodes (view.rpc_part part)) }
 {
@@ -104,7 +104,10 @@ pub fn add_rpc_part(parts: &mut Vec<RpcPart>, part: RpcPart) -> Result<(), Alloc
 }
 
 /// Appends a part of a service.
-pub fn add_service_part(parts: &mut Vec<ServicePart>, part: ServicePart) -> Result<(), AllocError>
+pub(crate) fn add_service_part(
+    parts: &mut Vec<ServicePart>,
+    part: ServicePart,
+) -> Result<(), AllocError>
     ensures { OnOk result (view.all_nodes view.service_part parts.new.items
         ≡ view.all_nodes view.service_part parts.old.items ++ view.nodes (view.service_part part)) }
 {
@@ -125,7 +128,7 @@ pub fn add_service_part(parts: &mut Vec<ServicePart>, part: ServicePart) -> Resu
 }
 
 /// Appends a statement of a file.
-pub fn add_statement(
+pub(crate) fn add_statement(
     statements: &mut Vec<Statement>,
     statement: Statement,
 ) -> Result<(), AllocError>

@@ -4,7 +4,7 @@ use Rattle.pg_cert.specs.ClaimView.{view_in}
 use Rattle.pg_cert.specs.Text.{IsClaimOf}
 use Rattle.pg_least.specs.Exact.{IsSearched}
 use Rattle.pg_schema.specs.Parts.{shape_of}
-use Rattle.pg_gate.specs.Grants.{Tells}
+use Rattle.pg_gate.specs.Grants.{Reports}
 use Rattle.pg_gate.proofs.AnswerLemmas.{claim_of_answer, found_by, searched_by}
 use Rattle.pg_gate.proofs.answer.dispatch.one_way.Goals as goal
 
@@ -27,4 +27,4 @@ returns-clause-found c =
     let old = c.args.old.now.schema in
     let new = c.args.new.now.schema in
     found_by c.args.view old new c.args.root.now c.in_ok-answer.answer c.args.certificate_only c.args.explain c.in_ok-finding.finding c.in_ok-answer.ensures.answer
-    (subst (λ (claim : Claim). Tells old new claim c.args.certificate_only c.args.explain c.in_ok-finding.finding) c.certificate-certificate.ensures c.in_ok-finding.ensures)
+    (subst (λ (claim : Claim). Reports old new claim c.args.certificate_only c.args.explain c.in_ok-finding.finding) c.certificate-certificate.ensures c.in_ok-finding.ensures)

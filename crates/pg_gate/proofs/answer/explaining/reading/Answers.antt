@@ -9,4 +9,4 @@ returns-in-Ok c = inl (record { shows = c.in-Ok.ensures.text; within = c.in-Ok.e
 pub returns-in-Err : goal.returns-in-Err
 returns-in-Err c =
     let other : c.in-Err.error ≡ messages.Memory → ⊥ = search rules in
-    IfOk-weaker c.refusal_line.result _ _ (λ text is. inr (record { error = c.in-Err.error; refused = record { is_told = other; refuses = c.in-Err.ensures.refused }; line = is })) c.refusal_line.ensures
+    IfOk-weaker c.refusal_line.result _ _ (λ text is. inr (record { error = c.in-Err.error; refused = record { is_reported = other; refuses = c.in-Err.ensures.refused }; line = is })) c.refusal_line.ensures
