@@ -1,5 +1,5 @@
 -- What a tree declares and imports.
-use Rattle.std.specs.Prelude.{List, [], ◌∷◌, ◌++◌, map, flat_map, Option, Some, None, string_bytes}
+use Rattle.std.specs.Prelude.{◌≡◌, List, [], ◌∷◌, ◌++◌, map, flat_map, Option, Some, None, string_bytes}
 use Rattle.pg_syntax.specs.declared.tree as tree
 use Rattle.pg_syntax.specs.declared.tree.Part.{Part, Row_of-Part, end_of-Part, more_of-Part}
 use Rattle.pg_syntax.specs.declared.tree.Part.TheVariants as parts
@@ -19,6 +19,10 @@ use Rattle.pg_link.specs.Declares.{Word, Declarations, Done, Alone, MapField, Wi
 -- a name that the code makes of a tree
 abbrev pub declared_of : made.DeclaredName → Declared
 declared_of d = record { name = string_bytes d.name; kind = d.kind; at = d.at }
+
+-- behind the old names stand those that are declared here
+abbrev pub AddsNames : (old new : List made.DeclaredName) (more : List Declared) → Type 0
+AddsNames old new more = map declared_of new ≡ map declared_of old ++ more
 
 abbrev pub word : tree.Name.Name → Word
 word name = record { text = string_bytes name.text; at = name.span.from }

@@ -85,7 +85,7 @@ view n = record { kind = n.kind; at = n.at; files = files_of n }
 abbrev pub Holds : {S : Type 0} → HashMap (String Global) nameds.Named S → List Standing → Type 0
 Holds index all = (full : Text) → option_map view (get_by_text index full) ≡ bearer all full
 
--- what bears a name once this one stands behind the others
+-- what bears a name once this one is appended
 abbrev pub added : Standing → Option Bearer → Bearer
 added s None = record { kind = s.declared.kind; at = s.declared.at; files = s.file ∷ [] }
 added s (Some b) = record { kind = b.kind; at = b.at; files = b.files ++ s.file ∷ [] }
@@ -154,7 +154,7 @@ pub record IsNumbered (index : indexes.Index) (all : List Standing) : Type 0 whe
 abbrev pub Lists : indexes.Index → List Standing → Type 0
 Lists index all = Holds index.names all × IsNumbered index all
 
--- the name has come behind the others, or stands twice
+-- the name was appended, or stands twice
 abbrev pub Adds : indexes.Index → indexes.Index → Standing → Bool → Type 0
 Adds old new s true = (all : List Standing) → Lists old all → MayStand all s × Lists new (all ++ s ∷ [])
 Adds old new s false = (all : List Standing) → Lists old all → StandsTwice all s
@@ -174,7 +174,7 @@ pub record IsFirstTwice (all : List Standing) (s : Standing) : Type 0 where
   pub none_before : NoneTwice front
   pub twice : StandsTwice front s
 
--- the names have come behind the others, none twice
+-- the names were appended, none twice
 abbrev pub AddsAll : indexes.Index → indexes.Index → List Standing → Type 0
 AddsAll old new more = (all : List Standing) → Lists old all → Lists new (all ++ more) × (NoneTwice all → NoneTwice (all ++ more))
 

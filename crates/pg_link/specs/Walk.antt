@@ -306,7 +306,7 @@ failures_of (Err (error.NotAType place)) = 0
 failures_of (Err (error.NotImported place)) = 0
 failures_of (Err error.Memory) = 0
 
--- the file has come behind the others, where it wasn't there; what was there still is
+-- the file was appended where it wasn't there; what was there still is
 pub record ComesLast (old new : walks.Walk) (path : Text) (file : kept.SourceFile) : Type 0 where
   pub is_there : has_path new path ≡ true
   pub keeps : Keeps old new

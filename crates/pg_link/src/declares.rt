@@ -41,9 +41,8 @@ fn declare(
     kind: Kind,
     name: &Name,
 ) -> Result<(), AllocError>
-    ensures { OnOk result (map outline.declared_of names.new.items
-        ≡ map outline.declared_of names.old.items
-        ++ spec.declared scope.now kind (outline.word name.now) ∷ []) }
+    ensures { OnOk result (outline.AddsNames names.old.items names.new.items
+        (spec.declared scope.now kind (outline.word name.now) ∷ [])) }
 {
     let at = name.span.from;
     let name = within(alloc, scope, name.text.as_str())?;
@@ -58,9 +57,8 @@ fn add_enum_part(
     scope: &str,
     part: &EnumPart,
 ) -> Result<(), AllocError>
-    ensures { OnOk result (map outline.declared_of names.new.items
-        ≡ map outline.declared_of names.old.items
-        ++ spec.names_in scope.now (outline.of_enum_part part.now spec.Done)) }
+    ensures { OnOk result (outline.AddsNames names.old.items names.new.items
+        (spec.names_in scope.now (outline.of_enum_part part.now spec.Done))) }
 {
     match part {
         EnumPart::Value(value) => declare(alloc, names, scope, Kind::Value, &value.name),
@@ -77,9 +75,8 @@ fn add_enum_parts(
     scope: &str,
     parts: &[EnumPart],
 ) -> Result<(), AllocError>
-    ensures { OnOk result (map outline.declared_of names.new.items
-        ≡ map outline.declared_of names.old.items
-        ++ spec.names_in scope.now (outline.all_of outline.of_enum_part parts.now spec.Done)) }
+    ensures { OnOk result (outline.AddsNames names.old.items names.new.items
+        (spec.names_in scope.now (outline.all_of outline.of_enum_part parts.now spec.Done))) }
 {
     for part in parts {
         add_enum_part(alloc, names, scope, part)?;
@@ -94,9 +91,8 @@ fn add_enum(
     scope: &str,
     enumeration: &Enum,
 ) -> Result<(), AllocError>
-    ensures { OnOk result (map outline.declared_of names.new.items
-        ≡ map outline.declared_of names.old.items
-        ++ spec.names_in scope.now (outline.of_enum enumeration.now spec.Done)) }
+    ensures { OnOk result (outline.AddsNames names.old.items names.new.items
+        (spec.names_in scope.now (outline.of_enum enumeration.now spec.Done))) }
 {
     declare(alloc, names, scope, Kind::Enum, &enumeration.name)?;
     add_enum_parts(alloc, names, scope, &enumeration.parts)
@@ -109,9 +105,8 @@ fn add_map(
     scope: &str,
     field: &MapField,
 ) -> Result<(), AllocError>
-    ensures { OnOk result (map outline.declared_of names.new.items
-        ≡ map outline.declared_of names.old.items
-        ++ spec.names_in scope.now (spec.MapField (outline.word field.now.name) spec.Done)) }
+    ensures { OnOk result (outline.AddsNames names.old.items names.new.items
+        (spec.names_in scope.now (spec.MapField (outline.word field.now.name) spec.Done))) }
 {
     declare(alloc, names, scope, Kind::Field, &field.name)?;
     let entry = entry_name(alloc, field.name.text.as_str())?;
@@ -132,9 +127,8 @@ fn add_oneof_part(
     scope: &str,
     part: &OneofPart,
 ) -> Result<(), AllocError>
-    ensures { OnOk result (map outline.declared_of names.new.items
-        ≡ map outline.declared_of names.old.items
-        ++ spec.names_in scope.now (outline.of_oneof_part part.now spec.Done)) }
+    ensures { OnOk result (outline.AddsNames names.old.items names.new.items
+        (spec.names_in scope.now (outline.of_oneof_part part.now spec.Done))) }
 {
     match part {
         OneofPart::Field(field) => declare(alloc, names, scope, Kind::Field, &field.name),
@@ -151,9 +145,8 @@ fn add_oneof_parts(
     scope: &str,
     parts: &[OneofPart],
 ) -> Result<(), AllocError>
-    ensures { OnOk result (map outline.declared_of names.new.items
-        ≡ map outline.declared_of names.old.items
-        ++ spec.names_in scope.now (outline.all_of outline.of_oneof_part parts.now spec.Done)) }
+    ensures { OnOk result (outline.AddsNames names.old.items names.new.items
+        (spec.names_in scope.now (outline.all_of outline.of_oneof_part parts.now spec.Done))) }
 {
     for part in parts {
         add_oneof_part(alloc, names, scope, part)?;
@@ -168,9 +161,8 @@ fn add_oneof(
     scope: &str,
     oneof: &Oneof,
 ) -> Result<(), AllocError>
-    ensures { OnOk result (map outline.declared_of names.new.items
-        ≡ map outline.declared_of names.old.items
-        ++ spec.names_in scope.now (outline.of_oneof oneof.now spec.Done)) }
+    ensures { OnOk result (outline.AddsNames names.old.items names.new.items
+        (spec.names_in scope.now (outline.of_oneof oneof.now spec.Done))) }
 {
     declare(alloc, names, scope, Kind::Oneof, &oneof.name)?;
     add_oneof_parts(alloc, names, scope, &oneof.parts)
@@ -183,9 +175,8 @@ fn add_service_part(
     scope: &str,
     part: &ServicePart,
 ) -> Result<(), AllocError>
-    ensures { OnOk result (map outline.declared_of names.new.items
-        ≡ map outline.declared_of names.old.items
-        ++ spec.names_in scope.now (outline.of_service_part part.now spec.Done)) }
+    ensures { OnOk result (outline.AddsNames names.old.items names.new.items
+        (spec.names_in scope.now (outline.of_service_part part.now spec.Done))) }
 {
     match part {
         ServicePart::Rpc(rpc) => declare(alloc, names, scope, Kind::Method, &rpc.name),
@@ -201,9 +192,8 @@ fn add_service_parts(
     scope: &str,
     parts: &[ServicePart],
 ) -> Result<(), AllocError>
-    ensures { OnOk result (map outline.declared_of names.new.items
-        ≡ map outline.declared_of names.old.items
-        ++ spec.names_in scope.now (outline.all_of outline.of_service_part parts.now spec.Done)) }
+    ensures { OnOk result (outline.AddsNames names.old.items names.new.items
+        (spec.names_in scope.now (outline.all_of outline.of_service_part parts.now spec.Done))) }
 {
     for part in parts {
         add_service_part(alloc, names, scope, part)?;
@@ -218,9 +208,8 @@ fn add_service(
     scope: &str,
     service: &Service,
 ) -> Result<(), AllocError>
-    ensures { OnOk result (map outline.declared_of names.new.items
-        ≡ map outline.declared_of names.old.items
-        ++ spec.names_in scope.now (outline.of_service service.now spec.Done)) }
+    ensures { OnOk result (outline.AddsNames names.old.items names.new.items
+        (spec.names_in scope.now (outline.of_service service.now spec.Done))) }
 {
     declare(alloc, names, scope, Kind::Service, &service.name)?;
     let inner = within(alloc, scope, service.name.text.as_str())?;
@@ -235,9 +224,8 @@ fn add_part(
     scope: &str,
     part: &Part,
 ) -> Result<(), AllocError>
-    ensures { OnOk result (map outline.declared_of names.new.items
-        ≡ map outline.declared_of names.old.items
-        ++ spec.names_in scope.now (outline.of_part part.now spec.Done)) }
+    ensures { OnOk result (outline.AddsNames names.old.items names.new.items
+        (spec.names_in scope.now (outline.of_part part.now spec.Done))) }
 {
     match part {
         Part::Message(message) => {
@@ -262,9 +250,8 @@ fn add_parts(
     scope: &str,
     parts: &[Part],
 ) -> Result<(), AllocError>
-    ensures { OnOk result (map outline.declared_of names.new.items
-        ≡ map outline.declared_of names.old.items
-        ++ spec.names_in scope.now (outline.all_of outline.of_part parts.now spec.Done)) }
+    ensures { OnOk result (outline.AddsNames names.old.items names.new.items
+        (spec.names_in scope.now (outline.all_of outline.of_part parts.now spec.Done))) }
 {
     for part in parts {
         add_part(alloc, names, scope, part)?;
@@ -280,9 +267,8 @@ fn add_message(
     scope: &str,
     message: &Message,
 ) -> Result<(), AllocError>
-    ensures { OnOk result (map outline.declared_of names.new.items
-        ≡ map outline.declared_of names.old.items
-        ++ spec.names_in scope.now (outline.of_message message.now spec.Done)) }
+    ensures { OnOk result (outline.AddsNames names.old.items names.new.items
+        (spec.names_in scope.now (outline.of_message message.now spec.Done))) }
 {
     declare(alloc, names, scope, Kind::Message, &message.name)?;
     let inner = within(alloc, scope, message.name.text.as_str())?;
@@ -296,9 +282,8 @@ fn add_statement(
     scope: &str,
     statement: &Statement,
 ) -> Result<(), AllocError>
-    ensures { OnOk result (map outline.declared_of names.new.items
-        ≡ map outline.declared_of names.old.items
-        ++ spec.names_in scope.now (outline.of_statement statement.now spec.Done)) }
+    ensures { OnOk result (outline.AddsNames names.old.items names.new.items
+        (spec.names_in scope.now (outline.of_statement statement.now spec.Done))) }
 {
     match statement {
         Statement::Message(message) => add_message(alloc, names, scope, message),
@@ -317,9 +302,8 @@ fn add_statements(
     scope: &str,
     statements: &[Statement],
 ) -> Result<(), AllocError>
-    ensures { OnOk result (map outline.declared_of names.new.items
-        ≡ map outline.declared_of names.old.items
-        ++ spec.names_in scope.now (outline.all_of outline.of_statement statements.now spec.Done)) }
+    ensures { OnOk result (outline.AddsNames names.old.items names.new.items
+        (spec.names_in scope.now (outline.all_of outline.of_statement statements.now spec.Done))) }
 {
     for statement in statements {
         add_statement(alloc, names, scope, statement)?;
@@ -334,9 +318,8 @@ fn add_package_part(
     scope: &mut String,
     word: &Name,
 ) -> Result<(), AllocError>
-    ensures declared { OnOk result (map outline.declared_of names.new.items
-        ≡ map outline.declared_of names.old.items
-        ++ spec.declared (string_bytes scope.old) kinds.Package (outline.word word.now) ∷ []) }
+    ensures declared { OnOk result (outline.AddsNames names.old.items names.new.items
+        (spec.declared (string_bytes scope.old) kinds.Package (outline.word word.now) ∷ [])) }
     ensures inner { OnOk result (string_bytes scope.new
         ≡ spec.within (string_bytes scope.old) (string_bytes word.now.text)) }
 {
@@ -363,9 +346,8 @@ fn add_package(
     names: &mut Vec<DeclaredName>,
     dotted: &Dotted,
 ) -> Result<(), AllocError>
-    ensures { OnOk result (map outline.declared_of names.new.items
-        ≡ map outline.declared_of names.old.items
-        ++ spec.package_names [] (outline.dotted_words dotted.now)) }
+    ensures { OnOk result (outline.AddsNames names.old.items names.new.items
+        (spec.package_names [] (outline.dotted_words dotted.now))) }
 {
     let mut scope = String::new(alloc);
     add_package_part(alloc, names, &mut scope, &dotted.first)?;

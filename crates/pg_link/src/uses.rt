@@ -3,7 +3,7 @@ ghost use Rattle.std.specs.Prelude.{◌≡◌, ◌++◌, ◌∷◌, [], IfOk, On
 ghost use Rattle.pg_link.specs.Index.{texts};
 ghost use Rattle.pg_link.specs.Outline as outline;
 ghost use Rattle.pg_link.specs.Resolves.{reference};
-ghost use Rattle.pg_link.specs.Sites.{use_of};
+ghost use Rattle.pg_link.specs.Sites.{AddsUses, use_of};
 ghost use Rattle.pg_link.specs.Uses as spec;
 
 use pg_schema::Scalar;
@@ -43,8 +43,8 @@ fn add_use<'a>(
     name: &'a TypeName,
     takes_enums: bool,
 ) -> Result<(), AllocError>
-    ensures { OnOk result (map use_of uses.new.items ≡ map use_of uses.old.items
-        ++ spec.use_in (texts scope.now.value.items) takes_enums name.now ∷ []) }
+    ensures { OnOk result (AddsUses uses.old.items uses.new.items
+        (spec.use_in (texts scope.now.value.items) takes_enums name.now ∷ [])) }
 {
     let scope = scope.clone()?;
     uses.push(Site {
@@ -62,8 +62,8 @@ fn add_field<'a>(
     scope: &Rc<Vec<&'a str>>,
     name: &'a TypeName,
 ) -> Result<(), AllocError>
-    ensures { OnOk result (map use_of uses.new.items ≡ map use_of uses.old.items
-        ++ spec.field_uses (texts scope.now.value.items) name.now) }
+    ensures { OnOk result (AddsUses uses.old.items uses.new.items
+        (spec.field_uses (texts scope.now.value.items) name.now)) }
 {
     if is_scalar(name) {
         return Ok(());
@@ -78,8 +78,8 @@ fn add_map<'a>(
     scope: &Rc<Vec<&'a str>>,
     field: &'a MapField,
 ) -> Result<(), AllocError>
-    ensures { OnOk result (map use_of uses.new.items ≡ map use_of uses.old.items
-        ++ spec.map_uses (texts scope.now.value.items) field.now) }
+    ensures { OnOk result (AddsUses uses.old.items uses.new.items
+        (spec.map_uses (texts scope.now.value.items) field.now)) }
 {
     add_field(alloc, uses, scope, &*field.key)?;
     add_field(alloc, uses, scope, &field.value)
@@ -92,8 +92,8 @@ fn add_oneof_part<'a>(
     scope: &Rc<Vec<&'a str>>,
     part: &'a OneofPart,
 ) -> Result<(), AllocError>
-    ensures { OnOk result (map use_of uses.new.items ≡ map use_of uses.old.items
-        ++ spec.oneof_part_uses (texts scope.now.value.items) part.now) }
+    ensures { OnOk result (AddsUses uses.old.items uses.new.items
+        (spec.oneof_part_uses (texts scope.now.value.items) part.now)) }
 {
     match part {
         OneofPart::Field(field) => add_field(alloc, uses, scope, &field.type_name),
@@ -110,8 +110,8 @@ fn add_oneof<'a>(
     scope: &Rc<Vec<&'a str>>,
     oneof: &'a Oneof,
 ) -> Result<(), AllocError>
-    ensures { OnOk result (map use_of uses.new.items ≡ map use_of uses.old.items
-        ++ spec.oneof_uses (texts scope.now.value.items) oneof.now) }
+    ensures { OnOk result (AddsUses uses.old.items uses.new.items
+        (spec.oneof_uses (texts scope.now.value.items) oneof.now)) }
 {
     for part in &oneof.parts {
         add_oneof_part(alloc, uses, scope, part)?;
@@ -126,8 +126,8 @@ fn add_rpc<'a>(
     scope: &Rc<Vec<&'a str>>,
     rpc: &'a Rpc,
 ) -> Result<(), AllocError>
-    ensures { OnOk result (map use_of uses.new.items ≡ map use_of uses.old.items
-        ++ spec.rpc_uses (texts scope.now.value.items) rpc.now) }
+    ensures { OnOk result (AddsUses uses.old.items uses.new.items
+        (spec.rpc_uses (texts scope.now.value.items) rpc.now)) }
 {
     add_use(alloc, uses, scope, &rpc.input.type_name, false)?;
     add_use(alloc, uses, scope, &rpc.output.type_name, false)
@@ -140,8 +140,8 @@ fn add_service_part<'a>(
     scope: &Rc<Vec<&'a str>>,
     part: &'a ServicePart,
 ) -> Result<(), AllocError>
-    ensures { OnOk result (map use_of uses.new.items ≡ map use_of uses.old.items
-        ++ spec.service_part_uses (texts scope.now.value.items) part.now) }
+    ensures { OnOk result (AddsUses uses.old.items uses.new.items
+        (spec.service_part_uses (texts scope.now.value.items) part.now)) }
 {
     match part {
         ServicePart::Rpc(rpc) => add_rpc(alloc, uses, scope, rpc),
@@ -171,8 +171,8 @@ fn add_service_parts<'a>(
     scope: &Rc<Vec<&'a str>>,
     parts: &'a [ServicePart],
 ) -> Result<(), AllocError>
-    ensures { OnOk result (map use_of uses.new.items ≡ map use_of uses.old.items
-        ++ flat_map (spec.service_part_uses (texts scope.now.value.items)) parts.now) }
+    ensures { OnOk result (AddsUses uses.old.items uses.new.items
+        (flat_map (spec.service_part_uses (texts scope.now.value.items)) parts.now)) }
 {
     for part in parts {
         add_service_part(alloc, uses, scope, part)?;
@@ -187,8 +187,8 @@ fn add_service<'a>(
     scope: &Rc<Vec<&'a str>>,
     service: &'a Service,
 ) -> Result<(), AllocError>
-    ensures { OnOk result (map use_of uses.new.items ≡ map use_of uses.old.items
-        ++ spec.service_uses (texts scope.now.value.items) service.now) }
+    ensures { OnOk result (AddsUses uses.old.items uses.new.items
+        (spec.service_uses (texts scope.now.value.items) service.now)) }
 {
     let words = inner(alloc, scope, service.name.text.as_str())?;
     add_service_parts(alloc, uses, &words, &service.parts)
@@ -202,8 +202,8 @@ fn add_part<'a>(
     scope: &Rc<Vec<&'a str>>,
     part: &'a Part,
 ) -> Result<(), AllocError>
-    ensures { OnOk result (map use_of uses.new.items ≡ map use_of uses.old.items
-        ++ spec.part_uses (texts scope.now.value.items) part.now) }
+    ensures { OnOk result (AddsUses uses.old.items uses.new.items
+        (spec.part_uses (texts scope.now.value.items) part.now)) }
 {
     match part {
         Part::Message(message) => {
@@ -228,8 +228,8 @@ fn add_parts<'a>(
     scope: &Rc<Vec<&'a str>>,
     parts: &'a [Part],
 ) -> Result<(), AllocError>
-    ensures { OnOk result (map use_of uses.new.items ≡ map use_of uses.old.items
-        ++ flat_map (spec.part_uses (texts scope.now.value.items)) parts.now) }
+    ensures { OnOk result (AddsUses uses.old.items uses.new.items
+        (flat_map (spec.part_uses (texts scope.now.value.items)) parts.now)) }
 {
     for part in parts {
         add_part(alloc, uses, scope, part)?;
@@ -245,8 +245,8 @@ fn add_message<'a>(
     scope: &Rc<Vec<&'a str>>,
     message: &'a Message,
 ) -> Result<(), AllocError>
-    ensures { OnOk result (map use_of uses.new.items ≡ map use_of uses.old.items
-        ++ spec.message_uses (texts scope.now.value.items) message.now) }
+    ensures { OnOk result (AddsUses uses.old.items uses.new.items
+        (spec.message_uses (texts scope.now.value.items) message.now)) }
 {
     let words = inner(alloc, scope, message.name.text.as_str())?;
     add_parts(alloc, uses, &words, &message.parts)
@@ -259,8 +259,8 @@ fn add_statement<'a>(
     scope: &Rc<Vec<&'a str>>,
     statement: &'a Statement,
 ) -> Result<(), AllocError>
-    ensures { OnOk result (map use_of uses.new.items ≡ map use_of uses.old.items
-        ++ spec.statement_uses (texts scope.now.value.items) statement.now) }
+    ensures { OnOk result (AddsUses uses.old.items uses.new.items
+        (spec.statement_uses (texts scope.now.value.items) statement.now)) }
 {
     match statement {
         Statement::Message(message) => add_message(alloc, uses, scope, message),
@@ -279,8 +279,8 @@ fn add_statements<'a>(
     scope: &Rc<Vec<&'a str>>,
     statements: &'a [Statement],
 ) -> Result<(), AllocError>
-    ensures { OnOk result (map use_of uses.new.items ≡ map use_of uses.old.items
-        ++ flat_map (spec.statement_uses (texts scope.now.value.items)) statements.now) }
+    ensures { OnOk result (AddsUses uses.old.items uses.new.items
+        (flat_map (spec.statement_uses (texts scope.now.value.items)) statements.now)) }
 {
     for statement in statements {
         add_statement(alloc, uses, scope, statement)?;
