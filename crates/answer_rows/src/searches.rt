@@ -38,7 +38,7 @@ fn alone(
     }
 }
 
-/// The certificate's witness, which has the bytes of the message beside it, and that message's type.
+/// The certificate's witness, which has the bytes of the message beside it, and the message's type.
 pub(crate) fn witness_of(alloc: Global, old: &Schema, found: &Found) -> Result<String, AllocError> {
     let (Some(message), Some(witness)) = (&found.witness, found.certificate.witness()) else {
         let alike = found.witness.is_none() && found.certificate.witness().is_none();

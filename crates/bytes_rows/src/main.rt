@@ -6,9 +6,9 @@
 //! the one is that of the bytes and contents in the lines behind it, and that of the other is what
 //! `fits` and `outside` compare with.
 //!
-//! With `retry ` in front of the call it is made again where it lacks memory (`rows::retry`). `rows`
-//! says how a line spells a text many times. Of another row that runs out of memory `Memory` is
-//! printed; in place of it stand what `set` gave back, and the message as it is then.
+//! With `retry ` in front of the call it is made again where it lacks memory (`rows::retry`).
+//! `rows` says how a line spells a text many times. Of another row that runs out of memory `Memory`
+//! is printed; in place of it stand what `set` gave back, and the message as it is then.
 #![tactic(auto)]
 
 mod contents;

@@ -17,11 +17,18 @@ fn answer(alloc: Global, holds: bool) -> Result<String, DynError> {
     text(alloc, if holds { "true" } else { "false" })
 }
 
+/// The message that bytes are read as, or why there is none: `WrongKind` where the reader whose
+/// messages borrow answers otherwise.
 fn read(alloc: Global, schema: &Schema, bytes: &[u8], limit: usize) -> Result<Message, DynError> {
     if !schema.has(FIRST) {
         return Err(DynError::NoSuchField);
     }
-    decode(alloc, schema, FIRST, bytes, limit)
+    let owned = decode(alloc, schema, FIRST, bytes, limit);
+    match (decode_ref(alloc, schema, FIRST, bytes, limit), owned) {
+        (Ok(_), Ok(message)) => Ok(message),
+        (Err(lent), Err(owned)) if lent == owned => Err(owned),
+        _ => Err(DynError::WrongKind),
+    }
 }
 
 /// The bytes of a message that fits the schema; of one that doesn't fit `WrongKind`.
@@ -47,7 +54,8 @@ fn rewritten_lent(alloc: Global, schema: &Schema, bytes: &[u8]) -> Result<String
     }
 }
 
-/// What is written again of bytes that are read; of a message that borrows from them it is the same.
+/// What is written again of bytes that are read; of a message that borrows from them it is the
+/// same.
 fn rewritten(alloc: Global, schema: &Schema, bytes: &[u8]) -> Result<String, DynError> {
     let lent = rewritten_lent(alloc, schema, bytes)?;
     let message = read(alloc, schema, bytes, 100)?;

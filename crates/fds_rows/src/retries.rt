@@ -56,8 +56,8 @@ fn names_of_types(rt: &HostRuntime) -> io::Result<String> {
     Ok(names)
 }
 
-/// What is printed of `CALL SET`, with what comes in front of the answer (`rows::retry`): of `read`,
-/// and of the schema that the set states `write` and `read_again`.
+/// What is printed of `CALL SET`, with what comes in front of the answer (`rows::retry`): of
+/// `read`, and of the schema that the set states `write` and `read_again`.
 pub(crate) fn answer(rt: &HostRuntime, input: &str) -> io::Result<String> {
     let (call, spelled) = input.split_once(' ').unwrap_or((input, ""));
     if call == "descriptor_schema" {

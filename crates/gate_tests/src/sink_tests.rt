@@ -67,8 +67,8 @@ fn stops_where_a_sink_fails(rt: HostRuntime) -> Result<(), Fail> {
     Ok(())
 }
 
-/// Whether the run prints this. One that lacks memory has to leave its sink alone, and is made again
-/// over the same sources and the same sink.
+/// Whether the run prints this. One that lacks memory has to leave its sink alone, and is made
+/// again over the same sources and the same sink.
 fn runs_again(rt: &HostRuntime, words: &[&str], printed: &str, status: u8) -> Result<bool, Fail> {
     let mut old = Listed { files: &FILES };
     let mut new = Listed { files: &FILES };

@@ -19,8 +19,8 @@ use std::alloc::Global;
 /// The message that bytes are read as, by the type, which the schema has, however deep its messages
 /// are nested. Its texts, bytes and unknown records are those of the bytes; none is copied.
 ///
-/// The errors are `Wire` and `NotUtf8`, of bytes that have no reading, as `decode_ref` reports them;
-/// and, of bytes that have one, `Memory`.
+/// The errors are `Wire` and `NotUtf8`, of bytes that have no reading, as `decode_ref` reports
+/// them; and, of bytes that have one, `Memory`.
 pub fn decode_ref_unlimited<'a>(
     alloc: Global,
     schema: &Schema,

@@ -104,7 +104,8 @@ fn of_files(rt: &HostRuntime, files: &[(&str, &[u8])], options: Options) -> io::
 }
 
 /// `links | FILES [| OPTIONS]`: `link`, below a folder `link_below`, of one read `read_file`, and
-/// of what is asked `place_in`, `targets_by_place` and `resolve`. The source is the same both times.
+/// of what is asked `place_in`, `targets_by_place` and `resolve`.
+/// The source is the same both times.
 pub fn linked(rt: &HostRuntime, input: &str) -> io::Result<String> {
     let (files, options) = cut(input);
     let files = files_of(rt.alloc(), files)?;
