@@ -6,8 +6,9 @@ usage: tools/prove.py [--anew] [CRATE..]    ends with the gate's status, and wit
 The gate runs on a copy of the repository, or, where crates are named, of these and of those that they stand on. Edits are taken out of the
 copy, and tried afterwards over the libraries that `rt ci` built there, those of a crate in one check or a few (try_edits.py); `rt ci` in
 the repository itself tries each alone, and proves each crate that has some a second time. With no names the documents' words, links and
-pictures are compared first, and what was built is put back into the repository and tried last: the program and the libraries' calls with
-each request for memory refused, the program on rows and on random inputs, the scripts that call it, and the commands of the documents.
+pictures are compared first, a message that outlives its bytes is tried over the libraries too (try_lent.py), and what was built is put back
+into the repository and tried last: the program and the libraries' calls with each request for memory refused, the program on rows and on
+random inputs, the scripts that call it, and the commands of the documents.
 What earlier runs on this machine passed is taken as it stands; with --anew all is proved and tried again.
 
 Lines of rt stand behind the seconds since the start. The last lines are the processor seconds of each crate by kind: its proof, its seeds (a second
@@ -237,6 +238,11 @@ def documents_agree():
     return all([subprocess.run([f"tools/{it}", "--compare"]).returncode == 0 for it in ("model_files.py", "links.py", "pictures.py")])
 
 
+def try_lent(room):
+    """Tries a message that outlives its bytes over the libraries in the room. Prints what was said, and returns whether it was right."""
+    return subprocess.run([sys.executable, f"{os.getcwd()}/tools/try_lent.py", room], stdin=subprocess.DEVNULL, check=False).returncode == 0
+
+
 def try_program():
     """Runs the testers of what `rt ci` built side by side, then the fuzzer, and then the examples. Prints what each said, in that order.
     Returns which passed, and the processor seconds of all."""
@@ -266,8 +272,10 @@ def prove_all(flags):
     with tempfile.TemporaryDirectory(prefix="protogate-gate-") as room:
         copy_all(room)
         status, last, table, whole = prove(room, flags)
+        lent = [try_lent(room)] if status == 0 else []
         put_back(room)
     passed, seconds = try_program() if status == 0 else ([], 0)
+    passed += lent
     print_costs(table, whole + seconds)
     print(counted(last, sum(passed), len(passed) - sum(passed)))
     return status or 1 - all(passed)

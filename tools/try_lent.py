@@ -1,10 +1,10 @@
 #!/usr/bin/env python3
 """Checks that no message outlives the bytes that it borrows from.
 
-usage: tools/try_lent.py    wants the libraries that `rt ci` or `rt lib` built
+usage: tools/try_lent.py [ROOM]    of the repository in the room, or of this one: it wants the libraries that `rt ci` or `rt lib` built there
 
 A function that drops the bytes before it uses the message is refused for just that, and the same one that drops them afterwards is
-proved. The gate's own edits can't show this: a body that isn't compiled counts for nothing there. The last line says how many of the
+proved. An edit can't show this: a body that isn't compiled counts for nothing there. The last line says how many of the
 two were as they should be; the status is 1 where one wasn't.
 """
 
@@ -13,6 +13,9 @@ import shutil
 import subprocess
 import sys
 import tempfile
+
+sys.dont_write_bytecode = True
+from try_edits import load_kit  # noqa: E402
 
 LIBRARIES = ("pg_wire", "pg_schema", "pg_dyn")
 HEAD = """//! Reads bytes that are dropped.
@@ -49,18 +52,21 @@ def repository(room):
         file.write("".join(lines_of(LIBRARIES)) + "lent: pg_schema pg_dyn\n")
 
 
-def checked(room, body):
+def checked(kit, room, body):
     """Returns what the check says of the crate with this body."""
     with open(f"{room}/crates/lent/src/lib.rt", "w", encoding="utf-8") as file:
         file.write(HEAD + body)
-    run = subprocess.run(["rt", "check"], cwd=f"{room}/crates/lent", stdin=subprocess.DEVNULL, capture_output=True, text=True, errors="replace", check=False)
-    return run.stdout + run.stderr
+    crate = next(it for it in kit.rtlib.crates_below(room) if it.name == "lent")
+    words = [kit.rtlib.RATTLE, "check", *crate.words(["--jobs", "1"], keeps=False)]
+    how = {"stdin": subprocess.DEVNULL, "stdout": subprocess.PIPE, "stderr": subprocess.STDOUT, "text": True, "errors": "replace"}
+    return subprocess.run(words, cwd=crate.folder, check=False, **how).stdout
 
 
 def main():
+    kit = load_kit()
     with tempfile.TemporaryDirectory(prefix="protogate-lent-") as room:
         repository(room)
-        refused, proved = checked(room, FIRST), checked(room, AFTERWARDS)
+        refused, proved = checked(kit, room, FIRST), checked(kit, room, AFTERWARDS)
     results = [("borrow-e0505" in refused and "logic=proved" not in refused, refused), ("logic=proved" in proved, proved)]
     for is_right, said in results:
         if not is_right:
@@ -70,5 +76,5 @@ def main():
 
 
 if __name__ == "__main__":
-    os.chdir(os.path.dirname(os.path.dirname(os.path.realpath(__file__))))
+    os.chdir(sys.argv[1] if sys.argv[1:] else os.path.dirname(os.path.dirname(os.path.realpath(__file__))))
     sys.exit(main())
