@@ -76,9 +76,10 @@ type_code t place e code (of_parts.item_beyond is) = refl
 type_code t place e code (of_parts.item_falling is) = refl
 type_code t place e code (of_parts.items_overlapping is) = refl
 type_code t place e code (of_parts.json_name_clash is) = refl
-type_code t place e code (of_parts.bad_map_key is) = refl
-type_code t place e code (of_parts.bad_oneof_member is) = refl
-type_code t place e code (of_parts.packed_not_allowed is) = refl
+type_code t place e code (of_parts.bad_map_key f key one is bad) = refl
+type_code t place e code (of_parts.bad_oneof_member f one has why) = refl
+type_code t place e code (of_parts.empty_oneof is) = refl
+type_code t place e code (of_parts.packed_not_allowed f one packed why) = refl
 
 pub enum_type_code : (n : EnumType) (place : Place) (e : CheckError) (code : ℕ) → BreaksEnumType n place e code → code_of e ≡ code
 enum_type_code n place e code (of_parts.reserved_value_number is) = refl
@@ -91,5 +92,5 @@ enum_type_code n place e code (of_parts.alias is) = refl
 enum_type_code n place e code (of_parts.no_value is) = refl
 
 pub file_part_code : (f : File) (place : Place) (e : CheckError) (code : ℕ) → BreaksFilePart f place e code → code_of e ≡ code
-file_part_code f place e code (of_parts.bad_option is) = refl
+file_part_code f place e code (of_parts.bad_option o one is) = refl
 file_part_code f place e code (of_parts.option_again is) = refl

@@ -1,19 +1,26 @@
 -- What each error says of parts that come from no text: the fact that doesn't hold, by the words of the rules that files keep to.
 -- Parts have no places, so of each message type, enum and file the lowest code is reported (proto3 language guide, "Assigning Field
 -- Numbers", "Reserved Fields", "Enumerations", "Oneof", "Maps", "JSON Mapping"; proto3 language specification, "Option").
-use Rattle.std.specs.Prelude.{◌≡◌, ◌≤◌, ◌<◌, ℕ, true, false, ◌||◌, List, map, length, string_bytes}
-use Rattle.std.specs.List.{list_all, list_any, AllByRecursion}
+use Rattle.std.specs.Prelude.{◌≡◌, ◌≤◌, ◌<◌, ◌⊎◌, ℕ, true, false, ◌||◌, List, map, length, is_some, string_bytes}
+use Rattle.std.specs.List.{list_all, AllByRecursion}
 use Rattle.pg_link.specs.declared.error.Place.{Place}
 use Rattle.pg_schema.specs.declared.parts.enum_type.EnumType.{EnumType}
+use Rattle.pg_schema.specs.declared.parts.field.Field.{Field}
+use Rattle.pg_schema.specs.declared.parts.field.Presence.TheVariants as presences
+use Rattle.pg_schema.specs.declared.parts.field.Scalar.{Scalar}
 use Rattle.pg_schema.specs.declared.parts.file.File.{File}
 use Rattle.pg_schema.specs.declared.parts.message_type.MessageType.{MessageType}
+use Rattle.pg_schema.specs.declared.parts.options.FileOption.{FileOption}
 use Rattle.pg_schema.specs.declared.parts.Parts.{Parts}
 use Rattle.pg_schema.specs.rules.Fields.{stated_or}
+use Rattle.pg_schema.specs.rules.Files.{is_file_option}
+use Rattle.pg_schema.specs.rules.Messages.{have_members}
+use Rattle.pg_schema.specs.Shape.{is_key, is_packable, is_repeated, is_singular}
 use Rattle.pg_check.specs.declared.error.CheckError.{CheckError}
 use Rattle.pg_check.specs.declared.error.CheckError.TheVariants as errors
 use Rattle.pg_check.specs.declared.rules.numbers.Keyed.{Keyed}
 use Rattle.pg_check.specs.declared.rules.numbers.Numbers.{Numbers}
-use Rattle.pg_check.specs.rules.Firsts.{IsBehind}
+use Rattle.pg_check.specs.rules.Firsts.{IsBehind, IsOneOf}
 use Rattle.pg_check.specs.rules.KeepsRules.{are_apart, begins_with_zero, has_field_number, has_some, is_free, is_free_name, lies_within, rises}
 use Rattle.pg_check.specs.rules.Names as names
 use Rattle.pg_check.specs.rules.Numbers as numbers
@@ -39,9 +46,16 @@ pub data BreaksType (t : MessageType) (place : Place) : CheckError → (code : �
   item_falling : list_all rises (items_of t) ≡ false → BreaksType t place (errors.RangeOverlap place) 405
   items_overlapping : are_apart overlap (items_of t) ≡ false → BreaksType t place (errors.RangeOverlap place) 405
   json_name_clash : are_apart names.is_same (map faults.json_name_of t.fields.items) ≡ false → BreaksType t place (errors.JsonNameClash place) 406
-  bad_map_key : list_any faults.field_has_bad_key t.fields.items ≡ true → BreaksType t place (errors.BadMapKey place) 407
-  bad_oneof_member : faults.has_bad_oneof t ≡ true → BreaksType t place (errors.BadOneofMember place) 408
-  packed_not_allowed : list_any faults.field_badly_packed t.fields.items ≡ true → BreaksType t place (errors.PackedNotAllowed place) 412
+  -- a map's key that is no whole number, bool or string
+  bad_map_key : (f : Field) (key : Scalar) → IsOneOf t.fields.items f → f.presence ≡ presences.Map key → is_key key ≡ false →
+      BreaksType t place (errors.BadMapKey place) 407
+  -- a member of a oneof that is repeated, a map or `optional`
+  bad_oneof_member : (f : Field) → IsOneOf t.fields.items f → is_some f.oneof ≡ true → (is_singular f.presence ≡ false) ⊎ (f.states_optional ≡ true) →
+      BreaksType t place (errors.BadOneofMember place) 408
+  empty_oneof : have_members (length t.oneofs.items) t.fields.items ≡ false → BreaksType t place (errors.BadOneofMember place) 408
+  -- packed, or stated to be, and not repeated or of items that need a record each
+  packed_not_allowed : (f : Field) → IsOneOf t.fields.items f → (f.presence ≡ presences.Repeated true) ⊎ (stated_or f.options.packed false ≡ true) →
+      (is_repeated f.presence ≡ false) ⊎ (is_packable f.element ≡ false) → BreaksType t place (errors.PackedNotAllowed place) 412
 
 abbrev pub KeepsType : MessageType → Type 0
 KeepsType t = (place : Place) (e : CheckError) (code : ℕ) → BreaksType t place e code → ⊥
@@ -69,7 +83,8 @@ abbrev pub KeepsEnumType : EnumType → Type 0
 KeepsEnumType n = (place : Place) (e : CheckError) (code : ℕ) → BreaksEnumType n place e code → ⊥
 
 pub data BreaksFilePart (f : File) (place : Place) : CheckError → (code : ℕ) → Type 0 where
-  bad_option : list_any faults.is_bad_option f.options.items ≡ true → BreaksFilePart f place (errors.BadOption place) 411
+  -- an option that is unknown, or of another kind of value
+  bad_option : (o : FileOption) → IsOneOf f.options.items o → is_file_option o ≡ false → BreaksFilePart f place (errors.BadOption place) 411
   option_again : are_apart numbers.is_same (map faults.option_key f.options.items) ≡ false → BreaksFilePart f place (errors.BadOption place) 411
 
 abbrev pub KeepsFilePart : File → Type 0

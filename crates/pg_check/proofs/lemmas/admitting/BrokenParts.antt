@@ -1,25 +1,34 @@
 -- What is reported of parts that come from no text is the first rule that they break, and of one part the lowest code.
-use Rattle.std.proofs.Common.{◌≡◌, ◌∙◌, ◌↔◌, ◌≤◌, ◌<◌, inl, inr, ℕ, Bool, true, false, cond, not, nat_eq, nat_le, nat_lt, ◌||◌, List, [], ◌∷◌, ◌++◌, length, map, Option, Some, None, string_bytes, sym, ap, subst, refl, arith}
+use Rattle.std.proofs.Common.{◌≡◌, ◌∙◌, ◌↔◌, ◌≤◌, ◌<◌, inl, inr, ℕ, Bool, true, false, cond, not, nat_eq, nat_le, nat_lt, ◌||◌, ◌&&◌, ◌⊎◌, List, [], ◌∷◌, ◌++◌, length, map, Option, Some, None, is_some, string_bytes, sym, ap, subst, refl, arith}
 use Rattle.std.specs.List.{list_all, list_any, AllByRecursion}
 use Rattle.std.proofs.lemmas.Bool.{false≢true}
 use Rattle.std.proofs.lemmas.Bool.Decides.{nat_tests}
+use Rattle.std.proofs.lemmas.List.Folds.{list_any-append}
 use Rattle.pg_link.specs.declared.error.Place.{Place}
 use Rattle.pg_schema.specs.declared.parts.enum_type.EnumType.{EnumType}
+use Rattle.pg_schema.specs.declared.parts.field.Element.{Element}
+use Rattle.pg_schema.specs.declared.parts.field.Field.{Field}
+use Rattle.pg_schema.specs.declared.parts.field.Presence.{Presence}
+use Rattle.pg_schema.specs.declared.parts.field.Presence.TheVariants as presences
+use Rattle.pg_schema.specs.declared.parts.field.Scalar.{Scalar}
 use Rattle.pg_schema.specs.declared.parts.file.File.{File}
 use Rattle.pg_schema.specs.declared.parts.message_type.MessageType.{MessageType}
 use Rattle.pg_schema.specs.declared.parts.Parts.{Parts}
 use Rattle.pg_schema.specs.rules.Fields.{stated_or}
+use Rattle.pg_schema.specs.rules.Files.{is_file_option}
+use Rattle.pg_schema.specs.rules.Messages.{have_members}
+use Rattle.pg_schema.specs.Shape.{is_key, is_packable, is_repeated, is_singular}
 use Rattle.pg_check.specs.declared.error.CheckError.{CheckError}
 use Rattle.pg_check.specs.declared.rules.fault.Fault.{Fault}
 use Rattle.pg_check.specs.declared.rules.fault.Rule.{Rule}
 use Rattle.pg_check.specs.declared.rules.fault.Rule.TheVariants as rules
 use Rattle.pg_check.specs.declared.rules.numbers.Keyed.{Keyed}
 use Rattle.pg_check.specs.declared.rules.numbers.Numbers.{Numbers}
-use Rattle.pg_check.specs.admitting.BrokenParts.{BreaksEnumType, BreaksFilePart, BreaksFirst, BreaksType, IsFirstBrokenPart, KeepsAll, KeepsEnumType, KeepsFilePart, KeepsType, alias, bad_map_key, bad_number, bad_oneof_member, bad_option, duplicate_number, first_not_zero, in_enum, in_file, in_type, item_beyond, item_falling, items_of, items_overlapping, json_name_clash, keys_of, no_value, option_again, packed_not_allowed, reserved_name, reserved_number, reserved_value_name, reserved_value_number, too_many_types, value_item_beyond, value_item_falling, value_items, value_items_overlapping, value_keys}
+use Rattle.pg_check.specs.admitting.BrokenParts.{BreaksEnumType, BreaksFilePart, BreaksFirst, BreaksType, IsFirstBrokenPart, KeepsAll, KeepsEnumType, KeepsFilePart, KeepsType, alias, bad_map_key, bad_number, bad_oneof_member, bad_option, duplicate_number, empty_oneof, first_not_zero, in_enum, in_file, in_type, item_beyond, item_falling, items_of, items_overlapping, json_name_clash, keys_of, no_value, option_again, packed_not_allowed, reserved_name, reserved_number, reserved_value_name, reserved_value_number, too_many_types, value_item_beyond, value_item_falling, value_items, value_items_overlapping, value_keys}
 use Rattle.pg_check.specs.rules.Enums as enums
 use Rattle.pg_check.specs.Errors.{error_of}
 use Rattle.pg_check.specs.rules.Faults.{broken, broken_at, earlier, first_fault, or_else, order}
-use Rattle.pg_check.specs.rules.Firsts.{IsNotAfter}
+use Rattle.pg_check.specs.rules.Firsts.{IsNotAfter, IsOneOf}
 use Rattle.pg_check.specs.rules.KeepsRules.{are_apart, begins_with_zero, has_field_number, has_some, is_free, is_free_name, lies_within, rises}
 use Rattle.pg_check.specs.rules.Messages as messages
 use Rattle.pg_check.specs.rules.Names as names
@@ -27,7 +36,7 @@ use Rattle.pg_check.specs.rules.Numbers as numbers
 use Rattle.pg_check.specs.admitting.PartErrors.{IsFirstOf}
 use Rattle.pg_check.specs.admitting.PartFaults as faults
 use Rattle.pg_check.specs.rules.ReservedItems as reserved
-use Rattle.pg_check.proofs.lemmas.rules.FirstFaults.{IsFound, Meets, broken_found, broken_meets, earlier_meets, first_meets, found_left, found_right}
+use Rattle.pg_check.proofs.lemmas.rules.FirstFaults.{IsFound, Meets, broken_found, broken_meets, earlier_meets, first_meets, found_left, found_right, one_more}
 use Rattle.pg_check.proofs.lemmas.rules.Keeping.{free_names, free_numbers}
 use Rattle.pg_check.proofs.lemmas.rules.KeepingFiles.{no_alias, some_there, zero_first}
 use Rattle.pg_check.proofs.lemmas.rules.NoneLaws.{first_fault_none, none_again, not_not, such_kept}
@@ -152,6 +161,118 @@ overlapping_found view zero lowest highest xs h =
     (found_right (broken rules.RangeOverlap (reserved.first_falling (map view xs))) _ 0 405
     (rule_found rules.RangeOverlap (reserved.first_overlapping (map view xs)) _ (of_overlapping view zero xs) h))
 
+-- ---- one of a list that a test finds
+
+some_one : {X : Type 0} (p : X → Bool) (xs : List X) → list_any p xs ≡ true → (x : X) × (IsOneOf xs x × (p x ≡ true))
+some_one p [] h = absurd (false≢true h)
+some_one p (x ∷ xs) h = by (p x) refl h
+  where
+    by : (b : Bool) → p x ≡ b → (b || list_any p xs) ≡ true → (y : _) × (IsOneOf (x ∷ xs) y × (p y ≡ true))
+    by true is g = (x, (record { before = []; after = xs; is = refl }, is))
+    by false is g = let (y, (one, test)) = some_one p xs g in (y, (one_more x xs y one, test))
+
+or_true : (b : Bool) → (b || true) ≡ true
+or_true true = refl
+or_true false = refl
+
+any_one : {X : Type 0} (p : X → Bool) (xs : List X) (x : X) → IsOneOf xs x → p x ≡ true → list_any p xs ≡ true
+any_one p xs x one is =
+    ap (list_any p) one.is ∙ (list_any-append p one.before (x ∷ one.after)
+    ∙ (ap (λ b. list_any p one.before || (b || list_any p one.after)) is ∙ or_true (list_any p one.before)))
+
+of_not : (b : Bool) → not b ≡ true → b ≡ false
+of_not true h = absurd (false≢true h)
+of_not false h = refl
+
+-- ---- the rules of maps, oneofs and packed fields
+
+bad_key_of : (p : Presence) → faults.has_bad_key p ≡ true → (key : Scalar) × ((p ≡ presences.Map key) × (is_key key ≡ false))
+bad_key_of presences.Implicit h = absurd (false≢true h)
+bad_key_of presences.Explicit h = absurd (false≢true h)
+bad_key_of (presences.Repeated packed) h = absurd (false≢true h)
+bad_key_of (presences.Map key) h = (key, (refl, of_not (is_key key) h))
+
+key_is_bad : (p : Presence) (key : Scalar) → p ≡ presences.Map key → is_key key ≡ false → faults.has_bad_key p ≡ true
+key_is_bad p key is bad = ap faults.has_bad_key is ∙ ap not bad
+
+key_breaks : (t : MessageType) (place : Place) → list_any faults.field_has_bad_key t.fields.items ≡ true → BreaksType t place (error_of rules.BadMapKey place) 407
+key_breaks t place h =
+    let (f, (one, is)) = some_one faults.field_has_bad_key t.fields.items h in
+    let (key, (of_map, bad)) = bad_key_of f.presence is in
+    bad_map_key f key one of_map bad
+
+bad_member_of : (f : Field) → faults.is_bad_member f ≡ true → (is_some f.oneof ≡ true) × ((is_singular f.presence ≡ false) ⊎ (f.states_optional ≡ true))
+bad_member_of f h = by (is_some f.oneof) (is_singular f.presence) f.states_optional h
+  where
+    by : (member singular states : Bool) → (member && (not singular || states)) ≡ true → (member ≡ true) × ((singular ≡ false) ⊎ (states ≡ true))
+    by true false states g = (refl, inl refl)
+    by true true true g = (refl, inr refl)
+    by true true false g = absurd (false≢true g)
+    by false singular states g = absurd (false≢true g)
+
+member_is_bad : (f : Field) → is_some f.oneof ≡ true → (is_singular f.presence ≡ false) ⊎ (f.states_optional ≡ true) → faults.is_bad_member f ≡ true
+member_is_bad f has why = ap (λ b. b && (not (is_singular f.presence) || f.states_optional)) has ∙ by (is_singular f.presence) f.states_optional why
+  where
+    by : (singular states : Bool) → (singular ≡ false) ⊎ (states ≡ true) → (not singular || states) ≡ true
+    by singular states (inl is) = ap (λ b. not b || states) is
+    by singular states (inr is) = ap (λ b. not singular || b) is ∙ or_true (not singular)
+
+oneof_breaks : (t : MessageType) (place : Place) → faults.has_bad_oneof t ≡ true → BreaksType t place (error_of rules.BadOneofMember place) 408
+oneof_breaks t place h = by (list_any faults.is_bad_member t.fields.items) refl h
+  where
+    by : (b : Bool) → list_any faults.is_bad_member t.fields.items ≡ b → (b || not (have_members (length t.oneofs.items) t.fields.items)) ≡ true
+        → BreaksType t place (error_of rules.BadOneofMember place) 408
+    by true is g =
+        let (f, (one, bad)) = some_one faults.is_bad_member t.fields.items is in
+        let (has, why) = bad_member_of f bad in
+        bad_oneof_member f one has why
+    by false is g = empty_oneof (of_not (have_members (length t.oneofs.items) t.fields.items) g)
+
+oneof_is_bad : (t : MessageType) (f : Field) → IsOneOf t.fields.items f → is_some f.oneof ≡ true → (is_singular f.presence ≡ false) ⊎ (f.states_optional ≡ true) → faults.has_bad_oneof t ≡ true
+oneof_is_bad t f one has why =
+    ap (λ b. b || not (have_members (length t.oneofs.items) t.fields.items)) (any_one faults.is_bad_member t.fields.items f one (member_is_bad f has why))
+
+oneof_is_empty : (t : MessageType) → have_members (length t.oneofs.items) t.fields.items ≡ false → faults.has_bad_oneof t ≡ true
+oneof_is_empty t h =
+    ap (λ b. list_any faults.is_bad_member t.fields.items || not b) h ∙ or_true (list_any faults.is_bad_member t.fields.items)
+
+badly_packed_of : (p : Presence) (e : Element) (stated : Option Bool) → faults.is_badly_packed p e stated ≡ true
+    → ((p ≡ presences.Repeated true) ⊎ (stated_or stated false ≡ true)) × ((is_repeated p ≡ false) ⊎ (is_packable e ≡ false))
+badly_packed_of presences.Implicit e stated h = (inr h, inl refl)
+badly_packed_of presences.Explicit e stated h = (inr h, inl refl)
+badly_packed_of (presences.Map key) e stated h = (inr h, inl refl)
+badly_packed_of (presences.Repeated packed) e stated h = by packed (stated_or stated false) (is_packable e) h
+  where
+    by : (a s k : Bool) → ((a || s) && not k) ≡ true
+        → ((presences.Repeated a ≡ presences.Repeated true) ⊎ (s ≡ true)) × ((is_repeated (presences.Repeated a) ≡ false) ⊎ (k ≡ false))
+    by true s false g = (inl refl, inr refl)
+    by true s true g = absurd (false≢true g)
+    by false true false g = (inr refl, inr refl)
+    by false true true g = absurd (false≢true g)
+    by false false k g = absurd (false≢true g)
+
+packed_is_bad : (p : Presence) (e : Element) (stated : Option Bool) → (p ≡ presences.Repeated true) ⊎ (stated_or stated false ≡ true)
+    → (is_repeated p ≡ false) ⊎ (is_packable e ≡ false) → faults.is_badly_packed p e stated ≡ true
+packed_is_bad presences.Implicit e stated (inl is) why = absurd (cc (is))
+packed_is_bad presences.Implicit e stated (inr is) why = is
+packed_is_bad presences.Explicit e stated (inl is) why = absurd (cc (is))
+packed_is_bad presences.Explicit e stated (inr is) why = is
+packed_is_bad (presences.Map key) e stated (inl is) why = absurd (cc (is))
+packed_is_bad (presences.Map key) e stated (inr is) why = is
+packed_is_bad (presences.Repeated packed) e stated is (inl no) = absurd (false≢true (sym no))
+packed_is_bad (presences.Repeated packed) e stated is (inr no) = by packed (stated_or stated false) (is_packable e) is no
+  where
+    by : (a s k : Bool) → (presences.Repeated a ≡ presences.Repeated true) ⊎ (s ≡ true) → k ≡ false → ((a || s) && not k) ≡ true
+    by true s k g others = ap not others
+    by false s k (inl g) others = let same : false ≡ true = cc (g) in absurd (false≢true same)
+    by false s k (inr g) others = ap (λ b. b && not k) g ∙ ap not others
+
+packed_breaks : (t : MessageType) (place : Place) → list_any faults.field_badly_packed t.fields.items ≡ true → BreaksType t place (error_of rules.PackedNotAllowed place) 412
+packed_breaks t place h =
+    let (f, (one, is)) = some_one faults.field_badly_packed t.fields.items h in
+    let (packed, why) = badly_packed_of f.presence f.element f.options.packed is in
+    packed_not_allowed f one packed why
+
 -- ---- message types
 
 of_field_names : (t : MessageType) → Breaking (names.first_among (map string_bytes t.reserved_names.items) (map faults.name_of t.fields.items))
@@ -184,10 +305,10 @@ type_meets t place =
     (rule_meets B place rules.ReservedName taken _ (of_field_names t) reserved_name)
     (rule_meets B place rules.JsonNameClash json _ (of_json_names t) json_name_clash))
     (earlier_meets P (faults.fault_if rules.BadMapKey (list_any faults.field_has_bad_key t.fields.items)) _
-    (test_meets B place rules.BadMapKey (list_any faults.field_has_bad_key t.fields.items) bad_map_key)
+    (test_meets B place rules.BadMapKey (list_any faults.field_has_bad_key t.fields.items) (key_breaks t place))
     (earlier_meets P (faults.fault_if rules.BadOneofMember (faults.has_bad_oneof t)) (faults.fault_if rules.PackedNotAllowed (list_any faults.field_badly_packed t.fields.items))
-    (test_meets B place rules.BadOneofMember (faults.has_bad_oneof t) bad_oneof_member)
-    (test_meets B place rules.PackedNotAllowed (list_any faults.field_badly_packed t.fields.items) packed_not_allowed))))
+    (test_meets B place rules.BadOneofMember (faults.has_bad_oneof t) (oneof_breaks t place))
+    (test_meets B place rules.PackedNotAllowed (list_any faults.field_badly_packed t.fields.items) (packed_breaks t place)))))
 
 in_numbers : (t : MessageType) (c : ℕ) → IsFound (faults.numbers_fault t) 0 c → IsFound (faults.message_fault t) 0 c
 in_numbers t c h = found_left (faults.numbers_fault t) _ 0 c h
@@ -203,6 +324,11 @@ in_names t c h = found_right (faults.numbers_fault t) _ 0 c (found_left (faults.
 
 in_shapes : (t : MessageType) (c : ℕ) → IsFound (faults.shapes_fault t) 0 c → IsFound (faults.message_fault t) 0 c
 in_shapes t c h = found_right (faults.numbers_fault t) _ 0 c (found_right (faults.names_fault t) (faults.shapes_fault t) 0 c h)
+
+bad_oneof_found : (t : MessageType) → faults.has_bad_oneof t ≡ true → IsFound (faults.message_fault t) 0 408
+bad_oneof_found t h =
+    in_shapes t 408 (found_right (faults.fault_if rules.BadMapKey (list_any faults.field_has_bad_key t.fields.items)) _ 0 408
+    (found_left (faults.fault_if rules.BadOneofMember (faults.has_bad_oneof t)) _ 0 408 (test_found rules.BadOneofMember (faults.has_bad_oneof t) h)))
 
 type_found : (t : MessageType) (place : Place) (e : CheckError) (c : ℕ) → BreaksType t place e c → IsFound (faults.message_fault t) 0 c
 type_found t place e c (bad_number h) =
@@ -226,16 +352,16 @@ type_found t place e c (items_overlapping h) = in_items t 405 (overlapping_found
 type_found t place e c (json_name_clash h) =
     in_names t 406 (found_right (broken rules.ReservedName (names.first_among (map string_bytes t.reserved_names.items) (map faults.name_of t.fields.items))) _ 0 406
     (rule_found rules.JsonNameClash (names.first_twice (map faults.json_name_of t.fields.items)) _ (of_json_names t) h))
-type_found t place e c (bad_map_key h) =
+type_found t place e c (bad_map_key f key one is bad) =
     in_shapes t 407 (found_left (faults.fault_if rules.BadMapKey (list_any faults.field_has_bad_key t.fields.items)) _ 0 407
-    (test_found rules.BadMapKey (list_any faults.field_has_bad_key t.fields.items) h))
-type_found t place e c (bad_oneof_member h) =
-    in_shapes t 408 (found_right (faults.fault_if rules.BadMapKey (list_any faults.field_has_bad_key t.fields.items)) _ 0 408
-    (found_left (faults.fault_if rules.BadOneofMember (faults.has_bad_oneof t)) _ 0 408 (test_found rules.BadOneofMember (faults.has_bad_oneof t) h)))
-type_found t place e c (packed_not_allowed h) =
+    (test_found rules.BadMapKey (list_any faults.field_has_bad_key t.fields.items) (any_one faults.field_has_bad_key t.fields.items f one (key_is_bad f.presence key is bad))))
+type_found t place e c (bad_oneof_member f one has why) = bad_oneof_found t (oneof_is_bad t f one has why)
+type_found t place e c (empty_oneof h) = bad_oneof_found t (oneof_is_empty t h)
+type_found t place e c (packed_not_allowed f one packed why) =
     in_shapes t 412 (found_right (faults.fault_if rules.BadMapKey (list_any faults.field_has_bad_key t.fields.items)) _ 0 412
     (found_right (faults.fault_if rules.BadOneofMember (faults.has_bad_oneof t)) _ 0 412
-    (test_found rules.PackedNotAllowed (list_any faults.field_badly_packed t.fields.items) h)))
+    (test_found rules.PackedNotAllowed (list_any faults.field_badly_packed t.fields.items)
+    (any_one faults.field_badly_packed t.fields.items f one (packed_is_bad f.presence f.element f.options.packed packed why)))))
 
 -- ---- enums
 
@@ -329,12 +455,15 @@ file_part_meets : (f : File) (place : Place) → Meets (At (BreaksFilePart f pla
 file_part_meets f place =
     let B = BreaksFilePart f place in
     earlier_meets (At B place) (faults.fault_if rules.BadOption (list_any faults.is_bad_option f.options.items)) _
-    (test_meets B place rules.BadOption (list_any faults.is_bad_option f.options.items) bad_option)
+    (test_meets B place rules.BadOption (list_any faults.is_bad_option f.options.items) (λ h.
+    let (o, (one, is)) = some_one faults.is_bad_option f.options.items h in
+    bad_option o one (of_not (is_file_option o) is)))
     (rule_meets B place rules.BadOption (numbers.first_twice (map faults.option_key f.options.items)) _ (of_same faults.option_key (λ o. refl) f.options.items) option_again)
 
 file_part_found : (f : File) (place : Place) (error : CheckError) (c : ℕ) → BreaksFilePart f place error c → IsFound (faults.file_fault f) 0 c
-file_part_found f place error c (bad_option h) =
-    found_left (faults.fault_if rules.BadOption (list_any faults.is_bad_option f.options.items)) _ 0 411 (test_found rules.BadOption (list_any faults.is_bad_option f.options.items) h)
+file_part_found f place error c (bad_option o one is) =
+    found_left (faults.fault_if rules.BadOption (list_any faults.is_bad_option f.options.items)) _ 0 411
+    (test_found rules.BadOption (list_any faults.is_bad_option f.options.items) (any_one faults.is_bad_option f.options.items o one (ap not is)))
 file_part_found f place error c (option_again h) =
     found_right (faults.fault_if rules.BadOption (list_any faults.is_bad_option f.options.items)) _ 0 411
     (rule_found rules.BadOption (numbers.first_twice (map faults.option_key f.options.items)) _ (of_same faults.option_key (λ o. refl) f.options.items) h)

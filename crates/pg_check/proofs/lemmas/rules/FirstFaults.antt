@@ -50,7 +50,7 @@ first_meets P fault Keeps keep (x ∷ xs) k f h = by (fault x) refl h (first_mee
     by None e g others = others (λ y b. k y (behind_more Keeps x xs y (keep x e) b)) f g
     by (Some a) e g others = k x (record { before = []; after = xs; is = refl; before_keep = tt }) f (e ∙ g)
 
-one_more : {X : Type 0} (x : X) (xs : List X) (y : X) → IsOneOf xs y → IsOneOf (x ∷ xs) y
+pub one_more : {X : Type 0} (x : X) (xs : List X) (y : X) → IsOneOf xs y → IsOneOf (x ∷ xs) y
 one_more x xs y h = record { before = x ∷ h.before; after = h.after; is = ap (λ ys. x ∷ ys) h.is }
 
 pub earliest_meets : {X : Type 0} (P : Fault → Type 0) (fault : X → Option Fault) (found : Option Fault) (xs : List X) → Meets P found
