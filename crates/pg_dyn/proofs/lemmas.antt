@@ -27,7 +27,6 @@ pub mod KeptParts
 pub mod KeptTexts
 pub mod KeyLaws
 pub mod Leaves
-pub mod MapEntries
 pub mod NoSiblings
 pub mod OneofLaws
 pub mod OneofWalks

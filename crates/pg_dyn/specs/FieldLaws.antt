@@ -8,7 +8,7 @@ use Rattle.pg_schema.specs.declared.parts.field.Scalar.{Scalar}
 use Rattle.pg_schema.specs.declared.parts.field.Element.{Element}
 use Rattle.pg_schema.specs.declared.parts.field.Element.TheVariants as elements
 use Rattle.pg_schema.specs.declared.parts.field.Presence.{Presence}
-use Rattle.pg_schema.specs.Shape.{Shape, FieldShape, IsShape, IsType, Rising, fields, field_at, is_key, is_packable}
+use Rattle.pg_schema.specs.Shape.{Shape, FieldShape, IsShape, IsType, Rising, fields, field_at, is_packable}
 use Rattle.pg_wire.specs.declared.record.WireType.TheVariants.{Len}
 use Rattle.pg_wire.specs.Records.{WireRecord}
 use Rattle.pg_dyn.specs.declared.message.Content.{Content}
@@ -17,8 +17,7 @@ use Rattle.pg_dyn.specs.Message.{Item, Leaf, Message, Part, is_of, key_cmp, leaf
 use Rattle.pg_dyn.specs.Message as model
 use Rattle.pg_dyn.specs.Bodies.{IsNestedLeaf}
 use Rattle.pg_dyn.specs.Coding.{form, form_wire}
-use Rattle.pg_dyn.specs.Optional.{all_some, last_of}
-use Rattle.pg_dyn.specs.reading.Content.{by_key, content, entry_in, last_item, same_wire, takes}
+use Rattle.pg_dyn.specs.reading.Content.{by_key, content, last_item, same_wire, takes}
 use Rattle.pg_dyn.specs.encoding.Writing.{field_records, records_in}
 use Rattle.pg_dyn.specs.encoding.Encoding.{child_type}
 use Rattle.pg_dyn.specs.Belonging.{MayBeZero}
@@ -75,12 +74,6 @@ EntriesRise (e ∷ es) = AllByRecursion (λ (x : Leaf × Leaf). key_cmp e.0 x.0 
 -- Entries whose keys rise are kept as they stand.
 abbrev pub RisingEntriesStay : Type 0
 RisingEntriesStay = (es : List (Leaf × Leaf)) → EntriesRise es → by_key es ≡ es
-
--- Of the entries that are read of a map, by their records, its keys rise, and of each key it has the last (language guide, "Maps").
-abbrev pub LastOfEachKey : Type 0
-LastOfEachKey =
-    (key : Scalar) (element : Element) (rs : List WireRecord) (es : List (Leaf × Leaf)) → is_key key ≡ true → all_some (map (entry_in key element) rs) ≡ Some es →
-    EntriesRise (by_key es) × ((k : Leaf) → filter (λ (e : Leaf × Leaf). leaf_eq e.0 k) (by_key es) ≡ last_of (filter (λ (e : Leaf × Leaf). leaf_eq e.0 k) es))
 
 -- Parts in front of a message, and parts put into one or taken out of it, leave its type.
 abbrev pub PartsKeepTypes : Type 0

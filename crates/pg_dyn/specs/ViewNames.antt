@@ -58,10 +58,6 @@ alike_there view None new n = true
 abbrev pub view_named : ViewName → Parts → Parts → View
 view_named view old new = λ a b n. alike_there view (enum_at old a) (enum_at new b) n
 
--- The view by number is that of every number.
-abbrev pub NumbersView : Type 0
-NumbersView = (old new : Parts) → view_named names.Numbers old new ≡ numbers
-
 -- What any view keeps is kept by number.
 abbrev pub KeptByNumber : Type 0
 KeptByNumber =

@@ -25,7 +25,6 @@ use Rattle.pg_dyn.specs.PartsFit.{HoldsItem, IsElementKept, IsScalarKept}
 use Rattle.pg_dyn.specs.Texts.{is_string}
 use Rattle.pg_dyn.proofs.lemmas.KeyLaws.{rank_total}
 use Rattle.pg_dyn.proofs.Lists.{each_weaker}
-use Rattle.pg_dyn.proofs.lemmas.MapEntries.{IsKeyForm, key_form, kind}
 
 pub in_range : (s : Scalar) (v : ValueRef) → IsItemKept s v → InRange (scalar_form s) (leaf_of v)
 in_range s (values.Int x) h = h.0
@@ -140,6 +139,37 @@ map_key s (values.Msg x) key h = absurd h
 
 pub ranks_entries : IsStrictWeakOrder ranks_below
 ranks_entries = ranks_by rank_total key_of
+
+abbrev kind : Form → Bool
+kind (Integer whole) = true
+kind Single = false
+kind Double = false
+kind Text = false
+kind Raw = false
+
+abbrev IsKeyForm : Form → Type 0
+IsKeyForm (Integer whole) = ⊤
+IsKeyForm Single = ⊥
+IsKeyForm Double = ⊥
+IsKeyForm Text = ⊤
+IsKeyForm Raw = ⊤
+
+key_form : (s : Scalar) → is_key s ≡ true → IsKeyForm (scalar_form s)
+key_form scalars.Double h = absurd (cc)
+key_form scalars.Float h = absurd (cc)
+key_form scalars.Int32 h = tt
+key_form scalars.Int64 h = tt
+key_form scalars.Uint32 h = tt
+key_form scalars.Uint64 h = tt
+key_form scalars.Sint32 h = tt
+key_form scalars.Sint64 h = tt
+key_form scalars.Fixed32 h = tt
+key_form scalars.Fixed64 h = tt
+key_form scalars.Sfixed32 h = tt
+key_form scalars.Sfixed64 h = tt
+key_form scalars.Bool h = tt
+key_form scalars.String h = tt
+key_form scalars.Bytes h = tt
 
 kind_in_range : (f : Form) (leaf : Leaf) → IsKeyForm f → InRange f leaf → IsOfKind (kind f) leaf
 kind_in_range (Integer whole) (Int n) k h = tt

@@ -1,7 +1,7 @@
 -- What is written and what is read split by field number.
-use Rattle.std.proofs.Common.{◌≡◌, ◌≢◌, ℕ, ◌<◌, List, [], ◌∷◌, ◌++◌, map, filter, Bool, true, false, ◌&&◌, ◌||◌, cond, nat_eq, Option, Some, None, refl, ap, ap₂, sym, ◌∙◌, subst, arith, eq-eqb, ne_eqb, append-nil, ⊎_elim}
+use Rattle.std.proofs.Common.{◌≡◌, ◌≢◌, ℕ, ◌<◌, List, [], ◌∷◌, ◌++◌, map, filter, Bool, true, false, ◌||◌, cond, nat_eq, Option, Some, None, refl, ap, ap₂, sym, ◌∙◌, subst, arith, eq-eqb, ne_eqb, append-nil}
 use Rattle.std.specs.List.{AllByRecursion, list_any}
-use Rattle.std.proofs.lemmas.Bool.{eqb-true, and_parts, and_from, or_left, or_right, or_cases}
+use Rattle.std.proofs.lemmas.Bool.{eqb-true, and_parts}
 use Rattle.pg_schema.specs.declared.parts.field.Element.{Element}
 use Rattle.pg_schema.specs.declared.parts.field.Presence.{Presence}
 use Rattle.pg_schema.specs.declared.parts.field.Presence.TheVariants as presences
@@ -11,10 +11,10 @@ use Rattle.pg_wire.specs.declared.record.WireType.{WireType}
 use Rattle.pg_wire.specs.declared.record.WireType.TheVariants.{Len}
 use Rattle.pg_dyn.specs.Optional.{after_last_of}
 use Rattle.pg_dyn.specs.Message.{Leaf, Part, is_of}
-use Rattle.pg_dyn.specs.reading.Content.{is_accepted, takes, is_sibling, counted}
+use Rattle.pg_dyn.specs.reading.Content.{is_accepted, takes}
 use Rattle.pg_dyn.specs.encoding.Writing.{entry_bytes, key_of, field_records, records_in}
-use Rattle.pg_dyn.specs.Laws.{of_number, concerns}
-use Rattle.pg_dyn.proofs.Lists.{filter-append', filter_all, filter_none, each_weaker, after_last_of_none, filter-filter_weaker}
+use Rattle.pg_dyn.specs.Laws.{of_number}
+use Rattle.pg_dyn.proofs.Lists.{filter-append', filter_all, filter_none, each_weaker, after_last_of_none}
 use Rattle.pg_dyn.proofs.lemmas.Fields.{field_of}
 
 -- the head of a look-up
@@ -125,7 +125,7 @@ module _ (ps : List (Part Leaf)) where
       differ : nat_eq g.number n ≡ false → g.number ≡ n → ⊥
       differ e at = let k = eq-eqb g.number n at in cc
 
--- What is read of a field depends only on the records of its number and of its oneof's other members.
+-- What stands after the last item of a test can be filtered first, where the filter keeps each item of the test.
 
 module _ {A : Type 0} (keep test : A → Bool) (kept : (x : A) → test x ≡ true → keep x ≡ true) where
   not_dropped : (x : A) → test x ≡ true → keep x ≡ false → ⊥
@@ -168,17 +168,3 @@ records_in_none (f ∷ fs) = rw (field_records_none f, records_in_none fs)
 -- a record that a field takes has its number
 pub takes_number : (f : FieldShape) (r : WireRecord) → takes f r ≡ true → of_number f.number r ≡ true
 takes_number f r h = (and_parts (nat_eq r.number f.number) (is_accepted f r) h).0
-
-sibling_concerns : (f : FieldShape) (r : WireRecord) (gs : List FieldShape) → list_any (λ g. is_sibling f g && takes g r) gs ≡ true → list_any (λ g. is_sibling f g && of_number g.number r) gs ≡ true
-sibling_concerns f r [] h = h
-sibling_concerns f r (g ∷ gs) h =
-    ⊎_elim (λ first.
-    let parts = and_parts (is_sibling f g) (takes g r) first in
-    or_left _ _ (and_from (is_sibling f g) (of_number g.number r) parts.0 (takes_number g r parts.1)))
-    (λ later. or_right _ _ (sibling_concerns f r gs later))
-    (or_cases (is_sibling f g && takes g r) (list_any (λ x. is_sibling f x && takes x r) gs) h)
-
-pub counted-concerns : (fs : List FieldShape) (f : FieldShape) (rs : List WireRecord) → counted fs f (filter (concerns fs f) rs) ≡ counted fs f rs
-counted-concerns fs f rs =
-    ap (filter (takes f)) (after_last_of-filter (concerns fs f) (λ r. list_any (λ g. is_sibling f g && takes g r) fs) (λ r h. or_right _ _ (sibling_concerns f r fs h)) rs)
-    ∙ filter-filter_weaker (concerns fs f) (takes f) (λ r h. or_left _ _ (takes_number f r h)) (after_last_of (λ r. list_any (λ g. is_sibling f g && takes g r) fs) rs)

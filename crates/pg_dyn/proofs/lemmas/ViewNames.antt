@@ -8,6 +8,7 @@ use Rattle.pg_schema.specs.declared.parts.enum_type.EnumType.{EnumType}
 use Rattle.pg_schema.specs.declared.parts.field.Element.{Element}
 use Rattle.pg_schema.specs.declared.parts.field.Element.TheVariants as elements
 use Rattle.pg_schema.specs.declared.parts.field.TypeId.{TypeId}
+use Rattle.pg_schema.specs.declared.parts.Parts.{Parts}
 use Rattle.pg_schema.specs.Parts.{enum_at, shape_of}
 use Rattle.pg_schema.specs.Shape.{Shape, FieldShape, fields, field_at}
 use Rattle.pg_dyn.specs.declared.view_name.ViewName.TheVariants as names
@@ -16,7 +17,7 @@ use Rattle.pg_dyn.specs.encoding.Encoding.{child_type, enc}
 use Rattle.pg_dyn.specs.reading.Decoding.{dec}
 use Rattle.pg_dyn.specs.Comparison.{View, numbers, Expected, Alike, Kept, is_zero_expected, hides_zero, shown, alike_leaves, same_key, matches, same_message, unshared_bytes, expected, same}
 use Rattle.pg_dyn.specs.Breaking.{is_kept, Compatible}
-use Rattle.pg_dyn.specs.ViewNames.{alike_there, view_named, NumbersView, KeptByNumber, NamesAreStricter, NamedRows}
+use Rattle.pg_dyn.specs.ViewNames.{alike_there, view_named, KeptByNumber, NamesAreStricter, NamedRows}
 
 by_option : {A P : Type 0} (o : Option A) → (o ≡ None → P) → ((x : A) → o ≡ Some x → P) → P
 by_option None none some = none refl
@@ -155,7 +156,7 @@ all_alike (Some a) (Some b) n = refl
 all_alike (Some a) None n = refl
 all_alike None new n = refl
 
-pub numbers_view : NumbersView
+numbers_view : (old new : Parts) → view_named names.Numbers old new ≡ numbers
 numbers_view old new = λ j. λ a b n. all_alike (enum_at old a) (enum_at new b) n j
 
 pub names_are_stricter : NamesAreStricter

@@ -1,7 +1,7 @@
 //! Laws of a type's fields, of what is written and read of them, and of the contents that a message
 //! holds. Each is the contract of a function that does nothing.
 
-ghost use Rattle.pg_dyn.specs.FieldLaws.{ContentsAreSeen, EqualLeaves, FieldsAreFound, LastItems, LastOfEachKey, OwnContents, PackableWires, PartsKeepTypes, PlainIsKept, RecordsOfFields, RisingEntriesStay, UnknownIsKept};
+ghost use Rattle.pg_dyn.specs.FieldLaws.{ContentsAreSeen, EqualLeaves, FieldsAreFound, LastItems, OwnContents, PackableWires, PartsKeepTypes, PlainIsKept, RecordsOfFields, RisingEntriesStay, UnknownIsKept};
 
 /// The fields of each type of a sound schema are sound; the field that is found by a number has it;
 /// each field of a type is found by its number; the type of a message field is that of its
@@ -35,11 +35,6 @@ pub fn packable_wires()
 /// Entries of a map whose keys rise are kept as they stand.
 pub fn rising_entries_stay()
     ensures { RisingEntriesStay }
-{}
-
-/// Of the entries that are read of a map, its keys rise, and of each key it has the last.
-pub fn last_of_each_key()
-    ensures { LastOfEachKey }
 {}
 
 /// Parts in front of a message, and parts put into one or taken out of it, leave its type.

@@ -1,15 +1,10 @@
 //! What the views by which enums are compared have to do with each other.
 
-ghost use Rattle.pg_dyn.specs.ViewNames.{KeptByNumber, NamedRows, NamesAreStricter, NumbersView};
+ghost use Rattle.pg_dyn.specs.ViewNames.{KeptByNumber, NamedRows, NamesAreStricter};
 
 /// Small enums, and which of their numbers are alike by name.
 pub fn named_rows()
     ensures { NamedRows }
-{}
-
-/// The view by number finds every number alike.
-pub fn numbers_view()
-    ensures { NumbersView }
 {}
 
 /// What any view keeps is kept by number.
