@@ -8,14 +8,8 @@ use Rattle.pg_dyn.specs.declared.message.Value.{Value}
 use Rattle.pg_dyn.specs.ScalarItems.{IsItemOf}
 use Rattle.pg_dyn.proofs.message.Value.kept_as.Goals as goal
 
-pub returns-in-Err-clause-kind : goal.returns-in-Err-clause-kind
-returns-in-Err-clause-kind c =
+pub unreachable-requires : goal.unreachable-requires
+unreachable-requires c =
     let text : is_utf8 c.in-String-Bytes.bytes.items ≡ true = subst (λ (v : Value). IsItemOf scalars.String v) c.in-String-Bytes.is-1 (subst (λ (s : Scalar). IsItemOf s c.args.self) c.in-String-Bytes.is-0 c.requires) in
     let ok = c.from_utf8.ensures.succeeds (IsUtf8-from_is_utf8 c.in-String-Bytes.bytes.items text) in
-    absurd (true≢false (sym (subst IsOk c.in-Err.is ok)))
-
-pub returns-in-Err-clause-seen : goal.returns-in-Err-clause-seen
-returns-in-Err-clause-seen c =
-    let text : is_utf8 c.in-String-Bytes.bytes.items ≡ true = subst (λ (v : Value). IsItemOf scalars.String v) c.in-String-Bytes.is-1 (subst (λ (s : Scalar). IsItemOf s c.args.self) c.in-String-Bytes.is-0 c.requires) in
-    let ok = c.from_utf8.ensures.succeeds (IsUtf8-from_is_utf8 c.in-String-Bytes.bytes.items text) in
-    absurd (true≢false (sym (subst IsOk c.in-Err.is ok)))
+    true≢false (sym (subst IsOk c.in-Err.is ok))
