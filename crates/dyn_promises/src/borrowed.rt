@@ -48,6 +48,7 @@ pub fn contents<'m, 'a>(message: &'m MessageRef<'a>) -> &'m [(u32, ContentRef<'a
         (ends (type_of message.now) (unknown_of message.now)) }
     ensures rises { Rises result.now }
     ensures filled { AllByRecursion (λ f. borrowed.IsFilled f.1) result.now }
+    ensures keys { AllByRecursion (λ f. borrowed.HasKeys f.1) result.now }
 {
     message.contents()
 }

@@ -54,6 +54,7 @@ pub fn contents(message: &Message) -> &[(u32, Content)]
         (ends (type_of message.now) (unknown_of message.now)) }
     ensures rises { Rises result.now }
     ensures filled { AllByRecursion (λ f. IsFilled f.1) result.now }
+    ensures keys { AllByRecursion (λ f. HasKeys f.1) result.now }
 {
     message.contents()
 }

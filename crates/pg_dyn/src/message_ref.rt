@@ -122,6 +122,7 @@ impl<'a> MessageRef<'a> {
             (ends (type_of self.now) (unknown_of self.now)) }
         ensures rises { Rises result.now }
         ensures filled { AllByRecursion (λ f. borrowed.IsFilled f.1) result.now }
+        ensures keys { AllByRecursion (λ f. borrowed.HasKeys f.1) result.now }
     {
         self.fields.as_slice()
     }
