@@ -13,7 +13,7 @@ use Rattle.pg_dyn.specs.Texts.{ItemKeepsTexts, KeepsTexts, is_string, is_string_
 use Rattle.pg_dyn.proofs.Lists.{each-filter, each_weaker}
 use Rattle.pg_dyn.proofs.lemmas.ReplacingLaws.{type_of-kept_onto}
 
-abbrev KeepsItem : Shape → Bool → KeptItem → Type 0
+abbrev pub KeepsItem : Shape → Bool → KeptItem → Type 0
 KeepsItem shape string (Plain manner leaf) = manner.text ≡ string
 KeepsItem shape string (Msg listed child) = KeepsTexts shape child
 
@@ -52,10 +52,15 @@ module _ (shape : Shape) (type : TypeId) where
       one (Plain manner leaf) is kept rest = (kept ∙ ap (λ t. is_string_by (field_at (fields shape t) p.number)) (sym is), rest)
       one (Msg listed child) is kept rest = (kept, rest)
 
-kept_parts : (shape : Shape) (m : Kept) → KeepsTexts shape m → AllByRecursion (KeepsPart shape (type_of m)) (parts_of m)
+pub kept_parts : (shape : Shape) (m : Kept) → KeepsTexts shape m → AllByRecursion (KeepsPart shape (type_of m)) (parts_of m)
 kept_parts shape (ends type unknown) h = tt
 kept_parts shape (holds number key manner leaf later) h = (h.0, kept_parts shape later h.1)
 kept_parts shape (nests number key listed child later) h = (h.0, kept_parts shape later h.1)
+
+pub texts_from_parts : (shape : Shape) (m : Kept) → AllByRecursion (KeepsPart shape (type_of m)) (parts_of m) → KeepsTexts shape m
+texts_from_parts shape (ends type unknown) h = tt
+texts_from_parts shape (holds number key manner leaf later) h = (h.0, texts_from_parts shape later h.1)
+texts_from_parts shape (nests number key listed child later) h = (h.0, texts_from_parts shape later h.1)
 
 -- the parts of a field keep theirs
 pub number_keeps : (shape : Shape) (m : Kept) (n : ℕ) (f : FieldShape) → KeepsTexts shape m → field_at (fields shape (type_of m)) n ≡ Some f

@@ -5,8 +5,10 @@ pub mod KeySorting
 pub mod LowestFault
 pub mod MembersOut
 pub mod NormalizedLaws
+pub mod NormalizedParts
 pub mod PutLaws
 pub mod SetSteps
+pub mod SetTexts
 pub mod WholeFaults
 pub mod WholeSteps
 pub mod WithoutSiblings

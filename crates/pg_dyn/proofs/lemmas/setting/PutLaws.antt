@@ -27,7 +27,7 @@ use Rattle.pg_dyn.specs.Message.{Part, F32, F64}
 use Rattle.pg_dyn.specs.Replacing.{kept_from, with_parts, is_sibling_number, without_siblings}
 use Rattle.pg_dyn.specs.ScalarItems.{IsItemOf}
 use Rattle.pg_dyn.specs.Seen.{content_seen, item_seen, leaf_of, Rises, IsFilled, HasKeys}
-use Rattle.pg_dyn.specs.setting.Setting.{is_zero_kept, is_key_below, put_entry, by_rising_key, normalized, normalized_by}
+use Rattle.pg_dyn.specs.setting.Setting.{normalized, normalized_by}
 use Rattle.pg_dyn.specs.Texts.{kept_in}
 use Rattle.pg_dyn.specs.setting.Told.{EntryFits, is_nothing, ItemsFit, MayHoldKeys}
 use Rattle.pg_dyn.proofs.lemmas.TypeFields.{is_type, rising}
@@ -36,9 +36,10 @@ use Rattle.pg_dyn.proofs.lemmas.FitsByContents.{fits_from_contents, contents_fro
 use Rattle.pg_dyn.proofs.lemmas.PartsToFits.{own_sibling}
 use Rattle.pg_dyn.proofs.lemmas.FitsChecks.{same_field}
 use Rattle.pg_dyn.proofs.lemmas.Flat.{is_sibling_sym}
-use Rattle.pg_dyn.proofs.Lists.{filter_all, filter-append', filter_swap, each_weaker, each_both, each-filter, each_at}
+use Rattle.pg_dyn.proofs.Lists.{filter_all, filter-append', filter_swap, each_weaker, each_both, each_at}
 use Rattle.pg_dyn.proofs.lemmas.ReplacingLaws.{shown, content_number, parts_of-kept_onto, unknown_of-kept_onto, type_of-kept_onto}
 use Rattle.pg_dyn.proofs.lemmas.setting.NormalizedLaws.{zero_seen}
+use Rattle.pg_dyn.proofs.lemmas.setting.NormalizedParts.{normalized_each}
 use Rattle.pg_dyn.proofs.lemmas.setting.WithoutSiblings.{sibling_found, cleared_shown, each_left}
 use Rattle.std.proofs.lemmas.List.{append-nil}
 
@@ -134,32 +135,14 @@ nothing_normalized f c n h = ap (map (kept_in f.element)) (nothing_left f.presen
 abbrev OfNumber : ℕ → List (Part KeptItem) → Type 0
 OfNumber n ps = AllByRecursion (λ (p : Part KeptItem). p.number ≡ n) ps
 
-put_number : (n : ℕ) (p : Part KeptItem) (qs : List (Part KeptItem)) → p.number ≡ n → OfNumber n qs → OfNumber n (put_entry p qs)
-put_number n p [] is h = (is, tt)
-put_number n p (q ∷ qs) is h = of (is_key_below q.key p.key) (put_number n p qs is h.1)
-  where
-    of : (b : Bool) → OfNumber n (put_entry p qs) → OfNumber n (cond b (q ∷ put_entry p qs) (p ∷ q ∷ qs))
-    of true rest = (h.0, rest)
-    of false rest = (is, h)
-
-rising_number : (n : ℕ) (ps : List (Part KeptItem)) → OfNumber n ps → OfNumber n (by_rising_key ps)
-rising_number n [] h = tt
-rising_number n (p ∷ ps) h = put_number n p (by_rising_key ps) h.0 (rising_number n ps h.1)
-
-left_number : (p : Presence) (n : ℕ) (c : Content) → OfNumber n (normalized_by p (content_seen n c))
-left_number presences.Implicit n c =
-    each_weaker (λ (q : Part KeptItem). (q.number ≡ n) × (not (is_zero_kept q.item) ≡ true)) (λ (q : Part KeptItem). q.number ≡ n) (λ q k. k.0) (filter (λ (q : Part KeptItem). not (is_zero_kept q.item)) (content_seen n c))
-    (each-filter (λ (q : Part KeptItem). q.number ≡ n) (λ (q : Part KeptItem). not (is_zero_kept q.item)) (content_seen n c) (content_number n c))
-left_number presences.Explicit n c = content_number n c
-left_number (presences.Repeated packed) n c = content_number n c
-left_number (presences.Map key) n c = rising_number n (content_seen n c) (content_number n c)
-
 kept_number : (e : Element) (n : ℕ) (ps : List (Part KeptItem)) → OfNumber n ps → OfNumber n (map (kept_in e) ps)
 kept_number e n [] h = tt
 kept_number e n (p ∷ ps) h = (h.0, kept_number e n ps h.1)
 
 pub normalized_number : (f : FieldShape) (n : ℕ) (c : Content) → OfNumber n (normalized f (content_seen n c))
-normalized_number f n c = kept_number f.element n (normalized_by f.presence (content_seen n c)) (left_number f.presence n c)
+normalized_number f n c =
+    kept_number f.element n (normalized_by f.presence (content_seen n c))
+    (normalized_each (λ (p : Part KeptItem). p.number ≡ n) f.presence (content_seen n c) (content_number n c))
 
 -- Without siblings before or after.
 
