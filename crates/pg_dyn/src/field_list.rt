@@ -9,6 +9,9 @@ ghost use Rattle.pg_dyn.specs.Seen.{Rises};
 use crate::message::Content;
 use std::alloc::AllocError;
 
+// As many contents as most messages have that are made one by one, so that few lists grow twice.
+const FIRST: usize = 6;
+
 /// How many fields have lower numbers. A number above all is found at once.
 pub(crate) fn place_of<C>(fields: &[(u32, C)], number: u32) -> usize
     requires { Rises fields.now }
@@ -41,6 +44,9 @@ pub(crate) fn reserve(fields: &mut Vec<(u32, Content)>, number: u32) -> Result<(
     let place = place_of(fields, number);
     if place < fields.len() && fields[place].0 == number {
         return Ok(());
+    }
+    if fields.is_empty() {
+        return fields.reserve(FIRST);
     }
     fields.reserve(1)
 }
