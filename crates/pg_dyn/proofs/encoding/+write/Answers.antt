@@ -1,5 +1,5 @@
 -- What is written of each item, entry, content and message, and the lengths that are left.
-use Rattle.std.proofs.Common.{◌≡◌, ℕ, ◌<◌, ◌≤◌, ◌+◌, ◌*◌, ◌++◌, List, length, map, flat_map, Some, refl, ap, ap₂, sym, subst, ◌∙◌, arith, append_assoc, length-append}
+use Rattle.std.proofs.Common.{◌≡◌, ◌≤◌, ◌++◌, length, flat_map, Some, refl, ap, ap₂, sym, subst, ◌∙◌, arith, append_assoc, length-append}
 use Rattle.std.proofs.lemmas.Result.{IfErr-weaker, err_from_is_err_and}
 use Rattle.std.specs.List.{AllByRecursion}
 use Rattle.pg_schema.specs.declared.parts.field.Element.TheVariants as elements
@@ -8,14 +8,14 @@ use Rattle.pg_schema.specs.Shape.{fields, field_at}
 use Rattle.pg_wire.specs.declared.record.WireType.TheVariants.{Len}
 use Rattle.pg_wire.specs.Records.{written}
 use Rattle.pg_dyn.specs.Coding.{InRange, scalar_form}
-use Rattle.pg_dyn.specs.Kept.{type_of, unknown_of, weight}
-use Rattle.pg_dyn.specs.encoding.Lending.{Child, HoldsParts, bare_leaf, entry_part, item_part}
+use Rattle.pg_dyn.specs.Kept.{type_of, unknown_of}
+use Rattle.pg_dyn.specs.encoding.Lending.{HoldsParts, bare_leaf}
 use Rattle.pg_dyn.specs.PartsFit.{IsPartOf}
 use Rattle.pg_dyn.specs.encoding.Writing.{bytes_of, item_record}
-use Rattle.pg_dyn.specs.encoding.Written.{BareFits, capped, entry_body, entry_record, field_lengths, field_written, inner_lengths, item_body, item_bytes, item_lengths, lengths_by, own_bytes, records_by, written_part}
+use Rattle.pg_dyn.specs.encoding.Written.{BareFits, capped, entry_body, entry_record, field_lengths, field_written, item_body, item_bytes, item_lengths, own_bytes}
 use Rattle.pg_dyn.proofs.lemmas.encoding.EncodeSteps.{adds_as, at_the_end, content_bytes, contents_held, entries_fit, entries_noted, entries_written, entry_in_turn, field_bytes, field_fits, first_is, if_ok, values_fit, items_noted, items_written, keyed, keyless, keys_fit, later_is, leaves_fit, longer, may_not_as, on_the_way, own_is, packable, packed_noted, packed_written, packs, record_in_turn, record_size, records_are, stopped_on_the_way}
 use Rattle.pg_dyn.proofs.lemmas.FitsSteps.{some_not_none}
-use Rattle.pg_dyn.proofs.lemmas.encoding.LentWeights.{bare_weight, content_lighter, entries_weigh, item_lighter, items_weigh, parts_weight}
+use Rattle.pg_dyn.proofs.lemmas.encoding.LentWeights.{content_lighter, entries_weigh, item_lighter, items_weigh, parts_weight}
 use Rattle.pg_dyn.proofs.Lists.{each_at_index}
 use Rattle.pg_dyn.proofs.lemmas.encoding.NotedLengths.{content_lengths, field_noted, inner_is}
 use Rattle.pg_dyn.proofs.lemmas.Splitting.{found_number}

@@ -1,6 +1,6 @@
 -- The items, entries and contents before the index are written, and the lengths of those from it on are left. Each call goes to a part of
 -- the message.
-use Rattle.std.proofs.Common.{◌+◌, ◌*◌, ℕ}
+use Rattle.std.proofs.Common.{◌+◌, ◌*◌}
 use Rattle.pg_schema.specs.Parts.{shape_of}
 use Rattle.pg_dyn.specs.Kept.{weight}
 use Rattle.pg_dyn.specs.encoding.Lending.{bare_leaf}

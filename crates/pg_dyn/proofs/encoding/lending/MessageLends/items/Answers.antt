@@ -1,4 +1,4 @@
-use Rattle.std.proofs.Common.{◌≡◌, map, sym, ap, ◌∙◌}
+use Rattle.std.proofs.Common.{map, sym, ap, ◌∙◌}
 use Rattle.pg_dyn.specs.encoding.Lending.{item_part, owned_item}
 use Rattle.pg_dyn.proofs.lemmas.encoding.LentParts.{owned_items, owned_items_are}
 use Rattle.pg_dyn.proofs.encoding.lending.MessageLends.items.Goals as goal
