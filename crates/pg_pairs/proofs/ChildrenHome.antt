@@ -14,7 +14,7 @@ use Rattle.pg_dyn.specs.reading.Decoding.{dec}
 use Rattle.pg_dyn.specs.Belonging.{IsMessage, LeafFits}
 use Rattle.pg_dyn.specs.OwnParts.{ChildrenShorter}
 use Rattle.pg_dyn.specs.ByComparands.{comparands_at}
-use Rattle.pg_dyn.specs.Comparison.{Alike, Expected, numbers, Comparand, comparands, Kept, same, same_message, expected, unshared_bytes}
+use Rattle.pg_dyn.specs.Comparison.{Alike, Expected, numbers, Comparand, comparands, Kept, same_message, expected, unshared_bytes}
 use Rattle.pg_dyn.proofs.Lists.{each_weaker, each_both, each-filter, each_at, none_list_any}
 use Rattle.pg_pairs.specs.declared.choice.Pair.{Pair}
 use Rattle.pg_pairs.specs.Among.{IsAmong}

@@ -1,6 +1,6 @@
 -- What becomes of a field's content: there is none, or it is hidden, or it crosses, or it costs at least as much as some choice of the
 -- field.
-use Rattle.std.proofs.Common.{◌≡◌, ℕ, ◌*◌, ◌<◌, ◌≤◌, ◌^◌, List, [], ◌∷◌, ◌++◌, Bool, true, false, ◌&&◌, Option, Some, None, option_map, unwrap_or, ◌⊎◌, inl, inr, ⊎_elim, refl, sym, subst, arith}
+use Rattle.std.proofs.Common.{◌≡◌, ℕ, ◌<◌, ◌≤◌, ◌^◌, List, [], ◌∷◌, ◌++◌, Bool, true, false, ◌&&◌, Option, Some, None, option_map, unwrap_or, ◌⊎◌, inl, inr, ⊎_elim, refl, sym, subst, arith}
 use Rattle.std.specs.Bool.{⊤}
 use Rattle.std.specs.List.{AllByRecursion}
 use Rattle.std.proofs.lemmas.Bool.{cases_Bool, and_parts}
@@ -18,7 +18,7 @@ use Rattle.pg_dyn.specs.reading.Decoding.{Reader}
 use Rattle.pg_dyn.specs.encoding.Writing.{key_of}
 use Rattle.pg_dyn.specs.Belonging.{KeyFits}
 use Rattle.pg_dyn.specs.Bodies.{BodyShape}
-use Rattle.pg_dyn.specs.Comparison.{numbers, Comparand, writes}
+use Rattle.pg_dyn.specs.Comparison.{Comparand, writes}
 use Rattle.pg_dyn.proofs.Lists.{each_weaker, each_both, each_of_all, each_before, each_after}
 use Rattle.pg_pairs.specs.declared.choice.Choice.{Choice}
 use Rattle.pg_pairs.specs.EnumView.{EnumView, IsEnumView}

@@ -1,5 +1,5 @@
 -- Where a value is found among others: at its place, or where those of one number stand together.
-use Rattle.std.proofs.Common.{◌≡◌, ℕ, zero, suc, ℤ, ◌+◌, ◌-◌, ◌<◌, ◌≤◌, List, [], ◌∷◌, length, get_or, map, take, drop, length-drop, get_or-drop, Bool, true, false, not, ◌&&◌, ◌||◌, ltb, leb, ltb-true, ap, sym, subst, refl, ◌∙◌, arith}
+use Rattle.std.proofs.Common.{◌≡◌, ℕ, zero, suc, ℤ, ◌+◌, ◌-◌, ◌<◌, ◌≤◌, List, [], ◌∷◌, length, get_or, map, take, drop, length-drop, get_or-drop, Bool, true, false, not, ◌&&◌, ◌||◌, ltb, leb, ltb-true, ap, subst, refl, ◌∙◌, arith}
 use Rattle.std.specs.List.{list_any}
 use Rattle.std.specs.List.Sorted.{IsPartitionPoint}
 use Rattle.std.specs.Ordering.{int_eq}

@@ -24,7 +24,7 @@ use Rattle.pg_pairs.proofs.HomeComparands.{home_comparands, same_writes, home_ex
 use Rattle.pg_pairs.proofs.Returned.{part_again, encoded_again}
 use Rattle.pg_pairs.proofs.ChildrenHome.{pair_of, ChildrenComeHome}
 use Rattle.pg_pairs.proofs.KeptUpTo.{none_meet}
-use Rattle.pg_pairs.proofs.Gathering.{parts_are, is_read}
+use Rattle.pg_pairs.proofs.Gathering.{parts_are}
 use Rattle.pg_pairs.proofs.FieldsHome.{FieldComes, nothing_read, home_parts}
 use Rattle.pg_pairs.proofs.Outside.{outside_home}
 
