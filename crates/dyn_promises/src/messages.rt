@@ -10,7 +10,7 @@ ghost use Rattle.pg_dyn.specs.Fits.{Fits};
 ghost use Rattle.pg_dyn.specs.Kept.{IsPlain, ends, of_number, type_of, unknown_of};
 ghost use Rattle.pg_dyn.specs.Seen.{HasKeys, IsFilled, Rises, content_seen, fields_onto, record_seen};
 ghost use Rattle.pg_dyn.specs.setting.Setting.{IsSetTo, IsWhole};
-ghost use Rattle.pg_dyn.specs.setting.Told.{TakesContent};
+ghost use Rattle.pg_dyn.specs.setting.Reported.{TakesContent};
 ghost use Rattle.pg_dyn.specs.Texts.{ItemKeepsTexts, KeepsTexts};
 
 use pg_dyn::{Content, DynError, Message, UnknownRecord};

@@ -27,7 +27,7 @@ error_of rules.TooManyTypes place = errors.TooManyTypes place
 error_of rules.EnumEmpty place = errors.EnumEmpty place
 
 -- the first rule that the files break is reported at its place
-pub record IsTold (files : List Source) (e : CheckError) : Type 0 where
+pub record IsReported (files : List Source) (e : CheckError) : Type 0 where
   pub fault : FileFault
   pub is_first : first_broken files ≡ Some fault
   pub file : Source
@@ -40,17 +40,17 @@ pub record IsTold (files : List Source) (e : CheckError) : Type 0 where
 abbrev pub IsRefused : List Source → CheckError → Type 0
 IsRefused files errors.Memory = Unit {0}
 IsRefused files (errors.BadParts place) = ⊥
-IsRefused files (errors.BadNumber place) = IsTold files (errors.BadNumber place)
-IsRefused files (errors.DuplicateNumber place) = IsTold files (errors.DuplicateNumber place)
-IsRefused files (errors.ReservedNumber place) = IsTold files (errors.ReservedNumber place)
-IsRefused files (errors.ReservedName place) = IsTold files (errors.ReservedName place)
-IsRefused files (errors.RangeOverlap place) = IsTold files (errors.RangeOverlap place)
-IsRefused files (errors.JsonNameClash place) = IsTold files (errors.JsonNameClash place)
-IsRefused files (errors.BadMapKey place) = IsTold files (errors.BadMapKey place)
-IsRefused files (errors.BadOneofMember place) = IsTold files (errors.BadOneofMember place)
-IsRefused files (errors.EnumFirstNotZero place) = IsTold files (errors.EnumFirstNotZero place)
-IsRefused files (errors.EnumAlias place) = IsTold files (errors.EnumAlias place)
-IsRefused files (errors.BadOption place) = IsTold files (errors.BadOption place)
-IsRefused files (errors.PackedNotAllowed place) = IsTold files (errors.PackedNotAllowed place)
-IsRefused files (errors.TooManyTypes place) = IsTold files (errors.TooManyTypes place)
-IsRefused files (errors.EnumEmpty place) = IsTold files (errors.EnumEmpty place)
+IsRefused files (errors.BadNumber place) = IsReported files (errors.BadNumber place)
+IsRefused files (errors.DuplicateNumber place) = IsReported files (errors.DuplicateNumber place)
+IsRefused files (errors.ReservedNumber place) = IsReported files (errors.ReservedNumber place)
+IsRefused files (errors.ReservedName place) = IsReported files (errors.ReservedName place)
+IsRefused files (errors.RangeOverlap place) = IsReported files (errors.RangeOverlap place)
+IsRefused files (errors.JsonNameClash place) = IsReported files (errors.JsonNameClash place)
+IsRefused files (errors.BadMapKey place) = IsReported files (errors.BadMapKey place)
+IsRefused files (errors.BadOneofMember place) = IsReported files (errors.BadOneofMember place)
+IsRefused files (errors.EnumFirstNotZero place) = IsReported files (errors.EnumFirstNotZero place)
+IsRefused files (errors.EnumAlias place) = IsReported files (errors.EnumAlias place)
+IsRefused files (errors.BadOption place) = IsReported files (errors.BadOption place)
+IsRefused files (errors.PackedNotAllowed place) = IsReported files (errors.PackedNotAllowed place)
+IsRefused files (errors.TooManyTypes place) = IsReported files (errors.TooManyTypes place)
+IsRefused files (errors.EnumEmpty place) = IsReported files (errors.EnumEmpty place)

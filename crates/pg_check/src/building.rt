@@ -57,7 +57,7 @@ fn first_error(
 ) -> Result<CheckError, AllocError>
     requires first { first_broken (map source files.now) ≡ Some found }
     requires within { found.file < length files.now }
-    ensures { IfOk result (spec.IsTold (map source files.now)) }
+    ensures { IfOk result (spec.IsReported (map source files.now)) }
 {
     let file = &files[found.file];
     let place = place_in(alloc, file.path, file.text, found.fault.at)?;

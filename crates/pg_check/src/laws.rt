@@ -8,7 +8,7 @@ ghost use Rattle.pg_check.specs.admitting.BrokenParts.{IsFirstBrokenPart, KeepsA
 ghost use Rattle.pg_check.specs.rules.BrokenRules.{IsFirstBroken};
 ghost use Rattle.pg_check.specs.Declares.{Declares, first_broken};
 ghost use Rattle.pg_check.specs.parts.EnumPlaces.{AreNumbered};
-ghost use Rattle.pg_check.specs.Errors.{IsTold};
+ghost use Rattle.pg_check.specs.Errors.{IsReported};
 ghost use Rattle.pg_check.specs.Examples.{WorkedRules};
 ghost use Rattle.pg_check.specs.rules.KeepsRules.{KeepsRules};
 ghost use Rattle.pg_check.specs.parts.KeptParts.{KeptParts};
@@ -36,7 +36,7 @@ pub fn keeping_rules()
 /// declaration that breaks it, in order of declaration, come earlier in the file, nor is it this
 /// one where its code is lower.
 pub fn reported_rules()
-    ensures { (files : List Source) (e : CheckError) → IsTold files e → IsFirstBroken files e }
+    ensures { (files : List Source) (e : CheckError) → IsReported files e → IsFirstBroken files e }
 {}
 
 /// An error of parts that come from no text names the first rule that they break, at no place: of

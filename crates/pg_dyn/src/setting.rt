@@ -76,7 +76,7 @@ impl Message {
     ghost use Rattle.pg_dyn.specs.Replacing.{with_parts, without_siblings};
     ghost use Rattle.pg_dyn.specs.Seen.{content_seen};
     ghost use Rattle.pg_dyn.specs.setting.Setting.{normalized};
-    ghost use Rattle.pg_dyn.specs.setting.Told.{ItemsFit};
+    ghost use Rattle.pg_dyn.specs.setting.Reported.{ItemsFit};
 
     /// Puts a content that is one of the field, in place of the one that stands there, whatever
     /// stands in other members of the field's oneof. Where memory is refused, the content comes

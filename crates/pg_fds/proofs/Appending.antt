@@ -21,7 +21,7 @@ use Rattle.pg_dyn.specs.setting.Setting.{IsSetTo, normalized}
 use Rattle.pg_dyn.specs.Texts.{kept_in, kept_item}
 use Rattle.pg_dyn.specs.Fits.{Fits}
 use Rattle.pg_dyn.specs.ContentFits.{ItemFits}
-use Rattle.pg_dyn.specs.setting.Told.{ItemsFit, TakesContent}
+use Rattle.pg_dyn.specs.setting.Reported.{ItemsFit, TakesContent}
 use Rattle.pg_dyn.proofs.Lists.{filter_all, filter_none}
 use Rattle.pg_dyn.proofs.lemmas.ReplacingLaws.{no_siblings, parts_of-kept_onto, unknown_of-kept_onto, type_of-kept_onto, parts-message_of, unknown-message_of, item_of, part_item}
 use Rattle.pg_fds.specs.Descriptor.{descriptor_shape, one, many}

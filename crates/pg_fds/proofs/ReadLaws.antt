@@ -83,11 +83,11 @@ refused_later files r proto3 typed h =
     IfErr-weaker r IsOfParts (λ e. AllByRecursion HasTexts files → MayRefuseFiles files e) (λ e of_parts texts. refused_of_parts files proto3 typed e of_parts) h
 
 -- want of memory and a bad reference
-abbrev IsTold : Unstated → FdsError → Type 0
-IsTold u e = ((u ≡ unstated.Memory) × (e ≡ errors.Memory)) ⊎ ((u ≡ unstated.Reference) × (e ≡ errors.BadReference))
+abbrev IsReported : Unstated → FdsError → Type 0
+IsReported u e = ((u ≡ unstated.Memory) × (e ≡ errors.Memory)) ⊎ ((u ≡ unstated.Reference) × (e ≡ errors.BadReference))
 
 -- want of memory stays that
-memory_told : (u : Unstated) (e : FdsError) → IsTold u e → u ≡ unstated.Memory → e ≡ errors.Memory
+memory_told : (u : Unstated) (e : FdsError) → IsReported u e → u ≡ unstated.Memory → e ≡ errors.Memory
 memory_told u e (inl memory) is = memory.1
 memory_told u e (inr reference) is = absurd (apart (sym is ∙ reference.0))
   where
@@ -98,7 +98,7 @@ memory_told u e (inr reference) is = absurd (apart (sym is ∙ reference.0))
 abbrev WantsMemory : {T : Type 0} → (Parts → Type 0) → Result T FdsError → Type 0
 WantsMemory Stated r = IfErr r (λ e. (parts : Parts) → CanBeMade parts → Stated parts → e ≡ errors.Memory)
 
-pub none_told : {T : Type 0} (r : Result T FdsError) (Stated : Parts → Type 0) (u : Unstated) → IsErrAnd r (IsTold u) → ((parts : Parts) → CanBeMade parts → Stated parts → u ≡ unstated.Memory) → WantsMemory Stated r
+pub none_told : {T : Type 0} (r : Result T FdsError) (Stated : Parts → Type 0) (u : Unstated) → IsErrAnd r (IsReported u) → ((parts : Parts) → CanBeMade parts → Stated parts → u ≡ unstated.Memory) → WantsMemory Stated r
 none_told r Stated u told none =
     let (e, is, h) = err_from_is_err_and r told in
     subst (WantsMemory Stated) (sym is) (λ parts can states. memory_told u e h (none parts can states))
@@ -108,7 +108,7 @@ abbrev IsRefused : {T : Type 0} → (ms files : List Message) → Result T FdsEr
 IsRefused ms files r = IfErr r (λ e. AllByRecursion HasTexts ms → MayRefuseFiles files e)
 
 -- where they are, the refusal is want of memory
-pub refused_for_memory : {T : Type 0} (ms files : List Message) (r : Result T FdsError) (u : Unstated) → IsErrAnd r (IsTold u) → (AllByRecursion HasTexts ms → u ≡ unstated.Memory) → IsRefused ms files r
+pub refused_for_memory : {T : Type 0} (ms files : List Message) (r : Result T FdsError) (u : Unstated) → IsErrAnd r (IsReported u) → (AllByRecursion HasTexts ms → u ≡ unstated.Memory) → IsRefused ms files r
 refused_for_memory ms files r u told memory =
     let (e, is, h) = err_from_is_err_and r told in
     subst (IsRefused ms files) (sym is) (λ texts. subst (MayRefuseFiles files) (sym (memory_told u e h (memory texts))) tt)

@@ -10,7 +10,7 @@ use Rattle.pg_dyn.specs.declared.message.Content.TheVariants as contents
 use Rattle.pg_dyn.specs.declared.message.Value.{Value}
 use Rattle.pg_dyn.specs.declared.message.Value.TheVariants as values
 use Rattle.pg_dyn.specs.setting.ContentFaults.{HasKeyTwice}
-use Rattle.pg_dyn.specs.setting.Told.{ItemsFit}
+use Rattle.pg_dyn.specs.setting.Reported.{ItemsFit}
 use Rattle.pg_dyn.specs.Message.{Leaf, Item, Plain, Msg, Message, ends, with_part}
 use Rattle.pg_dyn.specs.Coding.{Form, zero_leaf}
 use Rattle.pg_dyn.specs.Kept.{Kept, message_of, type_of}

@@ -11,7 +11,7 @@ ghost use Rattle.pg_dyn.specs.setting.ContentFaults.{AnyOf, code, ContentFault, 
 ghost use Rattle.pg_dyn.specs.ContentFits.{ItemFits};
 ghost use Rattle.pg_dyn.specs.Message.{Bytes, F32, F64};
 ghost use Rattle.pg_dyn.specs.ScalarItems.{HoldsBytes, IsFaultOf, IsItemOf};
-ghost use Rattle.pg_dyn.specs.setting.Told.{code_told, EntryFault, EntryFits, IsTaken, ItemsFit, Tells};
+ghost use Rattle.pg_dyn.specs.setting.Reported.{reported_code, EntryFault, EntryFits, IsTaken, ItemsFit, Reports};
 ghost use Rattle.pg_dyn.specs.WordOf.{IsInteger, IsIntegerOf};
 
 use crate::error::DynError;
@@ -116,7 +116,7 @@ pub(crate) fn lower(
     second: Result<(), DynError>,
 ) -> Result<(), DynError>
     ensures one { (result ≡ first) ⊎ (result ≡ second) }
-    ensures lowest { (code_told result ≤ code_told first) × (code_told result ≤ code_told second) }
+    ensures lowest { (reported_code result ≤ reported_code first) × (reported_code result ≤ reported_code second) }
 {
     match (first, second) {
         (Ok(()), _) => second,
@@ -134,7 +134,7 @@ pub(crate) fn lower(
 // Whether an item is one of the element; an enum takes the numbers of int32.
 fn check_element(schema: &Schema, element: Element, value: &Value) -> Result<(), DynError>
     requires { IsSchema schema.now }
-    ensures { Tells (ItemFits (shape_of schema.now) element value.now)
+    ensures { Reports (ItemFits (shape_of schema.now) element value.now)
         (ElementFault (shape_of schema.now) element value.now) result }
 {
     match element {
@@ -153,7 +153,7 @@ fn check_element(schema: &Schema, element: Element, value: &Value) -> Result<(),
 // The same of all items of a list.
 fn check_values(schema: &Schema, element: Element, values: &[Value]) -> Result<(), DynError>
     requires { IsSchema schema.now }
-    ensures { Tells (AllByRecursion (ItemFits (shape_of schema.now) element) values.now)
+    ensures { Reports (AllByRecursion (ItemFits (shape_of schema.now) element) values.now)
         (λ e. AnyOf (λ v. ElementFault (shape_of schema.now) element v e) values.now) result }
 {
     let mut told = Ok(());
@@ -171,7 +171,7 @@ fn check_entry(
     entry: &(Value, Value),
 ) -> Result<(), DynError>
     requires { IsSchema schema.now }
-    ensures { Tells (EntryFits (shape_of schema.now) key element entry.now)
+    ensures { Reports (EntryFits (shape_of schema.now) key element entry.now)
         (EntryFault (shape_of schema.now) key element entry.now) result }
 {
     let of_key = check_element(schema, Element::Scalar(key), &entry.0);
@@ -186,7 +186,7 @@ fn check_entries(
     entries: &[(Value, Value)],
 ) -> Result<(), DynError>
     requires { IsSchema schema.now }
-    ensures { Tells (AllByRecursion (EntryFits (shape_of schema.now) key element) entries.now)
+    ensures { Reports (AllByRecursion (EntryFits (shape_of schema.now) key element) entries.now)
         (λ e. AnyOf (λ x. EntryFault (shape_of schema.now) key element x e) entries.now) result }
 {
     let mut told = Ok(());
@@ -199,7 +199,7 @@ fn check_entries(
 // Whether the content is one of the field, but for keys that stand twice.
 fn check_field(schema: &Schema, field: &Field, content: &Content) -> Result<(), DynError>
     requires { IsSchema schema.now }
-    ensures { Tells (ItemsFit (shape_of schema.now) field.now.presence field.now.element
+    ensures { Reports (ItemsFit (shape_of schema.now) field.now.presence field.now.element
         content.now) (FieldFault (shape_of schema.now) (field_shape field.now) content.now) result }
 {
     match (field.presence, content) {

@@ -12,7 +12,7 @@ ghost use Rattle.pg_dyn.specs.ContentFits.{NoneSiblings};
 ghost use Rattle.pg_dyn.specs.Fits.{Fits};
 ghost use Rattle.pg_dyn.specs.Seen.{Rises};
 ghost use Rattle.pg_dyn.specs.setting.Setting.{IsWhole};
-ghost use Rattle.pg_dyn.specs.setting.Told.{TakesContent, Tells};
+ghost use Rattle.pg_dyn.specs.setting.Reported.{TakesContent, Reports};
 
 use crate::error::DynError;
 use crate::message::{Content, Message};
@@ -25,7 +25,7 @@ use std::alloc::Global;
 // What is wrong with one content, but for keys that stand twice.
 fn check_one(schema: &Schema, type_id: TypeId, one: &(u32, Content)) -> Result<(), DynError>
     requires { IsSchema schema.now }
-    ensures { Tells (TakesContent (shape_of schema.now) type_id one.now)
+    ensures { Reports (TakesContent (shape_of schema.now) type_id one.now)
         (ContentFault (shape_of schema.now) type_id one.now.0 one.now.1) result }
 {
     match check_content(schema, type_id, one.0, &one.1) {
@@ -41,7 +41,7 @@ fn check_contents(
     contents: &[(u32, Content)],
 ) -> Result<(), DynError>
     requires { IsSchema schema.now }
-    ensures { Tells (AllByRecursion (TakesContent (shape_of schema.now) type_id) contents.now)
+    ensures { Reports (AllByRecursion (TakesContent (shape_of schema.now) type_id) contents.now)
         (λ e. AnyOf (λ c. ContentFault (shape_of schema.now) type_id c.0 c.1 e) contents.now)
         result }
 {

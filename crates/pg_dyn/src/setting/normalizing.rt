@@ -9,7 +9,7 @@ ghost use Rattle.pg_dyn.specs.ContentFits.{ContentFits, ItemFits};
 ghost use Rattle.pg_dyn.specs.KeyOrder.{KeysAlike};
 ghost use Rattle.pg_dyn.specs.Seen.{content_seen, HasKeys, IsFilled, item_seen};
 ghost use Rattle.pg_dyn.specs.setting.Setting.{normalized};
-ghost use Rattle.pg_dyn.specs.setting.Told.{EntryFits, entry_kept, entry_seen, is_nothing, ItemsFit, MayHoldKeys};
+ghost use Rattle.pg_dyn.specs.setting.Reported.{EntryFits, entry_kept, entry_seen, is_nothing, ItemsFit, MayHoldKeys};
 ghost use Rattle.pg_dyn.specs.ScalarItems.{IsKeptAs};
 ghost use Rattle.pg_dyn.specs.Texts.{holds_bytes, kept_item};
 

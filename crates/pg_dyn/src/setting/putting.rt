@@ -6,7 +6,7 @@ ghost use Rattle.pg_dyn.specs.setting.ContentFaults.{HasKeyTwice};
 ghost use Rattle.pg_dyn.specs.Fits.{Fits};
 ghost use Rattle.pg_dyn.specs.Kept.{type_of};
 ghost use Rattle.pg_dyn.specs.setting.Setting.{IsSetTo};
-ghost use Rattle.pg_dyn.specs.setting.Told.{TakesContent};
+ghost use Rattle.pg_dyn.specs.setting.Reported.{TakesContent};
 
 use crate::message::{Content, Message};
 use pg_schema::Schema;

@@ -488,8 +488,8 @@ all_keep : {X : Type 0} (P Q : X → Type 0) → ((x : X) → P x → Q x) → (
 all_keep P Q k [] h = tt
 all_keep P Q k (x ∷ xs) h = (k x h.0, all_keep P Q k xs h.1)
 
-abbrev Tells : Parts → Place → Fault → Type 0
-Tells parts place f = BreaksFirst parts place (error_of f.rule place)
+abbrev Reports : Parts → Place → Fault → Type 0
+Reports parts place f = BreaksFirst parts place (error_of f.rule place)
 
 or_meets : (P : Fault → Type 0) (a b : Option Fault) → Meets P a → (a ≡ None → Meets P b) → Meets P (or_else a b)
 or_meets P None b one other = other refl
@@ -501,38 +501,38 @@ many n h = grind (arith, nat_tests)
 few : (n : ℕ) → not (nat_le n 4096) ≡ false → n ≤ 4096
 few n h = grind (arith, nat_tests)
 
-types_meet : (parts : Parts) (place : Place) → length parts.types.items ≤ 4096 → Meets (Tells parts place) (first_fault faults.message_fault parts.types.items)
+types_meet : (parts : Parts) (place : Place) → length parts.types.items ≤ 4096 → Meets (Reports parts place) (first_fault faults.message_fault parts.types.items)
 types_meet parts place small =
-    first_meets (Tells parts place) faults.message_fault KeepsType type_keeps parts.types.items (λ t behind f h.
+    first_meets (Reports parts place) faults.message_fault KeepsType type_keeps parts.types.items (λ t behind f h.
     let both = type_meets t place f h in
     in_type t (error_of f.rule place) (order f.rule) small behind both.1 (λ other c b. lowest (faults.message_fault t) f c h both.0 (type_found t place other c b)))
 
-enums_meet : (parts : Parts) (place : Place) → length parts.types.items ≤ 4096 → AllByRecursion KeepsType parts.types.items → Meets (Tells parts place) (first_fault faults.enum_fault parts.enums.items)
+enums_meet : (parts : Parts) (place : Place) → length parts.types.items ≤ 4096 → AllByRecursion KeepsType parts.types.items → Meets (Reports parts place) (first_fault faults.enum_fault parts.enums.items)
 enums_meet parts place small types =
-    first_meets (Tells parts place) faults.enum_fault KeepsEnumType enum_type_keeps parts.enums.items (λ e behind f h.
+    first_meets (Reports parts place) faults.enum_fault KeepsEnumType enum_type_keeps parts.enums.items (λ e behind f h.
     let both = enum_type_meets e place f h in
     in_enum e (error_of f.rule place) (order f.rule) small types behind both.1 (λ other c b. lowest (faults.enum_fault e) f c h both.0 (enum_type_found e place other c b)))
 
 files_meet : (parts : Parts) (place : Place) → length parts.types.items ≤ 4096 → AllByRecursion KeepsType parts.types.items → AllByRecursion KeepsEnumType parts.enums.items
-    → Meets (Tells parts place) (first_fault faults.file_fault parts.files.items)
+    → Meets (Reports parts place) (first_fault faults.file_fault parts.files.items)
 files_meet parts place small types enumerations =
-    first_meets (Tells parts place) faults.file_fault KeepsFilePart file_part_keeps parts.files.items
+    first_meets (Reports parts place) faults.file_fault KeepsFilePart file_part_keeps parts.files.items
     (λ x behind f h. in_file x (error_of f.rule place) (order f.rule) small types enumerations behind (file_part_meets x place f h).1)
 
-parts_meet : (parts : Parts) (place : Place) → Meets (Tells parts place) (faults.parts_fault parts)
+parts_meet : (parts : Parts) (place : Place) → Meets (Reports parts place) (faults.parts_fault parts)
 parts_meet parts place = by (not (nat_le (length parts.types.items) 4096)) refl
   where
     rest : Option Fault
     rest = or_else (first_fault faults.enum_fault parts.enums.items) (first_fault faults.file_fault parts.files.items)
 
     by : (b : Bool) → not (nat_le (length parts.types.items) 4096) ≡ b
-        → Meets (Tells parts place) (or_else (or_else (faults.fault_if rules.TooManyTypes b) (first_fault faults.message_fault parts.types.items)) rest)
-    by true e = λ f h. let same : broken_at rules.TooManyTypes 0 ≡ f = cc (h) in subst (Tells parts place) same (too_many_types (many (length parts.types.items) e))
+        → Meets (Reports parts place) (or_else (or_else (faults.fault_if rules.TooManyTypes b) (first_fault faults.message_fault parts.types.items)) rest)
+    by true e = λ f h. let same : broken_at rules.TooManyTypes 0 ≡ f = cc (h) in subst (Reports parts place) same (too_many_types (many (length parts.types.items) e))
     by false e =
         let small = few (length parts.types.items) e in
-        or_meets (Tells parts place) (first_fault faults.message_fault parts.types.items) rest (types_meet parts place small) (λ none.
+        or_meets (Reports parts place) (first_fault faults.message_fault parts.types.items) rest (types_meet parts place small) (λ none.
         let types = all_keep _ KeepsType type_keeps parts.types.items ((first_fault_none faults.message_fault parts.types.items).0 none) in
-        or_meets (Tells parts place) (first_fault faults.enum_fault parts.enums.items) (first_fault faults.file_fault parts.files.items) (enums_meet parts place small types) (λ no_enum.
+        or_meets (Reports parts place) (first_fault faults.enum_fault parts.enums.items) (first_fault faults.file_fault parts.files.items) (enums_meet parts place small types) (λ no_enum.
         let enumerations = all_keep _ KeepsEnumType enum_type_keeps parts.enums.items ((first_fault_none faults.enum_fault parts.enums.items).0 no_enum) in
         files_meet parts place small types enumerations))
 

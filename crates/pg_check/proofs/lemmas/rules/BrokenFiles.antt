@@ -7,7 +7,7 @@ use Rattle.pg_check.specs.declared.rules.fault.Fault.{Fault}
 use Rattle.pg_check.specs.declared.rules.fault.Rule.TheVariants as rules
 use Rattle.pg_check.specs.rules.BrokenRules.{BreaksFile, IsFirstBroken, bad_file_option, in_enum, in_message, in_packaged_service, in_service, left_behind, too_many_types}
 use Rattle.pg_check.specs.Declares.{files_fault, in_file}
-use Rattle.pg_check.specs.Errors.{IsTold, error_of}
+use Rattle.pg_check.specs.Errors.{IsReported, error_of}
 use Rattle.pg_check.specs.rules.Faults.{broken, broken_at, earliest, first_fault, order}
 use Rattle.pg_check.specs.rules.Files as files
 use Rattle.pg_check.specs.rules.Firsts.{IsBehind}
@@ -186,7 +186,7 @@ is_the_file ss before after n s file is at there =
     let two = at_length before after s in
     let both : Some s ≡ Some file = sym two ∙ one in cc (both)
 
-pub reported : (ss : List Source) (e : CheckError) → IsTold ss e → IsFirstBroken ss e
+pub reported : (ss : List Source) (e : CheckError) → IsReported ss e → IsFirstBroken ss e
 reported ss e h =
     let r = has_first 4096 0 ss h.fault h.is_first in
     let f = h.fault.fault in

@@ -117,12 +117,12 @@ items_found lowest highest items place e c a (overlapping r first) =
 
 -- ---- a message: what is reported
 
-abbrev pub Tells : (ℕ → Option Target) → List Part → Place → Fault → Type 0
-Tells targets body place f = BreaksMessage targets body place (error_of f.rule place) (order f.rule) f.declared f.at
+abbrev pub Reports : (ℕ → Option Target) → List Part → Place → Fault → Type 0
+Reports targets body place f = BreaksMessage targets body place (error_of f.rule place) (order f.rule) f.declared f.at
 
-numbers_meet : (targets : ℕ → Option Target) (body : List Part) (place : Place) → Meets (Tells targets body place) (messages.numbers_fault (map key_of (members body)) (messages.items body))
+numbers_meet : (targets : ℕ → Option Target) (body : List Part) (place : Place) → Meets (Reports targets body place) (messages.numbers_fault (map key_of (members body)) (messages.items body))
 numbers_meet targets body place =
-    let P = Tells targets body place in
+    let P = Reports targets body place in
     let keys = map key_of (members body) in
     let taken = messages.items body in
     earlier_meets P (broken rules.BadNumber (messages.first_bad_number keys)) _
@@ -137,9 +137,9 @@ numbers_meet targets body place =
     (such_reported (λ n. P (broken_at rules.ReservedNumber n)) (λ (k : Keyed). numbers.is_reserved taken k.key) (is_free taken) numbers.at (λ k. refl) keys (λ k first. reserved_field_number k first)))
     (items_meet P numbers.lowest_field numbers.highest_field taken place (λ rule at h. bad_field_item (error_of rule place) (order rule) at h))))
 
-names_meet : (targets : ℕ → Option Target) (body : List Part) (place : Place) → Meets (Tells targets body place) (messages.names_fault (messages.reserved_names body) (members body))
+names_meet : (targets : ℕ → Option Target) (body : List Part) (place : Place) → Meets (Reports targets body place) (messages.names_fault (messages.reserved_names body) (members body))
 names_meet targets body place =
-    let P = Tells targets body place in
+    let P = Reports targets body place in
     let taken = messages.reserved_names body in
     let ns = map named (members body) in
     let js = map json_named (members body) in
@@ -149,23 +149,23 @@ names_meet targets body place =
     (broken_meets P rules.JsonNameClash (names.first_twice js)
     (again_reported (λ n. P (broken_at rules.JsonNameClash n)) names.is_same names.at js (λ n first. json_name_clash n first)))
 
-option_meets : (targets : ℕ → Option Target) (body : List Part) (place : Place) (m : DeclaredField) → IsBehind (λ m. OptionsKeep (member_options m)) (members body) m → Meets (Tells targets body place) (messages.member_option m)
+option_meets : (targets : ℕ → Option Target) (body : List Part) (place : Place) (m : DeclaredField) → IsBehind (λ m. OptionsKeep (member_options m)) (members body) m → Meets (Reports targets body place) (messages.member_option m)
 option_meets targets body place m behind =
-    declared_meets (Tells targets body place) rules.BadOption (place_of m) (first_bad (member_options m)) (λ n h. bad_field_option m n behind (bad_reported (member_options m) n h))
+    declared_meets (Reports targets body place) rules.BadOption (place_of m) (first_bad (member_options m)) (λ n h. bad_field_option m n behind (bad_reported (member_options m) n h))
 
-packed_meets : (targets : ℕ → Option Target) (body : List Part) (place : Place) (m : DeclaredField) → IsBehind (λ m. is_packed_rightly targets m ≡ true) (members body) m → Meets (Tells targets body place) (messages.member_packed targets m)
+packed_meets : (targets : ℕ → Option Target) (body : List Part) (place : Place) (m : DeclaredField) → IsBehind (λ m. is_packed_rightly targets m ≡ true) (members body) m → Meets (Reports targets body place) (messages.member_packed targets m)
 packed_meets targets body place m behind = by (messages.may_be_packed targets m) refl
   where
-    by : (b : Bool) → messages.may_be_packed targets m ≡ b → Meets (Tells targets body place) (cond b None (declared_fault rules.PackedNotAllowed (place_of m) (messages.first_packed (settings (settings_of m)))))
-    by true e = none_meets (Tells targets body place)
+    by : (b : Bool) → messages.may_be_packed targets m ≡ b → Meets (Reports targets body place) (cond b None (declared_fault rules.PackedNotAllowed (place_of m) (messages.first_packed (settings (settings_of m)))))
+    by true e = none_meets (Reports targets body place)
     by false e =
-        declared_meets (Tells targets body place) rules.PackedNotAllowed (place_of m) (messages.first_packed (settings (settings_of m)))
-        (such_reported (λ n. Tells targets body place (option_fault rules.PackedNotAllowed (place_of m) n)) messages.states_packed (λ s. not (messages.states_packed s)) (λ (s : tree.Setting.Setting). s.span.from) (λ s. refl)
+        declared_meets (Reports targets body place) rules.PackedNotAllowed (place_of m) (messages.first_packed (settings (settings_of m)))
+        (such_reported (λ n. Reports targets body place (option_fault rules.PackedNotAllowed (place_of m) n)) messages.states_packed (λ s. not (messages.states_packed s)) (λ (s : tree.Setting.Setting). s.span.from) (λ s. refl)
         (settings (settings_of m)) (λ s first. packed_not_allowed m s behind e first))
 
-shapes_meet : (targets : ℕ → Option Target) (body : List Part) (place : Place) → Meets (Tells targets body place) (messages.shapes_fault targets (members body))
+shapes_meet : (targets : ℕ → Option Target) (body : List Part) (place : Place) → Meets (Reports targets body place) (messages.shapes_fault targets (members body))
 shapes_meet targets body place =
-    let P = Tells targets body place in
+    let P = Reports targets body place in
     let ms = members body in
     earlier_meets P (broken rules.BadMapKey (messages.first_member messages.has_bad_key ms)) _
     (broken_meets P rules.BadMapKey (messages.first_member messages.has_bad_key ms)
@@ -178,36 +178,36 @@ shapes_meet targets body place =
     (first_meets P (messages.member_packed targets) (λ m. is_packed_rightly targets m ≡ true) (λ m h. (packed_keeps targets m).0 h) ms (packed_meets targets body place))))
 
 oneof_option_meets : (targets : ℕ → Option Target) (body : List Part) (place : Place) (o : tree.Oneof.Oneof) → IsBehind (λ p. oneof_keeps p ≡ true) body (parts.Oneof o)
-    → messages.has_member o.parts.items ≡ true → (p : tree.OneofPart.OneofPart) → IsBehind (λ p. is_no_option p ≡ true) o.parts.items p → Meets (Tells targets body place) (messages.oneof_option p)
-oneof_option_meets targets body place o behind some (oneof_parts.Empty span) inside = none_meets (Tells targets body place)
+    → messages.has_member o.parts.items ≡ true → (p : tree.OneofPart.OneofPart) → IsBehind (λ p. is_no_option p ≡ true) o.parts.items p → Meets (Reports targets body place) (messages.oneof_option p)
+oneof_option_meets targets body place o behind some (oneof_parts.Empty span) inside = none_meets (Reports targets body place)
 oneof_option_meets targets body place o behind some (oneof_parts.Option line) inside =
-    broken_meets (Tells targets body place) rules.BadOption (Some line.span.from)
-    (λ n h. let same : line.span.from ≡ n = cc (h) in subst (λ n. Tells targets body place (broken_at rules.BadOption n)) same (oneof_option o line behind some inside))
-oneof_option_meets targets body place o behind some (oneof_parts.Map m) inside = none_meets (Tells targets body place)
-oneof_option_meets targets body place o behind some (oneof_parts.Field f) inside = none_meets (Tells targets body place)
+    broken_meets (Reports targets body place) rules.BadOption (Some line.span.from)
+    (λ n h. let same : line.span.from ≡ n = cc (h) in subst (λ n. Reports targets body place (broken_at rules.BadOption n)) same (oneof_option o line behind some inside))
+oneof_option_meets targets body place o behind some (oneof_parts.Map m) inside = none_meets (Reports targets body place)
+oneof_option_meets targets body place o behind some (oneof_parts.Field f) inside = none_meets (Reports targets body place)
 
-oneof_meets : (targets : ℕ → Option Target) (body : List Part) (place : Place) (o : tree.Oneof.Oneof) → IsBehind (λ p. oneof_keeps p ≡ true) body (parts.Oneof o) → Meets (Tells targets body place) (messages.oneof_fault o)
+oneof_meets : (targets : ℕ → Option Target) (body : List Part) (place : Place) (o : tree.Oneof.Oneof) → IsBehind (λ p. oneof_keeps p ≡ true) body (parts.Oneof o) → Meets (Reports targets body place) (messages.oneof_fault o)
 oneof_meets targets body place o behind = by (messages.has_member o.parts.items) refl
   where
     by : (b : Bool) → messages.has_member o.parts.items ≡ b
-        → Meets (Tells targets body place) (or_else (broken rules.BadOneofMember (cond b None (Some o.name.span.from))) (first_fault messages.oneof_option o.parts.items))
+        → Meets (Reports targets body place) (or_else (broken rules.BadOneofMember (cond b None (Some o.name.span.from))) (first_fault messages.oneof_option o.parts.items))
     by true e =
-        first_meets (Tells targets body place) messages.oneof_option (λ p. is_no_option p ≡ true) (λ p h. (no_option p).0 h) o.parts.items (oneof_option_meets targets body place o behind e)
-    by false e = λ f h. let same : broken_at rules.BadOneofMember o.name.span.from ≡ f = cc (h) in subst (Tells targets body place) same (empty_oneof o behind e)
+        first_meets (Reports targets body place) messages.oneof_option (λ p. is_no_option p ≡ true) (λ p h. (no_option p).0 h) o.parts.items (oneof_option_meets targets body place o behind e)
+    by false e = λ f h. let same : broken_at rules.BadOneofMember o.name.span.from ≡ f = cc (h) in subst (Reports targets body place) same (empty_oneof o behind e)
 
-part_meets : (targets : ℕ → Option Target) (body : List Part) (place : Place) (p : Part) → IsBehind (λ p. oneof_keeps p ≡ true) body p → Meets (Tells targets body place) (messages.part_oneof p)
-part_meets targets body place (parts.Empty span) behind = none_meets (Tells targets body place)
-part_meets targets body place (parts.Message' name shape row span) behind = none_meets (Tells targets body place)
-part_meets targets body place (parts.Enum e) behind = none_meets (Tells targets body place)
+part_meets : (targets : ℕ → Option Target) (body : List Part) (place : Place) (p : Part) → IsBehind (λ p. oneof_keeps p ≡ true) body p → Meets (Reports targets body place) (messages.part_oneof p)
+part_meets targets body place (parts.Empty span) behind = none_meets (Reports targets body place)
+part_meets targets body place (parts.Message' name shape row span) behind = none_meets (Reports targets body place)
+part_meets targets body place (parts.Enum e) behind = none_meets (Reports targets body place)
 part_meets targets body place (parts.Oneof o) behind = oneof_meets targets body place o behind
-part_meets targets body place (parts.Option o) behind = none_meets (Tells targets body place)
-part_meets targets body place (parts.Reserved r) behind = none_meets (Tells targets body place)
-part_meets targets body place (parts.Map m) behind = none_meets (Tells targets body place)
-part_meets targets body place (parts.Field f) behind = none_meets (Tells targets body place)
+part_meets targets body place (parts.Option o) behind = none_meets (Reports targets body place)
+part_meets targets body place (parts.Reserved r) behind = none_meets (Reports targets body place)
+part_meets targets body place (parts.Map m) behind = none_meets (Reports targets body place)
+part_meets targets body place (parts.Field f) behind = none_meets (Reports targets body place)
 
-pub message_meets : (targets : ℕ → Option Target) (body : List Part) (place : Place) → Meets (Tells targets body place) (messages.body_fault targets body)
+pub message_meets : (targets : ℕ → Option Target) (body : List Part) (place : Place) → Meets (Reports targets body place) (messages.body_fault targets body)
 message_meets targets body place =
-    let P = Tells targets body place in
+    let P = Reports targets body place in
     earlier_meets P (messages.numbers_fault (map key_of (members body)) (messages.items body)) _ (numbers_meet targets body place)
     (earlier_meets P (messages.names_fault (messages.reserved_names body) (members body)) _ (names_meet targets body place)
     (earlier_meets P (messages.shapes_fault targets (members body)) (messages.parts_fault body) (shapes_meet targets body place)

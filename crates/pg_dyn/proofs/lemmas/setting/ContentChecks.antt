@@ -25,7 +25,7 @@ use Rattle.pg_dyn.specs.Seen.{leaf_of, IsKey}
 use Rattle.pg_dyn.specs.ScalarItems.{IsItemOf, IsKindOf, IsOutOfRange, IsNoText, IsFaultOf}
 use Rattle.pg_dyn.specs.setting.ContentFaults.{AnyOf, ElementFault, HasPresence, HasItemFault, HasKeyTwice, FieldFault, ContentFault, items_in, code, IsLowest, HasNoFault}
 use Rattle.pg_dyn.specs.ContentFits.{ItemFits}
-use Rattle.pg_dyn.specs.setting.Told.{Tells, EntryFits, EntryFault, ItemsFit, TakesContent}
+use Rattle.pg_dyn.specs.setting.Reported.{Reports, EntryFits, EntryFault, ItemsFit, TakesContent}
 use Rattle.pg_dyn.proofs.lemmas.setting.LowestFault.{NoneEarly, none_any, told_so}
 
 -- Of several faults.
@@ -179,7 +179,7 @@ scalar_lowest s v (errors.TooDeep at) k = absurd k
 scalar_lowest s v (errors.Wire w) k = absurd k
 
 -- what a test of an item answers, in the words of its scalar
-pub told_scalar : (s : Scalar) (v : Value) (r : Result (Unit {0}) DynError) → (IsOk r → IsItemOf s v) → IfErr r (IsFaultOf s v) → Tells (IsItemOf s v) (IsFaultOf s v) r
+pub told_scalar : (s : Scalar) (v : Value) (r : Result (Unit {0}) DynError) → (IsOk r → IsItemOf s v) → IfErr r (IsFaultOf s v) → Reports (IsItemOf s v) (IsFaultOf s v) r
 told_scalar s v (Ok t) fits fault = fits refl
 told_scalar s v (Err e) fits fault = scalar_lowest s v e fault
 
@@ -317,19 +317,19 @@ module _ (shape : Shape) (n : ℕ) (element : Element) (oneof : Option ℕ) (r :
   with_presence p = record { number = n; presence = p; element = element; oneof = oneof }
 
   abbrev TellsField : Presence → Content → Type 0
-  TellsField p c = Tells (ItemsFit shape p element c) (FieldFault shape (with_presence p) c) r
+  TellsField p c = Reports (ItemsFit shape p element c) (FieldFault shape (with_presence p) c) r
 
   of_items : (p : Presence) (c : Content) (P : Type 0) (F : DynError → Type 0) → HasPresence p c → (P → ItemsFit shape p element c) → ((e : DynError) → F e → HasItemFault shape (with_presence p) c e)
-      → ((e : DynError) → HasItemFault shape (with_presence p) c e → F e) → Tells P F r → TellsField p c
+      → ((e : DynError) → HasItemFault shape (with_presence p) c e → F e) → Reports P F r → TellsField p c
   of_items p c P F has right to back h =
       told_so P (ItemsFit shape p element c) F (FieldFault shape (with_presence p) c) right (λ e k. to_field shape (with_presence p) c e (to e k)) (λ e early k. back e (from_field shape (with_presence p) c has e early k)) r h
 
-  pub told_list : (packed : Bool) (vs : Vec Value Global) → Tells (AllByRecursion (ItemFits shape element) vs.items) (λ e. AnyOf (λ v. ElementFault shape element v e) vs.items) r → TellsField (presences.Repeated packed) (contents.Many vs)
+  pub told_list : (packed : Bool) (vs : Vec Value Global) → Reports (AllByRecursion (ItemFits shape element) vs.items) (λ e. AnyOf (λ v. ElementFault shape element v e) vs.items) r → TellsField (presences.Repeated packed) (contents.Many vs)
   told_list packed vs h =
       of_items (presences.Repeated packed) (contents.Many vs) (AllByRecursion (ItemFits shape element) vs.items) (λ e. AnyOf (λ v. ElementFault shape element v e) vs.items) tt (λ k. k)
       (λ e k. any_to (λ (x : Element × Value). ElementFault shape x.0 x.1 e) (λ (v : Value). (element, v)) vs.items k) (λ e k. any_back (λ (x : Element × Value). ElementFault shape x.0 x.1 e) (λ (v : Value). (element, v)) vs.items k) h
 
-  pub told_map : (key : Scalar) (es : Vec (Value × Value) Global) → Tells (AllByRecursion (EntryFits shape key element) es.items) (λ e. AnyOf (λ x. EntryFault shape key element x e) es.items) r → TellsField (presences.Map key) (contents.Map es)
+  pub told_map : (key : Scalar) (es : Vec (Value × Value) Global) → Reports (AllByRecursion (EntryFits shape key element) es.items) (λ e. AnyOf (λ x. EntryFault shape key element x e) es.items) r → TellsField (presences.Map key) (contents.Map es)
   told_map key es h =
       of_items (presences.Map key) (contents.Map es) (AllByRecursion (EntryFits shape key element) es.items) (λ e. AnyOf (λ x. EntryFault shape key element x e) es.items) tt (λ k. k)
       (λ e k. any_two (λ (x : Element × Value). ElementFault shape x.0 x.1 e) (λ (x : Value × Value). (elements.Scalar key, x.0)) (λ (x : Value × Value). (element, x.1)) es.items k)

@@ -4,7 +4,7 @@ use Rattle.std.specs.List.{AllByRecursion}
 use Rattle.std.proofs.lemmas.List.{take_all}
 use Rattle.pg_dyn.specs.declared.error.DynError.{DynError}
 use Rattle.pg_dyn.specs.setting.ContentFaults.{AnyOf, code}
-use Rattle.pg_dyn.specs.setting.Told.{Tells, code_told}
+use Rattle.pg_dyn.specs.setting.Reported.{Reports, reported_code}
 use Rattle.pg_dyn.proofs.Lists.{each-append}
 
 module _ {A : Type 0} (P : A → Type 0) where
@@ -29,27 +29,27 @@ NoneEarly Fault = (e : DynError) → code e < 605 → Fault e → ⊥
 
 -- Of two answers the lower one is that of both.
 module _ (P Q : Type 0) (F G : DynError → Type 0) (p : P → NoneEarly F) (q : Q → NoneEarly G) where
-  first_lower : (a b : Result (Unit {0}) DynError) → Tells P F a → Tells Q G b → code_told a ≤ code_told b → Tells (P × Q) (λ e. F e ⊎ G e) a
+  first_lower : (a b : Result (Unit {0}) DynError) → Reports P F a → Reports Q G b → reported_code a ≤ reported_code b → Reports (P × Q) (λ e. F e ⊎ G e) a
   first_lower (Ok t) (Ok u) x y le = (x, y)
   first_lower (Ok t) (Err e) x y le = absurd (let early : code e < 605 = y.1 in omega arith)
   first_lower (Err e) (Ok u) x y le =
       ((inl x.0.0, λ other low. ⊎_elim (λ k. x.0.1 other low k) (λ k. let early : code other < 605 = omega (arith, x.1) in q y other early k)), x.1)
   first_lower (Err e) (Err d) x y le = ((inl x.0.0, λ other low. ⊎_elim (λ k. x.0.1 other low k) (λ k. let below : code other < code d = omega arith in y.0.1 other below k)), x.1)
 
-  second_lower : (a b : Result (Unit {0}) DynError) → Tells P F a → Tells Q G b → code_told b ≤ code_told a → Tells (P × Q) (λ e. F e ⊎ G e) b
+  second_lower : (a b : Result (Unit {0}) DynError) → Reports P F a → Reports Q G b → reported_code b ≤ reported_code a → Reports (P × Q) (λ e. F e ⊎ G e) b
   second_lower (Ok t) (Ok u) x y le = (x, y)
   second_lower (Err e) (Ok u) x y le = absurd (let early : code e < 605 = x.1 in omega arith)
   second_lower (Ok t) (Err e) x y le =
       ((inr y.0.0, λ other low. ⊎_elim (λ k. let early : code other < 605 = omega (arith, y.1) in p x other early k) (λ k. y.0.1 other low k)), y.1)
   second_lower (Err e) (Err d) x y le = ((inr y.0.0, λ other low. ⊎_elim (λ k. let below : code other < code e = omega arith in x.0.1 other below k) (λ k. y.0.1 other low k)), y.1)
 
-  pub told_both : (a b r : Result (Unit {0}) DynError) → Tells P F a → Tells Q G b → (r ≡ a) ⊎ (r ≡ b) → code_told r ≤ code_told a → code_told r ≤ code_told b → Tells (P × Q) (λ e. F e ⊎ G e) r
+  pub told_both : (a b r : Result (Unit {0}) DynError) → Reports P F a → Reports Q G b → (r ≡ a) ⊎ (r ≡ b) → reported_code r ≤ reported_code a → reported_code r ≤ reported_code b → Reports (P × Q) (λ e. F e ⊎ G e) r
   told_both a b r x y one le_a le_b =
-      ⊎_elim (λ is. subst (Tells (P × Q) (λ e. F e ⊎ G e)) (sym is) (first_lower a b x y (subst (λ k. code_told k ≤ code_told b) is le_b)))
-      (λ is. subst (Tells (P × Q) (λ e. F e ⊎ G e)) (sym is) (second_lower a b x y (subst (λ k. code_told k ≤ code_told a) is le_a))) one
+      ⊎_elim (λ is. subst (Reports (P × Q) (λ e. F e ⊎ G e)) (sym is) (first_lower a b x y (subst (λ k. reported_code k ≤ reported_code b) is le_b)))
+      (λ is. subst (Reports (P × Q) (λ e. F e ⊎ G e)) (sym is) (second_lower a b x y (subst (λ k. reported_code k ≤ reported_code a) is le_a))) one
 
 -- the same in other words
-pub told_so : (P Q : Type 0) (F G : DynError → Type 0) → (P → Q) → ((e : DynError) → F e → G e) → ((e : DynError) → code e < 605 → G e → F e) → (r : Result (Unit {0}) DynError) → Tells P F r → Tells Q G r
+pub told_so : (P Q : Type 0) (F G : DynError → Type 0) → (P → Q) → ((e : DynError) → F e → G e) → ((e : DynError) → code e < 605 → G e → F e) → (r : Result (Unit {0}) DynError) → Reports P F r → Reports Q G r
 told_so P Q F G right to back (Ok t) x = right x
 told_so P Q F G right to back (Err e) x = ((to e x.0.0, λ other low k. let early : code other < 605 = omega (arith, x.1) in x.0.1 other low (back other early k)), x.1)
 
@@ -64,14 +64,14 @@ take_more xs i x inside is = ap (λ n. take n xs) (add-one i) ∙ more xs i x in
 module _ {A : Type 0} (P : A → Type 0) (F : A → DynError → Type 0) (p : (x : A) → P x → NoneEarly (F x)) where
   -- what is reported of the elements of a row
   abbrev pub TellsRow : List A → Result (Unit {0}) DynError → Type 0
-  TellsRow xs r = Tells (AllByRecursion P xs) (λ e. AnyOf (λ x. F x e) xs) r
+  TellsRow xs r = Reports (AllByRecursion P xs) (λ e. AnyOf (λ x. F x e) xs) r
 
   pub none_any : (xs : List A) → AllByRecursion P xs → NoneEarly (λ e. AnyOf (λ x. F x e) xs)
   none_any [] h e early k = k
   none_any (x ∷ xs) h e early (inl k) = p x h.0 e early k
   none_any (x ∷ xs) h e early (inr k) = none_any xs h.1 e early k
 
-  pub told_more : (xs : List A) (i : ℕ) (x : A) (a b r : Result (Unit {0}) DynError) → i < length xs → x ≡ get_or xs i x → TellsRow (take i xs) a → Tells (P x) (F x) b → (r ≡ a) ⊎ (r ≡ b) → code_told r ≤ code_told a → code_told r ≤ code_told b
+  pub told_more : (xs : List A) (i : ℕ) (x : A) (a b r : Result (Unit {0}) DynError) → i < length xs → x ≡ get_or xs i x → TellsRow (take i xs) a → Reports (P x) (F x) b → (r ≡ a) ⊎ (r ≡ b) → reported_code r ≤ reported_code a → reported_code r ≤ reported_code b
       → TellsRow (take (i + 1) xs) r
   told_more xs i x a b r inside is of_front of_next one le_a le_b =
       let front = take i xs in

@@ -21,7 +21,7 @@ use Rattle.pg_dyn.specs.KeyOrder.{AreAlike}
 use Rattle.pg_dyn.specs.Message.{Leaf, Part, key_cmp}
 use Rattle.pg_dyn.specs.Seen.{content_seen, item_seen, leaf_of}
 use Rattle.pg_dyn.specs.setting.Setting.{by_rising_key, is_zero_kept, normalized_by}
-use Rattle.pg_dyn.specs.setting.Told.{EntryFits, entry_kept, entry_seen, is_nothing, ItemsFit}
+use Rattle.pg_dyn.specs.setting.Reported.{EntryFits, entry_kept, entry_seen, is_nothing, ItemsFit}
 use Rattle.pg_dyn.specs.Texts.{kept_in, kept_item}
 use Rattle.pg_dyn.proofs.lemmas.setting.KeySorting.{entry_part, sorted_is}
 use Rattle.pg_dyn.proofs.Lists.{each-append, map_map}

@@ -29,7 +29,7 @@ use Rattle.pg_dyn.specs.ScalarItems.{IsItemOf}
 use Rattle.pg_dyn.specs.Seen.{content_seen, item_seen, leaf_of, Rises, IsFilled, HasKeys}
 use Rattle.pg_dyn.specs.setting.Setting.{normalized, normalized_by}
 use Rattle.pg_dyn.specs.Texts.{kept_in}
-use Rattle.pg_dyn.specs.setting.Told.{EntryFits, is_nothing, ItemsFit, MayHoldKeys}
+use Rattle.pg_dyn.specs.setting.Reported.{EntryFits, is_nothing, ItemsFit, MayHoldKeys}
 use Rattle.pg_dyn.proofs.lemmas.TypeFields.{is_type, rising}
 use Rattle.pg_dyn.proofs.lemmas.FieldListLaws.{rises-filter, rises_put, rises_remove, each_put, each_removed}
 use Rattle.pg_dyn.proofs.lemmas.FitsByContents.{fits_from_contents, contents_from_fits}

@@ -18,7 +18,7 @@ use Rattle.pg_dyn.specs.reading.Content.{is_sibling, same_oneof}
 use Rattle.pg_dyn.specs.Replacing.{is_sibling_number, with_parts, with_content, without_siblings}
 use Rattle.pg_dyn.specs.setting.ContentFaults.{ContentFault, HasKeyTwice, IsLowest, HasNoFault, MayRefuseFor}
 use Rattle.pg_dyn.specs.setting.Setting.{normalized, IsSetTo}
-use Rattle.pg_dyn.specs.setting.Told.{IsTaken}
+use Rattle.pg_dyn.specs.setting.Reported.{IsTaken}
 use Rattle.pg_dyn.proofs.lemmas.setting.ContentChecks.{taken_once, taken_twice}
 use Rattle.pg_dyn.proofs.Lists.{each_of_all, list_any_none}
 use Rattle.pg_dyn.proofs.lemmas.setting.PutLaws.{no_self_sibling, siblings_after, normalized_number}

@@ -15,7 +15,7 @@ use Rattle.pg_dyn.specs.Seen.{Rises}
 use Rattle.pg_dyn.specs.ContentFits.{AreApart, NoneSiblings}
 use Rattle.pg_dyn.specs.setting.ContentFaults.{AnyOf, ContentFault, ContentsFault, HasFieldTwice, HasKeyTwice, is_in_oneof, members, code, IsLowest, HasNoFault, MayRefuseFor}
 use Rattle.pg_dyn.specs.setting.Setting.{normalized_parts, IsWhole}
-use Rattle.pg_dyn.specs.setting.Told.{TakesContent}
+use Rattle.pg_dyn.specs.setting.Reported.{TakesContent}
 use Rattle.pg_dyn.proofs.Lists.{filter_none, each_weaker, each_both}
 use Rattle.pg_dyn.proofs.lemmas.setting.ContentChecks.{lowest, taken_once, takes_early}
 use Rattle.pg_dyn.proofs.lemmas.setting.SetSteps.{may_refuse}

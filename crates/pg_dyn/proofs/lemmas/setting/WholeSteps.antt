@@ -23,7 +23,7 @@ use Rattle.pg_dyn.specs.Replacing.{kept_from, with_parts, is_sibling_number, wit
 use Rattle.pg_dyn.specs.ContentFits.{AreApart, NoneSiblings}
 use Rattle.pg_dyn.specs.setting.ContentFaults.{PassTwice}
 use Rattle.pg_dyn.specs.setting.Setting.{normalized, normalized_parts, IsWhole}
-use Rattle.pg_dyn.specs.setting.Told.{TakesContent}
+use Rattle.pg_dyn.specs.setting.Reported.{TakesContent}
 use Rattle.pg_dyn.proofs.Lists.{filter_all, filter_none, filter-append', flat_map-append', each_weaker, each_both}
 use Rattle.pg_dyn.proofs.lemmas.KeptParts.{each_from_index}
 use Rattle.pg_dyn.proofs.lemmas.TypeFields.{rising}

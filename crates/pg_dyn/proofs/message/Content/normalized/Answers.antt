@@ -11,7 +11,7 @@ use Rattle.pg_dyn.specs.ContentFits.{ContentFits}
 use Rattle.pg_dyn.specs.KeyOrder.{KeysAlike}
 use Rattle.pg_dyn.specs.Seen.{content_seen, IsMapKey}
 use Rattle.pg_dyn.specs.setting.Setting.{normalized, normalized_by}
-use Rattle.pg_dyn.specs.setting.Told.{EntryFits, is_nothing, ItemsFit, MayHoldKeys}
+use Rattle.pg_dyn.specs.setting.Reported.{EntryFits, is_nothing, ItemsFit, MayHoldKeys}
 use Rattle.pg_dyn.specs.ScalarItems.{IsKeptAs}
 use Rattle.pg_dyn.specs.Texts.{kept_in}
 use Rattle.pg_dyn.proofs.lemmas.KeyLaws.{each_moved}

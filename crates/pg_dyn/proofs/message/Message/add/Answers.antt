@@ -9,7 +9,7 @@ use Rattle.pg_dyn.specs.Kept.{type_of}
 use Rattle.pg_dyn.specs.Replacing.{with_parts, without_siblings}
 use Rattle.pg_dyn.specs.Seen.{content_seen, record_seen}
 use Rattle.pg_dyn.specs.setting.Setting.{normalized}
-use Rattle.pg_dyn.specs.setting.Told.{ItemsFit}
+use Rattle.pg_dyn.specs.setting.Reported.{ItemsFit}
 use Rattle.pg_dyn.proofs.lemmas.FitsChecks.{none_found, same_field}
 use Rattle.pg_dyn.proofs.lemmas.ReplacingLaws.{type_shown}
 use Rattle.pg_dyn.proofs.lemmas.Splitting.{found_number}

@@ -11,7 +11,7 @@ use Rattle.pg_dyn.specs.Fits.{Fits}
 use Rattle.pg_dyn.specs.Kept.{type_of}
 use Rattle.pg_dyn.specs.Replacing.{without_siblings}
 use Rattle.pg_dyn.specs.Seen.{Rises}
-use Rattle.pg_dyn.specs.setting.Told.{TakesContent}
+use Rattle.pg_dyn.specs.setting.Reported.{TakesContent}
 use Rattle.pg_dyn.proofs.lemmas.setting.WholeSteps.{whole_more, fill_fits, rises_before, fact_of_next, facts_before}
 use Rattle.pg_dyn.proofs.message.Message.filled.Goals as goal
 

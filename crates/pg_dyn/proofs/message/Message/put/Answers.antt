@@ -7,7 +7,7 @@ use Rattle.pg_dyn.specs.Fits.{Fits}
 use Rattle.pg_dyn.specs.Kept.{type_of}
 use Rattle.pg_dyn.specs.Replacing.{without_siblings}
 use Rattle.pg_dyn.specs.Seen.{record_seen}
-use Rattle.pg_dyn.specs.setting.Told.{IsTaken, ItemsFit}
+use Rattle.pg_dyn.specs.setting.Reported.{IsTaken, ItemsFit}
 use Rattle.pg_dyn.proofs.lemmas.FitsChecks.{none_found, same_field}
 use Rattle.pg_dyn.proofs.lemmas.setting.PutLaws.{cleared_fits, normalized_number}
 use Rattle.pg_dyn.proofs.lemmas.ReplacingLaws.{type_shown, type_of-with_parts}

@@ -9,7 +9,7 @@ use Rattle.pg_dyn.specs.Fits.{Fits}
 use Rattle.pg_dyn.specs.Kept.{type_of}
 use Rattle.pg_dyn.specs.Replacing.{without_siblings}
 use Rattle.pg_dyn.specs.Seen.{record_seen}
-use Rattle.pg_dyn.specs.setting.Told.{IsTaken}
+use Rattle.pg_dyn.specs.setting.Reported.{IsTaken}
 use Rattle.pg_dyn.proofs.lemmas.setting.PutLaws.{cleared_fits, content_alike, normalized_number}
 use Rattle.pg_dyn.proofs.lemmas.ReplacingLaws.{type_shown, type_of-with_parts}
 use Rattle.pg_dyn.proofs.lemmas.setting.SetSteps.{accepted, key_twice, may_refuse, members_after, number_is, set_to}

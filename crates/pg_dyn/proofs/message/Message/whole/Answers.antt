@@ -13,7 +13,7 @@ use Rattle.pg_dyn.specs.declared.message.Message.{Message}
 use Rattle.pg_dyn.specs.Seen.{Rises}
 use Rattle.pg_dyn.specs.setting.ContentFaults.{AnyOf, PassTwice, ContentsFault, ContentFault, HasKeyTwice, is_in_oneof, members, IsLowest, MayRefuseFor}
 use Rattle.pg_dyn.specs.setting.Setting.{IsWhole}
-use Rattle.pg_dyn.specs.setting.Told.{TakesContent}
+use Rattle.pg_dyn.specs.setting.Reported.{TakesContent}
 use Rattle.pg_dyn.proofs.lemmas.KeyLaws.{count_moved, each_moved}
 use Rattle.pg_dyn.proofs.lemmas.Standing.{any_moved}
 use Rattle.pg_dyn.proofs.lemmas.setting.WholeSteps.{of_field, kept_under}

@@ -22,14 +22,14 @@ use Rattle.pg_dyn.specs.ScalarItems.{IsItemOf}
 use Rattle.pg_dyn.specs.Texts.{kept_item}
 
 -- all is right, or the error is the lowest fault, and not that of a key twice
-abbrev pub Tells : Type 0 → (DynError → Type 0) → Result (Unit {0}) DynError → Type 0
-Tells Right Fault (Ok t) = Right
-Tells Right Fault (Err e) = IsLowest Fault e × (code e < 605)
+abbrev pub Reports : Type 0 → (DynError → Type 0) → Result (Unit {0}) DynError → Type 0
+Reports Right Fault (Ok t) = Right
+Reports Right Fault (Err e) = IsLowest Fault e × (code e < 605)
 
 -- the code of what is reported; where nothing is, it is above all
-abbrev pub code_told : Result (Unit {0}) DynError → ℕ
-code_told (Ok t) = 1000
-code_told (Err e) = code e
+abbrev pub reported_code : Result (Unit {0}) DynError → ℕ
+reported_code (Ok t) = 1000
+reported_code (Err e) = code e
 
 -- an entry of a map
 abbrev pub EntryFits : Shape → Scalar → Element → Value × Value → Type 0
