@@ -12,6 +12,7 @@ ghost use Rattle.pg_dyn.specs.Fits.{Fits};
 ghost use Rattle.pg_dyn.specs.Message.{key_cmp};
 ghost use Rattle.pg_dyn.specs.ScalarItems.{IsItemOf};
 ghost use Rattle.pg_dyn.specs.Seen.{IsKey, leaf_of, record_seen};
+ghost use Rattle.pg_dyn.specs.setting.Told.{EntryFits};
 
 use crate::accept::accepts;
 use crate::message::{Content, Message, UnknownRecord, Value};
@@ -116,6 +117,44 @@ impl Value {
 }
 
 impl Content {
+    // Whether each item of a list is one of the element.
+    #[cycle(fits)]
+    fn are_items(schema: &Schema, element: Element, values: &[Value]) -> bool
+        requires { IsSchema schema.now }
+        ensures { IsTrue result
+            ↔ AllByRecursion (ItemFits (shape_of schema.now) element) values.now }
+    {
+        for value in values {
+            if !value.fits(schema, element) {
+                return false;
+            }
+        }
+        true
+    }
+
+    // Whether each entry of a map has a key of the scalar and a value of the element.
+    #[cycle(fits)]
+    fn are_entries(
+        schema: &Schema,
+        key: Scalar,
+        element: Element,
+        entries: &[(Value, Value)],
+    ) -> bool
+        requires { IsSchema schema.now }
+        ensures { IsTrue result
+            ↔ AllByRecursion (EntryFits (shape_of schema.now) key element) entries.now }
+    {
+        for (entry_key, value) in entries {
+            if !is_item(key, entry_key) {
+                return false;
+            }
+            if !value.fits(schema, element) {
+                return false;
+            }
+        }
+        true
+    }
+
     // Whether the content is one of the field: of its shape, with items of its element, and no zero
     // in an implicit field.
     #[cycle(fits)]
@@ -130,23 +169,10 @@ impl Content {
             }
             (Presence::Explicit, Content::One(value)) => value.fits(schema, field.element),
             (Presence::Repeated { .. }, Content::Many(values)) => {
-                for value in values {
-                    if !value.fits(schema, field.element) {
-                        return false;
-                    }
-                }
-                true
+                Content::are_items(schema, field.element, values)
             }
             (Presence::Map { key }, Content::Map(entries)) => {
-                for (entry_key, value) in entries {
-                    if !is_item(key, entry_key) {
-                        return false;
-                    }
-                    if !value.fits(schema, field.element) {
-                        return false;
-                    }
-                }
-                keys_rise(entries)
+                Content::are_entries(schema, key, field.element, entries) && keys_rise(entries)
             }
             _ => false,
         }

@@ -151,28 +151,45 @@ impl<'a> ValueRef<'a> {
 }
 
 impl<'a> ContentRef<'a> {
+    ghost use Rattle.std.specs.List.{AllByRecursion};
+    ghost use Rattle.pg_dyn.specs.Kept.{IsPlainItem};
+
+    // Whether each item of a list is plain.
+    #[cycle(is_plain)]
+    fn are_plain(values: &[ValueRef<'a>]) -> bool
+        ensures { IsTrue result
+            ↔ AllByRecursion (λ v. IsPlainItem (borrowed.item_seen false v)) values.now }
+    {
+        for value in values {
+            if !value.is_plain() {
+                return false;
+            }
+        }
+        true
+    }
+
+    // Whether the value of each entry of a map is.
+    #[cycle(is_plain)]
+    fn have_plain_values(entries: &[EntryRef<'a>]) -> bool
+        ensures { IsTrue result
+            ↔ AllByRecursion (λ e. IsPlainItem (borrowed.item_seen false e.value)) entries.now }
+    {
+        for entry in entries {
+            if !entry.value.is_plain() {
+                return false;
+            }
+        }
+        true
+    }
+
     #[cycle(is_plain)]
     fn is_plain(&self) -> bool
         ensures { IsTrue result ↔ borrowed.ArePlain self.now }
     {
         match self {
             ContentRef::One(value) => value.is_plain(),
-            ContentRef::Many(values) => {
-                for value in values {
-                    if !value.is_plain() {
-                        return false;
-                    }
-                }
-                true
-            }
-            ContentRef::Map(entries) => {
-                for entry in entries {
-                    if !entry.value.is_plain() {
-                        return false;
-                    }
-                }
-                true
-            }
+            ContentRef::Many(values) => ContentRef::are_plain(values),
+            ContentRef::Map(entries) => ContentRef::have_plain_values(entries),
         }
     }
 }

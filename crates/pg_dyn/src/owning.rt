@@ -1,11 +1,12 @@
 //! Messages that borrow, copied into ones that own their parts.
 
-ghost use Rattle.std.specs.Prelude.{◌≡◌, map, IfOk};
+ghost use Rattle.std.specs.Prelude.{◌≡◌, map, true, IfOk};
 ghost use Rattle.std.specs.List.{AllByRecursion};
 ghost use Rattle.pg_wire.specs.Reads.{seen_record};
 ghost use Rattle.pg_wire.specs.Records.{IsRecord};
-ghost use Rattle.pg_dyn.specs.Copies.{IsContentCopy, IsEntryCopy, IsItemCopy};
-ghost use Rattle.pg_dyn.specs.Seen.{record_seen};
+ghost use Rattle.pg_dyn.specs.Copies.{AreEntryCopies, IsContentCopy, IsEntryCopy, IsItemCopy};
+ghost use Rattle.pg_dyn.specs.Borrowed as borrowed;
+ghost use Rattle.pg_dyn.specs.Seen.{item_seen, record_seen};
 
 use crate::message::{Content, Message, UnknownRecord, Value};
 use crate::message_ref::{ContentRef, EntryRef, MessageRef, ValueRef};
@@ -70,6 +71,34 @@ impl<'a> EntryRef<'a> {
 }
 
 impl<'a> ContentRef<'a> {
+    // The same of each item of a list.
+    #[cycle(owning)]
+    fn to_values(values: &[ValueRef<'a>], alloc: Global) -> Result<Vec<Value>, AllocError>
+        ensures { IfOk result (λ owned. map (item_seen true) owned.items
+            ≡ map (borrowed.item_seen true) values.now) }
+    {
+        let mut owned = Vec::with_capacity(alloc, values.len())?;
+        for value in values {
+            owned.push(value.to_value(alloc)?)?;
+        }
+        Ok(owned)
+    }
+
+    // The same of each entry of a map.
+    #[cycle(owning)]
+    fn to_entries(
+        entries: &[EntryRef<'a>],
+        alloc: Global,
+    ) -> Result<Vec<(Value, Value)>, AllocError>
+        ensures { IfOk result (λ owned. AreEntryCopies entries.now owned.items) }
+    {
+        let mut owned = Vec::with_capacity(alloc, entries.len())?;
+        for entry in entries {
+            owned.push(entry.to_entry(alloc)?)?;
+        }
+        Ok(owned)
+    }
+
     // The same of all items of a content.
     #[cycle(owning)]
     fn to_content(&self, alloc: Global) -> Result<Content, AllocError>
@@ -77,20 +106,8 @@ impl<'a> ContentRef<'a> {
     {
         match self {
             ContentRef::One(value) => Ok(Content::One(value.to_value(alloc)?)),
-            ContentRef::Many(values) => {
-                let mut owned = Vec::with_capacity(alloc, values.len())?;
-                for value in values {
-                    owned.push(value.to_value(alloc)?)?;
-                }
-                Ok(Content::Many(owned))
-            }
-            ContentRef::Map(entries) => {
-                let mut owned = Vec::with_capacity(alloc, entries.len())?;
-                for entry in entries {
-                    owned.push(entry.to_entry(alloc)?)?;
-                }
-                Ok(Content::Map(owned))
-            }
+            ContentRef::Many(values) => Ok(Content::Many(ContentRef::to_values(values, alloc)?)),
+            ContentRef::Map(entries) => Ok(Content::Map(ContentRef::to_entries(entries, alloc)?)),
         }
     }
 }

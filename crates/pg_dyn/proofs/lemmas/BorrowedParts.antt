@@ -17,7 +17,7 @@ use Rattle.pg_dyn.specs.declared.message_ref.ValueRef.{ValueRef}
 use Rattle.pg_dyn.specs.declared.message_ref.ValueRef.TheVariants as values
 use Rattle.pg_dyn.specs.Borrowed.{all_seen, content_seen, entry_part, fields_onto, item_part}
 use Rattle.pg_dyn.specs.Borrowed as borrowed
-use Rattle.pg_dyn.specs.Copies.{IsContentCopy, IsEntryCopy, IsItemCopy}
+use Rattle.pg_dyn.specs.Copies.{AreEntryCopies, IsContentCopy, IsEntryCopy, IsItemCopy}
 use Rattle.pg_dyn.specs.Copies as copy
 use Rattle.pg_dyn.specs.Kept.{Kept, ends, KeptItem, Plain, Msg, of_number, parts_of, type_of, unknown_of}
 use Rattle.pg_dyn.specs.Message.{Leaf, Bytes, Part, is_of}
@@ -172,23 +172,22 @@ list_copied rs vs same = record {
   keys = λ h. tt;
 }
 
-abbrev pub KeysCopied : List EntryRef → List (Value × Value) → Type 0
-KeysCopied lent copies = AllByRecursion (λ (e : EntryRef). borrowed.IsMapKey e.key) lent → AllByRecursion (λ (e : Value × Value). IsMapKey e.0) copies
-
-pub map_copied : (rs : Vec EntryRef Global) (es : Vec (Value × Value) Global) → KeysCopied rs.items es.items → ((n : ℕ) → map (copy.entry_part n) es.items ≡ map (entry_part n) rs.items)
-    → IsContentCopy (contents.Map rs) (held.Map es)
-map_copied rs es keys same = record {
-  parts = same;
-  filled = no_nil (copy.entry_part 0) (entry_part 0) es.items rs.items (same 0);
-  keys = keys;
+pub map_copied : (rs : Vec EntryRef Global) (es : Vec (Value × Value) Global) → AreEntryCopies rs.items es.items → IsContentCopy (contents.Map rs) (held.Map es)
+map_copied rs es same = record {
+  parts = same.parts;
+  filled = no_nil (copy.entry_part 0) (entry_part 0) es.items rs.items (same.parts 0);
+  keys = same.keys;
 }
 
-pub keys_more : (lent : List EntryRef) (copies : List (Value × Value)) (i : ℕ) (e : EntryRef) (c : Value × Value) → i < length lent → e ≡ get_or lent i e
-    → KeysCopied (take i lent) copies → IsEntryCopy e c → KeysCopied (take (i + 1) lent) (copies ++ c ∷ [])
-keys_more lent copies i e c inside is before new all =
-    let split = subst (AllByRecursion (λ (x : EntryRef). borrowed.IsMapKey x.key)) (take_more lent i e inside ∙ ap (λ x. take i lent ++ x ∷ []) (sym is)) all in
-    each-append (λ (x : Value × Value). IsMapKey x.0) copies (c ∷ []) (before (each_before (λ (x : EntryRef). borrowed.IsMapKey x.key) (take i lent) (e ∷ []) split))
-    (new.key (each_after (λ (x : EntryRef). borrowed.IsMapKey x.key) (take i lent) (e ∷ []) split).0, tt)
+pub entries_more : (lent : List EntryRef) (copies : List (Value × Value)) (i : ℕ) (e : EntryRef) (c : Value × Value) → i < length lent → e ≡ get_or lent i e
+    → AreEntryCopies (take i lent) copies → IsEntryCopy e c → AreEntryCopies (take (i + 1) lent) (copies ++ c ∷ [])
+entries_more lent copies i e c inside is before new = record {
+  parts = λ n. map_more (copy.entry_part n) (entry_part n) copies lent i c e inside is (before.parts n) (new.part n);
+  keys = λ all.
+      let split = subst (AllByRecursion (λ (x : EntryRef). borrowed.IsMapKey x.key)) (take_more lent i e inside ∙ ap (λ x. take i lent ++ x ∷ []) (sym is)) all in
+      each-append (λ (x : Value × Value). IsMapKey x.0) copies (c ∷ []) (before.keys (each_before (λ (x : EntryRef). borrowed.IsMapKey x.key) (take i lent) (e ∷ []) split))
+      (new.key (each_after (λ (x : EntryRef). borrowed.IsMapKey x.key) (take i lent) (e ∷ []) split).0, tt);
+}
 
 -- All contents.
 

@@ -7,8 +7,8 @@ use Rattle.pg_dyn.specs.declared.message.Content.{Content}
 use Rattle.pg_dyn.specs.declared.message.Content.TheVariants as contents
 use Rattle.pg_dyn.specs.declared.message.Value.{Value}
 use Rattle.pg_dyn.specs.declared.message.Value.TheVariants as values
-use Rattle.pg_dyn.specs.Message.{Leaf, Part}
-use Rattle.pg_dyn.specs.Kept.{Kept, ends, KeptItem, IsPlain, IsPlainItem}
+use Rattle.pg_dyn.specs.Message.{Leaf}
+use Rattle.pg_dyn.specs.Kept.{Kept, ends, IsPlain, IsPlainItem}
 use Rattle.pg_dyn.specs.Seen.{leaf_of, item_seen, record_seen, value_onto, items_onto, entries_onto, content_onto, fields_onto, ArePlain}
 
 value_plain : (n : ℕ) (k : Option Leaf) (l : Bool) (v : Value) (later : Kept) → (IsPlainItem (item_seen false v) × IsPlain later) ↔ IsPlain (value_onto n k l v later)
@@ -18,25 +18,6 @@ value_plain n k l (values.F64 x) later = ((λ e. e.1), λ e. (tt, e))
 value_plain n k l (values.Text x) later = ((λ e. e.1), λ e. (tt, e))
 value_plain n k l (values.Bytes x) later = ((λ e. e.1), λ e. (tt, e))
 value_plain n k l (values.Msg m) later = ((λ e. e), λ e. e)
-
--- in a list or by itself
-in_list : (v : Value) → IsPlainItem (item_seen false v) ↔ IsPlainItem (item_seen true v)
-in_list (values.Int x) = ((λ e. e), λ e. e)
-in_list (values.F32 x) = ((λ e. e), λ e. e)
-in_list (values.F64 x) = ((λ e. e), λ e. e)
-in_list (values.Text x) = ((λ e. e), λ e. e)
-in_list (values.Bytes x) = ((λ e. e), λ e. e)
-in_list (values.Msg m) = ((λ e. e), λ e. e)
-
--- a content is plain where each of its items is
-pub ArePlain-Many : (n : ℕ) (vs : List Value) → AllByRecursion (λ v. IsPlainItem (item_seen false v)) vs ↔ AllByRecursion (λ (p : Part KeptItem). IsPlainItem p.item) (map (λ v. record { number = n; key = None; item = item_seen true v }) vs)
-ArePlain-Many n [] = ((λ e. e), λ e. e)
-ArePlain-Many n (v ∷ vs) = ((λ e. ((in_list v).0 e.0, (ArePlain-Many n vs).0 e.1)), λ e. ((in_list v).1 e.0, (ArePlain-Many n vs).1 e.1))
-
-pub ArePlain-Map : (n : ℕ) (es : List (Value × Value)) → AllByRecursion (λ (e : Value × Value). IsPlainItem (item_seen false e.1)) es
-    ↔ AllByRecursion (λ (p : Part KeptItem). IsPlainItem p.item) (map (λ (e : Value × Value). record { number = n; key = Some (leaf_of e.0); item = item_seen false e.1 }) es)
-ArePlain-Map n [] = ((λ e. e), λ e. e)
-ArePlain-Map n (v ∷ vs) = ((λ e. (e.0, (ArePlain-Map n vs).0 e.1)), λ e. (e.0, (ArePlain-Map n vs).1 e.1))
 
 items_plain : (n : ℕ) (vs : List Value) (later : Kept) → (AllByRecursion (λ v. IsPlainItem (item_seen false v)) vs × IsPlain later) ↔ IsPlain (items_onto n vs later)
 items_plain n [] later = ((λ e. e.1), λ e. (tt, e))
@@ -53,11 +34,9 @@ entries_plain n (v ∷ vs) later =
     ((λ e. first.0 (e.0.0, rest.0 (e.0.1, e.1))), λ e. let k = first.1 e in let r = rest.1 k.1 in ((k.0, r.0), r.1))
 
 content_plain : (n : ℕ) (c : Content) (later : Kept) → (ArePlain c × IsPlain later) ↔ IsPlain (content_onto n c later)
-content_plain n (contents.One v) later = let level = value_plain n None false v later in ((λ e. level.0 (e.0.0, e.1)), λ e. let k = level.1 e in ((k.0, tt), k.1))
-content_plain n (contents.Many vs) later =
-    let level = items_plain n vs.items later in let each = ArePlain-Many 0 vs.items in ((λ e. level.0 (each.1 e.0, e.1)), λ e. let k = level.1 e in (each.0 k.0, k.1))
-content_plain n (contents.Map es) later =
-    let level = entries_plain n es.items later in let each = ArePlain-Map 0 es.items in ((λ e. level.0 (each.1 e.0, e.1)), λ e. let k = level.1 e in (each.0 k.0, k.1))
+content_plain n (contents.One v) later = value_plain n None false v later
+content_plain n (contents.Many vs) later = items_plain n vs.items later
+content_plain n (contents.Map es) later = entries_plain n es.items later
 
 fields_plain : (fs : List (ℕ × Content)) (later : Kept) → (AllByRecursion (λ (f : ℕ × Content). ArePlain f.1) fs × IsPlain later) ↔ IsPlain (fields_onto fs later)
 fields_plain [] later = ((λ e. e.1), λ e. (tt, e))

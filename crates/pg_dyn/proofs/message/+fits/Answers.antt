@@ -1,19 +1,17 @@
 -- A content fits where it has its field's shape and each of its items fits, and a message where each of its contents does.
-use Rattle.std.proofs.Common.{Vec, Global, ◌≡◌, List, true, map, sym, subst, ◌∙◌, true≢false}
+use Rattle.std.proofs.Common.{arith, ap, ◌≡◌, List, true, map, refl, sym, subst, ◌∙◌, true≢false}
+use denote.Param.Weighed.{most}
+use Rattle.pg_dyn.specs.declared.message.Message.TheDeep.{deep-Content, deep-Value}
+use Rattle.pg_dyn.specs.declared.message.Message.TheShapes.{weighed-Content-Map-0-at-2}
+use Rattle.pg_dyn.specs.declared.message.Content.{Content}
 use Rattle.std.specs.List.{AllByRecursion}
 use Rattle.pg_schema.specs.Parts.{field_shape, shape_of}
-use Rattle.pg_schema.specs.declared.parts.field.Element.{Element}
-use Rattle.pg_schema.specs.declared.parts.field.Presence.{Presence}
-use Rattle.pg_schema.specs.declared.parts.field.Presence.TheVariants as presences
-use Rattle.pg_schema.specs.declared.parts.field.Scalar.{Scalar}
-use Rattle.pg_schema.specs.Shape.{Shape, FieldShape, fields}
-use Rattle.pg_dyn.specs.declared.message.Content.{Content}
-use Rattle.pg_dyn.specs.declared.message.Content.TheVariants as contents
+use Rattle.pg_schema.specs.Shape.{FieldShape, fields}
 use Rattle.pg_dyn.specs.declared.message.UnknownRecord.{UnknownRecord}
 use Rattle.pg_dyn.specs.declared.message.Value.{Value}
-use Rattle.pg_dyn.specs.ContentFits.{ContentFits, HoldsContent, ItemFits, NoneSiblings}
+use Rattle.pg_dyn.specs.ContentFits.{ContentFits, HoldsContent, NoneSiblings}
 use Rattle.pg_dyn.specs.reading.Content.{is_unknown}
-use Rattle.pg_dyn.specs.ScalarItems.{IsItemOf}
+use Rattle.pg_dyn.specs.setting.Told.{EntryFits}
 use Rattle.pg_dyn.specs.Seen.{IsKey, Rises, record_seen}
 use Rattle.pg_dyn.proofs.lemmas.FitsByContents.{fits_from_contents, contents_from_fits}
 use Rattle.pg_dyn.proofs.lemmas.ItemLeaves.{item_is_key}
@@ -24,9 +22,9 @@ use Rattle.pg_dyn.proofs.message.+fits.Goals as goal
 
 pub Content::fits-keys_rise-requires : goal.Content::fits-keys_rise-requires
 Content::fits-keys_rise-requires t c =
-    let each = each_from_take (λ (x : Value × Value). IsItemOf c.in-Map-Map.key x.0 × ItemFits (shape_of c.args.schema.now) c.args.field.now.element x.1) _ _ c.loop-entry_key.entry_key-index c.deref-entry_key-items.ensures.value c.loop-entry_key-test.false c.loop-entry_key.invariant in
-    subst (AllByRecursion (λ (e : Value × Value). IsKey e.0)) (sym c.deref.ensures.value)
-    (each_weaker (λ (x : Value × Value). IsItemOf c.in-Map-Map.key x.0 × ItemFits (shape_of c.args.schema.now) c.args.field.now.element x.1) (λ (e : Value × Value). IsKey e.0) (λ e h. item_is_key c.in-Map-Map.key e.0 h.0) c.in-Map-Map.entries.items each)
+    let Fits = EntryFits (shape_of c.args.schema.now) c.in-Map-Map.key c.args.field.now.element in
+    subst (AllByRecursion (λ (e : Value × Value). IsKey e.0)) (sym c.deref-then-are_entries.ensures.value)
+    (each_weaker Fits (λ (e : Value × Value). IsKey e.0) (λ e h. item_is_key c.in-Map-Map.key e.0 h.0) c.in-Map-Map.entries.items (subst (AllByRecursion Fits) c.deref-in-Map-Map.ensures.value (c.are_entries.ensures.0 c.if-are_entries.true)))
 
 pub Message::is_one_of-returns-then-not-has : goal.Message::is_one_of-returns-then-not-has
 Message::is_one_of-returns-then-not-has t c =
@@ -64,33 +62,26 @@ Message::is_one_of-loop-number-preserved t c =
     each_more (HoldsContent (shape_of c.args.schema.now) c.self.inside.type_id) c.deref-number-items.result.now c.loop-number.number-index c.loop-number-item.result c.loop-number-test.true c.loop-number-item.is c.loop-number.invariant
     (record { field = field_shape c.in-Some.field.now; found = sym c.in-Some.ensures.shape; fits = c.fits.ensures.0 c.if-not-fits.false })
 
--- a map's entries
-entries_fit : (shape : Shape) (key : Scalar) (p : Presence) (e : Element) (c : Content) (es : Vec (Value × Value) Global) → p ≡ presences.Map key → c ≡ contents.Map es → ContentFits shape p e c
-    → AllByRecursion (λ (x : Value × Value). IsItemOf key x.0 × ItemFits shape e x.1) es.items
-entries_fit shape key p e c es is one h = (subst (λ x. ContentFits shape (presences.Map key) e x) one (subst (λ x. ContentFits shape x e c) is h)).0
-
-pub Content::fits-returns-then-not-is_item : goal.Content::fits-returns-then-not-is_item
-Content::fits-returns-then-not-is_item t c = (
+pub Content::are_entries-returns-then-not-is_item : goal.Content::are_entries-returns-then-not-is_item
+Content::are_entries-returns-then-not-is_item t c = (
   (λ e. absurd (true≢false (sym e))),
-  λ h.
-      let each = entries_fit (shape_of c.args.schema.now) c.in-Map-Map.key c.args.field.now.presence c.args.field.now.element c.args.self.now c.in-Map-Map.entries c.in-Map-Map.is-0 c.in-Map-Map.is-1 h in
-      let one = each_at_index (λ (x : Value × Value). IsItemOf c.in-Map-Map.key x.0 × ItemFits (shape_of c.args.schema.now) c.args.field.now.element x.1) _ _ c.loop-entry_key.entry_key-index c.loop-entry_key-item.result c.deref-entry_key-items.ensures.value c.loop-entry_key-test.true c.loop-entry_key-item.is each in
+  λ each.
+      let one = each_at_index (EntryFits (shape_of c.args.schema.now) c.args.key c.args.element) _ _ c.loop-entry_key.entry_key-index c.loop-entry_key-item.result refl c.loop-entry_key-test.true c.loop-entry_key-item.is each in
       absurd (true≢false (sym (c.is_item.ensures.1 one.0) ∙ c.if-not-is_item.true)),
 )
 
-pub Content::fits-returns-then-not-fits-2 : goal.Content::fits-returns-then-not-fits-2
-Content::fits-returns-then-not-fits-2 t c = (
+pub Content::are_entries-returns-then-not-fits : goal.Content::are_entries-returns-then-not-fits
+Content::are_entries-returns-then-not-fits t c = (
   (λ e. absurd (true≢false (sym e))),
-  λ h.
-      let each = entries_fit (shape_of c.args.schema.now) c.in-Map-Map.key c.args.field.now.presence c.args.field.now.element c.args.self.now c.in-Map-Map.entries c.in-Map-Map.is-0 c.in-Map-Map.is-1 h in
-      let one = each_at_index (λ (x : Value × Value). IsItemOf c.in-Map-Map.key x.0 × ItemFits (shape_of c.args.schema.now) c.args.field.now.element x.1) _ _ c.loop-entry_key.entry_key-index c.loop-entry_key-item.result c.deref-entry_key-items.ensures.value c.loop-entry_key-test.true c.loop-entry_key-item.is each in
-      absurd (true≢false (sym (c.fits-in-loop-entry_key.ensures.1 one.1) ∙ c.if-not-fits-2.true)),
+  λ each.
+      let one = each_at_index (EntryFits (shape_of c.args.schema.now) c.args.key c.args.element) _ _ c.loop-entry_key.entry_key-index c.loop-entry_key-item.result refl c.loop-entry_key-test.true c.loop-entry_key-item.is each in
+      absurd (true≢false (sym (c.fits.ensures.1 one.1) ∙ c.if-not-fits.true)),
 )
 
-pub Content::fits-loop-entry_key-preserved : goal.Content::fits-loop-entry_key-preserved
-Content::fits-loop-entry_key-preserved t c =
-    each_more (λ (x : Value × Value). IsItemOf c.in-Map-Map.key x.0 × ItemFits (shape_of c.args.schema.now) c.args.field.now.element x.1) c.deref-entry_key-items.result.now c.loop-entry_key.entry_key-index c.loop-entry_key-item.result c.loop-entry_key-test.true c.loop-entry_key-item.is c.loop-entry_key.invariant
-    (c.is_item.ensures.0 c.if-not-is_item.false, c.fits-in-loop-entry_key.ensures.0 c.if-not-fits-2.false)
+pub Content::are_entries-loop-entry_key-preserved : goal.Content::are_entries-loop-entry_key-preserved
+Content::are_entries-loop-entry_key-preserved t c =
+    each_more (EntryFits (shape_of c.args.schema.now) c.args.key c.args.element) c.args.entries.now c.loop-entry_key.entry_key-index c.loop-entry_key-item.result c.loop-entry_key-test.true c.loop-entry_key-item.is c.loop-entry_key.invariant
+    (c.is_item.ensures.0 c.if-not-is_item.false, c.fits.ensures.0 c.if-not-fits.false)
 
 pub Message::is_one_of-none_siblings-requires : goal.Message::is_one_of-none_siblings-requires
 Message::is_one_of-none_siblings-requires t c = subst Rises (sym c.deref.ensures.value) c.self.invariant.rises
@@ -121,3 +112,9 @@ Message::is_one_of-returns t c =
           let by = contents_from_fits (shape_of c.args.schema.now) a.type_id a.fields.items (map record_seen a.unknown.items) c.args.self.now c.self.view_is c.requires.shape c.self.invariant.filled c.self.invariant.keys fits in
           c.unknown_fit.ensures.1 (subst (λ (us : List UnknownRecord). AllByRecursion (λ (u : UnknownRecord). is_unknown (fields (shape_of c.args.schema.now) a.type_id) (record_seen u) ≡ true) us) (sym c.deref-2.ensures.value) (none_accepted (fields (shape_of c.args.schema.now) a.type_id) a.unknown.items by.unknown)),
     )
+
+pub Content::fits-are_items-requires : goal.Content::fits-are_items-requires
+Content::fits-are_items-requires t c = (omega (arith, c.decreases, ap (most (λ (v : Value). deep-Value v)) c.deref.ensures.value, ap (λ (x : Content). deep-Content x) c.in-Repeated-Many.is-1), c.requires)
+
+pub Content::fits-are_entries-requires : goal.Content::fits-are_entries-requires
+Content::fits-are_entries-requires t c = (omega (arith, c.decreases, ap (most ((weighed-Content-Map-0-at-2).weight Value deep-Value)) c.deref-in-Map-Map.ensures.value, ap (λ (x : Content). deep-Content x) c.in-Map-Map.is-1), c.requires)

@@ -1,5 +1,8 @@
 -- Each part has its copy.
-use Rattle.std.proofs.Common.{ℕ, List, map, true, ap, sym, subst, ◌∙◌}
+use Rattle.std.proofs.Common.{arith, ℕ, List, map, true, ap, sym, subst, ◌∙◌}
+use denote.Param.Weighed.{most}
+use Rattle.pg_dyn.specs.declared.message_ref.MessageRef.TheDeep.{deep-ContentRef, deep-EntryRef, deep-ValueRef}
+use Rattle.pg_dyn.specs.declared.message_ref.ValueRef.{ValueRef}
 use Rattle.std.specs.List.{AllByRecursion}
 use Rattle.std.proofs.lemmas.List.{take_all}
 use Rattle.pg_wire.specs.Reads.{seen_record}
@@ -8,38 +11,36 @@ use Rattle.pg_dyn.specs.declared.message.Content.TheVariants as held
 use Rattle.pg_dyn.specs.declared.message_ref.ContentRef.{ContentRef}
 use Rattle.pg_dyn.specs.declared.message_ref.EntryRef.{EntryRef}
 use Rattle.pg_dyn.specs.Borrowed as borrowed
-use Rattle.pg_dyn.specs.Copies.{IsContentCopy, entry_part}
+use Rattle.pg_dyn.specs.Copies.{AreEntryCopies, IsContentCopy}
 use Rattle.pg_dyn.specs.Seen.{record_seen}
-use Rattle.pg_dyn.proofs.lemmas.BorrowedParts.{AreCopies, KeysCopied, copies_more, copy_shows, entry_copied, keys_more, list_copied, map_copied, map_more, rises_same}
+use Rattle.pg_dyn.proofs.lemmas.BorrowedParts.{AreCopies, copies_more, copy_shows, entries_more, entry_copied, list_copied, map_copied, rises_same}
 use Rattle.pg_dyn.proofs.message_ref.+owning.Goals as goal
 
 pub EntryRef::to_entry-returns : goal.EntryRef::to_entry-returns
 EntryRef::to_entry-returns t c = entry_copied c.args.self.now c.in_ok-key.key c.in_ok-value.value c.in_ok-key.ensures c.in_ok-value.ensures
 
-pub ContentRef::to_content-loop-entry-preserved : goal.ContentRef::to_content-loop-entry-preserved
-ContentRef::to_content-loop-entry-preserved t c =
-    let xs = c.deref-entry-items.result.now in
-    let l = c.loop-entry in (
-      rw c.in_ok-push-in-Map.ensures.items
-          (keys_more xs l.owned.items l.entry-index c.entry-item.result c.in_ok-to_entry-in-Map.field-0 c.loop-entry-test.true c.entry-item.is l.invariant.0 c.in_ok-to_entry-in-Map.ensures),
-      λ n.
-          rw c.in_ok-push-in-Map.ensures.items
-          (map_more (entry_part n) (borrowed.entry_part n) l.owned.items xs l.entry-index c.in_ok-to_entry-in-Map.field-0 c.entry-item.result c.loop-entry-test.true c.entry-item.is (l.invariant.1 n)
-          (c.in_ok-to_entry-in-Map.ensures.part n)),
-    )
+pub ContentRef::to_values-returns : goal.ContentRef::to_values-returns
+ContentRef::to_values-returns t c = c.loop-value.invariant ∙ ap (map (borrowed.item_seen true)) (take_all c.loop-value.value-index c.args.values.now c.loop-value-test.false)
 
-pub ContentRef::to_content-returns-after-loop-value : goal.ContentRef::to_content-returns-after-loop-value
-ContentRef::to_content-returns-after-loop-value t c =
-    let all = take_all c.loop-value.value-index c.deref-value-items.result.now c.loop-value-test.false ∙ c.deref-value-items.ensures.value in
-    subst (λ (r : ContentRef). IsContentCopy r (held.Many c.loop-value.owned)) (sym c.in-Many.is)
-    (list_copied c.in-Many.values c.loop-value.owned (c.loop-value.invariant ∙ ap (map (borrowed.item_seen true)) all))
+pub ContentRef::to_entries-loop-entry-preserved : goal.ContentRef::to_entries-loop-entry-preserved
+ContentRef::to_entries-loop-entry-preserved t c =
+    let l = c.loop-entry in
+    rw c.in_ok-push.ensures.items
+    (entries_more c.args.entries.now l.owned.items l.entry-index c.entry-item.result c.in_ok-to_entry.field-0 c.loop-entry-test.true c.entry-item.is l.invariant c.in_ok-to_entry.ensures)
 
-pub ContentRef::to_content-returns-after-loop-entry : goal.ContentRef::to_content-returns-after-loop-entry
-ContentRef::to_content-returns-after-loop-entry t c =
-    let all = take_all c.loop-entry.entry-index c.deref-entry-items.result.now c.loop-entry-test.false ∙ c.deref-entry-items.ensures.value in
-    subst (λ (r : ContentRef). IsContentCopy r (held.Map c.loop-entry.owned)) (sym c.in-Map.is)
-    (map_copied c.in-Map.entries c.loop-entry.owned (subst (λ (es : List EntryRef). KeysCopied es c.loop-entry.owned.items) all c.loop-entry.invariant.0)
-    (λ n. c.loop-entry.invariant.1 n ∙ ap (map (borrowed.entry_part n)) all))
+pub ContentRef::to_entries-returns : goal.ContentRef::to_entries-returns
+ContentRef::to_entries-returns t c =
+    subst (λ (es : List EntryRef). AreEntryCopies es c.loop-entry.owned.items) (take_all c.loop-entry.entry-index c.args.entries.now c.loop-entry-test.false) c.loop-entry.invariant
+
+pub ContentRef::to_content-returns-in_ok-to_values-in-Many : goal.ContentRef::to_content-returns-in_ok-to_values-in-Many
+ContentRef::to_content-returns-in_ok-to_values-in-Many t c =
+    subst (λ (r : ContentRef). IsContentCopy r (held.Many c.in_ok-to_values-in-Many.field-0)) (sym c.in-Many.is)
+    (list_copied c.in-Many.values c.in_ok-to_values-in-Many.field-0 (c.in_ok-to_values-in-Many.ensures ∙ ap (map (borrowed.item_seen true)) c.deref.ensures.value))
+
+pub ContentRef::to_content-returns-in_ok-to_entries-in-Map : goal.ContentRef::to_content-returns-in_ok-to_entries-in-Map
+ContentRef::to_content-returns-in_ok-to_entries-in-Map t c =
+    subst (λ (r : ContentRef). IsContentCopy r (held.Map c.in_ok-to_entries-in-Map.field-0)) (sym c.in-Map.is)
+    (map_copied c.in-Map.entries c.in_ok-to_entries-in-Map.field-0 (subst (λ (es : List EntryRef). AreEntryCopies es c.in_ok-to_entries-in-Map.field-0.items) c.deref-in-Map.ensures.value c.in_ok-to_entries-in-Map.ensures))
 
 pub MessageRef::to_message-loop-number-preserved : goal.MessageRef::to_message-loop-number-preserved
 MessageRef::to_message-loop-number-preserved t c =
@@ -67,3 +68,9 @@ MessageRef::to_message-returns t c =
     copy_shows a.type_id a.fields.items c.loop-number.fields.items (map record_seen c.in_ok-unknown.unknown.items) (map seen_record a.unknown.items) all
     (c.in_ok-unknown.ensures ∙ ap (map seen_record) c.deref.ensures.value)
     ∙ c.self.view_is
+
+pub ContentRef::to_content-to_values-requires : goal.ContentRef::to_content-to_values-requires
+ContentRef::to_content-to_values-requires t c = (omega (arith, c.decreases, ap (most (λ (v : ValueRef). deep-ValueRef v)) c.deref.ensures.value, ap (λ (x : ContentRef). deep-ContentRef x) c.in-Many.is), tt)
+
+pub ContentRef::to_content-to_entries-requires : goal.ContentRef::to_content-to_entries-requires
+ContentRef::to_content-to_entries-requires t c = (omega (arith, c.decreases, ap (most (λ (e : EntryRef). deep-EntryRef e)) c.deref-in-Map.ensures.value, ap (λ (x : ContentRef). deep-ContentRef x) c.in-Map.is), tt)
