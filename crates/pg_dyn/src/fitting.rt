@@ -12,7 +12,7 @@ ghost use Rattle.pg_dyn.specs.Fits.{Fits};
 ghost use Rattle.pg_dyn.specs.Message.{key_cmp};
 ghost use Rattle.pg_dyn.specs.ScalarItems.{IsItemOf};
 ghost use Rattle.pg_dyn.specs.Seen.{IsKey, leaf_of, record_seen};
-ghost use Rattle.pg_dyn.specs.setting.Told.{EntryFits};
+ghost use Rattle.pg_dyn.specs.setting.Reported.{EntryFits};
 
 use crate::accept::accepts;
 use crate::message::{Content, Message, UnknownRecord, Value};

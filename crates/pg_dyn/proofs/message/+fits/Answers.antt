@@ -11,7 +11,7 @@ use Rattle.pg_dyn.specs.declared.message.UnknownRecord.{UnknownRecord}
 use Rattle.pg_dyn.specs.declared.message.Value.{Value}
 use Rattle.pg_dyn.specs.ContentFits.{ContentFits, HoldsContent, NoneSiblings}
 use Rattle.pg_dyn.specs.reading.Content.{is_unknown}
-use Rattle.pg_dyn.specs.setting.Told.{EntryFits}
+use Rattle.pg_dyn.specs.setting.Reported.{EntryFits}
 use Rattle.pg_dyn.specs.Seen.{IsKey, Rises, record_seen}
 use Rattle.pg_dyn.proofs.lemmas.FitsByContents.{fits_from_contents, contents_from_fits}
 use Rattle.pg_dyn.proofs.lemmas.ItemLeaves.{item_is_key}

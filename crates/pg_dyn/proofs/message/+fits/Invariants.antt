@@ -7,7 +7,7 @@ use Rattle.pg_dyn.specs.declared.message.Message.TheShapes.{weighed-Content-Map-
 use Rattle.std.specs.List.{AllByRecursion}
 use Rattle.pg_schema.specs.Parts.{shape_of}
 use Rattle.pg_dyn.specs.ContentFits.{ItemFits, HoldsContent}
-use Rattle.pg_dyn.specs.setting.Told.{EntryFits}
+use Rattle.pg_dyn.specs.setting.Reported.{EntryFits}
 use Rattle.pg_dyn.proofs.message.+fits.Given as goal
 
 abbrev pub decreases-Content::are_items : goal.decreases-Content::are_items
