@@ -3,9 +3,9 @@ use Rattle.std.proofs.Common.{◌≡◌, ◌⊎◌, inl, inr, Result, Ok, Err, I
 use Rattle.pg_schema.specs.declared.parts.Parts.{Parts}
 use Rattle.pg_check.specs.declared.error.CheckError.{CheckError}
 use Rattle.pg_check.specs.declared.error.CheckError.TheVariants.{Memory}
-use Rattle.pg_check.specs.BrokenParts.{IsFirstBrokenPart}
+use Rattle.pg_check.specs.admitting.BrokenParts.{IsFirstBrokenPart}
 use Rattle.pg_check.specs.Codes.{code_of}
-use Rattle.pg_check.specs.PartErrors.{IsFirstOf, IsRefusedOf, bad, first, lacking}
+use Rattle.pg_check.specs.admitting.PartErrors.{IsFirstOf, IsRefusedOf, bad, first, lacking}
 
 abbrev pub IsReported : Parts → CheckError → Type 0
 IsReported parts e = (e ≡ Memory) ⊎ (code_of e ≡ 415) ⊎ IsFirstBrokenPart parts e

@@ -4,8 +4,8 @@
 
 ghost use Rattle.std.specs.Prelude.{◌≡◌, ◌⊎◌, IfErr, IfOk, OnOk};
 ghost use Rattle.pg_schema.specs.rules.Sound.{IsSound};
-ghost use Rattle.pg_check.specs.BrokenParts.{IsFirstBrokenPart};
-ghost use Rattle.pg_check.specs.BrokenRules.{IsFirstBroken};
+ghost use Rattle.pg_check.specs.admitting.BrokenParts.{IsFirstBrokenPart};
+ghost use Rattle.pg_check.specs.rules.BrokenRules.{IsFirstBroken};
 ghost use Rattle.pg_check.specs.Codes as codes;
 ghost use Rattle.pg_check.specs.Declares.{Declares};
 ghost use Rattle.pg_check.specs.Errors as spec;

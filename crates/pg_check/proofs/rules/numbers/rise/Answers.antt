@@ -1,9 +1,9 @@
-use Rattle.std.proofs.Common.{◌≡◌, ◌∙◌, ◌≤◌, ◌<◌, ◌+◌, ◌++◌, ◌∷◌, ◌||◌, [], ℕ, Bool, List, None, false, true, nat_eq, drop, take, get_or, length, arith, ap, sym, refl, subst}
+use Rattle.std.proofs.Common.{◌≡◌, ◌∙◌, ◌<◌, ◌+◌, ◌∷◌, ◌||◌, [], ℕ, Bool, List, false, true, nat_eq, take, get_or, length, arith, ap, refl}
 use Rattle.std.specs.List.{list_any}
 use Rattle.std.proofs.lemmas.Bool.Decides.{nat_tests}
 use Rattle.std.proofs.lemmas.List.Folds.{list_any-append}
 use Rattle.pg_check.specs.declared.rules.numbers.Keyed.{Keyed}
-use Rattle.pg_check.specs.rules.Numbers.{at, first_again, is_same}
+use Rattle.pg_check.specs.rules.Numbers.{at, is_same}
 use Rattle.pg_check.proofs.lemmas.rules.FirstLaws.{again_more, take_item}
 use Rattle.pg_check.proofs.rules.numbers.rise.Goals as goal
 
