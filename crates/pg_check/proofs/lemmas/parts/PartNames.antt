@@ -12,7 +12,7 @@ use Rattle.pg_schema.specs.declared.parts.message_type.MessageType.{MessageType}
 use Rattle.pg_schema.specs.declared.parts.service.Method as schema_methods
 use Rattle.pg_schema.specs.declared.parts.service.Service as schema_services
 use Rattle.pg_schema.specs.rules.DeclaredNames as names
-use Rattle.pg_schema.specs.rules.DeclaredNames.{declared_names, entry_names, entry_of, method_names, service_names, type_names, values_at, values_of, within}
+use Rattle.pg_schema.specs.rules.DeclaredNames.{entry_names, entry_of, method_names, service_names, type_names, values_at, values_of, within}
 use Rattle.pg_schema.specs.rules.Enums.{value_names}
 use Rattle.pg_schema.specs.rules.Fields.{is_message}
 use Rattle.pg_schema.specs.rules.Messages.{field_names}
