@@ -165,11 +165,12 @@ overlapping_found view zero lowest highest xs h =
 
 some_one : {X : Type 0} (p : X → Bool) (xs : List X) → list_any p xs ≡ true → (x : X) × (IsOneOf xs x × (p x ≡ true))
 some_one p [] h = absurd (false≢true h)
-some_one p (x ∷ xs) h = by (p x) refl h
+some_one p (x ∷ xs) h = by (p x) refl h (some_one p xs)
   where
-    by : (b : Bool) → p x ≡ b → (b || list_any p xs) ≡ true → (y : _) × (IsOneOf (x ∷ xs) y × (p y ≡ true))
-    by true is g = (x, (record { before = []; after = xs; is = refl }, is))
-    by false is g = let (y, (one, test)) = some_one p xs g in (y, (one_more x xs y one, test))
+    by : (b : Bool) → p x ≡ b → (b || list_any p xs) ≡ true → (list_any p xs ≡ true → (y : _) × (IsOneOf xs y × (p y ≡ true)))
+        → (y : _) × (IsOneOf (x ∷ xs) y × (p y ≡ true))
+    by true is g later = (x, (record { before = []; after = xs; is = refl }, is))
+    by false is g later = let (y, (one, test)) = later g in (y, (one_more x xs y one, test))
 
 or_true : (b : Bool) → (b || true) ≡ true
 or_true true = refl
@@ -259,8 +260,8 @@ packed_is_bad presences.Explicit e stated (inl is) why = absurd (cc (is))
 packed_is_bad presences.Explicit e stated (inr is) why = is
 packed_is_bad (presences.Map key) e stated (inl is) why = absurd (cc (is))
 packed_is_bad (presences.Map key) e stated (inr is) why = is
-packed_is_bad (presences.Repeated packed) e stated is (inl no) = absurd (false≢true (sym no))
-packed_is_bad (presences.Repeated packed) e stated is (inr no) = by packed (stated_or stated false) (is_packable e) is no
+packed_is_bad (presences.Repeated packed) e stated is (inl single) = absurd (false≢true (sym single))
+packed_is_bad (presences.Repeated packed) e stated is (inr apart) = by packed (stated_or stated false) (is_packable e) is apart
   where
     by : (a s k : Bool) → (presences.Repeated a ≡ presences.Repeated true) ⊎ (s ≡ true) → k ≡ false → ((a || s) && not k) ≡ true
     by true s k g others = ap not others
