@@ -1,5 +1,5 @@
 -- Linking numbers what files declare by its names, in order of declaration.
-use Rattle.std.proofs.Common.{◌≡◌, ◌∙◌, ℕ, zero, suc, ◌+◌, ◌<◌, ◌≤◌, Bool, true, false, cond, List, [], ◌∷◌, ◌++◌, length, map, flat_map, filter, get_or, Option, Some, string_bytes, sym, ap, ap₂, subst, refl, arith}
+use Rattle.std.proofs.Common.{◌≡◌, ◌∙◌, ℕ, zero, suc, ◌+◌, ◌<◌, ◌≤◌, Bool, true, false, cond, List, [], ◌∷◌, ◌++◌, length, map, flat_map, filter, get_or, Some, string_bytes, sym, ap, ap₂, subst, refl, arith}
 use Rattle.std.specs.List.{AllByRecursion, position_from}
 use Rattle.std.specs.Option.{unwrap_or}
 use Rattle.std.specs.Str.{bytes_eq}
@@ -16,7 +16,7 @@ use Rattle.pg_link.specs.Outline.{all_of, file_names, of_enum, of_enum_part, of_
 use Rattle.pg_link.specs.Targets.{all_declared, enum_names, is_enum, is_message, message_names, names_of}
 use Rattle.pg_link.specs.Walk.{Entry, IsParsed}
 use Rattle.pg_check.specs.parts.EnumPlaces.{AreNumbered, declared_messages, declared_names, enum_full, message_full, place_among, scoped_names}
-use Rattle.pg_check.specs.rules.Outline.{Enum, Message, all_enums, all_messages, enums_in, file_enums, file_messages, full_name, messages_in, package_of, row_enums, row_messages, scoped_enums, statement_enums, statement_messages, statements_behind}
+use Rattle.pg_check.specs.rules.Outline.{Enum, all_enums, all_messages, enums_in, file_enums, file_messages, full_name, messages_in, package_of, row_enums, row_messages, scoped_enums, statement_enums, statement_messages, statements_behind}
 use Rattle.pg_check.proofs.lemmas.parts.DeclaredTotals.{behind_dot, package_scope_is, scope_is, within_is}
 use Rattle.pg_check.proofs.lemmas.parts.ScopedEnums.{scoped_total}
 use Rattle.pg_check.proofs.lemmas.parts.Totals.{one, one_from, same_one, times, total_joined, total_map}
