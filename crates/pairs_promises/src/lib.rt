@@ -23,7 +23,7 @@ ghost use Rattle.pg_pairs.specs.Laws.{ReachedBy};
 ghost use Rattle.pg_pairs.specs.SeenBy.{seen_by};
 
 pub use graph::{base, edge_cost, edges, knows, priced, reached_pairs};
-pub use names::{alike_by_name, least_by_name};
+pub use names::{alike_as_named, alike_by_name, least_by_name, name_of_names};
 use pg_dyn::{DynError, Message, MessageRef};
 use pg_pairs::{Choice, Gap, Numbers, Pair, Table, View};
 use pg_schema::{EnumType, Scalar, Schema};
