@@ -4,15 +4,13 @@ use Rattle.std.proofs.Math.ListN.{set, length-set}
 use Rattle.std.proofs.lemmas.Bool.Decides.{nat_tests}
 use Rattle.std.proofs.lemmas.Grind.{get_or-set_at}
 use Rattle.std.proofs.lemmas.List.{get_or-set_other}
-use denote.Ref.{Bor}
 use Rattle.pg_dyn.specs.Kept.{Kept, message_of}
 use Rattle.pg_dyn.specs.Message.{Message}
-use Rattle.pg_fds.specs.Lent.{lent}
 use Rattle.pg_fds.specs.Made.{AreCounted, is_named, members_at}
 use Rattle.pg_fds.specs.Said.{maybe_number_at}
 
-abbrev seen : List (Bor Kept) → (i : ℕ) → List Message
-seen ms i = map message_of (lent (take i ms))
+abbrev seen : List Kept → (i : ℕ) → List Message
+seen ms i = map message_of (take i ms)
 
 abbrev named : (p : ℕ) → List Message → List Message
 named p xs = filter (λ y. is_named p (maybe_number_at 9 y)) xs
@@ -21,31 +19,31 @@ abbrev one_if : Bool → ℕ
 one_if true = 1
 one_if false = 0
 
-one_more : (p : ℕ) (ms : List (Bor Kept)) (i : ℕ) (m : Bor Kept) → i < length ms → m ≡ get_or ms i m
-    → members_at p (seen ms (suc i)) ≡ members_at p (seen ms i) + one_if (is_named p (maybe_number_at 9 (message_of m.now)))
+one_more : (p : ℕ) (ms : List Kept) (i : ℕ) (m : Kept) → i < length ms → m ≡ get_or ms i m
+    → members_at p (seen ms (suc i)) ≡ members_at p (seen ms i) + one_if (is_named p (maybe_number_at 9 (message_of m)))
 one_more p [] i m h is = absurd (omega (arith, h))
-one_more p (x ∷ ms) zero m h is = subst (λ (b : Bor Kept). members_at p (message_of x.now ∷ []) ≡ 0 + one_if (is_named p (maybe_number_at 9 (message_of b.now)))) (sym is) (of (is_named p (maybe_number_at 9 (message_of x.now))))
+one_more p (x ∷ ms) zero m h is = subst (λ (b : Kept). members_at p (message_of x ∷ []) ≡ 0 + one_if (is_named p (maybe_number_at 9 (message_of b)))) (sym is) (of (is_named p (maybe_number_at 9 (message_of x))))
   where
-    of : (b : Bool) → length (cond b (message_of x.now ∷ []) []) ≡ 0 + one_if b
+    of : (b : Bool) → length (cond b (message_of x ∷ []) []) ≡ 0 + one_if b
     of true = omega arith
     of false = omega arith
-one_more p (x ∷ ms) (suc i) m h is = of (is_named p (maybe_number_at 9 (message_of x.now))) (one_more p ms i m (omega (arith, h)) is)
+one_more p (x ∷ ms) (suc i) m h is = of (is_named p (maybe_number_at 9 (message_of x))) (one_more p ms i m (omega (arith, h)) is)
   where
-    of : (b : Bool) → length (named p (seen ms (suc i))) ≡ length (named p (seen ms i)) + one_if (is_named p (maybe_number_at 9 (message_of m.now)))
-        → length (cond b (message_of x.now ∷ named p (seen ms (suc i))) (named p (seen ms (suc i)))) ≡ length (cond b (message_of x.now ∷ named p (seen ms i)) (named p (seen ms i))) + one_if (is_named p (maybe_number_at 9 (message_of m.now)))
+    of : (b : Bool) → length (named p (seen ms (suc i))) ≡ length (named p (seen ms i)) + one_if (is_named p (maybe_number_at 9 (message_of m)))
+        → length (cond b (message_of x ∷ named p (seen ms (suc i))) (named p (seen ms (suc i)))) ≡ length (cond b (message_of x ∷ named p (seen ms i)) (named p (seen ms i))) + one_if (is_named p (maybe_number_at 9 (message_of m)))
     of true e = omega (arith, e)
     of false e = e
 
-few : (p : ℕ) (ms : List (Bor Kept)) (i : ℕ) → members_at p (seen ms i) ≤ i
+few : (p : ℕ) (ms : List Kept) (i : ℕ) → members_at p (seen ms i) ≤ i
 few p ms zero = none ms
   where
-    none : (xs : List (Bor Kept)) → members_at p (seen xs 0) ≤ 0
+    none : (xs : List Kept) → members_at p (seen xs 0) ≤ 0
     none [] = omega arith
     none (x ∷ xs) = omega arith
 few p [] (suc i) = omega arith
-few p (x ∷ ms) (suc i) = of (is_named p (maybe_number_at 9 (message_of x.now))) (few p ms i)
+few p (x ∷ ms) (suc i) = of (is_named p (maybe_number_at 9 (message_of x))) (few p ms i)
   where
-    of : (b : Bool) → members_at p (seen ms i) ≤ i → length (cond b (message_of x.now ∷ filter (λ y. is_named p (maybe_number_at 9 y)) (seen ms i)) (filter (λ y. is_named p (maybe_number_at 9 y)) (seen ms i))) ≤ suc i
+    of : (b : Bool) → members_at p (seen ms i) ≤ i → length (cond b (message_of x ∷ filter (λ y. is_named p (maybe_number_at 9 y)) (seen ms i)) (filter (λ y. is_named p (maybe_number_at 9 y)) (seen ms i))) ≤ suc i
     of true h = omega (arith, h)
     of false h = omega (arith, h)
 
@@ -56,8 +54,8 @@ other_place : (a b : ℕ) → nat_eq a b ≡ false → b ≢ a
 other_place a b e = λ q. grind (arith, nat_tests)
 
 -- a field that names a place
-pub counted_more : (ms : List (Bor Kept)) (i : ℕ) (m : Bor Kept) (place count before now : ℕ) (counts : List ℕ) → i < length ms → i < 18446744073709551615 → m ≡ get_or ms i m
-    → maybe_number_at 9 (message_of m.now) ≡ Some (pos place) → place < count → before ≡ get_or counts place before → now ≡ min (before + 1) 18446744073709551615
+pub counted_more : (ms : List Kept) (i : ℕ) (m : Kept) (place count before now : ℕ) (counts : List ℕ) → i < length ms → i < 18446744073709551615 → m ≡ get_or ms i m
+    → maybe_number_at 9 (message_of m) ≡ Some (pos place) → place < count → before ≡ get_or counts place before → now ≡ min (before + 1) 18446744073709551615
     → AreCounted (seen ms i) count counts → AreCounted (seen ms (i + 1)) count (set counts place now)
 counted_more ms i m place count before now counts h fits is named below at sum counted = record {
   all = length-set counts place now ∙ counted.all;
@@ -91,7 +89,7 @@ counted_more ms i m place count before now counts h fits is named below at sum c
         get_or-set_other counts place p now 0 (other_place place p e) ∙ (kept ∙ (let same : members_at p (seen ms i) ≡ members_at p (seen ms (i + 1)) = omega (arith, step) in same))
 
 -- one that names none
-pub uncounted_more : (ms : List (Bor Kept)) (i : ℕ) (m : Bor Kept) (count : ℕ) (counts : List ℕ) → i < length ms → m ≡ get_or ms i m → maybe_number_at 9 (message_of m.now) ≡ None
+pub uncounted_more : (ms : List Kept) (i : ℕ) (m : Kept) (count : ℕ) (counts : List ℕ) → i < length ms → m ≡ get_or ms i m → maybe_number_at 9 (message_of m) ≡ None
     → AreCounted (seen ms i) count counts → AreCounted (seen ms (i + 1)) count counts
 uncounted_more ms i m count counts h is none counted = record {
   all = counted.all;

@@ -7,7 +7,6 @@ use Rattle.std.specs.List.{Any}
 use Rattle.std.specs.Map.{update}
 use Rattle.std.specs.Str.{bytes_eq}
 use Rattle.std.specs.String.{string_bytes}
-use denote.Ref.{Bor}
 use Rattle.pg_schema.specs.declared.parts.field.Field.{Field}
 use Rattle.pg_schema.specs.declared.parts.field.Scalar.{Scalar}
 use Rattle.pg_schema.specs.rules.DeclaredNames.{entry_name}
@@ -17,7 +16,6 @@ use Rattle.pg_schema.proofs.lemmas.rules.PairLemmas.{and_left, and_right, distin
 use Rattle.pg_dyn.specs.Kept.{Kept, message_of}
 use Rattle.pg_dyn.specs.Message.{Message}
 use Rattle.pg_fds.specs.FilePlaces.{IsIndex}
-use Rattle.pg_fds.specs.Lent.{lent}
 use Rattle.pg_fds.specs.Places.{Declared}
 use Rattle.pg_fds.specs.Said.{text_at}
 use Rattle.pg_fds.specs.States.{StatesEntry}
@@ -27,14 +25,14 @@ use Rattle.pg_fds.proofs.Zips.{seen_got, seen_length}
 
 -- ---- the map of places
 
-abbrev names : List (Bor Kept) → List (List ℕ)
-names ms = map (text_at 1) (map message_of (lent ms))
+abbrev names : List Kept → List (List ℕ)
+names ms = map (text_at 1) (map message_of ms)
 
 none_there : {Y : Type 0} (texts : List (List ℕ)) (index : BTreeMap (String Y) ℕ) (key : List ℕ) (found : Option ℕ) → IsIndex texts index → is_among texts key ≡ false → get_by_text index key ≡ found → found ≡ None
 none_there texts index key None is fresh same = refl
 none_there texts index key (Some place) is fresh same = absurd (false≢true (sym fresh ∙ index_has texts index key place is same))
 
-names_long : (ms : List (Bor Kept)) (i : ℕ) → i ≤ length ms → i ≡ length (names (take i ms))
+names_long : (ms : List Kept) (i : ℕ) → i ≤ length ms → i ≡ length (names (take i ms))
 names_long ms zero h = refl
 names_long [] (suc i) h = absurd (omega (arith, h))
 names_long (m ∷ ms) (suc i) h = ap suc (names_long ms i (omega (arith, h)))
@@ -44,7 +42,7 @@ not_true true h = absurd (false≢true h)
 not_true false h = refl
 
 -- one name more, which is none of those in front
-pub index_step : {Y : Type 0} (ms : List (Bor Kept)) (i : ℕ) (m : Bor Kept) (key : List ℕ) (old new : BTreeMap (String Y) ℕ) → i < length ms → m ≡ get_or ms i m → key ≡ text_at 1 (message_of m.now)
+pub index_step : {Y : Type 0} (ms : List Kept) (i : ℕ) (m : Kept) (key : List ℕ) (old new : BTreeMap (String Y) ℕ) → i < length ms → m ≡ get_or ms i m → key ≡ text_at 1 (message_of m)
     → ((text : List ℕ) → get_by_text new text ≡ update bytes_eq (get_by_text old) key (Some i) text)
     → (are_distinct (names (take i ms)) ≡ true → IsIndex (names (take i ms)) old) → are_distinct (names (take (i + 1) ms)) ≡ true → IsIndex (names (take (i + 1) ms)) new
 index_step ms i m key old new h is named updates before once =
@@ -63,10 +61,10 @@ got_map f [] i x h is = absurd (omega (arith, h))
 got_map f (y ∷ xs) zero x h is = (ap (λ z. Some (f z)) is, ap (λ z. Some z) is)
 got_map f (y ∷ xs) (suc i) x h is = got_map f xs i x (omega (arith, h)) is
 
-module _ {Y : Type 0} (all : Declared) (f : Field) (key : Scalar) (ms : List (Bor Kept)) (index : BTreeMap (String Y) ℕ) (is : IsIndex (names ms) index)
-    (any : Any (StatesEntry all f key) (map message_of (lent ms))) where
+module _ {Y : Type 0} (all : Declared) (f : Field) (key : Scalar) (ms : List Kept) (index : BTreeMap (String Y) ℕ) (is : IsIndex (names ms) index)
+    (any : Any (StatesEntry all f key) (map message_of ms)) where
   abbrev messages : List Message
-  messages = map message_of (lent ms)
+  messages = map message_of ms
 
   there : (slice_get (names ms) any.0 ≡ Some (text_at 1 any.1)) × (slice_get messages any.0 ≡ Some any.1)
   there = got_map (text_at 1) messages any.0 any.1 any.2 any.3
@@ -90,7 +88,7 @@ module _ {Y : Type 0} (all : Declared) (f : Field) (key : Scalar) (ms : List (Bo
         omega (arith, below, here, seen_length ms)
 
     -- and stands there
-    pub entry_found : (m : Bor Kept) → m ≡ get_or ms place m → StatesEntry all f key (message_of m.now)
+    pub entry_found : (m : Kept) → m ≡ get_or ms place m → StatesEntry all f key (message_of m)
     entry_found m at =
-        let same : any.1 ≡ message_of m.now = same_Some any.1 (message_of m.now) (sym there.1 ∙ (ap (slice_get messages) here ∙ seen_got ms place m place_within at)) in
+        let same : any.1 ≡ message_of m = same_Some any.1 (message_of m) (sym there.1 ∙ (ap (slice_get messages) here ∙ seen_got ms place m place_within at)) in
         subst (StatesEntry all f key) same any.4

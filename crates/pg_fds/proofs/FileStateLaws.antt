@@ -22,17 +22,17 @@ use Rattle.pg_fds.specs.StatesFiles.{import_of, is_descriptor, is_place, is_prot
 use Rattle.pg_fds.specs.StatesTypes.{is_marked}
 
 -- what is said of the items of lists, of what these lists are
-pub moved : {I : Type 0} (R : List ℕ → List Message → List I → Type 0) (s t : List ℕ) (a b : List (Bor Kept)) (ms : List Message) (is js : List I)
-    → s ≡ t → a ≡ b → map message_of (lent b) ≡ ms → is ≡ js → R s (map message_of (lent a)) is → R t ms js
+pub moved : {I : Type 0} (R : List ℕ → List Message → List I → Type 0) (s t : List ℕ) (a b : List Kept) (ms : List Message) (is js : List I)
+    → s ≡ t → a ≡ b → map message_of b ≡ ms → is ≡ js → R s (map message_of a) is → R t ms js
 moved R s t a b ms is js scope same seen ids h =
-    subst (λ x. R x ms js) scope (subst (λ y. R s y js) (ap (λ xs. map message_of (lent xs)) same ∙ seen) (subst (λ z. R s (map message_of (lent a)) z) ids h))
+    subst (λ x. R x ms js) scope (subst (λ y. R s y js) (ap (λ xs. map message_of xs) same ∙ seen) (subst (λ z. R s (map message_of a) z) ids h))
 
 -- and the other way round
-pub asked : {I : Type 0} (R : List ℕ → List Message → List I → Type 0) (s t : List ℕ) (a b : List (Bor Kept)) (ms : List Message) (is js : List I)
-    → s ≡ t → a ≡ b → map message_of (lent b) ≡ ms → is ≡ js → R t ms js → R s (map message_of (lent a)) is
+pub asked : {I : Type 0} (R : List ℕ → List Message → List I → Type 0) (s t : List ℕ) (a b : List Kept) (ms : List Message) (is js : List I)
+    → s ≡ t → a ≡ b → map message_of b ≡ ms → is ≡ js → R t ms js → R s (map message_of a) is
 asked R s t a b ms is js scope same seen ids h =
-    subst (λ x. R x (map message_of (lent a)) is) (sym scope)
-    (subst (λ y. R t y is) (sym (ap (λ xs. map message_of (lent xs)) same ∙ seen)) (subst (λ z. R t ms z) (sym ids) h))
+    subst (λ x. R x (map message_of a) is) (sym scope)
+    (subst (λ y. R t y is) (sym (ap (λ xs. map message_of xs) same ∙ seen)) (subst (λ z. R t ms z) (sym ids) h))
 
 -- what the rules say of a file's options
 pub options_kept : (f : File) → is_file f ≡ true → (is_rising (0 ∷ option_numbers f.options.items) ≡ true) × (list_all is_file_option f.options.items ≡ true)

@@ -5,13 +5,11 @@ use Rattle.std.proofs.lemmas.Option.{slice_get-get_or, slice_get-map}
 use Rattle.std.specs.Prelude.{IsSomeAnd}
 use Rattle.std.specs.List.{AllByRecursion, AllZip, Any, cons_option}
 use Rattle.std.specs.Option.{unwrap_or}
-use denote.Ref.{Bor}
 use Rattle.pg_schema.specs.declared.parts.Parts.{Parts}
 use Rattle.pg_schema.specs.rules.Pairs.{are_distinct}
 use Rattle.pg_dyn.specs.Kept.{Kept, message_of}
 use Rattle.pg_dyn.specs.Message.{Message}
 use Rattle.pg_fds.specs.FilePlaces.{AreOrdered, name_at}
-use Rattle.pg_fds.specs.Lent.{lent}
 use Rattle.pg_fds.specs.Outlines.{files_at}
 use Rattle.pg_fds.specs.Places.{declared_in}
 use Rattle.pg_fds.specs.PostOrder.{paths_of}
@@ -63,9 +61,9 @@ module _ {B : Type 0} (R : Message → B → Type 0) (called : B → List ℕ) (
 pub places_within : (skips : Bool) (kept : List Message) (places : List ℕ) → AreOrdered skips (map importer_of kept) places → AllByRecursion (λ place. place < length kept) places
 places_within skips kept places ordered = subst (λ n. AllByRecursion (λ place. place < n) places) (length-map kept importer_of) ordered.within
 
-pub lent_within : (skips : Bool) (files : List (Bor Kept)) (places : List ℕ) → AreOrdered skips (map importer_of (map message_of (lent files))) places → AllByRecursion (λ place. place < length files) places
+pub lent_within : (skips : Bool) (files : List Kept) (places : List ℕ) → AreOrdered skips (map importer_of (map message_of files)) places → AllByRecursion (λ place. place < length files) places
 lent_within skips files places ordered =
-    subst (λ n. AllByRecursion (λ place. place < n) places) (seen_length files) (places_within skips (map message_of (lent files)) places ordered)
+    subst (λ n. AllByRecursion (λ place. place < n) places) (seen_length files) (places_within skips (map message_of files) places ordered)
 
 -- the files at the places state those of the schema
 pub files_zip : (skips : Bool) (kept : List Message) (parts : Parts) (places : List ℕ) → StatesFiles skips kept parts → AreOrdered skips (map importer_of kept) places

@@ -1,7 +1,6 @@
 -- Of files that state a schema, parts are made that say the same.
 use Rattle.std.proofs.Common.{◌≡◌, ◌⊎◌, inl, inr, ℕ, ◌<◌, Bool, List, map, length}
 use Rattle.std.specs.List.{AllByRecursion, AllZip}
-use denote.Ref.{Bor}
 use Rattle.pg_schema.specs.declared.parts.Parts.{Parts}
 use Rattle.pg_dyn.specs.Kept.{Kept, message_of}
 use Rattle.pg_dyn.specs.Message.{Message}
@@ -9,7 +8,6 @@ use Rattle.pg_fds.specs.declared.error.Unstated.{Unstated}
 use Rattle.pg_fds.specs.declared.error.Unstated.TheVariants as unstated
 use Rattle.pg_fds.specs.declared.outline.Outline.{Outline}
 use Rattle.pg_fds.specs.FilePlaces.{AreOrdered, HasPathTexts}
-use Rattle.pg_fds.specs.Lent.{lent}
 use Rattle.pg_fds.specs.Made.{AreOutlined}
 use Rattle.pg_fds.specs.OutlinedScopes.{OutlinesFiles}
 use Rattle.pg_fds.specs.Outlines.{MayDeclare, files_at}
@@ -31,13 +29,13 @@ order_told skips kept e refused parts states =
       | inr none ↦ absurd (none_ordered skips kept none parts states)
     ]
 
-module _ (skips : Bool) (files : List (Bor Kept)) (order : List ℕ) (ordered : AreOrdered skips (map importer_of (map message_of (lent files))) order) (parts : Parts) (can : CanBeRead parts)
-    (states : StatesFiles skips (map message_of (lent files)) parts) where
+module _ (skips : Bool) (files : List Kept) (order : List ℕ) (ordered : AreOrdered skips (map importer_of (map message_of files)) order) (parts : Parts) (can : CanBeRead parts)
+    (states : StatesFiles skips (map message_of files) parts) where
   abbrev found : List Message
-  found = files_at (map message_of (lent files)) order
+  found = files_at (map message_of files) order
 
   zip : AllZip (StatesFile (declared_in parts) skips) found parts.files.items
-  zip = files_zip skips (map message_of (lent files)) parts order states ordered
+  zip = files_zip skips (map message_of files) parts order states ordered
 
   pub within : AllByRecursion (λ place. place < length files) order
   within = lent_within skips files order ordered

@@ -12,7 +12,6 @@ use Rattle.std.specs.Map.{lookup}
 use Rattle.std.specs.Ordering.{nat_cmp}
 use Rattle.std.specs.Str.{bytes_eq}
 use Rattle.std.specs.String.{string_bytes}
-use denote.Ref.{Bor}
 use Rattle.pg_schema.specs.declared.parts.field.Field.{Field}
 use Rattle.pg_schema.specs.declared.parts.field.Presence.{Presence}
 use Rattle.pg_schema.specs.declared.parts.field.Presence.TheVariants as presences
@@ -23,7 +22,6 @@ use Rattle.pg_schema.specs.rules.TextSets.{is_among}
 use Rattle.pg_schema.proofs.lemmas.rules.PairLemmas.{and_left, and_right}
 use Rattle.pg_dyn.specs.Kept.{Kept, message_of}
 use Rattle.pg_dyn.specs.Message.{Message}
-use Rattle.pg_fds.specs.Lent.{lent}
 use Rattle.pg_fds.specs.Made.{HasEntries, HasNamedEntry}
 use Rattle.pg_fds.specs.Places.{Declared}
 use Rattle.pg_fds.specs.Said.{text_at}
@@ -36,14 +34,14 @@ called f = entry_name (string_bytes f.name)
 same_bytes : (a : List ℕ) → bytes_eq a a ≡ true
 same_bytes a = (bytes_eq-Decides a a).1 refl
 
-module _ {Y : Type 0} (all : Declared) (old new : BTreeMap (String Y) (Bor Kept)) where
+module _ {Y : Type 0} (all : Declared) (old new : BTreeMap (String Y) Kept) where
   moved_entry : (g : Field) (p : Presence) → g.presence ≡ p → (is_map p ≡ true → get_by_text new (called g) ≡ get_by_text old (called g)) → HasNamedEntry all old g → HasNamedEntry all new g
   moved_entry g presences.Implicit is same has = subst (λ p. HasNamedEntry all new (record g { presence = p })) (sym is) tt
   moved_entry g presences.Explicit is same has = subst (λ p. HasNamedEntry all new (record g { presence = p })) (sym is) tt
   moved_entry g (presences.Repeated packed) is same has = subst (λ p. HasNamedEntry all new (record g { presence = p })) (sym is) tt
   moved_entry g (presences.Map key) is same has =
       subst (λ p. HasNamedEntry all new (record g { presence = p })) (sym is)
-      (subst (λ o. IsSomeAnd o (λ e. StatesEntry all (record g { presence = presences.Map key }) key (message_of e.now))) (sym (same refl)) (subst (λ p. HasNamedEntry all old (record g { presence = p })) is has))
+      (subst (λ o. IsSomeAnd o (λ e. StatesEntry all (record g { presence = presences.Map key }) key (message_of e))) (sym (same refl)) (subst (λ p. HasNamedEntry all old (record g { presence = p })) is has))
 
   all_moved : (gs : List Field) → ((name : List ℕ) → get_by_text new name ≡ get_by_text old name) → AllByRecursion (HasNamedEntry all old) gs → AllByRecursion (HasNamedEntry all new) gs
   all_moved [] same each = tt
@@ -112,7 +110,7 @@ none_in (e ∷ es) none =
     let bs = string_bytes e.0 in
     absurd (none-some e.1 (sym (none bs) ∙ ap (λ b. cond b (Some e.1) (lookup (is_at (λ k. slice_cmp nat_cmp bs (string_bytes k))) es)) (is_eq-slice_cmp bs bs ∙ same_bytes bs)))
 
-pub none_behind : {Y : Type 0} (all : Declared) (entries : BTreeMap (String Y) (Bor Kept)) → HasEntries all entries [] → length entries.entries ≡ 0
+pub none_behind : {Y : Type 0} (all : Declared) (entries : BTreeMap (String Y) Kept) → HasEntries all entries [] → length entries.entries ≡ 0
 none_behind all entries has = none_in entries.entries (λ bs. of bs (has.no_others bs))
   where
     of : (bs : List ℕ) → (get_by_text entries bs ≡ None) ⊎ (is_among [] bs ≡ true) → get_by_text entries bs ≡ None
@@ -122,21 +120,21 @@ none_behind all entries has = none_in entries.entries (λ bs. of bs (has.no_othe
 -- ---- one field after the other
 
 -- what is made of the fields before a place, and what is left of the entry types
-abbrev pub MadeBefore : {Y : Type 0} → Declared → (made : List Field) → (left : BTreeMap (String Y) (Bor Kept)) → (place : ℕ) → List Field → Type 0
+abbrev pub MadeBefore : {Y : Type 0} → Declared → (made : List Field) → (left : BTreeMap (String Y) Kept) → (place : ℕ) → List Field → Type 0
 MadeBefore all made left place fs = (map field_view made ≡ take place (map field_view fs)) × HasEntries all left (drop place fs)
 
 module _ (R : Message → Field → Type 0) where
   -- the field at a place
-  nth : (ms : List (Bor Kept)) (i : ℕ) (m : Bor Kept) (fs : List Field) → i < length ms → m ≡ get_or ms i m → AllZip R (map message_of (lent ms)) fs
-      → (f : Field) × R (message_of m.now) f × (drop i fs ≡ f ∷ drop (suc i) fs) × (take (suc i) (map field_view fs) ≡ take i (map field_view fs) ++ field_view f ∷ [])
+  nth : (ms : List Kept) (i : ℕ) (m : Kept) (fs : List Field) → i < length ms → m ≡ get_or ms i m → AllZip R (map message_of ms) fs
+      → (f : Field) × R (message_of m) f × (drop i fs ≡ f ∷ drop (suc i) fs) × (take (suc i) (map field_view fs) ≡ take i (map field_view fs) ++ field_view f ∷ [])
   nth [] i m fs h is zip = absurd (omega (arith, h))
   nth (x ∷ ms) i m [] h is zip = absurd zip
-  nth (x ∷ ms) zero m (f ∷ fs) h is zip = (f, subst (λ (b : Bor Kept). R (message_of b.now) f) (sym is) zip.0, refl, refl)
+  nth (x ∷ ms) zero m (f ∷ fs) h is zip = (f, subst (λ (b : Kept). R (message_of b) f) (sym is) zip.0, refl, refl)
   nth (x ∷ ms) (suc i) m (f ∷ fs) h is zip =
       let n = nth ms i m fs (omega (arith, h)) is zip.1 in
       (n.0, n.1, n.2, ap (λ vs. field_view f ∷ vs) n.3)
 
-  past : (ms : List (Bor Kept)) (i : ℕ) (fs : List Field) → length ms ≤ i → AllZip R (map message_of (lent ms)) fs → (take i (map field_view fs) ≡ map field_view fs) × (drop i fs ≡ [])
+  past : (ms : List Kept) (i : ℕ) (fs : List Field) → length ms ≤ i → AllZip R (map message_of ms) fs → (take i (map field_view fs) ≡ map field_view fs) × (drop i fs ≡ [])
   past [] zero [] h zip = (refl, refl)
   past [] (suc i) [] h zip = (refl, refl)
   past [] i (f ∷ fs) h zip = absurd zip
@@ -147,37 +145,37 @@ module _ (R : Message → Field → Type 0) where
       (ap (λ vs. field_view f ∷ vs) p.0, p.1)
 
 module _ {Y : Type 0} (R : Message → Field → Type 0) (all : Declared) where
-  pub field_more : (ms : List (Bor Kept)) (i : ℕ) (m : Bor Kept) (made : List Field) (x : Field) (old new : BTreeMap (String Y) (Bor Kept)) → i < length ms → m ≡ get_or ms i m
-      → ((f : Field) → R (message_of m.now) f → text_at 1 (message_of m.now) ≡ string_bytes f.name) → ((f : Field) → R (message_of m.now) f → HasNamedEntry all old f → field_view x ≡ field_view f)
-      → ((name : List ℕ) → get_by_text new name ≡ cond (is_map x.presence && bytes_eq (entry_name (text_at 1 (message_of m.now))) name) None (get_by_text old name))
-      → (fs : List Field) → AllZip R (map message_of (lent ms)) fs → MadeBefore all made old i fs → MadeBefore all (made ++ x ∷ []) new (i + 1) fs
+  pub field_more : (ms : List Kept) (i : ℕ) (m : Kept) (made : List Field) (x : Field) (old new : BTreeMap (String Y) Kept) → i < length ms → m ≡ get_or ms i m
+      → ((f : Field) → R (message_of m) f → text_at 1 (message_of m) ≡ string_bytes f.name) → ((f : Field) → R (message_of m) f → HasNamedEntry all old f → field_view x ≡ field_view f)
+      → ((name : List ℕ) → get_by_text new name ≡ cond (is_map x.presence && bytes_eq (entry_name (text_at 1 (message_of m))) name) None (get_by_text old name))
+      → (fs : List Field) → AllZip R (map message_of ms) fs → MadeBefore all made old i fs → MadeBefore all (made ++ x ∷ []) new (i + 1) fs
   field_more ms i m made x old new h is names one left fs zip before = rw add-one (of (nth R ms i m fs h is zip))
     where
       pushed : (xs : List Field) → map field_view (xs ++ x ∷ []) ≡ map field_view xs ++ field_view x ∷ []
       pushed [] = refl
       pushed (y ∷ ys) = ap (λ vs. field_view y ∷ vs) (pushed ys)
 
-      of : (f : Field) × R (message_of m.now) f × (drop i fs ≡ f ∷ drop (suc i) fs) × (take (suc i) (map field_view fs) ≡ take i (map field_view fs) ++ field_view f ∷ [])
+      of : (f : Field) × R (message_of m) f × (drop i fs ≡ f ∷ drop (suc i) fs) × (take (suc i) (map field_view fs) ≡ take i (map field_view fs) ++ field_view f ∷ [])
           → (map field_view (made ++ x ∷ []) ≡ take (suc i) (map field_view fs)) × HasEntries all new (drop (suc i) fs)
       of n =
           let f = n.0 in
           let has : HasEntries all old (f ∷ drop (suc i) fs) = subst (HasEntries all old) n.2 before.1 in
           let same : field_view x ≡ field_view f = one f n.1 has.each.0 in (
             pushed made ∙ (ap (λ vs. vs ++ field_view x ∷ []) before.0 ∙ (ap (λ v. take i (map field_view fs) ++ v ∷ []) same ∙ sym n.3)),
-            behind_field all old new f (drop (suc i) fs) (entry_name (text_at 1 (message_of m.now))) (ap entry_name (names f n.1))
-                (λ name. left name ∙ ap (λ (v : FieldView). cond (is_map v.presence && bytes_eq (entry_name (text_at 1 (message_of m.now))) name) None (get_by_text old name)) same) has,
+            behind_field all old new f (drop (suc i) fs) (entry_name (text_at 1 (message_of m))) (ap entry_name (names f n.1))
+                (λ name. left name ∙ ap (λ (v : FieldView). cond (is_map v.presence && bytes_eq (entry_name (text_at 1 (message_of m))) name) None (get_by_text old name)) same) has,
           )
 
   -- the field that is made next has its entry type
-  pub next_field : (E : Type 0) (ms : List (Bor Kept)) (i : ℕ) (m : Bor Kept) (made : List Field) (old : BTreeMap (String Y) (Bor Kept)) → i < length ms → m ≡ get_or ms i m
-      → ((f : Field) → R (message_of m.now) f → HasNamedEntry all old f → E) → (fs : List Field) → AllZip R (map message_of (lent ms)) fs → MadeBefore all made old i fs → E
+  pub next_field : (E : Type 0) (ms : List Kept) (i : ℕ) (m : Kept) (made : List Field) (old : BTreeMap (String Y) Kept) → i < length ms → m ≡ get_or ms i m
+      → ((f : Field) → R (message_of m) f → HasNamedEntry all old f → E) → (fs : List Field) → AllZip R (map message_of ms) fs → MadeBefore all made old i fs → E
   next_field E ms i m made old h is one fs zip before =
       let n = nth R ms i m fs h is zip in
       let has : HasEntries all old (n.0 ∷ drop (suc i) fs) = subst (HasEntries all old) n.2 before.1 in
       one n.0 n.1 has.each.0
 
   -- all are made, and no entry type is left
-  pub made_whole : (ms : List (Bor Kept)) (i : ℕ) (made : List Field) (left : BTreeMap (String Y) (Bor Kept)) → length ms ≤ i → (fs : List Field) → AllZip R (map message_of (lent ms)) fs
+  pub made_whole : (ms : List Kept) (i : ℕ) (made : List Field) (left : BTreeMap (String Y) Kept) → length ms ≤ i → (fs : List Field) → AllZip R (map message_of ms) fs
       → MadeBefore all made left i fs → (map field_view made ≡ map field_view fs) × (length left.entries ≡ 0)
   made_whole ms i made left h fs zip before =
       let p = past R ms i fs h zip in

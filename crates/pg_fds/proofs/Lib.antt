@@ -7,6 +7,7 @@ pub mod FieldLaws
 pub mod FileLaws
 pub mod SmallLaws
 pub mod SaidLaws
+pub mod KeptTexts
 pub mod Zips
 pub mod ZipPlaces
 pub mod MadeLaws

@@ -11,7 +11,6 @@ use Rattle.std.specs.List.{AllByRecursion, AllZip, Any, list_all}
 use Rattle.std.specs.List.Sorted.{IsNonDecreasingBy, IsPermutation}
 use Rattle.std.specs.Str.{IsUtf8, bytes_eq, is_utf8}
 use Rattle.std.specs.String.{string_bytes}
-use denote.Ref.{Bor}
 use Rattle.pg_schema.specs.declared.parts.field.Field.{Field}
 use Rattle.pg_schema.specs.declared.parts.field.Presence.{Presence}
 use Rattle.pg_schema.specs.declared.parts.field.Presence.TheVariants as presences
@@ -29,7 +28,6 @@ use Rattle.pg_dyn.specs.Kept.{Kept, message_of}
 use Rattle.pg_dyn.specs.Message.{Message}
 use Rattle.pg_fds.specs.declared.outline.Named.{Named}
 use Rattle.pg_fds.specs.declared.outline.OutlinedType.{OutlinedType}
-use Rattle.pg_fds.specs.Lent.{lent}
 use Rattle.pg_fds.specs.Made.{AreCounted, HasEntries, HasEntryName, HasNamed, HasNamedEntry, StandsAt, StatesFieldAt, StatesMadeType, has_place}
 use Rattle.pg_fds.specs.Messages.{declared_fields}
 use Rattle.pg_fds.specs.Places.{Declared}
@@ -129,7 +127,7 @@ says_optional all scope (m ∷ ms) (f ∷ fs) states = (states.0.optional, says_
 
 module _ {Y : Type 0} (all : Declared) (names : BTreeMap (String Y) Named) (scope : List ℕ) (o : OutlinedType) (t : MessageType) (made : StatesMadeType all names scope o t) where
   abbrev m : Message
-  m = message_of o.message.now
+  m = message_of o.message
 
   abbrev states : StatesType all scope m t
   states = made.outlined.states
@@ -217,17 +215,17 @@ both_any names entries [] any among = tt
 both_any names entries (g ∷ gs) any among = ((any.0.0, any.0.1, any.0.2, any.0.3, (any.0.4, among.0)), both_any names entries gs any.1 among.1)
 
 -- what the table has under the name of an entry type
-found_there : {Y : Type 0} (table : BTreeMap (String Y) (Bor Kept)) (P : Message → Type 0) (name : List ℕ) → ((m : Message) → P m → text_at 1 m ≡ name) → (ms : List (Bor Kept))
-    → AllByRecursion (λ (b : Bor Kept). get_by_text table (text_at 1 (message_of b.now)) ≡ Some b) ms → Has P (map message_of (lent ms)) → IsSomeAnd (get_by_text table name) (λ b. P (message_of b.now))
+found_there : {Y : Type 0} (table : BTreeMap (String Y) Kept) (P : Message → Type 0) (name : List ℕ) → ((m : Message) → P m → text_at 1 m ≡ name) → (ms : List Kept)
+    → AllByRecursion (λ (b : Kept). get_by_text table (text_at 1 (message_of b)) ≡ Some b) ms → Has P (map message_of ms) → IsSomeAnd (get_by_text table name) (λ b. P (message_of b))
 found_there table P name named [] each has = absurd has
-found_there table P name named (b ∷ ms) each (inl here) = subst (λ o. IsSomeAnd o (λ x. P (message_of x.now))) (sym (ap (get_by_text table) (sym (named (message_of b.now) here)) ∙ each.0)) here
+found_there table P name named (b ∷ ms) each (inl here) = subst (λ o. IsSomeAnd o (λ x. P (message_of x))) (sym (ap (get_by_text table) (sym (named (message_of b) here)) ∙ each.0)) here
 found_there table P name named (b ∷ ms) each (inr later) = found_there table P name named ms each.1 later
 
-module _ {Y : Type 0} (all : Declared) (t : MessageType) (table : BTreeMap (String Y) (Bor Kept)) (ms : List (Bor Kept)) (named : HasNamed table ms) where
+module _ {Y : Type 0} (all : Declared) (t : MessageType) (table : BTreeMap (String Y) Kept) (ms : List Kept) (named : HasNamed table ms) where
   abbrev messages : List Message
-  messages = map message_of (lent ms)
+  messages = map message_of ms
 
-  named_entry : AllByRecursion (λ (b : Bor Kept). get_by_text table (text_at 1 (message_of b.now)) ≡ Some b) ms → (f : Field) (p : Presence) → f.presence ≡ p → HasEntry all messages f → HasNamedEntry all table f
+  named_entry : AllByRecursion (λ (b : Kept). get_by_text table (text_at 1 (message_of b)) ≡ Some b) ms → (f : Field) (p : Presence) → f.presence ≡ p → HasEntry all messages f → HasNamedEntry all table f
   named_entry each f presences.Implicit is has = subst (λ p. HasNamedEntry all table (record f { presence = p })) (sym is) tt
   named_entry each f presences.Explicit is has = subst (λ p. HasNamedEntry all table (record f { presence = p })) (sym is) tt
   named_entry each f (presences.Repeated packed) is has = subst (λ p. HasNamedEntry all table (record f { presence = p })) (sym is) tt
@@ -236,7 +234,7 @@ module _ {Y : Type 0} (all : Declared) (t : MessageType) (table : BTreeMap (Stri
       subst (λ p. HasNamedEntry all table (record f { presence = p })) (sym is)
       (found_there table (StatesEntry all (record f { presence = presences.Map key }) key) (entry_called f) (λ m entry. entry.name) ms each (has_any (StatesEntry all (record f { presence = presences.Map key }) key) messages any))
 
-  all_named : AllByRecursion (λ (b : Bor Kept). get_by_text table (text_at 1 (message_of b.now)) ≡ Some b) ms → (fs : List Field) → AllByRecursion (HasEntry all messages) fs → AllByRecursion (HasNamedEntry all table) fs
+  all_named : AllByRecursion (λ (b : Kept). get_by_text table (text_at 1 (message_of b)) ≡ Some b) ms → (fs : List Field) → AllByRecursion (HasEntry all messages) fs → AllByRecursion (HasNamedEntry all table) fs
   all_named each [] has = tt
   all_named each (f ∷ fs) has = (named_entry each f f.presence refl has.0, all_named each fs has.1)
 
@@ -381,7 +379,7 @@ module _ {Y : Type 0} (all : Declared) (names : BTreeMap (String Y) Named) (scop
   n_enums = length all.enums
 
   abbrev message : Message
-  message = message_of o.message.now
+  message = message_of o.message
 
   pub made_stated : (own : List Message) → own ≡ children_at 2 message → (name : List ℕ) → name ≡ string_bytes o.name → (synthetic : List Bool) → AreMarked (synthetic_places own) (length (children_at 8 message)) synthetic
       → (members : List ℕ) (count : ℕ) → count ≡ length (children_at 8 message) → AreCounted own count members → AllZip (StatesFieldAt all names name synthetic members) own (declared_fields t)
@@ -416,7 +414,7 @@ module _ {Y : Type 0} (all : Declared) (names : BTreeMap (String Y) Named) (scop
       subst (λ xs. AllByRecursion IsUtf8 (map (text_at 1) xs)) (sym are)
       (entry_texts all n_types n_enums t (filter is_entry (children_at 3 message)) made.rules made.entries_once made.outlined.states.entries)
 
-  pub made_entries : {X : Type 0} (table : BTreeMap (String X) (Bor Kept)) (ms : List (Bor Kept)) → HasNamed table ms → map message_of (lent ms) ≡ filter is_entry (children_at 3 message)
+  pub made_entries : {X : Type 0} (table : BTreeMap (String X) Kept) (ms : List Kept) → HasNamed table ms → map message_of ms ≡ filter is_entry (children_at 3 message)
       → HasEntries all table (declared_fields t)
   made_entries table ms named are =
       entries_had all t table ms named (rising n_types n_enums t made.rules) (declared n_types n_enums t made.rules) made.entries_once

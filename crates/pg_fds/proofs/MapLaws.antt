@@ -13,7 +13,6 @@ use Rattle.std.specs.Map.{lookup}
 use Rattle.std.specs.Ordering.{nat_cmp}
 use Rattle.std.specs.Str.{IsUtf8}
 use Rattle.std.specs.String.{string_bytes}
-use denote.Ref.{Bor}
 use Rattle.pg_schema.specs.declared.parts.field.Element.{Element}
 use Rattle.pg_schema.specs.declared.parts.field.Element.TheVariants as elements
 use Rattle.pg_schema.specs.declared.parts.field.Field.{Field}
@@ -29,7 +28,6 @@ use Rattle.pg_dyn.specs.Message.{Message}
 use Rattle.pg_fds.specs.declared.outline.Named.{Named}
 use Rattle.pg_fds.specs.declared.outline.Named.TheVariants as nameds
 use Rattle.pg_fds.specs.Fields.{element_code, element_name, label, named_type, type_code}
-use Rattle.pg_fds.specs.Lent.{lent}
 use Rattle.pg_fds.specs.Made.{HasNamedEntry, Means, StatesElement, StatesKnown, StatesPresence, is_entry_type}
 use Rattle.pg_fds.specs.Places.{Declared}
 use Rattle.pg_fds.specs.Said.{maybe_text_at, number_at, text_at}
@@ -136,18 +134,18 @@ own_entry all f p key m s = record {
   no_reserved_names = s.no_reserved_names;
 }
 
-own_found : (all : Declared) (f : Field) (p : Presence) (key : Scalar) (o : Option (Bor Kept)) → IsSomeAnd o (λ e. StatesEntry all (record f { presence = p }) key (message_of e.now))
-    → IsSomeAnd o (λ e. StatesEntry all f key (message_of e.now))
+own_found : (all : Declared) (f : Field) (p : Presence) (key : Scalar) (o : Option Kept) → IsSomeAnd o (λ e. StatesEntry all (record f { presence = p }) key (message_of e))
+    → IsSomeAnd o (λ e. StatesEntry all f key (message_of e))
 own_found all f p key None h = absurd h
-own_found all f p key (Some e) h = own_entry all f p key (message_of e.now) h
+own_found all f p key (Some e) h = own_entry all f p key (message_of e) h
 
 -- a map field's entry type has its key and its value
-pub has_entry : {Y : Type 0} (all : Declared) (entries : BTreeMap (String Y) (Bor Kept)) (f : Field) → is_map f.presence ≡ true → HasNamedEntry all entries f
-    → (key : Scalar) × (f.presence ≡ presences.Map key) × IsSomeAnd (get_by_text entries (entry_name (string_bytes f.name))) (λ e. StatesEntry all f key (message_of e.now))
+pub has_entry : {Y : Type 0} (all : Declared) (entries : BTreeMap (String Y) Kept) (f : Field) → is_map f.presence ≡ true → HasNamedEntry all entries f
+    → (key : Scalar) × (f.presence ≡ presences.Map key) × IsSomeAnd (get_by_text entries (entry_name (string_bytes f.name))) (λ e. StatesEntry all f key (message_of e))
 has_entry all entries f map has = of f.presence refl map
   where
     of : (p : Presence) → f.presence ≡ p → is_map p ≡ true
-        → (key : Scalar) × (f.presence ≡ presences.Map key) × IsSomeAnd (get_by_text entries (entry_name (string_bytes f.name))) (λ e. StatesEntry all f key (message_of e.now))
+        → (key : Scalar) × (f.presence ≡ presences.Map key) × IsSomeAnd (get_by_text entries (entry_name (string_bytes f.name))) (λ e. StatesEntry all f key (message_of e))
     of presences.Implicit is map = absurd (false≢true map)
     of presences.Explicit is map = absurd (false≢true map)
     of (presences.Repeated packed) is map = absurd (false≢true map)
@@ -155,17 +153,17 @@ has_entry all entries f map has = of f.presence refl map
         (key, is, own_found all f (presences.Map key) key (get_by_text entries (entry_name (string_bytes f.name))) (subst (λ p. HasNamedEntry all entries (record f { presence = p })) is has))
 
 -- it is the one that is found
-pub found_entry : {Y : Type 0} (all : Declared) (entries : BTreeMap (String Y) (Bor Kept)) (f : Field) (name : List ℕ) (e : Bor Kept) → is_map f.presence ≡ true → HasNamedEntry all entries f
-    → name ≡ entry_name (string_bytes f.name) → get_by_text entries name ≡ Some e → (key : Scalar) × (f.presence ≡ presences.Map key) × StatesEntry all f key (message_of e.now)
+pub found_entry : {Y : Type 0} (all : Declared) (entries : BTreeMap (String Y) Kept) (f : Field) (name : List ℕ) (e : Kept) → is_map f.presence ≡ true → HasNamedEntry all entries f
+    → name ≡ entry_name (string_bytes f.name) → get_by_text entries name ≡ Some e → (key : Scalar) × (f.presence ≡ presences.Map key) × StatesEntry all f key (message_of e)
 found_entry all entries f name e map has same found =
     let h = has_entry all entries f map has in
-    (h.0, h.1, subst (λ o. IsSomeAnd o (λ e. StatesEntry all f h.0 (message_of e.now))) (ap (get_by_text entries) (sym same) ∙ found) h.2)
+    (h.0, h.1, subst (λ o. IsSomeAnd o (λ e. StatesEntry all f h.0 (message_of e))) (ap (get_by_text entries) (sym same) ∙ found) h.2)
 
-pub none_found : {Y : Type 0} (all : Declared) (entries : BTreeMap (String Y) (Bor Kept)) (f : Field) (name : List ℕ) → is_map f.presence ≡ true → HasNamedEntry all entries f
+pub none_found : {Y : Type 0} (all : Declared) (entries : BTreeMap (String Y) Kept) (f : Field) (name : List ℕ) → is_map f.presence ≡ true → HasNamedEntry all entries f
     → name ≡ entry_name (string_bytes f.name) → get_by_text entries name ≡ None → ⊥
 none_found all entries f name map has same none =
     let h = has_entry all entries f map has in
-    subst (λ o. IsSomeAnd o (λ e. StatesEntry all f h.0 (message_of e.now))) (ap (get_by_text entries) (sym same) ∙ none) h.2
+    subst (λ o. IsSomeAnd o (λ e. StatesEntry all f h.0 (message_of e))) (ap (get_by_text entries) (sym same) ∙ none) h.2
 
 pub element_of : (all : Declared) (called : List ℕ) (place : ℕ) (e : Element) (m : Message) → is_known (length all.types) (length all.enums) e ≡ true → StatesEntryField all called place e m → StatesElement all m e
 element_of all called place e m known states = record { type = states.type; type_name = states.type_name; known = known }
@@ -180,13 +178,13 @@ pub is_scalar_of : (s t : Scalar) → elements.Scalar s ≡ elements.Scalar t �
 is_scalar_of s t same = cc
 
 -- the fields of an entry type, of which there are two
-pub two_fields : (all : Declared) (k : Scalar) (v : Element) (ms : List (Bor Kept)) (a b : Bor Kept) → a ≡ get_or ms 0 a → b ≡ get_or ms 1 b → AreKeyAndValue all k v (map message_of (lent ms))
-    → StatesEntryField all (codes "key") 1 (elements.Scalar k) (message_of a.now) × StatesEntryField all (codes "value") 2 v (message_of b.now)
+pub two_fields : (all : Declared) (k : Scalar) (v : Element) (ms : List Kept) (a b : Kept) → a ≡ get_or ms 0 a → b ≡ get_or ms 1 b → AreKeyAndValue all k v (map message_of ms)
+    → StatesEntryField all (codes "key") 1 (elements.Scalar k) (message_of a) × StatesEntryField all (codes "value") 2 v (message_of b)
 two_fields all k v [] a b first second are = absurd are
 two_fields all k v (x ∷ []) a b first second are = absurd are
 two_fields all k v (x ∷ y ∷ []) a b first second are = (
-  subst (λ (z : Bor Kept). StatesEntryField all (codes "key") 1 (elements.Scalar k) (message_of z.now)) (sym first) are.0,
-  subst (λ (z : Bor Kept). StatesEntryField all (codes "value") 2 v (message_of z.now)) (sym second) are.1,
+  subst (λ (z : Kept). StatesEntryField all (codes "key") 1 (elements.Scalar k) (message_of z)) (sym first) are.0,
+  subst (λ (z : Kept). StatesEntryField all (codes "value") 2 v (message_of z)) (sym second) are.1,
 )
 two_fields all k v (x ∷ y ∷ z ∷ ms) a b first second are = absurd are
 

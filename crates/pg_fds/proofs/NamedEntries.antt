@@ -5,12 +5,10 @@ use Rattle.std.proofs.lemmas.Slice.Eq.{bytes_eq-Decides}
 use Rattle.std.specs.BTreeMap.{BTreeMap, get_by_text}
 use Rattle.std.specs.List.{AllByRecursion, list_all}
 use Rattle.std.specs.Str.{IsUtf8, bytes_eq}
-use denote.Ref.{Bor}
 use Rattle.pg_schema.specs.rules.Pairs.{are_distinct, differ}
 use Rattle.pg_schema.specs.rules.TextSets.{is_among}
 use Rattle.pg_schema.proofs.lemmas.rules.PairLemmas.{all_pairs_push, among_push, and_left, and_right, bytes_eq-sym}
 use Rattle.pg_dyn.specs.Kept.{Kept, message_of}
-use Rattle.pg_fds.specs.Lent.{lent}
 use Rattle.pg_fds.specs.Made.{HasNamed}
 use Rattle.pg_fds.specs.Said.{text_at}
 use Rattle.pg_fds.specs.StatesTypes.{is_marked, real_oneofs}
@@ -18,34 +16,34 @@ use Rattle.pg_fds.proofs.Marks.{all_more}
 
 -- ---- texts at places
 
-pub text_seen : (ms : List (Bor Kept)) (i : ℕ) (m : Bor Kept) → i < length ms → m ≡ get_or ms i m → AllByRecursion IsUtf8 (map (text_at 1) (map message_of (lent ms))) → IsUtf8 (text_at 1 (message_of m.now))
+pub text_seen : (ms : List Kept) (i : ℕ) (m : Kept) → i < length ms → m ≡ get_or ms i m → AllByRecursion IsUtf8 (map (text_at 1) (map message_of ms)) → IsUtf8 (text_at 1 (message_of m))
 text_seen [] i m h is all = absurd (omega (arith, h))
-text_seen (x ∷ ms) zero m h is all = subst (λ (b : Bor Kept). IsUtf8 (text_at 1 (message_of b.now))) (sym is) all.0
+text_seen (x ∷ ms) zero m h is all = subst (λ (b : Kept). IsUtf8 (text_at 1 (message_of b))) (sym is) all.0
 text_seen (x ∷ ms) (suc i) m h is all = text_seen ms i m (omega (arith, h)) is all.1
 
-real_seen : (numbers : List ℤ) (start : ℕ) (ms : List (Bor Kept)) (i : ℕ) (m : Bor Kept) → i < length ms → m ≡ get_or ms i m → is_marked numbers (start + i) ≡ false
-    → AllByRecursion IsUtf8 (map (text_at 1) (real_oneofs numbers start (map message_of (lent ms)))) → IsUtf8 (text_at 1 (message_of m.now))
+real_seen : (numbers : List ℤ) (start : ℕ) (ms : List Kept) (i : ℕ) (m : Kept) → i < length ms → m ≡ get_or ms i m → is_marked numbers (start + i) ≡ false
+    → AllByRecursion IsUtf8 (map (text_at 1) (real_oneofs numbers start (map message_of ms))) → IsUtf8 (text_at 1 (message_of m))
 real_seen numbers start [] i m h is free all = absurd (omega (arith, h))
 real_seen numbers start (x ∷ ms) zero m h is free all =
-    subst (λ (b : Bor Kept). IsUtf8 (text_at 1 (message_of b.now))) (sym is) (of (is_marked numbers start) (subst (λ k. is_marked numbers k ≡ false) (omega arith) free) all)
+    subst (λ (b : Kept). IsUtf8 (text_at 1 (message_of b))) (sym is) (of (is_marked numbers start) (subst (λ k. is_marked numbers k ≡ false) (omega arith) free) all)
   where
     of : (b : Bool) → b ≡ false
-        → AllByRecursion IsUtf8 (map (text_at 1) (cond b (real_oneofs numbers (suc start) (map message_of (lent ms))) (message_of x.now ∷ real_oneofs numbers (suc start) (map message_of (lent ms)))))
-        → IsUtf8 (text_at 1 (message_of x.now))
+        → AllByRecursion IsUtf8 (map (text_at 1) (cond b (real_oneofs numbers (suc start) (map message_of ms)) (message_of x ∷ real_oneofs numbers (suc start) (map message_of ms))))
+        → IsUtf8 (text_at 1 (message_of x))
     of true free all = absurd (false≢true (sym free))
     of false free all = all.0
 real_seen numbers start (x ∷ ms) (suc i) m h is free all =
     real_seen numbers (suc start) ms i m (omega (arith, h)) is (subst (λ k. is_marked numbers k ≡ false) (omega arith) free) (of (is_marked numbers start) all)
   where
     of : (b : Bool)
-        → AllByRecursion IsUtf8 (map (text_at 1) (cond b (real_oneofs numbers (suc start) (map message_of (lent ms))) (message_of x.now ∷ real_oneofs numbers (suc start) (map message_of (lent ms)))))
-        → AllByRecursion IsUtf8 (map (text_at 1) (real_oneofs numbers (suc start) (map message_of (lent ms))))
+        → AllByRecursion IsUtf8 (map (text_at 1) (cond b (real_oneofs numbers (suc start) (map message_of ms)) (message_of x ∷ real_oneofs numbers (suc start) (map message_of ms))))
+        → AllByRecursion IsUtf8 (map (text_at 1) (real_oneofs numbers (suc start) (map message_of ms)))
     of true all = all
     of false all = all.1
 
 -- the name of a real oneof is a text, where all are
-pub real_text : (numbers : List ℤ) (ms : List (Bor Kept)) (i : ℕ) (m : Bor Kept) → i < length ms → m ≡ get_or ms i m → is_marked numbers i ≡ false
-    → AllByRecursion IsUtf8 (map (text_at 1) (real_oneofs numbers 0 (map message_of (lent ms)))) → IsUtf8 (text_at 1 (message_of m.now))
+pub real_text : (numbers : List ℤ) (ms : List Kept) (i : ℕ) (m : Kept) → i < length ms → m ≡ get_or ms i m → is_marked numbers i ≡ false
+    → AllByRecursion IsUtf8 (map (text_at 1) (real_oneofs numbers 0 (map message_of ms))) → IsUtf8 (text_at 1 (message_of m))
 real_text numbers ms i m h is free all = real_seen numbers 0 ms i m h is (subst (λ k. is_marked numbers k ≡ false) (omega arith) free) all
 
 -- ---- one entry type more
@@ -58,10 +56,10 @@ taken_suc (y ∷ xs) (suc i) x h is = ap (λ zs. y ∷ zs) (taken_suc xs i x (om
 pub taken_more : {A : Type 0} (xs : List A) (i : ℕ) (x : A) → i < length xs → x ≡ get_or xs i x → take (i + 1) xs ≡ take i xs ++ x ∷ []
 taken_more xs i x h is = rw add-one (taken_suc xs i x h is)
 
-abbrev called : Bor Kept → List ℕ
-called b = text_at 1 (message_of b.now)
+abbrev called : Kept → List ℕ
+called b = text_at 1 (message_of b)
 
-names_pushed : (done : List (Bor Kept)) (m : Bor Kept) → map (text_at 1) (map message_of (lent (done ++ m ∷ []))) ≡ map (text_at 1) (map message_of (lent done)) ++ called m ∷ []
+names_pushed : (done : List Kept) (m : Kept) → map (text_at 1) (map message_of (done ++ m ∷ [])) ≡ map (text_at 1) (map message_of done) ++ called m ∷ []
 names_pushed [] m = refl
 names_pushed (x ∷ done) m = ap (λ ns. called x ∷ ns) (names_pushed done m)
 
@@ -72,14 +70,14 @@ or_true : (a : Bool) → (a || true) ≡ true
 or_true true = refl
 or_true false = refl
 
-module _ {Y : Type 0} (old new : BTreeMap (String Y) (Bor Kept)) (key : List ℕ) (m : Bor Kept) (named : key ≡ called m)
+module _ {Y : Type 0} (old new : BTreeMap (String Y) Kept) (key : List ℕ) (m : Kept) (named : key ≡ called m)
     (updates : (name : List ℕ) → get_by_text new name ≡ cond (bytes_eq key name) (Some m) (get_by_text old name)) where
-  others : (done : List (Bor Kept)) → list_all (λ x. differ x (called m)) (map (text_at 1) (map message_of (lent done))) ≡ true
-      → AllByRecursion (λ (b : Bor Kept). get_by_text old (called b) ≡ Some b) done → AllByRecursion (λ (b : Bor Kept). get_by_text new (called b) ≡ Some b) done
+  others : (done : List Kept) → list_all (λ x. differ x (called m)) (map (text_at 1) (map message_of done)) ≡ true
+      → AllByRecursion (λ (b : Kept). get_by_text old (called b) ≡ Some b) done → AllByRecursion (λ (b : Kept). get_by_text new (called b) ≡ Some b) done
   others [] apart each = tt
   others (x ∷ done) apart each = (
-    updates (called x) ∙ (ap (λ b. cond b (Some m) (get_by_text old (called x))) (other (bytes_eq (called x) (called m)) refl (and_left (differ (called x) (called m)) (list_all (λ y. differ y (called m)) (map (text_at 1) (map message_of (lent done)))) apart)) ∙ each.0),
-    others done (and_right (differ (called x) (called m)) (list_all (λ y. differ y (called m)) (map (text_at 1) (map message_of (lent done)))) apart) each.1,
+    updates (called x) ∙ (ap (λ b. cond b (Some m) (get_by_text old (called x))) (other (bytes_eq (called x) (called m)) refl (and_left (differ (called x) (called m)) (list_all (λ y. differ y (called m)) (map (text_at 1) (map message_of done))) apart)) ∙ each.0),
+    others done (and_right (differ (called x) (called m)) (list_all (λ y. differ y (called m)) (map (text_at 1) (map message_of done))) apart) each.1,
   )
     where
       other : (b : Bool) → bytes_eq (called x) (called m) ≡ b → not b ≡ true → bytes_eq key (called x) ≡ false
@@ -89,23 +87,23 @@ module _ {Y : Type 0} (old new : BTreeMap (String Y) (Bor Kept)) (key : List ℕ
   itself : get_by_text new (called m) ≡ Some m
   itself = updates (called m) ∙ ap (λ b. cond b (Some m) (get_by_text old (called m))) (ap (λ k. bytes_eq k (called m)) named ∙ is_itself (called m))
 
-  pub named_more : (done : List (Bor Kept)) → HasNamed old done → HasNamed new (done ++ m ∷ [])
+  pub named_more : (done : List Kept) → HasNamed old done → HasNamed new (done ++ m ∷ [])
   named_more done has = record {
     each = λ once.
-        let names = map (text_at 1) (map message_of (lent done)) in
+        let names = map (text_at 1) (map message_of done) in
         let both : (are_distinct names && list_all (λ x. differ x (called m)) names) ≡ true = sym (all_pairs_push differ names (called m)) ∙ (ap are_distinct (sym (names_pushed done m)) ∙ once) in
-        all_more (λ (b : Bor Kept). get_by_text new (called b) ≡ Some b) done m
+        all_more (λ (b : Kept). get_by_text new (called b) ≡ Some b) done m
         (others done (and_right (are_distinct names) (list_all (λ x. differ x (called m)) names) both) (has.each (and_left (are_distinct names) (list_all (λ x. differ x (called m)) names) both))) itself;
     no_others = λ name. of name (bytes_eq key name) refl (has.no_others name);
   }
     where
-      of : (name : List ℕ) (b : Bool) → bytes_eq key name ≡ b → (get_by_text old name ≡ None) ⊎ (is_among (map (text_at 1) (map message_of (lent done))) name ≡ true)
-          → (get_by_text new name ≡ None) ⊎ (is_among (map (text_at 1) (map message_of (lent (done ++ m ∷ [])))) name ≡ true)
+      of : (name : List ℕ) (b : Bool) → bytes_eq key name ≡ b → (get_by_text old name ≡ None) ⊎ (is_among (map (text_at 1) (map message_of done)) name ≡ true)
+          → (get_by_text new name ≡ None) ⊎ (is_among (map (text_at 1) (map message_of (done ++ m ∷ []))) name ≡ true)
       of name true same before =
-          let names = map (text_at 1) (map message_of (lent done)) in
+          let names = map (text_at 1) (map message_of done) in
           let last : bytes_eq name (called m) ≡ true = bytes_eq-sym name (called m) ∙ (ap (λ k. bytes_eq k name) (sym named) ∙ same) in
           inr (ap (λ ns. is_among ns name) (names_pushed done m) ∙ (among_push names (called m) name ∙ (ap (λ b. is_among names name || b) last ∙ or_true (is_among names name))))
       of name false other (inl none) = inl (updates name ∙ (ap (λ b. cond b (Some m) (get_by_text old name)) other ∙ none))
       of name false other (inr among) =
-          let names = map (text_at 1) (map message_of (lent done)) in
+          let names = map (text_at 1) (map message_of done) in
           inr (ap (λ ns. is_among ns name) (names_pushed done m) ∙ (among_push names (called m) name ∙ ap (λ b. b || bytes_eq name (called m)) among))

@@ -58,7 +58,7 @@ enum_more own o t0 t1 t2 old new behind place named at grown first later has bef
     subst (AreEnumsNamed t2) (sym (ap (map row) grown ∙ map_more row old o)) (enums_named [] ((own ∷ []) ++ behind) t0 t2 (declares_both [] (own ∷ []) behind t0 t1 t2 first later) (map row old) (row o) before here)
 
 -- one message type more
-pub type_more : {Y : Type 0} (o : OutlinedType) (name : List ℕ) (m : Message) (t0 t1 : Table Y) (old new : List OutlinedType) (names : Names) (place : ℕ) → new ≡ old ++ o ∷ [] → string_bytes o.name ≡ name → message_of o.message.now ≡ m
+pub type_more : {Y : Type 0} (o : OutlinedType) (name : List ℕ) (m : Message) (t0 t1 : Table Y) (old new : List OutlinedType) (names : Names) (place : ℕ) → new ≡ old ++ o ∷ [] → string_bytes o.name ≡ name → message_of o.message ≡ m
     → place ≡ length old → Declares [] names t0 t1 → IsTypeNamed t1 place (name, m) → AreTypesNamed t0 (map type_row old) → AreTypesNamed t1 (map type_row new)
 type_more o name m t0 t1 old new names place grown named same at declared has before =
     let here : IsTypeNamed t1 (length (map type_row old)) (type_row o) =

@@ -4,10 +4,8 @@ use Rattle.std.proofs.lemmas.Bool.{false≢true}
 use Rattle.std.proofs.lemmas.Option.{same_Some}
 use Rattle.std.specs.List.{AllByRecursion, list_any}
 use Rattle.std.specs.Str.{bytes_eq}
-use denote.Ref.{Bor}
 use Rattle.pg_dyn.specs.Kept.{Kept, message_of}
 use Rattle.pg_dyn.specs.Message.{Message}
-use Rattle.pg_fds.specs.Lent.{lent}
 use Rattle.pg_fds.specs.PostOrder.{Importer, IsPostOrder, Visits, all_visited, imports_at, listed_last, passed_over, paths_of}
 
 abbrev Text : Type 0
@@ -56,7 +54,7 @@ one_post_order skips files first second a b = one_list (imports_at skips files) 
 
 -- ---- what holds of all messages
 
-pub each_seen : (P : Message → Type 0) (ms : List (Bor Kept)) (i : ℕ) (m : Bor Kept) → i < length ms → m ≡ get_or ms i m → AllByRecursion P (map message_of (lent ms)) → P (message_of m.now)
+pub each_seen : (P : Message → Type 0) (ms : List Kept) (i : ℕ) (m : Kept) → i < length ms → m ≡ get_or ms i m → AllByRecursion P (map message_of ms) → P (message_of m)
 each_seen P [] i m h is all = absurd (omega (arith, h))
-each_seen P (x ∷ ms) zero m h is all = subst (λ (b : Bor Kept). P (message_of b.now)) (sym is) all.0
+each_seen P (x ∷ ms) zero m h is all = subst (λ (b : Kept). P (message_of b)) (sym is) all.0
 each_seen P (x ∷ ms) (suc i) m h is all = each_seen P ms i m (omega (arith, h)) is all.1

@@ -10,10 +10,8 @@ use Rattle.std.proofs.lemmas.Bool.{false≢true}
 use Rattle.std.specs.Prelude.{IsSomeAnd}
 use Rattle.std.specs.Str.{IsUtf8}
 use Rattle.std.specs.String.{string_bytes}
-use denote.Ref.{Bor}
 use Rattle.pg_dyn.specs.Kept.{Kept, message_of}
 use Rattle.pg_dyn.specs.Message.{Message}
-use Rattle.pg_fds.specs.Lent.{lent}
 use Rattle.pg_fds.specs.Said.{text_at}
 use Rattle.pg_fds.specs.StatesFiles.{is_place}
 use Rattle.pg_fds.specs.StatesTypes.{AreMarked, NamesOneof, is_at, is_marked}
@@ -25,9 +23,9 @@ got f [] i x h is = absurd (omega (arith, h))
 got f (y ∷ xs) zero x h is = ap (λ z. Some (f z)) (sym is)
 got f (y ∷ xs) (suc i) x h is = got f xs i x (omega (arith, h)) is
 
-pub named_one : {Y : Type 0} (oneofs : List (Bor Kept)) (numbers : List ℤ) (names : List (String Y)) (number : ℤ) (own place : ℕ) (m : Bor Kept) (name : String Y)
+pub named_one : {Y : Type 0} (oneofs : List Kept) (numbers : List ℤ) (names : List (String Y)) (number : ℤ) (own place : ℕ) (m : Kept) (name : String Y)
     → number ≡ pos place → is_marked numbers place ≡ false → place < length oneofs → m ≡ get_or oneofs place m → own < length names → name ≡ get_or names own name
-    → text_at 1 (message_of m.now) ≡ string_bytes name → NamesOneof (map message_of (lent oneofs)) numbers (map string_bytes names) (Some number) (Some own)
+    → text_at 1 (message_of m) ≡ string_bytes name → NamesOneof (map message_of oneofs) numbers (map string_bytes names) (Some number) (Some own)
 named_one oneofs numbers names number own place m name at free h is k same texts = (
   place,
   at,
@@ -65,32 +63,32 @@ listed_text [] i t is = absurd (none-some t is)
 listed_text (n ∷ names) zero t is = subst IsUtf8 (some_same (string_bytes n) t is) (IsUtf8-string_bytes n)
 listed_text (n ∷ names) (suc i) t is = listed_text names i t is
 
-module _ {Y : Type 0} (oneofs : List (Bor Kept)) (numbers : List ℤ) (names : List (String Y)) (number : ℤ) (own : ℕ)
-    (named : NamesOneof (map message_of (lent oneofs)) numbers (map string_bytes names) (Some number) (Some own)) where
+module _ {Y : Type 0} (oneofs : List Kept) (numbers : List ℤ) (names : List (String Y)) (number : ℤ) (own : ℕ)
+    (named : NamesOneof (map message_of oneofs) numbers (map string_bytes names) (Some number) (Some own)) where
   pub named_place : is_place (length oneofs) number ≡ false → ⊥
   named_place none =
-      let within : named.0 < length oneofs = subst (λ n. named.0 < n) (seen_length oneofs) (there_within (λ m. slice_get (map string_bytes names) own ≡ Some (text_at 1 m)) (map message_of (lent oneofs)) named.0 named.3) in
+      let within : named.0 < length oneofs = subst (λ n. named.0 < n) (seen_length oneofs) (there_within (λ m. slice_get (map string_bytes names) own ≡ Some (text_at 1 m)) (map message_of oneofs) named.0 named.3) in
       false≢true (sym none ∙ is_one (length oneofs) number named.0 named.1 within)
 
-  name_there : (place : ℕ) (m : Bor Kept) → number ≡ pos place → place < length oneofs → m ≡ get_or oneofs place m → slice_get (map string_bytes names) own ≡ Some (text_at 1 (message_of m.now))
+  name_there : (place : ℕ) (m : Kept) → number ≡ pos place → place < length oneofs → m ≡ get_or oneofs place m → slice_get (map string_bytes names) own ≡ Some (text_at 1 (message_of m))
   name_there place m at h is =
       subst (λ found. IsSomeAnd found (λ x. slice_get (map string_bytes names) own ≡ Some (text_at 1 x))) (seen_got oneofs place m h is)
-      (subst (λ i. IsSomeAnd (slice_get (map message_of (lent oneofs)) i) (λ x. slice_get (map string_bytes names) own ≡ Some (text_at 1 x))) (pos_same named.0 place (sym named.1 ∙ at)) named.3)
+      (subst (λ i. IsSomeAnd (slice_get (map message_of oneofs) i) (λ x. slice_get (map string_bytes names) own ≡ Some (text_at 1 x))) (pos_same named.0 place (sym named.1 ∙ at)) named.3)
 
   pub named_own : own < length names
-  named_own = of (slice_get (map message_of (lent oneofs)) named.0) named.3
+  named_own = of (slice_get (map message_of oneofs) named.0) named.3
     where
       of : (found : Option Message) → IsSomeAnd found (λ x. slice_get (map string_bytes names) own ≡ Some (text_at 1 x)) → own < length names
       of None is = absurd is
       of (Some x) is = got_within string_bytes names own (text_at 1 x) is
 
-  pub named_text : (place : ℕ) (m : Bor Kept) → number ≡ pos place → place < length oneofs → m ≡ get_or oneofs place m → IsUtf8 (text_at 1 (message_of m.now))
-  named_text place m at h is = listed_text names own (text_at 1 (message_of m.now)) (name_there place m at h is)
+  pub named_text : (place : ℕ) (m : Kept) → number ≡ pos place → place < length oneofs → m ≡ get_or oneofs place m → IsUtf8 (text_at 1 (message_of m))
+  named_text place m at h is = listed_text names own (text_at 1 (message_of m)) (name_there place m at h is)
 
-  pub named_same : (place : ℕ) (m : Bor Kept) (name : String Y) → number ≡ pos place → place < length oneofs → m ≡ get_or oneofs place m → own < length names → name ≡ get_or names own name
-      → text_at 1 (message_of m.now) ≡ string_bytes name
+  pub named_same : (place : ℕ) (m : Kept) (name : String Y) → number ≡ pos place → place < length oneofs → m ≡ get_or oneofs place m → own < length names → name ≡ get_or names own name
+      → text_at 1 (message_of m) ≡ string_bytes name
   named_same place m name at h is k same =
-      some_same (text_at 1 (message_of m.now)) (string_bytes name) (sym (name_there place m at h is) ∙ got string_bytes names own name k same)
+      some_same (text_at 1 (message_of m)) (string_bytes name) (sym (name_there place m at h is) ∙ got string_bytes names own name k same)
 
 -- ---- marks
 

@@ -8,7 +8,6 @@ use Rattle.std.specs.BTreeMap.{get_by_text}
 use Rattle.std.specs.List.{AllByRecursion, cons_option, flat_map}
 use Rattle.std.specs.Str.{bytes_eq}
 use Rattle.pg_schema.specs.rules.TextSets.{is_among}
-use denote.Ref.{Bor}
 use Rattle.pg_dyn.specs.Kept.{Kept, message_of}
 use Rattle.pg_dyn.specs.Message.{Message}
 use Rattle.pg_fds.specs.declared.error.Unstated.{Unstated}
@@ -188,9 +187,9 @@ pub own_package : (at : List ℕ) → is_among (at ∷ []) at ≡ true
 own_package at = ap (λ b. b || false) ((bytes_eq-Decides at at).1 refl)
 
 -- what stands at a place says what the message there says
-pub seen_got : (ms : List (Bor Kept)) (place : ℕ) (m : Bor Kept) → place < length ms → m ≡ get_or ms place m → slice_get (seen ms) place ≡ Some (message_of m.now)
+pub seen_got : (ms : List Kept) (place : ℕ) (m : Kept) → place < length ms → m ≡ get_or ms place m → slice_get (seen ms) place ≡ Some (message_of m)
 seen_got [] place m h is = absurd (omega (arith, h))
-seen_got (x ∷ ms) zero m h is = ap (λ (b : Bor Kept). Some (message_of b.now)) (sym is)
+seen_got (x ∷ ms) zero m h is = ap (λ (b : Kept). Some (message_of b)) (sym is)
 seen_got (x ∷ ms) (suc place) m h is = seen_got ms place m (omega (arith, h)) is
 
 -- packages of one file more

@@ -5,7 +5,6 @@ use Rattle.std.proofs.lemmas.List.Concat.{flat_map_single}
 use Rattle.std.specs.BTreeMap.{get_by_text}
 use Rattle.std.specs.List.{AllByRecursion, flat_map, list_all}
 use Rattle.std.specs.Str.{IsUtf8}
-use denote.Ref.{Bor}
 use Rattle.pg_dyn.specs.Kept.{Kept, message_of}
 use Rattle.pg_dyn.specs.Message.{Message}
 use Rattle.pg_fds.specs.declared.error.Unstated.{Unstated}
@@ -50,37 +49,37 @@ module _ {Y : Type 0} (packages : Names) (scope inner : List ℕ) (m : Message) 
 
 -- ---- lists of things, as loops come to them
 
-module _ {X : Type 0} (f : Message → List X) (ms : List (Bor Kept)) (i : ℕ) (m : Bor Kept) (h : i < length ms) (is : m ≡ get_or ms i m) where
+module _ {X : Type 0} (f : Message → List X) (ms : List Kept) (i : ℕ) (m : Kept) (h : i < length ms) (is : m ≡ get_or ms i m) where
   -- what one message more adds
-  pub lists_on : (start mid new : List X) → mid ≡ start ++ flat_map f (seen (take i ms)) → new ≡ mid ++ f (message_of m.now) → new ≡ start ++ flat_map f (seen (take (i + 1) ms))
+  pub lists_on : (start mid new : List X) → mid ≡ start ++ flat_map f (seen (take i ms)) → new ≡ mid ++ f (message_of m) → new ≡ start ++ flat_map f (seen (take (i + 1) ms))
   lists_on start mid new before here =
-      here ∙ (ap (λ xs. xs ++ f (message_of m.now)) before
-      ∙ (append_assoc start (flat_map f (seen (take i ms))) (f (message_of m.now)) ∙ ap (λ xs. start ++ xs) (sym (seen_on f ms i m h is))))
+      here ∙ (ap (λ xs. xs ++ f (message_of m)) before
+      ∙ (append_assoc start (flat_map f (seen (take i ms))) (f (message_of m)) ∙ ap (λ xs. start ++ xs) (sym (seen_on f ms i m h is))))
 
   -- where all fit, so do those up to here
-  pub up_to_here : (start : ℕ) → start + length (flat_map f (seen ms)) ≤ 2 ^ 32 → start + length (flat_map f (seen (take i ms))) + length (f (message_of m.now)) ≤ 2 ^ 32
+  pub up_to_here : (start : ℕ) → start + length (flat_map f (seen ms)) ≤ 2 ^ 32 → start + length (flat_map f (seen (take i ms))) + length (f (message_of m)) ≤ 2 ^ 32
   up_to_here start all =
       let front = flat_map f (seen (take i ms)) in
-      let own = f (message_of m.now) in
+      let own = f (message_of m) in
       let behind = flat_map f (seen (drop (suc i) ms)) in
       omega (arith, all, ap length (seen_whole f ms i m h is), length-append (front ++ own) behind, length-append front own)
 
-module _ {X : Type 0} (f : Message → X) (ms : List (Bor Kept)) (i : ℕ) (m : Bor Kept) (h : i < length ms) (is : m ≡ get_or ms i m) where
-  pub one_seen : map f (seen (take (i + 1) ms)) ≡ map f (seen (take i ms)) ++ f (message_of m.now) ∷ []
-  one_seen = sym (flat_map_single f (seen (take (i + 1) ms))) ∙ (seen_on (λ x. f x ∷ []) ms i m h is ∙ ap (λ xs. xs ++ f (message_of m.now) ∷ []) (flat_map_single f (seen (take i ms))))
+module _ {X : Type 0} (f : Message → X) (ms : List Kept) (i : ℕ) (m : Kept) (h : i < length ms) (is : m ≡ get_or ms i m) where
+  pub one_seen : map f (seen (take (i + 1) ms)) ≡ map f (seen (take i ms)) ++ f (message_of m) ∷ []
+  one_seen = sym (flat_map_single f (seen (take (i + 1) ms))) ∙ (seen_on (λ x. f x ∷ []) ms i m h is ∙ ap (λ xs. xs ++ f (message_of m) ∷ []) (flat_map_single f (seen (take i ms))))
 
-  pub maps_on : (start mid new : List X) → mid ≡ start ++ map f (seen (take i ms)) → new ≡ mid ++ f (message_of m.now) ∷ [] → new ≡ start ++ map f (seen (take (i + 1) ms))
+  pub maps_on : (start mid new : List X) → mid ≡ start ++ map f (seen (take i ms)) → new ≡ mid ++ f (message_of m) ∷ [] → new ≡ start ++ map f (seen (take (i + 1) ms))
   maps_on start mid new before here =
-      here ∙ (ap (λ xs. xs ++ f (message_of m.now) ∷ []) before
-      ∙ (append_assoc start (map f (seen (take i ms))) (f (message_of m.now) ∷ []) ∙ ap (λ xs. start ++ xs) (sym one_seen)))
+      here ∙ (ap (λ xs. xs ++ f (message_of m) ∷ []) before
+      ∙ (append_assoc start (map f (seen (take i ms))) (f (message_of m) ∷ []) ∙ ap (λ xs. start ++ xs) (sym one_seen)))
 
 -- what holds of all messages holds of one
-pub seen_at : (P : Message → Type 0) (ms : List (Bor Kept)) (i : ℕ) (m : Bor Kept) → i < length ms → m ≡ get_or ms i m → AllByRecursion P (seen ms) → P (message_of m.now)
+pub seen_at : (P : Message → Type 0) (ms : List Kept) (i : ℕ) (m : Kept) → i < length ms → m ≡ get_or ms i m → AllByRecursion P (seen ms) → P (message_of m)
 seen_at P [] i m h is all = absurd (omega (arith, h))
-seen_at P (x ∷ ms) zero m h is all = subst (λ (b : Bor Kept). P (message_of b.now)) (sym is) all.0
+seen_at P (x ∷ ms) zero m h is all = subst (λ (b : Kept). P (message_of b)) (sym is) all.0
 seen_at P (x ∷ ms) (suc i) m h is all = seen_at P ms i m (omega (arith, h)) is all.1
 
-pub seen_long : (ms : List (Bor Kept)) → length (seen ms) ≡ length ms
+pub seen_long : (ms : List Kept) → length (seen ms) ≡ length ms
 seen_long [] = refl
 seen_long (x ∷ ms) = ap suc (seen_long ms)
 
@@ -89,7 +88,7 @@ pub rows_long : {A R : Type 0} (row : A → R) (old new : List A) (more : List R
 rows_long row old new more is = omega (arith, ap length is, length-append (map row old) more, length-map old row, length-map new row)
 
 -- so many rows were told of, one for each message
-pub count_at : {A R : Type 0} (row : A → R) (f : Message → R) (old mid : List A) (ms : List (Bor Kept)) (i : ℕ) → i ≤ length ms → map row mid ≡ map row old ++ map f (seen (take i ms)) → length mid ≡ length old + i
+pub count_at : {A R : Type 0} (row : A → R) (f : Message → R) (old mid : List A) (ms : List Kept) (i : ℕ) → i ≤ length ms → map row mid ≡ map row old ++ map f (seen (take i ms)) → length mid ≡ length old + i
 count_at row f old mid ms i h is =
     omega (arith, rows_long row old mid (map f (seen (take i ms))) is, length-map (seen (take i ms)) f, seen_long (take i ms), length-take-le i ms h)
 
@@ -235,35 +234,35 @@ module _ (depth : ℕ) (scope : List ℕ) (m : Message) where
 
 -- ---- message types, as a loop comes to them
 
-module _ (depth : ℕ) (scope : List ℕ) (ms : List (Bor Kept)) (i : ℕ) (m : Bor Kept) (some : depth ≡ 0 → ⊥) (h : i < length ms) (is : m ≡ get_or ms i m) where
+module _ (depth : ℕ) (scope : List ℕ) (ms : List Kept) (i : ℕ) (m : Kept) (some : depth ≡ 0 → ⊥) (h : i < length ms) (is : m ≡ get_or ms i m) where
   pub deep_wants : {Y : Type 0} (packages : Names) (old mid : Table Y) (e : Unstated) → Declares packages (flat_map (type_names (types_names (depth - 1)) scope) (seen (take i ms))) old mid
-      → WantsMemory packages (type_names (types_names (depth - 1)) scope (message_of m.now)) mid e → WantsMemory packages (types_names depth scope (seen ms)) old e
+      → WantsMemory packages (type_names (types_names (depth - 1)) scope (message_of m)) mid e → WantsMemory packages (types_names depth scope (seen ms)) old e
   deep_wants packages old mid e before here =
       subst (λ ns. WantsMemory packages ns old e) (sym (names_below scope (seen ms) depth some)) (loop_wants (type_names (types_names (depth - 1)) scope) ms i m h is packages old mid e before here)
 
   -- a type's place is there, and so are those of the types inside it
   pub few_types : (old mid : List OutlinedType) → map type_row mid ≡ map type_row old ++ flat_map (rows_of_type (type_rows (depth - 1)) scope) (seen (take i ms)) → length old + length (type_rows depth scope (seen ms)) ≤ 2 ^ 32
-      → suc (length mid) + length (type_rows (depth - 1) (full_name scope (message_of m.now)) (filter is_no_entry (children_at 3 (message_of m.now)))) ≤ 2 ^ 32
+      → suc (length mid) + length (type_rows (depth - 1) (full_name scope (message_of m)) (filter is_no_entry (children_at 3 (message_of m)))) ≤ 2 ^ 32
   few_types old mid rows all =
       let f = rows_of_type (type_rows (depth - 1)) scope in
       omega (arith, up_to_here f ms i m h is (length old) (subst (λ rs. length old + length rs ≤ 2 ^ 32) (rows_below scope (seen ms) depth some) all), rows_long type_row old mid (flat_map f (seen (take i ms))) rows)
 
   pub few_enums : (old mid : List Outlined) → map row mid ≡ map row old ++ flat_map (rows_of_enums (enum_rows (depth - 1)) scope) (seen (take i ms)) → length old + length (enum_rows depth scope (seen ms)) ≤ 2 ^ 32
-      → length mid + length (children_at 4 (message_of m.now)) + length (enum_rows (depth - 1) (full_name scope (message_of m.now)) (filter is_no_entry (children_at 3 (message_of m.now)))) ≤ 2 ^ 32
+      → length mid + length (children_at 4 (message_of m)) + length (enum_rows (depth - 1) (full_name scope (message_of m)) (filter is_no_entry (children_at 3 (message_of m)))) ≤ 2 ^ 32
   few_enums old mid rows all =
       let f = rows_of_enums (enum_rows (depth - 1)) scope in
-      let full = full_name scope (message_of m.now) in
-      let inner = enum_rows (depth - 1) full (filter is_no_entry (children_at 3 (message_of m.now))) in
-      let own = rows_in full (children_at 4 (message_of m.now)) in
+      let full = full_name scope (message_of m) in
+      let inner = enum_rows (depth - 1) full (filter is_no_entry (children_at 3 (message_of m))) in
+      let own = rows_in full (children_at 4 (message_of m)) in
       omega (
         arith,
         up_to_here f ms i m h is (length old) (subst (λ rs. length old + length rs ≤ 2 ^ 32) (enums_below scope (seen ms) depth some) all),
         rows_long row old mid (flat_map f (seen (take i ms))) rows,
         length-append own inner,
-        length-map (children_at 4 (message_of m.now)) (row_in full),
+        length-map (children_at 4 (message_of m)) (row_in full),
       )
 
-  pub oneofs_here : NameOneofs depth (seen ms) → NamesOneofs (message_of m.now) × NameOneofs (depth - 1) (filter is_no_entry (children_at 3 (message_of m.now)))
+  pub oneofs_here : NameOneofs depth (seen ms) → NamesOneofs (message_of m) × NameOneofs (depth - 1) (filter is_no_entry (children_at 3 (message_of m)))
   oneofs_here all = seen_at (λ x. NamesOneofs x × NameOneofs (depth - 1) (filter is_no_entry (children_at 3 x))) ms i m h is (oneofs_below depth (seen ms) some all)
 
 -- the rows of a message type and those inside it
@@ -287,7 +286,7 @@ taken (x ∷ xs) zero h = absurd (omega (arith, h))
 taken (x ∷ xs) (suc i) h = ap (λ ys. x ∷ ys) (taken xs i (omega (arith, h)))
 
 -- a loop has come to the end
-pub lists_end : {X : Type 0} (f : Message → List X) (ms : List (Bor Kept)) (i : ℕ) (start mid all : List X) → length ms ≤ i → all ≡ flat_map f (seen ms) → mid ≡ start ++ flat_map f (seen (take i ms)) → mid ≡ start ++ all
+pub lists_end : {X : Type 0} (f : Message → List X) (ms : List Kept) (i : ℕ) (start mid all : List X) → length ms ≤ i → all ≡ flat_map f (seen ms) → mid ≡ start ++ flat_map f (seen (take i ms)) → mid ≡ start ++ all
 lists_end f ms i start mid all h same is = is ∙ (ap (λ xs. start ++ flat_map f (seen xs)) (taken ms i h) ∙ ap (λ xs. start ++ xs) (sym same))
 
 -- with no depth there is nothing

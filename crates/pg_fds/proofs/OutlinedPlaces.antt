@@ -2,7 +2,6 @@
 use Rattle.std.proofs.Common.{◌≡◌, ℕ, zero, suc, ◌+◌, ◌-◌, ◌<◌, List, [], ◌∷◌, ◌++◌, map, length, take, get_or, refl, ap, ap₂, sym, ◌∙◌, arith, append_assoc, append-nil}
 use Rattle.std.proofs.Math.ListN.{set}
 use Rattle.std.proofs.lemmas.List.{map-set}
-use denote.Ref.{Bor}
 use Rattle.pg_dyn.specs.Kept.{Kept, message_of}
 use Rattle.pg_dyn.specs.Message.{Message}
 use Rattle.pg_fds.specs.declared.outline.OutlinedType.{OutlinedType}
@@ -30,12 +29,12 @@ pub behind_more : (on : Counts → Message → Counts) (counts : Counts) (ms : L
 behind_more on counts [] m = refl
 behind_more on counts (x ∷ ms) m = behind_more on (on counts x) ms m
 
-pub seen_more : (ms : List (Bor Kept)) (i : ℕ) (m : Bor Kept) → i < length ms → m ≡ get_or ms i m → seen (take (i + 1) ms) ≡ seen (take i ms) ++ message_of m.now ∷ []
-seen_more ms i m h is = seen_as (take (i + 1) ms) ∙ (one_step (λ (b : Bor Kept). message_of b.now) ms i m h is ∙ ap (λ xs. xs ++ message_of m.now ∷ []) (sym (seen_as (take i ms))))
+pub seen_more : (ms : List Kept) (i : ℕ) (m : Kept) → i < length ms → m ≡ get_or ms i m → seen (take (i + 1) ms) ≡ seen (take i ms) ++ message_of m ∷ []
+seen_more ms i m h is = seen_as (take (i + 1) ms) ∙ (one_step (λ (b : Kept). message_of b) ms i m h is ∙ ap (λ xs. xs ++ message_of m ∷ []) (sym (seen_as (take i ms))))
   where
-    seen_as : (xs : List (Bor Kept)) → seen xs ≡ map (λ (b : Bor Kept). message_of b.now) xs
+    seen_as : (xs : List Kept) → seen xs ≡ map (λ (b : Kept). message_of b) xs
     seen_as [] = refl
-    seen_as (x ∷ xs) = ap (λ ys. message_of x.now ∷ ys) (seen_as xs)
+    seen_as (x ∷ xs) = ap (λ ys. message_of x ∷ ys) (seen_as xs)
 
 -- what one message more gives
 pub each_on : {X : Type 0} (on : Counts → Message → Counts) (give : Counts → Message → List X) (counts here : Counts) (before after : List Message) (m : Message) (start mid new : List X) → after ≡ before ++ m ∷ []

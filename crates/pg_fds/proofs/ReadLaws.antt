@@ -4,7 +4,6 @@ use Rattle.std.proofs.lemmas.Result.{IfErr-weaker, IfOk-weaker, err_from_is_err_
 use Rattle.std.specs.Prelude.{IsErrAnd, IsSomeAnd}
 use Rattle.std.specs.List.{AllByRecursion, list_all, list_any}
 use Rattle.std.specs.Str.{IsUtf8}
-use denote.Ref.{Bor}
 use Rattle.pg_schema.specs.declared.parts.Parts.{Parts}
 use Rattle.pg_schema.specs.rules.Sound.{IsSound}
 use Rattle.pg_check.specs.declared.error.CheckError.{CheckError}
@@ -22,7 +21,6 @@ use Rattle.pg_fds.specs.Building.{written_shape}
 use Rattle.pg_fds.specs.Codes.{file_has_types}
 use Rattle.pg_fds.specs.Descriptor.{file_set}
 use Rattle.pg_fds.specs.InOrder.{StandInOrder}
-use Rattle.pg_fds.specs.Lent.{lent}
 use Rattle.pg_fds.specs.Reads.{CanBeMade, IsHeld, States, StatesFiles, fds_reads, kept_files, skips}
 use Rattle.pg_fds.specs.Refused.{BreaksRule, HasTexts, IsOfBytes, IsOfParts, MayRefuseFiles, MayRefuseSet, StatesNoneHeld}
 use Rattle.pg_fds.specs.Said.{children_at, text_at}
@@ -34,35 +32,35 @@ use Rattle.pg_fds.proofs.SoundNumbers.{kept_numbers_small}
 use Rattle.pg_fds.proofs.StatedFiles.{stated_texts}
 
 -- the files that aren't skipped are those of the set
-pub files_kept : (set : Message) (all files : List (Bor Kept)) → map message_of (lent all) ≡ children_at 1 set
-    → map message_of (lent files) ≡ filter (λ m. not (is_skipped m)) (map message_of (lent all)) → map message_of (lent files) ≡ kept_files set
+pub files_kept : (set : Message) (all files : List Kept) → map message_of all ≡ children_at 1 set
+    → map message_of files ≡ filter (λ m. not (is_skipped m)) (map message_of all) → map message_of files ≡ kept_files set
 files_kept set all files seen kept = kept ∙ ap (filter (λ m. not (is_skipped m))) seen
 
 -- a set whose files state a schema states it
-pub set_states : (set : Message) (skip : Bool) (all files : List (Bor Kept)) → map message_of (lent all) ≡ children_at 1 set
-    → skip ≡ list_any is_skipped (map message_of (lent all)) → map message_of (lent files) ≡ kept_files set
-    → (parts : Parts) → StatesFiles skip (map message_of (lent files)) parts → StandInOrder parts → States set parts
+pub set_states : (set : Message) (skip : Bool) (all files : List Kept) → map message_of all ≡ children_at 1 set
+    → skip ≡ list_any is_skipped (map message_of all) → map message_of files ≡ kept_files set
+    → (parts : Parts) → StatesFiles skip (map message_of files) parts → StandInOrder parts → States set parts
 set_states set skip all files seen skipped kept parts states places = record {
   files = subst (λ b. StatesFiles b (kept_files set) parts) (skipped ∙ ap (list_any is_skipped) seen) (subst (λ ms. StatesFiles skip ms parts) kept states);
   places = places;
 }
 
 -- and the other way round
-files_state : (set : Message) (skip : Bool) (all files : List (Bor Kept)) → map message_of (lent all) ≡ children_at 1 set
-    → skip ≡ list_any is_skipped (map message_of (lent all)) → map message_of (lent files) ≡ kept_files set
-    → (parts : Parts) → States set parts → StatesFiles skip (map message_of (lent files)) parts
+files_state : (set : Message) (skip : Bool) (all files : List Kept) → map message_of all ≡ children_at 1 set
+    → skip ≡ list_any is_skipped (map message_of all) → map message_of files ≡ kept_files set
+    → (parts : Parts) → States set parts → StatesFiles skip (map message_of files) parts
 files_state set skip all files seen skipped kept parts states =
     subst (λ ms. StatesFiles skip ms parts) (sym kept) (subst (λ b. StatesFiles b (kept_files set) parts) (sym (skipped ∙ ap (list_any is_skipped) seen)) states.files)
 
 -- the names of all files are texts, those of files that are skipped too
-pub set_named : (set : Message) (all : List (Bor Kept)) → map message_of (lent all) ≡ children_at 1 set → (parts : Parts) → States set parts
-    → AllByRecursion IsUtf8 (map (text_at 1) (map message_of (lent all)))
+pub set_named : (set : Message) (all : List Kept) → map message_of all ≡ children_at 1 set → (parts : Parts) → States set parts
+    → AllByRecursion IsUtf8 (map (text_at 1) (map message_of all))
 set_named set all seen parts states =
     subst (λ ms. AllByRecursion IsUtf8 (map (text_at 1) ms)) (sym seen) (all_named (children_at 1 set) (stated_texts (skips set) (kept_files set) parts states.files))
 
-pub stated : (set : Message) (skip : Bool) (all files : List (Bor Kept)) (r : Result Parts FdsError) → map message_of (lent all) ≡ children_at 1 set
-    → skip ≡ list_any is_skipped (map message_of (lent all)) → map message_of (lent files) ≡ kept_files set
-    → IfOk r (λ parts. StatesFiles skip (map message_of (lent files)) parts) → IfOk r (λ parts. StandInOrder parts) → IfOk r (λ parts. States set parts)
+pub stated : (set : Message) (skip : Bool) (all files : List Kept) (r : Result Parts FdsError) → map message_of all ≡ children_at 1 set
+    → skip ≡ list_any is_skipped (map message_of all) → map message_of files ≡ kept_files set
+    → IfOk r (λ parts. StatesFiles skip (map message_of files) parts) → IfOk r (λ parts. StandInOrder parts) → IfOk r (λ parts. States set parts)
 stated set skip all files (Ok parts) seen skipped kept states places = set_states set skip all files seen skipped kept parts states places
 stated set skip all files (Err e) seen skipped kept states places = tt
 
@@ -137,8 +135,8 @@ bytes_read bytes set r is h =
     IfOk-weaker r (λ parts. States set parts) (λ parts. fds_reads bytes parts) (λ parts states. subst (λ d. IsSomeAnd d (λ s. States s parts)) (sym is) states) h
 
 -- the names of all files are texts
-pub texts_named : (set : Message) (all : List (Bor Kept)) → map message_of (lent all) ≡ children_at 1 set → AllByRecursion HasTexts (children_at 1 set)
-    → AllByRecursion IsUtf8 (map (text_at 1) (map message_of (lent all)))
+pub texts_named : (set : Message) (all : List Kept) → map message_of all ≡ children_at 1 set → AllByRecursion HasTexts (children_at 1 set)
+    → AllByRecursion IsUtf8 (map (text_at 1) (map message_of all))
 texts_named set all seen texts = subst (λ ms. AllByRecursion IsUtf8 (map (text_at 1) ms)) (sym seen) (names (children_at 1 set) texts)
   where
     names : (ms : List Message) → AllByRecursion HasTexts ms → AllByRecursion IsUtf8 (map (text_at 1) ms)
@@ -146,28 +144,28 @@ texts_named set all seen texts = subst (λ ms. AllByRecursion IsUtf8 (map (text_
     names (m ∷ ms) texts = (texts.0.name, names ms texts.1)
 
 -- what is told of the files that aren't left out
-pub set_refused : (set : Message) (files : List (Bor Kept)) (r : Result Parts FdsError) → map message_of (lent files) ≡ kept_files set
-    → IsRefused (map message_of (lent files)) (map message_of (lent files)) r → IsRefused (children_at 1 set) (kept_files set) r
+pub set_refused : (set : Message) (files : List Kept) (r : Result Parts FdsError) → map message_of files ≡ kept_files set
+    → IsRefused (map message_of files) (map message_of files) r → IsRefused (children_at 1 set) (kept_files set) r
 set_refused set files r kept h =
     IfErr-weaker r (λ e. AllByRecursion HasTexts (kept_files set) → MayRefuseFiles (kept_files set) e) (λ e. AllByRecursion HasTexts (children_at 1 set) → MayRefuseFiles (kept_files set) e)
     (λ e may texts. may (filtered_texts (λ m. not (is_skipped m)) (children_at 1 set) texts)) (subst (λ ms. IsRefused ms ms r) kept h)
 
-pub set_none : (set : Message) (skip : Bool) (all files : List (Bor Kept)) (r : Result Parts FdsError) → map message_of (lent all) ≡ children_at 1 set
-    → skip ≡ list_any is_skipped (map message_of (lent all)) → map message_of (lent files) ≡ kept_files set
-    → WantsMemory (StatesFiles skip (map message_of (lent files))) r → WantsMemory (States set) r
+pub set_none : (set : Message) (skip : Bool) (all files : List Kept) (r : Result Parts FdsError) → map message_of all ≡ children_at 1 set
+    → skip ≡ list_any is_skipped (map message_of all) → map message_of files ≡ kept_files set
+    → WantsMemory (StatesFiles skip (map message_of files)) r → WantsMemory (States set) r
 set_none set skip all files r seen skipped kept h =
-    IfErr-weaker r (λ e. (parts : Parts) → CanBeMade parts → StatesFiles skip (map message_of (lent files)) parts → e ≡ errors.Memory) (λ e. (parts : Parts) → CanBeMade parts → States set parts → e ≡ errors.Memory)
+    IfErr-weaker r (λ e. (parts : Parts) → CanBeMade parts → StatesFiles skip (map message_of files) parts → e ≡ errors.Memory) (λ e. (parts : Parts) → CanBeMade parts → States set parts → e ≡ errors.Memory)
     (λ e none parts can states. none parts can (files_state set skip all files seen skipped kept parts states)) h
 
 -- a schema says what those say that are stated
 abbrev IsStated : (Parts → Type 0) → Result Parts FdsError → Type 0
 IsStated Stated r = IfOk r (λ made. (parts : Parts) → CanBeMade parts → Stated parts → parts_view made ≡ parts_view parts)
 
-pub set_same : (set : Message) (skip : Bool) (all files : List (Bor Kept)) (r : Result Parts FdsError) → map message_of (lent all) ≡ children_at 1 set
-    → skip ≡ list_any is_skipped (map message_of (lent all)) → map message_of (lent files) ≡ kept_files set
-    → IsStated (StatesFiles skip (map message_of (lent files))) r → IsStated (States set) r
+pub set_same : (set : Message) (skip : Bool) (all files : List Kept) (r : Result Parts FdsError) → map message_of all ≡ children_at 1 set
+    → skip ≡ list_any is_skipped (map message_of all) → map message_of files ≡ kept_files set
+    → IsStated (StatesFiles skip (map message_of files)) r → IsStated (States set) r
 set_same set skip all files r seen skipped kept h =
-    IfOk-weaker r (λ made. (parts : Parts) → CanBeMade parts → StatesFiles skip (map message_of (lent files)) parts → parts_view made ≡ parts_view parts)
+    IfOk-weaker r (λ made. (parts : Parts) → CanBeMade parts → StatesFiles skip (map message_of files) parts → parts_view made ≡ parts_view parts)
     (λ made. (parts : Parts) → CanBeMade parts → States set parts → parts_view made ≡ parts_view parts)
     (λ made same parts can states. same parts can (files_state set skip all files seen skipped kept parts states)) h
 

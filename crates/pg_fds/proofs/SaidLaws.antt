@@ -6,7 +6,6 @@ use Rattle.std.proofs.lemmas.Str.{IsUtf8-nil, IsUtf8-string_bytes}
 use Rattle.std.specs.List.{AllByRecursion}
 use Rattle.std.specs.Str.{IsUtf8}
 use Rattle.std.specs.String.{string_bytes}
-use denote.Ref.{Bor}
 use Rattle.pg_schema.specs.declared.parts.field.TypeId.{TypeId}
 use Rattle.pg_wire.specs.Records.{WireRecord}
 use Rattle.pg_dyn.specs.declared.message.Content.{Content}
@@ -19,7 +18,6 @@ use Rattle.pg_dyn.specs.Seen.{IsFilled, content_seen, fields_onto, item_seen, le
 use Rattle.pg_dyn.proofs.lemmas.KeptParts.{parts_of-content_onto}
 use Rattle.pg_dyn.proofs.lemmas.ReplacingLaws.{parts-message_of, item_of, part_item}
 use Rattle.pg_fds.specs.Building.{shown}
-use Rattle.pg_fds.specs.Lent.{lent}
 use Rattle.pg_fds.specs.Said.{item_at, items_at, text_of}
 
 filtered : (n : ℕ) (ps : List (Part KeptItem)) → filter (is_of n) (map part_item ps) ≡ map part_item (filter (is_of n) ps)
@@ -90,21 +88,22 @@ shown_entries n (e ∷ es) =
 pub entry_items : (n : ℕ) (m : Kept) (es : List (Value × Value)) → of_number n m ≡ map (entry_part n) es → map shown (map (λ (e : Value × Value). e.1) es) ≡ items_at n (message_of m)
 entry_items n m es entries = sym (items_kept n m ∙ ap (map (λ (p : Part KeptItem). item_of p.item)) entries ∙ shown_entries n es)
 
-first_shown_entry : (es : List (Value × Value)) → option_map (λ (e : Value × Value). shown e.1) (slice_get es 0) ≡ slice_get (map shown (map (λ (e : Value × Value). e.1) es)) 0
+first_shown_entry : (es : List (Value × Value)) → option_map shown (option_map (λ (e : Value × Value). e.1) (slice_get es 0)) ≡ slice_get (map shown (map (λ (e : Value × Value). e.1) es)) 0
 first_shown_entry [] = refl
 first_shown_entry (e ∷ es) = refl
 
-pub first_entry : (n : ℕ) (m : Kept) (es : List (Value × Value)) (e : Value × Value) → map shown (map (λ (e : Value × Value). e.1) es) ≡ items_at n (message_of m) → Some e ≡ slice_get es 0
-    → Some (shown e.1) ≡ item_at n (message_of m)
-first_entry n m es e are is = ap (option_map (λ (e : Value × Value). shown e.1)) is ∙ (first_shown_entry es ∙ ap (λ (xs : List Item). slice_get xs 0) are)
+-- the value of the first of several entries
+pub first_entry : (n : ℕ) (m : Kept) (es : List (Value × Value)) (first : Option Value) → map shown (map (λ (e : Value × Value). e.1) es) ≡ items_at n (message_of m)
+    → first ≡ option_map (λ (e : Value × Value). e.1) (slice_get es 0) → option_map shown first ≡ item_at n (message_of m)
+first_entry n m es first are is = ap (option_map shown) is ∙ (first_shown_entry es ∙ ap (λ (xs : List Item). slice_get xs 0) are)
 
 -- ---- texts
 
 -- bytes that are no text, among others
-pub none_text : (vs : List (Bor Value)) (i : ℕ) (v : Bor Value) → i < length vs → v ≡ get_or vs i v → (IsUtf8 (text_of (shown v.now)) → ⊥)
-    → AllByRecursion IsUtf8 (map text_of (map shown (lent vs))) → ⊥
+pub none_text : (vs : List Value) (i : ℕ) (v : Value) → i < length vs → v ≡ get_or vs i v → (IsUtf8 (text_of (shown v)) → ⊥)
+    → AllByRecursion IsUtf8 (map text_of (map shown vs)) → ⊥
 none_text [] i v h is none all = absurd (omega (arith, h))
-none_text (x ∷ vs) zero v h is none all = none (subst (λ (b : Bor Value). IsUtf8 (text_of (shown b.now))) (sym is) all.0)
+none_text (x ∷ vs) zero v h is none all = none (subst (λ (b : Value). IsUtf8 (text_of (shown b))) (sym is) all.0)
 none_text (x ∷ vs) (suc i) v h is none all = none_text vs i v (omega (arith, h)) is none all.1
 
 pub all_text : {Z : Type 0} (texts : List (String Z)) → AllByRecursion IsUtf8 (map string_bytes texts)

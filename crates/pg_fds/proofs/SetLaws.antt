@@ -1,27 +1,25 @@
 -- The files of a set, as loops come to them.
 use Rattle.std.proofs.Common.{◌≡◌, ℕ, zero, suc, ◌+◌, ◌<◌, Bool, true, false, ◌&&◌, ◌||◌, List, [], ◌∷◌, ◌++◌, map, length, take, get_or, refl, ap, ap₂, sym, subst, ◌∙◌, arith, add-one}
 use Rattle.std.specs.List.{AllByRecursion, list_all, list_any}
-use denote.Ref.{Bor}
 use Rattle.pg_schema.specs.declared.parts.file.File.{File}
 use Rattle.pg_schema.specs.rules.Pairs.{are_distinct}
 use Rattle.pg_schema.proofs.lemmas.rules.PairLemmas.{and_left, and_right}
 use Rattle.pg_dyn.specs.Kept.{Kept, message_of}
 use Rattle.pg_dyn.specs.Message.{Message}
 use Rattle.pg_fds.specs.FilePlaces.{name_at}
-use Rattle.pg_fds.specs.Lent.{lent}
 use Rattle.pg_fds.specs.PostOrder.{imports_once, paths_of}
 use Rattle.pg_fds.specs.Reads.{file_name, importer_of}
 use Rattle.pg_fds.specs.Said.{text_at, texts_at}
 
-suc_of_names : (files : List (Bor Kept)) (i : ℕ) (m : Bor Kept) (key : List ℕ) → i < length files → m ≡ get_or files i m → key ≡ text_at 1 (message_of m.now)
-    → map (text_at 1) (map message_of (lent (take (suc i) files))) ≡ map (text_at 1) (map message_of (lent (take i files))) ++ key ∷ []
+suc_of_names : (files : List Kept) (i : ℕ) (m : Kept) (key : List ℕ) → i < length files → m ≡ get_or files i m → key ≡ text_at 1 (message_of m)
+    → map (text_at 1) (map message_of (take (suc i) files)) ≡ map (text_at 1) (map message_of (take i files)) ++ key ∷ []
 suc_of_names [] i m key h is same = absurd (omega (arith, h))
-suc_of_names (x ∷ xs) zero m key h is same = ap (λ n. n ∷ []) (ap (λ (b : Bor Kept). text_at 1 (message_of b.now)) (sym is) ∙ sym same)
-suc_of_names (x ∷ xs) (suc i) m key h is same = ap (λ ns. text_at 1 (message_of x.now) ∷ ns) (suc_of_names xs i m key (omega (arith, h)) is same)
+suc_of_names (x ∷ xs) zero m key h is same = ap (λ n. n ∷ []) (ap (λ (b : Kept). text_at 1 (message_of b)) (sym is) ∙ sym same)
+suc_of_names (x ∷ xs) (suc i) m key h is same = ap (λ ns. text_at 1 (message_of x) ∷ ns) (suc_of_names xs i m key (omega (arith, h)) is same)
 
 -- the names of one message more
-pub names_step : (files : List (Bor Kept)) (i : ℕ) (m : Bor Kept) (key : List ℕ) → i < length files → m ≡ get_or files i m → key ≡ text_at 1 (message_of m.now)
-    → map (text_at 1) (map message_of (lent (take (i + 1) files))) ≡ map (text_at 1) (map message_of (lent (take i files))) ++ key ∷ []
+pub names_step : (files : List Kept) (i : ℕ) (m : Kept) (key : List ℕ) → i < length files → m ≡ get_or files i m → key ≡ text_at 1 (message_of m)
+    → map (text_at 1) (map message_of (take (i + 1) files)) ≡ map (text_at 1) (map message_of (take i files)) ++ key ∷ []
 names_step files i m key h is same = rw add-one (suc_of_names files i m key h is same)
 
 suc_of_files : (files : List File) (i : ℕ) (f : File) → i < length files → f ≡ get_or files i f → map file_name (take (suc i) files) ≡ map file_name (take i files) ++ file_name f ∷ []
@@ -67,16 +65,16 @@ and_false true b e = e
 and_false false b e = refl
 
 -- the test holds of one of the messages
-pub any_found : (test : Message → Bool) (ms : List (Bor Kept)) (i : ℕ) (m : Bor Kept) → i < length ms → m ≡ get_or ms i m → test (message_of m.now) ≡ true → list_any test (map message_of (lent ms)) ≡ true
+pub any_found : (test : Message → Bool) (ms : List Kept) (i : ℕ) (m : Kept) → i < length ms → m ≡ get_or ms i m → test (message_of m) ≡ true → list_any test (map message_of ms) ≡ true
 any_found test [] i m h is here = absurd (omega (arith, h))
-any_found test (x ∷ xs) zero m h is here = ap (λ b. b || list_any test (map message_of (lent xs))) (ap (λ (b : Bor Kept). test (message_of b.now)) (sym is) ∙ here)
-any_found test (x ∷ xs) (suc i) m h is here = or_true (test (message_of x.now)) (list_any test (map message_of (lent xs))) (any_found test xs i m (omega (arith, h)) is here)
+any_found test (x ∷ xs) zero m h is here = ap (λ b. b || list_any test (map message_of xs)) (ap (λ (b : Kept). test (message_of b)) (sym is) ∙ here)
+any_found test (x ∷ xs) (suc i) m h is here = or_true (test (message_of x)) (list_any test (map message_of xs)) (any_found test xs i m (omega (arith, h)) is here)
 
 -- the test fails of one of the messages
-pub all_lost : (test : Message → Bool) (ms : List (Bor Kept)) (i : ℕ) (m : Bor Kept) → i < length ms → m ≡ get_or ms i m → test (message_of m.now) ≡ false → list_all test (map message_of (lent ms)) ≡ false
+pub all_lost : (test : Message → Bool) (ms : List Kept) (i : ℕ) (m : Kept) → i < length ms → m ≡ get_or ms i m → test (message_of m) ≡ false → list_all test (map message_of ms) ≡ false
 all_lost test [] i m h is here = absurd (omega (arith, h))
-all_lost test (x ∷ xs) zero m h is here = ap (λ b. b && list_all test (map message_of (lent xs))) (ap (λ (b : Bor Kept). test (message_of b.now)) (sym is) ∙ here)
-all_lost test (x ∷ xs) (suc i) m h is here = and_false (test (message_of x.now)) (list_all test (map message_of (lent xs))) (all_lost test xs i m (omega (arith, h)) is here)
+all_lost test (x ∷ xs) zero m h is here = ap (λ b. b && list_all test (map message_of xs)) (ap (λ (b : Kept). test (message_of b)) (sym is) ∙ here)
+all_lost test (x ∷ xs) (suc i) m h is here = and_false (test (message_of x)) (list_all test (map message_of xs)) (all_lost test xs i m (omega (arith, h)) is here)
 
 -- ---- names and imports, file by file
 
@@ -85,19 +83,19 @@ paths_are [] = refl
 paths_are (m ∷ ms) = ap (λ ps. text_at 1 m ∷ ps) (paths_are ms)
 
 -- the file at a place imports no path twice
-pub once_at : (ms : List (Bor Kept)) (i : ℕ) (m : Bor Kept) → list_all imports_once (map importer_of (map message_of (lent ms))) ≡ true → i < length ms → m ≡ get_or ms i m
-    → are_distinct (texts_at 3 (message_of m.now)) ≡ true
+pub once_at : (ms : List Kept) (i : ℕ) (m : Kept) → list_all imports_once (map importer_of (map message_of ms)) ≡ true → i < length ms → m ≡ get_or ms i m
+    → are_distinct (texts_at 3 (message_of m)) ≡ true
 once_at [] i m once h is = absurd (omega (arith, h))
 once_at (x ∷ ms) zero m once h is =
-    subst (λ (b : Bor Kept). are_distinct (texts_at 3 (message_of b.now)) ≡ true) (sym is)
-    (and_left (are_distinct (texts_at 3 (message_of x.now))) (list_all imports_once (map importer_of (map message_of (lent ms)))) once)
+    subst (λ (b : Kept). are_distinct (texts_at 3 (message_of b)) ≡ true) (sym is)
+    (and_left (are_distinct (texts_at 3 (message_of x))) (list_all imports_once (map importer_of (map message_of ms))) once)
 once_at (x ∷ ms) (suc i) m once h is =
-    once_at ms i m (and_right (are_distinct (texts_at 3 (message_of x.now))) (list_all imports_once (map importer_of (map message_of (lent ms)))) once) (omega (arith, h)) is
+    once_at ms i m (and_right (are_distinct (texts_at 3 (message_of x))) (list_all imports_once (map importer_of (map message_of ms))) once) (omega (arith, h)) is
 
 -- the name of the file at a place
-pub named_at : (ms : List (Bor Kept)) (i : ℕ) (m : Bor Kept) → i < length ms → m ≡ get_or ms i m → name_at (paths_of (map importer_of (map message_of (lent ms)))) i ≡ text_at 1 (message_of m.now)
+pub named_at : (ms : List Kept) (i : ℕ) (m : Kept) → i < length ms → m ≡ get_or ms i m → name_at (paths_of (map importer_of (map message_of ms))) i ≡ text_at 1 (message_of m)
 named_at [] i m h is = absurd (omega (arith, h))
-named_at (x ∷ ms) zero m h is = ap (λ (b : Bor Kept). text_at 1 (message_of b.now)) (sym is)
+named_at (x ∷ ms) zero m h is = ap (λ (b : Kept). text_at 1 (message_of b)) (sym is)
 named_at (x ∷ ms) (suc i) m h is = named_at ms i m (omega (arith, h)) is
 
 suc_of_named : (names : List (List ℕ)) (places : List ℕ) (files : List File) (i : ℕ) (place : ℕ) (f : File) → i < length places → i < length files → place ≡ get_or places i place → f ≡ get_or files i f

@@ -2,29 +2,27 @@
 use Rattle.std.proofs.Common.{◌≡◌, ℕ, zero, suc, ◌<◌, List, [], ◌∷◌, length, map, get_or, Some, slice_get, refl, ap, sym, subst, arith}
 use Rattle.std.specs.Prelude.{IsSomeAnd}
 use Rattle.std.specs.List.{AllByRecursion, AllZip, cons_option}
-use denote.Ref.{Bor}
 use Rattle.pg_schema.specs.declared.parts.file.File.{File}
 use Rattle.pg_dyn.specs.Kept.{Kept, message_of}
 use Rattle.pg_dyn.specs.Message.{Message}
-use Rattle.pg_fds.specs.Lent.{lent}
 use Rattle.pg_fds.specs.Outlines.{files_at}
 use Rattle.pg_fds.proofs.Zips.{seen_length}
 
 -- ---- the message at a place
 
-pub stated_within : (P : Message → Type 0) (ms : List (Bor Kept)) (i : ℕ) → IsSomeAnd (slice_get (map message_of (lent ms)) i) P → i < length ms
+pub stated_within : (P : Message → Type 0) (ms : List Kept) (i : ℕ) → IsSomeAnd (slice_get (map message_of ms) i) P → i < length ms
 stated_within P [] i there = absurd there
 stated_within P (x ∷ ms) zero there = omega arith
 stated_within P (x ∷ ms) (suc i) there = let below = stated_within P ms i there in omega (arith, below)
 
-pub stated_at : (P : Message → Type 0) (ms : List (Bor Kept)) (i : ℕ) (m : Bor Kept) → m ≡ get_or ms i m → IsSomeAnd (slice_get (map message_of (lent ms)) i) P → P (message_of m.now)
+pub stated_at : (P : Message → Type 0) (ms : List Kept) (i : ℕ) (m : Kept) → m ≡ get_or ms i m → IsSomeAnd (slice_get (map message_of ms) i) P → P (message_of m)
 stated_at P [] i m is there = absurd there
-stated_at P (x ∷ ms) zero m is there = subst (λ (b : Bor Kept). P (message_of b.now)) (sym is) there
+stated_at P (x ∷ ms) zero m is there = subst (λ (b : Kept). P (message_of b)) (sym is) there
 stated_at P (x ∷ ms) (suc i) m is there = stated_at P ms i m is there
 
 -- ---- places that are all there
 
-pub seen_there : (ms : List (Bor Kept)) (places : List ℕ) → AllByRecursion (λ place. place < length ms) places → AllByRecursion (λ place. place < length (map message_of (lent ms))) places
+pub seen_there : (ms : List Kept) (places : List ℕ) → AllByRecursion (λ place. place < length ms) places → AllByRecursion (λ place. place < length (map message_of ms)) places
 seen_there ms places there = subst (λ n. AllByRecursion (λ place. place < n) places) (sym (seen_length ms)) there
 
 found : (ms : List Message) (i : ℕ) → i < length ms → (m : Message) × (slice_get ms i ≡ Some m)

@@ -4,12 +4,10 @@ use Rattle.std.proofs.lemmas.Bool.Decides.{nat_tests}
 use Rattle.std.specs.Prelude.{IsSomeAnd}
 use Rattle.std.specs.List.{AllZip}
 use Rattle.std.specs.String.{string_bytes}
-use denote.Ref.{Bor}
 use Rattle.pg_schema.specs.declared.parts.field.TypeId.{TypeId}
 use Rattle.pg_schema.specs.declared.parts.message_type.MessageType.{MessageType}
 use Rattle.pg_dyn.specs.Kept.{Kept, message_of}
 use Rattle.pg_dyn.specs.Message.{Message}
-use Rattle.pg_fds.specs.Lent.{lent}
 use Rattle.pg_fds.specs.Places.{Declared}
 use Rattle.pg_fds.specs.Said.{children_at}
 use Rattle.pg_fds.specs.StatesTypes.{StatesType, StatesTypes, StatesWhole, is_no_entry}
@@ -30,10 +28,10 @@ types_deep (suc d) all scope ms ids h zip =
     subst (λ n. AllZip (λ m (id : TypeId). IsSomeAnd (slice_get all.types id.index) (StatesWhole all (StatesTypes n all) scope m)) ms ids) e zip
 
 -- the message types inside, as they are looked through
-pub inner_is : (m : Message) (all all_items inside inside_items : List (Bor Kept)) → all ≡ all_items → inside ≡ inside_items → map message_of (lent all_items) ≡ children_at 3 m
-    → map message_of (lent inside_items) ≡ filter is_no_entry (map message_of (lent all)) → map message_of (lent inside) ≡ filter is_no_entry (children_at 3 m)
+pub inner_is : (m : Message) (all all_items inside inside_items : List Kept) → all ≡ all_items → inside ≡ inside_items → map message_of all_items ≡ children_at 3 m
+    → map message_of inside_items ≡ filter is_no_entry (map message_of all) → map message_of inside ≡ filter is_no_entry (children_at 3 m)
 inner_is m all all_items inside inside_items same own seen kept =
-    ap (λ xs. map message_of (lent xs)) own ∙ (kept ∙ ap (filter is_no_entry) (ap (λ xs. map message_of (lent xs)) same ∙ seen))
+    ap (λ xs. map message_of xs) own ∙ (kept ∙ ap (filter is_no_entry) (ap (λ xs. map message_of xs) same ∙ seen))
 
 pub inside_is : (depth : ℕ) (all : Declared) (t : MessageType) (ms : List Message) (name : List ℕ) (ids : List TypeId) → name ≡ string_bytes t.name → ids ≡ t.nested_types.items
     → StatesTypes depth all name ms ids → StatesTypes depth all (string_bytes t.name) ms t.nested_types.items
@@ -44,40 +42,40 @@ as_long : (a b : ℕ) → nat_eq a b ≡ true → a ≡ b
 as_long a b e = grind (arith, nat_tests)
 
 -- one message type more
-pub types_step : (depth : ℕ) (all : Declared) (scope : List ℕ) (ms : List (Bor Kept)) (ids : List TypeId) (i : ℕ) (m : Bor Kept) (id : TypeId) (t : MessageType) (inner : List Message)
+pub types_step : (depth : ℕ) (all : Declared) (scope : List ℕ) (ms : List Kept) (ids : List TypeId) (i : ℕ) (m : Kept) (id : TypeId) (t : MessageType) (inner : List Message)
     → i < length ms → nat_eq (length ms) (length ids) ≡ true → m ≡ get_or ms i m → (i < length ids → id ≡ get_or ids i id)
-    → slice_get all.types id.index ≡ Some t → StatesType all scope (message_of m.now) t → inner ≡ filter is_no_entry (children_at 3 (message_of m.now))
+    → slice_get all.types id.index ≡ Some t → StatesType all scope (message_of m) t → inner ≡ filter is_no_entry (children_at 3 (message_of m))
     → StatesTypes depth all (string_bytes t.name) inner t.nested_types.items
-    → AllZip (λ m (id : TypeId). IsSomeAnd (slice_get all.types id.index) (StatesWhole all (StatesTypes depth all) scope m)) (map message_of (lent (drop (i + 1) ms))) (drop (i + 1) ids)
-    → AllZip (λ m (id : TypeId). IsSomeAnd (slice_get all.types id.index) (StatesWhole all (StatesTypes depth all) scope m)) (map message_of (lent (drop i ms))) (drop i ids)
+    → AllZip (λ m (id : TypeId). IsSomeAnd (slice_get all.types id.index) (StatesWhole all (StatesTypes depth all) scope m)) (map message_of (drop (i + 1) ms)) (drop (i + 1) ids)
+    → AllZip (λ m (id : TypeId). IsSomeAnd (slice_get all.types id.index) (StatesWhole all (StatesTypes depth all) scope m)) (map message_of (drop i ms)) (drop i ids)
 types_step depth all scope ms ids i m id t inner h same is at there own inside below later =
     let long : length ms ≡ length ids = as_long (length ms) (length ids) same in
     let k : i < length ids = omega (arith, h, long) in
     zip_on (λ x (d : TypeId). IsSomeAnd (slice_get all.types d.index) (StatesWhole all (StatesTypes depth all) scope x)) ms ids i m id h k is (at k)
-    (whole_at all (StatesTypes depth all) scope (message_of m.now) id t inner there own inside below) later
+    (whole_at all (StatesTypes depth all) scope (message_of m) id t inner there own inside below) later
 
 -- all of them
-pub types_all : (depth : ℕ) (all : Declared) (scope : List ℕ) (ms : List (Bor Kept)) (ids : List TypeId) (i : ℕ) → depth ≢ 0 → nat_eq (length ms) (length ids) ≡ true → length ms ≤ i
-    → (AllZip (λ m (id : TypeId). IsSomeAnd (slice_get all.types id.index) (StatesWhole all (StatesTypes (depth - 1) all) scope m)) (map message_of (lent (drop i ms))) (drop i ids)
-    → AllZip (λ m (id : TypeId). IsSomeAnd (slice_get all.types id.index) (StatesWhole all (StatesTypes (depth - 1) all) scope m)) (map message_of (lent ms)) ids)
-    → StatesTypes depth all scope (map message_of (lent ms)) ids
+pub types_all : (depth : ℕ) (all : Declared) (scope : List ℕ) (ms : List Kept) (ids : List TypeId) (i : ℕ) → depth ≢ 0 → nat_eq (length ms) (length ids) ≡ true → length ms ≤ i
+    → (AllZip (λ m (id : TypeId). IsSomeAnd (slice_get all.types id.index) (StatesWhole all (StatesTypes (depth - 1) all) scope m)) (map message_of (drop i ms)) (drop i ids)
+    → AllZip (λ m (id : TypeId). IsSomeAnd (slice_get all.types id.index) (StatesWhole all (StatesTypes (depth - 1) all) scope m)) (map message_of ms) ids)
+    → StatesTypes depth all scope (map message_of ms) ids
 types_all depth all scope ms ids i deep same past whole =
-    types_deep depth all scope (map message_of (lent ms)) ids deep
+    types_deep depth all scope (map message_of ms) ids deep
     (whole (zip_end (λ x (d : TypeId). IsSomeAnd (slice_get all.types d.index) (StatesWhole all (StatesTypes (depth - 1) all) scope x)) ms ids i (as_long (length ms) (length ids) same) past))
 
 -- ---- what is asked of each
 
-pub types_even : (depth : ℕ) (all : Declared) (scope : List ℕ) (ms : List (Bor Kept)) (ids : List TypeId) → StatesTypes depth all scope (map message_of (lent ms)) ids → length ms ≡ length ids
+pub types_even : (depth : ℕ) (all : Declared) (scope : List ℕ) (ms : List Kept) (ids : List TypeId) → StatesTypes depth all scope (map message_of ms) ids → length ms ≡ length ids
 types_even zero all scope ms ids none = sym (seen_length ms) ∙ (ap length none.0 ∙ sym (ap length none.1))
 types_even (suc depth) all scope ms ids zip = zip_length (λ m (id : TypeId). IsSomeAnd (slice_get all.types id.index) (StatesWhole all (StatesTypes depth all) scope m)) ms ids zip
 
 -- the one at a place is there, and is stated
-pub type_stated : (depth : ℕ) (all : Declared) (scope : List ℕ) (ms : List (Bor Kept)) (ids : List TypeId) (i : ℕ) (m : Bor Kept) (first : TypeId) → depth ≢ 0 → i < length ms → m ≡ get_or ms i m
-    → StatesTypes depth all scope (map message_of (lent ms)) ids → IsSomeAnd (slice_get all.types (get_or ids i first).index) (StatesWhole all (StatesTypes (depth - 1) all) scope (message_of m.now))
+pub type_stated : (depth : ℕ) (all : Declared) (scope : List ℕ) (ms : List Kept) (ids : List TypeId) (i : ℕ) (m : Kept) (first : TypeId) → depth ≢ 0 → i < length ms → m ≡ get_or ms i m
+    → StatesTypes depth all scope (map message_of ms) ids → IsSomeAnd (slice_get all.types (get_or ids i first).index) (StatesWhole all (StatesTypes (depth - 1) all) scope (message_of m))
 type_stated zero all scope ms ids i m first deep h is states = absurd (deep refl)
 type_stated (suc depth) all scope ms ids i m first deep h is states =
     let down : depth ≡ suc depth - 1 = omega arith in
-    subst (λ d. IsSomeAnd (slice_get all.types (get_or ids i first).index) (StatesWhole all (StatesTypes d all) scope (message_of m.now))) down
+    subst (λ d. IsSomeAnd (slice_get all.types (get_or ids i first).index) (StatesWhole all (StatesTypes d all) scope (message_of m))) down
     (zip_or (λ x (id : TypeId). IsSomeAnd (slice_get all.types id.index) (StatesWhole all (StatesTypes depth all) scope x)) ms ids i m first h is states)
 
 -- those inside, as they are looked through

@@ -1,7 +1,6 @@
 -- What is made of messages one by one, by what it says.
 use Rattle.std.proofs.Common.{◌≡◌, ℕ, zero, suc, ◌+◌, ◌<◌, ◌≤◌, Bool, Option, List, [], ◌∷◌, ◌++◌, length, map, take, get_or, refl, ap, sym, subst, ◌∙◌, arith, add-one}
 use Rattle.std.specs.List.{AllZip}
-use denote.Ref.{Bor}
 use Rattle.pg_schema.specs.declared.parts.field.Element.{Element}
 use Rattle.pg_schema.specs.declared.parts.field.EnumId.{EnumId}
 use Rattle.pg_schema.specs.declared.parts.field.Presence.{Presence}
@@ -9,7 +8,6 @@ use Rattle.pg_schema.specs.declared.parts.field.TypeId.{TypeId}
 use Rattle.pg_schema.specs.declared.parts.message_type.ReservedFields.{ReservedFields}
 use Rattle.pg_dyn.specs.Kept.{Kept, message_of}
 use Rattle.pg_dyn.specs.Message.{Message}
-use Rattle.pg_fds.specs.Lent.{lent}
 use Rattle.pg_fds.specs.Views.{FieldView, MethodView, ServiceView, TypeView}
 
 pub same_method : {n n' : List ℕ} {i i' o o' : TypeId} {c c' s s' : Bool} {d d' : Option Bool} → n ≡ n' → i ≡ i' → o ≡ o' → c ≡ c' → s ≡ s' → d ≡ d'
@@ -40,21 +38,21 @@ map_push view [] c = refl
 map_push view (d ∷ cs) c = ap (λ vs. view d ∷ vs) (map_push view cs c)
 
 module _ {C V : Type 0} (R : Message → C → Type 0) (view : C → V) where
-  view_suc : (ms : List (Bor Kept)) (i : ℕ) (m : Bor Kept) (x : V) → i < length ms → m ≡ get_or ms i m → ((c : C) → R (message_of m.now) c → x ≡ view c)
-      → (cs : List C) → AllZip R (map message_of (lent ms)) cs → take i (map view cs) ++ x ∷ [] ≡ take (suc i) (map view cs)
+  view_suc : (ms : List Kept) (i : ℕ) (m : Kept) (x : V) → i < length ms → m ≡ get_or ms i m → ((c : C) → R (message_of m) c → x ≡ view c)
+      → (cs : List C) → AllZip R (map message_of ms) cs → take i (map view cs) ++ x ∷ [] ≡ take (suc i) (map view cs)
   view_suc [] i m x h is one cs zip = absurd (omega (arith, h))
   view_suc (y ∷ ms) i m x h is one [] zip = absurd zip
-  view_suc (y ∷ ms) zero m x h is one (c ∷ cs) zip = ap (λ z. z ∷ []) (one c (subst (λ (b : Bor Kept). R (message_of b.now) c) (sym is) zip.0))
+  view_suc (y ∷ ms) zero m x h is one (c ∷ cs) zip = ap (λ z. z ∷ []) (one c (subst (λ (b : Kept). R (message_of b) c) (sym is) zip.0))
   view_suc (y ∷ ms) (suc i) m x h is one (c ∷ cs) zip = ap (λ xs. view c ∷ xs) (view_suc ms i m x (omega (arith, h)) is one cs zip.1)
 
   -- one more, of which the message says all that is seen
-  pub viewed_more : (ms : List (Bor Kept)) (i : ℕ) (m : Bor Kept) (made : List C) (x : C) → i < length ms → m ≡ get_or ms i m → ((c : C) → R (message_of m.now) c → view x ≡ view c)
-      → ((cs : List C) → AllZip R (map message_of (lent ms)) cs → map view made ≡ take i (map view cs))
-      → (cs : List C) → AllZip R (map message_of (lent ms)) cs → map view (made ++ x ∷ []) ≡ take (i + 1) (map view cs)
+  pub viewed_more : (ms : List Kept) (i : ℕ) (m : Kept) (made : List C) (x : C) → i < length ms → m ≡ get_or ms i m → ((c : C) → R (message_of m) c → view x ≡ view c)
+      → ((cs : List C) → AllZip R (map message_of ms) cs → map view made ≡ take i (map view cs))
+      → (cs : List C) → AllZip R (map message_of ms) cs → map view (made ++ x ∷ []) ≡ take (i + 1) (map view cs)
   viewed_more ms i m made x h is one before cs zip =
       rw add-one (map_push view made x ∙ (ap (λ vs. vs ++ view x ∷ []) (before cs zip) ∙ view_suc ms i m (view x) h is one cs zip))
 
-  view_whole : (ms : List (Bor Kept)) (i : ℕ) (cs : List C) → length ms ≤ i → AllZip R (map message_of (lent ms)) cs → take i (map view cs) ≡ map view cs
+  view_whole : (ms : List Kept) (i : ℕ) (cs : List C) → length ms ≤ i → AllZip R (map message_of ms) cs → take i (map view cs) ≡ map view cs
   view_whole [] zero [] past zip = refl
   view_whole [] (suc i) [] past zip = refl
   view_whole [] i (c ∷ cs) past zip = absurd zip
@@ -63,15 +61,15 @@ module _ {C V : Type 0} (R : Message → C → Type 0) (view : C → V) where
   view_whole (m ∷ ms) (suc i) (c ∷ cs) past zip = ap (λ xs. view c ∷ xs) (view_whole ms i cs (omega (arith, past)) zip.1)
 
   -- and all of them
-  pub viewed_all : (ms : List (Bor Kept)) (i : ℕ) (made : List C) → length ms ≤ i
-      → ((cs : List C) → AllZip R (map message_of (lent ms)) cs → map view made ≡ take i (map view cs))
-      → (cs : List C) → AllZip R (map message_of (lent ms)) cs → map view made ≡ map view cs
+  pub viewed_all : (ms : List Kept) (i : ℕ) (made : List C) → length ms ≤ i
+      → ((cs : List C) → AllZip R (map message_of ms) cs → map view made ≡ take i (map view cs))
+      → (cs : List C) → AllZip R (map message_of ms) cs → map view made ≡ map view cs
   viewed_all ms i made past before cs zip = before cs zip ∙ view_whole ms i cs past zip
 
   -- what can't be of one message can't be of all
-  pub none_zip : (E : Type 0) (ms : List (Bor Kept)) (i : ℕ) (m : Bor Kept) → i < length ms → m ≡ get_or ms i m → ((c : C) → R (message_of m.now) c → E)
-      → (cs : List C) → AllZip R (map message_of (lent ms)) cs → E
+  pub none_zip : (E : Type 0) (ms : List Kept) (i : ℕ) (m : Kept) → i < length ms → m ≡ get_or ms i m → ((c : C) → R (message_of m) c → E)
+      → (cs : List C) → AllZip R (map message_of ms) cs → E
   none_zip E [] i m h is none cs zip = absurd (omega (arith, h))
   none_zip E (x ∷ ms) i m h is none [] zip = absurd zip
-  none_zip E (x ∷ ms) zero m h is none (c ∷ cs) zip = none c (subst (λ (b : Bor Kept). R (message_of b.now) c) (sym is) zip.0)
+  none_zip E (x ∷ ms) zero m h is none (c ∷ cs) zip = none c (subst (λ (b : Kept). R (message_of b) c) (sym is) zip.0)
   none_zip E (x ∷ ms) (suc i) m h is none (c ∷ cs) zip = none_zip E ms i m (omega (arith, h)) is none cs zip.1

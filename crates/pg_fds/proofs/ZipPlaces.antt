@@ -11,46 +11,46 @@ use Rattle.pg_fds.specs.Lent.{lent}
 pub apart : (a b : ℕ) → a ≡ b → nat_eq a b ≡ false → ⊥
 apart a b same e = grind (arith, nat_tests)
 
-pub zip_length : {C : Type 0} (R : Message → C → Type 0) (ms : List (Bor Kept)) (cs : List C) → AllZip R (map message_of (lent ms)) cs → length ms ≡ length cs
+pub zip_length : {C : Type 0} (R : Message → C → Type 0) (ms : List Kept) (cs : List C) → AllZip R (map message_of ms) cs → length ms ≡ length cs
 zip_length R [] [] zip = refl
 zip_length R [] (c ∷ cs) zip = absurd zip
 zip_length R (m ∷ ms) [] zip = absurd zip
 zip_length R (m ∷ ms) (c ∷ cs) zip = ap suc (zip_length R ms cs zip.1)
 
-pub zip_at : {C : Type 0} (R : Message → C → Type 0) (ms : List (Bor Kept)) (cs : List C) (i : ℕ) (m : Bor Kept) (c : C) → i < length ms → m ≡ get_or ms i m → c ≡ get_or cs i c
-    → AllZip R (map message_of (lent ms)) cs → R (message_of m.now) c
+pub zip_at : {C : Type 0} (R : Message → C → Type 0) (ms : List Kept) (cs : List C) (i : ℕ) (m : Kept) (c : C) → i < length ms → m ≡ get_or ms i m → c ≡ get_or cs i c
+    → AllZip R (map message_of ms) cs → R (message_of m) c
 zip_at R [] cs i m c h is same zip = absurd (omega (arith, h))
 zip_at R (x ∷ ms) [] i m c h is same zip = absurd zip
-zip_at R (x ∷ ms) (d ∷ cs) zero m c h is same zip = subst (λ (b : Bor Kept). R (message_of b.now) c) (sym is) (subst (R (message_of x.now)) (sym same) zip.0)
+zip_at R (x ∷ ms) (d ∷ cs) zero m c h is same zip = subst (λ (b : Kept). R (message_of b) c) (sym is) (subst (R (message_of x)) (sym same) zip.0)
 zip_at R (x ∷ ms) (d ∷ cs) (suc i) m c h is same zip = zip_at R ms cs i m c (omega (arith, h)) is same zip.1
 
 -- of items that are copied
-pub zip_or : {C : Type 0} (R : Message → C → Type 0) (ms : List (Bor Kept)) (cs : List C) (i : ℕ) (m : Bor Kept) (first : C) → i < length ms → m ≡ get_or ms i m
-    → AllZip R (map message_of (lent ms)) cs → R (message_of m.now) (get_or cs i first)
+pub zip_or : {C : Type 0} (R : Message → C → Type 0) (ms : List Kept) (cs : List C) (i : ℕ) (m : Kept) (first : C) → i < length ms → m ≡ get_or ms i m
+    → AllZip R (map message_of ms) cs → R (message_of m) (get_or cs i first)
 zip_or R [] cs i m first h is zip = absurd (omega (arith, h))
 zip_or R (x ∷ ms) [] i m first h is zip = absurd zip
-zip_or R (x ∷ ms) (d ∷ cs) zero m first h is zip = subst (λ (b : Bor Kept). R (message_of b.now) d) (sym is) zip.0
+zip_or R (x ∷ ms) (d ∷ cs) zero m first h is zip = subst (λ (b : Kept). R (message_of b) d) (sym is) zip.0
 zip_or R (x ∷ ms) (d ∷ cs) (suc i) m first h is zip = zip_or R ms cs i m first (omega (arith, h)) is zip.1
 
-pub zip_uneven : {C : Type 0} (R : Message → C → Type 0) (ms : List (Bor Kept)) (cs : List C) → nat_eq (length ms) (length cs) ≡ false → AllZip R (map message_of (lent ms)) cs → ⊥
+pub zip_uneven : {C : Type 0} (R : Message → C → Type 0) (ms : List Kept) (cs : List C) → nat_eq (length ms) (length cs) ≡ false → AllZip R (map message_of ms) cs → ⊥
 zip_uneven R ms cs other zip = apart (length ms) (length cs) (zip_length R ms cs zip) other
 
 -- the same of two lists of references
-pub lent_length : {C : Type 0} (R : Message → C → Type 0) (ms : List (Bor Kept)) (cs : List (Bor C)) → AllZip R (map message_of (lent ms)) (lent cs) → length ms ≡ length cs
+pub lent_length : {C : Type 0} (R : Message → C → Type 0) (ms : List Kept) (cs : List (Bor C)) → AllZip R (map message_of ms) (lent cs) → length ms ≡ length cs
 lent_length R [] [] zip = refl
 lent_length R [] (c ∷ cs) zip = absurd zip
 lent_length R (m ∷ ms) [] zip = absurd zip
 lent_length R (m ∷ ms) (c ∷ cs) zip = ap suc (lent_length R ms cs zip.1)
 
-pub lent_at : {C : Type 0} (R : Message → C → Type 0) (ms : List (Bor Kept)) (cs : List (Bor C)) (i : ℕ) (m : Bor Kept) (c : Bor C) → i < length ms → m ≡ get_or ms i m → c ≡ get_or cs i c
-    → AllZip R (map message_of (lent ms)) (lent cs) → R (message_of m.now) c.now
+pub lent_at : {C : Type 0} (R : Message → C → Type 0) (ms : List Kept) (cs : List (Bor C)) (i : ℕ) (m : Kept) (c : Bor C) → i < length ms → m ≡ get_or ms i m → c ≡ get_or cs i c
+    → AllZip R (map message_of ms) (lent cs) → R (message_of m) c.now
 lent_at R [] cs i m c h is same zip = absurd (omega (arith, h))
 lent_at R (x ∷ ms) [] i m c h is same zip = absurd zip
 lent_at {C} R (x ∷ ms) (d ∷ cs) zero m c h is same zip =
-    subst (λ (b : Bor Kept). R (message_of b.now) c.now) (sym is) (subst (λ (e : Bor C). R (message_of x.now) e.now) (sym same) zip.0)
+    subst (λ (b : Kept). R (message_of b) c.now) (sym is) (subst (λ (e : Bor C). R (message_of x) e.now) (sym same) zip.0)
 lent_at R (x ∷ ms) (d ∷ cs) (suc i) m c h is same zip = lent_at R ms cs i m c (omega (arith, h)) is same zip.1
 
-pub lent_uneven : {C : Type 0} (R : Message → C → Type 0) (ms : List (Bor Kept)) (cs : List (Bor C)) → nat_eq (length ms) (length cs) ≡ false → AllZip R (map message_of (lent ms)) (lent cs) → ⊥
+pub lent_uneven : {C : Type 0} (R : Message → C → Type 0) (ms : List Kept) (cs : List (Bor C)) → nat_eq (length ms) (length cs) ≡ false → AllZip R (map message_of ms) (lent cs) → ⊥
 lent_uneven R ms cs other zip = apart (length ms) (length cs) (lent_length R ms cs zip) other
 
 -- texts that are the same, one by one

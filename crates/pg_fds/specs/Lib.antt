@@ -15,6 +15,7 @@ pub mod Examples
 pub mod Pieces
 pub mod Writable
 pub mod Written
+pub mod Texts
 pub mod Said
 pub mod States
 pub mod StatesTypes

@@ -4,7 +4,6 @@ use Rattle.std.specs.Prelude.{◌≡◌, ◌⊎◌, ℕ, ◌^◌, ◌<◌, ℤ, 
 use Rattle.std.specs.BTreeMap.{BTreeMap, get_by_text}
 use Rattle.std.specs.List.{AllByRecursion, AllZip}
 use Rattle.std.specs.String.{string_bytes}
-use denote.Ref.{Bor}
 use Rattle.pg_schema.specs.declared.parts.enum_type.EnumType.{EnumType}
 use Rattle.pg_schema.specs.declared.parts.field.Element.{Element}
 use Rattle.pg_schema.specs.declared.parts.field.Element.TheVariants as elements
@@ -34,7 +33,6 @@ use Rattle.pg_fds.specs.declared.outline.Outlined.{Outlined}
 use Rattle.pg_fds.specs.declared.outline.OutlinedFile.{OutlinedFile}
 use Rattle.pg_fds.specs.declared.outline.OutlinedType.{OutlinedType}
 use Rattle.pg_fds.specs.Fields.{element_code, element_name, label}
-use Rattle.pg_fds.specs.Lent.{lent}
 use Rattle.pg_fds.specs.Places.{Declared, declared_in}
 use Rattle.pg_fds.specs.Proto as proto
 use Rattle.pg_fds.specs.Said.{flag_at, maybe_number_at, maybe_text_at, number_at, text_at}
@@ -87,14 +85,14 @@ pub record StatesKnown {Y : Type 0} (all : Declared) (names : BTreeMap (String Y
   pub known : is_known (length all.types) (length all.enums) f.element ≡ true
 
 -- a map field has its entry type among these, by its name
-abbrev pub HasNamedEntry : {Y : Type 0} → Declared → BTreeMap (String Y) (Bor Kept) → Field → Type 0
+abbrev pub HasNamedEntry : {Y : Type 0} → Declared → BTreeMap (String Y) Kept → Field → Type 0
 HasNamedEntry all entries f = of f.presence
   where
     of : Presence → Type 0
     of presences.Implicit = ⊤
     of presences.Explicit = ⊤
     of (presences.Repeated packed) = ⊤
-    of (presences.Map key) = IsSomeAnd (get_by_text entries (entry_name (string_bytes f.name))) (λ e. StatesEntry all f key (message_of e.now))
+    of (presences.Map key) = IsSomeAnd (get_by_text entries (entry_name (string_bytes f.name))) (λ e. StatesEntry all f key (message_of e))
 
 -- ---- the oneof of a field
 
@@ -129,7 +127,7 @@ pub record StatesFieldAt {Y : Type 0} (all : Declared) (names : BTreeMap (String
   pub packs : is_packed f.presence f.element f.options.packed ≡ true
 
 -- of these entry types, by their names, each map field has one, and no others are there; the names stand once
-pub record HasEntries {Y : Type 0} (all : Declared) (entries : BTreeMap (String Y) (Bor Kept)) (fields : List Field) : Type 0 where
+pub record HasEntries {Y : Type 0} (all : Declared) (entries : BTreeMap (String Y) Kept) (fields : List Field) : Type 0 where
   pub each : AllByRecursion (HasNamedEntry all entries) fields
   pub no_others : (name : List ℕ) → (get_by_text entries name ≡ None) ⊎ (is_among (entry_names fields) name ≡ true)
   pub once : are_distinct (entry_names fields) ≡ true
@@ -160,29 +158,29 @@ has_place count m = is_placed count (maybe_number_at proto.field_oneof_index m)
 -- ---- entry types by their names
 
 -- the table has the messages under their names, where each has its own, and no others
-pub record HasNamed {Y : Type 0} (table : BTreeMap (String Y) (Bor Kept)) (messages : List (Bor Kept)) : Type 0 where
-  pub each : are_distinct (map (text_at proto.message_name) (map message_of (lent messages))) ≡ true → AllByRecursion (λ (m : Bor Kept). get_by_text table (text_at proto.message_name (message_of m.now)) ≡ Some m) messages
-  pub no_others : (name : List ℕ) → (get_by_text table name ≡ None) ⊎ (is_among (map (text_at proto.message_name) (map message_of (lent messages))) name ≡ true)
+pub record HasNamed {Y : Type 0} (table : BTreeMap (String Y) Kept) (messages : List Kept) : Type 0 where
+  pub each : are_distinct (map (text_at proto.message_name) (map message_of messages)) ≡ true → AllByRecursion (λ (m : Kept). get_by_text table (text_at proto.message_name (message_of m)) ≡ Some m) messages
+  pub no_others : (name : List ℕ) → (get_by_text table name ≡ None) ⊎ (is_among (map (text_at proto.message_name) (map message_of messages)) name ≡ true)
 
 -- ---- what was outlined of the parts that a set states
 
 -- The message of a message type states it, in that scope. The full name and the places inside it are its own.
 pub record IsOutlinedType (all : Declared) (scope : List ℕ) (o : OutlinedType) (t : MessageType) : Type 0 where
-  pub states : StatesType all scope (message_of o.message.now) t
+  pub states : StatesType all scope (message_of o.message) t
   pub name : string_bytes o.name ≡ string_bytes t.name
   pub types : o.types.items ≡ t.nested_types.items
   pub enums : o.enums.items ≡ t.nested_enums.items
 
 pub record IsOutlinedEnum (scope : List ℕ) (o : Outlined) (e : EnumType) : Type 0 where
-  pub states : StatesEnum scope (message_of o.message.now) e
+  pub states : StatesEnum scope (message_of o.message) e
   pub name : string_bytes o.name ≡ string_bytes e.name
 
 pub record IsOutlinedService (all : Declared) (scope : List ℕ) (o : Outlined) (s : Service) : Type 0 where
-  pub states : StatesService all scope (message_of o.message.now) s
+  pub states : StatesService all scope (message_of o.message) s
   pub name : string_bytes o.name ≡ string_bytes s.name
 
 pub record IsOutlinedFile (all : Declared) (skips : Bool) (o : OutlinedFile) (f : File) : Type 0 where
-  pub states : StatesFile all skips (message_of o.message.now) f
+  pub states : StatesFile all skips (message_of o.message) f
   pub types : o.types.items ≡ f.types.items
   pub enums : o.enums.items ≡ f.enums.items
   pub services : o.services.items ≡ f.services.items

@@ -102,7 +102,7 @@ pub record PlacedFile : Type 0 where
 
 abbrev pub placed_file : OutlinedFile → PlacedFile
 placed_file o = record {
-  message = message_of o.message.now;
+  message = message_of o.message;
   types = type_places o.types.items;
   enums = enum_places o.enums.items;
   services = service_places o.services.items;

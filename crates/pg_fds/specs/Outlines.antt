@@ -24,10 +24,10 @@ abbrev pub Row : Type 0
 Row = List ℕ × Message
 
 abbrev pub row : Outlined → Row
-row o = (string_bytes o.name, message_of o.message.now)
+row o = (string_bytes o.name, message_of o.message)
 
 abbrev pub type_row : OutlinedType → Row
-type_row o = (string_bytes o.name, message_of o.message.now)
+type_row o = (string_bytes o.name, message_of o.message)
 
 abbrev pub row_in : (scope : List ℕ) → Message → Row
 row_in scope m = (full_name scope m, m)

@@ -6,15 +6,14 @@ ghost use Rattle.std.specs.Ordering.{int_eq};
 ghost use Rattle.pg_dyn.specs.Kept.{message_of};
 ghost use Rattle.pg_fds.specs.Codes.{file_has_types, have_types, is_taken, label_codes, scalars, type_codes};
 ghost use Rattle.pg_fds.specs.Fields.{scalar_code};
-ghost use Rattle.pg_fds.specs.Lent.{lent};
 ghost use Rattle.pg_fds.specs.Proto as proto;
 ghost use Rattle.pg_fds.specs.Said.{number_at};
 
 use crate::fields::scalar_code;
 use crate::proto;
-use crate::said::{children, number};
+use crate::said::{Said, children, number};
 use crate::states::label_of;
-use pg_dyn::{DEFAULT_DEPTH_LIMIT, Message};
+use pg_dyn::DEFAULT_DEPTH_LIMIT;
 use pg_schema::Scalar;
 use std::alloc::{AllocError, Global};
 
@@ -44,7 +43,7 @@ const SCALARS: [Scalar; 15] = [
 ];
 
 // Whether the field's type is that scalar.
-fn has_code(field: &Message, scalar: Scalar) -> bool
+fn has_code(field: &Said<'_>, scalar: Scalar) -> bool
     ensures { result ≡ int_eq (number_at proto.field_type (message_of field.now))
         (pos (scalar_code scalar)) }
 {
@@ -52,7 +51,7 @@ fn has_code(field: &Message, scalar: Scalar) -> bool
 }
 
 /// The scalar that a field's type is. `None` of messages, enums and codes that aren't taken.
-pub fn scalar_of(field: &Message) -> Option<Scalar>
+pub fn scalar_of(field: &Said<'_>) -> Option<Scalar>
     ensures { result ≡ find (λ s. int_eq (number_at proto.field_type (message_of field.now))
         (pos (scalar_code s))) scalars }
 {
@@ -104,7 +103,7 @@ fn both(first: bool, second: bool) -> bool
 }
 
 // Whether the field's type and label are taken.
-fn is_taken(field: &Message) -> bool
+fn is_taken(field: &Said<'_>) -> bool
     ensures { result ≡ is_taken (message_of field.now) }
 {
     let code = number(field, proto::FIELD_TYPE);
@@ -115,8 +114,8 @@ fn is_taken(field: &Message) -> bool
 }
 
 // Whether the types and labels of the fields are taken.
-fn are_taken(fields: &[&Message]) -> bool
-    ensures { result ≡ list_all is_taken (map message_of (lent fields.now)) }
+fn are_taken(fields: &[Said<'_>]) -> bool
+    ensures { result ≡ list_all is_taken (map message_of fields.now) }
 {
     for field in fields {
         let taken = is_taken(field);
@@ -129,8 +128,8 @@ fn are_taken(fields: &[&Message]) -> bool
 
 /// Whether the types and labels of all fields of the message types are taken, nested less deep than
 /// that.
-pub fn have_types(alloc: Global, depth: usize, messages: &[&Message]) -> Result<bool, AllocError>
-    ensures { IfOk result (λ taken. taken ≡ have_types depth (map message_of (lent messages.now))) }
+pub fn have_types(alloc: Global, depth: usize, messages: &[Said<'_>]) -> Result<bool, AllocError>
+    ensures { IfOk result (λ taken. taken ≡ have_types depth (map message_of messages.now)) }
 {
     if depth == 0 {
         return Ok(true);
@@ -151,7 +150,7 @@ pub fn have_types(alloc: Global, depth: usize, messages: &[&Message]) -> Result<
 }
 
 // Whether those of a file's message types are.
-fn file_has_types(alloc: Global, file: &Message) -> Result<bool, AllocError>
+fn file_has_types(alloc: Global, file: &Said<'_>) -> Result<bool, AllocError>
     ensures { IfOk result (λ taken. taken ≡ file_has_types (message_of file.now)) }
 {
     let declared = children(alloc, file, proto::FILE_MESSAGE_TYPE)?;
@@ -161,9 +160,9 @@ fn file_has_types(alloc: Global, file: &Message) -> Result<bool, AllocError>
 }
 
 /// Whether those of all files are.
-pub fn files_have_types(alloc: Global, files: &[&Message]) -> Result<bool, AllocError>
+pub fn files_have_types(alloc: Global, files: &[Said<'_>]) -> Result<bool, AllocError>
     ensures { IfOk result (λ taken. taken
-        ≡ list_all file_has_types (map message_of (lent files.now))) }
+        ≡ list_all file_has_types (map message_of files.now)) }
 {
     for file in files {
         let taken = file_has_types(alloc, file)?;

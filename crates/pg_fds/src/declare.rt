@@ -9,15 +9,13 @@ ghost use Rattle.pg_schema.specs.rules.DeclaredNames.{within};
 ghost use Rattle.pg_schema.specs.rules.Packages.{is_front};
 ghost use Rattle.pg_schema.specs.rules.TextSets.{is_among};
 ghost use Rattle.pg_dyn.specs.Kept.{message_of};
-ghost use Rattle.pg_fds.specs.Lent.{lent};
 ghost use Rattle.pg_fds.specs.SetNames.{Declares, WantsMemory, full_name, full_names};
 ghost use Rattle.pg_fds.specs.StatesTypes.{AreMarked, real_oneofs};
 
 use crate::error::Unstated;
 use crate::outline::Named;
 use crate::proto;
-use crate::said::text;
-use pg_dyn::Message;
+use crate::said::{Said, text};
 use pg_schema::full_name;
 use std::alloc::{AllocError, Global};
 use std::collections::BTreeMap;
@@ -45,7 +43,7 @@ pub fn declare_named(
     alloc: Global,
     names: &mut BTreeMap<String, Named>,
     scope: &str,
-    message: &Message,
+    message: &Said<'_>,
     named: Named,
 ) -> Result<String, Unstated>
     ensures name { IfOk result (λ name. string_bytes name
@@ -69,7 +67,7 @@ fn declare_own(
     alloc: Global,
     names: &mut BTreeMap<String, Named>,
     scope: &str,
-    message: &Message,
+    message: &Said<'_>,
     named: Named,
 ) -> Result<(), Unstated>
     ensures has { OnOk result (get_by_text names.new (full_name scope.now (message_of message.now))
@@ -89,17 +87,17 @@ pub fn declare_each(
     alloc: Global,
     names: &mut BTreeMap<String, Named>,
     scope: &str,
-    messages: &[&Message],
+    messages: &[Said<'_>],
     named: Named,
 ) -> Result<(), Unstated>
     ensures has { OnOk result (AllByRecursion
         (λ m. get_by_text names.new (full_name scope.now m) ≡ Some named)
-        (map message_of (lent messages.now))) }
+        (map message_of messages.now)) }
     ensures declares { OnOk result ((packages : List (List ℕ))
-        → Declares packages (full_names scope.now (map message_of (lent messages.now))) names.old
+        → Declares packages (full_names scope.now (map message_of messages.now)) names.old
         names.new) }
     ensures refused { IfErr result (λ e. (packages : List (List ℕ))
-        → WantsMemory packages (full_names scope.now (map message_of (lent messages.now))) names.old
+        → WantsMemory packages (full_names scope.now (map message_of messages.now)) names.old
         e) }
 {
     for message in messages {
@@ -111,18 +109,18 @@ pub fn declare_each(
 /// The oneofs at places that aren't marked.
 pub fn real_oneofs<'a>(
     alloc: Global,
-    oneofs: &[&'a Message],
+    oneofs: &[Said<'a>],
     numbers: &[i128],
     marks: &[bool],
-) -> Result<Vec<&'a Message>, AllocError>
+) -> Result<Vec<Said<'a>>, AllocError>
     requires { AreMarked numbers.now (length oneofs.now) marks.now }
-    ensures { IfOk result (λ real. map message_of (lent real.items)
-        ≡ real_oneofs numbers.now 0 (map message_of (lent oneofs.now))) }
+    ensures { IfOk result (λ real. map message_of real.items
+        ≡ real_oneofs numbers.now 0 (map message_of oneofs.now)) }
 {
     let mut real = Vec::new(alloc);
     for (place, oneof) in oneofs.iter().enumerate() {
         if !marks[place] {
-            real.push(*oneof)?;
+            real.push(oneof.again())?;
         }
     }
     Ok(real)

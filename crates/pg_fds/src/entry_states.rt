@@ -14,7 +14,6 @@ ghost use Rattle.pg_dyn.specs.Kept.{message_of};
 ghost use Rattle.pg_dyn.specs.Message.{parts};
 ghost use Rattle.pg_fds.specs.declared.error.Unstated.TheVariants.{Memory};
 ghost use Rattle.pg_fds.specs.FilePlaces.{IsIndex};
-ghost use Rattle.pg_fds.specs.Lent.{lent};
 ghost use Rattle.pg_fds.specs.Places.{declared_in};
 ghost use Rattle.pg_fds.specs.Proto as proto;
 ghost use Rattle.pg_fds.specs.Said.{item_at, items_at, options_at, text_at};
@@ -23,15 +22,14 @@ ghost use Rattle.pg_fds.specs.States.{AreKeyAndValue, HasEntry, StatesEntries, S
 use crate::error::Unstated;
 use crate::fields::{element_code, element_name};
 use crate::proto;
-use crate::said::{children, ensure, flag, item, number, option, text};
+use crate::said::{Said, child_in, children, content, ensure, flag, item, number, option, text};
 use crate::states::{has_json_name, has_type_name, label_of, same_text};
-use pg_dyn::{Message, Value};
 use pg_schema::{Element, Field, Presence, Scalar, Schema, default_json_name, entry_name};
 use std::alloc::Global;
 use std::collections::BTreeMap;
 
 /// The singular field is missing.
-pub fn lacks(message: &Message, number: u32) -> Result<(), Unstated>
+pub fn lacks(message: &Said<'_>, number: u32) -> Result<(), Unstated>
     ensures ok { OnOk result (item_at number (message_of message.now) ≡ None) }
     ensures refused { OnErr result (item_at number (message_of message.now) ≡ None → ⊥) }
 {
@@ -42,18 +40,18 @@ pub fn lacks(message: &Message, number: u32) -> Result<(), Unstated>
 }
 
 /// The repeated field is missing.
-pub fn lacks_all(message: &Message, number: u32) -> Result<(), Unstated>
+pub fn lacks_all(message: &Said<'_>, number: u32) -> Result<(), Unstated>
     ensures ok { OnOk result (items_at number (message_of message.now) ≡ []) }
     ensures refused { OnErr result (items_at number (message_of message.now) ≡ [] → ⊥) }
 {
-    match message.get(number) {
+    match content(message, number) {
         None => Ok(()),
         Some(_content) => Err(Unstated::Reference),
     }
 }
 
 // The message has no content.
-fn is_empty(message: &Message) -> Result<(), Unstated>
+fn is_empty(message: &Said<'_>) -> Result<(), Unstated>
     ensures ok { OnOk result (parts (message_of message.now) ≡ []) }
     ensures refused { OnErr result (parts (message_of message.now) ≡ [] → ⊥) }
 {
@@ -65,20 +63,23 @@ fn is_empty(message: &Message) -> Result<(), Unstated>
 }
 
 /// The options are missing, or none is in them.
-pub fn has_no_options(message: &Message, number: u32) -> Result<(), Unstated>
+pub fn has_no_options(message: &Said<'_>, number: u32) -> Result<(), Unstated>
     ensures ok { OnOk result (parts (options_at number (message_of message.now)) ≡ []) }
     ensures refused { OnErr result (parts (options_at number (message_of message.now)) ≡ [] → ⊥) }
 {
     match item(message, number) {
-        Some(Value::Msg(child)) => is_empty(child),
-        _ => Ok(()),
+        Some(found) => match child_in(&found) {
+            Some(child) => is_empty(&child),
+            None => Ok(()),
+        },
+        None => Ok(()),
     }
 }
 
 fn entry_field(
     alloc: Global,
     source: &Schema,
-    message: &Message,
+    message: &Said<'_>,
     name: &str,
     place: u32,
     element: Element,
@@ -102,14 +103,14 @@ fn entry_field(
 fn key_and_value(
     alloc: Global,
     source: &Schema,
-    messages: &[&Message],
+    messages: &[Said<'_>],
     key: Scalar,
     value: Element,
 ) -> Result<(), Unstated>
     ensures ok { OnOk result (AreKeyAndValue (declared_in source.now) key value
-        (map message_of (lent messages.now))) }
+        (map message_of messages.now)) }
     ensures refused { IfErr result (λ r. AreKeyAndValue (declared_in source.now) key value
-        (map message_of (lent messages.now)) → r ≡ Memory) }
+        (map message_of messages.now) → r ≡ Memory) }
 {
     match messages {
         [first, second] => {
@@ -123,7 +124,7 @@ fn key_and_value(
 fn entry(
     alloc: Global,
     source: &Schema,
-    message: &Message,
+    message: &Said<'_>,
     field: &Field,
     key: Scalar,
 ) -> Result<(), Unstated>
@@ -151,12 +152,12 @@ fn entry(
 }
 
 // The places of entry types by their names.
-fn places(alloc: Global, entries: &[&Message]) -> Result<BTreeMap<String, usize>, Unstated>
+fn places(alloc: Global, entries: &[Said<'_>]) -> Result<BTreeMap<String, usize>, Unstated>
     ensures index { IfOk result (λ places.
-        are_distinct (map (text_at proto.message_name) (map message_of (lent entries.now))) ≡ true
-        → IsIndex (map (text_at proto.message_name) (map message_of (lent entries.now))) places) }
+        are_distinct (map (text_at proto.message_name) (map message_of entries.now)) ≡ true
+        → IsIndex (map (text_at proto.message_name) (map message_of entries.now)) places) }
     ensures refused { IfErr result (λ r. AllByRecursion IsUtf8
-        (map (text_at proto.message_name) (map message_of (lent entries.now))) → r ≡ Memory) }
+        (map (text_at proto.message_name) (map message_of entries.now)) → r ≡ Memory) }
 {
     let mut places = BTreeMap::new(alloc);
     for (place, message) in entries.iter().enumerate() {
@@ -189,38 +190,38 @@ fn place_of(
 fn names_entry(
     alloc: Global,
     source: &Schema,
-    entries: &[&Message],
+    entries: &[Said<'_>],
     places: &BTreeMap<String, usize>,
     field: &Field,
     key: Scalar,
 ) -> Result<(), Unstated>
     ensures ok { OnOk result (Any (StatesEntry (declared_in source.now) field.now key)
-        (map message_of (lent entries.now))) }
+        (map message_of entries.now)) }
     ensures refused { IfErr result (λ r.
-        IsIndex (map (text_at proto.message_name) (map message_of (lent entries.now))) places.now
+        IsIndex (map (text_at proto.message_name) (map message_of entries.now)) places.now
         → Any (StatesEntry (declared_in source.now) field.now key)
-        (map message_of (lent entries.now)) → r ≡ Memory) }
+        (map message_of entries.now) → r ≡ Memory) }
 {
     let place = place_of(alloc, places, field)?;
     if place >= entries.len() {
         return Err(Unstated::Reference);
     }
-    entry(alloc, source, entries[place], field, key)?;
+    entry(alloc, source, &entries[place], field, key)?;
     Ok(())
 }
 
 fn has_entry(
     alloc: Global,
     source: &Schema,
-    entries: &[&Message],
+    entries: &[Said<'_>],
     places: &BTreeMap<String, usize>,
     field: &Field,
 ) -> Result<(), Unstated>
     ensures ok { OnOk result (HasEntry (declared_in source.now)
-        (map message_of (lent entries.now)) field.now) }
+        (map message_of entries.now) field.now) }
     ensures refused { IfErr result (λ r.
-        IsIndex (map (text_at proto.message_name) (map message_of (lent entries.now))) places.now
-        → HasEntry (declared_in source.now) (map message_of (lent entries.now)) field.now
+        IsIndex (map (text_at proto.message_name) (map message_of entries.now)) places.now
+        → HasEntry (declared_in source.now) (map message_of entries.now) field.now
         → r ≡ Memory) }
 {
     match field.presence {
@@ -247,16 +248,16 @@ fn map_count(fields: &[Field]) -> usize
 pub fn entries(
     alloc: Global,
     source: &Schema,
-    messages: &[&Message],
+    messages: &[Said<'_>],
     fields: &[Field],
 ) -> Result<(), Unstated>
     ensures ok { OnOk result (StatesEntries (declared_in source.now)
-        (map message_of (lent messages.now)) fields.now) }
+        (map message_of messages.now) fields.now) }
     ensures refused { IfErr result (λ r. AllByRecursion IsUtf8
-        (map (text_at proto.message_name) (map message_of (lent messages.now)))
-        → are_distinct (map (text_at proto.message_name) (map message_of (lent messages.now)))
+        (map (text_at proto.message_name) (map message_of messages.now))
+        → are_distinct (map (text_at proto.message_name) (map message_of messages.now))
         ≡ true
-        → StatesEntries (declared_in source.now) (map message_of (lent messages.now)) fields.now
+        → StatesEntries (declared_in source.now) (map message_of messages.now) fields.now
         → r ≡ Memory) }
 {
     ensure(messages.len() == map_count(fields))?;

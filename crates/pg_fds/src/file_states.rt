@@ -24,11 +24,11 @@ use crate::error::Unstated;
 use crate::files::mode_code;
 use crate::oneof_states::marks;
 use crate::proto;
-use crate::said::{child_in, children, ensure, item, numbers, text, texts};
+use crate::said::{Said, SaidItem, child_in, children, ensure, item, numbers, text, texts};
 use crate::service_states::services;
 use crate::states::{enums, same_text};
 use crate::type_states::types;
-use pg_dyn::{DEFAULT_DEPTH_LIMIT, Message, Value};
+use pg_dyn::{DEFAULT_DEPTH_LIMIT, Value};
 use pg_schema::{File, FileOption, Import, OptionValue, Schema};
 use std::alloc::Global;
 
@@ -46,7 +46,7 @@ pub fn is_descriptor(path: &str) -> bool
 }
 
 /// Whether the file is proto3. Refused only where its syntax is no text.
-pub fn is_proto3(message: &Message) -> Result<bool, Unstated>
+pub fn is_proto3(message: &Said<'_>) -> Result<bool, Unstated>
     ensures ok { IfOk result (λ proto3. proto3 ≡ is_proto3 (message_of message.now)) }
     ensures refused { OnErr result (IsUtf8 (text_at proto.file_syntax (message_of message.now))
         → ⊥) }
@@ -56,7 +56,7 @@ pub fn is_proto3(message: &Message) -> Result<bool, Unstated>
 
 /// Whether the file is skipped: descriptor.proto, where it isn't proto3. Refused only where its
 /// name is no text.
-pub fn is_skipped(message: &Message) -> Result<bool, Unstated>
+pub fn is_skipped(message: &Said<'_>) -> Result<bool, Unstated>
     ensures ok { IfOk result (λ skipped. skipped ≡ is_skipped (message_of message.now)) }
     ensures refused { OnErr result (IsUtf8 (text_at proto.file_name (message_of message.now)) → ⊥) }
 {
@@ -72,11 +72,11 @@ pub fn is_skipped(message: &Message) -> Result<bool, Unstated>
 
 // ---- options
 
-fn option_value(value: &Value, stated: &OptionValue) -> Result<(), Unstated>
-    ensures ok { OnOk result (shown value.now ≡ option_item stated.now) }
-    ensures refused { OnErr result (shown value.now ≡ option_item stated.now → ⊥) }
+fn option_value(item: &SaidItem<'_>, stated: &OptionValue) -> Result<(), Unstated>
+    ensures ok { OnOk result (shown item.now ≡ option_item stated.now) }
+    ensures refused { OnErr result (shown item.now ≡ option_item stated.now → ⊥) }
 {
-    match (value, stated) {
+    match (item.value(), stated) {
         (Value::Int(found), OptionValue::Flag(flag)) => {
             ensure(*found == if *flag { 1 } else { 0 })
         }
@@ -84,9 +84,7 @@ fn option_value(value: &Value, stated: &OptionValue) -> Result<(), Unstated>
             ensure(*found == i128::from(mode_code(*mode)))
         }
         (Value::Text(found), OptionValue::Text(text)) => same_text(found, text),
-        (Value::Bytes(found), OptionValue::Text(text)) => ensure(
-            found.as_slice() == text.as_bytes(),
-        ),
+        (Value::Bytes(_), OptionValue::Text(_)) => unreachable!(),
         _ => Err(Unstated::Reference),
     }
 }
@@ -103,7 +101,7 @@ fn stated(options: &[FileOption], number: u32) -> Option<&FileOption>
     None
 }
 
-fn has_option(message: &Message, options: &[FileOption], number: u32) -> Result<(), Unstated>
+fn has_option(message: &Said<'_>, options: &[FileOption], number: u32) -> Result<(), Unstated>
     ensures ok { OnOk result (item_at number (message_of message.now)
         ≡ stated_option options.now number) }
     ensures refused { OnErr result (item_at number (message_of message.now)
@@ -111,13 +109,13 @@ fn has_option(message: &Message, options: &[FileOption], number: u32) -> Result<
 {
     match (item(message, number), stated(options, number)) {
         (None, None) => Ok(()),
-        (Some(value), Some(option)) => option_value(value, &option.value),
+        (Some(value), Some(option)) => option_value(&value, &option.value),
         _ => Err(Unstated::Reference),
     }
 }
 
 // The message says the options.
-fn has_options(message: &Message, options: &[FileOption]) -> Result<(), Unstated>
+fn has_options(message: &Said<'_>, options: &[FileOption]) -> Result<(), Unstated>
     ensures ok { OnOk result (StatesOptions (message_of message.now) options.now) }
     ensures refused { OnErr result (StatesOptions (message_of message.now) options.now → ⊥) }
 {
@@ -128,19 +126,19 @@ fn has_options(message: &Message, options: &[FileOption]) -> Result<(), Unstated
 }
 
 /// The message of a file's options, where there is one.
-pub fn own_options(message: &Message) -> Option<&Message>
-    ensures { unwrap_or (option_map message_of (option_copied result)) (ends [])
+pub fn own_options<'a>(message: &Said<'a>) -> Option<Said<'a>>
+    ensures { unwrap_or (option_map message_of result) (ends [])
         ≡ options_at proto.file_options (message_of message.now) }
 {
     let found = item(message, proto::FILE_OPTIONS);
     match found {
-        Some(value) => child_in(value),
+        Some(value) => child_in(&value),
         None => None,
     }
 }
 
 // The options that the file's message says.
-fn options(message: &Message, options: &[FileOption]) -> Result<(), Unstated>
+fn options(message: &Said<'_>, options: &[FileOption]) -> Result<(), Unstated>
     ensures ok { OnOk result (StatesOptions (options_at proto.file_options (message_of message.now))
         options.now) }
     ensures refused { OnErr result (is_rising (0 ∷ option_numbers options.now) ≡ true
@@ -148,7 +146,7 @@ fn options(message: &Message, options: &[FileOption]) -> Result<(), Unstated>
         → StatesOptions (options_at proto.file_options (message_of message.now)) options.now → ⊥) }
 {
     match own_options(message) {
-        Some(child) => has_options(child, options),
+        Some(child) => has_options(&child, options),
         None => ensure(options.is_empty()),
     }
 }
@@ -200,7 +198,7 @@ fn kept_imports(
 fn declares(
     alloc: Global,
     source: &Schema,
-    message: &Message,
+    message: &Said<'_>,
     declared: &File,
 ) -> Result<(), Unstated>
     ensures ok { OnOk result (StatesDeclared (declared_in source.now)
@@ -236,7 +234,7 @@ fn declares(
 }
 
 // The message states the file's imports.
-fn imports(alloc: Global, skips: bool, message: &Message, declared: &File) -> Result<(), Unstated>
+fn imports(alloc: Global, skips: bool, message: &Said<'_>, declared: &File) -> Result<(), Unstated>
     ensures ok { OnOk result (StatesImports skips (message_of message.now) declared.now) }
     ensures refused { IfErr result (λ r. StatesImports skips (message_of message.now) declared.now
         → r ≡ Memory) }
@@ -254,7 +252,7 @@ pub fn file(
     alloc: Global,
     source: &Schema,
     skips: bool,
-    message: &Message,
+    message: &Said<'_>,
     declared: &File,
 ) -> Result<(), Unstated>
     requires { are_distinct (texts_at proto.file_dependency (message_of message.now)) ≡ true }

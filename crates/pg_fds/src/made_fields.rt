@@ -29,9 +29,10 @@ use crate::fields::element_code;
 use crate::made_maps::{is_map, map_parts};
 use crate::outline::Named;
 use crate::proto;
-use crate::said::{count, ensure, flag, maybe_number, maybe_text, number, option, place_in, text};
+use crate::said::{
+    Said, count, ensure, flag, maybe_number, maybe_text, number, option, place_in, text,
+};
 use crate::states::label_of;
-use pg_dyn::Message;
 use pg_schema::{Element, Field, FieldOptions, Presence, Scalar, default_json_name};
 use std::alloc::Global;
 use std::collections::BTreeMap;
@@ -72,7 +73,7 @@ pub fn resolved(names: &BTreeMap<String, Named>, dotted: &str) -> Result<Named, 
 }
 
 // What a field's items are, where it names no type.
-fn scalar_element(message: &Message) -> Result<Element, Unstated>
+fn scalar_element(message: &Said<'_>) -> Result<Element, Unstated>
     ensures made { IfOk result (λ made. (s : StatedScalar)
         → number_at proto.field_type (message_of message.now) ≡ pos (scalar_code s)
         → made ≡ ScalarElement s) }
@@ -99,7 +100,7 @@ fn meant(named: Named) -> Result<Element, Unstated>
 }
 
 // The element, where its code is that of the field's type.
-fn of_its_code(message: &Message, element: Element) -> Result<Element, Unstated>
+fn of_its_code(message: &Said<'_>, element: Element) -> Result<Element, Unstated>
     ensures made { IfOk result (λ made. made ≡ element) }
     ensures refused { OnErr result (number_at proto.field_type (message_of message.now)
         ≡ pos (element_code element) → ⊥) }
@@ -114,7 +115,7 @@ fn of_its_code(message: &Message, element: Element) -> Result<Element, Unstated>
 // What a field's items are, where it names a type.
 fn named_element(
     names: &BTreeMap<String, Named>,
-    message: &Message,
+    message: &Said<'_>,
     name: &str,
 ) -> Result<Element, Unstated>
     ensures made { IfOk result (λ made. (all : Declared) (e : StatedElement)
@@ -131,7 +132,7 @@ fn named_element(
 }
 
 /// What a field's items are, where it isn't a map. Refused only where it states none.
-pub fn element(names: &BTreeMap<String, Named>, message: &Message) -> Result<Element, Unstated>
+pub fn element(names: &BTreeMap<String, Named>, message: &Said<'_>) -> Result<Element, Unstated>
     ensures made { IfOk result (λ made. (all : Declared) (e : StatedElement)
         → HasNames all names.now
         → StatesElement all (message_of message.now) e → made ≡ e) }
@@ -209,7 +210,7 @@ fn is_alone(synthetic: &[bool], members: &[usize], named: Option<i128>) -> Resul
 }
 
 // The oneof that a field stands in: none where it is `optional`, whose oneof is its own.
-fn oneof(scope: &Scope<'_>, message: &Message) -> Result<Option<u32>, Unstated>
+fn oneof(scope: &Scope<'_>, message: &Said<'_>) -> Result<Option<u32>, Unstated>
     ensures made { IfOk result (λ made. (f : StatedField)
         → flag_at proto.field_proto3_optional (message_of message.now) ≡ f.states_optional
         → StandsAt scope.now.synthetic.items scope.now.members.items (message_of message.now) f
@@ -266,7 +267,7 @@ fn repeated(element: Element, stated: Option<bool>) -> Presence
 
 // The presence of a field that is no map.
 fn presence(
-    message: &Message,
+    message: &Said<'_>,
     element: Element,
     member: bool,
     packed: Option<bool>,
@@ -291,7 +292,7 @@ fn presence(
 // The presence and element of a field that is no map.
 fn plain_parts(
     names: &BTreeMap<String, Named>,
-    message: &Message,
+    message: &Said<'_>,
     member: bool,
     packed: Option<bool>,
 ) -> Result<(Presence, Element), Unstated>
@@ -311,7 +312,7 @@ fn plain_parts(
 }
 
 // The JSON name, given or default.
-fn json_name(alloc: Global, message: &Message) -> Result<String, Unstated>
+fn json_name(alloc: Global, message: &Said<'_>) -> Result<String, Unstated>
     ensures ok { IfOk result (λ name. string_bytes name ≡ json_name_at (message_of message.now)) }
     ensures refused { IfErr result (λ e. IsUtf8 (text_at proto.field_name (message_of message.now))
         → IsUtf8 (json_name_at (message_of message.now)) → e ≡ Memory) }
@@ -327,8 +328,8 @@ fn json_name(alloc: Global, message: &Message) -> Result<String, Unstated>
 fn parts<'a>(
     alloc: Global,
     scope: &Scope<'_>,
-    entries: &mut BTreeMap<String, &'a Message>,
-    message: &Message,
+    entries: &mut BTreeMap<String, Said<'a>>,
+    message: &Said<'_>,
     member: bool,
     packed: Option<bool>,
 ) -> Result<(Presence, Element), Unstated>
@@ -361,8 +362,8 @@ fn parts<'a>(
 pub fn made_field<'a>(
     alloc: Global,
     scope: &Scope<'_>,
-    entries: &mut BTreeMap<String, &'a Message>,
-    message: &Message,
+    entries: &mut BTreeMap<String, Said<'a>>,
+    message: &Said<'_>,
 ) -> Result<Field, Unstated>
     ensures made { IfOk result (λ made. (all : Declared) (f : StatedField)
         → StatesFieldAt all scope.now.names.now scope.now.name.now scope.now.synthetic.items

@@ -33,9 +33,10 @@ use crate::oneof_states::marks;
 use crate::outline::{Named, Outlined, OutlinedFile};
 use crate::proto;
 use crate::said::{
-    children, flag, item, maybe_text, number_in, numbers, option, text, text_in, texts,
+    Said, SaidItem, children, flag, item, maybe_text, number_in, numbers, option, text, text_in,
+    texts,
 };
-use pg_dyn::{Message, Value};
+use pg_dyn::Value;
 use pg_schema::{
     File, FileOption, Import, Method, MethodOptions, OptimizeMode, OptionValue, Service,
     ServiceOptions, TypeId,
@@ -48,7 +49,7 @@ use std::collections::BTreeMap;
 // The message type that a method's field with that number names.
 fn called(
     names: &BTreeMap<String, Named>,
-    message: &Message,
+    message: &Said<'_>,
     number: u32,
 ) -> Result<TypeId, Unstated>
     ensures made { IfOk result (λ made. (all : Declared) (id : StatedId) → HasNames all names.now
@@ -70,7 +71,7 @@ fn called(
 fn method(
     alloc: Global,
     names: &BTreeMap<String, Named>,
-    message: &Message,
+    message: &Said<'_>,
 ) -> Result<Method, Unstated>
     ensures made { IfOk result (λ made. (all : Declared) (d : StatedMethod) → HasNames all names.now
         → StatesMethod all (message_of message.now) d
@@ -97,15 +98,15 @@ fn method(
 fn methods(
     alloc: Global,
     names: &BTreeMap<String, Named>,
-    messages: &[&Message],
+    messages: &[Said<'_>],
 ) -> Result<Vec<Method>, Unstated>
     ensures made { IfOk result (λ made. (all : Declared) (ds : List StatedMethod)
         → HasNames all names.now
-        → AllZip (StatesMethod all) (map message_of (lent messages.now)) ds
+        → AllZip (StatesMethod all) (map message_of messages.now) ds
         → map method_view made.items ≡ map method_view ds) }
     ensures refused { IfErr result (λ e. (all : Declared) (ds : List StatedMethod)
         → HasNames all names.now
-        → AllZip (StatesMethod all) (map message_of (lent messages.now)) ds → e ≡ Memory) }
+        → AllZip (StatesMethod all) (map message_of messages.now) ds → e ≡ Memory) }
 {
     let mut methods = Vec::new(alloc);
     for message in messages {
@@ -123,14 +124,14 @@ pub fn service(
     ensures made { IfOk result (λ made. (all : Declared) (scope : List ℕ) (s : StatedService)
         → HasNames all names.now
         → string_bytes outlined.now.name
-        ≡ within scope (text_at proto.service_name (message_of outlined.now.message.now))
-        → StatesService all scope (message_of outlined.now.message.now) s
+        ≡ within scope (text_at proto.service_name (message_of outlined.now.message))
+        → StatesService all scope (message_of outlined.now.message) s
         → service_view made ≡ service_view s) }
     ensures refused { IfErr result (λ e. (all : Declared) (scope : List ℕ) (s : StatedService)
         → HasNames all names.now
-        → StatesService all scope (message_of outlined.now.message.now) s → e ≡ Memory) }
+        → StatesService all scope (message_of outlined.now.message) s → e ≡ Memory) }
 {
-    let message = outlined.message;
+    let message = &outlined.message;
     let name = outlined.name.clone()?;
     let inside = children(alloc, message, proto::SERVICE_METHOD)?;
     let methods = methods(alloc, names, &inside)?;
@@ -176,16 +177,16 @@ fn numbered(number: u32, found: i128) -> OptionValue
 }
 
 // The value of the option of that number.
-fn option_value(alloc: Global, number: u32, value: &Value) -> Result<OptionValue, Unstated>
-    ensures made { IfOk result (λ made. (v : StatedValue) → shown value.now ≡ option_item v
+fn option_value(alloc: Global, number: u32, item: &SaidItem<'_>) -> Result<OptionValue, Unstated>
+    ensures made { IfOk result (λ made. (v : StatedValue) → shown item.now ≡ option_item v
         → is_of_kind number v ≡ true → value_of made ≡ value_of v) }
-    ensures refused { IfErr result (λ e. (v : StatedValue) → shown value.now ≡ option_item v
+    ensures refused { IfErr result (λ e. (v : StatedValue) → shown item.now ≡ option_item v
         → e ≡ Memory) }
 {
-    if let Value::Int(_) = value {
-        return Ok(numbered(number, number_in(value)));
+    if let Value::Int(_) = item.value() {
+        return Ok(numbered(number, number_in(item)));
     }
-    let found = text_in(value)?;
+    let found = text_in(item)?;
     let own = String::from_str(alloc, found)?;
     Ok(OptionValue::Text(own))
 }
@@ -193,7 +194,7 @@ fn option_value(alloc: Global, number: u32, value: &Value) -> Result<OptionValue
 // The options of these numbers, in their order.
 fn options_under(
     alloc: Global,
-    message: &Message,
+    message: &Said<'_>,
     numbers: &[u32],
 ) -> Result<Vec<FileOption>, Unstated>
     ensures made { IfOk result (λ made. (os : List StatedOption)
@@ -208,7 +209,7 @@ fn options_under(
         let number = *number;
         let found = item(message, number);
         if let Some(value) = found {
-            let value = option_value(alloc, number, value)?;
+            let value = option_value(alloc, number, &value)?;
             options.push(FileOption { number, value })?;
         }
     }
@@ -216,7 +217,7 @@ fn options_under(
 }
 
 // The options of a file, by rising number.
-fn options(alloc: Global, message: &Message) -> Result<Vec<FileOption>, Unstated>
+fn options(alloc: Global, message: &Said<'_>) -> Result<Vec<FileOption>, Unstated>
     ensures made { IfOk result (λ made. (os : List StatedOption)
         → StatesOptions (options_at proto.file_options (message_of message.now)) os
         → is_rising (0 ∷ option_numbers os) ≡ true → list_all is_file_option os ≡ true
@@ -226,7 +227,7 @@ fn options(alloc: Global, message: &Message) -> Result<Vec<FileOption>, Unstated
 {
     let own = own_options(message);
     match own {
-        Some(child) => options_under(alloc, child, &OPTIONS),
+        Some(child) => options_under(alloc, &child, &OPTIONS),
         None => Ok(Vec::new(alloc)),
     }
 }
@@ -258,7 +259,7 @@ fn kept(
 }
 
 // The imports of a file, without those that are skipped.
-fn imports(alloc: Global, skips: bool, message: &Message) -> Result<Vec<Import>, Unstated>
+fn imports(alloc: Global, skips: bool, message: &Said<'_>) -> Result<Vec<Import>, Unstated>
     ensures made { IfOk result (λ made. map import_of made.items
         ≡ kept_imports skips (numbers_at proto.file_public_dependency (message_of message.now)) 0
         (texts_at proto.file_dependency (message_of message.now))) }
@@ -283,7 +284,7 @@ pub fn file(alloc: Global, skips: bool, outlined: &OutlinedFile<'_>) -> Result<F
     ensures refused { IfErr result (λ e. (all : Declared) (f : StatedFile)
         → IsOutlinedFile all skips outlined.now f → is_file f ≡ true → e ≡ Memory) }
 {
-    let message = outlined.message;
+    let message = &outlined.message;
     let own_name = text(message, proto::FILE_NAME)?;
     let name = String::from_str(alloc, own_name)?;
     let own_package = text(message, proto::FILE_PACKAGE)?;

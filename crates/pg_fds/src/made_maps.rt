@@ -13,7 +13,6 @@ ghost use Rattle.pg_schema.specs.JsonName.{default_json_name};
 ghost use Rattle.pg_schema.specs.Shape.{is_map};
 ghost use Rattle.pg_dyn.specs.Kept.{message_of};
 ghost use Rattle.pg_fds.specs.declared.error.Unstated.TheVariants.{Memory};
-ghost use Rattle.pg_fds.specs.Lent.{lent};
 ghost use Rattle.pg_fds.specs.Made.{HasNamedEntry, HasNames, StatesElement, StatesKnown, is_entry_type};
 ghost use Rattle.pg_fds.specs.Places.{Declared};
 ghost use Rattle.pg_fds.specs.Proto as proto;
@@ -27,9 +26,8 @@ use crate::made_fields::{element, resolved};
 use crate::names::dotted_within;
 use crate::outline::Named;
 use crate::proto;
-use crate::said::{children, ensure, flag, maybe_text, number, option, text};
+use crate::said::{Said, children, ensure, flag, maybe_text, number, option, text};
 use crate::states::{has_json_name, label_of, same_text};
-use pg_dyn::Message;
 use pg_schema::{Element, Presence, Scalar, entry_name};
 use std::alloc::Global;
 use std::collections::BTreeMap;
@@ -46,7 +44,7 @@ fn same_number(found: i128, stated: i128) -> Result<(), Unstated>
 // The key's or the value's field of an entry type: of that name and number, and nothing else.
 fn check_entry_field(
     alloc: Global,
-    message: &Message,
+    message: &Said<'_>,
     name: &str,
     place: i128,
 ) -> Result<(), Unstated>
@@ -65,7 +63,7 @@ fn check_entry_field(
 
 // What a map's keys are. A type that may not be one is told as that of floats, which may not
 // either.
-fn key(names: &BTreeMap<String, Named>, message: &Message) -> Result<Scalar, Unstated>
+fn key(names: &BTreeMap<String, Named>, message: &Said<'_>) -> Result<Scalar, Unstated>
     ensures made { IfOk result (λ made. (all : Declared) (s : StatedScalar) → HasNames all names.now
         → StatesElement all (message_of message.now) (ScalarElement s) → made ≡ s) }
     ensures refused { OnErr result ((all : Declared) (s : StatedScalar) → HasNames all names.now
@@ -82,16 +80,16 @@ fn key(names: &BTreeMap<String, Named>, message: &Message) -> Result<Scalar, Uns
 fn key_and_value(
     alloc: Global,
     names: &BTreeMap<String, Named>,
-    fields: &[&Message],
+    fields: &[Said<'_>],
 ) -> Result<(Scalar, Element), Unstated>
     ensures made { IfOk result (λ made. (all : Declared) (k : StatedScalar) (v : StatedElement)
         → HasNames all names.now
         → is_known (length all.types) (length all.enums) v ≡ true
-        → AreKeyAndValue all k v (map message_of (lent fields.now)) → (made.0 ≡ k) × (made.1 ≡ v)) }
+        → AreKeyAndValue all k v (map message_of fields.now) → (made.0 ≡ k) × (made.1 ≡ v)) }
     ensures refused { IfErr result (λ r. (all : Declared) (k : StatedScalar) (v : StatedElement)
         → HasNames all names.now
         → is_known (length all.types) (length all.enums) v ≡ true
-        → AreKeyAndValue all k v (map message_of (lent fields.now)) → r ≡ Memory) }
+        → AreKeyAndValue all k v (map message_of fields.now) → r ≡ Memory) }
 {
     match fields {
         [first, second] => {
@@ -109,7 +107,7 @@ fn key_and_value(
 fn entry_parts(
     alloc: Global,
     names: &BTreeMap<String, Named>,
-    entry: &Message,
+    entry: &Said<'_>,
 ) -> Result<(Scalar, Element), Unstated>
     ensures made { IfOk result (λ made. (all : Declared) (f : StatedField) (k : StatedScalar)
         → HasNames all names.now
@@ -131,10 +129,7 @@ fn entry_parts(
 }
 
 // The entry type of that name, which is taken out of these.
-fn taken<'a>(
-    entries: &mut BTreeMap<String, &'a Message>,
-    name: &str,
-) -> Result<&'a Message, Unstated>
+fn taken<'a>(entries: &mut BTreeMap<String, Said<'a>>, name: &str) -> Result<Said<'a>, Unstated>
     ensures found { IfOk result (λ entry. get_by_text entries.old name.now ≡ Some entry) }
     ensures left { OnOk result ((other : List ℕ)
         → get_by_text entries.new other
@@ -159,7 +154,7 @@ fn is_entry_type(named: Named) -> bool
 }
 
 /// Whether the field names an entry type. Refused only where it states no field.
-pub fn is_map(names: &BTreeMap<String, Named>, message: &Message) -> Result<bool, Unstated>
+pub fn is_map(names: &BTreeMap<String, Named>, message: &Said<'_>) -> Result<bool, Unstated>
     ensures made { IfOk result (λ made. (all : Declared) (scope : List ℕ) (f : StatedField)
         → StatesKnown all names.now scope (message_of message.now) f → made ≡ is_map f.presence) }
     ensures refused { OnErr result ((all : Declared) (scope : List ℕ) (f : StatedField)
@@ -178,7 +173,7 @@ pub fn is_map(names: &BTreeMap<String, Named>, message: &Message) -> Result<bool
 }
 
 // The field names this type.
-fn names_type(message: &Message, full: &str) -> Result<(), Unstated>
+fn names_type(message: &Said<'_>, full: &str) -> Result<(), Unstated>
     ensures refused { OnErr result (maybe_text_at proto.field_type_name (message_of message.now)
         ≡ Some full.now → ⊥) }
 {
@@ -196,8 +191,8 @@ pub fn map_parts<'a>(
     alloc: Global,
     names: &BTreeMap<String, Named>,
     scope: &str,
-    entries: &mut BTreeMap<String, &'a Message>,
-    message: &Message,
+    entries: &mut BTreeMap<String, Said<'a>>,
+    message: &Said<'_>,
 ) -> Result<(Presence, Element), Unstated>
     ensures made { IfOk result (λ made. (all : Declared) (f : StatedField)
         → StatesKnown all names.now scope.now (message_of message.now) f
@@ -216,6 +211,6 @@ pub fn map_parts<'a>(
     let full = dotted_within(alloc, scope, &own)?;
     names_type(message, &full)?;
     let entry = taken(entries, &own)?;
-    let (key, value) = entry_parts(alloc, names, entry)?;
+    let (key, value) = entry_parts(alloc, names, &entry)?;
     Ok((Presence::Map { key }, value))
 }

@@ -33,10 +33,11 @@ use crate::made_fields::{Scope, made_field};
 use crate::oneof_states::{marks, real_names, synthetic_places};
 use crate::outline::{Named, Outlined, OutlinedType};
 use crate::proto;
-use crate::said::{children, count, ensure, maybe_number, number, option, place_in, text, texts};
+use crate::said::{
+    Said, children, count, ensure, maybe_number, number, option, place_in, text, texts,
+};
 use crate::type_states::entries_of;
 use crate::types::numbers;
-use pg_dyn::Message;
 use pg_schema::{
     EnumOptions, EnumType, EnumValue, EnumValueOptions, Field, MessageOptions, MessageType,
     ReservedFields, ReservedValues,
@@ -58,7 +59,7 @@ fn copies(alloc: Global, texts: &[&str]) -> Result<Vec<String>, AllocError>
 // ---- enums
 
 // The number as one of 32 bits, which a decoded one is.
-fn whole(message: &Message, field: u32) -> Result<i32, Unstated>
+fn whole(message: &Said<'_>, field: u32) -> Result<i32, Unstated>
     ensures ok { IfOk result (λ found. number_at field (message_of message.now) ≡ found) }
     ensures refused { OnErr result (FitsSigned w32 (number_at field (message_of message.now)) → ⊥) }
 {
@@ -68,7 +69,7 @@ fn whole(message: &Message, field: u32) -> Result<i32, Unstated>
     }
 }
 
-fn value(alloc: Global, message: &Message) -> Result<EnumValue, Unstated>
+fn value(alloc: Global, message: &Said<'_>) -> Result<EnumValue, Unstated>
     ensures states { IfOk result (StatesValue (message_of message.now)) }
     ensures refused { IfErr result (λ e. (v : StatedValue) → StatesValue (message_of message.now) v
         → IsSmallValue v → e ≡ Memory) }
@@ -82,11 +83,11 @@ fn value(alloc: Global, message: &Message) -> Result<EnumValue, Unstated>
     })
 }
 
-fn values(alloc: Global, messages: &[&Message]) -> Result<Vec<EnumValue>, Unstated>
+fn values(alloc: Global, messages: &[Said<'_>]) -> Result<Vec<EnumValue>, Unstated>
     ensures states { IfOk result (λ made. AllZip StatesValue
-        (map message_of (lent messages.now)) made.items) }
+        (map message_of messages.now) made.items) }
     ensures refused { IfErr result (λ e. (vs : List StatedValue)
-        → AllZip StatesValue (map message_of (lent messages.now)) vs
+        → AllZip StatesValue (map message_of messages.now) vs
         → AllByRecursion IsSmallValue vs → e ≡ Memory) }
 {
     let mut values = Vec::new(alloc);
@@ -97,7 +98,7 @@ fn values(alloc: Global, messages: &[&Message]) -> Result<Vec<EnumValue>, Unstat
     Ok(values)
 }
 
-fn value_range(message: &Message) -> Result<ReservedValues, Unstated>
+fn value_range(message: &Said<'_>) -> Result<ReservedValues, Unstated>
     ensures states { IfOk result (StatesValueRange (message_of message.now)) }
     ensures refused { IfErr result (λ e. (r : StatedRange)
         → StatesValueRange (message_of message.now) r → AreSmallEnds r → e ≡ Memory) }
@@ -108,11 +109,11 @@ fn value_range(message: &Message) -> Result<ReservedValues, Unstated>
     })
 }
 
-fn value_ranges(alloc: Global, messages: &[&Message]) -> Result<Vec<ReservedValues>, Unstated>
+fn value_ranges(alloc: Global, messages: &[Said<'_>]) -> Result<Vec<ReservedValues>, Unstated>
     ensures states { IfOk result (λ made. AllZip StatesValueRange
-        (map message_of (lent messages.now)) made.items) }
+        (map message_of messages.now) made.items) }
     ensures refused { IfErr result (λ e. (rs : List StatedRange)
-        → AllZip StatesValueRange (map message_of (lent messages.now)) rs
+        → AllZip StatesValueRange (map message_of messages.now) rs
         → AllByRecursion AreSmallEnds rs → e ≡ Memory) }
 {
     let mut ranges = Vec::new(alloc);
@@ -127,13 +128,13 @@ fn value_ranges(alloc: Global, messages: &[&Message]) -> Result<Vec<ReservedValu
 /// numbers that an int32 holds.
 pub fn made_enum(alloc: Global, outlined: &Outlined<'_>) -> Result<EnumType, Unstated>
     ensures states { IfOk result (λ made. (scope : List ℕ) → string_bytes outlined.now.name
-        ≡ within scope (text_at proto.enum_name (message_of outlined.now.message.now))
-        → StatesEnum scope (message_of outlined.now.message.now) made) }
+        ≡ within scope (text_at proto.enum_name (message_of outlined.now.message))
+        → StatesEnum scope (message_of outlined.now.message) made) }
     ensures refused { IfErr result (λ e. (scope : List ℕ) (stated : StatedEnum)
-        → StatesEnum scope (message_of outlined.now.message.now) stated
+        → StatesEnum scope (message_of outlined.now.message) stated
         → IsSmallEnum stated → e ≡ Memory) }
 {
-    let message = outlined.message;
+    let message = &outlined.message;
     let name = outlined.name.clone()?;
     let values = values(alloc, &children(alloc, message, proto::ENUM_VALUE)?)?;
     let reserved_numbers = value_ranges(
@@ -156,7 +157,7 @@ pub fn made_enum(alloc: Global, outlined: &Outlined<'_>) -> Result<EnumType, Uns
 // ---- message types
 
 // The reserved numbers, which end before the second number.
-fn field_range(message: &Message) -> ReservedFields
+fn field_range(message: &Said<'_>) -> ReservedFields
     ensures { (r : StatedFields) → StatesFieldRange (message_of message.now) r
         → is_reserved_range r ≡ true → result ≡ r }
 {
@@ -167,9 +168,9 @@ fn field_range(message: &Message) -> ReservedFields
     }
 }
 
-fn field_ranges(alloc: Global, messages: &[&Message]) -> Result<Vec<ReservedFields>, AllocError>
+fn field_ranges(alloc: Global, messages: &[Said<'_>]) -> Result<Vec<ReservedFields>, AllocError>
     ensures { IfOk result (λ made. (rs : List StatedFields)
-        → AllZip StatesFieldRange (map message_of (lent messages.now)) rs
+        → AllZip StatesFieldRange (map message_of messages.now) rs
         → list_all is_reserved_range rs ≡ true → made.items ≡ rs) }
 {
     let mut ranges = Vec::new(alloc);
@@ -181,7 +182,7 @@ fn field_ranges(alloc: Global, messages: &[&Message]) -> Result<Vec<ReservedFiel
 }
 
 // The place of the oneof, among so many, that a field names, if it names one.
-fn named_place(field: &Message, count: usize) -> Result<Option<usize>, Unstated>
+fn named_place(field: &Said<'_>, count: usize) -> Result<Option<usize>, Unstated>
     ensures ok { IfOk result (λ place. maybe_number_at proto.field_oneof_index
         (message_of field.now) ≡ option_map pos place) }
     ensures within { IfOk result (λ found. IfSome found (λ place. place < count)) }
@@ -194,11 +195,11 @@ fn named_place(field: &Message, count: usize) -> Result<Option<usize>, Unstated>
 }
 
 // How many of the fields name each of so many oneofs, where each names one of them or none.
-fn member_counts(alloc: Global, fields: &[&Message], count: usize) -> Result<Vec<usize>, Unstated>
+fn member_counts(alloc: Global, fields: &[Said<'_>], count: usize) -> Result<Vec<usize>, Unstated>
     ensures counted { IfOk result (λ counts.
-        AreCounted (map message_of (lent fields.now)) count counts.items) }
+        AreCounted (map message_of fields.now) count counts.items) }
     ensures refused { IfErr result (λ e. list_all (has_place count)
-        (map message_of (lent fields.now)) ≡ true → e ≡ Memory) }
+        (map message_of fields.now) ≡ true → e ≡ Memory) }
 {
     let mut counts: Vec<usize> = vec![in alloc; 0; count]?;
     for field in fields {
@@ -211,18 +212,15 @@ fn member_counts(alloc: Global, fields: &[&Message], count: usize) -> Result<Vec
 }
 
 // The entry types by their names.
-fn entries<'a>(
-    alloc: Global,
-    messages: &[&'a Message],
-) -> Result<BTreeMap<String, &'a Message>, Unstated>
+fn entries<'a>(alloc: Global, messages: &[Said<'a>]) -> Result<BTreeMap<String, Said<'a>>, Unstated>
     ensures named { IfOk result (λ table. HasNamed table messages.now) }
     ensures refused { IfErr result (λ e. AllByRecursion IsUtf8
-        (map (text_at proto.message_name) (map message_of (lent messages.now))) → e ≡ Memory) }
+        (map (text_at proto.message_name) (map message_of messages.now)) → e ≡ Memory) }
 {
     let mut entries = BTreeMap::new(alloc);
     for message in messages {
         let name = String::from_str(alloc, text(message, proto::MESSAGE_NAME)?)?;
-        entries.insert(name, *message)?;
+        entries.insert(name, message.again())?;
     }
     Ok(entries)
 }
@@ -231,18 +229,18 @@ fn entries<'a>(
 fn fields<'a>(
     alloc: Global,
     scope: &Scope<'_>,
-    entries: BTreeMap<String, &'a Message>,
-    messages: &[&Message],
+    entries: BTreeMap<String, Said<'a>>,
+    messages: &[Said<'_>],
 ) -> Result<Vec<Field>, Unstated>
     ensures made { IfOk result (λ made. (all : Declared) (fs : List StatedField)
         → HasEntries all entries.entry fs
         → AllZip (StatesFieldAt all scope.now.names.now scope.now.name.now scope.now.synthetic.items
-        scope.now.members.items) (map message_of (lent messages.now)) fs
+        scope.now.members.items) (map message_of messages.now) fs
         → map field_view made.items ≡ map field_view fs) }
     ensures refused { IfErr result (λ e. (all : Declared) (fs : List StatedField)
         → HasEntries all entries.entry fs
         → AllZip (StatesFieldAt all scope.now.names.now scope.now.name.now scope.now.synthetic.items
-        scope.now.members.items) (map message_of (lent messages.now)) fs
+        scope.now.members.items) (map message_of messages.now) fs
         → e ≡ Memory) }
 {
     let mut left = entries;
@@ -271,13 +269,13 @@ fn declared_fields(
     alloc: Global,
     names: &BTreeMap<String, Named>,
     outlined: &OutlinedType<'_>,
-    own: &[&Message],
+    own: &[Said<'_>],
     synthetic: Vec<bool>,
 ) -> Result<Vec<Field>, Unstated>
-    requires own { map message_of (lent own.now)
-        ≡ children_at proto.message_field (message_of outlined.now.message.now) }
-    requires marked { AreMarked (stated_places (map message_of (lent own.now)))
-        (length (children_at proto.message_oneof_decl (message_of outlined.now.message.now)))
+    requires own { map message_of own.now
+        ≡ children_at proto.message_field (message_of outlined.now.message) }
+    requires marked { AreMarked (stated_places (map message_of own.now))
+        (length (children_at proto.message_oneof_decl (message_of outlined.now.message)))
         synthetic.items }
     ensures made { IfOk result (λ made. (all : Declared) (scope : List ℕ) (t : StatedType)
         → StatesMadeType all names.now scope outlined.now t
@@ -285,7 +283,7 @@ fn declared_fields(
     ensures refused { IfErr result (λ e. (all : Declared) (scope : List ℕ) (t : StatedType)
         → StatesMadeType all names.now scope outlined.now t → e ≡ Memory) }
 {
-    let inside = children(alloc, outlined.message, proto::MESSAGE_NESTED_TYPE)?;
+    let inside = children(alloc, &outlined.message, proto::MESSAGE_NESTED_TYPE)?;
     let messages = entries_of(alloc, &inside)?;
     let entries = entries(alloc, &messages)?;
     let members = member_counts(alloc, own, synthetic.len())?;
@@ -301,17 +299,17 @@ fn declared_fields(
 // Own copies of the names of the oneofs that aren't synthetic.
 fn oneof_names(
     alloc: Global,
-    oneofs: &[&Message],
+    oneofs: &[Said<'_>],
     places: &[i128],
     synthetic: &[bool],
 ) -> Result<Vec<String>, Unstated>
     requires { AreMarked places.now (length oneofs.now) synthetic.now }
     ensures made { IfOk result (λ made. map string_bytes made.items
         ≡ map (text_at proto.oneof_name)
-        (real_oneofs places.now 0 (map message_of (lent oneofs.now)))) }
+        (real_oneofs places.now 0 (map message_of oneofs.now))) }
     ensures refused { IfErr result (λ e. AllByRecursion IsUtf8
         (map (text_at proto.oneof_name)
-        (real_oneofs places.now 0 (map message_of (lent oneofs.now)))) → e ≡ Memory) }
+        (real_oneofs places.now 0 (map message_of oneofs.now))) → e ≡ Memory) }
 {
     let names = real_names(alloc, oneofs, places, synthetic)?;
     Ok(copies(alloc, &names)?)
@@ -332,16 +330,16 @@ fn marked_members(
     alloc: Global,
     names: &BTreeMap<String, Named>,
     outlined: &OutlinedType<'_>,
-    own: &[&Message],
-    inside: &[&Message],
+    own: &[Said<'_>],
+    inside: &[Said<'_>],
     places: &[i128],
     synthetic: Vec<bool>,
 ) -> Result<Members, Unstated>
-    requires own { map message_of (lent own.now)
-        ≡ children_at proto.message_field (message_of outlined.now.message.now) }
-    requires inside { map message_of (lent inside.now)
-        ≡ children_at proto.message_oneof_decl (message_of outlined.now.message.now) }
-    requires places { places.now ≡ stated_places (map message_of (lent own.now)) }
+    requires own { map message_of own.now
+        ≡ children_at proto.message_field (message_of outlined.now.message) }
+    requires inside { map message_of inside.now
+        ≡ children_at proto.message_oneof_decl (message_of outlined.now.message) }
+    requires places { places.now ≡ stated_places (map message_of own.now) }
     requires marked { AreMarked places.now (length inside.now) synthetic.items }
     ensures made { IfOk result (λ made. (all : Declared) (scope : List ℕ) (t : StatedType)
         → StatesMadeType all names.now scope outlined.now t
@@ -365,13 +363,13 @@ fn members_of(
     alloc: Global,
     names: &BTreeMap<String, Named>,
     outlined: &OutlinedType<'_>,
-    own: &[&Message],
-    inside: &[&Message],
+    own: &[Said<'_>],
+    inside: &[Said<'_>],
 ) -> Result<Members, Unstated>
-    requires own { map message_of (lent own.now)
-        ≡ children_at proto.message_field (message_of outlined.now.message.now) }
-    requires inside { map message_of (lent inside.now)
-        ≡ children_at proto.message_oneof_decl (message_of outlined.now.message.now) }
+    requires own { map message_of own.now
+        ≡ children_at proto.message_field (message_of outlined.now.message) }
+    requires inside { map message_of inside.now
+        ≡ children_at proto.message_oneof_decl (message_of outlined.now.message) }
     ensures made { IfOk result (λ made. (all : Declared) (scope : List ℕ) (t : StatedType)
         → StatesMadeType all names.now scope outlined.now t
         → HasMembers made t) }
@@ -395,8 +393,8 @@ fn made_members(
     ensures refused { IfErr result (λ e. (all : Declared) (scope : List ℕ) (t : StatedType)
         → StatesMadeType all names.now scope outlined.now t → e ≡ Memory) }
 {
-    let own = children(alloc, outlined.message, proto::MESSAGE_FIELD)?;
-    let inside = children(alloc, outlined.message, proto::MESSAGE_ONEOF_DECL)?;
+    let own = children(alloc, &outlined.message, proto::MESSAGE_FIELD)?;
+    let inside = children(alloc, &outlined.message, proto::MESSAGE_ONEOF_DECL)?;
     members_of(alloc, names, outlined, &own, &inside)
 }
 
@@ -412,7 +410,7 @@ pub fn made_type(
     ensures refused { IfErr result (λ e. (all : Declared) (scope : List ℕ) (t : StatedType)
         → StatesMadeType all names.now scope outlined.now t → e ≡ Memory) }
 {
-    let message = outlined.message;
+    let message = &outlined.message;
     let members = made_members(alloc, names, outlined)?;
     let reserved_numbers = field_ranges(
         alloc,

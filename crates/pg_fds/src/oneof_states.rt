@@ -14,9 +14,8 @@ ghost use Rattle.pg_fds.specs.StatesTypes.{AreMarked, NamesOneof, StandsIn, Stat
 
 use crate::error::Unstated;
 use crate::proto;
-use crate::said::{ensure, flag, maybe_number, place_in, text};
+use crate::said::{Said, ensure, flag, maybe_number, place_in, text};
 use crate::states::{same_text, same_texts};
-use pg_dyn::Message;
 use pg_schema::{Field, MessageType};
 use std::alloc::{AllocError, Global};
 
@@ -36,9 +35,9 @@ pub fn marks(alloc: Global, numbers: &[i128], count: usize) -> Result<Vec<bool>,
 }
 
 /// The places of the oneofs that fields marked `proto3_optional` name.
-pub fn synthetic_places(alloc: Global, fields: &[&Message]) -> Result<Vec<i128>, AllocError>
+pub fn synthetic_places(alloc: Global, fields: &[Said<'_>]) -> Result<Vec<i128>, AllocError>
     ensures { IfOk result (λ places. places.items
-        ≡ synthetic_places (map message_of (lent fields.now))) }
+        ≡ synthetic_places (map message_of fields.now)) }
 {
     let mut places = Vec::new(alloc);
     for field in fields {
@@ -54,8 +53,8 @@ pub fn synthetic_places(alloc: Global, fields: &[&Message]) -> Result<Vec<i128>,
 }
 
 // How many fields are marked `proto3_optional`.
-fn optional_count(fields: &[&Message]) -> usize
-    ensures { result ≡ length (filter is_optional (map message_of (lent fields.now))) }
+fn optional_count(fields: &[Said<'_>]) -> usize
+    ensures { result ≡ length (filter is_optional (map message_of fields.now)) }
 {
     let mut count = 0;
     for field in fields {
@@ -69,17 +68,17 @@ fn optional_count(fields: &[&Message]) -> usize
 /// The names of the oneofs at places that aren't marked.
 pub fn real_names<'a>(
     alloc: Global,
-    oneofs: &[&'a Message],
+    oneofs: &[Said<'a>],
     numbers: &[i128],
     marks: &[bool],
 ) -> Result<Vec<&'a str>, Unstated>
     requires { AreMarked numbers.now (length oneofs.now) marks.now }
     ensures ok { IfOk result (λ names. lent names.items
         ≡ map (text_at proto.oneof_name)
-        (real_oneofs numbers.now 0 (map message_of (lent oneofs.now)))) }
+        (real_oneofs numbers.now 0 (map message_of oneofs.now))) }
     ensures refused { IfErr result (λ r. AllByRecursion IsUtf8
         (map (text_at proto.oneof_name)
-        (real_oneofs numbers.now 0 (map message_of (lent oneofs.now)))) → r ≡ Memory) }
+        (real_oneofs numbers.now 0 (map message_of oneofs.now))) → r ≡ Memory) }
 {
     let mut names = Vec::new(alloc);
     for (place, oneof) in oneofs.iter().enumerate() {
@@ -92,7 +91,7 @@ pub fn real_names<'a>(
 
 // A field that names the oneof at the one place is a member of the one at its own.
 fn names_oneof(
-    oneofs: &[&Message],
+    oneofs: &[Said<'_>],
     numbers: &[i128],
     marks: &[bool],
     names: &[String],
@@ -100,9 +99,9 @@ fn names_oneof(
     own: u32,
 ) -> Result<(), Unstated>
     requires { AreMarked numbers.now (length oneofs.now) marks.now }
-    ensures ok { OnOk result (NamesOneof (map message_of (lent oneofs.now)) numbers.now
+    ensures ok { OnOk result (NamesOneof (map message_of oneofs.now) numbers.now
         (map string_bytes names.now) (Some named.now) (Some own)) }
-    ensures refused { OnErr result (NamesOneof (map message_of (lent oneofs.now)) numbers.now
+    ensures refused { OnErr result (NamesOneof (map message_of oneofs.now) numbers.now
         (map string_bytes names.now) (Some named.now) (Some own) → ⊥) }
 {
     let place = place_in(named, oneofs.len())?;
@@ -113,22 +112,22 @@ fn names_oneof(
     if own >= names.len() {
         return Err(Unstated::Reference);
     }
-    same_text(text(oneofs[place], proto::ONEOF_NAME)?, &names[own])?;
+    same_text(text(&oneofs[place], proto::ONEOF_NAME)?, &names[own])?;
     Ok(())
 }
 
 fn stands_in(
-    oneofs: &[&Message],
+    oneofs: &[Said<'_>],
     numbers: &[i128],
     marks: &[bool],
     names: &[String],
-    message: &Message,
+    message: &Said<'_>,
     declared: &Field,
 ) -> Result<(), Unstated>
     requires { AreMarked numbers.now (length oneofs.now) marks.now }
-    ensures ok { OnOk result (StandsIn (map message_of (lent oneofs.now)) numbers.now
+    ensures ok { OnOk result (StandsIn (map message_of oneofs.now) numbers.now
         (map string_bytes names.now) (message_of message.now) declared.now) }
-    ensures refused { OnErr result (StandsIn (map message_of (lent oneofs.now)) numbers.now
+    ensures refused { OnErr result (StandsIn (map message_of oneofs.now) numbers.now
         (map string_bytes names.now) (message_of message.now) declared.now → ⊥) }
 {
     if declared.states_optional {
@@ -145,20 +144,20 @@ fn stands_in(
 }
 
 fn members(
-    oneofs: &[&Message],
+    oneofs: &[Said<'_>],
     numbers: &[i128],
     marks: &[bool],
     names: &[String],
-    messages: &[&Message],
+    messages: &[Said<'_>],
     declared: &[&Field],
 ) -> Result<(), Unstated>
     requires { AreMarked numbers.now (length oneofs.now) marks.now }
     ensures ok { OnOk result (AllZip
-        (StandsIn (map message_of (lent oneofs.now)) numbers.now (map string_bytes names.now))
-        (map message_of (lent messages.now)) (lent declared.now)) }
+        (StandsIn (map message_of oneofs.now) numbers.now (map string_bytes names.now))
+        (map message_of messages.now) (lent declared.now)) }
     ensures refused { OnErr result (AllZip
-        (StandsIn (map message_of (lent oneofs.now)) numbers.now (map string_bytes names.now))
-        (map message_of (lent messages.now)) (lent declared.now)
+        (StandsIn (map message_of oneofs.now) numbers.now (map string_bytes names.now))
+        (map message_of messages.now) (lent declared.now)
         → ⊥) }
 {
     ensure(messages.len() == declared.len())?;
@@ -171,19 +170,19 @@ fn members(
 // The messages state the oneofs of a message type, where those at these places are synthetic.
 fn marked_oneofs(
     alloc: Global,
-    oneofs: &[&Message],
-    messages: &[&Message],
+    oneofs: &[Said<'_>],
+    messages: &[Said<'_>],
     numbers: &[i128],
     marks: &[bool],
     message_type: &MessageType,
     declared: &[&Field],
 ) -> Result<(), Unstated>
-    requires synthetic { numbers.now ≡ synthetic_places (map message_of (lent messages.now)) }
+    requires synthetic { numbers.now ≡ synthetic_places (map message_of messages.now) }
     requires marked { AreMarked numbers.now (length oneofs.now) marks.now }
-    ensures ok { OnOk result (StatesOneofs (map message_of (lent oneofs.now))
-        (map message_of (lent messages.now)) message_type.now (lent declared.now)) }
-    ensures refused { IfErr result (λ r. StatesOneofs (map message_of (lent oneofs.now))
-        (map message_of (lent messages.now)) message_type.now (lent declared.now)
+    ensures ok { OnOk result (StatesOneofs (map message_of oneofs.now)
+        (map message_of messages.now) message_type.now (lent declared.now)) }
+    ensures refused { IfErr result (λ r. StatesOneofs (map message_of oneofs.now)
+        (map message_of messages.now) message_type.now (lent declared.now)
         → r ≡ Memory) }
 {
     let stated = message_type.oneofs.as_slice();
@@ -202,15 +201,15 @@ fn marked_oneofs(
 /// The messages state the oneofs of a message type with these fields.
 pub fn oneofs(
     alloc: Global,
-    oneofs: &[&Message],
-    messages: &[&Message],
+    oneofs: &[Said<'_>],
+    messages: &[Said<'_>],
     message_type: &MessageType,
     declared: &[&Field],
 ) -> Result<(), Unstated>
-    ensures ok { OnOk result (StatesOneofs (map message_of (lent oneofs.now))
-        (map message_of (lent messages.now)) message_type.now (lent declared.now)) }
-    ensures refused { IfErr result (λ r. StatesOneofs (map message_of (lent oneofs.now))
-        (map message_of (lent messages.now)) message_type.now (lent declared.now)
+    ensures ok { OnOk result (StatesOneofs (map message_of oneofs.now)
+        (map message_of messages.now) message_type.now (lent declared.now)) }
+    ensures refused { IfErr result (λ r. StatesOneofs (map message_of oneofs.now)
+        (map message_of messages.now) message_type.now (lent declared.now)
         → r ≡ Memory) }
 {
     let numbers = synthetic_places(alloc, messages)?;

@@ -15,9 +15,8 @@ ghost use Rattle.pg_fds.specs.Walks.{lists_of};
 use crate::error::Unstated;
 use crate::file_states::is_left_out;
 use crate::proto;
-use crate::said::{text, texts};
+use crate::said::{Said, text, texts};
 use crate::walk::post_order;
-use pg_dyn::Message;
 use std::alloc::Global;
 use std::collections::{BTreeMap, BTreeSet};
 
@@ -122,7 +121,7 @@ fn order_of(alloc: Global, skips: bool, files: &[Importing<'_>]) -> Result<Vec<u
 }
 
 // What a file says of its name and its imports.
-fn importing_file(alloc: Global, file: &Message) -> Result<Importing<'_>, Unstated>
+fn importing_file<'a>(alloc: Global, file: &Said<'a>) -> Result<Importing<'a>, Unstated>
     ensures ok { IfOk result (λ i. importer i ≡ importer_of (message_of file.now)) }
     ensures refused { IfErr result (λ e. HasPathTexts (message_of file.now) → e ≡ errors.Memory) }
 {
@@ -132,11 +131,11 @@ fn importing_file(alloc: Global, file: &Message) -> Result<Importing<'_>, Unstat
 }
 
 // The same of all files.
-fn importing_files<'a>(alloc: Global, files: &[&'a Message]) -> Result<Vec<Importing<'a>>, Unstated>
+fn importing_files<'a>(alloc: Global, files: &[Said<'a>]) -> Result<Vec<Importing<'a>>, Unstated>
     ensures ok { IfOk result (λ found. importers found.items
-        ≡ map importer_of (map message_of (lent files.now))) }
+        ≡ map importer_of (map message_of files.now)) }
     ensures refused { IfErr result (λ e. AllByRecursion HasPathTexts
-        (map message_of (lent files.now)) → e ≡ errors.Memory) }
+        (map message_of files.now) → e ≡ errors.Memory) }
 {
     let mut found = Vec::new(alloc);
     for file in files {
@@ -149,13 +148,13 @@ fn importing_files<'a>(alloc: Global, files: &[&'a Message]) -> Result<Vec<Impor
 /// The places of the files in post-order of imports, begun at the files in their order: each stands
 /// behind those that it imports. Refused, memory aside, only where they have no order, or what one
 /// says of its name and its imports is no text.
-pub fn order(alloc: Global, skips: bool, files: &[&Message]) -> Result<Vec<usize>, Unstated>
+pub fn order(alloc: Global, skips: bool, files: &[Said<'_>]) -> Result<Vec<usize>, Unstated>
     ensures ok { IfOk result (λ order. AreOrdered skips
-        (map importer_of (map message_of (lent files.now))) order.items) }
+        (map importer_of (map message_of files.now)) order.items) }
     ensures refused { IfErr result (λ e. AllByRecursion HasPathTexts
-        (map message_of (lent files.now))
+        (map message_of files.now)
         → (e ≡ errors.Memory) ⊎ HasNoOrder skips
-        (map importer_of (map message_of (lent files.now)))) }
+        (map importer_of (map message_of files.now))) }
 {
     let found = importing_files(alloc, files)?;
     order_of(alloc, skips, &found)

@@ -8,7 +8,6 @@ ghost use Rattle.pg_schema.specs.rules.Scopes.{enum_places, type_places};
 ghost use Rattle.pg_schema.specs.rules.TextSets.{is_among};
 ghost use Rattle.pg_dyn.specs.Kept.{message_of};
 ghost use Rattle.pg_fds.specs.declared.error.Unstated.TheVariants.{Memory};
-ghost use Rattle.pg_fds.specs.Lent.{lent};
 ghost use Rattle.pg_fds.specs.Outlines.{AreTypesNamed, IsTypeNamed, MayDeclare, MayPlace, NameOneofs, NamesOneofs, enum_rows, files_at, type_row, type_rows};
 ghost use Rattle.pg_fds.specs.OutlinedPlaces.{PlacedType, counts_of, placed_type, places_of_types, without_inside};
 ghost use Rattle.pg_fds.specs.OutlinedScopes.{OutlinesFile, OutlinesFiles, OutlinesTypes};
@@ -24,9 +23,8 @@ use crate::oneof_states::{marks, synthetic_places};
 use crate::outline::enums::outline_enums;
 use crate::outline::services::outline_services;
 use crate::proto;
-use crate::said::{children, text};
+use crate::said::{Said, children, text};
 use crate::type_states::{entries_of, types_of};
-use pg_dyn::Message;
 use pg_schema::{EnumId, ServiceId, TypeId, full_name};
 use std::alloc::Global;
 use std::collections::BTreeMap;
@@ -44,7 +42,7 @@ pub enum Named {
 /// A message type of a set.
 #[derive(Drop)]
 pub struct OutlinedType<'a> {
-    pub message: &'a Message,
+    pub message: Said<'a>,
     pub name: String,
     pub types: Vec<TypeId>,
     pub enums: Vec<EnumId>,
@@ -53,14 +51,14 @@ pub struct OutlinedType<'a> {
 /// An enum or a service of a set.
 #[derive(Drop)]
 pub struct Outlined<'a> {
-    pub message: &'a Message,
+    pub message: Said<'a>,
     pub name: String,
 }
 
 /// A file of a set.
 #[derive(Drop)]
 pub struct OutlinedFile<'a> {
-    pub message: &'a Message,
+    pub message: Said<'a>,
     pub types: Vec<TypeId>,
     pub enums: Vec<EnumId>,
     pub services: Vec<ServiceId>,
@@ -94,7 +92,7 @@ fn declare_members(
     alloc: Global,
     names: &mut BTreeMap<String, Named>,
     full: &str,
-    message: &Message,
+    message: &Said<'_>,
 ) -> Result<(), Unstated>
     ensures declares { OnOk result ((packages : List (List ℕ))
         → Declares packages (member_names full.now (message_of message.now)) names.old names.new) }
@@ -118,7 +116,7 @@ fn declare_type(
     names: &mut BTreeMap<String, Named>,
     full: &str,
     id: TypeId,
-    message: &Message,
+    message: &Said<'_>,
 ) -> Result<(), Unstated>
     ensures has { OnOk result (IsTypeNamed names.new id.index (full.now, message_of message.now)) }
     ensures declares { OnOk result ((packages : List (List ℕ))
@@ -158,9 +156,9 @@ fn declare_scope(
 }
 
 // None of the messages is an entry type.
-fn without_entries(alloc: Global, messages: &[&Message]) -> Result<(), Unstated>
-    ensures ok { OnOk result (filter is_entry (map message_of (lent messages.now)) ≡ []) }
-    ensures refused { IfErr result (λ e. filter is_entry (map message_of (lent messages.now)) ≡ []
+fn without_entries(alloc: Global, messages: &[Said<'_>]) -> Result<(), Unstated>
+    ensures ok { OnOk result (filter is_entry (map message_of messages.now) ≡ []) }
+    ensures refused { IfErr result (λ e. filter is_entry (map message_of messages.now) ≡ []
         → e ≡ Memory) }
 {
     let entries = entries_of(alloc, messages)?;
@@ -176,7 +174,7 @@ impl<'a> Outline<'a> {
         &mut self,
         alloc: Global,
         name: &str,
-        message: &'a Message,
+        message: &Said<'a>,
     ) -> Result<TypeId, Unstated>
         ensures placed { IfOk result (λ id. id.index ≡ length self.old.types.items) }
         ensures rows { OnOk result (map type_row self.new.types.items
@@ -203,7 +201,7 @@ impl<'a> Outline<'a> {
         let id = TypeId { index };
         declare_type(alloc, &mut self.names, name, id, message)?;
         self.types.push(OutlinedType {
-            message,
+            message: message.again(),
             name: String::from_str(alloc, name)?,
             types: Vec::new(alloc),
             enums: Vec::new(alloc),
@@ -240,21 +238,21 @@ impl<'a> Outline<'a> {
         alloc: Global,
         depth: usize,
         scope: &str,
-        messages: &[&'a Message],
+        messages: &[Said<'a>],
     ) -> Result<Vec<TypeId>, Unstated>
         ensures ids { IfOk result (λ ids. type_places ids.items
             ≡ places_of_types depth scope.now (counts_of self.old)
-            (map message_of (lent messages.now))) }
+            (map message_of messages.now)) }
         ensures outlined { OnOk result (OutlinesTypes depth scope.now
-            (map message_of (lent messages.now)) self.old self.new) }
+            (map message_of messages.now) self.old self.new) }
         ensures refused { IfErr result
             (λ e. length self.old.types.items + length
-            (type_rows depth scope.now (map message_of (lent messages.now))) ≤ 2 ^ 32
+            (type_rows depth scope.now (map message_of messages.now)) ≤ 2 ^ 32
             → length self.old.enums.items + length
-            (enum_rows depth scope.now (map message_of (lent messages.now))) ≤ 2 ^ 32
-            → NameOneofs depth (map message_of (lent messages.now)) → (packages : List (List ℕ))
+            (enum_rows depth scope.now (map message_of messages.now)) ≤ 2 ^ 32
+            → NameOneofs depth (map message_of messages.now) → (packages : List (List ℕ))
             → WantsMemory packages (types_names depth scope.now
-            (map message_of (lent messages.now))) self.old.names e) }
+            (map message_of messages.now)) self.old.names e) }
     {
         let mut ids = Vec::new(alloc);
         if depth == 0 {
@@ -284,7 +282,7 @@ impl<'a> Outline<'a> {
         &mut self,
         alloc: Global,
         depth: usize,
-        message: &'a Message,
+        message: &Said<'a>,
     ) -> Result<(), Unstated>
         ensures outlined { OnOk result (OutlinesFile depth (message_of message.now)
             self.old self.new) }
@@ -312,7 +310,7 @@ impl<'a> Outline<'a> {
             own_services,
         )?;
         self.files.push(OutlinedFile {
-            message,
+            message: message.again(),
             types,
             enums,
             services,
@@ -325,14 +323,14 @@ impl<'a> Outline<'a> {
 pub fn outline_files<'a>(
     alloc: Global,
     depth: usize,
-    files: &[&'a Message],
+    files: &[Said<'a>],
     order: &[usize],
 ) -> Result<Outline<'a>, Unstated>
     ensures outlined { IfOk result (OutlinesFiles depth
-        (files_at (map message_of (lent files.now)) order.now)) }
+        (files_at (map message_of files.now) order.now)) }
     ensures refused { IfErr result (λ e. AllByRecursion
         (λ place. place < length files.now) order.now
-        → MayDeclare depth (files_at (map message_of (lent files.now)) order.now) → e ≡ Memory) }
+        → MayDeclare depth (files_at (map message_of files.now) order.now) → e ≡ Memory) }
 {
     let mut outline = Outline {
         files: Vec::new(alloc),

@@ -15,12 +15,12 @@ ghost use Rattle.pg_fds.specs.Building.{written_shape};
 ghost use Rattle.pg_fds.specs.Descriptor.{file_set};
 ghost use Rattle.pg_fds.specs.FilePlaces.{AreOrdered};
 ghost use Rattle.pg_fds.specs.InOrder.{StandInOrder};
-ghost use Rattle.pg_fds.specs.Lent.{lent};
 ghost use Rattle.pg_fds.specs.Proto as proto;
 ghost use Rattle.pg_fds.specs.Reads.{CanBeMade, IsHeld, States, StatesFiles, fds_reads, importer_of, kept_files};
 ghost use Rattle.pg_fds.specs.Refused.{HasTexts, IsOfBytes, IsOfParts, MayRefuseFiles, MayRefuseSet, NoneIsStated, StatesNoneHeld};
 ghost use Rattle.pg_fds.specs.Said.{children_at};
 ghost use Rattle.pg_fds.specs.StatesFiles.{is_proto3, most_deep};
+ghost use Rattle.pg_fds.specs.Texts.{AreTexts};
 ghost use Rattle.pg_fds.specs.Views.{parts_view};
 
 use crate::codes::files_have_types;
@@ -33,7 +33,7 @@ use crate::order::order;
 use crate::outline::outline_files;
 use crate::places::SET;
 use crate::proto;
-use crate::said::children;
+use crate::said::{Said, children};
 use crate::set_states::{kept, skips, states_files};
 use pg_check::{CheckError, admit};
 use pg_dyn::laws::faults_are_real;
@@ -58,6 +58,7 @@ fn decoded(alloc: Global, bytes: &[u8]) -> Result<Message, FdsError>
     ensures message { IfOk result (λ set. dec written_shape file_set bytes.now
         ≡ Some (message_of set)) }
     ensures fits { IfOk result (λ set. Fits written_shape set × (type_of set ≡ file_set)) }
+    ensures texts { IfOk result AreTexts }
     ensures refused { IfErr result (MayRefuseSet bytes.now) }
     ensures of_bytes { IfErr result IsOfBytes }
 {
@@ -70,11 +71,11 @@ fn decoded(alloc: Global, bytes: &[u8]) -> Result<Message, FdsError>
 
 // Whether the files are all proto3. Refused only where the syntax of one is no text, so where they
 // state no schema.
-fn are_proto3(files: &[&Message]) -> Result<bool, Unstated>
-    ensures ok { IfOk result (λ all. all ≡ list_all is_proto3 (map message_of (lent files.now))) }
+fn are_proto3(files: &[Said<'_>]) -> Result<bool, Unstated>
+    ensures ok { IfOk result (λ all. all ≡ list_all is_proto3 (map message_of files.now)) }
     ensures none { OnErr result ((skips : Bool) (parts : StatedParts)
-        → StatesFiles skips (map message_of (lent files.now)) parts → ⊥) }
-    ensures refused { OnErr result (AllByRecursion HasTexts (map message_of (lent files.now)) → ⊥) }
+        → StatesFiles skips (map message_of files.now) parts → ⊥) }
+    ensures refused { OnErr result (AllByRecursion HasTexts (map message_of files.now) → ⊥) }
 {
     for file in files {
         let proto3 = is_proto3(file)?;
@@ -87,13 +88,13 @@ fn are_proto3(files: &[&Message]) -> Result<bool, Unstated>
 
 // The parts that the files declare, in that order: they say what those say that the files state.
 // Refused, memory aside, only where they state none.
-fn parts(alloc: Global, skips: bool, files: &[&Message], order: &[usize]) -> Result<Parts, Unstated>
-    requires { AreOrdered skips (map importer_of (map message_of (lent files.now))) order.now }
+fn parts(alloc: Global, skips: bool, files: &[Said<'_>], order: &[usize]) -> Result<Parts, Unstated>
+    requires { AreOrdered skips (map importer_of (map message_of files.now)) order.now }
     ensures made { IfOk result (λ made. (parts : StatedParts) → CanBeMade parts
-        → StatesFiles skips (map message_of (lent files.now)) parts
+        → StatesFiles skips (map message_of files.now) parts
         → parts_view made ≡ parts_view parts) }
     ensures none { IfErr result (λ e. (parts : StatedParts) → CanBeMade parts
-        → StatesFiles skips (map message_of (lent files.now)) parts → e ≡ unstated.Memory) }
+        → StatesFiles skips (map message_of files.now) parts → e ≡ unstated.Memory) }
 {
     let outline = outline_files(alloc, DEFAULT_DEPTH_LIMIT, files, order)?;
     made_parts(alloc, skips, &outline)
@@ -130,14 +131,14 @@ fn compared(
     alloc: Global,
     schema: &Schema,
     skips: bool,
-    files: &[&Message],
+    files: &[Said<'_>],
     order: &[usize],
 ) -> Result<(), Unstated>
-    requires { AreOrdered skips (map importer_of (map message_of (lent files.now))) order.now }
-    ensures ok { OnOk result (StatesFiles skips (map message_of (lent files.now)) schema.now) }
+    requires { AreOrdered skips (map importer_of (map message_of files.now)) order.now }
+    ensures ok { OnOk result (StatesFiles skips (map message_of files.now) schema.now) }
     ensures places { OnOk result (StandInOrder schema.now) }
     ensures none { IfErr result (λ e. IsSound schema.now
-        → StatesFiles skips (map message_of (lent files.now)) schema.now → StandInOrder schema.now
+        → StatesFiles skips (map message_of files.now) schema.now → StandInOrder schema.now
         → e ≡ unstated.Memory) }
 {
     states_files(alloc, schema, skips, files, order)?;
@@ -145,17 +146,17 @@ fn compared(
 }
 
 // The schema that the files state, which are proto3 and have types that are taken.
-fn kept_schema(alloc: Global, skips: bool, files: &[&Message]) -> Result<Schema, FdsError>
+fn kept_schema(alloc: Global, skips: bool, files: &[Said<'_>]) -> Result<Schema, FdsError>
     ensures ok { IfOk result (λ schema. StatesFiles skips
-        (map message_of (lent files.now)) schema) }
+        (map message_of files.now) schema) }
     ensures sound { IfOk result IsSound }
     ensures places { IfOk result (λ schema. StandInOrder schema) }
     ensures refused { IfErr result IsOfParts }
     ensures same { IfOk result (λ schema. (parts : StatedParts) → CanBeMade parts
-        → StatesFiles skips (map message_of (lent files.now)) parts
+        → StatesFiles skips (map message_of files.now) parts
         → parts_view schema ≡ parts_view parts) }
     ensures none { IfErr result (λ e. (parts : StatedParts) → CanBeMade parts
-        → StatesFiles skips (map message_of (lent files.now)) parts → e ≡ errors.Memory) }
+        → StatesFiles skips (map message_of files.now) parts → e ≡ errors.Memory) }
 {
     let order = order(alloc, skips, files)?;
     let places = order.as_slice();
@@ -166,18 +167,18 @@ fn kept_schema(alloc: Global, skips: bool, files: &[&Message]) -> Result<Schema,
 }
 
 // The schema that the files state.
-fn files_schema(alloc: Global, skips: bool, files: &[&Message]) -> Result<Schema, FdsError>
+fn files_schema(alloc: Global, skips: bool, files: &[Said<'_>]) -> Result<Schema, FdsError>
     ensures ok { IfOk result (λ schema. StatesFiles skips
-        (map message_of (lent files.now)) schema) }
+        (map message_of files.now) schema) }
     ensures sound { IfOk result IsSound }
     ensures places { IfOk result (λ schema. StandInOrder schema) }
-    ensures refused { IfErr result (λ e. AllByRecursion HasTexts (map message_of (lent files.now))
-        → MayRefuseFiles (map message_of (lent files.now)) e) }
+    ensures refused { IfErr result (λ e. AllByRecursion HasTexts (map message_of files.now)
+        → MayRefuseFiles (map message_of files.now) e) }
     ensures same { IfOk result (λ schema. (parts : StatedParts) → CanBeMade parts
-        → StatesFiles skips (map message_of (lent files.now)) parts
+        → StatesFiles skips (map message_of files.now) parts
         → parts_view schema ≡ parts_view parts) }
     ensures none { IfErr result (λ e. (parts : StatedParts) → CanBeMade parts
-        → StatesFiles skips (map message_of (lent files.now)) parts → e ≡ errors.Memory) }
+        → StatesFiles skips (map message_of files.now) parts → e ≡ errors.Memory) }
 {
     let proto3 = are_proto3(files)?;
     if !proto3 {
@@ -191,7 +192,7 @@ fn files_schema(alloc: Global, skips: bool, files: &[&Message]) -> Result<Schema
 }
 
 // The schema that a set's message states.
-fn set_schema(alloc: Global, set: &Message) -> Result<Schema, FdsError>
+fn set_schema(alloc: Global, set: &Said<'_>) -> Result<Schema, FdsError>
     ensures ok { IfOk result (λ schema. States (message_of set.now) schema) }
     ensures sound { IfOk result IsSound }
     ensures refused { IfErr result (λ e. AllByRecursion HasTexts
@@ -223,7 +224,8 @@ fn bytes_schema(alloc: Global, bytes: &[u8]) -> Result<Schema, FdsError>
     ensures none { IfErr result (λ e. (IsOfBytes e → ⊥) → StatesNoneHeld bytes.now) }
 {
     let set = decoded(alloc, bytes)?;
-    set_schema(alloc, &set)
+    let said = Said::new(&set);
+    set_schema(alloc, &said)
 }
 
 /// The schema that the bytes of a descriptor set state (descriptor.proto; docs/PROOFS.md,

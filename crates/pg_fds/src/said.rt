@@ -1,21 +1,113 @@
 //! What the messages of a set say, by the numbers of their fields. An item of another kind than is
 //! asked for says what its kind says of that: a number no text, a text no number.
+//!
+//! The messages are without bytes: the written schema has no field of that type, and a decoded
+//! message keeps the items of string fields as texts.
 
-ghost use Rattle.std.specs.Prelude.{◌≡◌, ℕ, ◌<◌, ◌^◌, false, pos, true, IfErr, IfOk, OnErr, OnOk, map, option_map};
+ghost use Rattle.std.specs.Prelude.{◌≡◌, [], ℕ, ◌<◌, ◌^◌, false, pos, true, IfErr, IfOk, IfSome, MatchOption, OnErr, OnOk, map, option_map, slice_get};
 ghost use Rattle.std.specs.List.{AllByRecursion};
 ghost use Rattle.std.specs.Option.{option_copied};
 ghost use Rattle.std.specs.Str.{IsUtf8};
-ghost use Rattle.pg_dyn.specs.Kept.{message_of};
+ghost use Rattle.pg_dyn.specs.Kept.{message_of, of_number};
+ghost use Rattle.pg_dyn.specs.Seen.{IsFilled, content_seen};
 ghost use Rattle.pg_dyn.specs.declared.message.Value.{Value as Held};
 ghost use Rattle.pg_fds.specs.declared.error.Unstated.TheVariants.{Memory};
 ghost use Rattle.pg_fds.specs.Building.{shown};
 ghost use Rattle.pg_fds.specs.Lent.{lent};
 ghost use Rattle.pg_fds.specs.Said.{child_in, children_at, flag_at, item_at, items_at, maybe_flag_at, maybe_number_at, maybe_text_at, number_at, number_of, numbers_at, options_at, text_at, text_of, texts_at};
 ghost use Rattle.pg_fds.specs.StatesFiles.{is_place};
+ghost use Rattle.pg_fds.specs.Texts.{AreSaid, IsSaid};
 
 use crate::error::Unstated;
 use pg_dyn::{Content, Message, Value};
 use std::alloc::{AllocError, Global};
+use std::marker::Model;
+
+/// A message of a set, without bytes at any depth. Contracts see what the message keeps.
+#[derive(Drop)]
+pub struct Said<'a> {
+    message: &'a Message,
+}
+
+impl<'a> Model for Said<'a> {
+    ghost use Rattle.pg_dyn.specs.Kept.{Kept};
+    ghost use Rattle.pg_dyn.specs.KeptCode.{kept_code};
+    ghost use Rattle.pg_fds.specs.Texts.{AreTexts};
+
+    ghost Value = { Kept };
+
+    ghost coded = { kept_code };
+
+    ghost view = { λ s. s.message.now };
+
+    ghost invariant = { λ s. AreTexts s.message.now };
+}
+
+impl<'a> Said<'a> {
+    ghost use Rattle.std.specs.Prelude.{◌≡◌};
+    ghost use Rattle.pg_dyn.specs.Kept.{ends, type_of, unknown_of};
+    ghost use Rattle.pg_dyn.specs.Seen.{fields_onto};
+    ghost use Rattle.pg_fds.specs.Texts.{AreTexts};
+
+    /// What is said by a message without bytes.
+    pub fn new(message: &'a Message) -> Said<'a>
+        requires { AreTexts message.now }
+        ensures { result ≡ message.now }
+    {
+        Said { message }
+    }
+
+    /// The same message.
+    pub fn again(&self) -> Said<'a>
+        ensures { result ≡ self.now }
+    {
+        Said {
+            message: self.message,
+        }
+    }
+
+    /// The contents of its fields.
+    pub fn contents(&self) -> &'a [(u32, Content)]
+        ensures { self.now ≡ fields_onto result.now (ends (type_of self.now) (unknown_of self.now)) }
+    {
+        self.message.contents()
+    }
+}
+
+/// An item of such a message.
+#[derive(Drop)]
+pub struct SaidItem<'a> {
+    value: &'a Value,
+}
+
+impl<'a> Model for SaidItem<'a> {
+    ghost use Rattle.std.specs.Coded.{codes};
+    ghost use Rattle.pg_dyn.specs.contracts.message.Value as value_row;
+    ghost use Rattle.pg_dyn.specs.declared.message.Value.{Value as Held};
+    ghost use Rattle.pg_dyn.specs.KeptCode.{kept_code};
+    ghost use Rattle.pg_fds.specs.Texts.{IsSaid};
+
+    ghost Value = { Held };
+
+    ghost coded = { Prim.hlevel (codes, value_row.the_row.coded, kept_code) };
+
+    ghost view = { λ s. s.value.now };
+
+    ghost invariant = { λ s. IsSaid s.value.now };
+}
+
+impl<'a> SaidItem<'a> {
+    ghost use Rattle.std.specs.Prelude.{◌≡◌};
+    ghost use Rattle.pg_fds.specs.Texts.{IsSaid};
+
+    /// The item itself, which is no bytes.
+    pub fn value(&self) -> &'a Value
+        ensures value { result.now ≡ self.now }
+        ensures said { IsSaid result.now }
+    {
+        self.value
+    }
+}
 
 /// What has to hold of a set that states a schema.
 pub fn ensure(holds: bool) -> Result<(), Unstated>
@@ -30,51 +122,89 @@ pub fn ensure(holds: bool) -> Result<(), Unstated>
 
 // ---- items
 
-// References to the items.
-fn listed(alloc: Global, values: &[Value]) -> Result<Vec<&Value>, AllocError>
-    ensures { IfOk result (λ found. lent found.items ≡ values.now) }
+/// The content of a field.
+pub fn content<'a>(message: &Said<'a>, number: u32) -> Option<&'a Content>
+    ensures content { MatchOption result (of_number number message.now ≡ [])
+        (λ content. of_number number message.now ≡ content_seen number content.now) }
+    ensures filled { IfSome result (λ content. IsFilled content.now) }
+    ensures said { IfSome result (λ content. AreSaid content.now) }
+{
+    message.message.get(number)
+}
+
+// The items.
+fn listed<'a>(alloc: Global, values: &'a [Value]) -> Result<Vec<SaidItem<'a>>, AllocError>
+    requires { AllByRecursion IsSaid values.now }
+    ensures { IfOk result (λ found. found.items ≡ values.now) }
 {
     let mut found = Vec::new(alloc);
     for value in values {
-        found.push(value)?;
+        found.push(SaidItem { value })?;
     }
     Ok(found)
 }
 
-// References to the values of entries.
-fn entry_values(alloc: Global, entries: &[(Value, Value)]) -> Result<Vec<&Value>, AllocError>
-    ensures { IfOk result (λ found. lent found.items ≡ map (λ (e : Held × Held). e.1) entries.now) }
+// The values of entries.
+fn entry_values<'a>(
+    alloc: Global,
+    entries: &'a [(Value, Value)],
+) -> Result<Vec<SaidItem<'a>>, AllocError>
+    requires { AllByRecursion (λ (e : Held × Held). IsSaid e.1) entries.now }
+    ensures { IfOk result (λ found. found.items ≡ map (λ (e : Held × Held). e.1) entries.now) }
 {
     let mut found = Vec::new(alloc);
     for (_, value) in entries {
-        found.push(value)?;
+        found.push(SaidItem { value })?;
     }
     Ok(found)
 }
 
-/// The item of a singular field: the first, where there are more.
-pub fn item(message: &Message, number: u32) -> Option<&Value>
-    ensures { option_map shown (option_copied result) ≡ item_at number (message_of message.now) }
+// The first of several.
+fn first<'a>(values: &'a [Value]) -> Option<SaidItem<'a>>
+    requires { AllByRecursion IsSaid values.now }
+    ensures { result ≡ slice_get values.now 0 }
 {
-    match message.get(number) {
+    match values.first() {
+        Some(value) => Some(SaidItem { value }),
         None => None,
-        Some(Content::One(value)) => Some(value),
-        Some(Content::Many(values)) => values.first(),
-        Some(Content::Map(entries)) => match entries.first() {
-            Some((_, value)) => Some(value),
-            None => None,
-        },
+    }
+}
+
+// The value of the first entry.
+fn first_value<'a>(entries: &'a [(Value, Value)]) -> Option<SaidItem<'a>>
+    requires { AllByRecursion (λ (e : Held × Held). IsSaid e.1) entries.now }
+    ensures { result ≡ option_map (λ (e : Held × Held). e.1) (slice_get entries.now 0) }
+{
+    match entries.first() {
+        Some((_, value)) => Some(SaidItem { value }),
+        None => None,
+    }
+}
+
+/// The item of a singular field: the first, where there are more.
+pub fn item<'a>(message: &Said<'a>, number: u32) -> Option<SaidItem<'a>>
+    ensures { option_map shown result ≡ item_at number (message_of message.now) }
+{
+    match content(message, number) {
+        None => None,
+        Some(Content::One(value)) => Some(SaidItem { value }),
+        Some(Content::Many(values)) => first(values),
+        Some(Content::Map(entries)) => first_value(entries),
     }
 }
 
 /// The items of a repeated field.
-pub fn items(alloc: Global, message: &Message, number: u32) -> Result<Vec<&Value>, AllocError>
-    ensures { IfOk result (λ found. map shown (lent found.items)
+pub fn items<'a>(
+    alloc: Global,
+    message: &Said<'a>,
+    number: u32,
+) -> Result<Vec<SaidItem<'a>>, AllocError>
+    ensures { IfOk result (λ found. map shown found.items
         ≡ items_at number (message_of message.now)) }
 {
-    match message.get(number) {
+    match content(message, number) {
         None => Ok(Vec::new(alloc)),
-        Some(Content::One(value)) => Ok(vec![in alloc; value]?),
+        Some(Content::One(value)) => Ok(vec![in alloc; SaidItem { value }]?),
         Some(Content::Many(values)) => listed(alloc, values),
         Some(Content::Map(entries)) => entry_values(alloc, entries),
     }
@@ -83,35 +213,34 @@ pub fn items(alloc: Global, message: &Message, number: u32) -> Result<Vec<&Value
 // ---- what an item is
 
 /// The message that an item is.
-pub fn child_in(value: &Value) -> Option<&Message>
-    ensures { option_map message_of (option_copied result) ≡ child_in (shown value.now) }
+pub fn child_in<'a>(item: &SaidItem<'a>) -> Option<Said<'a>>
+    ensures { option_map message_of result ≡ child_in (shown item.now) }
 {
+    let value = item.value;
     match value {
-        Value::Msg(child) => Some(&**child),
+        Value::Msg(child) => Some(Said { message: &**child }),
         _ => None,
     }
 }
 
-/// The text that an item is, unless its bytes are none.
-pub fn text_in(value: &Value) -> Result<&str, Unstated>
-    ensures ok { IfOk result (λ text. text.now ≡ text_of (shown value.now)) }
-    ensures refused { OnErr result (IsUtf8 (text_of (shown value.now)) → ⊥) }
+/// The text that an item is.
+pub fn text_in<'a>(item: &SaidItem<'a>) -> Result<&'a str, Unstated>
+    ensures ok { IfOk result (λ text. text.now ≡ text_of (shown item.now)) }
+    ensures refused { OnErr result (IsUtf8 (text_of (shown item.now)) → ⊥) }
 {
+    let value = item.value;
     match value {
         Value::Text(text) => Ok(text.as_str()),
-        Value::Bytes(bytes) => match str::from_utf8(bytes) {
-            Ok(text) => Ok(text),
-            Err(_) => Err(Unstated::Reference),
-        },
+        Value::Bytes(_) => unreachable!(),
         _ => Ok(""),
     }
 }
 
 /// The number that an item is, 0 where it is none.
-pub fn number_in(value: &Value) -> i128
-    ensures { result ≡ number_of (shown value.now) }
+pub fn number_in(item: &SaidItem<'_>) -> i128
+    ensures { result ≡ number_of (shown item.now) }
 {
-    match value {
+    match item.value {
         Value::Int(found) => *found,
         _ => 0,
     }
@@ -120,8 +249,12 @@ pub fn number_in(value: &Value) -> i128
 // ---- messages
 
 /// The messages of a repeated field.
-pub fn children(alloc: Global, message: &Message, number: u32) -> Result<Vec<&Message>, AllocError>
-    ensures { IfOk result (λ found. map message_of (lent found.items)
+pub fn children<'a>(
+    alloc: Global,
+    message: &Said<'a>,
+    number: u32,
+) -> Result<Vec<Said<'a>>, AllocError>
+    ensures { IfOk result (λ found. map message_of found.items
         ≡ children_at number (message_of message.now)) }
 {
     let values = items(alloc, message, number)?;
@@ -138,19 +271,19 @@ pub fn children(alloc: Global, message: &Message, number: u32) -> Result<Vec<&Me
 // ---- texts
 
 /// The text of a singular field, where there is one. Refused are bytes that are no text.
-pub fn maybe_text(message: &Message, number: u32) -> Result<Option<&str>, Unstated>
+pub fn maybe_text<'a>(message: &Said<'a>, number: u32) -> Result<Option<&'a str>, Unstated>
     ensures ok { IfOk result (λ text. option_copied text
         ≡ maybe_text_at number (message_of message.now)) }
     ensures refused { OnErr result (IsUtf8 (text_at number (message_of message.now)) → ⊥) }
 {
     match item(message, number) {
         None => Ok(None),
-        Some(value) => Ok(Some(text_in(value)?)),
+        Some(value) => Ok(Some(text_in(&value)?)),
     }
 }
 
 /// The text of a singular field, empty where it is missing. Refused are bytes that are no text.
-pub fn text(message: &Message, number: u32) -> Result<&str, Unstated>
+pub fn text<'a>(message: &Said<'a>, number: u32) -> Result<&'a str, Unstated>
     ensures ok { IfOk result (λ text. text.now ≡ text_at number (message_of message.now)) }
     ensures refused { OnErr result (IsUtf8 (text_at number (message_of message.now)) → ⊥) }
 {
@@ -161,7 +294,7 @@ pub fn text(message: &Message, number: u32) -> Result<&str, Unstated>
 }
 
 /// The texts of a repeated field. Refused are bytes that are no text, and want of memory.
-pub fn texts(alloc: Global, message: &Message, number: u32) -> Result<Vec<&str>, Unstated>
+pub fn texts<'a>(alloc: Global, message: &Said<'a>, number: u32) -> Result<Vec<&'a str>, Unstated>
     ensures ok { IfOk result (λ found. lent found.items
         ≡ texts_at number (message_of message.now)) }
     ensures refused { IfErr result (λ e. AllByRecursion IsUtf8
@@ -178,17 +311,17 @@ pub fn texts(alloc: Global, message: &Message, number: u32) -> Result<Vec<&str>,
 // ---- numbers
 
 /// The number of a singular field, where there is one.
-pub fn maybe_number(message: &Message, number: u32) -> Option<i128>
+pub fn maybe_number(message: &Said<'_>, number: u32) -> Option<i128>
     ensures { result ≡ maybe_number_at number (message_of message.now) }
 {
     match item(message, number) {
         None => None,
-        Some(value) => Some(number_in(value)),
+        Some(value) => Some(number_in(&value)),
     }
 }
 
 /// The number of a singular field, 0 where it is missing.
-pub fn number(message: &Message, number: u32) -> i128
+pub fn number(message: &Said<'_>, number: u32) -> i128
     ensures { result ≡ number_at number (message_of message.now) }
 {
     match maybe_number(message, number) {
@@ -198,14 +331,14 @@ pub fn number(message: &Message, number: u32) -> i128
 }
 
 /// The number of a singular field, which is above 0 and one of 32 bits; any other is told as 0.
-pub fn count(message: &Message, field: u32) -> u32
+pub fn count(message: &Said<'_>, field: u32) -> u32
     ensures { (n : ℕ) → number_at field (message_of message.now) ≡ pos n → n < 2 ^ 32 → result ≡ n }
 {
     u32::try_from(number(message, field)).unwrap_or(0)
 }
 
 /// The numbers of a repeated field.
-pub fn numbers(alloc: Global, message: &Message, number: u32) -> Result<Vec<i128>, AllocError>
+pub fn numbers(alloc: Global, message: &Said<'_>, number: u32) -> Result<Vec<i128>, AllocError>
     ensures { IfOk result (λ found. found.items ≡ numbers_at number (message_of message.now)) }
 {
     let values = items(alloc, message, number)?;
@@ -231,7 +364,7 @@ pub fn place_in(number: &i128, count: usize) -> Result<usize, Unstated>
 // ---- marks
 
 /// The mark of a singular field, where there is one.
-pub fn maybe_flag(message: &Message, number: u32) -> Option<bool>
+pub fn maybe_flag(message: &Said<'_>, number: u32) -> Option<bool>
     ensures { result ≡ maybe_flag_at number (message_of message.now) }
 {
     match maybe_number(message, number) {
@@ -241,7 +374,7 @@ pub fn maybe_flag(message: &Message, number: u32) -> Option<bool>
 }
 
 /// The mark of a singular field, false where it is missing.
-pub fn flag(message: &Message, number: u32) -> bool
+pub fn flag(message: &Said<'_>, number: u32) -> bool
     ensures { result ≡ flag_at number (message_of message.now) }
 {
     match maybe_flag(message, number) {
@@ -251,11 +384,14 @@ pub fn flag(message: &Message, number: u32) -> bool
 }
 
 /// The mark with the second number in the options of the first, where both are there.
-pub fn option(message: &Message, options: u32, number: u32) -> Option<bool>
+pub fn option(message: &Said<'_>, options: u32, number: u32) -> Option<bool>
     ensures { result ≡ maybe_flag_at number (options_at options (message_of message.now)) }
 {
     match item(message, options) {
-        Some(Value::Msg(child)) => maybe_flag(child, number),
-        _ => None,
+        Some(found) => match child_in(&found) {
+            Some(child) => maybe_flag(&child, number),
+            None => None,
+        },
+        None => None,
     }
 }

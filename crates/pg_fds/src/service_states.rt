@@ -4,7 +4,6 @@ ghost use Rattle.std.specs.Prelude.{◌≡◌, IfErr, OnOk, map, slice_get, IsSo
 ghost use Rattle.std.specs.List.{AllZip};
 ghost use Rattle.pg_dyn.specs.Kept.{message_of};
 ghost use Rattle.pg_fds.specs.declared.error.Unstated.TheVariants.{Memory};
-ghost use Rattle.pg_fds.specs.Lent.{lent};
 ghost use Rattle.pg_fds.specs.Places.{declared_in};
 ghost use Rattle.pg_fds.specs.Said.{maybe_text_at};
 ghost use Rattle.pg_fds.specs.StatesFiles.{StatesCalled, StatesMethod, StatesService, StatesServices};
@@ -12,9 +11,8 @@ ghost use Rattle.pg_fds.specs.StatesFiles.{StatesCalled, StatesMethod, StatesSer
 use crate::error::Unstated;
 use crate::names::dotted;
 use crate::proto;
-use crate::said::{children, ensure, flag, maybe_text, option, text};
+use crate::said::{Said, children, ensure, flag, maybe_text, option, text};
 use crate::states::{is_within, same_text};
-use pg_dyn::Message;
 use pg_schema::{Method, Schema, Service, ServiceId, TypeId};
 use std::alloc::Global;
 
@@ -22,7 +20,7 @@ use std::alloc::Global;
 fn called(
     alloc: Global,
     source: &Schema,
-    message: &Message,
+    message: &Said<'_>,
     number: u32,
     id: TypeId,
 ) -> Result<(), Unstated>
@@ -45,7 +43,7 @@ fn called(
 fn method(
     alloc: Global,
     source: &Schema,
-    message: &Message,
+    message: &Said<'_>,
     declared: &Method,
 ) -> Result<(), Unstated>
     ensures ok { OnOk result (StatesMethod (declared_in source.now)
@@ -79,13 +77,13 @@ fn method(
 fn methods(
     alloc: Global,
     source: &Schema,
-    messages: &[&Message],
+    messages: &[Said<'_>],
     declared: &[Method],
 ) -> Result<(), Unstated>
     ensures ok { OnOk result (AllZip (StatesMethod (declared_in source.now))
-        (map message_of (lent messages.now)) declared.now) }
+        (map message_of messages.now) declared.now) }
     ensures refused { IfErr result (λ r. AllZip (StatesMethod (declared_in source.now))
-        (map message_of (lent messages.now)) declared.now → r ≡ Memory) }
+        (map message_of messages.now) declared.now → r ≡ Memory) }
 {
     ensure(messages.len() == declared.len())?;
     for (place, message) in messages.iter().enumerate() {
@@ -98,7 +96,7 @@ fn service(
     alloc: Global,
     source: &Schema,
     scope: &str,
-    message: &Message,
+    message: &Said<'_>,
     declared: &Service,
 ) -> Result<(), Unstated>
     ensures ok { OnOk result (StatesService (declared_in source.now) scope.now
@@ -128,7 +126,7 @@ fn service_at(
     alloc: Global,
     source: &Schema,
     scope: &str,
-    message: &Message,
+    message: &Said<'_>,
     id: ServiceId,
 ) -> Result<(), Unstated>
     ensures ok { OnOk result (IsSomeAnd (slice_get source.now.services.items id.index)
@@ -149,13 +147,13 @@ pub fn services(
     alloc: Global,
     source: &Schema,
     scope: &str,
-    messages: &[&Message],
+    messages: &[Said<'_>],
     ids: &[ServiceId],
 ) -> Result<(), Unstated>
     ensures ok { OnOk result (StatesServices (declared_in source.now) scope.now
-        (map message_of (lent messages.now)) ids.now) }
+        (map message_of messages.now) ids.now) }
     ensures refused { IfErr result (λ r. StatesServices (declared_in source.now) scope.now
-        (map message_of (lent messages.now)) ids.now → r ≡ Memory) }
+        (map message_of messages.now) ids.now → r ≡ Memory) }
 {
     ensure(messages.len() == ids.len())?;
     for (place, message) in messages.iter().enumerate() {

@@ -10,7 +10,6 @@ ghost use Rattle.pg_schema.specs.rules.TextSets.{IsSetOf};
 ghost use Rattle.pg_dyn.specs.Kept.{message_of};
 ghost use Rattle.pg_fds.specs.declared.error.Unstated.TheVariants.{Memory};
 ghost use Rattle.pg_fds.specs.FilePlaces.{AreOrdered, name_at};
-ghost use Rattle.pg_fds.specs.Lent.{lent};
 ghost use Rattle.pg_fds.specs.Outlines.{files_at};
 ghost use Rattle.pg_fds.specs.Places.{declared_in};
 ghost use Rattle.pg_fds.specs.PostOrder.{imports_once, paths_of};
@@ -21,18 +20,17 @@ ghost use Rattle.pg_fds.specs.StatesFiles.{StatesFile, is_skipped};
 
 use crate::error::Unstated;
 use crate::file_states::{file, is_skipped};
-use crate::said::ensure;
-use pg_dyn::Message;
+use crate::said::{Said, ensure};
 use pg_schema::{File, Import, Schema};
 use std::alloc::Global;
 use std::collections::BTreeSet;
 
 /// Whether one of the files is skipped. Refused only where the name of one is no text.
-pub fn skips(files: &[&Message]) -> Result<bool, Unstated>
+pub fn skips(files: &[Said<'_>]) -> Result<bool, Unstated>
     ensures ok { IfOk result (λ skips. skips
-        ≡ list_any is_skipped (map message_of (lent files.now))) }
+        ≡ list_any is_skipped (map message_of files.now)) }
     ensures refused { OnErr result (AllByRecursion IsUtf8
-        (map (text_at proto.file_name) (map message_of (lent files.now))) → ⊥) }
+        (map (text_at proto.file_name) (map message_of files.now)) → ⊥) }
 {
     for file in files {
         let skipped = is_skipped(file)?;
@@ -45,16 +43,16 @@ pub fn skips(files: &[&Message]) -> Result<bool, Unstated>
 
 /// The files that aren't skipped, in their order. Refused, memory aside, only where the name of one
 /// is no text.
-pub fn kept<'a>(alloc: Global, files: &[&'a Message]) -> Result<Vec<&'a Message>, Unstated>
-    ensures ok { IfOk result (λ kept. map message_of (lent kept.items)
-        ≡ filter (λ m. not (is_skipped m)) (map message_of (lent files.now))) }
+pub fn kept<'a>(alloc: Global, files: &[Said<'a>]) -> Result<Vec<Said<'a>>, Unstated>
+    ensures ok { IfOk result (λ kept. map message_of kept.items
+        ≡ filter (λ m. not (is_skipped m)) (map message_of files.now)) }
     ensures refused { IfErr result (λ r. AllByRecursion IsUtf8
-        (map (text_at proto.file_name) (map message_of (lent files.now))) → r ≡ Memory) }
+        (map (text_at proto.file_name) (map message_of files.now)) → r ≡ Memory) }
 {
     let mut kept = Vec::new(alloc);
     for file in files {
         if !is_skipped(file)? {
-            kept.push(*file)?;
+            kept.push(file.again())?;
         }
     }
     Ok(kept)
@@ -95,26 +93,26 @@ fn states_file(
     alloc: Global,
     source: &Schema,
     skips: bool,
-    messages: &[&Message],
+    messages: &[Said<'_>],
     place: usize,
     declared: &File,
 ) -> Result<(), Unstated>
-    requires { list_all imports_once (map importer_of (map message_of (lent messages.now))) ≡ true }
+    requires { list_all imports_once (map importer_of (map message_of messages.now)) ≡ true }
     ensures states { OnOk result (Any
         (λ m. StatesFile (declared_in source.now) skips m declared.now)
-        (map message_of (lent messages.now))) }
+        (map message_of messages.now)) }
     ensures named { OnOk result (name_at
-        (paths_of (map importer_of (map message_of (lent messages.now)))) place
+        (paths_of (map importer_of (map message_of messages.now))) place
         ≡ file_name declared.now) }
     ensures refused { IfErr result (λ r. IsSound source.now → is_file declared.now ≡ true
-        → IsSomeAnd (slice_get (map message_of (lent messages.now)) place)
+        → IsSomeAnd (slice_get (map message_of messages.now) place)
         (λ m. StatesFile (declared_in source.now) skips m declared.now)
         → r ≡ Memory) }
 {
     if place >= messages.len() {
         return Err(Unstated::Reference);
     }
-    file(alloc, source, skips, messages[place], declared)?;
+    file(alloc, source, skips, &messages[place], declared)?;
     Ok(())
 }
 
@@ -123,21 +121,21 @@ fn states_each(
     alloc: Global,
     source: &Schema,
     skips: bool,
-    messages: &[&Message],
+    messages: &[Said<'_>],
     places: &[usize],
     files: &[File],
 ) -> Result<(), Unstated>
-    requires { list_all imports_once (map importer_of (map message_of (lent messages.now))) ≡ true }
+    requires { list_all imports_once (map importer_of (map message_of messages.now)) ≡ true }
     ensures named { OnOk result (map
-        (name_at (paths_of (map importer_of (map message_of (lent messages.now))))) places.now
+        (name_at (paths_of (map importer_of (map message_of messages.now)))) places.now
         ≡ map file_name files.now) }
     ensures states { OnOk result (AllByRecursion
         (λ (f : File). Any (λ m. StatesFile (declared_in source.now) skips m f)
-        (map message_of (lent messages.now))) files.now) }
+        (map message_of messages.now)) files.now) }
     ensures refused { IfErr result (λ r. IsSound source.now → list_all is_file files.now ≡ true
         → AllByRecursion (λ place. place < length messages.now) places.now
         → AllZip (StatesFile (declared_in source.now) skips)
-        (files_at (map message_of (lent messages.now)) places.now) files.now
+        (files_at (map message_of messages.now) places.now) files.now
         → r ≡ Memory) }
 {
     ensure(places.len() == files.len())?;
@@ -154,17 +152,17 @@ pub fn states_files(
     alloc: Global,
     source: &Schema,
     skips: bool,
-    messages: &[&Message],
+    messages: &[Said<'_>],
     places: &[usize],
 ) -> Result<(), Unstated>
-    requires { AreOrdered skips (map importer_of (map message_of (lent messages.now))) places.now }
-    ensures ok { OnOk result (StatesFiles skips (map message_of (lent messages.now)) source.now) }
+    requires { AreOrdered skips (map importer_of (map message_of messages.now)) places.now }
+    ensures ok { OnOk result (StatesFiles skips (map message_of messages.now) source.now) }
     ensures refused { IfErr result (λ r. AllByRecursion
         (λ place. place < length messages.now) places.now
         → AllZip (StatesFile (declared_in source.now) skips)
-        (files_at (map message_of (lent messages.now)) places.now)
+        (files_at (map message_of messages.now) places.now)
         source.now.files.items
-        → StatesFiles skips (map message_of (lent messages.now)) source.now → r ≡ Memory) }
+        → StatesFiles skips (map message_of messages.now) source.now → r ≡ Memory) }
 {
     let files = source.parts().files.as_slice();
     if messages.len() != files.len() {

@@ -18,8 +18,9 @@ use crate::error::Unstated;
 use crate::fields::{label, named_type, type_code};
 use crate::names::{dotted, dotted_within};
 use crate::proto;
-use crate::said::{children, ensure, flag, maybe_number, maybe_text, number, option, text, texts};
-use pg_dyn::Message;
+use crate::said::{
+    Said, children, ensure, flag, maybe_number, maybe_text, number, option, text, texts,
+};
 use pg_schema::{
     EnumId, EnumType, EnumValue, Field, ReservedFields, ReservedValues, Schema, default_json_name,
 };
@@ -57,7 +58,7 @@ pub fn is_within(alloc: Global, scope: &str, own: &str, full: &str) -> Result<()
 
 // ---- enums
 
-fn value(message: &Message, declared: &EnumValue) -> Result<(), Unstated>
+fn value(message: &Said<'_>, declared: &EnumValue) -> Result<(), Unstated>
     ensures ok { OnOk result (StatesValue (message_of message.now) declared.now) }
     ensures refused { OnErr result (StatesValue (message_of message.now) declared.now → ⊥) }
 {
@@ -69,11 +70,11 @@ fn value(message: &Message, declared: &EnumValue) -> Result<(), Unstated>
     )
 }
 
-fn values(messages: &[&Message], declared: &[EnumValue]) -> Result<(), Unstated>
+fn values(messages: &[Said<'_>], declared: &[EnumValue]) -> Result<(), Unstated>
     ensures ok { OnOk result (AllZip StatesValue
-        (map message_of (lent messages.now)) declared.now) }
+        (map message_of messages.now) declared.now) }
     ensures refused { OnErr result (AllZip StatesValue
-        (map message_of (lent messages.now)) declared.now → ⊥) }
+        (map message_of messages.now) declared.now → ⊥) }
 {
     ensure(messages.len() == declared.len())?;
     for (place, message) in messages.iter().enumerate() {
@@ -82,7 +83,7 @@ fn values(messages: &[&Message], declared: &[EnumValue]) -> Result<(), Unstated>
     Ok(())
 }
 
-fn value_range(message: &Message, declared: ReservedValues) -> Result<(), Unstated>
+fn value_range(message: &Said<'_>, declared: ReservedValues) -> Result<(), Unstated>
     ensures ok { OnOk result (StatesValueRange (message_of message.now) declared) }
     ensures refused { OnErr result (StatesValueRange (message_of message.now) declared → ⊥) }
 {
@@ -90,11 +91,11 @@ fn value_range(message: &Message, declared: ReservedValues) -> Result<(), Unstat
     ensure(number(message, proto::RANGE_END) == i128::from(declared.last))
 }
 
-fn value_ranges(messages: &[&Message], declared: &[ReservedValues]) -> Result<(), Unstated>
+fn value_ranges(messages: &[Said<'_>], declared: &[ReservedValues]) -> Result<(), Unstated>
     ensures ok { OnOk result (AllZip StatesValueRange
-        (map message_of (lent messages.now)) declared.now) }
+        (map message_of messages.now) declared.now) }
     ensures refused { OnErr result (AllZip StatesValueRange
-        (map message_of (lent messages.now)) declared.now → ⊥) }
+        (map message_of messages.now) declared.now → ⊥) }
 {
     ensure(messages.len() == declared.len())?;
     for (place, message) in messages.iter().enumerate() {
@@ -106,7 +107,7 @@ fn value_ranges(messages: &[&Message], declared: &[ReservedValues]) -> Result<()
 fn enum_type(
     alloc: Global,
     scope: &str,
-    message: &Message,
+    message: &Said<'_>,
     declared: &EnumType,
 ) -> Result<(), Unstated>
     ensures ok { OnOk result (StatesEnum scope.now (message_of message.now) declared.now) }
@@ -144,7 +145,7 @@ fn enum_at(
     alloc: Global,
     source: &Schema,
     scope: &str,
-    message: &Message,
+    message: &Said<'_>,
     id: EnumId,
 ) -> Result<(), Unstated>
     ensures ok { OnOk result (IsSomeAnd (slice_get source.now.enums.items id.index)
@@ -163,13 +164,13 @@ pub fn enums(
     alloc: Global,
     source: &Schema,
     scope: &str,
-    messages: &[&Message],
+    messages: &[Said<'_>],
     ids: &[EnumId],
 ) -> Result<(), Unstated>
     ensures ok { OnOk result (StatesEnums (declared_in source.now) scope.now
-        (map message_of (lent messages.now)) ids.now) }
+        (map message_of messages.now) ids.now) }
     ensures refused { IfErr result (λ r. StatesEnums (declared_in source.now) scope.now
-        (map message_of (lent messages.now)) ids.now → r ≡ Memory) }
+        (map message_of messages.now) ids.now → r ≡ Memory) }
 {
     ensure(messages.len() == ids.len())?;
     for (place, message) in messages.iter().enumerate() {
@@ -181,7 +182,7 @@ pub fn enums(
 // ---- fields
 
 /// The label of a field, LABEL_OPTIONAL where it is missing.
-pub fn label_of(message: &Message) -> i128
+pub fn label_of(message: &Said<'_>) -> i128
     ensures { result ≡ label_at (message_of message.now) }
 {
     match maybe_number(message, proto::FIELD_LABEL) {
@@ -191,7 +192,7 @@ pub fn label_of(message: &Message) -> i128
 }
 
 /// The field has this JSON name, given or default.
-pub fn has_json_name(alloc: Global, message: &Message, stated: &str) -> Result<(), Unstated>
+pub fn has_json_name(alloc: Global, message: &Said<'_>, stated: &str) -> Result<(), Unstated>
     ensures ok { OnOk result (json_name_at (message_of message.now) ≡ stated.now) }
     ensures refused { IfErr result (λ r. IsUtf8 (text_at proto.field_name (message_of message.now))
         → json_name_at (message_of message.now) ≡ stated.now → r ≡ Memory) }
@@ -206,7 +207,7 @@ pub fn has_json_name(alloc: Global, message: &Message, stated: &str) -> Result<(
 }
 
 /// The field names this type, or none.
-pub fn has_type_name(message: &Message, stated: &Option<String>) -> Result<(), Unstated>
+pub fn has_type_name(message: &Said<'_>, stated: &Option<String>) -> Result<(), Unstated>
     ensures ok { OnOk result (maybe_text_at proto.field_type_name (message_of message.now)
         ≡ option_map string_bytes stated.now) }
     ensures refused { OnErr result (maybe_text_at proto.field_type_name (message_of message.now)
@@ -223,7 +224,7 @@ fn field(
     alloc: Global,
     source: &Schema,
     scope: &str,
-    message: &Message,
+    message: &Said<'_>,
     declared: &Field,
 ) -> Result<(), Unstated>
     ensures ok { OnOk result (StatesField (declared_in source.now) scope.now
@@ -251,13 +252,13 @@ pub fn fields(
     alloc: Global,
     source: &Schema,
     scope: &str,
-    messages: &[&Message],
+    messages: &[Said<'_>],
     declared: &[&Field],
 ) -> Result<(), Unstated>
     ensures ok { OnOk result (AllZip (StatesField (declared_in source.now) scope.now)
-        (map message_of (lent messages.now)) (lent declared.now)) }
+        (map message_of messages.now) (lent declared.now)) }
     ensures refused { IfErr result (λ r. AllZip (StatesField (declared_in source.now) scope.now)
-        (map message_of (lent messages.now)) (lent declared.now)
+        (map message_of messages.now) (lent declared.now)
         → r ≡ Memory) }
 {
     ensure(messages.len() == declared.len())?;
@@ -267,7 +268,7 @@ pub fn fields(
     Ok(())
 }
 
-fn field_range(message: &Message, declared: ReservedFields) -> Result<(), Unstated>
+fn field_range(message: &Said<'_>, declared: ReservedFields) -> Result<(), Unstated>
     ensures ok { OnOk result (StatesFieldRange (message_of message.now) declared) }
     ensures refused { OnErr result (StatesFieldRange (message_of message.now) declared → ⊥) }
 {
@@ -276,11 +277,11 @@ fn field_range(message: &Message, declared: ReservedFields) -> Result<(), Unstat
 }
 
 /// The messages state the reserved field numbers.
-pub fn field_ranges(messages: &[&Message], declared: &[ReservedFields]) -> Result<(), Unstated>
+pub fn field_ranges(messages: &[Said<'_>], declared: &[ReservedFields]) -> Result<(), Unstated>
     ensures ok { OnOk result (AllZip StatesFieldRange
-        (map message_of (lent messages.now)) declared.now) }
+        (map message_of messages.now) declared.now) }
     ensures refused { OnErr result (AllZip StatesFieldRange
-        (map message_of (lent messages.now)) declared.now → ⊥) }
+        (map message_of messages.now) declared.now → ⊥) }
 {
     ensure(messages.len() == declared.len())?;
     for (place, message) in messages.iter().enumerate() {

@@ -16,14 +16,13 @@ use crate::entry_states::entries;
 use crate::error::Unstated;
 use crate::oneof_states::oneofs;
 use crate::proto;
-use crate::said::{children, ensure, option, text, texts};
+use crate::said::{Said, children, ensure, option, text, texts};
 use crate::states::{enums, field_ranges, fields, is_within, same_texts};
-use pg_dyn::Message;
 use pg_schema::{Field, MessageType, Schema, TypeId};
 use std::alloc::{AllocError, Global};
 
 /// Whether the message is marked `map_entry`.
-pub fn is_entry(message: &Message) -> bool
+pub fn is_entry(message: &Said<'_>) -> bool
     ensures { result ≡ is_entry (message_of message.now) }
 {
     match option(message, proto::MESSAGE_OPTIONS, proto::MESSAGE_MAP_ENTRY) {
@@ -33,31 +32,28 @@ pub fn is_entry(message: &Message) -> bool
 }
 
 /// Those of the messages that are entry types, in their order.
-pub fn entries_of<'a>(
-    alloc: Global,
-    messages: &[&'a Message],
-) -> Result<Vec<&'a Message>, AllocError>
-    ensures { IfOk result (λ found. map message_of (lent found.items)
-        ≡ filter is_entry (map message_of (lent messages.now))) }
+pub fn entries_of<'a>(alloc: Global, messages: &[Said<'a>]) -> Result<Vec<Said<'a>>, AllocError>
+    ensures { IfOk result (λ found. map message_of found.items
+        ≡ filter is_entry (map message_of messages.now)) }
 {
     let mut found = Vec::new(alloc);
     for message in messages {
         if is_entry(message) {
-            found.push(*message)?;
+            found.push(message.again())?;
         }
     }
     Ok(found)
 }
 
 /// Those of the messages that aren't, in their order.
-pub fn types_of<'a>(alloc: Global, messages: &[&'a Message]) -> Result<Vec<&'a Message>, AllocError>
-    ensures { IfOk result (λ found. map message_of (lent found.items)
-        ≡ filter is_no_entry (map message_of (lent messages.now))) }
+pub fn types_of<'a>(alloc: Global, messages: &[Said<'a>]) -> Result<Vec<Said<'a>>, AllocError>
+    ensures { IfOk result (λ found. map message_of found.items
+        ≡ filter is_no_entry (map message_of messages.now)) }
 {
     let mut found = Vec::new(alloc);
     for message in messages {
         if !is_entry(message) {
-            found.push(*message)?;
+            found.push(message.again())?;
         }
     }
     Ok(found)
@@ -87,7 +83,7 @@ pub fn declared_fields<'a>(
 fn members(
     alloc: Global,
     source: &Schema,
-    message: &Message,
+    message: &Said<'_>,
     id: TypeId,
     declared: &MessageType,
 ) -> Result<(), Unstated>
@@ -109,7 +105,7 @@ fn members(
 fn inside(
     alloc: Global,
     source: &Schema,
-    message: &Message,
+    message: &Said<'_>,
     id: TypeId,
     declared: &MessageType,
 ) -> Result<(), Unstated>
@@ -138,7 +134,7 @@ fn inside(
 }
 
 // It states what is reserved.
-fn reserved(alloc: Global, message: &Message, declared: &MessageType) -> Result<(), Unstated>
+fn reserved(alloc: Global, message: &Said<'_>, declared: &MessageType) -> Result<(), Unstated>
     ensures ok { OnOk result (StatesReserved (message_of message.now) declared.now) }
     ensures refused { IfErr result (λ r. StatesReserved (message_of message.now) declared.now
         → r ≡ Memory) }
@@ -158,7 +154,7 @@ fn own_type(
     alloc: Global,
     source: &Schema,
     scope: &str,
-    message: &Message,
+    message: &Said<'_>,
     id: TypeId,
     declared: &MessageType,
 ) -> Result<(), Unstated>
@@ -189,14 +185,14 @@ pub fn types(
     source: &Schema,
     depth: usize,
     scope: &str,
-    messages: &[&Message],
+    messages: &[Said<'_>],
     ids: &[TypeId],
 ) -> Result<(), Unstated>
     ensures ok { OnOk result (StatesTypes depth (declared_in source.now) scope.now
-        (map message_of (lent messages.now)) ids.now) }
+        (map message_of messages.now) ids.now) }
     ensures refused { IfErr result (λ r. IsSound source.now
         → StatesTypes depth (declared_in source.now) scope.now
-        (map message_of (lent messages.now)) ids.now → r ≡ Memory) }
+        (map message_of messages.now) ids.now → r ≡ Memory) }
 {
     ensure(messages.len() == ids.len())?;
     if depth == 0 {

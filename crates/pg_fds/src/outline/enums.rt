@@ -3,7 +3,6 @@
 ghost use Rattle.std.specs.Prelude.{◌≡◌, ◌+◌, ◌<◌, ◌≤◌, ◌^◌, ◌++◌, ◌∷◌, [], ℕ, IfErr, IfOk, List, OnOk, length, map};
 ghost use Rattle.pg_schema.specs.rules.Scopes.{enum_places};
 ghost use Rattle.pg_dyn.specs.Kept.{message_of};
-ghost use Rattle.pg_fds.specs.Lent.{lent};
 ghost use Rattle.pg_fds.specs.Outlines.{AreEnumsNamed, row, row_in, rows_in};
 ghost use Rattle.pg_fds.specs.SetNames.{Declares, WantsMemory, enum_names, enums_names};
 ghost use Rattle.pg_fds.specs.Walks.{places_from};
@@ -12,8 +11,7 @@ use crate::declare::{declare_each, declare_named};
 use crate::error::Unstated;
 use crate::outline::{Named, Outlined, next_place};
 use crate::proto;
-use crate::said::children;
-use pg_dyn::Message;
+use crate::said::{Said, children};
 use pg_schema::EnumId;
 use std::alloc::Global;
 use std::collections::BTreeMap;
@@ -24,7 +22,7 @@ fn outline_enum<'a>(
     names: &mut BTreeMap<String, Named>,
     enums: &mut Vec<Outlined<'a>>,
     scope: &str,
-    message: &'a Message,
+    message: &Said<'a>,
 ) -> Result<EnumId, Unstated>
     ensures placed { IfOk result (λ id. id.index ≡ length enums.old.items) }
     ensures rows { OnOk result (map row enums.new.items ≡ map row enums.old.items
@@ -42,7 +40,10 @@ fn outline_enum<'a>(
     let name = declare_named(alloc, names, scope, message, Named::Enum(id))?;
     let values = children(alloc, message, proto::ENUM_VALUE)?;
     declare_each(alloc, names, scope, values.as_slice(), Named::Other)?;
-    enums.push(Outlined { message, name })?;
+    enums.push(Outlined {
+        message: message.again(),
+        name,
+    })?;
     Ok(id)
 }
 
@@ -52,20 +53,20 @@ pub fn outline_enums<'a>(
     names: &mut BTreeMap<String, Named>,
     enums: &mut Vec<Outlined<'a>>,
     scope: &str,
-    messages: &[&'a Message],
+    messages: &[Said<'a>],
 ) -> Result<Vec<EnumId>, Unstated>
     ensures ids { IfOk result (λ ids. enum_places ids.items
         ≡ places_from (length enums.old.items) (length messages.now)) }
     ensures rows { OnOk result (map row enums.new.items ≡ map row enums.old.items
-        ++ rows_in scope.now (map message_of (lent messages.now))) }
+        ++ rows_in scope.now (map message_of messages.now)) }
     ensures named { OnOk result (AreEnumsNamed names.old (map row enums.old.items)
         → AreEnumsNamed names.new (map row enums.new.items)) }
     ensures declares { OnOk result ((packages : List (List ℕ))
-        → Declares packages (enums_names scope.now (map message_of (lent messages.now))) names.old
+        → Declares packages (enums_names scope.now (map message_of messages.now)) names.old
         names.new) }
     ensures refused { IfErr result (λ e. length enums.old.items + length messages.now ≤ 2 ^ 32
         → (packages : List (List ℕ))
-        → WantsMemory packages (enums_names scope.now (map message_of (lent messages.now)))
+        → WantsMemory packages (enums_names scope.now (map message_of messages.now))
         names.old e) }
 {
     let mut ids = Vec::new(alloc);

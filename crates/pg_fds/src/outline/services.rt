@@ -3,7 +3,6 @@
 ghost use Rattle.std.specs.Prelude.{◌≡◌, ◌+◌, ◌<◌, ◌≤◌, ◌^◌, ◌++◌, ◌∷◌, [], ℕ, IfErr, IfOk, List, OnOk, length, map};
 ghost use Rattle.pg_schema.specs.rules.Scopes.{service_places};
 ghost use Rattle.pg_dyn.specs.Kept.{message_of};
-ghost use Rattle.pg_fds.specs.Lent.{lent};
 ghost use Rattle.pg_fds.specs.Outlines.{row, row_in, rows_in};
 ghost use Rattle.pg_fds.specs.SetNames.{Declares, WantsMemory, service_names, services_names};
 ghost use Rattle.pg_fds.specs.Walks.{places_from};
@@ -12,8 +11,7 @@ use crate::declare::{declare_each, declare_named};
 use crate::error::Unstated;
 use crate::outline::{Named, Outlined, next_place};
 use crate::proto;
-use crate::said::children;
-use pg_dyn::Message;
+use crate::said::{Said, children};
 use pg_schema::ServiceId;
 use std::alloc::Global;
 use std::collections::BTreeMap;
@@ -24,7 +22,7 @@ fn outline_service<'a>(
     names: &mut BTreeMap<String, Named>,
     services: &mut Vec<Outlined<'a>>,
     scope: &str,
-    message: &'a Message,
+    message: &Said<'a>,
 ) -> Result<ServiceId, Unstated>
     ensures placed { IfOk result (λ id. id.index ≡ length services.old.items) }
     ensures rows { OnOk result (map row services.new.items ≡ map row services.old.items
@@ -47,7 +45,10 @@ fn outline_service<'a>(
         methods.as_slice(),
         Named::Other,
     )?;
-    services.push(Outlined { message, name })?;
+    services.push(Outlined {
+        message: message.again(),
+        name,
+    })?;
     Ok(id)
 }
 
@@ -57,18 +58,18 @@ pub fn outline_services<'a>(
     names: &mut BTreeMap<String, Named>,
     services: &mut Vec<Outlined<'a>>,
     scope: &str,
-    messages: &[&'a Message],
+    messages: &[Said<'a>],
 ) -> Result<Vec<ServiceId>, Unstated>
     ensures ids { IfOk result (λ ids. service_places ids.items
         ≡ places_from (length services.old.items) (length messages.now)) }
     ensures rows { OnOk result (map row services.new.items ≡ map row services.old.items
-        ++ rows_in scope.now (map message_of (lent messages.now))) }
+        ++ rows_in scope.now (map message_of messages.now)) }
     ensures declares { OnOk result ((packages : List (List ℕ))
-        → Declares packages (services_names scope.now (map message_of (lent messages.now)))
+        → Declares packages (services_names scope.now (map message_of messages.now))
         names.old names.new) }
     ensures refused { IfErr result (λ e. length services.old.items + length messages.now ≤ 2 ^ 32
         → (packages : List (List ℕ))
-        → WantsMemory packages (services_names scope.now (map message_of (lent messages.now)))
+        → WantsMemory packages (services_names scope.now (map message_of messages.now))
         names.old e) }
 {
     let mut ids = Vec::new(alloc);

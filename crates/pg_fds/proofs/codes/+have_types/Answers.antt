@@ -10,7 +10,7 @@ loop-message-preserved t c =
     let inside = have_types (c.args.depth - 1) in
     tested_more (has_types inside) c.args.messages.now c.loop-message.message-index m c.loop-message.all c.both-here.result c.both-so_far.result c.loop-message-test.true c.message-item.is
     c.loop-message.invariant c.both-so_far.ensures
-    (here_typed inside (message_of m.now) c.as_slice-fields.result.now c.in_ok-own.own.items c.as_slice-types.result.now c.in_ok-inside.inside.items c.are_taken-taken.result c.in_ok-deep.deep c.both-here.result
+    (here_typed inside (message_of m) c.as_slice-fields.result.now c.in_ok-own.own.items c.as_slice-types.result.now c.in_ok-inside.inside.items c.are_taken-taken.result c.in_ok-deep.deep c.both-here.result
     c.as_slice-fields.ensures.value c.in_ok-own.ensures c.as_slice-types.ensures.value c.in_ok-inside.ensures c.are_taken-taken.ensures c.in_ok-deep.ensures c.both-here.ensures)
 
 pub returns : goal.returns

@@ -17,7 +17,7 @@ loop-message-preserved c =
     let i = c.loop-message.message-index in
     let m = c.message-item.result in
     let scope = c.args.scope.now in
-    let name = full_name scope (message_of m.now) in
+    let name = full_name scope (message_of m) in
     record {
       has = has_on (λ x. get_by_text c.declare_own.new.names (full_name scope x) ≡ Some c.args.named) ms i m c.loop-message-test.true c.message-item.is
           (still_has [] (name ∷ []) (full_name scope) c.args.named (seen (take i ms)) c.loop-message.names c.declare_own.new.names (c.in_ok-declare_own.ensures.declares []) c.loop-message.invariant.has)

@@ -1,7 +1,6 @@
 use Rattle.std.proofs.Common.{map, sym, ◌∙◌}
 use Rattle.std.proofs.lemmas.Result.{MatchResult-from_err, err_from_is_err_and}
 use Rattle.pg_dyn.specs.Kept.{message_of}
-use Rattle.pg_fds.specs.Lent.{lent}
 use Rattle.pg_fds.specs.Places.{declared_in}
 use Rattle.pg_fds.specs.States.{HasEntry}
 use Rattle.pg_fds.proofs.FileLaws.{each_in}
@@ -19,4 +18,4 @@ returns-in_err-has_entry-clause-refused c =
     let p = err_from_is_err_and c.from_residual-in_err-has_entry.result c.from_residual-in_err-has_entry.ensures.1 in
     rw (p.1, p.2) (λ texts once states.
     c.in_err-has_entry.ensures.refused (c.in_ok-places.ensures.index once)
-    (each_in (HasEntry (declared_in c.args.source.now) (map message_of (lent c.args.messages.now))) c.args.fields.now c.loop-field.field-index c.field-item.result states.each c.loop-field-test.true c.field-item.is))
+    (each_in (HasEntry (declared_in c.args.source.now) (map message_of c.args.messages.now)) c.args.fields.now c.loop-field.field-index c.field-item.result states.each c.loop-field-test.true c.field-item.is))

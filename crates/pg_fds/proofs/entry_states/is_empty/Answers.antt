@@ -21,5 +21,5 @@ returns-in_err-lacks_all-clause-refused c =
 pub returns-clause-ok : goal.returns-clause-ok
 returns-clause-ok c =
     let m = c.args.message.now in
-    no_parts m c.contents-contents.result.now (type_of m) (unknown_of m) c.contents-contents.ensures.whole
+    no_parts m c.contents-contents.result.now (type_of m) (unknown_of m) c.contents-contents.ensures
     (all_taken (λ (f : ℕ × Content). items_at f.0 (message_of m) ≡ []) c.contents-contents.result.now c.loop-content.content-index c.loop-content-test.false c.loop-content.invariant)

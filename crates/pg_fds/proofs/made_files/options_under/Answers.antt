@@ -1,6 +1,5 @@
 use Rattle.std.proofs.Common.{Global, Vec, ap, get_or, map, option_map, sym, ◌∙◌}
 use Rattle.std.proofs.lemmas.Result.{err_from_is_err_and}
-use Rattle.std.specs.Option.{option_copied}
 use Rattle.pg_schema.specs.declared.parts.options.FileOption.{FileOption}
 use Rattle.pg_dyn.specs.Kept.{message_of}
 use Rattle.pg_fds.specs.Building.{shown}
@@ -17,8 +16,8 @@ returns-in_err-value-clause-refused c =
     let n = get_or numbers i 0 in
     let p = err_from_is_err_and c.from_residual.result c.from_residual.ensures.1 in
     rw (p.1, p.2) (λ os states.
-    option_at (message_of c.args.message.now) os numbers i n (shown c.in-Some.value.now) _ c.loop-number-test.true (same_default numbers i 0 n c.loop-number-test.true) states
-    (sym (ap (λ o. option_map shown (option_copied o)) c.in-Some.is) ∙ c.item-found.ensures) (λ v says. c.in_err-value.ensures.refused v says))
+    option_at (message_of c.args.message.now) os numbers i n (shown c.in-Some.value) _ c.loop-number-test.true (same_default numbers i 0 n c.loop-number-test.true) states
+    (sym (ap (λ o. option_map shown o) c.in-Some.is) ∙ c.item-found.ensures) (λ v says. c.in_err-value.ensures.refused v says))
 
 pub loop-number-preserved : goal.loop-number-preserved
 loop-number-preserved c =
@@ -32,10 +31,10 @@ loop-number-preserved c =
       | in-Some+in_ok-value+in_ok-push w ↦ (λ os states kinds.
           ap (λ (v : Vec FileOption Global). map option_view v.items) w.options-is
           ∙ (ap (map option_view) w.in_ok-push.ensures.items
-          ∙ option_more m os numbers i n before w.in-Some.value.now w.in_ok-value.value c.loop-number-test.true at states kinds
-          (sym (ap (λ o. option_map shown (option_copied o)) w.in-Some.is) ∙ c.item-found.ensures) (λ v says kind. w.in_ok-value.ensures.made v says kind) (c.loop-number.invariant os states kinds)))
+          ∙ option_more m os numbers i n before w.in-Some.value w.in_ok-value.value c.loop-number-test.true at states kinds
+          (sym (ap (λ o. option_map shown o) w.in-Some.is) ∙ c.item-found.ensures) (λ v says kind. w.in_ok-value.ensures.made v says kind) (c.loop-number.invariant os states kinds)))
       | in_default w ↦ (λ os states kinds.
           ap (λ (v : Vec FileOption Global). map option_view v.items) w.options-is
           ∙ option_none m os numbers i n before c.loop-number-test.true at states
-          (sym (ap (λ o. option_map shown (option_copied o)) w.in_default.is) ∙ c.item-found.ensures) (c.loop-number.invariant os states kinds))
+          (sym (ap (λ o. option_map shown o) w.in_default.is) ∙ c.item-found.ensures) (c.loop-number.invariant os states kinds))
     ]

@@ -25,12 +25,12 @@ returns-in_err-key-in-len2-clause-refused c =
     MatchResult-from_err c.from_residual-in_err-key-in-len2.result _ _ c.from_residual-in_err-key-in-len2.ensures.0
     (λ r all k v has known are.
     absurd (c.in_err-key-in-len2.ensures.refused all k has
-    (element_of all (codes "key") 1 (elements.Scalar k) (message_of c.first-item.result.now) refl
+    (element_of all (codes "key") 1 (elements.Scalar k) (message_of c.first-item.result) refl
     (two_fields all k v c.args.fields.now c.first-item.result c.second-item.result c.first-item.is c.second-item.is are).0)))
 
 pub returns-in_ok-value-in-len2-clause-made : goal.returns-in_ok-value-in-len2-clause-made
 returns-in_ok-value-in-len2-clause-made c = λ all k v has known are.
     let both = two_fields all k v c.args.fields.now c.first-item.result c.second-item.result c.first-item.is c.second-item.is are in (
-      c.in_ok-key-in-len2.ensures.made all k has (element_of all (codes "key") 1 (elements.Scalar k) (message_of c.first-item.result.now) refl both.0),
-      c.in_ok-value-in-len2.ensures.made all v has (element_of all (codes "value") 2 v (message_of c.second-item.result.now) known both.1),
+      c.in_ok-key-in-len2.ensures.made all k has (element_of all (codes "key") 1 (elements.Scalar k) (message_of c.first-item.result) refl both.0),
+      c.in_ok-value-in-len2.ensures.made all v has (element_of all (codes "value") 2 v (message_of c.second-item.result) known both.1),
     )

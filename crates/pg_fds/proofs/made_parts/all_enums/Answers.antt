@@ -11,7 +11,7 @@ loop-one-preserved c =
     rw c.in_ok-push.ensures.items (λ cs zip.
     each_more IsMadeEnum enum_view c.args.outlined.now c.loop-one.one-index c.one-item.result c.loop-one.enums.items c.in_ok-made.made c.loop-one-test.true c.one-item.is
     (λ e is.
-    same_enum is.0 (message_of c.one-item.result.message.now) c.in_ok-made.made e (c.in_ok-made.ensures.states is.0 (is.1.name ∙ is.1.states.name)) is.1.states) (c.loop-one.invariant) cs zip)
+    same_enum is.0 (message_of c.one-item.result.message) c.in_ok-made.made e (c.in_ok-made.ensures.states is.0 (is.1.name ∙ is.1.states.name)) is.1.states) (c.loop-one.invariant) cs zip)
 
 pub returns-in_err-made-clause-refused : goal.returns-in_err-made-clause-refused
 returns-in_err-made-clause-refused c =

@@ -19,4 +19,4 @@ loop-message-preserved c =
     let key = string_bytes c.in_ok-name.name in
     subst (HasNamed c.insert.new.self) (sym (taken_more ms i m c.loop-message-test.true c.message-item.is))
     (named_more c.loop-message.entries c.insert.new.self key m (c.in_ok-name.ensures.ok ∙ c.in_ok-text.ensures.ok)
-    (btree_map_updates_text key c.loop-message.entries c.insert.new.self (Some m) c.in_ok-insert.ensures.updates) (take i ms) c.loop-message.invariant)
+    (btree_map_updates_text key c.loop-message.entries c.insert.new.self (Some m) (rw c.again.ensures at c.in_ok-insert.ensures.updates)) (take i ms) c.loop-message.invariant)

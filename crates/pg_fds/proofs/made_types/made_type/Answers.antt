@@ -22,7 +22,7 @@ returns-in_err-texts-clause-refused c =
 pub returns-clause-made : goal.returns-clause-made
 returns-clause-made c = λ all scope t made.
     let has = c.in_ok-members.ensures.made all scope t made in
-    let ranges : map message_of (lent c.deref.result.now) ≡ children_at 9 (message_of c.args.outlined.now.message.now) = ap (λ xs. map message_of (lent xs)) c.deref.ensures.value ∙ c.in_ok-children.ensures in
+    let ranges : map message_of c.deref.result.now ≡ children_at 9 (message_of c.args.outlined.now.message) = ap (λ xs. map message_of xs) c.deref.ensures.value ∙ c.in_ok-children.ensures in
     let reserved = c.in_ok-reserved_numbers.ensures t.reserved_numbers.items (subst (λ ms. AllZip StatesFieldRange ms t.reserved_numbers.items) (sym ranges) made.outlined.states.reserved_numbers)
     (made_ranges all c.args.names.now scope c.args.outlined.now t made) in
     let names : map string_bytes c.in_ok-reserved_names.reserved_names.items ≡ map string_bytes t.reserved_names.items =

@@ -2,7 +2,6 @@ use Rattle.std.proofs.Common.{ap, length, map, subst, sym, ◌≡◌, ◌∙◌}
 use Rattle.std.proofs.lemmas.Result.{err_from_is_err_and}
 use Rattle.pg_schema.specs.declared.parts.field.Field.{Field}
 use Rattle.pg_dyn.specs.Kept.{message_of}
-use Rattle.pg_fds.specs.Lent.{lent}
 use Rattle.pg_fds.specs.Said.{children_at}
 use Rattle.pg_fds.specs.StatesTypes.{AreMarked, synthetic_places}
 use Rattle.pg_fds.proofs.MadeMessage.{made_name_texts, made_names, made_numbers, made_sorted}
@@ -14,12 +13,12 @@ returns-in_err-oneofs-clause-refused c =
     let p = err_from_is_err_and c.from_residual.result c.from_residual.ensures.1 in
     rw (p.1, p.2) (λ all scope t made.
     c.in_err-oneofs.ensures.refused
-    (made_name_texts all c.args.names.now scope c.args.outlined.now t made (map message_of (lent c.args.own.now)) (map message_of (lent c.args.inside.now)) c.requires.own c.requires.inside c.args.places.now c.requires.places))
+    (made_name_texts all c.args.names.now scope c.args.outlined.now t made (map message_of c.args.own.now) (map message_of c.args.inside.now) c.requires.own c.requires.inside c.args.places.now c.requires.places))
 
 pub declared_fields-requires-clause-marked : goal.declared_fields-requires-clause-marked
 declared_fields-requires-clause-marked c =
-    let many : length c.args.inside.now ≡ length (children_at 8 (message_of c.args.outlined.now.message.now)) = sym (seen_length c.args.inside.now) ∙ ap length c.requires.inside in
-    subst (λ k. AreMarked (synthetic_places (map message_of (lent c.args.own.now))) k c.args.synthetic.items) many
+    let many : length c.args.inside.now ≡ length (children_at 8 (message_of c.args.outlined.now.message)) = sym (seen_length c.args.inside.now) ∙ ap length c.requires.inside in
+    subst (λ k. AreMarked (synthetic_places (map message_of c.args.own.now)) k c.args.synthetic.items) many
     (subst (λ ns. AreMarked ns (length c.args.inside.now) c.args.synthetic.items) c.requires.places c.requires.marked)
 
 pub returns-clause-made : goal.returns-clause-made
@@ -30,5 +29,5 @@ returns-clause-made c = λ all scope t made.
       fields = made_sorted all c.args.names.now scope o t made c.in_ok-made.made.items c.in_ok-fields.fields.items same c.in_ok-fields.ensures.same c.in_ok-fields.ensures.rising;
       declared = c.in_ok-declared.ensures ∙ (ap (map (λ (f : Field). f.number)) c.deref-2.ensures.value ∙ made_numbers all c.args.names.now scope o t made c.in_ok-made.made.items same);
       oneofs = c.in_ok-oneofs.ensures.made
-          ∙ made_names all c.args.names.now scope o t made (map message_of (lent c.args.own.now)) (map message_of (lent c.args.inside.now)) c.requires.own c.requires.inside c.args.places.now c.requires.places;
+          ∙ made_names all c.args.names.now scope o t made (map message_of c.args.own.now) (map message_of c.args.inside.now) c.requires.own c.requires.inside c.args.places.now c.requires.places;
     }

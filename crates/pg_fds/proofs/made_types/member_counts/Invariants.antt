@@ -1,8 +1,7 @@
 use Rattle.std.proofs.Common.{map, take}
 use Rattle.pg_dyn.specs.Kept.{message_of}
-use Rattle.pg_fds.specs.Lent.{lent}
 use Rattle.pg_fds.specs.Made.{AreCounted}
 use Rattle.pg_fds.proofs.made_types.member_counts.Given as goal
 
 abbrev pub invariant-loop-field : goal.invariant-loop-field
-invariant-loop-field l = AreCounted (map message_of (lent (take l.field-index l.fields))) l.count l.counts.items
+invariant-loop-field l = AreCounted (map message_of (take l.field-index l.fields)) l.count l.counts.items

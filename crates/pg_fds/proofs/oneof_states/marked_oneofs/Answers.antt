@@ -13,8 +13,8 @@ use Rattle.pg_fds.proofs.oneof_states.marked_oneofs.Goals as goal
 
 pub returns-clause-ok : goal.returns-clause-ok
 returns-clause-ok c =
-    let seen = map message_of (lent c.args.messages.now) in
-    let oneofs = map message_of (lent c.args.oneofs.now) in
+    let seen = map message_of c.args.messages.now in
+    let oneofs = map message_of c.args.oneofs.now in
     let many = ap length c.as_slice-stated.ensures.value in
     record {
       names = cc (c.in_ok-real_names.ensures.ok, c.in_ok-same_texts.ensures.ok, c.requires.synthetic);
@@ -25,7 +25,7 @@ returns-clause-ok c =
 
 pub returns-in_err-real_names-clause-refused : goal.returns-in_err-real_names-clause-refused
 returns-in_err-real_names-clause-refused c =
-    let oneofs = map message_of (lent c.args.oneofs.now) in
+    let oneofs = map message_of c.args.oneofs.now in
     let p = err_from_is_err_and c.from_residual.result c.from_residual.ensures.1 in
     rw (p.1, p.2) (λ states.
     let are : map string_bytes c.args.message_type.now.oneofs.items ≡ map (text_at 1) (real_oneofs c.args.numbers.now 0 oneofs) =

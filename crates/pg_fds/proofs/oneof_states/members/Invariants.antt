@@ -8,5 +8,5 @@ use Rattle.pg_fds.proofs.oneof_states.members.Given as goal
 
 abbrev pub invariant-loop-place : goal.invariant-loop-place
 invariant-loop-place l =
-    AllZip (StandsIn (map message_of (lent l.oneofs)) l.numbers (map string_bytes l.names)) (map message_of (lent (drop l.place l.messages))) (lent (drop l.place l.declared))
-    → AllZip (StandsIn (map message_of (lent l.oneofs)) l.numbers (map string_bytes l.names)) (map message_of (lent l.messages)) (lent l.declared)
+    AllZip (StandsIn (map message_of l.oneofs) l.numbers (map string_bytes l.names)) (map message_of (drop l.place l.messages)) (lent (drop l.place l.declared))
+    → AllZip (StandsIn (map message_of l.oneofs) l.numbers (map string_bytes l.names)) (map message_of l.messages) (lent l.declared)

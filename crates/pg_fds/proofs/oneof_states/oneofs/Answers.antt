@@ -13,4 +13,4 @@ returns-in_err-marks-clause-refused c =
     let p = err_from_is_err_and c.from_residual-in_err-marks.result c.from_residual-in_err-marks.ensures.1 in
     rw (p.1, p.2) (λ states. c.in_err-marks.ensures.refused
     (ap₂ (λ n ns. list_all (is_place n) ns) (sym (seen_length c.args.oneofs.now)) (c.deref.ensures.value ∙ c.in_ok-numbers.ensures)
-    ∙ places_named (map message_of (lent c.args.oneofs.now)) (map message_of (lent c.args.messages.now)) c.args.message_type.now (lent c.args.declared.now) states))
+    ∙ places_named (map message_of c.args.oneofs.now) (map message_of c.args.messages.now) c.args.message_type.now (lent c.args.declared.now) states))

@@ -6,4 +6,4 @@ use Rattle.pg_fds.specs.StatesTypes.{real_oneofs}
 use Rattle.pg_fds.proofs.oneof_states.real_names.Given as goal
 
 abbrev pub invariant-loop-place : goal.invariant-loop-place
-invariant-loop-place l = lent l.names.items ++ map (text_at 1) (real_oneofs l.numbers l.place (map message_of (lent (drop l.place l.oneofs)))) ≡ map (text_at 1) (real_oneofs l.numbers 0 (map message_of (lent l.oneofs)))
+invariant-loop-place l = lent l.names.items ++ map (text_at 1) (real_oneofs l.numbers l.place (map message_of (drop l.place l.oneofs))) ≡ map (text_at 1) (real_oneofs l.numbers 0 (map message_of l.oneofs))

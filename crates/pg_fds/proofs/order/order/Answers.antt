@@ -3,7 +3,6 @@ use Rattle.std.proofs.lemmas.Result.{IfErr-weaker, err_from_is_err_and}
 use Rattle.pg_dyn.specs.Kept.{message_of}
 use Rattle.pg_fds.specs.declared.error.Unstated.TheVariants as errors
 use Rattle.pg_fds.specs.FilePlaces.{importers}
-use Rattle.pg_fds.specs.Lent.{lent}
 use Rattle.pg_fds.specs.PostOrder.{HasNoOrder}
 use Rattle.pg_fds.specs.Reads.{importer_of}
 use Rattle.pg_fds.proofs.order.order.Goals as goal
@@ -15,5 +14,5 @@ returns-in_err-found-clause-refused c =
 
 pub returns-clause-refused : goal.returns-clause-refused
 returns-clause-refused c =
-    let files : importers c.deref.result.now ≡ map importer_of (map message_of (lent c.args.files.now)) = ap importers c.deref.ensures.value ∙ c.in_ok-found.ensures.ok in
+    let files : importers c.deref.result.now ≡ map importer_of (map message_of c.args.files.now) = ap importers c.deref.ensures.value ∙ c.in_ok-found.ensures.ok in
     IfErr-weaker c.order_of.result _ _ (λ e h all. subst (λ is. (e ≡ errors.Memory) ⊎ HasNoOrder c.args.skips is) files h) c.order_of.ensures.refused

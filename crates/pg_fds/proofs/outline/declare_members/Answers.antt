@@ -1,7 +1,6 @@
 use Rattle.std.proofs.Common.{◌≡◌, length, map, ap, ◌∙◌, arith}
 use Rattle.std.proofs.lemmas.Result.{err_from_is_err_and}
 use Rattle.pg_dyn.specs.Kept.{message_of}
-use Rattle.pg_fds.specs.Lent.{lent}
 use Rattle.pg_fds.specs.Said.{children_at}
 use Rattle.pg_fds.specs.SetNames.{full_names}
 use Rattle.pg_fds.specs.StatesTypes.{real_oneofs, synthetic_places}
@@ -12,7 +11,7 @@ use Rattle.pg_fds.proofs.outline.declare_members.Goals as goal
 pub returns-in_err-marks-clause-refused : goal.returns-in_err-marks-clause-refused
 returns-in_err-marks-clause-refused c =
     let m = message_of c.args.message.now in
-    let numbers = c.deref-2.ensures.value ∙ (c.in_ok-synthetic.ensures ∙ ap synthetic_places (ap (λ ms. map message_of (lent ms)) c.deref.ensures.value ∙ c.in_ok-fields.ensures)) in
+    let numbers = c.deref-2.ensures.value ∙ (c.in_ok-synthetic.ensures ∙ ap synthetic_places (ap (λ ms. map message_of ms) c.deref.ensures.value ∙ c.in_ok-fields.ensures)) in
     let as_many : c.len.result ≡ length (children_at 8 m) = omega (arith, c.len.ensures, c.in_ok-oneofs.oneofs.ok.0, seen_long c.in_ok-oneofs.oneofs.items, ap length c.in_ok-oneofs.ensures) in
     let p = err_from_is_err_and c.from_residual-in_err-marks.result c.from_residual-in_err-marks.ensures.1 in
     rw (p.1, p.2) (λ named packages later free. marks_refused m c.len.result c.deref-2.result.now _ numbers as_many c.in_err-marks.ensures.refused named)
@@ -21,7 +20,7 @@ pub returns-in_err-declare_each-clause-refused : goal.returns-in_err-declare_eac
 returns-in_err-declare_each-clause-refused c =
     let m = message_of c.args.message.now in
     let full = c.args.full.now in
-    let all = ap (λ ms. map message_of (lent ms)) c.deref-6.ensures.value ∙ c.in_ok-fields.ensures in
+    let all = ap (λ ms. map message_of ms) c.deref-6.ensures.value ∙ c.in_ok-fields.ensures in
     let p = err_from_is_err_and c.from_residual-in_err-declare_each.result c.from_residual-in_err-declare_each.ensures.1 in
     rw (p.1, p.2) (λ named packages. wants_first packages (full_names full (children_at 2 m)) (full_names full (real_oneofs (synthetic_places (children_at 2 m)) 0 (children_at 8 m))) c.args.names.now _
     (rw (← all) (c.in_err-declare_each.ensures.refused packages)))
@@ -29,14 +28,14 @@ returns-in_err-declare_each-clause-refused c =
 pub returns-in_err-declare_each-2-clause-refused : goal.returns-in_err-declare_each-2-clause-refused
 returns-in_err-declare_each-2-clause-refused c =
     let m = message_of c.args.message.now in
-    let fields = map message_of (lent c.deref-6.result.now) in
-    let real = map message_of (lent c.deref-7.result.now) in
-    let all : fields ≡ children_at 2 m = ap (λ ms. map message_of (lent ms)) c.deref-6.ensures.value ∙ c.in_ok-fields.ensures in
+    let fields = map message_of c.deref-6.result.now in
+    let real = map message_of c.deref-7.result.now in
+    let all : fields ≡ children_at 2 m = ap (λ ms. map message_of ms) c.deref-6.ensures.value ∙ c.in_ok-fields.ensures in
     let numbers : c.deref-4.result.now ≡ synthetic_places (children_at 2 m) =
-    c.deref-4.ensures.value ∙ (c.in_ok-synthetic.ensures ∙ ap synthetic_places (ap (λ ms. map message_of (lent ms)) c.deref.ensures.value ∙ c.in_ok-fields.ensures)) in
-    let oneofs : map message_of (lent c.deref-3.result.now) ≡ children_at 8 m = ap (λ ms. map message_of (lent ms)) c.deref-3.ensures.value ∙ c.in_ok-oneofs.ensures in
+    c.deref-4.ensures.value ∙ (c.in_ok-synthetic.ensures ∙ ap synthetic_places (ap (λ ms. map message_of ms) c.deref.ensures.value ∙ c.in_ok-fields.ensures)) in
+    let oneofs : map message_of c.deref-3.result.now ≡ children_at 8 m = ap (λ ms. map message_of ms) c.deref-3.ensures.value ∙ c.in_ok-oneofs.ensures in
     let these : real ≡ real_oneofs (synthetic_places (children_at 2 m)) 0 (children_at 8 m) =
-    ap (λ ms. map message_of (lent ms)) c.deref-7.ensures.value ∙ (c.in_ok-real.ensures ∙ (ap (λ ns. real_oneofs ns 0 (map message_of (lent c.deref-3.result.now))) numbers ∙ ap (real_oneofs (synthetic_places (children_at 2 m)) 0) oneofs)) in
+    ap (λ ms. map message_of ms) c.deref-7.ensures.value ∙ (c.in_ok-real.ensures ∙ (ap (λ ns. real_oneofs ns 0 (map message_of c.deref-3.result.now)) numbers ∙ ap (real_oneofs (synthetic_places (children_at 2 m)) 0) oneofs)) in
     let p = err_from_is_err_and c.from_residual-in_err-declare_each-2.result c.from_residual-in_err-declare_each-2.ensures.1 in
     rw (p.1, p.2) (λ named packages. oneofs_wanted packages c.args.full.now m fields real all these c.args.names.now c.declare_each.new.names (c.in_ok-declare_each.ensures.declares packages) _
     (c.in_err-declare_each-2.ensures.refused packages))
@@ -44,13 +43,13 @@ returns-in_err-declare_each-2-clause-refused c =
 pub returns-clause-declares : goal.returns-clause-declares
 returns-clause-declares c = λ packages.
     let m = message_of c.args.message.now in
-    let fields = map message_of (lent c.deref-6.result.now) in
-    let real = map message_of (lent c.deref-7.result.now) in
-    let all : fields ≡ children_at 2 m = ap (λ ms. map message_of (lent ms)) c.deref-6.ensures.value ∙ c.in_ok-fields.ensures in
+    let fields = map message_of c.deref-6.result.now in
+    let real = map message_of c.deref-7.result.now in
+    let all : fields ≡ children_at 2 m = ap (λ ms. map message_of ms) c.deref-6.ensures.value ∙ c.in_ok-fields.ensures in
     let numbers : c.deref-4.result.now ≡ synthetic_places (children_at 2 m) =
-    c.deref-4.ensures.value ∙ (c.in_ok-synthetic.ensures ∙ ap synthetic_places (ap (λ ms. map message_of (lent ms)) c.deref.ensures.value ∙ c.in_ok-fields.ensures)) in
-    let oneofs : map message_of (lent c.deref-3.result.now) ≡ children_at 8 m = ap (λ ms. map message_of (lent ms)) c.deref-3.ensures.value ∙ c.in_ok-oneofs.ensures in
+    c.deref-4.ensures.value ∙ (c.in_ok-synthetic.ensures ∙ ap synthetic_places (ap (λ ms. map message_of ms) c.deref.ensures.value ∙ c.in_ok-fields.ensures)) in
+    let oneofs : map message_of c.deref-3.result.now ≡ children_at 8 m = ap (λ ms. map message_of ms) c.deref-3.ensures.value ∙ c.in_ok-oneofs.ensures in
     let these : real ≡ real_oneofs (synthetic_places (children_at 2 m)) 0 (children_at 8 m) =
-    ap (λ ms. map message_of (lent ms)) c.deref-7.ensures.value ∙ (c.in_ok-real.ensures ∙ (ap (λ ns. real_oneofs ns 0 (map message_of (lent c.deref-3.result.now))) numbers ∙ ap (real_oneofs (synthetic_places (children_at 2 m)) 0) oneofs)) in
+    ap (λ ms. map message_of ms) c.deref-7.ensures.value ∙ (c.in_ok-real.ensures ∙ (ap (λ ns. real_oneofs ns 0 (map message_of c.deref-3.result.now)) numbers ∙ ap (real_oneofs (synthetic_places (children_at 2 m)) 0) oneofs)) in
     members_declared packages c.args.full.now m fields real all these c.args.names.now c.declare_each.new.names (c.in_ok-declare_each.ensures.declares packages) c.declare_each-2.new.names
     (c.in_ok-declare_each-2.ensures.declares packages)

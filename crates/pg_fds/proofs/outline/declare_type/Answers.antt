@@ -2,7 +2,6 @@ use Rattle.std.proofs.Common.{◌≡◌, [], filter, map, rules, ap, ◌∙◌}
 use Rattle.std.proofs.lemmas.Result.{err_from_is_err_and}
 use Rattle.std.specs.String.{string_bytes}
 use Rattle.pg_dyn.specs.Kept.{message_of}
-use Rattle.pg_fds.specs.Lent.{lent}
 use Rattle.pg_fds.specs.Said.{children_at}
 use Rattle.pg_fds.specs.StatesTypes.{is_entry}
 use Rattle.pg_fds.proofs.OutlinedNames.{entries_wanted, members_wanted, name_wanted, own_declared, type_there}
@@ -30,9 +29,9 @@ returns-in_err-declare_each-clause-refused c =
     let m = message_of c.args.message.now in
     let full = c.args.full.now in
     let named : string_bytes c.in_ok-name.name ≡ full = search rules in
-    let found = map message_of (lent c.as_slice-entries.result.now) in
+    let found = map message_of c.as_slice-entries.result.now in
     let all : found ≡ filter is_entry (children_at 3 m) =
-    ap (λ ms. map message_of (lent ms)) c.as_slice-entries.ensures.value ∙ (c.in_ok-found.ensures ∙ ap (filter is_entry) (ap (λ ms. map message_of (lent ms)) c.as_slice.ensures.value ∙ c.in_ok-inside.ensures)) in
+    ap (λ ms. map message_of ms) c.as_slice-entries.ensures.value ∙ (c.in_ok-found.ensures ∙ ap (filter is_entry) (ap (λ ms. map message_of ms) c.as_slice.ensures.value ∙ c.in_ok-inside.ensures)) in
     let p = err_from_is_err_and c.from_residual-in_err-declare_each.result c.from_residual-in_err-declare_each.ensures.1 in
     rw (p.1, p.2) (λ oneofs packages. entries_wanted full m packages (string_bytes c.in_ok-name.name) named c.args.names.now c.declare.new.names (c.in_ok-declare.ensures.declares packages)
     c.declare_members.new.names (c.in_ok-declare_members.ensures.declares packages) found all _ (c.in_err-declare_each.ensures.refused packages))
@@ -42,9 +41,9 @@ returns-clause-has c =
     let m = message_of c.args.message.now in
     let full = c.args.full.now in
     let named : string_bytes c.in_ok-name.name ≡ full = search rules in
-    let found = map message_of (lent c.as_slice-entries.result.now) in
+    let found = map message_of c.as_slice-entries.result.now in
     let all : found ≡ filter is_entry (children_at 3 m) =
-    ap (λ ms. map message_of (lent ms)) c.as_slice-entries.ensures.value ∙ (c.in_ok-found.ensures ∙ ap (filter is_entry) (ap (λ ms. map message_of (lent ms)) c.as_slice.ensures.value ∙ c.in_ok-inside.ensures)) in
+    ap (λ ms. map message_of ms) c.as_slice-entries.ensures.value ∙ (c.in_ok-found.ensures ∙ ap (filter is_entry) (ap (λ ms. map message_of ms) c.as_slice.ensures.value ∙ c.in_ok-inside.ensures)) in
     type_there full m [] (string_bytes c.in_ok-name.name) named c.args.names.now c.declare.new.names (c.in_ok-declare.ensures.declares []) c.declare_members.new.names (c.in_ok-declare_members.ensures.declares [])
     found all c.declare_each.new.names c.args.id.index (c.in_ok-declare_each.ensures.declares []) c.in_ok-declare.ensures.has c.in_ok-declare_each.ensures.has
 
@@ -53,8 +52,8 @@ returns-clause-declares c = λ packages.
     let m = message_of c.args.message.now in
     let full = c.args.full.now in
     let named : string_bytes c.in_ok-name.name ≡ full = search rules in
-    let found = map message_of (lent c.as_slice-entries.result.now) in
+    let found = map message_of c.as_slice-entries.result.now in
     let all : found ≡ filter is_entry (children_at 3 m) =
-    ap (λ ms. map message_of (lent ms)) c.as_slice-entries.ensures.value ∙ (c.in_ok-found.ensures ∙ ap (filter is_entry) (ap (λ ms. map message_of (lent ms)) c.as_slice.ensures.value ∙ c.in_ok-inside.ensures)) in
+    ap (λ ms. map message_of ms) c.as_slice-entries.ensures.value ∙ (c.in_ok-found.ensures ∙ ap (filter is_entry) (ap (λ ms. map message_of ms) c.as_slice.ensures.value ∙ c.in_ok-inside.ensures)) in
     own_declared full m packages (string_bytes c.in_ok-name.name) named c.args.names.now c.declare.new.names (c.in_ok-declare.ensures.declares packages) c.declare_members.new.names
     (c.in_ok-declare_members.ensures.declares packages) found all c.declare_each.new.names (c.in_ok-declare_each.ensures.declares packages)

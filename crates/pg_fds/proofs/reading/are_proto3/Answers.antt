@@ -2,7 +2,6 @@ use Rattle.std.proofs.Common.{map, sym, ◌∙◌}
 use Rattle.std.proofs.lemmas.Result.{MatchResult-from_err}
 use Rattle.std.specs.Str.{IsUtf8}
 use Rattle.pg_dyn.specs.Kept.{message_of}
-use Rattle.pg_fds.specs.Lent.{lent}
 use Rattle.pg_fds.specs.Refused.{HasTexts}
 use Rattle.pg_fds.specs.Said.{text_at}
 use Rattle.pg_fds.specs.StatesFiles.{is_proto3}
@@ -21,7 +20,7 @@ returns-in_err-proto3-clause-none c =
     (λ e skips parts states.
     c.in_err-proto3.ensures.refused
     (each_seen (λ m. IsUtf8 (text_at 12 m)) c.args.files.now c.loop-file.file-index c.file-item.result c.loop-file-test.true c.file-item.is
-    (stated_syntax skips (map message_of (lent c.args.files.now)) parts states)))
+    (stated_syntax skips (map message_of c.args.files.now) parts states)))
 
 pub returns-in_err-proto3-clause-refused : goal.returns-in_err-proto3-clause-refused
 returns-in_err-proto3-clause-refused c =

@@ -1,7 +1,6 @@
 use Rattle.std.proofs.Common.{◌≡◌, map, take}
 use Rattle.pg_dyn.specs.declared.message.Value.{Value}
-use Rattle.pg_fds.specs.Lent.{lent}
 use Rattle.pg_fds.proofs.said.entry_values.Given as goal
 
 abbrev pub invariant-loop-value : goal.invariant-loop-value
-invariant-loop-value l = lent l.found.items ≡ map (λ (e : Value × Value). e.1) (take l.value-index l.entries)
+invariant-loop-value l = l.found.items ≡ map (λ (e : Value × Value). e.1) (take l.value-index l.entries)

@@ -1,17 +1,16 @@
-use Rattle.std.proofs.Common.{List, ap, map, sym, ◌∙◌, Bor}
+use Rattle.std.proofs.Common.{List, ap, map, sym, ◌∙◌}
 use Rattle.std.proofs.lemmas.Result.{IfOk-weaker}
 use Rattle.pg_dyn.specs.declared.message.Value.{Value}
 use Rattle.pg_fds.specs.Building.{shown}
-use Rattle.pg_fds.specs.Lent.{lent}
 use Rattle.pg_fds.proofs.SaidLaws.{entry_items, many_items, no_items, one_of}
 use Rattle.pg_fds.proofs.said.items.Goals as goal
 
 pub returns-in-None : goal.returns-in-None
-returns-in-None c = ap (λ (xs : List (Bor Value)). map shown (lent xs)) c.new.ensures.items ∙ sym (no_items c.args.number c.args.message.now c.in-None.ensures.content)
+returns-in-None c = ap (λ (xs : List Value). map shown xs) c.new.ensures.items ∙ sym (no_items c.args.number c.args.message.now c.in-None.ensures.content)
 
 pub returns-in_ok-vec-in-Some-One : goal.returns-in_ok-vec-in-Some-One
 returns-in_ok-vec-in-Some-One c =
-    ap (λ (xs : List (Bor Value)). map shown (lent xs)) c.in_ok-vec-in-Some-One.ensures.items
+    ap (λ (xs : List Value). map shown xs) c.in_ok-vec-in-Some-One.ensures.items
     ∙ one_of c.args.number c.args.message.now c.in-Some-One.value (rw c.in-Some-One.field-0-is at c.in-Some-One.ensures.content)
 
 pub returns-in-Some-Many : goal.returns-in-Some-Many

@@ -5,4 +5,4 @@ use Rattle.pg_fds.specs.Said.{text_of}
 use Rattle.pg_fds.proofs.said.texts.Given as goal
 
 abbrev pub invariant-loop-value : goal.invariant-loop-value
-invariant-loop-value l = lent l.texts.items ≡ map text_of (map shown (lent (take l.value-index l.value-items)))
+invariant-loop-value l = lent l.texts.items ≡ map text_of (map shown (take l.value-index l.value-items))

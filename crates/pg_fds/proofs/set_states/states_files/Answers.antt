@@ -6,7 +6,6 @@ use Rattle.pg_schema.specs.declared.parts.Parts.{Parts}
 use Rattle.pg_schema.specs.rules.Files.{is_file}
 use Rattle.pg_schema.specs.rules.Pairs.{are_distinct}
 use Rattle.pg_dyn.specs.Kept.{message_of}
-use Rattle.pg_fds.specs.Lent.{lent}
 use Rattle.pg_fds.specs.Outlines.{files_at}
 use Rattle.pg_fds.specs.Places.{declared_in}
 use Rattle.pg_fds.specs.PostOrder.{IsPostOrder}
@@ -18,7 +17,7 @@ use Rattle.pg_fds.proofs.set_states.states_files.Goals as goal
 
 pub returns-clause-ok : goal.returns-clause-ok
 returns-clause-ok c =
-    let kept = map message_of (lent c.args.messages.now) in
+    let kept = map message_of c.args.messages.now in
     let own : c.as_slice-files.result.now ≡ c.args.source.now.files.items = c.as_slice-files.ensures.value ∙ ap (λ (p : Parts). p.files.items) c.parts.ensures.parts in
     record {
       once = subst (λ ps. are_distinct ps ≡ true) (paths_are kept) c.requires.once;
@@ -40,7 +39,7 @@ returns-in_err-states_each-clause-refused c =
     let p = err_from_is_err_and c.from_residual.result c.from_residual.ensures.1 in
     rw (p.1, p.2) (λ there zip states.
     c.in_err-states_each.ensures.refused c.parts.ensures.checked.sound (subst (λ fs. list_all is_file fs ≡ true) (sym own) c.parts.ensures.checked.sound.files) there
-    (subst (AllZip (StatesFile (declared_in source) c.args.skips) (files_at (map message_of (lent c.args.messages.now)) c.args.places.now)) (sym own) zip))
+    (subst (AllZip (StatesFile (declared_in source) c.args.skips) (files_at (map message_of c.args.messages.now) c.args.places.now)) (sym own) zip))
 
 pub returns-in_err-are_behind-clause-refused : goal.returns-in_err-are_behind-clause-refused
 returns-in_err-are_behind-clause-refused c =

@@ -6,7 +6,6 @@ use Rattle.pg_schema.specs.declared.parts.field.TypeId.{TypeId}
 use Rattle.pg_schema.specs.rules.DeclaredNames.{within}
 use Rattle.pg_schema.specs.rules.Scopes.{enum_places, type_places}
 use Rattle.pg_dyn.specs.Kept.{message_of}
-use Rattle.pg_fds.specs.Lent.{lent}
 use Rattle.pg_fds.specs.Outlines.{AreEnumsNamed, AreTypesNamed, NameOneofs, enum_rows, row, row_in, rows_in, rows_of_enums, rows_of_type, type_row, type_rows}
 use Rattle.pg_fds.specs.OutlinedPlaces.{behind_type, counts_of, each_from, inside_type, placed_type, placed_types, placed_with, places_of_types}
 use Rattle.pg_fds.specs.Said.{children_at}
@@ -61,14 +60,14 @@ returns-in_err-own_name-clause-refused t c =
     rw (p.1, p.2) (λ types enums oneofs packages.
     deep_wants depth scope c.args.messages.now c.loop-message.message-index m c.if-depth-eq0.false c.loop-message-test.true c.message-item.is packages c.args.self.now.names c.loop-message.self.names _
     (c.loop-message.invariant.declares packages)
-    (unnamed (depth - 1) scope (message_of m.now) (full_name scope (message_of m.now)) refl packages c.loop-message.self.names _ c.in_err-own_name.ensures.refused))
+    (unnamed (depth - 1) scope (message_of m) (full_name scope (message_of m)) refl packages c.loop-message.self.names _ c.in_err-own_name.ensures.refused))
 
 pub returns-in_err-id-clause-refused : goal.returns-in_err-id-clause-refused
 returns-in_err-id-clause-refused t c =
     let ms = c.args.messages.now in
     let i = c.loop-message.message-index in
     let m = c.message-item.result in
-    let mm = message_of m.now in
+    let mm = message_of m in
     let depth = c.args.depth in
     let scope = c.args.scope.now in
     let inv = c.loop-message.invariant in
@@ -87,16 +86,16 @@ returns-in_err-enums-clause-refused t c =
     let ms = c.args.messages.now in
     let i = c.loop-message.message-index in
     let m = c.message-item.result in
-    let mm = message_of m.now in
+    let mm = message_of m in
     let depth = c.args.depth in
     let scope = c.args.scope.now in
     let inv = c.loop-message.invariant in
     let some = c.if-depth-eq0.false in
     let h = c.loop-message-test.true in
     let at = c.as_str-name.result.now in
-    let found = map message_of (lent c.as_slice-own_enums.result.now) in
+    let found = map message_of c.as_slice-own_enums.result.now in
     let here : at ≡ full_name scope mm = c.as_str-name.ensures.value ∙ (c.in_ok-full.ensures ∙ ap (within scope) c.in_ok-own_name.ensures.ok) in
-    let all : found ≡ children_at 4 mm = ap (λ xs. map message_of (lent xs)) c.as_slice-own_enums.ensures.value ∙ c.in_ok-enums_inside.ensures in
+    let all : found ≡ children_at 4 mm = ap (λ xs. map message_of xs) c.as_slice-own_enums.ensures.value ∙ c.in_ok-enums_inside.ensures in
     let p = err_from_is_err_and c.from_residual-in_err-enums.result c.from_residual-in_err-enums.ensures.1 in
     rw (p.1, p.2) (λ room_types room_enums oneofs packages.
     let b = few_enums depth scope ms i m some h c.message-item.is c.args.self.now.enums.items c.loop-message.self.enums.items inv.enum_rows room_enums in
@@ -109,19 +108,19 @@ returns-in_err-types-clause-refused t c =
     let ms = c.args.messages.now in
     let i = c.loop-message.message-index in
     let m = c.message-item.result in
-    let mm = message_of m.now in
+    let mm = message_of m in
     let depth = c.args.depth in
     let scope = c.args.scope.now in
     let inv = c.loop-message.invariant in
     let some = c.if-depth-eq0.false in
     let h = c.loop-message-test.true in
     let at = c.as_str-name.result.now in
-    let inner = map message_of (lent c.as_slice-own.result.now) in
-    let found = map message_of (lent c.as_slice-own_enums.result.now) in
+    let inner = map message_of c.as_slice-own.result.now in
+    let found = map message_of c.as_slice-own_enums.result.now in
     let here : at ≡ full_name scope mm = c.as_str-name.ensures.value ∙ (c.in_ok-full.ensures ∙ ap (within scope) c.in_ok-own_name.ensures.ok) in
     let types : inner ≡ filter is_no_entry (children_at 3 mm) =
-    ap (λ xs. map message_of (lent xs)) c.as_slice-own.ensures.value ∙ (c.in_ok-declared.ensures ∙ ap (filter is_no_entry) (ap (λ xs. map message_of (lent xs)) c.as_slice-inside.ensures.value ∙ c.in_ok-all_inside.ensures)) in
-    let all : found ≡ children_at 4 mm = ap (λ xs. map message_of (lent xs)) c.as_slice-own_enums.ensures.value ∙ c.in_ok-enums_inside.ensures in
+    ap (λ xs. map message_of xs) c.as_slice-own.ensures.value ∙ (c.in_ok-declared.ensures ∙ ap (filter is_no_entry) (ap (λ xs. map message_of xs) c.as_slice-inside.ensures.value ∙ c.in_ok-all_inside.ensures)) in
+    let all : found ≡ children_at 4 mm = ap (λ xs. map message_of xs) c.as_slice-own_enums.ensures.value ∙ c.in_ok-enums_inside.ensures in
     let same_types = ap (λ a. type_rows (depth - 1) a inner) here ∙ ap (type_rows (depth - 1) (full_name scope mm)) types in
     let same_enums = ap (λ a. enum_rows (depth - 1) a inner) here ∙ ap (enum_rows (depth - 1) (full_name scope mm)) types in
     let one = rows_long type_row c.loop-message.self.types.items c.outline_type.new.self.types.items ((at, mm) ∷ []) c.in_ok-id.ensures.rows in
@@ -142,18 +141,18 @@ loop-message-preserved t c =
     let ms = c.args.messages.now in
     let i = c.loop-message.message-index in
     let m = c.message-item.result in
-    let mm = message_of m.now in
+    let mm = message_of m in
     let depth = c.args.depth in
     let scope = c.args.scope.now in
     let inv = c.loop-message.invariant in
     let h = c.loop-message-test.true in
     let at = c.as_str-name.result.now in
-    let inner = map message_of (lent c.as_slice-own.result.now) in
-    let found = map message_of (lent c.as_slice-own_enums.result.now) in
+    let inner = map message_of c.as_slice-own.result.now in
+    let found = map message_of c.as_slice-own_enums.result.now in
     let here : at ≡ full_name scope mm = c.as_str-name.ensures.value ∙ (c.in_ok-full.ensures ∙ ap (within scope) c.in_ok-own_name.ensures.ok) in
     let types : inner ≡ filter is_no_entry (children_at 3 mm) =
-    ap (λ xs. map message_of (lent xs)) c.as_slice-own.ensures.value ∙ (c.in_ok-declared.ensures ∙ ap (filter is_no_entry) (ap (λ xs. map message_of (lent xs)) c.as_slice-inside.ensures.value ∙ c.in_ok-all_inside.ensures)) in
-    let all : found ≡ children_at 4 mm = ap (λ xs. map message_of (lent xs)) c.as_slice-own_enums.ensures.value ∙ c.in_ok-enums_inside.ensures in
+    ap (λ xs. map message_of xs) c.as_slice-own.ensures.value ∙ (c.in_ok-declared.ensures ∙ ap (filter is_no_entry) (ap (λ xs. map message_of xs) c.as_slice-inside.ensures.value ∙ c.in_ok-all_inside.ensures)) in
+    let all : found ≡ children_at 4 mm = ap (λ xs. map message_of xs) c.as_slice-own_enums.ensures.value ∙ c.in_ok-enums_inside.ensures in
     let t0 = c.loop-message.self.names in
     let t1 = c.outline_type.new.self.names in
     let t2 = c.outline_enums.new.names in

@@ -2,7 +2,6 @@ use Rattle.std.proofs.Common.{◌≡◌, ◌++◌, ◌-◌, ◌∷◌, [], ℕ, 
 use Rattle.std.specs.List.{flat_map}
 use Rattle.pg_schema.specs.rules.Scopes.{type_places}
 use Rattle.pg_dyn.specs.Kept.{message_of}
-use Rattle.pg_fds.specs.Lent.{lent}
 use Rattle.pg_fds.specs.Outlines.{AreEnumsNamed, AreTypesNamed, enum_rows, row, rows_of_enums, rows_of_type, type_row, type_rows}
 use Rattle.pg_fds.specs.OutlinedPlaces.{behind_type, counts_behind, counts_of, each_from, placed_type, placed_types, placed_with}
 use Rattle.pg_fds.specs.SetNames.{Declares, type_names, types_names}
@@ -13,14 +12,14 @@ decreases-outline_types l = l.depth
 
 abbrev pub invariant-loop-message : goal.invariant-loop-message
 invariant-loop-message l = record {
-  rows : map type_row l.self.types.items ≡ map type_row l.fn.self.types.items ++ flat_map (rows_of_type (type_rows (l.depth - 1)) l.scope) (map message_of (lent (take l.message-index l.messages)));
-  enum_rows : map row l.self.enums.items ≡ map row l.fn.self.enums.items ++ flat_map (rows_of_enums (enum_rows (l.depth - 1)) l.scope) (map message_of (lent (take l.message-index l.messages)));
-  ids : type_places l.ids.items ≡ each_from (behind_type (l.depth - 1) l.scope) (λ c m. c.types ∷ []) (counts_of l.fn.self) (map message_of (lent (take l.message-index l.messages)));
+  rows : map type_row l.self.types.items ≡ map type_row l.fn.self.types.items ++ flat_map (rows_of_type (type_rows (l.depth - 1)) l.scope) (map message_of (take l.message-index l.messages));
+  enum_rows : map row l.self.enums.items ≡ map row l.fn.self.enums.items ++ flat_map (rows_of_enums (enum_rows (l.depth - 1)) l.scope) (map message_of (take l.message-index l.messages));
+  ids : type_places l.ids.items ≡ each_from (behind_type (l.depth - 1) l.scope) (λ c m. c.types ∷ []) (counts_of l.fn.self) (map message_of (take l.message-index l.messages));
   placed : map placed_type l.self.types.items
-      ≡ map placed_type l.fn.self.types.items ++ each_from (behind_type (l.depth - 1) l.scope) (placed_with (l.depth - 1) (placed_types (l.depth - 1)) l.scope) (counts_of l.fn.self) (map message_of (lent (take l.message-index l.messages)));
-  counts : counts_of l.self ≡ counts_behind (behind_type (l.depth - 1) l.scope) (counts_of l.fn.self) (map message_of (lent (take l.message-index l.messages)));
+      ≡ map placed_type l.fn.self.types.items ++ each_from (behind_type (l.depth - 1) l.scope) (placed_with (l.depth - 1) (placed_types (l.depth - 1)) l.scope) (counts_of l.fn.self) (map message_of (take l.message-index l.messages));
+  counts : counts_of l.self ≡ counts_behind (behind_type (l.depth - 1) l.scope) (counts_of l.fn.self) (map message_of (take l.message-index l.messages));
   others : (l.self.services.items ≡ l.fn.self.services.items) × (l.self.files.items ≡ l.fn.self.files.items);
   named : AreTypesNamed l.fn.self.names (map type_row l.fn.self.types.items) → AreTypesNamed l.self.names (map type_row l.self.types.items);
   enums_named : AreEnumsNamed l.fn.self.names (map row l.fn.self.enums.items) → AreEnumsNamed l.self.names (map row l.self.enums.items);
-  declares : (packages : List (List ℕ)) → Declares packages (flat_map (type_names (types_names (l.depth - 1)) l.scope) (map message_of (lent (take l.message-index l.messages)))) l.fn.self.names l.self.names;
+  declares : (packages : List (List ℕ)) → Declares packages (flat_map (type_names (types_names (l.depth - 1)) l.scope) (map message_of (take l.message-index l.messages))) l.fn.self.names l.self.names;
 }

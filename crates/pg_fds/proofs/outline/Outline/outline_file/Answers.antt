@@ -4,7 +4,6 @@ use Rattle.std.proofs.lemmas.Result.{err_from_is_err_and}
 use Rattle.pg_schema.specs.rules.Scopes.{enum_places, service_places, type_places}
 use Rattle.pg_schema.specs.rules.TextSets.{is_among}
 use Rattle.pg_dyn.specs.Kept.{message_of}
-use Rattle.pg_fds.specs.Lent.{lent}
 use Rattle.pg_fds.specs.Outlines.{NameOneofs, enum_rows, file_enums, file_types, row, row_in, rows_in, type_row, type_rows}
 use Rattle.pg_fds.specs.OutlinedPlaces.{counts_of, inside_file, placed_file, placed_type, placed_types, places_of_types}
 use Rattle.pg_fds.specs.Said.{children_at, text_at}
@@ -34,8 +33,8 @@ returns-in_err-declare_scope-clause-refused c =
 pub returns-in_err-without_entries-clause-refused : goal.returns-in_err-without_entries-clause-refused
 returns-in_err-without_entries-clause-refused c =
     let m = message_of c.args.message.now in
-    let types = map message_of (lent c.as_slice-own_types.result.now) in
-    let same_types : types ≡ children_at 4 m = ap (λ xs. map message_of (lent xs)) c.as_slice-own_types.ensures.value ∙ c.in_ok-types_inside.ensures in
+    let types = map message_of c.as_slice-own_types.result.now in
+    let same_types : types ≡ children_at 4 m = ap (λ xs. map message_of xs) c.as_slice-own_types.ensures.value ∙ c.in_ok-types_inside.ensures in
     let p = err_from_is_err_and c.from_residual-in_err-without_entries.result c.from_residual-in_err-without_entries.ensures.1 in
     rw (p.1, p.2) (λ packages may later free. c.in_err-without_entries.ensures.refused (ap (filter is_entry) same_types ∙ may.no_entries))
 
@@ -45,8 +44,8 @@ returns-in_err-enums-clause-refused c =
     let depth = c.args.depth in
     let at = c.in_ok-scope.scope.now in
     let here : at ≡ text_at 2 m = c.in_ok-scope.ensures.ok in
-    let enums = map message_of (lent c.as_slice-own_enums.result.now) in
-    let same_enums : enums ≡ children_at 5 m = ap (λ xs. map message_of (lent xs)) c.as_slice-own_enums.ensures.value ∙ c.in_ok-enums_inside.ensures in
+    let enums = map message_of c.as_slice-own_enums.result.now in
+    let same_enums : enums ≡ children_at 5 m = ap (λ xs. map message_of xs) c.as_slice-own_enums.ensures.value ∙ c.in_ok-enums_inside.ensures in
     let p = err_from_is_err_and c.from_residual-in_err-enums.result c.from_residual-in_err-enums.ensures.1 in
     rw (p.1, p.2) (λ packages may.
     let b = may.few_enums in
@@ -66,12 +65,12 @@ returns-in_err-types-clause-refused c =
     let depth = c.args.depth in
     let at = c.in_ok-scope.scope.now in
     let here : at ≡ text_at 2 m = c.in_ok-scope.ensures.ok in
-    let types = map message_of (lent c.as_slice-own_types.result.now) in
-    let same_types : types ≡ children_at 4 m = ap (λ xs. map message_of (lent xs)) c.as_slice-own_types.ensures.value ∙ c.in_ok-types_inside.ensures in
+    let types = map message_of c.as_slice-own_types.result.now in
+    let same_types : types ≡ children_at 4 m = ap (λ xs. map message_of xs) c.as_slice-own_types.ensures.value ∙ c.in_ok-types_inside.ensures in
     let type_count : type_rows depth at types ≡ file_types depth m = ap (λ a. type_rows depth a types) here ∙ ap (type_rows depth (text_at 2 m)) same_types in
     let enum_count : enum_rows depth at types ≡ enum_rows depth (text_at 2 m) (children_at 4 m) = ap (λ a. enum_rows depth a types) here ∙ ap (enum_rows depth (text_at 2 m)) same_types in
-    let enums = map message_of (lent c.as_slice-own_enums.result.now) in
-    let same_enums : enums ≡ children_at 5 m = ap (λ xs. map message_of (lent xs)) c.as_slice-own_enums.ensures.value ∙ c.in_ok-enums_inside.ensures in
+    let enums = map message_of c.as_slice-own_enums.result.now in
+    let same_enums : enums ≡ children_at 5 m = ap (λ xs. map message_of xs) c.as_slice-own_enums.ensures.value ∙ c.in_ok-enums_inside.ensures in
     let long = rows_long row c.args.self.now.enums.items c.outline_enums.new.enums.items (rows_in at enums) c.in_ok-enums.ensures.rows in
     let p = err_from_is_err_and c.from_residual-in_err-types.result c.from_residual-in_err-types.ensures.1 in
     rw (p.1, p.2) (λ packages may.
@@ -97,12 +96,12 @@ returns-in_err-services-clause-refused c =
     let depth = c.args.depth in
     let at = c.in_ok-scope.scope.now in
     let here : at ≡ text_at 2 m = c.in_ok-scope.ensures.ok in
-    let types = map message_of (lent c.as_slice-own_types.result.now) in
-    let same_types : types ≡ children_at 4 m = ap (λ xs. map message_of (lent xs)) c.as_slice-own_types.ensures.value ∙ c.in_ok-types_inside.ensures in
-    let enums = map message_of (lent c.as_slice-own_enums.result.now) in
-    let same_enums : enums ≡ children_at 5 m = ap (λ xs. map message_of (lent xs)) c.as_slice-own_enums.ensures.value ∙ c.in_ok-enums_inside.ensures in
-    let services = map message_of (lent c.as_slice-own_services.result.now) in
-    let same_services : services ≡ children_at 6 m = ap (λ xs. map message_of (lent xs)) c.as_slice-own_services.ensures.value ∙ c.in_ok-services_inside.ensures in
+    let types = map message_of c.as_slice-own_types.result.now in
+    let same_types : types ≡ children_at 4 m = ap (λ xs. map message_of xs) c.as_slice-own_types.ensures.value ∙ c.in_ok-types_inside.ensures in
+    let enums = map message_of c.as_slice-own_enums.result.now in
+    let same_enums : enums ≡ children_at 5 m = ap (λ xs. map message_of xs) c.as_slice-own_enums.ensures.value ∙ c.in_ok-enums_inside.ensures in
+    let services = map message_of c.as_slice-own_services.result.now in
+    let same_services : services ≡ children_at 6 m = ap (λ xs. map message_of xs) c.as_slice-own_services.ensures.value ∙ c.in_ok-services_inside.ensures in
     let p = err_from_is_err_and c.from_residual-in_err-services.result c.from_residual-in_err-services.ensures.1 in
     rw (p.1, p.2) (λ packages may.
     let few = may.few_services in
@@ -116,12 +115,12 @@ returns c =
     let depth = c.args.depth in
     let at = c.in_ok-scope.scope.now in
     let here : at ≡ text_at 2 m = c.in_ok-scope.ensures.ok in
-    let types = map message_of (lent c.as_slice-own_types.result.now) in
-    let same_types : types ≡ children_at 4 m = ap (λ xs. map message_of (lent xs)) c.as_slice-own_types.ensures.value ∙ c.in_ok-types_inside.ensures in
-    let enums = map message_of (lent c.as_slice-own_enums.result.now) in
-    let same_enums : enums ≡ children_at 5 m = ap (λ xs. map message_of (lent xs)) c.as_slice-own_enums.ensures.value ∙ c.in_ok-enums_inside.ensures in
-    let services = map message_of (lent c.as_slice-own_services.result.now) in
-    let same_services : services ≡ children_at 6 m = ap (λ xs. map message_of (lent xs)) c.as_slice-own_services.ensures.value ∙ c.in_ok-services_inside.ensures in
+    let types = map message_of c.as_slice-own_types.result.now in
+    let same_types : types ≡ children_at 4 m = ap (λ xs. map message_of xs) c.as_slice-own_types.ensures.value ∙ c.in_ok-types_inside.ensures in
+    let enums = map message_of c.as_slice-own_enums.result.now in
+    let same_enums : enums ≡ children_at 5 m = ap (λ xs. map message_of xs) c.as_slice-own_enums.ensures.value ∙ c.in_ok-enums_inside.ensures in
+    let services = map message_of c.as_slice-own_services.result.now in
+    let same_services : services ≡ children_at 6 m = ap (λ xs. map message_of xs) c.as_slice-own_services.ensures.value ∙ c.in_ok-services_inside.ensures in
     let t0 = c.args.self.now.names in
     let t1 = c.declare_scope.new.names in
     let t2 = c.outline_enums.new.names in
@@ -143,7 +142,7 @@ returns c =
             ∙ (append_assoc (map row self.enums.items) (rows_in at enums) (enum_rows depth at types) ∙ ap (λ rs. map row self.enums.items ++ rs) enum_count));
         services = c.in_ok-services.ensures.rows ∙ (ap (λ ss. map row ss ++ rows_in at services) c.in_ok-types.ensures.outlined.others.0
             ∙ ap (λ rs. map row self.services.items ++ rs) (ap (λ a. rows_in a services) here ∙ ap (rows_in (text_at 2 m)) same_services));
-        files = ap (map placed_file) c.in_ok-push.ensures.items ∙ (map_more placed_file deep.files.items _ ∙ ap₂ (λ fs f. map placed_file fs ++ f ∷ []) c.in_ok-types.ensures.outlined.others.1
+        files = ap (map placed_file) (rw c.again.ensures at c.in_ok-push.ensures.items) ∙ (map_more placed_file deep.files.items _ ∙ ap₂ (λ fs f. map placed_file fs ++ f ∷ []) c.in_ok-types.ensures.outlined.others.1
             (file_placed depth m at types (counts_of self) (type_places c.in_ok-types.types.items) (enum_places c.in_ok-enums.enums.items) (service_places c.in_ok-services.services.items)
             (length self.enums.items) (length c.as_slice-own_enums.result.now) (length deep.services.items) (length c.as_slice-own_services.result.now) here same_types
             (c.in_ok-types.ensures.ids ∙ ap (λ k. places_of_types depth at k types) counts) c.in_ok-enums.ensures.ids refl (sym (seen_long c.as_slice-own_enums.result.now) ∙ ap length same_enums)

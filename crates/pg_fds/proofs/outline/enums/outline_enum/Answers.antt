@@ -1,7 +1,6 @@
 use Rattle.std.proofs.Common.{◌≡◌, [], length, map, refl, sym, ap, ◌∙◌, arith}
 use Rattle.std.proofs.lemmas.Result.{err_from_is_err_and}
 use Rattle.pg_dyn.specs.Kept.{message_of}
-use Rattle.pg_fds.specs.Lent.{lent}
 use Rattle.pg_fds.specs.Said.{children_at}
 use Rattle.pg_fds.specs.SetNames.{full_name}
 use Rattle.pg_fds.proofs.NamedRows.{enum_more}
@@ -19,8 +18,8 @@ pub returns-in_err-declare_each-clause-refused : goal.returns-in_err-declare_eac
 returns-in_err-declare_each-clause-refused c =
     let m = message_of c.args.message.now in
     let scope = c.args.scope.now in
-    let found = map message_of (lent c.as_slice.result.now) in
-    let all : found ≡ children_at 2 m = ap (λ ms. map message_of (lent ms)) c.as_slice.ensures.value ∙ c.in_ok-values.ensures in
+    let found = map message_of c.as_slice.result.now in
+    let all : found ≡ children_at 2 m = ap (λ ms. map message_of ms) c.as_slice.ensures.value ∙ c.in_ok-values.ensures in
     let p = err_from_is_err_and c.from_residual-in_err-declare_each.result c.from_residual-in_err-declare_each.ensures.1 in
     rw (p.1, p.2) (λ few packages. inside_wanted packages scope scope m (full_name scope m) scope found refl refl all c.args.names.now c.declare_named.new.names
     (c.in_ok-name.ensures.declares packages) _ (c.in_err-declare_each.ensures.refused packages))
@@ -36,7 +35,7 @@ pub returns-clause-declares : goal.returns-clause-declares
 returns-clause-declares c = λ packages.
     let m = message_of c.args.message.now in
     let scope = c.args.scope.now in
-    let found = map message_of (lent c.as_slice.result.now) in
-    let all : found ≡ children_at 2 m = ap (λ ms. map message_of (lent ms)) c.as_slice.ensures.value ∙ c.in_ok-values.ensures in
+    let found = map message_of c.as_slice.result.now in
+    let all : found ≡ children_at 2 m = ap (λ ms. map message_of ms) c.as_slice.ensures.value ∙ c.in_ok-values.ensures in
     both_declared packages scope scope m (full_name scope m) scope found refl refl all c.args.names.now c.declare_named.new.names
     (c.in_ok-name.ensures.declares packages) c.declare_each.new.names (c.in_ok-declare_each.ensures.declares packages)
