@@ -12,7 +12,6 @@ use Rattle.pg_fds.specs.Fields.{dotted}
 use Rattle.pg_fds.specs.Made.{HasNames}
 use Rattle.pg_fds.specs.Places.{Declared}
 use Rattle.pg_fds.specs.StatesFiles.{StatesCalled}
-use Rattle.pg_fds.proofs.MapLaws.{dot_before, text_named}
 
 -- the full name that is called is in the table
 pub called_name : {Y : Type 0} (all : Declared) (names : BTreeMap (String Y) Named) (o : Option (List ℕ)) (id : TypeId) → HasNames all names → StatesCalled all o id
@@ -25,11 +24,6 @@ called_name all names o id has called = of (type_name all.types id) refl called
     of (Some full) is called = (full, called, has.types id full is)
 
 module _ {Y : Type 0} (all : Declared) (names : BTreeMap (String Y) Named) (o : Option (List ℕ)) (id : TypeId) (has : HasNames all names) (called : StatesCalled all o id) where
-  pub called_text : IsUtf8 (unwrap_or o [])
-  called_text =
-      let c = called_name all names o id has called in
-      subst (λ o. IsUtf8 (unwrap_or o [])) (sym c.1) (dot_before c.0 (text_named names c.0 (nameds.Type id) c.2))
-
   pub called_there : None ≡ o → ⊥
   called_there none =
       let c = called_name all names o id has called in

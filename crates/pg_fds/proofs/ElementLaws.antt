@@ -127,34 +127,6 @@ code_of s e is = sym (ap (λ x. pos (element_code x)) is)
 
 -- ---- a stated name is a text
 
-dot_text : {Z : Type 0} (s : String Z) → IsUtf8 (46 ∷ string_bytes s)
-unfolding lib.Utf8.encode
-dot_text s = IsUtf8-append (46 ∷ []) (string_bytes s) (46 ∷ [], (refl, refl)) (IsUtf8-string_bytes s)
-
-type_text : (o : Option MessageType) → IsUtf8 (unwrap_or (option_map dotted (option_map (λ (t : MessageType). string_bytes t.name) o)) [])
-type_text None = IsUtf8-nil
-type_text (Some t) = dot_text t.name
-
-enum_text : (o : Option EnumType) → IsUtf8 (unwrap_or (option_map dotted (option_map (λ (e : EnumType). string_bytes e.name) o)) [])
-enum_text None = IsUtf8-nil
-enum_text (Some e) = dot_text e.name
-
-element_text : (all : Declared) (e : Element) → IsUtf8 (unwrap_or (element_name all e) [])
-element_text all (elements.Scalar s) = IsUtf8-nil
-element_text all (elements.Message t) = type_text (slice_get all.types t.index)
-element_text all (elements.Enum x) = enum_text (slice_get all.enums x.index)
-
-pub name_text : (all : Declared) (m : Message) (e : Element) → StatesElement all m e → IsUtf8 (text_at 6 m)
-name_text all m e states = subst (λ o. IsUtf8 (unwrap_or o [])) (sym states.type_name) (element_text all e)
-
--- what names a message type that is there is a text
-called_one : (o : Option MessageType) (name : Option (List ℕ)) → IsSomeAnd (option_map (λ (t : MessageType). string_bytes t.name) o) (λ full. name ≡ Some (dotted full)) → IsUtf8 (unwrap_or name [])
-called_one None name called = absurd called
-called_one (Some t) name called = subst (λ p. IsUtf8 (unwrap_or p [])) (sym called) (dot_text t.name)
-
-pub called_text : (all : Declared) (name : Option (List ℕ)) (id : TypeId) → StatesCalled all name id → IsUtf8 (unwrap_or name [])
-called_text all name id called = called_one (slice_get all.types id.index) name called
-
 -- ---- looking for a scalar
 
 find_suc : (p : Scalar → Bool) (xs : List Scalar) (i : ℕ) (x : Scalar) → i < length xs → x ≡ get_or xs i x → p x ≡ false → find p (drop (suc i) xs) ≡ find p (drop i xs)

@@ -7,7 +7,7 @@ use Rattle.pg_dyn.specs.Message.{Message}
 use Rattle.pg_fds.specs.declared.error.Unstated.{Unstated}
 use Rattle.pg_fds.specs.declared.error.Unstated.TheVariants as unstated
 use Rattle.pg_fds.specs.declared.outline.Outline.{Outline}
-use Rattle.pg_fds.specs.FilePlaces.{AreOrdered, HasPathTexts}
+use Rattle.pg_fds.specs.FilePlaces.{AreOrdered}
 use Rattle.pg_fds.specs.Made.{AreOutlined}
 use Rattle.pg_fds.specs.OutlinedScopes.{OutlinesFiles}
 use Rattle.pg_fds.specs.Outlines.{MayDeclare, files_at}
@@ -16,15 +16,15 @@ use Rattle.pg_fds.specs.PostOrder.{HasNoOrder}
 use Rattle.pg_fds.specs.Reads.{CanBeRead, StatesFiles, importer_of}
 use Rattle.pg_fds.specs.StatesFiles.{StatesFile, most_deep}
 use Rattle.pg_fds.proofs.FilesInOrder.{files_zip, lent_within}
-use Rattle.pg_fds.proofs.StatedFiles.{none_ordered, stated_texts}
+use Rattle.pg_fds.proofs.StatedFiles.{none_ordered}
 use Rattle.pg_fds.proofs.StatedNames.{may_declare}
 use Rattle.pg_fds.proofs.StatedOutline.{are_outlined}
 
 -- they have an order
-pub order_told : (skips : Bool) (kept : List Message) (e : Unstated) → (AllByRecursion HasPathTexts kept → (e ≡ unstated.Memory) ⊎ HasNoOrder skips (map importer_of kept)) → (parts : Parts) → StatesFiles skips kept parts
+pub order_told : (skips : Bool) (kept : List Message) (e : Unstated) → (e ≡ unstated.Memory) ⊎ HasNoOrder skips (map importer_of kept) → (parts : Parts) → StatesFiles skips kept parts
     → e ≡ unstated.Memory
 order_told skips kept e refused parts states =
-    elim (refused (stated_texts skips kept parts states)) [
+    elim refused [
       | inl memory ↦ memory
       | inr none ↦ absurd (none_ordered skips kept none parts states)
     ]

@@ -99,7 +99,6 @@ pub mod SetStateLaws
 pub mod ReadExamples
 pub mod PlaceExamples
 pub mod FitsLaws
-pub mod FitTexts
 pub mod StatedNumbers
 pub mod PlacesOnce
 pub mod SoundPlaces

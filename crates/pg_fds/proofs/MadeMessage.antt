@@ -22,7 +22,6 @@ use Rattle.pg_schema.specs.rules.Pairs.{are_distinct, is_rising}
 use Rattle.pg_schema.specs.Shape.{is_map}
 use Rattle.pg_schema.specs.rules.TextSets.{is_among}
 use Rattle.pg_schema.specs.rules.Uses.{is_reserved_range}
-use Rattle.pg_schema.specs.rules.Words.{is_word}
 use Rattle.pg_schema.proofs.lemmas.rules.PairLemmas.{and_left, and_right}
 use Rattle.pg_dyn.specs.Kept.{Kept, message_of}
 use Rattle.pg_dyn.specs.Message.{Message}
@@ -37,11 +36,9 @@ use Rattle.pg_fds.specs.StatesFiles.{is_place}
 use Rattle.pg_fds.specs.StatesTypes.{AreMarked, StatesType, is_entry, is_optional, real_oneofs, synthetic_places}
 use Rattle.pg_fds.specs.Views.{FieldView, field_view}
 use Rattle.pg_fds.proofs.DeclaredFields.{declared_count, declared_maps, declared_numbers, each_among, such_declared}
-use Rattle.pg_fds.proofs.EntryTexts.{entry_text}
 use Rattle.pg_fds.proofs.FewOneofs.{oneof_small}
 use Rattle.pg_fds.proofs.Matched.{Has, all_tested, any_has, has_any, named_once}
 use Rattle.pg_fds.proofs.SameSorted.{InOrder, all_has_moved, in_order, same_in_order}
-use Rattle.pg_fds.proofs.SaidLaws.{all_text}
 use Rattle.pg_fds.proofs.Standing.{fields_placed, marks_places, stand}
 use Rattle.pg_fds.proofs.StatedTypes.{names_of_maps}
 use Rattle.pg_fds.proofs.WrittenEntries.{maps}
@@ -72,7 +69,6 @@ module _ (types enums : ℕ) (t : MessageType) (rules : is_message_type types en
 
 -- what the rules say of each field
 record Keeps (types enums : ℕ) (f : Field) : Type 0 where
-  word : is_word (string_bytes f.name) ≡ true
   number : f.number < 2 ^ 32
   oneof : IfSome f.oneof (λ place. place < 2 ^ 32)
   has : has_presence f.presence f.element (is_some f.oneof) f.states_optional ≡ true
@@ -84,7 +80,6 @@ below a b h = grind (arith, nat_tests)
 
 keeps_one : (oneofs types enums : ℕ) → ((o : Option ℕ) → is_oneof oneofs o ≡ true → IfSome o (λ place. place < 2 ^ 32)) → (f : Field) → is_field oneofs types enums f ≡ true → Keeps types enums f
 keeps_one oneofs types enums small f h = record {
-  word = and_right _ _ (and_left _ _ (and_left _ _ (and_left _ _ (and_left _ _ h))));
   number = let n : f.number < 2 ^ 29 = below f.number (2 ^ 29) (and_right _ _ (and_left _ _ (and_left _ _ (and_left _ _ (and_left _ _ (and_left _ _ (and_left _ _ h))))))) in omega (arith, n);
   oneof = small f.oneof (and_right _ _ h);
   has = and_right _ _ (and_left _ _ (and_left _ _ (and_left _ _ h)));
@@ -303,31 +298,6 @@ module _ {Y : Type 0} (all : Declared) (t : MessageType) (table : BTreeMap (Stri
         of name (inl none) = inl none
         of name (inr among) = inr (among_all (entry_names (declared_fields t)) messages name names_among among)
 
--- their names are texts
-pub entry_texts : (all : Declared) (types enums : ℕ) (t : MessageType) (messages : List Message) → is_message_type types enums t ≡ true → are_distinct (entry_names t.fields.items) ≡ true
-    → StatesEntries all messages t.fields.items → AllByRecursion IsUtf8 (map (text_at 1) messages)
-entry_texts all types enums t messages rules once states =
-    each_text messages
-    (all_tested (λ m f. IsCalled m f × (is_word (string_bytes f.name) ≡ true)) (text_at 1) entry_called (λ m f is. is.0) (λ m. is_utf8 (text_at 1 m)) (λ m f is. ap is_utf8 is.0 ∙ is_utf8-from_IsUtf8 (entry_called f) (entry_text (string_bytes f.name) is.1)) messages
-    (maps t.fields.items) states.as_many (ap are_distinct (names_of_maps t.fields.items) ∙ once) (with_words (maps t.fields.items) (each_called all messages t.fields.items states.each) (words t.fields.items (fields_keep types enums t rules))))
-  where
-    each_text : (ms : List Message) → list_all (λ m. is_utf8 (text_at 1 m)) ms ≡ true → AllByRecursion IsUtf8 (map (text_at 1) ms)
-    each_text [] h = tt
-    each_text (m ∷ ms) h = (IsUtf8-from_is_utf8 (text_at 1 m) (and_left (is_utf8 (text_at 1 m)) (list_all (λ x. is_utf8 (text_at 1 x)) ms) h), each_text ms (and_right (is_utf8 (text_at 1 m)) (list_all (λ x. is_utf8 (text_at 1 x)) ms) h))
-
-    words : (fs : List Field) → AllByRecursion (Keeps types enums) fs → AllByRecursion (λ (f : Field). is_word (string_bytes f.name) ≡ true) (maps fs)
-    words [] each = tt
-    words (f ∷ fs) each = of (is_map f.presence) (words fs each.1)
-      where
-        of : (b : Bool) → AllByRecursion (λ (g : Field). is_word (string_bytes g.name) ≡ true) (maps fs) → AllByRecursion (λ (g : Field). is_word (string_bytes g.name) ≡ true) (cond b (f ∷ maps fs) (maps fs))
-        of true later = (each.0.word, later)
-        of false later = later
-
-    with_words : (gs : List Field) → AllByRecursion (λ f. Any (λ m. IsCalled m f) messages) gs → AllByRecursion (λ (f : Field). is_word (string_bytes f.name) ≡ true) gs
-        → AllByRecursion (λ f. Any (λ m. IsCalled m f × (is_word (string_bytes f.name) ≡ true)) messages) gs
-    with_words [] any word = tt
-    with_words (g ∷ gs) any word = ((any.0.0, any.0.1, any.0.2, any.0.3, (any.0.4, word.0)), with_words gs any.1 word.1)
-
 -- ---- fields by rising number
 
 view_in_order : (fs : List Field) → InOrder (λ (f : Field). f.number) fs → InOrder (λ (v : FieldView). v.number) (map field_view fs)
@@ -404,15 +374,6 @@ module _ {Y : Type 0} (all : Declared) (names : BTreeMap (String Y) Named) (scop
   made_names own oneofs is are numbers marked =
       ap (λ ns. map (text_at 1) (real_oneofs ns 0 oneofs)) (marked ∙ ap synthetic_places is)
       ∙ (ap (λ ms. map (text_at 1) (real_oneofs (synthetic_places (children_at 2 message)) 0 ms)) are ∙ made.outlined.states.oneofs.names)
-
-  pub made_name_texts : (own oneofs : List Message) → own ≡ children_at 2 message → oneofs ≡ children_at 8 message → (numbers : List ℤ) → numbers ≡ synthetic_places own
-      → AllByRecursion IsUtf8 (map (text_at 1) (real_oneofs numbers 0 oneofs))
-  made_name_texts own oneofs is are numbers marked = subst (AllByRecursion IsUtf8) (sym (made_names own oneofs is are numbers marked)) (all_text t.oneofs.items)
-
-  pub made_texts : (ms : List Message) → ms ≡ filter is_entry (children_at 3 message) → AllByRecursion IsUtf8 (map (text_at 1) ms)
-  made_texts ms are =
-      subst (λ xs. AllByRecursion IsUtf8 (map (text_at 1) xs)) (sym are)
-      (entry_texts all n_types n_enums t (filter is_entry (children_at 3 message)) made.rules made.entries_once made.outlined.states.entries)
 
   pub made_entries : {X : Type 0} (table : BTreeMap (String X) Kept) (ms : List Kept) → HasNamed table ms → map message_of ms ≡ filter is_entry (children_at 3 message)
       → HasEntries all table (declared_fields t)

@@ -80,15 +80,6 @@ text_value value (values.Flag flag) text other says is = absurd (false≢true (s
 text_value value (values.Mode mode) text other says is = absurd (false≢true (sym (not_int value other) ∙ ap is_int says))
 text_value value (values.Text t) text other says is = ap Text (is ∙ ap text_of says)
 
--- what an option's item says is a text
-pub item_text : (item : Item) (v : OptionValue) → item ≡ option_item v → IsUtf8 (text_of item)
-item_text item v says = subst (λ i. IsUtf8 (text_of i)) (sym says) (of v)
-  where
-    of : (w : OptionValue) → IsUtf8 (text_of (option_item w))
-    of (values.Flag flag) = IsUtf8-nil
-    of (values.Mode mode) = IsUtf8-nil
-    of (values.Text text) = IsUtf8-string_bytes text
-
 -- ---- one option after the other
 
 under_suc : (os : List FileOption) (ns : List ℕ) (i n : ℕ) → i < length ns → n ≡ get_or ns i n
@@ -162,15 +153,6 @@ option_none m os ns i n made h is states found before =
     of : (o : Option FileOption) → None ≡ option_map (λ (x : FileOption). option_item x.value) o → [] ≡ where_found option_view o
     of None says = refl
     of (Some o) says = absurd (none-some (option_item o.value) says)
-
--- the option whose value is refused
-pub option_at : (m : Message) (os : List FileOption) (ns : List ℕ) (i n : ℕ) (item : Item) (E : Type 0) → i < length ns → n ≡ get_or ns i n → StatesThese m os ns → Some item ≡ item_at n m
-    → ((w : OptionValue) → item ≡ option_item w → E) → E
-option_at m os ns i n item E h is states found one = of (find (λ (o : FileOption). nat_eq o.number n) os) (found ∙ states_at m os ns i n h is states)
-  where
-    of : (o : Option FileOption) → Some item ≡ option_map (λ (x : FileOption). option_item x.value) o → E
-    of None says = absurd (none-some item (sym says))
-    of (Some o) says = one o.value (same_Some item (option_item o.value) says)
 
 -- ---- all of them
 

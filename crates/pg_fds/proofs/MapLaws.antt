@@ -32,26 +32,9 @@ use Rattle.pg_fds.specs.Made.{HasNamedEntry, Means, StatesElement, StatesKnown, 
 use Rattle.pg_fds.specs.Places.{Declared}
 use Rattle.pg_fds.specs.Said.{maybe_text_at, number_at, text_at}
 use Rattle.pg_fds.specs.States.{AreKeyAndValue, StatesEntry, StatesEntryField, StatesField}
-use Rattle.pg_fds.proofs.ElementLaws.{is_there, name_text, tells}
+use Rattle.pg_fds.proofs.ElementLaws.{is_there, tells}
 
 -- ---- the keys of a table
-
--- what stands under a name is found by its bytes, which are a text
-pub text_key : {X Y : Type 0} (bs : List ℕ) (x : X) (es : List (String Y × X)) → lookup (is_at (λ k. slice_cmp nat_cmp bs (string_bytes k))) es ≡ Some x → IsUtf8 bs
-text_key bs x [] is = absurd (none-some x is)
-text_key bs x (e ∷ es) is = of (is_at (λ k. slice_cmp nat_cmp bs (string_bytes k)) e.0) refl (text_key bs x es) is
-  where
-    of : (b : Bool) → is_at (λ k. slice_cmp nat_cmp bs (string_bytes k)) e.0 ≡ b → (lookup (is_at (λ k. slice_cmp nat_cmp bs (string_bytes k))) es ≡ Some x → IsUtf8 bs)
-        → cond b (Some e.1) (lookup (is_at (λ k. slice_cmp nat_cmp bs (string_bytes k))) es) ≡ Some x → IsUtf8 bs
-    of true at later found = subst IsUtf8 (sym ((bytes_eq-Decides bs (string_bytes e.0)).0 (sym (is_eq-slice_cmp bs (string_bytes e.0)) ∙ at))) (IsUtf8-string_bytes e.0)
-    of false at later found = later found
-
-pub text_named : {X Y : Type 0} (names : BTreeMap (String Y) X) (bs : List ℕ) (x : X) → get_by_text names bs ≡ Some x → IsUtf8 bs
-text_named names bs x is = text_key bs x names.entries is
-
-pub dot_before : (bs : List ℕ) → IsUtf8 bs → IsUtf8 (46 ∷ bs)
-unfolding lib.Utf8.encode
-dot_before bs is = IsUtf8-append (46 ∷ []) bs (46 ∷ [], (refl, refl)) is
 
 means_type : (n : Named) (e : Element) → Means n e → is_entry_type n ≡ false
 means_type nameds.Package e means = absurd means
@@ -111,13 +94,6 @@ module _ {Y : Type 0} (all : Declared) (names : BTreeMap (String Y) Named) (scop
           let full = within scope (entry_name (string_bytes f.name)) in
           lacks full nameds.Entry (sym (same_Some (46 ∷ full) name (sym (map_name map) ∙ says))) (is.entry map)
       of false plain = is_there all names is.table m f.element name (plain_element plain) says lacks
-
-  pub type_text : IsUtf8 (text_at 6 m)
-  type_text = of (is_map f.presence) refl
-    where
-      of : (b : Bool) → is_map f.presence ≡ b → IsUtf8 (text_at 6 m)
-      of true map = subst (λ o. IsUtf8 (unwrap_or o [])) (sym (map_name map)) (dot_before (within scope (entry_name (string_bytes f.name))) (text_named names (within scope (entry_name (string_bytes f.name))) nameds.Entry (is.entry map)))
-      of false plain = name_text all m f.element (plain_element plain)
 
 -- ---- entry types
 

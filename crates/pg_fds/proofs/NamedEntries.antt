@@ -16,36 +16,6 @@ use Rattle.pg_fds.proofs.Marks.{all_more}
 
 -- ---- texts at places
 
-pub text_seen : (ms : List Kept) (i : ℕ) (m : Kept) → i < length ms → m ≡ get_or ms i m → AllByRecursion IsUtf8 (map (text_at 1) (map message_of ms)) → IsUtf8 (text_at 1 (message_of m))
-text_seen [] i m h is all = absurd (omega (arith, h))
-text_seen (x ∷ ms) zero m h is all = subst (λ (b : Kept). IsUtf8 (text_at 1 (message_of b))) (sym is) all.0
-text_seen (x ∷ ms) (suc i) m h is all = text_seen ms i m (omega (arith, h)) is all.1
-
-real_seen : (numbers : List ℤ) (start : ℕ) (ms : List Kept) (i : ℕ) (m : Kept) → i < length ms → m ≡ get_or ms i m → is_marked numbers (start + i) ≡ false
-    → AllByRecursion IsUtf8 (map (text_at 1) (real_oneofs numbers start (map message_of ms))) → IsUtf8 (text_at 1 (message_of m))
-real_seen numbers start [] i m h is free all = absurd (omega (arith, h))
-real_seen numbers start (x ∷ ms) zero m h is free all =
-    subst (λ (b : Kept). IsUtf8 (text_at 1 (message_of b))) (sym is) (of (is_marked numbers start) (subst (λ k. is_marked numbers k ≡ false) (omega arith) free) all)
-  where
-    of : (b : Bool) → b ≡ false
-        → AllByRecursion IsUtf8 (map (text_at 1) (cond b (real_oneofs numbers (suc start) (map message_of ms)) (message_of x ∷ real_oneofs numbers (suc start) (map message_of ms))))
-        → IsUtf8 (text_at 1 (message_of x))
-    of true free all = absurd (false≢true (sym free))
-    of false free all = all.0
-real_seen numbers start (x ∷ ms) (suc i) m h is free all =
-    real_seen numbers (suc start) ms i m (omega (arith, h)) is (subst (λ k. is_marked numbers k ≡ false) (omega arith) free) (of (is_marked numbers start) all)
-  where
-    of : (b : Bool)
-        → AllByRecursion IsUtf8 (map (text_at 1) (cond b (real_oneofs numbers (suc start) (map message_of ms)) (message_of x ∷ real_oneofs numbers (suc start) (map message_of ms))))
-        → AllByRecursion IsUtf8 (map (text_at 1) (real_oneofs numbers (suc start) (map message_of ms)))
-    of true all = all
-    of false all = all.1
-
--- the name of a real oneof is a text, where all are
-pub real_text : (numbers : List ℤ) (ms : List Kept) (i : ℕ) (m : Kept) → i < length ms → m ≡ get_or ms i m → is_marked numbers i ≡ false
-    → AllByRecursion IsUtf8 (map (text_at 1) (real_oneofs numbers 0 (map message_of ms))) → IsUtf8 (text_at 1 (message_of m))
-real_text numbers ms i m h is free all = real_seen numbers 0 ms i m h is (subst (λ k. is_marked numbers k ≡ false) (omega arith) free) all
-
 -- ---- one entry type more
 
 taken_suc : {A : Type 0} (xs : List A) (i : ℕ) (x : A) → i < length xs → x ≡ get_or xs i x → take (suc i) xs ≡ take i xs ++ x ∷ []

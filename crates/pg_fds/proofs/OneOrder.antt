@@ -53,8 +53,3 @@ pub one_post_order : (skips : Bool) (files : List Importer) (first second : List
 one_post_order skips files first second a b = one_list (imports_at skips files) [] (paths_of files) first a second b
 
 -- ---- what holds of all messages
-
-pub each_seen : (P : Message → Type 0) (ms : List Kept) (i : ℕ) (m : Kept) → i < length ms → m ≡ get_or ms i m → AllByRecursion P (map message_of ms) → P (message_of m)
-each_seen P [] i m h is all = absurd (omega (arith, h))
-each_seen P (x ∷ ms) zero m h is all = subst (λ (b : Kept). P (message_of b)) (sym is) all.0
-each_seen P (x ∷ ms) (suc i) m h is all = each_seen P ms i m (omega (arith, h)) is all.1

@@ -45,9 +45,6 @@ is_one count n place is h = ap (is_place count) is ∙ within place count h
 pos_same : (a b : ℕ) → pos a ≡ pos b → a ≡ b
 pos_same a b same = cc
 
-some_same : {A : Type 0} (a b : A) → ◌≡◌ {A = Option A} (Some a) (Some b) → a ≡ b
-some_same a b same = cc
-
 there_within : {A : Type 0} (P : A → Type 0) (xs : List A) (i : ℕ) → IsSomeAnd (slice_get xs i) P → i < length xs
 there_within P [] i there = absurd there
 there_within P (x ∷ xs) zero there = omega arith
@@ -57,11 +54,6 @@ got_within : {A B : Type 0} (f : A → B) (xs : List A) (i : ℕ) (y : B) → sl
 got_within f [] i y is = absurd (none-some y is)
 got_within f (x ∷ xs) zero y is = omega arith
 got_within f (x ∷ xs) (suc i) y is = omega (arith, got_within f xs i y is)
-
-listed_text : {Y : Type 0} (names : List (String Y)) (i : ℕ) (t : List ℕ) → slice_get (map string_bytes names) i ≡ Some t → IsUtf8 t
-listed_text [] i t is = absurd (none-some t is)
-listed_text (n ∷ names) zero t is = subst IsUtf8 (some_same (string_bytes n) t is) (IsUtf8-string_bytes n)
-listed_text (n ∷ names) (suc i) t is = listed_text names i t is
 
 module _ {Y : Type 0} (oneofs : List Kept) (numbers : List ℤ) (names : List (String Y)) (number : ℤ) (own : ℕ)
     (named : NamesOneof (map message_of oneofs) numbers (map string_bytes names) (Some number) (Some own)) where
@@ -81,9 +73,6 @@ module _ {Y : Type 0} (oneofs : List Kept) (numbers : List ℤ) (names : List (S
       of : (found : Option Message) → IsSomeAnd found (λ x. slice_get (map string_bytes names) own ≡ Some (text_at 1 x)) → own < length names
       of None is = absurd is
       of (Some x) is = got_within string_bytes names own (text_at 1 x) is
-
-  pub named_text : (place : ℕ) (m : Kept) → number ≡ pos place → place < length oneofs → m ≡ get_or oneofs place m → IsUtf8 (text_at 1 (message_of m))
-  named_text place m at h is = listed_text names own (text_at 1 (message_of m)) (name_there place m at h is)
 
   pub named_same : (place : ℕ) (m : Kept) (name : String Y) → number ≡ pos place → place < length oneofs → m ≡ get_or oneofs place m → own < length names → name ≡ get_or names own name
       → text_at 1 (message_of m) ≡ string_bytes name

@@ -2,8 +2,7 @@
 use Rattle.std.proofs.Common.{◌≡◌, ℕ, Bool, true, List, [], ◌∷◌, map, filter, not, Some, Result, Ok, Err, IfOk, IfErr, ◌⊎◌, inl, inr, refl, ap, sym, subst, ◌∙◌}
 use Rattle.std.proofs.lemmas.Result.{IfErr-weaker, IfOk-weaker, err_from_is_err_and}
 use Rattle.std.specs.Prelude.{IsErrAnd, IsSomeAnd}
-use Rattle.std.specs.List.{AllByRecursion, list_all, list_any}
-use Rattle.std.specs.Str.{IsUtf8}
+use Rattle.std.specs.List.{list_all, list_any}
 use Rattle.pg_schema.specs.declared.parts.Parts.{Parts}
 use Rattle.pg_schema.specs.rules.Sound.{IsSound}
 use Rattle.pg_check.specs.declared.error.CheckError.{CheckError}
@@ -22,14 +21,11 @@ use Rattle.pg_fds.specs.Codes.{file_has_types}
 use Rattle.pg_fds.specs.Descriptor.{file_set}
 use Rattle.pg_fds.specs.InOrder.{StandInOrder}
 use Rattle.pg_fds.specs.Reads.{CanBeMade, IsHeld, States, StatesFiles, fds_reads, kept_files, skips}
-use Rattle.pg_fds.specs.Refused.{BreaksRule, HasTexts, IsOfBytes, IsOfParts, MayRefuseFiles, MayRefuseSet, StatesNoneHeld}
-use Rattle.pg_fds.specs.Said.{children_at, text_at}
+use Rattle.pg_fds.specs.Refused.{BreaksRule, IsOfBytes, IsOfParts, MayRefuseFiles, MayRefuseSet, StatesNoneHeld}
+use Rattle.pg_fds.specs.Said.{children_at}
 use Rattle.pg_fds.specs.StatesFiles.{is_proto3, is_skipped}
 use Rattle.pg_fds.specs.Views.{parts_view}
-use Rattle.pg_fds.proofs.FileStateLaws.{all_named}
-use Rattle.pg_fds.proofs.FitTexts.{filtered_texts, kept_texts}
 use Rattle.pg_fds.proofs.SoundNumbers.{kept_numbers_small}
-use Rattle.pg_fds.proofs.StatedFiles.{stated_texts}
 
 -- the files that aren't skipped are those of the set
 pub files_kept : (set : Message) (all files : List Kept) → map message_of all ≡ children_at 1 set
@@ -52,12 +48,6 @@ files_state : (set : Message) (skip : Bool) (all files : List Kept) → map mess
 files_state set skip all files seen skipped kept parts states =
     subst (λ ms. StatesFiles skip ms parts) (sym kept) (subst (λ b. StatesFiles b (kept_files set) parts) (sym (skipped ∙ ap (list_any is_skipped) seen)) states.files)
 
--- the names of all files are texts, those of files that are skipped too
-pub set_named : (set : Message) (all : List Kept) → map message_of all ≡ children_at 1 set → (parts : Parts) → States set parts
-    → AllByRecursion IsUtf8 (map (text_at 1) (map message_of all))
-set_named set all seen parts states =
-    subst (λ ms. AllByRecursion IsUtf8 (map (text_at 1) ms)) (sym seen) (all_named (children_at 1 set) (stated_texts (skips set) (kept_files set) parts states.files))
-
 pub stated : (set : Message) (skip : Bool) (all files : List Kept) (r : Result Parts FdsError) → map message_of all ≡ children_at 1 set
     → skip ≡ list_any is_skipped (map message_of all) → map message_of files ≡ kept_files set
     → IfOk r (λ parts. StatesFiles skip (map message_of files) parts) → IfOk r (λ parts. StandInOrder parts) → IfOk r (λ parts. States set parts)
@@ -76,9 +66,8 @@ refused_of_parts files proto3 typed (errors.Rule e) h = (proto3, typed, h)
 
 -- what is told once files and types were looked at
 pub refused_later : (files : List Message) (r : Result Parts FdsError) → list_all is_proto3 files ≡ true → list_all file_has_types files ≡ true → IfErr r IsOfParts
-    → IfErr r (λ e. AllByRecursion HasTexts files → MayRefuseFiles files e)
-refused_later files r proto3 typed h =
-    IfErr-weaker r IsOfParts (λ e. AllByRecursion HasTexts files → MayRefuseFiles files e) (λ e of_parts texts. refused_of_parts files proto3 typed e of_parts) h
+    → IfErr r (MayRefuseFiles files)
+refused_later files r proto3 typed h = IfErr-weaker r IsOfParts (MayRefuseFiles files) (refused_of_parts files proto3 typed) h
 
 -- want of memory and a bad reference
 abbrev IsReported : Unstated → FdsError → Type 0
@@ -100,16 +89,6 @@ pub none_told : {T : Type 0} (r : Result T FdsError) (Stated : Parts → Type 0)
 none_told r Stated u told none =
     let (e, is, h) = err_from_is_err_and r told in
     subst (WantsMemory Stated) (sym is) (λ parts can states. memory_told u e h (none parts can states))
-
--- what is told of the files where the names and syntaxes of those messages are texts
-abbrev IsRefused : {T : Type 0} → (ms files : List Message) → Result T FdsError → Type 0
-IsRefused ms files r = IfErr r (λ e. AllByRecursion HasTexts ms → MayRefuseFiles files e)
-
--- where they are, the refusal is want of memory
-pub refused_for_memory : {T : Type 0} (ms files : List Message) (r : Result T FdsError) (u : Unstated) → IsErrAnd r (IsReported u) → (AllByRecursion HasTexts ms → u ≡ unstated.Memory) → IsRefused ms files r
-refused_for_memory ms files r u told memory =
-    let (e, is, h) = err_from_is_err_and r told in
-    subst (IsRefused ms files) (sym is) (λ texts. subst (MayRefuseFiles files) (sym (memory_told u e h (memory texts))) tt)
 
 -- sound parts are refused for want of memory alone
 pub sound_refused : (parts : Parts) (e : CheckError) → IsRefusedOf parts e → IsSound parts → e ≡ rules.Memory
@@ -134,21 +113,10 @@ pub bytes_read : (bytes : List ℕ) (set : Message) (r : Result Parts FdsError) 
 bytes_read bytes set r is h =
     IfOk-weaker r (λ parts. States set parts) (λ parts. fds_reads bytes parts) (λ parts states. subst (λ d. IsSomeAnd d (λ s. States s parts)) (sym is) states) h
 
--- the names of all files are texts
-pub texts_named : (set : Message) (all : List Kept) → map message_of all ≡ children_at 1 set → AllByRecursion HasTexts (children_at 1 set)
-    → AllByRecursion IsUtf8 (map (text_at 1) (map message_of all))
-texts_named set all seen texts = subst (λ ms. AllByRecursion IsUtf8 (map (text_at 1) ms)) (sym seen) (names (children_at 1 set) texts)
-  where
-    names : (ms : List Message) → AllByRecursion HasTexts ms → AllByRecursion IsUtf8 (map (text_at 1) ms)
-    names [] texts = tt
-    names (m ∷ ms) texts = (texts.0.name, names ms texts.1)
-
 -- what is told of the files that aren't left out
 pub set_refused : (set : Message) (files : List Kept) (r : Result Parts FdsError) → map message_of files ≡ kept_files set
-    → IsRefused (map message_of files) (map message_of files) r → IsRefused (children_at 1 set) (kept_files set) r
-set_refused set files r kept h =
-    IfErr-weaker r (λ e. AllByRecursion HasTexts (kept_files set) → MayRefuseFiles (kept_files set) e) (λ e. AllByRecursion HasTexts (children_at 1 set) → MayRefuseFiles (kept_files set) e)
-    (λ e may texts. may (filtered_texts (λ m. not (is_skipped m)) (children_at 1 set) texts)) (subst (λ ms. IsRefused ms ms r) kept h)
+    → IfErr r (MayRefuseFiles (map message_of files)) → IfErr r (MayRefuseFiles (kept_files set))
+set_refused set files r kept h = subst (λ ms. IfErr r (MayRefuseFiles ms)) kept h
 
 pub set_none : (set : Message) (skip : Bool) (all files : List Kept) (r : Result Parts FdsError) → map message_of all ≡ children_at 1 set
     → skip ≡ list_any is_skipped (map message_of all) → map message_of files ≡ kept_files set
@@ -180,10 +148,8 @@ module _ (bytes : List ℕ) (set : Kept) (r : Result Parts FdsError) (is : dec w
   stated_there : (parts : Parts) → fds_reads bytes parts → States (message_of set) parts
   stated_there parts reads = subst (λ d. IsSomeAnd d (λ s. States s parts)) is reads
 
-  pub bytes_refused : IsRefused (children_at 1 (message_of set)) (kept_files (message_of set)) r → IfErr r (MayRefuseSet bytes)
-  bytes_refused h =
-      IfErr-weaker r (λ e. AllByRecursion HasTexts (children_at 1 (message_of set)) → MayRefuseFiles (kept_files (message_of set)) e) (MayRefuseSet bytes)
-      (λ e may. refused_set bytes (message_of set) is e (may (kept_texts set fits))) h
+  pub bytes_refused : IfErr r (MayRefuseFiles (kept_files (message_of set))) → IfErr r (MayRefuseSet bytes)
+  bytes_refused h = IfErr-weaker r (MayRefuseFiles (kept_files (message_of set))) (MayRefuseSet bytes) (refused_set bytes (message_of set) is) h
 
   pub bytes_same : IsStated (States (message_of set)) r → IfOk r (λ made. (parts : Parts) → IsHeld parts → fds_reads bytes parts → parts_view made ≡ parts_view parts)
   bytes_same h =

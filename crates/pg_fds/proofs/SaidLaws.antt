@@ -99,27 +99,6 @@ first_entry n m es first are is = ap (option_map shown) is ∙ (first_shown_entr
 
 -- ---- texts
 
--- bytes that are no text, among others
-pub none_text : (vs : List Value) (i : ℕ) (v : Value) → i < length vs → v ≡ get_or vs i v → (IsUtf8 (text_of (shown v)) → ⊥)
-    → AllByRecursion IsUtf8 (map text_of (map shown vs)) → ⊥
-none_text [] i v h is none all = absurd (omega (arith, h))
-none_text (x ∷ vs) zero v h is none all = none (subst (λ (b : Value). IsUtf8 (text_of (shown b))) (sym is) all.0)
-none_text (x ∷ vs) (suc i) v h is none all = none_text vs i v (omega (arith, h)) is none all.1
-
-pub all_text : {Z : Type 0} (texts : List (String Z)) → AllByRecursion IsUtf8 (map string_bytes texts)
-all_text [] = tt
-all_text (t ∷ texts) = (IsUtf8-string_bytes t, all_text texts)
-
--- where a text with a default is one, it is one with none
-pub or_text : (o : Option (List ℕ)) (default : List ℕ) → IsUtf8 (unwrap_or o default) → IsUtf8 (unwrap_or o [])
-or_text None default is = IsUtf8-nil
-or_text (Some text) default is = is
-
--- what a text that is there says is one, and so is nothing
-pub is_text : {Z : Type 0} (o : Option (List ℕ)) (stated : Option (String Z)) → o ≡ option_map string_bytes stated → IsUtf8 (unwrap_or o [])
-is_text o None named = subst (λ p. IsUtf8 (unwrap_or p [])) (sym named) IsUtf8-nil
-is_text o (Some t) named = subst (λ p. IsUtf8 (unwrap_or p [])) (sym named) (IsUtf8-string_bytes t)
-
 -- ---- contents that are filled
 
 none_mapped : {A B : Type 0} (f : A → B) (xs : List A) → map f xs ≡ [] → xs ≡ []

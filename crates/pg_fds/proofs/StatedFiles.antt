@@ -20,7 +20,6 @@ use Rattle.pg_fds.specs.PostOrder.{HasNoOrder, imports_once}
 use Rattle.pg_fds.specs.Reads.{AreBehind, StatesFiles, file_name, importer_of}
 use Rattle.pg_fds.specs.Said.{numbers_at, text_at, texts_at}
 use Rattle.pg_fds.specs.StatesFiles.{StatesFile, is_proto3}
-use Rattle.pg_fds.proofs.FileStateLaws.{kept_texts, syntax_text}
 use Rattle.pg_fds.proofs.Matched.{all_tested}
 use Rattle.pg_fds.proofs.SetLaws.{paths_are}
 use Rattle.pg_fds.proofs.StatedTypes.{file_typed}
@@ -66,39 +65,6 @@ stated_proto3 skip kept parts states = files_tested is_proto3 skip kept parts st
 pub stated_types : (skip : Bool) (kept : List Message) (parts : Parts) → IsSound parts → StatesFiles skip kept parts → list_all file_has_types kept ≡ true
 stated_types skip kept parts sound states = files_tested file_has_types skip kept parts states (file_typed parts sound.names skip)
 
--- ---- names and paths are texts
-
-all_checked : (texts : List (List ℕ)) → AllByRecursion IsUtf8 texts → list_all is_utf8 texts ≡ true
-all_checked [] all = refl
-all_checked (t ∷ texts) all = and_both (is_utf8 t) (list_all is_utf8 texts) (is_utf8-from_IsUtf8 t all.0) (all_checked texts all.1)
-
-all_texts : (texts : List (List ℕ)) → list_all is_utf8 texts ≡ true → AllByRecursion IsUtf8 texts
-all_texts [] all = tt
-all_texts (t ∷ texts) all = (IsUtf8-from_is_utf8 t (and_left (is_utf8 t) (list_all is_utf8 texts) all), all_texts texts (and_right (is_utf8 t) (list_all is_utf8 texts) all))
-
-abbrev says_texts : Message → Bool
-says_texts m = is_utf8 (text_at 1 m) && list_all is_utf8 (texts_at 3 m)
-
-texts_in : (ms : List Message) → list_all says_texts ms ≡ true → AllByRecursion HasPathTexts ms
-texts_in [] all = tt
-texts_in (m ∷ ms) all =
-    let here = and_left (says_texts m) (list_all says_texts ms) all in (
-      record {
-        name = IsUtf8-from_is_utf8 (text_at 1 m) (and_left (is_utf8 (text_at 1 m)) (list_all is_utf8 (texts_at 3 m)) here);
-        paths = all_texts (texts_at 3 m) (and_right (is_utf8 (text_at 1 m)) (list_all is_utf8 (texts_at 3 m)) here);
-      },
-      texts_in ms (and_right (says_texts m) (list_all says_texts ms) all),
-    )
-
--- files that state a schema say texts
-pub stated_texts : (skip : Bool) (kept : List Message) (parts : Parts) → StatesFiles skip kept parts → AllByRecursion HasPathTexts kept
-stated_texts skip kept parts states =
-    texts_in kept
-    (files_tested says_texts skip kept parts states
-    (λ m f stated.
-    and_both (is_utf8 (text_at 1 m)) (list_all is_utf8 (texts_at 3 m)) (ap is_utf8 stated.name ∙ is_utf8-from_IsUtf8 (string_bytes f.name) (IsUtf8-string_bytes f.name))
-    (all_checked (texts_at 3 m) (kept_texts skip (numbers_at 10 m) 0 (texts_at 3 m) f.imports.items stated.imports))))
-
 -- ---- files that have no order
 
 imports_tested : (kept : List Message) → list_all (λ m. are_distinct (texts_at 3 m)) kept ≡ list_all imports_once (map importer_of kept)
@@ -111,11 +77,3 @@ none_ordered skip kept (inl twice) parts states = false≢true (sym twice ∙ (a
 none_ordered skip kept (inr (inl twice)) parts states =
     false≢true (sym twice ∙ (sym (imports_tested kept) ∙ files_tested (λ m. are_distinct (texts_at 3 m)) skip kept parts states (λ m f stated. stated.imports_once)))
 none_ordered skip kept (inr (inr none)) parts states = none (map file_name parts.files.items) states.order
-
--- the syntax of files that state a schema
-pub stated_syntax : (skip : Bool) (kept : List Message) (parts : Parts) → StatesFiles skip kept parts → AllByRecursion (λ m. IsUtf8 (text_at 12 m)) kept
-stated_syntax skip kept parts states = each kept (stated_proto3 skip kept parts states)
-  where
-    each : (ms : List Message) → list_all is_proto3 ms ≡ true → AllByRecursion (λ m. IsUtf8 (text_at 12 m)) ms
-    each [] all = tt
-    each (m ∷ ms) all = (syntax_text m (and_left (is_proto3 m) (list_all is_proto3 ms) all), each ms (and_right (is_proto3 m) (list_all is_proto3 ms) all))

@@ -32,7 +32,7 @@ use Rattle.pg_fds.specs.Walks.{places_from}
 use Rattle.pg_dyn.proofs.Lists.{each-append}
 use Rattle.pg_fds.proofs.TextNames.{IsUncalled, type_name, types_distinct, uncalled}
 use Rattle.pg_fds.proofs.TextPlaces.{apart, index_is, one_place}
-use Rattle.pg_fds.proofs.TextTypes.{each_long, each_splits, file_apart, file_in_order, files_declared, in_file, later_files, later_types, types_declared}
+use Rattle.pg_fds.proofs.TextTypes.{each_long, each_splits, file_apart, file_in_order, files_declared, later_files, later_types, types_declared}
 use Rattle.pg_fds.proofs.TextWalks.{from_joined, full_of}
 
 -- ---- scopes, each so many times

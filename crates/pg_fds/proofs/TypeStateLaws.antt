@@ -11,19 +11,11 @@ use Rattle.pg_dyn.specs.Message.{Message}
 use Rattle.pg_fds.specs.Places.{declared_in}
 use Rattle.pg_fds.specs.Said.{text_at}
 use Rattle.pg_fds.specs.States.{StatesEntries}
-use Rattle.pg_fds.proofs.InOrderLaws.{tested_got}
-use Rattle.pg_fds.proofs.MadeMessage.{entries_once, entry_texts}
+use Rattle.pg_fds.proofs.MadeMessage.{entries_once}
 use Rattle.pg_fds.proofs.StatedTypes.{entries_distinct}
 
 module _ (parts : Parts) (sound : IsSound parts) (i : ℕ) (t : MessageType) (there : slice_get parts.types.items i ≡ Some t) (ms : List Message)
     (states : StatesEntries (declared_in parts) ms t.fields.items) where
-  -- their names are texts
-  pub names_texts : AllByRecursion IsUtf8 (map (text_at 1) ms)
-  names_texts =
-      let types = length parts.types.items in
-      let enums = length parts.enums.items in
-      entry_texts (declared_in parts) types enums t ms (tested_got (is_message_type types enums) parts.types.items i t sound.message_types there) (entries_distinct parts i t sound.names there) states
-
   -- and stand once
   pub names_once : are_distinct (map (text_at 1) ms) ≡ true
   names_once = entries_once (declared_in parts) ms t.fields.items (entries_distinct parts i t sound.names there) states

@@ -3,14 +3,10 @@ use Rattle.std.specs.Prelude.{◌≡◌, ◌↔◌, ℕ, ◌<◌, Bool, true, Li
 use Rattle.std.specs.BTreeMap.{BTreeMap, get_by_text}
 use Rattle.std.specs.List.{AllByRecursion, list_all}
 use Rattle.std.specs.Option.{unwrap_or}
-use Rattle.std.specs.Str.{IsUtf8}
 use Rattle.pg_schema.specs.rules.Pairs.{are_distinct}
-use Rattle.pg_dyn.specs.Message.{Message}
 use Rattle.pg_fds.specs.declared.order.Importing.{Importing}
 use Rattle.pg_fds.specs.Lent.{lent}
 use Rattle.pg_fds.specs.PostOrder.{Importer, IsPostOrder, imports_once, kept_paths, paths_of}
-use Rattle.pg_fds.specs.Proto as proto
-use Rattle.pg_fds.specs.Said.{text_at, texts_at}
 
 abbrev pub importer : Importing → Importer
 importer i = record { path = i.name.now; imports = lent i.paths.items }
@@ -40,8 +36,3 @@ pub record AreOrdered (skips : Bool) (files : List Importer) (places : List ℕ)
   pub imports : list_all imports_once files ≡ true
   pub order : IsPostOrder skips files (map (name_at (paths_of files)) places)
   pub within : AllByRecursion (λ place. place < length files) places
-
--- what the file says of its name and its imports are texts
-pub record HasPathTexts (m : Message) : Type 0 where
-  pub name : IsUtf8 (text_at proto.file_name m)
-  pub paths : AllByRecursion IsUtf8 (texts_at proto.file_dependency m)

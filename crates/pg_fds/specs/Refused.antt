@@ -1,7 +1,6 @@
 -- Why the bytes of a set may be refused.
 use Rattle.std.specs.Prelude.{◌≡◌, ◌≢◌, ℕ, ⊤, true, false, List, IsSomeAnd}
 use Rattle.std.specs.List.{list_all}
-use Rattle.std.specs.Str.{IsUtf8}
 use Rattle.pg_schema.specs.declared.parts.Parts.{Parts}
 use Rattle.pg_schema.specs.rules.Sound.{IsSound}
 use Rattle.pg_check.specs.declared.error.CheckError.{CheckError}
@@ -16,9 +15,7 @@ use Rattle.pg_fds.specs.declared.error.FdsError.TheVariants as errors
 use Rattle.pg_fds.specs.Building.{written_shape}
 use Rattle.pg_fds.specs.Codes.{file_has_types}
 use Rattle.pg_fds.specs.Descriptor.{file_set}
-use Rattle.pg_fds.specs.Proto as proto
 use Rattle.pg_fds.specs.Reads.{IsHeld, fds_reads, kept_files}
-use Rattle.pg_fds.specs.Said.{text_at}
 use Rattle.pg_fds.specs.StatesFiles.{is_proto3, most_deep}
 
 -- parts of a schema are refused for it, and it isn't want of memory
@@ -86,8 +83,3 @@ IsOfParts errors.NotProto3 = ⊥
 IsOfParts errors.BadType = ⊥
 IsOfParts errors.BadReference = ⊤
 IsOfParts (errors.Rule e) = BreaksRule e
-
--- a file's name and its syntax are texts, as the codec sees to
-pub record HasTexts (file : Message) : Type 0 where
-  pub name : IsUtf8 (text_at proto.file_name file)
-  pub syntax : IsUtf8 (text_at proto.file_syntax file)

@@ -56,7 +56,7 @@ pub fn declare_named(
     ensures refused { IfErr result (λ e. (packages : List (List ℕ))
         → WantsMemory packages (full_name scope.now (message_of message.now) ∷ []) names.old e) }
 {
-    let own = text(message, proto::NAME)?;
+    let own = text(message, proto::NAME);
     let full = full_name(alloc, scope, own)?;
     declare(names, full.clone()?, named)?;
     Ok(full)

@@ -3,8 +3,7 @@
 
 ghost use Rattle.std.specs.Prelude.{◌≡◌, [], true, None, Some, IfErr, IfOk, OnErr, OnOk, length, filter, map};
 ghost use Rattle.std.specs.BTreeMap.{get_by_text};
-ghost use Rattle.std.specs.List.{AllByRecursion, Any};
-ghost use Rattle.std.specs.Str.{IsUtf8};
+ghost use Rattle.std.specs.List.{Any};
 ghost use Rattle.std.specs.String.{string_bytes};
 ghost use Rattle.pg_schema.specs.declared.parts.field.Field.{Field};
 ghost use Rattle.pg_schema.specs.rules.DeclaredNames.{entry_name};
@@ -25,7 +24,7 @@ use crate::proto;
 use crate::said::{Said, child_in, children, content, ensure, flag, item, number, option, text};
 use crate::states::{has_json_name, has_type_name, label_of, same_text};
 use pg_schema::{Element, Field, Presence, Scalar, Schema, default_json_name, entry_name};
-use std::alloc::Global;
+use std::alloc::{AllocError, Global};
 use std::collections::BTreeMap;
 
 /// The singular field is missing.
@@ -89,7 +88,7 @@ fn entry_field(
     ensures refused { IfErr result (λ r. StatesEntryField
         (declared_in source.now) name.now place element (message_of message.now) → r ≡ Memory) }
 {
-    same_text(text(message, proto::FIELD_NAME)?, name)?;
+    same_text(text(message, proto::FIELD_NAME), name)?;
     ensure(number(message, proto::FIELD_NUMBER) == i128::from(place))?;
     ensure(label_of(message) == 1)?;
     ensure(number(message, proto::FIELD_TYPE) == i128::from(element_code(element)))?;
@@ -147,21 +146,19 @@ fn entry(
     lacks_all(message, proto::MESSAGE_RESERVED_RANGE)?;
     lacks_all(message, proto::MESSAGE_RESERVED_NAME)?;
     let name = entry_name(alloc, &field.name)?;
-    same_text(text(message, proto::MESSAGE_NAME)?, &name)?;
+    same_text(text(message, proto::MESSAGE_NAME), &name)?;
     Ok(())
 }
 
 // The places of entry types by their names.
-fn places(alloc: Global, entries: &[Said<'_>]) -> Result<BTreeMap<String, usize>, Unstated>
-    ensures index { IfOk result (λ places.
+fn places(alloc: Global, entries: &[Said<'_>]) -> Result<BTreeMap<String, usize>, AllocError>
+    ensures { IfOk result (λ places.
         are_distinct (map (text_at proto.message_name) (map message_of entries.now)) ≡ true
         → IsIndex (map (text_at proto.message_name) (map message_of entries.now)) places) }
-    ensures refused { IfErr result (λ r. AllByRecursion IsUtf8
-        (map (text_at proto.message_name) (map message_of entries.now)) → r ≡ Memory) }
 {
     let mut places = BTreeMap::new(alloc);
     for (place, message) in entries.iter().enumerate() {
-        let name = String::from_str(alloc, text(message, proto::MESSAGE_NAME)?)?;
+        let name = String::from_str(alloc, text(message, proto::MESSAGE_NAME))?;
         places.insert(name, place)?;
     }
     Ok(places)
@@ -243,8 +240,8 @@ fn map_count(fields: &[Field]) -> usize
     count
 }
 
-/// The messages state the entry types of the fields. Where names of these are texts and stand once,
-/// it is refused, memory aside, only where they don't.
+/// The messages state the entry types of the fields. Where names of these stand once, it is
+/// refused, memory aside, only where they don't.
 pub fn entries(
     alloc: Global,
     source: &Schema,
@@ -253,10 +250,8 @@ pub fn entries(
 ) -> Result<(), Unstated>
     ensures ok { OnOk result (StatesEntries (declared_in source.now)
         (map message_of messages.now) fields.now) }
-    ensures refused { IfErr result (λ r. AllByRecursion IsUtf8
-        (map (text_at proto.message_name) (map message_of messages.now))
-        → are_distinct (map (text_at proto.message_name) (map message_of messages.now))
-        ≡ true
+    ensures refused { IfErr result (λ r.
+        are_distinct (map (text_at proto.message_name) (map message_of messages.now)) ≡ true
         → StatesEntries (declared_in source.now) (map message_of messages.now) fields.now
         → r ≡ Memory) }
 {

@@ -3,7 +3,6 @@
 ghost use Rattle.std.specs.Prelude.{◌≡◌, ◌&&◌, ◌∷◌, [], true, IfErr, IfOk, OnErr, OnOk, find, length, map, nat_eq, option_map};
 ghost use Rattle.std.specs.List.{list_all};
 ghost use Rattle.std.specs.Option.{option_copied, unwrap_or};
-ghost use Rattle.std.specs.Str.{IsUtf8};
 ghost use Rattle.pg_schema.specs.declared.parts.options.FileOption.{FileOption};
 ghost use Rattle.pg_schema.specs.rules.Files.{is_file, is_file_option, option_numbers};
 ghost use Rattle.pg_schema.specs.rules.Pairs.{are_distinct, is_rising};
@@ -45,29 +44,18 @@ pub fn is_descriptor(path: &str) -> bool
     path == "google/protobuf/descriptor.proto"
 }
 
-/// Whether the file is proto3. Refused only where its syntax is no text.
-pub fn is_proto3(message: &Said<'_>) -> Result<bool, Unstated>
-    ensures ok { IfOk result (λ proto3. proto3 ≡ is_proto3 (message_of message.now)) }
-    ensures refused { OnErr result (IsUtf8 (text_at proto.file_syntax (message_of message.now))
-        → ⊥) }
+/// Whether the file is proto3.
+pub fn is_proto3(message: &Said<'_>) -> bool
+    ensures { result ≡ is_proto3 (message_of message.now) }
 {
-    Ok(text(message, proto::FILE_SYNTAX)? == "proto3")
+    text(message, proto::FILE_SYNTAX) == "proto3"
 }
 
-/// Whether the file is skipped: descriptor.proto, where it isn't proto3. Refused only where its
-/// name is no text.
-pub fn is_skipped(message: &Said<'_>) -> Result<bool, Unstated>
-    ensures ok { IfOk result (λ skipped. skipped ≡ is_skipped (message_of message.now)) }
-    ensures refused { OnErr result (IsUtf8 (text_at proto.file_name (message_of message.now)) → ⊥) }
+/// Whether the file is skipped: descriptor.proto, where it isn't proto3.
+pub fn is_skipped(message: &Said<'_>) -> bool
+    ensures { result ≡ is_skipped (message_of message.now) }
 {
-    if !is_descriptor(text(message, proto::FILE_NAME)?) {
-        return Ok(false);
-    }
-    // A syntax that is no text isn't that of proto3.
-    match is_proto3(message) {
-        Ok(proto3) => Ok(!proto3),
-        Err(_) => Ok(true),
-    }
+    is_descriptor(text(message, proto::FILE_NAME)) && !is_proto3(message)
 }
 
 // ---- options
@@ -263,9 +251,9 @@ pub fn file(
         → r ≡ Memory) }
 {
     let scope = declared.package.as_str();
-    same_text(text(message, proto::FILE_NAME)?, &declared.name)?;
-    same_text(text(message, proto::FILE_PACKAGE)?, scope)?;
-    ensure(is_proto3(message)?)?;
+    same_text(text(message, proto::FILE_NAME), &declared.name)?;
+    same_text(text(message, proto::FILE_PACKAGE), scope)?;
+    ensure(is_proto3(message))?;
     options(message, &declared.options)?;
     declares(alloc, source, message, declared)?;
     imports(alloc, skips, message, declared)?;

@@ -2,7 +2,7 @@
 
 ghost use Rattle.std.specs.Prelude.{◌≡◌, ℕ, ◌<◌, ◌^◌, pos, false, not, true, ◌&&◌, ◌||◌, List, ◌∷◌, filter, length, Option, None, Some, slice_get, IfErr, IfOk, IfSome, OnErr, if◌then◌else◌};
 ghost use Rattle.std.specs.BTreeMap.{get_by_text};
-ghost use Rattle.std.specs.Str.{IsUtf8, bytes_eq};
+ghost use Rattle.std.specs.Str.{bytes_eq};
 ghost use Rattle.std.specs.String.{string_bytes};
 ghost use Rattle.pg_schema.specs.declared.parts.field.Element.{Element as StatedElement};
 ghost use Rattle.pg_schema.specs.declared.parts.field.Element.TheVariants.{Scalar as ScalarElement};
@@ -34,7 +34,7 @@ use crate::said::{
 };
 use crate::states::label_of;
 use pg_schema::{Element, Field, FieldOptions, Presence, Scalar, default_json_name};
-use std::alloc::Global;
+use std::alloc::{AllocError, Global};
 use std::collections::BTreeMap;
 
 /// What the fields of a message type are made with: the full names of all files; the type's own
@@ -139,7 +139,7 @@ pub fn element(names: &BTreeMap<String, Named>, message: &Said<'_>) -> Result<El
     ensures refused { OnErr result ((all : Declared) (e : StatedElement) → HasNames all names.now
         → StatesElement all (message_of message.now) e → ⊥) }
 {
-    let name = maybe_text(message, proto::FIELD_TYPE_NAME)?;
+    let name = maybe_text(message, proto::FIELD_TYPE_NAME);
     match name {
         Some(name) => named_element(names, message, name),
         None => scalar_element(message),
@@ -312,15 +312,13 @@ fn plain_parts(
 }
 
 // The JSON name, given or default.
-fn json_name(alloc: Global, message: &Said<'_>) -> Result<String, Unstated>
-    ensures ok { IfOk result (λ name. string_bytes name ≡ json_name_at (message_of message.now)) }
-    ensures refused { IfErr result (λ e. IsUtf8 (text_at proto.field_name (message_of message.now))
-        → IsUtf8 (json_name_at (message_of message.now)) → e ≡ Memory) }
+fn json_name(alloc: Global, message: &Said<'_>) -> Result<String, AllocError>
+    ensures { IfOk result (λ name. string_bytes name ≡ json_name_at (message_of message.now)) }
 {
-    let given = maybe_text(message, proto::FIELD_JSON_NAME)?;
+    let given = maybe_text(message, proto::FIELD_JSON_NAME);
     match given {
-        Some(given) => Ok(String::from_str(alloc, given)?),
-        None => Ok(default_json_name(alloc, text(message, proto::FIELD_NAME)?)?),
+        Some(given) => String::from_str(alloc, given),
+        None => default_json_name(alloc, text(message, proto::FIELD_NAME)),
     }
 }
 
@@ -381,7 +379,7 @@ pub fn made_field<'a>(
     let packed = option(message, proto::FIELD_OPTIONS, proto::FIELD_PACKED);
     let oneof = oneof(scope, message)?;
     let (presence, element) = parts(alloc, scope, entries, message, oneof.is_some(), packed)?;
-    let name = String::from_str(alloc, text(message, proto::FIELD_NAME)?)?;
+    let name = String::from_str(alloc, text(message, proto::FIELD_NAME))?;
     let json_name = json_name(alloc, message)?;
     Ok(Field {
         number: count(message, proto::FIELD_NUMBER),

@@ -57,7 +57,7 @@ fn called(
     ensures refused { OnErr result ((all : Declared) (id : StatedId) → HasNames all names.now
         → StatesCalled all (maybe_text_at number (message_of message.now)) id → ⊥) }
 {
-    let name = maybe_text(message, number)?;
+    let name = maybe_text(message, number);
     let Some(name) = name else {
         return Err(Unstated::Reference);
     };
@@ -80,7 +80,7 @@ fn method(
         → HasNames all names.now → StatesMethod all (message_of message.now) d
         → e ≡ Memory) }
 {
-    let name = String::from_str(alloc, text(message, proto::METHOD_NAME)?)?;
+    let name = String::from_str(alloc, text(message, proto::METHOD_NAME))?;
     let input = called(names, message, proto::METHOD_INPUT_TYPE)?;
     let output = called(names, message, proto::METHOD_OUTPUT_TYPE)?;
     Ok(Method {
@@ -177,16 +177,14 @@ fn numbered(number: u32, found: i128) -> OptionValue
 }
 
 // The value of the option of that number.
-fn option_value(alloc: Global, number: u32, item: &SaidItem<'_>) -> Result<OptionValue, Unstated>
-    ensures made { IfOk result (λ made. (v : StatedValue) → shown item.now ≡ option_item v
+fn option_value(alloc: Global, number: u32, item: &SaidItem<'_>) -> Result<OptionValue, AllocError>
+    ensures { IfOk result (λ made. (v : StatedValue) → shown item.now ≡ option_item v
         → is_of_kind number v ≡ true → value_of made ≡ value_of v) }
-    ensures refused { IfErr result (λ e. (v : StatedValue) → shown item.now ≡ option_item v
-        → e ≡ Memory) }
 {
     if let Value::Int(_) = item.value() {
         return Ok(numbered(number, number_in(item)));
     }
-    let found = text_in(item)?;
+    let found = text_in(item);
     let own = String::from_str(alloc, found)?;
     Ok(OptionValue::Text(own))
 }
@@ -196,13 +194,11 @@ fn options_under(
     alloc: Global,
     message: &Said<'_>,
     numbers: &[u32],
-) -> Result<Vec<FileOption>, Unstated>
-    ensures made { IfOk result (λ made. (os : List StatedOption)
+) -> Result<Vec<FileOption>, AllocError>
+    ensures { IfOk result (λ made. (os : List StatedOption)
         → StatesThese (message_of message.now) os numbers.now
         → list_all is_file_option os ≡ true
         → map option_view made.items ≡ views_under os numbers.now) }
-    ensures refused { IfErr result (λ e. (os : List StatedOption)
-        → StatesThese (message_of message.now) os numbers.now → e ≡ Memory) }
 {
     let mut options = Vec::new(alloc);
     for number in numbers {
@@ -217,13 +213,11 @@ fn options_under(
 }
 
 // The options of a file, by rising number.
-fn options(alloc: Global, message: &Said<'_>) -> Result<Vec<FileOption>, Unstated>
-    ensures made { IfOk result (λ made. (os : List StatedOption)
+fn options(alloc: Global, message: &Said<'_>) -> Result<Vec<FileOption>, AllocError>
+    ensures { IfOk result (λ made. (os : List StatedOption)
         → StatesOptions (options_at proto.file_options (message_of message.now)) os
         → is_rising (0 ∷ option_numbers os) ≡ true → list_all is_file_option os ≡ true
         → map option_view made.items ≡ map option_view os) }
-    ensures refused { IfErr result (λ e. (os : List StatedOption)
-        → StatesOptions (options_at proto.file_options (message_of message.now)) os → e ≡ Memory) }
 {
     let own = own_options(message);
     match own {
@@ -285,9 +279,9 @@ pub fn file(alloc: Global, skips: bool, outlined: &OutlinedFile<'_>) -> Result<F
         → IsOutlinedFile all skips outlined.now f → is_file f ≡ true → e ≡ Memory) }
 {
     let message = &outlined.message;
-    let own_name = text(message, proto::FILE_NAME)?;
+    let own_name = text(message, proto::FILE_NAME);
     let name = String::from_str(alloc, own_name)?;
-    let own_package = text(message, proto::FILE_PACKAGE)?;
+    let own_package = text(message, proto::FILE_PACKAGE);
     let package = String::from_str(alloc, own_package)?;
     let imports = imports(alloc, skips, message)?;
     let options = options(alloc, message)?;

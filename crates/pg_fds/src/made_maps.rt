@@ -52,7 +52,7 @@ fn check_entry_field(
         → place ≡ pos n → default_json_name name.now ≡ name.now
         → StatesEntryField all name.now n e (message_of message.now) → r ≡ Memory) }
 {
-    same_text(text(message, proto::FIELD_NAME)?, name)?;
+    same_text(text(message, proto::FIELD_NAME), name)?;
     same_number(number(message, proto::FIELD_NUMBER), place)?;
     same_number(label_of(message), 1)?;
     has_no_options(message, proto::FIELD_OPTIONS)?;
@@ -160,7 +160,7 @@ pub fn is_map(names: &BTreeMap<String, Named>, message: &Said<'_>) -> Result<boo
     ensures refused { OnErr result ((all : Declared) (scope : List ℕ) (f : StatedField)
         → StatesKnown all names.now scope (message_of message.now) f → ⊥) }
 {
-    let name = maybe_text(message, proto::FIELD_TYPE_NAME)?;
+    let name = maybe_text(message, proto::FIELD_TYPE_NAME);
     let Some(name) = name else {
         return Ok(false);
     };
@@ -177,7 +177,7 @@ fn names_type(message: &Said<'_>, full: &str) -> Result<(), Unstated>
     ensures refused { OnErr result (maybe_text_at proto.field_type_name (message_of message.now)
         ≡ Some full.now → ⊥) }
 {
-    let name = maybe_text(message, proto::FIELD_TYPE_NAME)?;
+    let name = maybe_text(message, proto::FIELD_TYPE_NAME);
     match name {
         Some(name) => same_text(name, full),
         None => Err(Unstated::Reference),
@@ -207,7 +207,7 @@ pub fn map_parts<'a>(
         → is_map f.presence ≡ true → HasNamedEntry all entries.old f → r ≡ Memory) }
 {
     same_number(label_of(message), REPEATED)?;
-    let own = entry_name(alloc, text(message, proto::FIELD_NAME)?)?;
+    let own = entry_name(alloc, text(message, proto::FIELD_NAME))?;
     let full = dotted_within(alloc, scope, &own)?;
     names_type(message, &full)?;
     let entry = taken(entries, &own)?;

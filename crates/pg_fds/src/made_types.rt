@@ -4,7 +4,6 @@ ghost use Rattle.std.specs.Prelude.{◌≡◌, ℕ, ◌<◌, pos, false, true, L
 ghost use Rattle.std.specs.Int.{w32};
 ghost use Rattle.std.specs.List.{AllByRecursion, AllZip, list_all};
 ghost use Rattle.std.specs.List.Sorted.{IsNonDecreasingBy};
-ghost use Rattle.std.specs.Str.{IsUtf8};
 ghost use Rattle.std.specs.String.{string_bytes};
 ghost use Rattle.pg_schema.specs.declared.parts.enum_type.EnumType.{EnumType as StatedEnum};
 ghost use Rattle.pg_schema.specs.declared.parts.enum_type.EnumValue.{EnumValue as StatedValue};
@@ -75,7 +74,7 @@ fn value(alloc: Global, message: &Said<'_>) -> Result<EnumValue, Unstated>
         → IsSmallValue v → e ≡ Memory) }
 {
     Ok(EnumValue {
-        name: String::from_str(alloc, text(message, proto::VALUE_NAME)?)?,
+        name: String::from_str(alloc, text(message, proto::VALUE_NAME))?,
         number: whole(message, proto::VALUE_NUMBER)?,
         options: EnumValueOptions {
             deprecated: option(message, proto::VALUE_OPTIONS, proto::VALUE_DEPRECATED),
@@ -212,14 +211,15 @@ fn member_counts(alloc: Global, fields: &[Said<'_>], count: usize) -> Result<Vec
 }
 
 // The entry types by their names.
-fn entries<'a>(alloc: Global, messages: &[Said<'a>]) -> Result<BTreeMap<String, Said<'a>>, Unstated>
-    ensures named { IfOk result (λ table. HasNamed table messages.now) }
-    ensures refused { IfErr result (λ e. AllByRecursion IsUtf8
-        (map (text_at proto.message_name) (map message_of messages.now)) → e ≡ Memory) }
+fn entries<'a>(
+    alloc: Global,
+    messages: &[Said<'a>],
+) -> Result<BTreeMap<String, Said<'a>>, AllocError>
+    ensures { IfOk result (λ table. HasNamed table messages.now) }
 {
     let mut entries = BTreeMap::new(alloc);
     for message in messages {
-        let name = String::from_str(alloc, text(message, proto::MESSAGE_NAME)?)?;
+        let name = String::from_str(alloc, text(message, proto::MESSAGE_NAME))?;
         entries.insert(name, message.again())?;
     }
     Ok(entries)
@@ -302,17 +302,14 @@ fn oneof_names(
     oneofs: &[Said<'_>],
     places: &[i128],
     synthetic: &[bool],
-) -> Result<Vec<String>, Unstated>
+) -> Result<Vec<String>, AllocError>
     requires { AreMarked places.now (length oneofs.now) synthetic.now }
-    ensures made { IfOk result (λ made. map string_bytes made.items
+    ensures { IfOk result (λ made. map string_bytes made.items
         ≡ map (text_at proto.oneof_name)
         (real_oneofs places.now 0 (map message_of oneofs.now))) }
-    ensures refused { IfErr result (λ e. AllByRecursion IsUtf8
-        (map (text_at proto.oneof_name)
-        (real_oneofs places.now 0 (map message_of oneofs.now))) → e ≡ Memory) }
 {
     let names = real_names(alloc, oneofs, places, synthetic)?;
-    Ok(copies(alloc, &names)?)
+    copies(alloc, &names)
 }
 
 // The fields of a message type by rising number, their numbers in order of declaration, and its

@@ -2,7 +2,6 @@
 
 ghost use Rattle.std.specs.Prelude.{◌≡◌, Some, true, IfErr, IfOk, OnErr, OnOk, length, filter, map};
 ghost use Rattle.std.specs.List.{AllByRecursion, AllZip, list_all};
-ghost use Rattle.std.specs.Str.{IsUtf8};
 ghost use Rattle.std.specs.String.{string_bytes};
 ghost use Rattle.pg_dyn.specs.Kept.{message_of};
 ghost use Rattle.pg_fds.specs.declared.error.Unstated.TheVariants.{Memory};
@@ -71,19 +70,16 @@ pub fn real_names<'a>(
     oneofs: &[Said<'a>],
     numbers: &[i128],
     marks: &[bool],
-) -> Result<Vec<&'a str>, Unstated>
+) -> Result<Vec<&'a str>, AllocError>
     requires { AreMarked numbers.now (length oneofs.now) marks.now }
-    ensures ok { IfOk result (λ names. lent names.items
+    ensures { IfOk result (λ names. lent names.items
         ≡ map (text_at proto.oneof_name)
         (real_oneofs numbers.now 0 (map message_of oneofs.now))) }
-    ensures refused { IfErr result (λ r. AllByRecursion IsUtf8
-        (map (text_at proto.oneof_name)
-        (real_oneofs numbers.now 0 (map message_of oneofs.now))) → r ≡ Memory) }
 {
     let mut names = Vec::new(alloc);
     for (place, oneof) in oneofs.iter().enumerate() {
         if !marks[place] {
-            names.push(text(oneof, proto::ONEOF_NAME)?)?;
+            names.push(text(oneof, proto::ONEOF_NAME))?;
         }
     }
     Ok(names)
@@ -112,7 +108,7 @@ fn names_oneof(
     if own >= names.len() {
         return Err(Unstated::Reference);
     }
-    same_text(text(&oneofs[place], proto::ONEOF_NAME)?, &names[own])?;
+    same_text(text(&oneofs[place], proto::ONEOF_NAME), &names[own])?;
     Ok(())
 }
 

@@ -7,7 +7,7 @@ ghost use Rattle.pg_schema.specs.rules.TextSets.{is_among};
 ghost use Rattle.pg_dyn.specs.Kept.{message_of};
 ghost use Rattle.pg_fds.specs.declared.error.Unstated.TheVariants as errors;
 ghost use Rattle.pg_fds.specs.Lent.{lent};
-ghost use Rattle.pg_fds.specs.FilePlaces.{AreOrdered, HasPathTexts, ImportsAt, IsIndex, StandAt, importer, importers};
+ghost use Rattle.pg_fds.specs.FilePlaces.{AreOrdered, ImportsAt, IsIndex, StandAt, importer, importers};
 ghost use Rattle.pg_fds.specs.PostOrder.{HasNoOrder, imports_once, kept_paths, paths_of};
 ghost use Rattle.pg_fds.specs.Reads.{importer_of};
 ghost use Rattle.pg_fds.specs.Walks.{lists_of};
@@ -17,7 +17,7 @@ use crate::file_states::is_left_out;
 use crate::proto;
 use crate::said::{Said, text, texts};
 use crate::walk::post_order;
-use std::alloc::Global;
+use std::alloc::{AllocError, Global};
 use std::collections::{BTreeMap, BTreeSet};
 
 // A file by its name, with the paths that it imports.
@@ -121,21 +121,18 @@ fn order_of(alloc: Global, skips: bool, files: &[Importing<'_>]) -> Result<Vec<u
 }
 
 // What a file says of its name and its imports.
-fn importing_file<'a>(alloc: Global, file: &Said<'a>) -> Result<Importing<'a>, Unstated>
-    ensures ok { IfOk result (λ i. importer i ≡ importer_of (message_of file.now)) }
-    ensures refused { IfErr result (λ e. HasPathTexts (message_of file.now) → e ≡ errors.Memory) }
+fn importing_file<'a>(alloc: Global, file: &Said<'a>) -> Result<Importing<'a>, AllocError>
+    ensures { IfOk result (λ i. importer i ≡ importer_of (message_of file.now)) }
 {
-    let name = text(file, proto::FILE_NAME)?;
+    let name = text(file, proto::FILE_NAME);
     let paths = texts(alloc, file, proto::FILE_DEPENDENCY)?;
     Ok(Importing { name, paths })
 }
 
 // The same of all files.
-fn importing_files<'a>(alloc: Global, files: &[Said<'a>]) -> Result<Vec<Importing<'a>>, Unstated>
-    ensures ok { IfOk result (λ found. importers found.items
+fn importing_files<'a>(alloc: Global, files: &[Said<'a>]) -> Result<Vec<Importing<'a>>, AllocError>
+    ensures { IfOk result (λ found. importers found.items
         ≡ map importer_of (map message_of files.now)) }
-    ensures refused { IfErr result (λ e. AllByRecursion HasPathTexts
-        (map message_of files.now) → e ≡ errors.Memory) }
 {
     let mut found = Vec::new(alloc);
     for file in files {
@@ -146,15 +143,12 @@ fn importing_files<'a>(alloc: Global, files: &[Said<'a>]) -> Result<Vec<Importin
 }
 
 /// The places of the files in post-order of imports, begun at the files in their order: each stands
-/// behind those that it imports. Refused, memory aside, only where they have no order, or what one
-/// says of its name and its imports is no text.
+/// behind those that it imports. Refused, memory aside, only where they have no order.
 pub fn order(alloc: Global, skips: bool, files: &[Said<'_>]) -> Result<Vec<usize>, Unstated>
     ensures ok { IfOk result (λ order. AreOrdered skips
         (map importer_of (map message_of files.now)) order.items) }
-    ensures refused { IfErr result (λ e. AllByRecursion HasPathTexts
-        (map message_of files.now)
-        → (e ≡ errors.Memory) ⊎ HasNoOrder skips
-        (map importer_of (map message_of files.now))) }
+    ensures refused { IfErr result (λ e. (e ≡ errors.Memory)
+        ⊎ HasNoOrder skips (map importer_of (map message_of files.now))) }
 {
     let found = importing_files(alloc, files)?;
     order_of(alloc, skips, &found)

@@ -1,6 +1,5 @@
 //! What a set declares: the places of message types, enums and services, and all full names. Memory
-//! aside, and bytes that are no text, names are refused only where one stands twice or is a part of
-//! a package.
+//! aside, names are refused only where one stands twice or is a part of a package.
 
 ghost use Rattle.std.specs.Prelude.{◌≡◌, ◌+◌, ◌<◌, ◌≤◌, ◌^◌, ◌++◌, ◌∷◌, [], ℕ, true, IfErr, IfOk, List, OnErr, OnOk, filter, length, map};
 ghost use Rattle.std.specs.List.{AllByRecursion};
@@ -259,7 +258,7 @@ impl<'a> Outline<'a> {
             return Ok(ids);
         }
         for message in messages {
-            let own_name = text(message, proto::MESSAGE_NAME)?;
+            let own_name = text(message, proto::MESSAGE_NAME);
             let full = full_name(alloc, scope, own_name)?;
             let name = full.as_str();
             let id = self.outline_type(alloc, name, message)?;
@@ -291,7 +290,7 @@ impl<'a> Outline<'a> {
             (length self.old.services.items) packages (message_of message.now)
             → WantsMemory packages (file_names depth (message_of message.now)) self.old.names e) }
     {
-        let scope = text(message, proto::FILE_PACKAGE)?;
+        let scope = text(message, proto::FILE_PACKAGE);
         declare_scope(alloc, &mut self.names, scope)?;
         let types_inside = children(alloc, message, proto::FILE_MESSAGE_TYPE)?;
         let own_types = types_inside.as_slice();

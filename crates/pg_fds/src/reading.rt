@@ -69,21 +69,17 @@ fn decoded(alloc: Global, bytes: &[u8]) -> Result<Message, FdsError>
     }
 }
 
-// Whether the files are all proto3. Refused only where the syntax of one is no text, so where they
-// state no schema.
-fn are_proto3(files: &[Said<'_>]) -> Result<bool, Unstated>
-    ensures ok { IfOk result (λ all. all ≡ list_all is_proto3 (map message_of files.now)) }
-    ensures none { OnErr result ((skips : Bool) (parts : StatedParts)
-        → StatesFiles skips (map message_of files.now) parts → ⊥) }
-    ensures refused { OnErr result (AllByRecursion HasTexts (map message_of files.now) → ⊥) }
+// Whether the files are all proto3.
+fn are_proto3(files: &[Said<'_>]) -> bool
+    ensures { result ≡ list_all is_proto3 (map message_of files.now) }
 {
     for file in files {
-        let proto3 = is_proto3(file)?;
+        let proto3 = is_proto3(file);
         if !proto3 {
-            return Ok(false);
+            return false;
         }
     }
-    Ok(true)
+    true
 }
 
 // The parts that the files declare, in that order: they say what those say that the files state.
@@ -172,15 +168,14 @@ fn files_schema(alloc: Global, skips: bool, files: &[Said<'_>]) -> Result<Schema
         (map message_of files.now) schema) }
     ensures sound { IfOk result IsSound }
     ensures places { IfOk result (λ schema. StandInOrder schema) }
-    ensures refused { IfErr result (λ e. AllByRecursion HasTexts (map message_of files.now)
-        → MayRefuseFiles (map message_of files.now) e) }
+    ensures refused { IfErr result (MayRefuseFiles (map message_of files.now)) }
     ensures same { IfOk result (λ schema. (parts : StatedParts) → CanBeMade parts
         → StatesFiles skips (map message_of files.now) parts
         → parts_view schema ≡ parts_view parts) }
     ensures none { IfErr result (λ e. (parts : StatedParts) → CanBeMade parts
         → StatesFiles skips (map message_of files.now) parts → e ≡ errors.Memory) }
 {
-    let proto3 = are_proto3(files)?;
+    let proto3 = are_proto3(files);
     if !proto3 {
         return Err(FdsError::NotProto3);
     }
@@ -195,9 +190,7 @@ fn files_schema(alloc: Global, skips: bool, files: &[Said<'_>]) -> Result<Schema
 fn set_schema(alloc: Global, set: &Said<'_>) -> Result<Schema, FdsError>
     ensures ok { IfOk result (λ schema. States (message_of set.now) schema) }
     ensures sound { IfOk result IsSound }
-    ensures refused { IfErr result (λ e. AllByRecursion HasTexts
-        (children_at proto.set_file (message_of set.now))
-        → MayRefuseFiles (kept_files (message_of set.now)) e) }
+    ensures refused { IfErr result (MayRefuseFiles (kept_files (message_of set.now))) }
     ensures same { IfOk result (λ schema. (parts : StatedParts) → CanBeMade parts
         → States (message_of set.now) parts
         → parts_view schema ≡ parts_view parts) }
@@ -207,7 +200,7 @@ fn set_schema(alloc: Global, set: &Said<'_>) -> Result<Schema, FdsError>
 {
     let all_files = children(alloc, set, proto::SET_FILE)?;
     let all = all_files.as_slice();
-    let skips = skips(all)?;
+    let skips = skips(all);
     let kept_files = kept(alloc, all)?;
     let files = kept_files.as_slice();
     files_schema(alloc, skips, files)

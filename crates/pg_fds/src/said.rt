@@ -7,11 +7,9 @@
 ghost use Rattle.std.specs.Prelude.{◌≡◌, [], ℕ, ◌<◌, ◌^◌, false, pos, true, IfErr, IfOk, IfSome, MatchOption, OnErr, OnOk, map, option_map, slice_get};
 ghost use Rattle.std.specs.List.{AllByRecursion};
 ghost use Rattle.std.specs.Option.{option_copied};
-ghost use Rattle.std.specs.Str.{IsUtf8};
 ghost use Rattle.pg_dyn.specs.Kept.{message_of, of_number};
 ghost use Rattle.pg_dyn.specs.Seen.{IsFilled, content_seen};
 ghost use Rattle.pg_dyn.specs.declared.message.Value.{Value as Held};
-ghost use Rattle.pg_fds.specs.declared.error.Unstated.TheVariants.{Memory};
 ghost use Rattle.pg_fds.specs.Building.{shown};
 ghost use Rattle.pg_fds.specs.Lent.{lent};
 ghost use Rattle.pg_fds.specs.Said.{child_in, children_at, flag_at, item_at, items_at, maybe_flag_at, maybe_number_at, maybe_text_at, number_at, number_of, numbers_at, options_at, text_at, text_of, texts_at};
@@ -224,15 +222,14 @@ pub fn child_in<'a>(item: &SaidItem<'a>) -> Option<Said<'a>>
 }
 
 /// The text that an item is.
-pub fn text_in<'a>(item: &SaidItem<'a>) -> Result<&'a str, Unstated>
-    ensures ok { IfOk result (λ text. text.now ≡ text_of (shown item.now)) }
-    ensures refused { OnErr result (IsUtf8 (text_of (shown item.now)) → ⊥) }
+pub fn text_in<'a>(item: &SaidItem<'a>) -> &'a str
+    ensures { result.now ≡ text_of (shown item.now) }
 {
     let value = item.value;
     match value {
-        Value::Text(text) => Ok(text.as_str()),
+        Value::Text(text) => text.as_str(),
         Value::Bytes(_) => unreachable!(),
-        _ => Ok(""),
+        _ => "",
     }
 }
 
@@ -270,40 +267,34 @@ pub fn children<'a>(
 
 // ---- texts
 
-/// The text of a singular field, where there is one. Refused are bytes that are no text.
-pub fn maybe_text<'a>(message: &Said<'a>, number: u32) -> Result<Option<&'a str>, Unstated>
-    ensures ok { IfOk result (λ text. option_copied text
-        ≡ maybe_text_at number (message_of message.now)) }
-    ensures refused { OnErr result (IsUtf8 (text_at number (message_of message.now)) → ⊥) }
+/// The text of a singular field, where there is one.
+pub fn maybe_text<'a>(message: &Said<'a>, number: u32) -> Option<&'a str>
+    ensures { option_copied result ≡ maybe_text_at number (message_of message.now) }
 {
     match item(message, number) {
-        None => Ok(None),
-        Some(value) => Ok(Some(text_in(&value)?)),
+        None => None,
+        Some(value) => Some(text_in(&value)),
     }
 }
 
-/// The text of a singular field, empty where it is missing. Refused are bytes that are no text.
-pub fn text<'a>(message: &Said<'a>, number: u32) -> Result<&'a str, Unstated>
-    ensures ok { IfOk result (λ text. text.now ≡ text_at number (message_of message.now)) }
-    ensures refused { OnErr result (IsUtf8 (text_at number (message_of message.now)) → ⊥) }
+/// The text of a singular field, empty where it is missing.
+pub fn text<'a>(message: &Said<'a>, number: u32) -> &'a str
+    ensures { result.now ≡ text_at number (message_of message.now) }
 {
-    match maybe_text(message, number)? {
-        Some(text) => Ok(text),
-        None => Ok(""),
+    match maybe_text(message, number) {
+        Some(text) => text,
+        None => "",
     }
 }
 
-/// The texts of a repeated field. Refused are bytes that are no text, and want of memory.
-pub fn texts<'a>(alloc: Global, message: &Said<'a>, number: u32) -> Result<Vec<&'a str>, Unstated>
-    ensures ok { IfOk result (λ found. lent found.items
-        ≡ texts_at number (message_of message.now)) }
-    ensures refused { IfErr result (λ e. AllByRecursion IsUtf8
-        (texts_at number (message_of message.now)) → e ≡ Memory) }
+/// The texts of a repeated field.
+pub fn texts<'a>(alloc: Global, message: &Said<'a>, number: u32) -> Result<Vec<&'a str>, AllocError>
+    ensures { IfOk result (λ found. lent found.items ≡ texts_at number (message_of message.now)) }
 {
     let values = items(alloc, message, number)?;
     let mut texts = Vec::new(alloc);
     for value in &values {
-        texts.push(text_in(value)?)?;
+        texts.push(text_in(value))?;
     }
     Ok(texts)
 }

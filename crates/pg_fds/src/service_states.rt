@@ -32,7 +32,7 @@ fn called(
     let Some(declared) = source.message_type(id) else {
         return Err(Unstated::Reference);
     };
-    let Some(name) = maybe_text(message, number)? else {
+    let Some(name) = maybe_text(message, number) else {
         return Err(Unstated::Reference);
     };
     let full = dotted(alloc, &declared.name)?;
@@ -51,7 +51,7 @@ fn method(
     ensures refused { IfErr result (λ r. StatesMethod (declared_in source.now)
         (message_of message.now) declared.now → r ≡ Memory) }
 {
-    same_text(text(message, proto::METHOD_NAME)?, &declared.name)?;
+    same_text(text(message, proto::METHOD_NAME), &declared.name)?;
     called(
         alloc,
         source,
@@ -107,7 +107,7 @@ fn service(
     is_within(
         alloc,
         scope,
-        text(message, proto::SERVICE_NAME)?,
+        text(message, proto::SERVICE_NAME),
         &declared.name,
     )?;
     methods(

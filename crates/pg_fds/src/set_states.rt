@@ -2,7 +2,6 @@
 
 ghost use Rattle.std.specs.Prelude.{◌≡◌, ◌<◌, [], true, not, IfErr, IfOk, OnErr, OnOk, IsSomeAnd, ℕ, List, filter, length, map, slice_get};
 ghost use Rattle.std.specs.List.{AllByRecursion, AllZip, Any, list_all, list_any};
-ghost use Rattle.std.specs.Str.{IsUtf8};
 ghost use Rattle.pg_schema.specs.declared.parts.file.File.{File};
 ghost use Rattle.pg_schema.specs.rules.Files.{is_file};
 ghost use Rattle.pg_schema.specs.rules.Sound.{IsSound};
@@ -22,36 +21,30 @@ use crate::error::Unstated;
 use crate::file_states::{file, is_skipped};
 use crate::said::{Said, ensure};
 use pg_schema::{File, Import, Schema};
-use std::alloc::Global;
+use std::alloc::{AllocError, Global};
 use std::collections::BTreeSet;
 
-/// Whether one of the files is skipped. Refused only where the name of one is no text.
-pub fn skips(files: &[Said<'_>]) -> Result<bool, Unstated>
-    ensures ok { IfOk result (λ skips. skips
-        ≡ list_any is_skipped (map message_of files.now)) }
-    ensures refused { OnErr result (AllByRecursion IsUtf8
-        (map (text_at proto.file_name) (map message_of files.now)) → ⊥) }
+/// Whether one of the files is skipped.
+pub fn skips(files: &[Said<'_>]) -> bool
+    ensures { result ≡ list_any is_skipped (map message_of files.now) }
 {
     for file in files {
-        let skipped = is_skipped(file)?;
+        let skipped = is_skipped(file);
         if skipped {
-            return Ok(true);
+            return true;
         }
     }
-    Ok(false)
+    false
 }
 
-/// The files that aren't skipped, in their order. Refused, memory aside, only where the name of one
-/// is no text.
-pub fn kept<'a>(alloc: Global, files: &[Said<'a>]) -> Result<Vec<Said<'a>>, Unstated>
-    ensures ok { IfOk result (λ kept. map message_of kept.items
+/// The files that aren't skipped, in their order.
+pub fn kept<'a>(alloc: Global, files: &[Said<'a>]) -> Result<Vec<Said<'a>>, AllocError>
+    ensures { IfOk result (λ kept. map message_of kept.items
         ≡ filter (λ m. not (is_skipped m)) (map message_of files.now)) }
-    ensures refused { IfErr result (λ r. AllByRecursion IsUtf8
-        (map (text_at proto.file_name) (map message_of files.now)) → r ≡ Memory) }
 {
     let mut kept = Vec::new(alloc);
     for file in files {
-        if !is_skipped(file)? {
+        if !is_skipped(file) {
             kept.push(file.again())?;
         }
     }

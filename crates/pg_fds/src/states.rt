@@ -3,7 +3,6 @@
 
 ghost use Rattle.std.specs.Prelude.{◌≡◌, IfErr, OnErr, OnOk, map, option_map, slice_get, IsSomeAnd};
 ghost use Rattle.std.specs.List.{AllZip};
-ghost use Rattle.std.specs.Str.{IsUtf8};
 ghost use Rattle.std.specs.String.{string_bytes};
 ghost use Rattle.pg_schema.specs.rules.DeclaredNames.{within};
 ghost use Rattle.pg_dyn.specs.Kept.{message_of};
@@ -62,7 +61,7 @@ fn value(message: &Said<'_>, declared: &EnumValue) -> Result<(), Unstated>
     ensures ok { OnOk result (StatesValue (message_of message.now) declared.now) }
     ensures refused { OnErr result (StatesValue (message_of message.now) declared.now → ⊥) }
 {
-    same_text(text(message, proto::VALUE_NAME)?, &declared.name)?;
+    same_text(text(message, proto::VALUE_NAME), &declared.name)?;
     ensure(number(message, proto::VALUE_NUMBER) == i128::from(declared.number))?;
     ensure(
         option(message, proto::VALUE_OPTIONS, proto::VALUE_DEPRECATED)
@@ -117,7 +116,7 @@ fn enum_type(
     is_within(
         alloc,
         scope,
-        text(message, proto::ENUM_NAME)?,
+        text(message, proto::ENUM_NAME),
         &declared.name,
     )?;
     values(
@@ -194,13 +193,13 @@ pub fn label_of(message: &Said<'_>) -> i128
 /// The field has this JSON name, given or default.
 pub fn has_json_name(alloc: Global, message: &Said<'_>, stated: &str) -> Result<(), Unstated>
     ensures ok { OnOk result (json_name_at (message_of message.now) ≡ stated.now) }
-    ensures refused { IfErr result (λ r. IsUtf8 (text_at proto.field_name (message_of message.now))
-        → json_name_at (message_of message.now) ≡ stated.now → r ≡ Memory) }
+    ensures refused { IfErr result (λ r. json_name_at (message_of message.now) ≡ stated.now
+        → r ≡ Memory) }
 {
-    match maybe_text(message, proto::FIELD_JSON_NAME)? {
+    match maybe_text(message, proto::FIELD_JSON_NAME) {
         Some(given) => same_text(given, stated),
         None => {
-            let default = default_json_name(alloc, text(message, proto::FIELD_NAME)?)?;
+            let default = default_json_name(alloc, text(message, proto::FIELD_NAME))?;
             same_text(&default, stated)
         }
     }
@@ -213,7 +212,7 @@ pub fn has_type_name(message: &Said<'_>, stated: &Option<String>) -> Result<(), 
     ensures refused { OnErr result (maybe_text_at proto.field_type_name (message_of message.now)
         ≡ option_map string_bytes stated.now → ⊥) }
 {
-    match (maybe_text(message, proto::FIELD_TYPE_NAME)?, stated) {
+    match (maybe_text(message, proto::FIELD_TYPE_NAME), stated) {
         (Some(found), Some(name)) => same_text(found, name),
         (None, None) => Ok(()),
         _ => Err(Unstated::Reference),
@@ -233,7 +232,7 @@ fn field(
         (message_of message.now) declared.now → r ≡ Memory) }
 {
     let code = type_code(declared.presence, declared.element);
-    same_text(text(message, proto::FIELD_NAME)?, &declared.name)?;
+    same_text(text(message, proto::FIELD_NAME), &declared.name)?;
     ensure(number(message, proto::FIELD_NUMBER) == i128::from(declared.number))?;
     ensure(label_of(message) == i128::from(label(declared.presence)))?;
     ensure(number(message, proto::FIELD_TYPE) == i128::from(code))?;

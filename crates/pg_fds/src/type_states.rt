@@ -166,7 +166,7 @@ fn own_type(
         → r ≡ Memory) }
 {
     let name = declared.name.as_str();
-    is_within(alloc, scope, text(message, proto::MESSAGE_NAME)?, name)?;
+    is_within(alloc, scope, text(message, proto::MESSAGE_NAME), name)?;
     ensure(!is_entry(message))?;
     ensure(
         option(message, proto::MESSAGE_OPTIONS, proto::MESSAGE_DEPRECATED)

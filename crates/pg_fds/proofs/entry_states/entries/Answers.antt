@@ -11,11 +11,11 @@ use Rattle.pg_fds.proofs.entry_states.entries.Goals as goal
 pub returns-in_err-ensure-clause-refused : goal.returns-in_err-ensure-clause-refused
 returns-in_err-ensure-clause-refused c =
     MatchResult-from_err c.from_residual.result _ _ c.from_residual.ensures.0
-    (λ r texts once states. absurd (apart _ _ (sym (seen_length c.args.messages.now) ∙ (states.as_many ∙ sym c.map_count.ensures)) c.in_err-ensure.ensures.refused))
+    (λ r once states. absurd (apart _ _ (sym (seen_length c.args.messages.now) ∙ (states.as_many ∙ sym c.map_count.ensures)) c.in_err-ensure.ensures.refused))
 
 pub returns-in_err-has_entry-clause-refused : goal.returns-in_err-has_entry-clause-refused
 returns-in_err-has_entry-clause-refused c =
     let p = err_from_is_err_and c.from_residual-in_err-has_entry.result c.from_residual-in_err-has_entry.ensures.1 in
-    rw (p.1, p.2) (λ texts once states.
-    c.in_err-has_entry.ensures.refused (c.in_ok-places.ensures.index once)
+    rw (p.1, p.2) (λ once states.
+    c.in_err-has_entry.ensures.refused (c.in_ok-places.ensures once)
     (each_in (HasEntry (declared_in c.args.source.now) (map message_of c.args.messages.now)) c.args.fields.now c.loop-field.field-index c.field-item.result states.each c.loop-field-test.true c.field-item.is))

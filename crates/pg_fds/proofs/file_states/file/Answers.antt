@@ -1,14 +1,12 @@
 use Rattle.std.proofs.Common.{◌≡◌, ◌∷◌, true, sym, subst, ◌∙◌}
 use Rattle.std.proofs.lemmas.Result.{MatchResult-from_err, err_from_is_err_and}
-use Rattle.std.proofs.lemmas.Str.{IsUtf8-string_bytes}
 use Rattle.std.specs.List.{list_all}
-use Rattle.std.specs.Str.{IsUtf8}
 use Rattle.pg_schema.specs.rules.Files.{is_file_option, option_numbers}
 use Rattle.pg_schema.specs.rules.Pairs.{is_rising}
 use Rattle.pg_dyn.specs.Kept.{message_of}
 use Rattle.pg_fds.specs.Said.{options_at}
 use Rattle.pg_fds.specs.StatesFiles.{StatesOptions}
-use Rattle.pg_fds.proofs.FileStateLaws.{options_kept, syntax_text}
+use Rattle.pg_fds.proofs.FileStateLaws.{options_kept}
 use Rattle.pg_fds.proofs.file_states.file.Goals as goal
 
 pub returns-clause-ok : goal.returns-clause-ok
@@ -16,8 +14,8 @@ returns-clause-ok c =
     let declares = c.in_ok-declares.ensures.ok in
     let imports = c.in_ok-imports.ensures.ok in
     record {
-      name = sym c.in_ok-text.ensures.ok ∙ (c.in_ok-same_text.ensures.ok ∙ c.deref.ensures);
-      package_name = sym c.in_ok-text-2.ensures.ok ∙ (c.in_ok-same_text-2.ensures.ok ∙ c.as_str-scope.ensures.value);
+      name = sym c.text.ensures ∙ (c.in_ok-same_text.ensures.ok ∙ c.deref.ensures);
+      package_name = sym c.text-2.ensures ∙ (c.in_ok-same_text-2.ensures.ok ∙ c.as_str-scope.ensures.value);
       imports = imports.imports;
       imports_once = c.requires;
       public_places = imports.public_places;
@@ -25,13 +23,8 @@ returns-clause-ok c =
       enums = declares.enums;
       services = declares.services;
       options = subst (StatesOptions (options_at 8 (message_of c.args.message.now))) c.deref-2.ensures.value c.in_ok-options.ensures.ok;
-      syntax = sym c.in_ok-is_proto3.ensures.ok ∙ c.in_ok-ensure.ensures.ok;
+      syntax = sym c.is_proto3.ensures ∙ c.in_ok-ensure.ensures.ok;
     }
-
-pub returns-in_err-text-clause-refused : goal.returns-in_err-text-clause-refused
-returns-in_err-text-clause-refused c =
-    MatchResult-from_err c.from_residual.result _ _ c.from_residual.ensures.0
-    (λ r sound rules states. absurd (c.in_err-text.ensures.refused (subst IsUtf8 (sym states.name) (IsUtf8-string_bytes c.args.declared.now.name))))
 
 pub returns-in_err-options-clause-refused : goal.returns-in_err-options-clause-refused
 returns-in_err-options-clause-refused c =
@@ -41,11 +34,6 @@ returns-in_err-options-clause-refused c =
     let kept = options_kept c.args.declared.now rules in
     absurd (c.in_err-options.ensures.refused (subst (λ os. is_rising (0 ∷ option_numbers os) ≡ true) (sym same) kept.0) (subst (λ os. list_all is_file_option os ≡ true) (sym same) kept.1)
     (subst (StatesOptions (options_at 8 (message_of c.args.message.now))) (sym same) states.options)))
-
-pub returns-in_err-is_proto3-clause-refused : goal.returns-in_err-is_proto3-clause-refused
-returns-in_err-is_proto3-clause-refused c =
-    MatchResult-from_err c.from_residual-in_err-is_proto3.result _ _ c.from_residual-in_err-is_proto3.ensures.0
-    (λ r sound rules states. absurd (c.in_err-is_proto3.ensures.refused (syntax_text (message_of c.args.message.now) states.syntax)))
 
 pub returns-in_err-declares-clause-refused : goal.returns-in_err-declares-clause-refused
 returns-in_err-declares-clause-refused c =

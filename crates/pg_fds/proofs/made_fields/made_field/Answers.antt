@@ -1,7 +1,5 @@
 use Rattle.std.proofs.Common.{◌≡◌, ap, is_some, subst, sym, true, ◌∙◌}
 use Rattle.std.proofs.lemmas.Result.{MatchResult-from_err, err_from_is_err_and}
-use Rattle.std.proofs.lemmas.Str.{IsUtf8-string_bytes}
-use Rattle.std.specs.Str.{IsUtf8}
 use Rattle.std.specs.String.{string_bytes}
 use Rattle.pg_schema.specs.rules.Fields.{has_presence, is_packed}
 use Rattle.pg_fds.proofs.ViewLaws.{same_field}
@@ -20,17 +18,6 @@ returns-in_err-presence-clause-refused c =
     c.in_err-presence.ensures.refused all f is.known entry (subst (λ b. has_presence f.presence f.element b f.states_optional ≡ true) (sym member) is.has)
     (subst (λ o. is_packed f.presence f.element o ≡ true) (sym (c.option-packed.ensures ∙ is.known.states.packed)) is.packs))
 
-pub returns-in_err-text-clause-refused : goal.returns-in_err-text-clause-refused
-returns-in_err-text-clause-refused c =
-    MatchResult-from_err c.from_residual-in_err-text.result _ _ c.from_residual-in_err-text.ensures.0
-    (λ r all f is entry. absurd (c.in_err-text.ensures.refused (subst IsUtf8 (sym is.known.states.name) (IsUtf8-string_bytes f.name))))
-
-pub returns-in_err-json_name-clause-refused : goal.returns-in_err-json_name-clause-refused
-returns-in_err-json_name-clause-refused c =
-    let p = err_from_is_err_and c.from_residual-in_err-json_name.result c.from_residual-in_err-json_name.ensures.1 in
-    rw (p.1, p.2) (λ all f is entry.
-    c.in_err-json_name.ensures.refused (subst IsUtf8 (sym is.known.states.name) (IsUtf8-string_bytes f.name)) (subst IsUtf8 (sym is.known.states.json_name) (IsUtf8-string_bytes f.json_name)))
-
 pub returns-clause-made : goal.returns-clause-made
 returns-clause-made c = λ all f is entry.
     let says = is.known.states in
@@ -39,6 +26,6 @@ returns-clause-made c = λ all f is entry.
     let parts = c.in_ok-presence.ensures.made all f is.known entry (subst (λ b. has_presence f.presence f.element b f.states_optional ≡ true) (sym member) is.has)
     (subst (λ o. is_packed f.presence f.element o ≡ true) (sym (c.option-packed.ensures ∙ says.packed)) is.packs) in
     let number : c.count.result ≡ f.number = c.count.ensures f.number says.number is.number in
-    let name : string_bytes c.in_ok-name.name ≡ string_bytes f.name = c.in_ok-name.ensures.ok ∙ (c.in_ok-text.ensures.ok ∙ says.name) in
-    let json_name : string_bytes c.in_ok-json_name.json_name ≡ string_bytes f.json_name = c.in_ok-json_name.ensures.ok ∙ says.json_name in
+    let name : string_bytes c.in_ok-name.name ≡ string_bytes f.name = c.in_ok-name.ensures.ok ∙ (c.text.ensures ∙ says.name) in
+    let json_name : string_bytes c.in_ok-json_name.json_name ≡ string_bytes f.json_name = c.in_ok-json_name.ensures ∙ says.json_name in
     same_field number name parts.0 parts.1 oneof json_name (c.flag.ensures ∙ says.optional) (c.option-packed.ensures ∙ says.packed) (c.option.ensures ∙ says.deprecated)

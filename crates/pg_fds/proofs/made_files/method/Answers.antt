@@ -1,15 +1,8 @@
-use Rattle.std.proofs.Common.{◌≡◌, subst, sym, ◌∙◌}
+use Rattle.std.proofs.Common.{◌≡◌, ◌∙◌}
 use Rattle.std.proofs.lemmas.Result.{MatchResult-from_err}
-use Rattle.std.proofs.lemmas.Str.{IsUtf8-string_bytes}
-use Rattle.std.specs.Str.{IsUtf8}
 use Rattle.std.specs.String.{string_bytes}
 use Rattle.pg_fds.proofs.ViewLaws.{same_method}
 use Rattle.pg_fds.proofs.made_files.method.Goals as goal
-
-pub returns-in_err-text-clause-refused : goal.returns-in_err-text-clause-refused
-returns-in_err-text-clause-refused c =
-    MatchResult-from_err c.from_residual.result _ _ c.from_residual.ensures.0
-    (λ e all d has states. absurd (c.in_err-text.ensures.refused (subst IsUtf8 (sym states.name) (IsUtf8-string_bytes d.name))))
 
 pub returns-in_err-input-clause-refused : goal.returns-in_err-input-clause-refused
 returns-in_err-input-clause-refused c =
@@ -23,6 +16,6 @@ returns-in_err-output-clause-refused c =
 
 pub returns-clause-made : goal.returns-clause-made
 returns-clause-made c = λ all d has states.
-    let name : string_bytes c.in_ok-name.name ≡ string_bytes d.name = c.in_ok-name.ensures.ok ∙ (c.in_ok-text.ensures.ok ∙ states.name) in
+    let name : string_bytes c.in_ok-name.name ≡ string_bytes d.name = c.in_ok-name.ensures.ok ∙ (c.text.ensures ∙ states.name) in
     same_method name (c.in_ok-input.ensures.made all d.input has states.input) (c.in_ok-output.ensures.made all d.output has states.output) (c.flag.ensures ∙ states.client_streaming)
     (c.flag-2.ensures ∙ states.server_streaming) (c.option.ensures ∙ states.deprecated)

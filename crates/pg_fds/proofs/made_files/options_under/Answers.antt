@@ -1,23 +1,12 @@
 use Rattle.std.proofs.Common.{Global, Vec, ap, get_or, map, option_map, sym, ◌∙◌}
-use Rattle.std.proofs.lemmas.Result.{err_from_is_err_and}
 use Rattle.pg_schema.specs.declared.parts.options.FileOption.{FileOption}
 use Rattle.pg_dyn.specs.Kept.{message_of}
 use Rattle.pg_fds.specs.Building.{shown}
 use Rattle.pg_fds.specs.Views.{option_view}
 use Rattle.pg_fds.proofs.FileLaws.{same_default}
-use Rattle.pg_fds.proofs.MadeOptions.{option_at, option_more, option_none}
+use Rattle.pg_fds.proofs.MadeOptions.{option_more, option_none}
 use Rattle.pg_fds.proofs.made_files.options_under.Goals as goal
 use Rattle.pg_fds.proofs.made_files.options_under.Goals.{in-Some+in_ok-value+in_ok-push, in_default}
-
-pub returns-in_err-value-clause-refused : goal.returns-in_err-value-clause-refused
-returns-in_err-value-clause-refused c =
-    let numbers = c.args.numbers.now in
-    let i = c.loop-number.number-index in
-    let n = get_or numbers i 0 in
-    let p = err_from_is_err_and c.from_residual.result c.from_residual.ensures.1 in
-    rw (p.1, p.2) (λ os states.
-    option_at (message_of c.args.message.now) os numbers i n (shown c.in-Some.value) _ c.loop-number-test.true (same_default numbers i 0 n c.loop-number-test.true) states
-    (sym (ap (λ o. option_map shown o) c.in-Some.is) ∙ c.item-found.ensures) (λ v says. c.in_err-value.ensures.refused v says))
 
 pub loop-number-preserved : goal.loop-number-preserved
 loop-number-preserved c =
@@ -32,7 +21,7 @@ loop-number-preserved c =
           ap (λ (v : Vec FileOption Global). map option_view v.items) w.options-is
           ∙ (ap (map option_view) w.in_ok-push.ensures.items
           ∙ option_more m os numbers i n before w.in-Some.value w.in_ok-value.value c.loop-number-test.true at states kinds
-          (sym (ap (λ o. option_map shown o) w.in-Some.is) ∙ c.item-found.ensures) (λ v says kind. w.in_ok-value.ensures.made v says kind) (c.loop-number.invariant os states kinds)))
+          (sym (ap (λ o. option_map shown o) w.in-Some.is) ∙ c.item-found.ensures) (λ v says kind. w.in_ok-value.ensures v says kind) (c.loop-number.invariant os states kinds)))
       | in_default w ↦ (λ os states kinds.
           ap (λ (v : Vec FileOption Global). map option_view v.items) w.options-is
           ∙ option_none m os numbers i n before c.loop-number-test.true at states

@@ -1,9 +1,7 @@
-use Rattle.std.proofs.Common.{◌≡◌, SFits, Some, ap, pos, rules, subst, sym, ◌∷◌, ◌∙◌}
+use Rattle.std.proofs.Common.{◌≡◌, SFits, Some, ap, pos, rules, sym, ◌∷◌, ◌∙◌}
 use Rattle.std.proofs.lemmas.Int.{to_z-of_z}
 use Rattle.std.specs.Int.{w128}
 use Rattle.std.proofs.lemmas.Result.{MatchResult-from_err, err_from_is_err_and}
-use Rattle.std.proofs.lemmas.Str.{IsUtf8-string_bytes}
-use Rattle.std.specs.Str.{IsUtf8}
 use Rattle.pg_schema.specs.declared.parts.field.Presence.TheVariants as presences
 use Rattle.pg_schema.specs.rules.DeclaredNames.{entry_name, within}
 use Rattle.pg_dyn.specs.Kept.{message_of}
@@ -17,16 +15,11 @@ returns-in_err-same_number-clause-refused c =
     MatchResult-from_err c.from_residual.result _ _ c.from_residual.ensures.0
     (λ r all f is map has. absurd (c.in_err-same_number.ensures.refused (to_z-of_z w128 c.label_of.result fits ∙ c.label_of.ensures ∙ (is.states.label ∙ ap pos (label_three f.presence map)))))
 
-pub returns-in_err-text-clause-refused : goal.returns-in_err-text-clause-refused
-returns-in_err-text-clause-refused c =
-    MatchResult-from_err c.from_residual-in_err-text.result _ _ c.from_residual-in_err-text.ensures.0
-    (λ r all f is map has. absurd (c.in_err-text.ensures.refused (subst IsUtf8 (sym is.states.name) (IsUtf8-string_bytes f.name))))
-
 pub returns-in_err-names_type-clause-refused : goal.returns-in_err-names_type-clause-refused
 returns-in_err-names_type-clause-refused c =
     let m = message_of c.args.message.now in
     let scope = c.args.scope.now in
-    let own : c.deref.result.now ≡ entry_name (text_at 1 m) = c.deref.ensures ∙ (c.in_ok-own.ensures ∙ ap entry_name c.in_ok-text.ensures.ok) in
+    let own : c.deref.result.now ≡ entry_name (text_at 1 m) = c.deref.ensures ∙ (c.in_ok-own.ensures ∙ ap entry_name c.text.ensures) in
     let full : c.deref-2.result.now ≡ 46 ∷ within scope (entry_name (text_at 1 m)) = c.deref-2.ensures ∙ (c.in_ok-full.ensures ∙ ap (λ o. 46 ∷ within scope o) own) in
     MatchResult-from_err c.from_residual-in_err-names_type.result _ _ c.from_residual-in_err-names_type.ensures.0
     (λ r all f is map has.
@@ -34,13 +27,13 @@ returns-in_err-names_type-clause-refused c =
 
 pub returns-in_err-entry-clause-refused : goal.returns-in_err-entry-clause-refused
 returns-in_err-entry-clause-refused c =
-    let own : c.deref-3.result.now ≡ entry_name (text_at 1 (message_of c.args.message.now)) = c.deref-3.ensures ∙ (c.in_ok-own.ensures ∙ ap entry_name c.in_ok-text.ensures.ok) in
+    let own : c.deref-3.result.now ≡ entry_name (text_at 1 (message_of c.args.message.now)) = c.deref-3.ensures ∙ (c.in_ok-own.ensures ∙ ap entry_name c.text.ensures) in
     MatchResult-from_err c.from_residual-in_err-entry.result _ _ c.from_residual-in_err-entry.ensures.0
     (λ r all f is map has. absurd (none_found all c.args.entries.now f c.deref-3.result.now map has (own ∙ ap entry_name is.states.name) c.in_err-entry.ensures.refused))
 
 pub returns-in_err-key-clause-refused : goal.returns-in_err-key-clause-refused
 returns-in_err-key-clause-refused c =
-    let own : c.deref-3.result.now ≡ entry_name (text_at 1 (message_of c.args.message.now)) = c.deref-3.ensures ∙ (c.in_ok-own.ensures ∙ ap entry_name c.in_ok-text.ensures.ok) in
+    let own : c.deref-3.result.now ≡ entry_name (text_at 1 (message_of c.args.message.now)) = c.deref-3.ensures ∙ (c.in_ok-own.ensures ∙ ap entry_name c.text.ensures) in
     let p = err_from_is_err_and c.from_residual-in_err-key.result c.from_residual-in_err-key.ensures.1 in
     rw (p.1, p.2) (λ all f is map has.
     let e = found_entry all c.args.entries.now f c.deref-3.result.now c.in_ok-entry.entry map has (own ∙ ap entry_name is.states.name) c.in_ok-entry.ensures.found in
@@ -48,12 +41,12 @@ returns-in_err-key-clause-refused c =
 
 pub returns-clause-made : goal.returns-clause-made
 returns-clause-made c = λ all f is map has.
-    let own : c.deref-3.result.now ≡ entry_name (text_at 1 (message_of c.args.message.now)) = c.deref-3.ensures ∙ (c.in_ok-own.ensures ∙ ap entry_name c.in_ok-text.ensures.ok) in
+    let own : c.deref-3.result.now ≡ entry_name (text_at 1 (message_of c.args.message.now)) = c.deref-3.ensures ∙ (c.in_ok-own.ensures ∙ ap entry_name c.text.ensures) in
     let e = found_entry all c.args.entries.now f c.deref-3.result.now c.in_ok-entry.entry map has (own ∙ ap entry_name is.states.name) c.in_ok-entry.ensures.found in
     let parts = c.in_ok-key.ensures.made all f e.0 is.table is.known e.2 in
     (ap presences.Map parts.0 ∙ sym e.1, parts.1)
 
 pub returns-clause-left : goal.returns-clause-left
 returns-clause-left c = λ name.
-    let own : c.deref-3.result.now ≡ entry_name (text_at 1 (message_of c.args.message.now)) = c.deref-3.ensures ∙ (c.in_ok-own.ensures ∙ ap entry_name c.in_ok-text.ensures.ok) in
+    let own : c.deref-3.result.now ≡ entry_name (text_at 1 (message_of c.args.message.now)) = c.deref-3.ensures ∙ (c.in_ok-own.ensures ∙ ap entry_name c.text.ensures) in
     rw own at (c.in_ok-entry.ensures.left name)

@@ -1,23 +1,14 @@
 use Rattle.std.proofs.Common.{rules, ap, map, subst, sym, ◌≡◌, ◌∙◌}
 use Rattle.std.proofs.lemmas.List.Elements.{same_from_all_zip}
-use Rattle.std.proofs.lemmas.Result.{err_from_is_err_and}
-use Rattle.std.specs.List.{AllByRecursion, AllZip}
-use Rattle.std.specs.Str.{IsUtf8}
+use Rattle.std.specs.List.{AllZip}
 use Rattle.std.specs.String.{string_bytes}
 use Rattle.pg_dyn.specs.Kept.{message_of}
 use Rattle.pg_fds.specs.Lent.{lent}
 use Rattle.pg_fds.specs.Said.{children_at}
 use Rattle.pg_fds.specs.States.{StatesFieldRange}
 use Rattle.pg_fds.proofs.MadeMessage.{made_ranges}
-use Rattle.pg_fds.proofs.SaidLaws.{all_text}
 use Rattle.pg_fds.proofs.ViewLaws.{same_type}
 use Rattle.pg_fds.proofs.made_types.made_type.Goals as goal
-
-pub returns-in_err-texts-clause-refused : goal.returns-in_err-texts-clause-refused
-returns-in_err-texts-clause-refused c =
-    let p = err_from_is_err_and c.from_residual-in_err-texts.result c.from_residual-in_err-texts.ensures.1 in
-    rw (p.1, p.2) (λ all scope t made.
-    c.in_err-texts.ensures.refused (subst (AllByRecursion IsUtf8) (sym made.outlined.states.reserved_names) (all_text t.reserved_names.items)))
 
 pub returns-clause-made : goal.returns-clause-made
 returns-clause-made c = λ all scope t made.
@@ -26,7 +17,7 @@ returns-clause-made c = λ all scope t made.
     let reserved = c.in_ok-reserved_numbers.ensures t.reserved_numbers.items (subst (λ ms. AllZip StatesFieldRange ms t.reserved_numbers.items) (sym ranges) made.outlined.states.reserved_numbers)
     (made_ranges all c.args.names.now scope c.args.outlined.now t made) in
     let names : map string_bytes c.in_ok-reserved_names.reserved_names.items ≡ map string_bytes t.reserved_names.items =
-    c.in_ok-reserved_names.ensures ∙ (ap lent c.deref-2.ensures.value ∙ (c.in_ok-texts.ensures.ok ∙ made.outlined.states.reserved_names)) in
+    c.in_ok-reserved_names.ensures ∙ (ap lent c.deref-2.ensures.value ∙ (c.in_ok-texts.ensures ∙ made.outlined.states.reserved_names)) in
     let types : c.in_ok-nested_types.nested_types.items ≡ c.args.outlined.now.types.items = search (rules, same_from_all_zip) in
     let enums : c.in_ok-nested_enums.nested_enums.items ≡ c.args.outlined.now.enums.items = search (rules, same_from_all_zip) in
     same_type (c.in_ok-name.ensures.cases ∙ made.outlined.name) has.fields has.declared has.oneofs (types ∙ made.outlined.types) (enums ∙ made.outlined.enums) reserved names (c.option.ensures ∙ made.outlined.states.deprecated)

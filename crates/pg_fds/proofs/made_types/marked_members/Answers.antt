@@ -1,19 +1,11 @@
 use Rattle.std.proofs.Common.{ap, length, map, subst, sym, ◌≡◌, ◌∙◌}
-use Rattle.std.proofs.lemmas.Result.{err_from_is_err_and}
 use Rattle.pg_schema.specs.declared.parts.field.Field.{Field}
 use Rattle.pg_dyn.specs.Kept.{message_of}
 use Rattle.pg_fds.specs.Said.{children_at}
 use Rattle.pg_fds.specs.StatesTypes.{AreMarked, synthetic_places}
-use Rattle.pg_fds.proofs.MadeMessage.{made_name_texts, made_names, made_numbers, made_sorted}
+use Rattle.pg_fds.proofs.MadeMessage.{made_names, made_numbers, made_sorted}
 use Rattle.pg_fds.proofs.Zips.{seen_length}
 use Rattle.pg_fds.proofs.made_types.marked_members.Goals as goal
-
-pub returns-in_err-oneofs-clause-refused : goal.returns-in_err-oneofs-clause-refused
-returns-in_err-oneofs-clause-refused c =
-    let p = err_from_is_err_and c.from_residual.result c.from_residual.ensures.1 in
-    rw (p.1, p.2) (λ all scope t made.
-    c.in_err-oneofs.ensures.refused
-    (made_name_texts all c.args.names.now scope c.args.outlined.now t made (map message_of c.args.own.now) (map message_of c.args.inside.now) c.requires.own c.requires.inside c.args.places.now c.requires.places))
 
 pub declared_fields-requires-clause-marked : goal.declared_fields-requires-clause-marked
 declared_fields-requires-clause-marked c =
@@ -28,6 +20,6 @@ returns-clause-made c = λ all scope t made.
     record {
       fields = made_sorted all c.args.names.now scope o t made c.in_ok-made.made.items c.in_ok-fields.fields.items same c.in_ok-fields.ensures.same c.in_ok-fields.ensures.rising;
       declared = c.in_ok-declared.ensures ∙ (ap (map (λ (f : Field). f.number)) c.deref-2.ensures.value ∙ made_numbers all c.args.names.now scope o t made c.in_ok-made.made.items same);
-      oneofs = c.in_ok-oneofs.ensures.made
+      oneofs = c.in_ok-oneofs.ensures
           ∙ made_names all c.args.names.now scope o t made (map message_of c.args.own.now) (map message_of c.args.inside.now) c.requires.own c.requires.inside c.args.places.now c.requires.places;
     }

@@ -1,5 +1,5 @@
-use Rattle.std.proofs.Common.{ap, inl, map, subst, ◌≡◌, ◌⊎◌, ◌∙◌}
-use Rattle.std.proofs.lemmas.Result.{IfErr-weaker, err_from_is_err_and}
+use Rattle.std.proofs.Common.{ap, map, subst, ◌≡◌, ◌⊎◌, ◌∙◌}
+use Rattle.std.proofs.lemmas.Result.{IfErr-weaker}
 use Rattle.pg_dyn.specs.Kept.{message_of}
 use Rattle.pg_fds.specs.declared.error.Unstated.TheVariants as errors
 use Rattle.pg_fds.specs.FilePlaces.{importers}
@@ -7,12 +7,7 @@ use Rattle.pg_fds.specs.PostOrder.{HasNoOrder}
 use Rattle.pg_fds.specs.Reads.{importer_of}
 use Rattle.pg_fds.proofs.order.order.Goals as goal
 
-pub returns-in_err-found-clause-refused : goal.returns-in_err-found-clause-refused
-returns-in_err-found-clause-refused c =
-    let p = err_from_is_err_and c.from_residual.result c.from_residual.ensures.1 in
-    rw (p.1, p.2) (λ all. inl (c.in_err-found.ensures.refused all))
-
 pub returns-clause-refused : goal.returns-clause-refused
 returns-clause-refused c =
-    let files : importers c.deref.result.now ≡ map importer_of (map message_of c.args.files.now) = ap importers c.deref.ensures.value ∙ c.in_ok-found.ensures.ok in
-    IfErr-weaker c.order_of.result _ _ (λ e h all. subst (λ is. (e ≡ errors.Memory) ⊎ HasNoOrder c.args.skips is) files h) c.order_of.ensures.refused
+    let files : importers c.deref.result.now ≡ map importer_of (map message_of c.args.files.now) = ap importers c.deref.ensures.value ∙ c.in_ok-found.ensures in
+    IfErr-weaker c.order_of.result _ _ (λ e h. subst (λ is. (e ≡ errors.Memory) ⊎ HasNoOrder c.args.skips is) files h) c.order_of.ensures.refused

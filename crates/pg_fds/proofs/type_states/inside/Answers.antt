@@ -5,7 +5,7 @@ use Rattle.pg_fds.specs.Places.{declared_in}
 use Rattle.pg_fds.specs.Said.{children_at}
 use Rattle.pg_fds.specs.States.{StatesEntries}
 use Rattle.pg_fds.specs.StatesTypes.{is_entry}
-use Rattle.pg_fds.proofs.TypeStateLaws.{names_once, names_texts}
+use Rattle.pg_fds.proofs.TypeStateLaws.{names_once}
 use Rattle.pg_fds.proofs.type_states.inside.Goals as goal
 
 pub returns-in_err-entries-clause-refused : goal.returns-in_err-entries-clause-refused
@@ -20,5 +20,5 @@ returns-in_err-entries-clause-refused c =
     let p = err_from_is_err_and c.from_residual-in_err-entries.result c.from_residual-in_err-entries.ensures.1 in
     rw (p.1, p.2) (λ sound states.
     let own : StatesEntries all ms t.fields.items = subst (λ xs. StatesEntries all xs t.fields.items) (sym are) states.entries in
-    c.in_err-entries.ensures.refused (names_texts source sound c.args.id.index t c.requires ms own) (names_once source sound c.args.id.index t c.requires ms own)
+    c.in_err-entries.ensures.refused (names_once source sound c.args.id.index t c.requires ms own)
     (subst (StatesEntries all ms) (sym c.deref-6.ensures.value) own))

@@ -14,7 +14,7 @@ use Rattle.pg_fds.specs.StatesTypes.{is_no_entry}
 use Rattle.pg_fds.proofs.NamedRows.{enums_still, types_still}
 use Rattle.pg_fds.proofs.NameLoops.{loop_declares, seen}
 use Rattle.pg_fds.proofs.NameTable.{declares_none}
-use Rattle.pg_fds.proofs.OutlinedNames.{deep_wants, enum_rows_on, enums_below, enums_wanted, few_enums, few_types, lists_end, lists_on, names_below, no_enum_rows, no_names, no_type_rows, oneofs_here, rows_below, rows_long, taken, type_declared, type_rows_on, type_wanted, types_wanted, unnamed, seen_long}
+use Rattle.pg_fds.proofs.OutlinedNames.{deep_wants, enum_rows_on, enums_below, enums_wanted, few_enums, few_types, lists_end, lists_on, names_below, no_enum_rows, no_names, no_type_rows, oneofs_here, rows_below, rows_long, taken, type_declared, type_rows_on, type_wanted, types_wanted, seen_long}
 use Rattle.pg_fds.proofs.OutlinedPlaces.{counts_are, counts_on, each_on, no_placed, placed_below, placed_on, places_below, seen_more}
 use Rattle.pg_fds.proofs.OrderSteps.{map_more}
 use Rattle.pg_fds.proofs.outline.Outline.+outline_types.Goals as goal
@@ -51,17 +51,6 @@ loop-message-init t c = record {
   declares = λ packages. declares_none packages c.args.self.now.names;
 }
 
-pub returns-in_err-own_name-clause-refused : goal.returns-in_err-own_name-clause-refused
-returns-in_err-own_name-clause-refused t c =
-    let m = c.message-item.result in
-    let depth = c.args.depth in
-    let scope = c.args.scope.now in
-    let p = err_from_is_err_and c.from_residual.result c.from_residual.ensures.1 in
-    rw (p.1, p.2) (λ types enums oneofs packages.
-    deep_wants depth scope c.args.messages.now c.loop-message.message-index m c.if-depth-eq0.false c.loop-message-test.true c.message-item.is packages c.args.self.now.names c.loop-message.self.names _
-    (c.loop-message.invariant.declares packages)
-    (unnamed (depth - 1) scope (message_of m) (full_name scope (message_of m)) refl packages c.loop-message.self.names _ c.in_err-own_name.ensures.refused))
-
 pub returns-in_err-id-clause-refused : goal.returns-in_err-id-clause-refused
 returns-in_err-id-clause-refused t c =
     let ms = c.args.messages.now in
@@ -73,7 +62,7 @@ returns-in_err-id-clause-refused t c =
     let inv = c.loop-message.invariant in
     let some = c.if-depth-eq0.false in
     let h = c.loop-message-test.true in
-    let here = c.as_str-name.ensures.value ∙ (c.in_ok-full.ensures ∙ ap (within scope) c.in_ok-own_name.ensures.ok) in
+    let here = c.as_str-name.ensures.value ∙ (c.in_ok-full.ensures ∙ ap (within scope) c.text-own_name.ensures) in
     let p = err_from_is_err_and c.from_residual-in_err-id.result c.from_residual-in_err-id.ensures.1 in
     rw (p.1, p.2) (λ types enums oneofs packages.
     let room = few_types depth scope ms i m some h c.message-item.is c.args.self.now.types.items c.loop-message.self.types.items inv.rows types in
@@ -94,7 +83,7 @@ returns-in_err-enums-clause-refused t c =
     let h = c.loop-message-test.true in
     let at = c.as_str-name.result.now in
     let found = map message_of c.as_slice-own_enums.result.now in
-    let here : at ≡ full_name scope mm = c.as_str-name.ensures.value ∙ (c.in_ok-full.ensures ∙ ap (within scope) c.in_ok-own_name.ensures.ok) in
+    let here : at ≡ full_name scope mm = c.as_str-name.ensures.value ∙ (c.in_ok-full.ensures ∙ ap (within scope) c.text-own_name.ensures) in
     let all : found ≡ children_at 4 mm = ap (λ xs. map message_of xs) c.as_slice-own_enums.ensures.value ∙ c.in_ok-enums_inside.ensures in
     let p = err_from_is_err_and c.from_residual-in_err-enums.result c.from_residual-in_err-enums.ensures.1 in
     rw (p.1, p.2) (λ room_types room_enums oneofs packages.
@@ -117,7 +106,7 @@ returns-in_err-types-clause-refused t c =
     let at = c.as_str-name.result.now in
     let inner = map message_of c.as_slice-own.result.now in
     let found = map message_of c.as_slice-own_enums.result.now in
-    let here : at ≡ full_name scope mm = c.as_str-name.ensures.value ∙ (c.in_ok-full.ensures ∙ ap (within scope) c.in_ok-own_name.ensures.ok) in
+    let here : at ≡ full_name scope mm = c.as_str-name.ensures.value ∙ (c.in_ok-full.ensures ∙ ap (within scope) c.text-own_name.ensures) in
     let types : inner ≡ filter is_no_entry (children_at 3 mm) =
     ap (λ xs. map message_of xs) c.as_slice-own.ensures.value ∙ (c.in_ok-declared.ensures ∙ ap (filter is_no_entry) (ap (λ xs. map message_of xs) c.as_slice-inside.ensures.value ∙ c.in_ok-all_inside.ensures)) in
     let all : found ≡ children_at 4 mm = ap (λ xs. map message_of xs) c.as_slice-own_enums.ensures.value ∙ c.in_ok-enums_inside.ensures in
@@ -149,7 +138,7 @@ loop-message-preserved t c =
     let at = c.as_str-name.result.now in
     let inner = map message_of c.as_slice-own.result.now in
     let found = map message_of c.as_slice-own_enums.result.now in
-    let here : at ≡ full_name scope mm = c.as_str-name.ensures.value ∙ (c.in_ok-full.ensures ∙ ap (within scope) c.in_ok-own_name.ensures.ok) in
+    let here : at ≡ full_name scope mm = c.as_str-name.ensures.value ∙ (c.in_ok-full.ensures ∙ ap (within scope) c.text-own_name.ensures) in
     let types : inner ≡ filter is_no_entry (children_at 3 mm) =
     ap (λ xs. map message_of xs) c.as_slice-own.ensures.value ∙ (c.in_ok-declared.ensures ∙ ap (filter is_no_entry) (ap (λ xs. map message_of xs) c.as_slice-inside.ensures.value ∙ c.in_ok-all_inside.ensures)) in
     let all : found ≡ children_at 4 mm = ap (λ xs. map message_of xs) c.as_slice-own_enums.ensures.value ∙ c.in_ok-enums_inside.ensures in

@@ -17,16 +17,11 @@ use Rattle.pg_fds.proofs.OutlinedPlaces.{counts_are, file_placed}
 use Rattle.pg_fds.proofs.OrderSteps.{map_more}
 use Rattle.pg_fds.proofs.outline.Outline.outline_file.Goals as goal
 
-pub returns-in_err-scope-clause-refused : goal.returns-in_err-scope-clause-refused
-returns-in_err-scope-clause-refused c =
-    let p = err_from_is_err_and c.from_residual.result c.from_residual.ensures.1 in
-    rw (p.1, p.2) (λ packages may. absurd (c.in_err-scope.ensures.refused may.text))
-
 pub returns-in_err-declare_scope-clause-refused : goal.returns-in_err-declare_scope-clause-refused
 returns-in_err-declare_scope-clause-refused c =
     let m = message_of c.args.message.now in
-    let here : c.in_ok-scope.scope.now ≡ text_at 2 m = c.in_ok-scope.ensures.ok in
-    let p = err_from_is_err_and c.from_residual-in_err-declare_scope.result c.from_residual-in_err-declare_scope.ensures.1 in
+    let here : c.text-scope.result.now ≡ text_at 2 m = c.text-scope.ensures in
+    let p = err_from_is_err_and c.from_residual.result c.from_residual.ensures.1 in
     rw (p.1, p.2) (λ packages may. wants_first packages [] (file_names c.args.depth m) c.args.self.now.names _
     (c.in_err-declare_scope.ensures.refused packages (subst (λ a. is_among packages a ≡ true) (sym here) may.package_name)))
 
@@ -42,8 +37,8 @@ pub returns-in_err-enums-clause-refused : goal.returns-in_err-enums-clause-refus
 returns-in_err-enums-clause-refused c =
     let m = message_of c.args.message.now in
     let depth = c.args.depth in
-    let at = c.in_ok-scope.scope.now in
-    let here : at ≡ text_at 2 m = c.in_ok-scope.ensures.ok in
+    let at = c.text-scope.result.now in
+    let here : at ≡ text_at 2 m = c.text-scope.ensures in
     let enums = map message_of c.as_slice-own_enums.result.now in
     let same_enums : enums ≡ children_at 5 m = ap (λ xs. map message_of xs) c.as_slice-own_enums.ensures.value ∙ c.in_ok-enums_inside.ensures in
     let p = err_from_is_err_and c.from_residual-in_err-enums.result c.from_residual-in_err-enums.ensures.1 in
@@ -63,8 +58,8 @@ pub returns-in_err-types-clause-refused : goal.returns-in_err-types-clause-refus
 returns-in_err-types-clause-refused c =
     let m = message_of c.args.message.now in
     let depth = c.args.depth in
-    let at = c.in_ok-scope.scope.now in
-    let here : at ≡ text_at 2 m = c.in_ok-scope.ensures.ok in
+    let at = c.text-scope.result.now in
+    let here : at ≡ text_at 2 m = c.text-scope.ensures in
     let types = map message_of c.as_slice-own_types.result.now in
     let same_types : types ≡ children_at 4 m = ap (λ xs. map message_of xs) c.as_slice-own_types.ensures.value ∙ c.in_ok-types_inside.ensures in
     let type_count : type_rows depth at types ≡ file_types depth m = ap (λ a. type_rows depth a types) here ∙ ap (type_rows depth (text_at 2 m)) same_types in
@@ -94,8 +89,8 @@ pub returns-in_err-services-clause-refused : goal.returns-in_err-services-clause
 returns-in_err-services-clause-refused c =
     let m = message_of c.args.message.now in
     let depth = c.args.depth in
-    let at = c.in_ok-scope.scope.now in
-    let here : at ≡ text_at 2 m = c.in_ok-scope.ensures.ok in
+    let at = c.text-scope.result.now in
+    let here : at ≡ text_at 2 m = c.text-scope.ensures in
     let types = map message_of c.as_slice-own_types.result.now in
     let same_types : types ≡ children_at 4 m = ap (λ xs. map message_of xs) c.as_slice-own_types.ensures.value ∙ c.in_ok-types_inside.ensures in
     let enums = map message_of c.as_slice-own_enums.result.now in
@@ -113,8 +108,8 @@ pub returns : goal.returns
 returns c =
     let m = message_of c.args.message.now in
     let depth = c.args.depth in
-    let at = c.in_ok-scope.scope.now in
-    let here : at ≡ text_at 2 m = c.in_ok-scope.ensures.ok in
+    let at = c.text-scope.result.now in
+    let here : at ≡ text_at 2 m = c.text-scope.ensures in
     let types = map message_of c.as_slice-own_types.result.now in
     let same_types : types ≡ children_at 4 m = ap (λ xs. map message_of xs) c.as_slice-own_types.ensures.value ∙ c.in_ok-types_inside.ensures in
     let enums = map message_of c.as_slice-own_enums.result.now in
