@@ -15,7 +15,6 @@ use Rattle.pg_schema.specs.rules.Words.{is_package}
 use Rattle.pg_schema.proofs.lemmas.rules.PairLemmas.{and_left, and_right}
 use Rattle.pg_dyn.specs.Kept.{Kept, message_of}
 use Rattle.pg_dyn.specs.Message.{Message}
-use Rattle.pg_fds.specs.FilePlaces.{HasPathTexts}
 use Rattle.pg_fds.specs.Lent.{lent}
 use Rattle.pg_fds.specs.Said.{text_at}
 use Rattle.pg_fds.specs.StatesFiles.{import_of, is_descriptor, is_place, is_proto3, is_skipped, kept_imports}

@@ -14,7 +14,6 @@ use Rattle.pg_schema.specs.rules.TextSets.{is_among}
 use Rattle.pg_schema.proofs.lemmas.rules.PairLemmas.{among_push, and_both, and_left, and_right}
 use Rattle.pg_dyn.specs.Message.{Message}
 use Rattle.pg_fds.specs.Codes.{file_has_types}
-use Rattle.pg_fds.specs.FilePlaces.{HasPathTexts}
 use Rattle.pg_fds.specs.Places.{declared_in}
 use Rattle.pg_fds.specs.PostOrder.{HasNoOrder, imports_once}
 use Rattle.pg_fds.specs.Reads.{AreBehind, StatesFiles, file_name, importer_of}

@@ -1,6 +1,6 @@
 //! Whether the messages of a set state files. What they don't state is told as a bad reference.
 
-ghost use Rattle.std.specs.Prelude.{◌≡◌, ◌&&◌, ◌∷◌, [], true, IfErr, IfOk, OnErr, OnOk, find, length, map, nat_eq, option_map};
+ghost use Rattle.std.specs.Prelude.{◌≡◌, ◌&&◌, ◌∷◌, [], true, IfErr, OnErr, OnOk, find, length, map, nat_eq, option_map};
 ghost use Rattle.std.specs.List.{list_all};
 ghost use Rattle.std.specs.Option.{option_copied, unwrap_or};
 ghost use Rattle.pg_schema.specs.declared.parts.options.FileOption.{FileOption};
@@ -14,7 +14,7 @@ ghost use Rattle.pg_fds.specs.Building.{shown};
 ghost use Rattle.pg_fds.specs.Lent.{lent};
 ghost use Rattle.pg_fds.specs.Places.{declared_in};
 ghost use Rattle.pg_fds.specs.Proto as proto;
-ghost use Rattle.pg_fds.specs.Said.{item_at, options_at, text_at, texts_at};
+ghost use Rattle.pg_fds.specs.Said.{item_at, options_at, texts_at};
 ghost use Rattle.pg_fds.specs.StatesFiles.{StatesFile, StatesOptions, import_of, is_descriptor, is_proto3, is_skipped, kept_imports, option_item, stated_option};
 ghost use Rattle.pg_fds.specs.StatesInside.{StatesDeclared, StatesImports};
 ghost use Rattle.pg_fds.specs.StatesTypes.{AreMarked};

@@ -1,7 +1,7 @@
 //! Whether the messages of a set state oneofs. What they don't state is told as a bad reference.
 
 ghost use Rattle.std.specs.Prelude.{◌≡◌, Some, true, IfErr, IfOk, OnErr, OnOk, length, filter, map};
-ghost use Rattle.std.specs.List.{AllByRecursion, AllZip, list_all};
+ghost use Rattle.std.specs.List.{AllZip, list_all};
 ghost use Rattle.std.specs.String.{string_bytes};
 ghost use Rattle.pg_dyn.specs.Kept.{message_of};
 ghost use Rattle.pg_fds.specs.declared.error.Unstated.TheVariants.{Memory};

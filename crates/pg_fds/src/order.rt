@@ -1,7 +1,7 @@
 //! The order of a set's files: each behind those that it imports.
 
 ghost use Rattle.std.specs.Prelude.{◌≡◌, ◌⊎◌, false, true, ℕ, List, IfErr, IfOk, OnOk, map};
-ghost use Rattle.std.specs.List.{AllByRecursion, list_all};
+ghost use Rattle.std.specs.List.{list_all};
 ghost use Rattle.pg_schema.specs.rules.Pairs.{are_distinct};
 ghost use Rattle.pg_schema.specs.rules.TextSets.{is_among};
 ghost use Rattle.pg_dyn.specs.Kept.{message_of};

@@ -1,7 +1,7 @@
 //! Descriptor sets, read.
 
-ghost use Rattle.std.specs.Prelude.{ℕ, ◌≡◌, Bool, List, Some, IfErr, IfOk, OnErr, OnOk, map};
-ghost use Rattle.std.specs.List.{AllByRecursion, list_all};
+ghost use Rattle.std.specs.Prelude.{ℕ, ◌≡◌, List, Some, IfErr, IfOk, OnOk, map};
+ghost use Rattle.std.specs.List.{list_all};
 ghost use Rattle.pg_schema.specs.declared.parts.Parts.{Parts as StatedParts};
 ghost use Rattle.pg_schema.specs.rules.Sound.{IsSound};
 ghost use Rattle.pg_check.specs.admitting.PartErrors.{IsRefusedOf};
@@ -15,10 +15,8 @@ ghost use Rattle.pg_fds.specs.Building.{written_shape};
 ghost use Rattle.pg_fds.specs.Descriptor.{file_set};
 ghost use Rattle.pg_fds.specs.FilePlaces.{AreOrdered};
 ghost use Rattle.pg_fds.specs.InOrder.{StandInOrder};
-ghost use Rattle.pg_fds.specs.Proto as proto;
 ghost use Rattle.pg_fds.specs.Reads.{CanBeMade, IsHeld, States, StatesFiles, fds_reads, importer_of, kept_files};
-ghost use Rattle.pg_fds.specs.Refused.{HasTexts, IsOfBytes, IsOfParts, MayRefuseFiles, MayRefuseSet, NoneIsStated, StatesNoneHeld};
-ghost use Rattle.pg_fds.specs.Said.{children_at};
+ghost use Rattle.pg_fds.specs.Refused.{IsOfBytes, IsOfParts, MayRefuseFiles, MayRefuseSet, NoneIsStated, StatesNoneHeld};
 ghost use Rattle.pg_fds.specs.StatesFiles.{is_proto3, most_deep};
 ghost use Rattle.pg_fds.specs.Texts.{AreTexts};
 ghost use Rattle.pg_fds.specs.Views.{parts_view};

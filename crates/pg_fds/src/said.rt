@@ -4,7 +4,7 @@
 //! The messages are without bytes: the written schema has no field of that type, and a decoded
 //! message keeps the items of string fields as texts.
 
-ghost use Rattle.std.specs.Prelude.{◌≡◌, [], ℕ, ◌<◌, ◌^◌, false, pos, true, IfErr, IfOk, IfSome, MatchOption, OnErr, OnOk, map, option_map, slice_get};
+ghost use Rattle.std.specs.Prelude.{◌≡◌, [], ℕ, ◌<◌, ◌^◌, false, pos, true, IfOk, IfSome, MatchOption, OnErr, OnOk, map, option_map, slice_get};
 ghost use Rattle.std.specs.List.{AllByRecursion};
 ghost use Rattle.std.specs.Option.{option_copied};
 ghost use Rattle.pg_dyn.specs.Kept.{message_of, of_number};

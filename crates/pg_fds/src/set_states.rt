@@ -12,9 +12,7 @@ ghost use Rattle.pg_fds.specs.FilePlaces.{AreOrdered, name_at};
 ghost use Rattle.pg_fds.specs.Outlines.{files_at};
 ghost use Rattle.pg_fds.specs.Places.{declared_in};
 ghost use Rattle.pg_fds.specs.PostOrder.{imports_once, paths_of};
-ghost use Rattle.pg_fds.specs.Proto as proto;
 ghost use Rattle.pg_fds.specs.Reads.{AreBehind, StatesFiles, file_name, importer_of, imports_among};
-ghost use Rattle.pg_fds.specs.Said.{text_at};
 ghost use Rattle.pg_fds.specs.StatesFiles.{StatesFile, is_skipped};
 
 use crate::error::Unstated;

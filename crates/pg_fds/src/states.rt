@@ -10,7 +10,7 @@ ghost use Rattle.pg_fds.specs.declared.error.Unstated.TheVariants.{Memory};
 ghost use Rattle.pg_fds.specs.Lent.{lent};
 ghost use Rattle.pg_fds.specs.Places.{declared_in};
 ghost use Rattle.pg_fds.specs.Proto as proto;
-ghost use Rattle.pg_fds.specs.Said.{maybe_text_at, text_at};
+ghost use Rattle.pg_fds.specs.Said.{maybe_text_at};
 ghost use Rattle.pg_fds.specs.States.{StatesEnum, StatesEnums, StatesField, StatesFieldRange, StatesValue, StatesValueRange, json_name_at, label_at};
 
 use crate::error::Unstated;
