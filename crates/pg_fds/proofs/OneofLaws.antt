@@ -50,6 +50,9 @@ there_within P [] i there = absurd there
 there_within P (x ∷ xs) zero there = omega arith
 there_within P (x ∷ xs) (suc i) there = omega (arith, there_within P xs i there)
 
+some_same : {A : Type 0} (a b : A) → ◌≡◌ {A = Option A} (Some a) (Some b) → a ≡ b
+some_same a b same = cc
+
 got_within : {A B : Type 0} (f : A → B) (xs : List A) (i : ℕ) (y : B) → slice_get (map f xs) i ≡ Some y → i < length xs
 got_within f [] i y is = absurd (none-some y is)
 got_within f (x ∷ xs) zero y is = omega arith
