@@ -157,14 +157,3 @@ pub found_said : (n : ℕ) (m : Kept) (r : Option (Bor Content)) → MatchOption
     → IfSome r (λ content. AreSaid content.now)
 found_said n m None none all = tt
 found_said n m (Some content) seen all = field_said n m content.now seen all
-
--- each of them
-pub each_said : {A : Type 0} (P : A → Type 0) (xs : List A) (i : ℕ) (x : A) → i < length xs → x ≡ get_or xs i x → AllByRecursion P xs → P x
-each_said P [] i x h is all = absurd (omega (arith, h))
-each_said P (y ∷ ys) zero x h is all = subst P (sym is) all.0
-each_said P (y ∷ ys) (suc i) x h is all = each_said P ys i x (omega (arith, h)) is all.1
-
--- the first of them
-pub first_said : {A : Type 0} (P : A → Type 0) (xs : List A) (x : A) → Some x ≡ slice_get xs 0 → AllByRecursion P xs → P x
-first_said P [] x is all = absurd (none-some x (sym is))
-first_said P (y ∷ ys) x is all = subst P (sym (same_Some x y is)) all.0

@@ -18,7 +18,7 @@ use pg_schema::{Element, Schema, TypeId};
 use std::alloc::{AllocError, Global};
 
 /// The message of that type without content.
-pub fn empty(alloc: Global, type_id: TypeId) -> Message
+pub(crate) fn empty(alloc: Global, type_id: TypeId) -> Message
     requires { type_id.index < 18 }
     ensures items { items_of result ≡ [] }
     ensures kept { IsOf type_id result }
@@ -53,7 +53,7 @@ fn put_one(
 }
 
 /// Puts the items of a repeated field.
-pub fn put_all(
+pub(crate) fn put_all(
     message: &mut Message,
     table: &Schema,
     type_id: TypeId,
@@ -86,7 +86,7 @@ fn text_item(alloc: Global, value: &str) -> Result<Value, AllocError>
 }
 
 /// Puts a text.
-pub fn put_text(
+pub(crate) fn put_text(
     alloc: Global,
     message: &mut Message,
     table: &Schema,
@@ -108,7 +108,7 @@ pub fn put_text(
 }
 
 /// Puts a text, where there is one.
-pub fn put_maybe_text(
+pub(crate) fn put_maybe_text(
     alloc: Global,
     message: &mut Message,
     table: &Schema,
@@ -132,7 +132,7 @@ pub fn put_maybe_text(
 }
 
 /// Puts a text, where it isn't empty.
-pub fn put_filled(
+pub(crate) fn put_filled(
     alloc: Global,
     message: &mut Message,
     table: &Schema,
@@ -156,7 +156,7 @@ pub fn put_filled(
 }
 
 /// Puts a number that isn't negative, of an int32 or an enum.
-pub fn put_count(
+pub(crate) fn put_count(
     message: &mut Message,
     table: &Schema,
     type_id: TypeId,
@@ -180,7 +180,7 @@ pub fn put_count(
 }
 
 /// Puts a number that isn't negative, where there is one.
-pub fn put_maybe_count(
+pub(crate) fn put_maybe_count(
     message: &mut Message,
     table: &Schema,
     type_id: TypeId,
@@ -204,7 +204,7 @@ pub fn put_maybe_count(
 }
 
 /// Puts a number.
-pub fn put_whole(
+pub(crate) fn put_whole(
     message: &mut Message,
     table: &Schema,
     type_id: TypeId,
@@ -225,7 +225,7 @@ pub fn put_whole(
 }
 
 /// Puts a flag.
-pub fn put_flag(
+pub(crate) fn put_flag(
     message: &mut Message,
     table: &Schema,
     type_id: TypeId,
@@ -248,7 +248,7 @@ pub fn put_flag(
 }
 
 /// Puts a flag, where it is set.
-pub fn put_mark(
+pub(crate) fn put_mark(
     message: &mut Message,
     table: &Schema,
     type_id: TypeId,
@@ -271,7 +271,7 @@ pub fn put_mark(
 }
 
 /// Puts a flag, where it is stated.
-pub fn put_stated(
+pub(crate) fn put_stated(
     message: &mut Message,
     table: &Schema,
     type_id: TypeId,
@@ -294,7 +294,7 @@ pub fn put_stated(
 }
 
 /// Puts a message.
-pub fn put_child(
+pub(crate) fn put_child(
     alloc: Global,
     message: &mut Message,
     table: &Schema,
@@ -319,7 +319,7 @@ pub fn put_child(
 }
 
 /// Puts options, where one is stated.
-pub fn put_options(
+pub(crate) fn put_options(
     alloc: Global,
     message: &mut Message,
     table: &Schema,
@@ -345,7 +345,7 @@ pub fn put_options(
 }
 
 /// Puts messages.
-pub fn put_children(
+pub(crate) fn put_children(
     message: &mut Message,
     table: &Schema,
     type_id: TypeId,
@@ -368,7 +368,7 @@ pub fn put_children(
 }
 
 /// Puts a message of that type behind the others of a list.
-pub fn push_child(
+pub(crate) fn push_child(
     alloc: Global,
     made: &mut Vec<Value>,
     type_id: TypeId,
@@ -399,7 +399,7 @@ fn text_items(alloc: Global, texts: &[String]) -> Result<Vec<Value>, AllocError>
 }
 
 /// Puts texts.
-pub fn put_texts(
+pub(crate) fn put_texts(
     alloc: Global,
     message: &mut Message,
     table: &Schema,

@@ -18,10 +18,10 @@ use pg_schema::Scalar;
 use std::alloc::{AllocError, Global};
 
 /// TYPE_MESSAGE.
-pub const MESSAGE_CODE: i128 = 11;
+pub(crate) const MESSAGE_CODE: i128 = 11;
 
 /// LABEL_REPEATED.
-pub const REPEATED: i128 = 3;
+pub(crate) const REPEATED: i128 = 3;
 
 // The scalars by rising code.
 const SCALARS: [Scalar; 15] = [
@@ -51,7 +51,7 @@ fn has_code(field: &Said<'_>, scalar: Scalar) -> bool
 }
 
 /// The scalar that a field's type is. `None` of messages, enums and codes that aren't taken.
-pub fn scalar_of(field: &Said<'_>) -> Option<Scalar>
+pub(crate) fn scalar_of(field: &Said<'_>) -> Option<Scalar>
     ensures { result ≡ find (λ s. int_eq (number_at proto.field_type (message_of field.now))
         (pos (scalar_code s))) scalars }
 {
@@ -128,7 +128,11 @@ fn are_taken(fields: &[Said<'_>]) -> bool
 
 /// Whether the types and labels of all fields of the message types are taken, nested less deep than
 /// that.
-pub fn have_types(alloc: Global, depth: usize, messages: &[Said<'_>]) -> Result<bool, AllocError>
+pub(crate) fn have_types(
+    alloc: Global,
+    depth: usize,
+    messages: &[Said<'_>],
+) -> Result<bool, AllocError>
     ensures { IfOk result (λ taken. taken ≡ have_types depth (map message_of messages.now)) }
 {
     if depth == 0 {
@@ -160,7 +164,7 @@ fn file_has_types(alloc: Global, file: &Said<'_>) -> Result<bool, AllocError>
 }
 
 /// Whether those of all files are.
-pub fn files_have_types(alloc: Global, files: &[Said<'_>]) -> Result<bool, AllocError>
+pub(crate) fn files_have_types(alloc: Global, files: &[Said<'_>]) -> Result<bool, AllocError>
     ensures { IfOk result (λ taken. taken
         ≡ list_all file_has_types (map message_of files.now)) }
 {

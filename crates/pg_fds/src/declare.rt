@@ -21,7 +21,7 @@ use std::alloc::{AllocError, Global};
 use std::collections::BTreeMap;
 
 /// Puts a name in the table. Refused, memory aside, only where it may not be declared.
-pub fn declare(
+pub(crate) fn declare(
     names: &mut BTreeMap<String, Named>,
     name: String,
     named: Named,
@@ -39,7 +39,7 @@ pub fn declare(
 }
 
 /// Puts the full name of what a message is called in the scope in the table, and answers it.
-pub fn declare_named(
+pub(crate) fn declare_named(
     alloc: Global,
     names: &mut BTreeMap<String, Named>,
     scope: &str,
@@ -83,7 +83,7 @@ fn declare_own(
 }
 
 /// Puts the full names of what messages are called in the scope in the table.
-pub fn declare_each(
+pub(crate) fn declare_each(
     alloc: Global,
     names: &mut BTreeMap<String, Named>,
     scope: &str,
@@ -107,7 +107,7 @@ pub fn declare_each(
 }
 
 /// The oneofs at places that aren't marked.
-pub fn real_oneofs<'a>(
+pub(crate) fn real_oneofs<'a>(
     alloc: Global,
     oneofs: &[Said<'a>],
     numbers: &[i128],
@@ -144,7 +144,7 @@ fn declare_part(names: &mut BTreeMap<String, Named>, part: String) -> Result<(),
 
 /// Puts the parts of a package in the table, which may have them as those of others: what stands
 /// before a dot of it, and the whole.
-pub fn declare_package(
+pub(crate) fn declare_package(
     alloc: Global,
     names: &mut BTreeMap<String, Named>,
     path: &str,

@@ -17,17 +17,17 @@ const ONE: Presence = Presence::Explicit;
 
 const MANY: Presence = Presence::Repeated { packed: false };
 
-pub const TEXT: Element = Element::Scalar(Scalar::String);
+pub(crate) const TEXT: Element = Element::Scalar(Scalar::String);
 
-pub const NUMBER: Element = Element::Scalar(Scalar::Int32);
+pub(crate) const NUMBER: Element = Element::Scalar(Scalar::Int32);
 
-pub const FLAG: Element = Element::Scalar(Scalar::Bool);
+pub(crate) const FLAG: Element = Element::Scalar(Scalar::Bool);
 
-pub const LABEL: Element = Element::Enum(EnumId { index: 0 });
+pub(crate) const LABEL: Element = Element::Enum(EnumId { index: 0 });
 
-pub const TYPE: Element = Element::Enum(EnumId { index: 1 });
+pub(crate) const TYPE: Element = Element::Enum(EnumId { index: 1 });
 
-pub const MODE: Element = Element::Enum(EnumId { index: 2 });
+pub(crate) const MODE: Element = Element::Enum(EnumId { index: 2 });
 
 const FILE: Element = Element::Message(TypeId { index: 1 });
 

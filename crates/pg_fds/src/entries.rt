@@ -132,7 +132,7 @@ fn entry_message(
 }
 
 /// Puts the messages of the fields' entry types behind the others, in the order of the fields.
-pub fn push_entries(
+pub(crate) fn push_entries(
     alloc: Global,
     table: &Schema,
     source: &Schema,

@@ -28,7 +28,7 @@ use std::alloc::{AllocError, Global};
 use std::collections::BTreeMap;
 
 /// The singular field is missing.
-pub fn lacks(message: &Said<'_>, number: u32) -> Result<(), Unstated>
+pub(crate) fn lacks(message: &Said<'_>, number: u32) -> Result<(), Unstated>
     ensures ok { OnOk result (item_at number (message_of message.now) ≡ None) }
     ensures refused { OnErr result (item_at number (message_of message.now) ≡ None → ⊥) }
 {
@@ -39,7 +39,7 @@ pub fn lacks(message: &Said<'_>, number: u32) -> Result<(), Unstated>
 }
 
 /// The repeated field is missing.
-pub fn lacks_all(message: &Said<'_>, number: u32) -> Result<(), Unstated>
+pub(crate) fn lacks_all(message: &Said<'_>, number: u32) -> Result<(), Unstated>
     ensures ok { OnOk result (items_at number (message_of message.now) ≡ []) }
     ensures refused { OnErr result (items_at number (message_of message.now) ≡ [] → ⊥) }
 {
@@ -62,7 +62,7 @@ fn is_empty(message: &Said<'_>) -> Result<(), Unstated>
 }
 
 /// The options are missing, or none is in them.
-pub fn has_no_options(message: &Said<'_>, number: u32) -> Result<(), Unstated>
+pub(crate) fn has_no_options(message: &Said<'_>, number: u32) -> Result<(), Unstated>
     ensures ok { OnOk result (parts (options_at number (message_of message.now)) ≡ []) }
     ensures refused { OnErr result (parts (options_at number (message_of message.now)) ≡ [] → ⊥) }
 {
@@ -242,7 +242,7 @@ fn map_count(fields: &[Field]) -> usize
 
 /// The messages state the entry types of the fields. Where names of these stand once, it is
 /// refused, memory aside, only where they don't.
-pub fn entries(
+pub(crate) fn entries(
     alloc: Global,
     source: &Schema,
     messages: &[Said<'_>],

@@ -133,7 +133,7 @@ fn enum_message(alloc: Global, table: &Schema, declared: &EnumType) -> Result<Me
 }
 
 /// The messages of the schema's enums at these places, in order.
-pub fn enums(
+pub(crate) fn enums(
     alloc: Global,
     table: &Schema,
     source: &Schema,

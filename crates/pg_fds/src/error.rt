@@ -87,7 +87,7 @@ impl From<AllocError> for FdsError {
 
 /// Why the messages of a set make no schema, or not the one that is asked for.
 #[derive(Clone, Copy, Debug, PartialEq, Eq, Drop)]
-pub enum Unstated {
+pub(crate) enum Unstated {
     /// Memory was refused.
     Memory,
     /// A name, a place or a form isn't what it has to be.

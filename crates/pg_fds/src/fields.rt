@@ -27,7 +27,7 @@ use pg_schema::{Element, Field, Presence, Scalar, Schema, entry_name};
 use std::alloc::{AllocError, Global};
 
 /// LABEL_OPTIONAL or LABEL_REPEATED.
-pub fn label(presence: Presence) -> u32
+pub(crate) fn label(presence: Presence) -> u32
     ensures value { result ≡ label presence }
     ensures small { result ≤ 3 }
 {
@@ -38,7 +38,7 @@ pub fn label(presence: Presence) -> u32
 }
 
 /// TYPE_DOUBLE and the others.
-pub fn scalar_code(scalar: Scalar) -> u32
+pub(crate) fn scalar_code(scalar: Scalar) -> u32
     ensures value { result ≡ scalar_code scalar }
     ensures small { result ≤ 18 }
 {
@@ -62,7 +62,7 @@ pub fn scalar_code(scalar: Scalar) -> u32
 }
 
 /// The code of an element: that of its scalar, TYPE_MESSAGE or TYPE_ENUM.
-pub fn element_code(element: Element) -> u32
+pub(crate) fn element_code(element: Element) -> u32
     ensures value { result ≡ element_code element }
     ensures small { result ≤ 18 }
 {
@@ -74,7 +74,7 @@ pub fn element_code(element: Element) -> u32
 }
 
 /// The code of a field's type: a map field is one of entries.
-pub fn type_code(presence: Presence, element: Element) -> u32
+pub(crate) fn type_code(presence: Presence, element: Element) -> u32
     ensures value { result ≡ type_code presence element }
     ensures small { result ≤ 18 }
 {
@@ -85,7 +85,7 @@ pub fn type_code(presence: Presence, element: Element) -> u32
 }
 
 /// What an element is called, where it is an enum or a message: its full name with a dot in front.
-pub fn element_name(
+pub(crate) fn element_name(
     alloc: Global,
     source: &Schema,
     element: Element,
@@ -107,7 +107,7 @@ pub fn element_name(
 }
 
 /// What a field's type is called, in a message of that full name.
-pub fn named_type(
+pub(crate) fn named_type(
     alloc: Global,
     source: &Schema,
     scope: &str,
@@ -164,7 +164,7 @@ fn put_kind(
 
 /// The message of a field, in a message of that full name, where the next synthetic oneof has that
 /// place.
-pub fn field_message(
+pub(crate) fn field_message(
     alloc: Global,
     table: &Schema,
     source: &Schema,

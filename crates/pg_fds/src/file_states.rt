@@ -35,24 +35,24 @@ use std::alloc::Global;
 // java_multiple_files, go_package, deprecated, cc_enable_arenas, objc_class_prefix,
 // csharp_namespace, swift_prefix, php_class_prefix, php_namespace, ruby_package.
 /// The options of files that are taken.
-pub const OPTIONS: [u32; 13] = [1, 8, 9, 10, 11, 23, 31, 36, 37, 39, 40, 41, 45];
+pub(crate) const OPTIONS: [u32; 13] = [1, 8, 9, 10, 11, 23, 31, 36, 37, 39, 40, 41, 45];
 
 /// Whether the path is that of descriptor.proto.
-pub fn is_descriptor(path: &str) -> bool
+pub(crate) fn is_descriptor(path: &str) -> bool
     ensures { result ≡ is_descriptor path.now }
 {
     path == "google/protobuf/descriptor.proto"
 }
 
 /// Whether the file is proto3.
-pub fn is_proto3(message: &Said<'_>) -> bool
+pub(crate) fn is_proto3(message: &Said<'_>) -> bool
     ensures { result ≡ is_proto3 (message_of message.now) }
 {
     text(message, proto::FILE_SYNTAX) == "proto3"
 }
 
 /// Whether the file is skipped: descriptor.proto, where it isn't proto3.
-pub fn is_skipped(message: &Said<'_>) -> bool
+pub(crate) fn is_skipped(message: &Said<'_>) -> bool
     ensures { result ≡ is_skipped (message_of message.now) }
 {
     is_descriptor(text(message, proto::FILE_NAME)) && !is_proto3(message)
@@ -114,7 +114,7 @@ fn has_options(message: &Said<'_>, options: &[FileOption]) -> Result<(), Unstate
 }
 
 /// The message of a file's options, where there is one.
-pub fn own_options<'a>(message: &Said<'a>) -> Option<Said<'a>>
+pub(crate) fn own_options<'a>(message: &Said<'a>) -> Option<Said<'a>>
     ensures { unwrap_or (option_map message_of result) (ends [])
         ≡ options_at proto.file_options (message_of message.now) }
 {
@@ -142,7 +142,7 @@ fn options(message: &Said<'_>, options: &[FileOption]) -> Result<(), Unstated>
 // ---- imports
 
 /// Whether an import of the path is left out, where descriptor.proto is skipped or not.
-pub fn is_left_out(skips: bool, path: &str) -> bool
+pub(crate) fn is_left_out(skips: bool, path: &str) -> bool
     ensures { result ≡ (skips && is_descriptor path.now) }
 {
     if !skips {
@@ -236,7 +236,7 @@ fn imports(alloc: Global, skips: bool, message: &Said<'_>, declared: &File) -> R
 
 /// The message, which imports no path twice, states the file. Where the schema is sound and the
 /// file keeps to the rules, it is refused, memory aside, only where it doesn't.
-pub fn file(
+pub(crate) fn file(
     alloc: Global,
     source: &Schema,
     skips: bool,

@@ -39,7 +39,7 @@ use pg_schema::{File, FileOption, Import, OptimizeMode, OptionValue, Schema, Typ
 use std::alloc::{AllocError, Global};
 
 /// SPEED, CODE_SIZE or LITE_RUNTIME.
-pub fn mode_code(mode: OptimizeMode) -> u32
+pub(crate) fn mode_code(mode: OptimizeMode) -> u32
     ensures value { result ≡ mode_code mode }
     ensures small { result ≤ 3 }
 {
@@ -257,7 +257,7 @@ fn file_message(
 }
 
 /// The messages of these files, in order.
-pub fn files(
+pub(crate) fn files(
     alloc: Global,
     table: &Schema,
     source: &Schema,

@@ -146,7 +146,7 @@ fn all_services(files: &[File]) -> Result<usize, Unstated>
 }
 
 /// The schema is numbered as one that a set states. Refused only where it isn't.
-pub fn in_order(source: &Schema) -> Result<(), Unstated>
+pub(crate) fn in_order(source: &Schema) -> Result<(), Unstated>
     ensures ok { OnOk result (StandInOrder source.now) }
     ensures refused { OnErr result (StandInOrder source.now → ⊥) }
 {

@@ -40,7 +40,7 @@ use std::collections::BTreeMap;
 /// What the fields of a message type are made with: the full names of all files; the type's own
 /// full name; which of its oneofs are synthetic, and how many fields name each.
 #[derive(Drop)]
-pub struct Scope<'a> {
+pub(crate) struct Scope<'a> {
     pub names: &'a BTreeMap<String, Named>,
     pub name: &'a str,
     pub synthetic: Vec<bool>,
@@ -59,7 +59,7 @@ fn behind_dot(dotted: &str) -> Result<&str, Unstated>
 }
 
 /// What a full name with a dot in front is that of. Refused only where it is that of nothing.
-pub fn resolved(names: &BTreeMap<String, Named>, dotted: &str) -> Result<Named, Unstated>
+pub(crate) fn resolved(names: &BTreeMap<String, Named>, dotted: &str) -> Result<Named, Unstated>
     ensures ok { IfOk result (λ named. (rest : List ℕ) → dotted.now ≡ 46 ∷ rest
         → get_by_text names.now rest ≡ Some named) }
     ensures refused { OnErr result ((rest : List ℕ) (named : Meaning) → dotted.now ≡ 46 ∷ rest
@@ -132,7 +132,10 @@ fn named_element(
 }
 
 /// What a field's items are, where it isn't a map. Refused only where it states none.
-pub fn element(names: &BTreeMap<String, Named>, message: &Said<'_>) -> Result<Element, Unstated>
+pub(crate) fn element(
+    names: &BTreeMap<String, Named>,
+    message: &Said<'_>,
+) -> Result<Element, Unstated>
     ensures made { IfOk result (λ made. (all : Declared) (e : StatedElement)
         → HasNames all names.now
         → StatesElement all (message_of message.now) e → made ≡ e) }
@@ -357,7 +360,7 @@ fn parts<'a>(
 
 /// The field of a message. A number that isn't above 0 is told as 0, which may not stand either.
 /// The entry types are those that no field has named yet.
-pub fn made_field<'a>(
+pub(crate) fn made_field<'a>(
     alloc: Global,
     scope: &Scope<'_>,
     entries: &mut BTreeMap<String, Said<'a>>,

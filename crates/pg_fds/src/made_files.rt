@@ -116,7 +116,7 @@ fn methods(
     Ok(methods)
 }
 
-pub fn service(
+pub(crate) fn service(
     alloc: Global,
     names: &BTreeMap<String, Named>,
     outlined: &Outlined<'_>,
@@ -271,7 +271,11 @@ fn imports(alloc: Global, skips: bool, message: &Said<'_>) -> Result<Vec<Import>
 }
 
 /// The file of a message. Refused, memory aside, only where none is stated.
-pub fn file(alloc: Global, skips: bool, outlined: &OutlinedFile<'_>) -> Result<File, Unstated>
+pub(crate) fn file(
+    alloc: Global,
+    skips: bool,
+    outlined: &OutlinedFile<'_>,
+) -> Result<File, Unstated>
     ensures made { IfOk result (λ made. (all : Declared) (f : StatedFile)
         → IsOutlinedFile all skips outlined.now f → is_file f ≡ true
         → file_view made ≡ file_view f) }

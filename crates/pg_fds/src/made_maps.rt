@@ -154,7 +154,7 @@ fn is_entry_type(named: Named) -> bool
 }
 
 /// Whether the field names an entry type. Refused only where it states no field.
-pub fn is_map(names: &BTreeMap<String, Named>, message: &Said<'_>) -> Result<bool, Unstated>
+pub(crate) fn is_map(names: &BTreeMap<String, Named>, message: &Said<'_>) -> Result<bool, Unstated>
     ensures made { IfOk result (λ made. (all : Declared) (scope : List ℕ) (f : StatedField)
         → StatesKnown all names.now scope (message_of message.now) f → made ≡ is_map f.presence) }
     ensures refused { OnErr result ((all : Declared) (scope : List ℕ) (f : StatedField)
@@ -187,7 +187,7 @@ fn names_type(message: &Said<'_>, full: &str) -> Result<(), Unstated>
 /// The presence and element of a map field of a message type of that full name: its entry type is
 /// that of its name among these, which no other field has then. Refused, memory aside, only where
 /// it states no such field.
-pub fn map_parts<'a>(
+pub(crate) fn map_parts<'a>(
     alloc: Global,
     names: &BTreeMap<String, Named>,
     scope: &str,

@@ -101,7 +101,11 @@ fn all_services(
 
 /// The parts that the outlined files declare. Refused, memory aside, only where none are stated
 /// that keep to the rules, of numbers that an int32 holds.
-pub fn made_parts(alloc: Global, skips: bool, outline: &Outline<'_>) -> Result<Parts, Unstated>
+pub(crate) fn made_parts(
+    alloc: Global,
+    skips: bool,
+    outline: &Outline<'_>,
+) -> Result<Parts, Unstated>
     ensures made { IfOk result (λ made. (parts : StatedParts) → IsSound parts
         → AllByRecursion IsSmallEnum parts.enums.items
         → AreOutlined skips parts outline.now → parts_view made ≡ parts_view parts) }

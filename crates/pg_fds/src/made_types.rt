@@ -125,7 +125,7 @@ fn value_ranges(alloc: Global, messages: &[Said<'_>]) -> Result<Vec<ReservedValu
 
 /// The enum of a message, which states it. Refused, memory aside, only where none is stated, of
 /// numbers that an int32 holds.
-pub fn made_enum(alloc: Global, outlined: &Outlined<'_>) -> Result<EnumType, Unstated>
+pub(crate) fn made_enum(alloc: Global, outlined: &Outlined<'_>) -> Result<EnumType, Unstated>
     ensures states { IfOk result (λ made. (scope : List ℕ) → string_bytes outlined.now.name
         ≡ within scope (text_at proto.enum_name (message_of outlined.now.message))
         → StatesEnum scope (message_of outlined.now.message) made) }
@@ -396,7 +396,7 @@ fn made_members(
 }
 
 /// The message type of a message. Refused, memory aside, only where none is stated.
-pub fn made_type(
+pub(crate) fn made_type(
     alloc: Global,
     names: &BTreeMap<String, Named>,
     outlined: &OutlinedType<'_>,

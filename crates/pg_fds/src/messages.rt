@@ -219,7 +219,7 @@ fn put_rest(
 }
 
 /// The message of the message type at that place, with the messages of the message types inside it.
-pub fn type_message(
+pub(crate) fn type_message(
     alloc: Global,
     table: &Schema,
     source: &Schema,

@@ -8,7 +8,7 @@ ghost use Rattle.pg_fds.specs.Messages.{own_name};
 use std::alloc::{AllocError, Global};
 
 /// What stands behind the last dot of a full name.
-pub fn own_name(name: &str) -> &str
+pub(crate) fn own_name(name: &str) -> &str
     ensures { result.now ≡ own_name name.now }
 {
     match name.rsplit_once('.') {
@@ -18,7 +18,7 @@ pub fn own_name(name: &str) -> &str
 }
 
 /// A full name with a dot in front.
-pub fn dotted(alloc: Global, name: &str) -> Result<String, AllocError>
+pub(crate) fn dotted(alloc: Global, name: &str) -> Result<String, AllocError>
     ensures { IfOk result (λ full. string_bytes full ≡ 46 ∷ name.now) }
 {
     let mut full = String::from_str(alloc, ".")?;
@@ -27,7 +27,7 @@ pub fn dotted(alloc: Global, name: &str) -> Result<String, AllocError>
 }
 
 /// The full name of a name that the scope declares, with a dot in front.
-pub fn dotted_within(alloc: Global, scope: &str, name: &str) -> Result<String, AllocError>
+pub(crate) fn dotted_within(alloc: Global, scope: &str, name: &str) -> Result<String, AllocError>
     ensures { IfOk result (λ full. string_bytes full ≡ 46 ∷ within scope.now name.now) }
 {
     let mut full = dotted(alloc, scope)?;

@@ -19,7 +19,7 @@ use pg_schema::{Field, MessageType};
 use std::alloc::{AllocError, Global};
 
 /// Of each of so many places, whether it is among the numbers, which are all of such places.
-pub fn marks(alloc: Global, numbers: &[i128], count: usize) -> Result<Vec<bool>, Unstated>
+pub(crate) fn marks(alloc: Global, numbers: &[i128], count: usize) -> Result<Vec<bool>, Unstated>
     ensures marks { IfOk result (λ marks. AreMarked numbers.now count marks.items) }
     ensures places { OnOk result (list_all (is_place count) numbers.now ≡ true) }
     ensures refused { IfErr result (λ e. list_all (is_place count) numbers.now ≡ true
@@ -34,7 +34,7 @@ pub fn marks(alloc: Global, numbers: &[i128], count: usize) -> Result<Vec<bool>,
 }
 
 /// The places of the oneofs that fields marked `proto3_optional` name.
-pub fn synthetic_places(alloc: Global, fields: &[Said<'_>]) -> Result<Vec<i128>, AllocError>
+pub(crate) fn synthetic_places(alloc: Global, fields: &[Said<'_>]) -> Result<Vec<i128>, AllocError>
     ensures { IfOk result (λ places. places.items
         ≡ synthetic_places (map message_of fields.now)) }
 {
@@ -65,7 +65,7 @@ fn optional_count(fields: &[Said<'_>]) -> usize
 }
 
 /// The names of the oneofs at places that aren't marked.
-pub fn real_names<'a>(
+pub(crate) fn real_names<'a>(
     alloc: Global,
     oneofs: &[Said<'a>],
     numbers: &[i128],
@@ -195,7 +195,7 @@ fn marked_oneofs(
 }
 
 /// The messages state the oneofs of a message type with these fields.
-pub fn oneofs(
+pub(crate) fn oneofs(
     alloc: Global,
     oneofs: &[Said<'_>],
     messages: &[Said<'_>],

@@ -12,7 +12,7 @@ use pg_schema::{Schema, TypeId};
 use std::alloc::{AllocError, Global};
 
 /// The options of which one flag may be stated. Refused only where memory is.
-pub fn one_flag(
+pub(crate) fn one_flag(
     alloc: Global,
     table: &Schema,
     type_id: TypeId,
@@ -36,7 +36,7 @@ pub fn one_flag(
 
 /// The options of which a flag of number 2 and one of number 3 may be stated. Refused only where
 /// memory is.
-pub fn two_flags(
+pub(crate) fn two_flags(
     alloc: Global,
     table: &Schema,
     type_id: TypeId,

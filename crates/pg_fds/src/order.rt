@@ -144,7 +144,7 @@ fn importing_files<'a>(alloc: Global, files: &[Said<'a>]) -> Result<Vec<Importin
 
 /// The places of the files in post-order of imports, begun at the files in their order: each stands
 /// behind those that it imports. Refused, memory aside, only where they have no order.
-pub fn order(alloc: Global, skips: bool, files: &[Said<'_>]) -> Result<Vec<usize>, Unstated>
+pub(crate) fn order(alloc: Global, skips: bool, files: &[Said<'_>]) -> Result<Vec<usize>, Unstated>
     ensures ok { IfOk result (λ order. AreOrdered skips
         (map importer_of (map message_of files.now)) order.items) }
     ensures refused { IfErr result (λ e. (e ≡ errors.Memory)

@@ -30,7 +30,7 @@ use std::collections::BTreeMap;
 
 /// What a full name is that of.
 #[derive(Clone, Copy, PartialEq, Eq)]
-pub enum Named {
+pub(crate) enum Named {
     Package,
     Type(TypeId),
     Enum(EnumId),
@@ -40,7 +40,7 @@ pub enum Named {
 
 /// A message type of a set.
 #[derive(Drop)]
-pub struct OutlinedType<'a> {
+pub(crate) struct OutlinedType<'a> {
     pub message: Said<'a>,
     pub name: String,
     pub types: Vec<TypeId>,
@@ -49,14 +49,14 @@ pub struct OutlinedType<'a> {
 
 /// An enum or a service of a set.
 #[derive(Drop)]
-pub struct Outlined<'a> {
+pub(crate) struct Outlined<'a> {
     pub message: Said<'a>,
     pub name: String,
 }
 
 /// A file of a set.
 #[derive(Drop)]
-pub struct OutlinedFile<'a> {
+pub(crate) struct OutlinedFile<'a> {
     pub message: Said<'a>,
     pub types: Vec<TypeId>,
     pub enums: Vec<EnumId>,
@@ -65,7 +65,7 @@ pub struct OutlinedFile<'a> {
 
 /// All that a set declares.
 #[derive(Drop)]
-pub struct Outline<'a> {
+pub(crate) struct Outline<'a> {
     pub files: Vec<OutlinedFile<'a>>,
     pub types: Vec<OutlinedType<'a>>,
     pub enums: Vec<Outlined<'a>>,
@@ -277,7 +277,7 @@ impl<'a> Outline<'a> {
     }
 
     /// One file more, with all that it declares.
-    pub fn outline_file(
+    pub(crate) fn outline_file(
         &mut self,
         alloc: Global,
         depth: usize,
@@ -319,7 +319,7 @@ impl<'a> Outline<'a> {
 }
 
 /// What the files declare, taken in that order, with message types nested less deep than that.
-pub fn outline_files<'a>(
+pub(crate) fn outline_files<'a>(
     alloc: Global,
     depth: usize,
     files: &[Said<'a>],

@@ -23,7 +23,7 @@ use std::marker::Model;
 
 /// A message of a set, without bytes at any depth. Contracts see what the message keeps.
 #[derive(Drop)]
-pub struct Said<'a> {
+pub(crate) struct Said<'a> {
     message: &'a Message,
 }
 
@@ -48,7 +48,7 @@ impl<'a> Said<'a> {
     ghost use Rattle.pg_fds.specs.Texts.{AreTexts};
 
     /// What is said by a message without bytes.
-    pub fn new(message: &'a Message) -> Said<'a>
+    pub(crate) fn new(message: &'a Message) -> Said<'a>
         requires { AreTexts message.now }
         ensures { result ≡ message.now }
     {
@@ -56,7 +56,7 @@ impl<'a> Said<'a> {
     }
 
     /// The same message.
-    pub fn again(&self) -> Said<'a>
+    pub(crate) fn again(&self) -> Said<'a>
         ensures { result ≡ self.now }
     {
         Said {
@@ -65,8 +65,9 @@ impl<'a> Said<'a> {
     }
 
     /// The contents of its fields.
-    pub fn contents(&self) -> &'a [(u32, Content)]
-        ensures { self.now ≡ fields_onto result.now (ends (type_of self.now) (unknown_of self.now)) }
+    pub(crate) fn contents(&self) -> &'a [(u32, Content)]
+        ensures { self.now
+            ≡ fields_onto result.now (ends (type_of self.now) (unknown_of self.now)) }
     {
         self.message.contents()
     }
@@ -74,7 +75,7 @@ impl<'a> Said<'a> {
 
 /// An item of such a message.
 #[derive(Drop)]
-pub struct SaidItem<'a> {
+pub(crate) struct SaidItem<'a> {
     value: &'a Value,
 }
 
@@ -99,7 +100,7 @@ impl<'a> SaidItem<'a> {
     ghost use Rattle.pg_fds.specs.Texts.{IsSaid};
 
     /// The item itself, which is no bytes.
-    pub fn value(&self) -> &'a Value
+    pub(crate) fn value(&self) -> &'a Value
         ensures value { result.now ≡ self.now }
         ensures said { IsSaid result.now }
     {
@@ -108,7 +109,7 @@ impl<'a> SaidItem<'a> {
 }
 
 /// What has to hold of a set that states a schema.
-pub fn ensure(holds: bool) -> Result<(), Unstated>
+pub(crate) fn ensure(holds: bool) -> Result<(), Unstated>
     ensures ok { OnOk result (holds ≡ true) }
     ensures refused { OnErr result (holds ≡ false) }
 {
@@ -121,7 +122,7 @@ pub fn ensure(holds: bool) -> Result<(), Unstated>
 // ---- items
 
 /// The content of a field.
-pub fn content<'a>(message: &Said<'a>, number: u32) -> Option<&'a Content>
+pub(crate) fn content<'a>(message: &Said<'a>, number: u32) -> Option<&'a Content>
     ensures content { MatchOption result (of_number number message.now ≡ [])
         (λ content. of_number number message.now ≡ content_seen number content.now) }
     ensures filled { IfSome result (λ content. IsFilled content.now) }
@@ -180,7 +181,7 @@ fn first_value<'a>(entries: &'a [(Value, Value)]) -> Option<SaidItem<'a>>
 }
 
 /// The item of a singular field: the first, where there are more.
-pub fn item<'a>(message: &Said<'a>, number: u32) -> Option<SaidItem<'a>>
+pub(crate) fn item<'a>(message: &Said<'a>, number: u32) -> Option<SaidItem<'a>>
     ensures { option_map shown result ≡ item_at number (message_of message.now) }
 {
     match content(message, number) {
@@ -192,7 +193,7 @@ pub fn item<'a>(message: &Said<'a>, number: u32) -> Option<SaidItem<'a>>
 }
 
 /// The items of a repeated field.
-pub fn items<'a>(
+pub(crate) fn items<'a>(
     alloc: Global,
     message: &Said<'a>,
     number: u32,
@@ -211,7 +212,7 @@ pub fn items<'a>(
 // ---- what an item is
 
 /// The message that an item is.
-pub fn child_in<'a>(item: &SaidItem<'a>) -> Option<Said<'a>>
+pub(crate) fn child_in<'a>(item: &SaidItem<'a>) -> Option<Said<'a>>
     ensures { option_map message_of result ≡ child_in (shown item.now) }
 {
     let value = item.value;
@@ -222,7 +223,7 @@ pub fn child_in<'a>(item: &SaidItem<'a>) -> Option<Said<'a>>
 }
 
 /// The text that an item is.
-pub fn text_in<'a>(item: &SaidItem<'a>) -> &'a str
+pub(crate) fn text_in<'a>(item: &SaidItem<'a>) -> &'a str
     ensures { result.now ≡ text_of (shown item.now) }
 {
     let value = item.value;
@@ -234,7 +235,7 @@ pub fn text_in<'a>(item: &SaidItem<'a>) -> &'a str
 }
 
 /// The number that an item is, 0 where it is none.
-pub fn number_in(item: &SaidItem<'_>) -> i128
+pub(crate) fn number_in(item: &SaidItem<'_>) -> i128
     ensures { result ≡ number_of (shown item.now) }
 {
     match item.value {
@@ -246,7 +247,7 @@ pub fn number_in(item: &SaidItem<'_>) -> i128
 // ---- messages
 
 /// The messages of a repeated field.
-pub fn children<'a>(
+pub(crate) fn children<'a>(
     alloc: Global,
     message: &Said<'a>,
     number: u32,
@@ -268,7 +269,7 @@ pub fn children<'a>(
 // ---- texts
 
 /// The text of a singular field, where there is one.
-pub fn maybe_text<'a>(message: &Said<'a>, number: u32) -> Option<&'a str>
+pub(crate) fn maybe_text<'a>(message: &Said<'a>, number: u32) -> Option<&'a str>
     ensures { option_copied result ≡ maybe_text_at number (message_of message.now) }
 {
     match item(message, number) {
@@ -278,7 +279,7 @@ pub fn maybe_text<'a>(message: &Said<'a>, number: u32) -> Option<&'a str>
 }
 
 /// The text of a singular field, empty where it is missing.
-pub fn text<'a>(message: &Said<'a>, number: u32) -> &'a str
+pub(crate) fn text<'a>(message: &Said<'a>, number: u32) -> &'a str
     ensures { result.now ≡ text_at number (message_of message.now) }
 {
     match maybe_text(message, number) {
@@ -288,7 +289,11 @@ pub fn text<'a>(message: &Said<'a>, number: u32) -> &'a str
 }
 
 /// The texts of a repeated field.
-pub fn texts<'a>(alloc: Global, message: &Said<'a>, number: u32) -> Result<Vec<&'a str>, AllocError>
+pub(crate) fn texts<'a>(
+    alloc: Global,
+    message: &Said<'a>,
+    number: u32,
+) -> Result<Vec<&'a str>, AllocError>
     ensures { IfOk result (λ found. lent found.items ≡ texts_at number (message_of message.now)) }
 {
     let values = items(alloc, message, number)?;
@@ -302,7 +307,7 @@ pub fn texts<'a>(alloc: Global, message: &Said<'a>, number: u32) -> Result<Vec<&
 // ---- numbers
 
 /// The number of a singular field, where there is one.
-pub fn maybe_number(message: &Said<'_>, number: u32) -> Option<i128>
+pub(crate) fn maybe_number(message: &Said<'_>, number: u32) -> Option<i128>
     ensures { result ≡ maybe_number_at number (message_of message.now) }
 {
     match item(message, number) {
@@ -312,7 +317,7 @@ pub fn maybe_number(message: &Said<'_>, number: u32) -> Option<i128>
 }
 
 /// The number of a singular field, 0 where it is missing.
-pub fn number(message: &Said<'_>, number: u32) -> i128
+pub(crate) fn number(message: &Said<'_>, number: u32) -> i128
     ensures { result ≡ number_at number (message_of message.now) }
 {
     match maybe_number(message, number) {
@@ -322,14 +327,18 @@ pub fn number(message: &Said<'_>, number: u32) -> i128
 }
 
 /// The number of a singular field, which is above 0 and one of 32 bits; any other is told as 0.
-pub fn count(message: &Said<'_>, field: u32) -> u32
+pub(crate) fn count(message: &Said<'_>, field: u32) -> u32
     ensures { (n : ℕ) → number_at field (message_of message.now) ≡ pos n → n < 2 ^ 32 → result ≡ n }
 {
     u32::try_from(number(message, field)).unwrap_or(0)
 }
 
 /// The numbers of a repeated field.
-pub fn numbers(alloc: Global, message: &Said<'_>, number: u32) -> Result<Vec<i128>, AllocError>
+pub(crate) fn numbers(
+    alloc: Global,
+    message: &Said<'_>,
+    number: u32,
+) -> Result<Vec<i128>, AllocError>
     ensures { IfOk result (λ found. found.items ≡ numbers_at number (message_of message.now)) }
 {
     let values = items(alloc, message, number)?;
@@ -341,7 +350,7 @@ pub fn numbers(alloc: Global, message: &Said<'_>, number: u32) -> Result<Vec<i12
 }
 
 /// The place that a number is, among so many. Refused is a number of none.
-pub fn place_in(number: &i128, count: usize) -> Result<usize, Unstated>
+pub(crate) fn place_in(number: &i128, count: usize) -> Result<usize, Unstated>
     ensures ok { IfOk result (λ place. number.now ≡ pos place) }
     ensures within { IfOk result (λ place. place < count) }
     ensures refused { OnErr result (is_place count number.now ≡ false) }
@@ -355,7 +364,7 @@ pub fn place_in(number: &i128, count: usize) -> Result<usize, Unstated>
 // ---- marks
 
 /// The mark of a singular field, where there is one.
-pub fn maybe_flag(message: &Said<'_>, number: u32) -> Option<bool>
+pub(crate) fn maybe_flag(message: &Said<'_>, number: u32) -> Option<bool>
     ensures { result ≡ maybe_flag_at number (message_of message.now) }
 {
     match maybe_number(message, number) {
@@ -365,7 +374,7 @@ pub fn maybe_flag(message: &Said<'_>, number: u32) -> Option<bool>
 }
 
 /// The mark of a singular field, false where it is missing.
-pub fn flag(message: &Said<'_>, number: u32) -> bool
+pub(crate) fn flag(message: &Said<'_>, number: u32) -> bool
     ensures { result ≡ flag_at number (message_of message.now) }
 {
     match maybe_flag(message, number) {
@@ -375,7 +384,7 @@ pub fn flag(message: &Said<'_>, number: u32) -> bool
 }
 
 /// The mark with the second number in the options of the first, where both are there.
-pub fn option(message: &Said<'_>, options: u32, number: u32) -> Option<bool>
+pub(crate) fn option(message: &Said<'_>, options: u32, number: u32) -> Option<bool>
     ensures { result ≡ maybe_flag_at number (options_at options (message_of message.now)) }
 {
     match item(message, options) {

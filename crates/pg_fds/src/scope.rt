@@ -117,7 +117,7 @@ fn push_values_at(
 
 /// The names that a message type declares: of fields, oneofs, entry types, message types, enums and
 /// their values.
-pub fn names_within(
+pub(crate) fn names_within(
     alloc: Global,
     source: &Schema,
     message_type: &MessageType,

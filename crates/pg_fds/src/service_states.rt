@@ -143,7 +143,7 @@ fn service_at(
 }
 
 /// The messages state the services at these places.
-pub fn services(
+pub(crate) fn services(
     alloc: Global,
     source: &Schema,
     scope: &str,

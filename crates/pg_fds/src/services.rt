@@ -136,7 +136,7 @@ fn service_at(source: &Schema, id: ServiceId) -> Option<&Service>
 }
 
 /// The messages of the schema's services at these places, in order.
-pub fn services(
+pub(crate) fn services(
     alloc: Global,
     table: &Schema,
     source: &Schema,

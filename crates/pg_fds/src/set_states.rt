@@ -23,7 +23,7 @@ use std::alloc::{AllocError, Global};
 use std::collections::BTreeSet;
 
 /// Whether one of the files is skipped.
-pub fn skips(files: &[Said<'_>]) -> bool
+pub(crate) fn skips(files: &[Said<'_>]) -> bool
     ensures { result ≡ list_any is_skipped (map message_of files.now) }
 {
     for file in files {
@@ -36,7 +36,7 @@ pub fn skips(files: &[Said<'_>]) -> bool
 }
 
 /// The files that aren't skipped, in their order.
-pub fn kept<'a>(alloc: Global, files: &[Said<'a>]) -> Result<Vec<Said<'a>>, AllocError>
+pub(crate) fn kept<'a>(alloc: Global, files: &[Said<'a>]) -> Result<Vec<Said<'a>>, AllocError>
     ensures { IfOk result (λ kept. map message_of kept.items
         ≡ filter (λ m. not (is_skipped m)) (map message_of files.now)) }
 {
@@ -139,7 +139,7 @@ fn states_each(
 /// The files that aren't skipped state the schema, whose files are those at these places, which are
 /// in post-order of imports. Where they are all there, it is refused, memory aside, only where
 /// these don't state it, one by one.
-pub fn states_files(
+pub(crate) fn states_files(
     alloc: Global,
     source: &Schema,
     skips: bool,

@@ -26,7 +26,7 @@ use pg_schema::{
 use std::alloc::Global;
 
 /// The texts are one.
-pub fn same_text(found: &str, stated: &str) -> Result<(), Unstated>
+pub(crate) fn same_text(found: &str, stated: &str) -> Result<(), Unstated>
     ensures ok { OnOk result (found.now ≡ stated.now) }
     ensures refused { OnErr result (found.now ≡ stated.now → ⊥) }
 {
@@ -34,7 +34,7 @@ pub fn same_text(found: &str, stated: &str) -> Result<(), Unstated>
 }
 
 /// The texts are the same, one by one.
-pub fn same_texts(found: &[&str], stated: &[String]) -> Result<(), Unstated>
+pub(crate) fn same_texts(found: &[&str], stated: &[String]) -> Result<(), Unstated>
     ensures ok { OnOk result (lent found.now ≡ map string_bytes stated.now) }
     ensures refused { OnErr result (lent found.now ≡ map string_bytes stated.now → ⊥) }
 {
@@ -46,7 +46,7 @@ pub fn same_texts(found: &[&str], stated: &[String]) -> Result<(), Unstated>
 }
 
 /// The full name is that of a name which the scope declares.
-pub fn is_within(alloc: Global, scope: &str, own: &str, full: &str) -> Result<(), Unstated>
+pub(crate) fn is_within(alloc: Global, scope: &str, own: &str, full: &str) -> Result<(), Unstated>
     ensures ok { OnOk result (full.now ≡ within scope.now own.now) }
     ensures refused { IfErr result (λ r. full.now ≡ within scope.now own.now → r ≡ Memory) }
 {
@@ -159,7 +159,7 @@ fn enum_at(
 }
 
 /// The messages state the enums at these places.
-pub fn enums(
+pub(crate) fn enums(
     alloc: Global,
     source: &Schema,
     scope: &str,
@@ -181,7 +181,7 @@ pub fn enums(
 // ---- fields
 
 /// The label of a field, LABEL_OPTIONAL where it is missing.
-pub fn label_of(message: &Said<'_>) -> i128
+pub(crate) fn label_of(message: &Said<'_>) -> i128
     ensures { result ≡ label_at (message_of message.now) }
 {
     match maybe_number(message, proto::FIELD_LABEL) {
@@ -191,7 +191,7 @@ pub fn label_of(message: &Said<'_>) -> i128
 }
 
 /// The field has this JSON name, given or default.
-pub fn has_json_name(alloc: Global, message: &Said<'_>, stated: &str) -> Result<(), Unstated>
+pub(crate) fn has_json_name(alloc: Global, message: &Said<'_>, stated: &str) -> Result<(), Unstated>
     ensures ok { OnOk result (json_name_at (message_of message.now) ≡ stated.now) }
     ensures refused { IfErr result (λ r. json_name_at (message_of message.now) ≡ stated.now
         → r ≡ Memory) }
@@ -206,7 +206,7 @@ pub fn has_json_name(alloc: Global, message: &Said<'_>, stated: &str) -> Result<
 }
 
 /// The field names this type, or none.
-pub fn has_type_name(message: &Said<'_>, stated: &Option<String>) -> Result<(), Unstated>
+pub(crate) fn has_type_name(message: &Said<'_>, stated: &Option<String>) -> Result<(), Unstated>
     ensures ok { OnOk result (maybe_text_at proto.field_type_name (message_of message.now)
         ≡ option_map string_bytes stated.now) }
     ensures refused { OnErr result (maybe_text_at proto.field_type_name (message_of message.now)
@@ -247,7 +247,7 @@ fn field(
 }
 
 /// The messages state the fields, of a message type of that full name.
-pub fn fields(
+pub(crate) fn fields(
     alloc: Global,
     source: &Schema,
     scope: &str,
@@ -276,7 +276,10 @@ fn field_range(message: &Said<'_>, declared: ReservedFields) -> Result<(), Unsta
 }
 
 /// The messages state the reserved field numbers.
-pub fn field_ranges(messages: &[Said<'_>], declared: &[ReservedFields]) -> Result<(), Unstated>
+pub(crate) fn field_ranges(
+    messages: &[Said<'_>],
+    declared: &[ReservedFields],
+) -> Result<(), Unstated>
     ensures ok { OnOk result (AllZip StatesFieldRange
         (map message_of messages.now) declared.now) }
     ensures refused { OnErr result (AllZip StatesFieldRange

@@ -102,7 +102,7 @@ fn push_synthetic(
 }
 
 /// The names of the synthetic oneofs of these fields, in order, in a message that has these names.
-pub fn synthetic_oneofs(
+pub(crate) fn synthetic_oneofs(
     alloc: Global,
     names: &[String],
     fields: &[&Field],

@@ -22,7 +22,7 @@ use pg_schema::{Field, MessageType, Schema, TypeId};
 use std::alloc::{AllocError, Global};
 
 /// Whether the message is marked `map_entry`.
-pub fn is_entry(message: &Said<'_>) -> bool
+pub(crate) fn is_entry(message: &Said<'_>) -> bool
     ensures { result ≡ is_entry (message_of message.now) }
 {
     match option(message, proto::MESSAGE_OPTIONS, proto::MESSAGE_MAP_ENTRY) {
@@ -32,7 +32,10 @@ pub fn is_entry(message: &Said<'_>) -> bool
 }
 
 /// Those of the messages that are entry types, in their order.
-pub fn entries_of<'a>(alloc: Global, messages: &[Said<'a>]) -> Result<Vec<Said<'a>>, AllocError>
+pub(crate) fn entries_of<'a>(
+    alloc: Global,
+    messages: &[Said<'a>],
+) -> Result<Vec<Said<'a>>, AllocError>
     ensures { IfOk result (λ found. map message_of found.items
         ≡ filter is_entry (map message_of messages.now)) }
 {
@@ -46,7 +49,10 @@ pub fn entries_of<'a>(alloc: Global, messages: &[Said<'a>]) -> Result<Vec<Said<'
 }
 
 /// Those of the messages that aren't, in their order.
-pub fn types_of<'a>(alloc: Global, messages: &[Said<'a>]) -> Result<Vec<Said<'a>>, AllocError>
+pub(crate) fn types_of<'a>(
+    alloc: Global,
+    messages: &[Said<'a>],
+) -> Result<Vec<Said<'a>>, AllocError>
     ensures { IfOk result (λ found. map message_of found.items
         ≡ filter is_no_entry (map message_of messages.now)) }
 {
@@ -61,7 +67,7 @@ pub fn types_of<'a>(alloc: Global, messages: &[Said<'a>]) -> Result<Vec<Said<'a>
 
 /// The fields of the message type at that place, in order of declaration. Refused only where memory
 /// is.
-pub fn declared_fields<'a>(
+pub(crate) fn declared_fields<'a>(
     alloc: Global,
     source: &'a Schema,
     id: TypeId,
@@ -180,7 +186,7 @@ fn own_type(
 
 /// The messages state the message types at these places, nested less deep than that. Where the
 /// schema is sound, it is refused, memory aside, only where they don't.
-pub fn types(
+pub(crate) fn types(
     alloc: Global,
     source: &Schema,
     depth: usize,

@@ -13,17 +13,17 @@ use pg_schema::{
 use std::alloc::{AllocError, Global};
 
 /// Number, name, presence and element of a field.
-pub type FieldRow<'a> = (u32, &'a str, Presence, Element);
+pub(crate) type FieldRow<'a> = (u32, &'a str, Presence, Element);
 
 /// The full name of a message type, its fields, and the message types and enums that are declared
 /// in it.
-pub type TypeRow<'a> = (&'a str, &'a [FieldRow<'a>], &'a [TypeId], &'a [EnumId]);
+pub(crate) type TypeRow<'a> = (&'a str, &'a [FieldRow<'a>], &'a [TypeId], &'a [EnumId]);
 
 /// Number and name of an enum's value.
-pub type ValueRow<'a> = (i32, &'a str);
+pub(crate) type ValueRow<'a> = (i32, &'a str);
 
 /// The full name of an enum, and its values.
-pub type EnumRow<'a> = (&'a str, &'a [ValueRow<'a>]);
+pub(crate) type EnumRow<'a> = (&'a str, &'a [ValueRow<'a>]);
 
 // The field of a row. Refused only where memory is.
 fn field(alloc: Global, row: &FieldRow<'_>) -> Result<Field, AllocError>
@@ -63,7 +63,7 @@ fn fields(alloc: Global, rows: &[FieldRow<'_>]) -> Result<Vec<Field>, AllocError
 }
 
 /// The numbers of fields, in order. Refused only where memory is.
-pub fn numbers(alloc: Global, fields: &[Field]) -> Result<Vec<u32>, AllocError>
+pub(crate) fn numbers(alloc: Global, fields: &[Field]) -> Result<Vec<u32>, AllocError>
     ensures { IfOk result (λ numbers. numbers.items ≡ map (λ (f : Field). f.number) fields.now) }
 {
     let mut numbers = Vec::new(alloc);
@@ -93,7 +93,10 @@ fn message_type(alloc: Global, row: &TypeRow<'_>) -> Result<MessageType, AllocEr
 }
 
 /// The message types of these rows. Refused only where memory is.
-pub fn message_types(alloc: Global, rows: &[TypeRow<'_>]) -> Result<Vec<MessageType>, AllocError>
+pub(crate) fn message_types(
+    alloc: Global,
+    rows: &[TypeRow<'_>],
+) -> Result<Vec<MessageType>, AllocError>
     ensures { IfOk result (λ types. map type_view types.items ≡ map type_in rows.now) }
 {
     let mut types = Vec::new(alloc);
@@ -135,7 +138,7 @@ fn enum_type(alloc: Global, row: &EnumRow<'_>) -> Result<EnumType, AllocError>
 }
 
 /// The enums of these rows. Refused only where memory is.
-pub fn enum_types(alloc: Global, rows: &[EnumRow<'_>]) -> Result<Vec<EnumType>, AllocError>
+pub(crate) fn enum_types(alloc: Global, rows: &[EnumRow<'_>]) -> Result<Vec<EnumType>, AllocError>
     ensures { IfOk result (λ enums. map enum_view enums.items ≡ map enum_in rows.now) }
 {
     let mut enums = Vec::new(alloc);
@@ -146,7 +149,7 @@ pub fn enum_types(alloc: Global, rows: &[EnumRow<'_>]) -> Result<Vec<EnumType>, 
 }
 
 /// The message types at these places. Refused only where memory is.
-pub fn type_ids(alloc: Global, places: &[u32]) -> Result<Vec<TypeId>, AllocError>
+pub(crate) fn type_ids(alloc: Global, places: &[u32]) -> Result<Vec<TypeId>, AllocError>
     ensures { IfOk result (λ ids. ids.items ≡ map type_id places.now) }
 {
     let mut ids = Vec::new(alloc);

@@ -48,7 +48,7 @@ fn outline_enum<'a>(
 }
 
 /// The enums that a scope declares: the place of each, in order.
-pub fn outline_enums<'a>(
+pub(crate) fn outline_enums<'a>(
     alloc: Global,
     names: &mut BTreeMap<String, Named>,
     enums: &mut Vec<Outlined<'a>>,

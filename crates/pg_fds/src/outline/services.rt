@@ -53,7 +53,7 @@ fn outline_service<'a>(
 }
 
 /// The services that a scope declares: the place of each, in order.
-pub fn outline_services<'a>(
+pub(crate) fn outline_services<'a>(
     alloc: Global,
     names: &mut BTreeMap<String, Named>,
     services: &mut Vec<Outlined<'a>>,

@@ -13,9 +13,9 @@ returns c =
     let seen : map message_of all ≡ children_at 1 set = ap (λ xs. map message_of xs) c.as_slice-all.ensures.value ∙ c.in_ok-all_files.ensures in
     let kept : map message_of files ≡ kept_files set = files_kept set all files seen (ap (λ xs. map message_of xs) c.as_slice-files.ensures.value ∙ c.in_ok-kept_files.ensures) in
     record {
-      ok = stated set c.skips.result all files c.files_schema.result seen c.skips.ensures kept c.files_schema.ensures.ok c.files_schema.ensures.places;
+      ok = stated set c.skips-skips.result all files c.files_schema.result seen c.skips-skips.ensures kept c.files_schema.ensures.ok c.files_schema.ensures.places;
       sound = c.files_schema.ensures.sound;
       refused = set_refused set files c.files_schema.result kept c.files_schema.ensures.refused;
-      same = set_same set c.skips.result all files c.files_schema.result seen c.skips.ensures kept c.files_schema.ensures.same;
-      none = set_none set c.skips.result all files c.files_schema.result seen c.skips.ensures kept c.files_schema.ensures.none;
+      same = set_same set c.skips-skips.result all files c.files_schema.result seen c.skips-skips.ensures kept c.files_schema.ensures.same;
+      none = set_none set c.skips-skips.result all files c.files_schema.result seen c.skips-skips.ensures kept c.files_schema.ensures.none;
     }
