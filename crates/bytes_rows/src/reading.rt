@@ -23,10 +23,10 @@ fn read(alloc: Global, schema: &Schema, bytes: &[u8], limit: usize) -> Result<Me
     if !schema.has(FIRST) {
         return Err(DynError::NoSuchField);
     }
-    let owned = decode(alloc, schema, FIRST, bytes, limit);
-    match (decode_ref(alloc, schema, FIRST, bytes, limit), owned) {
-        (Ok(_), Ok(message)) => Ok(message),
-        (Err(lent), Err(owned)) if lent == owned => Err(owned),
+    let lent = decode_ref(alloc, schema, FIRST, bytes, limit).err();
+    match decode(alloc, schema, FIRST, bytes, limit) {
+        Ok(message) if lent.is_none() => Ok(message),
+        Err(error) if lent == Some(error) => Err(error),
         _ => Err(DynError::WrongKind),
     }
 }
