@@ -1,6 +1,6 @@
 -- What a test of contents reports: nothing, or of what is wrong the error of the lowest code. A key that stands twice is found by a test
 -- of its own, since two contents of one oneof are reported before it.
-use Rattle.std.specs.Prelude.{◌≡◌, ℕ, ◌<◌, ◌⊎◌, ⊤, Bool, true, false, length, nat_eq, Some, Result, Ok, Err}
+use Rattle.std.specs.Prelude.{◌≡◌, ℕ, ◌<◌, ◌≤◌, ◌⊎◌, ⊤, Bool, true, false, length, nat_eq, Some, Result, Ok, Err}
 use Rattle.std.specs.List.{AllByRecursion}
 use Rattle.pg_schema.specs.declared.parts.field.TypeId.{TypeId}
 use Rattle.pg_schema.specs.declared.parts.field.Scalar.{Scalar}
@@ -30,6 +30,10 @@ Reports Right Fault (Err e) = IsLowest Fault e × (code e < 605)
 abbrev pub reported_code : Result (Unit {0}) DynError → ℕ
 reported_code (Ok t) = 1000
 reported_code (Err e) = code e
+
+-- neither answer has a code below that of the result
+abbrev pub IsLowestOf : Result (Unit {0}) DynError → Result (Unit {0}) DynError → Result (Unit {0}) DynError → Type 0
+IsLowestOf first second result = (reported_code result ≤ reported_code first) × (reported_code result ≤ reported_code second)
 
 -- an entry of a map
 abbrev pub EntryFits : Shape → Scalar → Element → Value × Value → Type 0

@@ -1,6 +1,6 @@
 //! Whether a content is one of its field, and what is wrong with it otherwise.
 
-ghost use Rattle.std.specs.Prelude.{◌≡◌, ◌↔◌, ◌⊎◌, ℕ, ◌<◌, ◌≤◌, IfErr, IfOk, IsOk, IsTrue};
+ghost use Rattle.std.specs.Prelude.{◌≡◌, ◌↔◌, ◌⊎◌, ℕ, ◌<◌, IfErr, IfOk, IsOk, IsTrue};
 ghost use Rattle.std.specs.List.{AllByRecursion};
 ghost use Rattle.std.specs.Str.{IsValidUpTo};
 ghost use Rattle.pg_schema.specs.Invariant.{IsSchema};
@@ -11,7 +11,7 @@ ghost use Rattle.pg_dyn.specs.setting.ContentFaults.{AnyOf, code, ContentFault, 
 ghost use Rattle.pg_dyn.specs.ContentFits.{ItemFits};
 ghost use Rattle.pg_dyn.specs.Message.{Bytes, F32, F64};
 ghost use Rattle.pg_dyn.specs.ScalarItems.{HoldsBytes, IsFaultOf, IsItemOf};
-ghost use Rattle.pg_dyn.specs.setting.Reported.{reported_code, EntryFault, EntryFits, IsTaken, ItemsFit, Reports};
+ghost use Rattle.pg_dyn.specs.setting.Reported.{EntryFault, EntryFits, IsLowestOf, IsTaken, ItemsFit, Reports};
 ghost use Rattle.pg_dyn.specs.WordOf.{IsInteger, IsIntegerOf};
 
 use crate::error::DynError;
@@ -116,7 +116,7 @@ pub(crate) fn lower(
     second: Result<(), DynError>,
 ) -> Result<(), DynError>
     ensures one { (result ≡ first) ⊎ (result ≡ second) }
-    ensures lowest { (reported_code result ≤ reported_code first) × (reported_code result ≤ reported_code second) }
+    ensures lowest { IsLowestOf first second result }
 {
     match (first, second) {
         (Ok(()), _) => second,
