@@ -39,8 +39,10 @@ fn owned_records(alloc: Global, records: &[Record<'_>]) -> Result<Vec<UnknownRec
 }
 
 impl<'a> ValueRef<'a> {
-    // The item with a text, bytes or a message of its own.
+    // The item with a text, bytes or a message of its own. Inlined, so that numbers are copied
+    // without a call.
     #[cycle(owning)]
+    #[inline(always)]
     fn to_value(&self, alloc: Global) -> Result<Value, AllocError>
         ensures { IfOk result (IsItemCopy self.now) }
     {
@@ -50,10 +52,7 @@ impl<'a> ValueRef<'a> {
             ValueRef::F64(bits) => Ok(Value::F64(*bits)),
             ValueRef::Text(text) => Ok(Value::Text(String::from_str(alloc, text)?)),
             ValueRef::Bytes(bytes) => Ok(Value::Bytes(Vec::from_slice(alloc, bytes)?)),
-            ValueRef::Msg(child) => {
-                let owned = child.to_message(alloc)?;
-                Ok(Value::Msg(Box::new(alloc, owned)?))
-            }
+            ValueRef::Msg(child) => Ok(Value::Msg(child.to_boxed(alloc)?)),
         }
     }
 }
@@ -113,6 +112,16 @@ impl<'a> ContentRef<'a> {
 }
 
 impl<'a> MessageRef<'a> {
+    // The same in a box. Not inlined, as the copy of an item is.
+    #[cycle(owning)]
+    #[inline(never)]
+    fn to_boxed(&self, alloc: Global) -> Result<Box<Message>, AllocError>
+        ensures { IfOk result (λ owned. owned.value ≡ self.now) }
+    {
+        let owned = self.to_message(alloc)?;
+        Ok(Box::new(alloc, owned)?)
+    }
+
     /// The message with texts, bytes, messages and unknown records of its own.
     #[cycle(owning)]
     pub fn to_message(&self, alloc: Global) -> Result<Message, AllocError>

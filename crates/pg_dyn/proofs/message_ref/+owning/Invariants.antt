@@ -25,6 +25,9 @@ decreases-EntryRef::to_entry l = 2 * goal.size-EntryRef::to_entry l
 abbrev pub decreases-MessageRef::to_message : goal.decreases-MessageRef::to_message
 decreases-MessageRef::to_message l = 2 * goal.size-MessageRef::to_message l
 
+abbrev pub decreases-MessageRef::to_boxed : goal.decreases-MessageRef::to_boxed
+decreases-MessageRef::to_boxed l = 2 * goal.size-MessageRef::to_boxed l + 1
+
 abbrev pub decreases-ValueRef::to_value : goal.decreases-ValueRef::to_value
 decreases-ValueRef::to_value l = 2 * goal.size-ValueRef::to_value l
 
