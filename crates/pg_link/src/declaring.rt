@@ -173,6 +173,7 @@ impl Index {
             (spec.standings number file.now.tree)) }
     {
         let names = declared_names(alloc, &file.tree)?;
+        self.names.reserve(names.len())?;
         for declared in names {
             let at = declared.at;
             if !self.add(alloc, number, declared)? {
