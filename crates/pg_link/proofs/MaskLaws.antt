@@ -296,3 +296,22 @@ own_by es d i own a b at there false is =
 pub own_marks : (es : List Entry) (own : ℕ) (e : Entry) (marks : List Bool) → Differ (paths_of (outlines es)) → slice_get es own ≡ Some e
     → ((k : ℕ) → get_or marks k false ≡ nat_eq k own) → Marks es (path_of e ∷ []) marks
 own_marks es own e marks d there one = λ i a at. one i ∙ own_by es d i own a e at there (bytes_eq (path_of a) (path_of e)) refl
+
+-- a file that hands on itself alone
+pub own_number : (es : List Entry) (own : ℕ) (e : Entry) (paths : List Text) → Differ (paths_of (outlines es)) → slice_get es own ≡ Some e → paths ≡ []
+    → AreNumbers es (path_of e ∷ flat_map (handed_on (outlines es)) paths) (own ∷ [])
+own_number es own e paths d there none = subst (λ (ps : List Text). AreNumbers es (path_of e ∷ flat_map (handed_on (outlines es)) ps) (own ∷ [])) (sym none) alone
+  where
+    below : (k m : ℕ) → k < length (own ∷ []) → get_or (own ∷ []) k m < length es
+    below zero m within = slice_get_within es own e there
+    below (suc k) m within = absurd (omega (arith, within))
+
+    or_false : (b : Bool) → (b || false) ≡ b
+    or_false true = refl
+    or_false false = refl
+
+    alone : AreNumbers es (path_of e ∷ []) (own ∷ [])
+    alone = record {
+      within = below;
+      are_theirs = λ i a at. or_false (nat_eq i own) ∙ own_by es d i own a e at there (bytes_eq (path_of a) (path_of e)) refl;
+    }

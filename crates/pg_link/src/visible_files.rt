@@ -1,7 +1,7 @@
 //! Which files each file sees, file by file.
 ghost use Rattle.std.specs.Prelude.{◌≡◌, ◌<◌, ◌∷◌, ◌++◌, [], ℕ, Some, List, IfOk, false, get_or, length, map, nat_eq, flat_map, slice_get, take, true, ◌||◌};
 ghost use Rattle.std.specs.List.{All};
-ghost use Rattle.pg_link.specs.Files.{Differ, InOrder, handed_on, import_paths, is_path_of, paths_of};
+ghost use Rattle.pg_link.specs.Files.{Differ, InOrder, handed_on, import_paths, is_path_of, paths_of, public_paths};
 ghost use Rattle.pg_link.specs.Imports.{line_of};
 ghost use Rattle.pg_link.specs.VisibleFiles as spec;
 ghost use Rattle.pg_link.specs.Walk.{Entry, outlines, path_of};
@@ -160,6 +160,18 @@ fn marks_of(
     Ok(marks)
 }
 
+/// Whether one of the imports is public.
+fn has_public(lines: &[ImportLine]) -> bool
+    ensures { result ≡ false → public_paths (map line_of lines.now) ≡ [] }
+{
+    for line in lines {
+        if line.is_public {
+            return true;
+        }
+    }
+    false
+}
+
 /// The numbers of the files that a file hands on: itself and what its public imports hand on. Most
 /// files hand on themselves alone, so these are few.
 fn handed_of(
@@ -180,6 +192,10 @@ fn handed_of(
         (path_of e ∷ flat_map (handed_on (outlines files.now.entries))
         (spec.taken false (map line_of lines.now))) numbers.items) }
 {
+    if !has_public(lines) {
+        let own = vec![in alloc; handed.len()]?;
+        return Ok(own);
+    }
     let marks = marks_of(alloc, files, handed, lines, false)?;
     let numbers = numbers_of(alloc, &marks)?;
     Ok(numbers)

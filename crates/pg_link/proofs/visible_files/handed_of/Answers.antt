@@ -1,8 +1,17 @@
-use Rattle.std.proofs.Common.{◌∙◌, ◌≡◌, ℕ, ◌<◌, List, Bool, false, get_or, length, subst}
+use Rattle.std.proofs.Common.{◌≡◌, ◌∷◌, ℕ, ◌<◌, List, Bool, false, flat_map, get_or, length, map, subst, sym}
 use Rattle.std.specs.List.{All}
-use Rattle.pg_link.specs.VisibleFiles.{is_numbered}
-use Rattle.pg_link.proofs.MaskLaws.{numbers_are}
+use Rattle.pg_link.specs.Files.{handed_on, public_paths}
+use Rattle.pg_link.specs.Imports.{line_of}
+use Rattle.pg_link.specs.VisibleFiles.{AreNumbers, is_numbered}
+use Rattle.pg_link.specs.Walk.{outlines, path_of}
+use Rattle.pg_link.proofs.MaskLaws.{numbers_are, own_number}
 use Rattle.pg_link.proofs.visible_files.handed_of.Goals as goal
+
+pub returns-then-not-has_public : goal.returns-then-not-has_public
+returns-then-not-has_public c = λ e at.
+    let paths = public_paths (map line_of c.args.lines.now) in
+    subst (λ (l : List ℕ). AreNumbers c.args.files.now.entries (path_of e ∷ flat_map (handed_on (outlines c.args.files.now.entries)) paths) l) (sym c.in_ok-own.ensures.items)
+    (own_number c.args.files.now.entries (length c.args.handed.now) e paths c.requires.apart at (c.has_public.ensures c.if-not-has_public.true))
 
 pub returns : goal.returns
 returns c = λ e at.
