@@ -6,6 +6,7 @@ pub mod MaskLaws
 pub mod NumberLaws
 pub mod OnceLaws
 pub mod OrderLaws
+pub mod OuterLaws
 pub mod PathLaws
 pub mod PlaceLaws
 pub mod PlacedLaws

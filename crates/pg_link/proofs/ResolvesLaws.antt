@@ -13,7 +13,7 @@ use Rattle.std.specs.Option.{option_and_then, option_map, option_map_or}
 use Rattle.std.proofs.lemmas.Option.{same_Some}
 use Rattle.pg_link.specs.declared.names.Kind.{Kind}
 use Rattle.pg_link.specs.Names.{Text, Names, called, bears, ends_word}
-use Rattle.pg_link.specs.Resolves.{Reference, scopes, innermost, borne, part_words, reference, word_alone}
+use Rattle.pg_link.specs.Resolves.{scopes, innermost, borne, part_words, reference, word_alone}
 use Rattle.pg_syntax.specs.declared.tree as tree
 
 pub called-append : (words more : List Text) → called (words ++ more) ≡ called words ++ called more

@@ -78,7 +78,7 @@ pub(crate) fn push_word(text: &mut String, word: &str) -> Result<(), AllocError>
 }
 
 /// As many bytes as most full names have, so that few texts of names grow twice.
-const ROOM: usize = 128;
+pub(crate) const ROOM: usize = 128;
 
 /// The full name of these words.
 fn called(alloc: Global, words: &[&str]) -> Result<String, AllocError>
@@ -101,7 +101,7 @@ fn pop_word(text: &mut String, word: &str)
 }
 
 /// Appends a name to the text, as it would be written behind a dot.
-fn push_name(text: &mut String, name: &TypeName) -> Result<(), AllocError>
+pub(crate) fn push_name(text: &mut String, name: &TypeName) -> Result<(), AllocError>
     ensures { OnOk result (string_bytes text.new
         ≡ string_bytes text.old ++ resolves.written (resolves.reference name.now)) }
 {
@@ -143,7 +143,7 @@ pub(crate) struct Index {
 
 impl Index {
     /// What bears the name in the files that are seen.
-    fn seen(&self, visible: Option<Visible<'_>>, full: &str) -> Option<(&str, &Named)>
+    pub(crate) fn seen(&self, visible: Option<Visible<'_>>, full: &str) -> Option<(&str, &Named)>
         ensures borne { option_map (λ f. (f.0.now, f.1.now.kind)) result
             ≡ resolves.borne (spec.names_seen self.now.names (spec.visible_of visible.entry))
             full.now }
@@ -170,7 +170,7 @@ impl Index {
     }
 
     /// The full name of the innermost scope in which the search for a word ends.
-    fn innermost(
+    pub(crate) fn innermost(
         &self,
         alloc: Global,
         visible: Option<Visible<'_>>,

@@ -18,6 +18,7 @@ mod linking;
 mod listed;
 mod looking;
 mod names;
+mod outer;
 mod reading;
 mod resolve;
 mod sources;

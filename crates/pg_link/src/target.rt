@@ -1,7 +1,8 @@
 //! What a type name that a file uses resolves to.
-ghost use Rattle.std.specs.Prelude.{◌≡◌, IfErr, IfOk, List, None, Some};
+ghost use Rattle.std.specs.Prelude.{◌≡◌, IfErr, IfOk, List, None, OnOk, Some};
 ghost use Rattle.pg_link.specs.Index.{names_seen, texts};
 ghost use Rattle.pg_link.specs.Names.{Names};
+ghost use Rattle.pg_link.specs.Outers.{Recalls};
 ghost use Rattle.pg_link.specs.Resolves.{found, reference};
 ghost use Rattle.pg_link.specs.Sites.{use_of};
 ghost use Rattle.pg_link.specs.Standing.{IsNumbered, Standing, declared_in, taken_by};
@@ -10,6 +11,7 @@ ghost use Rattle.pg_link.specs.Unresolved.{Refuses, RefusesUse};
 
 use crate::index::{Index, Visible};
 use crate::names::{Kind, Named};
+use crate::outer::Outer;
 use crate::resolve::Unresolved;
 use crate::uses::Site;
 use pg_syntax::tree::TypeName;
@@ -60,13 +62,18 @@ impl Index {
         }
     }
 
-    /// What a use resolves to, by the names in the files that are seen.
-    pub(crate) fn target(
+    /// What a use resolves to, by the names in the files that are seen. `last` is what was last
+    /// found for a dotted name, by the same names.
+    pub(crate) fn target<'a>(
         &self,
         alloc: Global,
         visible: Visible<'_>,
-        site: &Site<'_>,
+        site: &Site<'a>,
+        last: &mut Option<Outer<'a>>,
     ) -> Result<Target, Unresolved>
+        requires { Recalls (names_seen self.now.names (Some visible.marks.now)) last.old }
+        ensures recalls { OnOk result
+            (Recalls (names_seen self.now.names (Some visible.entry.marks.now)) last.new) }
         ensures target { IfOk result (λ target. (all : List Standing) → IsNumbered self.now all
             → target_in (declared_in all) (names_seen self.now.names (Some visible.entry.marks.now))
             (use_of site.now) ≡ Some target) }
@@ -74,7 +81,7 @@ impl Index {
             (RefusesUse (names_seen self.now.names (Some visible.entry.marks.now))
             (names_seen self.now.names None) (use_of site.now)) }
     {
-        match self.found(alloc, Some(visible), &site.scope, site.name)? {
+        match self.found_for(alloc, visible, site, last)? {
             Some((_, named)) => match target_of(named, site.takes_enums) {
                 Some(target) => Ok(target),
                 None => Err(Unresolved::NotAType),

@@ -51,9 +51,10 @@ fn targets_of(
         (names_seen index.now.names None) path.now file.now.bytes.items file.now.tree e) }
 {
     let sites = uses_of(alloc, &file.tree)?;
-    let mut targets = Vec::new(alloc);
+    let mut targets = Vec::with_capacity(alloc, sites.len())?;
+    let mut last = None;
     for site in &sites {
-        match index.target(alloc, visible, site) {
+        match index.target(alloc, visible, site, &mut last) {
             Ok(target) => targets.push(target)?,
             Err(why) => {
                 let at = site.name.span.from;

@@ -24,5 +24,5 @@ returns-in-Err-clause-fault c = λ all numbered.
     let resolve : Resolution = target_in (declared_in all) (names_seen c.args.index.now.names (Some c.args.visible.marks.now)) in
     use_refused resolve (names_seen c.args.index.now.names (Some c.args.visible.marks.now)) (names_seen c.args.index.now.names None) (use_of x) c.in-Err.why
     c.args.path.now c.args.file.now.bytes.items c.args.file.now.tree c.use_fault.result front back splits
-    (all_resolve resolve front c.loop-site.targets.items (c.loop-site.invariant all numbered)) c.in-Err.ensures.refused
+    (all_resolve resolve front c.loop-site.targets.items (c.loop-site.invariant.found all numbered)) c.in-Err.ensures.refused
     (subst (λ (t : Text). Says c.in-Err.why c.args.path.now t (use_of x).at c.use_fault.result) c.deref.ensures.value c.use_fault.ensures)

@@ -1,15 +1,15 @@
-use Rattle.std.proofs.Common.{◌≡◌, ◌∙◌, sym, ap, subst, Some, List, Bor, Option, IfSome, Vec}
-use Rattle.std.specs.Global.{Global}
+use Rattle.std.proofs.Common.{◌≡◌, ◌∙◌, sym, ap, subst, Some, Bor, Option, IfSome}
 use Rattle.std.specs.HashMap.{get_by_text}
 use Rattle.std.specs.Option.{option_map}
 use Rattle.pg_link.specs.declared.index.Index as indexes
 use Rattle.pg_link.specs.declared.names.Kind.{Kind}
 use Rattle.pg_link.specs.declared.names.Named as nameds
 use Rattle.pg_link.specs.declared.uses.Site as sites
-use Rattle.pg_link.specs.Index.{names_seen, texts}
+use Rattle.pg_link.specs.Index.{names_seen}
 use Rattle.pg_link.specs.Names.{Names, Text}
-use Rattle.pg_link.specs.Resolves.{found, reference}
+use Rattle.pg_link.specs.Resolves.{found}
 use Rattle.pg_link.specs.Sites.{use_of}
+use Rattle.pg_link.specs.Uses.{Use}
 use Rattle.pg_link.proofs.TargetLaws.{no_target, target_is}
 use Rattle.pg_link.proofs.index.Index.target.Goals as goal
 
@@ -17,18 +17,16 @@ abbrev shown : Bor Text × Bor nameds.Named → Text × Kind
 shown f = (f.0.now, f.1.now.kind)
 
 -- what was found of the use
-is_found : (visible : Names) (site : sites.Site) (scope : List (Bor Text)) (o : Option (Bor Text × Bor nameds.Named)) (full : Bor Text) (n : Bor nameds.Named)
-    → option_map shown o ≡ found visible (texts scope) (reference site.name.now) → o ≡ Some (full, n) → scope ≡ site.scope.value.items
-    → found visible (use_of site).scope (use_of site).name ≡ Some (full.now, n.now.kind)
-is_found visible site scope o full n is some same =
-    ap (λ (s : List (Bor Text)). found visible (texts s) (reference site.name.now)) (sym same) ∙ (sym is ∙ ap (option_map shown) some)
+is_found : (visible : Names) (u : Use) (o : Option (Bor Text × Bor nameds.Named)) (full : Bor Text) (n : Bor nameds.Named)
+    → option_map shown o ≡ found visible u.scope u.name → o ≡ Some (full, n) → found visible u.scope u.name ≡ Some (full.now, n.now.kind)
+is_found visible u o full n is some = sym is ∙ ap (option_map shown) some
 
 pub returns-in-Some-target_of-clause-target : goal.returns-in-Some-target_of-clause-target
 returns-in-Some-target_of-clause-target c = λ all numbers.
     let index : indexes.Index = c.args.self.now in
     let visible : Names = names_seen index.names (Some c.args.visible.marks.now) in
     let site : sites.Site = c.args.site.now in
-    let is = is_found visible site c.deref-2.result.now c.in_ok-named.field-0 c.in-Some.field-0-0 c.in-Some.named c.in_ok-named.ensures.found c.in-Some.is (c.deref-2.ensures.value ∙ ap (λ (v : Vec (Bor Text) Global). v.items) c.deref.ensures) in
+    let is = is_found visible (use_of site) c.in_ok-named.field-0 c.in-Some.field-0-0 c.in-Some.named c.in_ok-named.ensures.found c.in-Some.is in
     let held : get_by_text index.names c.in-Some.field-0-0.now ≡ Some c.in-Some.named.now =
     subst (λ (o : Option (Bor Text × Bor nameds.Named)). IfSome o (λ f. get_by_text index.names f.0.now ≡ Some f.1.now)) c.in-Some.is c.in_ok-named.ensures.held in
     target_is index all visible (use_of site) c.in-Some.field-0-0.now c.in-Some.named.now c.in-Some-target_of.target numbers held is (sym c.in-Some-target_of.ensures)
@@ -38,5 +36,5 @@ returns-in-None-target_of-clause-refused c =
     let index : indexes.Index = c.args.self.now in
     let visible : Names = names_seen index.names (Some c.args.visible.marks.now) in
     let site : sites.Site = c.args.site.now in
-    let is = is_found visible site c.deref-2.result.now c.in_ok-named.field-0 c.in-Some.field-0-0 c.in-Some.named c.in_ok-named.ensures.found c.in-Some.is (c.deref-2.ensures.value ∙ ap (λ (v : Vec (Bor Text) Global). v.items) c.deref.ensures) in
+    let is = is_found visible (use_of site) c.in_ok-named.field-0 c.in-Some.field-0-0 c.in-Some.named c.in_ok-named.ensures.found c.in-Some.is in
     no_target visible (use_of site) c.in-Some.field-0-0.now c.in-Some.named.now.kind c.in-Some.named.now.number is (sym c.in-None-target_of.ensures)
