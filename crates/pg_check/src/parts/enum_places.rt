@@ -81,8 +81,11 @@ pub(crate) fn enum_places(alloc: Global, linked: &Linked) -> Result<Vec<usize>, 
     ensures { IfOk result (λ places. places.items ≡ spec.enum_places linked.now.files) }
 {
     let files = linked.files();
-    let scoped = places_of(alloc, scoped_names(alloc, files)?)?;
     let declared = declared_names(alloc, files)?;
+    if declared.is_empty() {
+        return Ok(Vec::new(alloc));
+    }
+    let scoped = places_of(alloc, scoped_names(alloc, files)?)?;
     let mut places = Vec::new(alloc);
     for name in &declared {
         places.push(scoped.get(name.as_str()).copied().unwrap_or(0))?;
