@@ -262,6 +262,9 @@ fn first_wrong(options: &[Stated<'_>]) -> Option<usize>
 pub(crate) fn first_bad(alloc: Global, options: &[Stated<'_>]) -> Result<Option<usize>, AllocError>
     ensures { IfOk result (λ place. place ≡ spec.first_bad (map spec.stated options.now)) }
 {
+    if options.is_empty() {
+        return Ok(None);
+    }
     let names = names_of(alloc, options)?;
     let again = first_twice(alloc, &names)?;
     Ok(least(first_wrong(options), again))
