@@ -43,6 +43,7 @@ pub mod SelfSame
 pub mod Shorter
 pub mod Splitting
 pub mod Standing
+pub mod TakenApart
 pub mod TypeFields
 pub mod ViewNames
 pub mod Whole

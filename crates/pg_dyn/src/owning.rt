@@ -27,7 +27,10 @@ fn owned_record(alloc: Global, found: &Record<'_>) -> Result<UnknownRecord, Allo
 }
 
 // The same of each record.
-fn owned_records(alloc: Global, records: &[Record<'_>]) -> Result<Vec<UnknownRecord>, AllocError>
+pub(crate) fn owned_records(
+    alloc: Global,
+    records: &[Record<'_>],
+) -> Result<Vec<UnknownRecord>, AllocError>
     requires { AllByRecursion IsRecord (map seen_record records.now) }
     ensures { IfOk result (λ owned. map record_seen owned.items ≡ map seen_record records.now) }
 {

@@ -149,11 +149,8 @@ entry_copied e key value of_key of_value = record {
 }
 
 -- one more on both sides
-pub map_more : {A B C : Type 0} (f : A → C) (g : B → C) (xs : List A) (ys : List B) (i : ℕ) (x : A) (y : B) → i < length ys → y ≡ get_or ys i y
-    → map f xs ≡ map g (take i ys) → f x ≡ g y → map f (xs ++ x ∷ []) ≡ map g (take (i + 1) ys)
-map_more f g xs ys i x y inside is before new =
-    map-append f xs (x ∷ []) ∙ ap₂ (λ zs z. zs ++ z ∷ []) before new
-    ∙ sym (map-append g (take i ys) (y ∷ [])) ∙ ap (map g) (sym (take_more ys i y inside ∙ ap (λ z. take i ys ++ z ∷ []) (sym is)))
+pub map_more : {A B C : Type 0} (f : A → C) (g : B → C) (xs : List A) (ys : List B) (x : A) (y : B) → map f xs ≡ map g ys → f x ≡ g y → map f (xs ++ x ∷ []) ≡ map g (ys ++ y ∷ [])
+map_more f g xs ys x y before new = map-append f xs (x ∷ []) ∙ ap₂ (λ zs z. zs ++ z ∷ []) before new ∙ sym (map-append g ys (y ∷ []))
 
 -- Contents.
 
@@ -179,15 +176,19 @@ map_copied rs es same = record {
   keys = same.keys;
 }
 
+pub one_entry_more : (lent : List EntryRef) (copies : List (Value × Value)) (e : EntryRef) (c : Value × Value) → AreEntryCopies lent copies → IsEntryCopy e c
+    → AreEntryCopies (lent ++ e ∷ []) (copies ++ c ∷ [])
+one_entry_more lent copies e c before new = record {
+  parts = λ n. map_more (copy.entry_part n) (entry_part n) copies lent c e (before.parts n) (new.part n);
+  keys = λ all. each-append (λ (x : Value × Value). IsMapKey x.0) copies (c ∷ []) (before.keys (each_before (λ (x : EntryRef). borrowed.IsMapKey x.key) lent (e ∷ []) all))
+      (new.key (each_after (λ (x : EntryRef). borrowed.IsMapKey x.key) lent (e ∷ []) all).0, tt);
+}
+
 pub entries_more : (lent : List EntryRef) (copies : List (Value × Value)) (i : ℕ) (e : EntryRef) (c : Value × Value) → i < length lent → e ≡ get_or lent i e
     → AreEntryCopies (take i lent) copies → IsEntryCopy e c → AreEntryCopies (take (i + 1) lent) (copies ++ c ∷ [])
-entries_more lent copies i e c inside is before new = record {
-  parts = λ n. map_more (copy.entry_part n) (entry_part n) copies lent i c e inside is (before.parts n) (new.part n);
-  keys = λ all.
-      let split = subst (AllByRecursion (λ (x : EntryRef). borrowed.IsMapKey x.key)) (take_more lent i e inside ∙ ap (λ x. take i lent ++ x ∷ []) (sym is)) all in
-      each-append (λ (x : Value × Value). IsMapKey x.0) copies (c ∷ []) (before.keys (each_before (λ (x : EntryRef). borrowed.IsMapKey x.key) (take i lent) (e ∷ []) split))
-      (new.key (each_after (λ (x : EntryRef). borrowed.IsMapKey x.key) (take i lent) (e ∷ []) split).0, tt);
-}
+entries_more lent copies i e c inside is before new =
+    subst (λ (xs : List EntryRef). AreEntryCopies xs (copies ++ c ∷ [])) (sym (take_more lent i e inside ∙ ap (λ (x : EntryRef). take i lent ++ x ∷ []) (sym is)))
+    (one_entry_more (take i lent) copies e c before new)
 
 -- All contents.
 
@@ -198,9 +199,9 @@ pub record AreCopies (lent : List (ℕ × ContentRef)) (copies : List (ℕ × Co
   pub keys : AllByRecursion (λ (f : ℕ × ContentRef). borrowed.HasKeys f.1) lent → AllByRecursion (λ (f : ℕ × Content). HasKeys f.1) copies
 
 -- one more content
-one_more : (lent : List (ℕ × ContentRef)) (copies : List (ℕ × Content)) (r : ℕ × ContentRef) (c : Content) → AreCopies lent copies → IsContentCopy r.1 c
+pub one_content_more : (lent : List (ℕ × ContentRef)) (copies : List (ℕ × Content)) (r : ℕ × ContentRef) (c : Content) → AreCopies lent copies → IsContentCopy r.1 c
     → AreCopies (lent ++ r ∷ []) (copies ++ (r.0, c) ∷ [])
-one_more lent copies r c before new = record {
+one_content_more lent copies r c before new = record {
   parts = flat_map-append' (λ (f : ℕ × Content). seen.content_seen f.0 f.1) copies ((r.0, c) ∷ [])
       ∙ ap₂ (λ xs ys. xs ++ (ys ++ [])) before.parts (new.parts r.0)
       ∙ sym (flat_map-append' (λ (f : ℕ × ContentRef). content_seen f.0 f.1) lent (r ∷ []));
@@ -215,7 +216,7 @@ pub copies_more : (lent : List (ℕ × ContentRef)) (copies : List (ℕ × Conte
     → AreCopies (take i lent) copies → IsContentCopy r.1 c → AreCopies (take (i + 1) lent) (copies ++ (r.0, c) ∷ [])
 copies_more lent copies i r c inside is before new =
     subst (λ (xs : List (ℕ × ContentRef)). AreCopies xs (copies ++ (r.0, c) ∷ [])) (sym (take_more lent i r inside ∙ ap (λ (x : ℕ × ContentRef). take i lent ++ x ∷ []) (sym is)))
-    (one_more (take i lent) copies r c before new)
+    (one_content_more (take i lent) copies r c before new)
 
 -- numbers rise where those that are the same do
 above_same : (n : ℕ) (xs : List (ℕ × Content)) (ys : List (ℕ × ContentRef)) → map (λ (f : ℕ × Content). f.0) xs ≡ map (λ (f : ℕ × ContentRef). f.0) ys

@@ -101,7 +101,7 @@ pub fn decode(
         (fields (shape_of schema.now) type_id) bytes.now place → ⊥)) }
 {
     match decode_ref(alloc, schema, type_id, bytes, limit) {
-        Ok(lent) => match lent.to_message(alloc) {
+        Ok(lent) => match lent.into_message(alloc) {
             Ok(message) => Ok(message),
             Err(_) => Err(DynError::Memory),
         },

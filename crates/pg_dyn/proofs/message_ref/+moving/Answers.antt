@@ -1,0 +1,66 @@
+-- Each part has its copy.
+use Rattle.std.proofs.Common.{ℕ, List, map, ap, sym, subst, ◌∙◌}
+use Rattle.std.specs.List.{AllByRecursion}
+use Rattle.std.specs.Vec.Iter.{into_iter_items}
+use Rattle.pg_wire.specs.Reads.{seen_record}
+use Rattle.pg_wire.specs.Records.{IsRecord}
+use Rattle.pg_dyn.specs.declared.message.Content.TheVariants as held
+use Rattle.pg_dyn.specs.declared.message_ref.ContentRef.{ContentRef}
+use Rattle.pg_dyn.specs.Copies.{IsContentCopy}
+use Rattle.pg_dyn.specs.Seen.{record_seen}
+use Rattle.pg_dyn.proofs.lemmas.BorrowedParts.{AreCopies, copy_shows, entry_copied, list_copied, map_copied, one_content_more, one_entry_more, rises_same}
+use Rattle.pg_dyn.proofs.lemmas.TakenApart.{taken_all, taken_more}
+use Rattle.pg_dyn.proofs.message_ref.+moving.Goals as goal
+
+pub EntryRef::into_entry-returns : goal.EntryRef::into_entry-returns
+EntryRef::into_entry-returns t c = entry_copied c.args.self c.in_ok-owned_key.owned_key c.in_ok-owned_value.owned_value c.in_ok-owned_key.ensures c.in_ok-owned_value.ensures
+
+pub ContentRef::into_entries-loop-entry-preserved : goal.ContentRef::into_entries-loop-entry-preserved
+ContentRef::into_entries-loop-entry-preserved t c =
+    let l = c.loop-entry in (
+      taken_more c.args.entries.items l.yielded l.entry-iterator c.next.new.self c.in-Some.entry l.invariant.0 c.in-Some.ensures.steps,
+      rw c.in_ok-push.ensures.items (one_entry_more l.yielded l.owned.items c.in-Some.entry c.in_ok-into_entry.field-0 l.invariant.1 c.in_ok-into_entry.ensures),
+    )
+
+pub ContentRef::into_content-returns-in_ok-into_values-in-Many : goal.ContentRef::into_content-returns-in_ok-into_values-in-Many
+ContentRef::into_content-returns-in_ok-into_values-in-Many t c =
+    subst (λ (r : ContentRef). IsContentCopy r (held.Many c.in_ok-into_values-in-Many.field-0)) (sym c.in-Many.is)
+    (list_copied c.in-Many.values c.in_ok-into_values-in-Many.field-0 c.in_ok-into_values-in-Many.ensures)
+
+pub ContentRef::into_content-returns-in_ok-into_entries-in-Map : goal.ContentRef::into_content-returns-in_ok-into_entries-in-Map
+ContentRef::into_content-returns-in_ok-into_entries-in-Map t c =
+    subst (λ (r : ContentRef). IsContentCopy r (held.Map c.in_ok-into_entries-in-Map.field-0)) (sym c.in-Map.is)
+    (map_copied c.in-Map.entries c.in_ok-into_entries-in-Map.field-0 c.in_ok-into_entries-in-Map.ensures)
+
+pub MessageRef::into_message-loop-number-preserved : goal.MessageRef::into_message-loop-number-preserved
+MessageRef::into_message-loop-number-preserved t c =
+    let l = c.loop-number in
+    let r : ℕ × ContentRef = (c.in-Some.number, c.in-Some.content) in (
+      taken_more (into_iter_items c.into_iter-number-iterator.result) l.yielded l.number-iterator c.next.new.self r l.invariant.0 c.in-Some.ensures.steps,
+      rw c.in_ok-push.ensures.items (one_content_more l.yielded l.owned.items r c.in_ok-into_content.field-0 l.invariant.1 c.in_ok-into_content.ensures),
+    )
+
+pub MessageRef::into_message-invariant_of-result : goal.MessageRef::into_message-invariant_of-result
+MessageRef::into_message-invariant_of-result t c =
+    let a = c.self.inside in
+    let l = c.loop-number in
+    let taken = c.into_iter-number-iterator in
+    let whole = taken_all (into_iter_items taken.result) l.yielded l.number-iterator c.next.new.self l.invariant.0 c.in-None.ensures.steps ∙ taken.ensures.into_iter_gives.0 in
+    let all = subst (λ (fs : List (ℕ × ContentRef)). AreCopies fs l.owned.items) whole l.invariant.1 in
+    record {
+      rises = rises_same l.owned.items a.fields.items all.numbers c.self.invariant.rises;
+      filled = all.filled c.self.invariant.filled;
+      keys = all.keys c.self.invariant.keys;
+      records = subst (AllByRecursion IsRecord) (sym (c.in_ok-owned_records.ensures ∙ ap (map seen_record) c.deref.ensures.value)) c.self.invariant.records;
+    }
+
+pub MessageRef::into_message-returns : goal.MessageRef::into_message-returns
+MessageRef::into_message-returns t c =
+    let a = c.self.inside in
+    let l = c.loop-number in
+    let taken = c.into_iter-number-iterator in
+    let whole = taken_all (into_iter_items taken.result) l.yielded l.number-iterator c.next.new.self l.invariant.0 c.in-None.ensures.steps ∙ taken.ensures.into_iter_gives.0 in
+    let all = subst (λ (fs : List (ℕ × ContentRef)). AreCopies fs l.owned.items) whole l.invariant.1 in
+    copy_shows a.type_id a.fields.items l.owned.items (map record_seen c.in_ok-owned_records.field-0.items) (map seen_record a.unknown.items) all
+    (c.in_ok-owned_records.ensures ∙ ap (map seen_record) c.deref.ensures.value)
+    ∙ c.self.view_is
