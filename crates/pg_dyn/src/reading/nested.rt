@@ -2,7 +2,7 @@
 //! one inside it, or only in a list, in a map or in a oneof, isn't inlined, so that a level takes
 //! less of the stack.
 
-ghost use Rattle.std.specs.Prelude.{◌≡◌, ◌≢◌, ◌<◌, List, [], ◌∷◌, map, length, suc, true, false, Some, OnOk, IfOk, IfErr, is_some};
+ghost use Rattle.std.specs.Prelude.{◌≡◌, ◌≢◌, ◌<◌, ◌≤◌, List, [], ◌∷◌, map, length, suc, true, false, Some, OnOk, IfOk, IfErr, is_some};
 ghost use Rattle.std.specs.List.{AllByRecursion};
 ghost use Rattle.pg_schema.specs.declared.parts.field.Element.TheVariants as elements;
 ghost use Rattle.pg_schema.specs.declared.parts.field.Presence.TheVariants as presences;
@@ -243,6 +243,16 @@ fn counted<'a>(
     Ok(counted)
 }
 
+// How many contents records say at most, since a field has one.
+fn most_contents(schema: &Schema, type_id: TypeId, records: &[Record<'_>]) -> usize
+    ensures { result ≤ length records.now }
+{
+    match schema.message_type(type_id) {
+        Some(message_type) => records.len().min(message_type.fields.len()),
+        None => 0,
+    }
+}
+
 // The contents that records by rising number say, which all count.
 #[cycle(reading)]
 fn read_contents<'a>(
@@ -272,7 +282,7 @@ fn read_contents<'a>(
         (RecordsGood (shape_of schema.now) levels (fields (shape_of schema.now) type_id)
         (map seen_record sorted.now))) }
 {
-    let mut contents = Vec::new(alloc);
+    let mut contents = Vec::with_capacity(alloc, most_contents(schema, type_id, sorted))?;
     let mut place = 0;
     while place < sorted.len() {
         let end = run_end(sorted, place);

@@ -230,7 +230,7 @@ read_contents-returns-in_err-content-clause-err t c =
     (rising c.args.schema.now c.requires.is_schema c.args.type_id) c.requires.rise c.requires.count
     c.loop-place.place c.loop-place-test.true c.run_end-end.result c.run_end-end.ensures.later c.run_end-end.ensures.inside c.run_end-end.ensures.run _ f
     (sym c.in-Some.ensures.shape) in
-    stopped _ _ c.from_residual.result _ c.from_residual.ensures.1 run c.in_err-content.ensures.err
+    stopped _ _ c.from_residual-in_err-content.result _ c.from_residual-in_err-content.ensures.1 run c.in_err-content.ensures.err
 
 pub read_contents-returns : goal.read_contents-returns
 read_contents-returns t c =
