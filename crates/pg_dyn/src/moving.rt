@@ -86,7 +86,7 @@ impl<'a> ContentRef<'a> {
 }
 
 impl<'a> MessageRef<'a> {
-    // The same of a message in its box. Not inlined, as an item is.
+    // The same of a message in its box. Not inlined, as the copy of an item is.
     #[cycle(moving)]
     #[inline(never)]
     fn into_boxed(child: Box<MessageRef<'a>>, alloc: Global) -> Result<Box<Message>, AllocError>
