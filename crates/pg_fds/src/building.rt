@@ -109,7 +109,6 @@ pub(crate) fn put_text(
 
 /// Puts a text, where there is one.
 pub(crate) fn put_maybe_text(
-    alloc: Global,
     message: &mut Message,
     table: &Schema,
     type_id: TypeId,
@@ -126,7 +125,7 @@ pub(crate) fn put_maybe_text(
     ensures last { OnOk result (last_number message.new ≤ number) }
 {
     match value {
-        Some(text) => put_text(alloc, message, table, type_id, number, &text),
+        Some(text) => put_one(message, table, type_id, number, TEXT, Value::Text(text)),
         None => Ok(()),
     }
 }
@@ -391,7 +390,7 @@ fn text_items(alloc: Global, texts: &[String]) -> Result<Vec<Value>, AllocError>
     ensures fit { IfOk result (λ values.
         AllByRecursion (ItemFits written_shape descriptor.text) values.items) }
 {
-    let mut values = Vec::new(alloc);
+    let mut values = Vec::with_capacity(alloc, texts.len())?;
     for text in texts {
         values.push(text_item(alloc, text)?)?;
     }

@@ -47,7 +47,7 @@ fn field_message(
     put_count(to, table, FIELD, FIELD_LABEL, LABEL, 1)?;
     put_count(to, table, FIELD, FIELD_TYPE, TYPE, element_code(element))?;
     let type_name = element_name(alloc, source, element)?;
-    put_maybe_text(alloc, to, table, FIELD, FIELD_TYPE_NAME, type_name)?;
+    put_maybe_text(to, table, FIELD, FIELD_TYPE_NAME, type_name)?;
     put_text(alloc, to, table, FIELD, FIELD_JSON_NAME, name)?;
     Ok(message)
 }
@@ -69,7 +69,7 @@ fn key_and_value(
     let element = Element::Scalar(key);
     let first = field_message(alloc, table, source, "key", 1, element)?;
     let second = field_message(alloc, table, source, "value", 2, value)?;
-    let mut made = Vec::new(alloc);
+    let mut made = Vec::with_capacity(alloc, 2)?;
     made.push(Value::Msg(Box::new(alloc, first)?))?;
     made.push(Value::Msg(Box::new(alloc, second)?))?;
     Ok(made)

@@ -65,7 +65,7 @@ fn values(alloc: Global, table: &Schema, values: &[EnumValue]) -> Result<Vec<Val
     ensures items { IfOk result (λ made. items_within made.items ≡ map value_items values.now) }
     ensures kept { IfOk result (λ made. AreChildren VALUE made.items) }
 {
-    let mut made = Vec::new(alloc);
+    let mut made = Vec::with_capacity(alloc, values.len())?;
     for value in values {
         let message = value_message(alloc, table, value)?;
         made.push(Value::Msg(Box::new(alloc, message)?))?;
@@ -83,7 +83,7 @@ fn ranges(
     ensures items { IfOk result (λ made. items_within made.items ≡ map value_range ranges.now) }
     ensures kept { IfOk result (λ made. AreChildren VALUE_RANGE made.items) }
 {
-    let mut made = Vec::new(alloc);
+    let mut made = Vec::with_capacity(alloc, ranges.len())?;
     for range in ranges {
         let message = range_message(alloc, table, range)?;
         made.push(Value::Msg(Box::new(alloc, message)?))?;
@@ -144,7 +144,7 @@ pub(crate) fn enums(
         ≡ enums_items (declared_in source.now) ids.now) }
     ensures kept { IfOk result (λ made. AreChildren ENUM made.items) }
 {
-    let mut made = Vec::new(alloc);
+    let mut made = Vec::with_capacity(alloc, ids.len())?;
     for id in ids {
         if let Some(declared) = source.enum_type(*id) {
             let message = enum_message(alloc, table, declared)?;

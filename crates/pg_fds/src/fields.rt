@@ -158,7 +158,7 @@ fn put_kind(
     put_count(to, table, FIELD, FIELD_LABEL, LABEL, label(field.presence))?;
     put_count(to, table, FIELD, FIELD_TYPE, TYPE, code)?;
     let name = named_type(alloc, source, scope, field)?;
-    put_maybe_text(alloc, to, table, FIELD, FIELD_TYPE_NAME, name)?;
+    put_maybe_text(to, table, FIELD, FIELD_TYPE_NAME, name)?;
     Ok(())
 }
 

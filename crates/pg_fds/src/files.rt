@@ -103,7 +103,7 @@ fn paths(alloc: Global, imports: &[Import]) -> Result<Vec<String>, AllocError>
     ensures { IfOk result (λ paths. map string_bytes paths.items
         ≡ map (λ (i : Import). string_bytes i.path) imports.now) }
 {
-    let mut paths = Vec::new(alloc);
+    let mut paths = Vec::with_capacity(alloc, imports.len())?;
     for import in imports {
         paths.push(import.path.clone()?)?;
     }
@@ -270,7 +270,7 @@ pub(crate) fn files(
         ≡ map (file_items (declared_in source.now)) files.now) }
     ensures kept { IfOk result (λ made. AreChildren FILE made.items) }
 {
-    let mut made = Vec::new(alloc);
+    let mut made = Vec::with_capacity(alloc, files.len())?;
     for file in files {
         let message = file_message(alloc, table, source, file)?;
         made.push(Value::Msg(Box::new(alloc, message)?))?;

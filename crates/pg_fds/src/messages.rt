@@ -76,7 +76,7 @@ fn ranges(
     ensures items { IfOk result (λ made. items_within made.items ≡ map field_range ranges.now) }
     ensures kept { IfOk result (λ made. AreChildren FIELD_RANGE made.items) }
 {
-    let mut made = Vec::new(alloc);
+    let mut made = Vec::with_capacity(alloc, ranges.len())?;
     for range in ranges {
         let message = range_message(alloc, table, range)?;
         made.push(Value::Msg(Box::new(alloc, message)?))?;
@@ -161,7 +161,7 @@ fn fields(
         ≡ fields_items (declared_in source.now) scope.now first (lent fields.now)) }
     ensures kept { IfOk result (λ made. AreChildren FIELD made.items) }
 {
-    let mut made = Vec::new(alloc);
+    let mut made = Vec::with_capacity(alloc, fields.len())?;
     let mut next = first;
     for field in fields {
         let message = field_message(alloc, table, source, scope, next, field)?;

@@ -21,7 +21,15 @@ pub(crate) fn own_name(name: &str) -> &str
 pub(crate) fn dotted(alloc: Global, name: &str) -> Result<String, AllocError>
     ensures { IfOk result (λ full. string_bytes full ≡ 46 ∷ name.now) }
 {
-    let mut full = String::from_str(alloc, ".")?;
+    dotted_with_room(alloc, name, name.len().saturating_add(1))
+}
+
+// The same in a text that has room for so many bytes.
+fn dotted_with_room(alloc: Global, name: &str, room: usize) -> Result<String, AllocError>
+    ensures { IfOk result (λ full. string_bytes full ≡ 46 ∷ name.now) }
+{
+    let mut full = String::with_capacity(alloc, room)?;
+    full.push('.')?;
     full.push_str(name)?;
     Ok(full)
 }
@@ -30,7 +38,8 @@ pub(crate) fn dotted(alloc: Global, name: &str) -> Result<String, AllocError>
 pub(crate) fn dotted_within(alloc: Global, scope: &str, name: &str) -> Result<String, AllocError>
     ensures { IfOk result (λ full. string_bytes full ≡ 46 ∷ within scope.now name.now) }
 {
-    let mut full = dotted(alloc, scope)?;
+    let room = scope.len().saturating_add(name.len()).saturating_add(2);
+    let mut full = dotted_with_room(alloc, scope, room)?;
     if !scope.is_empty() {
         full.push('.')?;
     }

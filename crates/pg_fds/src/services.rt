@@ -39,9 +39,9 @@ fn method_message(
     let to = &mut message;
     put_text(alloc, to, table, METHOD, METHOD_NAME, &method.name)?;
     let input = element_name(alloc, source, Element::Message(method.input))?;
-    put_maybe_text(alloc, to, table, METHOD, METHOD_INPUT_TYPE, input)?;
+    put_maybe_text(to, table, METHOD, METHOD_INPUT_TYPE, input)?;
     let output = element_name(alloc, source, Element::Message(method.output))?;
-    put_maybe_text(alloc, to, table, METHOD, METHOD_OUTPUT_TYPE, output)?;
+    put_maybe_text(to, table, METHOD, METHOD_OUTPUT_TYPE, output)?;
     let stated = method.options.deprecated;
     let options = one_flag(alloc, table, METHOD_OPTIONS, METHOD_DEPRECATED, stated)?;
     put_options(
@@ -82,7 +82,7 @@ fn methods(
         ≡ map (method_items (declared_in source.now)) methods.now) }
     ensures kept { IfOk result (λ made. AreChildren METHOD made.items) }
 {
-    let mut made = Vec::new(alloc);
+    let mut made = Vec::with_capacity(alloc, methods.len())?;
     for method in methods {
         let message = method_message(alloc, table, source, method)?;
         made.push(Value::Msg(Box::new(alloc, message)?))?;
@@ -147,7 +147,7 @@ pub(crate) fn services(
         ≡ services_items (declared_in source.now) ids.now) }
     ensures kept { IfOk result (λ made. AreChildren SERVICE made.items) }
 {
-    let mut made = Vec::new(alloc);
+    let mut made = Vec::with_capacity(alloc, ids.len())?;
     for id in ids {
         if let Some(service) = service_at(source, *id) {
             let message = service_message(alloc, table, source, service)?;
