@@ -6,7 +6,8 @@ use Rattle.std.proofs.lemmas.Grind.{get_or-set_at}
 use Rattle.std.proofs.lemmas.List.{get_or-set_other}
 use Rattle.pg_dyn.specs.Kept.{Kept, message_of}
 use Rattle.pg_dyn.specs.Message.{Message}
-use Rattle.pg_fds.specs.Made.{AreCounted, is_named, members_at}
+use Rattle.pg_fds.specs.Made.{AreCounted}
+use Rattle.pg_fds.specs.SaidTypes.{is_named, members_at}
 use Rattle.pg_fds.specs.Said.{maybe_number_at}
 
 abbrev seen : List Kept → (i : ℕ) → List Message

@@ -1,5 +1,5 @@
 -- Options of files, and what holds at a place of a list.
-use Rattle.std.proofs.Common.{◌≡◌, ℕ, zero, suc, ◌+◌, ◌≤◌, ◌<◌, Bool, true, nat_lt, List, [], ◌∷◌, ◌++◌, ◌-◌, length, take, drop, get_or, map, flat_map, slice_get, pos, Option, Some, None, refl, ap, sym, subst, ◌∙◌, arith, add-one, drop-cons}
+use Rattle.std.proofs.Common.{◌≡◌, ℕ, zero, suc, ◌+◌, ◌≤◌, ◌<◌, true, nat_lt, List, [], ◌∷◌, ◌++◌, ◌-◌, length, take, drop, get_or, map, flat_map, slice_get, pos, Option, Some, None, refl, ap, sym, subst, ◌∙◌, arith, add-one, drop-cons}
 use Rattle.std.proofs.lemmas.Bool.Decides.{nat_tests}
 use Rattle.std.proofs.lemmas.Grind.{flat_map-append}
 use Rattle.std.proofs.lemmas.List.{append-nil, take_more}
@@ -21,11 +21,6 @@ pub each_in : {A : Type 0} (P : A → Type 0) (xs : List A) (i : ℕ) (x : A) �
 each_in P [] i x all h is = absurd (omega (arith, h))
 each_in P (y ∷ ys) zero x all h is = subst P (sym is) all.0
 each_in P (y ∷ ys) (suc i) x all h is = each_in P ys i x all.1 (omega (arith, h)) is
-
-pub test_in : {A : Type 0} (test : A → Bool) (xs : List A) (i : ℕ) (x : A) → list_all test xs ≡ true → i < length xs → x ≡ get_or xs i x → test x ≡ true
-test_in test [] i x all h is = absurd (omega (arith, h))
-test_in test (y ∷ ys) zero x all h is = subst (λ z. test z ≡ true) (sym is) (and_left (test y) (list_all test ys) all)
-test_in test (y ∷ ys) (suc i) x all h is = test_in test ys i x (and_right (test y) (list_all test ys) all) (omega (arith, h)) is
 
 -- ---- rising numbers
 

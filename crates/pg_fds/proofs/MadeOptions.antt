@@ -1,11 +1,9 @@
 -- Options of files, as they are made.
-use Rattle.std.proofs.Common.{◌≡◌, ℕ, zero, suc, ◌+◌, ◌<◌, ℤ, pos, Bool, true, false, cond, ◌&&◌, ◌||◌, nat_eq, nat_lt, List, [], ◌∷◌, ◌++◌, find, length, map, take, get_or, Option, Some, None, option_map, refl, ap, sym, subst, ◌∙◌, arith, add-one}
+use Rattle.std.proofs.Common.{◌≡◌, ℕ, ◌+◌, ◌<◌, ℤ, pos, Bool, true, false, cond, ◌&&◌, ◌||◌, nat_eq, nat_lt, List, [], ◌∷◌, ◌++◌, find, map, Option, Some, None, option_map, refl, ap, sym, subst, ◌∙◌, arith}
 use Rattle.std.proofs.lemmas.Bool.{false≢true}
 use Rattle.std.proofs.lemmas.Bool.Decides.{nat_tests}
 use Rattle.std.proofs.lemmas.Option.{none-some, same_Some}
-use Rattle.std.proofs.lemmas.Str.{IsUtf8-nil, IsUtf8-string_bytes}
 use Rattle.std.specs.List.{list_all, list_any}
-use Rattle.std.specs.Str.{IsUtf8}
 use Rattle.pg_schema.specs.declared.parts.options.FileOption.{FileOption}
 use Rattle.pg_schema.specs.declared.parts.options.OptimizeMode.{OptimizeMode}
 use Rattle.pg_schema.specs.declared.parts.options.OptimizeMode.TheVariants as modes
@@ -14,17 +12,16 @@ use Rattle.pg_schema.specs.declared.parts.options.OptionValue.TheVariants as val
 use Rattle.pg_schema.specs.rules.Files.{flag_options, is_file_option, is_of_kind, option_numbers, text_options}
 use Rattle.pg_schema.specs.rules.Pairs.{is_rising}
 use Rattle.pg_schema.proofs.lemmas.rules.PairLemmas.{and_left, and_right}
-use Rattle.pg_dyn.specs.declared.message.Value.{Value}
-use Rattle.pg_dyn.specs.declared.message.Value.TheVariants as held
 use Rattle.pg_dyn.specs.Message.{Bytes, F32, F64, Int, Item, Message, Msg, Plain, ends}
-use Rattle.pg_fds.specs.Building.{shown}
-use Rattle.pg_fds.specs.MadeOptions.{StatesThese, mode_of, mode_or_flag, numbered, views_under}
+use Rattle.pg_fds.specs.MadeOptions.{views_under}
+use Rattle.pg_fds.specs.StatedFiles.{mode_of, mode_or_flag, numbered}
 use Rattle.pg_fds.specs.Messages.{where_found}
 use Rattle.std.specs.Option.{unwrap_or}
-use Rattle.pg_fds.specs.Said.{child_in, child_of, item_at, number_of, options_at, text_of}
+use Rattle.pg_fds.specs.Said.{child_in, child_of, item_at, number_of, options_at}
 use Rattle.pg_fds.specs.Set.{mode_code}
-use Rattle.pg_fds.specs.StatesFiles.{StatesOptions, flag_number, option_item, option_places, stated_option}
-use Rattle.pg_fds.specs.Views.{OptionView, Text, ValueOf, option_view, value_of}
+use Rattle.pg_fds.specs.StatesFiles.{flag_number, option_item}
+use Rattle.pg_fds.specs.SaidFiles.{option_places}
+use Rattle.pg_fds.specs.Views.{OptionView, ValueOf, option_view, value_of}
 
 -- ---- one value
 
@@ -66,49 +63,8 @@ number_value number item found (values.Mode mode) int same says kind =
     (ap (λ b. cond b (mode_or_flag found (mode_of found)) (mode_or_flag found None)) kind ∙ ap (mode_or_flag found) (ap mode_of is ∙ mode_known mode))
 number_value number item found (values.Text text) int same says kind = absurd (false≢true (sym (ap is_int says) ∙ int))
 
-not_int : (value : Value) → ((n : ℤ) → value ≡ held.Int n → ⊥) → is_int (shown value) ≡ false
-not_int (held.Int n) other = absurd (other n refl)
-not_int (held.F32 n) other = refl
-not_int (held.F64 n) other = refl
-not_int (held.Text n) other = refl
-not_int (held.Bytes n) other = refl
-not_int (held.Msg n) other = refl
-
--- that of any other item, which is a text
-pub text_value : (value : Value) (v : OptionValue) (text : List ℕ) → ((n : ℤ) → value ≡ held.Int n → ⊥) → shown value ≡ option_item v → text ≡ text_of (shown value) → Text text ≡ value_of v
-text_value value (values.Flag flag) text other says is = absurd (false≢true (sym (not_int value other) ∙ ap is_int says))
-text_value value (values.Mode mode) text other says is = absurd (false≢true (sym (not_int value other) ∙ ap is_int says))
-text_value value (values.Text t) text other says is = ap Text (is ∙ ap text_of says)
-
--- ---- one option after the other
-
-under_suc : (os : List FileOption) (ns : List ℕ) (i n : ℕ) → i < length ns → n ≡ get_or ns i n
-    → views_under os (take (suc i) ns) ≡ views_under os (take i ns) ++ where_found option_view (find (λ (o : FileOption). nat_eq o.number n) os)
-under_suc os [] i n h is = absurd (omega (arith, h))
-under_suc os (k ∷ ns) zero n h is = subst (λ j. views_under os (k ∷ []) ≡ where_found option_view (find (λ (o : FileOption). nat_eq o.number j) os)) (sym is) (end (where_found option_view (find (λ (o : FileOption). nat_eq o.number k) os)))
-  where
-    end : (vs : List OptionView) → vs ++ [] ≡ vs
-    end [] = refl
-    end (v ∷ vs) = ap (λ ws. v ∷ ws) (end vs)
-under_suc os (k ∷ ns) (suc i) n h is =
-    ap (λ vs. where_found option_view (find (λ (o : FileOption). nat_eq o.number k) os) ++ vs) (under_suc os ns i n (omega (arith, h)) is)
-    ∙ sym (joined (where_found option_view (find (λ (o : FileOption). nat_eq o.number k) os)) (views_under os (take i ns)) (where_found option_view (find (λ (o : FileOption). nat_eq o.number n) os)))
-  where
-    joined : (xs ys zs : List OptionView) → (xs ++ ys) ++ zs ≡ xs ++ (ys ++ zs)
-    joined [] ys zs = refl
-    joined (x ∷ xs) ys zs = ap (λ ws. x ∷ ws) (joined xs ys zs)
-
-states_at : (m : Message) (os : List FileOption) (ns : List ℕ) (i n : ℕ) → i < length ns → n ≡ get_or ns i n → StatesThese m os ns → item_at n m ≡ stated_option os n
-states_at m os [] i n h is all = absurd (omega (arith, h))
-states_at m os (k ∷ ns) zero n h is all = subst (λ j. item_at j m ≡ stated_option os j) (sym is) all.0
-states_at m os (k ∷ ns) (suc i) n h is all = states_at m os ns i n (omega (arith, h)) is all.1
-
-pushed : (made : List FileOption) (o : FileOption) → map option_view (made ++ o ∷ []) ≡ map option_view made ++ option_view o ∷ []
-pushed [] o = refl
-pushed (x ∷ made) o = ap (λ vs. option_view x ∷ vs) (pushed made o)
-
 -- the option of a number, where one is found
-found_one : (os : List FileOption) (n : ℕ) (o : FileOption) → find (λ (x : FileOption). nat_eq x.number n) os ≡ Some o → list_all is_file_option os ≡ true → (o.number ≡ n) × (is_file_option o ≡ true)
+pub found_one : (os : List FileOption) (n : ℕ) (o : FileOption) → find (λ (x : FileOption). nat_eq x.number n) os ≡ Some o → list_all is_file_option os ≡ true → (o.number ≡ n) × (is_file_option o ≡ true)
 found_one [] n o is all = absurd (none-some o is)
 found_one (x ∷ os) n o is all = of (nat_eq x.number n) refl is (found_one os n o)
   where
@@ -122,37 +78,8 @@ found_one (x ∷ os) n o is all = of (nat_eq x.number n) refl is (found_one os n
         (ap (λ (y : FileOption). y.number) (sym it) ∙ same x.number n e, ap is_file_option (sym it) ∙ and_left (is_file_option x) (list_all is_file_option os) all)
     of false e is later = later is (and_right (is_file_option x) (list_all is_file_option os) all)
 
-same_option : {n n' : ℕ} {v v' : ValueOf} → n ≡ n' → v ≡ v' → ◌≡◌ {A = OptionView} (record { number = n; value = v }) (record { number = n'; value = v' })
+pub same_option : {n n' : ℕ} {v v' : ValueOf} → n ≡ n' → v ≡ v' → ◌≡◌ {A = OptionView} (record { number = n; value = v }) (record { number = n'; value = v' })
 same_option number value = cc
-
-pub option_more : (m : Message) (os : List FileOption) (ns : List ℕ) (i n : ℕ) (made : List FileOption) (value : Value) (v : OptionValue) → i < length ns → n ≡ get_or ns i n → StatesThese m os ns → list_all is_file_option os ≡ true
-    → Some (shown value) ≡ item_at n m → ((w : OptionValue) → shown value ≡ option_item w → is_of_kind n w ≡ true → value_of v ≡ value_of w) → map option_view made ≡ views_under os (take i ns)
-    → map option_view (made ++ record { number = n; value = v } ∷ []) ≡ views_under os (take (i + 1) ns)
-option_more m os ns i n made value v h is states kinds found one before =
-    rw add-one (pushed made (record { number = n; value = v }) ∙ (ap (λ vs. vs ++ record { number = n; value = value_of v } ∷ []) before
-    ∙ (ap (λ vs. views_under os (take i ns) ++ vs) (of (find (λ (o : FileOption). nat_eq o.number n) os) refl (found ∙ states_at m os ns i n h is states)) ∙ sym (under_suc os ns i n h is))))
-  where
-    of : (o : Option FileOption) → find (λ (x : FileOption). nat_eq x.number n) os ≡ o → Some (shown value) ≡ option_map (λ (x : FileOption). option_item x.value) o
-        → record { number = n; value = value_of v } ∷ [] ≡ where_found option_view o
-    of None there says = absurd (none-some (shown value) (sym says))
-    of (Some o) there says =
-        let known = found_one os n o there kinds in
-        let item : shown value ≡ option_item o.value = same_Some (shown value) (option_item o.value) says in
-        let kind : is_of_kind n o.value ≡ true = subst (λ k. is_of_kind k o.value ≡ true) known.0 known.1 in
-        ap (λ w. w ∷ []) (same_option (sym known.0) (one o.value item kind))
-
-pub option_none : (m : Message) (os : List FileOption) (ns : List ℕ) (i n : ℕ) (made : List FileOption) → i < length ns → n ≡ get_or ns i n → StatesThese m os ns → None ≡ item_at n m
-    → map option_view made ≡ views_under os (take i ns) → map option_view made ≡ views_under os (take (i + 1) ns)
-option_none m os ns i n made h is states found before =
-    rw add-one (before ∙ (sym (end (views_under os (take i ns))) ∙ (ap (λ vs. views_under os (take i ns) ++ vs) (of (find (λ (o : FileOption). nat_eq o.number n) os) (found ∙ states_at m os ns i n h is states)) ∙ sym (under_suc os ns i n h is))))
-  where
-    end : (vs : List OptionView) → vs ++ [] ≡ vs
-    end [] = refl
-    end (v ∷ vs) = ap (λ ws. v ∷ ws) (end vs)
-
-    of : (o : Option FileOption) → None ≡ option_map (λ (x : FileOption). option_item x.value) o → [] ≡ where_found option_view o
-    of None says = refl
-    of (Some o) says = absurd (none-some (option_item o.value) says)
 
 -- ---- all of them
 
@@ -264,25 +191,6 @@ kinds_places (o ∷ os) h =
 -- the options of all numbers are all options
 pub all_under : (os : List FileOption) → is_rising (0 ∷ option_numbers os) ≡ true → list_all is_file_option os ≡ true → views_under os option_places ≡ map option_view os
 all_under os rising kinds = under_all option_places os refl (and_right (list_all (nat_lt 0) (option_numbers os)) (is_rising (option_numbers os)) rising) (kinds_places os kinds)
-
--- a message that says nothing states none
-pub none_stated : (m : Message) (os : List FileOption) → m ≡ ends [] → StatesOptions m os → is_rising (0 ∷ option_numbers os) ≡ true → list_all is_file_option os ≡ true → [] ≡ map option_view os
-none_stated m os is states rising kinds = nothing option_places (subst (λ x. StatesThese x os option_places) is states) ∙ all_under os rising kinds
-  where
-    nothing : (ps : List ℕ) → StatesThese (ends []) os ps → [] ≡ views_under os ps
-    nothing [] all = refl
-    nothing (p ∷ ps) all = of (find (λ (o : FileOption). nat_eq o.number p) os) all.0 (nothing ps all.1)
-      where
-        of : (o : Option FileOption) → None ≡ option_map (λ (x : FileOption). option_item x.value) o → [] ≡ views_under os ps → [] ≡ where_found option_view o ++ views_under os ps
-        of None says later = later
-        of (Some o) says later = absurd (none-some (option_item o.value) says)
-
-pub no_options : (m : Message) (os : List FileOption) → m ≡ ends [] → StatesOptions m os → is_rising (0 ∷ option_numbers os) ≡ true → list_all is_file_option os ≡ true → os ≡ []
-no_options m os is states rising kinds = empty os (none_stated m os is states rising kinds)
-  where
-    empty : (os : List FileOption) → [] ≡ map option_view os → os ≡ []
-    empty [] none = refl
-    empty (o ∷ os) none = absurd (omega (arith, ap length none))
 
 -- the message of options is none where there is no item
 pub options_missing : (m : Message) → item_at 8 m ≡ None → options_at 8 m ≡ ends []

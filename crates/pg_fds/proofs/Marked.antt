@@ -4,7 +4,7 @@ use Rattle.std.proofs.lemmas.Bool.{false≢true}
 use Rattle.std.proofs.lemmas.Bool.Decides.{nat_tests}
 use Rattle.std.specs.List.{AllByRecursion}
 use Rattle.pg_dyn.specs.Message.{Message}
-use Rattle.pg_fds.specs.StatesTypes.{is_at, is_marked, real_oneofs}
+use Rattle.pg_fds.specs.SaidTypes.{is_at, is_marked, real_oneofs}
 
 -- how many of so many places, from one on, are among the numbers
 abbrev pub marked_from : List ℤ → (place count : ℕ) → ℕ
@@ -59,9 +59,6 @@ unmoved n p ns place (suc count) is h = of (is_marked ns place) (is_at place n) 
     of b true e later = absurd (false≢true (sym e))
     of true false e later = ap suc later
     of false false e later = later
-
-at_most : (b : Bool) (m : ℕ) → m ≤ suc m
-at_most b m = omega arith
 
 one_more : (n : ℤ) (ns : List ℤ) (place count : ℕ) → marked_from (n ∷ ns) place count ≤ marked_from ns place count + one_if (fresh n ns place count)
 one_more n ns place zero = omega arith

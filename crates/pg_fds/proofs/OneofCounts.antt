@@ -13,8 +13,9 @@ use Rattle.pg_fds.specs.Messages.{declared_fields}
 use Rattle.pg_fds.specs.Outlines.{NameOneofs, NamesOneofs}
 use Rattle.pg_fds.specs.Places.{Declared}
 use Rattle.pg_fds.specs.Said.{children_at, maybe_number_at, text_at}
-use Rattle.pg_fds.specs.StatesFiles.{is_place}
-use Rattle.pg_fds.specs.StatesTypes.{StatesOneofs, StatesTypes, StatesWhole, is_at, is_entry, is_marked, is_no_entry, is_optional, real_oneofs, synthetic_places}
+use Rattle.pg_fds.specs.SaidFiles.{is_place}
+use Rattle.pg_fds.specs.StatesTypes.{StatesOneofs, StatesTypes, StatesWhole}
+use Rattle.pg_fds.specs.SaidTypes.{is_at, is_entry, is_marked, is_no_entry, is_optional, real_oneofs, synthetic_places}
 
 -- ---- how many places are marked
 

@@ -1,86 +1,17 @@
--- Places that are marked, and the oneofs there.
-use Rattle.std.proofs.Common.{◌≡◌, ◌≢◌, ℕ, zero, suc, ◌+◌, ◌<◌, ℤ, pos, Bool, true, false, ◌||◌, nat_eq, nat_lt, List, [], ◌∷◌, String, map, length, take, get_or, Option, None, Some, slice_get, refl, ap, sym, subst, ◌∙◌, arith, add-one}
+-- Places that are marked.
+use Rattle.std.proofs.Common.{◌≡◌, ◌≢◌, ℕ, zero, suc, ◌+◌, ◌<◌, ℤ, pos, Bool, true, false, ◌||◌, nat_eq, nat_lt, List, [], ◌∷◌, length, take, get_or, refl, ap, sym, subst, ◌∙◌, arith, add-one}
 use Rattle.std.proofs.Math.ListN.{set, length-set}
 use Rattle.std.proofs.lemmas.Bool.Decides.{nat_tests}
 use Rattle.std.proofs.lemmas.Grind.{get_or-set_at}
 use Rattle.std.proofs.lemmas.List.{get_or-set_other}
-use Rattle.std.proofs.lemmas.Option.{none-some}
-use Rattle.std.proofs.lemmas.Str.{IsUtf8-string_bytes}
-use Rattle.std.proofs.lemmas.Bool.{false≢true}
-use Rattle.std.specs.Prelude.{IsSomeAnd}
-use Rattle.std.specs.Str.{IsUtf8}
-use Rattle.std.specs.String.{string_bytes}
-use Rattle.pg_dyn.specs.Kept.{Kept, message_of}
-use Rattle.pg_dyn.specs.Message.{Message}
-use Rattle.pg_fds.specs.Said.{text_at}
-use Rattle.pg_fds.specs.StatesFiles.{is_place}
-use Rattle.pg_fds.specs.StatesTypes.{AreMarked, NamesOneof, is_at, is_marked}
-use Rattle.pg_fds.proofs.Zips.{seen_got, seen_length}
-
--- the item at a place, as a look-up finds it
-got : {A B : Type 0} (f : A → B) (xs : List A) (i : ℕ) (x : A) → i < length xs → x ≡ get_or xs i x → slice_get (map f xs) i ≡ Some (f x)
-got f [] i x h is = absurd (omega (arith, h))
-got f (y ∷ xs) zero x h is = ap (λ z. Some (f z)) (sym is)
-got f (y ∷ xs) (suc i) x h is = got f xs i x (omega (arith, h)) is
-
-pub named_one : {Y : Type 0} (oneofs : List Kept) (numbers : List ℤ) (names : List (String Y)) (number : ℤ) (own place : ℕ) (m : Kept) (name : String Y)
-    → number ≡ pos place → is_marked numbers place ≡ false → place < length oneofs → m ≡ get_or oneofs place m → own < length names → name ≡ get_or names own name
-    → text_at 1 (message_of m) ≡ string_bytes name → NamesOneof (map message_of oneofs) numbers (map string_bytes names) (Some number) (Some own)
-named_one oneofs numbers names number own place m name at free h is k same texts = (
-  place,
-  at,
-  free,
-  subst (λ found. IsSomeAnd found (λ x. slice_get (map string_bytes names) own ≡ Some (text_at 1 x))) (sym (seen_got oneofs place m h is))
-      (got string_bytes names own name k same ∙ ap Some (sym texts)),
-)
+use Rattle.pg_fds.specs.SaidFiles.{is_place}
+use Rattle.pg_fds.specs.SaidTypes.{AreMarked, is_at, is_marked}
 
 pub is_one : (count : ℕ) (n : ℤ) (place : ℕ) → n ≡ pos place → place < count → is_place count n ≡ true
 is_one count n place is h = ap (is_place count) is ∙ within place count h
   where
     within : (a b : ℕ) → a < b → nat_lt a b ≡ true
     within a b h = grind (arith, nat_tests)
-
--- one that is none is missed
--- what a field that names one says of it
-pos_same : (a b : ℕ) → pos a ≡ pos b → a ≡ b
-pos_same a b same = cc
-
-there_within : {A : Type 0} (P : A → Type 0) (xs : List A) (i : ℕ) → IsSomeAnd (slice_get xs i) P → i < length xs
-there_within P [] i there = absurd there
-there_within P (x ∷ xs) zero there = omega arith
-there_within P (x ∷ xs) (suc i) there = omega (arith, there_within P xs i there)
-
-some_same : {A : Type 0} (a b : A) → ◌≡◌ {A = Option A} (Some a) (Some b) → a ≡ b
-some_same a b same = cc
-
-got_within : {A B : Type 0} (f : A → B) (xs : List A) (i : ℕ) (y : B) → slice_get (map f xs) i ≡ Some y → i < length xs
-got_within f [] i y is = absurd (none-some y is)
-got_within f (x ∷ xs) zero y is = omega arith
-got_within f (x ∷ xs) (suc i) y is = omega (arith, got_within f xs i y is)
-
-module _ {Y : Type 0} (oneofs : List Kept) (numbers : List ℤ) (names : List (String Y)) (number : ℤ) (own : ℕ)
-    (named : NamesOneof (map message_of oneofs) numbers (map string_bytes names) (Some number) (Some own)) where
-  pub named_place : is_place (length oneofs) number ≡ false → ⊥
-  named_place none =
-      let within : named.0 < length oneofs = subst (λ n. named.0 < n) (seen_length oneofs) (there_within (λ m. slice_get (map string_bytes names) own ≡ Some (text_at 1 m)) (map message_of oneofs) named.0 named.3) in
-      false≢true (sym none ∙ is_one (length oneofs) number named.0 named.1 within)
-
-  name_there : (place : ℕ) (m : Kept) → number ≡ pos place → place < length oneofs → m ≡ get_or oneofs place m → slice_get (map string_bytes names) own ≡ Some (text_at 1 (message_of m))
-  name_there place m at h is =
-      subst (λ found. IsSomeAnd found (λ x. slice_get (map string_bytes names) own ≡ Some (text_at 1 x))) (seen_got oneofs place m h is)
-      (subst (λ i. IsSomeAnd (slice_get (map message_of oneofs) i) (λ x. slice_get (map string_bytes names) own ≡ Some (text_at 1 x))) (pos_same named.0 place (sym named.1 ∙ at)) named.3)
-
-  pub named_own : own < length names
-  named_own = of (slice_get (map message_of oneofs) named.0) named.3
-    where
-      of : (found : Option Message) → IsSomeAnd found (λ x. slice_get (map string_bytes names) own ≡ Some (text_at 1 x)) → own < length names
-      of None is = absurd is
-      of (Some x) is = got_within string_bytes names own (text_at 1 x) is
-
-  pub named_same : (place : ℕ) (m : Kept) (name : String Y) → number ≡ pos place → place < length oneofs → m ≡ get_or oneofs place m → own < length names → name ≡ get_or names own name
-      → text_at 1 (message_of m) ≡ string_bytes name
-  named_same place m name at h is k same =
-      some_same (text_at 1 (message_of m)) (string_bytes name) (sym (name_there place m at h is) ∙ got string_bytes names own name k same)
 
 -- ---- marks
 

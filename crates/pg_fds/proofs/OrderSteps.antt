@@ -9,7 +9,7 @@ use Rattle.pg_fds.specs.declared.order.Importing.{Importing}
 use Rattle.pg_fds.specs.Lent.{lent}
 use Rattle.pg_fds.specs.FilePlaces.{StandAt, importer, importers}
 use Rattle.pg_fds.specs.PostOrder.{Importer, imports_once, kept_paths, paths_of}
-use Rattle.pg_fds.specs.StatesFiles.{is_descriptor}
+use Rattle.pg_fds.specs.SaidFiles.{is_descriptor}
 
 suc_of : {A B : Type 0} (f : A → B) (xs : List A) (i : ℕ) (x : A) → i < length xs → x ≡ get_or xs i x → map f (take (suc i) xs) ≡ map f (take i xs) ++ f x ∷ []
 suc_of f [] i x h is = absurd (omega (arith, h))
@@ -87,18 +87,6 @@ pub importer_at : (files : List Importing) (i : ℕ) (f : Importing) → i < len
 importer_at [] i f h is = absurd (omega (arith, h))
 importer_at (g ∷ files) zero f h is = ap (λ (x : Importing). Some (importer x)) (sym is)
 importer_at (g ∷ files) (suc i) f h is = importer_at files i f (omega (arith, h)) is
-
-all_more : {A : Type 0} (test : A → Bool) (xs : List A) (x : A) → list_all test xs ≡ true → test x ≡ true → list_all test (xs ++ x ∷ []) ≡ true
-all_more test [] x all here = ap (λ b. b && true) here
-all_more test (y ∷ xs) x all here = of (test y) all (λ later. all_more test xs x later here)
-  where
-    of : (b : Bool) → (b && list_all test xs) ≡ true → (list_all test xs ≡ true → list_all test (xs ++ x ∷ []) ≡ true) → (b && list_all test (xs ++ x ∷ [])) ≡ true
-    of true h later = later h
-    of false h later = h
-
-pub once_more : (files : List Importing) (i : ℕ) (f : Importing) → i < length files → f ≡ get_or files i f → list_all imports_once (importers (take i files)) ≡ true → are_distinct (lent f.paths.items) ≡ true
-    → list_all imports_once (importers (take (i + 1) files)) ≡ true
-once_more files i f h is before here = subst (λ xs. list_all imports_once xs ≡ true) (sym (one_step importer files i f h is)) (all_more imports_once (importers (take i files)) (importer f) before here)
 
 pub paths_step : (files : List Importing) (i : ℕ) (f : Importing) → i < length files → f ≡ get_or files i f → paths_of (importers (take (i + 1) files)) ≡ paths_of (importers (take i files)) ++ f.name.now ∷ []
 paths_step files i f h is = ap paths_of (one_step importer files i f h is) ∙ map_more (λ (x : Importer). x.path) (importers (take i files)) (importer f)

@@ -1,22 +1,26 @@
 -- What files declare, as a loop comes to them.
-use Rattle.std.proofs.Common.{◌≡◌, ℕ, zero, suc, ◌+◌, ◌<◌, ◌≤◌, ◌^◌, Bool, true, false, ◌||◌, List, [], ◌∷◌, ◌++◌, map, length, take, drop, get_or, Option, Some, None, slice_get, refl, ap, sym, subst, ◌∙◌, arith, add-one, append-nil, length-append}
+use Rattle.std.proofs.Common.{◌≡◌, ℕ, zero, suc, ◌+◌, ◌<◌, ◌≤◌, ◌^◌, Bool, true, false, ◌&&◌, nat_eq, ◌⊎◌, inl, inr, List, [], ◌∷◌, ◌++◌, map, filter, length, take, drop, get_or, Option, Some, None, slice_get, refl, ap, ap₂, sym, subst, ◌∙◌, arith, add-one, append-nil, length-append}
+use Rattle.std.proofs.lemmas.Bool.Decides.{nat_tests}
 use Rattle.std.proofs.lemmas.Grind.{flat_map-append}
 use Rattle.std.proofs.lemmas.List.{length-map}
-use Rattle.std.proofs.lemmas.Option.{none-some}
-use Rattle.std.proofs.lemmas.Slice.Eq.{bytes_eq-Decides}
-use Rattle.std.specs.BTreeMap.{get_by_text}
-use Rattle.std.specs.List.{AllByRecursion, cons_option, flat_map}
-use Rattle.std.specs.Str.{bytes_eq}
-use Rattle.pg_schema.specs.rules.TextSets.{is_among}
+use Rattle.std.proofs.lemmas.List.Folds.{list_all-append}
+use Rattle.std.specs.List.{AllByRecursion, cons_option, flat_map, list_all}
+use Rattle.pg_schema.specs.rules.Packages.{is_free_of}
+use Rattle.pg_schema.specs.rules.Pairs.{are_distinct}
+use Rattle.pg_schema.proofs.lemmas.rules.PairLemmas.{and_both, and_left, and_right}
 use Rattle.pg_dyn.specs.Kept.{Kept, message_of}
 use Rattle.pg_dyn.specs.Message.{Message}
 use Rattle.pg_fds.specs.declared.error.Unstated.{Unstated}
-use Rattle.pg_fds.specs.declared.error.Unstated.TheVariants as errors
-use Rattle.pg_fds.specs.Outlines.{MayDeclare, MayPlace, Row, file_enums, file_services, file_types, files_at}
+use Rattle.pg_fds.specs.Declarations.{Adds, CannotAdd, Declaration, enums_declared, file_declared, package_declared, services_declared, types_declared}
+use Rattle.pg_fds.specs.OutlinedPlaces.{Counts, inside_file}
+use Rattle.pg_fds.specs.OutlinedScopes.{MayPlace}
+use Rattle.pg_fds.specs.Outlines.{MayDeclare, NameOneofs, Row, file_enums, file_services, file_types, files_at, row_in, type_rows}
 use Rattle.pg_fds.specs.Said.{children_at, text_at}
-use Rattle.pg_fds.specs.SetNames.{AreFree, Declares, IsPackageOrNone, WantsMemory, enums_names, file_names, files_names, services_names, types_names}
+use Rattle.pg_fds.specs.SetNames.{files_names, full_name}
+use Rattle.pg_fds.specs.StatedTable.{are_free, few, has_name, has_no_entries, may_declare, names_oneofs, packages_of}
+use Rattle.pg_fds.specs.SaidTypes.{is_entry, is_no_entry}
+use Rattle.pg_fds.proofs.Declaring.{Table, adds_both, first_fails, later_fails}
 use Rattle.pg_fds.proofs.NameLoops.{seen}
-use Rattle.pg_fds.proofs.NameTable.{Names, Table, declares_both, wants_first, wants_later}
 
 -- ---- files at places
 
@@ -46,6 +50,22 @@ module _ (files : List Message) (m : Message) where
       later None fs = refl
       later (Some x) fs = refl
 
+module _ (files : List Message) (m : Message) where
+  suc_left : (order : List ℕ) (i place : ℕ) → i < length order → place ≡ get_or order i place → slice_get files place ≡ Some m → files_at files (drop i order) ≡ m ∷ files_at files (drop (suc i) order)
+  suc_left [] i place h is there = absurd (omega (arith, h))
+  suc_left (p ∷ order) zero place h is there = ap (λ o. cons_option o (files_at files order)) (ap (slice_get files) (sym is) ∙ there)
+  suc_left (p ∷ order) (suc i) place h is there = suc_left order i place (omega (arith, h)) is there
+
+  -- the first of those that are left
+  pub file_left : (order : List ℕ) (i place : ℕ) → i < length order → place ≡ get_or order i place → slice_get files place ≡ Some m → files_at files (drop i order) ≡ m ∷ files_at files (drop (i + 1) order)
+  file_left order i place h is there = rw add-one (suc_left order i place h is there)
+
+pub none_left : (files : List Message) (order : List ℕ) (i : ℕ) → length order ≤ i → files_at files (drop i order) ≡ []
+none_left files [] zero h = refl
+none_left files [] (suc i) h = refl
+none_left files (p ∷ order) zero h = absurd (omega (arith, h))
+none_left files (p ∷ order) (suc i) h = none_left files order i (omega (arith, h))
+
 -- what one file more adds
 pub flat_more : {X : Type 0} (f : Message → List X) (before : List Message) (m : Message) → flat_map f (before ++ m ∷ []) ≡ flat_map f before ++ f m
 flat_more f before m = flat_map-append f before (m ∷ []) ∙ ap (λ xs. flat_map f before ++ xs) (append-nil (f m))
@@ -53,166 +73,226 @@ flat_more f before m = flat_map-append f before (m ∷ []) ∙ ap (λ xs. flat_m
 pub files_on : {X : Type 0} (f : Message → List X) (before after : List Message) (m : Message) (mid new : List X) → after ≡ before ++ m ∷ [] → mid ≡ flat_map f before → new ≡ mid ++ f m → new ≡ flat_map f after
 files_on f before after m mid new more is here = here ∙ (ap (λ xs. xs ++ f m) is ∙ (sym (flat_more f before m) ∙ ap (flat_map f) (sym more)))
 
--- ---- packages
+-- ---- where all may be declared
 
-all_front : (P : Message → Type 0) (front behind : List Message) → AllByRecursion P (front ++ behind) → AllByRecursion P front
-all_front P [] behind all = tt
-all_front P (x ∷ front) behind all = (all.0, all_front P front behind all.1)
-
-all_middle : (P : Message → Type 0) (front : List Message) (m : Message) (behind : List Message) → AllByRecursion P ((front ++ m ∷ []) ++ behind) → P m
+all_middle : {A : Type 0} (P : A → Type 0) (front : List A) (m : A) (behind : List A) → AllByRecursion P ((front ++ m ∷ []) ++ behind) → P m
 all_middle P [] m behind all = all.0
 all_middle P (x ∷ front) m behind all = all_middle P front m behind all.1
-
-abbrev IsPackageOf : Names → Message → Type 0
-IsPackageOf packages m = is_among packages (text_at 2 m) ≡ true
-
--- one package more
-wider : (first : List ℕ) (packages : Names) (ms : List Message) → AllByRecursion (IsPackageOf packages) ms → AllByRecursion (IsPackageOf (first ∷ packages)) ms
-wider first packages [] all = tt
-wider first packages (m ∷ ms) all = (ap (λ b. bytes_eq (text_at 2 m) first || b) all.0 ∙ either (bytes_eq (text_at 2 m) first), wider first packages ms all.1)
-  where
-    either : (b : Bool) → (b || true) ≡ true
-    either true = refl
-    either false = refl
-
-pub own_packages : (ms : List Message) → AllByRecursion (IsPackageOf (map (text_at 2) ms)) ms
-own_packages [] = tt
-own_packages (m ∷ ms) =
-    (ap (λ b. b || is_among (map (text_at 2) ms) (text_at 2 m)) ((bytes_eq-Decides (text_at 2 m) (text_at 2 m)).1 refl), wider (text_at 2 m) (map (text_at 2) ms) ms (own_packages ms))
-
--- ---- refusals
 
 few_here : (f : Message → List Row) (before : List Message) (m : Message) (later : List Message) → length (flat_map f ((before ++ m ∷ []) ++ later)) ≤ 2 ^ 32 → length (flat_map f before) + length (f m) ≤ 2 ^ 32
 few_here f before m later few =
     omega (arith, few, ap length (flat_map-append f (before ++ m ∷ []) later), length-append (flat_map f (before ++ m ∷ [])) (flat_map f later), ap length (flat_more f before m), length-append (flat_map f before) (f m))
 
-absent_all : {Y : Type 0} (table : Table Y) → ((name : List ℕ) → get_by_text table name ≡ None) → (names : Names) → AllByRecursion (λ name. get_by_text table name ≡ None) names
-absent_all table none [] = tt
-absent_all table none (n ∷ names) = (none n, absent_all table none names)
+-- what `may_declare` says, as facts
+pub record MayStand (depth : ℕ) (files : List Message) : Type 0 where
+  pub free : are_free depth files ≡ true
+  pub no_entries : AllByRecursion (λ m. filter is_entry (children_at 4 m) ≡ []) files
+  pub oneofs : AllByRecursion (λ m. NameOneofs depth (children_at 4 m)) files
+  pub few_types : length (flat_map (file_types depth) files) ≤ 2 ^ 32
+  pub few_enums : length (flat_map (file_enums depth) files) ≤ 2 ^ 32
+  pub few_services : length (flat_map file_services files) ≤ 2 ^ 32
 
-module _ (depth : ℕ) (before : List Message) (m : Message) (later all : List Message) (whole : (before ++ m ∷ []) ++ later ≡ all) (may : MayDeclare depth all) where
-  abbrev packages : Names
-  packages = map (text_at 2) all
+few_is : (n : ℕ) → few n ≡ true → n ≤ 2 ^ 32
+few_is n is = grind (arith, nat_tests)
 
+is_few : (n : ℕ) → n ≤ 2 ^ 32 → few n ≡ true
+is_few n h = grind (arith, nat_tests)
+
+none_long : {A : Type 0} (xs : List A) → nat_eq (length xs) 0 ≡ true → xs ≡ []
+none_long [] is = refl
+none_long (x ∷ xs) is = absurd (grind (arith, nat_tests))
+
+entries_none : (files : List Message) → list_all has_no_entries files ≡ true → AllByRecursion (λ m. filter is_entry (children_at 4 m) ≡ []) files
+entries_none [] all = tt
+entries_none (m ∷ ms) all =
+    (none_long (filter is_entry (children_at 4 m)) (and_left (has_no_entries m) (list_all has_no_entries ms) all), entries_none ms (and_right (has_no_entries m) (list_all has_no_entries ms) all))
+
+none_entries : (files : List Message) → AllByRecursion (λ m. filter is_entry (children_at 4 m) ≡ []) files → list_all has_no_entries files ≡ true
+none_entries [] all = refl
+none_entries (m ∷ ms) all = and_both (has_no_entries m) (list_all has_no_entries ms) (ap (λ (xs : List Message). nat_eq (length xs) 0) all.0) (none_entries ms all.1)
+
+all_split : {A : Type 0} (test : A → Bool) (a b : List A) → list_all test (a ++ b) ≡ true → (list_all test a ≡ true) × (list_all test b ≡ true)
+all_split test a b all = (and_left (list_all test a) (list_all test b) (sym (list_all-append test a b) ∙ all), and_right (list_all test a) (list_all test b) (sym (list_all-append test a b) ∙ all))
+
+all_join : {A : Type 0} (test : A → Bool) (a b : List A) → list_all test a ≡ true → list_all test b ≡ true → list_all test (a ++ b) ≡ true
+all_join test a b first second = list_all-append test a b ∙ and_both (list_all test a) (list_all test b) first second
+
+oneofs_of : (depth : ℕ) (scope : List ℕ) (ms : List Message) → list_all names_oneofs (type_rows depth scope ms) ≡ true → NameOneofs depth ms
+oneofs_of zero scope ms all = tt
+oneofs_of (suc depth) scope [] all = tt
+oneofs_of (suc depth) scope (m ∷ ms) all =
+    let inside = type_rows depth (full_name scope m) (filter is_no_entry (children_at 3 m)) in
+    let split = all_split names_oneofs (row_in scope m ∷ inside) (type_rows (suc depth) scope ms) all in (
+      (and_left (names_oneofs (row_in scope m)) (list_all names_oneofs inside) split.0, oneofs_of depth (full_name scope m) (filter is_no_entry (children_at 3 m)) (and_right (names_oneofs (row_in scope m)) (list_all names_oneofs inside) split.0)),
+      oneofs_of (suc depth) scope ms split.1,
+    )
+
+of_oneofs : (depth : ℕ) (scope : List ℕ) (ms : List Message) → NameOneofs depth ms → list_all names_oneofs (type_rows depth scope ms) ≡ true
+of_oneofs zero scope ms all = refl
+of_oneofs (suc depth) scope [] all = refl
+of_oneofs (suc depth) scope (m ∷ ms) all =
+    let inside = type_rows depth (full_name scope m) (filter is_no_entry (children_at 3 m)) in
+    all_join names_oneofs (row_in scope m ∷ inside) (type_rows (suc depth) scope ms)
+    (and_both (names_oneofs (row_in scope m)) (list_all names_oneofs inside) all.0.0 (of_oneofs depth (full_name scope m) (filter is_no_entry (children_at 3 m)) all.0.1)) (of_oneofs (suc depth) scope ms all.1)
+
+file_oneofs : (depth : ℕ) (files : List Message) → list_all names_oneofs (flat_map (file_types depth) files) ≡ true → AllByRecursion (λ m. NameOneofs depth (children_at 4 m)) files
+file_oneofs depth [] all = tt
+file_oneofs depth (m ∷ ms) all =
+    let split = all_split names_oneofs (file_types depth m) (flat_map (file_types depth) ms) all in
+    (oneofs_of depth (text_at 2 m) (children_at 4 m) split.0, file_oneofs depth ms split.1)
+
+oneofs_file : (depth : ℕ) (files : List Message) → AllByRecursion (λ m. NameOneofs depth (children_at 4 m)) files → list_all names_oneofs (flat_map (file_types depth) files) ≡ true
+oneofs_file depth [] all = refl
+oneofs_file depth (m ∷ ms) all = all_join names_oneofs (file_types depth m) (flat_map (file_types depth) ms) (of_oneofs depth (text_at 2 m) (children_at 4 m) all.0) (oneofs_file depth ms all.1)
+
+module _ (depth : ℕ) (files : List Message) where
+  abbrev free_part : Bool
+  free_part = are_free depth files
+
+  abbrev entries_part : Bool
+  entries_part = list_all has_no_entries files
+
+  abbrev oneofs_part : Bool
+  oneofs_part = list_all names_oneofs (flat_map (file_types depth) files)
+
+  abbrev types_part : Bool
+  types_part = few (length (flat_map (file_types depth) files))
+
+  abbrev enums_part : Bool
+  enums_part = few (length (flat_map (file_enums depth) files))
+
+  abbrev services_part : Bool
+  services_part = few (length (flat_map file_services files))
+
+  pub may_stand : may_declare depth files ≡ true → MayStand depth files
+  may_stand may =
+      let a5 = and_left (free_part && entries_part && oneofs_part && types_part && enums_part) services_part may in
+      let a4 = and_left (free_part && entries_part && oneofs_part && types_part) enums_part a5 in
+      let a3 = and_left (free_part && entries_part && oneofs_part) types_part a4 in
+      let a2 = and_left (free_part && entries_part) oneofs_part a3 in
+      record {
+        free = and_left free_part entries_part a2;
+        no_entries = entries_none files (and_right free_part entries_part a2);
+        oneofs = file_oneofs depth files (and_right (free_part && entries_part) oneofs_part a3);
+        few_types = few_is _ (and_right (free_part && entries_part && oneofs_part) types_part a4);
+        few_enums = few_is _ (and_right (free_part && entries_part && oneofs_part && types_part) enums_part a5);
+        few_services = few_is _ (and_right (free_part && entries_part && oneofs_part && types_part && enums_part) services_part may);
+      }
+
+  pub stand_may : MayStand depth files → may_declare depth files ≡ true
+  stand_may all =
+      and_both (free_part && entries_part && oneofs_part && types_part && enums_part) services_part
+      (and_both (free_part && entries_part && oneofs_part && types_part) enums_part
+      (and_both (free_part && entries_part && oneofs_part) types_part
+      (and_both (free_part && entries_part) oneofs_part (and_both free_part entries_part all.free (none_entries files all.no_entries)) (oneofs_file depth files all.oneofs)) (is_few _ all.few_types)) (is_few _ all.few_enums))
+      (is_few _ all.few_services)
+
+  -- what may be declared as it was said so far
+  pub declared_stand : MayDeclare depth files → may_declare depth files ≡ true
+  declared_stand may = stand_may (record {
+    free = and_both (are_distinct (files_names depth files)) (list_all (is_free_of (files_names depth files)) (packages_of files)) may.once (fewer (is_free_of (files_names depth files)) (map (text_at 2) files) may.apart);
+    no_entries = may.no_entries;
+    oneofs = may.oneofs;
+    few_types = may.few_types;
+    few_enums = may.few_enums;
+    few_services = may.few_services;
+  })
+    where
+      fewer : (test : List ℕ → Bool) (names : List (List ℕ)) → list_all test names ≡ true → list_all test (filter has_name names) ≡ true
+      fewer test [] all = refl
+      fewer test ([] ∷ names) all = fewer test names (and_right (test []) (list_all test names) all)
+      fewer test ((x ∷ xs) ∷ names) all = and_both (test (x ∷ xs)) (list_all test (filter has_name names)) (and_left (test (x ∷ xs)) (list_all test names) all) (fewer test names (and_right (test (x ∷ xs)) (list_all test names) all))
+
+-- ---- refusals
+
+pub holds_or : (test : Bool) (E : Type 0) → (test ≡ true → E) → E ⊎ (test ≡ false)
+holds_or true E holds = inl (holds refl)
+holds_or false E holds = inr refl
+
+pub one_more : {A : Type 0} (P : A → Type 0) (before after : List A) (m : A) → after ≡ before ++ m ∷ [] → AllByRecursion P before → P m → AllByRecursion P after
+one_more {A = A} P before after m more all here = subst (AllByRecursion P) (sym more) (joined before all)
+  where
+    joined : (xs : List A) → AllByRecursion P xs → AllByRecursion P (xs ++ m ∷ [])
+    joined [] each = (here, tt)
+    joined (x ∷ xs) each = (each.0, joined xs each.1)
+
+module _ (depth : ℕ) (before : List Message) (m : Message) (later all : List Message) (whole : (before ++ m ∷ []) ++ later ≡ all) (may : MayStand depth all) where
   split : (P : Message → Type 0) → AllByRecursion P all → AllByRecursion P ((before ++ m ∷ []) ++ later)
   split P each = subst (AllByRecursion P) (sym whole) each
 
-  pub may_place : (types enums services : ℕ) → types ≡ length (flat_map (file_types depth) before) → enums ≡ length (flat_map (file_enums depth) before) → services ≡ length (flat_map file_services before)
-      → MayPlace depth types enums services packages m
-  may_place types enums services t e s =
-      let few : (f : Message → List Row) → length (flat_map f all) ≤ 2 ^ 32 → length (flat_map f before) + length (f m) ≤ 2 ^ 32 =
+  pub may_place : (counts : Counts) → counts.types ≡ length (flat_map (file_types depth) before) → counts.enums ≡ length (flat_map (file_enums depth) before) → counts.services ≡ length (flat_map file_services before) → MayPlace depth counts m
+  may_place counts t e s =
+      let few_of : (f : Message → List Row) → length (flat_map f all) ≤ 2 ^ 32 → length (flat_map f before) + length (f m) ≤ 2 ^ 32 =
       λ f fits. few_here f before m later (subst (λ ms. length (flat_map f ms) ≤ 2 ^ 32) (sym whole) fits) in
       record {
-        package_name = all_middle (IsPackageOf packages) before m later (split (IsPackageOf packages) (own_packages all));
-        text = all_middle _ before m later (split _ may.packages);
         no_entries = all_middle _ before m later (split _ may.no_entries);
         oneofs = all_middle _ before m later (split _ may.oneofs);
-        few_types = subst (λ n. n + length (file_types depth m) ≤ 2 ^ 32) (sym t) (few (file_types depth) may.few_types);
-        few_enums = subst (λ n. n + length (file_enums depth m) ≤ 2 ^ 32) (sym e) (few (file_enums depth) may.few_enums);
-        few_services = subst (λ n. n + length (file_services m) ≤ 2 ^ 32) (sym s) (few file_services may.few_services);
+        few_types = subst (λ n. n + length (file_types depth m) ≤ 2 ^ 32) (sym t) (few_of (file_types depth) may.few_types);
+        few_enums = subst (λ n. n + length (file_enums depth m) ≤ 2 ^ 32) (sym e) (few_of (file_enums depth) may.few_enums);
+        few_services = subst (λ n. n + length (file_services m) ≤ 2 ^ 32) (sym s) (few_of file_services may.few_services);
       }
-
-  pub front_packages : AllByRecursion (IsPackageOf packages) before
-  front_packages = all_front (IsPackageOf packages) before (m ∷ []) (all_front (IsPackageOf packages) (before ++ m ∷ []) later (split (IsPackageOf packages) (own_packages all)))
-
-  free : {Y : Type 0} (empty : Table Y) → ((name : List ℕ) → get_by_text empty name ≡ None) → AreFree packages empty (files_names depth all ++ [])
-  free empty none =
-      let same : files_names depth all ≡ files_names depth all ++ [] = sym (append-nil (files_names depth all)) in
-      subst (AreFree packages empty) same (record {
-        texts = may.texts;
-        once = may.once;
-        absent = absent_all empty none (files_names depth all);
-        apart = may.apart;
-        parts = λ whole name among front. subst IsPackageOrNone (sym (none name)) tt;
-      })
-
-  pub file_refused : {Y : Type 0} (empty mid : Table Y) (e : Unstated) → ((name : List ℕ) → get_by_text empty name ≡ None) → Declares packages (files_names depth before) empty mid → WantsMemory packages (file_names depth m) mid e → e ≡ errors.Memory
-  file_refused empty mid e none declared wants =
-      let front = files_names depth before in
-      let own = file_names depth m in
-      let joined : (front ++ own) ++ files_names depth later ≡ files_names depth all =
-      ap (λ ns. ns ++ files_names depth later) (sym (flat_more (file_names depth) before m)) ∙ (sym (flat_map-append (file_names depth) (before ++ m ∷ []) later) ∙ ap (files_names depth) whole) in
-      subst (λ ns. WantsMemory packages ns empty e) joined (wants_first packages (front ++ own) (files_names depth later) empty e (wants_later packages front own empty mid e declared wants)) [] (free empty none)
 
 -- ---- a file
 
-module _ (depth : ℕ) (m : Message) where
-  abbrev of_types : Names
-  of_types = types_names depth (text_at 2 m) (children_at 4 m)
+module _ (depth : ℕ) (counts : Counts) (m : Message) where
+  abbrev of_parts : List Declaration
+  of_parts = package_declared (text_at 2 m)
 
-  abbrev of_enums : Names
-  of_enums = enums_names (text_at 2 m) (children_at 5 m)
+  abbrev of_enums : List Declaration
+  of_enums = enums_declared (text_at 2 m) counts.enums (children_at 5 m)
 
-  abbrev of_services : Names
-  of_services = services_names (text_at 2 m) (children_at 6 m)
+  abbrev of_types : List Declaration
+  of_types = types_declared depth (text_at 2 m) (inside_file counts m) (children_at 4 m)
 
-  module _ {Y : Type 0} (packages : Names) (at : List ℕ) (here : at ≡ text_at 2 m) (enums : List Message) (same_enums : enums ≡ children_at 5 m) (t0 t1 : Table Y) (first : Declares packages [] t0 t1) where
-    enums_same : enums_names at enums ≡ of_enums
-    enums_same = ap (λ a. enums_names a enums) here ∙ ap (enums_names (text_at 2 m)) same_enums
+  abbrev of_services : List Declaration
+  of_services = services_declared (text_at 2 m) (children_at 6 m)
 
-    pub file_enums_wanted : (e : Unstated) → WantsMemory packages (enums_names at enums) t1 e → WantsMemory packages (file_names depth m) t0 e
-    file_enums_wanted e wants =
-        wants_first packages (of_enums ++ of_types) of_services t0 e (wants_first packages of_enums of_types t0 e (wants_later packages [] of_enums t0 t1 e first (subst (λ ns. WantsMemory packages ns t1 e) enums_same wants)))
+  module _ {Y : Type 0} (at : List ℕ) (here : at ≡ text_at 2 m) (t0 : Table Y) where
+    pub parts_fail : (e : Unstated) → CannotAdd (package_declared at) t0 e → CannotAdd (file_declared depth counts m) t0 e
+    parts_fail e fails =
+        first_fails (of_parts ++ of_enums ++ of_types) of_services t0 e (first_fails (of_parts ++ of_enums) of_types t0 e (first_fails of_parts of_enums t0 e (subst (λ a. CannotAdd (package_declared a) t0 e) here fails)))
 
-    module _ (t2 : Table Y) (second : Declares packages (enums_names at enums) t1 t2) (types : List Message) (same_types : types ≡ children_at 4 m) where
-      types_same : types_names depth at types ≡ of_types
-      types_same = ap (λ a. types_names depth a types) here ∙ ap (types_names depth (text_at 2 m)) same_types
+    module _ (t1 : Table Y) (first : Adds (package_declared at) t0 t1) (enums : List Message) (same_enums : enums ≡ children_at 5 m) where
+      enums_same : enums_declared at counts.enums enums ≡ of_enums
+      enums_same = ap (λ a. enums_declared a counts.enums enums) here ∙ ap (enums_declared (text_at 2 m) counts.enums) same_enums
 
-      enums_there : Declares packages of_enums t0 t2
-      enums_there = declares_both packages [] of_enums t0 t1 t2 first (subst (λ ns. Declares packages ns t1 t2) enums_same second)
+      parts_there : Adds of_parts t0 t1
+      parts_there = subst (λ a. Adds (package_declared a) t0 t1) here first
 
-      pub file_types_wanted : (e : Unstated) → WantsMemory packages (types_names depth at types) t2 e → WantsMemory packages (file_names depth m) t0 e
-      file_types_wanted e wants =
-          wants_first packages (of_enums ++ of_types) of_services t0 e (wants_later packages of_enums of_types t0 t2 e enums_there (subst (λ ns. WantsMemory packages ns t2 e) types_same wants))
+      pub file_enums_fail : (e : Unstated) → CannotAdd (enums_declared at counts.enums enums) t1 e → CannotAdd (file_declared depth counts m) t0 e
+      file_enums_fail e fails =
+          first_fails (of_parts ++ of_enums ++ of_types) of_services t0 e (first_fails (of_parts ++ of_enums) of_types t0 e
+          (later_fails of_parts of_enums t0 t1 e parts_there (subst (λ ds. CannotAdd ds t1 e) enums_same fails)))
 
-      module _ (t3 : Table Y) (third : Declares packages (types_names depth at types) t2 t3) (services : List Message) (same_services : services ≡ children_at 6 m) where
-        services_same : services_names at services ≡ of_services
-        services_same = ap (λ a. services_names a services) here ∙ ap (services_names (text_at 2 m)) same_services
+      module _ (t2 : Table Y) (second : Adds (enums_declared at counts.enums enums) t1 t2) (within_counts : Counts) (counted : within_counts ≡ inside_file counts m) (types : List Message) (same_types : types ≡ children_at 4 m) where
+        types_same : types_declared depth at within_counts types ≡ of_types
+        types_same = ap (λ a. types_declared depth a within_counts types) here ∙ ap₂ (types_declared depth (text_at 2 m)) counted same_types
 
-        types_there : Declares packages (of_enums ++ of_types) t0 t3
-        types_there = declares_both packages of_enums of_types t0 t2 t3 enums_there (subst (λ ns. Declares packages ns t2 t3) types_same third)
+        enums_there : Adds (of_parts ++ of_enums) t0 t2
+        enums_there = adds_both of_parts of_enums t0 t1 t2 parts_there (subst (λ ds. Adds ds t1 t2) enums_same second)
 
-        pub file_services_wanted : (e : Unstated) → WantsMemory packages (services_names at services) t3 e → WantsMemory packages (file_names depth m) t0 e
-        file_services_wanted e wants = wants_later packages (of_enums ++ of_types) of_services t0 t3 e types_there (subst (λ ns. WantsMemory packages ns t3 e) services_same wants)
+        pub file_types_fail : (e : Unstated) → CannotAdd (types_declared depth at within_counts types) t2 e → CannotAdd (file_declared depth counts m) t0 e
+        file_types_fail e fails =
+            first_fails (of_parts ++ of_enums ++ of_types) of_services t0 e (later_fails (of_parts ++ of_enums) of_types t0 t2 e enums_there (subst (λ ds. CannotAdd ds t2 e) types_same fails))
 
-        pub file_declared : (t4 : Table Y) → Declares packages (services_names at services) t3 t4 → Declares packages (file_names depth m) t0 t4
-        file_declared t4 last = declares_both packages (of_enums ++ of_types) of_services t0 t3 t4 types_there (subst (λ ns. Declares packages ns t3 t4) services_same last)
+        module _ (t3 : Table Y) (third : Adds (types_declared depth at within_counts types) t2 t3) (services : List Message) (same_services : services ≡ children_at 6 m) where
+          services_same : services_declared at services ≡ of_services
+          services_same = ap (λ a. services_declared a services) here ∙ ap (services_declared (text_at 2 m)) same_services
 
--- what a list that was told of has none of
-pub none_found : {A B : Type 0} (f : A → B) (xs : List A) (ys : List B) → length xs ≡ 0 → map f xs ≡ ys → ys ≡ []
-none_found f [] ys none is = sym is
-none_found f (x ∷ xs) ys none is = absurd (omega (arith, none))
+          types_there : Adds (of_parts ++ of_enums ++ of_types) t0 t3
+          types_there = adds_both (of_parts ++ of_enums) of_types t0 t2 t3 enums_there (subst (λ ds. Adds ds t2 t3) types_same third)
 
-pub own_package : (at : List ℕ) → is_among (at ∷ []) at ≡ true
-own_package at = ap (λ b. b || false) ((bytes_eq-Decides at at).1 refl)
+          pub file_services_fail : (e : Unstated) → CannotAdd (services_declared at services) t3 e → CannotAdd (file_declared depth counts m) t0 e
+          file_services_fail e fails = later_fails (of_parts ++ of_enums ++ of_types) of_services t0 t3 e types_there (subst (λ ds. CannotAdd ds t3 e) services_same fails)
+
+          pub file_added : (t4 : Table Y) → Adds (services_declared at services) t3 t4 → Adds (file_declared depth counts m) t0 t4
+          file_added t4 last = adds_both (of_parts ++ of_enums ++ of_types) of_services t0 t3 t4 types_there (subst (λ ds. Adds ds t3 t4) services_same last)
 
 -- what stands at a place says what the message there says
 pub seen_got : (ms : List Kept) (place : ℕ) (m : Kept) → place < length ms → m ≡ get_or ms place m → slice_get (seen ms) place ≡ Some (message_of m)
 seen_got [] place m h is = absurd (omega (arith, h))
 seen_got (x ∷ ms) zero m h is = ap (λ (b : Kept). Some (message_of b)) (sym is)
 seen_got (x ∷ ms) (suc place) m h is = seen_got ms place m (omega (arith, h)) is
-
--- packages of one file more
-pub packages_front : (packages : Names) (before after : List Message) (m : Message) → after ≡ before ++ m ∷ [] → AllByRecursion (IsPackageOf packages) after → AllByRecursion (IsPackageOf packages) before × (is_among packages (text_at 2 m) ≡ true)
-packages_front packages before after m more all =
-    let whole = subst (AllByRecursion (IsPackageOf packages)) more all in
-    (all_front (IsPackageOf packages) before (m ∷ []) whole, all_middle (IsPackageOf packages) before m [] (subst (AllByRecursion (IsPackageOf packages)) (sym (append-nil (before ++ m ∷ []))) whole))
-
--- what one file more declares
-pub files_declared : {Y : Type 0} (packages : Names) (depth : ℕ) (before after : List Message) (m : Message) (empty mid new : Table Y) → after ≡ before ++ m ∷ []
-    → (AllByRecursion (IsPackageOf packages) before → Declares packages (files_names depth before) empty mid) → (is_among packages (text_at 2 m) ≡ true → Declares packages (file_names depth m) mid new)
-    → AllByRecursion (IsPackageOf packages) after → Declares packages (files_names depth after) empty new
-files_declared packages depth before after m empty mid new more first here all =
-    let (front, own) = packages_front packages before after m more all in
-    subst (λ ns. Declares packages ns empty new) (sym (ap (files_names depth) more ∙ flat_more (file_names depth) before m))
-    (declares_both packages (files_names depth before) (file_names depth m) empty mid new (first front) (here own))
-
-pub none_at : {A : Type 0} (rows : List A) (place : ℕ) (x : A) → rows ≡ [] → slice_get rows place ≡ Some x → ⊥
-none_at rows place x none is = absent place (ap (λ rs. slice_get rs place) (sym none) ∙ is)
-  where
-    absent : (k : ℕ) → slice_get [] k ≡ Some x → ⊥
-    absent zero here = none-some x here
-    absent (suc k) here = none-some x here
 
 pub count_of : {A R : Type 0} (row : A → R) (xs : List A) (rows : List R) → map row xs ≡ rows → length xs ≡ length rows
 count_of row xs rows is = sym (length-map xs row) ∙ ap length is

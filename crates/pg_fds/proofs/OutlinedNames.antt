@@ -1,51 +1,52 @@
 -- Names that enums, services and message types declare, as calls come to them.
-use Rattle.std.proofs.Common.{◌≡◌, ℕ, ℤ, true, Some, zero, suc, ◌+◌, ◌-◌, ◌<◌, ◌≤◌, ◌^◌, List, [], ◌∷◌, ◌++◌, map, length, filter, take, drop, get_or, refl, ap, ap₂, sym, subst, ◌∙◌, arith, add-one, append_assoc, append-nil, length-append}
+use Rattle.std.proofs.Common.{◌≡◌, ℕ, ℤ, true, zero, suc, ◌+◌, ◌-◌, ◌<◌, ◌≤◌, ◌^◌, List, [], ◌∷◌, ◌++◌, map, length, filter, take, drop, get_or, refl, ap, ap₂, sym, subst, ◌∙◌, arith, add-one, append_assoc, append-nil, length-append}
 use Rattle.std.proofs.lemmas.List.{length-map, length-take-le}
 use Rattle.std.proofs.lemmas.List.Concat.{flat_map_single}
-use Rattle.std.specs.BTreeMap.{get_by_text}
 use Rattle.std.specs.List.{AllByRecursion, flat_map, list_all}
-use Rattle.std.specs.Str.{IsUtf8}
 use Rattle.pg_dyn.specs.Kept.{Kept, message_of}
 use Rattle.pg_dyn.specs.Message.{Message}
 use Rattle.pg_fds.specs.declared.error.Unstated.{Unstated}
 use Rattle.pg_fds.specs.declared.error.Unstated.TheVariants as errors
+use Rattle.pg_fds.specs.declared.outline.Named.{Named}
 use Rattle.pg_fds.specs.declared.outline.Named.TheVariants as nameds
 use Rattle.pg_fds.specs.declared.outline.Outlined.{Outlined}
 use Rattle.pg_fds.specs.declared.outline.OutlinedType.{OutlinedType}
-use Rattle.pg_fds.specs.Outlines.{IsTypeNamed, NameOneofs, NamesOneofs, Row, enum_rows, row, row_in, rows_in, rows_of_enums, rows_of_type, type_row, type_rows}
-use Rattle.pg_fds.specs.Said.{children_at, text_at}
-use Rattle.pg_fds.specs.SetNames.{Declares, WantsMemory, enums_names, full_name, full_names, member_names, own_names, type_names, types_names}
-use Rattle.pg_fds.specs.StatesFiles.{is_place}
-use Rattle.pg_fds.specs.StatesTypes.{is_entry, is_no_entry, real_oneofs, synthetic_places}
-use Rattle.pg_fds.specs.Walks.{places_from}
+use Rattle.pg_fds.specs.Declarations.{Adds, CannotAdd, Declaration, all_named, enums_declared, members_declared, named_in, type_declared, types_declared, whole_declared}
+use Rattle.pg_fds.specs.OutlinedPlaces.{Counts, behind_type, each_from, inner_types, inside_type}
+use Rattle.pg_fds.specs.Outlines.{NameOneofs, NamesOneofs, Row, enum_rows, row, row_in, rows_in, rows_of_enums, rows_of_type, type_row, type_rows}
+use Rattle.pg_fds.specs.Said.{children_at}
+use Rattle.pg_fds.specs.SetNames.{full_name}
+use Rattle.pg_fds.specs.SaidFiles.{is_place}
+use Rattle.pg_fds.specs.SaidTypes.{is_entry, is_no_entry, real_oneofs, synthetic_places}
+use Rattle.pg_fds.specs.Places.{places_from}
 use Rattle.pg_fds.proofs.InOrderLaws.{more_from}
-use Rattle.pg_fds.proofs.NameLoops.{loop_wants, seen, seen_on, seen_whole}
-use Rattle.pg_fds.proofs.NameTable.{Names, Table, declares_both, no_text, wants_first, wants_later}
+use Rattle.pg_fds.proofs.Declaring.{Left, Table, adds_both, first_fails, later_fails, left_fails, seen_drop}
+use Rattle.pg_fds.proofs.NameLoops.{seen, seen_on, seen_whole}
 use Rattle.pg_fds.proofs.OrderSteps.{map_more}
 
 -- ---- a name and those of what is inside
 
-module _ {Y : Type 0} (packages : Names) (scope inner : List ℕ) (m : Message) where
-  -- a name that is no text
-  pub text_wanted : (table : Table Y) (e : Unstated) → (IsUtf8 (text_at 1 m) → ⊥) → WantsMemory packages (full_name scope m ∷ full_names inner (children_at 2 m)) table e
-  text_wanted table e none = wants_first packages (full_name scope m ∷ []) (full_names inner (children_at 2 m)) table e (no_text scope (text_at 1 m) table e none packages)
+module _ (scope inner : List ℕ) (thing : Named) (m : Message) where
+  abbrev name_first : List Declaration
+  name_first = named_in scope thing m ∷ []
 
-  pub own_wanted : (own : List ℕ) (table : Table Y) (e : Unstated) → own ≡ full_name scope m → WantsMemory packages (own ∷ []) table e → WantsMemory packages (full_name scope m ∷ full_names inner (children_at 2 m)) table e
-  own_wanted own table e named wants =
-      wants_first packages (full_name scope m ∷ []) (full_names inner (children_at 2 m)) table e (subst (λ n. WantsMemory packages (n ∷ []) table e) named wants)
+  abbrev name_behind : List Declaration
+  name_behind = all_named inner nameds.Other (children_at 2 m)
 
-  module _ (own at : List ℕ) (found : List Message) (named : own ≡ full_name scope m) (here : at ≡ inner) (all : found ≡ children_at 2 m) (old mid : Table Y) (first : Declares packages (own ∷ []) old mid) where
-    front : Declares packages (full_name scope m ∷ []) old mid
-    front = subst (λ n. Declares packages (n ∷ []) old mid) named first
+  pub name_fails : {Y : Type 0} (table : Table Y) (e : Unstated) → CannotAdd (named_in scope thing m ∷ []) table e → CannotAdd (named_in scope thing m ∷ all_named inner nameds.Other (children_at 2 m)) table e
+  name_fails table e fails = first_fails name_first name_behind table e fails
 
-    same : full_names at found ≡ full_names inner (children_at 2 m)
-    same = ap (λ a. full_names a found) here ∙ ap (full_names inner) all
+  module _ (at : List ℕ) (found : List Message) (here : at ≡ inner) (all : found ≡ children_at 2 m) where
+    same_behind : all_named at nameds.Other found ≡ name_behind
+    same_behind = ap (λ a. all_named a nameds.Other found) here ∙ ap (all_named inner nameds.Other) all
 
-    pub both_declared : (new : Table Y) → Declares packages (full_names at found) mid new → Declares packages (full_name scope m ∷ full_names inner (children_at 2 m)) old new
-    both_declared new later = declares_both packages (full_name scope m ∷ []) (full_names inner (children_at 2 m)) old mid new front (subst (λ ns. Declares packages ns mid new) same later)
+    pub both_added : {Y : Type 0} (old mid : Table Y) → Adds (named_in scope thing m ∷ []) old mid → (new : Table Y) → Adds (all_named at nameds.Other found) mid new
+        → Adds (named_in scope thing m ∷ all_named inner nameds.Other (children_at 2 m)) old new
+    both_added old mid first new later = adds_both name_first name_behind old mid new first (subst (λ ds. Adds ds mid new) same_behind later)
 
-    pub inside_wanted : (e : Unstated) → WantsMemory packages (full_names at found) mid e → WantsMemory packages (full_name scope m ∷ full_names inner (children_at 2 m)) old e
-    inside_wanted e wants = wants_later packages (full_name scope m ∷ []) (full_names inner (children_at 2 m)) old mid e front (subst (λ ns. WantsMemory packages ns mid e) same wants)
+    pub inside_fails : {Y : Type 0} (old mid : Table Y) → Adds (named_in scope thing m ∷ []) old mid → (e : Unstated) → CannotAdd (all_named at nameds.Other found) mid e
+        → CannotAdd (named_in scope thing m ∷ all_named inner nameds.Other (children_at 2 m)) old e
+    inside_fails old mid first e fails = later_fails name_first name_behind old mid e first (subst (λ ds. CannotAdd ds mid e) same_behind fails)
 
 -- ---- lists of things, as loops come to them
 
@@ -100,12 +101,6 @@ ids_on place start i mid new id before here at =
 -- ---- one level down
 
 module _ (scope : List ℕ) (ms : List Message) where
-  pub names_below : (depth : ℕ) → (depth ≡ 0 → ⊥) → types_names depth scope ms ≡ flat_map (type_names (types_names (depth - 1)) scope) ms
-  names_below zero some = absurd (some refl)
-  names_below (suc depth) some =
-      let down : depth ≡ suc depth - 1 = omega arith in
-      ap (λ d. flat_map (type_names (types_names d) scope) ms) down
-
   pub rows_below : (depth : ℕ) → (depth ≡ 0 → ⊥) → type_rows depth scope ms ≡ flat_map (rows_of_type (type_rows (depth - 1)) scope) ms
   rows_below zero some = absurd (some refl)
   rows_below (suc depth) some =
@@ -129,116 +124,120 @@ oneofs_below (suc depth) ms some all =
 pub marks_refused : (m : Message) (count : ℕ) (numbers : List ℤ) (e : Unstated) → numbers ≡ synthetic_places (children_at 2 m) → count ≡ length (children_at 8 m) → (list_all (is_place count) numbers ≡ true → e ≡ errors.Memory) → NamesOneofs m → e ≡ errors.Memory
 marks_refused m count numbers e these as_many refused named = refused (ap₂ (λ n ns. list_all (is_place n) ns) as_many these ∙ named)
 
-module _ {Y : Type 0} (packages : Names) (full : List ℕ) (m : Message) (fields real : List Message) (all : fields ≡ children_at 2 m) (these : real ≡ real_oneofs (synthetic_places (children_at 2 m)) 0 (children_at 8 m))
-    (old mid : Table Y) (first : Declares packages (full_names full fields) old mid) where
-  fields_there : Declares packages (full_names full (children_at 2 m)) old mid
-  fields_there = subst (λ ms. Declares packages (full_names full ms) old mid) all first
+pub marks_named : (m : Message) (count : ℕ) (numbers : List ℤ) → numbers ≡ synthetic_places (children_at 2 m) → count ≡ length (children_at 8 m) → list_all (is_place count) numbers ≡ true → NamesOneofs m
+marks_named m count numbers these as_many places = sym (ap₂ (λ n ns. list_all (is_place n) ns) as_many these) ∙ places
 
-  pub members_declared : (new : Table Y) → Declares packages (full_names full real) mid new → Declares packages (member_names full m) old new
-  members_declared new later =
-      declares_both packages (full_names full (children_at 2 m)) (full_names full (real_oneofs (synthetic_places (children_at 2 m)) 0 (children_at 8 m))) old mid new fields_there
-      (subst (λ ms. Declares packages (full_names full ms) mid new) these later)
+module _ {Y : Type 0} (full : List ℕ) (m : Message) (fields real : List Message) (all : fields ≡ children_at 2 m) (these : real ≡ real_oneofs (synthetic_places (children_at 2 m)) 0 (children_at 8 m))
+    (old mid : Table Y) (first : Adds (all_named full nameds.Other fields) old mid) where
+  abbrev of_fields : List Declaration
+  of_fields = all_named full nameds.Other (children_at 2 m)
 
-  pub oneofs_wanted : (e : Unstated) → WantsMemory packages (full_names full real) mid e → WantsMemory packages (member_names full m) old e
-  oneofs_wanted e wants =
-      wants_later packages (full_names full (children_at 2 m)) (full_names full (real_oneofs (synthetic_places (children_at 2 m)) 0 (children_at 8 m))) old mid e fields_there
-      (subst (λ ms. WantsMemory packages (full_names full ms) mid e) these wants)
+  abbrev of_oneofs : List Declaration
+  of_oneofs = all_named full nameds.Other (real_oneofs (synthetic_places (children_at 2 m)) 0 (children_at 8 m))
 
-module _ (full : List ℕ) (m : Message) where
-  abbrev members : Names
-  members = member_names full m
+  fields_there : Adds of_fields old mid
+  fields_there = subst (λ ms. Adds (all_named full nameds.Other ms) old mid) all first
 
-  abbrev entries : Names
-  entries = full_names full (filter is_entry (children_at 3 m))
+  pub members_added : (new : Table Y) → Adds (all_named full nameds.Other real) mid new → Adds (members_declared full m) old new
+  members_added new later = adds_both of_fields of_oneofs old mid new fields_there (subst (λ ms. Adds (all_named full nameds.Other ms) mid new) these later)
 
-  module _ {Y : Type 0} (packages : Names) (name : List ℕ) (named : name ≡ full) where
-    pub name_wanted : (table : Table Y) (e : Unstated) → WantsMemory packages (name ∷ []) table e → WantsMemory packages (own_names full m) table e
-    name_wanted table e wants = wants_first packages (full ∷ []) (members ++ entries) table e (subst (λ n. WantsMemory packages (n ∷ []) table e) named wants)
+  pub oneofs_fail : (e : Unstated) → CannotAdd (all_named full nameds.Other real) mid e → CannotAdd (members_declared full m) old e
+  oneofs_fail e fails = later_fails of_fields of_oneofs old mid e fields_there (subst (λ ms. CannotAdd (all_named full nameds.Other ms) mid e) these fails)
 
-    module _ (t0 t1 : Table Y) (first : Declares packages (name ∷ []) t0 t1) where
-      name_there : Declares packages (full ∷ []) t0 t1
-      name_there = subst (λ n. Declares packages (n ∷ []) t0 t1) named first
+module _ (full : List ℕ) (place : ℕ) (m : Message) where
+  abbrev type_own : List Declaration
+  type_own = (full, nameds.Type (record { index = place })) ∷ []
 
-      pub members_wanted : (e : Unstated) → WantsMemory packages members t1 e → WantsMemory packages (own_names full m) t0 e
-      members_wanted e wants = wants_first packages ((full ∷ []) ++ members) entries t0 e (wants_later packages (full ∷ []) members t0 t1 e name_there wants)
+  abbrev members : List Declaration
+  members = members_declared full m
 
-      module _ (t2 : Table Y) (second : Declares packages members t1 t2) (found : List Message) (all : found ≡ filter is_entry (children_at 3 m)) where
-        members_there : Declares packages ((full ∷ []) ++ members) t0 t2
-        members_there = declares_both packages (full ∷ []) members t0 t1 t2 name_there second
+  abbrev entries : List Declaration
+  entries = all_named full nameds.Entry (filter is_entry (children_at 3 m))
 
-        pub entries_wanted : (e : Unstated) → WantsMemory packages (full_names full found) t2 e → WantsMemory packages (own_names full m) t0 e
-        entries_wanted e wants = wants_later packages ((full ∷ []) ++ members) entries t0 t2 e members_there (subst (λ ms. WantsMemory packages (full_names full ms) t2 e) all wants)
+  module _ {Y : Type 0} (name : List ℕ) (named : name ≡ full) where
+    pub own_fails : (table : Table Y) (e : Unstated) → CannotAdd ((name, nameds.Type (record { index = place })) ∷ []) table e → CannotAdd (type_declared full place m) table e
+    own_fails table e fails = first_fails type_own (members ++ entries) table e (subst (λ n. CannotAdd ((n, nameds.Type (record { index = place })) ∷ []) table e) named fails)
 
-        pub own_declared : (t3 : Table Y) → Declares packages (full_names full found) t2 t3 → Declares packages (own_names full m) t0 t3
-        own_declared t3 third = declares_both packages ((full ∷ []) ++ members) entries t0 t2 t3 members_there (subst (λ ms. Declares packages (full_names full ms) t2 t3) all third)
+    module _ (t0 t1 : Table Y) (first : Adds ((name, nameds.Type (record { index = place })) ∷ []) t0 t1) where
+      name_there : Adds type_own t0 t1
+      name_there = subst (λ n. Adds ((n, nameds.Type (record { index = place })) ∷ []) t0 t1) named first
 
-        pub type_there : (t3 : Table Y) (place : ℕ) → Declares packages (full_names full found) t2 t3 → get_by_text t1 name ≡ Some (nameds.Type (record { index = place }))
-            → AllByRecursion (λ e. get_by_text t3 (full_name full e) ≡ Some nameds.Entry) found → IsTypeNamed t3 place (full, m)
-        type_there t3 place third has each = record {
-          own = third.kept full _ (second.kept full _ (ap (get_by_text t1) (sym named) ∙ has));
-          entries = subst (AllByRecursion (λ e. get_by_text t3 (full_name full e) ≡ Some nameds.Entry)) all each;
-        }
+      pub members_fail : (e : Unstated) → CannotAdd (members_declared full m) t1 e → CannotAdd (type_declared full place m) t0 e
+      members_fail e fails = first_fails (type_own ++ members) entries t0 e (later_fails type_own members t0 t1 e name_there fails)
+
+      module _ (t2 : Table Y) (second : Adds (members_declared full m) t1 t2) (found : List Message) (all : found ≡ filter is_entry (children_at 3 m)) where
+        members_there : Adds (type_own ++ members) t0 t2
+        members_there = adds_both type_own members t0 t1 t2 name_there second
+
+        pub entries_fail : (e : Unstated) → CannotAdd (all_named full nameds.Entry found) t2 e → CannotAdd (type_declared full place m) t0 e
+        entries_fail e fails = later_fails (type_own ++ members) entries t0 t2 e members_there (subst (λ ms. CannotAdd (all_named full nameds.Entry ms) t2 e) all fails)
+
+        pub own_added : (t3 : Table Y) → Adds (all_named full nameds.Entry found) t2 t3 → Adds (type_declared full place m) t0 t3
+        own_added t3 third = adds_both (type_own ++ members) entries t0 t2 t3 members_there (subst (λ ms. Adds (all_named full nameds.Entry ms) t2 t3) all third)
 
 -- ---- a message type
 
-module _ (depth : ℕ) (scope : List ℕ) (m : Message) where
-  abbrev own : Names
-  own = own_names (full_name scope m) m
+module _ (depth : ℕ) (scope : List ℕ) (counts : Counts) (m : Message) where
+  abbrev own : List Declaration
+  own = type_declared (full_name scope m) counts.types m
 
-  abbrev inside : Names
-  inside = types_names depth (full_name scope m) (filter is_no_entry (children_at 3 m))
+  abbrev enums : List Declaration
+  enums = enums_declared (full_name scope m) counts.enums (children_at 4 m)
 
-  abbrev enums : Names
-  enums = enums_names (full_name scope m) (children_at 4 m)
-
-  abbrev whole : Names
-  whole = type_names (types_names depth) scope m
+  abbrev inside : List Declaration
+  inside = types_declared depth (full_name scope m) (inside_type counts m) (inner_types m)
 
   module _ (at : List ℕ) (here : at ≡ full_name scope m) where
-    same_own : own_names at m ≡ own
-    same_own = ap (λ a. own_names a m) here
+    same_own : type_declared at counts.types m ≡ own
+    same_own = ap (λ a. type_declared a counts.types m) here
 
-    module _ {Y : Type 0} (packages : Names) where
-      -- a name that is no text
-      pub unnamed : (table : Table Y) (e : Unstated) → (IsUtf8 (text_at 1 m) → ⊥) → WantsMemory packages whole table e
-      unnamed table e none =
-          wants_first packages (own ++ enums) inside table e
-          (wants_first packages own enums table e
-          (wants_first packages (full_name scope m ∷ []) (member_names (full_name scope m) m ++ full_names (full_name scope m) (filter is_entry (children_at 3 m))) table e (no_text scope (text_at 1 m) table e none packages)))
+    module _ {Y : Type 0} where
+      pub type_fails : (table : Table Y) (e : Unstated) → CannotAdd (type_declared at counts.types m) table e → CannotAdd (whole_declared (types_declared depth) scope counts m) table e
+      type_fails table e fails = first_fails (own ++ enums) inside table e (first_fails own enums table e (subst (λ ds. CannotAdd ds table e) same_own fails))
 
-      pub type_wanted : (table : Table Y) (e : Unstated) → WantsMemory packages (own_names at m) table e → WantsMemory packages whole table e
-      type_wanted table e wants = wants_first packages (own ++ enums) inside table e (wants_first packages own enums table e (subst (λ ns. WantsMemory packages ns table e) same_own wants))
+      module _ (t0 t1 : Table Y) (first : Adds (type_declared at counts.types m) t0 t1) (place : ℕ) (at_place : place ≡ counts.enums) (found : List Message) (all : found ≡ children_at 4 m) where
+        same_enums : enums_declared at place found ≡ enums
+        same_enums = ap (λ a. enums_declared a place found) here ∙ ap₂ (enums_declared (full_name scope m)) at_place all
 
-      module _ (t0 t1 : Table Y) (first : Declares packages (own_names at m) t0 t1) (found : List Message) (all : found ≡ children_at 4 m) where
-        same_enums : enums_names at found ≡ enums
-        same_enums = ap (λ a. enums_names a found) here ∙ ap (enums_names (full_name scope m)) all
+        own_there : Adds own t0 t1
+        own_there = subst (λ ds. Adds ds t0 t1) same_own first
 
-        own_there : Declares packages own t0 t1
-        own_there = subst (λ ns. Declares packages ns t0 t1) same_own first
+        pub enums_fail : (e : Unstated) → CannotAdd (enums_declared at place found) t1 e → CannotAdd (whole_declared (types_declared depth) scope counts m) t0 e
+        enums_fail e fails = first_fails (own ++ enums) inside t0 e (later_fails own enums t0 t1 e own_there (subst (λ ds. CannotAdd ds t1 e) same_enums fails))
 
-        pub enums_wanted : (e : Unstated) → WantsMemory packages (enums_names at found) t1 e → WantsMemory packages whole t0 e
-        enums_wanted e wants = wants_first packages (own ++ enums) inside t0 e (wants_later packages own enums t0 t1 e own_there (subst (λ ns. WantsMemory packages ns t1 e) same_enums wants))
+        module _ (t2 : Table Y) (second : Adds (enums_declared at place found) t1 t2) (within_counts : Counts) (counted : within_counts ≡ inside_type counts m) (within : List Message) (types : within ≡ inner_types m) where
+          same_inside : types_declared depth at within_counts within ≡ inside
+          same_inside = ap (λ a. types_declared depth a within_counts within) here ∙ ap₂ (types_declared depth (full_name scope m)) counted types
 
-        module _ (t2 : Table Y) (second : Declares packages (enums_names at found) t1 t2) (within : List Message) (types : within ≡ filter is_no_entry (children_at 3 m)) where
-          same_inside : types_names depth at within ≡ inside
-          same_inside = ap (λ a. types_names depth a within) here ∙ ap (types_names depth (full_name scope m)) types
+          enums_there : Adds (own ++ enums) t0 t2
+          enums_there = adds_both own enums t0 t1 t2 own_there (subst (λ ds. Adds ds t1 t2) same_enums second)
 
-          enums_there : Declares packages (own ++ enums) t0 t2
-          enums_there = declares_both packages own enums t0 t1 t2 own_there (subst (λ ns. Declares packages ns t1 t2) same_enums second)
+          pub types_fail : (e : Unstated) → CannotAdd (types_declared depth at within_counts within) t2 e → CannotAdd (whole_declared (types_declared depth) scope counts m) t0 e
+          types_fail e fails = later_fails (own ++ enums) inside t0 t2 e enums_there (subst (λ ds. CannotAdd ds t2 e) same_inside fails)
 
-          pub types_wanted : (e : Unstated) → WantsMemory packages (types_names depth at within) t2 e → WantsMemory packages whole t0 e
-          types_wanted e wants = wants_later packages (own ++ enums) inside t0 t2 e enums_there (subst (λ ns. WantsMemory packages ns t2 e) same_inside wants)
+          pub type_added : (t3 : Table Y) → Adds (types_declared depth at within_counts within) t2 t3 → Adds (whole_declared (types_declared depth) scope counts m) t0 t3
+          type_added t3 last = adds_both (own ++ enums) inside t0 t2 t3 enums_there (subst (λ ds. Adds ds t2 t3) same_inside last)
 
-          pub type_declared : (t3 : Table Y) → Declares packages (types_names depth at within) t2 t3 → Declares packages whole t0 t3
-          type_declared t3 last = declares_both packages (own ++ enums) inside t0 t2 t3 enums_there (subst (λ ns. Declares packages ns t2 t3) same_inside last)
+-- one level down
+pub declared_below : (scope : List ℕ) (counts : Counts) (ms : List Message) (depth : ℕ) → (depth ≡ 0 → ⊥)
+    → types_declared depth scope counts ms ≡ each_from (behind_type (depth - 1) scope) (whole_declared (types_declared (depth - 1)) scope) counts ms
+declared_below scope counts ms zero some = absurd (some refl)
+declared_below scope counts ms (suc depth) some =
+    let down : depth ≡ suc depth - 1 = omega arith in
+    ap (λ d. each_from (behind_type d scope) (whole_declared (types_declared d) scope) counts ms) down
 
 -- ---- message types, as a loop comes to them
 
 module _ (depth : ℕ) (scope : List ℕ) (ms : List Kept) (i : ℕ) (m : Kept) (some : depth ≡ 0 → ⊥) (h : i < length ms) (is : m ≡ get_or ms i m) where
-  pub deep_wants : {Y : Type 0} (packages : Names) (old mid : Table Y) (e : Unstated) → Declares packages (flat_map (type_names (types_names (depth - 1)) scope) (seen (take i ms))) old mid
-      → WantsMemory packages (type_names (types_names (depth - 1)) scope (message_of m)) mid e → WantsMemory packages (types_names depth scope (seen ms)) old e
-  deep_wants packages old mid e before here =
-      subst (λ ns. WantsMemory packages ns old e) (sym (names_below scope (seen ms) depth some)) (loop_wants (type_names (types_names (depth - 1)) scope) ms i m h is packages old mid e before here)
+  pub deep_fails : {Y : Type 0} (start here : Counts) (old mid : Table Y) (e : Unstated)
+      → Left (each_from (behind_type (depth - 1) scope) (whole_declared (types_declared (depth - 1)) scope) here (seen (drop i ms))) (each_from (behind_type (depth - 1) scope) (whole_declared (types_declared (depth - 1)) scope) start (seen ms)) mid old
+      → CannotAdd (whole_declared (types_declared (depth - 1)) scope here (message_of m)) mid e → CannotAdd (types_declared depth scope start (seen ms)) old e
+  deep_fails start here old mid e left fails =
+      let on = behind_type (depth - 1) scope in
+      let whole_of = whole_declared (types_declared (depth - 1)) scope in
+      subst (λ ds. CannotAdd ds old e) (sym (declared_below scope start (seen ms) depth some))
+      (left_fails (each_from on whole_of here (seen (drop i ms))) (whole_of here (message_of m)) (each_from on whole_of (on here (message_of m)) (seen (drop (i + 1) ms))) (each_from on whole_of start (seen ms)) mid old e
+      (ap (each_from on whole_of here) (seen_drop ms i m h is)) left fails)
 
   -- a type's place is there, and so are those of the types inside it
   pub few_types : (old mid : List OutlinedType) → map type_row mid ≡ map type_row old ++ flat_map (rows_of_type (type_rows (depth - 1)) scope) (seen (take i ms)) → length old + length (type_rows depth scope (seen ms)) ≤ 2 ^ 32
@@ -289,10 +288,14 @@ taken (x ∷ xs) (suc i) h = ap (λ ys. x ∷ ys) (taken xs i (omega (arith, h))
 pub lists_end : {X : Type 0} (f : Message → List X) (ms : List Kept) (i : ℕ) (start mid all : List X) → length ms ≤ i → all ≡ flat_map f (seen ms) → mid ≡ start ++ flat_map f (seen (take i ms)) → mid ≡ start ++ all
 lists_end f ms i start mid all h same is = is ∙ (ap (λ xs. start ++ flat_map f (seen xs)) (taken ms i h) ∙ ap (λ xs. start ++ xs) (sym same))
 
--- with no depth there is nothing
-pub no_names : (depth : ℕ) (scope : List ℕ) (ms : List Message) → depth ≡ 0 → types_names depth scope ms ≡ []
-no_names depth scope ms none = ap (λ d. types_names d scope ms) none
+-- `optional` fields of one message type more name its oneofs
+pub oneofs_above : (depth : ℕ) (ms : List Message) → (depth ≡ 0 → ⊥) → AllByRecursion (λ m. NamesOneofs m × NameOneofs (depth - 1) (filter is_no_entry (children_at 3 m))) ms → NameOneofs depth ms
+oneofs_above zero ms some all = absurd (some refl)
+oneofs_above (suc depth) ms some all =
+    let down : suc depth - 1 ≡ depth = omega arith in
+    subst (λ d. AllByRecursion (λ m. NamesOneofs m × NameOneofs d (filter is_no_entry (children_at 3 m))) ms) down all
 
+-- with no depth there is nothing
 pub no_type_rows : (depth : ℕ) (scope : List ℕ) (ms : List Message) (old : List Row) → depth ≡ 0 → old ≡ old ++ type_rows depth scope ms
 no_type_rows depth scope ms old none = sym (append-nil old) ∙ ap (λ d. old ++ type_rows d scope ms) (sym none)
 

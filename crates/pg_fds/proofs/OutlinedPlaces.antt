@@ -6,10 +6,10 @@ use Rattle.pg_dyn.specs.Kept.{Kept, message_of}
 use Rattle.pg_dyn.specs.Message.{Message}
 use Rattle.pg_fds.specs.declared.outline.OutlinedType.{OutlinedType}
 use Rattle.pg_fds.specs.Outlines.{type_row}
-use Rattle.pg_fds.specs.OutlinedPlaces.{Counts, PlacedType, behind_type, counts_behind, each_from, inner_types, file_places, inside_file, inside_type, placed_type, placed_types, placed_with, places_of_types}
+use Rattle.pg_fds.specs.OutlinedPlaces.{Counts, PlacedType, behind_type, counts_behind, each_from, inner_types, file_places, inside_file, inside_type, no_counts, placed_type, placed_types, placed_with, places_of_types}
 use Rattle.pg_fds.specs.Said.{children_at, text_at}
 use Rattle.pg_fds.specs.SetNames.{full_name}
-use Rattle.pg_fds.specs.Walks.{places_from}
+use Rattle.pg_fds.specs.Places.{places_from}
 use Rattle.pg_fds.proofs.NameLoops.{seen}
 use Rattle.pg_fds.proofs.OrderSteps.{one_step}
 
@@ -17,6 +17,10 @@ pub counts_are : (x y : Counts) → x.types ≡ y.types → x.enums ≡ y.enums 
 counts_are x y t e s =
     ap (λ n. record { types = n; enums = x.enums; services = x.services }) t
     ∙ (ap (λ n. record { types = y.types; enums = n; services = x.services }) e ∙ ap (λ n. record { types = y.types; enums = y.enums; services = n }) s)
+
+-- no message type, enum or service stands in front
+pub none_counted : {A B C : Type 0} (types : List A) (enums : List B) (services : List C) → types ≡ [] → enums ≡ [] → services ≡ [] → record { types = length types; enums = length enums; services = length services } ≡ no_counts
+none_counted types enums services t e s = counts_are _ no_counts (ap length t) (ap length e) (ap length s)
 
 -- ---- messages that move counts on
 

@@ -9,10 +9,9 @@ use Rattle.pg_schema.specs.declared.parts.Parts.{Parts}
 use Rattle.pg_schema.specs.rules.Pairs.{are_distinct}
 use Rattle.pg_schema.specs.rules.Scopes.{declared_services, enum_places, service_places}
 use Rattle.pg_fds.specs.Again.{imports_apart, nest_within}
-use Rattle.pg_fds.specs.InOrder.{enums_below, file_enums, file_types, types_below}
+use Rattle.pg_fds.specs.InOrder.{AreBehind, enums_below, file_enums, file_types, imports_among, types_below}
 use Rattle.pg_fds.specs.PlaceExamples.{EnumsInOrder, OneFieldAgain, OneFieldInOrder, PackageEnumsFirst, TypesInOrder, WorkedPlaces}
-use Rattle.pg_fds.specs.Reads.{AreBehind, imports_among}
-use Rattle.pg_fds.specs.Walks.{places_from}
+use Rattle.pg_fds.specs.Places.{places_from}
 
 types_in_order : TypesInOrder
 types_in_order outer inner last nested =

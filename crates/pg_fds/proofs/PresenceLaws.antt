@@ -1,6 +1,8 @@
 -- The presence of fields that aren't maps, by label, items and options.
-use Rattle.std.proofs.Common.{◌≡◌, Bool, true, false, cond, not, ◌||◌, Option, Some, None, refl, ap, sym, ◌∙◌, arith, unwrap_or}
+use Rattle.std.proofs.Common.{◌≡◌, ℤ, pos, Bool, true, false, cond, not, ◌||◌, Option, Some, None, refl, ap, sym, ◌∙◌, arith, unwrap_or}
 use Rattle.std.proofs.lemmas.Bool.{false≢true}
+use Rattle.std.proofs.lemmas.Bool.Decides.{Decides-int_eq}
+use Rattle.std.specs.Ordering.{int_eq}
 use Rattle.pg_schema.specs.declared.parts.field.Element.{Element}
 use Rattle.pg_schema.specs.declared.parts.field.Presence.{Presence}
 use Rattle.pg_schema.specs.declared.parts.field.Presence.TheVariants as presences
@@ -44,12 +46,6 @@ repeated_is packed e stated (presences.Repeated own) is plain three packs =
     ap presences.Repeated (is ∙ same_flag own (stated_or stated (is_packable e)) (and_left (cond own (stated_or stated (is_packable e)) (not (stated_or stated (is_packable e)))) _ packs))
 repeated_is packed e stated (presences.Map key) is plain three packs = absurd (false≢true (sym plain))
 
-pub label_one : (p : Presence) → (label p ≡ 3 → ⊥) → label p ≡ 1
-label_one presences.Implicit other = refl
-label_one presences.Explicit other = refl
-label_one (presences.Repeated packed) other = absurd (other refl)
-label_one (presences.Map key) other = absurd (other refl)
-
 -- a repeated field isn't `optional`
 pub not_optional : (e : Element) (member optional : Bool) (p : Presence) → label p ≡ 3 → optional ≡ true → has_presence p e member optional ≡ true → ⊥
 not_optional e member optional presences.Implicit three told has = omega (arith, three)
@@ -66,3 +62,10 @@ not_optional e member optional (presences.Map key) three told has = none member 
     none true b h n = false≢true n
     none false true h n = false≢true n
     none false false h n = false≢true h
+
+pub not_three : (z : ℤ) → (z ≡ pos 3 → ⊥) → int_eq z (pos 3) ≡ false
+not_three z other = of (int_eq z (pos 3)) refl
+  where
+    of : (b : Bool) → int_eq z (pos 3) ≡ b → b ≡ false
+    of true is = absurd (other ((Decides-int_eq z (pos 3)).0 is))
+    of false is = refl

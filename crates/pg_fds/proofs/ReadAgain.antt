@@ -17,7 +17,7 @@ use Rattle.pg_fds.specs.ReadAgain.{IsReadAgain, IsTooLong, MayRefuseAgain}
 use Rattle.pg_fds.specs.Reads.{IsHeld, fds_reads}
 use Rattle.pg_fds.specs.Refused.{MayRefuseSet, NoneIsStated}
 use Rattle.pg_fds.specs.Set.{fds}
-use Rattle.pg_fds.specs.StatesFiles.{most_deep}
+use Rattle.pg_fds.specs.SaidFiles.{most_deep}
 use Rattle.pg_fds.specs.Views.{parts_view}
 
 -- ---- what is nested less deep may be nested deeper

@@ -1,94 +1,152 @@
 -- What a set that was read says of its files, and why it may be refused.
-use Rattle.std.proofs.Common.{◌≡◌, ℕ, Bool, true, List, [], ◌∷◌, map, filter, not, Some, Result, Ok, Err, IfOk, IfErr, ◌⊎◌, inl, inr, refl, ap, sym, subst, ◌∙◌}
+use Rattle.std.proofs.Common.{◌≡◌, ℕ, Bool, true, false, List, map, flat_map, filter, not, Option, Some, None, Result, IfOk, IfErr, ◌⊎◌, inl, inr, refl, ap, ap₂, sym, subst, ◌∙◌}
+use Rattle.std.proofs.lemmas.Option.{same_Some}
 use Rattle.std.proofs.lemmas.Result.{IfErr-weaker, IfOk-weaker, err_from_is_err_and}
 use Rattle.std.specs.Prelude.{IsErrAnd, IsSomeAnd}
 use Rattle.std.specs.List.{list_all, list_any}
+use Rattle.std.specs.Option.{option_and_then}
 use Rattle.pg_schema.specs.declared.parts.Parts.{Parts}
 use Rattle.pg_schema.specs.rules.Sound.{IsSound}
+use Rattle.pg_schema.proofs.lemmas.rules.PairLemmas.{and_both}
 use Rattle.pg_check.specs.declared.error.CheckError.{CheckError}
 use Rattle.pg_check.specs.declared.error.CheckError.TheVariants as rules
 use Rattle.pg_check.specs.admitting.PartErrors.{IsRefusedOf, bad, first, lacking}
 use Rattle.pg_dyn.specs.reading.Decoding.{dec}
-use Rattle.pg_dyn.specs.Fits.{Fits}
-use Rattle.pg_dyn.specs.Kept.{Kept, message_of, type_of}
+use Rattle.pg_dyn.specs.Kept.{Kept, message_of}
 use Rattle.pg_dyn.specs.Message.{Message}
 use Rattle.pg_fds.specs.declared.error.FdsError.{FdsError}
 use Rattle.pg_fds.specs.declared.error.FdsError.TheVariants as errors
 use Rattle.pg_fds.specs.declared.error.Unstated.{Unstated}
 use Rattle.pg_fds.specs.declared.error.Unstated.TheVariants as unstated
+use Rattle.pg_fds.specs.declared.outline.Outline.{Outline}
 use Rattle.pg_fds.specs.Building.{written_shape}
 use Rattle.pg_fds.specs.Codes.{file_has_types}
 use Rattle.pg_fds.specs.Descriptor.{file_set}
-use Rattle.pg_fds.specs.InOrder.{StandInOrder}
-use Rattle.pg_fds.specs.Reads.{CanBeMade, IsHeld, States, StatesFiles, fds_reads, kept_files, skips}
-use Rattle.pg_fds.specs.Refused.{BreaksRule, IsOfBytes, IsOfParts, MayRefuseFiles, MayRefuseSet, StatesNoneHeld}
+use Rattle.pg_fds.specs.OutlinedPlaces.{PlacedFile, PlacedType, no_counts, placed_file, placed_files, placed_type, types_of_files}
+use Rattle.pg_fds.specs.OutlinedScopes.{OutlinesFiles}
+use Rattle.pg_fds.specs.Outlines.{Row, file_enums, file_services, file_types, files_at, row}
+use Rattle.pg_fds.specs.Owners.{means_of}
+use Rattle.pg_fds.specs.Reads.{fds_reads}
+use Rattle.pg_fds.specs.Refused.{IsOfParts, IsOfRules, MayRefuseFiles, MayRefuseSet}
 use Rattle.pg_fds.specs.Said.{children_at}
-use Rattle.pg_fds.specs.StatesFiles.{is_proto3, is_skipped}
-use Rattle.pg_fds.specs.Views.{parts_view}
-use Rattle.pg_fds.proofs.SoundNumbers.{kept_numbers_small}
+use Rattle.pg_fds.specs.SaidFiles.{is_proto3, is_skipped, kept_files, most_deep, skips}
+use Rattle.pg_fds.specs.Stated.{are_taken, declared_by, parts_by, stated, stated_files, stated_of}
+use Rattle.pg_fds.specs.StatedNames.{Meanings, only_if}
+use Rattle.pg_fds.specs.StatedOrder.{in_post_order}
+use Rattle.pg_fds.specs.StatedTable.{may_declare, meaning}
+use Rattle.pg_fds.specs.Views.{PartsView, parts_view}
 
--- the files that aren't skipped are those of the set
-pub files_kept : (set : Message) (all files : List Kept) → map message_of all ≡ children_at 1 set
-    → map message_of files ≡ filter (λ m. not (is_skipped m)) (map message_of all) → map message_of files ≡ kept_files set
-files_kept set all files seen kept = kept ∙ ap (filter (λ m. not (is_skipped m))) seen
+-- ---- what files declare
 
--- a set whose files state a schema states it
-pub set_states : (set : Message) (skip : Bool) (all files : List Kept) → map message_of all ≡ children_at 1 set
-    → skip ≡ list_any is_skipped (map message_of all) → map message_of files ≡ kept_files set
-    → (parts : Parts) → StatesFiles skip (map message_of files) parts → StandInOrder parts → States set parts
-set_states set skip all files seen skipped kept parts states places = record {
-  files = subst (λ b. StatesFiles b (kept_files set) parts) (skipped ∙ ap (list_any is_skipped) seen) (subst (λ ms. StatesFiles skip ms parts) kept states);
-  places = places;
-}
+-- parts are the same where what they are made by is
+parts_same : (skips : Bool) (m n : Meanings) (fs gs : List PlacedFile) (ts us : List PlacedType) (es ds ss rs : List Row) → m ≡ n → fs ≡ gs → ts ≡ us → es ≡ ds → ss ≡ rs
+    → parts_by m skips fs ts es ss ≡ parts_by n skips gs us ds rs
+parts_same skips m n fs gs ts us es ds ss rs means files types enums services =
+    ap (λ x. parts_by x skips fs ts es ss) means
+    ∙ (ap (λ x. parts_by n skips x ts es ss) files ∙ (ap (λ x. parts_by n skips gs x es ss) types ∙ (ap (λ x. parts_by n skips gs us x ss) enums ∙ ap (λ x. parts_by n skips gs us ds x) services)))
 
--- and the other way round
-files_state : (set : Message) (skip : Bool) (all files : List Kept) → map message_of all ≡ children_at 1 set
-    → skip ≡ list_any is_skipped (map message_of all) → map message_of files ≡ kept_files set
-    → (parts : Parts) → States set parts → StatesFiles skip (map message_of files) parts
-files_state set skip all files seen skipped kept parts states =
-    subst (λ ms. StatesFiles skip ms parts) (sym kept) (subst (λ b. StatesFiles b (kept_files set) parts) (sym (skipped ∙ ap (list_any is_skipped) seen)) states.files)
+module _ (skips : Bool) (files : List Message) where
+  abbrev types : List Row
+  types = flat_map (file_types most_deep) files
 
-pub stated : (set : Message) (skip : Bool) (all files : List Kept) (r : Result Parts FdsError) → map message_of all ≡ children_at 1 set
-    → skip ≡ list_any is_skipped (map message_of all) → map message_of files ≡ kept_files set
-    → IfOk r (λ parts. StatesFiles skip (map message_of files) parts) → IfOk r (λ parts. StandInOrder parts) → IfOk r (λ parts. States set parts)
-stated set skip all files (Ok parts) seen skipped kept states places = set_states set skip all files seen skipped kept parts states places
-stated set skip all files (Err e) seen skipped kept states places = tt
+  abbrev enums : List Row
+  enums = flat_map (file_enums most_deep) files
 
--- ---- refusals
+  abbrev services : List Row
+  services = flat_map file_services files
 
-refused_of_parts : (files : List Message) → list_all is_proto3 files ≡ true → list_all file_has_types files ≡ true → (e : FdsError) → IsOfParts e → MayRefuseFiles files e
-refused_of_parts files proto3 typed errors.Memory h = tt
-refused_of_parts files proto3 typed (errors.Bytes e) h = h
-refused_of_parts files proto3 typed errors.NotProto3 h = absurd h
-refused_of_parts files proto3 typed errors.BadType h = absurd h
-refused_of_parts files proto3 typed errors.BadReference h = (proto3, typed)
-refused_of_parts files proto3 typed (errors.Rule e) h = (proto3, typed, h)
+  abbrev made_parts : Option PartsView
+  made_parts = parts_by (meaning types enums) skips (placed_files most_deep no_counts files) (types_of_files most_deep no_counts files) enums services
 
--- what is told once files and types were looked at
-pub refused_later : (files : List Message) (r : Result Parts FdsError) → list_all is_proto3 files ≡ true → list_all file_has_types files ≡ true → IfErr r IsOfParts
-    → IfErr r (MayRefuseFiles files)
-refused_later files r proto3 typed h = IfErr-weaker r IsOfParts (MayRefuseFiles files) (refused_of_parts files proto3 typed) h
+  -- what is made of what was outlined of them is what they declare
+  pub outline_declares : (outline : Outline) → OutlinesFiles most_deep files outline → may_declare most_deep files ≡ true → means_of outline.names ≡ meaning types enums
+      → declared_by skips files ≡ parts_by (means_of outline.names) skips (map placed_file outline.files.items) (map placed_type outline.types.items) (map row outline.enums.items) (map row outline.services.items)
+  outline_declares outline told may means =
+      ap (λ b. only_if b made_parts) may
+      ∙ parts_same skips (meaning types enums) (means_of outline.names) (placed_files most_deep no_counts files) (map placed_file outline.files.items)
+      (types_of_files most_deep no_counts files) (map placed_type outline.types.items) enums (map row outline.enums.items) services (map row outline.services.items)
+      (sym means) (sym told.files) (sym told.placed) (sym told.enums) (sym told.services)
 
--- want of memory and a bad reference
-abbrev IsReported : Unstated → FdsError → Type 0
-IsReported u e = ((u ≡ unstated.Memory) × (e ≡ errors.Memory)) ⊎ ((u ≡ unstated.Reference) × (e ≡ errors.BadReference))
+  pub none_declared : (e : Unstated) → (e ≡ unstated.Memory) ⊎ (may_declare most_deep files ≡ false) → (e ≡ unstated.Memory) ⊎ (declared_by skips files ≡ None)
+  none_declared e (inl memory) = inl memory
+  none_declared e (inr none) = inr (ap (λ b. only_if b made_parts) none)
 
--- want of memory stays that
-memory_told : (u : Unstated) (e : FdsError) → IsReported u e → u ≡ unstated.Memory → e ≡ errors.Memory
-memory_told u e (inl memory) is = memory.1
-memory_told u e (inr reference) is = absurd (apart (sym is ∙ reference.0))
-  where
-    apart : ◌≡◌ {A = Unstated} unstated.Memory unstated.Reference → ⊥
-    apart same = cc
+  -- ---- in order
 
--- where such a schema is stated, the refusal is want of memory
-abbrev WantsMemory : {T : Type 0} → (Parts → Type 0) → Result T FdsError → Type 0
-WantsMemory Stated r = IfErr r (λ e. (parts : Parts) → CanBeMade parts → Stated parts → e ≡ errors.Memory)
+  -- what they state is what they declare in their order
+  pub stated_ordered : (order : List ℕ) → in_post_order skips files ≡ Some (files_at files order) → stated_of skips files ≡ declared_by skips (files_at files order)
+  stated_ordered order ordered = ap (option_and_then (declared_by skips)) ordered
 
-pub none_told : {T : Type 0} (r : Result T FdsError) (Stated : Parts → Type 0) (u : Unstated) → IsErrAnd r (IsReported u) → ((parts : Parts) → CanBeMade parts → Stated parts → u ≡ unstated.Memory) → WantsMemory Stated r
-none_told r Stated u told none =
-    let (e, is, h) = err_from_is_err_and r told in
-    subst (WantsMemory Stated) (sym is) (λ parts can states. memory_told u e h (none parts can states))
+  pub none_ordered : (e : Unstated) → (e ≡ unstated.Memory) ⊎ (in_post_order skips files ≡ None) → (e ≡ unstated.Memory) ⊎ (stated_of skips files ≡ None)
+  none_ordered e (inl memory) = inl memory
+  none_ordered e (inr none) = inr (ap (option_and_then (declared_by skips)) none)
+
+  pub none_in_order : (order : List ℕ) (e : Unstated) → in_post_order skips files ≡ Some (files_at files order) → (e ≡ unstated.Memory) ⊎ (declared_by skips (files_at files order) ≡ None)
+      → (e ≡ unstated.Memory) ⊎ (stated_of skips files ≡ None)
+  none_in_order order e ordered (inl memory) = inl memory
+  none_in_order order e ordered (inr none) = inr (stated_ordered order ordered ∙ none)
+
+  -- ---- refusals
+
+  -- want of memory and a bad reference
+  abbrev IsReported : Unstated → FdsError → Type 0
+  IsReported u e = ((u ≡ unstated.Memory) × (e ≡ errors.Memory)) ⊎ ((u ≡ unstated.Reference) × (e ≡ errors.BadReference))
+
+  of_reported : (u : Unstated) (e : FdsError) → IsReported u e → (u ≡ unstated.Memory) ⊎ (stated_of skips files ≡ None) → IsOfParts skips files e
+  of_reported u e (inl memory) none = subst (IsOfParts skips files) (sym memory.1) tt
+  of_reported u e (inr reference) (inl memory) = absurd (apart (sym memory ∙ reference.0))
+    where
+      apart : ◌≡◌ {A = Unstated} unstated.Memory unstated.Reference → ⊥
+      apart same = cc
+  of_reported u e (inr reference) (inr none) = subst (IsOfParts skips files) (sym reference.1) none
+
+  -- what is told before there are parts
+  pub parts_refused : {T : Type 0} (r : Result T FdsError) (u : Unstated) → IsErrAnd r (IsReported u) → (u ≡ unstated.Memory) ⊎ (stated_of skips files ≡ None) → IfErr r (IsOfParts skips files)
+  parts_refused r u told none =
+      let (e, is, h) = err_from_is_err_and r told in
+      subst (λ s. IfErr s (IsOfParts skips files)) (sym is) (of_reported u e h none)
+
+  of_rules : (parts : Parts) → stated_of skips files ≡ Some (parts_view parts) → (e : FdsError) → IsOfRules parts e → IsOfParts skips files e
+  of_rules parts is errors.Memory h = tt
+  of_rules parts is (errors.Bytes e) h = h
+  of_rules parts is errors.NotProto3 h = h
+  of_rules parts is errors.BadType h = h
+  of_rules parts is errors.BadReference h = absurd h
+  of_rules parts is (errors.Rule e) h = ((parts, is, h.0), h.1)
+
+  -- what is told of the parts that they state
+  pub rules_refused : (parts : Parts) (r : Result Parts FdsError) → stated_of skips files ≡ Some (parts_view parts) → IfErr r (IsOfRules parts) → IfErr r (IsOfParts skips files)
+  rules_refused parts r is h = IfErr-weaker r (IsOfRules parts) (IsOfParts skips files) (of_rules parts is) h
+
+  -- and the schema that is answered is theirs
+  pub rules_kept : (parts : Parts) (r : Result Parts FdsError) → stated_of skips files ≡ Some (parts_view parts) → IfOk r (λ schema. schema ≡ parts) → IfOk r (λ schema. stated_of skips files ≡ Some (parts_view schema))
+  rules_kept parts r is h =
+      IfOk-weaker r (λ schema. schema ≡ parts) (λ schema. stated_of skips files ≡ Some (parts_view schema)) (λ schema same. is ∙ ap (λ p. Some (parts_view p)) (sym same)) h
+
+  -- ---- types and labels
+
+  module _ (proto3 : list_all is_proto3 files ≡ true) (typed : list_all file_has_types files ≡ true) where
+    taken : are_taken files ≡ true
+    taken = and_both (list_all is_proto3 files) (list_all file_has_types files) proto3 typed
+
+    pub taken_stated : (r : Result Parts FdsError) → IfOk r (λ schema. stated_of skips files ≡ Some (parts_view schema)) → IfOk r (λ schema. stated_files skips files ≡ Some (parts_view schema))
+    taken_stated r h =
+        IfOk-weaker r (λ schema. stated_of skips files ≡ Some (parts_view schema)) (λ schema. stated_files skips files ≡ Some (parts_view schema))
+        (λ schema is. ap (λ b. only_if b (stated_of skips files)) taken ∙ is) h
+
+    of_parts : (e : FdsError) → IsOfParts skips files e → MayRefuseFiles skips files e
+    of_parts errors.Memory h = tt
+    of_parts (errors.Bytes e) h = h
+    of_parts errors.NotProto3 h = absurd h
+    of_parts errors.BadType h = absurd h
+    of_parts errors.BadReference h = (taken, h)
+    of_parts (errors.Rule e) h = (taken, h)
+
+    -- what is told once files and types were looked at
+    pub refused_later : (r : Result Parts FdsError) → IfErr r (IsOfParts skips files) → IfErr r (MayRefuseFiles skips files)
+    refused_later r h = IfErr-weaker r (IsOfParts skips files) (MayRefuseFiles skips files) of_parts h
+
+-- ---- rules
 
 -- sound parts are refused for want of memory alone
 pub sound_refused : (parts : Parts) (e : CheckError) → IsRefusedOf parts e → IsSound parts → e ≡ rules.Memory
@@ -96,76 +154,48 @@ sound_refused parts e lacking sound = refl
 sound_refused parts e (first f is unsound) sound = absurd (unsound sound)
 sound_refused parts e (bad place nowhere none unsound) sound = absurd (unsound sound)
 
-pub rule_broken : (parts : Parts) (e : CheckError) → IsRefusedOf parts e → (e ≡ rules.Memory → ⊥) → BreaksRule e
-rule_broken parts e refused other = ((parts, refused), other)
+-- ---- the set
+
+module _ (set : Message) (skip : Bool) (all files : List Kept) (seen : map message_of all ≡ children_at 1 set) (skipped : skip ≡ list_any is_skipped (map message_of all))
+    (kept : map message_of files ≡ filter (λ m. not (is_skipped m)) (map message_of all)) where
+  set_skips : skip ≡ skips set
+  set_skips = skipped ∙ ap (list_any is_skipped) seen
+
+  set_kept : map message_of files ≡ kept_files set
+  set_kept = kept ∙ ap (filter (λ m. not (is_skipped m))) seen
+
+  pub set_stated : (r : Result Parts FdsError) → IfOk r (λ schema. stated_files skip (map message_of files) ≡ Some (parts_view schema)) → IfOk r (λ schema. stated set ≡ Some (parts_view schema))
+  set_stated r h =
+      IfOk-weaker r (λ schema. stated_files skip (map message_of files) ≡ Some (parts_view schema)) (λ schema. stated set ≡ Some (parts_view schema))
+      (λ schema is. sym (ap₂ stated_files set_skips set_kept) ∙ is) h
+
+  pub set_refused : (r : Result Parts FdsError) → IfErr r (MayRefuseFiles skip (map message_of files)) → IfErr r (MayRefuseFiles (skips set) (kept_files set))
+  set_refused r h = subst (λ b. IfErr r (MayRefuseFiles b (kept_files set))) set_skips (subst (λ ms. IfErr r (MayRefuseFiles skip ms)) set_kept h)
 
 -- ---- the bytes
 
-refused_set : (bytes : List ℕ) (set : Message) → dec written_shape file_set bytes ≡ Some set → (e : FdsError) → MayRefuseFiles (kept_files set) e → MayRefuseSet bytes e
-refused_set bytes set is errors.Memory h = tt
-refused_set bytes set is (errors.Bytes e) h = absurd h
-refused_set bytes set is errors.NotProto3 h = subst (λ r. IsSomeAnd r (λ s. MayRefuseFiles (kept_files s) errors.NotProto3)) (sym is) h
-refused_set bytes set is errors.BadType h = subst (λ r. IsSomeAnd r (λ s. MayRefuseFiles (kept_files s) errors.BadType)) (sym is) h
-refused_set bytes set is errors.BadReference h = subst (λ r. IsSomeAnd r (λ s. MayRefuseFiles (kept_files s) errors.BadReference)) (sym is) h
-refused_set bytes set is (errors.Rule e) h = subst (λ r. IsSomeAnd r (λ s. MayRefuseFiles (kept_files s) (errors.Rule e))) (sym is) h
+module _ (bytes : List ℕ) (set : Message) (is : dec written_shape file_set bytes ≡ Some set) where
+  refused_set : (e : FdsError) → MayRefuseFiles (skips set) (kept_files set) e → MayRefuseSet bytes e
+  refused_set errors.Memory h = tt
+  refused_set (errors.Bytes e) h = absurd h
+  refused_set errors.NotProto3 h = subst (λ r. IsSomeAnd r (λ s. MayRefuseFiles (skips s) (kept_files s) errors.NotProto3)) (sym is) h
+  refused_set errors.BadType h = subst (λ r. IsSomeAnd r (λ s. MayRefuseFiles (skips s) (kept_files s) errors.BadType)) (sym is) h
+  refused_set errors.BadReference h = subst (λ r. IsSomeAnd r (λ s. MayRefuseFiles (skips s) (kept_files s) errors.BadReference)) (sym is) h
+  refused_set (errors.Rule e) h = subst (λ r. IsSomeAnd r (λ s. MayRefuseFiles (skips s) (kept_files s) (errors.Rule e))) (sym is) h
 
-pub bytes_read : (bytes : List ℕ) (set : Message) (r : Result Parts FdsError) → dec written_shape file_set bytes ≡ Some set → IfOk r (λ parts. States set parts) → IfOk r (λ parts. fds_reads bytes parts)
-bytes_read bytes set r is h =
-    IfOk-weaker r (λ parts. States set parts) (λ parts. fds_reads bytes parts) (λ parts states. subst (λ d. IsSomeAnd d (λ s. States s parts)) (sym is) states) h
+  pub bytes_read : (parts : Parts) → stated set ≡ Some (parts_view parts) → fds_reads bytes parts
+  bytes_read parts states = subst (λ d. IsSomeAnd d (λ s. stated s ≡ Some (parts_view parts))) (sym is) states
 
--- what is told of the files that aren't left out
-pub set_refused : (set : Message) (files : List Kept) (r : Result Parts FdsError) → map message_of files ≡ kept_files set
-    → IfErr r (MayRefuseFiles (map message_of files)) → IfErr r (MayRefuseFiles (kept_files set))
-set_refused set files r kept h = subst (λ ms. IfErr r (MayRefuseFiles ms)) kept h
+  pub bytes_stated : (r : Result Parts FdsError) → IfOk r (λ schema. stated set ≡ Some (parts_view schema)) → IfOk r (λ schema. fds_reads bytes schema)
+  bytes_stated r h = IfOk-weaker r (λ schema. stated set ≡ Some (parts_view schema)) (λ schema. fds_reads bytes schema) bytes_read h
 
-pub set_none : (set : Message) (skip : Bool) (all files : List Kept) (r : Result Parts FdsError) → map message_of all ≡ children_at 1 set
-    → skip ≡ list_any is_skipped (map message_of all) → map message_of files ≡ kept_files set
-    → WantsMemory (StatesFiles skip (map message_of files)) r → WantsMemory (States set) r
-set_none set skip all files r seen skipped kept h =
-    IfErr-weaker r (λ e. (parts : Parts) → CanBeMade parts → StatesFiles skip (map message_of files) parts → e ≡ errors.Memory) (λ e. (parts : Parts) → CanBeMade parts → States set parts → e ≡ errors.Memory)
-    (λ e none parts can states. none parts can (files_state set skip all files seen skipped kept parts states)) h
+  pub bytes_refused : (r : Result Parts FdsError) → IfErr r (MayRefuseFiles (skips set) (kept_files set)) → IfErr r (MayRefuseSet bytes)
+  bytes_refused r h = IfErr-weaker r (MayRefuseFiles (skips set) (kept_files set)) (MayRefuseSet bytes) refused_set h
 
--- a schema says what those say that are stated
-abbrev IsStated : (Parts → Type 0) → Result Parts FdsError → Type 0
-IsStated Stated r = IfOk r (λ made. (parts : Parts) → CanBeMade parts → Stated parts → parts_view made ≡ parts_view parts)
+-- of a set one schema
+said_once : {A B : Type 0} (o : Option A) (f : A → Option B) (x y : B) → IsSomeAnd o (λ a. f a ≡ Some x) → IsSomeAnd o (λ a. f a ≡ Some y) → x ≡ y
+said_once None f x y h k = absurd h
+said_once (Some a) f x y h k = same_Some x y (sym h ∙ k)
 
-pub set_same : (set : Message) (skip : Bool) (all files : List Kept) (r : Result Parts FdsError) → map message_of all ≡ children_at 1 set
-    → skip ≡ list_any is_skipped (map message_of all) → map message_of files ≡ kept_files set
-    → IsStated (StatesFiles skip (map message_of files)) r → IsStated (States set) r
-set_same set skip all files r seen skipped kept h =
-    IfOk-weaker r (λ made. (parts : Parts) → CanBeMade parts → StatesFiles skip (map message_of files) parts → parts_view made ≡ parts_view parts)
-    (λ made. (parts : Parts) → CanBeMade parts → States set parts → parts_view made ≡ parts_view parts)
-    (λ made same parts can states. same parts can (files_state set skip all files seen skipped kept parts states)) h
-
--- each schema that a decoded message states can be made
-can_be_made : (set : Kept) → Fits written_shape set × (type_of set ≡ file_set) → (parts : Parts) → IsHeld parts → States (message_of set) parts → CanBeMade parts
-can_be_made set fits parts held states = record {
-  able = record { sound = held.sound; places = states.places; few_enums = held.few_enums; few_services = held.few_services };
-  numbers = kept_numbers_small set fits parts held.sound states;
-}
-
-module _ (bytes : List ℕ) (set : Kept) (r : Result Parts FdsError) (is : dec written_shape file_set bytes ≡ Some (message_of set)) (fits : Fits written_shape set × (type_of set ≡ file_set)) where
-  stated_there : (parts : Parts) → fds_reads bytes parts → States (message_of set) parts
-  stated_there parts reads = subst (λ d. IsSomeAnd d (λ s. States s parts)) is reads
-
-  pub bytes_refused : IfErr r (MayRefuseFiles (kept_files (message_of set))) → IfErr r (MayRefuseSet bytes)
-  bytes_refused h = IfErr-weaker r (MayRefuseFiles (kept_files (message_of set))) (MayRefuseSet bytes) (refused_set bytes (message_of set) is) h
-
-  pub bytes_same : IsStated (States (message_of set)) r → IfOk r (λ made. (parts : Parts) → IsHeld parts → fds_reads bytes parts → parts_view made ≡ parts_view parts)
-  bytes_same h =
-      IfOk-weaker r (λ made. (parts : Parts) → CanBeMade parts → States (message_of set) parts → parts_view made ≡ parts_view parts)
-      (λ made. (parts : Parts) → IsHeld parts → fds_reads bytes parts → parts_view made ≡ parts_view parts)
-      (λ made same parts able reads. let states = stated_there parts reads in same parts (can_be_made set fits parts able states) states) h
-
-  -- where the bytes state a schema that can be read, what is refused of their message is want of memory
-  pub bytes_none : WantsMemory (States (message_of set)) r → IfErr r (λ e. (IsOfBytes e → ⊥) → StatesNoneHeld bytes)
-  bytes_none h =
-      IfErr-weaker r (λ e. (parts : Parts) → CanBeMade parts → States (message_of set) parts → e ≡ errors.Memory) (λ e. (IsOfBytes e → ⊥) → StatesNoneHeld bytes)
-      (λ e none other parts able reads.
-      let states = stated_there parts reads in
-      other (subst IsOfBytes (sym (none parts (can_be_made set fits parts able states) states)) tt)) h
-
--- both hold of a refusal
-pub refused_both : {T E : Type 0} (r : Result T E) (P Q : E → Type 0) → IfErr r P → IfErr r Q → IfErr r (λ e. P e × Q e)
-refused_both (Ok x) P Q p q = tt
-refused_both (Err e) P Q p q = (p, q)
+pub read_once : (bytes : List ℕ) (a b : Parts) → fds_reads bytes a → fds_reads bytes b → parts_view a ≡ parts_view b
+read_once bytes a b = said_once (dec written_shape file_set bytes) stated (parts_view a) (parts_view b)

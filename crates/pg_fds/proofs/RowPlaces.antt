@@ -2,7 +2,7 @@
 use Rattle.std.proofs.Common.{◌≡◌, ℕ, zero, suc, ◌+◌, List, [], ◌∷◌, ◌++◌, length, map, Option, Some, None, slice_get, refl, ap, ap₂, sym, subst, ◌∙◌, arith}
 use Rattle.std.specs.Prelude.{IsSomeAnd}
 use Rattle.std.specs.List.{AllZip, flat_map}
-use Rattle.pg_fds.specs.Walks.{places_from}
+use Rattle.pg_fds.specs.Places.{places_from}
 
 -- ---- lists side by side
 
@@ -31,13 +31,6 @@ module _ {A B C D : Type 0} (R : A → B → Type 0) (S : C → D → Type 0) wh
   zip_flat f g change [] (y ∷ ys) zip = absurd zip
   zip_flat f g change (x ∷ xs) [] zip = absurd zip
   zip_flat f g change (x ∷ xs) (y ∷ ys) zip = zip_joined S (f x) (flat_map f xs) (g y) (flat_map g ys) (change x y zip.0) (zip_flat f g change xs ys zip.1)
-
--- what those are of which it is made
-pub zip_of_made : {A B C : Type 0} (f : A → C) (R : C → B → Type 0) (S : A → B → Type 0) → ((x : A) (y : B) → R (f x) y → S x y) → (xs : List A) (ys : List B) → AllZip R (map f xs) ys → AllZip S xs ys
-zip_of_made f R S change [] [] zip = tt
-zip_of_made f R S change [] (y ∷ ys) zip = absurd zip
-zip_of_made f R S change (x ∷ xs) [] zip = absurd zip
-zip_of_made f R S change (x ∷ xs) (y ∷ ys) zip = (change x y zip.0, zip_of_made f R S change xs ys zip.1)
 
 -- ---- what stands at places
 

@@ -1,11 +1,8 @@
 -- What messages say by the numbers of their fields, from what they keep.
-use Rattle.std.proofs.Common.{◌≡◌, ℕ, zero, suc, ◌+◌, ◌<◌, ◌≤◌, Bool, true, false, cond, List, [], ◌∷◌, ◌++◌, String, map, length, take, get_or, filter, Option, Some, None, option_map, slice_get, refl, ap, sym, subst, ◌∙◌, arith, add-one, eq-eqb, unwrap_or}
+use Rattle.std.proofs.Common.{◌≡◌, ℕ, zero, suc, ◌+◌, ◌<◌, ◌≤◌, Bool, true, false, cond, List, [], ◌∷◌, ◌++◌, map, length, take, get_or, filter, Option, Some, None, option_map, slice_get, refl, ap, sym, subst, ◌∙◌, arith, add-one, eq-eqb}
 use Rattle.std.proofs.lemmas.List.Elements.{filter-append}
 use Rattle.std.proofs.lemmas.Option.{none-some}
-use Rattle.std.proofs.lemmas.Str.{IsUtf8-nil, IsUtf8-string_bytes}
 use Rattle.std.specs.List.{AllByRecursion}
-use Rattle.std.specs.Str.{IsUtf8}
-use Rattle.std.specs.String.{string_bytes}
 use Rattle.pg_schema.specs.declared.parts.field.TypeId.{TypeId}
 use Rattle.pg_wire.specs.Records.{WireRecord}
 use Rattle.pg_dyn.specs.declared.message.Content.{Content}
@@ -18,7 +15,7 @@ use Rattle.pg_dyn.specs.Seen.{IsFilled, content_seen, fields_onto, item_seen, le
 use Rattle.pg_dyn.proofs.lemmas.KeptParts.{parts_of-content_onto}
 use Rattle.pg_dyn.proofs.lemmas.ReplacingLaws.{parts-message_of, item_of, part_item}
 use Rattle.pg_fds.specs.Building.{shown}
-use Rattle.pg_fds.specs.Said.{item_at, items_at, text_of}
+use Rattle.pg_fds.specs.Said.{item_at, items_at}
 
 filtered : (n : ℕ) (ps : List (Part KeptItem)) → filter (is_of n) (map part_item ps) ≡ map part_item (filter (is_of n) ps)
 filtered n [] = refl
@@ -96,8 +93,6 @@ first_shown_entry (e ∷ es) = refl
 pub first_entry : (n : ℕ) (m : Kept) (es : List (Value × Value)) (first : Option Value) → map shown (map (λ (e : Value × Value). e.1) es) ≡ items_at n (message_of m)
     → first ≡ option_map (λ (e : Value × Value). e.1) (slice_get es 0) → option_map shown first ≡ item_at n (message_of m)
 first_entry n m es first are is = ap (option_map shown) is ∙ (first_shown_entry es ∙ ap (λ (xs : List Item). slice_get xs 0) are)
-
--- ---- texts
 
 -- ---- contents that are filled
 

@@ -1,9 +1,8 @@
 -- A list in order that has each item of one whose numbers rise, and is as long, is that list.
-use Rattle.std.proofs.Common.{◌≡◌, ℕ, zero, suc, ◌<◌, ◌≤◌, true, nat_lt, inl, inr, List, [], ◌∷◌, map, length, get_or, refl, ap, sym, subst, ◌∙◌, arith}
+use Rattle.std.proofs.Common.{◌≡◌, ℕ, suc, ◌<◌, ◌≤◌, true, nat_lt, inl, inr, List, [], ◌∷◌, map, length, get_or, refl, ap, sym, subst, ◌∙◌, arith}
 use Rattle.std.proofs.lemmas.Bool.Decides.{nat_tests}
-use Rattle.std.proofs.lemmas.List.Sorted.{Contains-permutation}
-use Rattle.std.specs.List.{AllByRecursion, Contains, list_all}
-use Rattle.std.specs.List.Sorted.{IsNonDecreasingBy, IsPermutation}
+use Rattle.std.specs.List.{AllByRecursion, list_all}
+use Rattle.std.specs.List.Sorted.{IsNonDecreasingBy}
 use Rattle.pg_schema.specs.rules.Pairs.{is_rising}
 use Rattle.pg_schema.proofs.lemmas.rules.PairLemmas.{and_left, and_right}
 use Rattle.pg_fds.proofs.Matched.{Has, rest, rest_length, still}
@@ -87,27 +86,3 @@ module _ {A : Type 0} (key : A → ℕ) where
 
   pub same_in_order : (xs ys : List A) → length xs ≡ length ys → InOrder xs → is_rising (map key ys) ≡ true → AllByRecursion (λ y. Has (λ z. z ≡ y) xs) ys → xs ≡ ys
   same_in_order xs ys many up rising all = same_sorted ys xs many up rising all
-
--- ---- what a sort keeps
-
-has_contained : {A : Type 0} (x : A) (xs : List A) → Has (λ z. z ≡ x) xs → Contains xs x
-has_contained x [] has = absurd has
-has_contained x (y ∷ xs) (inl here) = (0, omega arith, here)
-has_contained x (y ∷ xs) (inr later) =
-    let c = has_contained x xs later in
-    let h : c.0 < length xs = c.1 in
-    (suc c.0, omega (arith, h), c.2)
-
-contained_has : {A : Type 0} (x : A) (xs : List A) (k : ℕ) → k < length xs → get_or xs k x ≡ x → Has (λ z. z ≡ x) xs
-contained_has x [] k h is = absurd (omega (arith, h))
-contained_has x (y ∷ xs) zero h is = inl is
-contained_has x (y ∷ xs) (suc k) h is = inr (contained_has x xs k (omega (arith, h)) is)
-
-pub has_moved : {A : Type 0} (xs ys : List A) (x : A) → IsPermutation xs ys → Has (λ z. z ≡ x) xs → Has (λ z. z ≡ x) ys
-has_moved xs ys x moved has =
-    let c = Contains-permutation xs ys x moved (has_contained x xs has) in
-    contained_has x ys c.0 c.1 c.2
-
-pub all_has_moved : {A : Type 0} (xs ys zs : List A) → IsPermutation xs ys → AllByRecursion (λ y. Has (λ z. z ≡ y) xs) zs → AllByRecursion (λ y. Has (λ z. z ≡ y) ys) zs
-all_has_moved xs ys [] moved all = tt
-all_has_moved xs ys (z ∷ zs) moved all = (has_moved xs ys z moved all.0, all_has_moved xs ys zs moved all.1)

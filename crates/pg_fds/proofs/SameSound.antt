@@ -1,5 +1,5 @@
 -- Whether parts keep to the rules goes by what they say: parts that say the same keep to the same rules.
-use Rattle.std.proofs.Common.{◌≡◌, ◌≤◌, true, List, map, length, ap, ap₂, sym, subst, ◌∙◌}
+use Rattle.std.proofs.Common.{◌≡◌, ◌≤◌, true, map, length, ap, ap₂, sym, subst, ◌∙◌}
 use Rattle.std.specs.List.{list_all}
 use Rattle.pg_schema.specs.declared.parts.Parts.{Parts}
 use Rattle.pg_schema.specs.rules.Enums.{is_enum}
@@ -7,7 +7,7 @@ use Rattle.pg_schema.specs.rules.Files.{is_file, is_service}
 use Rattle.pg_schema.specs.rules.Messages.{is_message_type}
 use Rattle.pg_schema.specs.rules.Pairs.{are_distinct}
 use Rattle.pg_schema.specs.rules.Sound.{IsSound}
-use Rattle.pg_fds.specs.Views.{EnumView, FileView, PartsView, ServiceView, TypeView, enum_view, file_view, parts_view, service_view, type_view}
+use Rattle.pg_fds.specs.Views.{PartsView, enum_view, file_view, parts_view, service_view, type_view}
 use Rattle.pg_fds.proofs.Seen.{all_seen, length_seen}
 use Rattle.pg_fds.proofs.SeenParts.{all_names, file_stands, names_kept, once_kept, packages_free, packages_kept, scopes_of_files, scopes_of_types, stand_once, type_stands}
 use Rattle.pg_fds.proofs.SeenRules.{enum_holds, enum_kept, file_holds, file_kept, service_holds, service_kept, type_holds, type_kept}
@@ -80,13 +80,6 @@ module _ (p : Parts) where
     packages = sym (packages_kept p) ∙ sound.packages;
   }
 
-seen_alike : {f g : List FileView} {t u : List TypeView} {d e : List EnumView} {r s : List ServiceView}
-    → f ≡ g → t ≡ u → d ≡ e → r ≡ s
-    → ◌≡◌ {A = PartsView} (record { files = f; types = t; enums = d; services = r }) (record { files = g; types = u; enums = e; services = s })
-seen_alike files types enums services = cc
-
--- so the ones are a schema's where the others are
-pub same_sound : (a b : Parts) → map file_view a.files.items ≡ map file_view b.files.items
-    → map type_view a.types.items ≡ map type_view b.types.items
-    → map enum_view a.enums.items ≡ map enum_view b.enums.items → map service_view a.services.items ≡ map service_view b.services.items → IsSound a → IsSound b
-same_sound a b files types enums services sound = sound_by_view b (subst KeepsRules (seen_alike files types enums services) (view_of_sound a sound))
+-- so the ones are a schema's where others that say the same are
+pub sound_same : (a b : Parts) → parts_view a ≡ parts_view b → IsSound a → IsSound b
+sound_same a b same sound = sound_by_view b (subst KeepsRules same (view_of_sound a sound))

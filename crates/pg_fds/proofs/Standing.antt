@@ -13,16 +13,15 @@ use Rattle.pg_schema.specs.declared.parts.field.Presence.TheVariants as presence
 use Rattle.pg_schema.specs.declared.parts.message_type.MessageType.{MessageType}
 use Rattle.pg_schema.specs.rules.Fields.{has_presence, is_message}
 use Rattle.pg_schema.specs.rules.Pairs.{are_distinct, differ}
-use Rattle.pg_schema.proofs.lemmas.rules.PairLemmas.{and_both, and_left, and_right}
+use Rattle.pg_schema.proofs.lemmas.rules.PairLemmas.{and_left, and_right}
 use Rattle.pg_dyn.specs.Message.{Message}
-use Rattle.pg_fds.specs.Made.{AreCounted, IsAlone, IsMember, StandsAt, has_place, is_named, is_placed, members_at}
+use Rattle.pg_fds.specs.Made.{AreCounted, IsAlone, IsMember, StandsAt}
+use Rattle.pg_fds.specs.SaidTypes.{AreMarked, is_at, is_marked, is_named, is_optional, members_at, real_oneofs, synthetic_places}
 use Rattle.pg_fds.specs.Said.{maybe_number_at, text_at}
-use Rattle.pg_fds.specs.StatesFiles.{is_place}
-use Rattle.pg_fds.specs.StatesTypes.{AreMarked, NamesOneof, StandsIn, StatesOneofs, is_at, is_marked, is_optional, real_oneofs, synthetic_places}
+use Rattle.pg_fds.specs.StatesTypes.{NamesOneof, StandsIn, StatesOneofs}
 use Rattle.pg_fds.proofs.Marked.{IsOnce, all_fresh, each_once, few_marked, marked_from, number_at_place, real_count, times}
 use Rattle.pg_fds.proofs.Marks.{found_within}
 use Rattle.pg_fds.proofs.Matched.{differ_apart}
-use Rattle.pg_fds.proofs.OneofLaws.{is_one}
 
 -- ---- fields that are marked name a place each
 
@@ -165,40 +164,6 @@ module _ (oneofs fields : List Message) (t : MessageType) (declared : List Field
   each_named =
       let few = few_marked marked 0 (length oneofs) in
       named_each (IsOnce (length oneofs) marked) fields (omega (arith, few, as_many_marked)) once
-
-  -- all that is marked is a place
-  pub marks_places : list_all (is_place (length oneofs)) marked ≡ true
-  marks_places = of marked once
-    where
-      of : (ns : List ℤ) → AllByRecursion (IsOnce (length oneofs) marked) ns → list_all (is_place (length oneofs)) ns ≡ true
-      of [] all = refl
-      of (n ∷ ns) all = and_both (is_place (length oneofs) n) (list_all (is_place (length oneofs)) ns) (is_one (length oneofs) n all.0.0 all.0.1 all.0.2) (of ns all.1)
-
-  placed_one : (o : Option ℤ) (own : Option ℕ) → NamesOneof oneofs marked names o own → is_placed (length oneofs) o ≡ true
-  placed_one None None h = refl
-  placed_one None (Some own) h = absurd h
-  placed_one (Some n) None h = absurd h
-  placed_one (Some n) (Some own) h =
-      let there = some_there (slice_get oneofs h.0) (λ m. slice_get names own ≡ Some (text_at 1 m)) h.3 in
-      is_one (length oneofs) n h.0 h.1 (found_within oneofs h.0 there.0 there.1)
-
-  all_placed : (ms : List Message) (fs : List Field) → AllZip (StandsIn oneofs marked names) ms fs → AllZip SaysOptional ms fs → AllByRecursion (NamesSuch (IsOnce (length oneofs) marked)) ms
-      → list_all (has_place (length oneofs)) ms ≡ true
-  all_placed [] [] stand says all = refl
-  all_placed [] (f ∷ fs) stand says all = refl
-  all_placed (m ∷ ms) [] stand says all = absurd stand
-  all_placed (m ∷ ms) (f ∷ fs) stand says all =
-      and_both (has_place (length oneofs) m) (list_all (has_place (length oneofs)) ms) (of (is_optional m) refl) (all_placed ms fs stand.1 says.1 all.1)
-    where
-      of : (b : Bool) → is_optional m ≡ b → is_placed (length oneofs) (maybe_number_at 9 m) ≡ true
-      of true is =
-          let n = all.0 is in
-          ap (is_placed (length oneofs)) n.1 ∙ is_one (length oneofs) n.0 n.2.0 n.2.1 n.2.2
-      of false is = placed_one (maybe_number_at 9 m) f.oneof (stand.0 (sym says.0 ∙ is))
-
-  -- and all that fields name
-  pub fields_placed : AllZip SaysOptional fields declared → list_all (has_place (length oneofs)) fields ≡ true
-  fields_placed says = all_placed fields declared states.members says each_named
 
   -- ---- how many name a place that is marked
 

@@ -18,7 +18,8 @@ use Rattle.pg_fds.specs.Said.{children_at, text_at}
 use Rattle.pg_fds.specs.SetNames.{full_name}
 use Rattle.pg_fds.specs.States.{StatesEnum, StatesEnums}
 use Rattle.pg_fds.specs.StatesFiles.{StatesService, StatesServices}
-use Rattle.pg_fds.specs.StatesTypes.{StatesTypes, StatesWhole, is_no_entry}
+use Rattle.pg_fds.specs.StatesTypes.{StatesTypes, StatesWhole}
+use Rattle.pg_fds.specs.SaidTypes.{is_no_entry}
 
 as_long : {A B : Type 0} (R : A → B → Type 0) (xs : List A) (ys : List B) → AllZip R xs ys → length xs ≡ length ys
 as_long R [] [] zip = refl

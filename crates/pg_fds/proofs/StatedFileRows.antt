@@ -1,6 +1,6 @@
 -- What a set tells of all that its files declare stands at its places, and so does what each file keeps, where places are counted from file
 -- to file.
-use Rattle.std.proofs.Common.{◌≡◌, ℕ, ◌+◌, List, [], ◌∷◌, ◌++◌, length, slice_get, ap, ap₂, sym, subst, ◌∙◌}
+use Rattle.std.proofs.Common.{◌≡◌, ℕ, ◌+◌, List, [], ◌∷◌, ◌++◌, length, slice_get, ap, sym, subst, ◌∙◌}
 use Rattle.std.proofs.lemmas.List.{length-map}
 use Rattle.std.specs.Prelude.{IsSomeAnd}
 use Rattle.std.specs.List.{AllZip, flat_map}
@@ -13,12 +13,11 @@ use Rattle.pg_dyn.specs.Message.{Message}
 use Rattle.pg_fds.specs.InOrder.{enums_below, types_below}
 use Rattle.pg_fds.specs.OutlinedPlaces.{Counts, PlacedFile, behind_file, file_places, inside_file, placed_files, placed_types, types_of_files}
 use Rattle.pg_fds.specs.Outlines.{enum_rows, file_enums, file_services, file_types, rows_in, type_rows}
-use Rattle.pg_fds.specs.Places.{Declared}
+use Rattle.pg_fds.specs.Places.{Declared, places_from}
 use Rattle.pg_fds.specs.Said.{children_at, text_at}
 use Rattle.pg_fds.specs.States.{StatesEnum, StatesEnums}
 use Rattle.pg_fds.specs.StatesFiles.{StatesService, StatesServices}
 use Rattle.pg_fds.specs.StatesTypes.{StatesTypes}
-use Rattle.pg_fds.specs.Walks.{places_from}
 use Rattle.pg_fds.proofs.RowPlaces.{AreFrom, as_long, front_and_rest, zip_flat, zip_joined}
 use Rattle.pg_fds.proofs.StatedRows.{AreCounted, EnumAt, PlacedAt, ServiceAt, TypeAt, are_counted, enums_are_rows, own_enums, own_services, types_are_rows}
 

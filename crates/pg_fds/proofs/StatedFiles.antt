@@ -1,24 +1,24 @@
 -- What a set that states a schema says in each of its files.
-use Rattle.std.proofs.Common.{◌≡◌, ℕ, Bool, true, false, not, ◌&&◌, ◌||◌, inl, inr, List, [], ◌∷◌, ◌++◌, map, refl, ap, sym, ◌∙◌}
+use Rattle.std.proofs.Common.{◌≡◌, ℕ, Bool, true, false, not, ◌&&◌, ◌||◌, List, [], ◌∷◌, ◌++◌, map, refl, ap, sym, ◌∙◌}
 use Rattle.std.proofs.lemmas.Bool.{false≢true}
 use Rattle.std.proofs.lemmas.Slice.Eq.{bytes_eq-Decides}
-use Rattle.std.proofs.lemmas.Str.{IsUtf8-from_is_utf8, IsUtf8-string_bytes, is_utf8-from_IsUtf8}
-use Rattle.std.specs.List.{AllByRecursion, list_all}
-use Rattle.std.specs.Str.{IsUtf8, bytes_eq, is_utf8}
-use Rattle.std.specs.String.{string_bytes}
+use Rattle.std.specs.List.{list_all}
+use Rattle.std.specs.Str.{bytes_eq}
 use Rattle.pg_schema.specs.declared.parts.file.File.{File}
 use Rattle.pg_schema.specs.declared.parts.Parts.{Parts}
 use Rattle.pg_schema.specs.rules.Pairs.{are_distinct, differ}
 use Rattle.pg_schema.specs.rules.Sound.{IsSound}
 use Rattle.pg_schema.specs.rules.TextSets.{is_among}
-use Rattle.pg_schema.proofs.lemmas.rules.PairLemmas.{among_push, and_both, and_left, and_right}
+use Rattle.pg_schema.proofs.lemmas.rules.PairLemmas.{among_push, and_both}
 use Rattle.pg_dyn.specs.Message.{Message}
 use Rattle.pg_fds.specs.Codes.{file_has_types}
 use Rattle.pg_fds.specs.Places.{declared_in}
-use Rattle.pg_fds.specs.PostOrder.{HasNoOrder, imports_once}
-use Rattle.pg_fds.specs.Reads.{AreBehind, StatesFiles, file_name, importer_of}
-use Rattle.pg_fds.specs.Said.{numbers_at, text_at, texts_at}
-use Rattle.pg_fds.specs.StatesFiles.{StatesFile, is_proto3}
+use Rattle.pg_fds.specs.PostOrder.{importer_of, imports_once, paths_of}
+use Rattle.pg_fds.specs.InOrder.{AreBehind, file_name}
+use Rattle.pg_fds.specs.StatesSet.{StatesFiles}
+use Rattle.pg_fds.specs.Said.{text_at, texts_at}
+use Rattle.pg_fds.specs.StatesFiles.{StatesFile}
+use Rattle.pg_fds.specs.SaidFiles.{is_proto3}
 use Rattle.pg_fds.proofs.Matched.{all_tested}
 use Rattle.pg_fds.proofs.SetLaws.{paths_are}
 use Rattle.pg_fds.proofs.StatedTypes.{file_typed}
@@ -64,15 +64,16 @@ stated_proto3 skip kept parts states = files_tested is_proto3 skip kept parts st
 pub stated_types : (skip : Bool) (kept : List Message) (parts : Parts) → IsSound parts → StatesFiles skip kept parts → list_all file_has_types kept ≡ true
 stated_types skip kept parts sound states = files_tested file_has_types skip kept parts states (file_typed parts sound.names skip)
 
--- ---- files that have no order
+-- ---- the order of files
 
 imports_tested : (kept : List Message) → list_all (λ m. are_distinct (texts_at 3 m)) kept ≡ list_all imports_once (map importer_of kept)
 imports_tested [] = refl
 imports_tested (m ∷ kept) = ap (λ b. are_distinct (texts_at 3 m) && b) (imports_tested kept)
 
--- files that state a schema have one
-pub none_ordered : (skip : Bool) (kept : List Message) → HasNoOrder skip (map importer_of kept) → (parts : Parts) → StatesFiles skip kept parts → ⊥
-none_ordered skip kept (inl twice) parts states = false≢true (sym twice ∙ (ap are_distinct (paths_are kept) ∙ states.once))
-none_ordered skip kept (inr (inl twice)) parts states =
-    false≢true (sym twice ∙ (sym (imports_tested kept) ∙ files_tested (λ m. are_distinct (texts_at 3 m)) skip kept parts states (λ m f stated. stated.imports_once)))
-none_ordered skip kept (inr (inr none)) parts states = none (map file_name parts.files.items) states.order
+-- in files that state a schema paths stand once, among the files and among the imports of each
+pub paths_once : (kept : List Message) (skip : Bool) (parts : Parts) → StatesFiles skip kept parts → are_distinct (paths_of (map importer_of kept)) ≡ true
+paths_once kept skip parts states = ap are_distinct (paths_are kept) ∙ states.once
+
+pub each_imports_once : (kept : List Message) (skip : Bool) (parts : Parts) → StatesFiles skip kept parts → list_all imports_once (map importer_of kept) ≡ true
+each_imports_once kept skip parts states =
+    sym (imports_tested kept) ∙ files_tested (λ m. are_distinct (texts_at 3 m)) skip kept parts states (λ m f stated. stated.imports_once)

@@ -1,10 +1,8 @@
 -- Files that state a sound schema, whose message types, enums and services stand in order, may be declared.
-use Rattle.std.proofs.Common.{◌≡◌, ℕ, zero, suc, ◌+◌, ◌≤◌, ◌^◌, Bool, true, not, List, [], ◌∷◌, ◌++◌, map, flat_map, filter, length, Some, slice_get, refl, ap, sym, subst, ◌∙◌, arith}
+use Rattle.std.proofs.Common.{◌≡◌, ℕ, zero, suc, ◌+◌, ◌≤◌, ◌^◌, Bool, true, not, List, [], ◌∷◌, ◌++◌, map, flat_map, filter, length, Some, slice_get, refl, ap, sym, ◌∙◌, arith}
 use Rattle.std.proofs.lemmas.List.Concat.{flat_map_single}
 use Rattle.std.proofs.lemmas.Option.{none-some, same_Some}
-use Rattle.std.proofs.lemmas.Str.{IsUtf8-from_is_utf8, IsUtf8-string_bytes}
 use Rattle.std.specs.List.{AllByRecursion, AllZip, list_all}
-use Rattle.std.specs.Str.{IsUtf8, is_utf8}
 use Rattle.std.specs.String.{string_bytes}
 use Rattle.pg_schema.specs.declared.parts.enum_type.EnumType.{EnumType}
 use Rattle.pg_schema.specs.declared.parts.file.File.{File}
@@ -20,13 +18,12 @@ use Rattle.pg_schema.proofs.lemmas.rules.PairLemmas.{and_both, and_left, and_rig
 use Rattle.pg_dyn.specs.Message.{Message}
 use Rattle.pg_fds.specs.InOrder.{StandInOrder, enums_below}
 use Rattle.pg_fds.specs.Outlines.{MayDeclare, NameOneofs}
-use Rattle.pg_fds.specs.Places.{Declared, declared_in}
+use Rattle.pg_fds.specs.Places.{Declared, declared_in, places_from}
 use Rattle.pg_fds.specs.Said.{children_at, text_at}
 use Rattle.pg_fds.specs.SetNames.{enums_names, file_names, files_names, services_names, types_names}
-use Rattle.pg_fds.specs.StatesFiles.{StatesFile, most_deep}
-use Rattle.pg_fds.specs.StatesTypes.{is_entry}
-use Rattle.pg_fds.specs.Walks.{places_from}
-use Rattle.pg_fds.proofs.DeclaredTexts.{declared_texts}
+use Rattle.pg_fds.specs.StatesFiles.{StatesFile}
+use Rattle.pg_fds.specs.SaidFiles.{most_deep}
+use Rattle.pg_fds.specs.SaidTypes.{is_entry}
 use Rattle.pg_fds.proofs.MadeMessage.{declared, rising}
 use Rattle.pg_fds.proofs.NameCounts.{all_counted, at_most_once, count, count_append, each_once, once_counted}
 use Rattle.pg_fds.proofs.OneofCounts.{no_entry_stated, oneofs_named}
@@ -118,10 +115,6 @@ each_such R P one [] (f ∷ files) zip = tt
 each_such R P one (m ∷ ms) [] zip = absurd zip
 each_such R P one (m ∷ ms) (f ∷ files) zip = (one m f zip.0, each_such R P one ms files zip.1)
 
-each_text : (names : List (List ℕ)) → list_all is_utf8 names ≡ true → AllByRecursion IsUtf8 names
-each_text [] all = tt
-each_text (n ∷ names) all = (IsUtf8-from_is_utf8 n (and_left (is_utf8 n) (list_all is_utf8 names) all), each_text names (and_right (is_utf8 n) (list_all is_utf8 names) all))
-
 module _ (parts : Parts) (sound : IsSound parts) where
   abbrev held : Declared
   held = declared_in parts
@@ -191,13 +184,11 @@ module _ (parts : Parts) (sound : IsSound parts) where
 
     declare_at : length parts.enums.items ≤ 2 ^ 32 → length parts.services.items ≤ 2 ^ 32 → MayDeclare depth ms
     declare_at few_enums few_services = record {
-      packages = each_such (StatesDeclared held depth) (λ m. IsUtf8 (text_at 2 m)) (λ m f states. subst IsUtf8 (sym states.package_name) (IsUtf8-string_bytes f.package)) ms parts.files.items zip;
       no_entries = each_such (StatesDeclared held depth) (λ m. filter is_entry (children_at 4 m) ≡ []) (λ m f states. no_entry_stated depth held (string_bytes f.package) (children_at 4 m) f.types.items states.types) ms parts.files.items zip;
       oneofs = each_such (StatesDeclared held depth) (λ m. NameOneofs depth (children_at 4 m)) (λ m f states. oneofs_named depth held (string_bytes f.package) (children_at 4 m) f.types.items states.types) ms parts.files.items zip;
       few_types = omega (arith, as_many_types held depth ms parts.files.items zip, ap length types, places_long 0 (length parts.types.items), sound.few_types);
       few_enums = omega (arith, as_many_enums held depth ms parts.files.items zip, ap length enums, places_long 0 (length parts.enums.items), few_enums);
       few_services = omega (arith, as_many_services held depth ms parts.files.items zip, ap length services, places_long 0 (length parts.services.items), few_services);
-      texts = each_text (files_names depth ms) (all_counted is_utf8 (files_names depth ms) (declared_names parts) as_often (declared_texts parts sound.message_types));
       once = once_counted (files_names depth ms) (declared_names parts) as_often sound.names;
       apart = packages_free ms parts.files.items zip sound.packages;
     }

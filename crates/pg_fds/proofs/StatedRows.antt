@@ -16,13 +16,13 @@ use Rattle.pg_dyn.specs.Message.{Message}
 use Rattle.pg_fds.specs.InOrder.{enums_below, inner_enums, inner_types, types_below}
 use Rattle.pg_fds.specs.OutlinedPlaces.{Counts, PlacedType, behind_type, inside_type, placed_types, placed_with, places_of_types}
 use Rattle.pg_fds.specs.Outlines.{Row, enum_rows, row_in, rows_in, rows_of_enums, rows_of_type, type_rows}
-use Rattle.pg_fds.specs.Places.{Declared}
+use Rattle.pg_fds.specs.Places.{Declared, places_from}
 use Rattle.pg_fds.specs.Said.{children_at}
 use Rattle.pg_fds.specs.SetNames.{full_name}
 use Rattle.pg_fds.specs.States.{StatesEnum, StatesEnums}
 use Rattle.pg_fds.specs.StatesFiles.{StatesService, StatesServices}
-use Rattle.pg_fds.specs.StatesTypes.{StatesType, StatesTypes, StatesWhole, is_no_entry}
-use Rattle.pg_fds.specs.Walks.{places_from}
+use Rattle.pg_fds.specs.StatesTypes.{StatesType, StatesTypes, StatesWhole}
+use Rattle.pg_fds.specs.SaidTypes.{is_no_entry}
 use Rattle.pg_fds.proofs.RowPlaces.{AreFrom, IsAt, as_long, first_and_later, front_and_rest, some_changed, zip_flat, zip_joined, zip_mapped}
 
 -- ---- what a row is of

@@ -20,7 +20,8 @@ use Rattle.pg_fds.specs.Places.{Declared}
 use Rattle.pg_fds.specs.Said.{children_at, text_at}
 use Rattle.pg_fds.specs.SetNames.{enums_names, full_name, full_names, member_names, own_names, type_names, types_names}
 use Rattle.pg_fds.specs.States.{StatesField}
-use Rattle.pg_fds.specs.StatesTypes.{StatesType, StatesTypes, StatesWhole, is_entry, is_no_entry, real_oneofs, synthetic_places}
+use Rattle.pg_fds.specs.StatesTypes.{StatesType, StatesTypes, StatesWhole}
+use Rattle.pg_fds.specs.SaidTypes.{is_entry, is_no_entry, real_oneofs, synthetic_places}
 use Rattle.pg_fds.proofs.DeclaredFields.{declared_count, each_among}
 use Rattle.pg_fds.proofs.MadeMessage.{each_called}
 use Rattle.pg_fds.proofs.Matched.{Has, any_has}

@@ -30,9 +30,11 @@ use Rattle.pg_fds.specs.Codes.{file_has_types, has_types, have_types, is_taken, 
 use Rattle.pg_fds.specs.Fields.{element_code, label, scalar_code, type_code}
 use Rattle.pg_fds.specs.Places.{Declared, declared_in}
 use Rattle.pg_fds.specs.Said.{child_in, children_at, items_at, number_at, text_at}
-use Rattle.pg_fds.specs.States.{AreKeyAndValue, HasEntry, StatesEntries, StatesEntry, StatesEntryField, StatesField, label_at}
-use Rattle.pg_fds.specs.StatesFiles.{StatesFile, most_deep}
-use Rattle.pg_fds.specs.StatesTypes.{StatesTypes, StatesWhole, is_entry, is_no_entry}
+use Rattle.pg_fds.specs.States.{AreKeyAndValue, HasEntry, StatesEntries, StatesEntry, StatesEntryField, StatesField}
+use Rattle.pg_fds.specs.SaidTypes.{is_entry, is_no_entry, label_at}
+use Rattle.pg_fds.specs.StatesFiles.{StatesFile}
+use Rattle.pg_fds.specs.SaidFiles.{most_deep}
+use Rattle.pg_fds.specs.StatesTypes.{StatesTypes, StatesWhole}
 use Rattle.pg_fds.proofs.Matched.{all_tested, differ_apart}
 
 -- ---- codes

@@ -28,7 +28,7 @@ use Rattle.pg_syntax.specs.declared.tree.Part.TheVariants as parts
 use Rattle.pg_syntax.specs.declared.tree.Statement.TheVariants as statements
 use Rattle.pg_fds.specs.Again.{nest_within}
 use Rattle.pg_fds.specs.InOrder.{enums_below, inner_enums, inner_types, types_below}
-use Rattle.pg_fds.specs.Walks.{places_from}
+use Rattle.pg_fds.specs.Places.{places_from}
 use Rattle.pg_dyn.proofs.Lists.{each-append}
 use Rattle.pg_fds.proofs.TextNames.{IsUncalled, type_name, types_distinct, uncalled}
 use Rattle.pg_fds.proofs.TextPlaces.{apart, index_is, one_place}

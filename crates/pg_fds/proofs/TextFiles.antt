@@ -25,7 +25,7 @@ use Rattle.pg_syntax.specs.declared.tree as tree
 use Rattle.pg_syntax.specs.declared.tree.Statement.TheVariants as statements
 use Rattle.pg_fds.specs.Again.{imports_apart}
 use Rattle.pg_fds.specs.PostOrder.{Importer, imports_once, paths_of}
-use Rattle.pg_fds.specs.Reads.{AreBehind, file_name}
+use Rattle.pg_fds.specs.InOrder.{AreBehind, file_name}
 use Rattle.pg_fds.proofs.TextNames.{neither}
 use Rattle.pg_fds.proofs.WrittenOrder.{file_importer, import_path}
 

@@ -5,7 +5,7 @@ use Rattle.pg_schema.specs.rules.Sound.{IsSound}
 use Rattle.pg_check.specs.parts.MadeParts.{ArePartsOf, Source}
 use Rattle.pg_fds.specs.Again.{are_shallow}
 use Rattle.pg_fds.specs.InOrder.{StandInOrder}
-use Rattle.pg_fds.specs.StatesFiles.{most_deep}
+use Rattle.pg_fds.specs.SaidFiles.{most_deep}
 use Rattle.pg_fds.proofs.ReadAgain.{files_deeper}
 use Rattle.pg_fds.proofs.TextEnums.{enums_in_order}
 use Rattle.pg_fds.proofs.TextServices.{services_in_order}

@@ -11,7 +11,7 @@ use Rattle.pg_schema.specs.rules.Sound.{IsSound}
 use Rattle.pg_check.specs.parts.MadeNumbers.{index_of}
 use Rattle.pg_check.specs.parts.MadeParts.{ArePartsOf, Declared, EachIs, FileShape, IsFileOf, Source, file_services, file_shape, nothing, with_file, with_files}
 use Rattle.pg_check.specs.parts.MadeServices.{MadeService, service, service_ids}
-use Rattle.pg_fds.specs.Walks.{places_from}
+use Rattle.pg_fds.specs.Places.{places_from}
 use Rattle.pg_fds.proofs.PlacesOnce.{at_most}
 use Rattle.pg_fds.proofs.SoundPlaces.{services_once}
 use Rattle.pg_fds.proofs.TextPlaces.{index_is}

@@ -16,7 +16,7 @@ use Rattle.pg_check.specs.parts.MadeParts.{ArePartsOf, Declared, EachIs, FileSha
 use Rattle.pg_check.specs.rules.Outline.{Message, file_messages, package_of}
 use Rattle.pg_fds.specs.Again.{nest_within}
 use Rattle.pg_fds.specs.InOrder.{types_below}
-use Rattle.pg_fds.specs.Walks.{places_from}
+use Rattle.pg_fds.specs.Places.{places_from}
 use Rattle.pg_fds.proofs.TextNames.{IsUncalled, distinct_left, distinct_right, not_between, type_name, types_distinct, uncalled}
 use Rattle.pg_fds.proofs.TextTrees.{file_trees}
 use Rattle.pg_fds.proofs.TextWalks.{AreTyped, full_of, from_joined, walk_in_order}

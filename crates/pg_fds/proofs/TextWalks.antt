@@ -15,7 +15,7 @@ use Rattle.pg_check.specs.parts.ByScope.{Placed, placed_from, places_in, type_id
 use Rattle.pg_check.specs.rules.Outline.{Message, message_scope}
 use Rattle.pg_fds.specs.Again.{holds_inside, nest_within}
 use Rattle.pg_fds.specs.InOrder.{inner_types, types_below}
-use Rattle.pg_fds.specs.Walks.{places_from}
+use Rattle.pg_fds.specs.Places.{places_from}
 use Rattle.pg_fds.proofs.TextNames.{distinct_left, distinct_right, not_among, not_in_both}
 use Rattle.pg_fds.proofs.TextPlaces.{HoldsOf, NamedApart, Names, places_held, places_of, roots, roots_held, size}
 use Rattle.pg_fds.proofs.TextTrees.{Bare, Grown, HasTrees, IsIn, Trees, flat}

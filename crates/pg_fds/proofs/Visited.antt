@@ -16,7 +16,7 @@ Text = List ℕ
 abbrev pub Among : List Text → Text → Type 0
 Among list x = list_any (bytes_eq x) list ≡ true
 
-same_bytes : (x y : Text) → bytes_eq x y ≡ true → x ≡ y
+pub same_bytes : (x y : Text) → bytes_eq x y ≡ true → x ≡ y
 same_bytes x y e = (bytes_eq-Decides x y).0 e
 
 own_bytes : (x : Text) → bytes_eq x x ≡ true

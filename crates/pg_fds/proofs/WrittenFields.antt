@@ -17,7 +17,7 @@ use Rattle.pg_fds.specs.Messages.{field_range}
 use Rattle.pg_fds.specs.Places.{Declared}
 use Rattle.pg_fds.specs.Said.{child_of, flag_at, flag_of, maybe_flag_at, maybe_number_at, options_at, text_at}
 use Rattle.pg_fds.specs.States.{AreKeyAndValue, StatesEntry, StatesEntryField, StatesField, StatesFieldRange}
-use Rattle.pg_fds.specs.StatesTypes.{is_entry}
+use Rattle.pg_fds.specs.SaidTypes.{is_entry}
 use Rattle.pg_fds.proofs.Slots.{Slot, child_slot, children_said, children_slot, count_slot, made, mark_said, mark_slot, maybe_count_slot, maybe_number_said, maybe_text_said, maybe_text_slot, number_said, options_said, options_slot, says, stated_said, stated_slot, text_said, text_slot}
 
 abbrev range_slots : ReservedFields → List Slot

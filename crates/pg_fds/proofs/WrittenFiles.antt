@@ -31,8 +31,10 @@ use Rattle.pg_fds.specs.Places.{Declared, declared_in}
 use Rattle.pg_fds.specs.Said.{item_at, maybe_flag_at, maybe_text_at, numbers_at, text_at, texts_at}
 use Rattle.pg_fds.specs.Set.{called_type, file_items, file_options, method_items, option_items, public_places, service_items, services_items}
 use Rattle.pg_fds.specs.States.{StatesEnums}
-use Rattle.pg_fds.specs.StatesFiles.{StatesCalled, StatesFile, StatesMethod, StatesOptions, StatesService, StatesServices, import_of, is_place, is_proto3, kept_imports, most_deep, option_item, option_places, stated_option}
-use Rattle.pg_fds.specs.StatesTypes.{StatesTypes, is_marked}
+use Rattle.pg_fds.specs.StatesFiles.{StatesCalled, StatesFile, StatesMethod, StatesOptions, StatesService, StatesServices, import_of, option_item, stated_option}
+use Rattle.pg_fds.specs.SaidFiles.{is_place, is_proto3, kept_imports, most_deep, option_places}
+use Rattle.pg_fds.specs.StatesTypes.{StatesTypes}
+use Rattle.pg_fds.specs.SaidTypes.{is_marked}
 use Rattle.pg_fds.proofs.Slots.{Slot, at, children_said, children_slot, counts_slot, filled_said, filled_slot, item_found, mark_said, mark_slot, maybe_bytes, maybe_text_said, made, numbers_said, options_said, options_slot, says, stated_said, stated_slot, text_said, text_slot, texts_said, texts_slot}
 use Rattle.pg_fds.proofs.WrittenEnums.{named_there, states_enums}
 use Rattle.pg_fds.proofs.WrittenNames.{name_within}

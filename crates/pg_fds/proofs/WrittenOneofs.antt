@@ -12,7 +12,8 @@ use Rattle.pg_fds.specs.Fields.{field_items, fields_items}
 use Rattle.pg_fds.specs.Messages.{oneof_items}
 use Rattle.pg_fds.specs.Places.{Declared}
 use Rattle.pg_fds.specs.Said.{maybe_number_at, text_at}
-use Rattle.pg_fds.specs.StatesTypes.{NamesOneof, StandsIn, StatesOneofs, is_marked, is_optional, real_oneofs, synthetic_places}
+use Rattle.pg_fds.specs.StatesTypes.{NamesOneof, StandsIn, StatesOneofs}
+use Rattle.pg_fds.specs.SaidTypes.{is_marked, is_optional, real_oneofs, synthetic_places}
 use Rattle.pg_fds.specs.Synthetic.{synthetic_name, synthetic_names, synthetic_oneofs}
 use Rattle.pg_fds.proofs.Slots.{made, says, text_said, text_slot}
 use Rattle.pg_fds.proofs.WrittenFields.{optional_said, place_said}

@@ -21,17 +21,23 @@ use Rattle.pg_fds.specs.Again.{IsNotTooDeep, IsReadable, are_shallow, imports_ap
 use Rattle.pg_fds.specs.Building.{IsOf, items_of, written_shape}
 use Rattle.pg_fds.specs.Descriptor.{descriptor_shape, file_set}
 use Rattle.pg_fds.specs.Places.{Declared, declared_in}
-use Rattle.pg_fds.specs.PostOrder.{Importer, IsPostOrder}
-use Rattle.pg_fds.specs.Reads.{States, StatesFiles, fds_reads, file_name, importer_of, kept_files, skips}
+use Rattle.pg_fds.specs.PostOrder.{Importer, IsPostOrder, importer_of}
+use Rattle.pg_fds.specs.StatesSet.{CanBeRead, States, StatesFiles}
+use Rattle.pg_fds.specs.Reads.{IsHeld, fds_reads}
+use Rattle.pg_fds.specs.Stated.{stated}
+use Rattle.pg_fds.specs.InOrder.{file_name}
+use Rattle.pg_fds.specs.SaidFiles.{is_descriptor, is_skipped, kept_files, most_deep, skips}
 use Rattle.pg_fds.specs.Said.{children_at, text_at}
 use Rattle.pg_fds.specs.Set.{fds, file_items, set_message}
-use Rattle.pg_fds.specs.StatesFiles.{StatesFile, is_descriptor, is_skipped, most_deep}
+use Rattle.pg_fds.specs.StatesFiles.{StatesFile}
+use Rattle.pg_fds.specs.Views.{parts_view}
 use Rattle.pg_fds.specs.Written.{set_items}
 use Rattle.pg_fds.proofs.Appending.{made_of}
 use Rattle.pg_fds.proofs.Levels.{AreFlat, none_too_deep}
 use Rattle.pg_fds.proofs.Matched.{Has, any_has}
 use Rattle.pg_fds.proofs.Slots.{Slot, children_said, children_slot, made, says}
 use Rattle.pg_fds.proofs.StatedFiles.{files_distinct}
+use Rattle.pg_fds.proofs.StatesStated.{states_stated}
 use Rattle.pg_fds.proofs.WrittenDepth.{nest_enough}
 use Rattle.pg_fds.proofs.WrittenFiles.{file_called, file_imports, file_is_proto3, states_file}
 use Rattle.pg_fds.proofs.WrittenLevels.{set_levels}
@@ -141,9 +147,11 @@ set_read again parts m bytes shape is items written =
     ap (dec written_shape file_set) written.0 ∙ again written_shape file_set (set_message parts) shape (set_belongs parts m is items) (subst (λ bs. length bs ≤ cap) written.0 written.1)
 
 pub written_states : (again : ReadsAgain) (parts : Parts) (m : Kept) (bytes : List ℕ) → IsShape written_shape → IsOf file_set m → items_of m ≡ set_items parts → fds parts bytes
-    → IsSound parts → IsReadable parts → fds_reads bytes parts
-written_states again parts m bytes shape is items written sound readable =
-    subst (λ o. IsSomeAnd o (λ set. States set parts)) (sym (set_read again parts m bytes shape is items written)) (set_states parts sound readable)
+    → IsHeld parts → IsReadable parts → fds_reads bytes parts
+written_states again parts m bytes shape is items written held readable =
+    let can : CanBeRead parts = record { sound = held.sound; places = readable.places; few_enums = held.few_enums; few_services = held.few_services } in
+    subst (λ o. IsSomeAnd o (λ set. stated set ≡ Some (parts_view parts))) (sym (set_read again parts m bytes shape is items written))
+    (states_stated (set_message parts) parts can (set_states parts held.sound readable))
 
 -- ---- its depth
 

@@ -27,7 +27,8 @@ use Rattle.pg_fds.specs.Messages.{declared_fields, enums_items, field_range, nam
 use Rattle.pg_fds.specs.Places.{Declared, declared_in}
 use Rattle.pg_fds.specs.Said.{children_at, flag_at, flag_of, maybe_flag_at, options_at}
 use Rattle.pg_fds.specs.States.{StatesEntries, StatesEnums, StatesField, StatesFieldRange}
-use Rattle.pg_fds.specs.StatesTypes.{StatesOneofs, StatesType, StatesTypes, StatesWhole, is_entry, is_no_entry}
+use Rattle.pg_fds.specs.StatesTypes.{StatesOneofs, StatesType, StatesTypes, StatesWhole}
+use Rattle.pg_fds.specs.SaidTypes.{is_entry, is_no_entry}
 use Rattle.pg_fds.proofs.FieldLaws.{each_found_holds}
 use Rattle.pg_fds.proofs.Slots.{Slot, children_said, children_slot, made, options_said, options_slot, says, stated_said, stated_slot, text_said, text_slot, texts_said, texts_slot}
 use Rattle.pg_fds.proofs.WrittenEntries.{is_map_entry, states_entries}

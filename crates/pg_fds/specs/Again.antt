@@ -12,9 +12,8 @@ use Rattle.pg_schema.specs.Shape.{fields}
 use Rattle.pg_dyn.specs.reading.TooDeep.{TooDeepIn}
 use Rattle.pg_fds.specs.Building.{written_shape}
 use Rattle.pg_fds.specs.Descriptor.{file_set}
-use Rattle.pg_fds.specs.InOrder.{StandInOrder}
-use Rattle.pg_fds.specs.Reads.{AreBehind}
-use Rattle.pg_fds.specs.StatesFiles.{most_deep}
+use Rattle.pg_fds.specs.InOrder.{AreBehind, StandInOrder}
+use Rattle.pg_fds.specs.SaidFiles.{most_deep}
 
 abbrev pub holds_inside : (List TypeId → Bool) → Option MessageType → Bool
 holds_inside inside None = true

@@ -11,8 +11,8 @@ use Rattle.pg_fds.specs.Outlines.{Row, enum_rows, file_enums, file_services, fil
 use Rattle.pg_fds.specs.Proto as proto
 use Rattle.pg_fds.specs.Said.{children_at, text_at}
 use Rattle.pg_fds.specs.SetNames.{full_name}
-use Rattle.pg_fds.specs.StatesTypes.{is_no_entry}
-use Rattle.pg_fds.specs.Walks.{places_from}
+use Rattle.pg_fds.specs.SaidTypes.{is_no_entry}
+use Rattle.pg_fds.specs.Places.{places_from}
 
 -- how many message types, enums and services stand in front
 pub record Counts : Type 0 where

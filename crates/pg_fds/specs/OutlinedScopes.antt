@@ -1,13 +1,13 @@
 -- What an outline has more, once what a scope, a file or all files declare is in it.
-use Rattle.std.specs.Prelude.{◌≡◌, ◌++◌, ◌∷◌, [], ℕ, true, List, flat_map, map}
-use Rattle.pg_schema.specs.rules.TextSets.{is_among}
+use Rattle.std.specs.Prelude.{◌≡◌, ◌+◌, ◌≤◌, ◌^◌, ◌++◌, ◌∷◌, [], ℕ, List, filter, flat_map, length, map}
 use Rattle.pg_dyn.specs.Message.{Message}
 use Rattle.pg_fds.specs.declared.outline.Outline.{Outline}
-use Rattle.pg_fds.specs.OutlinedPlaces.{counts_of, file_places, inside_file, no_counts, placed_file, placed_files, placed_type, placed_types, types_of_files}
-use Rattle.pg_fds.specs.Outlines.{AreEnumsNamed, AreTypesNamed, enum_rows, file_enums, file_services, file_types, row, type_row, type_rows}
+use Rattle.pg_fds.specs.Declarations.{Adds, file_declared, types_declared}
+use Rattle.pg_fds.specs.OutlinedPlaces.{Counts, counts_of, file_places, inside_file, no_counts, placed_file, placed_files, placed_type, placed_types, types_of_files}
+use Rattle.pg_fds.specs.Outlines.{NameOneofs, StayFew, enum_rows, file_enums, file_services, file_types, row, type_row, type_rows}
 use Rattle.pg_fds.specs.Proto as proto
 use Rattle.pg_fds.specs.Said.{children_at, text_at}
-use Rattle.pg_fds.specs.SetNames.{Declares, file_names, types_names}
+use Rattle.pg_fds.specs.SaidTypes.{is_entry}
 
 -- the message types of a scope, nested less deep than that, and the enums in them
 pub record OutlinesTypes (depth : ℕ) (scope : List ℕ) (ms : List Message) (old new : Outline) : Type 0 where
@@ -15,9 +15,10 @@ pub record OutlinesTypes (depth : ℕ) (scope : List ℕ) (ms : List Message) (o
   pub enum_rows : map row new.enums.items ≡ map row old.enums.items ++ enum_rows depth scope ms
   pub placed : map placed_type new.types.items ≡ map placed_type old.types.items ++ placed_types depth scope (counts_of old) ms
   pub others : (new.services.items ≡ old.services.items) × (new.files.items ≡ old.files.items)
-  pub named : AreTypesNamed old.names (map type_row old.types.items) → AreTypesNamed new.names (map type_row new.types.items)
-  pub enums_named : AreEnumsNamed old.names (map row old.enums.items) → AreEnumsNamed new.names (map row new.enums.items)
-  pub declares : (packages : List (List ℕ)) → Declares packages (types_names depth scope ms) old.names new.names
+  pub adds : Adds (types_declared depth scope (counts_of old) ms) old.names new.names
+  pub few_types : StayFew old.types.items new.types.items
+  pub few_enums : StayFew old.enums.items new.enums.items
+  pub oneofs : NameOneofs depth ms
 
 -- all that a file declares, with message types nested less deep than that
 pub record OutlinesFile (depth : ℕ) (m : Message) (old new : Outline) : Type 0 where
@@ -27,9 +28,21 @@ pub record OutlinesFile (depth : ℕ) (m : Message) (old new : Outline) : Type 0
   pub files : map placed_file new.files.items ≡ map placed_file old.files.items ++ file_places depth (counts_of old) m ∷ []
   pub placed : map placed_type new.types.items
       ≡ map placed_type old.types.items ++ placed_types depth (text_at proto.file_package m) (inside_file (counts_of old) m) (children_at proto.file_message_type m)
-  pub named : AreTypesNamed old.names (map type_row old.types.items) → AreTypesNamed new.names (map type_row new.types.items)
-  pub enums_named : AreEnumsNamed old.names (map row old.enums.items) → AreEnumsNamed new.names (map row new.enums.items)
-  pub declares : (packages : List (List ℕ)) → is_among packages (text_at proto.file_package m) ≡ true → Declares packages (file_names depth m) old.names new.names
+  pub adds : Adds (file_declared depth (counts_of old) m) old.names new.names
+  pub few_types : StayFew old.types.items new.types.items
+  pub few_enums : StayFew old.enums.items new.enums.items
+  pub few_services : StayFew old.services.items new.services.items
+  pub oneofs : NameOneofs depth (children_at proto.file_message_type m)
+  pub no_entries : filter is_entry (children_at proto.file_message_type m) ≡ []
+
+-- All that a file declares may stand, as far as its names aren't looked at, where so many message types, enums and services stand in
+-- front: none of its own message types is an entry type, `optional` fields name oneofs that are there, and 32 bits hold the places.
+pub record MayPlace (depth : ℕ) (counts : Counts) (m : Message) : Type 0 where
+  pub no_entries : filter is_entry (children_at proto.file_message_type m) ≡ []
+  pub oneofs : NameOneofs depth (children_at proto.file_message_type m)
+  pub few_types : counts.types + length (file_types depth m) ≤ 2 ^ 32
+  pub few_enums : counts.enums + length (file_enums depth m) ≤ 2 ^ 32
+  pub few_services : counts.services + length (file_services m) ≤ 2 ^ 32
 
 -- all that the files declare, taken in this order, and nothing else
 pub record OutlinesFiles (depth : ℕ) (ms : List Message) (outline : Outline) : Type 0 where
@@ -38,5 +51,3 @@ pub record OutlinesFiles (depth : ℕ) (ms : List Message) (outline : Outline) :
   pub services : map row outline.services.items ≡ flat_map file_services ms
   pub files : map placed_file outline.files.items ≡ placed_files depth no_counts ms
   pub placed : map placed_type outline.types.items ≡ types_of_files depth no_counts ms
-  pub named : AreTypesNamed outline.names (map type_row outline.types.items)
-  pub enums_named : AreEnumsNamed outline.names (map row outline.enums.items)

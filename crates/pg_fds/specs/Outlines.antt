@@ -1,22 +1,18 @@
--- What the message types and enums of a set are called, in the order of their places, and that the table of full names has those places.
-use Rattle.std.specs.Prelude.{◌≡◌, ℕ, ◌+◌, ◌≤◌, ◌^◌, zero, suc, true, List, [], ◌∷◌, ◌++◌, map, flat_map, filter, filter_map, length, Some, slice_get, String}
-use Rattle.std.specs.BTreeMap.{BTreeMap, get_by_text}
+-- What the message types, enums and services of a set are called, in the order of their places, and what its files may declare.
+use Rattle.std.specs.Prelude.{◌≡◌, ℕ, ◌≤◌, ◌^◌, zero, suc, true, List, [], ◌∷◌, ◌++◌, map, flat_map, filter, filter_map, length, slice_get}
 use Rattle.std.specs.List.{AllByRecursion, list_all}
-use Rattle.std.specs.Str.{IsUtf8}
 use Rattle.std.specs.String.{string_bytes}
 use Rattle.pg_schema.specs.rules.Packages.{is_free_of}
 use Rattle.pg_schema.specs.rules.Pairs.{are_distinct}
-use Rattle.pg_schema.specs.rules.TextSets.{is_among}
 use Rattle.pg_dyn.specs.Kept.{message_of}
 use Rattle.pg_dyn.specs.Message.{Message}
-use Rattle.pg_fds.specs.declared.outline.Named.{Named}
 use Rattle.pg_fds.specs.declared.outline.Named.TheVariants as nameds
 use Rattle.pg_fds.specs.declared.outline.Outlined.{Outlined}
 use Rattle.pg_fds.specs.declared.outline.OutlinedType.{OutlinedType}
 use Rattle.pg_fds.specs.Said.{children_at, text_at}
 use Rattle.pg_fds.specs.SetNames.{files_names, full_name}
-use Rattle.pg_fds.specs.StatesFiles.{is_place}
-use Rattle.pg_fds.specs.StatesTypes.{is_entry, is_no_entry, synthetic_places}
+use Rattle.pg_fds.specs.SaidFiles.{is_place}
+use Rattle.pg_fds.specs.SaidTypes.{is_entry, is_no_entry, synthetic_places}
 use Rattle.pg_fds.specs.Proto as proto
 
 -- a full name, and the message of what has it
@@ -68,18 +64,9 @@ file_services m = rows_in (text_at proto.file_package m) (children_at proto.file
 abbrev pub files_at : List Message → List ℕ → List Message
 files_at files places = filter_map (slice_get files) places
 
--- ---- the table
-
--- the table has the message type's name with its place, and those of its entry types
-pub record IsTypeNamed {Y : Type 0} (table : BTreeMap (String Y) Named) (place : ℕ) (r : Row) : Type 0 where
-  pub own : get_by_text table r.0 ≡ Some (nameds.Type (record { index = place }))
-  pub entries : AllByRecursion (λ e. get_by_text table (full_name r.0 e) ≡ Some nameds.Entry) (filter is_entry (children_at proto.message_nested_type r.1))
-
-abbrev pub AreTypesNamed : {Y : Type 0} → BTreeMap (String Y) Named → List Row → Type 0
-AreTypesNamed table rows = (place : ℕ) (r : Row) → slice_get rows place ≡ Some r → IsTypeNamed table place r
-
-abbrev pub AreEnumsNamed : {Y : Type 0} → BTreeMap (String Y) Named → List Row → Type 0
-AreEnumsNamed table rows = (place : ℕ) (r : Row) → slice_get rows place ≡ Some r → get_by_text table r.0 ≡ Some (nameds.Enum (record { index = place }))
+-- 32 bits hold the places of all, where they did those of the ones in front
+abbrev pub StayFew : {A : Type 0} → (old new : List A) → Type 0
+StayFew old new = length old ≤ 2 ^ 32 → length new ≤ 2 ^ 32
 
 -- ---- oneofs
 
@@ -94,26 +81,13 @@ NameOneofs (suc depth) ms = AllByRecursion (λ m. NamesOneofs m × NameOneofs de
 
 -- ---- what may be declared
 
--- So may all that a file declares, as far as its names aren't looked at, where so many message types, enums and services stand in front: its
--- package is one of these and a text, none of its own message types is an entry type, and the numbers of places fit 32 bits.
-pub record MayPlace (depth types enums services : ℕ) (packages : List (List ℕ)) (m : Message) : Type 0 where
-  pub package_name : is_among packages (text_at proto.file_package m) ≡ true
-  pub text : IsUtf8 (text_at proto.file_package m)
-  pub no_entries : filter is_entry (children_at proto.file_message_type m) ≡ []
-  pub oneofs : NameOneofs depth (children_at proto.file_message_type m)
-  pub few_types : types + length (file_types depth m) ≤ 2 ^ 32
-  pub few_enums : enums + length (file_enums depth m) ≤ 2 ^ 32
-  pub few_services : services + length (file_services m) ≤ 2 ^ 32
-
--- So may all that the files declare, taken in this order: packages and full names are texts, each name stands once and is no part of a
--- package, no entry type stands outside of message types, `optional` fields name oneofs that are there, and places fit 32 bits.
+-- So may all that the files declare, taken in this order: each full name stands once and is no part of a package, no entry type stands
+-- outside of message types, `optional` fields name oneofs that are there, and places fit 32 bits.
 pub record MayDeclare (depth : ℕ) (files : List Message) : Type 0 where
-  pub packages : AllByRecursion (λ m. IsUtf8 (text_at proto.file_package m)) files
   pub no_entries : AllByRecursion (λ m. filter is_entry (children_at proto.file_message_type m) ≡ []) files
   pub oneofs : AllByRecursion (λ m. NameOneofs depth (children_at proto.file_message_type m)) files
   pub few_types : length (flat_map (file_types depth) files) ≤ 2 ^ 32
   pub few_enums : length (flat_map (file_enums depth) files) ≤ 2 ^ 32
   pub few_services : length (flat_map file_services files) ≤ 2 ^ 32
-  pub texts : AllByRecursion IsUtf8 (files_names depth files)
   pub once : are_distinct (files_names depth files) ≡ true
   pub apart : list_all (is_free_of (files_names depth files)) (map (text_at 2) files) ≡ true

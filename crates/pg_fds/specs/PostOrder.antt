@@ -3,7 +3,10 @@ use Rattle.std.specs.Prelude.{◌≡◌, ℕ, Bool, true, false, not, ◌&&◌, 
 use Rattle.std.specs.List.{list_all, list_any}
 use Rattle.std.specs.Str.{bytes_eq}
 use Rattle.pg_schema.specs.rules.Pairs.{are_distinct}
-use Rattle.pg_fds.specs.StatesFiles.{is_descriptor}
+use Rattle.pg_dyn.specs.Message.{Message}
+use Rattle.pg_fds.specs.Proto as proto
+use Rattle.pg_fds.specs.Said.{text_at, texts_at}
+use Rattle.pg_fds.specs.SaidFiles.{is_descriptor}
 
 -- What is listed once these were visited in order, where those in front are listed already: one that is listed is passed over; any other
 -- leads to some that are visited first, and is listed behind them.
@@ -18,6 +21,9 @@ pub data Visits {A : Type 0} (same : A → A → Bool) (leads : A → Option (Li
 pub record Importer : Type 0 where
   pub path : List ℕ
   pub imports : List (List ℕ)
+
+abbrev pub importer_of : Message → Importer
+importer_of m = record { path = text_at proto.file_name m; imports = texts_at proto.file_dependency m }
 
 abbrev pub paths_of : List Importer → List (List ℕ)
 paths_of files = map (λ (i : Importer). i.path) files

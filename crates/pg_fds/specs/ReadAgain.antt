@@ -6,8 +6,7 @@ use Rattle.pg_dyn.specs.declared.error.DynError.TheVariants as faults
 use Rattle.pg_fds.specs.declared.error.FdsError.{FdsError}
 use Rattle.pg_fds.specs.declared.error.FdsError.TheVariants as errors
 use Rattle.pg_fds.specs.Again.{are_shallow, imports_apart}
-use Rattle.pg_fds.specs.InOrder.{StandInOrder}
-use Rattle.pg_fds.specs.Reads.{AreBehind}
+use Rattle.pg_fds.specs.InOrder.{AreBehind, StandInOrder}
 use Rattle.pg_fds.specs.Refused.{MayRefuseSet, NoneIsStated}
 use Rattle.pg_fds.specs.Set.{fds}
 use Rattle.pg_fds.specs.Written.{HasNoSet}

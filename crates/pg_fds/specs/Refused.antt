@@ -1,5 +1,5 @@
 -- Why the bytes of a set may be refused.
-use Rattle.std.specs.Prelude.{◌≡◌, ◌≢◌, ℕ, ⊤, true, false, List, IsSomeAnd}
+use Rattle.std.specs.Prelude.{◌≡◌, ◌≢◌, ℕ, ⊤, Bool, true, false, List, Some, None, IsSomeAnd}
 use Rattle.std.specs.List.{list_all}
 use Rattle.pg_schema.specs.declared.parts.Parts.{Parts}
 use Rattle.pg_schema.specs.rules.Sound.{IsSound}
@@ -15,26 +15,30 @@ use Rattle.pg_fds.specs.declared.error.FdsError.TheVariants as errors
 use Rattle.pg_fds.specs.Building.{written_shape}
 use Rattle.pg_fds.specs.Codes.{file_has_types}
 use Rattle.pg_fds.specs.Descriptor.{file_set}
-use Rattle.pg_fds.specs.Reads.{IsHeld, fds_reads, kept_files}
-use Rattle.pg_fds.specs.StatesFiles.{is_proto3, most_deep}
+use Rattle.pg_fds.specs.Reads.{IsHeld, fds_reads}
+use Rattle.pg_fds.specs.SaidFiles.{is_proto3, kept_files, most_deep, skips}
+use Rattle.pg_fds.specs.Stated.{are_taken, stated_of}
+use Rattle.pg_fds.specs.Views.{parts_view}
 
--- parts of a schema are refused for it, and it isn't want of memory
-abbrev pub BreaksRule : CheckError → Type 0
-BreaksRule e = ((parts : Parts) × IsRefusedOf parts e) × (e ≢ rules.Memory)
+-- what the files state are parts of a schema that are refused for the rule, and it isn't want of memory
+abbrev pub BreaksRule : (skips : Bool) → List Message → CheckError → Type 0
+BreaksRule skips files e =
+    ((parts : Parts) × (stated_of skips files ≡ Some (parts_view parts)) × IsRefusedOf parts e) × (e ≢ rules.Memory)
 
 -- What holds of the files of a set, without those that are skipped, the codec aside. A type is told only where all files are proto3, a bad
--- reference and a rule only where their types and labels are all taken too.
-abbrev pub MayRefuseFiles : List Message → FdsError → Type 0
-MayRefuseFiles files errors.Memory = ⊤
-MayRefuseFiles files (errors.Bytes e) = ⊥
-MayRefuseFiles files errors.NotProto3 = list_all is_proto3 files ≡ false
-MayRefuseFiles files errors.BadType = (list_all is_proto3 files ≡ true) × (list_all file_has_types files ≡ false)
-MayRefuseFiles files errors.BadReference = (list_all is_proto3 files ≡ true) × (list_all file_has_types files ≡ true)
-MayRefuseFiles files (errors.Rule e) = (list_all is_proto3 files ≡ true) × (list_all file_has_types files ≡ true) × BreaksRule e
+-- reference and a rule only where their types and labels are all taken too: a bad reference where they state nothing, a rule where what they
+-- state breaks it.
+abbrev pub MayRefuseFiles : (skips : Bool) → List Message → FdsError → Type 0
+MayRefuseFiles skips files errors.Memory = ⊤
+MayRefuseFiles skips files (errors.Bytes e) = ⊥
+MayRefuseFiles skips files errors.NotProto3 = list_all is_proto3 files ≡ false
+MayRefuseFiles skips files errors.BadType = (list_all is_proto3 files ≡ true) × (list_all file_has_types files ≡ false)
+MayRefuseFiles skips files errors.BadReference = (are_taken files ≡ true) × (stated_of skips files ≡ None)
+MayRefuseFiles skips files (errors.Rule e) = (are_taken files ≡ true) × BreaksRule skips files e
 
 -- that of the message that the bytes are, if they are one
 abbrev pub MayRefuseRead : List ℕ → FdsError → Type 0
-MayRefuseRead bytes e = IsSomeAnd (dec written_shape file_set bytes) (λ set. MayRefuseFiles (kept_files set) e)
+MayRefuseRead bytes e = IsSomeAnd (dec written_shape file_set bytes) (λ set. MayRefuseFiles (skips set) (kept_files set) e)
 
 -- What the codec refuses is a fault of the bytes, with messages nested at most 100 deep, and never want of memory. Otherwise the bytes are
 -- a message, and what is said above holds of its files.
@@ -66,20 +70,20 @@ NoneIsStated bytes errors.BadType = StatesNone bytes
 NoneIsStated bytes errors.BadReference = StatesNoneHeld bytes
 NoneIsStated bytes (errors.Rule e) = StatesNoneHeld bytes
 
--- memory, or what the codec refuses
-abbrev pub IsOfBytes : FdsError → Type 0
-IsOfBytes errors.Memory = ⊤
-IsOfBytes (errors.Bytes e) = ⊤
-IsOfBytes errors.NotProto3 = ⊥
-IsOfBytes errors.BadType = ⊥
-IsOfBytes errors.BadReference = ⊥
-IsOfBytes (errors.Rule e) = ⊥
-
 -- memory, or what is told once files and types are looked at
-abbrev pub IsOfParts : FdsError → Type 0
-IsOfParts errors.Memory = ⊤
-IsOfParts (errors.Bytes e) = ⊥
-IsOfParts errors.NotProto3 = ⊥
-IsOfParts errors.BadType = ⊥
-IsOfParts errors.BadReference = ⊤
-IsOfParts (errors.Rule e) = BreaksRule e
+abbrev pub IsOfParts : (skips : Bool) → List Message → FdsError → Type 0
+IsOfParts skips files errors.Memory = ⊤
+IsOfParts skips files (errors.Bytes e) = ⊥
+IsOfParts skips files errors.NotProto3 = ⊥
+IsOfParts skips files errors.BadType = ⊥
+IsOfParts skips files errors.BadReference = stated_of skips files ≡ None
+IsOfParts skips files (errors.Rule e) = BreaksRule skips files e
+
+-- memory, or a rule that the parts break
+abbrev pub IsOfRules : Parts → FdsError → Type 0
+IsOfRules parts errors.Memory = ⊤
+IsOfRules parts (errors.Bytes e) = ⊥
+IsOfRules parts errors.NotProto3 = ⊥
+IsOfRules parts errors.BadType = ⊥
+IsOfRules parts errors.BadReference = ⊥
+IsOfRules parts (errors.Rule e) = IsRefusedOf parts e × (e ≢ rules.Memory)

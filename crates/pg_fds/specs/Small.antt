@@ -1,10 +1,6 @@
 -- Numbers that an int32 holds, and places that 32 bits hold.
-use Rattle.std.specs.Prelude.{◌+◌, ◌<◌, ◌^◌, length, FitsSigned, IfSome}
-use Rattle.std.specs.Int.{w32}
+use Rattle.std.specs.Prelude.{◌+◌, ◌<◌, ◌^◌, length, IfSome}
 use Rattle.std.specs.List.{AllByRecursion}
-use Rattle.pg_schema.specs.declared.parts.enum_type.EnumType.{EnumType}
-use Rattle.pg_schema.specs.declared.parts.enum_type.EnumValue.{EnumValue}
-use Rattle.pg_schema.specs.declared.parts.enum_type.ReservedValues.{ReservedValues}
 use Rattle.pg_schema.specs.declared.parts.field.EnumId.{EnumId}
 use Rattle.pg_schema.specs.declared.parts.field.Field.{Field}
 use Rattle.pg_schema.specs.declared.parts.file.File.{File}
@@ -26,18 +22,6 @@ pub record IsSmallType (t : MessageType) : Type 0 where
   pub fields : AllByRecursion HasSmallNumbers t.fields.items
   pub ranges : AllByRecursion IsSmallRange t.reserved_numbers.items
   pub places : length t.oneofs.items + length t.declared.items < 2 ^ 31
-
--- that of an enum's value
-abbrev pub IsSmallValue : EnumValue → Type 0
-IsSmallValue v = FitsSigned w32 v.number
-
-abbrev pub AreSmallEnds : ReservedValues → Type 0
-AreSmallEnds r = FitsSigned w32 r.first × FitsSigned w32 r.last
-
--- those of its values and reserved ranges
-pub record IsSmallEnum (e : EnumType) : Type 0 where
-  pub values : AllByRecursion IsSmallValue e.values.items
-  pub ranges : AllByRecursion AreSmallEnds e.reserved_numbers.items
 
 abbrev pub IsLowEnum : EnumId → Type 0
 IsLowEnum id = id.index < 2 ^ 32

@@ -1,8 +1,7 @@
 -- What a set's messages have to say so that they state an enum, a field, a map's entry type (descriptor.proto; proto3 language guide).
 -- What an entry type has to look like is this profile's choice.
-use Rattle.std.specs.Prelude.{◌≡◌, ℕ, ℤ, pos, suc, ⊤, false, List, [], ◌∷◌, map, length, filter, codes, None, slice_get, IsSomeAnd}
+use Rattle.std.specs.Prelude.{◌≡◌, ℕ, pos, suc, ⊤, false, List, [], ◌∷◌, map, length, filter, codes, None, slice_get, IsSomeAnd}
 use Rattle.std.specs.List.{AllByRecursion, AllZip, Any}
-use Rattle.std.specs.Option.{unwrap_or}
 use Rattle.std.specs.String.{string_bytes}
 use Rattle.pg_schema.specs.declared.parts.enum_type.EnumType.{EnumType}
 use Rattle.pg_schema.specs.declared.parts.enum_type.EnumValue.{EnumValue}
@@ -22,7 +21,8 @@ use Rattle.pg_dyn.specs.Message.{Message, parts}
 use Rattle.pg_fds.specs.Fields.{element_code, element_name, label, named_type, type_code}
 use Rattle.pg_fds.specs.Places.{Declared}
 use Rattle.pg_fds.specs.Proto as proto
-use Rattle.pg_fds.specs.Said.{children_at, flag_at, item_at, items_at, maybe_flag_at, maybe_number_at, maybe_text_at, number_at, options_at, text_at, texts_at}
+use Rattle.pg_fds.specs.SaidTypes.{json_name_at, label_at}
+use Rattle.pg_fds.specs.Said.{children_at, flag_at, item_at, items_at, maybe_flag_at, maybe_text_at, number_at, options_at, text_at, texts_at}
 
 -- ---- enums
 
@@ -50,14 +50,6 @@ abbrev pub StatesEnums : Declared → (scope : List ℕ) → List Message → Li
 StatesEnums all scope ms ids = AllZip (λ m (id : EnumId). IsSomeAnd (slice_get all.enums id.index) (StatesEnum scope m)) ms ids
 
 -- ---- fields
-
--- LABEL_OPTIONAL where it is missing
-abbrev pub label_at : Message → ℤ
-label_at m = unwrap_or (maybe_number_at proto.field_label m) (pos 1)
-
--- that of the field's name where it is missing
-abbrev pub json_name_at : Message → List ℕ
-json_name_at m = unwrap_or (maybe_text_at proto.field_json_name m) (default_json_name (text_at proto.field_name m))
 
 -- a field of a message type of that full name
 pub record StatesField (all : Declared) (scope : List ℕ) (m : Message) (f : Field) : Type 0 where

@@ -1,7 +1,6 @@
 -- What a set's messages have to say so that they state services and files (descriptor.proto).
-use Rattle.std.specs.Prelude.{◌≡◌, ℕ, suc, ℤ, pos, negsuc, Bool, true, false, nat_eq, nat_lt, not, ◌&&◌, List, [], ◌∷◌, map, length, find, codes, Option, Some, option_map, slice_get, IsSomeAnd, if◌then◌else◌}
+use Rattle.std.specs.Prelude.{◌≡◌, ℕ, ℤ, pos, Bool, true, false, nat_eq, List, map, length, find, Option, Some, option_map, slice_get, IsSomeAnd}
 use Rattle.std.specs.List.{AllByRecursion, AllZip, list_all}
-use Rattle.std.specs.Str.{bytes_eq}
 use Rattle.std.specs.String.{string_bytes}
 use Rattle.pg_schema.specs.declared.parts.field.TypeId.{TypeId}
 use Rattle.pg_schema.specs.declared.parts.file.File.{File}
@@ -20,9 +19,10 @@ use Rattle.pg_fds.specs.Fields.{dotted}
 use Rattle.pg_fds.specs.Places.{Declared}
 use Rattle.pg_fds.specs.Proto as proto
 use Rattle.pg_fds.specs.Said.{children_at, flag_at, item_at, maybe_flag_at, maybe_text_at, numbers_at, options_at, text_at, texts_at}
+use Rattle.pg_fds.specs.SaidFiles.{is_place, is_proto3, kept_imports, most_deep, option_places}
 use Rattle.pg_fds.specs.Set.{mode_code}
 use Rattle.pg_fds.specs.States.{StatesEnums}
-use Rattle.pg_fds.specs.StatesTypes.{StatesTypes, is_marked}
+use Rattle.pg_fds.specs.StatesTypes.{StatesTypes}
 
 -- ---- services
 
@@ -49,11 +49,6 @@ StatesServices all scope ms ids = AllZip (λ m (id : ServiceId). IsSomeAnd (slic
 
 -- ---- options of files
 
--- java_package, java_outer_classname, optimize_for, java_multiple_files, go_package, deprecated, cc_enable_arenas,
--- objc_class_prefix, csharp_namespace, swift_prefix, php_class_prefix, php_namespace, ruby_package
-abbrev pub option_places : List ℕ
-option_places = 1 ∷ 8 ∷ 9 ∷ 10 ∷ 11 ∷ 23 ∷ 31 ∷ 36 ∷ 37 ∷ 39 ∷ 40 ∷ 41 ∷ 45 ∷ []
-
 abbrev pub flag_number : Bool → ℤ
 flag_number true = pos 1
 flag_number false = pos 0
@@ -74,36 +69,8 @@ StatesOptions m options = AllByRecursion (λ number. item_at number m ≡ stated
 
 -- ---- files
 
--- `google/protobuf/descriptor.proto`
-abbrev pub is_descriptor : List ℕ → Bool
-is_descriptor path = bytes_eq path (codes "google/protobuf/descriptor.proto")
-
-abbrev pub is_proto3 : Message → Bool
-is_proto3 m = bytes_eq (text_at proto.file_syntax m) (codes "proto3")
-
--- a file that is left out of the schema, as imports of it are: descriptor.proto, where it isn't proto3
-abbrev pub is_skipped : Message → Bool
-is_skipped m = is_descriptor (text_at proto.file_name m) && not (is_proto3 m)
-
--- The paths of imports from a place on, and whether each is among the public ones, which are numbers of places; without those of
--- descriptor.proto where it is skipped.
-abbrev pub kept_imports : (skips : Bool) → (public : List ℤ) → (place : ℕ) → List (List ℕ) → List (List ℕ × Bool)
-kept_imports skips public place [] = []
-kept_imports skips public place (path ∷ paths) =
-    if skips && is_descriptor path then kept_imports skips public (suc place) paths
-    else (path, is_marked public place) ∷ kept_imports skips public (suc place) paths
-
 abbrev pub import_of : Import → List ℕ × Bool
 import_of i = (string_bytes i.path, i.is_public)
-
--- the number is that of one of so many places
-abbrev pub is_place : ℕ → ℤ → Bool
-is_place count (pos place) = nat_lt place count
-is_place count (negsuc n) = false
-
--- How deep message types may be nested: no message of a set that is read stands deeper.
-abbrev pub most_deep : ℕ
-most_deep = 100
 
 -- No path stands twice among the imports, that of descriptor.proto neither.
 pub record StatesFile (all : Declared) (skips : Bool) (m : Message) (f : File) : Type 0 where

@@ -1,6 +1,6 @@
 -- What a set's messages have to say so that they state message types, with their oneofs (descriptor.proto).
-use Rattle.std.specs.Prelude.{◌≡◌, ℕ, ◌+◌, ◌<◌, zero, suc, ℤ, pos, negsuc, ⊤, Bool, false, not, nat_eq, List, [], ◌∷◌, map, length, filter, filter_map, Option, Some, None, slice_get, slice_index_or, IsSomeAnd, if◌then◌else◌}
-use Rattle.std.specs.List.{AllZip, list_any}
+use Rattle.std.specs.Prelude.{◌≡◌, ℕ, ◌+◌, zero, suc, ℤ, pos, ⊤, false, List, [], map, length, filter, Option, Some, None, slice_get, IsSomeAnd}
+use Rattle.std.specs.List.{AllZip}
 use Rattle.std.specs.String.{string_bytes}
 use Rattle.pg_schema.specs.declared.parts.field.Field.{Field}
 use Rattle.pg_schema.specs.declared.parts.field.TypeId.{TypeId}
@@ -10,37 +10,11 @@ use Rattle.pg_dyn.specs.Message.{Message}
 use Rattle.pg_fds.specs.Messages.{declared_fields}
 use Rattle.pg_fds.specs.Places.{Declared}
 use Rattle.pg_fds.specs.Proto as proto
-use Rattle.pg_fds.specs.Said.{children_at, flag_at, maybe_flag_at, maybe_number_at, options_at, text_at, texts_at}
+use Rattle.pg_fds.specs.SaidTypes.{is_entry, is_marked, is_no_entry, is_optional, real_oneofs, synthetic_places}
+use Rattle.pg_fds.specs.Said.{children_at, maybe_flag_at, maybe_number_at, options_at, text_at, texts_at}
 use Rattle.pg_fds.specs.States.{StatesEntries, StatesEnums, StatesField, StatesFieldRange}
 
 -- ---- oneofs
-
--- the number is that of the place
-abbrev pub is_at : (place : ℕ) → ℤ → Bool
-is_at place (pos n) = nat_eq n place
-is_at place (negsuc n) = false
-
--- the place is among these numbers
-abbrev pub is_marked : List ℤ → (place : ℕ) → Bool
-is_marked numbers place = list_any (is_at place) numbers
-
--- the flag at each of so many places says whether the place is among these numbers
-pub record AreMarked (numbers : List ℤ) (count : ℕ) (marks : List Bool) : Type 0 where
-  pub all : length marks ≡ count
-  pub each : (place : ℕ) → place < count → slice_index_or marks place false ≡ is_marked numbers place
-
--- the field is marked `proto3_optional`
-abbrev pub is_optional : Message → Bool
-is_optional m = flag_at proto.field_proto3_optional m
-
--- the places of synthetic oneofs: those that fields marked so name
-abbrev pub synthetic_places : List Message → List ℤ
-synthetic_places fields = filter_map (maybe_number_at proto.field_oneof_index) (filter is_optional fields)
-
--- the oneofs at places that aren't marked, counted from that of the first
-abbrev pub real_oneofs : List ℤ → (place : ℕ) → List Message → List Message
-real_oneofs marked place [] = []
-real_oneofs marked place (m ∷ ms) = if is_marked marked place then real_oneofs marked (suc place) ms else m ∷ real_oneofs marked (suc place) ms
 
 -- a field that names the oneof at a place is a member of the real one there, by its name; one that names none, of none
 abbrev pub NamesOneof : (oneofs : List Message) → (synthetic : List ℤ) → (names : List (List ℕ)) → Option ℤ → Option ℕ → Type 0
@@ -63,13 +37,6 @@ pub record StatesOneofs (oneofs fields : List Message) (t : MessageType) (declar
   pub members : AllZip (StandsIn oneofs (synthetic_places fields) (map string_bytes t.oneofs.items)) fields declared
 
 -- ---- message types
-
--- marked `map_entry`
-abbrev pub is_entry : Message → Bool
-is_entry m = flag_at proto.message_map_entry (options_at proto.message_options m)
-
-abbrev pub is_no_entry : Message → Bool
-is_no_entry m = not (is_entry m)
 
 -- A message type declared in that scope, but for the message types inside it. Its entry types may stand anywhere among those.
 pub record StatesType (all : Declared) (scope : List ℕ) (m : Message) (t : MessageType) : Type 0 where

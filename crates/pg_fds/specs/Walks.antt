@@ -1,5 +1,5 @@
 -- How far a walk over the imports of files has come, which are named by their places.
-use Rattle.std.specs.Prelude.{◌≡◌, ℕ, zero, suc, ◌+◌, ◌-◌, ◌<◌, ◌≤◌, ◌⊎◌, ⊤, Bool, true, false, nat_eq, List, [], ◌∷◌, ◌++◌, length, map, drop, Option, Some, None, slice_get, slice_set, Vec}
+use Rattle.std.specs.Prelude.{◌≡◌, ℕ, suc, ◌+◌, ◌-◌, ◌<◌, ◌≤◌, ◌⊎◌, ⊤, Bool, true, false, nat_eq, List, [], ◌∷◌, ◌++◌, length, map, drop, Option, Some, None, slice_get, slice_set, Vec}
 use Rattle.std.specs.Global.{Global}
 use Rattle.std.specs.List.{AllByRecursion, list_any}
 use Rattle.pg_fds.specs.declared.walk.Open.{Open}
@@ -19,11 +19,6 @@ AreWithin count all = AllByRecursion (λ own. AllByRecursion (λ place. place < 
 -- the walk over places, in post-order
 abbrev pub Walks : List (List ℕ) → (front visited listed : List ℕ) → Type 0
 Walks all front visited listed = Visits nat_eq (slice_get all) front visited listed
-
--- so many places, from one on
-abbrev pub places_from : (start count : ℕ) → List ℕ
-places_from start zero = []
-places_from start (suc count) = start ∷ places_from (suc start) count
 
 -- Files have ranks that fall along imports, so that none is on a circle.
 abbrev pub Falls : (rank : ℕ → ℕ) → List (List ℕ) → Type 0

@@ -1,75 +1,19 @@
 //! Schemas that are written and read again.
 
-ghost use Rattle.std.specs.Prelude.{ℕ, ◌≡◌, ◌<◌, ◌^◌, ◌⊎◌, List, IfErr, IfOk};
-ghost use Rattle.std.specs.List.{AllByRecursion};
+ghost use Rattle.std.specs.Prelude.{ℕ, ◌≡◌, ◌⊎◌, List, IfErr, IfOk};
 ghost use Rattle.pg_schema.specs.rules.Sound.{IsSound};
 ghost use Rattle.pg_fds.specs.declared.error.FdsError.TheVariants as errors;
 ghost use Rattle.pg_fds.specs.ReadAgain.{IsReadAgain, IsTooLong, MayRefuseAgain};
-ghost use Rattle.pg_fds.specs.Reads.{IsHeld, fds_reads};
+ghost use Rattle.pg_fds.specs.Reads.{fds_reads};
 ghost use Rattle.pg_fds.specs.Set.{fds};
-ghost use Rattle.pg_fds.specs.Small.{HasLowEnums, HasLowPlaces, IsLowEnum, IsLowService};
 ghost use Rattle.pg_fds.specs.Views.{parts_view};
 
 use crate::error::FdsError;
+use crate::held_places::see_places;
 use crate::reading::read;
 use crate::writing::write;
-use pg_schema::{EnumId, File, MessageType, Schema, ServiceId};
+use pg_schema::Schema;
 use std::alloc::Global;
-
-// 32 bits hold a place: each is looked at, as the proof asks for it.
-fn see_place(place: u32)
-    ensures { place < 2 ^ 32 }
-{
-    let _seen = place;
-}
-
-// 32 bits hold the place of each enum.
-fn see_enums(ids: &[EnumId])
-    ensures { AllByRecursion IsLowEnum ids.now }
-{
-    for id in ids {
-        see_place(id.index);
-    }
-}
-
-// 32 bits hold the place of each service.
-fn see_services(ids: &[ServiceId])
-    ensures { AllByRecursion IsLowService ids.now }
-{
-    for id in ids {
-        see_place(id.index);
-    }
-}
-
-// 32 bits hold the places of what each file declares.
-fn see_files(files: &[File])
-    ensures { AllByRecursion HasLowPlaces files.now }
-{
-    for file in files {
-        see_enums(&file.enums);
-        see_services(&file.services);
-    }
-}
-
-// 32 bits hold the places of the enums in each message type.
-fn see_types(types: &[MessageType])
-    ensures { AllByRecursion HasLowEnums types.now }
-{
-    for declared in types {
-        see_enums(&declared.nested_enums);
-    }
-}
-
-// So there are at most 2^32 enums and services.
-#[tactic(auto, using(crate::proofs::FewPlaces::is_held))]
-fn see_places(schema: &Schema)
-    ensures { IsHeld schema.now }
-{
-    // What holds of every schema.
-    let parts = schema.parts();
-    see_files(&parts.files);
-    see_types(&parts.types);
-}
 
 /// The schema that `read` makes of what `write` writes. Where each file imports no path twice and
 /// stands behind those that it imports, message types are nested at most 64 deep, and all is

@@ -8,11 +8,11 @@ ghost use Rattle.pg_fds.specs.Codes.{file_has_types, have_types, is_taken, label
 ghost use Rattle.pg_fds.specs.Fields.{scalar_code};
 ghost use Rattle.pg_fds.specs.Proto as proto;
 ghost use Rattle.pg_fds.specs.Said.{number_at};
+ghost use Rattle.pg_fds.specs.SaidTypes.{label_at};
 
 use crate::fields::scalar_code;
 use crate::proto;
-use crate::said::{Said, children, number};
-use crate::states::label_of;
+use crate::said::{Said, children, maybe_number, number};
 use pg_dyn::DEFAULT_DEPTH_LIMIT;
 use pg_schema::Scalar;
 use std::alloc::{AllocError, Global};
@@ -87,6 +87,16 @@ fn is_type(code: i128) -> bool
     ensures { result ≡ list_any (int_eq code) type_codes }
 {
     is_among(code, &TYPES)
+}
+
+/// The label of a field, LABEL_OPTIONAL where it is missing.
+pub(crate) fn label_of(message: &Said<'_>) -> i128
+    ensures { result ≡ label_at (message_of message.now) }
+{
+    match maybe_number(message, proto::FIELD_LABEL) {
+        Some(label) => label,
+        None => 1,
+    }
 }
 
 // Whether the label is.

@@ -1,16 +1,12 @@
 //! The table of the full names that a set declares. A name that may be declared is refused only
 //! where memory is.
 
-ghost use Rattle.std.specs.Prelude.{◌≡◌, ◌∷◌, [], ℕ, true, IfErr, IfOk, List, OnOk, Some, length, map};
-ghost use Rattle.std.specs.BTreeMap.{get_by_text};
-ghost use Rattle.std.specs.List.{AllByRecursion};
+ghost use Rattle.std.specs.Prelude.{◌≡◌, ◌∷◌, [], false, IfErr, IfOk, OnOk, length, map};
 ghost use Rattle.std.specs.String.{string_bytes};
-ghost use Rattle.pg_schema.specs.rules.DeclaredNames.{within};
-ghost use Rattle.pg_schema.specs.rules.Packages.{is_front};
-ghost use Rattle.pg_schema.specs.rules.TextSets.{is_among};
 ghost use Rattle.pg_dyn.specs.Kept.{message_of};
-ghost use Rattle.pg_fds.specs.SetNames.{Declares, WantsMemory, full_name, full_names};
-ghost use Rattle.pg_fds.specs.StatesTypes.{AreMarked, real_oneofs};
+ghost use Rattle.pg_fds.specs.Declarations.{Adds, CannotAdd, all_named, fronts, is_package, named_in, package_part};
+ghost use Rattle.pg_fds.specs.SetNames.{full_name};
+ghost use Rattle.pg_fds.specs.SaidTypes.{AreMarked, real_oneofs};
 
 use crate::error::Unstated;
 use crate::outline::Named;
@@ -26,11 +22,9 @@ pub(crate) fn declare(
     name: String,
     named: Named,
 ) -> Result<(), Unstated>
-    ensures has { OnOk result (get_by_text names.new (string_bytes name) ≡ Some named) }
-    ensures declares { OnOk result ((packages : List (List ℕ))
-        → Declares packages (string_bytes name ∷ []) names.old names.new) }
-    ensures refused { IfErr result (λ e. (packages : List (List ℕ))
-        → WantsMemory packages (string_bytes name ∷ []) names.old e) }
+    ensures adds { OnOk result (Adds ((string_bytes name, named) ∷ []) names.old names.new) }
+    ensures refused { IfErr result (λ e. is_package named ≡ false
+        → CannotAdd ((string_bytes name, named) ∷ []) names.old e) }
 {
     match names.insert(name, named)? {
         None => Ok(()),
@@ -48,13 +42,10 @@ pub(crate) fn declare_named(
 ) -> Result<String, Unstated>
     ensures name { IfOk result (λ name. string_bytes name
         ≡ full_name scope.now (message_of message.now)) }
-    ensures has { OnOk result (get_by_text names.new (full_name scope.now (message_of message.now))
-        ≡ Some named) }
-    ensures declares { OnOk result ((packages : List (List ℕ))
-        → Declares packages (full_name scope.now (message_of message.now) ∷ []) names.old
-        names.new) }
-    ensures refused { IfErr result (λ e. (packages : List (List ℕ))
-        → WantsMemory packages (full_name scope.now (message_of message.now) ∷ []) names.old e) }
+    ensures adds { OnOk result (Adds (named_in scope.now named (message_of message.now) ∷ [])
+        names.old names.new) }
+    ensures refused { IfErr result (λ e. is_package named ≡ false
+        → CannotAdd (named_in scope.now named (message_of message.now) ∷ []) names.old e) }
 {
     let own = text(message, proto::NAME);
     let full = full_name(alloc, scope, own)?;
@@ -70,13 +61,10 @@ fn declare_own(
     message: &Said<'_>,
     named: Named,
 ) -> Result<(), Unstated>
-    ensures has { OnOk result (get_by_text names.new (full_name scope.now (message_of message.now))
-        ≡ Some named) }
-    ensures declares { OnOk result ((packages : List (List ℕ))
-        → Declares packages (full_name scope.now (message_of message.now) ∷ []) names.old
-        names.new) }
-    ensures refused { IfErr result (λ e. (packages : List (List ℕ))
-        → WantsMemory packages (full_name scope.now (message_of message.now) ∷ []) names.old e) }
+    ensures adds { OnOk result (Adds (named_in scope.now named (message_of message.now) ∷ [])
+        names.old names.new) }
+    ensures refused { IfErr result (λ e. is_package named ≡ false
+        → CannotAdd (named_in scope.now named (message_of message.now) ∷ []) names.old e) }
 {
     declare_named(alloc, names, scope, message, named)?;
     Ok(())
@@ -90,15 +78,10 @@ pub(crate) fn declare_each(
     messages: &[Said<'_>],
     named: Named,
 ) -> Result<(), Unstated>
-    ensures has { OnOk result (AllByRecursion
-        (λ m. get_by_text names.new (full_name scope.now m) ≡ Some named)
-        (map message_of messages.now)) }
-    ensures declares { OnOk result ((packages : List (List ℕ))
-        → Declares packages (full_names scope.now (map message_of messages.now)) names.old
-        names.new) }
-    ensures refused { IfErr result (λ e. (packages : List (List ℕ))
-        → WantsMemory packages (full_names scope.now (map message_of messages.now)) names.old
-        e) }
+    ensures adds { OnOk result (Adds (all_named scope.now named (map message_of messages.now))
+        names.old names.new) }
+    ensures refused { IfErr result (λ e. is_package named ≡ false
+        → CannotAdd (all_named scope.now named (map message_of messages.now)) names.old e) }
 {
     for message in messages {
         declare_own(alloc, names, scope, message, named)?;
@@ -128,12 +111,10 @@ pub(crate) fn real_oneofs<'a>(
 
 // Puts a part of a package in the table, which may have it as that.
 fn declare_part(names: &mut BTreeMap<String, Named>, part: String) -> Result<(), Unstated>
-    ensures declares { OnOk result ((packages : List (List ℕ)) (whole : List ℕ)
-        → is_among packages whole ≡ true
-        → is_front (string_bytes part) whole ≡ true → Declares packages [] names.old names.new) }
-    ensures refused { IfErr result (λ e. (packages : List (List ℕ)) (whole : List ℕ)
-        → is_among packages whole ≡ true
-        → is_front (string_bytes part) whole ≡ true → WantsMemory packages [] names.old e) }
+    ensures adds { OnOk result (Adds (package_part (string_bytes part) ∷ []) names.old
+        names.new) }
+    ensures refused { IfErr result (CannotAdd (package_part (string_bytes part) ∷ [])
+        names.old) }
 {
     match names.insert(part, Named::Package)? {
         None => Ok(()),
@@ -149,10 +130,8 @@ pub(crate) fn declare_package(
     names: &mut BTreeMap<String, Named>,
     path: &str,
 ) -> Result<(), Unstated>
-    ensures declares { OnOk result ((packages : List (List ℕ)) → is_among packages path.now ≡ true
-        → Declares packages [] names.old names.new) }
-    ensures refused { IfErr result (λ e. (packages : List (List ℕ))
-        → is_among packages path.now ≡ true → WantsMemory packages [] names.old e) }
+    ensures adds { OnOk result (Adds (map package_part (fronts path.now)) names.old names.new) }
+    ensures refused { IfErr result (CannotAdd (map package_part (fronts path.now)) names.old) }
 {
     let mut front = String::new(alloc);
     for letter in path.chars() {

@@ -2,9 +2,13 @@
 
 ghost use Rattle.pg_fds.specs.DescriptorLaw.{DescriptorIsSound};
 ghost use Rattle.pg_fds.specs.Examples.{WorkedSets};
+ghost use Rattle.pg_fds.specs.OrderExamples.{WorkedOrders};
+ghost use Rattle.pg_fds.specs.NameExamples.{WorkedNames};
 ghost use Rattle.pg_fds.specs.Pieces.{WorkedPieces};
 ghost use Rattle.pg_fds.specs.PlaceExamples.{WorkedPlaces};
 ghost use Rattle.pg_fds.specs.ReadExamples.{OneFieldRead};
+ghost use Rattle.pg_fds.specs.StatedExamples.{WorkedStated};
+ghost use Rattle.pg_fds.specs.StatedLaw.{StatesStated};
 ghost use Rattle.pg_fds.specs.TextOrder.{TextsAreReadAgain};
 
 use pg_check::laws::linked_parts;
@@ -43,4 +47,27 @@ pub fn worked_reads()
 /// and of a file with one message type, whose set is read as the same schema.
 pub fn worked_places()
     ensures { WorkedPlaces }
+{}
+
+/// What a set states, as a relation of the set and a schema, is what is computed of the set.
+pub fn states_stated()
+    ensures { StatesStated }
+{}
+
+/// What two small sets state: one with a map and an `optional` field, and one of two files, of
+/// which the first imports the second.
+pub fn worked_stated()
+    ensures { WorkedStated }
+{}
+
+/// The order of files by small examples: each file behind its imports, and no order where one is
+/// missing, a path or an import stands twice, or imports go round.
+pub fn worked_orders()
+    ensures { WorkedOrders }
+{}
+
+/// Names by small examples: the parts of a package, what names of nested types and enums mean, and
+/// which files may stand in one set.
+pub fn worked_names()
+    ensures { WorkedNames }
 {}

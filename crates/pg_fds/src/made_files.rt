@@ -1,88 +1,67 @@
 //! Services and files of a schema, made of a set's messages.
 
-ghost use Rattle.std.specs.Prelude.{◌≡◌, ◌∷◌, ℕ, true, List, IfErr, IfOk, OnErr, length, map};
-ghost use Rattle.std.specs.List.{AllZip, list_all};
-ghost use Rattle.std.specs.String.{string_bytes};
-ghost use Rattle.pg_schema.specs.declared.parts.field.TypeId.{TypeId as StatedId};
-ghost use Rattle.pg_schema.specs.declared.parts.file.File.{File as StatedFile};
-ghost use Rattle.pg_schema.specs.declared.parts.file.Import.{Import as StatedImport};
-ghost use Rattle.pg_schema.specs.declared.parts.options.FileOption.{FileOption as StatedOption};
-ghost use Rattle.pg_schema.specs.declared.parts.options.OptionValue.{OptionValue as StatedValue};
-ghost use Rattle.pg_schema.specs.declared.parts.service.Method.{Method as StatedMethod};
-ghost use Rattle.pg_schema.specs.declared.parts.service.Service.{Service as StatedService};
-ghost use Rattle.pg_schema.specs.rules.DeclaredNames.{within};
-ghost use Rattle.pg_schema.specs.rules.Files.{is_file, is_file_option, is_of_kind, option_numbers};
-ghost use Rattle.pg_schema.specs.rules.Pairs.{is_rising};
+ghost use Rattle.std.specs.Prelude.{◌≡◌, ◌⊎◌, [], true, None, Some, IfErr, IfOk, OnOk, length, map, option_map};
+ghost use Rattle.std.specs.Option.{unwrap_or};
 ghost use Rattle.pg_dyn.specs.Kept.{message_of};
+ghost use Rattle.pg_dyn.specs.Message.{ends};
 ghost use Rattle.pg_fds.specs.declared.error.Unstated.TheVariants.{Memory};
 ghost use Rattle.pg_fds.specs.Building.{shown};
 ghost use Rattle.pg_fds.specs.Lent.{lent};
-ghost use Rattle.pg_fds.specs.Made.{HasNames, IsOutlinedFile};
-ghost use Rattle.pg_fds.specs.MadeOptions.{StatesThese, mode_of, numbered, views_under};
-ghost use Rattle.pg_fds.specs.Places.{Declared};
+ghost use Rattle.pg_fds.specs.StatedFiles.{file, has_public_places, mode_of, numbered, option_value, options_under};
+ghost use Rattle.pg_fds.specs.OutlinedPlaces.{placed_file};
+ghost use Rattle.pg_fds.specs.Outlines.{row};
+ghost use Rattle.pg_fds.specs.Owners.{means_of};
 ghost use Rattle.pg_fds.specs.Proto as proto;
-ghost use Rattle.pg_fds.specs.Said.{maybe_text_at, numbers_at, options_at, text_at, texts_at};
-ghost use Rattle.pg_fds.specs.StatesFiles.{StatesCalled, StatesMethod, StatesOptions, StatesService, import_of, is_place, kept_imports, option_item};
-ghost use Rattle.pg_fds.specs.StatesTypes.{AreMarked};
+ghost use Rattle.pg_fds.specs.Said.{numbers_at, options_at, texts_at};
+ghost use Rattle.pg_fds.specs.StatedNames.{each};
+ghost use Rattle.pg_fds.specs.StatedServices.{method, service};
+ghost use Rattle.pg_fds.specs.StatesFiles.{import_of};
+ghost use Rattle.pg_fds.specs.SaidFiles.{kept_imports, option_places};
+ghost use Rattle.pg_fds.specs.SaidTypes.{AreMarked};
 ghost use Rattle.pg_fds.specs.Views.{file_view, method_view, option_view, service_view, value_of};
 
 use crate::error::Unstated;
-use crate::file_states::{OPTIONS, is_left_out, own_options};
-use crate::made_fields::resolved;
-use crate::oneof_states::marks;
+use crate::made_oneofs::marks;
+use crate::meanings::type_meant;
 use crate::outline::{Named, Outlined, OutlinedFile};
 use crate::proto;
 use crate::said::{
-    Said, SaidItem, children, flag, item, maybe_text, number_in, numbers, option, text, text_in,
+    Said, SaidItem, child_in, children, flag, item, number_in, numbers, option, text, text_in,
     texts,
 };
+use crate::set_files::is_left_out;
 use pg_dyn::Value;
 use pg_schema::{
     File, FileOption, Import, Method, MethodOptions, OptimizeMode, OptionValue, Service,
-    ServiceOptions, TypeId,
+    ServiceOptions,
 };
 use std::alloc::{AllocError, Global};
 use std::collections::BTreeMap;
 
-// ---- services
+// The options of files that are taken. In order: java_package, java_outer_classname, optimize_for,
+// java_multiple_files, go_package, deprecated, cc_enable_arenas, objc_class_prefix,
+// csharp_namespace, swift_prefix, php_class_prefix, php_namespace, ruby_package.
+const OPTIONS: [u32; 13] = [1, 8, 9, 10, 11, 23, 31, 36, 37, 39, 40, 41, 45];
 
-// The message type that a method's field with that number names.
-fn called(
-    names: &BTreeMap<String, Named>,
-    message: &Said<'_>,
-    number: u32,
-) -> Result<TypeId, Unstated>
-    ensures made { IfOk result (λ made. (all : Declared) (id : StatedId) → HasNames all names.now
-        → StatesCalled all (maybe_text_at number (message_of message.now)) id → made ≡ id) }
-    ensures refused { OnErr result ((all : Declared) (id : StatedId) → HasNames all names.now
-        → StatesCalled all (maybe_text_at number (message_of message.now)) id → ⊥) }
-{
-    let name = maybe_text(message, number);
-    let Some(name) = name else {
-        return Err(Unstated::Reference);
-    };
-    let named = resolved(names, name)?;
-    match named {
-        Named::Type(id) => Ok(id),
-        _ => Err(Unstated::Reference),
-    }
-}
+// ---- services
 
 fn method(
     alloc: Global,
     names: &BTreeMap<String, Named>,
     message: &Said<'_>,
 ) -> Result<Method, Unstated>
-    ensures made { IfOk result (λ made. (all : Declared) (d : StatedMethod) → HasNames all names.now
-        → StatesMethod all (message_of message.now) d
-        → method_view made ≡ method_view d) }
-    ensures refused { IfErr result (λ e. (all : Declared) (d : StatedMethod)
-        → HasNames all names.now → StatesMethod all (message_of message.now) d
-        → e ≡ Memory) }
+    ensures made { IfOk result (λ made. method (means_of names.now) (message_of message.now)
+        ≡ Some (method_view made)) }
+    ensures refused { IfErr result (λ e. (e ≡ Memory)
+        ⊎ (method (means_of names.now) (message_of message.now) ≡ None)) }
 {
     let name = String::from_str(alloc, text(message, proto::METHOD_NAME))?;
-    let input = called(names, message, proto::METHOD_INPUT_TYPE)?;
-    let output = called(names, message, proto::METHOD_OUTPUT_TYPE)?;
+    let Some(input) = type_meant(names, message, proto::METHOD_INPUT_TYPE) else {
+        return Err(Unstated::Reference);
+    };
+    let Some(output) = type_meant(names, message, proto::METHOD_OUTPUT_TYPE) else {
+        return Err(Unstated::Reference);
+    };
     Ok(Method {
         name,
         input,
@@ -100,13 +79,10 @@ fn methods(
     names: &BTreeMap<String, Named>,
     messages: &[Said<'_>],
 ) -> Result<Vec<Method>, Unstated>
-    ensures made { IfOk result (λ made. (all : Declared) (ds : List StatedMethod)
-        → HasNames all names.now
-        → AllZip (StatesMethod all) (map message_of messages.now) ds
-        → map method_view made.items ≡ map method_view ds) }
-    ensures refused { IfErr result (λ e. (all : Declared) (ds : List StatedMethod)
-        → HasNames all names.now
-        → AllZip (StatesMethod all) (map message_of messages.now) ds → e ≡ Memory) }
+    ensures made { IfOk result (λ made. each (method (means_of names.now))
+        (map message_of messages.now) ≡ Some (map method_view made.items)) }
+    ensures refused { IfErr result (λ e. (e ≡ Memory)
+        ⊎ (each (method (means_of names.now)) (map message_of messages.now) ≡ None)) }
 {
     let mut methods = Vec::new(alloc);
     for message in messages {
@@ -116,20 +92,16 @@ fn methods(
     Ok(methods)
 }
 
+/// The service that a message states, where its methods name message types.
 pub(crate) fn service(
     alloc: Global,
     names: &BTreeMap<String, Named>,
     outlined: &Outlined<'_>,
 ) -> Result<Service, Unstated>
-    ensures made { IfOk result (λ made. (all : Declared) (scope : List ℕ) (s : StatedService)
-        → HasNames all names.now
-        → string_bytes outlined.now.name
-        ≡ within scope (text_at proto.service_name (message_of outlined.now.message))
-        → StatesService all scope (message_of outlined.now.message) s
-        → service_view made ≡ service_view s) }
-    ensures refused { IfErr result (λ e. (all : Declared) (scope : List ℕ) (s : StatedService)
-        → HasNames all names.now
-        → StatesService all scope (message_of outlined.now.message) s → e ≡ Memory) }
+    ensures made { IfOk result (λ made. service (means_of names.now) (row outlined.now)
+        ≡ Some (service_view made)) }
+    ensures refused { IfErr result (λ e. (e ≡ Memory)
+        ⊎ (service (means_of names.now) (row outlined.now) ≡ None)) }
 {
     let message = &outlined.message;
     let name = outlined.name.clone()?;
@@ -178,8 +150,7 @@ fn numbered(number: u32, found: i128) -> OptionValue
 
 // The value of the option of that number.
 fn option_value(alloc: Global, number: u32, item: &SaidItem<'_>) -> Result<OptionValue, AllocError>
-    ensures { IfOk result (λ made. (v : StatedValue) → shown item.now ≡ option_item v
-        → is_of_kind number v ≡ true → value_of made ≡ value_of v) }
+    ensures { IfOk result (λ made. value_of made ≡ option_value number (shown item.now)) }
 {
     if let Value::Int(_) = item.value() {
         return Ok(numbered(number, number_in(item)));
@@ -195,10 +166,8 @@ fn options_under(
     message: &Said<'_>,
     numbers: &[u32],
 ) -> Result<Vec<FileOption>, AllocError>
-    ensures { IfOk result (λ made. (os : List StatedOption)
-        → StatesThese (message_of message.now) os numbers.now
-        → list_all is_file_option os ≡ true
-        → map option_view made.items ≡ views_under os numbers.now) }
+    ensures { IfOk result (λ made. map option_view made.items
+        ≡ options_under (message_of message.now) numbers.now) }
 {
     let mut options = Vec::new(alloc);
     for number in numbers {
@@ -212,12 +181,22 @@ fn options_under(
     Ok(options)
 }
 
+// The message of a file's options, where there is one.
+fn own_options<'a>(message: &Said<'a>) -> Option<Said<'a>>
+    ensures { unwrap_or (option_map message_of result) (ends [])
+        ≡ options_at proto.file_options (message_of message.now) }
+{
+    let found = item(message, proto::FILE_OPTIONS);
+    match found {
+        Some(value) => child_in(&value),
+        None => None,
+    }
+}
+
 // The options of a file, by rising number.
 fn options(alloc: Global, message: &Said<'_>) -> Result<Vec<FileOption>, AllocError>
-    ensures { IfOk result (λ made. (os : List StatedOption)
-        → StatesOptions (options_at proto.file_options (message_of message.now)) os
-        → is_rising (0 ∷ option_numbers os) ≡ true → list_all is_file_option os ≡ true
-        → map option_view made.items ≡ map option_view os) }
+    ensures { IfOk result (λ made. map option_view made.items
+        ≡ options_under (options_at proto.file_options (message_of message.now)) option_places) }
 {
     let own = own_options(message);
     match own {
@@ -257,11 +236,9 @@ fn imports(alloc: Global, skips: bool, message: &Said<'_>) -> Result<Vec<Import>
     ensures made { IfOk result (λ made. map import_of made.items
         ≡ kept_imports skips (numbers_at proto.file_public_dependency (message_of message.now)) 0
         (texts_at proto.file_dependency (message_of message.now))) }
-    ensures refused { IfErr result (λ e. (is : List StatedImport)
-        → kept_imports skips (numbers_at proto.file_public_dependency (message_of message.now)) 0
-        (texts_at proto.file_dependency (message_of message.now)) ≡ map import_of is
-        → list_all (is_place (length (texts_at proto.file_dependency (message_of message.now))))
-        (numbers_at proto.file_public_dependency (message_of message.now)) ≡ true → e ≡ Memory) }
+    ensures places { OnOk result (has_public_places (message_of message.now) ≡ true) }
+    ensures refused { IfErr result (λ e. has_public_places (message_of message.now) ≡ true
+        → e ≡ Memory) }
 {
     let paths = texts(alloc, message, proto::FILE_DEPENDENCY)?;
     let public = numbers(alloc, message, proto::FILE_PUBLIC_DEPENDENCY)?;
@@ -270,17 +247,16 @@ fn imports(alloc: Global, skips: bool, message: &Said<'_>) -> Result<Vec<Import>
     Ok(imports)
 }
 
-/// The file of a message. Refused, memory aside, only where none is stated.
+/// The file that a message states.
 pub(crate) fn file(
     alloc: Global,
     skips: bool,
     outlined: &OutlinedFile<'_>,
 ) -> Result<File, Unstated>
-    ensures made { IfOk result (λ made. (all : Declared) (f : StatedFile)
-        → IsOutlinedFile all skips outlined.now f → is_file f ≡ true
-        → file_view made ≡ file_view f) }
-    ensures refused { IfErr result (λ e. (all : Declared) (f : StatedFile)
-        → IsOutlinedFile all skips outlined.now f → is_file f ≡ true → e ≡ Memory) }
+    ensures made { IfOk result (λ made. file skips (placed_file outlined.now)
+        ≡ Some (file_view made)) }
+    ensures refused { IfErr result (λ e. (e ≡ Memory)
+        ⊎ (file skips (placed_file outlined.now) ≡ None)) }
 {
     let message = &outlined.message;
     let own_name = text(message, proto::FILE_NAME);

@@ -1,17 +1,16 @@
 //! The parts of a schema, made of what was outlined of a set.
 
-ghost use Rattle.std.specs.Prelude.{◌≡◌, List, IfErr, IfOk, map};
-ghost use Rattle.std.specs.List.{AllByRecursion, AllZip};
-ghost use Rattle.pg_schema.specs.declared.parts.enum_type.EnumType.{EnumType as StatedEnum};
-ghost use Rattle.pg_schema.specs.declared.parts.file.File.{File as StatedFile};
-ghost use Rattle.pg_schema.specs.declared.parts.message_type.MessageType.{MessageType as StatedType};
-ghost use Rattle.pg_schema.specs.declared.parts.Parts.{Parts as StatedParts};
-ghost use Rattle.pg_schema.specs.declared.parts.service.Service.{Service as StatedService};
-ghost use Rattle.pg_schema.specs.rules.Sound.{IsSound};
+ghost use Rattle.std.specs.Prelude.{◌≡◌, ◌⊎◌, None, Some, IfErr, IfOk, map};
 ghost use Rattle.pg_fds.specs.declared.error.Unstated.TheVariants.{Memory};
-ghost use Rattle.pg_fds.specs.Made.{AreOutlined, HasNames, IsMadeEnum, IsMadeFile, IsMadeService, IsMadeType};
-ghost use Rattle.pg_fds.specs.Places.{Declared};
-ghost use Rattle.pg_fds.specs.Small.{IsSmallEnum};
+ghost use Rattle.pg_fds.specs.OutlinedPlaces.{placed_file, placed_type};
+ghost use Rattle.pg_fds.specs.Outlines.{row};
+ghost use Rattle.pg_fds.specs.Owners.{means_of};
+ghost use Rattle.pg_fds.specs.Stated.{parts_by};
+ghost use Rattle.pg_fds.specs.StatedEnums.{enum_type};
+ghost use Rattle.pg_fds.specs.StatedFiles.{file};
+ghost use Rattle.pg_fds.specs.StatedNames.{each};
+ghost use Rattle.pg_fds.specs.StatedServices.{service};
+ghost use Rattle.pg_fds.specs.StatedTypes.{message_type};
 ghost use Rattle.pg_fds.specs.Views.{enum_view, file_view, parts_view, service_view, type_view};
 
 use crate::error::Unstated;
@@ -19,7 +18,7 @@ use crate::made_files::{file, service};
 use crate::made_types::{made_enum, made_type};
 use crate::outline::{Named, Outline, Outlined, OutlinedFile, OutlinedType};
 use pg_schema::{EnumType, File, MessageType, Parts, Service};
-use std::alloc::Global;
+use std::alloc::{AllocError, Global};
 use std::collections::BTreeMap;
 
 // The files.
@@ -28,11 +27,10 @@ fn all_files(
     skips: bool,
     outlined: &[OutlinedFile<'_>],
 ) -> Result<Vec<File>, Unstated>
-    ensures made { IfOk result (λ made. (all : Declared) (cs : List StatedFile)
-        → AllZip (IsMadeFile all skips) outlined.now cs
-        → map file_view made.items ≡ map file_view cs) }
-    ensures refused { IfErr result (λ e. (all : Declared) (cs : List StatedFile)
-        → AllZip (IsMadeFile all skips) outlined.now cs → e ≡ Memory) }
+    ensures made { IfOk result (λ made. each (file skips) (map placed_file outlined.now)
+        ≡ Some (map file_view made.items)) }
+    ensures refused { IfErr result (λ e. (e ≡ Memory)
+        ⊎ (each (file skips) (map placed_file outlined.now) ≡ None)) }
 {
     let mut files = Vec::new(alloc);
     for one in outlined {
@@ -48,11 +46,10 @@ fn all_types(
     names: &BTreeMap<String, Named>,
     outlined: &[OutlinedType<'_>],
 ) -> Result<Vec<MessageType>, Unstated>
-    ensures made { IfOk result (λ made. (all : Declared) (cs : List StatedType)
-        → AllZip (IsMadeType all names.now) outlined.now cs
-        → map type_view made.items ≡ map type_view cs) }
-    ensures refused { IfErr result (λ e. (all : Declared) (cs : List StatedType)
-        → AllZip (IsMadeType all names.now) outlined.now cs → e ≡ Memory) }
+    ensures made { IfOk result (λ made. each (message_type (means_of names.now))
+        (map placed_type outlined.now) ≡ Some (map type_view made.items)) }
+    ensures refused { IfErr result (λ e. (e ≡ Memory)
+        ⊎ (each (message_type (means_of names.now)) (map placed_type outlined.now) ≡ None)) }
 {
     let mut types = Vec::new(alloc);
     for one in outlined {
@@ -63,11 +60,9 @@ fn all_types(
 }
 
 // The enums.
-fn all_enums(alloc: Global, outlined: &[Outlined<'_>]) -> Result<Vec<EnumType>, Unstated>
-    ensures made { IfOk result (λ made. (cs : List StatedEnum) → AllZip IsMadeEnum outlined.now cs
-        → map enum_view made.items ≡ map enum_view cs) }
-    ensures refused { IfErr result (λ e. (cs : List StatedEnum) → AllZip IsMadeEnum outlined.now cs
-        → e ≡ Memory) }
+fn all_enums(alloc: Global, outlined: &[Outlined<'_>]) -> Result<Vec<EnumType>, AllocError>
+    ensures { IfOk result (λ made. map enum_view made.items
+        ≡ map enum_type (map row outlined.now)) }
 {
     let mut enums = Vec::new(alloc);
     for one in outlined {
@@ -83,13 +78,10 @@ fn all_services(
     names: &BTreeMap<String, Named>,
     outlined: &[Outlined<'_>],
 ) -> Result<Vec<Service>, Unstated>
-    ensures made { IfOk result (λ made. (all : Declared) (cs : List StatedService)
-        → HasNames all names.now
-        → AllZip (IsMadeService all) outlined.now cs
-        → map service_view made.items ≡ map service_view cs) }
-    ensures refused { IfErr result (λ e. (all : Declared) (cs : List StatedService)
-        → HasNames all names.now
-        → AllZip (IsMadeService all) outlined.now cs → e ≡ Memory) }
+    ensures made { IfOk result (λ made. each (service (means_of names.now))
+        (map row outlined.now) ≡ Some (map service_view made.items)) }
+    ensures refused { IfErr result (λ e. (e ≡ Memory)
+        ⊎ (each (service (means_of names.now)) (map row outlined.now) ≡ None)) }
 {
     let mut services = Vec::new(alloc);
     for one in outlined {
@@ -99,19 +91,20 @@ fn all_services(
     Ok(services)
 }
 
-/// The parts that the outlined files declare. Refused, memory aside, only where none are stated
-/// that keep to the rules, of numbers that an int32 holds.
+/// The parts that the outlined files state. Refused, memory aside, only where they state none.
 pub(crate) fn made_parts(
     alloc: Global,
     skips: bool,
     outline: &Outline<'_>,
 ) -> Result<Parts, Unstated>
-    ensures made { IfOk result (λ made. (parts : StatedParts) → IsSound parts
-        → AllByRecursion IsSmallEnum parts.enums.items
-        → AreOutlined skips parts outline.now → parts_view made ≡ parts_view parts) }
-    ensures refused { IfErr result (λ e. (parts : StatedParts) → IsSound parts
-        → AllByRecursion IsSmallEnum parts.enums.items
-        → AreOutlined skips parts outline.now → e ≡ Memory) }
+    ensures made { IfOk result (λ made. parts_by (means_of outline.now.names) skips
+        (map placed_file outline.now.files.items) (map placed_type outline.now.types.items)
+        (map row outline.now.enums.items) (map row outline.now.services.items)
+        ≡ Some (parts_view made)) }
+    ensures refused { IfErr result (λ e. (e ≡ Memory)
+        ⊎ (parts_by (means_of outline.now.names) skips
+        (map placed_file outline.now.files.items) (map placed_type outline.now.types.items)
+        (map row outline.now.enums.items) (map row outline.now.services.items) ≡ None)) }
 {
     let names = &outline.names;
     let files = all_files(alloc, skips, &outline.files)?;

@@ -1,45 +1,40 @@
 //! Message types and enums of a schema, made of a set's messages.
 
-ghost use Rattle.std.specs.Prelude.{◌≡◌, ℕ, ◌<◌, pos, false, true, List, FitsSigned, IfErr, IfOk, IfSome, IsPermutation, OnErr, length, map, option_map};
-ghost use Rattle.std.specs.Int.{w32};
-ghost use Rattle.std.specs.List.{AllByRecursion, AllZip, list_all};
-ghost use Rattle.std.specs.List.Sorted.{IsNonDecreasingBy};
+ghost use Rattle.std.specs.Prelude.{◌≡◌, ◌⊎◌, ℕ, ◌<◌, pos, true, false, None, Some, List, IfErr, IfOk, IfSome, OnErr, filter, length, map, option_map};
+ghost use Rattle.std.specs.List.{list_all};
 ghost use Rattle.std.specs.String.{string_bytes};
-ghost use Rattle.pg_schema.specs.declared.parts.enum_type.EnumType.{EnumType as StatedEnum};
-ghost use Rattle.pg_schema.specs.declared.parts.enum_type.EnumValue.{EnumValue as StatedValue};
-ghost use Rattle.pg_schema.specs.declared.parts.enum_type.ReservedValues.{ReservedValues as StatedRange};
-ghost use Rattle.pg_schema.specs.declared.parts.field.Field.{Field as StatedField};
-ghost use Rattle.pg_schema.specs.declared.parts.message_type.MessageType.{MessageType as StatedType};
-ghost use Rattle.pg_schema.specs.declared.parts.message_type.ReservedFields.{ReservedFields as StatedFields};
-ghost use Rattle.pg_schema.specs.rules.DeclaredNames.{within};
-ghost use Rattle.pg_schema.specs.rules.Uses.{is_reserved_range};
+ghost use Rattle.pg_schema.specs.declared.parts.field.Field.{Field};
+ghost use Rattle.pg_schema.specs.Shape.{is_map};
 ghost use Rattle.pg_dyn.specs.Kept.{message_of};
 ghost use Rattle.pg_fds.specs.declared.error.Unstated.TheVariants.{Memory};
 ghost use Rattle.pg_fds.specs.Lent.{lent};
-ghost use Rattle.pg_fds.specs.Made.{AreCounted, HasEntries, HasNamed, StatesFieldAt, StatesMadeType, has_place};
+ghost use Rattle.pg_fds.specs.Made.{AreCounted, has_place};
 ghost use Rattle.pg_fds.specs.MadeMembers.{HasMembers};
-ghost use Rattle.pg_fds.specs.Messages.{declared_fields as fields_of};
-ghost use Rattle.pg_fds.specs.Places.{Declared};
+ghost use Rattle.pg_fds.specs.OutlinedPlaces.{placed_type};
+ghost use Rattle.pg_fds.specs.Outlines.{row, type_row};
+ghost use Rattle.pg_fds.specs.Owners.{means_of, message_in, owner_of};
 ghost use Rattle.pg_fds.specs.Proto as proto;
-ghost use Rattle.pg_fds.specs.Said.{children_at, maybe_number_at, number_at, text_at};
-ghost use Rattle.pg_fds.specs.Small.{AreSmallEnds, IsSmallEnum, IsSmallValue};
-ghost use Rattle.pg_fds.specs.States.{StatesEnum, StatesFieldRange, StatesValue, StatesValueRange};
-ghost use Rattle.pg_fds.specs.StatesTypes.{AreMarked, real_oneofs, synthetic_places as stated_places};
-ghost use Rattle.pg_fds.specs.Views.{field_view, type_view};
+ghost use Rattle.pg_fds.specs.Said.{children_at, maybe_number_at, text_at};
+ghost use Rattle.pg_fds.specs.StatedEnums as stated;
+ghost use Rattle.pg_fds.specs.StatedFields.{field, fields};
+ghost use Rattle.pg_fds.specs.StatedNames.{each};
+ghost use Rattle.pg_fds.specs.StatedTypes.{by_key, declared_fields, field_range, last_named, message_type, number_of};
+ghost use Rattle.pg_fds.specs.SaidTypes.{AreMarked, real_oneofs, synthetic_places as stated_places};
+ghost use Rattle.pg_fds.specs.Views.{enum_view, field_view, type_view, value_view};
 
 use crate::error::Unstated;
+use crate::inner_types::entries_of;
 use crate::made_fields::{Scope, made_field};
-use crate::oneof_states::{marks, real_names, synthetic_places};
+use crate::made_oneofs::{OneofMarks, marks, real_names, synthetic_places};
 use crate::outline::{Named, Outlined, OutlinedType};
 use crate::proto;
 use crate::said::{
-    Said, children, count, ensure, maybe_number, number, option, place_in, text, texts,
+    Said, children, count, ensure, maybe_number, option, place_in, text, texts, whole,
 };
-use crate::type_states::entries_of;
 use crate::types::numbers;
 use pg_schema::{
     EnumOptions, EnumType, EnumValue, EnumValueOptions, Field, MessageOptions, MessageType,
-    ReservedFields, ReservedValues,
+    Presence, ReservedFields, ReservedValues,
 };
 use std::alloc::{AllocError, Global};
 use std::collections::BTreeMap;
@@ -57,37 +52,21 @@ fn copies(alloc: Global, texts: &[&str]) -> Result<Vec<String>, AllocError>
 
 // ---- enums
 
-// The number as one of 32 bits, which a decoded one is.
-fn whole(message: &Said<'_>, field: u32) -> Result<i32, Unstated>
-    ensures ok { IfOk result (λ found. number_at field (message_of message.now) ≡ found) }
-    ensures refused { OnErr result (FitsSigned w32 (number_at field (message_of message.now)) → ⊥) }
-{
-    match i32::try_from(number(message, field)) {
-        Ok(number) => Ok(number),
-        Err(_) => Err(Unstated::Reference),
-    }
-}
-
-fn value(alloc: Global, message: &Said<'_>) -> Result<EnumValue, Unstated>
-    ensures states { IfOk result (StatesValue (message_of message.now)) }
-    ensures refused { IfErr result (λ e. (v : StatedValue) → StatesValue (message_of message.now) v
-        → IsSmallValue v → e ≡ Memory) }
+fn value(alloc: Global, message: &Said<'_>) -> Result<EnumValue, AllocError>
+    ensures { IfOk result (λ made. value_view made ≡ stated.value (message_of message.now)) }
 {
     Ok(EnumValue {
         name: String::from_str(alloc, text(message, proto::VALUE_NAME))?,
-        number: whole(message, proto::VALUE_NUMBER)?,
+        number: whole(message, proto::VALUE_NUMBER),
         options: EnumValueOptions {
             deprecated: option(message, proto::VALUE_OPTIONS, proto::VALUE_DEPRECATED),
         },
     })
 }
 
-fn values(alloc: Global, messages: &[Said<'_>]) -> Result<Vec<EnumValue>, Unstated>
-    ensures states { IfOk result (λ made. AllZip StatesValue
-        (map message_of messages.now) made.items) }
-    ensures refused { IfErr result (λ e. (vs : List StatedValue)
-        → AllZip StatesValue (map message_of messages.now) vs
-        → AllByRecursion IsSmallValue vs → e ≡ Memory) }
+fn values(alloc: Global, messages: &[Said<'_>]) -> Result<Vec<EnumValue>, AllocError>
+    ensures { IfOk result (λ made. map value_view made.items
+        ≡ map stated.value (map message_of messages.now)) }
 {
     let mut values = Vec::new(alloc);
     for message in messages {
@@ -97,41 +76,30 @@ fn values(alloc: Global, messages: &[Said<'_>]) -> Result<Vec<EnumValue>, Unstat
     Ok(values)
 }
 
-fn value_range(message: &Said<'_>) -> Result<ReservedValues, Unstated>
-    ensures states { IfOk result (StatesValueRange (message_of message.now)) }
-    ensures refused { IfErr result (λ e. (r : StatedRange)
-        → StatesValueRange (message_of message.now) r → AreSmallEnds r → e ≡ Memory) }
+fn value_range(message: &Said<'_>) -> ReservedValues
+    ensures { result ≡ stated.range (message_of message.now) }
 {
-    Ok(ReservedValues {
-        first: whole(message, proto::RANGE_START)?,
-        last: whole(message, proto::RANGE_END)?,
-    })
+    ReservedValues {
+        first: whole(message, proto::RANGE_START),
+        last: whole(message, proto::RANGE_END),
+    }
 }
 
-fn value_ranges(alloc: Global, messages: &[Said<'_>]) -> Result<Vec<ReservedValues>, Unstated>
-    ensures states { IfOk result (λ made. AllZip StatesValueRange
-        (map message_of messages.now) made.items) }
-    ensures refused { IfErr result (λ e. (rs : List StatedRange)
-        → AllZip StatesValueRange (map message_of messages.now) rs
-        → AllByRecursion AreSmallEnds rs → e ≡ Memory) }
+fn value_ranges(alloc: Global, messages: &[Said<'_>]) -> Result<Vec<ReservedValues>, AllocError>
+    ensures { IfOk result (λ made. made.items
+        ≡ map stated.range (map message_of messages.now)) }
 {
     let mut ranges = Vec::new(alloc);
     for message in messages {
-        let made = value_range(message)?;
+        let made = value_range(message);
         ranges.push(made)?;
     }
     Ok(ranges)
 }
 
-/// The enum of a message, which states it. Refused, memory aside, only where none is stated, of
-/// numbers that an int32 holds.
-pub(crate) fn made_enum(alloc: Global, outlined: &Outlined<'_>) -> Result<EnumType, Unstated>
-    ensures states { IfOk result (λ made. (scope : List ℕ) → string_bytes outlined.now.name
-        ≡ within scope (text_at proto.enum_name (message_of outlined.now.message))
-        → StatesEnum scope (message_of outlined.now.message) made) }
-    ensures refused { IfErr result (λ e. (scope : List ℕ) (stated : StatedEnum)
-        → StatesEnum scope (message_of outlined.now.message) stated
-        → IsSmallEnum stated → e ≡ Memory) }
+/// The enum that a message states.
+pub(crate) fn made_enum(alloc: Global, outlined: &Outlined<'_>) -> Result<EnumType, AllocError>
+    ensures { IfOk result (λ made. enum_view made ≡ stated.enum_type (row outlined.now)) }
 {
     let message = &outlined.message;
     let name = outlined.name.clone()?;
@@ -157,8 +125,7 @@ pub(crate) fn made_enum(alloc: Global, outlined: &Outlined<'_>) -> Result<EnumTy
 
 // The reserved numbers, which end before the second number.
 fn field_range(message: &Said<'_>) -> ReservedFields
-    ensures { (r : StatedFields) → StatesFieldRange (message_of message.now) r
-        → is_reserved_range r ≡ true → result ≡ r }
+    ensures { result ≡ field_range (message_of message.now) }
 {
     let end = count(message, proto::RANGE_END);
     ReservedFields {
@@ -168,9 +135,8 @@ fn field_range(message: &Said<'_>) -> ReservedFields
 }
 
 fn field_ranges(alloc: Global, messages: &[Said<'_>]) -> Result<Vec<ReservedFields>, AllocError>
-    ensures { IfOk result (λ made. (rs : List StatedFields)
-        → AllZip StatesFieldRange (map message_of messages.now) rs
-        → list_all is_reserved_range rs ≡ true → made.items ≡ rs) }
+    ensures { IfOk result (λ made. made.items
+        ≡ map field_range (map message_of messages.now)) }
 {
     let mut ranges = Vec::new(alloc);
     for message in messages {
@@ -210,12 +176,13 @@ fn member_counts(alloc: Global, fields: &[Said<'_>], count: usize) -> Result<Vec
     Ok(counts)
 }
 
-// The entry types by their names.
+// The entry types by their names: of those of one name the last.
 fn entries<'a>(
     alloc: Global,
     messages: &[Said<'a>],
 ) -> Result<BTreeMap<String, Said<'a>>, AllocError>
-    ensures { IfOk result (λ table. HasNamed table messages.now) }
+    ensures { IfOk result (λ table. (name : List ℕ) → message_in table name
+        ≡ last_named (map message_of messages.now) name) }
 {
     let mut entries = BTreeMap::new(alloc);
     for message in messages {
@@ -225,39 +192,63 @@ fn entries<'a>(
     Ok(entries)
 }
 
-// The fields of the messages, in their order. Each of the entry types is named by one.
-fn fields<'a>(
+// The fields of these messages, one by one.
+fn each_field(
     alloc: Global,
     scope: &Scope<'_>,
-    entries: BTreeMap<String, Said<'a>>,
     messages: &[Said<'_>],
 ) -> Result<Vec<Field>, Unstated>
-    ensures made { IfOk result (λ made. (all : Declared) (fs : List StatedField)
-        → HasEntries all entries.entry fs
-        → AllZip (StatesFieldAt all scope.now.names.now scope.now.name.now scope.now.synthetic.items
-        scope.now.members.items) (map message_of messages.now) fs
-        → map field_view made.items ≡ map field_view fs) }
-    ensures refused { IfErr result (λ e. (all : Declared) (fs : List StatedField)
-        → HasEntries all entries.entry fs
-        → AllZip (StatesFieldAt all scope.now.names.now scope.now.name.now scope.now.synthetic.items
-        scope.now.members.items) (map message_of messages.now) fs
-        → e ≡ Memory) }
+    ensures made { IfOk result (λ made. each (field (means_of scope.now.names.now)
+        (owner_of scope.now)) (map message_of messages.now)
+        ≡ Some (map field_view made.items)) }
+    ensures refused { IfErr result (λ e. (e ≡ Memory)
+        ⊎ (each (field (means_of scope.now.names.now) (owner_of scope.now))
+        (map message_of messages.now) ≡ None)) }
 {
-    let mut left = entries;
     let mut fields = Vec::new(alloc);
     for message in messages {
-        let made = made_field(alloc, scope, &mut left, message)?;
+        let made = made_field(alloc, scope, message)?;
         fields.push(made)?;
     }
-    ensure(left.is_empty())?;
+    Ok(fields)
+}
+
+// How many of the fields are maps.
+fn map_count(fields: &[Field]) -> usize
+    ensures { result ≡ length (filter (λ (f : Field). is_map f.presence) fields.now) }
+{
+    let mut count = 0;
+    for field in fields {
+        if matches!(field.presence, Presence::Map { .. }) {
+            count += 1;
+        }
+    }
+    count
+}
+
+// The fields of these messages, where just so many are maps.
+fn fields(
+    alloc: Global,
+    scope: &Scope<'_>,
+    entries: usize,
+    messages: &[Said<'_>],
+) -> Result<Vec<Field>, Unstated>
+    ensures made { IfOk result (λ made. fields (means_of scope.now.names.now)
+        (owner_of scope.now) entries (map message_of messages.now)
+        ≡ Some (map field_view made.items)) }
+    ensures refused { IfErr result (λ e. (e ≡ Memory)
+        ⊎ (fields (means_of scope.now.names.now) (owner_of scope.now) entries
+        (map message_of messages.now) ≡ None)) }
+{
+    let fields = each_field(alloc, scope, messages)?;
+    ensure(map_count(&fields) == entries)?;
     Ok(fields)
 }
 
 // The fields by rising number.
-fn by_number(mut fields: Vec<Field>) -> Result<Vec<Field>, AllocError>
-    ensures same { IfOk result (λ sorted. IsPermutation fields.items sorted.items) }
-    ensures rising { IfOk result (λ sorted. IsNonDecreasingBy
-        (λ (f : StatedField). f.number) sorted.items) }
+fn sorted(mut fields: Vec<Field>) -> Result<Vec<Field>, AllocError>
+    ensures { IfOk result (λ sorted. map field_view sorted.items
+        ≡ by_key number_of (map field_view fields.items)) }
 {
     fields.sort_by_key(|field| field.number)?;
     Ok(fields)
@@ -277,23 +268,24 @@ fn declared_fields(
     requires marked { AreMarked (stated_places (map message_of own.now))
         (length (children_at proto.message_oneof_decl (message_of outlined.now.message)))
         synthetic.items }
-    ensures made { IfOk result (λ made. (all : Declared) (scope : List ℕ) (t : StatedType)
-        → StatesMadeType all names.now scope outlined.now t
-        → map field_view made.items ≡ map field_view (fields_of t)) }
-    ensures refused { IfErr result (λ e. (all : Declared) (scope : List ℕ) (t : StatedType)
-        → StatesMadeType all names.now scope outlined.now t → e ≡ Memory) }
+    ensures made { IfOk result (λ made. declared_fields (means_of names.now)
+        (type_row outlined.now) ≡ Some (map field_view made.items)) }
+    ensures refused { IfErr result (λ e. (e ≡ Memory)
+        ⊎ (declared_fields (means_of names.now) (type_row outlined.now) ≡ None)) }
 {
     let inside = children(alloc, &outlined.message, proto::MESSAGE_NESTED_TYPE)?;
     let messages = entries_of(alloc, &inside)?;
     let entries = entries(alloc, &messages)?;
     let members = member_counts(alloc, own, synthetic.len())?;
+    let marks = OneofMarks::new(alloc, synthetic)?;
     let scope = Scope {
         names,
         name: outlined.name.as_str(),
-        synthetic,
+        synthetic: marks,
         members,
+        entries,
     };
-    fields(alloc, &scope, entries, own)
+    fields(alloc, &scope, messages.len(), own)
 }
 
 // Own copies of the names of the oneofs that aren't synthetic.
@@ -312,12 +304,10 @@ fn oneof_names(
     copies(alloc, &names)
 }
 
-// The fields of a message type by rising number, their numbers in order of declaration, and its
-// oneofs.
+// The fields of a message type in order of declaration, and the names of its oneofs.
 #[derive(Drop)]
 struct Members {
     fields: Vec<Field>,
-    declared: Vec<u32>,
     oneofs: Vec<String>,
 }
 
@@ -338,21 +328,13 @@ fn marked_members(
         ≡ children_at proto.message_oneof_decl (message_of outlined.now.message) }
     requires places { places.now ≡ stated_places (map message_of own.now) }
     requires marked { AreMarked places.now (length inside.now) synthetic.items }
-    ensures made { IfOk result (λ made. (all : Declared) (scope : List ℕ) (t : StatedType)
-        → StatesMadeType all names.now scope outlined.now t
-        → HasMembers made t) }
-    ensures refused { IfErr result (λ e. (all : Declared) (scope : List ℕ) (t : StatedType)
-        → StatesMadeType all names.now scope outlined.now t → e ≡ Memory) }
+    ensures made { IfOk result (HasMembers names.now (type_row outlined.now)) }
+    ensures refused { IfErr result (λ e. (e ≡ Memory)
+        ⊎ (declared_fields (means_of names.now) (type_row outlined.now) ≡ None)) }
 {
     let oneofs = oneof_names(alloc, inside, places, &synthetic)?;
-    let made = declared_fields(alloc, names, outlined, own, synthetic)?;
-    let declared = numbers(alloc, &made)?;
-    let fields = by_number(made)?;
-    Ok(Members {
-        fields,
-        declared,
-        oneofs,
-    })
+    let fields = declared_fields(alloc, names, outlined, own, synthetic)?;
+    Ok(Members { fields, oneofs })
 }
 
 // The members of a message type, of its messages of fields and oneofs.
@@ -367,11 +349,9 @@ fn members_of(
         ≡ children_at proto.message_field (message_of outlined.now.message) }
     requires inside { map message_of inside.now
         ≡ children_at proto.message_oneof_decl (message_of outlined.now.message) }
-    ensures made { IfOk result (λ made. (all : Declared) (scope : List ℕ) (t : StatedType)
-        → StatesMadeType all names.now scope outlined.now t
-        → HasMembers made t) }
-    ensures refused { IfErr result (λ e. (all : Declared) (scope : List ℕ) (t : StatedType)
-        → StatesMadeType all names.now scope outlined.now t → e ≡ Memory) }
+    ensures made { IfOk result (HasMembers names.now (type_row outlined.now)) }
+    ensures refused { IfErr result (λ e. (e ≡ Memory)
+        ⊎ (declared_fields (means_of names.now) (type_row outlined.now) ≡ None)) }
 {
     let places = synthetic_places(alloc, own)?;
     let synthetic = marks(alloc, &places, inside.len())?;
@@ -384,28 +364,25 @@ fn made_members(
     names: &BTreeMap<String, Named>,
     outlined: &OutlinedType<'_>,
 ) -> Result<Members, Unstated>
-    ensures made { IfOk result (λ made. (all : Declared) (scope : List ℕ) (t : StatedType)
-        → StatesMadeType all names.now scope outlined.now t
-        → HasMembers made t) }
-    ensures refused { IfErr result (λ e. (all : Declared) (scope : List ℕ) (t : StatedType)
-        → StatesMadeType all names.now scope outlined.now t → e ≡ Memory) }
+    ensures made { IfOk result (HasMembers names.now (type_row outlined.now)) }
+    ensures refused { IfErr result (λ e. (e ≡ Memory)
+        ⊎ (declared_fields (means_of names.now) (type_row outlined.now) ≡ None)) }
 {
     let own = children(alloc, &outlined.message, proto::MESSAGE_FIELD)?;
     let inside = children(alloc, &outlined.message, proto::MESSAGE_ONEOF_DECL)?;
     members_of(alloc, names, outlined, &own, &inside)
 }
 
-/// The message type of a message. Refused, memory aside, only where none is stated.
+/// The message type that a message states. Refused, memory aside, only where it states none.
 pub(crate) fn made_type(
     alloc: Global,
     names: &BTreeMap<String, Named>,
     outlined: &OutlinedType<'_>,
 ) -> Result<MessageType, Unstated>
-    ensures made { IfOk result (λ made. (all : Declared) (scope : List ℕ) (t : StatedType)
-        → StatesMadeType all names.now scope outlined.now t
-        → type_view made ≡ type_view t) }
-    ensures refused { IfErr result (λ e. (all : Declared) (scope : List ℕ) (t : StatedType)
-        → StatesMadeType all names.now scope outlined.now t → e ≡ Memory) }
+    ensures made { IfOk result (λ made. message_type (means_of names.now)
+        (placed_type outlined.now) ≡ Some (type_view made)) }
+    ensures refused { IfErr result (λ e. (e ≡ Memory)
+        ⊎ (message_type (means_of names.now) (placed_type outlined.now) ≡ None)) }
 {
     let message = &outlined.message;
     let members = made_members(alloc, names, outlined)?;
@@ -417,10 +394,11 @@ pub(crate) fn made_type(
     let name = outlined.name.clone()?;
     let nested_types = outlined.types.clone()?;
     let nested_enums = outlined.enums.clone()?;
+    let declared = numbers(alloc, &members.fields)?;
     Ok(MessageType {
         name,
-        fields: members.fields,
-        declared: members.declared,
+        fields: sorted(members.fields)?,
+        declared,
         oneofs: members.oneofs,
         nested_types,
         nested_enums,

@@ -29,7 +29,6 @@ use crate::proto::{
 };
 use crate::scope::names_within;
 use crate::synthetic::synthetic_oneofs;
-use crate::type_states::declared_fields;
 use pg_dyn::{Message, Value};
 use pg_schema::{Field, MessageType, ReservedFields, Schema, TypeId};
 use std::alloc::{AllocError, Global};
@@ -125,6 +124,26 @@ fn oneofs(
     push_oneofs(alloc, table, &mut made, &message_type.oneofs)?;
     push_oneofs(alloc, table, &mut made, &synthetic)?;
     Ok(made)
+}
+
+// The fields of the message type at that place, in order of declaration. Refused only where memory
+// is.
+fn declared_fields<'a>(
+    alloc: Global,
+    source: &'a Schema,
+    id: TypeId,
+    message_type: &MessageType,
+) -> Result<Vec<&'a Field>, AllocError>
+    requires { type_at source.now id ≡ Some message_type.now }
+    ensures { IfOk result (λ fields. lent fields.items ≡ declared_fields message_type.now) }
+{
+    let mut fields = Vec::new(alloc);
+    for number in &message_type.declared {
+        if let Some(field) = source.field(id, *number) {
+            fields.push(field)?;
+        }
+    }
+    Ok(fields)
 }
 
 // The fields of the message type at that place, in order of declaration.

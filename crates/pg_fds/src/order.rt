@@ -1,6 +1,6 @@
 //! The order of a set's files: each behind those that it imports.
 
-ghost use Rattle.std.specs.Prelude.{◌≡◌, ◌⊎◌, false, true, ℕ, List, IfErr, IfOk, OnOk, map};
+ghost use Rattle.std.specs.Prelude.{◌≡◌, ◌⊎◌, false, true, ℕ, List, Some, None, IfErr, IfOk, OnOk, map};
 ghost use Rattle.std.specs.List.{list_all};
 ghost use Rattle.pg_schema.specs.rules.Pairs.{are_distinct};
 ghost use Rattle.pg_schema.specs.rules.TextSets.{is_among};
@@ -8,14 +8,15 @@ ghost use Rattle.pg_dyn.specs.Kept.{message_of};
 ghost use Rattle.pg_fds.specs.declared.error.Unstated.TheVariants as errors;
 ghost use Rattle.pg_fds.specs.Lent.{lent};
 ghost use Rattle.pg_fds.specs.FilePlaces.{AreOrdered, ImportsAt, IsIndex, StandAt, importer, importers};
-ghost use Rattle.pg_fds.specs.PostOrder.{HasNoOrder, imports_once, kept_paths, paths_of};
-ghost use Rattle.pg_fds.specs.Reads.{importer_of};
+ghost use Rattle.pg_fds.specs.Outlines.{files_at};
+ghost use Rattle.pg_fds.specs.PostOrder.{HasNoOrder, importer_of, imports_once, kept_paths, paths_of};
+ghost use Rattle.pg_fds.specs.StatedOrder.{in_post_order};
 ghost use Rattle.pg_fds.specs.Walks.{lists_of};
 
 use crate::error::Unstated;
-use crate::file_states::is_left_out;
 use crate::proto;
 use crate::said::{Said, text, texts};
+use crate::set_files::is_left_out;
 use crate::walk::post_order;
 use std::alloc::{AllocError, Global};
 use std::collections::{BTreeMap, BTreeSet};
@@ -147,8 +148,12 @@ fn importing_files<'a>(alloc: Global, files: &[Said<'a>]) -> Result<Vec<Importin
 pub(crate) fn order(alloc: Global, skips: bool, files: &[Said<'_>]) -> Result<Vec<usize>, Unstated>
     ensures ok { IfOk result (λ order. AreOrdered skips
         (map importer_of (map message_of files.now)) order.items) }
+    ensures in_order { IfOk result (λ order. in_post_order skips (map message_of files.now)
+        ≡ Some (files_at (map message_of files.now) order.items)) }
     ensures refused { IfErr result (λ e. (e ≡ errors.Memory)
         ⊎ HasNoOrder skips (map importer_of (map message_of files.now))) }
+    ensures none { IfErr result (λ e. (e ≡ errors.Memory)
+        ⊎ (in_post_order skips (map message_of files.now) ≡ None)) }
 {
     let found = importing_files(alloc, files)?;
     order_of(alloc, skips, &found)

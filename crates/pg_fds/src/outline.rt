@@ -1,29 +1,30 @@
 //! What a set declares: the places of message types, enums and services, and all full names. Memory
 //! aside, names are refused only where one stands twice or is a part of a package.
 
-ghost use Rattle.std.specs.Prelude.{◌≡◌, ◌+◌, ◌<◌, ◌≤◌, ◌^◌, ◌++◌, ◌∷◌, [], ℕ, true, IfErr, IfOk, List, OnErr, OnOk, filter, length, map};
+ghost use Rattle.std.specs.Prelude.{◌≡◌, ◌⊎◌, ◌+◌, ◌<◌, ◌≤◌, ◌^◌, ◌++◌, ◌∷◌, [], true, false, IfErr, IfOk, List, OnErr, OnOk, filter, flat_map, length, map};
 ghost use Rattle.std.specs.List.{AllByRecursion};
 ghost use Rattle.pg_schema.specs.rules.Scopes.{enum_places, type_places};
-ghost use Rattle.pg_schema.specs.rules.TextSets.{is_among};
 ghost use Rattle.pg_dyn.specs.Kept.{message_of};
 ghost use Rattle.pg_fds.specs.declared.error.Unstated.TheVariants.{Memory};
-ghost use Rattle.pg_fds.specs.Outlines.{AreTypesNamed, IsTypeNamed, MayDeclare, MayPlace, NameOneofs, NamesOneofs, enum_rows, files_at, type_row, type_rows};
+ghost use Rattle.pg_fds.specs.Declarations.{Adds, CannotAdd, file_declared, members_declared, package_declared, type_declared, types_declared};
+ghost use Rattle.pg_fds.specs.Outlines.{NameOneofs, NamesOneofs, StayFew, enum_rows, file_enums, file_types, files_at, type_row, type_rows};
 ghost use Rattle.pg_fds.specs.OutlinedPlaces.{PlacedType, counts_of, placed_type, places_of_types, without_inside};
-ghost use Rattle.pg_fds.specs.OutlinedScopes.{OutlinesFile, OutlinesFiles, OutlinesTypes};
-ghost use Rattle.pg_fds.specs.SetNames.{Declares, WantsMemory, file_names, member_names, own_names, types_names};
-ghost use Rattle.pg_fds.specs.StatesTypes.{is_entry};
+ghost use Rattle.pg_fds.specs.OutlinedScopes.{MayPlace, OutlinesFile, OutlinesFiles, OutlinesTypes};
+ghost use Rattle.pg_fds.specs.Owners.{means_of};
+ghost use Rattle.pg_fds.specs.StatedTable.{may_declare, meaning};
+ghost use Rattle.pg_fds.specs.SaidTypes.{is_entry};
 
 mod enums;
 mod services;
 
 use crate::declare::{declare, declare_each, declare_package, real_oneofs};
 use crate::error::Unstated;
-use crate::oneof_states::{marks, synthetic_places};
+use crate::inner_types::{entries_of, types_of};
+use crate::made_oneofs::{marks, synthetic_places};
 use crate::outline::enums::outline_enums;
 use crate::outline::services::outline_services;
 use crate::proto;
 use crate::said::{Said, children, text};
-use crate::type_states::{entries_of, types_of};
 use pg_schema::{EnumId, ServiceId, TypeId, full_name};
 use std::alloc::Global;
 use std::collections::BTreeMap;
@@ -93,11 +94,11 @@ fn declare_members(
     full: &str,
     message: &Said<'_>,
 ) -> Result<(), Unstated>
-    ensures declares { OnOk result ((packages : List (List ℕ))
-        → Declares packages (member_names full.now (message_of message.now)) names.old names.new) }
+    ensures adds { OnOk result (Adds (members_declared full.now (message_of message.now))
+        names.old names.new) }
+    ensures oneofs { OnOk result (NamesOneofs (message_of message.now)) }
     ensures refused { IfErr result (λ e. NamesOneofs (message_of message.now)
-        → (packages : List (List ℕ))
-        → WantsMemory packages (member_names full.now (message_of message.now)) names.old e) }
+        → CannotAdd (members_declared full.now (message_of message.now)) names.old e) }
 {
     let fields = children(alloc, message, proto::MESSAGE_FIELD)?;
     let oneofs = children(alloc, message, proto::MESSAGE_ONEOF_DECL)?;
@@ -117,12 +118,11 @@ fn declare_type(
     id: TypeId,
     message: &Said<'_>,
 ) -> Result<(), Unstated>
-    ensures has { OnOk result (IsTypeNamed names.new id.index (full.now, message_of message.now)) }
-    ensures declares { OnOk result ((packages : List (List ℕ))
-        → Declares packages (own_names full.now (message_of message.now)) names.old names.new) }
+    ensures adds { OnOk result (Adds
+        (type_declared full.now id.index (message_of message.now)) names.old names.new) }
+    ensures oneofs { OnOk result (NamesOneofs (message_of message.now)) }
     ensures refused { IfErr result (λ e. NamesOneofs (message_of message.now)
-        → (packages : List (List ℕ))
-        → WantsMemory packages (own_names full.now (message_of message.now)) names.old e) }
+        → CannotAdd (type_declared full.now id.index (message_of message.now)) names.old e) }
 {
     let name = String::from_str(alloc, full)?;
     declare(names, name, Named::Type(id))?;
@@ -137,16 +137,14 @@ fn declare_type(
 // ---- files
 
 // Puts the parts of a package in the table, where it has a name.
-#[tactic(auto, using(crate::proofs::NameTable::declares_none))]
+#[tactic(auto, using(crate::proofs::Declaring::adds_none))]
 fn declare_scope(
     alloc: Global,
     names: &mut BTreeMap<String, Named>,
     scope: &str,
 ) -> Result<(), Unstated>
-    ensures declares { OnOk result ((packages : List (List ℕ)) → is_among packages scope.now ≡ true
-        → Declares packages [] names.old names.new) }
-    ensures refused { IfErr result (λ e. (packages : List (List ℕ))
-        → is_among packages scope.now ≡ true → WantsMemory packages [] names.old e) }
+    ensures adds { OnOk result (Adds (package_declared scope.now) names.old names.new) }
+    ensures refused { IfErr result (CannotAdd (package_declared scope.now) names.old) }
 {
     if scope.is_empty() {
         return Ok(());
@@ -185,16 +183,16 @@ impl<'a> Outline<'a> {
             ((self.new.enums.items ≡ self.old.enums.items)
             × (self.new.services.items ≡ self.old.services.items)
             × (self.new.files.items ≡ self.old.files.items)) }
-        ensures named { OnOk result (AreTypesNamed self.old.names
-            (map type_row self.old.types.items)
-            → AreTypesNamed self.new.names (map type_row self.new.types.items)) }
-        ensures declares { OnOk result ((packages : List (List ℕ))
-            → Declares packages (own_names name.now (message_of message.now)) self.old.names
-            self.new.names) }
+        ensures adds { OnOk result (Adds
+            (type_declared name.now (length self.old.types.items) (message_of message.now))
+            self.old.names self.new.names) }
+        ensures few { OnOk result (StayFew self.old.types.items self.new.types.items) }
+        ensures oneofs { OnOk result (NamesOneofs (message_of message.now)) }
         ensures refused { IfErr result
             (λ e. length self.old.types.items < 2 ^ 32 → NamesOneofs (message_of message.now)
-            → (packages : List (List ℕ))
-            → WantsMemory packages (own_names name.now (message_of message.now)) self.old.names e) }
+            → CannotAdd
+            (type_declared name.now (length self.old.types.items) (message_of message.now))
+            self.old.names e) }
     {
         let index = next_place(self.types.len())?;
         let id = TypeId { index };
@@ -249,8 +247,8 @@ impl<'a> Outline<'a> {
             (type_rows depth scope.now (map message_of messages.now)) ≤ 2 ^ 32
             → length self.old.enums.items + length
             (enum_rows depth scope.now (map message_of messages.now)) ≤ 2 ^ 32
-            → NameOneofs depth (map message_of messages.now) → (packages : List (List ℕ))
-            → WantsMemory packages (types_names depth scope.now
+            → NameOneofs depth (map message_of messages.now)
+            → CannotAdd (types_declared depth scope.now (counts_of self.old)
             (map message_of messages.now)) self.old.names e) }
     {
         let mut ids = Vec::new(alloc);
@@ -285,10 +283,10 @@ impl<'a> Outline<'a> {
     ) -> Result<(), Unstated>
         ensures outlined { OnOk result (OutlinesFile depth (message_of message.now)
             self.old self.new) }
-        ensures refused { IfErr result (λ e. (packages : List (List ℕ))
-            → MayPlace depth (length self.old.types.items) (length self.old.enums.items)
-            (length self.old.services.items) packages (message_of message.now)
-            → WantsMemory packages (file_names depth (message_of message.now)) self.old.names e) }
+        ensures refused { IfErr result (λ e.
+            MayPlace depth (counts_of self.old) (message_of message.now)
+            → CannotAdd (file_declared depth (counts_of self.old) (message_of message.now))
+            self.old.names e) }
     {
         let scope = text(message, proto::FILE_PACKAGE);
         declare_scope(alloc, &mut self.names, scope)?;
@@ -319,6 +317,7 @@ impl<'a> Outline<'a> {
 }
 
 /// What the files declare, taken in that order, with message types nested less deep than that.
+/// Refused, memory aside, only where not all of it may stand in one table.
 pub(crate) fn outline_files<'a>(
     alloc: Global,
     depth: usize,
@@ -327,9 +326,14 @@ pub(crate) fn outline_files<'a>(
 ) -> Result<Outline<'a>, Unstated>
     ensures outlined { IfOk result (OutlinesFiles depth
         (files_at (map message_of files.now) order.now)) }
-    ensures refused { IfErr result (λ e. AllByRecursion
-        (λ place. place < length files.now) order.now
-        → MayDeclare depth (files_at (map message_of files.now) order.now) → e ≡ Memory) }
+    ensures may { OnOk result (may_declare depth
+        (files_at (map message_of files.now) order.now) ≡ true) }
+    ensures means { IfOk result (λ outline. means_of outline.names
+        ≡ meaning (flat_map (file_types depth) (files_at (map message_of files.now) order.now))
+        (flat_map (file_enums depth) (files_at (map message_of files.now) order.now))) }
+    ensures none { IfErr result (λ e. AllByRecursion
+        (λ place. place < length files.now) order.now → (e ≡ Memory)
+        ⊎ (may_declare depth (files_at (map message_of files.now) order.now) ≡ false)) }
 {
     let mut outline = Outline {
         files: Vec::new(alloc),

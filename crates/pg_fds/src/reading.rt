@@ -1,38 +1,36 @@
 //! Descriptor sets, read.
 
-ghost use Rattle.std.specs.Prelude.{ℕ, ◌≡◌, List, Some, IfErr, IfOk, OnOk, map};
+ghost use Rattle.std.specs.Prelude.{◌≡◌, ◌⊎◌, ℕ, List, None, Some, IfErr, IfOk, map};
 ghost use Rattle.std.specs.List.{list_all};
 ghost use Rattle.pg_schema.specs.declared.parts.Parts.{Parts as StatedParts};
 ghost use Rattle.pg_schema.specs.rules.Sound.{IsSound};
 ghost use Rattle.pg_check.specs.admitting.PartErrors.{IsRefusedOf};
 ghost use Rattle.pg_dyn.specs.reading.Decoding.{dec};
-ghost use Rattle.pg_dyn.specs.Fits.{Fits};
-ghost use Rattle.pg_dyn.specs.Kept.{message_of, type_of};
 ghost use Rattle.pg_dyn.specs.reading.Refusals.{MayRefuse};
-ghost use Rattle.pg_fds.specs.declared.error.FdsError.TheVariants as errors;
-ghost use Rattle.pg_fds.specs.declared.error.Unstated.TheVariants as unstated;
+ghost use Rattle.pg_dyn.specs.Kept.{message_of};
+ghost use Rattle.pg_fds.specs.declared.error.Unstated.TheVariants.{Memory};
 ghost use Rattle.pg_fds.specs.Building.{written_shape};
 ghost use Rattle.pg_fds.specs.Descriptor.{file_set};
 ghost use Rattle.pg_fds.specs.FilePlaces.{AreOrdered};
-ghost use Rattle.pg_fds.specs.InOrder.{StandInOrder};
-ghost use Rattle.pg_fds.specs.Reads.{CanBeMade, IsHeld, States, StatesFiles, fds_reads, importer_of, kept_files};
-ghost use Rattle.pg_fds.specs.Refused.{IsOfBytes, IsOfParts, MayRefuseFiles, MayRefuseSet, NoneIsStated, StatesNoneHeld};
-ghost use Rattle.pg_fds.specs.StatesFiles.{is_proto3, most_deep};
-ghost use Rattle.pg_fds.specs.Texts.{AreTexts};
+ghost use Rattle.pg_fds.specs.Held.{IsHeldMessage};
+ghost use Rattle.pg_fds.specs.Outlines.{files_at};
+ghost use Rattle.pg_fds.specs.PostOrder.{importer_of};
+ghost use Rattle.pg_fds.specs.Reads.{IsHeld, fds_reads};
+ghost use Rattle.pg_fds.specs.Refused.{IsOfParts, IsOfRules, MayRefuseFiles, MayRefuseSet, NoneIsStated};
+ghost use Rattle.pg_fds.specs.SaidFiles.{is_proto3, kept_files, most_deep, skips};
+ghost use Rattle.pg_fds.specs.Stated.{declared_by, stated, stated_files, stated_of};
 ghost use Rattle.pg_fds.specs.Views.{parts_view};
 
 use crate::codes::files_have_types;
 use crate::descriptor::descriptor_schema;
 use crate::error::{FdsError, Unstated};
-use crate::file_states::is_proto3;
-use crate::in_order::in_order;
 use crate::made_parts::made_parts;
 use crate::order::order;
 use crate::outline::outline_files;
 use crate::places::SET;
 use crate::proto;
 use crate::said::{Said, children};
-use crate::set_states::{kept, skips, states_files};
+use crate::set_files::{is_proto3, kept, skips};
 use pg_check::{CheckError, admit};
 use pg_dyn::laws::faults_are_real;
 use pg_dyn::{DEFAULT_DEPTH_LIMIT, DynError, Message, decode};
@@ -41,9 +39,8 @@ use std::alloc::Global;
 
 // What is told of bytes that the codec refuses so.
 fn undecoded(error: DynError) -> FdsError
-    ensures refused { (bytes : List ℕ) → MayRefuse written_shape file_set most_deep bytes error
+    ensures { (bytes : List ℕ) → MayRefuse written_shape file_set most_deep bytes error
         → MayRefuseSet bytes result }
-    ensures of_bytes { IsOfBytes result }
 {
     match error {
         DynError::Memory => FdsError::Memory,
@@ -55,10 +52,8 @@ fn undecoded(error: DynError) -> FdsError
 fn decoded(alloc: Global, bytes: &[u8]) -> Result<Message, FdsError>
     ensures message { IfOk result (λ set. dec written_shape file_set bytes.now
         ≡ Some (message_of set)) }
-    ensures fits { IfOk result (λ set. Fits written_shape set × (type_of set ≡ file_set)) }
-    ensures texts { IfOk result AreTexts }
+    ensures texts { IfOk result IsHeldMessage }
     ensures refused { IfErr result (MayRefuseSet bytes.now) }
-    ensures of_bytes { IfErr result IsOfBytes }
 {
     let table = descriptor_schema(alloc)?;
     match decode(alloc, &table, SET, bytes, DEFAULT_DEPTH_LIMIT) {
@@ -80,15 +75,15 @@ fn are_proto3(files: &[Said<'_>]) -> bool
     true
 }
 
-// The parts that the files declare, in that order: they say what those say that the files state.
-// Refused, memory aside, only where they state none.
+// The parts that the files declare, in that order. Refused, memory aside, only where they declare
+// none.
 fn parts(alloc: Global, skips: bool, files: &[Said<'_>], order: &[usize]) -> Result<Parts, Unstated>
     requires { AreOrdered skips (map importer_of (map message_of files.now)) order.now }
-    ensures made { IfOk result (λ made. (parts : StatedParts) → CanBeMade parts
-        → StatesFiles skips (map message_of files.now) parts
-        → parts_view made ≡ parts_view parts) }
-    ensures none { IfErr result (λ e. (parts : StatedParts) → CanBeMade parts
-        → StatesFiles skips (map message_of files.now) parts → e ≡ unstated.Memory) }
+    ensures made { IfOk result (λ made.
+        declared_by skips (files_at (map message_of files.now) order.now)
+        ≡ Some (parts_view made)) }
+    ensures none { IfErr result (λ e. (e ≡ Memory)
+        ⊎ (declared_by skips (files_at (map message_of files.now) order.now) ≡ None)) }
 {
     let outline = outline_files(alloc, DEFAULT_DEPTH_LIMIT, files, order)?;
     made_parts(alloc, skips, &outline)
@@ -96,9 +91,7 @@ fn parts(alloc: Global, skips: bool, files: &[Said<'_>], order: &[usize]) -> Res
 
 // What is told of parts that are refused so.
 fn told(error: CheckError) -> FdsError
-    ensures of_parts { (parts : StatedParts) → IsRefusedOf parts error → IsOfParts result }
-    ensures unsound { (parts : StatedParts) → IsRefusedOf parts error → IsSound parts
-        → result ≡ errors.Memory }
+    ensures { (parts : StatedParts) → IsRefusedOf parts error → IsOfRules parts result }
 {
     match error {
         CheckError::Memory => FdsError::Memory,
@@ -110,8 +103,7 @@ fn told(error: CheckError) -> FdsError
 fn admitted(alloc: Global, parts: Parts) -> Result<Schema, FdsError>
     ensures ok { IfOk result (λ schema. schema ≡ parts) }
     ensures sound { IfOk result IsSound }
-    ensures refused { IfErr result IsOfParts }
-    ensures unsound { IfErr result (λ e. IsSound parts → e ≡ errors.Memory) }
+    ensures refused { IfErr result (IsOfRules parts) }
 {
     match admit(alloc, parts) {
         Ok(schema) => Ok(schema),
@@ -119,59 +111,24 @@ fn admitted(alloc: Global, parts: Parts) -> Result<Schema, FdsError>
     }
 }
 
-// The files state the schema, whose parts stand in order. Refused, memory aside, only where they
-// don't.
-fn compared(
-    alloc: Global,
-    schema: &Schema,
-    skips: bool,
-    files: &[Said<'_>],
-    order: &[usize],
-) -> Result<(), Unstated>
-    requires { AreOrdered skips (map importer_of (map message_of files.now)) order.now }
-    ensures ok { OnOk result (StatesFiles skips (map message_of files.now) schema.now) }
-    ensures places { OnOk result (StandInOrder schema.now) }
-    ensures none { IfErr result (λ e. IsSound schema.now
-        → StatesFiles skips (map message_of files.now) schema.now → StandInOrder schema.now
-        → e ≡ unstated.Memory) }
-{
-    states_files(alloc, schema, skips, files, order)?;
-    in_order(schema)
-}
-
 // The schema that the files state, which are proto3 and have types that are taken.
 fn kept_schema(alloc: Global, skips: bool, files: &[Said<'_>]) -> Result<Schema, FdsError>
-    ensures ok { IfOk result (λ schema. StatesFiles skips
-        (map message_of files.now) schema) }
+    ensures ok { IfOk result (λ schema. stated_of skips (map message_of files.now)
+        ≡ Some (parts_view schema)) }
     ensures sound { IfOk result IsSound }
-    ensures places { IfOk result (λ schema. StandInOrder schema) }
-    ensures refused { IfErr result IsOfParts }
-    ensures same { IfOk result (λ schema. (parts : StatedParts) → CanBeMade parts
-        → StatesFiles skips (map message_of files.now) parts
-        → parts_view schema ≡ parts_view parts) }
-    ensures none { IfErr result (λ e. (parts : StatedParts) → CanBeMade parts
-        → StatesFiles skips (map message_of files.now) parts → e ≡ errors.Memory) }
+    ensures refused { IfErr result (IsOfParts skips (map message_of files.now)) }
 {
     let order = order(alloc, skips, files)?;
-    let places = order.as_slice();
-    let parts = parts(alloc, skips, files, places)?;
-    let schema = admitted(alloc, parts)?;
-    compared(alloc, &schema, skips, files, places)?;
-    Ok(schema)
+    let parts = parts(alloc, skips, files, order.as_slice())?;
+    admitted(alloc, parts)
 }
 
 // The schema that the files state.
 fn files_schema(alloc: Global, skips: bool, files: &[Said<'_>]) -> Result<Schema, FdsError>
-    ensures ok { IfOk result (λ schema. StatesFiles skips
-        (map message_of files.now) schema) }
+    ensures ok { IfOk result (λ schema. stated_files skips (map message_of files.now)
+        ≡ Some (parts_view schema)) }
     ensures sound { IfOk result IsSound }
-    ensures places { IfOk result (λ schema. StandInOrder schema) }
-    ensures refused { IfErr result (MayRefuseFiles (map message_of files.now)) }
-    ensures same { IfOk result (λ schema. (parts : StatedParts) → CanBeMade parts
-        → StatesFiles skips (map message_of files.now) parts
-        → parts_view schema ≡ parts_view parts) }
-    ensures none { IfErr result (λ e. (parts : StatedParts) → CanBeMade parts
-        → StatesFiles skips (map message_of files.now) parts → e ≡ errors.Memory) }
+    ensures refused { IfErr result (MayRefuseFiles skips (map message_of files.now)) }
 {
     let proto3 = are_proto3(files);
     if !proto3 {
@@ -186,15 +143,11 @@ fn files_schema(alloc: Global, skips: bool, files: &[Said<'_>]) -> Result<Schema
 
 // The schema that a set's message states.
 fn set_schema(alloc: Global, set: &Said<'_>) -> Result<Schema, FdsError>
-    ensures ok { IfOk result (λ schema. States (message_of set.now) schema) }
+    ensures ok { IfOk result (λ schema. stated (message_of set.now)
+        ≡ Some (parts_view schema)) }
     ensures sound { IfOk result IsSound }
-    ensures refused { IfErr result (MayRefuseFiles (kept_files (message_of set.now))) }
-    ensures same { IfOk result (λ schema. (parts : StatedParts) → CanBeMade parts
-        → States (message_of set.now) parts
-        → parts_view schema ≡ parts_view parts) }
-    ensures none { IfErr result (λ e. (parts : StatedParts) → CanBeMade parts
-        → States (message_of set.now) parts
-        → e ≡ errors.Memory) }
+    ensures refused { IfErr result (MayRefuseFiles (skips (message_of set.now))
+        (kept_files (message_of set.now))) }
 {
     let all_files = children(alloc, set, proto::SET_FILE)?;
     let all = all_files.as_slice();
@@ -209,10 +162,6 @@ fn bytes_schema(alloc: Global, bytes: &[u8]) -> Result<Schema, FdsError>
     ensures ok { IfOk result (λ schema. fds_reads bytes.now schema) }
     ensures sound { IfOk result IsSound }
     ensures refused { IfErr result (MayRefuseSet bytes.now) }
-    ensures same { IfOk result (λ schema. (parts : StatedParts) → IsHeld parts
-        → fds_reads bytes.now parts
-        → parts_view schema ≡ parts_view parts) }
-    ensures none { IfErr result (λ e. (IsOfBytes e → ⊥) → StatesNoneHeld bytes.now) }
 {
     let set = decoded(alloc, bytes)?;
     let said = Said::new(&set);

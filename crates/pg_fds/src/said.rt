@@ -1,10 +1,10 @@
 //! What the messages of a set say, by the numbers of their fields. An item of another kind than is
 //! asked for says what its kind says of that: a number no text, a text no number.
 //!
-//! The messages are without bytes: the written schema has no field of that type, and a decoded
-//! message keeps the items of string fields as texts.
+//! The messages are as a decoded set has them: without bytes, since the written schema has no field
+//! of that type and the items of string fields are kept as texts, and with numbers of 32 bits.
 
-ghost use Rattle.std.specs.Prelude.{◌≡◌, [], ℕ, ◌<◌, ◌^◌, false, pos, true, IfOk, IfSome, MatchOption, OnErr, OnOk, map, option_map, slice_get};
+ghost use Rattle.std.specs.Prelude.{◌≡◌, [], ◌<◌, false, pos, true, IfOk, IfSome, MatchOption, OnErr, OnOk, map, option_map, slice_get};
 ghost use Rattle.std.specs.List.{AllByRecursion};
 ghost use Rattle.std.specs.Option.{option_copied};
 ghost use Rattle.pg_dyn.specs.Kept.{message_of, of_number};
@@ -12,16 +12,17 @@ ghost use Rattle.pg_dyn.specs.Seen.{IsFilled, content_seen};
 ghost use Rattle.pg_dyn.specs.declared.message.Value.{Value as Held};
 ghost use Rattle.pg_fds.specs.Building.{shown};
 ghost use Rattle.pg_fds.specs.Lent.{lent};
-ghost use Rattle.pg_fds.specs.Said.{child_in, children_at, flag_at, item_at, items_at, maybe_flag_at, maybe_number_at, maybe_text_at, number_at, number_of, numbers_at, options_at, text_at, text_of, texts_at};
-ghost use Rattle.pg_fds.specs.StatesFiles.{is_place};
-ghost use Rattle.pg_fds.specs.Texts.{AreSaid, IsSaid};
+ghost use Rattle.pg_fds.specs.Said.{child_in, children_at, flag_at, item_at, items_at, maybe_flag_at, maybe_number_at, maybe_text_at, natural, number_at, number_of, numbers_at, options_at, text_at, text_of, texts_at};
+ghost use Rattle.pg_fds.specs.SaidFiles.{is_place};
+ghost use Rattle.pg_fds.specs.Held.{AreSaid, IsSaid};
 
 use crate::error::Unstated;
 use pg_dyn::{Content, Message, Value};
 use std::alloc::{AllocError, Global};
 use std::marker::Model;
 
-/// A message of a set, without bytes at any depth. Contracts see what the message keeps.
+/// A message of a set, at any depth without bytes and with numbers of 32 bits. Contracts see what
+/// the message keeps.
 #[derive(Drop)]
 pub(crate) struct Said<'a> {
     message: &'a Message,
@@ -30,7 +31,7 @@ pub(crate) struct Said<'a> {
 impl<'a> Model for Said<'a> {
     ghost use Rattle.pg_dyn.specs.Kept.{Kept};
     ghost use Rattle.pg_dyn.specs.KeptCode.{kept_code};
-    ghost use Rattle.pg_fds.specs.Texts.{AreTexts};
+    ghost use Rattle.pg_fds.specs.Held.{IsHeldMessage};
 
     ghost Value = { Kept };
 
@@ -38,18 +39,18 @@ impl<'a> Model for Said<'a> {
 
     ghost view = { λ s. s.message.now };
 
-    ghost invariant = { λ s. AreTexts s.message.now };
+    ghost invariant = { λ s. IsHeldMessage s.message.now };
 }
 
 impl<'a> Said<'a> {
     ghost use Rattle.std.specs.Prelude.{◌≡◌};
     ghost use Rattle.pg_dyn.specs.Kept.{ends, type_of, unknown_of};
     ghost use Rattle.pg_dyn.specs.Seen.{fields_onto};
-    ghost use Rattle.pg_fds.specs.Texts.{AreTexts};
+    ghost use Rattle.pg_fds.specs.Held.{IsHeldMessage};
 
-    /// What is said by a message without bytes.
+    /// What is said by such a message.
     pub(crate) fn new(message: &'a Message) -> Said<'a>
-        requires { AreTexts message.now }
+        requires { IsHeldMessage message.now }
         ensures { result ≡ message.now }
     {
         Said { message }
@@ -84,7 +85,7 @@ impl<'a> Model for SaidItem<'a> {
     ghost use Rattle.pg_dyn.specs.contracts.message.Value as value_row;
     ghost use Rattle.pg_dyn.specs.declared.message.Value.{Value as Held};
     ghost use Rattle.pg_dyn.specs.KeptCode.{kept_code};
-    ghost use Rattle.pg_fds.specs.Texts.{IsSaid};
+    ghost use Rattle.pg_fds.specs.Held.{IsSaid};
 
     ghost Value = { Held };
 
@@ -97,9 +98,9 @@ impl<'a> Model for SaidItem<'a> {
 
 impl<'a> SaidItem<'a> {
     ghost use Rattle.std.specs.Prelude.{◌≡◌};
-    ghost use Rattle.pg_fds.specs.Texts.{IsSaid};
+    ghost use Rattle.pg_fds.specs.Held.{IsSaid};
 
-    /// The item itself, which is no bytes.
+    /// The item itself.
     pub(crate) fn value(&self) -> &'a Value
         ensures value { result.now ≡ self.now }
         ensures said { IsSaid result.now }
@@ -244,6 +245,19 @@ pub(crate) fn number_in(item: &SaidItem<'_>) -> i128
     }
 }
 
+// The same as a number of 32 bits, which it is.
+fn whole_in(item: &SaidItem<'_>) -> i32
+    ensures { number_of (shown item.now) ≡ result }
+{
+    let Value::Int(found) = item.value() else {
+        return 0;
+    };
+    match i32::try_from(*found) {
+        Ok(number) => number,
+        Err(_) => unreachable!(),
+    }
+}
+
 // ---- messages
 
 /// The messages of a repeated field.
@@ -326,9 +340,19 @@ pub(crate) fn number(message: &Said<'_>, number: u32) -> i128
     }
 }
 
+/// The same as a number of 32 bits, which it is.
+pub(crate) fn whole(message: &Said<'_>, field: u32) -> i32
+    ensures { number_at field (message_of message.now) ≡ result }
+{
+    match item(message, field) {
+        None => 0,
+        Some(value) => whole_in(&value),
+    }
+}
+
 /// The number of a singular field, which is above 0 and one of 32 bits; any other is told as 0.
 pub(crate) fn count(message: &Said<'_>, field: u32) -> u32
-    ensures { (n : ℕ) → number_at field (message_of message.now) ≡ pos n → n < 2 ^ 32 → result ≡ n }
+    ensures { result ≡ natural (number_at field (message_of message.now)) }
 {
     u32::try_from(number(message, field)).unwrap_or(0)
 }

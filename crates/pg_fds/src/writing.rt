@@ -16,6 +16,7 @@ use crate::building::{empty, put_children};
 use crate::descriptor::descriptor_schema;
 use crate::error::FdsError;
 use crate::files::files;
+use crate::held_places::see_places;
 use crate::places::{FILE, SET};
 use crate::proto;
 use pg_dyn::laws::{encoding_spells, reads_again, writing_splits};
@@ -82,6 +83,7 @@ pub fn write(alloc: Global, schema: &Schema) -> Result<Vec<u8>, FdsError>
     ensures err { IfErr result (λ e. (e ≡ errors.Memory)
         ⊎ ((e ≡ errors.Bytes faults.TooLong) × HasNoSet schema.now)) }
 {
+    see_places(schema);
     let parts = schema.parts();
     if !are_counted(parts) {
         return Err(FdsError::Bytes(DynError::TooLong));

@@ -1,11 +1,11 @@
 //! The enums of a set, each with its place, its name and those of its values.
 
-ghost use Rattle.std.specs.Prelude.{◌≡◌, ◌+◌, ◌<◌, ◌≤◌, ◌^◌, ◌++◌, ◌∷◌, [], ℕ, IfErr, IfOk, List, OnOk, length, map};
+ghost use Rattle.std.specs.Prelude.{◌≡◌, ◌+◌, ◌<◌, ◌≤◌, ◌^◌, ◌++◌, ◌∷◌, [], IfErr, IfOk, OnOk, length, map};
 ghost use Rattle.pg_schema.specs.rules.Scopes.{enum_places};
 ghost use Rattle.pg_dyn.specs.Kept.{message_of};
-ghost use Rattle.pg_fds.specs.Outlines.{AreEnumsNamed, row, row_in, rows_in};
-ghost use Rattle.pg_fds.specs.SetNames.{Declares, WantsMemory, enum_names, enums_names};
-ghost use Rattle.pg_fds.specs.Walks.{places_from};
+ghost use Rattle.pg_fds.specs.Declarations.{Adds, CannotAdd, enum_declared, enums_declared};
+ghost use Rattle.pg_fds.specs.Outlines.{StayFew, row, row_in, rows_in};
+ghost use Rattle.pg_fds.specs.Places.{places_from};
 
 use crate::declare::{declare_each, declare_named};
 use crate::error::Unstated;
@@ -27,13 +27,13 @@ fn outline_enum<'a>(
     ensures placed { IfOk result (λ id. id.index ≡ length enums.old.items) }
     ensures rows { OnOk result (map row enums.new.items ≡ map row enums.old.items
         ++ row_in scope.now (message_of message.now) ∷ []) }
-    ensures named { OnOk result (AreEnumsNamed names.old (map row enums.old.items)
-        → AreEnumsNamed names.new (map row enums.new.items)) }
-    ensures declares { OnOk result ((packages : List (List ℕ))
-        → Declares packages (enum_names scope.now (message_of message.now)) names.old names.new) }
+    ensures adds { OnOk result (Adds
+        (enum_declared scope.now (length enums.old.items) (message_of message.now)) names.old
+        names.new) }
+    ensures few { OnOk result (StayFew enums.old.items enums.new.items) }
     ensures refused { IfErr result (λ e. length enums.old.items < 2 ^ 32
-        → (packages : List (List ℕ))
-        → WantsMemory packages (enum_names scope.now (message_of message.now)) names.old e) }
+        → CannotAdd (enum_declared scope.now (length enums.old.items) (message_of message.now))
+        names.old e) }
 {
     let index = next_place(enums.len())?;
     let id = EnumId { index };
@@ -59,14 +59,13 @@ pub(crate) fn outline_enums<'a>(
         ≡ places_from (length enums.old.items) (length messages.now)) }
     ensures rows { OnOk result (map row enums.new.items ≡ map row enums.old.items
         ++ rows_in scope.now (map message_of messages.now)) }
-    ensures named { OnOk result (AreEnumsNamed names.old (map row enums.old.items)
-        → AreEnumsNamed names.new (map row enums.new.items)) }
-    ensures declares { OnOk result ((packages : List (List ℕ))
-        → Declares packages (enums_names scope.now (map message_of messages.now)) names.old
-        names.new) }
+    ensures adds { OnOk result (Adds
+        (enums_declared scope.now (length enums.old.items) (map message_of messages.now))
+        names.old names.new) }
+    ensures few { OnOk result (StayFew enums.old.items enums.new.items) }
     ensures refused { IfErr result (λ e. length enums.old.items + length messages.now ≤ 2 ^ 32
-        → (packages : List (List ℕ))
-        → WantsMemory packages (enums_names scope.now (map message_of messages.now))
+        → CannotAdd
+        (enums_declared scope.now (length enums.old.items) (map message_of messages.now))
         names.old e) }
 {
     let mut ids = Vec::new(alloc);

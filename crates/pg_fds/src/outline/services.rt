@@ -1,11 +1,11 @@
 //! The services of a set, each with its place, its name and those of its methods.
 
-ghost use Rattle.std.specs.Prelude.{◌≡◌, ◌+◌, ◌<◌, ◌≤◌, ◌^◌, ◌++◌, ◌∷◌, [], ℕ, IfErr, IfOk, List, OnOk, length, map};
+ghost use Rattle.std.specs.Prelude.{◌≡◌, ◌+◌, ◌<◌, ◌≤◌, ◌^◌, ◌++◌, ◌∷◌, [], IfErr, IfOk, OnOk, length, map};
 ghost use Rattle.pg_schema.specs.rules.Scopes.{service_places};
 ghost use Rattle.pg_dyn.specs.Kept.{message_of};
-ghost use Rattle.pg_fds.specs.Outlines.{row, row_in, rows_in};
-ghost use Rattle.pg_fds.specs.SetNames.{Declares, WantsMemory, service_names, services_names};
-ghost use Rattle.pg_fds.specs.Walks.{places_from};
+ghost use Rattle.pg_fds.specs.Declarations.{Adds, CannotAdd, service_declared, services_declared};
+ghost use Rattle.pg_fds.specs.Outlines.{StayFew, row, row_in, rows_in};
+ghost use Rattle.pg_fds.specs.Places.{places_from};
 
 use crate::declare::{declare_each, declare_named};
 use crate::error::Unstated;
@@ -27,12 +27,11 @@ fn outline_service<'a>(
     ensures placed { IfOk result (λ id. id.index ≡ length services.old.items) }
     ensures rows { OnOk result (map row services.new.items ≡ map row services.old.items
         ++ row_in scope.now (message_of message.now) ∷ []) }
-    ensures declares { OnOk result ((packages : List (List ℕ))
-        → Declares packages (service_names scope.now (message_of message.now)) names.old
-        names.new) }
+    ensures adds { OnOk result (Adds (service_declared scope.now (message_of message.now))
+        names.old names.new) }
+    ensures few { OnOk result (StayFew services.old.items services.new.items) }
     ensures refused { IfErr result (λ e. length services.old.items < 2 ^ 32
-        → (packages : List (List ℕ))
-        → WantsMemory packages (service_names scope.now (message_of message.now)) names.old e) }
+        → CannotAdd (service_declared scope.now (message_of message.now)) names.old e) }
 {
     let index = next_place(services.len())?;
     let id = ServiceId { index };
@@ -64,13 +63,11 @@ pub(crate) fn outline_services<'a>(
         ≡ places_from (length services.old.items) (length messages.now)) }
     ensures rows { OnOk result (map row services.new.items ≡ map row services.old.items
         ++ rows_in scope.now (map message_of messages.now)) }
-    ensures declares { OnOk result ((packages : List (List ℕ))
-        → Declares packages (services_names scope.now (map message_of messages.now))
-        names.old names.new) }
+    ensures adds { OnOk result (Adds
+        (services_declared scope.now (map message_of messages.now)) names.old names.new) }
+    ensures few { OnOk result (StayFew services.old.items services.new.items) }
     ensures refused { IfErr result (λ e. length services.old.items + length messages.now ≤ 2 ^ 32
-        → (packages : List (List ℕ))
-        → WantsMemory packages (services_names scope.now (map message_of messages.now))
-        names.old e) }
+        → CannotAdd (services_declared scope.now (map message_of messages.now)) names.old e) }
 {
     let mut ids = Vec::new(alloc);
     for message in messages {

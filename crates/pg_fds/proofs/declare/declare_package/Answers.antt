@@ -1,24 +1,33 @@
-use Rattle.std.proofs.Common.{◌≡◌, ℕ, List, [], true, sym, subst}
+use Rattle.std.proofs.Common.{◌≡◌, ◌++◌, ◌∷◌, [], map, rules, refl, sym, ap, ap₂, subst, ◌∙◌}
 use Rattle.std.proofs.lemmas.Result.{IfErr-weaker, err_from_is_err_and, on_ok_weaker}
+use Rattle.std.proofs.Math.Utf8.{encode}
 use Rattle.std.specs.String.{string_bytes}
-use Rattle.pg_schema.specs.rules.Packages.{is_front}
-use Rattle.pg_schema.specs.rules.TextSets.{is_among}
-use Rattle.pg_fds.specs.SetNames.{Declares, WantsMemory}
-use Rattle.pg_fds.proofs.NameTable.{at_end, before_dot, declares_both, letter_on, wants_later}
-use Rattle.pg_fds.proofs.OrderSteps.{handed_on}
+use Rattle.pg_fds.specs.Declarations.{Adds, CannotAdd, fronts, package_part}
+use Rattle.pg_fds.proofs.Declaring.{Left, left_all, left_fails, left_none, left_on}
+use Rattle.pg_fds.proofs.Fronts.{dot_past, letter_past, parts_begin, parts_end, parts_from}
 use Rattle.pg_fds.proofs.declare.declare_package.Goals as goal
 use Rattle.pg_fds.proofs.declare.declare_package.Goals.{then-letter-eq46+in_ok-clone+in_ok-declare_part, else-letter-eq46}
 
 pub returns-in_err-declare_part-clause-refused : goal.returns-in_err-declare_part-clause-refused
 returns-in_err-declare_part-clause-refused c =
-    let old = c.args.names.now in
     let path = c.args.path.now in
-    let inv = c.loop-letter.invariant in
-    let (y, is, same) = err_from_is_err_and c.from_residual-in_err-declare_part.result c.from_residual-in_err-declare_part.ensures.1 in
-    let front = before_dot (string_bytes c.loop-letter.front) c.loop-letter.letter-iterator.rest.now c.next.new.self.rest.now path c.in-Some.letter inv.front c.in-Some.ensures.steps.0 c.if-letter-eq46.true in
-    handed_on c.from_residual-in_err-declare_part.result (λ e. (packages : List (List ℕ)) → is_among packages path ≡ true → WantsMemory packages [] old e) c.in_err-declare_part.field-0.0 y is same
-    (λ packages among. wants_later packages [] [] old c.loop-letter.names c.in_err-declare_part.field-0.0 (inv.declares packages among)
-    (c.in_err-declare_part.ensures.refused packages path among (subst (λ f. is_front f path ≡ true) (sym c.in_ok-clone.ensures.cases) front)))
+    let now = string_bytes c.loop-letter.front in
+    let rest = c.loop-letter.letter-iterator.rest.now in
+    let later = c.next.new.self.rest.now in
+    let letter = c.in-Some.letter in
+    let p = err_from_is_err_and c.from_residual-in_err-declare_part.result c.from_residual-in_err-declare_part.ensures.1 in
+    rw (p.1, p.2)
+    (left_fails (map package_part (parts_from now rest)) (package_part now ∷ []) (map package_part (parts_from (now ++ encode letter) later)) (map package_part (fronts path)) c.loop-letter.names c.args.names.now _
+    (ap (map package_part) (dot_past now rest later (now ++ encode letter) letter c.in-Some.ensures.steps.0 refl c.if-letter-eq46.true)) c.loop-letter.invariant
+    (subst (λ n. CannotAdd (package_part n ∷ []) c.loop-letter.names c.in_err-declare_part.field-0.0) c.in_ok-clone.ensures.cases c.in_err-declare_part.ensures.refused))
+
+pub loop-letter-init : goal.loop-letter-init
+loop-letter-init c =
+    let path = c.args.path.now in
+    let front : string_bytes c.new-front.result ≡ [] = search rules in
+    let rest : c.into_iter-letter-iterator.result.rest.now ≡ path = search rules in
+    let begin : parts_from (string_bytes c.new-front.result) c.into_iter-letter-iterator.result.rest.now ≡ fronts path = ap₂ parts_from front rest ∙ parts_begin path in
+    subst (λ ps. Left (map package_part ps) (map package_part (fronts path)) c.args.names.now c.args.names.now) (sym begin) (left_all (map package_part (fronts path)) c.args.names.now)
 
 pub loop-letter-preserved : goal.loop-letter-preserved
 loop-letter-preserved c =
@@ -28,37 +37,38 @@ loop-letter-preserved c =
     let now = string_bytes c.loop-letter.front in
     let rest = c.loop-letter.letter-iterator.rest.now in
     let later = c.next.new.self.rest.now in
-    record {
-      front = letter_on now rest later path (string_bytes c.push.new.self) c.in-Some.letter inv.front c.in-Some.ensures.steps.0 c.in_ok-push.ensures.bytes;
-      declares = λ packages among. elim c.if-letter-eq46.branch [
-        | then-letter-eq46+in_ok-clone+in_ok-declare_part w ↦
-            let front = before_dot now rest later path c.in-Some.letter inv.front c.in-Some.ensures.steps.0 w.if-letter-eq46.true in
-            subst (λ table. Declares packages [] old table) (sym w.names-is)
-            (declares_both packages [] [] old c.loop-letter.names w.declare_part.new.names (inv.declares packages among)
-            (w.in_ok-declare_part.ensures.declares packages path among (subst (λ f. is_front f path ≡ true) (sym w.in_ok-clone.ensures.cases) front)))
-        | else-letter-eq46 w ↦ subst (λ table. Declares packages [] old table) (sym w.names-is) (inv.declares packages among)
-      ];
-    }
+    let letter = c.in-Some.letter in
+    let grown = string_bytes c.push.new.self in
+    let all = map package_part (fronts path) in
+    elim c.if-letter-eq46.branch [
+      | then-letter-eq46+in_ok-clone+in_ok-declare_part w ↦
+          let adds = subst (λ n. Adds (package_part n ∷ []) c.loop-letter.names w.declare_part.new.names) w.in_ok-clone.ensures.cases w.in_ok-declare_part.ensures.adds in
+          subst (λ table. Left (map package_part (parts_from grown later)) all table old) (sym w.names-is)
+          (left_on (map package_part (parts_from now rest)) (package_part now ∷ []) (map package_part (parts_from grown later)) all c.loop-letter.names w.declare_part.new.names old
+          (ap (map package_part) (dot_past now rest later grown letter c.in-Some.ensures.steps.0 c.in_ok-push.ensures.bytes w.if-letter-eq46.true)) inv adds)
+      | else-letter-eq46 w ↦
+          subst (λ table. Left (map package_part (parts_from grown later)) all table old) (sym w.names-is)
+          (subst (λ ps. Left (map package_part ps) all c.loop-letter.names old) (letter_past now rest later grown letter c.in-Some.ensures.steps.0 c.in_ok-push.ensures.bytes w.if-letter-eq46.false) inv)
+    ]
 
-pub returns-clause-declares : goal.returns-clause-declares
-returns-clause-declares c =
+pub returns-clause-adds : goal.returns-clause-adds
+returns-clause-adds c =
     let old = c.args.names.now in
     let mid = c.loop-letter.names in
-    let path = c.args.path.now in
-    let inv = c.loop-letter.invariant in
     let now = string_bytes c.loop-letter.front in
-    let front = at_end now c.loop-letter.letter-iterator.rest.now path inv.front c.in-None.ensures.steps.0.0 in
+    let rest = c.loop-letter.letter-iterator.rest.now in
+    let all = map package_part (fronts c.args.path.now) in
+    let new = c.declare_part-2.new.names in
     on_ok_weaker c.declare_part-2.result
-    (λ (on : (packages : List (List ℕ)) (whole : List ℕ) → is_among packages whole ≡ true → is_front now whole ≡ true → Declares packages [] mid c.declare_part-2.new.names) packages among. declares_both packages [] [] old mid c.declare_part-2.new.names (inv.declares packages among) (on packages path among front)) c.declare_part-2.ensures.declares
+    (λ (on : Adds (package_part now ∷ []) mid new). left_none [] all new old refl
+    (left_on (map package_part (parts_from now rest)) (package_part now ∷ []) [] all mid new old (ap (map package_part) (parts_end now rest c.in-None.ensures.steps.0.0)) c.loop-letter.invariant on)) c.declare_part-2.ensures.adds
 
 pub returns-clause-refused : goal.returns-clause-refused
 returns-clause-refused c =
     let old = c.args.names.now in
     let mid = c.loop-letter.names in
-    let path = c.args.path.now in
-    let inv = c.loop-letter.invariant in
     let now = string_bytes c.loop-letter.front in
-    let front = at_end now c.loop-letter.letter-iterator.rest.now path inv.front c.in-None.ensures.steps.0.0 in
-    IfErr-weaker c.declare_part-2.result (λ e. (packages : List (List ℕ)) (whole : List ℕ) → is_among packages whole ≡ true → is_front now whole ≡ true → WantsMemory packages [] mid e)
-    (λ e. (packages : List (List ℕ)) → is_among packages path ≡ true → WantsMemory packages [] old e)
-    (λ e wants packages among. wants_later packages [] [] old mid e (inv.declares packages among) (wants packages path among front)) c.declare_part-2.ensures.refused
+    let rest = c.loop-letter.letter-iterator.rest.now in
+    let all = map package_part (fronts c.args.path.now) in
+    IfErr-weaker c.declare_part-2.result (λ e. CannotAdd (package_part now ∷ []) mid e) (λ e. CannotAdd all old e)
+    (λ e fails. left_fails (map package_part (parts_from now rest)) (package_part now ∷ []) [] all mid old e (ap (map package_part) (parts_end now rest c.in-None.ensures.steps.0.0)) c.loop-letter.invariant fails) c.declare_part-2.ensures.refused

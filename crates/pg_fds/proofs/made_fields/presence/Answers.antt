@@ -1,25 +1,37 @@
-use Rattle.std.proofs.Common.{◌≡◌, SFits, ap, of_z, pos, rules, subst, sym, to_z, true, ◌∙◌}
+use Rattle.std.proofs.Common.{◌≡◌, SFits, Some, ap, cond, not, of_z, pos, rules, sym, to_z, ◌∙◌}
 use Rattle.std.proofs.lemmas.Int.{to_z-of_z}
 use Rattle.std.specs.Int.{w128}
-use Rattle.std.specs.Prelude.{nat_abs}
-use Rattle.pg_schema.specs.rules.Fields.{has_presence}
-use Rattle.pg_fds.proofs.PresenceLaws.{label_one, not_optional}
+use Rattle.std.specs.Ordering.{int_eq}
+use Rattle.pg_dyn.specs.Kept.{message_of}
+use Rattle.pg_fds.specs.StatedFields.{packed_at, repeated, singular}
+use Rattle.pg_fds.specs.StatedNames.{only_if}
+use Rattle.pg_fds.specs.SaidTypes.{is_optional, label_at}
+use Rattle.pg_fds.proofs.PresenceLaws.{not_three}
 use Rattle.pg_fds.proofs.made_fields.presence.Goals as goal
 
-pub returns-then-label-ne-REPEATED-clause-made : goal.returns-then-label-ne-REPEATED-clause-made
-returns-then-label-ne-REPEATED-clause-made c = λ p states.
-    c.singular.ensures.made p states.no_map (label_one p (λ three. c.if-label-ne-REPEATED.true (ap (of_z w128) (c.label_of-label.ensures ∙ (states.label ∙ ap pos three)))))
-    (subst (λ b. has_presence p c.args.element c.args.member b ≡ true) (sym c.flag-optional.ensures) states.has)
+pub returns-then-label_of-ne-REPEATED : goal.returns-then-label_of-ne-REPEATED
+returns-then-label_of-ne-REPEATED c =
+    let m = message_of c.args.message.now in
+    let e = c.args.element in
+    ap Some (c.singular.ensures ∙ ap (singular e c.args.member) c.flag-optional.ensures)
+    ∙ sym (ap (λ b. cond b (only_if (not (is_optional m)) (Some (repeated e (packed_at m)))) (Some (singular e c.args.member (is_optional m))))
+    (not_three (label_at m) (λ three. c.if-label_of-ne-REPEATED.true (ap (of_z w128) (c.label_of.ensures ∙ three)))))
 
-pub returns-then-optional-clause-refused : goal.returns-then-optional-clause-refused
-returns-then-optional-clause-refused c = λ p states.
-    let fits : SFits w128 c.label_of-label.result = search rules in
-    let three : c.label_of-label.result ≡ pos 3 = sym (to_z-of_z w128 c.label_of-label.result fits) ∙ ap (to_z w128) c.if-label-ne-REPEATED.false in
-    not_optional c.args.element c.args.member c.flag-optional.result p (ap nat_abs (sym states.label ∙ (sym c.label_of-label.ensures ∙ three))) c.if-optional.true
-    (subst (λ b. has_presence p c.args.element c.args.member b ≡ true) (sym c.flag-optional.ensures) states.has)
+pub returns-then-optional : goal.returns-then-optional
+returns-then-optional c =
+    let m = message_of c.args.message.now in
+    let e = c.args.element in
+    let fits : SFits w128 c.label_of.result = search rules in
+    let three : label_at m ≡ pos 3 = sym c.label_of.ensures ∙ (sym (to_z-of_z w128 c.label_of.result fits) ∙ ap (to_z w128) c.if-label_of-ne-REPEATED.false) in
+    sym (ap (λ n. cond (int_eq n (pos 3)) (only_if (not (is_optional m)) (Some (repeated e (packed_at m)))) (Some (singular e c.args.member (is_optional m)))) three
+    ∙ ap (λ b. only_if (not b) (Some (repeated e (packed_at m)))) (sym c.flag-optional.ensures ∙ c.if-optional.true))
 
-pub returns-clause-made : goal.returns-clause-made
-returns-clause-made c = λ p states.
-    let fits : SFits w128 c.label_of-label.result = search rules in
-    let three : c.label_of-label.result ≡ pos 3 = sym (to_z-of_z w128 c.label_of-label.result fits) ∙ ap (to_z w128) c.if-label-ne-REPEATED.false in
-    c.repeated.ensures.made p states.no_map (ap nat_abs (sym states.label ∙ (sym c.label_of-label.ensures ∙ three))) states.packs
+pub returns : goal.returns
+returns c =
+    let m = message_of c.args.message.now in
+    let e = c.args.element in
+    let fits : SFits w128 c.label_of.result = search rules in
+    let three : label_at m ≡ pos 3 = sym c.label_of.ensures ∙ (sym (to_z-of_z w128 c.label_of.result fits) ∙ ap (to_z w128) c.if-label_of-ne-REPEATED.false) in
+    ap Some (c.repeated.ensures ∙ ap (repeated e) c.option-packed.ensures)
+    ∙ sym (ap (λ n. cond (int_eq n (pos 3)) (only_if (not (is_optional m)) (Some (repeated e (packed_at m)))) (Some (singular e c.args.member (is_optional m)))) three
+    ∙ ap (λ b. only_if (not b) (Some (repeated e (packed_at m)))) (sym c.flag-optional.ensures ∙ c.if-optional.false))

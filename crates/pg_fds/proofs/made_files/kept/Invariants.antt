@@ -1,6 +1,7 @@
 use Rattle.std.proofs.Common.{◌≡◌, ◌++◌, drop, map}
 use Rattle.pg_fds.specs.Lent.{lent}
-use Rattle.pg_fds.specs.StatesFiles.{import_of, kept_imports}
+use Rattle.pg_fds.specs.StatesFiles.{import_of}
+use Rattle.pg_fds.specs.SaidFiles.{kept_imports}
 use Rattle.pg_fds.proofs.made_files.kept.Given as goal
 
 abbrev pub invariant-loop-place : goal.invariant-loop-place

@@ -1,13 +1,10 @@
-use Rattle.std.proofs.Common.{◌≡◌, List, map, take}
-use Rattle.std.specs.List.{AllZip}
-use Rattle.pg_schema.specs.declared.parts.service.Method.{Method}
+use Rattle.std.proofs.Common.{◌≡◌, Some, map, take}
 use Rattle.pg_dyn.specs.Kept.{message_of}
-use Rattle.pg_fds.specs.Made.{HasNames}
-use Rattle.pg_fds.specs.Places.{Declared}
-use Rattle.pg_fds.specs.StatesFiles.{StatesMethod}
+use Rattle.pg_fds.specs.Owners.{means_of}
+use Rattle.pg_fds.specs.StatedNames.{each}
+use Rattle.pg_fds.specs.StatedServices.{method}
 use Rattle.pg_fds.specs.Views.{method_view}
 use Rattle.pg_fds.proofs.made_files.methods.Given as goal
 
 abbrev pub invariant-loop-message : goal.invariant-loop-message
-invariant-loop-message l = (all : Declared) → HasNames all l.names → (ds : List Method) → AllZip (StatesMethod all) (map message_of l.messages) ds
-    → map method_view l.methods.items ≡ take l.message-index (map method_view ds)
+invariant-loop-message l = each (method (means_of l.names)) (map message_of (take l.message-index l.messages)) ≡ Some (map method_view l.methods.items)

@@ -1,10 +1,10 @@
-use Rattle.std.proofs.Common.{◌≡◌, List, map, take}
-use Rattle.std.specs.List.{AllZip}
-use Rattle.pg_schema.specs.declared.parts.message_type.MessageType.{MessageType}
-use Rattle.pg_fds.specs.Made.{IsMadeType}
-use Rattle.pg_fds.specs.Places.{Declared}
+use Rattle.std.proofs.Common.{◌≡◌, Some, map, take}
+use Rattle.pg_fds.specs.OutlinedPlaces.{placed_type}
+use Rattle.pg_fds.specs.Owners.{means_of}
+use Rattle.pg_fds.specs.StatedTypes.{message_type}
+use Rattle.pg_fds.specs.StatedNames.{each}
 use Rattle.pg_fds.specs.Views.{type_view}
 use Rattle.pg_fds.proofs.made_parts.all_types.Given as goal
 
 abbrev pub invariant-loop-one : goal.invariant-loop-one
-invariant-loop-one l = (all : Declared) → (cs : List MessageType) → AllZip (IsMadeType all l.names) l.outlined cs → map type_view l.types.items ≡ take l.one-index (map type_view cs)
+invariant-loop-one l = each (message_type (means_of l.names)) (map placed_type (take l.one-index l.outlined)) ≡ Some (map type_view l.types.items)

@@ -1,11 +1,12 @@
-use Rattle.std.proofs.Common.{◌≡◌, length, map, ap, ◌∙◌, arith}
+use Rattle.std.proofs.Common.{◌≡◌, length, map, refl, ap, ◌∙◌, arith}
 use Rattle.std.proofs.lemmas.Result.{err_from_is_err_and}
 use Rattle.pg_dyn.specs.Kept.{message_of}
+use Rattle.pg_fds.specs.declared.outline.Named.TheVariants as nameds
+use Rattle.pg_fds.specs.Declarations.{all_named}
 use Rattle.pg_fds.specs.Said.{children_at}
-use Rattle.pg_fds.specs.SetNames.{full_names}
-use Rattle.pg_fds.specs.StatesTypes.{real_oneofs, synthetic_places}
-use Rattle.pg_fds.proofs.NameTable.{wants_first}
-use Rattle.pg_fds.proofs.OutlinedNames.{marks_refused, members_declared, oneofs_wanted, seen_long}
+use Rattle.pg_fds.specs.SaidTypes.{real_oneofs, synthetic_places}
+use Rattle.pg_fds.proofs.Declaring.{first_fails}
+use Rattle.pg_fds.proofs.OutlinedNames.{marks_named, marks_refused, members_added, oneofs_fail, seen_long}
 use Rattle.pg_fds.proofs.outline.declare_members.Goals as goal
 
 pub returns-in_err-marks-clause-refused : goal.returns-in_err-marks-clause-refused
@@ -14,7 +15,7 @@ returns-in_err-marks-clause-refused c =
     let numbers = c.deref-2.ensures.value ∙ (c.in_ok-synthetic.ensures ∙ ap synthetic_places (ap (λ ms. map message_of ms) c.deref.ensures.value ∙ c.in_ok-fields.ensures)) in
     let as_many : c.len.result ≡ length (children_at 8 m) = omega (arith, c.len.ensures, c.in_ok-oneofs.oneofs.ok.0, seen_long c.in_ok-oneofs.oneofs.items, ap length c.in_ok-oneofs.ensures) in
     let p = err_from_is_err_and c.from_residual-in_err-marks.result c.from_residual-in_err-marks.ensures.1 in
-    rw (p.1, p.2) (λ named packages later free. marks_refused m c.len.result c.deref-2.result.now _ numbers as_many c.in_err-marks.ensures.refused named)
+    rw (p.1, p.2) (λ named fresh. marks_refused m c.len.result c.deref-2.result.now _ numbers as_many c.in_err-marks.ensures.refused named)
 
 pub returns-in_err-declare_each-clause-refused : goal.returns-in_err-declare_each-clause-refused
 returns-in_err-declare_each-clause-refused c =
@@ -22,8 +23,8 @@ returns-in_err-declare_each-clause-refused c =
     let full = c.args.full.now in
     let all = ap (λ ms. map message_of ms) c.deref-6.ensures.value ∙ c.in_ok-fields.ensures in
     let p = err_from_is_err_and c.from_residual-in_err-declare_each.result c.from_residual-in_err-declare_each.ensures.1 in
-    rw (p.1, p.2) (λ named packages. wants_first packages (full_names full (children_at 2 m)) (full_names full (real_oneofs (synthetic_places (children_at 2 m)) 0 (children_at 8 m))) c.args.names.now _
-    (rw (← all) (c.in_err-declare_each.ensures.refused packages)))
+    rw (p.1, p.2) (λ named. first_fails (all_named full nameds.Other (children_at 2 m)) (all_named full nameds.Other (real_oneofs (synthetic_places (children_at 2 m)) 0 (children_at 8 m))) c.args.names.now _
+    (rw (← all) (c.in_err-declare_each.ensures.refused refl)))
 
 pub returns-in_err-declare_each-2-clause-refused : goal.returns-in_err-declare_each-2-clause-refused
 returns-in_err-declare_each-2-clause-refused c =
@@ -37,11 +38,10 @@ returns-in_err-declare_each-2-clause-refused c =
     let these : real ≡ real_oneofs (synthetic_places (children_at 2 m)) 0 (children_at 8 m) =
     ap (λ ms. map message_of ms) c.deref-7.ensures.value ∙ (c.in_ok-real.ensures ∙ (ap (λ ns. real_oneofs ns 0 (map message_of c.deref-3.result.now)) numbers ∙ ap (real_oneofs (synthetic_places (children_at 2 m)) 0) oneofs)) in
     let p = err_from_is_err_and c.from_residual-in_err-declare_each-2.result c.from_residual-in_err-declare_each-2.ensures.1 in
-    rw (p.1, p.2) (λ named packages. oneofs_wanted packages c.args.full.now m fields real all these c.args.names.now c.declare_each.new.names (c.in_ok-declare_each.ensures.declares packages) _
-    (c.in_err-declare_each-2.ensures.refused packages))
+    rw (p.1, p.2) (λ named. oneofs_fail c.args.full.now m fields real all these c.args.names.now c.declare_each.new.names c.in_ok-declare_each.ensures.adds _ (c.in_err-declare_each-2.ensures.refused refl))
 
-pub returns-clause-declares : goal.returns-clause-declares
-returns-clause-declares c = λ packages.
+pub returns-clause-adds : goal.returns-clause-adds
+returns-clause-adds c =
     let m = message_of c.args.message.now in
     let fields = map message_of c.deref-6.result.now in
     let real = map message_of c.deref-7.result.now in
@@ -51,5 +51,11 @@ returns-clause-declares c = λ packages.
     let oneofs : map message_of c.deref-3.result.now ≡ children_at 8 m = ap (λ ms. map message_of ms) c.deref-3.ensures.value ∙ c.in_ok-oneofs.ensures in
     let these : real ≡ real_oneofs (synthetic_places (children_at 2 m)) 0 (children_at 8 m) =
     ap (λ ms. map message_of ms) c.deref-7.ensures.value ∙ (c.in_ok-real.ensures ∙ (ap (λ ns. real_oneofs ns 0 (map message_of c.deref-3.result.now)) numbers ∙ ap (real_oneofs (synthetic_places (children_at 2 m)) 0) oneofs)) in
-    members_declared packages c.args.full.now m fields real all these c.args.names.now c.declare_each.new.names (c.in_ok-declare_each.ensures.declares packages) c.declare_each-2.new.names
-    (c.in_ok-declare_each-2.ensures.declares packages)
+    members_added c.args.full.now m fields real all these c.args.names.now c.declare_each.new.names c.in_ok-declare_each.ensures.adds c.declare_each-2.new.names c.in_ok-declare_each-2.ensures.adds
+
+pub returns-clause-oneofs : goal.returns-clause-oneofs
+returns-clause-oneofs c =
+    let m = message_of c.args.message.now in
+    let numbers = c.deref-2.ensures.value ∙ (c.in_ok-synthetic.ensures ∙ ap synthetic_places (ap (λ ms. map message_of ms) c.deref.ensures.value ∙ c.in_ok-fields.ensures)) in
+    let as_many : c.len.result ≡ length (children_at 8 m) = omega (arith, c.len.ensures, c.in_ok-oneofs.oneofs.ok.0, seen_long c.in_ok-oneofs.oneofs.items, ap length c.in_ok-oneofs.ensures) in
+    marks_named m c.len.result c.deref-2.result.now numbers as_many c.in_ok-marks.ensures.places

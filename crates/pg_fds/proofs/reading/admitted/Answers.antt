@@ -5,10 +5,5 @@ use Rattle.pg_fds.proofs.reading.admitted.Goals as goal
 pub returns-in-Ok-clause-sound : goal.returns-in-Ok-clause-sound
 returns-in-Ok-clause-sound c = subst IsSound (sym c.in-Ok.ensures.admitted) c.in-Ok.ensures.sound
 
-pub returns-in-Err : goal.returns-in-Err
-returns-in-Err c = record {
-  ok = tt;
-  sound = tt;
-  refused = c.told.ensures.of_parts c.args.parts c.in-Err.ensures.refused;
-  unsound = c.told.ensures.unsound c.args.parts c.in-Err.ensures.refused;
-}
+pub returns-in-Err-clause-refused : goal.returns-in-Err-clause-refused
+returns-in-Err-clause-refused c = c.told.ensures c.args.parts c.in-Err.ensures.refused

@@ -1,5 +1,5 @@
 use Rattle.std.proofs.Common.{sym, ◌∙◌}
-use Rattle.pg_fds.specs.StatesFiles.{is_proto3}
+use Rattle.pg_fds.specs.SaidFiles.{is_proto3}
 use Rattle.pg_fds.proofs.SetLaws.{all_lost}
 use Rattle.pg_fds.proofs.reading.are_proto3.Goals as goal
 

@@ -1,12 +1,12 @@
 use Rattle.std.proofs.Common.{◌≡◌, ◌<◌, length, Some, sym, subst, rules}
 use Rattle.pg_dyn.specs.reading.Decoding.{dec}
 use Rattle.pg_dyn.specs.Fits.{Fits}
-use Rattle.pg_dyn.specs.Kept.{message_of, type_of}
+use Rattle.pg_dyn.specs.Kept.{message_of}
 use Rattle.pg_dyn.specs.reading.Refusals.{MayRefuse}
 use Rattle.pg_dyn.specs.Texts.{KeepsTexts}
 use Rattle.pg_fds.specs.Building.{written_shape}
 use Rattle.pg_fds.specs.Descriptor.{file_set}
-use Rattle.pg_fds.proofs.KeptTexts.{set_texts}
+use Rattle.pg_fds.proofs.HeldFits.{set_held}
 use Rattle.pg_fds.proofs.reading.decoded.Goals as goal
 
 pub decode-requires : goal.decode-requires
@@ -16,21 +16,15 @@ pub returns-in-Ok-clause-message : goal.returns-in-Ok-clause-message
 unfolding written_shape
 returns-in-Ok-clause-message c = subst (λ s. dec s file_set c.args.bytes.now ≡ Some (message_of c.in-Ok.set)) c.in_ok-table.ensures.shape c.in-Ok.ensures.message
 
-pub returns-in-Ok-clause-fits : goal.returns-in-Ok-clause-fits
-unfolding written_shape
-returns-in-Ok-clause-fits c = subst (λ s. Fits s c.in-Ok.set × (type_of c.in-Ok.set ≡ file_set)) c.in_ok-table.ensures.shape c.in-Ok.ensures.fits
-
 pub returns-in-Ok-clause-texts : goal.returns-in-Ok-clause-texts
 unfolding written_shape
 returns-in-Ok-clause-texts c =
-    set_texts c.in-Ok.set (subst (λ s. Fits s c.in-Ok.set) c.in_ok-table.ensures.shape c.in-Ok.ensures.fits.0) (subst (λ s. KeepsTexts s c.in-Ok.set) c.in_ok-table.ensures.shape c.in-Ok.ensures.texts)
+    set_held c.in-Ok.set (subst (λ s. Fits s c.in-Ok.set) c.in_ok-table.ensures.shape c.in-Ok.ensures.fits.0) (subst (λ s. KeepsTexts s c.in-Ok.set) c.in_ok-table.ensures.shape c.in-Ok.ensures.texts)
 
 pub returns : goal.returns
 unfolding written_shape
 returns c = record {
   message = tt;
-  fits = tt;
   texts = tt;
-  refused = c.undecoded.ensures.refused c.args.bytes.now (subst (λ s. MayRefuse s file_set 100 c.args.bytes.now c.in-Err.error) c.in_ok-table.ensures.shape c.in-Err.ensures.refused);
-  of_bytes = c.undecoded.ensures.of_bytes;
+  refused = c.undecoded.ensures c.args.bytes.now (subst (λ s. MayRefuse s file_set 100 c.args.bytes.now c.in-Err.error) c.in_ok-table.ensures.shape c.in-Err.ensures.refused);
 }

@@ -1,13 +1,13 @@
-use Rattle.std.proofs.Common.{◌≡◌, map}
+use Rattle.std.proofs.Common.{◌≡◌, ◌⊎◌, None, Some, inl, inr, map, ◌∙◌}
 use Rattle.std.proofs.lemmas.Result.{IfErr-weaker, IfOk-weaker, err_from_is_err_and}
-use Rattle.pg_schema.specs.declared.parts.Parts.{Parts}
 use Rattle.pg_dyn.specs.Kept.{message_of}
 use Rattle.pg_fds.specs.declared.error.Unstated.TheVariants as unstated
-use Rattle.pg_fds.specs.Made.{AreOutlined}
-use Rattle.pg_fds.specs.Reads.{CanBeMade, StatesFiles}
+use Rattle.pg_fds.specs.Outlines.{files_at}
+use Rattle.pg_fds.specs.Stated.{declared_by}
 use Rattle.pg_fds.specs.Views.{parts_view}
-use Rattle.pg_fds.proofs.FoundParts.{declare, outlined, within}
+use Rattle.pg_fds.proofs.FilesInOrder.{lent_within}
 use Rattle.pg_fds.proofs.OrderSteps.{handed_on}
+use Rattle.pg_fds.proofs.ReadLaws.{none_declared, outline_declares}
 use Rattle.pg_fds.proofs.reading.parts.Goals as goal
 
 pub returns-in_err-outline-clause-none : goal.returns-in_err-outline-clause-none
@@ -15,21 +15,22 @@ returns-in_err-outline-clause-none c =
     let skips = c.args.skips in
     let files = c.args.files.now in
     let order = c.args.order.now in
+    let found = files_at (map message_of files) order in
     let (y, is, same) = err_from_is_err_and c.from_residual.result c.from_residual.ensures.1 in
-    handed_on c.from_residual.result (λ e. (parts : Parts) → CanBeMade parts → StatesFiles skips (map message_of files) parts → e ≡ unstated.Memory) c.in_err-outline.field-0.0 y is same
-    (λ parts can states. c.in_err-outline.ensures.refused (within skips files order c.requires parts can.able states) (declare skips files order c.requires parts can.able states))
+    handed_on c.from_residual.result (λ e. (e ≡ unstated.Memory) ⊎ (declared_by skips found ≡ None)) c.in_err-outline.field-0.0 y is same
+    (none_declared skips found c.in_err-outline.field-0.0 (c.in_err-outline.ensures.none (lent_within skips files order c.requires)))
 
 pub returns : goal.returns
 returns c =
     let skips = c.args.skips in
-    let files = c.args.files.now in
-    let outline = c.in_ok-outline.outline in
-    let theirs : (parts : Parts) → CanBeMade parts → StatesFiles skips (map message_of files) parts → AreOutlined skips parts outline =
-    λ parts can states.
-    outlined skips files c.args.order.now c.requires parts can.able states outline c.in_ok-outline.ensures.outlined in
+    let found = files_at (map message_of c.args.files.now) c.args.order.now in
+    let theirs = outline_declares skips found c.in_ok-outline.outline c.in_ok-outline.ensures.outlined c.in_ok-outline.ensures.may c.in_ok-outline.ensures.means in
     record {
-      made = IfOk-weaker c.made_parts.result _ (λ made. (parts : Parts) → CanBeMade parts → StatesFiles skips (map message_of files) parts → parts_view made ≡ parts_view parts)
-          (λ made is parts can states. is parts can.able.sound can.numbers (theirs parts can states)) c.made_parts.ensures.made;
-      none = IfErr-weaker c.made_parts.result _ (λ e. (parts : Parts) → CanBeMade parts → StatesFiles skips (map message_of files) parts → e ≡ unstated.Memory)
-          (λ e refused parts can states. refused parts can.able.sound can.numbers (theirs parts can states)) c.made_parts.ensures.refused;
+      made = IfOk-weaker c.made_parts.result _ (λ made. declared_by skips found ≡ Some (parts_view made)) (λ made is. theirs ∙ is) c.made_parts.ensures.made;
+      none = IfErr-weaker c.made_parts.result _ (λ e. (e ≡ unstated.Memory) ⊎ (declared_by skips found ≡ None))
+          (λ e refused.
+          elim refused [
+            | inl memory ↦ inl memory
+            | inr none ↦ inr (theirs ∙ none)
+          ]) c.made_parts.ensures.refused;
     }

@@ -1,7 +1,11 @@
-use Rattle.std.proofs.lemmas.Result.{IfErr-weaker}
-use Rattle.pg_fds.specs.Refused.{IsOfBytes, MayRefuseSet, NoneIsStated, StatesNoneHeld}
+use Rattle.std.proofs.Common.{◌≡◌}
+use Rattle.std.proofs.lemmas.Result.{IfErr-weaker, IfOk-weaker}
+use Rattle.pg_schema.specs.declared.parts.Parts.{Parts}
+use Rattle.pg_fds.specs.Reads.{IsHeld, fds_reads}
+use Rattle.pg_fds.specs.Refused.{MayRefuseSet, NoneIsStated}
+use Rattle.pg_fds.specs.Views.{parts_view}
 use Rattle.pg_fds.proofs.NoneStated.{none_stated}
-use Rattle.pg_fds.proofs.ReadLaws.{refused_both}
+use Rattle.pg_fds.proofs.ReadLaws.{read_once}
 use Rattle.pg_fds.proofs.reading.read.Goals as goal
 
 pub returns : goal.returns
@@ -12,7 +16,7 @@ returns c =
       ok = c.bytes_schema.ensures.ok;
       sound = c.bytes_schema.ensures.sound;
       refused = c.bytes_schema.ensures.refused;
-      same = c.bytes_schema.ensures.same;
-      none_stated = IfErr-weaker r (λ e. MayRefuseSet bytes e × ((IsOfBytes e → ⊥) → StatesNoneHeld bytes)) (NoneIsStated bytes) (λ e both. none_stated c.faults_are_real.ensures bytes e both.0 both.1)
-          (refused_both r (MayRefuseSet bytes) (λ e. (IsOfBytes e → ⊥) → StatesNoneHeld bytes) c.bytes_schema.ensures.refused c.bytes_schema.ensures.none);
+      same = IfOk-weaker r (λ made. fds_reads bytes made) (λ made. (parts : Parts) → IsHeld parts → fds_reads bytes parts → parts_view made ≡ parts_view parts)
+          (λ made reads parts held theirs. read_once bytes made parts reads theirs) c.bytes_schema.ensures.ok;
+      none_stated = IfErr-weaker r (MayRefuseSet bytes) (NoneIsStated bytes) (none_stated c.faults_are_real.ensures bytes) c.bytes_schema.ensures.refused;
     }

@@ -1,7 +1,4 @@
 use Rattle.pg_fds.proofs.reading.undecoded.Goals as goal
 
 pub returns-in_default : goal.returns-in_default
-returns-in_default c = record {
-  refused = λ bytes refused. (c.in_default.not-Memory, refused);
-  of_bytes = tt;
-}
+returns-in_default c = λ bytes refused. (c.in_default.not-Memory, refused)

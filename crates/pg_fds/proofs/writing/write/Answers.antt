@@ -30,7 +30,7 @@ returns-in-Ok-clause-stated c =
     c.in_ok-message.ensures.kept c.in_ok-message.ensures.items (
       c.in-Ok.ensures.ok.0 ∙ set_bytes (shape_of c.in_ok-table.table) c.args.schema.now c.in_ok-message.message c.in_ok-table.ensures.shape c.in_ok-message.ensures.kept c.in_ok-message.ensures.items,
       c.in-Ok.ensures.ok.1,
-    ) c.parts-parts.ensures.checked.sound readable
+    ) c.see_places.ensures readable
 
 pub returns-in-Ok-clause-shallow : goal.returns-in-Ok-clause-shallow
 unfolding written_shape

@@ -1,17 +1,14 @@
-use Rattle.std.proofs.Common.{◌≡◌, ◌++◌, ◌∷◌, [], true, filter, length, map, refl, sym, ap, ap₂, subst, ◌∙◌, arith, append_assoc, length-append}
+use Rattle.std.proofs.Common.{◌≡◌, ◌≤◌, ◌^◌, ◌++◌, ◌∷◌, [], List, filter, length, map, refl, sym, ap, ap₂, subst, ◌∙◌, arith, append_assoc, length-append}
 use Rattle.std.proofs.lemmas.List.{length-map}
 use Rattle.std.proofs.lemmas.Result.{err_from_is_err_and}
 use Rattle.pg_schema.specs.rules.Scopes.{enum_places, service_places, type_places}
-use Rattle.pg_schema.specs.rules.TextSets.{is_among}
 use Rattle.pg_dyn.specs.Kept.{message_of}
+use Rattle.pg_fds.specs.declared.outline.Outlined.{Outlined}
 use Rattle.pg_fds.specs.Outlines.{NameOneofs, enum_rows, file_enums, file_types, row, row_in, rows_in, type_row, type_rows}
 use Rattle.pg_fds.specs.OutlinedPlaces.{counts_of, inside_file, placed_file, placed_type, placed_types, places_of_types}
 use Rattle.pg_fds.specs.Said.{children_at, text_at}
-use Rattle.pg_fds.specs.SetNames.{file_names}
-use Rattle.pg_fds.specs.StatesTypes.{is_entry}
-use Rattle.pg_fds.proofs.NamedRows.{enums_still, types_still}
-use Rattle.pg_fds.proofs.NameTable.{wants_first}
-use Rattle.pg_fds.proofs.OutlinedFiles.{file_declared, file_enums_wanted, file_services_wanted, file_types_wanted, own_package}
+use Rattle.pg_fds.specs.SaidTypes.{is_entry}
+use Rattle.pg_fds.proofs.OutlinedFiles.{file_added, file_enums_fail, file_services_fail, file_types_fail, parts_fail}
 use Rattle.pg_fds.proofs.OutlinedNames.{rows_long, seen_long}
 use Rattle.pg_fds.proofs.OutlinedPlaces.{counts_are, file_placed}
 use Rattle.pg_fds.proofs.OrderSteps.{map_more}
@@ -22,8 +19,7 @@ returns-in_err-declare_scope-clause-refused c =
     let m = message_of c.args.message.now in
     let here : c.text-scope.result.now ≡ text_at 2 m = c.text-scope.ensures in
     let p = err_from_is_err_and c.from_residual.result c.from_residual.ensures.1 in
-    rw (p.1, p.2) (λ packages may. wants_first packages [] (file_names c.args.depth m) c.args.self.now.names _
-    (c.in_err-declare_scope.ensures.refused packages (subst (λ a. is_among packages a ≡ true) (sym here) may.package_name)))
+    rw (p.1, p.2) (λ may. parts_fail c.args.depth (counts_of c.args.self.now) m c.text-scope.result.now here c.args.self.now.names _ c.in_err-declare_scope.ensures.refused)
 
 pub returns-in_err-without_entries-clause-refused : goal.returns-in_err-without_entries-clause-refused
 returns-in_err-without_entries-clause-refused c =
@@ -31,7 +27,7 @@ returns-in_err-without_entries-clause-refused c =
     let types = map message_of c.as_slice-own_types.result.now in
     let same_types : types ≡ children_at 4 m = ap (λ xs. map message_of xs) c.as_slice-own_types.ensures.value ∙ c.in_ok-types_inside.ensures in
     let p = err_from_is_err_and c.from_residual-in_err-without_entries.result c.from_residual-in_err-without_entries.ensures.1 in
-    rw (p.1, p.2) (λ packages may later free. c.in_err-without_entries.ensures.refused (ap (filter is_entry) same_types ∙ may.no_entries))
+    rw (p.1, p.2) (λ may fresh. c.in_err-without_entries.ensures.refused (ap (filter is_entry) same_types ∙ may.no_entries))
 
 pub returns-in_err-enums-clause-refused : goal.returns-in_err-enums-clause-refused
 returns-in_err-enums-clause-refused c =
@@ -42,9 +38,9 @@ returns-in_err-enums-clause-refused c =
     let enums = map message_of c.as_slice-own_enums.result.now in
     let same_enums : enums ≡ children_at 5 m = ap (λ xs. map message_of xs) c.as_slice-own_enums.ensures.value ∙ c.in_ok-enums_inside.ensures in
     let p = err_from_is_err_and c.from_residual-in_err-enums.result c.from_residual-in_err-enums.ensures.1 in
-    rw (p.1, p.2) (λ packages may.
+    rw (p.1, p.2) (λ may.
     let b = may.few_enums in
-    file_enums_wanted depth m packages at here enums same_enums c.args.self.now.names c.declare_scope.new.names (c.in_ok-declare_scope.ensures.declares packages (subst (λ a. is_among packages a ≡ true) (sym here) may.package_name)) _
+    file_enums_fail depth (counts_of c.args.self.now) m at here c.args.self.now.names c.declare_scope.new.names c.in_ok-declare_scope.ensures.adds enums same_enums _
     (c.in_err-enums.ensures.refused (omega (
       arith,
       b,
@@ -52,7 +48,7 @@ returns-in_err-enums-clause-refused c =
       seen_long c.as_slice-own_enums.result.now,
       length-map (children_at 5 m) (row_in (text_at 2 m)),
       length-append (rows_in (text_at 2 m) (children_at 5 m)) (enum_rows depth (text_at 2 m) (children_at 4 m)),
-    )) packages))
+    ))))
 
 pub returns-in_err-types-clause-refused : goal.returns-in_err-types-clause-refused
 returns-in_err-types-clause-refused c =
@@ -68,11 +64,14 @@ returns-in_err-types-clause-refused c =
     let same_enums : enums ≡ children_at 5 m = ap (λ xs. map message_of xs) c.as_slice-own_enums.ensures.value ∙ c.in_ok-enums_inside.ensures in
     let long = rows_long row c.args.self.now.enums.items c.outline_enums.new.enums.items (rows_in at enums) c.in_ok-enums.ensures.rows in
     let p = err_from_is_err_and c.from_residual-in_err-types.result c.from_residual-in_err-types.ensures.1 in
-    rw (p.1, p.2) (λ packages may.
+    let self = c.args.self.now in
+    let counts : record { types = length self.types.items; enums = length c.outline_enums.new.enums.items; services = length self.services.items } ≡ inside_file (counts_of self) m =
+    counts_are _ (inside_file (counts_of self) m) refl (omega (arith, long, ap length same_enums, length-map enums (row_in at))) refl in
+    rw (p.1, p.2) (λ may.
     let a = may.few_types in
     let b = may.few_enums in
-    file_types_wanted depth m packages at here enums same_enums c.args.self.now.names c.declare_scope.new.names (c.in_ok-declare_scope.ensures.declares packages (subst (λ a. is_among packages a ≡ true) (sym here) may.package_name))
-    c.outline_enums.new.names (c.in_ok-enums.ensures.declares packages) types same_types _
+    file_types_fail depth (counts_of self) m at here c.args.self.now.names c.declare_scope.new.names c.in_ok-declare_scope.ensures.adds enums same_enums
+    c.outline_enums.new.names c.in_ok-enums.ensures.adds (record { types = length self.types.items; enums = length c.outline_enums.new.enums.items; services = length self.services.items }) counts types same_types _
     (c.in_err-types.ensures.refused (omega (arith, a, ap length type_count))
     (omega (
       arith,
@@ -83,7 +82,7 @@ returns-in_err-types-clause-refused c =
       length-map enums (row_in at),
       length-map (children_at 5 m) (row_in (text_at 2 m)),
       length-append (rows_in (text_at 2 m) (children_at 5 m)) (enum_rows depth (text_at 2 m) (children_at 4 m)),
-    )) (subst (NameOneofs depth) (sym same_types) may.oneofs) packages))
+    )) (subst (NameOneofs depth) (sym same_types) may.oneofs)))
 
 pub returns-in_err-services-clause-refused : goal.returns-in_err-services-clause-refused
 returns-in_err-services-clause-refused c =
@@ -98,11 +97,16 @@ returns-in_err-services-clause-refused c =
     let services = map message_of c.as_slice-own_services.result.now in
     let same_services : services ≡ children_at 6 m = ap (λ xs. map message_of xs) c.as_slice-own_services.ensures.value ∙ c.in_ok-services_inside.ensures in
     let p = err_from_is_err_and c.from_residual-in_err-services.result c.from_residual-in_err-services.ensures.1 in
-    rw (p.1, p.2) (λ packages may.
+    let self = c.args.self.now in
+    let long = rows_long row c.args.self.now.enums.items c.outline_enums.new.enums.items (rows_in at enums) c.in_ok-enums.ensures.rows in
+    let counts : record { types = length self.types.items; enums = length c.outline_enums.new.enums.items; services = length self.services.items } ≡ inside_file (counts_of self) m =
+    counts_are _ (inside_file (counts_of self) m) refl (omega (arith, long, ap length same_enums, length-map enums (row_in at))) refl in
+    rw (p.1, p.2) (λ may.
     let few = may.few_services in
-    file_services_wanted depth m packages at here enums same_enums c.args.self.now.names c.declare_scope.new.names (c.in_ok-declare_scope.ensures.declares packages (subst (λ a. is_among packages a ≡ true) (sym here) may.package_name))
-    c.outline_enums.new.names (c.in_ok-enums.ensures.declares packages) types same_types c.outline_types.new.self.names (c.in_ok-types.ensures.outlined.declares packages) services same_services _
-    (c.in_err-services.ensures.refused (omega (arith, few, ap length c.in_ok-types.ensures.outlined.others.0, ap length same_services, seen_long c.as_slice-own_services.result.now, length-map (children_at 6 m) (row_in (text_at 2 m)))) packages))
+    file_services_fail depth (counts_of self) m at here c.args.self.now.names c.declare_scope.new.names c.in_ok-declare_scope.ensures.adds enums same_enums
+    c.outline_enums.new.names c.in_ok-enums.ensures.adds (record { types = length self.types.items; enums = length c.outline_enums.new.enums.items; services = length self.services.items }) counts types same_types
+    c.outline_types.new.self.names c.in_ok-types.ensures.outlined.adds services same_services _
+    (c.in_err-services.ensures.refused (omega (arith, few, ap length c.in_ok-types.ensures.outlined.others.0, ap length same_services, seen_long c.as_slice-own_services.result.now, length-map (children_at 6 m) (row_in (text_at 2 m))))))
 
 pub returns : goal.returns
 returns c =
@@ -129,7 +133,7 @@ returns c =
     let own = rows_long row self.enums.items c.outline_enums.new.enums.items (rows_in at enums) c.in_ok-enums.ensures.rows in
     let counts : record { types = length self.types.items; enums = length c.outline_enums.new.enums.items; services = length self.services.items } ≡ inside_file (counts_of self) m =
     counts_are _ (inside_file (counts_of self) m) refl (omega (arith, own, ap length same_enums, length-map enums (row_in at))) refl in
-    let first = c.in_ok-declare_scope.ensures.declares (at ∷ []) (own_package at) in
+    let first = c.in_ok-declare_scope.ensures.adds in
     record {
       outlined = record {
         types = c.in_ok-types.ensures.outlined.rows ∙ ap (λ rs. map type_row self.types.items ++ rs) type_count;
@@ -144,16 +148,14 @@ returns c =
             c.in_ok-services.ensures.ids (ap length c.in_ok-types.ensures.outlined.others.0) (sym (seen_long c.as_slice-own_services.result.now) ∙ ap length same_services)));
         placed = c.in_ok-types.ensures.outlined.placed
             ∙ ap (λ ps. map placed_type self.types.items ++ ps) (ap (λ k. placed_types depth at k types) counts ∙ (ap (λ a. placed_types depth a (inside_file (counts_of self) m) types) here ∙ ap (placed_types depth (text_at 2 m) (inside_file (counts_of self) m)) same_types));
-        named = λ before.
-            types_still [] _ t3 t4 (c.in_ok-services.ensures.declares []) (map type_row deep.types.items)
-            (c.in_ok-types.ensures.outlined.named (types_still [] _ t1 t2 (c.in_ok-enums.ensures.declares []) (map type_row self.types.items)
-            (types_still (at ∷ []) [] t0 t1 first (map type_row self.types.items) before)));
-        enums_named = λ before.
-            enums_still [] _ t3 t4 (c.in_ok-services.ensures.declares []) (map row deep.enums.items)
-            (c.in_ok-types.ensures.outlined.enums_named (c.in_ok-enums.ensures.named (enums_still (at ∷ []) [] t0 t1 first (map row self.enums.items) before)));
-        declares = λ packages among.
-            file_declared depth m packages at here enums same_enums t0 t1 (c.in_ok-declare_scope.ensures.declares packages (subst (λ a. is_among packages a ≡ true) (sym here) among)) t2
-            (c.in_ok-enums.ensures.declares packages) types same_types t3 (c.in_ok-types.ensures.outlined.declares packages) services same_services t4 (c.in_ok-services.ensures.declares packages);
+        adds = file_added depth (counts_of self) m at here t0 t1 first enums same_enums t2 c.in_ok-enums.ensures.adds
+            (record { types = length self.types.items; enums = length c.outline_enums.new.enums.items; services = length self.services.items }) counts types same_types t3 c.in_ok-types.ensures.outlined.adds services same_services t4
+            c.in_ok-services.ensures.adds;
+        few_types = c.in_ok-types.ensures.outlined.few_types;
+        few_enums = λ before. c.in_ok-types.ensures.outlined.few_enums (c.in_ok-enums.ensures.few before);
+        few_services = λ before. c.in_ok-services.ensures.few (subst (λ (ss : List Outlined). length ss ≤ 2 ^ 32) (sym c.in_ok-types.ensures.outlined.others.0) before);
+        oneofs = subst (NameOneofs depth) same_types c.in_ok-types.ensures.outlined.oneofs;
+        no_entries = ap (filter is_entry) (sym same_types) ∙ c.in_ok-without_entries.ensures.ok;
       };
       refused = tt;
     }

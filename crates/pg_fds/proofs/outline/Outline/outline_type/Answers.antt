@@ -1,13 +1,18 @@
-use Rattle.std.proofs.Common.{◌≡◌, [], ap, length, rules, arith}
-use Rattle.std.specs.String.{string_bytes}
+use Rattle.std.proofs.Common.{◌≡◌, length, subst, arith}
+use Rattle.std.proofs.lemmas.Result.{err_from_is_err_and}
 use Rattle.pg_dyn.specs.Kept.{message_of}
-use Rattle.pg_fds.proofs.NamedRows.{type_more}
+use Rattle.pg_fds.specs.Declarations.{Adds, CannotAdd, type_declared}
 use Rattle.pg_fds.proofs.outline.Outline.outline_type.Goals as goal
 
-pub returns-clause-named : goal.returns-clause-named
-returns-clause-named c =
+pub returns-in_err-declare_type-clause-refused : goal.returns-in_err-declare_type-clause-refused
+returns-in_err-declare_type-clause-refused c =
     let old = c.args.self.now.types in
     let at : c.in_ok-index.index ≡ length old.items = omega (arith, c.in_ok-index.ensures.ok, old.ok.0) in
-    let named : string_bytes c.in_ok-from_str.field-0 ≡ c.args.name.now = search rules in
-    type_more _ c.args.name.now (message_of c.args.message.now) c.args.self.now.names c.declare_type.new.names old.items c.push.new.self.items _ c.in_ok-index.index c.in_ok-push.ensures.items named (ap message_of c.again.ensures) at
-    (c.in_ok-declare_type.ensures.declares []) c.in_ok-declare_type.ensures.has
+    let p = err_from_is_err_and c.from_residual-in_err-declare_type.result c.from_residual-in_err-declare_type.ensures.1 in
+    rw (p.1, p.2) (λ few oneofs. subst (λ n. CannotAdd (type_declared c.args.name.now n (message_of c.args.message.now)) c.args.self.now.names c.in_err-declare_type.field-0.0) at (c.in_err-declare_type.ensures.refused oneofs))
+
+pub returns-clause-adds : goal.returns-clause-adds
+returns-clause-adds c =
+    let old = c.args.self.now.types in
+    let at : c.in_ok-index.index ≡ length old.items = omega (arith, c.in_ok-index.ensures.ok, old.ok.0) in
+    subst (λ n. Adds (type_declared c.args.name.now n (message_of c.args.message.now)) c.args.self.now.names c.declare_type.new.names) at c.in_ok-declare_type.ensures.adds

@@ -1,0 +1,5 @@
+use Rattle.std.proofs.Common.{refl}
+use Rattle.pg_fds.proofs.laws.worked_names.Goals as goal
+
+pub returns : goal.returns
+returns c = record { parts = refl; no_part = refl; types = refl; type = refl; enum = refl; package_part = refl; may = refl; twice = refl; part_of_package = refl; without_name = refl }
