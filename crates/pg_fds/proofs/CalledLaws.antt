@@ -7,7 +7,6 @@ use Rattle.pg_fds.specs.declared.outline.Named.TheVariants as nameds
 use Rattle.pg_fds.specs.Fields.{dotted}
 use Rattle.pg_fds.specs.Made.{HasNames}
 use Rattle.pg_fds.specs.Places.{Declared}
-use Rattle.pg_fds.specs.StatedNames as stated
 use Rattle.pg_fds.specs.StatedNames.{Meanings}
 use Rattle.pg_fds.specs.StatesFiles.{StatesCalled}
 

@@ -123,3 +123,15 @@ pub mod OptionItems
 pub mod FileItems
 pub mod OwnerLaws
 pub mod SortedFields
+pub mod NoneSteps
+pub mod BadTypes
+pub mod BadOneofs
+pub mod BadFields
+pub mod BadDeclarations
+pub mod BadOrder
+pub mod BadReferences
+pub mod NoneTypes
+pub mod NoneFields
+pub mod NoneDeclarations
+pub mod NoneOrder
+pub mod CauseExamples

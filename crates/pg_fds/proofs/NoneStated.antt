@@ -17,6 +17,7 @@ use Rattle.pg_dyn.specs.reading.Refusals.{MayRefuse}
 use Rattle.pg_dyn.specs.Message.{Message}
 use Rattle.pg_fds.specs.declared.error.FdsError.{FdsError}
 use Rattle.pg_fds.specs.declared.error.FdsError.TheVariants as errors
+use Rattle.pg_fds.specs.BadReferences.{IsBadReference}
 use Rattle.pg_fds.specs.Building.{written_shape}
 use Rattle.pg_fds.specs.Codes.{file_has_types}
 use Rattle.pg_fds.specs.Descriptor.{file_set}
@@ -25,6 +26,7 @@ use Rattle.pg_fds.specs.Refused.{BreaksRule, MayRefuseSet, NoneIsStated, StatesN
 use Rattle.pg_fds.specs.Stated.{are_taken, stated, stated_of}
 use Rattle.pg_fds.specs.StatedNames.{only_if}
 use Rattle.pg_fds.specs.Views.{PartsView, parts_view}
+use Rattle.pg_fds.proofs.BadReferences.{states_none}
 use Rattle.pg_fds.proofs.ReadLaws.{sound_refused}
 use Rattle.pg_fds.proofs.SameSound.{sound_same}
 
@@ -92,8 +94,8 @@ none_stated real bytes errors.BadType may =
     (λ set other states. not_typed set parts states other.0 other.1) may reads
 none_stated real bytes errors.BadReference may =
     λ parts held reads.
-    both_said (dec written_shape file_set bytes) (λ set. (are_taken (kept_files set) ≡ true) × (stated_of (skips set) (kept_files set) ≡ None)) (λ set. stated set ≡ Some (parts_view parts))
-    (λ set other states. not_found set parts states other.0 other.1) may reads
+    both_said (dec written_shape file_set bytes) (λ set. (are_taken (kept_files set) ≡ true) × IsBadReference (skips set) (kept_files set)) (λ set. stated set ≡ Some (parts_view parts))
+    (λ set other states. not_found set parts states other.0 (states_none (skips set) (kept_files set) other.1)) may reads
 none_stated real bytes (errors.Rule e) may =
     λ parts held reads.
     both_said (dec written_shape file_set bytes) (λ set. (are_taken (kept_files set) ≡ true) × BreaksRule (skips set) (kept_files set) e) (λ set. stated set ≡ Some (parts_view parts))

@@ -14,7 +14,7 @@ use Rattle.pg_fds.specs.declared.error.Unstated.{Unstated}
 use Rattle.pg_fds.specs.Declarations.{Adds, CannotAdd, Declaration, enums_declared, file_declared, package_declared, services_declared, types_declared}
 use Rattle.pg_fds.specs.OutlinedPlaces.{Counts, inside_file}
 use Rattle.pg_fds.specs.OutlinedScopes.{MayPlace}
-use Rattle.pg_fds.specs.Outlines.{MayDeclare, NameOneofs, Row, file_enums, file_services, file_types, files_at, row_in, type_rows}
+use Rattle.pg_fds.specs.Outlines.{NameOneofs, Row, file_enums, file_services, file_types, files_at, row_in, type_rows}
 use Rattle.pg_fds.specs.Said.{children_at, text_at}
 use Rattle.pg_fds.specs.SetNames.{files_names, full_name}
 use Rattle.pg_fds.specs.StatedTable.{are_free, few, has_name, has_no_entries, may_declare, names_oneofs, packages_of}
@@ -187,16 +187,10 @@ module _ (depth : ℕ) (files : List Message) where
       (and_both (free_part && entries_part) oneofs_part (and_both free_part entries_part all.free (none_entries files all.no_entries)) (oneofs_file depth files all.oneofs)) (is_few _ all.few_types)) (is_few _ all.few_enums))
       (is_few _ all.few_services)
 
-  -- what may be declared as it was said so far
-  pub declared_stand : MayDeclare depth files → may_declare depth files ≡ true
-  declared_stand may = stand_may (record {
-    free = and_both (are_distinct (files_names depth files)) (list_all (is_free_of (files_names depth files)) (packages_of files)) may.once (fewer (is_free_of (files_names depth files)) (map (text_at 2) files) may.apart);
-    no_entries = may.no_entries;
-    oneofs = may.oneofs;
-    few_types = may.few_types;
-    few_enums = may.few_enums;
-    few_services = may.few_services;
-  })
+  -- names are free where they are of all packages, those without a name too
+  pub free_there : are_distinct (files_names depth files) ≡ true → list_all (is_free_of (files_names depth files)) (map (text_at 2) files) ≡ true → are_free depth files ≡ true
+  free_there once apart =
+      and_both (are_distinct (files_names depth files)) (list_all (is_free_of (files_names depth files)) (packages_of files)) once (fewer (is_free_of (files_names depth files)) (map (text_at 2) files) apart)
     where
       fewer : (test : List ℕ → Bool) (names : List (List ℕ)) → list_all test names ≡ true → list_all test (filter has_name names) ≡ true
       fewer test [] all = refl

@@ -116,7 +116,7 @@ no_place marks mark (pos place) h = ap (λ o. only_if (oneofs.has_mark mark o) (
     none false = refl
 no_place marks mark (negsuc n) h = refl
 
-no_oneof : (synthetic : List Bool) (members : List ℕ) (m : Message) → has_place (length synthetic) m ≡ false → oneofs.oneof synthetic members m ≡ None
+pub no_oneof : (synthetic : List Bool) (members : List ℕ) (m : Message) → has_place (length synthetic) m ≡ false → oneofs.oneof synthetic members m ≡ None
 no_oneof synthetic members m h = of (maybe_number_at 9 m) refl
   where
     both : (b : Bool) (number : ℤ) → is_place (length synthetic) number ≡ false → cond b (oneofs.own_oneof synthetic members (Some number)) (oneofs.real_oneof synthetic (Some number)) ≡ None

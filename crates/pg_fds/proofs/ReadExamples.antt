@@ -8,7 +8,6 @@ use Rattle.pg_schema.specs.declared.parts.field.Presence.TheVariants.{Implicit}
 use Rattle.pg_schema.specs.declared.parts.field.Scalar.TheVariants.{Int32}
 use Rattle.pg_schema.specs.declared.parts.file.File.{File}
 use Rattle.pg_schema.specs.declared.parts.message_type.MessageType.{MessageType}
-use Rattle.pg_schema.specs.declared.parts.Parts.{Parts}
 use Rattle.pg_wire.specs.Reading.{exactly, row}
 use Rattle.pg_wire.specs.Varint.{varint_at}
 use Rattle.pg_wire.specs.Words.{signed, unzigzag}
@@ -18,7 +17,7 @@ use Rattle.pg_dyn.specs.reading.Decoding.{dec}
 use Rattle.pg_dyn.specs.Message.{Message, Int, Bytes, ends, holds, nests}
 use Rattle.pg_fds.specs.Building.{written_shape}
 use Rattle.pg_fds.specs.Descriptor.{file_set}
-use Rattle.pg_fds.specs.Examples.{AreParts, IsField, IsFile, IsMessage, one_field_bytes}
+use Rattle.pg_fds.specs.Examples.{IsField, IsFile, IsMessage, one_field_bytes}
 use Rattle.pg_fds.specs.ReadExamples.{OneFieldRead}
 use Rattle.pg_fds.specs.Stated.{stated}
 use Rattle.pg_fds.specs.Views.{FieldView, FileView, PartsView, TypeView, enum_view, field_view, file_view, parts_view, service_view, type_view}

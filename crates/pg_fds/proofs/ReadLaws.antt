@@ -35,6 +35,7 @@ use Rattle.pg_fds.specs.StatedNames.{Meanings, only_if}
 use Rattle.pg_fds.specs.StatedOrder.{in_post_order}
 use Rattle.pg_fds.specs.StatedTable.{may_declare, meaning}
 use Rattle.pg_fds.specs.Views.{PartsView, parts_view}
+use Rattle.pg_fds.proofs.BadReferences.{has_cause}
 
 -- ---- what files declare
 
@@ -139,7 +140,7 @@ module _ (skips : Bool) (files : List Message) where
     of_parts (errors.Bytes e) h = h
     of_parts errors.NotProto3 h = absurd h
     of_parts errors.BadType h = absurd h
-    of_parts errors.BadReference h = (taken, h)
+    of_parts errors.BadReference h = (taken, has_cause skips files h)
     of_parts (errors.Rule e) h = (taken, h)
 
     -- what is told once files and types were looked at

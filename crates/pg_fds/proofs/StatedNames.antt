@@ -17,7 +17,7 @@ use Rattle.pg_schema.specs.rules.Sound.{IsSound}
 use Rattle.pg_schema.proofs.lemmas.rules.PairLemmas.{and_both, and_left, and_right}
 use Rattle.pg_dyn.specs.Message.{Message}
 use Rattle.pg_fds.specs.InOrder.{StandInOrder, enums_below}
-use Rattle.pg_fds.specs.Outlines.{MayDeclare, NameOneofs}
+use Rattle.pg_fds.specs.Outlines.{NameOneofs}
 use Rattle.pg_fds.specs.Places.{Declared, declared_in, places_from}
 use Rattle.pg_fds.specs.Said.{children_at, text_at}
 use Rattle.pg_fds.specs.SetNames.{enums_names, file_names, files_names, services_names, types_names}
@@ -27,6 +27,7 @@ use Rattle.pg_fds.specs.SaidTypes.{is_entry}
 use Rattle.pg_fds.proofs.MadeMessage.{declared, rising}
 use Rattle.pg_fds.proofs.NameCounts.{all_counted, at_most_once, count, count_append, each_once, once_counted}
 use Rattle.pg_fds.proofs.OneofCounts.{no_entry_stated, oneofs_named}
+use Rattle.pg_fds.proofs.OutlinedFiles.{MayStand, free_there}
 use Rattle.pg_fds.proofs.PlaceNames.{count_both, names_at, names_at_all}
 use Rattle.pg_fds.proofs.StatedCounts.{StatesDeclared, as_many_enums, as_many_services, as_many_types, enums_in, services_in, types_in}
 use Rattle.pg_fds.proofs.StatedEnumNames.{enums_named, own_enum_names, services_named}
@@ -182,15 +183,14 @@ module _ (parts : Parts) (sound : IsSound parts) where
         and_both (is_free_of names (text_at 2 x)) (list_all (is_free_of names) (map (text_at 2) xs)) (ap (is_free_of names) each.0.package_name ∙ own)
         (packages_free xs files each.1 (and_right (is_free_of (declared_names parts) (string_bytes f.package)) (are_free_of (declared_names parts) files) free))
 
-    declare_at : length parts.enums.items ≤ 2 ^ 32 → length parts.services.items ≤ 2 ^ 32 → MayDeclare depth ms
+    declare_at : length parts.enums.items ≤ 2 ^ 32 → length parts.services.items ≤ 2 ^ 32 → MayStand depth ms
     declare_at few_enums few_services = record {
+      free = free_there depth ms (once_counted (files_names depth ms) (declared_names parts) as_often sound.names) (packages_free ms parts.files.items zip sound.packages);
       no_entries = each_such (StatesDeclared held depth) (λ m. filter is_entry (children_at 4 m) ≡ []) (λ m f states. no_entry_stated depth held (string_bytes f.package) (children_at 4 m) f.types.items states.types) ms parts.files.items zip;
       oneofs = each_such (StatesDeclared held depth) (λ m. NameOneofs depth (children_at 4 m)) (λ m f states. oneofs_named depth held (string_bytes f.package) (children_at 4 m) f.types.items states.types) ms parts.files.items zip;
       few_types = omega (arith, as_many_types held depth ms parts.files.items zip, ap length types, places_long 0 (length parts.types.items), sound.few_types);
       few_enums = omega (arith, as_many_enums held depth ms parts.files.items zip, ap length enums, places_long 0 (length parts.enums.items), few_enums);
       few_services = omega (arith, as_many_services held depth ms parts.files.items zip, ap length services, places_long 0 (length parts.services.items), few_services);
-      once = once_counted (files_names depth ms) (declared_names parts) as_often sound.names;
-      apart = packages_free ms parts.files.items zip sound.packages;
     }
 
 all_declared : (all : Declared) (skips : Bool) (ms : List Message) (files : List File) → AllZip (StatesFile all skips) ms files → AllZip (StatesDeclared all most_deep) ms files
@@ -202,6 +202,6 @@ all_declared all skips (m ∷ ms) (f ∷ files) zip =
 
 -- the files of a set, in the order of those that they state
 pub may_declare : (skips : Bool) (ms : List Message) (parts : Parts) → IsSound parts → StandInOrder parts → length parts.enums.items ≤ 2 ^ 32 → length parts.services.items ≤ 2 ^ 32
-    → AllZip (StatesFile (declared_in parts) skips) ms parts.files.items → MayDeclare most_deep ms
+    → AllZip (StatesFile (declared_in parts) skips) ms parts.files.items → MayStand most_deep ms
 may_declare skips ms parts sound order few_enums few_services zip =
     declare_at parts sound most_deep ms (all_declared (declared_in parts) skips ms parts.files.items zip) order.types order.enums order.services few_enums few_services

@@ -4,18 +4,20 @@ use Rattle.std.proofs.lemmas.Option.{slice_get-get_or}
 use Rattle.std.specs.List.{AllByRecursion, AllZip, Any, list_all}
 use Rattle.pg_schema.specs.declared.parts.file.File.{File}
 use Rattle.pg_schema.specs.declared.parts.Parts.{Parts}
+use Rattle.pg_schema.specs.rules.Packages.{is_free_of}
 use Rattle.pg_schema.specs.rules.Pairs.{are_distinct}
-use Rattle.pg_schema.proofs.lemmas.rules.PairLemmas.{and_both}
+use Rattle.pg_schema.proofs.lemmas.rules.PairLemmas.{and_both, and_left}
 use Rattle.pg_dyn.specs.Message.{Message}
 use Rattle.pg_fds.specs.OutlinedPlaces.{no_counts, placed_files, types_of_files}
-use Rattle.pg_fds.specs.Outlines.{MayDeclare, file_enums, file_services, file_types}
+use Rattle.pg_fds.specs.Outlines.{file_enums, file_services, file_types}
 use Rattle.pg_fds.specs.Places.{declared_in}
 use Rattle.pg_fds.specs.PostOrder.{IsPostOrder, importer_of}
 use Rattle.pg_fds.specs.StatesSet.{CanBeRead, StatesFiles}
 use Rattle.pg_fds.specs.InOrder.{file_name}
 use Rattle.pg_fds.specs.Codes.{file_has_types}
 use Rattle.pg_fds.specs.SaidFiles.{is_proto3, kept_files, most_deep, skips}
-use Rattle.pg_fds.specs.StatedTable.{meaning}
+use Rattle.pg_fds.specs.SetNames.{files_names}
+use Rattle.pg_fds.specs.StatedTable.{meaning, packages_of}
 use Rattle.pg_fds.specs.Stated.{are_taken, declared_by, parts_by, stated_of}
 use Rattle.pg_fds.specs.StatedLaw.{StatesStated}
 use Rattle.pg_fds.specs.StatedNames.{only_if}
@@ -24,7 +26,7 @@ use Rattle.pg_fds.specs.StatesFiles.{StatesFile}
 use Rattle.pg_fds.specs.Views.{PartsView, parts_view}
 use Rattle.pg_fds.proofs.FoundSchema.{placed_are}
 use Rattle.pg_fds.proofs.MeaningLaws.{files_meant}
-use Rattle.pg_fds.proofs.OutlinedFiles.{declared_stand}
+use Rattle.pg_fds.proofs.OutlinedFiles.{MayStand, stand_may}
 use Rattle.pg_fds.proofs.StatedFiles.{each_imports_once, paths_once, stated_proto3, stated_types}
 use Rattle.pg_fds.proofs.StatedNames.{may_declare}
 use Rattle.pg_fds.proofs.StatedOrder.{IsFile, file_named, files_ordered, name}
@@ -70,11 +72,13 @@ declared_are skips files parts can zip =
     let types = flat_map (file_types most_deep) files in
     let enums = flat_map (file_enums most_deep) files in
     let services = flat_map file_services files in
-    let may : MayDeclare most_deep files = may_declare skips files parts can.sound can.places can.few_enums can.few_services zip in
+    let may : MayStand most_deep files = may_declare skips files parts can.sound can.places can.few_enums can.few_services zip in
+    let once : are_distinct (files_names most_deep files) ≡ true =
+    and_left (are_distinct (files_names most_deep files)) (list_all (is_free_of (files_names most_deep files)) (packages_of files)) may.free in
     let made : Option PartsView = parts_by (meaning types enums) skips (placed_files most_deep no_counts files) (types_of_files most_deep no_counts files) enums services in
-    ap (λ b. only_if b made) (declared_stand most_deep files may)
+    ap (λ b. only_if b made) (stand_may most_deep files may)
     ∙ placed_are skips parts (meaning types enums) (placed_files most_deep no_counts files) (types_of_files most_deep no_counts files) enums services can.sound
-    (are_placed skips files parts can.places zip (meaning types enums) (files_meant most_deep files may.once))
+    (are_placed skips files parts can.places zip (meaning types enums) (files_meant most_deep files once))
 
 -- ---- the set
 

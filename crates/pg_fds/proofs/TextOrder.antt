@@ -1,5 +1,5 @@
 -- The schemas of texts are numbered in the order of a schema that a set states.
-use Rattle.std.proofs.Common.{◌≡◌, ℕ, ◌^◌, ◌≤◌, true, List, length}
+use Rattle.std.proofs.Common.{◌≡◌, ◌^◌, ◌≤◌, true, List, length}
 use Rattle.pg_schema.specs.declared.parts.Parts.{Parts}
 use Rattle.pg_schema.specs.rules.Sound.{IsSound}
 use Rattle.pg_check.specs.parts.MadeParts.{ArePartsOf, Source}

@@ -19,7 +19,7 @@ Among list x = list_any (bytes_eq x) list ≡ true
 pub same_bytes : (x y : Text) → bytes_eq x y ≡ true → x ≡ y
 same_bytes x y e = (bytes_eq-Decides x y).0 e
 
-own_bytes : (x : Text) → bytes_eq x x ≡ true
+pub own_bytes : (x : Text) → bytes_eq x x ≡ true
 own_bytes x = (bytes_eq-Decides x x).1 refl
 
 or_true : (a b : Bool) → b ≡ true → (a || b) ≡ true
@@ -181,7 +181,7 @@ path_at [] place i is = absurd (none-some i is)
 path_at (j ∷ files) zero i is = or_front (bytes_eq i.path j.path) (list_any (bytes_eq i.path) (paths_of files)) (ap (λ (k : Importer). bytes_eq i.path k.path) (same_Some j i is) ∙ own_bytes i.path)
 path_at (j ∷ files) (suc place) i is = or_true (bytes_eq i.path j.path) (list_any (bytes_eq i.path) (paths_of files)) (path_at files place i is)
 
-all_listed : (list visited : List Text) → AllByRecursion (Among list) visited → (x : Text) → Among visited x → Among list x
+pub all_listed : (list visited : List Text) → AllByRecursion (Among list) visited → (x : Text) → Among visited x → Among list x
 all_listed list [] all x among = absurd (false≢true among)
 all_listed list (y ∷ ys) all x among = of (bytes_eq x y) refl (all_listed list ys all.1 x) among
   where

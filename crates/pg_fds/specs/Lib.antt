@@ -65,3 +65,5 @@ pub mod PlaceExamples
 pub mod TextOrder
 pub mod ErrorCodes
 pub mod NameExamples
+pub mod BadReferences
+pub mod CauseExamples

@@ -46,7 +46,6 @@ pub record MayPlace (depth : ℕ) (counts : Counts) (m : Message) : Type 0 where
 
 -- all that the files declare, taken in this order, and nothing else
 pub record OutlinesFiles (depth : ℕ) (ms : List Message) (outline : Outline) : Type 0 where
-  pub types : map type_row outline.types.items ≡ flat_map (file_types depth) ms
   pub enums : map row outline.enums.items ≡ flat_map (file_enums depth) ms
   pub services : map row outline.services.items ≡ flat_map file_services ms
   pub files : map placed_file outline.files.items ≡ placed_files depth no_counts ms

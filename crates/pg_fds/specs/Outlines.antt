@@ -1,18 +1,15 @@
--- What the message types, enums and services of a set are called, in the order of their places, and what its files may declare.
+-- What the message types, enums and services of a set are called, in the order of their places.
 use Rattle.std.specs.Prelude.{◌≡◌, ℕ, ◌≤◌, ◌^◌, zero, suc, true, List, [], ◌∷◌, ◌++◌, map, flat_map, filter, filter_map, length, slice_get}
 use Rattle.std.specs.List.{AllByRecursion, list_all}
 use Rattle.std.specs.String.{string_bytes}
-use Rattle.pg_schema.specs.rules.Packages.{is_free_of}
-use Rattle.pg_schema.specs.rules.Pairs.{are_distinct}
 use Rattle.pg_dyn.specs.Kept.{message_of}
 use Rattle.pg_dyn.specs.Message.{Message}
-use Rattle.pg_fds.specs.declared.outline.Named.TheVariants as nameds
 use Rattle.pg_fds.specs.declared.outline.Outlined.{Outlined}
 use Rattle.pg_fds.specs.declared.outline.OutlinedType.{OutlinedType}
 use Rattle.pg_fds.specs.Said.{children_at, text_at}
-use Rattle.pg_fds.specs.SetNames.{files_names, full_name}
+use Rattle.pg_fds.specs.SetNames.{full_name}
 use Rattle.pg_fds.specs.SaidFiles.{is_place}
-use Rattle.pg_fds.specs.SaidTypes.{is_entry, is_no_entry, synthetic_places}
+use Rattle.pg_fds.specs.SaidTypes.{is_no_entry, synthetic_places}
 use Rattle.pg_fds.specs.Proto as proto
 
 -- a full name, and the message of what has it
@@ -78,16 +75,3 @@ NamesOneofs m = list_all (is_place (length (children_at proto.message_oneof_decl
 abbrev pub NameOneofs : (depth : ℕ) → List Message → Type 0
 NameOneofs zero ms = Unit {0}
 NameOneofs (suc depth) ms = AllByRecursion (λ m. NamesOneofs m × NameOneofs depth (filter is_no_entry (children_at proto.message_nested_type m))) ms
-
--- ---- what may be declared
-
--- So may all that the files declare, taken in this order: each full name stands once and is no part of a package, no entry type stands
--- outside of message types, `optional` fields name oneofs that are there, and places fit 32 bits.
-pub record MayDeclare (depth : ℕ) (files : List Message) : Type 0 where
-  pub no_entries : AllByRecursion (λ m. filter is_entry (children_at proto.file_message_type m) ≡ []) files
-  pub oneofs : AllByRecursion (λ m. NameOneofs depth (children_at proto.file_message_type m)) files
-  pub few_types : length (flat_map (file_types depth) files) ≤ 2 ^ 32
-  pub few_enums : length (flat_map (file_enums depth) files) ≤ 2 ^ 32
-  pub few_services : length (flat_map file_services files) ≤ 2 ^ 32
-  pub once : are_distinct (files_names depth files) ≡ true
-  pub apart : list_all (is_free_of (files_names depth files)) (map (text_at 2) files) ≡ true

@@ -12,6 +12,7 @@ use Rattle.pg_dyn.specs.declared.error.DynError.TheVariants as messages
 use Rattle.pg_dyn.specs.reading.Refusals.{MayRefuse}
 use Rattle.pg_fds.specs.declared.error.FdsError.{FdsError}
 use Rattle.pg_fds.specs.declared.error.FdsError.TheVariants as errors
+use Rattle.pg_fds.specs.BadReferences.{IsBadReference}
 use Rattle.pg_fds.specs.Building.{written_shape}
 use Rattle.pg_fds.specs.Codes.{file_has_types}
 use Rattle.pg_fds.specs.Descriptor.{file_set}
@@ -25,15 +26,15 @@ abbrev pub BreaksRule : (skips : Bool) → List Message → CheckError → Type 
 BreaksRule skips files e =
     ((parts : Parts) × (stated_of skips files ≡ Some (parts_view parts)) × IsRefusedOf parts e) × (e ≢ rules.Memory)
 
--- What holds of the files of a set, without those that are skipped, the codec aside. A type is told only where all files are proto3, a bad
--- reference and a rule only where their types and labels are all taken too: a bad reference where they state nothing, a rule where what they
--- state breaks it.
+-- What holds of the files of a set, without those that are skipped, the codec aside. A type is reported only where all files are proto3,
+-- a bad reference and a rule only where their types and labels are all taken too: a bad reference where it has a cause, which is just where
+-- they state nothing (`bad_references`), a rule where what they state breaks it.
 abbrev pub MayRefuseFiles : (skips : Bool) → List Message → FdsError → Type 0
 MayRefuseFiles skips files errors.Memory = ⊤
 MayRefuseFiles skips files (errors.Bytes e) = ⊥
 MayRefuseFiles skips files errors.NotProto3 = list_all is_proto3 files ≡ false
 MayRefuseFiles skips files errors.BadType = (list_all is_proto3 files ≡ true) × (list_all file_has_types files ≡ false)
-MayRefuseFiles skips files errors.BadReference = (are_taken files ≡ true) × (stated_of skips files ≡ None)
+MayRefuseFiles skips files errors.BadReference = (are_taken files ≡ true) × IsBadReference skips files
 MayRefuseFiles skips files (errors.Rule e) = (are_taken files ≡ true) × BreaksRule skips files e
 
 -- that of the message that the bytes are, if they are one
@@ -58,8 +59,8 @@ StatesNone bytes = (parts : Parts) → IsSound parts → fds_reads bytes parts �
 abbrev pub StatesNoneHeld : List ℕ → Type 0
 StatesNoneHeld bytes = (parts : Parts) → IsHeld parts → fds_reads bytes parts → ⊥
 
--- Faults of the bytes, files that aren't proto3 and types are told only where no schema is stated, bad references and broken rules only
--- where none is whose places 32 bits hold. Want of memory and messages nested too deep aren't said to be.
+-- Faults of the bytes, files that aren't proto3 and types are reported only where no schema is stated, bad references and broken rules
+-- only where none is whose places 32 bits hold. Want of memory and messages nested too deep aren't said to be.
 abbrev pub NoneIsStated : List ℕ → FdsError → Type 0
 NoneIsStated bytes errors.Memory = ⊤
 NoneIsStated bytes (errors.Bytes messages.Memory) = ⊤
@@ -70,7 +71,7 @@ NoneIsStated bytes errors.BadType = StatesNone bytes
 NoneIsStated bytes errors.BadReference = StatesNoneHeld bytes
 NoneIsStated bytes (errors.Rule e) = StatesNoneHeld bytes
 
--- memory, or what is told once files and types are looked at
+-- memory, or what is reported once files and types are looked at
 abbrev pub IsOfParts : (skips : Bool) → List Message → FdsError → Type 0
 IsOfParts skips files errors.Memory = ⊤
 IsOfParts skips files (errors.Bytes e) = ⊥

@@ -1,5 +1,7 @@
 //! Laws about the definitions. Each is the contract of a function that does nothing.
 
+ghost use Rattle.pg_fds.specs.BadReferences.{BadReferences};
+ghost use Rattle.pg_fds.specs.CauseExamples.{WorkedCauses};
 ghost use Rattle.pg_fds.specs.DescriptorLaw.{DescriptorIsSound};
 ghost use Rattle.pg_fds.specs.Examples.{WorkedSets};
 ghost use Rattle.pg_fds.specs.OrderExamples.{WorkedOrders};
@@ -70,4 +72,16 @@ pub fn worked_orders()
 /// which files may stand in one set.
 pub fn worked_names()
     ensures { WorkedNames }
+{}
+
+/// Files state no schema, though each is proto3 with types and labels that are taken, where they have
+/// a bad reference, and there alone.
+pub fn bad_references()
+    ensures { BadReferences }
+{}
+
+/// Small sets with a bad reference, each with its cause: an import that isn't there, imports that go
+/// round, a name without a dot in front, and one that is of another kind than the type says.
+pub fn worked_causes()
+    ensures { WorkedCauses }
 {}

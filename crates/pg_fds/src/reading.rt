@@ -37,7 +37,7 @@ use pg_dyn::{DEFAULT_DEPTH_LIMIT, DynError, Message, decode};
 use pg_schema::{Parts, Schema};
 use std::alloc::Global;
 
-// What is told of bytes that the codec refuses so.
+// What is reported of bytes that the codec refuses so.
 fn undecoded(error: DynError) -> FdsError
     ensures { (bytes : List ℕ) → MayRefuse written_shape file_set most_deep bytes error
         → MayRefuseSet bytes result }
@@ -89,7 +89,7 @@ fn parts(alloc: Global, skips: bool, files: &[Said<'_>], order: &[usize]) -> Res
     made_parts(alloc, skips, &outline)
 }
 
-// What is told of parts that are refused so.
+// What is reported of parts that are refused so.
 fn told(error: CheckError) -> FdsError
     ensures { (parts : StatedParts) → IsRefusedOf parts error → IsOfRules parts result }
 {
@@ -176,14 +176,14 @@ fn bytes_schema(alloc: Global, bytes: &[u8]) -> Result<Schema, FdsError>
 ///
 /// The errors, over the whole set and in this order: `Bytes` where the codec refuses the bytes,
 /// with messages nested at most 100 deep; `NotProto3` where a file isn't proto3; `BadType` where a
-/// field has a type or a label that isn't taken, or no type; `BadReference` where an import or a
-/// name isn't there, stands twice or is of another kind, imports go round, a place is none, or an
-/// `optional` field or an entry type hasn't its form; `Rule` with the error of the first rule that
-/// what is declared breaks. A file `google/protobuf/descriptor.proto` that isn't proto3 is left
-/// out, as are imports of it. `Memory` may come in place of any. `Bytes`, but of messages nested
-/// too deep, `NotProto3` and `BadType` come only where the bytes state no schema, `BadReference`
-/// and `Rule` only where they state none whose places 32 bits hold. Where they state such a one,
-/// the schema that is answered is that one.
+/// field has a type or a label that isn't taken, or no type; `BadReference` where the files state
+/// nothing, since an import or a name isn't there, stands twice or is of another kind, imports go
+/// round, a place is none, or an `optional` field or an entry type hasn't its form; `Rule` with the
+/// error of the first rule that what they state breaks. A file `google/protobuf/descriptor.proto`
+/// that isn't proto3 is left out, as are imports of it. `Memory` may come in place of any. `Bytes`,
+/// but of messages nested too deep, `NotProto3` and `BadType` come only where the bytes state no
+/// schema, `BadReference` and `Rule` only where they state none whose places 32 bits hold. The
+/// schema that is answered is the one that they state.
 pub fn read(alloc: Global, bytes: &[u8]) -> Result<Schema, FdsError>
     ensures ok { IfOk result (λ schema. fds_reads bytes.now schema) }
     ensures sound { IfOk result IsSound }

@@ -109,11 +109,8 @@ returns-clause-outlined c =
     let outline = c.loop-place.outline in
     let all = files_at fs order in
     let end : files_at fs (take i order) ≡ all = ap (files_at fs) (taken order i c.loop-place-test.false) in
-    let types = inv.types ∙ ap (flat_map (file_types depth)) end in
-    let enums = inv.enums ∙ ap (flat_map (file_enums depth)) end in
     record {
-      types = types;
-      enums = enums;
+      enums = inv.enums ∙ ap (flat_map (file_enums depth)) end;
       services = inv.services ∙ ap (flat_map file_services) end;
       files = inv.files ∙ ap (placed_files depth no_counts) end;
       placed = inv.placed ∙ ap (types_of_files depth no_counts) end;

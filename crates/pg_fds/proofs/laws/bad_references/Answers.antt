@@ -1,0 +1,5 @@
+use Rattle.pg_fds.proofs.BadReferences.{bad_references}
+use Rattle.pg_fds.proofs.laws.bad_references.Goals as goal
+
+pub returns : goal.returns
+returns c = bad_references
