@@ -11,6 +11,7 @@ ghost use Rattle.pg_check.specs.Declares.{Declares};
 ghost use Rattle.pg_check.specs.Errors as spec;
 ghost use Rattle.pg_check.specs.admitting.PartErrors.{IsRefusedOf};
 ghost use Rattle.pg_check.specs.parts.Sources.{linked_sources};
+ghost use Rattle.pg_check.specs.standing.StandingParts.{StandingParts};
 ghost use Rattle.pg_check.specs.declared.error.CheckError.TheVariants.{Memory};
 
 use pg_check::CheckError;
@@ -24,6 +25,13 @@ pub fn build(alloc: Global, linked: &Linked) -> Result<Schema, CheckError>
     ensures { IfOk result (Declares (linked_sources linked.now.files)) }
 {
     pg_check::build(alloc, linked)
+}
+
+/// How the parts of what `build` answers stand. Only an edit uses the other parts.
+pub fn build_stands(alloc: Global, files: &Linked, _others: Parts) -> Result<Schema, CheckError>
+    ensures { IfOk result StandingParts }
+{
+    pg_check::build(alloc, files)
 }
 
 /// What `build` refuses.

@@ -1,6 +1,5 @@
 //! The promises of `pg_fds`, of what is read, said again of calls of it: the edits of `must-fail`
-//! turn each answer, and every one must be refused. Clauses that no edit here turns, such as which
-//! of the schemas that a set states is read, aren't said again.
+//! turn each answer, and every one must be refused.
 #![tactic(auto)]
 
 ghost use Rattle.std.specs.Prelude.{ℕ, ◌≡◌, List, IfErr, IfOk};

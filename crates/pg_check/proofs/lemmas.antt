@@ -1,4 +1,5 @@
 pub mod rules
 pub mod parts
+pub mod standing
 pub mod admitting
 pub mod RuleCodes

@@ -8,6 +8,7 @@ ghost use Rattle.pg_check.specs.Declares.{Declares, first_broken};
 ghost use Rattle.pg_check.specs.parts.EnumPlaces as enums;
 ghost use Rattle.pg_check.specs.Errors as spec;
 ghost use Rattle.pg_check.specs.parts.Sources.{linked_sources, source};
+ghost use Rattle.pg_check.specs.standing.StandingParts.{StandingParts};
 
 use crate::declare::{FileFault, Refusal, declare};
 use crate::error::{CheckError, error_of};
@@ -92,6 +93,9 @@ fn schema_of(alloc: Global, files: &[Source<'_>]) -> Result<Schema, CheckError>
 pub fn build(alloc: Global, linked: &Linked) -> Result<Schema, CheckError>
     // The schema has just what the files declare, which keep to the rules.
     ensures built { IfOk result (Declares (linked_sources linked.now.files)) }
+    // Files stand behind those that they import, messages nest at most 64 deep, and all is numbered
+    // in the order of a set.
+    ensures stands { IfOk result StandingParts }
     // Memory aside, a refusal names a rule that is broken in the files, the first, at its place.
     ensures refused { IfErr result (spec.IsRefused (linked_sources linked.now.files)) }
 {

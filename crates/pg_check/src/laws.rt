@@ -18,6 +18,7 @@ ghost use Rattle.pg_check.specs.admitting.PartErrors.{IsFirstOf};
 ghost use Rattle.pg_check.specs.admitting.PartFaults.{parts_fault};
 ghost use Rattle.pg_check.specs.RuleCodes.{AreRuleCodes};
 ghost use Rattle.pg_check.specs.parts.Sources.{linked_sources};
+ghost use Rattle.pg_check.specs.standing.StandingParts.{StandingParts};
 ghost use Rattle.pg_check.specs.declared.error.CheckError.{CheckError};
 
 /// What the rules take and what they refuse, by small examples.
@@ -68,6 +69,14 @@ pub fn named_parts()
 pub fn linked_parts()
     ensures { (linked : LinkedFiles) (parts : Parts) → IsLinkedUp linked
         → Declares (linked_sources linked.files) parts → IsSound parts }
+{}
+
+/// The parts of linked files stand as a set states them: each file imports no path twice and stands
+/// behind those that it imports, message types are nested at most 64 deep, and message types, enums
+/// and services are numbered in order.
+pub fn linked_parts_stand()
+    ensures { (linked : LinkedFiles) (parts : Parts) → IsLinkedUp linked
+        → Declares (linked_sources linked.files) parts → StandingParts parts }
 {}
 
 /// The code in the fact that a rule is broken is the code of its error, of files and of parts

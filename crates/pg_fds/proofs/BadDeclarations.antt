@@ -7,13 +7,14 @@ use Rattle.std.specs.List.{Any, cons_option, flat_map, list_all}
 use Rattle.pg_schema.specs.rules.Packages.{is_free_of}
 use Rattle.pg_schema.specs.rules.Pairs.{are_distinct}
 use Rattle.pg_dyn.specs.Message.{Message}
+use Rattle.pg_check.specs.standing.Places.{most_deep}
 use Rattle.pg_fds.specs.BadReferences.{IsBadDeclaration, IsBadField, IsBadMethod, IsBadType, means_in}
 use Rattle.pg_fds.specs.BadReferences as causes
 use Rattle.pg_fds.specs.OutlinedPlaces.{Counts, PlacedFile, PlacedType, behind_file, behind_type, each_from, inner_types, inside_file, inside_type, no_counts, placed_files, placed_types, placed_with, types_of_files}
 use Rattle.pg_fds.specs.Outlines.{Row, file_enums, file_services, file_types, row_in, rows_of_type, type_rows}
 use Rattle.pg_fds.specs.Proto as proto
 use Rattle.pg_fds.specs.Said.{children_at, maybe_number_at, numbers_at, text_at, texts_at}
-use Rattle.pg_fds.specs.SaidFiles.{is_place, most_deep}
+use Rattle.pg_fds.specs.SaidFiles.{is_place}
 use Rattle.pg_fds.specs.SaidTypes.{is_entry, is_optional, synthetic_places}
 use Rattle.pg_fds.specs.SetNames.{files_names, full_name}
 use Rattle.pg_fds.specs.Stated.{declared_by, parts_by, parts_of}

@@ -6,9 +6,9 @@ use Rattle.std.proofs.lemmas.Option.{none-some}
 use Rattle.std.specs.Prelude.{filter_map, slice_index}
 use Rattle.std.specs.List.{Any, cons_option}
 use Rattle.pg_dyn.specs.Message.{Message}
+use Rattle.pg_check.specs.standing.Places.{places_from}
 use Rattle.pg_fds.specs.BadReferences.{HasBadOneof}
 use Rattle.pg_fds.specs.BadReferences as causes
-use Rattle.pg_fds.specs.Places.{places_from}
 use Rattle.pg_fds.specs.Proto as proto
 use Rattle.pg_fds.specs.Said.{children_at, maybe_number_at}
 use Rattle.pg_fds.specs.SaidTypes.{is_at, is_marked, is_optional, members_at, synthetic_places}

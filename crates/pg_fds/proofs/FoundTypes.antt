@@ -18,11 +18,12 @@ use Rattle.pg_schema.specs.rules.Pairs.{are_distinct, differ, is_rising}
 use Rattle.pg_schema.specs.rules.Uses.{is_reserved_range}
 use Rattle.pg_schema.proofs.lemmas.rules.PairLemmas.{and_left, and_right}
 use Rattle.pg_dyn.specs.Message.{Message}
+use Rattle.pg_check.specs.standing.Places.{places_from}
 use Rattle.pg_fds.specs.Made.{AreCounted, StatesFieldAt}
 use Rattle.pg_fds.specs.SaidTypes.{AreMarked, is_marked, members_at, synthetic_places}
 use Rattle.pg_fds.specs.Messages.{declared_fields}
 use Rattle.pg_fds.specs.OutlinedPlaces.{PlacedType}
-use Rattle.pg_fds.specs.Places.{Declared, places_from}
+use Rattle.pg_fds.specs.Places.{Declared}
 use Rattle.pg_fds.specs.Said.{children_at, number_at, text_at}
 use Rattle.pg_fds.specs.StatedNames.{Meanings, first_of}
 use Rattle.pg_fds.specs.StatedOneofs.{members_in, synthetic_in}

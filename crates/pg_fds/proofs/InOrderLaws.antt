@@ -3,7 +3,7 @@ use Rattle.std.proofs.Common.{◌≡◌, ℕ, zero, suc, ◌+◌, Bool, true, Li
 use Rattle.std.proofs.lemmas.Option.{none-some, same_Some}
 use Rattle.std.specs.List.{list_all}
 use Rattle.pg_schema.proofs.lemmas.rules.PairLemmas.{and_left, and_right}
-use Rattle.pg_fds.specs.Places.{places_from}
+use Rattle.pg_check.specs.standing.Places.{places_from}
 
 pub more_from : (start n : ℕ) → places_from start n ++ (start + n) ∷ [] ≡ places_from start (suc n)
 more_from start zero = ap (λ k. k ∷ []) (omega arith)

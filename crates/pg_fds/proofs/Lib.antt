@@ -94,17 +94,6 @@ pub mod PlaceExamples
 pub mod PlacesOnce
 pub mod SoundPlaces
 pub mod FewPlaces
-pub mod TextNames
-pub mod TextFiles
-pub mod TextTrees
-pub mod TextPlaces
-pub mod TextWalks
-pub mod TextTypes
-pub mod TextEnums
-pub mod TextServices
-pub mod TextLevels
-pub mod TextDepth
-pub mod TextOrder
 pub mod Sorting
 pub mod FoundItems
 pub mod KeyAndValue

@@ -6,13 +6,14 @@ use Rattle.std.specs.List.{Any, flat_map, list_all}
 use Rattle.pg_schema.specs.rules.Packages.{is_free_of}
 use Rattle.pg_schema.specs.rules.Pairs.{are_distinct}
 use Rattle.pg_dyn.specs.Message.{Message}
+use Rattle.pg_check.specs.standing.Places.{most_deep}
 use Rattle.pg_fds.specs.BadReferences.{IsBadDeclaration, IsBadMethod, IsBadType, means_in}
 use Rattle.pg_fds.specs.BadReferences as causes
 use Rattle.pg_fds.specs.OutlinedPlaces.{PlacedFile, PlacedType, no_counts, placed_files, types_of_files}
 use Rattle.pg_fds.specs.Outlines.{Row, file_enums, file_services, file_types}
 use Rattle.pg_fds.specs.Proto as proto
 use Rattle.pg_fds.specs.Said.{children_at, numbers_at, texts_at}
-use Rattle.pg_fds.specs.SaidFiles.{is_place, most_deep}
+use Rattle.pg_fds.specs.SaidFiles.{is_place}
 use Rattle.pg_fds.specs.SaidTypes.{is_entry}
 use Rattle.pg_fds.specs.SetNames.{files_names}
 use Rattle.pg_fds.specs.Stated.{declared_by, parts_by, parts_of}

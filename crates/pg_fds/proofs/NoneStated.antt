@@ -15,13 +15,14 @@ use Rattle.pg_dyn.specs.reading.Faults.{Code, FaultIn, NotUtf8, Wire}
 use Rattle.pg_dyn.specs.Laws.{FaultsAreReal}
 use Rattle.pg_dyn.specs.reading.Refusals.{MayRefuse}
 use Rattle.pg_dyn.specs.Message.{Message}
+use Rattle.pg_check.specs.standing.Places.{most_deep}
 use Rattle.pg_fds.specs.declared.error.FdsError.{FdsError}
 use Rattle.pg_fds.specs.declared.error.FdsError.TheVariants as errors
 use Rattle.pg_fds.specs.BadReferences.{IsBadReference}
 use Rattle.pg_fds.specs.Building.{written_shape}
 use Rattle.pg_fds.specs.Codes.{file_has_types}
 use Rattle.pg_fds.specs.Descriptor.{file_set}
-use Rattle.pg_fds.specs.SaidFiles.{is_proto3, kept_files, most_deep, skips}
+use Rattle.pg_fds.specs.SaidFiles.{is_proto3, kept_files, skips}
 use Rattle.pg_fds.specs.Refused.{BreaksRule, MayRefuseSet, NoneIsStated, StatesNone}
 use Rattle.pg_fds.specs.Stated.{are_taken, stated, stated_of}
 use Rattle.pg_fds.specs.StatedNames.{only_if}
@@ -93,10 +94,10 @@ none_stated real bytes errors.BadType may =
     both_said (dec written_shape file_set bytes) (λ set. (list_all is_proto3 (kept_files set) ≡ true) × (list_all file_has_types (kept_files set) ≡ false)) (λ set. stated set ≡ Some (parts_view parts))
     (λ set other states. not_typed set parts states other.0 other.1) may reads
 none_stated real bytes errors.BadReference may =
-    λ parts held reads.
+    λ parts sound reads.
     both_said (dec written_shape file_set bytes) (λ set. (are_taken (kept_files set) ≡ true) × IsBadReference (skips set) (kept_files set)) (λ set. stated set ≡ Some (parts_view parts))
     (λ set other states. not_found set parts states other.0 (states_none (skips set) (kept_files set) other.1)) may reads
 none_stated real bytes (errors.Rule e) may =
-    λ parts held reads.
+    λ parts sound reads.
     both_said (dec written_shape file_set bytes) (λ set. (are_taken (kept_files set) ≡ true) × BreaksRule (skips set) (kept_files set) e) (λ set. stated set ≡ Some (parts_view parts))
-    (λ set other states. not_broken set parts states held.sound other.0 e other.1) may reads
+    (λ set other states. not_broken set parts states sound other.0 e other.1) may reads

@@ -10,10 +10,10 @@ use Rattle.std.specs.Map.{update}
 use Rattle.std.specs.Str.{bytes_eq}
 use Rattle.pg_schema.specs.rules.Pairs.{are_distinct, differ}
 use Rattle.pg_schema.proofs.lemmas.rules.PairLemmas.{and_left, and_right}
+use Rattle.pg_check.specs.standing.Places.{places_from}
 use Rattle.pg_fds.specs.FilePlaces.{ImportsAt, IsIndex, StandAt, name_at}
 use Rattle.pg_fds.specs.PostOrder.{Importer, IsPostOrder, Visits, all_visited, imports_at, kept_paths, listed_last, passed_over, paths_of}
 use Rattle.pg_fds.specs.Walks.{AreWithin, Falls, Walks}
-use Rattle.pg_fds.specs.Places.{places_from}
 use Rattle.pg_fds.proofs.Marks.{found_within, itself, same_number}
 use Rattle.pg_fds.proofs.Visited.{Among, Text, behind_at, imports_found, rank, there_at}
 

@@ -5,6 +5,7 @@ use Rattle.std.proofs.lemmas.List.Concat.{flat_map_single}
 use Rattle.std.specs.List.{AllByRecursion, flat_map, list_all}
 use Rattle.pg_dyn.specs.Kept.{Kept, message_of}
 use Rattle.pg_dyn.specs.Message.{Message}
+use Rattle.pg_check.specs.standing.Places.{places_from}
 use Rattle.pg_fds.specs.declared.error.Unstated.{Unstated}
 use Rattle.pg_fds.specs.declared.error.Unstated.TheVariants as errors
 use Rattle.pg_fds.specs.declared.outline.Named.{Named}
@@ -18,7 +19,6 @@ use Rattle.pg_fds.specs.Said.{children_at}
 use Rattle.pg_fds.specs.SetNames.{full_name}
 use Rattle.pg_fds.specs.SaidFiles.{is_place}
 use Rattle.pg_fds.specs.SaidTypes.{is_entry, is_no_entry, real_oneofs, synthetic_places}
-use Rattle.pg_fds.specs.Places.{places_from}
 use Rattle.pg_fds.proofs.InOrderLaws.{more_from}
 use Rattle.pg_fds.proofs.Declaring.{Left, Table, adds_both, first_fails, later_fails, left_fails, seen_drop}
 use Rattle.pg_fds.proofs.NameLoops.{seen, seen_on, seen_whole}

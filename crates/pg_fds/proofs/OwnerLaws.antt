@@ -11,6 +11,7 @@ use Rattle.std.specs.String.{string_bytes}
 use Rattle.pg_schema.proofs.lemmas.rules.PairLemmas.{and_left, and_right}
 use Rattle.pg_dyn.specs.Kept.{Kept, message_of}
 use Rattle.pg_dyn.specs.Message.{Message}
+use Rattle.pg_check.specs.standing.Places.{places_from}
 use Rattle.pg_fds.specs.declared.outline.OutlinedType.{OutlinedType}
 use Rattle.pg_fds.specs.Made.{AreCounted, has_place, is_placed}
 use Rattle.pg_fds.specs.SaidTypes.{AreMarked, is_marked, is_optional, members_at, synthetic_places}
@@ -22,7 +23,6 @@ use Rattle.pg_fds.specs.StatedNames.{Meanings, each, first_of, only_if}
 use Rattle.pg_fds.specs.StatedOneofs as oneofs
 use Rattle.pg_fds.specs.StatedTypes.{last_named, own_entries, owner}
 use Rattle.pg_fds.specs.SaidFiles.{is_place}
-use Rattle.pg_fds.specs.Places.{places_from}
 use Rattle.pg_fds.proofs.Each.{each_first, each_rest}
 
 -- ---- a list by what stands at its places

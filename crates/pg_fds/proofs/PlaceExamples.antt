@@ -7,10 +7,11 @@ use Rattle.pg_schema.specs.declared.parts.file.Import.{Import}
 use Rattle.pg_schema.specs.declared.parts.message_type.MessageType.{MessageType}
 use Rattle.pg_schema.specs.rules.Pairs.{are_distinct}
 use Rattle.pg_schema.specs.rules.Scopes.{declared_services, enum_places, service_places}
-use Rattle.pg_fds.specs.Again.{imports_apart, nest_within}
-use Rattle.pg_fds.specs.InOrder.{AreBehind, enums_below, file_enums, file_types, imports_among, types_below}
+use Rattle.pg_check.specs.standing.Imports.{AreBehind, imports_among, imports_apart}
+use Rattle.pg_check.specs.standing.InOrder.{enums_below, file_enums, file_types, types_below}
+use Rattle.pg_check.specs.standing.Nesting.{nest_within}
+use Rattle.pg_check.specs.standing.Places.{places_from}
 use Rattle.pg_fds.specs.PlaceExamples.{EnumsInOrder, OneFieldAgain, OneFieldInOrder, PackageEnumsFirst, TypesInOrder, WorkedPlaces}
-use Rattle.pg_fds.specs.Places.{places_from}
 
 types_in_order : TypesInOrder
 types_in_order outer inner last nested =

@@ -1,7 +1,7 @@
 -- The names of what stands at places of a list: at all of its places one after the other, those of the list.
 use Rattle.std.proofs.Common.{◌≡◌, ℕ, zero, suc, List, [], ◌∷◌, ◌++◌, map, length, flat_map, Option, Some, None, slice_get, refl, ap, ◌∙◌}
 use Rattle.std.proofs.lemmas.Grind.{flat_map-append}
-use Rattle.pg_fds.specs.Places.{places_from}
+use Rattle.pg_check.specs.standing.Places.{places_from}
 use Rattle.pg_fds.proofs.NameCounts.{count}
 
 pub map_twice : {A B C : Type 0} (f : A → B) (g : B → C) (xs : List A) → map g (map f xs) ≡ map (λ x. g (f x)) xs

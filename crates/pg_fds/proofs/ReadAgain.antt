@@ -10,14 +10,15 @@ use Rattle.pg_schema.specs.declared.parts.Parts.{Parts}
 use Rattle.pg_schema.proofs.lemmas.rules.PairLemmas.{and_both, and_left, and_right}
 use Rattle.pg_dyn.specs.declared.error.DynError.{DynError}
 use Rattle.pg_dyn.specs.declared.error.DynError.TheVariants as faults
+use Rattle.pg_check.specs.standing.Nesting.{are_shallow, holds_inside, nest_within}
+use Rattle.pg_check.specs.standing.Places.{most_deep}
 use Rattle.pg_fds.specs.declared.error.FdsError.{FdsError}
 use Rattle.pg_fds.specs.declared.error.FdsError.TheVariants as errors
-use Rattle.pg_fds.specs.Again.{IsNotTooDeep, IsReadable, are_shallow, holds_inside, nest_within}
+use Rattle.pg_fds.specs.Again.{IsNotTooDeep, IsReadable}
 use Rattle.pg_fds.specs.ReadAgain.{IsReadAgain, IsTooLong, MayRefuseAgain}
 use Rattle.pg_fds.specs.Reads.{IsHeld, fds_reads}
 use Rattle.pg_fds.specs.Refused.{MayRefuseSet, NoneIsStated}
 use Rattle.pg_fds.specs.Set.{fds}
-use Rattle.pg_fds.specs.SaidFiles.{most_deep}
 use Rattle.pg_fds.specs.Views.{parts_view}
 
 -- ---- what is nested less deep may be nested deeper
@@ -86,17 +87,17 @@ module _ (parts : Parts) (bytes : List ℕ) (held : IsHeld parts) (states : fds_
   memory_alone (errors.Bytes e) may none = absurd (by_codec e may none)
   memory_alone errors.NotProto3 may none = absurd (none parts held.sound states)
   memory_alone errors.BadType may none = absurd (none parts held.sound states)
-  memory_alone errors.BadReference may none = absurd (none parts held states)
-  memory_alone (errors.Rule e) may none = absurd (none parts held states)
+  memory_alone errors.BadReference may none = absurd (none parts held.sound states)
+  memory_alone (errors.Rule e) may none = absurd (none parts held.sound states)
 
 module _ (parts : Parts) (bytes slice : List ℕ) (lent : slice ≡ bytes) (r : Result Parts FdsError) (held : IsHeld parts) (states : IsReadable parts → fds_reads bytes parts) where
   states_lent : (again : IsReadAgain parts) → fds_reads slice parts
   states_lent again = subst (λ bs. fds_reads bs parts) (sym lent) (states (readable parts again))
 
-  pub read_same : IfOk r (λ made. (ps : Parts) → IsHeld ps → fds_reads slice ps → parts_view made ≡ parts_view ps) → IfOk r (λ made. IsReadAgain parts → parts_view made ≡ parts_view parts)
+  pub read_same : IfOk r (λ made. (ps : Parts) → fds_reads slice ps → parts_view made ≡ parts_view ps) → IfOk r (λ made. IsReadAgain parts → parts_view made ≡ parts_view parts)
   read_same h =
-      IfOk-weaker r (λ made. (ps : Parts) → IsHeld ps → fds_reads slice ps → parts_view made ≡ parts_view ps) (λ made. IsReadAgain parts → parts_view made ≡ parts_view parts)
-      (λ made same again. same parts held (states_lent again)) h
+      IfOk-weaker r (λ made. (ps : Parts) → fds_reads slice ps → parts_view made ≡ parts_view ps) (λ made. IsReadAgain parts → parts_view made ≡ parts_view parts)
+      (λ made same again. same parts (states_lent again)) h
 
   pub read_refused : (are_shallow parts ≡ true → IsNotTooDeep bytes) → IfErr r (MayRefuseSet slice) → IfErr r (NoneIsStated slice) → IfErr r (λ e. IsReadAgain parts → (e ≡ errors.Memory) ⊎ IsTooLong parts e)
   read_refused level may none = all r may none

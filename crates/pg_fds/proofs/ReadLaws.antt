@@ -14,6 +14,7 @@ use Rattle.pg_check.specs.admitting.PartErrors.{IsRefusedOf, bad, first, lacking
 use Rattle.pg_dyn.specs.reading.Decoding.{dec}
 use Rattle.pg_dyn.specs.Kept.{Kept, message_of}
 use Rattle.pg_dyn.specs.Message.{Message}
+use Rattle.pg_check.specs.standing.Places.{most_deep}
 use Rattle.pg_fds.specs.declared.error.FdsError.{FdsError}
 use Rattle.pg_fds.specs.declared.error.FdsError.TheVariants as errors
 use Rattle.pg_fds.specs.declared.error.Unstated.{Unstated}
@@ -29,7 +30,7 @@ use Rattle.pg_fds.specs.Owners.{means_of}
 use Rattle.pg_fds.specs.Reads.{fds_reads}
 use Rattle.pg_fds.specs.Refused.{IsOfParts, IsOfRules, MayRefuseFiles, MayRefuseSet}
 use Rattle.pg_fds.specs.Said.{children_at}
-use Rattle.pg_fds.specs.SaidFiles.{is_proto3, is_skipped, kept_files, most_deep, skips}
+use Rattle.pg_fds.specs.SaidFiles.{is_proto3, is_skipped, kept_files, skips}
 use Rattle.pg_fds.specs.Stated.{are_taken, declared_by, parts_by, stated, stated_files, stated_of}
 use Rattle.pg_fds.specs.StatedNames.{Meanings, only_if}
 use Rattle.pg_fds.specs.StatedOrder.{in_post_order}

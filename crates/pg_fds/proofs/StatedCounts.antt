@@ -11,7 +11,7 @@ use Rattle.pg_schema.specs.declared.parts.message_type.MessageType.{MessageType}
 use Rattle.pg_schema.specs.declared.parts.service.ServiceId.{ServiceId}
 use Rattle.pg_schema.specs.rules.Scopes.{enum_places, service_places}
 use Rattle.pg_dyn.specs.Message.{Message}
-use Rattle.pg_fds.specs.InOrder.{enums_below, inner_enums, inner_types, types_below}
+use Rattle.pg_check.specs.standing.InOrder.{enums_below, inner_enums, inner_types, types_below}
 use Rattle.pg_fds.specs.Outlines.{enum_rows, file_enums, file_services, file_types, row_in, rows_in, rows_of_enums, rows_of_type, type_rows}
 use Rattle.pg_fds.specs.Places.{Declared}
 use Rattle.pg_fds.specs.Said.{children_at, text_at}

@@ -10,10 +10,11 @@ use Rattle.pg_schema.specs.declared.parts.file.File.{File}
 use Rattle.pg_schema.specs.declared.parts.service.ServiceId.{ServiceId}
 use Rattle.pg_schema.specs.rules.Scopes.{enum_places, service_places, type_places}
 use Rattle.pg_dyn.specs.Message.{Message}
-use Rattle.pg_fds.specs.InOrder.{enums_below, types_below}
+use Rattle.pg_check.specs.standing.InOrder.{enums_below, types_below}
+use Rattle.pg_check.specs.standing.Places.{places_from}
 use Rattle.pg_fds.specs.OutlinedPlaces.{Counts, PlacedFile, behind_file, file_places, inside_file, placed_files, placed_types, types_of_files}
 use Rattle.pg_fds.specs.Outlines.{enum_rows, file_enums, file_services, file_types, rows_in, type_rows}
-use Rattle.pg_fds.specs.Places.{Declared, places_from}
+use Rattle.pg_fds.specs.Places.{Declared}
 use Rattle.pg_fds.specs.Said.{children_at, text_at}
 use Rattle.pg_fds.specs.States.{StatesEnum, StatesEnums}
 use Rattle.pg_fds.specs.StatesFiles.{StatesService, StatesServices}

@@ -11,10 +11,10 @@ use Rattle.pg_schema.specs.rules.Sound.{IsSound}
 use Rattle.pg_schema.specs.rules.TextSets.{is_among}
 use Rattle.pg_schema.proofs.lemmas.rules.PairLemmas.{among_push, and_both}
 use Rattle.pg_dyn.specs.Message.{Message}
+use Rattle.pg_check.specs.standing.Imports.{AreBehind, file_name}
 use Rattle.pg_fds.specs.Codes.{file_has_types}
 use Rattle.pg_fds.specs.Places.{declared_in}
 use Rattle.pg_fds.specs.PostOrder.{importer_of, imports_once, paths_of}
-use Rattle.pg_fds.specs.InOrder.{AreBehind, file_name}
 use Rattle.pg_fds.specs.StatesSet.{StatesFiles}
 use Rattle.pg_fds.specs.Said.{text_at, texts_at}
 use Rattle.pg_fds.specs.StatesFiles.{StatesFile}

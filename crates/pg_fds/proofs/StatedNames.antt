@@ -16,13 +16,13 @@ use Rattle.pg_schema.specs.rules.Scopes.{declared_services, enum_places}
 use Rattle.pg_schema.specs.rules.Sound.{IsSound}
 use Rattle.pg_schema.proofs.lemmas.rules.PairLemmas.{and_both, and_left, and_right}
 use Rattle.pg_dyn.specs.Message.{Message}
-use Rattle.pg_fds.specs.InOrder.{StandInOrder, enums_below}
+use Rattle.pg_check.specs.standing.InOrder.{StandInOrder, enums_below}
+use Rattle.pg_check.specs.standing.Places.{most_deep, places_from}
 use Rattle.pg_fds.specs.Outlines.{NameOneofs}
-use Rattle.pg_fds.specs.Places.{Declared, declared_in, places_from}
+use Rattle.pg_fds.specs.Places.{Declared, declared_in}
 use Rattle.pg_fds.specs.Said.{children_at, text_at}
 use Rattle.pg_fds.specs.SetNames.{enums_names, file_names, files_names, services_names, types_names}
 use Rattle.pg_fds.specs.StatesFiles.{StatesFile}
-use Rattle.pg_fds.specs.SaidFiles.{most_deep}
 use Rattle.pg_fds.specs.SaidTypes.{is_entry}
 use Rattle.pg_fds.proofs.MadeMessage.{declared, rising}
 use Rattle.pg_fds.proofs.NameCounts.{all_counted, at_most_once, count, count_append, each_once, once_counted}

@@ -4,13 +4,13 @@ use Rattle.std.specs.List.{AllZip, flat_map}
 use Rattle.pg_schema.specs.declared.parts.file.File.{File}
 use Rattle.pg_schema.specs.declared.parts.Parts.{Parts}
 use Rattle.pg_dyn.specs.Message.{Message}
-use Rattle.pg_fds.specs.InOrder.{StandInOrder}
+use Rattle.pg_check.specs.standing.InOrder.{StandInOrder}
+use Rattle.pg_check.specs.standing.Places.{most_deep, places_from}
 use Rattle.pg_fds.specs.OutlinedPlaces.{no_counts, placed_files, types_of_files}
 use Rattle.pg_fds.specs.Outlines.{file_enums, file_services, file_types}
-use Rattle.pg_fds.specs.Places.{Declared, declared_in, places_from}
+use Rattle.pg_fds.specs.Places.{Declared, declared_in}
 use Rattle.pg_fds.specs.StatedNames.{Meanings}
 use Rattle.pg_fds.specs.StatesFiles.{StatesFile}
-use Rattle.pg_fds.specs.SaidFiles.{most_deep}
 use Rattle.pg_fds.proofs.PlacedParts.{ArePlaced}
 use Rattle.pg_fds.proofs.RowNames.{AreMeant, has_entry_names, has_names}
 use Rattle.pg_fds.proofs.RowPlaces.{IsAt, all_from, at_all_places}

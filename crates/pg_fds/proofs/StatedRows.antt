@@ -13,10 +13,11 @@ use Rattle.pg_schema.specs.declared.parts.service.Service.{Service}
 use Rattle.pg_schema.specs.declared.parts.service.ServiceId.{ServiceId}
 use Rattle.pg_schema.specs.rules.Scopes.{enum_places, service_places, type_places}
 use Rattle.pg_dyn.specs.Message.{Message}
-use Rattle.pg_fds.specs.InOrder.{enums_below, inner_enums, inner_types, types_below}
+use Rattle.pg_check.specs.standing.InOrder.{enums_below, inner_enums, inner_types, types_below}
+use Rattle.pg_check.specs.standing.Places.{places_from}
 use Rattle.pg_fds.specs.OutlinedPlaces.{Counts, PlacedType, behind_type, inside_type, placed_types, placed_with, places_of_types}
 use Rattle.pg_fds.specs.Outlines.{Row, enum_rows, row_in, rows_in, rows_of_enums, rows_of_type, type_rows}
-use Rattle.pg_fds.specs.Places.{Declared, places_from}
+use Rattle.pg_fds.specs.Places.{Declared}
 use Rattle.pg_fds.specs.Said.{children_at}
 use Rattle.pg_fds.specs.SetNames.{full_name}
 use Rattle.pg_fds.specs.States.{StatesEnum, StatesEnums}

@@ -14,7 +14,7 @@ use Rattle.pg_schema.specs.rules.Messages.{field_names, is_declared, numbers}
 use Rattle.pg_schema.specs.rules.Pairs.{are_distinct, is_rising}
 use Rattle.pg_schema.specs.rules.Scopes.{enum_places}
 use Rattle.pg_dyn.specs.Message.{Message}
-use Rattle.pg_fds.specs.InOrder.{enums_below, inner_enums, inner_types, types_below}
+use Rattle.pg_check.specs.standing.InOrder.{enums_below, inner_enums, inner_types, types_below}
 use Rattle.pg_fds.specs.Messages.{declared_fields}
 use Rattle.pg_fds.specs.Places.{Declared}
 use Rattle.pg_fds.specs.Said.{children_at, text_at}

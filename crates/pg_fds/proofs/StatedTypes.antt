@@ -26,6 +26,7 @@ use Rattle.pg_schema.specs.rules.Pairs.{all_pairs, are_distinct, differ}
 use Rattle.pg_schema.specs.Shape.{is_map}
 use Rattle.pg_schema.proofs.lemmas.rules.PairLemmas.{and_both, and_left, and_right}
 use Rattle.pg_dyn.specs.Message.{Message}
+use Rattle.pg_check.specs.standing.Places.{most_deep}
 use Rattle.pg_fds.specs.Codes.{file_has_types, has_types, have_types, is_taken, label_codes, type_codes}
 use Rattle.pg_fds.specs.Fields.{element_code, label, scalar_code, type_code}
 use Rattle.pg_fds.specs.Places.{Declared, declared_in}
@@ -33,7 +34,6 @@ use Rattle.pg_fds.specs.Said.{child_in, children_at, items_at, number_at, text_a
 use Rattle.pg_fds.specs.States.{AreKeyAndValue, HasEntry, StatesEntries, StatesEntry, StatesEntryField, StatesField}
 use Rattle.pg_fds.specs.SaidTypes.{is_entry, is_no_entry, label_at}
 use Rattle.pg_fds.specs.StatesFiles.{StatesFile}
-use Rattle.pg_fds.specs.SaidFiles.{most_deep}
 use Rattle.pg_fds.specs.StatesTypes.{StatesTypes, StatesWhole}
 use Rattle.pg_fds.proofs.Matched.{all_tested, differ_apart}
 

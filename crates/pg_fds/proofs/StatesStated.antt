@@ -8,14 +8,15 @@ use Rattle.pg_schema.specs.rules.Packages.{is_free_of}
 use Rattle.pg_schema.specs.rules.Pairs.{are_distinct}
 use Rattle.pg_schema.proofs.lemmas.rules.PairLemmas.{and_both, and_left}
 use Rattle.pg_dyn.specs.Message.{Message}
+use Rattle.pg_check.specs.standing.Imports.{file_name}
+use Rattle.pg_check.specs.standing.Places.{most_deep}
 use Rattle.pg_fds.specs.OutlinedPlaces.{no_counts, placed_files, types_of_files}
 use Rattle.pg_fds.specs.Outlines.{file_enums, file_services, file_types}
 use Rattle.pg_fds.specs.Places.{declared_in}
 use Rattle.pg_fds.specs.PostOrder.{IsPostOrder, importer_of}
 use Rattle.pg_fds.specs.StatesSet.{CanBeRead, StatesFiles}
-use Rattle.pg_fds.specs.InOrder.{file_name}
 use Rattle.pg_fds.specs.Codes.{file_has_types}
-use Rattle.pg_fds.specs.SaidFiles.{is_proto3, kept_files, most_deep, skips}
+use Rattle.pg_fds.specs.SaidFiles.{is_proto3, kept_files, skips}
 use Rattle.pg_fds.specs.SetNames.{files_names}
 use Rattle.pg_fds.specs.StatedTable.{meaning, packages_of}
 use Rattle.pg_fds.specs.Stated.{are_taken, declared_by, parts_by, stated_of}

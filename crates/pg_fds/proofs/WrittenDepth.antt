@@ -9,7 +9,7 @@ use Rattle.pg_schema.specs.declared.parts.Parts.{Parts}
 use Rattle.pg_schema.specs.rules.Scopes.{are_enums_in, are_types_in, is_in, is_named_in, is_type_scope, type_name}
 use Rattle.pg_schema.specs.rules.Sound.{IsSound}
 use Rattle.pg_schema.proofs.lemmas.rules.PairLemmas.{and_both, and_left, and_right}
-use Rattle.pg_fds.specs.Again.{holds_inside, nest_within}
+use Rattle.pg_check.specs.standing.Nesting.{holds_inside, nest_within}
 use Rattle.pg_fds.specs.Messages.{own_name}
 use Rattle.pg_fds.proofs.Matched.{Has, rest, rest_length, still}
 use Rattle.pg_fds.proofs.WrittenEnums.{named_there}

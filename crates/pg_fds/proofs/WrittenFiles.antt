@@ -23,7 +23,9 @@ use Rattle.pg_schema.specs.rules.Scopes.{are_enums_in, are_services_in, are_type
 use Rattle.pg_schema.specs.rules.Sound.{IsSound}
 use Rattle.pg_schema.proofs.lemmas.rules.PairLemmas.{and_left, and_right}
 use Rattle.pg_dyn.specs.Message.{Item, Message, Part}
-use Rattle.pg_fds.specs.Again.{imports_apart, nest_within}
+use Rattle.pg_check.specs.standing.Imports.{imports_apart}
+use Rattle.pg_check.specs.standing.Nesting.{nest_within}
+use Rattle.pg_check.specs.standing.Places.{most_deep}
 use Rattle.pg_fds.specs.Fields.{dotted}
 use Rattle.pg_fds.specs.Items.{item, stated}
 use Rattle.pg_fds.specs.Messages.{enums_items, own_name, types_items, where_found}
@@ -32,7 +34,7 @@ use Rattle.pg_fds.specs.Said.{item_at, maybe_flag_at, maybe_text_at, numbers_at,
 use Rattle.pg_fds.specs.Set.{called_type, file_items, file_options, method_items, option_items, public_places, service_items, services_items}
 use Rattle.pg_fds.specs.States.{StatesEnums}
 use Rattle.pg_fds.specs.StatesFiles.{StatesCalled, StatesFile, StatesMethod, StatesOptions, StatesService, StatesServices, import_of, option_item, stated_option}
-use Rattle.pg_fds.specs.SaidFiles.{is_place, is_proto3, kept_imports, most_deep, option_places}
+use Rattle.pg_fds.specs.SaidFiles.{is_place, is_proto3, kept_imports, option_places}
 use Rattle.pg_fds.specs.StatesTypes.{StatesTypes}
 use Rattle.pg_fds.specs.SaidTypes.{is_marked}
 use Rattle.pg_fds.proofs.Slots.{Slot, at, children_said, children_slot, counts_slot, filled_said, filled_slot, item_found, mark_said, mark_slot, maybe_bytes, maybe_text_said, made, numbers_said, options_said, options_slot, says, stated_said, stated_slot, text_said, text_slot, texts_said, texts_slot}

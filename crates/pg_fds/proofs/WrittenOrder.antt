@@ -7,8 +7,8 @@ use Rattle.pg_schema.specs.declared.parts.file.Import.{Import}
 use Rattle.pg_schema.specs.rules.Pairs.{are_distinct}
 use Rattle.pg_schema.specs.rules.TextSets.{is_among}
 use Rattle.pg_schema.proofs.lemmas.rules.PairLemmas.{and_left, and_right}
+use Rattle.pg_check.specs.standing.Imports.{AreBehind, file_name, imports_among}
 use Rattle.pg_fds.specs.PostOrder.{Importer, IsPostOrder, Visits, all_visited, imports_at, kept_paths, listed_last, passed_over, paths_of}
-use Rattle.pg_fds.specs.InOrder.{AreBehind, file_name, imports_among}
 use Rattle.pg_fds.proofs.StatedFiles.{files_distinct}
 use Rattle.pg_fds.proofs.Visited.{imports_found}
 

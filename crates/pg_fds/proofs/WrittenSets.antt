@@ -17,7 +17,10 @@ use Rattle.pg_dyn.specs.Kept.{Kept, message_of}
 use Rattle.pg_dyn.specs.Laws.{EncodingSpells, ReadsAgain, WritingSplits}
 use Rattle.pg_dyn.specs.Message.{Message, message_from}
 use Rattle.pg_dyn.specs.reading.TooDeep.{TooDeepIn}
-use Rattle.pg_fds.specs.Again.{IsNotTooDeep, IsReadable, are_shallow, imports_apart, nest_within}
+use Rattle.pg_check.specs.standing.Imports.{file_name, imports_apart}
+use Rattle.pg_check.specs.standing.Nesting.{are_shallow, nest_within}
+use Rattle.pg_check.specs.standing.Places.{most_deep}
+use Rattle.pg_fds.specs.Again.{IsNotTooDeep, IsReadable}
 use Rattle.pg_fds.specs.Building.{IsOf, items_of, written_shape}
 use Rattle.pg_fds.specs.Descriptor.{descriptor_shape, file_set}
 use Rattle.pg_fds.specs.Places.{Declared, declared_in}
@@ -25,8 +28,7 @@ use Rattle.pg_fds.specs.PostOrder.{Importer, IsPostOrder, importer_of}
 use Rattle.pg_fds.specs.StatesSet.{CanBeRead, States, StatesFiles}
 use Rattle.pg_fds.specs.Reads.{IsHeld, fds_reads}
 use Rattle.pg_fds.specs.Stated.{stated}
-use Rattle.pg_fds.specs.InOrder.{file_name}
-use Rattle.pg_fds.specs.SaidFiles.{is_descriptor, is_skipped, kept_files, most_deep, skips}
+use Rattle.pg_fds.specs.SaidFiles.{is_descriptor, is_skipped, kept_files, skips}
 use Rattle.pg_fds.specs.Said.{children_at, text_at}
 use Rattle.pg_fds.specs.Set.{fds, file_items, set_message}
 use Rattle.pg_fds.specs.StatesFiles.{StatesFile}

@@ -19,7 +19,7 @@ use Rattle.pg_schema.specs.rules.Scopes.{are_enums_in, are_types_in, is_in, is_n
 use Rattle.pg_schema.specs.rules.Sound.{IsSound}
 use Rattle.pg_schema.proofs.lemmas.rules.PairLemmas.{and_both, and_left, and_right}
 use Rattle.pg_dyn.specs.Message.{Message}
-use Rattle.pg_fds.specs.Again.{holds_inside, nest_within}
+use Rattle.pg_check.specs.standing.Nesting.{holds_inside, nest_within}
 use Rattle.pg_fds.specs.Entries.{entries, entry_items}
 use Rattle.pg_fds.specs.Fields.{fields_items}
 use Rattle.pg_fds.specs.Items.{Items, stated}

@@ -9,13 +9,14 @@ use Rattle.pg_schema.specs.rules.Packages.{is_free_of}
 use Rattle.pg_schema.specs.rules.Pairs.{are_distinct}
 use Rattle.pg_schema.specs.rules.TextSets.{is_among}
 use Rattle.pg_dyn.specs.Message.{Message}
+use Rattle.pg_check.specs.standing.Places.{most_deep}
 use Rattle.pg_fds.specs.declared.outline.Named.{Named}
 use Rattle.pg_fds.specs.Fields.{dotted, element_code}
 use Rattle.pg_fds.specs.Outlines.{Row, file_enums, file_services, file_types}
 use Rattle.pg_fds.specs.PostOrder.{importer_of, imports_at, kept_paths}
 use Rattle.pg_fds.specs.Proto as proto
 use Rattle.pg_fds.specs.Said.{children_at, maybe_number_at, maybe_text_at, number_at, numbers_at, text_at, texts_at}
-use Rattle.pg_fds.specs.SaidFiles.{is_place, most_deep}
+use Rattle.pg_fds.specs.SaidFiles.{is_place}
 use Rattle.pg_fds.specs.SaidTypes.{is_entry, is_marked, is_optional, label_at, members_at, synthetic_places}
 use Rattle.pg_fds.specs.SetNames.{files_names}
 use Rattle.pg_fds.specs.Stated.{stated_of}

@@ -5,9 +5,9 @@ use Rattle.std.specs.Ordering.{int_eq}
 use Rattle.pg_schema.specs.declared.parts.field.Scalar.{Scalar}
 use Rattle.pg_schema.specs.declared.parts.field.Scalar.TheVariants as kinds
 use Rattle.pg_dyn.specs.Message.{Message}
+use Rattle.pg_check.specs.standing.Places.{most_deep}
 use Rattle.pg_fds.specs.Said.{children_at, number_at}
 use Rattle.pg_fds.specs.SaidTypes.{label_at}
-use Rattle.pg_fds.specs.SaidFiles.{most_deep}
 use Rattle.pg_fds.specs.Proto as proto
 
 -- TYPE_DOUBLE and the others up to TYPE_SINT64, without TYPE_GROUP

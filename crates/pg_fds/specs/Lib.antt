@@ -32,7 +32,6 @@ pub mod SetNames
 pub mod Outlines
 pub mod OutlinedPlaces
 pub mod OutlinedScopes
-pub mod InOrder
 pub mod Views
 pub mod StatedNames
 pub mod StatedEnums

@@ -4,6 +4,7 @@ use Rattle.std.specs.Prelude.{ℕ, zero, suc, ◌+◌, List, [], ◌∷◌, ◌+
 use Rattle.pg_schema.specs.rules.Scopes.{enum_places, service_places, type_places}
 use Rattle.pg_dyn.specs.Kept.{message_of}
 use Rattle.pg_dyn.specs.Message.{Message}
+use Rattle.pg_check.specs.standing.Places.{places_from}
 use Rattle.pg_fds.specs.declared.outline.Outline.{Outline}
 use Rattle.pg_fds.specs.declared.outline.OutlinedFile.{OutlinedFile}
 use Rattle.pg_fds.specs.declared.outline.OutlinedType.{OutlinedType}
@@ -12,7 +13,6 @@ use Rattle.pg_fds.specs.Proto as proto
 use Rattle.pg_fds.specs.Said.{children_at, text_at}
 use Rattle.pg_fds.specs.SetNames.{full_name}
 use Rattle.pg_fds.specs.SaidTypes.{is_no_entry}
-use Rattle.pg_fds.specs.Places.{places_from}
 
 -- how many message types, enums and services stand in front
 pub record Counts : Type 0 where

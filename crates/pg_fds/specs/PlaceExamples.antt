@@ -6,8 +6,8 @@ use Rattle.pg_schema.specs.declared.parts.field.TypeId.{TypeId}
 use Rattle.pg_schema.specs.declared.parts.file.File.{File}
 use Rattle.pg_schema.specs.declared.parts.message_type.MessageType.{MessageType}
 use Rattle.pg_schema.specs.declared.parts.Parts.{Parts}
+use Rattle.pg_check.specs.standing.InOrder.{StandInOrder, enums_below, file_enums, types_below}
 use Rattle.pg_fds.specs.Examples.{AreParts, IsMessage}
-use Rattle.pg_fds.specs.InOrder.{StandInOrder, enums_below, file_enums, types_below}
 use Rattle.pg_fds.specs.ReadAgain.{IsReadAgain}
 
 abbrev pub type_id : ℕ → TypeId

@@ -1,5 +1,5 @@
--- Places, and what those in a schema's files mean.
-use Rattle.std.specs.Prelude.{ℕ, zero, suc, List, [], ◌∷◌}
+-- What the places in a schema's files mean.
+use Rattle.std.specs.Prelude.{List}
 use Rattle.pg_schema.specs.declared.parts.enum_type.EnumType.{EnumType}
 use Rattle.pg_schema.specs.declared.parts.message_type.MessageType.{MessageType}
 use Rattle.pg_schema.specs.declared.parts.Parts.{Parts}
@@ -13,8 +13,3 @@ pub record Declared : Type 0 where
 
 abbrev pub declared_in : Parts → Declared
 declared_in parts = record { types = parts.types.items; enums = parts.enums.items; services = parts.services.items }
-
--- so many places, from one on
-abbrev pub places_from : (start count : ℕ) → List ℕ
-places_from start zero = []
-places_from start (suc count) = start ∷ places_from (suc start) count

@@ -10,14 +10,15 @@ use Rattle.pg_dyn.specs.reading.Decoding.{dec}
 use Rattle.pg_dyn.specs.Message.{Message}
 use Rattle.pg_dyn.specs.declared.error.DynError.TheVariants as messages
 use Rattle.pg_dyn.specs.reading.Refusals.{MayRefuse}
+use Rattle.pg_check.specs.standing.Places.{most_deep}
 use Rattle.pg_fds.specs.declared.error.FdsError.{FdsError}
 use Rattle.pg_fds.specs.declared.error.FdsError.TheVariants as errors
 use Rattle.pg_fds.specs.BadReferences.{IsBadReference}
 use Rattle.pg_fds.specs.Building.{written_shape}
 use Rattle.pg_fds.specs.Codes.{file_has_types}
 use Rattle.pg_fds.specs.Descriptor.{file_set}
-use Rattle.pg_fds.specs.Reads.{IsHeld, fds_reads}
-use Rattle.pg_fds.specs.SaidFiles.{is_proto3, kept_files, most_deep, skips}
+use Rattle.pg_fds.specs.Reads.{fds_reads}
+use Rattle.pg_fds.specs.SaidFiles.{is_proto3, kept_files, skips}
 use Rattle.pg_fds.specs.Stated.{are_taken, stated_of}
 use Rattle.pg_fds.specs.Views.{parts_view}
 
@@ -51,16 +52,11 @@ MayRefuseSet bytes errors.BadType = MayRefuseRead bytes errors.BadType
 MayRefuseSet bytes errors.BadReference = MayRefuseRead bytes errors.BadReference
 MayRefuseSet bytes (errors.Rule e) = MayRefuseRead bytes (errors.Rule e)
 
--- no schema is stated by the bytes
+-- no schema is stated by the bytes, of parts that keep to the rules
 abbrev pub StatesNone : List ℕ → Type 0
 StatesNone bytes = (parts : Parts) → IsSound parts → fds_reads bytes parts → ⊥
 
--- none is whose places 32 bits hold
-abbrev pub StatesNoneHeld : List ℕ → Type 0
-StatesNoneHeld bytes = (parts : Parts) → IsHeld parts → fds_reads bytes parts → ⊥
-
--- Faults of the bytes, files that aren't proto3 and types are reported only where no schema is stated, bad references and broken rules
--- only where none is whose places 32 bits hold. Want of memory and messages nested too deep aren't said to be.
+-- Any fault is reported only where no schema is stated. Want of memory and messages nested too deep aren't said to be.
 abbrev pub NoneIsStated : List ℕ → FdsError → Type 0
 NoneIsStated bytes errors.Memory = ⊤
 NoneIsStated bytes (errors.Bytes messages.Memory) = ⊤
@@ -68,8 +64,8 @@ NoneIsStated bytes (errors.Bytes (messages.TooDeep at)) = ⊤
 NoneIsStated bytes (errors.Bytes e) = StatesNone bytes
 NoneIsStated bytes errors.NotProto3 = StatesNone bytes
 NoneIsStated bytes errors.BadType = StatesNone bytes
-NoneIsStated bytes errors.BadReference = StatesNoneHeld bytes
-NoneIsStated bytes (errors.Rule e) = StatesNoneHeld bytes
+NoneIsStated bytes errors.BadReference = StatesNone bytes
+NoneIsStated bytes (errors.Rule e) = StatesNone bytes
 
 -- memory, or what is reported once files and types are looked at
 abbrev pub IsOfParts : (skips : Bool) → List Message → FdsError → Type 0

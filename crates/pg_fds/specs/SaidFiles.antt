@@ -1,5 +1,5 @@
--- What messages of files say, and which files of a set are left out of the schema (descriptor.proto). How deep message types may be nested
--- is this profile's choice, and so is that descriptor.proto is left out.
+-- What messages of files say, and which files of a set are left out of the schema (descriptor.proto). That descriptor.proto is left out is this
+-- profile's choice.
 use Rattle.std.specs.Prelude.{ℕ, suc, ℤ, pos, negsuc, Bool, false, nat_lt, not, ◌&&◌, List, [], ◌∷◌, codes, filter, if◌then◌else◌}
 use Rattle.std.specs.List.{list_any}
 use Rattle.std.specs.Str.{bytes_eq}
@@ -7,10 +7,6 @@ use Rattle.pg_dyn.specs.Message.{Message}
 use Rattle.pg_fds.specs.Proto as proto
 use Rattle.pg_fds.specs.Said.{children_at, text_at}
 use Rattle.pg_fds.specs.SaidTypes.{is_marked}
-
--- How deep message types may be nested: no message of a set that is read stands deeper.
-abbrev pub most_deep : ℕ
-most_deep = 100
 
 -- the number is that of one of so many places
 abbrev pub is_place : ℕ → ℤ → Bool

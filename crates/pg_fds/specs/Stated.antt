@@ -4,10 +4,11 @@ use Rattle.std.specs.Prelude.{Bool, ◌&&◌, List, flat_map, map, Option, optio
 use Rattle.std.specs.List.{list_all}
 use Rattle.std.specs.Option.{option_and_then}
 use Rattle.pg_dyn.specs.Message.{Message}
+use Rattle.pg_check.specs.standing.Places.{most_deep}
 use Rattle.pg_fds.specs.Codes.{file_has_types}
 use Rattle.pg_fds.specs.OutlinedPlaces.{PlacedFile, PlacedType, no_counts, placed_files, types_of_files}
 use Rattle.pg_fds.specs.Outlines.{Row, file_enums, file_services, file_types}
-use Rattle.pg_fds.specs.SaidFiles.{is_proto3, kept_files, most_deep, skips}
+use Rattle.pg_fds.specs.SaidFiles.{is_proto3, kept_files, skips}
 use Rattle.pg_fds.specs.StatedEnums.{enum_type}
 use Rattle.pg_fds.specs.StatedFiles.{file}
 use Rattle.pg_fds.specs.StatedNames.{Meanings, each, only_if}

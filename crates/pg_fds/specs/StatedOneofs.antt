@@ -3,11 +3,11 @@
 use Rattle.std.specs.Prelude.{◌≡◌, ℕ, ◌<◌, ◌^◌, ℤ, pos, negsuc, Bool, true, false, not, nat_eq, nat_lt, List, filter, length, map, take, Option, Some, None, option_map, slice_get, slice_index, if◌then◌else◌}
 use Rattle.std.specs.Option.{option_and_then}
 use Rattle.pg_dyn.specs.Message.{Message}
+use Rattle.pg_check.specs.standing.Places.{places_from}
 use Rattle.pg_fds.specs.SaidTypes.{is_marked, is_optional, members_at, synthetic_places}
 use Rattle.pg_fds.specs.Proto as proto
 use Rattle.pg_fds.specs.Said.{maybe_number_at}
 use Rattle.pg_fds.specs.StatedNames.{only_if}
-use Rattle.pg_fds.specs.Places.{places_from}
 
 abbrev pub has_mark : Bool → Option Bool → Bool
 has_mark mark None = false

@@ -15,11 +15,12 @@ use Rattle.pg_schema.specs.rules.DeclaredNames.{within}
 use Rattle.pg_schema.specs.rules.Pairs.{are_distinct}
 use Rattle.pg_schema.specs.rules.Scopes.{type_name}
 use Rattle.pg_dyn.specs.Message.{Bytes, Int, Item, Message, Plain}
+use Rattle.pg_check.specs.standing.Places.{most_deep}
 use Rattle.pg_fds.specs.Fields.{dotted}
 use Rattle.pg_fds.specs.Places.{Declared}
 use Rattle.pg_fds.specs.Proto as proto
 use Rattle.pg_fds.specs.Said.{children_at, flag_at, item_at, maybe_flag_at, maybe_text_at, numbers_at, options_at, text_at, texts_at}
-use Rattle.pg_fds.specs.SaidFiles.{is_place, is_proto3, kept_imports, most_deep, option_places}
+use Rattle.pg_fds.specs.SaidFiles.{is_place, is_proto3, kept_imports, option_places}
 use Rattle.pg_fds.specs.Set.{mode_code}
 use Rattle.pg_fds.specs.States.{StatesEnums}
 use Rattle.pg_fds.specs.StatesTypes.{StatesTypes}

@@ -7,7 +7,8 @@ use Rattle.pg_schema.specs.declared.parts.Parts.{Parts}
 use Rattle.pg_schema.specs.rules.Pairs.{are_distinct}
 use Rattle.pg_schema.specs.rules.Sound.{IsSound}
 use Rattle.pg_dyn.specs.Message.{Message}
-use Rattle.pg_fds.specs.InOrder.{AreBehind, StandInOrder, file_name}
+use Rattle.pg_check.specs.standing.Imports.{AreBehind, file_name}
+use Rattle.pg_check.specs.standing.InOrder.{StandInOrder}
 use Rattle.pg_fds.specs.Places.{declared_in}
 use Rattle.pg_fds.specs.PostOrder.{IsPostOrder, importer_of}
 use Rattle.pg_fds.specs.Proto as proto

@@ -13,7 +13,7 @@ ghost use Rattle.pg_fds.specs.StatedExamples.{WorkedStated};
 ghost use Rattle.pg_fds.specs.StatedLaw.{StatesStated};
 ghost use Rattle.pg_fds.specs.TextOrder.{TextsAreReadAgain};
 
-use pg_check::laws::linked_parts;
+use pg_check::laws::linked_parts_stand;
 
 /// What is written down of descriptor.proto keeps to the rules of a schema.
 pub fn descriptor_rules()
@@ -26,8 +26,8 @@ pub fn descriptor_rules()
 pub fn texts_are_read_again()
     ensures { TextsAreReadAgain }
 {
-    // Linked files that keep to the rules make a schema.
-    linked_parts();
+    // So stand the parts of linked files that keep to the rules.
+    linked_parts_stand();
 }
 
 /// The bytes of the sets of two small files.

@@ -8,6 +8,7 @@ ghost use Rattle.pg_check.specs.admitting.PartErrors.{IsRefusedOf};
 ghost use Rattle.pg_dyn.specs.reading.Decoding.{dec};
 ghost use Rattle.pg_dyn.specs.reading.Refusals.{MayRefuse};
 ghost use Rattle.pg_dyn.specs.Kept.{message_of};
+ghost use Rattle.pg_check.specs.standing.Places.{most_deep};
 ghost use Rattle.pg_fds.specs.declared.error.Unstated.TheVariants.{Memory};
 ghost use Rattle.pg_fds.specs.Building.{written_shape};
 ghost use Rattle.pg_fds.specs.Descriptor.{file_set};
@@ -15,9 +16,9 @@ ghost use Rattle.pg_fds.specs.FilePlaces.{AreOrdered};
 ghost use Rattle.pg_fds.specs.Held.{IsHeldMessage};
 ghost use Rattle.pg_fds.specs.Outlines.{files_at};
 ghost use Rattle.pg_fds.specs.PostOrder.{importer_of};
-ghost use Rattle.pg_fds.specs.Reads.{IsHeld, fds_reads};
+ghost use Rattle.pg_fds.specs.Reads.{fds_reads};
 ghost use Rattle.pg_fds.specs.Refused.{IsOfParts, IsOfRules, MayRefuseFiles, MayRefuseSet, NoneIsStated};
-ghost use Rattle.pg_fds.specs.SaidFiles.{is_proto3, kept_files, most_deep, skips};
+ghost use Rattle.pg_fds.specs.SaidFiles.{is_proto3, kept_files, skips};
 ghost use Rattle.pg_fds.specs.Stated.{declared_by, stated, stated_files, stated_of};
 ghost use Rattle.pg_fds.specs.Views.{parts_view};
 
@@ -180,16 +181,14 @@ fn bytes_schema(alloc: Global, bytes: &[u8]) -> Result<Schema, FdsError>
 /// nothing, since an import or a name isn't there, stands twice or is of another kind, imports go
 /// round, a place is none, or an `optional` field or an entry type hasn't its form; `Rule` with the
 /// error of the first rule that what they state breaks. A file `google/protobuf/descriptor.proto`
-/// that isn't proto3 is left out, as are imports of it. `Memory` may come in place of any. `Bytes`,
-/// but of messages nested too deep, `NotProto3` and `BadType` come only where the bytes state no
-/// schema, `BadReference` and `Rule` only where they state none whose places 32 bits hold. The
-/// schema that is answered is the one that they state.
+/// that isn't proto3 is left out, as are imports of it. `Memory` may come in place of any. The
+/// others, but for messages nested too deep, come only where the bytes state no schema. The schema
+/// that is answered is the one that they state.
 pub fn read(alloc: Global, bytes: &[u8]) -> Result<Schema, FdsError>
     ensures ok { IfOk result (λ schema. fds_reads bytes.now schema) }
     ensures sound { IfOk result IsSound }
     ensures refused { IfErr result (MayRefuseSet bytes.now) }
-    ensures same { IfOk result (λ schema. (parts : StatedParts) → IsHeld parts
-        → fds_reads bytes.now parts
+    ensures same { IfOk result (λ schema. (parts : StatedParts) → fds_reads bytes.now parts
         → parts_view schema ≡ parts_view parts) }
     ensures none_stated { IfErr result (NoneIsStated bytes.now) }
 {

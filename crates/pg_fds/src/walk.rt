@@ -1,10 +1,10 @@
 //! A walk over the imports of files.
 
 ghost use Rattle.std.specs.Prelude.{◌≡◌, ◌⊎◌, ◌<◌, ◌++◌, ◌∷◌, [], ℕ, Some, IfErr, IfOk, OnOk, length, slice_get};
+ghost use Rattle.pg_check.specs.standing.Places.{places_from};
 ghost use Rattle.pg_fds.specs.declared.error.Unstated.TheVariants as errors;
 ghost use Rattle.pg_fds.specs.declared.walk.Seen.TheVariants as seen;
 ghost use Rattle.pg_fds.specs.Walks.{AreWithin, Ends, Enters, Falls, IsStep, IsWalk, Walks, lists_of};
-ghost use Rattle.pg_fds.specs.Places.{places_from};
 
 use crate::error::Unstated;
 use std::alloc::Global;

@@ -4,8 +4,9 @@ ghost use Rattle.std.specs.Prelude.{◌≡◌, ◌⊎◌, false, true, IfErr, If
 ghost use Rattle.std.specs.List.{list_all};
 ghost use Rattle.pg_schema.specs.Parts.{shape_of};
 ghost use Rattle.pg_dyn.specs.declared.error.DynError.TheVariants as faults;
+ghost use Rattle.pg_check.specs.standing.Nesting.{are_shallow};
 ghost use Rattle.pg_fds.specs.declared.error.FdsError.TheVariants as errors;
-ghost use Rattle.pg_fds.specs.Again.{IsNotTooDeep, IsReadable, are_shallow};
+ghost use Rattle.pg_fds.specs.Again.{IsNotTooDeep, IsReadable};
 ghost use Rattle.pg_fds.specs.Building.{IsOf, items_of, written_shape};
 ghost use Rattle.pg_fds.specs.Reads.{fds_reads};
 ghost use Rattle.pg_fds.specs.Set.{fds};

@@ -3,9 +3,9 @@
 ghost use Rattle.std.specs.Prelude.{◌≡◌, ◌+◌, ◌<◌, ◌≤◌, ◌^◌, ◌++◌, ◌∷◌, [], IfErr, IfOk, OnOk, length, map};
 ghost use Rattle.pg_schema.specs.rules.Scopes.{enum_places};
 ghost use Rattle.pg_dyn.specs.Kept.{message_of};
+ghost use Rattle.pg_check.specs.standing.Places.{places_from};
 ghost use Rattle.pg_fds.specs.Declarations.{Adds, CannotAdd, enum_declared, enums_declared};
 ghost use Rattle.pg_fds.specs.Outlines.{StayFew, row, row_in, rows_in};
-ghost use Rattle.pg_fds.specs.Places.{places_from};
 
 use crate::declare::{declare_each, declare_named};
 use crate::error::Unstated;

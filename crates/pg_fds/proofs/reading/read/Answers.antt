@@ -1,7 +1,7 @@
 use Rattle.std.proofs.Common.{◌≡◌}
 use Rattle.std.proofs.lemmas.Result.{IfErr-weaker, IfOk-weaker}
 use Rattle.pg_schema.specs.declared.parts.Parts.{Parts}
-use Rattle.pg_fds.specs.Reads.{IsHeld, fds_reads}
+use Rattle.pg_fds.specs.Reads.{fds_reads}
 use Rattle.pg_fds.specs.Refused.{MayRefuseSet, NoneIsStated}
 use Rattle.pg_fds.specs.Views.{parts_view}
 use Rattle.pg_fds.proofs.NoneStated.{none_stated}
@@ -16,7 +16,7 @@ returns c =
       ok = c.bytes_schema.ensures.ok;
       sound = c.bytes_schema.ensures.sound;
       refused = c.bytes_schema.ensures.refused;
-      same = IfOk-weaker r (λ made. fds_reads bytes made) (λ made. (parts : Parts) → IsHeld parts → fds_reads bytes parts → parts_view made ≡ parts_view parts)
-          (λ made reads parts held theirs. read_once bytes made parts reads theirs) c.bytes_schema.ensures.ok;
+      same = IfOk-weaker r (λ made. fds_reads bytes made) (λ made. (parts : Parts) → fds_reads bytes parts → parts_view made ≡ parts_view parts)
+          (λ made reads parts theirs. read_once bytes made parts reads theirs) c.bytes_schema.ensures.ok;
       none_stated = IfErr-weaker r (MayRefuseSet bytes) (NoneIsStated bytes) (none_stated c.faults_are_real.ensures bytes) c.bytes_schema.ensures.refused;
     }

@@ -9,7 +9,7 @@ use Rattle.std.proofs.lemmas.Slice.Eq.{bytes_eq-Decides}
 use Rattle.pg_check.specs.parts.ByScope.{Placed, placed_from, places_in}
 use Rattle.pg_check.specs.parts.MadeNumbers.{index_of}
 use Rattle.pg_check.specs.rules.Outline.{Message, message_scope}
-use Rattle.pg_fds.proofs.TextTrees.{Trees, Bare, Grown, IsIn, flat}
+use Rattle.pg_check.proofs.lemmas.standing.MessageTrees.{Trees, Bare, Grown, IsIn, flat}
 
 abbrev pub size : Trees → ℕ
 size f = length (flat f)

@@ -1,20 +1,15 @@
 -- The services of texts stand in order of declaration, file after file.
-use Rattle.std.proofs.Common.{◌≡◌, ◌∙◌, ℕ, suc, ◌+◌, ◌^◌, ◌<◌, ◌≤◌, cond, nat_lt, List, [], ◌∷◌, ◌++◌, flat_map, length, refl, sym, ap, ap₂, subst, arith}
-use Rattle.std.specs.List.{AllByRecursion}
-use Rattle.std.proofs.lemmas.Bool.Decides.{nat_tests}
+use Rattle.std.proofs.Common.{◌≡◌, ◌∙◌, ℕ, suc, ◌+◌, ◌^◌, ◌≤◌, List, [], ◌∷◌, ◌++◌, flat_map, length, refl, sym, ap, ap₂, arith}
 use Rattle.std.proofs.lemmas.Grind.{flat_map-append}
 use Rattle.std.proofs.lemmas.List.{append-nil, length-map}
 use Rattle.pg_schema.specs.declared.parts.file.File.{File}
 use Rattle.pg_schema.specs.declared.parts.Parts.{Parts}
 use Rattle.pg_schema.specs.rules.Scopes.{declared_services, service_places}
-use Rattle.pg_schema.specs.rules.Sound.{IsSound}
 use Rattle.pg_check.specs.parts.MadeNumbers.{index_of}
 use Rattle.pg_check.specs.parts.MadeParts.{ArePartsOf, Declared, EachIs, FileShape, IsFileOf, Source, file_services, file_shape, nothing, with_file, with_files}
 use Rattle.pg_check.specs.parts.MadeServices.{MadeService, service, service_ids}
-use Rattle.pg_fds.specs.Places.{places_from}
-use Rattle.pg_fds.proofs.PlacesOnce.{at_most}
-use Rattle.pg_fds.proofs.SoundPlaces.{services_once}
-use Rattle.pg_fds.proofs.TextPlaces.{index_is}
+use Rattle.pg_check.specs.standing.Places.{places_from}
+use Rattle.pg_check.proofs.lemmas.standing.TreePlaces.{index_is}
 
 -- ---- places of services
 
@@ -27,13 +22,6 @@ numbered_joined before [] ys = let none : before ≡ before + 0 = omega arith in
 numbered_joined before (x ∷ xs) ys =
     let next : (before + 1) + length xs ≡ before + length (x ∷ xs) = omega arith in
     ap (λ ns. index_of before ∷ ns) (numbered_joined (before + 1) xs ys ∙ ap (λ n. numbered (before + 1) xs ++ numbered n ys) next)
-
-low : (n : ℕ) → cond (nat_lt n (2 ^ 32)) n 0 < 2 ^ 32
-low n = grind (arith, nat_tests)
-
-all_low : (before : ℕ) (ss : List MadeService) → AllByRecursion (λ place. place < 2 ^ 32) (numbered before ss)
-all_low before [] = tt
-all_low before (s ∷ ss) = (low before, all_low (before + 1) ss)
 
 in_order : (before : ℕ) (ss : List MadeService) → before + length ss ≤ 2 ^ 32 → numbered before ss ≡ places_from before (length ss)
 in_order before [] few = refl
@@ -68,14 +56,12 @@ files_places [] (f ∷ fs) each = absurd each
 files_places (w ∷ ws) [] each = absurd each
 files_places (w ∷ ws) (f ∷ fs) each = ap₂ (λ xs ys. xs ++ ys) (ap service_places each.0.services) (files_places ws fs each.1)
 
--- services of texts stand in order
-pub services_in_order : (sources : List Source) (parts : Parts) → ArePartsOf sources parts → IsSound parts → declared_services parts.files.items ≡ places_from 0 (length parts.services.items)
-services_in_order sources parts are sound =
+-- services of linked files stand in order
+pub services_in_order : (sources : List Source) (parts : Parts) → ArePartsOf sources parts → length parts.services.items ≤ 2 ^ 32
+    → declared_services parts.files.items ≡ places_from 0 (length parts.services.items)
+services_in_order sources parts are few =
     let all = (with_files nothing sources).services in
     let places : declared_services parts.files.items ≡ numbered 0 all =
     files_places (with_files nothing sources).files parts.files.items are.files ∙ all_numbered nothing sources refl in
     let many : length parts.services.items ≡ length all = sym (length-map parts.services.items service) ∙ ap length are.services in
-    let few : length parts.services.items ≤ 2 ^ 32 =
-    at_most (length parts.services.items) (declared_services parts.files.items) (services_once parts sound) (2 ^ 32)
-    (subst (AllByRecursion (λ place. place < 2 ^ 32)) (sym places) (all_low 0 all)) in
     places ∙ (in_order 0 all (omega (arith, few, many)) ∙ ap (places_from 0) (sym many))

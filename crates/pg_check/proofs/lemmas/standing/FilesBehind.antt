@@ -3,11 +3,13 @@ use Rattle.std.proofs.Common.{◌≡◌, ◌∙◌, ℕ, Bool, true, false, not,
 use Rattle.std.specs.Bool.{⊤}
 use Rattle.std.specs.List.{AllByRecursion, list_all, list_any}
 use Rattle.std.specs.Str.{bytes_eq}
+use Rattle.std.specs.String.{string_bytes}
 use Rattle.std.proofs.lemmas.List.{append-nil, append_assoc, map-append, reverse-append, reverse-reverse}
 use Rattle.std.proofs.lemmas.List.Elements.{recursion_from_All}
 use Rattle.std.proofs.lemmas.List.Folds.{list_all-map, list_any-append}
 use Rattle.std.proofs.lemmas.Simd.{map-map}
 use Rattle.pg_schema.specs.declared.parts.file.File as schema
+use Rattle.pg_schema.specs.declared.parts.file.Import.{Import}
 use Rattle.pg_schema.specs.declared.parts.Parts.{Parts}
 use Rattle.pg_schema.specs.rules.Pairs.{are_distinct, differ}
 use Rattle.pg_schema.specs.rules.TextSets.{is_among}
@@ -21,15 +23,26 @@ use Rattle.pg_check.specs.parts.MadeFiles.{MadeImport, file_import, import_in, m
 use Rattle.pg_check.specs.parts.MadeParts.{Declared, EachIs, FileShape, IsFileOf, Source, file_shape, nothing, with_file, with_files}
 use Rattle.pg_check.specs.rules.Outline.{statements_behind}
 use Rattle.pg_check.specs.parts.Sources.{linked_source, linked_sources}
+use Rattle.pg_check.specs.standing.Imports.{AreBehind, file_name, imports_apart}
 use Rattle.pg_syntax.specs.declared.tree as tree
 use Rattle.pg_syntax.specs.declared.tree.Statement.TheVariants as statements
-use Rattle.pg_fds.specs.Again.{imports_apart}
-use Rattle.pg_fds.specs.PostOrder.{Importer, imports_once, paths_of}
-use Rattle.pg_fds.specs.InOrder.{AreBehind, file_name}
-use Rattle.pg_fds.proofs.TextNames.{neither}
-use Rattle.pg_fds.proofs.WrittenOrder.{file_importer, import_path}
+use Rattle.pg_check.proofs.lemmas.standing.UniqueNames.{neither}
 
 -- ---- paths
+
+-- a file by its path, with the paths that it imports
+record Importer : Type 0 where
+  pub path : List ℕ
+  pub imports : List (List ℕ)
+
+abbrev paths_of : List Importer → List (List ℕ)
+paths_of files = map (λ (i : Importer). i.path) files
+
+abbrev import_path : Import → List ℕ
+import_path i = string_bytes i.path
+
+abbrev file_importer : schema.File → Importer
+file_importer f = record { path = file_name f; imports = map import_path f.imports.items }
 
 none_alike : (path : List ℕ) (paths : List (List ℕ)) → list_any (bytes_eq path) paths ≡ false → list_all (differ path) paths ≡ true
 none_alike path [] none = refl
@@ -66,7 +79,7 @@ among_turned (f ∷ files) path =
 
 -- the file behind those of these names
 record Follows (names : List (List ℕ)) (i : Importer) : Type 0 where
-  pub imports_once : imports_once i ≡ true
+  pub imports_once : are_distinct i.imports ≡ true
   pub imports_there : list_all (is_among names) i.imports ≡ true
   pub is_new : is_among names i.path ≡ false
 

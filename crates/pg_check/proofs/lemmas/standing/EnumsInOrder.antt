@@ -21,18 +21,18 @@ use Rattle.pg_check.specs.parts.MadeEnums.{enumeration, made_enum}
 use Rattle.pg_check.specs.parts.MadeNumbers.{index_of}
 use Rattle.pg_check.specs.parts.MadeParts.{ArePartsOf, Declared, EachIs, IsFileOf, IsTypeOf, Source, TypeTree, file_shape, nothing, placed_enums, placed_messages, type_tree, type_trees, with_file, with_files}
 use Rattle.pg_check.specs.rules.Outline.{Enum, Message, enum_in, enum_scope, enum_stated, file_messages, own_enums, package_enums, package_of, scoped_enums, statements_behind}
+use Rattle.pg_check.specs.standing.InOrder.{enums_below, inner_enums, inner_types, types_below}
+use Rattle.pg_check.specs.standing.Nesting.{nest_within}
+use Rattle.pg_check.specs.standing.Places.{places_from}
+use Rattle.pg_check.proofs.lemmas.parts.Eachs.{each-length, joined_all}
 use Rattle.pg_syntax.specs.declared.tree as tree
 use Rattle.pg_syntax.specs.declared.tree.Part.{Part}
 use Rattle.pg_syntax.specs.declared.tree.Part.TheVariants as parts
 use Rattle.pg_syntax.specs.declared.tree.Statement.TheVariants as statements
-use Rattle.pg_fds.specs.Again.{nest_within}
-use Rattle.pg_fds.specs.InOrder.{enums_below, inner_enums, inner_types, types_below}
-use Rattle.pg_fds.specs.Places.{places_from}
-use Rattle.pg_dyn.proofs.Lists.{each-append}
-use Rattle.pg_fds.proofs.TextNames.{IsUncalled, type_name, types_distinct, uncalled}
-use Rattle.pg_fds.proofs.TextPlaces.{apart, index_is, one_place}
-use Rattle.pg_fds.proofs.TextTypes.{each_long, each_splits, file_apart, file_in_order, files_declared, later_files, later_types, types_declared}
-use Rattle.pg_fds.proofs.TextWalks.{from_joined, full_of}
+use Rattle.pg_check.proofs.lemmas.standing.UniqueNames.{IsUncalled, type_name, types_distinct, uncalled}
+use Rattle.pg_check.proofs.lemmas.standing.TreePlaces.{apart, index_is, one_place}
+use Rattle.pg_check.proofs.lemmas.standing.TypesInOrder.{each_splits, file_apart, file_in_order, files_declared, later_files, later_types, types_declared}
+use Rattle.pg_check.proofs.lemmas.standing.Walks.{from_joined, full_of}
 
 -- ---- scopes, each so many times
 
@@ -137,7 +137,7 @@ all_repeated scope (e ∷ es) stand = ap₂ (λ s ss. s ∷ ss) stand.0 (all_rep
 
 body_stands : (scope : List ℕ) (ps : List Part) → AllByRecursion (Stands scope) (flat_map (enum_in scope) ps)
 body_stands scope [] = tt
-body_stands scope (p ∷ ps) = each-append (Stands scope) (enum_in scope p) (flat_map (enum_in scope) ps) (one p) (body_stands scope ps)
+body_stands scope (p ∷ ps) = joined_all (Stands scope) (enum_in scope p) (flat_map (enum_in scope) ps) (one p) (body_stands scope ps)
   where
     one : (q : Part) → AllByRecursion (Stands scope) (enum_in scope q)
     one (parts.Empty span) = tt
@@ -151,7 +151,7 @@ body_stands scope (p ∷ ps) = each-append (Stands scope) (enum_in scope p) (fla
 
 statements_stand : (scope : List ℕ) (ss : List tree.Statement.Statement) → AllByRecursion (Stands scope) (flat_map (enum_stated scope) ss)
 statements_stand scope [] = tt
-statements_stand scope (s ∷ ss) = each-append (Stands scope) (enum_stated scope s) (flat_map (enum_stated scope) ss) (one s) (statements_stand scope ss)
+statements_stand scope (s ∷ ss) = joined_all (Stands scope) (enum_stated scope s) (flat_map (enum_stated scope) ss) (one s) (statements_stand scope ss)
   where
     one : (t : tree.Statement.Statement) → AllByRecursion (Stands scope) (enum_stated scope t)
     one (statements.Empty span) = tt
@@ -173,7 +173,7 @@ scoped_rows file =
     let behind = flat_map (enum_stated scope) (statements_behind file.packaged) in
     map-append enum_scope (package_enums file) (flat_map own_enums (file_messages file))
     ∙ ap₂ (λ xs ys. xs ++ ys)
-    (all_repeated scope (package_enums file) (each-append (Stands scope) front behind (statements_stand scope file.statements.items) (statements_stand scope (statements_behind file.packaged))))
+    (all_repeated scope (package_enums file) (joined_all (Stands scope) front behind (statements_stand scope file.statements.items) (statements_stand scope (statements_behind file.packaged))))
     (own_rows (file_messages file))
 
 unlike : (scope : List ℕ) (names : List (List ℕ)) → is_among names scope ≡ false → list_all (differ scope) names ≡ true
@@ -300,7 +300,7 @@ module _ (depth : ℕ) (types : List MessageType) (few : length types ≤ 2 ^ 32
       let here : types ≡ front ++ (split.front ++ split.back) = whole ∙ ap (λ ts. front ++ ts) split.splits in
       let further : types ≡ (front ++ split.front) ++ split.back = here ∙ sym (append_assoc front split.front split.back) in
       let longer : length (front ++ split.front) ≡ length (d.types ++ own) =
-      length-append front split.front ∙ (ap₂ (λ n k. n + k) long (sym (each_long IsTypeOf own split.front split.each_front)) ∙ sym (length-append d.types own)) in
+      length-append front split.front ∙ (ap₂ (λ n k. n + k) long (sym (each-length IsTypeOf own split.front split.each_front)) ∙ sym (length-append d.types own)) in
       let more : length (d.enums ++ map made_enum found) ≡ length d.enums + length found = length-append d.enums (map made_enum found) ∙ ap (λ n. length d.enums + n) (length-map found made_enum) in
       let both : length (found ++ later_enums ss) ≡ length found + length (later_enums ss) = length-append found (later_enums ss) in
       let inside = nest_within depth types f.types.items in

@@ -6,9 +6,10 @@ use Rattle.std.proofs.lemmas.Bool.Decides.{nat_tests}
 use Rattle.pg_schema.specs.rules.DeclaredNames.{within}
 use Rattle.pg_schema.specs.rules.Words.{is_word, is_word_byte}
 use Rattle.pg_schema.proofs.lemmas.rules.PairLemmas.{and_left, and_right}
-use Rattle.pg_dyn.proofs.Lists.{each-append}
 use Rattle.pg_check.specs.rules.Outline.{Message, all_messages, file_messages, full_name, messages_in, package_of, row_messages, statement_messages, statements_behind}
+use Rattle.pg_check.proofs.lemmas.parts.Eachs.{joined_all}
 use Rattle.pg_check.proofs.lemmas.parts.WordTrees.{IsGood, nodes_good}
+use Rattle.pg_check.proofs.lemmas.parts.WordedFiles.{word_bytes}
 use Rattle.pg_syntax.specs.declared.tree as tree
 use Rattle.pg_syntax.specs.declared.tree.Part.{Part, Row_of-Part, end_of-Part, more_of-Part}
 use Rattle.pg_syntax.specs.declared.tree.Part.TheVariants as parts
@@ -18,7 +19,6 @@ use Rattle.pg_syntax.specs.Tree.{Tree, Empty, Leaf, At, Both}
 use Rattle.pg_syntax.specs.Views as view
 use Rattle.pg_syntax.specs.Proto3 as grammar
 use Rattle.pg_lex.specs.declared.token.Span.{Span}
-use Rattle.pg_fds.proofs.WrittenNames.{word_bytes}
 
 -- ---- words of full names
 
@@ -144,7 +144,7 @@ mutual
   row_levelled depth top scope (more_of-Part p rest) fits h d =
       let good = nodes_good (view.part p) (view.part_nodes rest) h in
       let derived = nodes_derived (grammar.part_in (grammar.message depth)) (view.part p) (view.part_nodes rest) d in
-      each-append (IsLevelled top) (messages_in scope p) (row_messages scope rest)
+      joined_all (IsLevelled top) (messages_in scope p) (row_messages scope rest)
       (part_levelled depth top scope p fits good.0 derived.0) (row_levelled depth top scope rest fits good.1 derived.1)
 
 body_levelled : (depth top : ℕ) (scope : List ℕ) (ps : List Part) → words_in scope + depth ≤ top → IsGood (view.runs view.part ps)
@@ -153,7 +153,7 @@ body_levelled depth top scope [] fits h d = tt
 body_levelled depth top scope (p ∷ ps) fits h d =
     let good = nodes_good (view.part p) (view.all_nodes view.part ps) h in
     let derived = nodes_derived (grammar.part_in (grammar.message depth)) (view.part p) (view.all_nodes view.part ps) d in
-    each-append (IsLevelled top) (messages_in scope p) (flat_map (messages_in scope) ps)
+    joined_all (IsLevelled top) (messages_in scope p) (flat_map (messages_in scope) ps)
     (part_levelled depth top scope p fits good.0 derived.0) (body_levelled depth top scope ps fits good.1 derived.1)
 
 -- ---- files
@@ -178,7 +178,7 @@ statements_levelled depth top scope [] fits h d = tt
 statements_levelled depth top scope (s ∷ ss) fits h d =
     let good = nodes_good (view.statement s) (view.all_nodes view.statement ss) h in
     let derived = nodes_derived (grammar.statement depth) (view.statement s) (view.all_nodes view.statement ss) d in
-    each-append (IsLevelled top) (statement_messages scope s) (all_messages scope ss)
+    joined_all (IsLevelled top) (statement_messages scope s) (all_messages scope ss)
     (statement_levelled depth top scope s fits good.0 derived.0) (statements_levelled depth top scope ss fits good.1 derived.1)
 
 behind_levelled : (depth top : ℕ) (scope : List ℕ) (p : Option tree.Packaged.Packaged) → words_in scope + depth ≤ top
@@ -197,6 +197,6 @@ file_levelled depth file h d =
     let scope = package_of file in
     let top = words_in scope + depth in
     let behind = statements_behind file.packaged in
-    each-append (IsLevelled top) (all_messages scope file.statements.items) (all_messages scope behind)
+    joined_all (IsLevelled top) (all_messages scope file.statements.items) (all_messages scope behind)
     (statements_levelled depth top scope file.statements.items (omega arith) h.1.1.0 d.1.1.0)
     (behind_levelled depth top scope file.packaged (omega arith) h.1.1.1 d.1.1.1)

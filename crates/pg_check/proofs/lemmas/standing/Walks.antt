@@ -13,12 +13,12 @@ use Rattle.pg_schema.specs.rules.TextSets.{is_among}
 use Rattle.pg_schema.proofs.lemmas.rules.PairLemmas.{and_left, and_right}
 use Rattle.pg_check.specs.parts.ByScope.{Placed, placed_from, places_in, type_id}
 use Rattle.pg_check.specs.rules.Outline.{Message, message_scope}
-use Rattle.pg_fds.specs.Again.{holds_inside, nest_within}
-use Rattle.pg_fds.specs.InOrder.{inner_types, types_below}
-use Rattle.pg_fds.specs.Places.{places_from}
-use Rattle.pg_fds.proofs.TextNames.{distinct_left, distinct_right, not_among, not_in_both}
-use Rattle.pg_fds.proofs.TextPlaces.{HoldsOf, NamedApart, Names, places_held, places_of, roots, roots_held, size}
-use Rattle.pg_fds.proofs.TextTrees.{Bare, Grown, HasTrees, IsIn, Trees, flat}
+use Rattle.pg_check.specs.standing.InOrder.{inner_types, types_below}
+use Rattle.pg_check.specs.standing.Nesting.{holds_inside, nest_within}
+use Rattle.pg_check.specs.standing.Places.{places_from}
+use Rattle.pg_check.proofs.lemmas.standing.UniqueNames.{distinct_left, distinct_right, not_among, not_in_both}
+use Rattle.pg_check.proofs.lemmas.standing.TreePlaces.{HoldsOf, NamedApart, Names, places_held, places_of, roots, roots_held, size}
+use Rattle.pg_check.proofs.lemmas.standing.MessageTrees.{Bare, Grown, HasTrees, IsIn, Trees, flat}
 
 pub from_joined : (k a b : ℕ) → places_from k a ++ places_from (k + a) b ≡ places_from k (a + b)
 from_joined k zero b = let none : k + 0 ≡ k = omega arith in let some : 0 + b ≡ b = omega arith in ap (λ n. places_from n b) none ∙ ap (places_from k) (sym some)

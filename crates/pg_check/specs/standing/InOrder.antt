@@ -1,34 +1,12 @@
--- How a schema is laid out that a set states: files behind those that they import, and file after file message types and services in order
--- of declaration, enums scope by scope, those of the package before those of each message type. That is this profile's choice.
-use Rattle.std.specs.Prelude.{◌≡◌, ℕ, zero, suc, ⊤, Bool, true, false, List, [], ◌∷◌, ◌++◌, flat_map, length, Option, Some, None, slice_get}
-use Rattle.std.specs.List.{list_all}
-use Rattle.std.specs.String.{string_bytes}
+-- How a schema's places are laid out where a set states it: file after file message types and services in order of declaration, enums scope by
+-- scope, those of the package before those of each message type. That is this profile's choice.
+use Rattle.std.specs.Prelude.{◌≡◌, ℕ, zero, suc, List, [], ◌∷◌, ◌++◌, flat_map, length, Option, Some, None, slice_get}
 use Rattle.pg_schema.specs.declared.parts.field.TypeId.{TypeId}
 use Rattle.pg_schema.specs.declared.parts.file.File.{File}
-use Rattle.pg_schema.specs.declared.parts.file.Import.{Import}
 use Rattle.pg_schema.specs.declared.parts.message_type.MessageType.{MessageType}
 use Rattle.pg_schema.specs.declared.parts.Parts.{Parts}
 use Rattle.pg_schema.specs.rules.Scopes.{declared_services, enum_places}
-use Rattle.pg_schema.specs.rules.TextSets.{is_among}
-use Rattle.pg_fds.specs.SaidFiles.{most_deep}
-use Rattle.pg_fds.specs.Places.{places_from}
-
--- ---- files
-
-abbrev pub file_name : File → List ℕ
-file_name f = string_bytes f.name
-
--- what is imported is among the names
-abbrev pub imports_among : List (List ℕ) → List Import → Bool
-imports_among names imports = list_all (λ (i : Import). is_among names (string_bytes i.path)) imports
-
--- each file has a name of its own, and stands behind those that it imports, where files of these names stand in front
-abbrev pub AreBehind : List (List ℕ) → List File → Type 0
-AreBehind names [] = ⊤
-AreBehind names (f ∷ fs) =
-    (imports_among names f.imports.items ≡ true) × (is_among names (file_name f) ≡ false) × AreBehind (names ++ file_name f ∷ []) fs
-
--- ---- places
+use Rattle.pg_check.specs.standing.Places.{most_deep, places_from}
 
 abbrev pub inner_types : (List TypeId → List ℕ) → Option MessageType → List ℕ
 inner_types inside None = []

@@ -14,12 +14,13 @@ use Rattle.pg_link.specs.declared.target.Target.{Target}
 use Rattle.pg_check.specs.parts.ByScope.{Placed}
 use Rattle.pg_check.specs.parts.MadeParts.{ArePartsOf, Declared, EachIs, FileShape, IsFileOf, IsTypeOf, Source, TypeTree, file_shape, nothing, placed_enums, placed_messages, type_tree, type_trees, with_file, with_files}
 use Rattle.pg_check.specs.rules.Outline.{Message, file_messages, package_of}
-use Rattle.pg_fds.specs.Again.{nest_within}
-use Rattle.pg_fds.specs.InOrder.{types_below}
-use Rattle.pg_fds.specs.Places.{places_from}
-use Rattle.pg_fds.proofs.TextNames.{IsUncalled, distinct_left, distinct_right, not_between, type_name, types_distinct, uncalled}
-use Rattle.pg_fds.proofs.TextTrees.{file_trees}
-use Rattle.pg_fds.proofs.TextWalks.{AreTyped, full_of, from_joined, walk_in_order}
+use Rattle.pg_check.specs.standing.InOrder.{types_below}
+use Rattle.pg_check.specs.standing.Nesting.{nest_within}
+use Rattle.pg_check.specs.standing.Places.{places_from}
+use Rattle.pg_check.proofs.lemmas.parts.Eachs.{each-length}
+use Rattle.pg_check.proofs.lemmas.standing.UniqueNames.{IsUncalled, distinct_left, distinct_right, not_between, type_name, types_distinct, uncalled}
+use Rattle.pg_check.proofs.lemmas.standing.MessageTrees.{file_trees}
+use Rattle.pg_check.proofs.lemmas.standing.Walks.{AreTyped, full_of, from_joined, walk_in_order}
 
 -- ---- what is declared, file after file
 
@@ -56,12 +57,6 @@ each_splits is (x ∷ xs) ys [] each = absurd each
 each_splits is (x ∷ xs) ys (z ∷ zs) each =
     let rest = each_splits is xs ys zs each.1 in
     record { front = z ∷ rest.front; back = rest.back; splits = ap (λ ws. z ∷ ws) rest.splits; each_front = (each.0, rest.each_front); each_back = rest.each_back }
-
-pub each_long : {A B : Type 0} (is : A → B → Type 0) (xs : List A) (ys : List B) → EachIs is xs ys → length xs ≡ length ys
-each_long is [] [] each = refl
-each_long is [] (y ∷ ys) each = absurd each
-each_long is (x ∷ xs) [] each = absurd each
-each_long is (x ∷ xs) (y ∷ ys) each = ap suc (each_long is xs ys each.1)
 
 -- ---- the message types of one file
 
@@ -117,7 +112,7 @@ module _ (depth : ℕ) (types : List MessageType) (few : length types ≤ 2 ^ 32
       let k = length d.types in
       let ms = file_messages s.tree in
       let all = placed_messages k s.tree in
-      let many : length ms ≡ length own = sym (length-map ms (type_tree s.targets all (placed_enums (length d.enums) s.tree))) ∙ each_long IsTypeOf (type_trees k (length d.enums) s) own each in
+      let many : length ms ≡ length own = sym (length-map ms (type_tree s.targets all (placed_enums (length d.enums) s.tree))) ∙ each-length IsTypeOf (type_trees k (length d.enums) s) own each in
       let apart = file_apart front own back d s f whole each is free in
       let total : length types ≡ length front + (length own + length back) = ap length whole ∙ (length-append front (own ++ back) ∙ ap (λ n. length front + n) (length-append own back)) in
       let these : AreTyped types all k ms =
@@ -138,7 +133,7 @@ module _ (depth : ℕ) (types : List MessageType) (few : length types ≤ 2 ^ 32
       let parts = each_splits IsTypeOf own (later_types (with_file d s) ss) back each in
       let here : types ≡ front ++ (parts.front ++ parts.back) = whole ∙ ap (λ ts. front ++ ts) parts.splits in
       let further : types ≡ (front ++ parts.front) ++ parts.back = here ∙ sym (append_assoc front parts.front parts.back) in
-      let many : length own ≡ length parts.front = each_long IsTypeOf own parts.front parts.each_front in
+      let many : length own ≡ length parts.front = each-length IsTypeOf own parts.front parts.each_front in
       let joined : length (d.types ++ own) ≡ length d.types + length parts.front = length-append d.types own ∙ ap (λ n. length d.types + n) many in
       let longer : length (front ++ parts.front) ≡ length (d.types ++ own) =
       length-append front parts.front ∙ (ap (λ n. n + length parts.front) long ∙ sym joined) in

@@ -9,9 +9,7 @@ use Rattle.pg_schema.specs.declared.parts.field.TypeId.{TypeId}
 use Rattle.pg_schema.specs.declared.parts.file.File.{File}
 use Rattle.pg_schema.specs.declared.parts.message_type.MessageType.{MessageType}
 use Rattle.pg_schema.specs.declared.parts.Parts.{Parts}
-use Rattle.pg_schema.specs.rules.Sound.{IsSound}
 use Rattle.pg_schema.proofs.lemmas.rules.PairLemmas.{and_both}
-use Rattle.pg_dyn.proofs.Lists.{each-append}
 use Rattle.pg_link.specs.declared.target.Target.{Target}
 use Rattle.pg_link.specs.Linked.{IsLinkedUp, LinkedFiles}
 use Rattle.pg_link.specs.Walk.{Entry, IsParsed}
@@ -21,11 +19,12 @@ use Rattle.pg_check.specs.parts.MadeNumbers.{index_of}
 use Rattle.pg_check.specs.parts.MadeParts.{Declared, EachIs, FileShape, IsFileOf, IsTypeOf, Source, TypeTree, file_shape, nothing, placed_enums, placed_messages, type_tree, type_trees, with_file, with_files}
 use Rattle.pg_check.specs.rules.Outline.{Message, file_messages, message_scope, package_of}
 use Rattle.pg_check.specs.parts.Sources.{linked_source, linked_sources}
+use Rattle.pg_check.specs.standing.Nesting.{holds_inside, nest_within}
+use Rattle.pg_check.proofs.lemmas.parts.Eachs.{each-length, joined_all}
 use Rattle.pg_check.proofs.lemmas.parts.WordTrees.{file_good}
-use Rattle.pg_fds.specs.Again.{are_shallow, holds_inside, nest_within}
-use Rattle.pg_fds.proofs.TextLevels.{AreLevelled, file_levelled, words_in}
-use Rattle.pg_fds.proofs.TextPlaces.{index_is}
-use Rattle.pg_fds.proofs.TextTypes.{each_long, later_types, types_declared}
+use Rattle.pg_check.proofs.lemmas.standing.Levels.{AreLevelled, file_levelled, words_in}
+use Rattle.pg_check.proofs.lemmas.standing.TreePlaces.{index_is}
+use Rattle.pg_check.proofs.lemmas.standing.TypesInOrder.{later_types, types_declared}
 
 -- ---- the message types of a file
 
@@ -124,9 +123,10 @@ module _ (types : List MessageType) (targets : ℕ → Option Target) (before : 
 abbrev IsLevelledFile : Source → Type 0
 IsLevelledFile s = AreLevelled (words_in (package_of s.tree) + 64) (file_messages s.tree)
 
-module _ (types : List MessageType) where
+-- at most 64 levels, and so at most any more
+module _ (types : List MessageType) (depth : ℕ) (enough : 64 ≤ depth) where
   abbrev IsShallowFile : FileShape → Type 0
-  IsShallowFile w = nest_within 64 types w.types ≡ true
+  IsShallowFile w = nest_within depth types w.types ≡ true
 
   files_shallow : (d : Declared) (ss : List Source) → AllByRecursion IsLevelledFile ss → AreFrom types 0 (with_files d ss).types
       → length (with_files d ss).types ≤ 2 ^ 32 → AllByRecursion IsShallowFile d.files → AllByRecursion IsShallowFile (with_files d ss).files
@@ -147,20 +147,20 @@ module _ (types : List MessageType) where
       let first : length (d.types ++ trees) ≡ length d.types + length trees = length-append d.types trees in
       let own : length trees ≡ length ms = length-map ms (type_tree s.targets (placed_messages (length d.types) s.tree) enums) in
       let inside : IsShallowFile shape =
-      nested types s.targets (length d.types) enums ms (words_in scope + 64) levelled.0 (omega (arith, few, all, first, own)) here 64 scope (omega arith) in
-      files_shallow (with_file d s) ss levelled.1 are few (each-append IsShallowFile d.files (shape ∷ []) shallow (inside, tt))
+      nested types s.targets (length d.types) enums ms (words_in scope + 64) levelled.0 (omega (arith, few, all, first, own)) here depth scope (omega (arith, enough)) in
+      files_shallow (with_file d s) ss levelled.1 are few (joined_all IsShallowFile d.files (shape ∷ []) shallow (inside, tt))
     where
       from_none : (n : ℕ) → 0 + n ≡ n
       from_none n = omega arith
 
   shapes_shallow : (ws : List FileShape) (fs : List File) → EachIs IsFileOf ws fs → AllByRecursion IsShallowFile ws
-      → list_all (λ (f : File). nest_within 64 types f.types.items) fs ≡ true
+      → list_all (λ (f : File). nest_within depth types f.types.items) fs ≡ true
   shapes_shallow [] [] h shallow = refl
   shapes_shallow [] (f ∷ fs) h shallow = absurd h
   shapes_shallow (w ∷ ws) [] h shallow = absurd h
   shapes_shallow (w ∷ ws) (f ∷ fs) h shallow =
-      and_both (nest_within 64 types f.types.items) (list_all (λ (g : File). nest_within 64 types g.types.items) fs)
-      (ap (nest_within 64 types) h.0.types ∙ shallow.0) (shapes_shallow ws fs h.1 shallow.1)
+      and_both (nest_within depth types f.types.items) (list_all (λ (g : File). nest_within depth types g.types.items) fs)
+      (ap (nest_within depth types) h.0.types ∙ shallow.0) (shapes_shallow ws fs h.1 shallow.1)
 
 -- ---- linked files
 
@@ -171,16 +171,16 @@ sources_levelled : (all files : List Entry) → AllByRecursion HasTree files →
 sources_levelled all [] h = tt
 sources_levelled all (e ∷ es) h = (file_levelled 64 e.1.tree (file_good e.1.bytes.items e.1.tree h.0) h.0.derives, sources_levelled all es h.1)
 
-pub texts_are_shallow : (linked : LinkedFiles) (parts : Parts) → IsLinkedUp linked → Declares (linked_sources linked.files) parts → IsSound parts
-    → are_shallow parts ≡ true
-texts_are_shallow linked parts up h sound =
+-- message types of linked files are nested at most so deep
+pub nested_within : (depth : ℕ) → 64 ≤ depth → (linked : LinkedFiles) (parts : Parts) → IsLinkedUp linked → Declares (linked_sources linked.files) parts
+    → length parts.types.items ≤ 4096 → list_all (λ (f : File). nest_within depth parts.types.items f.types.items) parts.files.items ≡ true
+nested_within depth enough linked parts up h few =
     let sources = linked_sources linked.files in
     let d = with_files nothing sources in
     let types = parts.types.items in
     let levelled : AllByRecursion IsLevelledFile sources =
     sources_levelled linked.files linked.files (recursion_from_All HasTree linked.files up.parsed) in
     let made = h.has_parts.types in
-    let as_many : length d.types ≡ length types = each_long IsTypeOf d.types types made in
-    let few : length types ≤ 4096 = sound.few_types in
-    shapes_shallow types d.files parts.files.items h.has_parts.files
-    (files_shallow types nothing sources levelled (all_from types [] types d.types refl made) (omega (arith, as_many, few)) tt)
+    let as_many : length d.types ≡ length types = each-length IsTypeOf d.types types made in
+    shapes_shallow types depth enough d.files parts.files.items h.has_parts.files
+    (files_shallow types depth enough nothing sources levelled (all_from types [] types d.types refl made) (omega (arith, as_many, few)) tt)

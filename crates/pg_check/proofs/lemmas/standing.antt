@@ -1,0 +1,11 @@
+pub mod UniqueNames
+pub mod FilesBehind
+pub mod MessageTrees
+pub mod TreePlaces
+pub mod Walks
+pub mod TypesInOrder
+pub mod EnumsInOrder
+pub mod ServicesInOrder
+pub mod Levels
+pub mod Depths
+pub mod StandingParts

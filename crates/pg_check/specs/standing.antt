@@ -1,0 +1,5 @@
+pub mod Places
+pub mod Imports
+pub mod Nesting
+pub mod InOrder
+pub mod StandingParts
