@@ -2,8 +2,8 @@
 use Rattle.std.proofs.Common.{◌≡◌, ℕ, zero, suc, Bool, true, false, cond, not, List, [], ◌∷◌, ◌++◌, map, filter, refl, ap, ap₂, ◌∙◌, append-nil}
 use Rattle.std.specs.List.{flat_map}
 use Rattle.pg_dyn.specs.Message.{Message}
-use Rattle.pg_fds.specs.declared.outline.Named.{Named}
-use Rattle.pg_fds.specs.declared.outline.Named.TheVariants as nameds
+use Rattle.pg_fds.specs.declared.reading.outline.Named.{Named}
+use Rattle.pg_fds.specs.declared.reading.outline.Named.TheVariants as nameds
 use Rattle.pg_fds.specs.Declarations.{Declaration, all_named, enum_declared, enums_declared, files_declared, is_package, package_declared, package_part, package_parts, service_declared, services_declared, type_declared, types_declared}
 use Rattle.pg_fds.specs.OutlinedPlaces.{Counts, behind_file, behind_type, inner_types, inside_file, inside_type}
 use Rattle.pg_fds.specs.Said.{children_at, text_at}

@@ -4,8 +4,8 @@ use Rattle.std.proofs.lemmas.Grind.{flat_map-append}
 use Rattle.std.proofs.lemmas.List.{length-map}
 use Rattle.std.specs.List.{flat_map}
 use Rattle.pg_dyn.specs.Message.{Message}
-use Rattle.pg_fds.specs.declared.outline.Named.{Named}
-use Rattle.pg_fds.specs.declared.outline.Named.TheVariants as nameds
+use Rattle.pg_fds.specs.declared.reading.outline.Named.{Named}
+use Rattle.pg_fds.specs.declared.reading.outline.Named.TheVariants as nameds
 use Rattle.pg_fds.specs.Declarations.{Declaration, all_named, enum_declared, enums_declared, files_declared, package_part, package_parts, service_declared, services_declared, type_declared}
 use Rattle.pg_fds.specs.OutlinedPlaces.{Counts, inner_types}
 use Rattle.pg_fds.specs.Outlines.{Row, enum_rows, file_enums, file_types, row_in, rows_in, type_rows}

@@ -9,8 +9,8 @@ use Rattle.std.specs.Str.{bytes_eq}
 use Rattle.pg_schema.proofs.lemmas.rules.PairLemmas.{and_both, and_left, and_right}
 use Rattle.pg_dyn.specs.Kept.{Kept, message_of}
 use Rattle.pg_fds.specs.declared.error.Unstated.{Unstated}
-use Rattle.pg_fds.specs.declared.outline.Named.{Named}
-use Rattle.pg_fds.specs.declared.outline.Named.TheVariants as nameds
+use Rattle.pg_fds.specs.declared.reading.outline.Named.{Named}
+use Rattle.pg_fds.specs.declared.reading.outline.Named.TheVariants as nameds
 use Rattle.pg_fds.specs.Declarations.{Adds, CannotAdd, Declaration, all_declared, are_new, declared, is_package, may_be, no_names}
 use Rattle.pg_fds.specs.StatedNames.{Meanings}
 use Rattle.pg_fds.proofs.NameLoops.{seen}

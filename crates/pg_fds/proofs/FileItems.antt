@@ -4,7 +4,7 @@ use Rattle.std.specs.List.{list_all}
 use denote.Ref.{Bor}
 use Rattle.pg_schema.specs.declared.parts.file.Import.{Import}
 use Rattle.pg_dyn.specs.Kept.{message_of}
-use Rattle.pg_fds.specs.declared.outline.OutlinedFile.{OutlinedFile}
+use Rattle.pg_fds.specs.declared.reading.outline.OutlinedFile.{OutlinedFile}
 use Rattle.pg_fds.specs.Lent.{lent}
 use Rattle.pg_fds.specs.OutlinedPlaces.{placed_file}
 use Rattle.pg_fds.specs.StatedFiles.{file, file_of, has_public_places, import_seen}

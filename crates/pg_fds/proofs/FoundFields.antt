@@ -17,8 +17,8 @@ use Rattle.pg_schema.specs.rules.DeclaredNames.{entry_name, within}
 use Rattle.pg_schema.specs.rules.Fields.{is_packed}
 use Rattle.pg_schema.specs.Shape.{is_map}
 use Rattle.pg_dyn.specs.Message.{Item, Message}
-use Rattle.pg_fds.specs.declared.outline.Named.{Named}
-use Rattle.pg_fds.specs.declared.outline.Named.TheVariants as nameds
+use Rattle.pg_fds.specs.declared.reading.outline.Named.{Named}
+use Rattle.pg_fds.specs.declared.reading.outline.Named.TheVariants as nameds
 use Rattle.pg_fds.specs.Fields.{dotted}
 use Rattle.pg_fds.specs.Made.{StatesElement, StatesFieldAt}
 use Rattle.pg_fds.specs.Places.{Declared}

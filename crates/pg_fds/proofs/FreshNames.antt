@@ -5,7 +5,7 @@ use Rattle.std.specs.List.{list_all}
 use Rattle.std.specs.Str.{bytes_eq}
 use Rattle.pg_schema.specs.rules.Pairs.{all_pairs, are_distinct, differ}
 use Rattle.pg_schema.proofs.lemmas.rules.PairLemmas.{and_both, and_left, and_right, bytes_eq-sym}
-use Rattle.pg_fds.specs.declared.outline.Named.{Named}
+use Rattle.pg_fds.specs.declared.reading.outline.Named.{Named}
 use Rattle.pg_fds.specs.Declarations.{Declaration, are_new, declared, is_package, may_be, no_names}
 use Rattle.pg_fds.specs.StatedNames.{Meanings}
 use Rattle.pg_fds.proofs.Declaring.{and_assoc, both_packages, declared_elsewhere, declared_here, same_or_apart}

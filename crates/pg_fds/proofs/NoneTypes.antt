@@ -7,7 +7,7 @@ use Rattle.std.specs.Ordering.{int_eq}
 use Rattle.pg_schema.specs.declared.parts.field.Element.{Element}
 use Rattle.pg_schema.specs.declared.parts.field.Element.TheVariants as elements
 use Rattle.pg_dyn.specs.Message.{Item, Message}
-use Rattle.pg_fds.specs.declared.outline.Named.{Named}
+use Rattle.pg_fds.specs.declared.reading.outline.Named.{Named}
 use Rattle.pg_fds.specs.BadReferences.{HasBadType, IsBadEntry, IsBadMethod, NamesNoType, NamesNothing}
 use Rattle.pg_fds.specs.BadReferences as causes
 use Rattle.pg_fds.specs.Fields.{element_code}

@@ -5,7 +5,7 @@ use denote.Ref.{Bor}
 use Rattle.pg_schema.specs.rules.Pairs.{are_distinct}
 use Rattle.pg_schema.specs.rules.TextSets.{is_among}
 use Rattle.pg_schema.proofs.lemmas.rules.TextSetLemmas.{twice}
-use Rattle.pg_fds.specs.declared.order.Importing.{Importing}
+use Rattle.pg_fds.specs.declared.reading.order.Importing.{Importing}
 use Rattle.pg_fds.specs.Lent.{lent}
 use Rattle.pg_fds.specs.FilePlaces.{StandAt, importer, importers}
 use Rattle.pg_fds.specs.PostOrder.{Importer, imports_once, kept_paths, paths_of}

@@ -8,10 +8,10 @@ use Rattle.pg_dyn.specs.Message.{Message}
 use Rattle.pg_check.specs.standing.Places.{places_from}
 use Rattle.pg_fds.specs.declared.error.Unstated.{Unstated}
 use Rattle.pg_fds.specs.declared.error.Unstated.TheVariants as errors
-use Rattle.pg_fds.specs.declared.outline.Named.{Named}
-use Rattle.pg_fds.specs.declared.outline.Named.TheVariants as nameds
-use Rattle.pg_fds.specs.declared.outline.Outlined.{Outlined}
-use Rattle.pg_fds.specs.declared.outline.OutlinedType.{OutlinedType}
+use Rattle.pg_fds.specs.declared.reading.outline.Named.{Named}
+use Rattle.pg_fds.specs.declared.reading.outline.Named.TheVariants as nameds
+use Rattle.pg_fds.specs.declared.reading.outline.Outlined.{Outlined}
+use Rattle.pg_fds.specs.declared.reading.outline.OutlinedType.{OutlinedType}
 use Rattle.pg_fds.specs.Declarations.{Adds, CannotAdd, Declaration, all_named, enums_declared, members_declared, named_in, type_declared, types_declared, whole_declared}
 use Rattle.pg_fds.specs.OutlinedPlaces.{Counts, behind_type, each_from, inner_types, inside_type}
 use Rattle.pg_fds.specs.Outlines.{NameOneofs, NamesOneofs, Row, enum_rows, row, row_in, rows_in, rows_of_enums, rows_of_type, type_row, type_rows}

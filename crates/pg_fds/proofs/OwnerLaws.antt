@@ -12,7 +12,7 @@ use Rattle.pg_schema.proofs.lemmas.rules.PairLemmas.{and_left, and_right}
 use Rattle.pg_dyn.specs.Kept.{Kept, message_of}
 use Rattle.pg_dyn.specs.Message.{Message}
 use Rattle.pg_check.specs.standing.Places.{places_from}
-use Rattle.pg_fds.specs.declared.outline.OutlinedType.{OutlinedType}
+use Rattle.pg_fds.specs.declared.reading.outline.OutlinedType.{OutlinedType}
 use Rattle.pg_fds.specs.Made.{AreCounted, has_place, is_placed}
 use Rattle.pg_fds.specs.SaidTypes.{AreMarked, is_marked, is_optional, members_at, synthetic_places}
 use Rattle.pg_fds.specs.Outlines.{type_row}

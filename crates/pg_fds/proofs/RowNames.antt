@@ -12,8 +12,8 @@ use Rattle.pg_schema.specs.declared.parts.message_type.MessageType.{MessageType}
 use Rattle.pg_schema.specs.rules.DeclaredNames.{entry_name, within}
 use Rattle.pg_schema.specs.Shape.{is_map}
 use Rattle.pg_dyn.specs.Message.{Message}
-use Rattle.pg_fds.specs.declared.outline.Named.{Named}
-use Rattle.pg_fds.specs.declared.outline.Named.TheVariants as nameds
+use Rattle.pg_fds.specs.declared.reading.outline.Named.{Named}
+use Rattle.pg_fds.specs.declared.reading.outline.Named.TheVariants as nameds
 use Rattle.pg_fds.specs.Made.{HasEntryName, HasEntryNames, HasNames}
 use Rattle.pg_fds.specs.Outlines.{Row}
 use Rattle.pg_fds.specs.Places.{Declared}

@@ -5,10 +5,10 @@ use Rattle.std.proofs.lemmas.List.{length-set}
 use Rattle.std.proofs.lemmas.Option.{none-some, same_Some}
 use Rattle.std.specs.List.{AllByRecursion, list_any}
 use Rattle.pg_check.specs.standing.Places.{places_from}
-use Rattle.pg_fds.specs.declared.walk.Open.{Open}
-use Rattle.pg_fds.specs.declared.walk.Seen.{Seen}
-use Rattle.pg_fds.specs.declared.walk.Seen.TheVariants as seen
-use Rattle.pg_fds.specs.declared.walk.Walk.{Walk}
+use Rattle.pg_fds.specs.declared.reading.walk.Open.{Open}
+use Rattle.pg_fds.specs.declared.reading.walk.Seen.{Seen}
+use Rattle.pg_fds.specs.declared.reading.walk.Seen.TheVariants as seen
+use Rattle.pg_fds.specs.declared.reading.walk.Walk.{Walk}
 use Rattle.pg_fds.specs.PostOrder.{all_visited, passed_over, listed_last}
 use Rattle.pg_fds.specs.Walks.{AreWithin, Ends, Enters, Falls, IsOpen, IsStep, IsWalk, RanksFall, Walks, count_of, is_done, left, lists_of, pending, unopened}
 use Rattle.pg_fds.proofs.Marks.{all_at, all_front, all_last, all_more, all_weaker, any_more, found_within, none_left, other_number, rest_at, same_number, set_elsewhere, set_here}

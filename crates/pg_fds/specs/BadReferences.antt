@@ -10,7 +10,7 @@ use Rattle.pg_schema.specs.rules.Pairs.{are_distinct}
 use Rattle.pg_schema.specs.rules.TextSets.{is_among}
 use Rattle.pg_dyn.specs.Message.{Message}
 use Rattle.pg_check.specs.standing.Places.{most_deep}
-use Rattle.pg_fds.specs.declared.outline.Named.{Named}
+use Rattle.pg_fds.specs.declared.reading.outline.Named.{Named}
 use Rattle.pg_fds.specs.Fields.{dotted, element_code}
 use Rattle.pg_fds.specs.Outlines.{Row, file_enums, file_services, file_types}
 use Rattle.pg_fds.specs.PostOrder.{importer_of, imports_at, kept_paths}

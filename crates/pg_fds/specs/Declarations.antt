@@ -7,8 +7,8 @@ use Rattle.std.specs.Str.{bytes_eq}
 use Rattle.pg_dyn.specs.Message.{Message}
 use Rattle.pg_fds.specs.declared.error.Unstated.{Unstated}
 use Rattle.pg_fds.specs.declared.error.Unstated.TheVariants as errors
-use Rattle.pg_fds.specs.declared.outline.Named.{Named}
-use Rattle.pg_fds.specs.declared.outline.Named.TheVariants as nameds
+use Rattle.pg_fds.specs.declared.reading.outline.Named.{Named}
+use Rattle.pg_fds.specs.declared.reading.outline.Named.TheVariants as nameds
 use Rattle.pg_fds.specs.OutlinedPlaces.{Counts, behind_file, behind_type, each_from, inner_types, inside_file, inside_type}
 use Rattle.pg_fds.specs.Proto as proto
 use Rattle.pg_fds.specs.Said.{children_at, text_at}

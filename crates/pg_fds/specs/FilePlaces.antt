@@ -4,7 +4,7 @@ use Rattle.std.specs.BTreeMap.{BTreeMap, get_by_text}
 use Rattle.std.specs.List.{AllByRecursion, list_all}
 use Rattle.std.specs.Option.{unwrap_or}
 use Rattle.pg_schema.specs.rules.Pairs.{are_distinct}
-use Rattle.pg_fds.specs.declared.order.Importing.{Importing}
+use Rattle.pg_fds.specs.declared.reading.order.Importing.{Importing}
 use Rattle.pg_fds.specs.Lent.{lent}
 use Rattle.pg_fds.specs.PostOrder.{Importer, IsPostOrder, imports_once, kept_paths, paths_of}
 

@@ -14,7 +14,7 @@ use Rattle.pg_schema.specs.rules.Fields.{has_presence, is_known, is_packed}
 use Rattle.pg_schema.specs.rules.Scopes.{enum_name, type_name}
 use Rattle.pg_schema.specs.Shape.{is_map}
 use Rattle.pg_dyn.specs.Message.{Message}
-use Rattle.pg_fds.specs.declared.outline.Named.TheVariants as nameds
+use Rattle.pg_fds.specs.declared.reading.outline.Named.TheVariants as nameds
 use Rattle.pg_fds.specs.Fields.{element_code, element_name, label}
 use Rattle.pg_fds.specs.Places.{Declared}
 use Rattle.pg_fds.specs.Proto as proto

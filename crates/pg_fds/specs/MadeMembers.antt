@@ -2,8 +2,8 @@
 use Rattle.std.specs.Prelude.{◌≡◌, map, Some, String}
 use Rattle.std.specs.BTreeMap.{BTreeMap}
 use Rattle.std.specs.String.{string_bytes}
-use Rattle.pg_fds.specs.declared.made_types.Members.{Members}
-use Rattle.pg_fds.specs.declared.outline.Named.{Named}
+use Rattle.pg_fds.specs.declared.reading.made_types.Members.{Members}
+use Rattle.pg_fds.specs.declared.reading.outline.Named.{Named}
 use Rattle.pg_fds.specs.Outlines.{Row}
 use Rattle.pg_fds.specs.Owners.{means_of}
 use Rattle.pg_fds.specs.StatedTypes.{declared_fields, oneof_names}

@@ -5,9 +5,9 @@ use Rattle.pg_schema.specs.rules.Scopes.{enum_places, service_places, type_place
 use Rattle.pg_dyn.specs.Kept.{message_of}
 use Rattle.pg_dyn.specs.Message.{Message}
 use Rattle.pg_check.specs.standing.Places.{places_from}
-use Rattle.pg_fds.specs.declared.outline.Outline.{Outline}
-use Rattle.pg_fds.specs.declared.outline.OutlinedFile.{OutlinedFile}
-use Rattle.pg_fds.specs.declared.outline.OutlinedType.{OutlinedType}
+use Rattle.pg_fds.specs.declared.reading.outline.Outline.{Outline}
+use Rattle.pg_fds.specs.declared.reading.outline.OutlinedFile.{OutlinedFile}
+use Rattle.pg_fds.specs.declared.reading.outline.OutlinedType.{OutlinedType}
 use Rattle.pg_fds.specs.Outlines.{Row, enum_rows, file_enums, file_services, file_types, row_in, rows_of_enums, rows_of_type, type_row, type_rows}
 use Rattle.pg_fds.specs.Proto as proto
 use Rattle.pg_fds.specs.Said.{children_at, text_at}

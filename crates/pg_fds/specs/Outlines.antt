@@ -4,8 +4,8 @@ use Rattle.std.specs.List.{AllByRecursion, list_all}
 use Rattle.std.specs.String.{string_bytes}
 use Rattle.pg_dyn.specs.Kept.{message_of}
 use Rattle.pg_dyn.specs.Message.{Message}
-use Rattle.pg_fds.specs.declared.outline.Outlined.{Outlined}
-use Rattle.pg_fds.specs.declared.outline.OutlinedType.{OutlinedType}
+use Rattle.pg_fds.specs.declared.reading.outline.Outlined.{Outlined}
+use Rattle.pg_fds.specs.declared.reading.outline.OutlinedType.{OutlinedType}
 use Rattle.pg_fds.specs.Said.{children_at, text_at}
 use Rattle.pg_fds.specs.SetNames.{full_name}
 use Rattle.pg_fds.specs.SaidFiles.{is_place}

@@ -3,8 +3,8 @@ use Rattle.std.specs.Prelude.{ℕ, List, Option, String, option_map}
 use Rattle.std.specs.BTreeMap.{BTreeMap, get_by_text}
 use Rattle.pg_dyn.specs.Kept.{Kept, message_of}
 use Rattle.pg_dyn.specs.Message.{Message}
-use Rattle.pg_fds.specs.declared.made_fields.Scope.{Scope}
-use Rattle.pg_fds.specs.declared.outline.Named.{Named}
+use Rattle.pg_fds.specs.declared.reading.made_fields.Scope.{Scope}
+use Rattle.pg_fds.specs.declared.reading.outline.Named.{Named}
 use Rattle.pg_fds.specs.StatedFields.{Owner}
 use Rattle.pg_fds.specs.StatedNames.{Meanings, may_name}
 

@@ -7,8 +7,8 @@ use Rattle.pg_schema.specs.rules.Packages.{is_free_of}
 use Rattle.pg_schema.specs.rules.Pairs.{are_distinct}
 use Rattle.pg_schema.specs.rules.TextSets.{is_among}
 use Rattle.pg_dyn.specs.Message.{Message}
-use Rattle.pg_fds.specs.declared.outline.Named.{Named}
-use Rattle.pg_fds.specs.declared.outline.Named.TheVariants as nameds
+use Rattle.pg_fds.specs.declared.reading.outline.Named.{Named}
+use Rattle.pg_fds.specs.declared.reading.outline.Named.TheVariants as nameds
 use Rattle.pg_fds.specs.Outlines.{Row, file_enums, file_services, file_types}
 use Rattle.pg_fds.specs.Proto as proto
 use Rattle.pg_fds.specs.Said.{children_at, text_at}

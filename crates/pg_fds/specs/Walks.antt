@@ -2,10 +2,10 @@
 use Rattle.std.specs.Prelude.{◌≡◌, ℕ, suc, ◌+◌, ◌-◌, ◌<◌, ◌≤◌, ◌⊎◌, ⊤, Bool, true, false, nat_eq, List, [], ◌∷◌, ◌++◌, length, map, drop, Option, Some, None, slice_get, slice_set, Vec}
 use Rattle.std.specs.Global.{Global}
 use Rattle.std.specs.List.{AllByRecursion, list_any}
-use Rattle.pg_fds.specs.declared.walk.Open.{Open}
-use Rattle.pg_fds.specs.declared.walk.Seen.{Seen}
-use Rattle.pg_fds.specs.declared.walk.Seen.TheVariants as seen
-use Rattle.pg_fds.specs.declared.walk.Walk.{Walk}
+use Rattle.pg_fds.specs.declared.reading.walk.Open.{Open}
+use Rattle.pg_fds.specs.declared.reading.walk.Seen.{Seen}
+use Rattle.pg_fds.specs.declared.reading.walk.Seen.TheVariants as seen
+use Rattle.pg_fds.specs.declared.reading.walk.Walk.{Walk}
 use Rattle.pg_fds.specs.PostOrder.{Visits}
 
 -- what each file imports

@@ -1,12 +1,19 @@
 //! The written schema of descriptor.proto.
 
+pub(crate) mod access;
+pub(crate) mod places;
+pub(crate) mod proto;
+pub(crate) mod rows;
+
 ghost use Rattle.std.specs.Prelude.{◌≡◌, IfOk, map};
 ghost use Rattle.pg_schema.specs.Parts.{shape_of};
 ghost use Rattle.pg_fds.specs.Descriptor.{descriptor_shape};
 ghost use Rattle.pg_fds.specs.DescriptorParts.{descriptor_enums, descriptor_file, descriptor_parts, descriptor_types};
 ghost use Rattle.pg_fds.specs.Views.{enum_view, file_view, parts_view, type_view};
 
-use crate::types::{EnumRow, FieldRow, TypeRow, ValueRow, enum_types, message_types, type_ids};
+use crate::descriptor::rows::{
+    EnumRow, FieldRow, TypeRow, ValueRow, enum_types, message_types, type_ids,
+};
 use pg_schema::{
     Element, EnumId, EnumType, File, MessageType, Parts, PartsError, Presence, Scalar, Schema,
     TypeId,

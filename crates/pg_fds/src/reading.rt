@@ -1,5 +1,20 @@
 //! Descriptor sets, read.
 
+mod codes;
+mod declare;
+mod inner_types;
+mod made_entries;
+mod made_fields;
+mod made_files;
+mod made_oneofs;
+mod made_parts;
+mod made_types;
+mod meanings;
+mod order;
+mod outline;
+mod set_files;
+mod walk;
+
 ghost use Rattle.std.specs.Prelude.{◌≡◌, ◌⊎◌, ℕ, List, None, Some, IfErr, IfOk, map};
 ghost use Rattle.std.specs.List.{list_all};
 ghost use Rattle.pg_schema.specs.declared.parts.Parts.{Parts as StatedParts};
@@ -22,16 +37,15 @@ ghost use Rattle.pg_fds.specs.SaidFiles.{is_proto3, kept_files, skips};
 ghost use Rattle.pg_fds.specs.Stated.{declared_by, stated, stated_files, stated_of};
 ghost use Rattle.pg_fds.specs.Views.{parts_view};
 
-use crate::codes::files_have_types;
-use crate::descriptor::descriptor_schema;
+use crate::descriptor::access::{Said, children};
+use crate::descriptor::places::SET;
+use crate::descriptor::{descriptor_schema, proto};
 use crate::error::{FdsError, Unstated};
-use crate::made_parts::made_parts;
-use crate::order::order;
-use crate::outline::outline_files;
-use crate::places::SET;
-use crate::proto;
-use crate::said::{Said, children};
-use crate::set_files::{is_proto3, kept, skips};
+use crate::reading::codes::files_have_types;
+use crate::reading::made_parts::made_parts;
+use crate::reading::order::order;
+use crate::reading::outline::outline_files;
+use crate::reading::set_files::{is_proto3, kept, skips};
 use pg_check::{CheckError, admit};
 use pg_dyn::laws::faults_are_real;
 use pg_dyn::{DEFAULT_DEPTH_LIMIT, DynError, Message, decode};

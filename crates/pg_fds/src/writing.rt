@@ -1,5 +1,16 @@
 //! Descriptor sets, written.
 
+mod building;
+mod entries;
+mod enums;
+pub(crate) mod fields;
+mod files;
+mod messages;
+mod options;
+mod scope;
+mod services;
+mod synthetic;
+
 ghost use Rattle.std.specs.Prelude.{◌≡◌, ◌⊎◌, false, true, IfErr, IfOk};
 ghost use Rattle.std.specs.List.{list_all};
 ghost use Rattle.pg_schema.specs.Parts.{shape_of};
@@ -13,13 +24,12 @@ ghost use Rattle.pg_fds.specs.Set.{fds};
 ghost use Rattle.pg_fds.specs.Written.{HasNoSet, set_items};
 ghost use Rattle.pg_fds.specs.Writable.{has_counted_imports};
 
-use crate::building::{empty, put_children};
-use crate::descriptor::descriptor_schema;
+use crate::descriptor::places::{FILE, SET};
+use crate::descriptor::{descriptor_schema, proto};
 use crate::error::FdsError;
-use crate::files::files;
 use crate::held_places::see_places;
-use crate::places::{FILE, SET};
-use crate::proto;
+use crate::writing::building::{empty, put_children};
+use crate::writing::files::files;
 use pg_dyn::laws::{encoding_spells, reads_again, writing_splits};
 use pg_dyn::{DynError, Message, encode};
 use pg_schema::{File, Parts, Schema};

@@ -1,8 +1,0 @@
-use Rattle.std.proofs.Common.{◌≡◌, map, take}
-use Rattle.pg_fds.specs.Outlines.{row}
-use Rattle.pg_fds.specs.StatedEnums as stated
-use Rattle.pg_fds.specs.Views.{enum_view}
-use Rattle.pg_fds.proofs.made_parts.all_enums.Given as goal
-
-abbrev pub invariant-loop-one : goal.invariant-loop-one
-invariant-loop-one l = map enum_view l.enums.items ≡ map stated.enum_type (map row (take l.one-index l.outlined))

@@ -1,0 +1,8 @@
+use Rattle.std.proofs.Common.{◌≡◌, ◌++◌, drop, map}
+use Rattle.pg_fds.specs.Lent.{lent}
+use Rattle.pg_fds.specs.StatesFiles.{import_of}
+use Rattle.pg_fds.specs.SaidFiles.{kept_imports}
+use Rattle.pg_fds.proofs.reading.made_files.kept.Given as goal
+
+abbrev pub invariant-loop-place : goal.invariant-loop-place
+invariant-loop-place l = map import_of l.imports.items ++ kept_imports l.skips l.public l.place (lent (drop l.place l.paths)) ≡ kept_imports l.skips l.public 0 (lent l.paths)

@@ -1,0 +1,10 @@
+use Rattle.std.proofs.Common.{◌≡◌, ◌≤◌}
+use Rattle.pg_fds.specs.StatedOneofs.{AreRanks, unmarked}
+use Rattle.pg_fds.proofs.reading.made_oneofs.ranks.Given as goal
+
+abbrev pub invariant-loop-mark : goal.invariant-loop-mark
+invariant-loop-mark l = record {
+  counted : l.count ≡ unmarked l.marks l.mark-index;
+  few : l.count ≤ l.mark-index;
+  found : AreRanks l.marks l.mark-index l.found.items;
+}

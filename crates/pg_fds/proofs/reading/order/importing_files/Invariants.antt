@@ -1,0 +1,8 @@
+use Rattle.std.proofs.Common.{◌≡◌, map, take}
+use Rattle.pg_dyn.specs.Kept.{message_of}
+use Rattle.pg_fds.specs.FilePlaces.{importers}
+use Rattle.pg_fds.specs.PostOrder.{importer_of}
+use Rattle.pg_fds.proofs.reading.order.importing_files.Given as goal
+
+abbrev pub invariant-loop-file : goal.invariant-loop-file
+invariant-loop-file l = importers l.found.items ≡ map importer_of (map message_of (take l.file-index l.files))

@@ -1,0 +1,14 @@
+use Rattle.std.proofs.Common.{◌≡◌, map, take}
+use Rattle.std.specs.List.{AllByRecursion}
+use Rattle.std.specs.String.{string_bytes}
+use Rattle.pg_dyn.specs.ContentFits.{ItemFits}
+use Rattle.pg_dyn.specs.Message as model
+use Rattle.pg_fds.specs.Building.{shown, written_shape}
+use Rattle.pg_fds.specs.Descriptor as descriptor
+use Rattle.pg_fds.proofs.writing.building.text_items.Given as goal
+
+abbrev pub invariant-loop-text : goal.invariant-loop-text
+invariant-loop-text l = record {
+  shown : map shown l.values.items ≡ map (λ bytes. model.Plain (model.Bytes bytes)) (map string_bytes (take l.text-index l.texts));
+  fit : AllByRecursion (ItemFits written_shape descriptor.text) l.values.items;
+}

@@ -1,0 +1,14 @@
+use Rattle.std.proofs.Common.{◌≡◌, ◌++◌, ◌+◌, ◌≤◌, drop}
+use Rattle.pg_fds.specs.Building.{AreChildren, items_within}
+use Rattle.pg_fds.specs.declared.descriptor.places.TheConstants.{FIELD}
+use Rattle.pg_fds.specs.Fields.{fields_items}
+use Rattle.pg_fds.specs.Lent.{lent}
+use Rattle.pg_fds.specs.Places.{declared_in}
+use Rattle.pg_fds.proofs.writing.messages.fields.Given as goal
+
+abbrev pub invariant-loop-field : goal.invariant-loop-field
+invariant-loop-field l = record {
+  items : items_within l.made.items ++ fields_items (declared_in l.source) l.scope l.next (lent (drop l.field-index l.fields)) ≡ fields_items (declared_in l.source) l.scope l.first (lent l.fields);
+  kept : AreChildren FIELD l.made.items;
+  next : l.next ≤ l.first + l.field-index;
+}

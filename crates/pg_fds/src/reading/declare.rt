@@ -1,0 +1,144 @@
+//! The table of the full names that a set declares. A name that may be declared is refused only
+//! where memory is.
+
+ghost use Rattle.std.specs.Prelude.{◌≡◌, ◌∷◌, [], false, IfErr, IfOk, OnOk, length, map};
+ghost use Rattle.std.specs.String.{string_bytes};
+ghost use Rattle.pg_dyn.specs.Kept.{message_of};
+ghost use Rattle.pg_fds.specs.Declarations.{Adds, CannotAdd, all_named, fronts, is_package, named_in, package_part};
+ghost use Rattle.pg_fds.specs.SetNames.{full_name};
+ghost use Rattle.pg_fds.specs.SaidTypes.{AreMarked, real_oneofs};
+
+use crate::descriptor::access::{Said, text};
+use crate::descriptor::proto;
+use crate::error::Unstated;
+use crate::reading::outline::Named;
+use pg_schema::full_name;
+use std::alloc::{AllocError, Global};
+use std::collections::BTreeMap;
+
+/// Puts a name in the table. Refused, memory aside, only where it may not be declared.
+pub(crate) fn declare(
+    names: &mut BTreeMap<String, Named>,
+    name: String,
+    named: Named,
+) -> Result<(), Unstated>
+    ensures adds { OnOk result (Adds ((string_bytes name, named) ∷ []) names.old names.new) }
+    ensures refused { IfErr result (λ e. is_package named ≡ false
+        → CannotAdd ((string_bytes name, named) ∷ []) names.old e) }
+{
+    match names.insert(name, named)? {
+        None => Ok(()),
+        Some(_) => Err(Unstated::Reference),
+    }
+}
+
+/// Puts the full name of what a message is called in the scope in the table, and answers it.
+pub(crate) fn declare_named(
+    alloc: Global,
+    names: &mut BTreeMap<String, Named>,
+    scope: &str,
+    message: &Said<'_>,
+    named: Named,
+) -> Result<String, Unstated>
+    ensures name { IfOk result (λ name. string_bytes name
+        ≡ full_name scope.now (message_of message.now)) }
+    ensures adds { OnOk result (Adds (named_in scope.now named (message_of message.now) ∷ [])
+        names.old names.new) }
+    ensures refused { IfErr result (λ e. is_package named ≡ false
+        → CannotAdd (named_in scope.now named (message_of message.now) ∷ []) names.old e) }
+{
+    let own = text(message, proto::NAME);
+    let full = full_name(alloc, scope, own)?;
+    declare(names, full.clone()?, named)?;
+    Ok(full)
+}
+
+// Puts the full name of what a message is called in the scope in the table.
+fn declare_own(
+    alloc: Global,
+    names: &mut BTreeMap<String, Named>,
+    scope: &str,
+    message: &Said<'_>,
+    named: Named,
+) -> Result<(), Unstated>
+    ensures adds { OnOk result (Adds (named_in scope.now named (message_of message.now) ∷ [])
+        names.old names.new) }
+    ensures refused { IfErr result (λ e. is_package named ≡ false
+        → CannotAdd (named_in scope.now named (message_of message.now) ∷ []) names.old e) }
+{
+    declare_named(alloc, names, scope, message, named)?;
+    Ok(())
+}
+
+/// Puts the full names of what messages are called in the scope in the table.
+pub(crate) fn declare_each(
+    alloc: Global,
+    names: &mut BTreeMap<String, Named>,
+    scope: &str,
+    messages: &[Said<'_>],
+    named: Named,
+) -> Result<(), Unstated>
+    ensures adds { OnOk result (Adds (all_named scope.now named (map message_of messages.now))
+        names.old names.new) }
+    ensures refused { IfErr result (λ e. is_package named ≡ false
+        → CannotAdd (all_named scope.now named (map message_of messages.now)) names.old e) }
+{
+    for message in messages {
+        declare_own(alloc, names, scope, message, named)?;
+    }
+    Ok(())
+}
+
+/// The oneofs at places that aren't marked.
+pub(crate) fn real_oneofs<'a>(
+    alloc: Global,
+    oneofs: &[Said<'a>],
+    numbers: &[i128],
+    marks: &[bool],
+) -> Result<Vec<Said<'a>>, AllocError>
+    requires { AreMarked numbers.now (length oneofs.now) marks.now }
+    ensures { IfOk result (λ real. map message_of real.items
+        ≡ real_oneofs numbers.now 0 (map message_of oneofs.now)) }
+{
+    let mut real = Vec::new(alloc);
+    for (place, oneof) in oneofs.iter().enumerate() {
+        if !marks[place] {
+            real.push(oneof.again())?;
+        }
+    }
+    Ok(real)
+}
+
+// Puts a part of a package in the table, which may have it as that.
+fn declare_part(names: &mut BTreeMap<String, Named>, part: String) -> Result<(), Unstated>
+    ensures adds { OnOk result (Adds (package_part (string_bytes part) ∷ []) names.old
+        names.new) }
+    ensures refused { IfErr result (CannotAdd (package_part (string_bytes part) ∷ [])
+        names.old) }
+{
+    match names.insert(part, Named::Package)? {
+        None => Ok(()),
+        Some(Named::Package) => Ok(()),
+        Some(_) => Err(Unstated::Reference),
+    }
+}
+
+/// Puts the parts of a package in the table, which may have them as those of others: what stands
+/// before a dot of it, and the whole.
+pub(crate) fn declare_package(
+    alloc: Global,
+    names: &mut BTreeMap<String, Named>,
+    path: &str,
+) -> Result<(), Unstated>
+    ensures adds { OnOk result (Adds (map package_part (fronts path.now)) names.old names.new) }
+    ensures refused { IfErr result (CannotAdd (map package_part (fronts path.now)) names.old) }
+{
+    let mut front = String::new(alloc);
+    for letter in path.chars() {
+        if letter == '.' {
+            declare_part(names, front.clone()?)?;
+        }
+        front.push(letter)?;
+    }
+    declare_part(names, front)
+}

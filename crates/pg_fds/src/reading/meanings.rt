@@ -1,0 +1,80 @@
+//! What the names in a set's messages mean.
+
+ghost use Rattle.std.specs.Prelude.{◌≡◌, ◌∷◌, ℕ, List, Some, IfNone, IfSome};
+ghost use Rattle.pg_dyn.specs.Kept.{message_of};
+ghost use Rattle.pg_fds.specs.Owners.{means_of};
+ghost use Rattle.pg_fds.specs.Said.{maybe_text_at};
+ghost use Rattle.pg_fds.specs.StatedNames.{may_name, meant, named, type_meant};
+
+use crate::descriptor::access::{Said, maybe_text};
+use crate::reading::outline::Named;
+use pg_schema::TypeId;
+use std::collections::BTreeMap;
+
+// The same, where a field or a method may name it.
+fn nameable(named: Named) -> Option<Named>
+    ensures { result ≡ may_name (Some named) }
+{
+    match named {
+        Named::Type(_) | Named::Enum(_) | Named::Entry => Some(named),
+        Named::Package | Named::Other => None,
+    }
+}
+
+// What a full name is that of.
+fn meaning(names: &BTreeMap<String, Named>, name: &str) -> Option<Named>
+    ensures { result ≡ means_of names.now name.now }
+{
+    match names.get(name) {
+        Some(named) => nameable(*named),
+        None => None,
+    }
+}
+
+// A full name without the dot in front.
+fn behind_dot(dotted: &str) -> Option<&str>
+    ensures ok { IfSome result (λ name. dotted.now ≡ 46 ∷ name.now) }
+    ensures none { IfNone result ((rest : List ℕ) → dotted.now ≡ 46 ∷ rest → ⊥) }
+{
+    dotted.strip_prefix(".")
+}
+
+// What a full name with a dot in front is that of.
+fn named(names: &BTreeMap<String, Named>, dotted: &str) -> Option<Named>
+    ensures { result ≡ named (means_of names.now) dotted.now }
+{
+    match behind_dot(dotted) {
+        Some(name) => meaning(names, name),
+        None => None,
+    }
+}
+
+/// What the name in a field of a message is that of.
+pub(crate) fn meant(
+    names: &BTreeMap<String, Named>,
+    message: &Said<'_>,
+    number: u32,
+) -> Option<Named>
+    ensures { result ≡ meant (means_of names.now)
+        (maybe_text_at number (message_of message.now)) }
+{
+    match maybe_text(message, number) {
+        Some(name) => named(names, name),
+        None => None,
+    }
+}
+
+/// The message type that it is that of.
+pub(crate) fn type_meant(
+    names: &BTreeMap<String, Named>,
+    message: &Said<'_>,
+    number: u32,
+) -> Option<TypeId>
+    ensures { result ≡ type_meant (means_of names.now)
+        (maybe_text_at number (message_of message.now)) }
+{
+    match meant(names, message, number) {
+        Some(Named::Type(id)) => Some(id),
+        _ => None,
+    }
+}

@@ -1,0 +1,160 @@
+//! The order of a set's files: each behind those that it imports.
+
+ghost use Rattle.std.specs.Prelude.{◌≡◌, ◌⊎◌, false, true, ℕ, List, Some, None, IfErr, IfOk, OnOk, map};
+ghost use Rattle.std.specs.List.{list_all};
+ghost use Rattle.pg_schema.specs.rules.Pairs.{are_distinct};
+ghost use Rattle.pg_schema.specs.rules.TextSets.{is_among};
+ghost use Rattle.pg_dyn.specs.Kept.{message_of};
+ghost use Rattle.pg_fds.specs.declared.error.Unstated.TheVariants as errors;
+ghost use Rattle.pg_fds.specs.Lent.{lent};
+ghost use Rattle.pg_fds.specs.FilePlaces.{AreOrdered, ImportsAt, IsIndex, StandAt, importer, importers};
+ghost use Rattle.pg_fds.specs.Outlines.{files_at};
+ghost use Rattle.pg_fds.specs.PostOrder.{HasNoOrder, importer_of, imports_once, kept_paths, paths_of};
+ghost use Rattle.pg_fds.specs.StatedOrder.{in_post_order};
+ghost use Rattle.pg_fds.specs.Walks.{lists_of};
+
+use crate::descriptor::access::{Said, text, texts};
+use crate::descriptor::proto;
+use crate::error::Unstated;
+use crate::reading::set_files::is_left_out;
+use crate::reading::walk::post_order;
+use std::alloc::{AllocError, Global};
+use std::collections::{BTreeMap, BTreeSet};
+
+// A file by its name, with the paths that it imports.
+#[derive(Drop)]
+struct Importing<'a> {
+    name: &'a str,
+    paths: Vec<&'a str>,
+}
+
+// The places of files by their names, of which none stands twice.
+fn places(alloc: Global, files: &[Importing<'_>]) -> Result<BTreeMap<String, usize>, Unstated>
+    ensures index { IfOk result (λ places. IsIndex (paths_of (importers files.now)) places) }
+    ensures once { OnOk result (are_distinct (paths_of (importers files.now)) ≡ true) }
+    ensures refused { IfErr result (λ e. (e ≡ errors.Memory)
+        ⊎ (are_distinct (paths_of (importers files.now)) ≡ false)) }
+{
+    let mut places = BTreeMap::new(alloc);
+    for (place, file) in files.iter().enumerate() {
+        let name = String::from_str(alloc, file.name)?;
+        match places.insert(name, place)? {
+            None => {}
+            Some(_) => return Err(Unstated::Reference),
+        }
+    }
+    Ok(places)
+}
+
+// No path stands twice.
+fn are_apart(alloc: Global, paths: &[&str]) -> Result<(), Unstated>
+    ensures once { OnOk result (are_distinct (lent paths.now) ≡ true) }
+    ensures refused { IfErr result (λ e. (e ≡ errors.Memory)
+        ⊎ (are_distinct (lent paths.now) ≡ false)) }
+{
+    let mut seen = BTreeSet::new(alloc);
+    for path in paths {
+        let is_new = seen.insert(String::from_str(alloc, path)?)?;
+        if !is_new {
+            return Err(Unstated::Reference);
+        }
+    }
+    Ok(())
+}
+
+// The places of the files of these paths, of which each is there. Those that are skipped are left
+// out.
+fn imported(
+    alloc: Global,
+    places: &BTreeMap<String, usize>,
+    skips: bool,
+    paths: &[&str],
+) -> Result<Vec<usize>, Unstated>
+    ensures ok { IfOk result (λ own. (all : List (List ℕ)) → IsIndex all places.now
+        → StandAt all own.items (kept_paths skips (lent paths.now))) }
+    ensures refused { IfErr result (λ e. (e ≡ errors.Memory)
+        ⊎ ((all : List (List ℕ)) → IsIndex all places.now
+        → list_all (is_among all) (kept_paths skips (lent paths.now)) ≡ false)) }
+{
+    let mut imported = Vec::new(alloc);
+    for path in paths {
+        if is_left_out(skips, path) {
+            continue;
+        }
+        match places.get(*path) {
+            Some(place) => imported.push(*place)?,
+            None => return Err(Unstated::Reference),
+        }
+    }
+    Ok(imported)
+}
+
+// What each file imports.
+fn all_imported(
+    alloc: Global,
+    skips: bool,
+    files: &[Importing<'_>],
+) -> Result<Vec<Vec<usize>>, Unstated>
+    ensures ok { IfOk result (λ all. ImportsAt skips (importers files.now) (lists_of all.items)) }
+    ensures once { OnOk result (are_distinct (paths_of (importers files.now)) ≡ true) }
+    ensures imports_once { OnOk result (list_all imports_once (importers files.now) ≡ true) }
+    ensures refused { IfErr result (λ e. (e ≡ errors.Memory)
+        ⊎ HasNoOrder skips (importers files.now)) }
+{
+    let places = places(alloc, files)?;
+    let mut all = Vec::new(alloc);
+    for file in files {
+        are_apart(alloc, &file.paths)?;
+        all.push(imported(alloc, &places, skips, &file.paths)?)?;
+    }
+    Ok(all)
+}
+
+// The places of the files in post-order of imports, begun at the files in their order. Refused,
+// memory aside, only where they have none.
+fn order_of(alloc: Global, skips: bool, files: &[Importing<'_>]) -> Result<Vec<usize>, Unstated>
+    ensures ok { IfOk result (λ order. AreOrdered skips (importers files.now) order.items) }
+    ensures refused { IfErr result (λ e. (e ≡ errors.Memory)
+        ⊎ HasNoOrder skips (importers files.now)) }
+{
+    let imported = all_imported(alloc, skips, files)?;
+    post_order(alloc, &imported)
+}
+
+// What a file says of its name and its imports.
+fn importing_file<'a>(alloc: Global, file: &Said<'a>) -> Result<Importing<'a>, AllocError>
+    ensures { IfOk result (λ i. importer i ≡ importer_of (message_of file.now)) }
+{
+    let name = text(file, proto::FILE_NAME);
+    let paths = texts(alloc, file, proto::FILE_DEPENDENCY)?;
+    Ok(Importing { name, paths })
+}
+
+// The same of all files.
+fn importing_files<'a>(alloc: Global, files: &[Said<'a>]) -> Result<Vec<Importing<'a>>, AllocError>
+    ensures { IfOk result (λ found. importers found.items
+        ≡ map importer_of (map message_of files.now)) }
+{
+    let mut found = Vec::new(alloc);
+    for file in files {
+        let importing = importing_file(alloc, file)?;
+        found.push(importing)?;
+    }
+    Ok(found)
+}
+
+/// The places of the files in post-order of imports, begun at the files in their order: each stands
+/// behind those that it imports. Refused, memory aside, only where they have no order.
+pub(crate) fn order(alloc: Global, skips: bool, files: &[Said<'_>]) -> Result<Vec<usize>, Unstated>
+    ensures ok { IfOk result (λ order. AreOrdered skips
+        (map importer_of (map message_of files.now)) order.items) }
+    ensures in_order { IfOk result (λ order. in_post_order skips (map message_of files.now)
+        ≡ Some (files_at (map message_of files.now) order.items)) }
+    ensures refused { IfErr result (λ e. (e ≡ errors.Memory)
+        ⊎ HasNoOrder skips (map importer_of (map message_of files.now))) }
+    ensures none { IfErr result (λ e. (e ≡ errors.Memory)
+        ⊎ (in_post_order skips (map message_of files.now) ≡ None)) }
+{
+    let found = importing_files(alloc, files)?;
+    order_of(alloc, skips, &found)
+}

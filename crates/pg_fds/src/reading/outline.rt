@@ -1,0 +1,352 @@
+//! What a set declares: the places of message types, enums and services, and all full names. Memory
+//! aside, names are refused only where one stands twice or is a part of a package.
+
+ghost use Rattle.std.specs.Prelude.{◌≡◌, ◌⊎◌, ◌+◌, ◌<◌, ◌≤◌, ◌^◌, ◌++◌, ◌∷◌, [], true, false, IfErr, IfOk, List, OnErr, OnOk, filter, flat_map, length, map};
+ghost use Rattle.std.specs.List.{AllByRecursion};
+ghost use Rattle.pg_schema.specs.rules.Scopes.{enum_places, type_places};
+ghost use Rattle.pg_dyn.specs.Kept.{message_of};
+ghost use Rattle.pg_fds.specs.declared.error.Unstated.TheVariants.{Memory};
+ghost use Rattle.pg_fds.specs.Declarations.{Adds, CannotAdd, file_declared, members_declared, package_declared, type_declared, types_declared};
+ghost use Rattle.pg_fds.specs.Outlines.{NameOneofs, NamesOneofs, StayFew, enum_rows, file_enums, file_types, files_at, type_row, type_rows};
+ghost use Rattle.pg_fds.specs.OutlinedPlaces.{PlacedType, counts_of, placed_type, places_of_types, without_inside};
+ghost use Rattle.pg_fds.specs.OutlinedScopes.{MayPlace, OutlinesFile, OutlinesFiles, OutlinesTypes};
+ghost use Rattle.pg_fds.specs.Owners.{means_of};
+ghost use Rattle.pg_fds.specs.StatedTable.{may_declare, meaning};
+ghost use Rattle.pg_fds.specs.SaidTypes.{is_entry};
+
+mod enums;
+mod services;
+
+use crate::descriptor::access::{Said, children, text};
+use crate::descriptor::proto;
+use crate::error::Unstated;
+use crate::reading::declare::{declare, declare_each, declare_package, real_oneofs};
+use crate::reading::inner_types::{entries_of, types_of};
+use crate::reading::made_oneofs::{marks, synthetic_places};
+use crate::reading::outline::enums::outline_enums;
+use crate::reading::outline::services::outline_services;
+use pg_schema::{EnumId, ServiceId, TypeId, full_name};
+use std::alloc::Global;
+use std::collections::BTreeMap;
+
+/// What a full name is that of.
+#[derive(Clone, Copy, PartialEq, Eq)]
+pub(crate) enum Named {
+    Package,
+    Type(TypeId),
+    Enum(EnumId),
+    Entry,
+    Other,
+}
+
+/// A message type of a set.
+#[derive(Drop)]
+pub(crate) struct OutlinedType<'a> {
+    pub message: Said<'a>,
+    pub name: String,
+    pub types: Vec<TypeId>,
+    pub enums: Vec<EnumId>,
+}
+
+/// An enum or a service of a set.
+#[derive(Drop)]
+pub(crate) struct Outlined<'a> {
+    pub message: Said<'a>,
+    pub name: String,
+}
+
+/// A file of a set.
+#[derive(Drop)]
+pub(crate) struct OutlinedFile<'a> {
+    pub message: Said<'a>,
+    pub types: Vec<TypeId>,
+    pub enums: Vec<EnumId>,
+    pub services: Vec<ServiceId>,
+}
+
+/// All that a set declares.
+#[derive(Drop)]
+pub(crate) struct Outline<'a> {
+    pub files: Vec<OutlinedFile<'a>>,
+    pub types: Vec<OutlinedType<'a>>,
+    pub enums: Vec<Outlined<'a>>,
+    pub services: Vec<Outlined<'a>>,
+    pub names: BTreeMap<String, Named>,
+}
+
+// The next place behind so many.
+fn next_place(count: usize) -> Result<u32, Unstated>
+    ensures ok { IfOk result (λ place. place ≡ count) }
+    ensures refused { OnErr result (count < 2 ^ 32 → ⊥) }
+{
+    match u32::try_from(count) {
+        Ok(place) => Ok(place),
+        Err(_) => Err(Unstated::Reference),
+    }
+}
+
+// ---- message types
+
+// The names of a message type's fields and real oneofs.
+fn declare_members(
+    alloc: Global,
+    names: &mut BTreeMap<String, Named>,
+    full: &str,
+    message: &Said<'_>,
+) -> Result<(), Unstated>
+    ensures adds { OnOk result (Adds (members_declared full.now (message_of message.now))
+        names.old names.new) }
+    ensures oneofs { OnOk result (NamesOneofs (message_of message.now)) }
+    ensures refused { IfErr result (λ e. NamesOneofs (message_of message.now)
+        → CannotAdd (members_declared full.now (message_of message.now)) names.old e) }
+{
+    let fields = children(alloc, message, proto::MESSAGE_FIELD)?;
+    let oneofs = children(alloc, message, proto::MESSAGE_ONEOF_DECL)?;
+    let synthetic = synthetic_places(alloc, &fields)?;
+    let marks = marks(alloc, &synthetic, oneofs.len())?;
+    let real = real_oneofs(alloc, &oneofs, &synthetic, &marks)?;
+    declare_each(alloc, names, full, &fields, Named::Other)?;
+    declare_each(alloc, names, full, &real, Named::Other)?;
+    Ok(())
+}
+
+// The names of a message type and its fields, real oneofs and entry types.
+fn declare_type(
+    alloc: Global,
+    names: &mut BTreeMap<String, Named>,
+    full: &str,
+    id: TypeId,
+    message: &Said<'_>,
+) -> Result<(), Unstated>
+    ensures adds { OnOk result (Adds
+        (type_declared full.now id.index (message_of message.now)) names.old names.new) }
+    ensures oneofs { OnOk result (NamesOneofs (message_of message.now)) }
+    ensures refused { IfErr result (λ e. NamesOneofs (message_of message.now)
+        → CannotAdd (type_declared full.now id.index (message_of message.now)) names.old e) }
+{
+    let name = String::from_str(alloc, full)?;
+    declare(names, name, Named::Type(id))?;
+    declare_members(alloc, names, full, message)?;
+    let inside = children(alloc, message, proto::MESSAGE_NESTED_TYPE)?;
+    let found = entries_of(alloc, inside.as_slice())?;
+    let entries = found.as_slice();
+    declare_each(alloc, names, full, entries, Named::Entry)?;
+    Ok(())
+}
+
+// ---- files
+
+// Puts the parts of a package in the table, where it has a name.
+#[tactic(auto, using(crate::proofs::Declaring::adds_none))]
+fn declare_scope(
+    alloc: Global,
+    names: &mut BTreeMap<String, Named>,
+    scope: &str,
+) -> Result<(), Unstated>
+    ensures adds { OnOk result (Adds (package_declared scope.now) names.old names.new) }
+    ensures refused { IfErr result (CannotAdd (package_declared scope.now) names.old) }
+{
+    if scope.is_empty() {
+        return Ok(());
+    }
+    declare_package(alloc, names, scope)
+}
+
+// None of the messages is an entry type.
+fn without_entries(alloc: Global, messages: &[Said<'_>]) -> Result<(), Unstated>
+    ensures ok { OnOk result (filter is_entry (map message_of messages.now) ≡ []) }
+    ensures refused { IfErr result (λ e. filter is_entry (map message_of messages.now) ≡ []
+        → e ≡ Memory) }
+{
+    let entries = entries_of(alloc, messages)?;
+    if !entries.is_empty() {
+        return Err(Unstated::Reference);
+    }
+    Ok(())
+}
+
+impl<'a> Outline<'a> {
+    // A message type, without those inside it.
+    fn outline_type(
+        &mut self,
+        alloc: Global,
+        name: &str,
+        message: &Said<'a>,
+    ) -> Result<TypeId, Unstated>
+        ensures placed { IfOk result (λ id. id.index ≡ length self.old.types.items) }
+        ensures rows { OnOk result (map type_row self.new.types.items
+            ≡ map type_row self.old.types.items ++ (name.now, message_of message.now) ∷ []) }
+        ensures empty { OnOk result (map placed_type self.new.types.items
+            ≡ map placed_type self.old.types.items
+            ++ without_inside (name.now, message_of message.now) ∷ []) }
+        ensures others { OnOk result
+            ((self.new.enums.items ≡ self.old.enums.items)
+            × (self.new.services.items ≡ self.old.services.items)
+            × (self.new.files.items ≡ self.old.files.items)) }
+        ensures adds { OnOk result (Adds
+            (type_declared name.now (length self.old.types.items) (message_of message.now))
+            self.old.names self.new.names) }
+        ensures few { OnOk result (StayFew self.old.types.items self.new.types.items) }
+        ensures oneofs { OnOk result (NamesOneofs (message_of message.now)) }
+        ensures refused { IfErr result
+            (λ e. length self.old.types.items < 2 ^ 32 → NamesOneofs (message_of message.now)
+            → CannotAdd
+            (type_declared name.now (length self.old.types.items) (message_of message.now))
+            self.old.names e) }
+    {
+        let index = next_place(self.types.len())?;
+        let id = TypeId { index };
+        declare_type(alloc, &mut self.names, name, id, message)?;
+        self.types.push(OutlinedType {
+            message: message.again(),
+            name: String::from_str(alloc, name)?,
+            types: Vec::new(alloc),
+            enums: Vec::new(alloc),
+        })?;
+        Ok(id)
+    }
+
+    // What stands inside a message type.
+    fn place_inside(&mut self, id: TypeId, types: Vec<TypeId>, enums: Vec<EnumId>)
+        ensures rows { map type_row self.new.types.items ≡ map type_row self.old.types.items }
+        ensures inside { (front behind : List PlacedType) (r : PlacedType)
+            → map placed_type self.old.types.items ≡ front ++ r ∷ behind
+            → length front ≡ id.index
+            → map placed_type self.new.types.items
+            ≡ front ++ record {
+              named = r.named;
+              types = type_places types.items;
+              enums = enum_places enums.items;
+            } ∷ behind }
+        ensures others { (self.new.names ≡ self.old.names)
+            × (self.new.enums.items ≡ self.old.enums.items)
+            × (self.new.services.items ≡ self.old.services.items)
+            × (self.new.files.items ≡ self.old.files.items) }
+    {
+        if let Some(outlined) = self.types.get_mut(id.index as usize) {
+            outlined.types = types;
+            outlined.enums = enums;
+        }
+    }
+
+    // The message types that a scope declares, nested less deep than that, and the enums in them.
+    fn outline_types(
+        &mut self,
+        alloc: Global,
+        depth: usize,
+        scope: &str,
+        messages: &[Said<'a>],
+    ) -> Result<Vec<TypeId>, Unstated>
+        ensures ids { IfOk result (λ ids. type_places ids.items
+            ≡ places_of_types depth scope.now (counts_of self.old)
+            (map message_of messages.now)) }
+        ensures outlined { OnOk result (OutlinesTypes depth scope.now
+            (map message_of messages.now) self.old self.new) }
+        ensures refused { IfErr result
+            (λ e. length self.old.types.items + length
+            (type_rows depth scope.now (map message_of messages.now)) ≤ 2 ^ 32
+            → length self.old.enums.items + length
+            (enum_rows depth scope.now (map message_of messages.now)) ≤ 2 ^ 32
+            → NameOneofs depth (map message_of messages.now)
+            → CannotAdd (types_declared depth scope.now (counts_of self.old)
+            (map message_of messages.now)) self.old.names e) }
+    {
+        let mut ids = Vec::new(alloc);
+        if depth == 0 {
+            return Ok(ids);
+        }
+        for message in messages {
+            let own_name = text(message, proto::MESSAGE_NAME);
+            let full = full_name(alloc, scope, own_name)?;
+            let name = full.as_str();
+            let id = self.outline_type(alloc, name, message)?;
+            let enums_inside = children(alloc, message, proto::MESSAGE_ENUM_TYPE)?;
+            let own_enums = enums_inside.as_slice();
+            let enums = outline_enums(alloc, &mut self.names, &mut self.enums, name, own_enums)?;
+            let all_inside = children(alloc, message, proto::MESSAGE_NESTED_TYPE)?;
+            let inside = all_inside.as_slice();
+            let declared = types_of(alloc, inside)?;
+            let own = declared.as_slice();
+            let types = self.outline_types(alloc, depth - 1, name, own)?;
+            self.place_inside(id, types, enums);
+            ids.push(id)?;
+        }
+        Ok(ids)
+    }
+
+    /// One file more, with all that it declares.
+    pub(crate) fn outline_file(
+        &mut self,
+        alloc: Global,
+        depth: usize,
+        message: &Said<'a>,
+    ) -> Result<(), Unstated>
+        ensures outlined { OnOk result (OutlinesFile depth (message_of message.now)
+            self.old self.new) }
+        ensures refused { IfErr result (λ e.
+            MayPlace depth (counts_of self.old) (message_of message.now)
+            → CannotAdd (file_declared depth (counts_of self.old) (message_of message.now))
+            self.old.names e) }
+    {
+        let scope = text(message, proto::FILE_PACKAGE);
+        declare_scope(alloc, &mut self.names, scope)?;
+        let types_inside = children(alloc, message, proto::FILE_MESSAGE_TYPE)?;
+        let own_types = types_inside.as_slice();
+        without_entries(alloc, own_types)?;
+        let enums_inside = children(alloc, message, proto::FILE_ENUM_TYPE)?;
+        let own_enums = enums_inside.as_slice();
+        let enums = outline_enums(alloc, &mut self.names, &mut self.enums, scope, own_enums)?;
+        let types = self.outline_types(alloc, depth, scope, own_types)?;
+        let services_inside = children(alloc, message, proto::FILE_SERVICE)?;
+        let own_services = services_inside.as_slice();
+        let services = outline_services(
+            alloc,
+            &mut self.names,
+            &mut self.services,
+            scope,
+            own_services,
+        )?;
+        self.files.push(OutlinedFile {
+            message: message.again(),
+            types,
+            enums,
+            services,
+        })?;
+        Ok(())
+    }
+}
+
+/// What the files declare, taken in that order, with message types nested less deep than that.
+/// Refused, memory aside, only where not all of it may stand in one table.
+pub(crate) fn outline_files<'a>(
+    alloc: Global,
+    depth: usize,
+    files: &[Said<'a>],
+    order: &[usize],
+) -> Result<Outline<'a>, Unstated>
+    ensures outlined { IfOk result (OutlinesFiles depth
+        (files_at (map message_of files.now) order.now)) }
+    ensures may { OnOk result (may_declare depth
+        (files_at (map message_of files.now) order.now) ≡ true) }
+    ensures means { IfOk result (λ outline. means_of outline.names
+        ≡ meaning (flat_map (file_types depth) (files_at (map message_of files.now) order.now))
+        (flat_map (file_enums depth) (files_at (map message_of files.now) order.now))) }
+    ensures none { IfErr result (λ e. AllByRecursion
+        (λ place. place < length files.now) order.now → (e ≡ Memory)
+        ⊎ (may_declare depth (files_at (map message_of files.now) order.now) ≡ false)) }
+{
+    let mut outline = Outline {
+        files: Vec::new(alloc),
+        types: Vec::new(alloc),
+        enums: Vec::new(alloc),
+        services: Vec::new(alloc),
+        names: BTreeMap::new(alloc),
+    };
+    for place in order {
+        let Some(file) = files.get(*place) else {
+            return Err(Unstated::Reference);
+        };
+        outline.outline_file(alloc, depth, file)?;
+    }
+    Ok(outline)
+}

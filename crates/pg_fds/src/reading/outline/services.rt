@@ -1,0 +1,78 @@
+//! The services of a set, each with its place, its name and those of its methods.
+
+ghost use Rattle.std.specs.Prelude.{◌≡◌, ◌+◌, ◌<◌, ◌≤◌, ◌^◌, ◌++◌, ◌∷◌, [], IfErr, IfOk, OnOk, length, map};
+ghost use Rattle.pg_schema.specs.rules.Scopes.{service_places};
+ghost use Rattle.pg_dyn.specs.Kept.{message_of};
+ghost use Rattle.pg_check.specs.standing.Places.{places_from};
+ghost use Rattle.pg_fds.specs.Declarations.{Adds, CannotAdd, service_declared, services_declared};
+ghost use Rattle.pg_fds.specs.Outlines.{StayFew, row, row_in, rows_in};
+
+use crate::descriptor::access::{Said, children};
+use crate::descriptor::proto;
+use crate::error::Unstated;
+use crate::reading::declare::{declare_each, declare_named};
+use crate::reading::outline::{Named, Outlined, next_place};
+use pg_schema::ServiceId;
+use std::alloc::Global;
+use std::collections::BTreeMap;
+
+// A service, with its name and those of its methods.
+fn outline_service<'a>(
+    alloc: Global,
+    names: &mut BTreeMap<String, Named>,
+    services: &mut Vec<Outlined<'a>>,
+    scope: &str,
+    message: &Said<'a>,
+) -> Result<ServiceId, Unstated>
+    ensures placed { IfOk result (λ id. id.index ≡ length services.old.items) }
+    ensures rows { OnOk result (map row services.new.items ≡ map row services.old.items
+        ++ row_in scope.now (message_of message.now) ∷ []) }
+    ensures adds { OnOk result (Adds (service_declared scope.now (message_of message.now))
+        names.old names.new) }
+    ensures few { OnOk result (StayFew services.old.items services.new.items) }
+    ensures refused { IfErr result (λ e. length services.old.items < 2 ^ 32
+        → CannotAdd (service_declared scope.now (message_of message.now)) names.old e) }
+{
+    let index = next_place(services.len())?;
+    let id = ServiceId { index };
+    let name = declare_named(alloc, names, scope, message, Named::Other)?;
+    let methods = children(alloc, message, proto::SERVICE_METHOD)?;
+    declare_each(
+        alloc,
+        names,
+        name.as_str(),
+        methods.as_slice(),
+        Named::Other,
+    )?;
+    services.push(Outlined {
+        message: message.again(),
+        name,
+    })?;
+    Ok(id)
+}
+
+/// The services that a scope declares: the place of each, in order.
+pub(crate) fn outline_services<'a>(
+    alloc: Global,
+    names: &mut BTreeMap<String, Named>,
+    services: &mut Vec<Outlined<'a>>,
+    scope: &str,
+    messages: &[Said<'a>],
+) -> Result<Vec<ServiceId>, Unstated>
+    ensures ids { IfOk result (λ ids. service_places ids.items
+        ≡ places_from (length services.old.items) (length messages.now)) }
+    ensures rows { OnOk result (map row services.new.items ≡ map row services.old.items
+        ++ rows_in scope.now (map message_of messages.now)) }
+    ensures adds { OnOk result (Adds
+        (services_declared scope.now (map message_of messages.now)) names.old names.new) }
+    ensures few { OnOk result (StayFew services.old.items services.new.items) }
+    ensures refused { IfErr result (λ e. length services.old.items + length messages.now ≤ 2 ^ 32
+        → CannotAdd (services_declared scope.now (map message_of messages.now)) names.old e) }
+{
+    let mut ids = Vec::new(alloc);
+    for message in messages {
+        let id = outline_service(alloc, names, services, scope, message)?;
+        ids.push(id)?;
+    }
+    Ok(ids)
+}
