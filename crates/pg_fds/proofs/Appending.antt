@@ -1,5 +1,5 @@
 -- A content behind the parts of a message.
-use Rattle.std.proofs.Common.{◌≡◌, ℕ, ◌<◌, ◌≤◌, List, [], ◌∷◌, ◌++◌, map, nat_lt, Bool, true, false, Some, None, refl, ap, ap₂, sym, subst, ◌∙◌, arith}
+use Rattle.std.proofs.Common.{◌≡◌, ◌≢◌, ℕ, Option, ◌<◌, ◌≤◌, List, [], ◌∷◌, ◌++◌, map, length, nat_eq, nat_lt, Bool, true, false, Some, None, refl, ap, ap₂, sym, subst, ◌∙◌, arith}
 use Rattle.std.proofs.lemmas.Bool.Decides.{nat_tests}
 use Rattle.std.proofs.lemmas.List.{append-nil, map-append}
 use Rattle.std.proofs.lemmas.Option.{same_Some}
@@ -13,10 +13,10 @@ use Rattle.pg_dyn.specs.declared.message.Content.TheVariants as contents
 use Rattle.pg_dyn.specs.declared.message.Value.{Value}
 use Rattle.pg_dyn.specs.declared.message.Value.TheVariants as values
 use Rattle.pg_dyn.specs.Kept.{Kept, KeptItem, ends, type_of, parts_of, unknown_of, message_of}
-use Rattle.pg_dyn.specs.Message.{Message, Part, Item, message_from}
+use Rattle.pg_dyn.specs.Message.{Leaf, Message, Part, Item, message_from}
 use Rattle.pg_dyn.specs.Message as model
 use Rattle.pg_dyn.specs.Replacing.{kept_from, with_parts, with_content}
-use Rattle.pg_dyn.specs.Seen.{content_seen, item_seen}
+use Rattle.pg_dyn.specs.Seen.{IsFilled, content_onto, content_seen, entries_onto, fields_onto, item_seen, items_onto, leaf_of, value_onto}
 use Rattle.pg_dyn.specs.setting.Setting.{IsSetTo, normalized}
 use Rattle.pg_dyn.specs.Texts.{kept_in, kept_item}
 use Rattle.pg_dyn.specs.Fits.{Fits}
@@ -26,7 +26,8 @@ use Rattle.pg_dyn.proofs.Lists.{filter_all, filter_none}
 use Rattle.pg_dyn.proofs.lemmas.ReplacingLaws.{no_siblings, parts_of-kept_onto, unknown_of-kept_onto, type_of-kept_onto, parts-message_of, unknown-message_of, item_of, part_item}
 use Rattle.pg_fds.specs.Descriptor.{descriptor_shape, one, many}
 use Rattle.pg_fds.specs.Building.{items_of, items_in, items_within, shown, greatest, last_number, IsChild, AreChildren, IsOf, HasOne, HasMany, written_shape}
-use Rattle.pg_fds.specs.Items.{item, child, children, texts}
+use Rattle.pg_fds.specs.Drafts.{Drafted, IsDraft, TakesMany, TakesOne, drafted, put}
+use Rattle.pg_fds.specs.Items.{Items, item, child, children, options, texts}
 
 -- ---- behind all parts
 
@@ -157,22 +158,30 @@ children_shown type number [] are = refl
 children_shown type number (v ∷ vs) are =
     ap₂ (λ i is. item number i ∷ is) (child_shown type v are.0) (children_shown type number vs are.1)
 
--- ---- what the calls that put a content need and give
+-- ---- what a draft's fields need and give
 
-pub taken_one : (given : Shape) (type its : TypeId) (number : ℕ) (e : Element) (v : Value) → given ≡ written_shape → its ≡ type → HasOne type number e → ItemFits written_shape e v
-    → TakesContent given its (number, contents.One v)
+pub takes_one : (table : Shape) (last : ℕ) (m : Kept) (d : Drafted) (number : ℕ) (e : Element) (v : Value) → IsDraft table last m → drafted last m ≡ d → TakesOne number e d → ItemFits written_shape e v
+    → TakesContent table (type_of m) (number, contents.One v)
 unfolding written_shape
-taken_one given type its number e v same of_type field fits =
-    subst (λ s. TakesContent s its (number, contents.One v)) (sym same)
-    (subst (λ t. TakesContent descriptor_shape t (number, contents.One v)) (sym of_type) (one number e, record { found = field; items = fits }))
+takes_one table last m d number e v draft is takes fits =
+    subst (λ s. TakesContent s (type_of m) (number, contents.One v)) (sym draft.by_table) (one number e, record { found = (subst (TakesOne number e) (sym is) takes).1; items = fits })
 
-pub put_one_gives : (given : Shape) (type : TypeId) (number : ℕ) (e : Element) (v : Value) (old new : Kept) → given ≡ written_shape → IsOf type old → last_number old < number → HasOne type number e
-    → IsSetTo given number (contents.One v) old new → Fits given new
-    → (items_of new ≡ items_of old ++ item number (shown v) ∷ []) × IsOf type new × (last_number new ≤ number)
+-- the draft with a content more
+still_draft : (table : Shape) (number : ℕ) (old new : Kept) → table ≡ written_shape → IsOf (type_of old) old → type_of new ≡ type_of old → unknown_of new ≡ unknown_of old → Fits table new → last_number new ≤ number → IsDraft table number new
+still_draft table number old new same is of_type unknown fits up_to = record {
+  by_table = same;
+  is_of = record { of_type = refl; no_unknown = unknown ∙ is.no_unknown; fits = subst (λ s. Fits s new) same fits };
+  up_to = up_to;
+}
+
+pub one_put : (table : Shape) (last : ℕ) (old : Kept) (d : Drafted) (number : ℕ) (e : Element) (v : Value) (new : Kept) → IsDraft table last old → drafted last old ≡ d → TakesOne number e d
+    → IsSetTo table number (contents.One v) old new → Fits table new → IsDraft table number new × (drafted number new ≡ put number (item number (shown v) ∷ []) d)
 unfolding written_shape
-put_one_gives given type number e v old new same is h field set fits =
-    let all = set_one descriptor_shape type number e v old new is.of_type field h (subst (λ s. IsSetTo s number (contents.One v) old new) same set) in
-    (all.0, record { of_type = all.1 ∙ is.of_type; no_unknown = all.2 ∙ is.no_unknown; fits = subst (λ s. Fits s new) same fits }, all.3)
+one_put table last old d number e v new draft is takes set fits =
+    let own = subst (TakesOne number e) (sym is) takes in
+    let up_to : last_number old ≤ last = draft.up_to in
+    let all = set_one descriptor_shape (type_of old) number e v old new refl own.1 (omega (arith, up_to, own.0)) (subst (λ s. IsSetTo s number (contents.One v) old new) draft.by_table set) in
+    (still_draft table number old new draft.by_table draft.is_of all.1 all.2 fits all.3, (λ i. record { type = all.1 i; last = number; items = all.0 i }) ∙ ap (put number (item number (shown v) ∷ [])) is)
 
 -- a content that is a list of these items
 abbrev pub IsListOf : List Value → Content → Type 0
@@ -190,20 +199,23 @@ seen_list number vs (contents.One v) is = absurd is
 seen_list number vs (contents.Many ws) is = ap (map (listed_part number)) is
 seen_list number vs (contents.Map es) is = absurd is
 
-pub taken_list : (given : Shape) (type its : TypeId) (number : ℕ) (e : Element) (vs : List Value) (content : Content) → IsListOf vs content → given ≡ written_shape → its ≡ type → HasMany type number e
-    → AllByRecursion (ItemFits written_shape e) vs → TakesContent given its (number, content)
+pub takes_list : (table : Shape) (last : ℕ) (m : Kept) (d : Drafted) (number : ℕ) (e : Element) (vs : List Value) (content : Content) → IsListOf vs content → IsDraft table last m → drafted last m ≡ d → TakesMany number e d
+    → AllByRecursion (ItemFits written_shape e) vs → TakesContent table (type_of m) (number, content)
 unfolding written_shape
-taken_list given type its number e vs content is same of_type field fits =
-    subst (λ s. TakesContent s its (number, content)) (sym same)
-    (subst (λ t. TakesContent descriptor_shape t (number, content)) (sym of_type) (many number e, record { found = field; items = fits_list e vs content is fits }))
+takes_list table last m d number e vs content list draft is takes fits =
+    subst (λ s. TakesContent s (type_of m) (number, content)) (sym draft.by_table) (many number e, record { found = (subst (TakesMany number e) (sym is) takes).1; items = fits_list e vs content list fits })
 
-pub put_list_gives : (given : Shape) (type : TypeId) (number : ℕ) (e : Element) (vs : List Value) (content : Content) (old new : Kept) → IsListOf vs content → given ≡ written_shape → IsOf type old → last_number old < number → HasMany type number e
-    → IsSetTo given number content old new → Fits given new
-    → (items_of new ≡ items_of old ++ map (item number) (map shown vs)) × IsOf type new × (last_number new ≤ number)
+pub list_put : (table : Shape) (last : ℕ) (old : Kept) (d : Drafted) (number : ℕ) (e : Element) (vs : List Value) (content : Content) (new : Kept) → IsListOf vs content → IsDraft table last old → drafted last old ≡ d
+    → TakesMany number e d → IsSetTo table number content old new → Fits table new → IsDraft table number new × (drafted number new ≡ put number (map (item number) (map shown vs)) d)
 unfolding written_shape
-put_list_gives given type number e vs content old new list same is h field set fits =
-    let all = set_many descriptor_shape type number e vs content old new is.of_type field h (seen_list number vs content list) (subst (λ s. IsSetTo s number content old new) same set) in
-    (all.0, record { of_type = all.1 ∙ is.of_type; no_unknown = all.2 ∙ is.no_unknown; fits = subst (λ s. Fits s new) same fits }, all.3)
+list_put table last old d number e vs content new list draft is takes set fits =
+    let own = subst (TakesMany number e) (sym is) takes in
+    let up_to : last_number old ≤ last = draft.up_to in
+    let all = set_many descriptor_shape (type_of old) number e vs content old new refl own.1 (omega (arith, up_to, own.0)) (seen_list number vs content list) (subst (λ s. IsSetTo s number content old new) draft.by_table set) in
+    (still_draft table number old new draft.by_table draft.is_of all.1 all.2 fits all.3, (λ i. record { type = all.1 i; last = number; items = all.0 i }) ∙ ap (put number (map (item number) (map shown vs))) is)
+
+pub nothing_put : (number : ℕ) (d : Drafted) → record { type = d.type; last = number; items = d.items } ≡ put number [] d
+nothing_put number d = ap (λ is. record { type = d.type; last = number; items = is }) (sym (append-nil d.items))
 
 -- ---- texts and options
 
@@ -214,10 +226,44 @@ texts_shown number items list is = ap (map (item number)) is ∙ each list
     each [] = refl
     each (x ∷ xs) = ap (λ is. item number (model.Plain (model.Bytes x)) ∷ is) (each xs)
 
-pub empty_is : (type : TypeId) → type.index < 18 → IsOf type (ends type [])
-unfolding written_shape
-empty_is type h = record { of_type = refl; no_unknown = refl; fits = record { type_is_there = h; is_message = tt; parts_agree = tt } }
+pub begun_is : (table : Shape) (type : TypeId) (m : Kept) → table ≡ written_shape → type.index < 18 → m ≡ ends type [] → IsDraft table 0 m
+unfolding written_shape last_number
+begun_is table type m same there is = record {
+  by_table = same;
+  is_of = subst (λ k. IsOf (type_of k) k) (sym is) (record { of_type = refl; no_unknown = refl; fits = record { type_is_there = there; is_message = tt; parts_agree = tt } });
+  up_to = subst (λ k. last_number k ≤ 0) (sym is) (omega arith);
+}
 
-pub empty_last : (type : TypeId) → last_number (ends type []) ≡ 0
-unfolding last_number
-empty_last type = refl
+-- ---- messages with content
+
+not_nil : (i : Part Item) (is : Items) → i ∷ is ≢ []
+not_nil i is none = cc
+
+value_filled : (number : ℕ) (key : Option Leaf) (listed : Bool) (v : Value) (later : Kept) → items_of (value_onto number key listed v later) ≢ []
+value_filled number key listed (values.Int n) later = not_nil _ _
+value_filled number key listed (values.F32 n) later = not_nil _ _
+value_filled number key listed (values.F64 n) later = not_nil _ _
+value_filled number key listed (values.Text n) later = not_nil _ _
+value_filled number key listed (values.Bytes n) later = not_nil _ _
+value_filled number key listed (values.Msg n) later = not_nil _ _
+
+content_filled : (number : ℕ) (content : Content) (later : Kept) → IsFilled content → items_of (content_onto number content later) ≢ []
+content_filled number (contents.One v) later filled = value_filled number None false v later
+content_filled number (contents.Many vs) later filled = of vs.items filled
+  where
+    of : (vs : List Value) → vs ≢ [] → items_of (items_onto number vs later) ≢ []
+    of [] some = absurd (some refl)
+    of (v ∷ vs) some = value_filled number None true v (items_onto number vs later)
+content_filled number (contents.Map es) later filled = of es.items filled
+  where
+    of : (es : List (Value × Value)) → es ≢ [] → items_of (entries_onto number es later) ≢ []
+    of [] some = absurd (some refl)
+    of (e ∷ es) some = value_filled number (Some (leaf_of e.0)) false e.1 (entries_onto number es later)
+
+pub fields_filled : (fs : List (ℕ × Content)) (m later : Kept) → m ≡ fields_onto fs later → AllByRecursion (λ f. IsFilled f.1) fs → nat_eq (length fs) 0 ≡ false → items_of m ≢ []
+fields_filled [] m later is filled some = λ none. cc
+fields_filled (f ∷ fs) m later is filled some = subst (λ k. items_of k ≢ []) (sym is) (content_filled f.0 f.1 (fields_onto fs later) filled.0)
+
+pub options_some : (number : ℕ) (is : Items) → is ≢ [] → options number is ≡ child number is
+options_some number [] some = absurd (some refl)
+options_some number (i ∷ is) some = refl

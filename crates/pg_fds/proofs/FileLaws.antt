@@ -1,5 +1,5 @@
 -- Options of files, and what holds at a place of a list.
-use Rattle.std.proofs.Common.{◌≡◌, ℕ, zero, suc, ◌+◌, ◌≤◌, ◌<◌, true, nat_lt, List, [], ◌∷◌, ◌++◌, ◌-◌, length, take, drop, get_or, map, flat_map, slice_get, pos, Option, Some, None, refl, ap, sym, subst, ◌∙◌, arith, add-one, drop-cons}
+use Rattle.std.proofs.Common.{◌≡◌, ℕ, zero, suc, ◌+◌, ◌≤◌, ◌<◌, true, nat_lt, List, [], ◌∷◌, ◌++◌, ◌-◌, length, take, drop, get_or, map, flat_map, slice_get, pos, Option, Some, None, refl, ap, sym, subst, ◌∙◌, arith, add-one, append_assoc, drop-cons}
 use Rattle.std.proofs.lemmas.Bool.Decides.{nat_tests}
 use Rattle.std.proofs.lemmas.Grind.{flat_map-append}
 use Rattle.std.proofs.lemmas.List.{append-nil, take_more}
@@ -12,6 +12,7 @@ use Rattle.pg_schema.specs.rules.Files.{option_numbers}
 use Rattle.pg_schema.specs.rules.Pairs.{is_rising}
 use Rattle.pg_schema.proofs.lemmas.rules.PairLemmas.{and_both, and_left, and_right}
 use Rattle.pg_dyn.specs.Message as model
+use Rattle.pg_fds.specs.Drafts.{Drafted, IsDraftOf, put}
 use Rattle.pg_fds.specs.Items.{Items, item, counts}
 use Rattle.pg_fds.specs.Messages.{type_items, types_items, where_found}
 use Rattle.pg_fds.specs.Places.{Declared}
@@ -97,3 +98,12 @@ pub same_default : {A : Type 0} (xs : List A) (i : ℕ) (d e : A) → i < length
 same_default [] i d e h = absurd (omega (arith, h))
 same_default (x ∷ xs) zero d e h = refl
 same_default (x ∷ xs) (suc i) d e h = same_default xs i d e (omega (arith, h))
+
+-- ---- a file's message
+
+-- a draft of these parts with more
+pub more_put : (type : TypeId) (items more : Items) (number : ℕ) (d new : Drafted) → IsDraftOf type items d → new ≡ put number more d → IsDraftOf type (items ++ more) new
+more_put type items more number d new is grown = (ap (λ (x : Drafted). x.type) grown ∙ is.0, ap (λ (x : Drafted). x.items) grown ∙ ap (λ xs. xs ++ more) is.1)
+
+pub file_joined : (a b c x y z e f g : Items) → (((((a ++ b) ++ c) ++ (x ++ y ++ z)) ++ e) ++ f) ++ g ≡ a ++ b ++ c ++ x ++ y ++ z ++ e ++ f ++ g
+file_joined a b c x y z e f g = simp append_assoc

@@ -1,5 +1,5 @@
 -- Messages of the written schema as they are built: parts are put behind each other by rising number.
-use Rattle.std.specs.Prelude.{◌≡◌, ◌≢◌, ℕ, ⊤, max, List, [], ◌∷◌, map, Option, Some, None}
+use Rattle.std.specs.Prelude.{◌≡◌, ℕ, ⊤, max, List, [], ◌∷◌, map, Some}
 use Rattle.std.specs.List.{AllByRecursion}
 use Rattle.pg_schema.specs.declared.parts.field.Element.{Element}
 use Rattle.pg_schema.specs.declared.parts.field.Element.TheVariants as elements
@@ -74,16 +74,3 @@ items_in value = []
 
 abbrev pub items_within : List Value → List Items
 items_within vs = map items_in vs
-
--- the message is one of options of that type, where there is one
-pub record IsOptions (type : TypeId) (m : Kept) : Type 0 where
-  pub is_of : IsOf type m
-  pub filled : items_of m ≢ []
-
-abbrev pub AreOptions : TypeId → Option Kept → Type 0
-AreOptions type None = ⊤
-AreOptions type (Some m) = IsOptions type m
-
-abbrev pub stated_items : Option Kept → Items
-stated_items None = []
-stated_items (Some m) = items_of m

@@ -6,6 +6,8 @@ pub mod Fields
 pub mod Synthetic
 pub mod MadeNames
 pub mod Building
+pub mod DraftCode
+pub mod Drafts
 pub mod Small
 pub mod Lent
 pub mod Entries

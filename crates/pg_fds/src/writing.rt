@@ -1,12 +1,11 @@
 //! Descriptor sets, written.
 
-mod building;
+mod draft;
 mod entries;
 mod enums;
 pub(crate) mod fields;
 mod files;
 mod messages;
-mod options;
 mod scope;
 mod services;
 mod synthetic;
@@ -24,11 +23,11 @@ ghost use Rattle.pg_fds.specs.Set.{fds};
 ghost use Rattle.pg_fds.specs.Written.{HasNoSet, set_items};
 ghost use Rattle.pg_fds.specs.Writable.{has_counted_imports};
 
-use crate::descriptor::places::{FILE, SET};
+use crate::descriptor::places::SET;
 use crate::descriptor::{descriptor_schema, proto};
 use crate::error::FdsError;
 use crate::held_places::see_places;
-use crate::writing::building::{empty, put_children};
+use crate::writing::draft::Writer;
 use crate::writing::files::files;
 use pg_dyn::laws::{encoding_spells, reads_again, writing_splits};
 use pg_dyn::{DynError, Message, encode};
@@ -71,10 +70,10 @@ fn set(alloc: Global, table: &Schema, source: &Schema) -> Result<Message, AllocE
 {
     // What holds of every schema.
     let parts = source.parts();
-    let mut message = empty(alloc, SET);
-    let made = files(alloc, table, source, &parts.files)?;
-    put_children(&mut message, table, SET, proto::SET_FILE, FILE, made)?;
-    Ok(message)
+    let writer = Writer::new(alloc, table, source);
+    let mut draft = writer.draft(SET);
+    draft.put_children(proto::SET_FILE, files(&writer, &parts.files)?)?;
+    Ok(draft.into_message())
 }
 
 /// The bytes of the schema's descriptor set: a `FileDescriptorSet` of its files, in their order

@@ -2,153 +2,92 @@
 //! memory is.
 
 ghost use Rattle.std.specs.Prelude.{◌≡◌, IfOk, map};
-ghost use Rattle.pg_schema.specs.Parts.{shape_of};
-ghost use Rattle.pg_fds.specs.Building.{AreChildren, IsOf, items_of, items_within, written_shape};
+ghost use Rattle.pg_fds.specs.Drafts.{IsDraftOf, listed};
 ghost use Rattle.pg_fds.specs.Messages.{enum_items, enums_items, value_items, value_range};
 ghost use Rattle.pg_fds.specs.Places.{declared_in};
 
 use crate::descriptor::places::{ENUM, ENUM_OPTIONS, VALUE, VALUE_OPTIONS, VALUE_RANGE};
 use crate::descriptor::proto;
 use crate::descriptor::proto::{
-    ENUM_NAME, ENUM_RESERVED_NAME, ENUM_RESERVED_RANGE, ENUM_VALUE, RANGE_END, RANGE_START,
-    VALUE_DEPRECATED, VALUE_NAME, VALUE_NUMBER,
+    ENUM_ALLOW_ALIAS, ENUM_DEPRECATED, ENUM_NAME, ENUM_RESERVED_NAME, ENUM_RESERVED_RANGE,
+    ENUM_VALUE, RANGE_END, RANGE_START, VALUE_DEPRECATED, VALUE_NAME, VALUE_NUMBER,
 };
 use crate::names::own_name;
-use crate::writing::building::{empty, put_children, put_options, put_text, put_texts, put_whole};
-use crate::writing::options::{one_flag, two_flags};
-use pg_dyn::{Message, Value};
-use pg_schema::{EnumId, EnumType, EnumValue, ReservedValues, Schema};
-use std::alloc::{AllocError, Global};
+use crate::writing::draft::{Children, Draft, Writer};
+use pg_schema::{EnumId, EnumType, EnumValue, ReservedValues};
+use std::alloc::AllocError;
 
 // The message of a value.
-fn value_message(alloc: Global, table: &Schema, value: &EnumValue) -> Result<Message, AllocError>
-    requires { shape_of table.now ≡ written_shape }
-    ensures items { IfOk result (λ m. items_of m ≡ value_items value.now) }
-    ensures kept { IfOk result (IsOf VALUE) }
+fn value_message<'a>(writer: &Writer<'a>, value: &EnumValue) -> Result<Draft<'a>, AllocError>
+    ensures { IfOk result (IsDraftOf VALUE (value_items value.now)) }
 {
-    let mut message = empty(alloc, VALUE);
-    put_text(alloc, &mut message, table, VALUE, VALUE_NAME, &value.name)?;
-    put_whole(&mut message, table, VALUE, VALUE_NUMBER, value.number)?;
-    let stated = value.options.deprecated;
-    let options = one_flag(alloc, table, VALUE_OPTIONS, VALUE_DEPRECATED, stated)?;
-    put_options(
-        alloc,
-        &mut message,
-        table,
-        VALUE,
-        proto::VALUE_OPTIONS,
-        VALUE_OPTIONS,
-        options,
-    )?;
-    Ok(message)
+    let mut draft = writer.draft(VALUE);
+    draft.put_text(VALUE_NAME, &value.name)?;
+    draft.put_whole(VALUE_NUMBER, value.number)?;
+    let mut options = writer.draft(VALUE_OPTIONS);
+    options.put_stated(VALUE_DEPRECATED, value.options.deprecated)?;
+    draft.put_options(proto::VALUE_OPTIONS, options)?;
+    Ok(draft)
 }
 
 // The message of reserved numbers, both ends of which are in it.
-fn range_message(
-    alloc: Global,
-    table: &Schema,
-    range: &ReservedValues,
-) -> Result<Message, AllocError>
-    requires { shape_of table.now ≡ written_shape }
-    ensures items { IfOk result (λ m. items_of m ≡ value_range range.now) }
-    ensures kept { IfOk result (IsOf VALUE_RANGE) }
+fn range_message<'a>(writer: &Writer<'a>, range: &ReservedValues) -> Result<Draft<'a>, AllocError>
+    ensures { IfOk result (IsDraftOf VALUE_RANGE (value_range range.now)) }
 {
-    let mut message = empty(alloc, VALUE_RANGE);
-    put_whole(&mut message, table, VALUE_RANGE, RANGE_START, range.first)?;
-    put_whole(&mut message, table, VALUE_RANGE, RANGE_END, range.last)?;
-    Ok(message)
+    let mut draft = writer.draft(VALUE_RANGE);
+    draft.put_whole(RANGE_START, range.first)?;
+    draft.put_whole(RANGE_END, range.last)?;
+    Ok(draft)
 }
 
 // The messages of values, in order.
-fn values(alloc: Global, table: &Schema, values: &[EnumValue]) -> Result<Vec<Value>, AllocError>
-    requires { shape_of table.now ≡ written_shape }
-    ensures items { IfOk result (λ made. items_within made.items ≡ map value_items values.now) }
-    ensures kept { IfOk result (λ made. AreChildren VALUE made.items) }
+fn values(writer: &Writer<'_>, values: &[EnumValue]) -> Result<Children, AllocError>
+    ensures { IfOk result (λ made. made ≡ listed VALUE (map value_items values.now)) }
 {
-    let mut made = Vec::with_capacity(alloc, values.len())?;
+    let mut made = Children::with_capacity(writer.alloc, VALUE, values.len())?;
     for value in values {
-        let message = value_message(alloc, table, value)?;
-        made.push(Value::Msg(Box::new(alloc, message)?))?;
+        made.push(value_message(writer, value)?)?;
     }
     Ok(made)
 }
 
 // The messages of reserved numbers, in order.
-fn ranges(
-    alloc: Global,
-    table: &Schema,
-    ranges: &[ReservedValues],
-) -> Result<Vec<Value>, AllocError>
-    requires { shape_of table.now ≡ written_shape }
-    ensures items { IfOk result (λ made. items_within made.items ≡ map value_range ranges.now) }
-    ensures kept { IfOk result (λ made. AreChildren VALUE_RANGE made.items) }
+fn ranges(writer: &Writer<'_>, ranges: &[ReservedValues]) -> Result<Children, AllocError>
+    ensures { IfOk result (λ made. made ≡ listed VALUE_RANGE (map value_range ranges.now)) }
 {
-    let mut made = Vec::with_capacity(alloc, ranges.len())?;
+    let mut made = Children::with_capacity(writer.alloc, VALUE_RANGE, ranges.len())?;
     for range in ranges {
-        let message = range_message(alloc, table, range)?;
-        made.push(Value::Msg(Box::new(alloc, message)?))?;
+        made.push(range_message(writer, range)?)?;
     }
     Ok(made)
 }
 
 // The message of an enum.
-fn enum_message(alloc: Global, table: &Schema, declared: &EnumType) -> Result<Message, AllocError>
-    requires { shape_of table.now ≡ written_shape }
-    ensures items { IfOk result (λ m. items_of m ≡ enum_items declared.now) }
-    ensures kept { IfOk result (IsOf ENUM) }
+fn enum_message<'a>(writer: &Writer<'a>, declared: &EnumType) -> Result<Draft<'a>, AllocError>
+    ensures { IfOk result (IsDraftOf ENUM (enum_items declared.now)) }
 {
-    let mut message = empty(alloc, ENUM);
-    let to = &mut message;
-    let stated = declared.options;
-    put_text(alloc, to, table, ENUM, ENUM_NAME, own_name(&declared.name))?;
-    let values = values(alloc, table, &declared.values)?;
-    put_children(to, table, ENUM, ENUM_VALUE, VALUE, values)?;
-    let options = two_flags(
-        alloc,
-        table,
-        ENUM_OPTIONS,
-        stated.allow_alias,
-        stated.deprecated,
-    )?;
-    put_options(
-        alloc,
-        to,
-        table,
-        ENUM,
-        proto::ENUM_OPTIONS,
-        ENUM_OPTIONS,
-        options,
-    )?;
-    let ranges = ranges(alloc, table, &declared.reserved_numbers)?;
-    put_children(to, table, ENUM, ENUM_RESERVED_RANGE, VALUE_RANGE, ranges)?;
-    put_texts(
-        alloc,
-        to,
-        table,
-        ENUM,
-        ENUM_RESERVED_NAME,
-        &declared.reserved_names,
-    )?;
-    Ok(message)
+    let mut draft = writer.draft(ENUM);
+    draft.put_text(ENUM_NAME, own_name(&declared.name))?;
+    draft.put_children(ENUM_VALUE, values(writer, &declared.values)?)?;
+    let mut options = writer.draft(ENUM_OPTIONS);
+    options.put_stated(ENUM_ALLOW_ALIAS, declared.options.allow_alias)?;
+    options.put_stated(ENUM_DEPRECATED, declared.options.deprecated)?;
+    draft.put_options(proto::ENUM_OPTIONS, options)?;
+    let ranges = ranges(writer, &declared.reserved_numbers)?;
+    draft.put_children(ENUM_RESERVED_RANGE, ranges)?;
+    draft.put_texts(ENUM_RESERVED_NAME, &declared.reserved_names)?;
+    Ok(draft)
 }
 
 /// The messages of the schema's enums at these places, in order.
-pub(crate) fn enums(
-    alloc: Global,
-    table: &Schema,
-    source: &Schema,
-    ids: &[EnumId],
-) -> Result<Vec<Value>, AllocError>
-    requires { shape_of table.now ≡ written_shape }
-    ensures items { IfOk result (λ made. items_within made.items
-        ≡ enums_items (declared_in source.now) ids.now) }
-    ensures kept { IfOk result (λ made. AreChildren ENUM made.items) }
+pub(crate) fn enums(writer: &Writer<'_>, ids: &[EnumId]) -> Result<Children, AllocError>
+    ensures { IfOk result (λ made. made
+        ≡ listed ENUM (enums_items (declared_in writer.now) ids.now)) }
 {
-    let mut made = Vec::with_capacity(alloc, ids.len())?;
+    let mut made = Children::with_capacity(writer.alloc, ENUM, ids.len())?;
     for id in ids {
-        if let Some(declared) = source.enum_type(*id) {
-            let message = enum_message(alloc, table, declared)?;
-            made.push(Value::Msg(Box::new(alloc, message)?))?;
+        if let Some(declared) = writer.source.enum_type(*id) {
+            made.push(enum_message(writer, declared)?)?;
         }
     }
     Ok(made)

@@ -4,8 +4,8 @@
 ghost use Rattle.std.specs.Prelude.{◌≡◌, ◌+◌, ◌<◌, ◌≤◌, ◌^◌, ◌++◌, IfOk, OnOk, Some, length, map};
 ghost use Rattle.std.specs.List.{AllByRecursion};
 ghost use Rattle.std.specs.String.{string_bytes};
-ghost use Rattle.pg_schema.specs.Parts.{shape_of, type_at};
-ghost use Rattle.pg_fds.specs.Building.{AreChildren, IsOf, items_of, items_within, last_number, written_shape};
+ghost use Rattle.pg_schema.specs.Parts.{type_at};
+ghost use Rattle.pg_fds.specs.Drafts.{IsDraftOf, listed, put};
 ghost use Rattle.pg_fds.specs.Fields.{fields_items};
 ghost use Rattle.pg_fds.specs.Lent.{lent};
 ghost use Rattle.pg_fds.specs.Messages.{declared_fields, field_range, oneof_items, oneof_names, type_items};
@@ -13,7 +13,7 @@ ghost use Rattle.pg_fds.specs.Places.{declared_in};
 ghost use Rattle.pg_fds.specs.PutParts.{type_rest};
 ghost use Rattle.pg_fds.specs.Small.{HasSmallNumbers, IsSmallRange, IsSmallType};
 
-use crate::descriptor::places::{ENUM, FIELD, FIELD_RANGE, MESSAGE, MESSAGE_OPTIONS, ONEOF};
+use crate::descriptor::places::{FIELD, FIELD_RANGE, MESSAGE, MESSAGE_OPTIONS, ONEOF};
 use crate::descriptor::proto::{
     MESSAGE_DEPRECATED, MESSAGE_ENUM_TYPE, MESSAGE_FIELD, MESSAGE_NAME, MESSAGE_NESTED_TYPE,
     MESSAGE_ONEOF_DECL, MESSAGE_RESERVED_NAME, MESSAGE_RESERVED_RANGE, ONEOF_NAME, RANGE_END,
@@ -21,107 +21,67 @@ use crate::descriptor::proto::{
 };
 use crate::descriptor::{NUMBER, proto};
 use crate::names::own_name;
-use crate::writing::building::{empty, put_children, put_count, put_options, put_text, put_texts};
+use crate::writing::draft::{Children, Draft, Writer};
 use crate::writing::entries::push_entries;
 use crate::writing::enums::enums;
 use crate::writing::fields::field_message;
-use crate::writing::options::one_flag;
 use crate::writing::scope::names_within;
 use crate::writing::synthetic::synthetic_oneofs;
-use pg_dyn::{Message, Value};
 use pg_schema::{Field, MessageType, ReservedFields, Schema, TypeId};
 use std::alloc::{AllocError, Global};
 
 // The message of reserved numbers, whose end is the first number behind them.
-fn range_message(
-    alloc: Global,
-    table: &Schema,
-    range: &ReservedFields,
-) -> Result<Message, AllocError>
-    requires table { shape_of table.now ≡ written_shape }
-    requires small { IsSmallRange range.now }
-    ensures items { IfOk result (λ m. items_of m ≡ field_range range.now) }
-    ensures kept { IfOk result (IsOf FIELD_RANGE) }
+fn range_message<'a>(writer: &Writer<'a>, range: &ReservedFields) -> Result<Draft<'a>, AllocError>
+    requires { IsSmallRange range.now }
+    ensures { IfOk result (IsDraftOf FIELD_RANGE (field_range range.now)) }
 {
-    let mut message = empty(alloc, FIELD_RANGE);
-    put_count(
-        &mut message,
-        table,
-        FIELD_RANGE,
-        RANGE_START,
-        NUMBER,
-        range.first,
-    )?;
-    put_count(
-        &mut message,
-        table,
-        FIELD_RANGE,
-        RANGE_END,
-        NUMBER,
-        range.last + 1,
-    )?;
-    Ok(message)
+    let mut draft = writer.draft(FIELD_RANGE);
+    draft.put_count(RANGE_START, NUMBER, range.first)?;
+    draft.put_count(RANGE_END, NUMBER, range.last + 1)?;
+    Ok(draft)
 }
 
 // The messages of reserved numbers, in order.
-fn ranges(
-    alloc: Global,
-    table: &Schema,
-    ranges: &[ReservedFields],
-) -> Result<Vec<Value>, AllocError>
-    requires table { shape_of table.now ≡ written_shape }
-    requires small { AllByRecursion IsSmallRange ranges.now }
-    ensures items { IfOk result (λ made. items_within made.items ≡ map field_range ranges.now) }
-    ensures kept { IfOk result (λ made. AreChildren FIELD_RANGE made.items) }
+fn ranges(writer: &Writer<'_>, ranges: &[ReservedFields]) -> Result<Children, AllocError>
+    requires { AllByRecursion IsSmallRange ranges.now }
+    ensures { IfOk result (λ made. made ≡ listed FIELD_RANGE (map field_range ranges.now)) }
 {
-    let mut made = Vec::with_capacity(alloc, ranges.len())?;
+    let mut made = Children::with_capacity(writer.alloc, FIELD_RANGE, ranges.len())?;
     for range in ranges {
-        let message = range_message(alloc, table, range)?;
-        made.push(Value::Msg(Box::new(alloc, message)?))?;
+        made.push(range_message(writer, range)?)?;
     }
     Ok(made)
 }
 
 // Puts the messages of oneofs of these names behind the others.
-fn push_oneofs(
-    alloc: Global,
-    table: &Schema,
-    made: &mut Vec<Value>,
-    names: &[String],
-) -> Result<(), AllocError>
-    requires table { shape_of table.now ≡ written_shape }
-    requires kept { AreChildren ONEOF made.old.items }
-    ensures items { OnOk result (items_within made.new.items ≡ items_within made.old.items
-        ++ map oneof_items (map string_bytes names.now)) }
-    ensures kept { OnOk result (AreChildren ONEOF made.new.items) }
+fn push_oneofs(writer: &Writer<'_>, made: &mut Children, names: &[String]) -> Result<(), AllocError>
+    requires { made.old.type ≡ ONEOF }
+    ensures { OnOk result (made.new ≡ listed ONEOF
+        (made.old.items ++ map oneof_items (map string_bytes names.now))) }
 {
     for name in names {
-        let mut message = empty(alloc, ONEOF);
-        put_text(alloc, &mut message, table, ONEOF, ONEOF_NAME, name)?;
-        made.push(Value::Msg(Box::new(alloc, message)?))?;
+        let mut draft = writer.draft(ONEOF);
+        draft.put_text(ONEOF_NAME, name)?;
+        made.push(draft)?;
     }
     Ok(())
 }
 
 // The messages of the real oneofs of a message type, and then of the synthetic ones of its fields.
 fn oneofs(
-    alloc: Global,
-    table: &Schema,
-    source: &Schema,
+    writer: &Writer<'_>,
     message_type: &MessageType,
     fields: &[&Field],
-) -> Result<Vec<Value>, AllocError>
-    requires table { shape_of table.now ≡ written_shape }
-    requires fields { lent fields.now ≡ declared_fields message_type.now }
-    ensures items { IfOk result (λ made. items_within made.items
-        ≡ map oneof_items (oneof_names (declared_in source.now) message_type.now)) }
-    ensures kept { IfOk result (λ made. AreChildren ONEOF made.items) }
+) -> Result<Children, AllocError>
+    requires { lent fields.now ≡ declared_fields message_type.now }
+    ensures { IfOk result (λ made. made ≡ listed ONEOF
+        (map oneof_items (oneof_names (declared_in writer.now) message_type.now))) }
 {
-    let names = names_within(alloc, source, message_type)?;
-    let synthetic = synthetic_oneofs(alloc, &names, fields)?;
-    let mut made = Vec::new(alloc);
-    push_oneofs(alloc, table, &mut made, &message_type.oneofs)?;
-    push_oneofs(alloc, table, &mut made, &synthetic)?;
+    let names = names_within(writer.alloc, writer.source, message_type)?;
+    let synthetic = synthetic_oneofs(writer.alloc, &names, fields)?;
+    let mut made = Children::new(writer.alloc, ONEOF);
+    push_oneofs(writer, &mut made, &message_type.oneofs)?;
+    push_oneofs(writer, &mut made, &synthetic)?;
     Ok(made)
 }
 
@@ -165,25 +125,20 @@ fn fields_of<'a>(
 
 // The messages of these fields of a message type, where the first synthetic oneof has that place.
 fn fields(
-    alloc: Global,
-    table: &Schema,
-    source: &Schema,
+    writer: &Writer<'_>,
     scope: &str,
     first: u32,
     fields: &[&Field],
-) -> Result<Vec<Value>, AllocError>
-    requires table { shape_of table.now ≡ written_shape }
+) -> Result<Children, AllocError>
     requires small { AllByRecursion HasSmallNumbers (lent fields.now) }
     requires places { first + length fields.now < 2 ^ 31 }
-    ensures items { IfOk result (λ made. items_within made.items
-        ≡ fields_items (declared_in source.now) scope.now first (lent fields.now)) }
-    ensures kept { IfOk result (λ made. AreChildren FIELD made.items) }
+    ensures { IfOk result (λ made. made ≡ listed FIELD
+        (fields_items (declared_in writer.now) scope.now first (lent fields.now))) }
 {
-    let mut made = Vec::with_capacity(alloc, fields.len())?;
+    let mut made = Children::with_capacity(writer.alloc, FIELD, fields.len())?;
     let mut next = first;
     for field in fields {
-        let message = field_message(alloc, table, source, scope, next, field)?;
-        made.push(Value::Msg(Box::new(alloc, message)?))?;
+        made.push(field_message(writer, scope, next, field)?)?;
         if field.states_optional {
             next += 1;
         }
@@ -193,79 +148,53 @@ fn fields(
 
 // Puts what stands behind the enums: options, oneofs and what is reserved.
 fn put_rest(
-    alloc: Global,
-    to: &mut Message,
-    table: &Schema,
-    source: &Schema,
+    writer: &Writer<'_>,
+    to: &mut Draft<'_>,
     message_type: &MessageType,
     fields: &[&Field],
 ) -> Result<(), AllocError>
-    requires table { shape_of table.now ≡ written_shape }
-    requires kept { IsOf MESSAGE to.old }
-    requires behind { last_number to.old < 7 }
+    requires of_type { to.old.type ≡ MESSAGE }
+    requires behind { to.old.last < 7 }
     requires small { IsSmallType message_type.now }
     requires fields { lent fields.now ≡ declared_fields message_type.now }
-    ensures items { OnOk result (items_of to.new
-        ≡ items_of to.old ++ type_rest (declared_in source.now) message_type.now) }
-    ensures kept { OnOk result (IsOf MESSAGE to.new) }
+    ensures { OnOk result (to.new
+        ≡ put 10 (type_rest (declared_in writer.now) message_type.now) to.old) }
 {
-    let stated = message_type.options.deprecated;
-    let options = one_flag(alloc, table, MESSAGE_OPTIONS, MESSAGE_DEPRECATED, stated)?;
-    put_options(
-        alloc,
-        to,
-        table,
-        MESSAGE,
-        proto::MESSAGE_OPTIONS,
-        MESSAGE_OPTIONS,
-        options,
-    )?;
-    let oneofs = oneofs(alloc, table, source, message_type, fields)?;
-    put_children(to, table, MESSAGE, MESSAGE_ONEOF_DECL, ONEOF, oneofs)?;
-    let ranges = ranges(alloc, table, &message_type.reserved_numbers)?;
-    let reserved = &message_type.reserved_names;
-    put_children(
-        to,
-        table,
-        MESSAGE,
-        MESSAGE_RESERVED_RANGE,
-        FIELD_RANGE,
-        ranges,
-    )?;
-    put_texts(alloc, to, table, MESSAGE, MESSAGE_RESERVED_NAME, reserved)?;
-    Ok(())
+    let mut options = writer.draft(MESSAGE_OPTIONS);
+    options.put_stated(MESSAGE_DEPRECATED, message_type.options.deprecated)?;
+    to.put_options(proto::MESSAGE_OPTIONS, options)?;
+    to.put_children(MESSAGE_ONEOF_DECL, oneofs(writer, message_type, fields)?)?;
+    let ranges = ranges(writer, &message_type.reserved_numbers)?;
+    to.put_children(MESSAGE_RESERVED_RANGE, ranges)?;
+    to.put_texts(MESSAGE_RESERVED_NAME, &message_type.reserved_names)
 }
 
 /// The message of the message type at that place, with the messages of the message types inside it.
-pub(crate) fn type_message(
-    alloc: Global,
-    table: &Schema,
-    source: &Schema,
+pub(crate) fn type_message<'a>(
+    writer: &Writer<'a>,
     id: TypeId,
     message_type: &MessageType,
-    nested: Vec<Value>,
-) -> Result<Message, AllocError>
-    requires table { shape_of table.now ≡ written_shape }
-    requires there { type_at source.now id ≡ Some message_type.now }
+    nested: Children,
+) -> Result<Draft<'a>, AllocError>
+    requires there { type_at writer.now id ≡ Some message_type.now }
     requires small { IsSmallType message_type.now }
-    requires nested { AreChildren MESSAGE nested.items }
-    ensures items { IfOk result (λ m. items_of m
-        ≡ type_items (declared_in source.now) (items_within nested.items) message_type.now) }
-    ensures kept { IfOk result (IsOf MESSAGE) }
+    requires nested { nested.type ≡ MESSAGE }
+    ensures { IfOk result (IsDraftOf MESSAGE
+        (type_items (declared_in writer.now) nested.items message_type.now)) }
 {
-    let mut message = empty(alloc, MESSAGE);
-    let to = &mut message;
-    let name = own_name(&message_type.name);
-    put_text(alloc, to, table, MESSAGE, MESSAGE_NAME, name)?;
-    let declared = fields_of(alloc, source, id, message_type)?;
+    let mut draft = writer.draft(MESSAGE);
+    draft.put_text(MESSAGE_NAME, own_name(&message_type.name))?;
+    let declared = fields_of(writer.alloc, writer.source, id, message_type)?;
     let real = message_type.oneofs.len() as u32;
-    let own = fields(alloc, table, source, &message_type.name, real, &declared)?;
-    put_children(to, table, MESSAGE, MESSAGE_FIELD, FIELD, own)?;
+    let own = fields(writer, &message_type.name, real, &declared)?;
+    draft.put_children(MESSAGE_FIELD, own)?;
     let mut types = nested;
-    push_entries(alloc, table, source, &mut types, &declared)?;
-    put_children(to, table, MESSAGE, MESSAGE_NESTED_TYPE, MESSAGE, types)?;
-    let enums = enums(alloc, table, source, &message_type.nested_enums)?;
-    put_children(to, table, MESSAGE, MESSAGE_ENUM_TYPE, ENUM, enums)?;
-    put_rest(alloc, to, table, source, message_type, &declared)?;
-    Ok(message)
+    push_entries(writer, &mut types, &declared)?;
+    draft.put_children(MESSAGE_NESTED_TYPE, types)?;
+    draft.put_children(
+        MESSAGE_ENUM_TYPE,
+        enums(writer, &message_type.nested_enums)?,
+    )?;
+    put_rest(writer, &mut draft, message_type, &declared)?;
+    Ok(draft)
 }

@@ -3,8 +3,7 @@
 
 ghost use Rattle.std.specs.Prelude.{◌≡◌, IfOk, map, slice_get};
 ghost use Rattle.std.specs.Option.{option_copied};
-ghost use Rattle.pg_schema.specs.Parts.{shape_of};
-ghost use Rattle.pg_fds.specs.Building.{AreChildren, IsOf, items_of, items_within, written_shape};
+ghost use Rattle.pg_fds.specs.Drafts.{IsDraftOf, listed};
 ghost use Rattle.pg_fds.specs.Places.{declared_in};
 ghost use Rattle.pg_fds.specs.Set.{method_items, service_items, services_items};
 
@@ -15,119 +14,54 @@ use crate::descriptor::proto::{
     METHOD_SERVER_STREAMING, SERVICE_DEPRECATED, SERVICE_METHOD, SERVICE_NAME,
 };
 use crate::names::own_name;
-use crate::writing::building::{
-    empty, put_children, put_mark, put_maybe_text, put_options, put_text,
-};
+use crate::writing::draft::{Children, Draft, Writer};
 use crate::writing::fields::element_name;
-use crate::writing::options::one_flag;
-use pg_dyn::{Message, Value};
 use pg_schema::{Element, Method, Schema, Service, ServiceId};
-use std::alloc::{AllocError, Global};
+use std::alloc::AllocError;
 
 // The message of a method.
 #[tactic(auto, using(crate::proofs::Calls::called))]
-fn method_message(
-    alloc: Global,
-    table: &Schema,
-    source: &Schema,
-    method: &Method,
-) -> Result<Message, AllocError>
-    requires { shape_of table.now ≡ written_shape }
-    ensures items { IfOk result (λ m. items_of m
-        ≡ method_items (declared_in source.now) method.now) }
-    ensures kept { IfOk result (IsOf METHOD) }
+fn method_message<'a>(writer: &Writer<'a>, method: &Method) -> Result<Draft<'a>, AllocError>
+    ensures { IfOk result (IsDraftOf METHOD (method_items (declared_in writer.now) method.now)) }
 {
-    let mut message = empty(alloc, METHOD);
-    let to = &mut message;
-    put_text(alloc, to, table, METHOD, METHOD_NAME, &method.name)?;
-    let input = element_name(alloc, source, Element::Message(method.input))?;
-    put_maybe_text(to, table, METHOD, METHOD_INPUT_TYPE, input)?;
-    let output = element_name(alloc, source, Element::Message(method.output))?;
-    put_maybe_text(to, table, METHOD, METHOD_OUTPUT_TYPE, output)?;
-    let stated = method.options.deprecated;
-    let options = one_flag(alloc, table, METHOD_OPTIONS, METHOD_DEPRECATED, stated)?;
-    put_options(
-        alloc,
-        to,
-        table,
-        METHOD,
-        proto::METHOD_OPTIONS,
-        METHOD_OPTIONS,
-        options,
-    )?;
-    put_mark(
-        to,
-        table,
-        METHOD,
-        METHOD_CLIENT_STREAMING,
-        method.client_streaming,
-    )?;
-    put_mark(
-        to,
-        table,
-        METHOD,
-        METHOD_SERVER_STREAMING,
-        method.server_streaming,
-    )?;
-    Ok(message)
+    let mut draft = writer.draft(METHOD);
+    draft.put_text(METHOD_NAME, &method.name)?;
+    let input = element_name(writer, Element::Message(method.input))?;
+    draft.put_maybe_text(METHOD_INPUT_TYPE, input)?;
+    let output = element_name(writer, Element::Message(method.output))?;
+    draft.put_maybe_text(METHOD_OUTPUT_TYPE, output)?;
+    let mut options = writer.draft(METHOD_OPTIONS);
+    options.put_stated(METHOD_DEPRECATED, method.options.deprecated)?;
+    draft.put_options(proto::METHOD_OPTIONS, options)?;
+    draft.put_mark(METHOD_CLIENT_STREAMING, method.client_streaming)?;
+    draft.put_mark(METHOD_SERVER_STREAMING, method.server_streaming)?;
+    Ok(draft)
 }
 
 // The messages of methods, in order.
-fn methods(
-    alloc: Global,
-    table: &Schema,
-    source: &Schema,
-    methods: &[Method],
-) -> Result<Vec<Value>, AllocError>
-    requires { shape_of table.now ≡ written_shape }
-    ensures items { IfOk result (λ made. items_within made.items
-        ≡ map (method_items (declared_in source.now)) methods.now) }
-    ensures kept { IfOk result (λ made. AreChildren METHOD made.items) }
+fn methods(writer: &Writer<'_>, methods: &[Method]) -> Result<Children, AllocError>
+    ensures { IfOk result (λ made. made
+        ≡ listed METHOD (map (method_items (declared_in writer.now)) methods.now)) }
 {
-    let mut made = Vec::with_capacity(alloc, methods.len())?;
+    let mut made = Children::with_capacity(writer.alloc, METHOD, methods.len())?;
     for method in methods {
-        let message = method_message(alloc, table, source, method)?;
-        made.push(Value::Msg(Box::new(alloc, message)?))?;
+        made.push(method_message(writer, method)?)?;
     }
     Ok(made)
 }
 
 // The message of a service.
-fn service_message(
-    alloc: Global,
-    table: &Schema,
-    source: &Schema,
-    service: &Service,
-) -> Result<Message, AllocError>
-    requires { shape_of table.now ≡ written_shape }
-    ensures items { IfOk result (λ m. items_of m
-        ≡ service_items (declared_in source.now) service.now) }
-    ensures kept { IfOk result (IsOf SERVICE) }
+fn service_message<'a>(writer: &Writer<'a>, service: &Service) -> Result<Draft<'a>, AllocError>
+    ensures { IfOk result (IsDraftOf SERVICE
+        (service_items (declared_in writer.now) service.now)) }
 {
-    let mut message = empty(alloc, SERVICE);
-    let to = &mut message;
-    put_text(
-        alloc,
-        to,
-        table,
-        SERVICE,
-        SERVICE_NAME,
-        own_name(&service.name),
-    )?;
-    let methods = methods(alloc, table, source, &service.methods)?;
-    put_children(to, table, SERVICE, SERVICE_METHOD, METHOD, methods)?;
-    let stated = service.options.deprecated;
-    let options = one_flag(alloc, table, SERVICE_OPTIONS, SERVICE_DEPRECATED, stated)?;
-    put_options(
-        alloc,
-        to,
-        table,
-        SERVICE,
-        proto::SERVICE_OPTIONS,
-        SERVICE_OPTIONS,
-        options,
-    )?;
-    Ok(message)
+    let mut draft = writer.draft(SERVICE);
+    draft.put_text(SERVICE_NAME, own_name(&service.name))?;
+    draft.put_children(SERVICE_METHOD, methods(writer, &service.methods)?)?;
+    let mut options = writer.draft(SERVICE_OPTIONS);
+    options.put_stated(SERVICE_DEPRECATED, service.options.deprecated)?;
+    draft.put_options(proto::SERVICE_OPTIONS, options)?;
+    Ok(draft)
 }
 
 // The service at that place.
@@ -138,22 +72,14 @@ fn service_at(source: &Schema, id: ServiceId) -> Option<&Service>
 }
 
 /// The messages of the schema's services at these places, in order.
-pub(crate) fn services(
-    alloc: Global,
-    table: &Schema,
-    source: &Schema,
-    ids: &[ServiceId],
-) -> Result<Vec<Value>, AllocError>
-    requires { shape_of table.now ≡ written_shape }
-    ensures items { IfOk result (λ made. items_within made.items
-        ≡ services_items (declared_in source.now) ids.now) }
-    ensures kept { IfOk result (λ made. AreChildren SERVICE made.items) }
+pub(crate) fn services(writer: &Writer<'_>, ids: &[ServiceId]) -> Result<Children, AllocError>
+    ensures { IfOk result (λ made. made
+        ≡ listed SERVICE (services_items (declared_in writer.now) ids.now)) }
 {
-    let mut made = Vec::with_capacity(alloc, ids.len())?;
+    let mut made = Children::with_capacity(writer.alloc, SERVICE, ids.len())?;
     for id in ids {
-        if let Some(service) = service_at(source, *id) {
-            let message = service_message(alloc, table, source, service)?;
-            made.push(Value::Msg(Box::new(alloc, message)?))?;
+        if let Some(service) = service_at(writer.source, *id) {
+            made.push(service_message(writer, service)?)?;
         }
     }
     Ok(made)

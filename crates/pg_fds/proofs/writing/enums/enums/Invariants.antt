@@ -1,12 +1,9 @@
 use Rattle.std.proofs.Common.{◌≡◌, take}
 use Rattle.pg_fds.specs.declared.descriptor.places.TheConstants.{ENUM}
-use Rattle.pg_fds.specs.Building.{AreChildren, items_within}
+use Rattle.pg_fds.specs.Drafts.{listed}
 use Rattle.pg_fds.specs.Messages.{enums_items}
 use Rattle.pg_fds.specs.Places.{declared_in}
 use Rattle.pg_fds.proofs.writing.enums.enums.Given as goal
 
 abbrev pub invariant-loop-id : goal.invariant-loop-id
-invariant-loop-id l = record {
-  items : items_within l.made.items ≡ enums_items (declared_in l.source) (take l.id-index l.ids);
-  kept : AreChildren ENUM l.made.items;
-}
+invariant-loop-id l = l.made ≡ listed ENUM (enums_items (declared_in l.writer) (take l.id-index l.ids))

@@ -1,11 +1,8 @@
 use Rattle.std.proofs.Common.{◌≡◌, map, take}
 use Rattle.pg_fds.specs.declared.descriptor.places.TheConstants.{VALUE_RANGE}
-use Rattle.pg_fds.specs.Building.{AreChildren, items_within}
+use Rattle.pg_fds.specs.Drafts.{listed}
 use Rattle.pg_fds.specs.Messages.{value_range}
 use Rattle.pg_fds.proofs.writing.enums.ranges.Given as goal
 
 abbrev pub invariant-loop-range : goal.invariant-loop-range
-invariant-loop-range l = record {
-  items : items_within l.made.items ≡ map value_range (take l.range-index l.ranges);
-  kept : AreChildren VALUE_RANGE l.made.items;
-}
+invariant-loop-range l = l.made ≡ listed VALUE_RANGE (map value_range (take l.range-index l.ranges))

@@ -1,11 +1,8 @@
 use Rattle.std.proofs.Common.{◌≡◌, map, take}
 use Rattle.pg_fds.specs.declared.descriptor.places.TheConstants.{VALUE}
-use Rattle.pg_fds.specs.Building.{AreChildren, items_within}
+use Rattle.pg_fds.specs.Drafts.{listed}
 use Rattle.pg_fds.specs.Messages.{value_items}
 use Rattle.pg_fds.proofs.writing.enums.values.Given as goal
 
 abbrev pub invariant-loop-value : goal.invariant-loop-value
-invariant-loop-value l = record {
-  items : items_within l.made.items ≡ map value_items (take l.value-index l.values);
-  kept : AreChildren VALUE l.made.items;
-}
+invariant-loop-value l = l.made ≡ listed VALUE (map value_items (take l.value-index l.values))

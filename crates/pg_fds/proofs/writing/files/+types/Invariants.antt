@@ -1,6 +1,6 @@
 use Rattle.std.proofs.Common.{◌≡◌, take}
 use Rattle.pg_fds.specs.declared.descriptor.places.TheConstants.{MESSAGE}
-use Rattle.pg_fds.specs.Building.{AreChildren, items_within}
+use Rattle.pg_fds.specs.Drafts.{listed}
 use Rattle.pg_fds.specs.Messages.{types_items}
 use Rattle.pg_fds.specs.Places.{declared_in}
 use Rattle.pg_fds.proofs.writing.files.+types.Given as goal
@@ -9,7 +9,4 @@ abbrev pub decreases-types : goal.decreases-types
 decreases-types l = l.depth
 
 abbrev pub invariant-loop-id : goal.invariant-loop-id
-invariant-loop-id l = record {
-  items : items_within l.made.items ≡ types_items l.depth (declared_in l.source) (take l.id-index l.ids);
-  kept : AreChildren MESSAGE l.made.items;
-}
+invariant-loop-id l = l.made ≡ listed MESSAGE (types_items l.depth (declared_in l.writer) (take l.id-index l.ids))

@@ -1,12 +1,9 @@
 use Rattle.std.proofs.Common.{◌≡◌, map, take}
 use Rattle.pg_fds.specs.declared.descriptor.places.TheConstants.{FILE}
-use Rattle.pg_fds.specs.Building.{AreChildren, items_within}
+use Rattle.pg_fds.specs.Drafts.{listed}
 use Rattle.pg_fds.specs.Places.{declared_in}
 use Rattle.pg_fds.specs.Set.{file_items}
 use Rattle.pg_fds.proofs.writing.files.files.Given as goal
 
 abbrev pub invariant-loop-file : goal.invariant-loop-file
-invariant-loop-file l = record {
-  items : items_within l.made.items ≡ map (file_items (declared_in l.source)) (take l.file-index l.files);
-  kept : AreChildren FILE l.made.items;
-}
+invariant-loop-file l = l.made ≡ listed FILE (map (file_items (declared_in l.writer)) (take l.file-index l.files))

@@ -1,10 +1,15 @@
-use Rattle.pg_fds.specs.Building.{items_of, last_number}
+use Rattle.std.proofs.Common.{ap, arith, ◌∙◌}
+use Rattle.pg_fds.specs.Drafts.{Drafted}
 use Rattle.pg_fds.proofs.FileLaws.{option_step, rising_next}
 use Rattle.pg_fds.proofs.writing.files.options.Goals as goal
 
 pub loop-option-preserved : goal.loop-option-preserved
-loop-option-preserved c = record {
-  items = option_step (items_of c.loop-option.message) c.args.stated.now c.loop-option.option-index c.option-item.result (items_of c.put_option.new.message) c.loop-option-test.true c.option-item.is c.loop-option.invariant.items c.in_ok-put_option.ensures.items;
-  kept = c.in_ok-put_option.ensures.kept;
-  rising = rising_next (last_number c.loop-option.message) (last_number c.put_option.new.message) c.args.stated.now c.loop-option.option-index c.option-item.result c.loop-option-test.true c.option-item.is c.in_ok-put_option.ensures.last c.loop-option.invariant.rising;
-}
+loop-option-preserved c =
+    let before = c.loop-option.draft in
+    let now = c.put_option.new.to in
+    let put = c.in_ok-put_option.ensures in
+    record {
+      of_type = ap (λ (d : Drafted). d.type) put ∙ c.loop-option.invariant.of_type;
+      items = option_step before.items c.args.stated.now c.loop-option.option-index c.option-item.result now.items c.loop-option-test.true c.option-item.is c.loop-option.invariant.items (ap (λ (d : Drafted). d.items) put);
+      rising = rising_next before.last now.last c.args.stated.now c.loop-option.option-index c.option-item.result c.loop-option-test.true c.option-item.is (omega (arith, ap (λ (d : Drafted). d.last) put)) c.loop-option.invariant.rising;
+    }

@@ -1,5 +1,4 @@
 use Rattle.std.proofs.Common.{◌≡◌, ◌++◌, ◌+◌, ◌≤◌, drop}
-use Rattle.pg_fds.specs.Building.{AreChildren, items_within}
 use Rattle.pg_fds.specs.declared.descriptor.places.TheConstants.{FIELD}
 use Rattle.pg_fds.specs.Fields.{fields_items}
 use Rattle.pg_fds.specs.Lent.{lent}
@@ -8,7 +7,7 @@ use Rattle.pg_fds.proofs.writing.messages.fields.Given as goal
 
 abbrev pub invariant-loop-field : goal.invariant-loop-field
 invariant-loop-field l = record {
-  items : items_within l.made.items ++ fields_items (declared_in l.source) l.scope l.next (lent (drop l.field-index l.fields)) ≡ fields_items (declared_in l.source) l.scope l.first (lent l.fields);
-  kept : AreChildren FIELD l.made.items;
+  items : l.made.items ++ fields_items (declared_in l.writer) l.scope l.next (lent (drop l.field-index l.fields)) ≡ fields_items (declared_in l.writer) l.scope l.first (lent l.fields);
+  of_type : l.made.type ≡ FIELD;
   next : l.next ≤ l.first + l.field-index;
 }

@@ -1,12 +1,9 @@
 use Rattle.std.proofs.Common.{◌≡◌, map, take}
 use Rattle.pg_fds.specs.declared.descriptor.places.TheConstants.{METHOD}
-use Rattle.pg_fds.specs.Building.{AreChildren, items_within}
+use Rattle.pg_fds.specs.Drafts.{listed}
 use Rattle.pg_fds.specs.Places.{declared_in}
 use Rattle.pg_fds.specs.Set.{method_items}
 use Rattle.pg_fds.proofs.writing.services.methods.Given as goal
 
 abbrev pub invariant-loop-method : goal.invariant-loop-method
-invariant-loop-method l = record {
-  items : items_within l.made.items ≡ map (method_items (declared_in l.source)) (take l.method-index l.methods);
-  kept : AreChildren METHOD l.made.items;
-}
+invariant-loop-method l = l.made ≡ listed METHOD (map (method_items (declared_in l.writer)) (take l.method-index l.methods))

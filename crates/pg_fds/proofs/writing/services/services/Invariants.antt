@@ -1,12 +1,9 @@
 use Rattle.std.proofs.Common.{◌≡◌, take}
 use Rattle.pg_fds.specs.declared.descriptor.places.TheConstants.{SERVICE}
-use Rattle.pg_fds.specs.Building.{AreChildren, items_within}
+use Rattle.pg_fds.specs.Drafts.{listed}
 use Rattle.pg_fds.specs.Places.{declared_in}
 use Rattle.pg_fds.specs.Set.{services_items}
 use Rattle.pg_fds.proofs.writing.services.services.Given as goal
 
 abbrev pub invariant-loop-id : goal.invariant-loop-id
-invariant-loop-id l = record {
-  items : items_within l.made.items ≡ services_items (declared_in l.source) (take l.id-index l.ids);
-  kept : AreChildren SERVICE l.made.items;
-}
+invariant-loop-id l = l.made ≡ listed SERVICE (services_items (declared_in l.writer) (take l.id-index l.ids))

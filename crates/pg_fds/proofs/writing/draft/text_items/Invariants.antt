@@ -5,7 +5,7 @@ use Rattle.pg_dyn.specs.ContentFits.{ItemFits}
 use Rattle.pg_dyn.specs.Message as model
 use Rattle.pg_fds.specs.Building.{shown, written_shape}
 use Rattle.pg_fds.specs.Descriptor as descriptor
-use Rattle.pg_fds.proofs.writing.building.text_items.Given as goal
+use Rattle.pg_fds.proofs.writing.draft.text_items.Given as goal
 
 abbrev pub invariant-loop-text : goal.invariant-loop-text
 invariant-loop-text l = record {
