@@ -1,10 +1,40 @@
 //! JSON names.
 
-ghost use Rattle.std.specs.Prelude.{◌≡◌, IfOk};
+ghost use Rattle.std.specs.Prelude.{◌≡◌, IfOk, if◌then◌else◌};
+ghost use Rattle.std.specs.Char.{to_ascii_uppercase};
 ghost use Rattle.std.specs.String.{string_bytes};
 ghost use Rattle.pg_schema.specs.JsonName.{default_json_name, in_camel_case};
 
 use std::alloc::{AllocError, Global};
+
+/// The byte, in upper case where it stands behind a `_`.
+fn cased(is_behind: bool, byte: u8) -> u8
+    ensures { result ≡ (if is_behind then to_ascii_uppercase byte else byte) }
+{
+    if is_behind {
+        byte.to_ascii_uppercase()
+    } else {
+        byte
+    }
+}
+
+/// The bytes of a name without its `_`, and the letter behind each of them in upper case; the first
+/// letter too, where one is said to stand in front.
+fn cased_bytes(alloc: Global, is_behind: bool, name: &[u8]) -> Result<Vec<u8>, AllocError>
+    ensures { IfOk result (λ bytes. bytes.items ≡ in_camel_case is_behind name.now) }
+{
+    let mut bytes = Vec::with_capacity(alloc, name.len())?;
+    let mut behind = is_behind;
+    for byte in name {
+        if *byte == b'_' {
+            behind = true;
+            continue;
+        }
+        bytes.push(cased(behind, *byte))?;
+        behind = false;
+    }
+    Ok(bytes)
+}
 
 /// The name without its `_`, and the letter behind each of them in upper case; the first letter
 /// too, where one is said to stand in front.
@@ -15,19 +45,11 @@ pub(crate) fn in_camel_case(
 ) -> Result<String, AllocError>
     ensures { IfOk result (λ text. string_bytes text ≡ in_camel_case is_behind name.now) }
 {
-    let mut text = String::with_capacity(alloc, name.len())?;
-    let mut behind = is_behind;
-    for character in name.chars() {
-        if character == '_' {
-            behind = true;
-        } else if behind {
-            text.push(character.to_ascii_uppercase())?;
-            behind = false;
-        } else {
-            text.push(character)?;
-        }
+    let bytes = cased_bytes(alloc, is_behind, name.as_bytes())?;
+    match String::from_utf8(bytes) {
+        Ok(text) => Ok(text),
+        Err(_) => unreachable!(),
     }
-    Ok(text)
 }
 
 /// The JSON name of a field of that name where none is stated: without its `_`, and the letter

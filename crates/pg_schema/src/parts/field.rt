@@ -1,6 +1,6 @@
 //! Fields of a message type, with the words that say what they hold.
 
-ghost use Rattle.std.specs.Prelude.{◌≡◌};
+ghost use Rattle.std.specs.Prelude.{◌≡◌, ◌∷◌, ℕ, List};
 ghost use Rattle.pg_schema.specs.ScalarWords.{scalar_of};
 ghost use Rattle.pg_schema.specs.Shape.{is_map, is_packable, is_singular};
 
@@ -55,28 +55,56 @@ pub enum Scalar {
     Bytes,
 }
 
+/// The scalar type of a word that begins with `s`.
+fn named_by_s(word: &str) -> Option<Scalar>
+    ensures { (rest : List ℕ) → word.now ≡ 115 ∷ rest → result ≡ scalar_of word.now }
+{
+    match word {
+        "string" => Some(Scalar::String),
+        "sint32" => Some(Scalar::Sint32),
+        "sint64" => Some(Scalar::Sint64),
+        "sfixed32" => Some(Scalar::Sfixed32),
+        "sfixed64" => Some(Scalar::Sfixed64),
+        _ => None,
+    }
+}
+
 impl Scalar {
     /// The scalar type of that word. `None` where it is the word of none (proto3 language guide,
     /// "Scalar Value Types").
     pub fn named(word: &str) -> Option<Self>
         ensures { result ≡ scalar_of word.now }
     {
-        match word {
-            "double" => Some(Scalar::Double),
-            "float" => Some(Scalar::Float),
-            "int32" => Some(Scalar::Int32),
-            "int64" => Some(Scalar::Int64),
-            "uint32" => Some(Scalar::Uint32),
-            "uint64" => Some(Scalar::Uint64),
-            "sint32" => Some(Scalar::Sint32),
-            "sint64" => Some(Scalar::Sint64),
-            "fixed32" => Some(Scalar::Fixed32),
-            "fixed64" => Some(Scalar::Fixed64),
-            "sfixed32" => Some(Scalar::Sfixed32),
-            "sfixed64" => Some(Scalar::Sfixed64),
-            "bool" => Some(Scalar::Bool),
-            "string" => Some(Scalar::String),
-            "bytes" => Some(Scalar::Bytes),
+        let Some(first) = word.as_bytes().first() else {
+            return None;
+        };
+        match *first {
+            b'b' => match word {
+                "bool" => Some(Scalar::Bool),
+                "bytes" => Some(Scalar::Bytes),
+                _ => None,
+            },
+            b'd' => match word {
+                "double" => Some(Scalar::Double),
+                _ => None,
+            },
+            b'f' => match word {
+                "float" => Some(Scalar::Float),
+                "fixed32" => Some(Scalar::Fixed32),
+                "fixed64" => Some(Scalar::Fixed64),
+                _ => None,
+            },
+            b'i' => match word {
+                "int32" => Some(Scalar::Int32),
+                "int64" => Some(Scalar::Int64),
+                _ => None,
+            },
+            b's' => named_by_s(word),
+            b'u' => match word {
+                "uint32" => Some(Scalar::Uint32),
+                "uint64" => Some(Scalar::Uint64),
+                _ => None,
+            },
             _ => None,
         }
     }

@@ -24,7 +24,9 @@ use std::alloc::{AllocError, Global};
 pub fn full_name(alloc: Global, scope: &str, name: &str) -> Result<String, AllocError>
     ensures { IfOk result (λ full. string_bytes full ≡ within scope.now name.now) }
 {
-    let mut full = String::from_str(alloc, scope)?;
+    let room = scope.len().saturating_add(name.len()).saturating_add(1);
+    let mut full = String::with_capacity(alloc, room)?;
+    full.push_str(scope)?;
     if !scope.is_empty() {
         full.push('.')?;
     }

@@ -1,9 +1,9 @@
 //! What holds of each enum, taken by itself.
 
-ghost use Rattle.std.specs.Prelude.{◌≡◌, IfOk, map};
+ghost use Rattle.std.specs.Prelude.{◌≡◌, IfOk};
 ghost use Rattle.std.specs.List.{list_all};
-ghost use Rattle.std.specs.String.{string_bytes};
 ghost use Rattle.pg_schema.specs.rules.Enums.{begins_with_zero, is_enum, is_value, value_names};
+ghost use Rattle.pg_schema.specs.rules.LentTexts.{lent};
 ghost use Rattle.pg_schema.specs.rules.Uses.{is_value_range};
 
 use crate::parts::enum_type::{EnumType, EnumValue, ReservedValues};
@@ -47,12 +47,12 @@ fn are_value_ranges(ranges: &[ReservedValues]) -> bool
 }
 
 /// The names of the values.
-fn value_names(alloc: Global, values: &[EnumValue]) -> Result<Vec<String>, AllocError>
-    ensures { IfOk result (λ names. map string_bytes names.items ≡ value_names values.now) }
+fn value_names(alloc: Global, values: &[EnumValue]) -> Result<Vec<&str>, AllocError>
+    ensures { IfOk result (λ names. lent names.items ≡ value_names values.now) }
 {
-    let mut names = Vec::new(alloc);
+    let mut names = Vec::with_capacity(alloc, values.len())?;
     for value in values {
-        names.push(value.name.clone()?)?;
+        names.push(value.name.as_str())?;
     }
     Ok(names)
 }

@@ -1,6 +1,6 @@
 //! What holds of each message type, taken by itself.
 
-ghost use Rattle.std.specs.Prelude.{◌≡◌, ◌∷◌, IfOk, length, map};
+ghost use Rattle.std.specs.Prelude.{◌≡◌, ◌∷◌, IfOk, length};
 ghost use Rattle.std.specs.BTreeSet.{contains};
 ghost use Rattle.std.specs.Ordering.{nat_cmp};
 ghost use Rattle.pg_schema.specs.declared.parts.field.Field.{Field};
@@ -8,6 +8,7 @@ ghost use Rattle.std.specs.List.{list_all};
 ghost use Rattle.std.specs.String.{string_bytes};
 ghost use Rattle.pg_schema.specs.rules.Messages.{AreMarks, field_names, has_fields, has_oneofs, has_reserved, have_members, is_declared, is_field, is_message_type, IsNumberSet, json_names, numbers};
 ghost use Rattle.pg_schema.specs.rules.Pairs.{are_distinct, is_rising};
+ghost use Rattle.pg_schema.specs.rules.LentTexts.{lent};
 ghost use Rattle.pg_schema.specs.rules.Uses.{is_reserved_range};
 ghost use Rattle.pg_schema.specs.rules.Words.{is_word};
 
@@ -128,23 +129,23 @@ pub(crate) fn have_members(
 }
 
 /// The names of the fields.
-pub(crate) fn field_names(alloc: Global, fields: &[Field]) -> Result<Vec<String>, AllocError>
-    ensures { IfOk result (λ names. map string_bytes names.items ≡ field_names fields.now) }
+fn field_names(alloc: Global, fields: &[Field]) -> Result<Vec<&str>, AllocError>
+    ensures { IfOk result (λ names. lent names.items ≡ field_names fields.now) }
 {
-    let mut names = Vec::new(alloc);
+    let mut names = Vec::with_capacity(alloc, fields.len())?;
     for field in fields {
-        names.push(field.name.clone()?)?;
+        names.push(field.name.as_str())?;
     }
     Ok(names)
 }
 
 /// The JSON names of the fields.
-fn json_names(alloc: Global, fields: &[Field]) -> Result<Vec<String>, AllocError>
-    ensures { IfOk result (λ names. map string_bytes names.items ≡ json_names fields.now) }
+fn json_names(alloc: Global, fields: &[Field]) -> Result<Vec<&str>, AllocError>
+    ensures { IfOk result (λ names. lent names.items ≡ json_names fields.now) }
 {
-    let mut names = Vec::new(alloc);
+    let mut names = Vec::with_capacity(alloc, fields.len())?;
     for field in fields {
-        names.push(field.json_name.clone()?)?;
+        names.push(field.json_name.as_str())?;
     }
     Ok(names)
 }

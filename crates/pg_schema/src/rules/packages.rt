@@ -1,12 +1,11 @@
 //! The scopes that packages name.
 
 ghost use Rattle.std.specs.Prelude.{◌≡◌, ◌<◌, ◌&&◌, ◌∷◌, ◌++◌, [], ℕ, IfOk, List, OnOk, nat_eq, true};
-ghost use Rattle.std.specs.BTreeSet.{contains_text};
 ghost use Rattle.std.specs.String.{string_bytes};
 ghost use Rattle.std.specs.List.{list_all};
 ghost use Rattle.pg_schema.specs.rules.Files.{is_file};
 ghost use Rattle.pg_schema.specs.rules.Packages.{are_free_of, is_free_of};
-ghost use Rattle.pg_schema.specs.rules.TextSets.{IsSetOf};
+ghost use Rattle.pg_schema.specs.rules.LentTexts.{has_lent, IsLentSetOf};
 ghost use Rattle.pg_schema.specs.rules.Words.{is_ascii};
 
 use crate::parts::file::File;
@@ -14,8 +13,8 @@ use std::alloc::{AllocError, Global};
 use std::collections::BTreeSet;
 
 /// The byte is a dot, and what stands before it is in the set.
-fn ends_part(set: &BTreeSet<String>, front: &str, byte: u8) -> bool
-    ensures { result ≡ (nat_eq byte 46 && contains_text set.now front.now) }
+fn ends_part(set: &BTreeSet<&str>, front: &str, byte: u8) -> bool
+    ensures { result ≡ (nat_eq byte 46 && has_lent set.now front.now) }
 {
     byte == b'.' && set.contains(front)
 }
@@ -29,9 +28,9 @@ fn push_byte(text: &mut String, byte: u8) -> Result<(), AllocError>
 }
 
 /// No part of the package is in the set.
-fn is_free(alloc: Global, set: &BTreeSet<String>, path: &[u8]) -> Result<bool, AllocError>
+fn is_free(alloc: Global, set: &BTreeSet<&str>, path: &[u8]) -> Result<bool, AllocError>
     requires { list_all is_ascii path.now ≡ true }
-    ensures { IfOk result (λ b. (names : List (List ℕ)) → IsSetOf names set.now
+    ensures { IfOk result (λ b. (names : List (List ℕ)) → IsLentSetOf names set.now
         → b ≡ is_free_of names path.now) }
 {
     let mut front = String::new(alloc);
@@ -47,11 +46,11 @@ fn is_free(alloc: Global, set: &BTreeSet<String>, path: &[u8]) -> Result<bool, A
 /// No part of a file's package is in the set.
 pub(crate) fn are_free(
     alloc: Global,
-    set: &BTreeSet<String>,
+    set: &BTreeSet<&str>,
     files: &[File],
 ) -> Result<bool, AllocError>
     requires { list_all is_file files.now ≡ true }
-    ensures { IfOk result (λ b. (names : List (List ℕ)) → IsSetOf names set.now
+    ensures { IfOk result (λ b. (names : List (List ℕ)) → IsLentSetOf names set.now
         → b ≡ are_free_of names files.now) }
 {
     for file in files {

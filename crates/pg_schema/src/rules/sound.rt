@@ -12,7 +12,7 @@ use crate::rules::files::{are_files, are_services};
 use crate::rules::messages::are_message_types;
 use crate::rules::packages::are_free;
 use crate::rules::scopes::{are_declared_once, are_file_scopes, are_type_scopes};
-use crate::rules::text_sets::set_of;
+use crate::rules::text_sets::{lent, set_of};
 use std::alloc::{AllocError, Global};
 
 /// The most message types that a schema may have.
@@ -57,7 +57,8 @@ fn are_named_apart(alloc: Global, parts: &Parts) -> Result<bool, AllocError>
     ensures { IfOk result (λ b. b ≡ are_named_apart parts.now) }
 {
     let names = declared_names(alloc, parts)?;
-    match set_of(alloc, &names)? {
+    let texts = lent(alloc, &names)?;
+    match set_of(alloc, &texts)? {
         Some(set) => are_free(alloc, &set, &parts.files),
         None => Ok(false),
     }

@@ -1,18 +1,20 @@
 -- Parts of packages, one byte after the other.
-use Rattle.std.proofs.Common.{◌≡◌, ℕ, zero, suc, ◌+◌, ◌≤◌, ◌<◌, Bool, true, false, not, ◌&&◌, ◌||◌, nat_eq, List, [], ◌∷◌, String, length, take, get_or, inl, inr, arith, sym, ◌∙◌, ap, subst, refl}
+use Rattle.std.proofs.Common.{◌≡◌, ℕ, zero, suc, ◌+◌, ◌≤◌, ◌<◌, Bool, true, false, not, ◌&&◌, ◌||◌, nat_eq, List, [], ◌∷◌, length, take, get_or, inl, inr, arith, sym, ◌∙◌, ap, subst, refl}
 use Rattle.std.proofs.Math.Nat.{eq-or-lt_of_le}
 use Rattle.std.proofs.lemmas.Bool.{false≢true}
 use Rattle.std.proofs.lemmas.Bool.Decides.{nat_tests}
 use Rattle.std.proofs.lemmas.List.{take_all}
 use Rattle.std.proofs.lemmas.Slice.Eq.{bytes_eq-Decides}
-use Rattle.std.specs.BTreeSet.{BTreeSet, contains_text}
+use Rattle.std.specs.Borrow.{Bor}
+use Rattle.std.specs.BTreeSet.{BTreeSet}
 use Rattle.std.specs.List.{list_all}
 use Rattle.std.specs.Str.{bytes_eq}
 use Rattle.std.specs.String.{string_bytes}
 use Rattle.pg_schema.specs.declared.parts.file.File.{File}
 use Rattle.pg_schema.specs.rules.Files.{is_file}
 use Rattle.pg_schema.specs.rules.Packages.{is_free_of, is_front}
-use Rattle.pg_schema.specs.rules.TextSets.{IsSetOf, is_among}
+use Rattle.pg_schema.specs.rules.LentTexts.{has_lent, IsLentSetOf}
+use Rattle.pg_schema.specs.rules.TextSets.{is_among}
 use Rattle.pg_schema.specs.rules.Words.{is_ascii, is_package, may_stand}
 use Rattle.pg_schema.proofs.lemmas.rules.PairLemmas.{and_both, and_false_right, and_left, and_right}
 use Rattle.pg_schema.proofs.lemmas.rules.WordLemmas.{words_from, words_step}
@@ -79,14 +81,14 @@ some_front (n ∷ ns) text name among front =
     ] refl
 
 -- what is a part of the text and held is that long at least
-abbrev pub AreBeyond : {Y : Type 0} → ℕ → BTreeSet (String Y) → List ℕ → Type 0
-AreBeyond i set text = (names : List (List ℕ)) → IsSetOf names set → (name : List ℕ) → is_among names name ≡ true → is_front name text ≡ true → i ≤ length name
+abbrev pub AreBeyond : ℕ → BTreeSet (Bor (List ℕ)) → List ℕ → Type 0
+AreBeyond i set text = (names : List (List ℕ)) → IsLentSetOf names set → (name : List ℕ) → is_among names name ≡ true → is_front name text ≡ true → i ≤ length name
 
-held : {Y : Type 0} (names : List (List ℕ)) (set : BTreeSet (String Y)) (name text : List ℕ) → IsSetOf names set → is_among names name ≡ true → text ≡ name → contains_text set text ≡ false → ⊥
+held : (names : List (List ℕ)) (set : BTreeSet (Bor (List ℕ))) (name text : List ℕ) → IsLentSetOf names set → is_among names name ≡ true → text ≡ name → has_lent set text ≡ false → ⊥
 held names set name text is among same none = false≢true (sym none ∙ (is text ∙ (ap (is_among names) same ∙ among)))
 
-pub beyond_more : {Y : Type 0} (i byte : ℕ) (set : BTreeSet (String Y)) (text front : List ℕ) → i < length text → byte ≡ get_or text i 0 → front ≡ take i text
-    → (byte ≡ 46 → contains_text set front ≡ false) → AreBeyond i set text → AreBeyond (i + 1) set text
+pub beyond_more : (i byte : ℕ) (set : BTreeSet (Bor (List ℕ))) (text front : List ℕ) → i < length text → byte ≡ get_or text i 0 → front ≡ take i text
+    → (byte ≡ 46 → has_lent set front ≡ false) → AreBeyond i set text → AreBeyond (i + 1) set text
 beyond_more i byte set text front lt is written none beyond names set_is name among fronts =
     elim (eq-or-lt_of_le (beyond names set_is name among fronts)) [
       | inl here ↦ absurd (held names set name front set_is among
@@ -95,21 +97,21 @@ beyond_more i byte set text front lt is written none beyond names set_is name am
       | inr after ↦ omega (arith, after)
     ]
 
-pub part_held : {Y : Type 0} (i byte : ℕ) (set : BTreeSet (String Y)) (text front : List ℕ) → i < length text → byte ≡ get_or text i 0 → front ≡ take i text → byte ≡ 46 → contains_text set front ≡ true
-    → (names : List (List ℕ)) → IsSetOf names set → false ≡ is_free_of names text
+pub part_held : (i byte : ℕ) (set : BTreeSet (Bor (List ℕ))) (text front : List ℕ) → i < length text → byte ≡ get_or text i 0 → front ≡ take i text → byte ≡ 46 → has_lent set front ≡ true
+    → (names : List (List ℕ)) → IsLentSetOf names set → false ≡ is_free_of names text
 part_held i byte set text front lt is written dot has names set_is =
     sym (some_front names text (take i text) (ap (is_among names) (sym written) ∙ (sym (set_is front) ∙ has)) (dot_front i text lt (sym is ∙ dot)))
 
-at_end : {Y : Type 0} (i : ℕ) (set : BTreeSet (String Y)) (text : List ℕ) (b : Bool) → length text ≤ i → contains_text set text ≡ b → AreBeyond i set text
-    → (names : List (List ℕ)) → IsSetOf names set → not b ≡ is_free_of names text
+at_end : (i : ℕ) (set : BTreeSet (Bor (List ℕ))) (text : List ℕ) (b : Bool) → length text ≤ i → has_lent set text ≡ b → AreBeyond i set text
+    → (names : List (List ℕ)) → IsLentSetOf names set → not b ≡ is_free_of names text
 at_end i set text true le has beyond names set_is = sym (some_front names text text (sym (set_is text) ∙ has) (whole_front text))
 at_end i set text false le has beyond names set_is = sym (none_front names text (λ name among fronts.
     held names set name text set_is among (sym (take_all (length name) text (let far = beyond names set_is name among fronts in omega (arith, le, far))) ∙ front_take name text fronts) has))
 
-pub front_end : {Y : Type 0} (i : ℕ) (set : BTreeSet (String Y)) (text front : List ℕ) → length text ≤ i → front ≡ take i text → AreBeyond i set text
-    → (names : List (List ℕ)) → IsSetOf names set → not (contains_text set front) ≡ is_free_of names text
+pub front_end : (i : ℕ) (set : BTreeSet (Bor (List ℕ))) (text front : List ℕ) → length text ≤ i → front ≡ take i text → AreBeyond i set text
+    → (names : List (List ℕ)) → IsLentSetOf names set → not (has_lent set front) ≡ is_free_of names text
 front_end i set text front le written beyond names set_is =
-    ap (λ t. not (contains_text set t)) (written ∙ take_all i text le) ∙ at_end i set text (contains_text set text) le refl beyond names set_is
+    ap (λ t. not (has_lent set t)) (written ∙ take_all i text le) ∙ at_end i set text (has_lent set text) le refl beyond names set_is
 
 byte_is_ascii : (begins : Bool) (c : ℕ) → may_stand begins c ≡ true → is_ascii c ≡ true
 byte_is_ascii true c h = grind (arith, nat_tests)
