@@ -11,6 +11,7 @@
 //! is printed; in place of it stand what `set` gave back, and the message as it is then.
 #![tactic(auto)]
 
+mod beside;
 mod contents;
 mod draft;
 mod reading;

@@ -1,9 +1,10 @@
 //! What is made of bytes by a type.
+use crate::beside::is_alike;
 use crate::contents::{spelled_message, word};
 use crate::types::FIRST;
 use pg_dyn::{
-    DynError, Message, decode, decode_ref, decode_ref_unlimited, decode_unlimited, encode,
-    encode_ref, encode_unshared_ref, fits,
+    DynError, Message, MessageRef, decode, decode_ref, decode_ref_unlimited, encode, encode_ref,
+    encode_unshared_ref, fits,
 };
 use pg_schema::Schema;
 use pg_show::{HexError, bytes_of_hex, show};
@@ -17,18 +18,35 @@ fn answer(alloc: Global, holds: bool) -> Result<String, DynError> {
     text(alloc, if holds { "true" } else { "false" })
 }
 
-/// The message that bytes are read as, or why there is none: `WrongKind` where the reader whose
-/// messages borrow answers otherwise.
+/// The message of two readers, or why there is none: `WrongKind` where the one whose messages
+/// borrow answers otherwise, or gives a message that shows other things or is copied as another.
+fn agreed(
+    alloc: Global,
+    schema: &Schema,
+    lent: Result<MessageRef<'_>, DynError>,
+    owned: Result<Message, DynError>,
+) -> Result<Message, DynError> {
+    match (lent, owned) {
+        (Ok(lent), Ok(message)) if is_alike(&lent, &message) => {
+            let copy = lent.to_message(alloc)?;
+            if written(alloc, schema, &copy)? != written(alloc, schema, &message)? {
+                return Err(DynError::WrongKind);
+            }
+            Ok(message)
+        }
+        (Err(first), Err(second)) if first == second => Err(second),
+        _ => Err(DynError::WrongKind),
+    }
+}
+
+/// The message that both readers read bytes as, or why there is none.
 fn read(alloc: Global, schema: &Schema, bytes: &[u8], limit: usize) -> Result<Message, DynError> {
     if !schema.has(FIRST) {
         return Err(DynError::NoSuchField);
     }
-    let lent = decode_ref(alloc, schema, FIRST, bytes, limit).err();
-    match decode(alloc, schema, FIRST, bytes, limit) {
-        Ok(message) if lent.is_none() => Ok(message),
-        Err(error) if lent == Some(error) => Err(error),
-        _ => Err(DynError::WrongKind),
-    }
+    let lent = decode_ref(alloc, schema, FIRST, bytes, limit);
+    let owned = decode(alloc, schema, FIRST, bytes, limit);
+    agreed(alloc, schema, lent, owned)
 }
 
 /// The bytes of a message that fits the schema; of one that doesn't fit `WrongKind`.
@@ -54,13 +72,13 @@ fn rewritten_lent(alloc: Global, schema: &Schema, bytes: &[u8]) -> Result<String
     }
 }
 
-/// What is written again of bytes that are read; of a message that borrows from them it is the
-/// same.
+/// What is written again of bytes that both readers read; of a message that borrows from them it is
+/// the same.
 fn rewritten(alloc: Global, schema: &Schema, bytes: &[u8]) -> Result<String, DynError> {
-    let lent = rewritten_lent(alloc, schema, bytes)?;
     let message = read(alloc, schema, bytes, 100)?;
     let owned = written(alloc, schema, &message)?;
-    if owned.as_str() != lent.as_str() {
+    let lent = rewritten_lent(alloc, schema, bytes)?;
+    if owned != lent {
         return text(alloc, "written otherwise where it borrows");
     }
     Ok(owned)
@@ -116,8 +134,8 @@ pub(crate) fn copied(
     if !schema.has(message.type_id()) {
         return Err(DynError::NoSuchField);
     }
-    let copied = decode_unlimited(alloc, schema, message.type_id(), &bytes)?;
-    written(alloc, schema, &copied)
+    let lent = decode_ref_unlimited(alloc, schema, message.type_id(), &bytes)?;
+    written(alloc, schema, &lent.to_message(alloc)?)
 }
 
 /// What is written of the copy of a message.
@@ -126,30 +144,15 @@ fn copied_again(alloc: Global, schema: &Schema, bytes: &[u8]) -> Result<String, 
     copied(alloc, schema, &message)
 }
 
-/// What is written again of a message that borrows from bytes, read without a limit of depth.
-fn unlimited_lent(alloc: Global, schema: &Schema, bytes: &[u8]) -> Result<String, DynError> {
-    if !schema.has(FIRST) {
-        return Err(DynError::NoSuchField);
-    }
-    match decode_ref_unlimited(alloc, schema, FIRST, bytes) {
-        Ok(message) => Ok(word(alloc, &encode_ref(alloc, schema, &message)?)?),
-        Err(error) => Err(error),
-    }
-}
-
-/// What is written of the copy of a message that is read without a limit of depth; of one that
-/// borrows from the bytes it is the same.
+/// What is written of the copy of a message that is read without a limit of depth.
 fn unlimited(alloc: Global, schema: &Schema, bytes: &[u8]) -> Result<String, DynError> {
-    let lent = unlimited_lent(alloc, schema, bytes)?;
     if !schema.has(FIRST) {
         return Err(DynError::NoSuchField);
     }
-    let message = decode_unlimited(alloc, schema, FIRST, bytes)?;
-    let owned = copied(alloc, schema, &message)?;
-    if owned.as_str() != lent.as_str() {
-        return text(alloc, "written otherwise where it borrows");
-    }
-    Ok(owned)
+    let lent = decode_ref_unlimited(alloc, schema, FIRST, bytes);
+    let owned = decode(alloc, schema, FIRST, bytes, usize::MAX);
+    let message = agreed(alloc, schema, lent, owned)?;
+    copied(alloc, schema, &message)
 }
 
 /// Whether a message is one of the other schema too.

@@ -14,9 +14,7 @@ pub(crate) fn answer(rt: &HostRuntime, types: &Types, input: &str) -> io::Result
     let (call, input) = input.split_once(' ').unwrap_or((&input, ""));
     match call {
         "set" | "whole" => setting::answer(rt, &types.own, call, input),
-        "decode" | "decode_unlimited" | "encode" | "show" | "hex" => {
-            bytes::answer(rt, &types.own, call, input)
-        }
+        "decode" | "encode" | "show" | "hex" => { bytes::answer(rt, &types.own, call, input) }
         _ => lent::answer(rt, types, call, input),
     }
 }

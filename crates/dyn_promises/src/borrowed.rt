@@ -1,6 +1,7 @@
 //! What messages that borrow hold.
 
-ghost use Rattle.std.specs.Prelude.{◌≡◌, ◌↔◌, [], map, IfOk, IfSome, Some, IsTrue, MatchOption};
+ghost use Rattle.std.specs.Prelude.{◌≡◌, ◌↔◌, ◌<◌, [], map, length, slice_get};
+ghost use Rattle.std.specs.Prelude.{IfOk, IfSome, Some, IsTrue, MatchOption};
 ghost use Rattle.std.specs.List.{AllByRecursion};
 ghost use Rattle.pg_schema.specs.Shape.{FieldShape, IsShape, Shape, field_at, fields};
 ghost use Rattle.pg_wire.specs.Reads.{seen_record};
@@ -8,10 +9,11 @@ ghost use Rattle.pg_dyn.specs.Borrowed as borrowed;
 ghost use Rattle.pg_dyn.specs.Fits.{Fits};
 ghost use Rattle.pg_dyn.specs.PartsFit.{HoldsPart};
 ghost use Rattle.pg_dyn.specs.Kept.{IsPlain, ends, of_number, type_of, unknown_of};
+ghost use Rattle.pg_dyn.specs.NumberLists.{IsNumber, numbers_in};
 ghost use Rattle.pg_dyn.specs.Seen.{Rises};
 ghost use Rattle.pg_dyn.specs.Texts.{ItemKeepsTexts, KeepsTexts};
 
-use pg_dyn::{ContentRef, Message, MessageRef};
+use pg_dyn::{ContentRef, Message, MessageRef, NumberList, ValueRef};
 use pg_schema::TypeId;
 use pg_wire::Record;
 use std::alloc::{AllocError, Global};
@@ -72,4 +74,20 @@ pub fn to_message(alloc: Global, message: &MessageRef<'_>) -> Result<Message, Al
     ensures { IfOk result (λ owned. owned ≡ message.now) }
 {
     message.to_message(alloc)
+}
+
+/// What `NumberList::len` answers.
+pub fn count(numbers: &NumberList) -> usize
+    ensures { result ≡ length (numbers_in numbers.now) }
+{
+    numbers.len()
+}
+
+/// What `NumberList::get` answers.
+pub fn number<'a>(numbers: &NumberList, at: usize) -> ValueRef<'a>
+    requires { at < length (numbers_in numbers.now) }
+    ensures item { slice_get (numbers_in numbers.now) at ≡ Some result }
+    ensures number { IsNumber result }
+{
+    numbers.get(at)
 }

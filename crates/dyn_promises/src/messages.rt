@@ -4,11 +4,12 @@ ghost use Rattle.std.specs.Prelude.{◌≡◌, ◌<◌, ◌↔◌, length, [], m
 ghost use Rattle.std.specs.List.{AllByRecursion};
 ghost use Rattle.pg_schema.specs.Parts.{shape_of};
 ghost use Rattle.pg_schema.specs.Shape.{FieldShape, IsShape, Shape, field_at, fields};
-ghost use Rattle.pg_dyn.specs.setting.ContentFaults.{ContentFault, ContentsFault, HasKeyTwice, HasNoFault, MayRefuseFor};
+ghost use Rattle.pg_dyn.specs.declared.error.DynError.TheVariants as errors;
+ghost use Rattle.pg_dyn.specs.setting.ContentFaults.{ContentFault, ContentsFault, HasKeyTwice, HasNoEarlyFault, HasNoFault, MayRefuseFor};
 ghost use Rattle.pg_dyn.specs.ContentFits.{HoldsContent};
 ghost use Rattle.pg_dyn.specs.Fits.{Fits};
 ghost use Rattle.pg_dyn.specs.Kept.{IsPlain, ends, of_number, type_of, unknown_of};
-ghost use Rattle.pg_dyn.specs.Seen.{HasKeys, IsFilled, Rises, content_seen, fields_onto, record_seen};
+ghost use Rattle.pg_dyn.specs.Seen.{HasBody, HasKeys, IsFilled, Rises, content_seen, fields_onto, record_seen};
 ghost use Rattle.pg_dyn.specs.setting.Setting.{IsSetTo, IsWhole};
 ghost use Rattle.pg_dyn.specs.setting.Reported.{TakesContent};
 ghost use Rattle.pg_dyn.specs.Texts.{ItemKeepsTexts, KeepsTexts};
@@ -61,7 +62,8 @@ pub fn contents(message: &Message) -> &[(u32, Content)]
 
 /// What `Message::unknown` answers.
 pub fn unknown(message: &Message) -> &[UnknownRecord]
-    ensures { map record_seen result.now ≡ unknown_of message.now }
+    ensures records { map record_seen result.now ≡ unknown_of message.now }
+    ensures bodies { AllByRecursion HasBody result.now }
 {
     message.unknown()
 }
@@ -96,6 +98,8 @@ pub fn set(
     ensures refused { IfErr result (λ e. (e.1 ≡ content) × (message.new ≡ message.old)
         × MayRefuseFor (ContentFault (shape_of schema.now) (type_of message.old) number content)
         e.0) }
+    ensures lacking { IfErr result (λ e. e.0 ≡ errors.Memory → HasNoEarlyFault
+        (ContentFault (shape_of schema.now) (type_of message.old) number content)) }
 {
     message.set(schema, number, content)
 }
@@ -131,6 +135,8 @@ pub fn whole(
     ensures accepted { OnOk result (HasNoFault
         (ContentsFault (shape_of schema.now) type_id contents.items)) }
     ensures refused { IfErr result (MayRefuseFor
+        (ContentsFault (shape_of schema.now) type_id contents.items)) }
+    ensures lacking { IfErr result (λ e. e ≡ errors.Memory → HasNoEarlyFault
         (ContentsFault (shape_of schema.now) type_id contents.items)) }
 {
     Message::whole(alloc, schema, type_id, contents)

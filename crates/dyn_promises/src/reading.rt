@@ -89,25 +89,3 @@ pub fn decode_ref_unlimited<'a>(
 {
     pg_dyn::decode_ref_unlimited(alloc, schema, type_id, bytes)
 }
-
-/// What `decode_unlimited` answers.
-pub fn decode_unlimited(
-    alloc: Global,
-    schema: &Schema,
-    type_id: TypeId,
-    bytes: &[u8],
-) -> Result<Message, DynError>
-    requires type_id { type_id.index < length (shape_of schema.now) }
-    ensures message { IfOk result (λ m. dec (shape_of schema.now) type_id bytes.now
-        ≡ Some (message_of m)) }
-    ensures fits { IfOk result (λ m. Fits (shape_of schema.now) m × (type_of m ≡ type_id)) }
-    ensures texts { IfOk result (KeepsTexts (shape_of schema.now)) }
-    ensures refused { IfErr result (λ e.
-        MayRefuseUnlimited (shape_of schema.now) type_id bytes.now e) }
-    ensures unread { IfErr result (λ e. (e ≡ errors.Memory → ⊥)
-        → dec (shape_of schema.now) type_id bytes.now ≡ None) }
-    ensures lacking { IfErr result (λ e. e ≡ errors.Memory
-        → is_some (dec (shape_of schema.now) type_id bytes.now) ≡ true) }
-{
-    pg_dyn::decode_unlimited(alloc, schema, type_id, bytes)
-}

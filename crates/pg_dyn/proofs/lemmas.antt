@@ -28,6 +28,7 @@ pub mod KeptTexts
 pub mod KeyLaws
 pub mod Leaves
 pub mod NoSiblings
+pub mod NumberLaws
 pub mod OneofLaws
 pub mod OneofWalks
 pub mod Order

@@ -12,6 +12,7 @@ use Rattle.pg_dyn.specs.declared.message_ref.MessageRef.TheInside.{Inside}
 use Rattle.pg_dyn.specs.Message.{Leaf, Int, F32, F64, Bytes, Part}
 use Rattle.pg_dyn.specs.Kept.{Kept, Manner, ends, KeptItem, Plain, Msg, IsPlainItem}
 use Rattle.pg_dyn.specs.Replacing.{kept_onto}
+use Rattle.pg_dyn.specs.NumberLists.{numbers_in}
 use Rattle.pg_dyn.specs.Seen.{Rises}
 
 -- a key, which is never a message
@@ -46,6 +47,7 @@ abbrev pub content_seen : ℕ → ContentRef → List (Part KeptItem)
 content_seen number (contents.One value) = item_part number false value ∷ []
 content_seen number (contents.Many vs) = map (item_part number true) vs.items
 content_seen number (contents.Map es) = map (entry_part number) es.items
+content_seen number (contents.Numbers ns) = map (item_part number true) (numbers_in ns)
 
 abbrev pub all_seen : List (ℕ × ContentRef) → List (Part KeptItem)
 all_seen fs = flat_map (λ (f : ℕ × ContentRef). content_seen f.0 f.1) fs
@@ -72,6 +74,7 @@ IsMapKey value = ⊤
 abbrev pub HasKeys : ContentRef → Type 0
 HasKeys (contents.One value) = ⊤
 HasKeys (contents.Many vs) = ⊤
+HasKeys (contents.Numbers ns) = ⊤
 HasKeys (contents.Map es) = AllByRecursion (λ (e : EntryRef). IsMapKey e.key) es.items
 
 -- a content holds something: without an item or an entry there is none
@@ -79,6 +82,7 @@ abbrev pub IsFilled : ContentRef → Type 0
 IsFilled (contents.One value) = ⊤
 IsFilled (contents.Many vs) = vs.items ≢ []
 IsFilled (contents.Map es) = es.items ≢ []
+IsFilled (contents.Numbers ns) = numbers_in ns ≢ []
 
 pub record IsWellKept (a : Inside) : Type 0 where
   pub rises : Rises a.fields.items
@@ -91,3 +95,4 @@ abbrev pub ArePlain : ContentRef → Type 0
 ArePlain (contents.One value) = IsPlainItem (item_seen false value)
 ArePlain (contents.Many vs) = AllByRecursion (λ v. IsPlainItem (item_seen false v)) vs.items
 ArePlain (contents.Map es) = AllByRecursion (λ (e : EntryRef). IsPlainItem (item_seen false e.value)) es.items
+ArePlain (contents.Numbers ns) = ⊤

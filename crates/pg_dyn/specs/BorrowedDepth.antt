@@ -14,6 +14,7 @@ use Rattle.pg_dyn.specs.declared.message_ref.MessageRef.TheDeep.{deep-ContentRef
 use Rattle.pg_dyn.specs.declared.message_ref.MessageRef.TheShapes.{weighed-MessageRef-fields-at-2}
 use Rattle.pg_dyn.specs.Message.{Leaf, Part}
 use Rattle.pg_dyn.specs.Kept.{Kept, ends, KeptItem, weight}
+use Rattle.pg_dyn.specs.NumberLists.{numbers_in}
 use Rattle.pg_dyn.specs.Replacing.{kept_onto, kept_part}
 use Rattle.pg_dyn.specs.Borrowed.{all_seen, content_seen, entry_part, item_part, item_seen, kept_seen, IsMapKey, HasKeys, IsWellKept}
 
@@ -61,6 +62,7 @@ content_deep : (number : ℕ) (c : ContentRef) (later : Kept) → HasKeys c → 
 content_deep number (contents.One v) later keys h = let e = value_deep number None false v later h in (omega (arith, e.0), omega (arith, e.1))
 content_deep number (contents.Many vs) later keys h = let e = items_deep number vs.items later h in (omega (arith, e.0), omega (arith, e.1))
 content_deep number (contents.Map es) later keys h = let e = entries_deep number es.items later keys h in (omega (arith, e.0), omega (arith, e.1))
+content_deep number (contents.Numbers ns) later keys h = let e = items_deep number (numbers_in ns) later h in (omega arith, omega (arith, e.1))
 
 fields_deep : (w : ℕ × ContentRef → ℕ) → ((f : ℕ × ContentRef) → w f ≤ deep-ContentRef f.1) → (fs : List (ℕ × ContentRef)) (later : Kept)
     → AllByRecursion (λ (f : ℕ × ContentRef). HasKeys f.1) fs → 1 ≤ weight later → Deeper (most w fs) later (kept_onto (all_seen fs) later)

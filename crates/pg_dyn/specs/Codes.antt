@@ -1,4 +1,5 @@
--- The number behind the E by which users know the error, and the byte of the input that it names, if it names one.
+-- The number behind the E by which users know the error, and the place that it names, if it names one: a byte of the input, or the
+-- length of a text's front.
 use Rattle.std.specs.Prelude.{ℕ, Option, Some, None}
 use Rattle.pg_dyn.specs.declared.error.DynError.{DynError}
 use Rattle.pg_dyn.specs.declared.error.DynError.TheVariants as errors

@@ -2,7 +2,8 @@
 
 pub(crate) mod body;
 pub(crate) mod counting;
-mod lending;
+pub(crate) mod lending;
+mod numbers;
 mod records;
 pub(crate) mod unshared;
 
@@ -22,11 +23,13 @@ ghost use Rattle.pg_dyn.specs.encoding.Written.{Adds, BareFits, CanBePacked, May
 
 use self::counting::{MAX_ENCODING_LEN, body_len, count_message, entry_len, saturated_len};
 use self::lending::Lends;
+use self::numbers::push_numbers;
 use self::records::{not_too_long, push_front, push_item, push_packed, push_unknown};
 use crate::accept::{element_wire_type, is_packed, map_key};
 use crate::error::DynError;
 use crate::message::Message;
 use crate::message_ref::MessageRef;
+use crate::reading::elements::scalar_of;
 use pg_schema::{Element, Field, Scalar, Schema};
 use pg_wire::WireType;
 use std::alloc::Global;
@@ -252,8 +255,13 @@ pub(crate) fn write_content<'a, M: Lends>(
             write_entries::<M>(held, out, schema, number, key, element, lengths)
         }
         None => {
+            let packed = is_packed(field.presence);
+            if let Some(numbers) = M::numbers(content) {
+                let scalar = scalar_of(element);
+                return push_numbers(out, number, scalar, packed, numbers, lengths);
+            }
             let values = M::items(content);
-            if is_packed(field.presence) {
+            if packed {
                 return push_packed::<M>(out, number, element, values, lengths);
             }
             write_items::<M>(values, out, schema, number, element, lengths)

@@ -21,7 +21,7 @@ pub enum DynError {
     OutOfRange,
     /// E604: the bytes of a text aren't UTF-8. In bytes that are read, `at` is the first byte of
     /// the record that holds the text; of contents that are set, the length of the longest front of
-    /// the text that is UTF-8.
+    /// the text that is UTF-8, of several such texts of the first one.
     #[error("The string is not UTF-8.")]
     NotUtf8 { at: usize },
     /// E605: two contents are of one field, or of two members of one oneof.
@@ -83,7 +83,8 @@ impl DynError {
         }
     }
 
-    /// The byte that the error names, if it names one.
+    /// The place that the error names, if it names one: a byte of the input, or of contents that are
+    /// set the length of a text's front.
     pub fn at(self) -> Option<usize>
         ensures { result ≡ place_of self }
     {

@@ -4,6 +4,7 @@ ghost use Rattle.std.specs.Prelude.{◌≡◌, ◌↔◌, [], map, false, Some, 
 ghost use Rattle.pg_dyn.specs.Borrowed as borrowed;
 
 use crate::field_list::place_of;
+use crate::number_list::NumberList;
 use pg_schema::TypeId;
 use pg_wire::Record;
 use std::alloc::Global;
@@ -40,6 +41,8 @@ pub enum ContentRef<'a> {
     Many(Vec<ValueRef<'a>>),
     /// Entries by rising key.
     Map(Vec<EntryRef<'a>>),
+    /// A list of numbers, bools or numbers of enum values.
+    Numbers(NumberList),
 }
 
 /// A message of a type: its fields' contents by rising number, and its unknown records in the order
@@ -190,6 +193,7 @@ impl<'a> ContentRef<'a> {
             ContentRef::One(value) => value.is_plain(),
             ContentRef::Many(values) => ContentRef::are_plain(values),
             ContentRef::Map(entries) => ContentRef::have_plain_values(entries),
+            ContentRef::Numbers(_) => true,
         }
     }
 }

@@ -1,7 +1,7 @@
 //! What bytes are read as: their records are gathered, and then read field by field.
 
 pub(crate) mod decoding;
-mod elements;
+pub(crate) mod elements;
 mod entries;
 mod faults;
 mod gathering;

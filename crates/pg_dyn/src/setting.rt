@@ -11,7 +11,8 @@ mod putting;
 ghost use Rattle.std.specs.Prelude.{◌≡◌, OnOk, IfErr, Some};
 ghost use Rattle.pg_schema.specs.Parts.{field_shape, shape_of};
 ghost use Rattle.pg_schema.specs.Shape.{field_at, fields};
-ghost use Rattle.pg_dyn.specs.setting.ContentFaults.{ContentFault, HasKeyTwice, HasNoFault, MayRefuseFor};
+ghost use Rattle.pg_dyn.specs.declared.error.DynError.TheVariants as errors;
+ghost use Rattle.pg_dyn.specs.setting.ContentFaults.{ContentFault, HasKeyTwice, HasNoEarlyFault, HasNoFault, MayRefuseFor};
 ghost use Rattle.pg_dyn.specs.Fits.{Fits};
 ghost use Rattle.pg_dyn.specs.Kept.{type_of};
 ghost use Rattle.pg_dyn.specs.setting.Setting.{IsSetTo};
@@ -33,7 +34,7 @@ impl Message {
     ///
     /// Refused, the message is unchanged and the content comes back as it was handed in. The errors
     /// are `NoSuchField`, `WrongKind`, `OutOfRange`, `NotUtf8`, `DuplicateKey`, of several the
-    /// first in this order, and `Memory`.
+    /// first in this order, and `Memory`, which comes only where none of the first four does.
     pub fn set(
         &mut self,
         schema: &Schema,
@@ -49,6 +50,8 @@ impl Message {
             (λ e. (e.1 ≡ content) × (self.new ≡ self.old)
             × MayRefuseFor (ContentFault (shape_of schema.now) (type_of self.old) number content)
             e.0) }
+        ensures lacking { IfErr result (λ e. e.0 ≡ errors.Memory → HasNoEarlyFault
+            (ContentFault (shape_of schema.now) (type_of self.old) number content)) }
     {
         // What holds of every schema.
         schema.parts();

@@ -6,7 +6,7 @@ ghost use Rattle.pg_dyn.specs.encoding.Encoding.{cap};
 ghost use Rattle.pg_pairs.specs.Home.{relayed};
 ghost use Rattle.pg_gate.specs.Relaying.{BringsHome, IsRelayError};
 
-use pg_dyn::{DynError, decode_unlimited, encode};
+use pg_dyn::{DynError, decode_ref_unlimited, encode_ref};
 use pg_pairs::Pair;
 use pg_pairs::laws::messages_come_home;
 use pg_schema::Schema;
@@ -21,8 +21,8 @@ use std::alloc::Global;
 /// old type reads what is handed on. Each field then shows what it did, but for a zero of a single
 /// field that the new type has without presence.
 ///
-/// The errors are `Wire` and `NotUtf8`, of bytes that have no reading, as `pg_dyn::decode` tells
-/// them; `TooLong`, where what is read has an encoding of more than 2,147,483,647 bytes; and
+/// The errors are `Wire` and `NotUtf8`, of bytes that have no reading, as `pg_dyn::decode`
+/// reports them; `TooLong`, where what is read has an encoding of more than 2,147,483,647 bytes; and
 /// `Memory`.
 pub fn relay(
     alloc: Global,
@@ -43,6 +43,6 @@ pub fn relay(
     // What holds of every schema.
     old.parts();
     new.parts();
-    let message = decode_unlimited(alloc, new, pair.new, bytes)?;
-    encode(alloc, new, &message)
+    let message = decode_ref_unlimited(alloc, new, pair.new, bytes)?;
+    encode_ref(alloc, new, &message)
 }

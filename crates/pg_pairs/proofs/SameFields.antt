@@ -23,6 +23,7 @@ use Rattle.pg_dyn.specs.Kept.{Kept, KeptItem, Manner, type_of, message_of, of_nu
 use Rattle.pg_dyn.specs.Kept as kept
 use Rattle.pg_dyn.specs.Belonging.{KeyFits, LeafFits}
 use Rattle.pg_dyn.specs.Borrowed.{HasKeys, IsFilled, IsKey, IsMapKey, leaf_of, manner, item_part, entry_part, item_seen, content_seen}
+use Rattle.pg_dyn.specs.NumberLists.{numbers_in}
 use Rattle.pg_dyn.specs.BorrowedItems.{ItemFits, is_zero_value}
 use Rattle.pg_dyn.specs.PartsFit.{HoldsItem, HoldsPart, IsElementItem}
 use Rattle.pg_dyn.specs.setting.Setting.{is_zero_kept}
@@ -101,27 +102,30 @@ module _ (shape : Shape) (type : TypeId) (n : ℕ) (f : FieldShape) (found : fie
   value_fits : (k : Option Leaf) (listed : Bool) (v : ValueRef) → HoldsPart shape type (record { number = n; key = k; item = item_seen listed v }) → ItemFits shape f.element v
   value_fits k listed v h = item_fits shape f listed v (its_item k (item_seen listed v) h)
 
+  items_fit : (xs : List ValueRef) → Fitting (map (item_part n true) xs) → AllByRecursion (HeldFits shape f.element) (map {B = Keyed} (λ value. (None, value)) xs)
+  items_fit [] k = tt
+  items_fit (x ∷ xs) k = ((tt, value_fits None true x k.0), items_fit xs k.1)
+
   keyed_fits : (c : ContentRef) → HasKeys c → Fitting (content_seen n c) → AllByRecursion (HeldFits shape f.element) (keyed c)
   keyed_fits (contents.One v) keys h = ((tt, value_fits None false v h.0), tt)
-  keyed_fits (contents.Many vs) keys h = go vs.items h
-    where
-      go : (xs : List ValueRef) → Fitting (map (item_part n true) xs) → AllByRecursion (HeldFits shape f.element) (map {B = Keyed} (λ value. (None, value)) xs)
-      go [] k = tt
-      go (x ∷ xs) k = ((tt, value_fits None true x k.0), go xs k.1)
+  keyed_fits (contents.Many vs) keys h = items_fit vs.items h
+  keyed_fits (contents.Numbers ns) keys h = items_fit (numbers_in ns) h
   keyed_fits (contents.Map es) keys h = go es.items keys h
     where
       go : (xs : List EntryRef) → AllByRecursion (λ (e : EntryRef). IsMapKey e.key) xs → Fitting (map (entry_part n) xs) → AllByRecursion (HeldFits shape f.element) (map {B = Keyed} (λ (e : EntryRef). (Some e.key, e.value)) xs)
       go [] ks k = tt
       go (x ∷ xs) ks k = ((map_key_is_key x.key ks.0, value_fits (Some (leaf_of x.key)) false x.value k.0), go xs ks.1 k.1)
 
-  -- a singular field holds one item
+  -- a singular field holds no list
+  no_items : is_singular f.presence ≡ true → (xs : List ValueRef) → (xs ≡ [] → ⊥) → Fitting (map (item_part n true) xs) → ⊥
+  no_items is [] some k = some refl
+  no_items is (x ∷ xs) some k = no_list f.presence is (is_listed shape f true x (its_item None (item_seen true x) k.0))
+
+  -- it holds one item
   single_fits : (c : ContentRef) → IsFilled c → Fitting (content_seen n c) → is_singular f.presence ≡ true → IsSingle (Some c)
   single_fits (contents.One v) filled h is = tt
-  single_fits (contents.Many vs) filled h is = go vs.items filled h
-    where
-      go : (xs : List ValueRef) → (xs ≡ [] → ⊥) → Fitting (map (item_part n true) xs) → ⊥
-      go [] some k = some refl
-      go (x ∷ xs) some k = no_list f.presence is (is_listed shape f true x (its_item None (item_seen true x) k.0))
+  single_fits (contents.Many vs) filled h is = no_items is vs.items filled h
+  single_fits (contents.Numbers ns) filled h is = no_items is (numbers_in ns) filled h
   single_fits (contents.Map es) filled h is = go es.items filled h
     where
       go : (xs : List EntryRef) → (xs ≡ [] → ⊥) → Fitting (map (entry_part n) xs) → ⊥
@@ -347,13 +351,14 @@ module _ (view : ViewName) (old new : Parts) (f g : FieldShape) (v w : Kept) whe
 
 -- ---- a content beside none
 
+filled_items : (xs : List ValueRef) → (xs ≡ [] → ⊥) → map {B = Keyed} (λ value. (None, value)) xs ≡ [] → ⊥
+filled_items [] k e = k refl
+filled_items (x ∷ xs) k e = cc
+
 filled_keyed : (c : ContentRef) → IsFilled c → keyed c ≡ [] → ⊥
 filled_keyed (contents.One v) h is = cc
-filled_keyed (contents.Many vs) h is = of vs.items h is
-  where
-    of : (xs : List ValueRef) → (xs ≡ [] → ⊥) → map {B = Keyed} (λ value. (None, value)) xs ≡ [] → ⊥
-    of [] k e = k refl
-    of (x ∷ xs) k e = cc
+filled_keyed (contents.Many vs) h is = filled_items vs.items h is
+filled_keyed (contents.Numbers ns) h is = filled_items (numbers_in ns) h is
 filled_keyed (contents.Map es) h is = of es.items h is
   where
     of : (xs : List EntryRef) → (xs ≡ [] → ⊥) → map {B = Keyed} (λ (x : EntryRef). (Some x.key, x.value)) xs ≡ [] → ⊥

@@ -15,6 +15,7 @@ use Rattle.pg_dyn.specs.Message.{Part, Message, is_of}
 use Rattle.pg_dyn.specs.Message as model
 use Rattle.pg_dyn.specs.Kept.{Kept, KeptItem, Plain, Msg, ends, holds, nests, type_of, message_of, parts_of, of_number}
 use Rattle.pg_dyn.specs.Borrowed.{item_part, entry_part, item_seen, content_seen}
+use Rattle.pg_dyn.specs.NumberLists.{numbers_in}
 use Rattle.pg_dyn.specs.encoding.Writing.{records_in, bytes_of, field_records}
 use Rattle.pg_dyn.specs.encoding.Encoding.{cap, enc, encoded_parts}
 use Rattle.pg_dyn.specs.Fits.{Fits, PartsAgree}
@@ -49,13 +50,14 @@ module _ (shape : Shape) where
   value_encoded listed (values.Bytes bytes) h = tt
   value_encoded listed (values.Msg child) h = h
 
+  items_encoded : (number : ℕ) (xs : List ValueRef) → AllByRecursion (λ (p : Part KeptItem). PartHasEncoding p.item) (map (item_part number true) xs) → AllByRecursion (λ (x : Keyed). ItemHasEncoding shape x.1) (map {B = Keyed} (λ value. (None, value)) xs)
+  items_encoded number [] h = tt
+  items_encoded number (x ∷ xs) h = (value_encoded true x h.0, items_encoded number xs h.1)
+
   keyed_encoded : (number : ℕ) (content : ContentRef) → AllByRecursion (λ (p : Part KeptItem). PartHasEncoding p.item) (content_seen number content) → AllByRecursion (λ (x : Keyed). ItemHasEncoding shape x.1) (keyed content)
   keyed_encoded number (contents.One value) h = (value_encoded false value h.0, tt)
-  keyed_encoded number (contents.Many vs) h = go vs.items h
-    where
-      go : (xs : List ValueRef) → AllByRecursion (λ (p : Part KeptItem). PartHasEncoding p.item) (map (item_part number true) xs) → AllByRecursion (λ (x : Keyed). ItemHasEncoding shape x.1) (map {B = Keyed} (λ value. (None, value)) xs)
-      go [] h = tt
-      go (x ∷ xs) h = (value_encoded true x h.0, go xs h.1)
+  keyed_encoded number (contents.Many vs) h = items_encoded number vs.items h
+  keyed_encoded number (contents.Numbers ns) h = items_encoded number (numbers_in ns) h
   keyed_encoded number (contents.Map es) h = go es.items h
     where
       go : (xs : List EntryRef) → AllByRecursion (λ (p : Part KeptItem). PartHasEncoding p.item) (map (entry_part number) xs) → AllByRecursion (λ (x : Keyed). ItemHasEncoding shape x.1) (map {B = Keyed} (λ (e : EntryRef). (Some e.key, e.value)) xs)

@@ -12,6 +12,7 @@ use Rattle.pg_dyn.specs.Message.{Part, is_of}
 use Rattle.pg_dyn.specs.Kept.{Kept, KeptItem, parts_of, of_number, weight}
 use Rattle.pg_dyn.specs.Kept as kept
 use Rattle.pg_dyn.specs.Borrowed.{leaf_of, item_part, entry_part, item_seen, content_seen}
+use Rattle.pg_dyn.specs.NumberLists.{numbers_in}
 use Rattle.pg_dyn.specs.BorrowedItems.{is_zero_value}
 use Rattle.pg_pairs.specs.Comparing.{Keyed, keyed, keyed_if, keyed_shown}
 
@@ -120,15 +121,17 @@ part_with n listed x = record { number = n; key = option_map leaf_of x.0; item =
 abbrev is_list : ContentRef → Bool
 is_list (contents.One value) = false
 is_list (contents.Many vs) = true
+is_list (contents.Numbers ns) = true
 is_list (contents.Map es) = false
+
+items_keyed : (n : ℕ) (xs : List ValueRef) → map (item_part n true) xs ≡ map (part_with n true) (map (λ value. (None, value)) xs)
+items_keyed n [] = refl
+items_keyed n (x ∷ xs) = ap (λ ps. item_part n true x ∷ ps) (items_keyed n xs)
 
 pub content_keyed : (n : ℕ) (c : ContentRef) → content_seen n c ≡ map (part_with n (is_list c)) (keyed c)
 content_keyed n (contents.One value) = refl
-content_keyed n (contents.Many vs) = go vs.items
-  where
-    go : (xs : List ValueRef) → map (item_part n true) xs ≡ map (part_with n true) (map (λ value. (None, value)) xs)
-    go [] = refl
-    go (x ∷ xs) = ap (λ ps. item_part n true x ∷ ps) (go xs)
+content_keyed n (contents.Many vs) = items_keyed n vs.items
+content_keyed n (contents.Numbers ns) = items_keyed n (numbers_in ns)
 content_keyed n (contents.Map es) = go es.items
   where
     go : (xs : List EntryRef) → map (entry_part n) xs ≡ map (part_with n false) (map (λ (e : EntryRef). (Some e.key, e.value)) xs)

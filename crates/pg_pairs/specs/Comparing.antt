@@ -15,6 +15,7 @@ use Rattle.pg_dyn.specs.declared.message_ref.EntryRef.{EntryRef}
 use Rattle.pg_dyn.specs.declared.message_ref.ValueRef.{ValueRef}
 use Rattle.pg_dyn.specs.declared.message_ref.ValueRef.TheVariants as values
 use Rattle.pg_dyn.specs.Borrowed.{IsKey, leaf_of}
+use Rattle.pg_dyn.specs.NumberLists.{numbers_in}
 use Rattle.pg_dyn.specs.BorrowedItems.{ItemFits, is_zero_value}
 use Rattle.pg_dyn.specs.Message.{Leaf, Int, Item, Plain, Msg, parts}
 use Rattle.pg_dyn.specs.Kept.{Kept, type_of, message_of}
@@ -67,6 +68,7 @@ Keyed = Option ValueRef × ValueRef
 abbrev pub keyed : ContentRef → List Keyed
 keyed (contents.One value) = (None, value) ∷ []
 keyed (contents.Many vs) = map (λ value. (None, value)) vs.items
+keyed (contents.Numbers ns) = map (λ value. (None, value)) (numbers_in ns)
 keyed (contents.Map es) = map (λ (e : EntryRef). (Some e.key, e.value)) es.items
 
 -- a key, where there is one, is no message
@@ -90,6 +92,7 @@ keyed_shown hidden content = filter (λ (x : Keyed). not (hidden && is_zero_valu
 abbrev pub IsSingle : Option ContentRef → Type 0
 IsSingle (Some (contents.One value)) = ⊤
 IsSingle (Some (contents.Many vs)) = ⊥
+IsSingle (Some (contents.Numbers ns)) = ⊥
 IsSingle (Some (contents.Map es)) = ⊥
 IsSingle None = ⊤
 

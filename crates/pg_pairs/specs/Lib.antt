@@ -18,6 +18,7 @@ pub mod Cheapest
 pub mod Covering
 pub mod CoversByNumber
 pub mod Comparing
+pub mod HeldItems
 pub mod Members
 pub mod LeastMembers
 pub mod FirstSeen

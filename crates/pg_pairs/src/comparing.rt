@@ -157,7 +157,9 @@ fn is_same_content<V: View>(
         if !is_same_key(first.key, second.key) {
             return Ok(false);
         }
-        if !is_same_item(alloc, sides, fields, first.item, second.item)? {
+        let item = first.item.value();
+        let other = second.item.value();
+        if !is_same_item(alloc, sides, fields, item, other)? {
             return Ok(false);
         }
     }

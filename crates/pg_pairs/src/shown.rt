@@ -11,6 +11,7 @@ ghost use Rattle.pg_dyn.specs.Borrowed.{IsKey, leaf_of};
 ghost use Rattle.pg_dyn.specs.BorrowedItems.{is_zero_value};
 ghost use Rattle.pg_dyn.specs.Message.{leaf_eq};
 ghost use Rattle.pg_pairs.specs.Comparing.{IsSingle, keyed, keyed_if, keyed_shown};
+ghost use Rattle.pg_pairs.specs.HeldItems.{item_value};
 
 use crate::witness_content::Beside;
 use pg_dyn::{ContentRef, ValueRef};
@@ -84,11 +85,30 @@ pub(crate) fn is_same_leaf(first: &ValueRef<'_>, second: &ValueRef<'_>) -> bool
     }
 }
 
+/// An item of a content: one that the content lends, or one that is made of its number.
+#[derive(Drop)]
+pub(crate) enum HeldItem<'b, 'a> {
+    Lent(&'b ValueRef<'a>),
+    Made(ValueRef<'a>),
+}
+
+impl<'b, 'a> HeldItem<'b, 'a> {
+    /// The item.
+    pub(crate) fn value(&self) -> &ValueRef<'a>
+        ensures { result.now ≡ item_value self.now }
+    {
+        match self {
+            HeldItem::Lent(value) => value,
+            HeldItem::Made(value) => value,
+        }
+    }
+}
+
 /// An item of a content, in a map with its key.
 #[derive(Drop)]
 pub(crate) struct Held<'b, 'a> {
     pub key: Option<&'b ValueRef<'a>>,
-    pub item: &'b ValueRef<'a>,
+    pub item: HeldItem<'b, 'a>,
 }
 
 /// How many items the content has.
@@ -98,6 +118,7 @@ pub(crate) fn count(content: &ContentRef<'_>) -> usize
     match content {
         ContentRef::One(_) => 1,
         ContentRef::Many(values) => values.len(),
+        ContentRef::Numbers(numbers) => numbers.len(),
         ContentRef::Map(entries) => entries.len(),
     }
 }
@@ -105,20 +126,25 @@ pub(crate) fn count(content: &ContentRef<'_>) -> usize
 /// The item at that place, which the content has.
 pub(crate) fn held_at<'b, 'a>(content: &'b ContentRef<'a>, at: usize) -> Held<'b, 'a>
     requires { at < length (keyed content.now) }
-    ensures { slice_get (keyed content.now) at ≡ Some (option_copied result.key, result.item.now) }
+    ensures { slice_get (keyed content.now) at
+        ≡ Some (option_copied result.key, item_value result.item) }
 {
     match content {
         ContentRef::One(value) => Held {
             key: None,
-            item: value,
+            item: HeldItem::Lent(value),
         },
         ContentRef::Many(values) => Held {
             key: None,
-            item: &values[at],
+            item: HeldItem::Lent(&values[at]),
+        },
+        ContentRef::Numbers(numbers) => Held {
+            key: None,
+            item: HeldItem::Made(numbers.get(at)),
         },
         ContentRef::Map(entries) => Held {
             key: Some(&entries[at].key),
-            item: &entries[at].value,
+            item: HeldItem::Lent(&entries[at].value),
         },
     }
 }

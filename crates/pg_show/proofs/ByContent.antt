@@ -12,6 +12,7 @@ use Rattle.pg_dyn.specs.declared.message_ref.EntryRef.{EntryRef}
 use Rattle.pg_dyn.specs.declared.message_ref.ValueRef.{ValueRef}
 use Rattle.pg_dyn.specs.declared.message_ref.ValueRef.TheVariants as values
 use Rattle.pg_dyn.specs.Borrowed.{all_seen, content_seen, entry_part, fields_onto, item_part, item_seen, leaf_of}
+use Rattle.pg_dyn.specs.NumberLists.{numbers_in}
 use Rattle.pg_dyn.specs.Message.{Leaf, Part}
 use Rattle.pg_dyn.specs.Kept.{Kept, KeptItem, Plain, Msg, ends}
 use Rattle.pg_dyn.specs.encoding.Encoding.{element_type}
@@ -74,6 +75,7 @@ module _ (parts : Parts) (type : TypeId) (indent : Text) where
   content_as : (number : ℕ) (c : ContentRef) → flat_map of_part (content_seen number c) ≡ content_lines parts type indent (number, c)
   content_as number (contents.One v) = append-nil (of_part (item_part number false v)) ∙ value_as number None false v
   content_as number (contents.Many vs) = items_as number vs.items
+  content_as number (contents.Numbers ns) = items_as number (numbers_in ns)
   content_as number (contents.Map es) = entries_as number es.items
 
   contents_as : (fs : List (ℕ × ContentRef)) → flat_map of_part (all_seen fs) ≡ flat_map (content_lines parts type indent) fs

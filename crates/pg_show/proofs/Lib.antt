@@ -1,4 +1,5 @@
 pub mod Worked
 pub mod Weights
 pub mod ByContent
+pub mod ByIndex
 pub mod Words

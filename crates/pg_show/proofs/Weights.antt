@@ -7,6 +7,7 @@ use Rattle.pg_dyn.specs.declared.message_ref.EntryRef.{EntryRef}
 use Rattle.pg_dyn.specs.declared.message_ref.ValueRef.{ValueRef}
 use Rattle.pg_dyn.specs.declared.message_ref.ValueRef.TheVariants as values
 use Rattle.pg_dyn.specs.Borrowed.{all_seen, content_seen, entry_part, fields_onto, item_part, item_seen, leaf_of}
+use Rattle.pg_dyn.specs.NumberLists.{numbers_in}
 use Rattle.pg_dyn.specs.Message.{Leaf, Part}
 use Rattle.pg_dyn.specs.Kept.{Kept, KeptItem, ends, holds, nests, weight}
 use Rattle.pg_dyn.specs.Replacing.{kept_onto, kept_part}
@@ -21,6 +22,7 @@ entry_weight e = value_weight e.value
 abbrev pub content_weight : ContentRef → ℕ
 content_weight (contents.One v) = value_weight v
 content_weight (contents.Many vs) = most value_weight vs.items
+content_weight (contents.Numbers ns) = most value_weight (numbers_in ns)
 content_weight (contents.Map es) = most entry_weight es.items
 
 abbrev pub field_weight : ℕ × ContentRef → ℕ
@@ -51,6 +53,7 @@ entries_heavier number (e ∷ es) later =
 content_heavier : (number : ℕ) (c : ContentRef) (later : Kept) → content_weight c + weight later ≤ weight (kept_onto (content_seen number c) later)
 content_heavier number (contents.One v) later = value_heavier number None false v later
 content_heavier number (contents.Many vs) later = items_heavier number vs.items later
+content_heavier number (contents.Numbers ns) later = items_heavier number (numbers_in ns) later
 content_heavier number (contents.Map es) later = entries_heavier number es.items later
 
 kept_joined : (ps qs : List (Part KeptItem)) (later : Kept) → kept_onto (ps ++ qs) later ≡ kept_onto ps (kept_onto qs later)

@@ -16,6 +16,7 @@ use Rattle.pg_dyn.specs.Message.{Leaf}
 use Rattle.pg_dyn.specs.Kept.{Kept, message_of}
 use Rattle.pg_dyn.specs.encoding.Encoding.{element_type}
 use Rattle.pg_dyn.specs.Borrowed.{leaf_of}
+use Rattle.pg_dyn.specs.NumberLists.{numbers_in}
 use Rattle.pg_show.specs.Lines.{Text, element_of, inner, item, line, lines, unknown_line}
 use Rattle.pg_show.specs.Shown.{names_of}
 
@@ -35,6 +36,7 @@ entry_lines parts indent number name element e = value_lines parts indent number
 abbrev pub items_lines : Parts → Text → ℕ → Text → Element → ContentRef → Text
 items_lines parts indent number name element (contents.One v) = value_lines parts indent number name element None v
 items_lines parts indent number name element (contents.Many vs) = flat_map (value_lines parts indent number name element None) vs.items
+items_lines parts indent number name element (contents.Numbers ns) = flat_map (value_lines parts indent number name element None) (numbers_in ns)
 items_lines parts indent number name element (contents.Map es) = flat_map (entry_lines parts indent number name element) es.items
 
 -- the lines of a content of a field of the type

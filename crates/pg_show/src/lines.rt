@@ -3,6 +3,7 @@
 ghost use Rattle.std.specs.Prelude.{◌≡◌, ◌++◌, flat_map, IfOk, OnOk, None, option_map, string_bytes};
 ghost use Rattle.std.specs.Option.{option_copied};
 ghost use Rattle.pg_dyn.specs.Borrowed.{leaf_of};
+ghost use Rattle.pg_dyn.specs.NumberLists.{numbers_in};
 ghost use Rattle.pg_schema.specs.Parts.{shape_of};
 ghost use Rattle.pg_schema.specs.Shape.{fields};
 ghost use Rattle.pg_show.specs.Lines.{element_of, front, inner};
@@ -12,7 +13,7 @@ ghost use Rattle.pg_show.specs.Shown.{names_of};
 use crate::hex_word::push_hex;
 use crate::item::{push_item, push_key, type_of};
 use itoa::Buffer;
-use pg_dyn::{ContentRef, EntryRef, MessageRef, ValueRef};
+use pg_dyn::{ContentRef, EntryRef, MessageRef, NumberList, ValueRef};
 use pg_schema::{Element, Scalar, Schema, TypeId};
 use pg_wire::Record;
 use std::alloc::{AllocError, Global};
@@ -150,6 +151,21 @@ fn push_list(text: &mut String, row: &Row<'_>, values: &[ValueRef<'_>]) -> Resul
     Ok(())
 }
 
+// Adds the lines of the numbers of a list.
+#[cycle(lines)]
+fn push_numbers(text: &mut String, row: &Row<'_>, numbers: &NumberList) -> Result<(), AllocError>
+    ensures { OnOk result (string_bytes text.new
+        ≡ string_bytes text.old ++ flat_map
+        (value_lines row.now.schema.now row.now.indent.now row.now.number row.now.name.now
+        row.now.element None) (numbers_in numbers.now)) }
+{
+    for at in 0..numbers.len() {
+        let value = numbers.get(at);
+        push_value(text, row, None, &value)?;
+    }
+    Ok(())
+}
+
 // Adds the lines of the entries of a map.
 #[cycle(lines)]
 fn push_entries(
@@ -191,6 +207,7 @@ fn push_content(
     match content {
         ContentRef::One(value) => push_value(text, &row, None, value),
         ContentRef::Many(values) => push_list(text, &row, values),
+        ContentRef::Numbers(numbers) => push_numbers(text, &row, numbers),
         ContentRef::Map(entries) => push_entries(text, &row, entries),
     }
 }

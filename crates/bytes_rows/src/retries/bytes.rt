@@ -2,7 +2,7 @@
 use crate::contents::{name_of, word};
 use crate::reading::written;
 use crate::types::FIRST;
-use pg_dyn::{DynError, Message, decode, decode_unlimited, encode, fits};
+use pg_dyn::{DynError, Message, decode, encode, fits};
 use pg_schema::Schema;
 use pg_show::{HexError, bytes_of_hex, show};
 use rows::retry;
@@ -69,11 +69,6 @@ fn found(rt: &HostRuntime, schema: &Schema, call: &str, bytes: &[u8]) -> io::Res
             Err(DynError::Memory),
             decode(rt.alloc(), schema, FIRST, bytes, 100)
         ),
-        "decode_unlimited" => retry!(
-            rt,
-            Err(DynError::Memory),
-            decode_unlimited(rt.alloc(), schema, FIRST, bytes)
-        ),
         _ => decode(rt.alloc(), schema, FIRST, bytes, 100),
     };
     match found {
@@ -90,8 +85,8 @@ fn of_digits(rt: &HostRuntime, digits: &str) -> io::Result<String> {
     }
 }
 
-/// `decode HEX`, `decode_unlimited HEX`, `encode HEX`, `show HEX` and `hex HEX`: these calls, of
-/// which the last is `bytes_of_hex`.
+/// `decode HEX`, `encode HEX`, `show HEX` and `hex HEX`: these calls, of which the last is
+/// `bytes_of_hex`.
 pub(super) fn answer(
     rt: &HostRuntime,
     schema: &Schema,

@@ -15,6 +15,8 @@ use Rattle.pg_dyn.specs.declared.message_ref.ContentRef.TheVariants as contents
 use Rattle.pg_dyn.specs.declared.message_ref.EntryRef.{EntryRef}
 use Rattle.pg_dyn.specs.declared.message_ref.ValueRef.{ValueRef}
 use Rattle.pg_dyn.specs.declared.message_ref.ValueRef.TheVariants as values
+use Rattle.pg_dyn.specs.declared.number_list.NumberList.{NumberList}
+use Rattle.pg_dyn.specs.NumberLists.{numbers_in}
 use Rattle.pg_dyn.specs.Borrowed.{all_seen, content_seen, entry_part, fields_onto, item_part}
 use Rattle.pg_dyn.specs.Borrowed as borrowed
 use Rattle.pg_dyn.specs.Copies.{AreEntryCopies, IsContentCopy, IsEntryCopy, IsItemCopy}
@@ -43,6 +45,7 @@ fields_keep fs later = (unknown_of-kept_onto (all_seen fs) later, type_of-kept_o
 pub content_number : (n : ℕ) (c : ContentRef) → AllByRecursion (λ (p : Part KeptItem). p.number ≡ n) (content_seen n c)
 content_number n (contents.One v) = (refl, tt)
 content_number n (contents.Many vs) = each-map (λ (p : Part KeptItem). p.number ≡ n) (item_part n true) vs.items (each_of_all (λ v. n ≡ n) (λ v. refl) vs.items)
+content_number n (contents.Numbers ns) = each-map (λ (p : Part KeptItem). p.number ≡ n) (item_part n true) (numbers_in ns) (each_of_all (λ v. n ≡ n) (λ v. refl) (numbers_in ns))
 content_number n (contents.Map es) = each-map (λ (p : Part KeptItem). p.number ≡ n) (entry_part n) es.items (each_of_all (λ e. n ≡ n) (λ e. refl) es.items)
 
 module _ (m : ℕ) where
@@ -159,13 +162,25 @@ no_nil f g [] [] same some e = some refl
 no_nil f g [] (y ∷ ys) same some e = cc
 no_nil f g (x ∷ xs) ys same some e = cc
 
+-- the parts of a list's copy are those of the list
+list_parts : (rs : List ValueRef) (vs : List Value) → map (item_seen true) vs ≡ map (borrowed.item_seen true) rs
+    → (n : ℕ) → map (λ value. record { number = n; key = None; item = item_seen true value }) vs ≡ map (item_part n true) rs
+list_parts rs vs same n =
+    sym (map_map (λ (item : KeptItem). record { number = n; key = None; item = item }) (item_seen true) vs)
+    ∙ ap (map (λ (item : KeptItem). record { number = n; key = None; item = item })) same
+    ∙ map_map (λ (item : KeptItem). record { number = n; key = None; item = item }) (borrowed.item_seen true) rs
+
 pub list_copied : (rs : Vec ValueRef Global) (vs : Vec Value Global) → map (item_seen true) vs.items ≡ map (borrowed.item_seen true) rs.items → IsContentCopy (contents.Many rs) (held.Many vs)
 list_copied rs vs same = record {
-  parts = λ n.
-      sym (map_map (λ (item : KeptItem). record { number = n; key = None; item = item }) (item_seen true) vs.items)
-      ∙ ap (map (λ (item : KeptItem). record { number = n; key = None; item = item })) same
-      ∙ map_map (λ (item : KeptItem). record { number = n; key = None; item = item }) (borrowed.item_seen true) rs.items;
+  parts = list_parts rs.items vs.items same;
   filled = no_nil (item_seen true) (borrowed.item_seen true) vs.items rs.items same;
+  keys = λ h. tt;
+}
+
+pub numbers_copied : (ns : NumberList) (vs : Vec Value Global) → map (item_seen true) vs.items ≡ map (borrowed.item_seen true) (numbers_in ns) → IsContentCopy (contents.Numbers ns) (held.Many vs)
+numbers_copied ns vs same = record {
+  parts = list_parts (numbers_in ns) vs.items same;
+  filled = no_nil (item_seen true) (borrowed.item_seen true) vs.items (numbers_in ns) same;
   keys = λ h. tt;
 }
 

@@ -12,7 +12,9 @@ use Rattle.pg_dyn.specs.declared.message_ref.ValueRef.TheVariants as values
 use Rattle.pg_dyn.specs.Borrowed.{ArePlain, all_seen, content_seen, entry_part, fields_onto, item_part, item_seen}
 use Rattle.pg_dyn.specs.Kept.{Kept, ends, KeptItem, Plain, Msg, IsPlain, IsPlainItem}
 use Rattle.pg_dyn.specs.Message.{Leaf, Part}
+use Rattle.pg_dyn.specs.NumberLists.{IsNumber, numbers_in}
 use Rattle.pg_dyn.specs.Replacing.{kept_onto, kept_part}
+use Rattle.pg_dyn.proofs.lemmas.NumberLaws.{numbers_are}
 
 -- one more part, and more
 part_plain : (n : ℕ) (k : Option Leaf) (item : KeptItem) (later : Kept) → (IsPlainItem item × IsPlain later) ↔ IsPlain (kept_part n k item later)
@@ -46,10 +48,24 @@ entries_plain : (n : ℕ) (es : List EntryRef) → AllByRecursion (λ (e : Entry
 entries_plain n [] = ((λ e. e), λ e. e)
 entries_plain n (x ∷ es) = ((λ e. (e.0, (entries_plain n es).0 e.1)), λ e. (e.0, (entries_plain n es).1 e.1))
 
+-- numbers are plain
+numbers_plain : (n : ℕ) (vs : List ValueRef) → AllByRecursion IsNumber vs → Parts (map (item_part n true) vs)
+numbers_plain n [] h = tt
+numbers_plain n (v ∷ vs) h = (one v h.0, numbers_plain n vs h.1)
+  where
+    one : (x : ValueRef) → IsNumber x → IsPlainItem (item_seen true x)
+    one (values.Int k) h = tt
+    one (values.F32 k) h = tt
+    one (values.F64 k) h = tt
+    one (values.Text k) h = absurd h
+    one (values.Bytes k) h = absurd h
+    one (values.Msg m) h = absurd h
+
 content_plain : (n : ℕ) (c : ContentRef) → ArePlain c ↔ Parts (content_seen n c)
 content_plain n (contents.One v) = ((λ e. (e, tt)), λ e. e.0)
 content_plain n (contents.Many vs) = items_plain n vs.items
 content_plain n (contents.Map es) = entries_plain n es.items
+content_plain n (contents.Numbers ns) = ((λ e. numbers_plain n (numbers_in ns) (numbers_are ns)), λ e. tt)
 
 both_parts : (ps qs : List (Part KeptItem)) → (Parts ps × Parts qs) ↔ Parts (ps ++ qs)
 both_parts [] qs = ((λ e. e.1), λ e. (tt, e))

@@ -21,6 +21,7 @@ pub mod LastOfKeys
 pub mod MapsByFields
 pub mod NormalizedEntries
 pub mod NumberOrder
+pub mod NumberRuns
 pub mod OneofRunLaws
 pub mod PackedRows
 pub mod PlainFields

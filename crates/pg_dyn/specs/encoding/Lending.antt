@@ -1,17 +1,22 @@
 -- A message as a writer goes over it, whoever owns its parts.
 use Rattle.std.specs.Prelude.{◌≡◌, ◌≢◌, ℕ, List, [], flat_map, ⊤, Bool, false, Some, None}
 use Rattle.std.specs.List.{AllByRecursion}
+use Rattle.pg_schema.specs.declared.parts.field.Scalar.{Scalar}
 use Rattle.pg_schema.specs.declared.parts.field.TypeId.{TypeId}
 use Rattle.pg_schema.specs.Shape.{Shape, FieldShape, fields, field_at}
 use Rattle.pg_dyn.specs.declared.encoding.lending.LeafRef.{LeafRef}
 use Rattle.pg_dyn.specs.declared.encoding.lending.LeafRef.TheVariants as leaves
 use Rattle.pg_dyn.specs.declared.message.Value.{Value}
 use Rattle.pg_dyn.specs.declared.message.Value.TheVariants as owned
+use Rattle.pg_dyn.specs.declared.message_ref.ContentRef.{ContentRef}
+use Rattle.pg_dyn.specs.declared.message_ref.ContentRef.TheVariants as contents
 use Rattle.pg_dyn.specs.declared.message_ref.ValueRef.{ValueRef}
 use Rattle.pg_dyn.specs.declared.message_ref.ValueRef.TheVariants as lent
 use Rattle.pg_dyn.specs.Borrowed as borrowed
+use Rattle.pg_dyn.specs.Coding.{scalar_form}
 use Rattle.pg_dyn.specs.Kept.{Kept, KeptItem, Plain, Msg}
 use Rattle.pg_dyn.specs.Message.{Leaf, Int, F32, F64, Bytes, Part}
+use Rattle.pg_dyn.specs.NumberLists.{number_item}
 use Rattle.pg_dyn.specs.PartsFit.{IsPartOf}
 use Rattle.pg_dyn.specs.Seen.{is_text, leaf_of}
 
@@ -45,6 +50,10 @@ abbrev pub lent_item : ValueRef → Bare
 lent_item (lent.Msg child) = Child child.value
 lent_item value = Lone (borrowed.is_text value) (borrowed.leaf_of value)
 
+-- the item that a word of the scalar says
+abbrev pub word_item : Scalar → ℕ → Bare
+word_item s word = lent_item (number_item (scalar_form s) word)
+
 abbrev pub leaf_lent : LeafRef → Leaf
 leaf_lent (leaves.Int n) = Int n
 leaf_lent (leaves.F32 bits) = F32 bits
@@ -60,6 +69,13 @@ entry_part item key value number e = record { number = number; key = Some (bare_
 
 abbrev pub all_parts : {C : Type 0} → (ℕ → C → List (Part KeptItem)) → List (ℕ × C) → List (Part KeptItem)
 all_parts {C} parts cs = flat_map (λ (c : ℕ × C). parts c.0 c.1) cs
+
+-- the content is no list of numbers
+abbrev pub HasValues : ContentRef → Type 0
+HasValues (contents.One value) = ⊤
+HasValues (contents.Many vs) = ⊤
+HasValues (contents.Map es) = ⊤
+HasValues (contents.Numbers ns) = ⊥
 
 -- just the parts of a map have keys
 abbrev pub AreKeyless : List (Part KeptItem) → Type 0

@@ -1,6 +1,6 @@
 -- What a writer makes of a message part by part, and the lengths that it counts ahead (Encoding guide, "Message Structure",
 -- "Packed Repeated Fields", "Maps").
-use Rattle.std.specs.Prelude.{◌≡◌, ◌⊎◌, ◌<◌, ⊤, ℕ, min, nat_eq, List, [], ◌∷◌, ◌++◌, map, flat_map, length, true, false, if◌then◌else◌, Option, Some, None}
+use Rattle.std.specs.Prelude.{◌≡◌, ◌⊎◌, ◌<◌, ⊤, ℕ, min, nat_eq, List, [], ◌∷◌, ◌++◌, map, flat_map, length, Bool, true, false, if◌then◌else◌, Option, Some, None}
 use Rattle.std.specs.List.{AllByRecursion}
 use Rattle.pg_schema.specs.declared.parts.field.Scalar.{Scalar}
 use Rattle.pg_schema.specs.declared.parts.field.Element.{Element}
@@ -13,11 +13,13 @@ use Rattle.pg_wire.specs.declared.record.WireType.TheVariants.{Len}
 use Rattle.pg_wire.specs.Records.{WireRecord, written}
 use Rattle.pg_dyn.specs.declared.error.DynError.{DynError}
 use Rattle.pg_dyn.specs.declared.error.DynError.TheVariants as errors
+use Rattle.pg_dyn.specs.declared.number_list.NumberList.{NumberList}
 use Rattle.pg_dyn.specs.Message.{Leaf, Bytes, Part}
 use Rattle.pg_dyn.specs.Coding.{InRange, body, form}
 use Rattle.pg_dyn.specs.Fits.{Fits}
+use Rattle.pg_dyn.specs.NumberLists.{numbers_in}
 use Rattle.pg_dyn.specs.Kept.{Kept, ends, holds, nests, KeptItem, type_of, message_of}
-use Rattle.pg_dyn.specs.encoding.Lending.{Bare, Lone, Child, bare, bare_leaf}
+use Rattle.pg_dyn.specs.encoding.Lending.{Bare, Lone, Child, bare, bare_leaf, lent_item}
 use Rattle.pg_dyn.specs.encoding.Writing.{bytes_of, entry_bytes, field_records, is_packed, item_record}
 use Rattle.pg_dyn.specs.encoding.Encoding.{cap, enc}
 
@@ -50,6 +52,15 @@ packed_body item e vs = flat_map (λ v. body (form e) (bare_leaf (item v))) vs
 abbrev pub packed_bytes : {V : Type 0} → (V → Bare) → ℕ → Element → List V → List ℕ
 packed_bytes item number e [] = []
 packed_bytes item number e (v ∷ vs) = (written number Len (packed_body item e (v ∷ vs))).bytes
+
+-- items in a record each
+abbrev pub single_bytes : {V : Type 0} → (V → Bare) → ℕ → Element → List V → List ℕ
+single_bytes item number e vs = flat_map (λ v. (item_record number e (bare_leaf (item v))).bytes) vs
+
+-- a list of numbers, packed or not
+abbrev pub number_bytes : Bool → ℕ → Element → NumberList → List ℕ
+number_bytes true number e ns = packed_bytes lent_item number e (numbers_in ns)
+number_bytes false number e ns = single_bytes lent_item number e (numbers_in ns)
 
 -- a part with its bytes in the place of a message, and the records of a field's parts
 abbrev pub written_part : Shape → Part KeptItem → Part Leaf
@@ -126,6 +137,10 @@ item_lengths shape (Child m) = capped (length (own_bytes shape m)) ∷ inner_len
 abbrev pub packed_lengths : {V : Type 0} → (V → Bare) → Element → List V → List ℕ
 packed_lengths item e [] = []
 packed_lengths item e (v ∷ vs) = capped (length (packed_body item e (v ∷ vs))) ∷ []
+
+abbrev pub number_lengths : Bool → Element → NumberList → List ℕ
+number_lengths true e ns = packed_lengths lent_item e (numbers_in ns)
+number_lengths false e ns = []
 
 -- the lengths that are noted of a field's parts
 abbrev pub lengths_by : Shape → Option FieldShape → List (Part KeptItem) → List ℕ

@@ -11,6 +11,7 @@ use Rattle.pg_dyn.specs.declared.message_ref.ContentRef.{ContentRef}
 use Rattle.pg_dyn.specs.declared.message_ref.ContentRef.TheVariants as contents
 use Rattle.pg_dyn.specs.declared.message_ref.ValueRef.{ValueRef}
 use Rattle.pg_dyn.specs.BorrowedItems.{is_zero_value}
+use Rattle.pg_dyn.specs.NumberLists.{numbers_in}
 
 -- what a singular field holds after an item: no zero where it is implicit
 abbrev pub item_left : Presence → ValueRef → Option ContentRef
@@ -20,11 +21,13 @@ abbrev pub IsListOf : List ValueRef → ContentRef → Type 0
 IsListOf values (contents.One value) = ⊥
 IsListOf values (contents.Many vs) = vs.items ≡ values
 IsListOf values (contents.Map es) = ⊥
+IsListOf values (contents.Numbers ns) = numbers_in ns ≡ values
 
 abbrev pub IsMapOf : List EntryRef → ContentRef → Type 0
 IsMapOf entries (contents.One value) = ⊥
 IsMapOf entries (contents.Many vs) = ⊥
 IsMapOf entries (contents.Map es) = es.items ≡ entries
+IsMapOf entries (contents.Numbers ns) = ⊥
 
 -- what a list leaves in its field: nothing where it is empty
 abbrev pub IsHeldList : List ValueRef → Option ContentRef → Type 0

@@ -1,20 +1,22 @@
 -- What a field holds as parts of a message, why bytes are refused, and where no message stands too deep (Encoding guide, "Message
 -- Structure"). Places are counted from the first byte of what is gone over.
-use Rattle.std.specs.Prelude.{◌≡◌, ◌⊎◌, ℕ, ◌+◌, ⊤, true, false, List, [], ◌++◌, map, Option, Some, None, Err}
+use Rattle.std.specs.Prelude.{◌≡◌, ◌⊎◌, ℕ, ◌+◌, ⊤, true, false, List, [], ◌++◌, map, Option, Some, None, Ok, Err}
 use Rattle.std.specs.List.{AllByRecursion}
 use Rattle.pg_schema.specs.declared.parts.field.Scalar.{Scalar}
 use Rattle.pg_schema.specs.declared.parts.field.Element.{Element}
 use Rattle.pg_schema.specs.Shape.{Shape, FieldShape, field_at, is_map}
+use Rattle.pg_wire.specs.declared.record.WireType.{WireType}
 use Rattle.pg_wire.specs.Errors.{error_at, fault_of, place_of}
 use Rattle.pg_wire.specs.Reading.{Fault, row}
 use Rattle.pg_wire.specs.Records.{WireRecord}
 use Rattle.pg_dyn.specs.declared.error.DynError.{DynError}
 use Rattle.pg_dyn.specs.declared.error.DynError.TheVariants as errors
 use Rattle.pg_dyn.specs.declared.message_ref.ContentRef.{ContentRef}
-use Rattle.pg_dyn.specs.declared.message_ref.ValueRef.{ValueRef}
 use Rattle.pg_dyn.specs.Message.{Item, Part}
 use Rattle.pg_dyn.specs.Message as model
-use Rattle.pg_dyn.specs.Coding.{element_at, form_wire, scalar_form}
+use Rattle.pg_dyn.specs.Coding.{element_at, form_wire, scalar_form, word_in}
+use Rattle.pg_dyn.specs.NumberLists.{number_item}
+use Rattle.pg_dyn.specs.WordOf.{IsWord}
 use Rattle.pg_dyn.specs.reading.Content.{packed_leaves, takes}
 use Rattle.pg_dyn.specs.BorrowedItems.{IsItemKept}
 use Rattle.pg_dyn.specs.reading.Decoding.{is_readable, dec}
@@ -93,10 +95,20 @@ IsShallowItem shape levels element r = (f : FieldShape) → is_map f.presence �
 abbrev pub FieldReads : Shape → FieldShape → WireRecord → Type 0
 FieldReads shape f r = is_readable (dec shape) f r ≡ true
 
--- A packed list is read behind items, and why it isn't.
-abbrev pub RowReads : Scalar → List ℕ → List ValueRef → List ValueRef → Type 0
+-- a packed list of words of the wire type
+abbrev pub IsRow : WireType → List ℕ → Type 0
+IsRow wire body = (bodies : List (List ℕ)) × (row (element_at wire) body ≡ Ok bodies)
+
+-- the words of a packed list are read behind others
+abbrev pub WordsRead : WireType → List ℕ → List ℕ → List ℕ → Type 0
+WordsRead wire body old new =
+    (bodies : List (List ℕ)) × (row (element_at wire) body ≡ Ok bodies) × (new ≡ old ++ map (word_in wire) bodies) × AllByRecursion (λ b. IsWord wire (word_in wire b)) bodies
+
+-- A packed list of numbers is read behind words, and why it isn't.
+abbrev pub RowReads : Scalar → List ℕ → List ℕ → List ℕ → Type 0
 RowReads s body old new =
-    (values : List ValueRef) × (new ≡ old ++ values) × (packed_leaves (scalar_form s) body ≡ Some (map leaf_of values)) × AllByRecursion (IsItemKept s) values
+    (words : List ℕ) × (new ≡ old ++ words) × (packed_leaves (scalar_form s) body ≡ Some (map leaf_of (map (number_item (scalar_form s)) words)))
+    × AllByRecursion (IsItemKept s) (map (number_item (scalar_form s)) words)
 
 abbrev pub RowRefused : Scalar → List ℕ → ℕ → DynError → Type 0
 RowRefused s body at e = (e ≡ errors.Memory) ⊎ ((fault : Fault) × (e ≡ errors.Wire (error_at fault at)) × (row (element_at (form_wire (scalar_form s))) body ≡ Err fault))

@@ -56,12 +56,34 @@ ElementFault shape (elements.Scalar s) value e = IsFaultOf s value e
 ElementFault shape (elements.Enum enum) value e = IsFaultOf Int32 value e
 ElementFault shape (elements.Message t) value e = ChildFault shape t value e
 
+-- The order of faults: by the number after the E. What bytes are refused for is never the fault of a content, and stands above all.
+abbrev pub code : DynError → ℕ
+code errors.Memory = 1
+code errors.NoSuchField = 601
+code errors.WrongKind = 602
+code errors.OutOfRange = 603
+code (errors.NotUtf8 at) = 604
+code errors.OneofTwice = 605
+code errors.DuplicateKey = 606
+code errors.TooLong = 607
+code (errors.TooDeep at) = 608
+code (errors.Wire e) = 609
+
+-- the former is wrong so, or nothing of that code is wrong with it and the latter is
+abbrev pub FirstFault : (DynError → Type 0) → (DynError → Type 0) → DynError → Type 0
+FirstFault F G e = F e ⊎ (((other : DynError) → code other ≡ code e → F other → ⊥) × G e)
+
+-- so is the first element of a list with which anything of that code is wrong
+abbrev pub FirstOf : {A : Type 0} → (A → DynError → Type 0) → List A → DynError → Type 0
+FirstOf F [] e = ⊥
+FirstOf F (x ∷ xs) e = FirstFault (F x) (FirstOf F xs) e
+
 abbrev pub AnyOf : {A : Type 0} → (A → Type 0) → List A → Type 0
 AnyOf P [] = ⊥
 AnyOf P (x ∷ xs) = P x ⊎ AnyOf P xs
 
 abbrev pub HasItemFault : Shape → FieldShape → Content → DynError → Type 0
-HasItemFault shape f content e = AnyOf (λ (x : Element × Value). ElementFault shape x.0 x.1 e) (items_in f content)
+HasItemFault shape f content e = FirstOf (λ (x : Element × Value). ElementFault shape x.0 x.1) (items_in f content) e
 
 -- two elements of the list pass the test
 abbrev pub PassTwice : {A : Type 0} → (A → Bool) → List A → Type 0
@@ -104,24 +126,16 @@ HasFieldTwice fs cs =
 -- a row of contents, each with the number of its field, has it
 abbrev pub ContentsFault : Shape → TypeId → List (ℕ × Content) → DynError → Type 0
 ContentsFault shape type cs errors.OneofTwice = HasFieldTwice (fields shape type) cs
-ContentsFault shape type cs e = AnyOf (λ (c : ℕ × Content). ContentFault shape type c.0 c.1 e) cs
-
--- The order of faults: by the number after the E. What bytes are refused for is never the fault of a content, and stands above all.
-abbrev pub code : DynError → ℕ
-code errors.Memory = 1
-code errors.NoSuchField = 601
-code errors.WrongKind = 602
-code errors.OutOfRange = 603
-code (errors.NotUtf8 at) = 604
-code errors.OneofTwice = 605
-code errors.DuplicateKey = 606
-code errors.TooLong = 607
-code (errors.TooDeep at) = 608
-code (errors.Wire e) = 609
+ContentsFault shape type cs errors.DuplicateKey = AnyOf (λ (c : ℕ × Content). ContentFault shape type c.0 c.1 errors.DuplicateKey) cs
+ContentsFault shape type cs e = FirstOf (λ (c : ℕ × Content). ContentFault shape type c.0 c.1) cs e
 
 -- of what is wrong, the error has the lowest code
 abbrev pub IsLowest : (DynError → Type 0) → DynError → Type 0
 IsLowest Fault e = Fault e × ((other : DynError) → code other < code e → Fault other → ⊥)
+
+-- none of the faults of an item or a field, which are looked for before any memory is taken
+abbrev pub HasNoEarlyFault : (DynError → Type 0) → Type 0
+HasNoEarlyFault Fault = (e : DynError) → code e < 605 → Fault e → ⊥
 
 -- nothing is wrong
 abbrev pub HasNoFault : (DynError → Type 0) → Type 0

@@ -1,6 +1,6 @@
 -- What a test of contents reports: nothing, or of what is wrong the error of the lowest code. A key that stands twice is found by a test
 -- of its own, since two contents of one oneof are reported before it.
-use Rattle.std.specs.Prelude.{◌≡◌, ℕ, ◌<◌, ◌≤◌, ◌⊎◌, ⊤, Bool, true, false, length, nat_eq, Some, Result, Ok, Err}
+use Rattle.std.specs.Prelude.{◌≡◌, ℕ, ◌<◌, ⊤, Bool, true, false, length, nat_eq, Some, Result, Ok, Err}
 use Rattle.std.specs.List.{AllByRecursion}
 use Rattle.pg_schema.specs.declared.parts.field.TypeId.{TypeId}
 use Rattle.pg_schema.specs.declared.parts.field.Scalar.{Scalar}
@@ -13,7 +13,7 @@ use Rattle.pg_dyn.specs.declared.error.DynError.{DynError}
 use Rattle.pg_dyn.specs.declared.message.Content.{Content}
 use Rattle.pg_dyn.specs.declared.message.Content.TheVariants as contents
 use Rattle.pg_dyn.specs.declared.message.Value.{Value}
-use Rattle.pg_dyn.specs.setting.ContentFaults.{ElementFault, code, IsLowest}
+use Rattle.pg_dyn.specs.setting.ContentFaults.{ElementFault, FirstFault, code, IsLowest}
 use Rattle.pg_dyn.specs.ContentFits.{ItemFits, is_zero_value}
 use Rattle.pg_dyn.specs.Kept.{KeptItem}
 use Rattle.pg_dyn.specs.Message.{Leaf}
@@ -31,16 +31,12 @@ abbrev pub reported_code : Result (Unit {0}) DynError → ℕ
 reported_code (Ok t) = 1000
 reported_code (Err e) = code e
 
--- neither answer has a code below that of the result
-abbrev pub IsLowestOf : Result (Unit {0}) DynError → Result (Unit {0}) DynError → Result (Unit {0}) DynError → Type 0
-IsLowestOf first second result = (reported_code result ≤ reported_code first) × (reported_code result ≤ reported_code second)
-
 -- an entry of a map
 abbrev pub EntryFits : Shape → Scalar → Element → Value × Value → Type 0
 EntryFits shape key element e = IsItemOf key e.0 × ItemFits shape element e.1
 
 abbrev pub EntryFault : Shape → Scalar → Element → Value × Value → DynError → Type 0
-EntryFault shape key element e error = ElementFault shape (elements.Scalar key) e.0 error ⊎ ElementFault shape element e.1 error
+EntryFault shape key element e error = FirstFault (ElementFault shape (elements.Scalar key) e.0) (ElementFault shape element e.1) error
 
 -- the content has the shape of the presence, and each item is one of its element
 abbrev pub ItemsFit : Shape → Presence → Element → Content → Type 0

@@ -20,6 +20,8 @@ ghost use Rattle.pg_schema.specs.declared.parts.field.Element.TheVariants as ele
 use crate::accept::{element_wire_type, is_packed, map_key};
 use crate::encoding::body::wire_type_of;
 use crate::encoding::lending::{LeafRef, Lends};
+use crate::encoding::numbers::count_numbers;
+use crate::reading::elements::scalar_of;
 use crate::word::word_of;
 use pg_schema::{Element, Field, Scalar, Schema};
 use pg_wire::{WireType, tag_len, varint_len};
@@ -40,7 +42,7 @@ pub(crate) fn saturated_len(len: usize) -> usize
 }
 
 /// The sum of two lengths that are counted so.
-fn add(first: usize, second: usize) -> usize
+pub(crate) fn add(first: usize, second: usize) -> usize
     ensures { (m n : ℕ) → first ≡ capped m → second ≡ capped n → result ≡ capped (m + n) }
 {
     saturated_len(saturated_len(first) + saturated_len(second))
@@ -314,8 +316,13 @@ pub(crate) fn count_content<M: Lends>(
             count_entries::<M>(held, schema, field.number, key, field.element, inner)
         }
         None => {
+            let packed = is_packed(field.presence);
+            if let Some(numbers) = M::numbers(content) {
+                let scalar = scalar_of(field.element);
+                return count_numbers(field.number, scalar, packed, numbers, inner);
+            }
             let values = M::items(content);
-            if is_packed(field.presence) {
+            if packed {
                 return count_packed::<M>(field.number, field.element, values, inner);
             }
             count_items::<M>(values, schema, field.number, field.element, inner)

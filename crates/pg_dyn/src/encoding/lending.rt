@@ -1,16 +1,18 @@
 //! Messages as a writer goes over them, whether they own their parts or borrow them.
 
-ghost use Rattle.std.specs.Prelude.{◌≡◌, ◌≢◌, [], ℕ, List, Bool, map, MatchOption};
+ghost use Rattle.std.specs.Prelude.{◌≡◌, ◌≢◌, [], ℕ, List, Bool, true, ⊤, map, MatchOption};
 ghost use Rattle.std.specs.List.{AllByRecursion};
 ghost use Rattle.pg_wire.specs.Records.{WireRecord};
 ghost use Rattle.pg_dyn.specs.Kept.{Kept, KeptItem, ends, type_of, unknown_of};
-ghost use Rattle.pg_dyn.specs.encoding.Lending.{AreKeyed, AreKeyless, AreOf, Bare, Child, IsLone, all_parts, bare_leaf, entry_part, item_part, leaf_lent};
+ghost use Rattle.pg_dyn.specs.encoding.Lending.{AreKeyed, AreKeyless, AreOf, Bare, Child, IsLone, all_parts, bare_leaf, entry_part, item_part, leaf_lent, lent_item};
+ghost use Rattle.pg_dyn.specs.NumberLists.{numbers_in};
 ghost use Rattle.pg_dyn.specs.Message.{Part};
 ghost use Rattle.pg_dyn.specs.Replacing.{kept_onto};
 ghost use Rattle.pg_dyn.specs.Seen.{Rises};
 
 use crate::message::{Content, Message, UnknownRecord, Value};
 use crate::message_ref::{ContentRef, EntryRef, MessageRef, ValueRef};
+use crate::number_list::NumberList;
 use pg_schema::TypeId;
 use pg_wire::Record;
 
@@ -44,6 +46,8 @@ pub(crate) trait Lends {
 
     ghost parts: { ℕ → Self.Content → List (Part KeptItem) };
 
+    ghost has_values: { Self.Content → Type 0 };
+
     ghost record_of: { Self.Unknown → WireRecord };
 
     /// The type of the message.
@@ -67,9 +71,15 @@ pub(crate) trait Lends {
     fn record_bytes<'b>(found: &'b Self::Unknown) -> &'b [u8]
         ensures { result.now ≡ (record_of found.now).bytes };
 
-    /// The items of a content that isn't a map's.
+    /// The numbers of a content that is kept as a list of them; `None` of another.
+    fn numbers<'b>(content: &'b Self::Content) -> Option<&'b NumberList>
+        ensures { MatchOption result (has_values content.now)
+            (λ numbers. (number : ℕ) → parts number content.now
+            ≡ map (item_part lent_item number true) (numbers_in numbers.now)) };
+
+    /// The items of another content that isn't a map's.
     fn items<'b>(content: &'b Self::Content) -> &'b [Self::Value]
-        ensures { (number : ℕ) → AreKeyless (parts number content.now)
+        ensures { (number : ℕ) → has_values content.now → AreKeyless (parts number content.now)
             → (listed : Bool) × (parts number content.now
             ≡ map (item_part item number listed) result.now) };
 
@@ -118,6 +128,8 @@ impl Lends for Message {
 
     ghost parts = { content_seen };
 
+    ghost has_values = { λ _. ⊤ };
+
     ghost record_of = { record_seen };
 
     fn message_type(&self) -> TypeId {
@@ -134,6 +146,11 @@ impl Lends for Message {
 
     fn record_bytes<'b>(found: &'b UnknownRecord) -> &'b [u8] {
         &found.bytes
+    }
+
+    #[inline(always)]
+    fn numbers<'b>(_content: &'b Content) -> Option<&'b NumberList> {
+        None
     }
 
     #[inline(always)]
@@ -186,7 +203,7 @@ impl Lends for Message {
 
 impl<'a> Lends for MessageRef<'a> {
     ghost use Rattle.pg_dyn.specs.Borrowed.{content_seen};
-    ghost use Rattle.pg_dyn.specs.encoding.Lending.{lent_item};
+    ghost use Rattle.pg_dyn.specs.encoding.Lending.{HasValues};
     ghost use Rattle.pg_wire.specs.Reads.{seen_record};
 
     type Value = ValueRef<'a>;
@@ -207,6 +224,8 @@ impl<'a> Lends for MessageRef<'a> {
 
     ghost parts = { content_seen };
 
+    ghost has_values = { HasValues };
+
     ghost record_of = { seen_record };
 
     fn message_type(&self) -> TypeId {
@@ -226,11 +245,20 @@ impl<'a> Lends for MessageRef<'a> {
     }
 
     #[inline(always)]
+    fn numbers<'b>(content: &'b ContentRef<'a>) -> Option<&'b NumberList> {
+        match content {
+            ContentRef::Numbers(numbers) => Some(numbers),
+            ContentRef::One(_) | ContentRef::Many(_) | ContentRef::Map(_) => None,
+        }
+    }
+
+    #[inline(always)]
     fn items<'b>(content: &'b ContentRef<'a>) -> &'b [ValueRef<'a>] {
         match content {
             ContentRef::One(value) => std::slice::from_ref(value),
             ContentRef::Many(values) => values,
             ContentRef::Map(_) => &[],
+            ContentRef::Numbers(_) => &[],
         }
     }
 
@@ -238,7 +266,7 @@ impl<'a> Lends for MessageRef<'a> {
     fn entries<'b>(content: &'b ContentRef<'a>) -> &'b [EntryRef<'a>] {
         match content {
             ContentRef::Map(entries) => entries,
-            ContentRef::One(_) | ContentRef::Many(_) => &[],
+            ContentRef::One(_) | ContentRef::Many(_) | ContentRef::Numbers(_) => &[],
         }
     }
 

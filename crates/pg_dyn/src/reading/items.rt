@@ -1,12 +1,14 @@
 //! What a field holds after the items that are read, and the zero of each scalar.
 
-ghost use Rattle.std.specs.Prelude.{◌≡◌};
+ghost use Rattle.std.specs.Prelude.{◌≡◌, map};
 ghost use Rattle.pg_dyn.specs.Borrowed.{leaf_of};
 ghost use Rattle.pg_dyn.specs.BorrowedItems.{IsItemKept, is_zero_value};
 ghost use Rattle.pg_dyn.specs.Coding.{scalar_form, zero_leaf};
+ghost use Rattle.pg_dyn.specs.NumberLists.{number_item};
 ghost use Rattle.pg_dyn.specs.reading.Held.{IsHeldList, item_left};
 
 use crate::message_ref::{ContentRef, ValueRef};
+use crate::number_list::NumberList;
 use pg_schema::{Presence, Scalar};
 
 impl<'a> ValueRef<'a> {
@@ -43,6 +45,16 @@ pub(crate) fn list_left<'a>(values: Vec<ValueRef<'a>>) -> Option<ContentRef<'a>>
         return None;
     }
     Some(ContentRef::Many(values))
+}
+
+// The same of a list of numbers of the scalar type, by their words.
+pub(crate) fn numbers_left<'a>(scalar: Scalar, words: Vec<u64>) -> Option<ContentRef<'a>>
+    ensures { IsHeldList (map (number_item (scalar_form scalar)) words.items) result }
+{
+    if words.is_empty() {
+        return None;
+    }
+    Some(ContentRef::Numbers(NumberList { scalar, words }))
 }
 
 // The zero item of a scalar.

@@ -10,13 +10,11 @@ ghost use Rattle.pg_dyn.specs.reading.ByFields.{StopsFor};
 ghost use Rattle.pg_dyn.specs.Coding.{element_at, form_wire, scalar_form, word_in};
 ghost use Rattle.pg_dyn.specs.reading.Content.{packed_leaves};
 ghost use Rattle.pg_dyn.specs.declared.error.DynError.TheVariants as errors;
-ghost use Rattle.pg_dyn.specs.reading.Steps.{RowReads, RowRefused};
+ghost use Rattle.pg_dyn.specs.reading.Steps.{IsRow, RowReads, RowRefused, WordsRead};
 ghost use Rattle.pg_dyn.specs.WordOf.{HasBits};
 
 use crate::encoding::body::wire_type_of;
 use crate::error::DynError;
-use crate::message_ref::ValueRef;
-use crate::reading::scalar::word_item;
 use crate::reading::stop::Stop;
 use pg_schema::Scalar;
 use pg_wire::{WireError, WireType, read_varint};
@@ -79,20 +77,11 @@ fn row_len(wire_type: WireType, body: &[u8]) -> usize {
     }
 }
 
-// Reads a packed list of words of the wire type behind the items. Inlined, so that there is a loop
-// for each scalar.
+// Reads a packed list behind the words. Inlined, so that there is a loop for each wire type.
 #[inline(always)]
-fn push_words(
-    wire_type: WireType,
-    scalar: Scalar,
-    values: &mut Vec<ValueRef<'_>>,
-    body: &[u8],
-) -> Result<(), Stop>
-    requires packable { is_packable (elements.Scalar scalar) ≡ true }
-    requires wire { wire_type ≡ form_wire (scalar_form scalar) }
-    ensures ok { OnOk result (RowReads scalar body.now values.old.items values.new.items) }
-    ensures err { IfErr result (StopsFor
-        (is_some (packed_leaves (scalar_form scalar) body.now) ≡ true)) }
+fn push_words(wire_type: WireType, words: &mut Vec<u64>, body: &[u8]) -> Result<(), Stop>
+    ensures ok { OnOk result (WordsRead wire_type body.now words.old.items words.new.items) }
+    ensures err { IfErr result (StopsFor (IsRow wire_type body.now)) }
 {
     let mut start = 0;
     while start < body.len() {
@@ -100,44 +89,38 @@ fn push_words(
             Ok(read) => read,
             Err(_) => return Err(Stop::Fault),
         };
-        values.push(word_item(scalar, word))?;
+        words.push(word)?;
         start += len;
     }
     Ok(())
 }
 
-/// Reads a packed list behind the items (Protocol Buffers encoding guide, "Packed Repeated
-/// Fields"). Room for all of them is made at once. Not inlined, so that a level of messages takes
-/// no more of the stack for it.
+// The same, by the loop of the wire type.
+fn push_row(wire_type: WireType, words: &mut Vec<u64>, body: &[u8]) -> Result<(), Stop>
+    ensures ok { OnOk result (WordsRead wire_type body.now words.old.items words.new.items) }
+    ensures err { IfErr result (StopsFor (IsRow wire_type body.now)) }
+{
+    match wire_type {
+        WireType::Varint => push_words(WireType::Varint, words, body),
+        WireType::I64 => push_words(WireType::I64, words, body),
+        WireType::I32 => push_words(WireType::I32, words, body),
+        WireType::Len => push_words(WireType::Len, words, body),
+    }
+}
+
+/// Reads a packed list of numbers of the scalar type behind the words (Protocol Buffers encoding
+/// guide, "Packed Repeated Fields"). Room for all of them is made at once. Not inlined, so that a
+/// level of messages takes no more of the stack for it.
 #[inline(never)]
-pub(crate) fn push_packed(
-    scalar: Scalar,
-    values: &mut Vec<ValueRef<'_>>,
-    body: &[u8],
-) -> Result<(), Stop>
+pub(crate) fn push_packed(scalar: Scalar, words: &mut Vec<u64>, body: &[u8]) -> Result<(), Stop>
     requires { is_packable (elements.Scalar scalar) ≡ true }
-    ensures ok { OnOk result (RowReads scalar body.now values.old.items values.new.items) }
+    ensures ok { OnOk result (RowReads scalar body.now words.old.items words.new.items) }
     ensures err { IfErr result (StopsFor
         (is_some (packed_leaves (scalar_form scalar) body.now) ≡ true)) }
 {
-    values.reserve(row_len(wire_type_of(scalar), body))?;
-    match scalar {
-        Scalar::Double => push_words(WireType::I64, Scalar::Double, values, body),
-        Scalar::Float => push_words(WireType::I32, Scalar::Float, values, body),
-        Scalar::Int32 => push_words(WireType::Varint, Scalar::Int32, values, body),
-        Scalar::Int64 => push_words(WireType::Varint, Scalar::Int64, values, body),
-        Scalar::Uint32 => push_words(WireType::Varint, Scalar::Uint32, values, body),
-        Scalar::Uint64 => push_words(WireType::Varint, Scalar::Uint64, values, body),
-        Scalar::Sint32 => push_words(WireType::Varint, Scalar::Sint32, values, body),
-        Scalar::Sint64 => push_words(WireType::Varint, Scalar::Sint64, values, body),
-        Scalar::Fixed32 => push_words(WireType::I32, Scalar::Fixed32, values, body),
-        Scalar::Fixed64 => push_words(WireType::I64, Scalar::Fixed64, values, body),
-        Scalar::Sfixed32 => push_words(WireType::I32, Scalar::Sfixed32, values, body),
-        Scalar::Sfixed64 => push_words(WireType::I64, Scalar::Sfixed64, values, body),
-        Scalar::Bool => push_words(WireType::Varint, Scalar::Bool, values, body),
-        Scalar::String => push_words(WireType::Len, Scalar::String, values, body),
-        Scalar::Bytes => push_words(WireType::Len, Scalar::Bytes, values, body),
-    }
+    let wire_type = wire_type_of(scalar);
+    words.reserve(row_len(wire_type, body))?;
+    push_row(wire_type, words, body)
 }
 
 /// Refuses a packed list that isn't one, which stands in the record at that place.

@@ -13,14 +13,14 @@ ghost use Rattle.pg_dyn.specs.WordOf.{HasBits};
 
 use crate::encoding::body::wire_type_of;
 use crate::message_ref::ValueRef;
+use crate::number_list::word_number;
 use crate::reading::stop::Stop;
-use crate::word::number_of;
 use pg_schema::Scalar;
 use pg_wire::{WireType, read_varint};
 
-// The word that stands in a body of the wire type.
+/// The word that stands in a body of the wire type.
 #[tactic(auto, unfolding(crate::specs::Coding::word_in))]
-fn body_word(wire_type: WireType, body: &[u8]) -> u64
+pub(crate) fn body_word(wire_type: WireType, body: &[u8]) -> u64
     requires { HasShape wire_type body.now }
     ensures word { result ≡ word_in wire_type body.now }
     ensures bits { HasBits wire_type result }
@@ -42,19 +42,15 @@ fn body_word(wire_type: WireType, body: &[u8]) -> u64
     }
 }
 
-/// The item that a reader makes of a word, which is no text and no bytes.
-pub(crate) fn word_item<'a>(scalar: Scalar, word: u64) -> ValueRef<'a>
+// The item that a reader makes of a word, which is no text and no bytes.
+fn word_item<'a>(scalar: Scalar, word: u64) -> ValueRef<'a>
     requires packable { is_packable (elements.Scalar scalar) ≡ true }
     requires bits { HasBits (form_wire (scalar_form scalar)) word }
     ensures leaf { (body : List ℕ) → word_in (form_wire (scalar_form scalar)) body ≡ word
         → leaf_in (scalar_form scalar) body ≡ Some (leaf_of result) }
     ensures item { IsItemKept scalar result }
 {
-    match scalar {
-        Scalar::Float => ValueRef::F32(word as u32),
-        Scalar::Double => ValueRef::F64(word),
-        _ => ValueRef::Int(number_of(scalar, word)),
-    }
+    word_number(scalar, word).item()
 }
 
 /// The item of a body of the scalar's own wire type. Not inlined, so that a level of messages takes

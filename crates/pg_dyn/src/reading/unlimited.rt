@@ -10,9 +10,8 @@ ghost use Rattle.pg_dyn.specs.Texts.{KeepsTexts};
 ghost use Rattle.pg_dyn.specs.declared.error.DynError.TheVariants as errors;
 
 use crate::error::DynError;
-use crate::message::Message;
 use crate::message_ref::MessageRef;
-use crate::reading::decoding::{decode, decode_ref};
+use crate::reading::decoding::decode_ref;
 use pg_schema::{Schema, TypeId};
 use std::alloc::Global;
 
@@ -41,29 +40,4 @@ pub fn decode_ref_unlimited<'a>(
 {
     // No message stands deeper than the bytes are many.
     decode_ref(alloc, schema, type_id, bytes, bytes.len() + 1)
-}
-
-/// The message that bytes are read as, as `decode_ref_unlimited` reads it, with texts, bytes and
-/// unknown records of its own.
-///
-/// The errors are those of `decode_ref_unlimited`.
-pub fn decode_unlimited(
-    alloc: Global,
-    schema: &Schema,
-    type_id: TypeId,
-    bytes: &[u8],
-) -> Result<Message, DynError>
-    requires type_id { type_id.index < length (shape_of schema.now) }
-    ensures message { IfOk result (λ m. dec (shape_of schema.now) type_id bytes.now
-        ≡ Some (message_of m)) }
-    ensures fits { IfOk result (λ m. Fits (shape_of schema.now) m × (type_of m ≡ type_id)) }
-    ensures texts { IfOk result (KeepsTexts (shape_of schema.now)) }
-    ensures refused { IfErr result (λ e.
-        MayRefuseUnlimited (shape_of schema.now) type_id bytes.now e) }
-    ensures unread { IfErr result (λ e. (e ≡ errors.Memory → ⊥)
-        → dec (shape_of schema.now) type_id bytes.now ≡ None) }
-    ensures lacking { IfErr result (λ e. e ≡ errors.Memory
-        → is_some (dec (shape_of schema.now) type_id bytes.now) ≡ true) }
-{
-    decode(alloc, schema, type_id, bytes, bytes.len() + 1)
 }

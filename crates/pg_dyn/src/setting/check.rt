@@ -1,17 +1,17 @@
 //! Whether a content is one of its field, and what is wrong with it otherwise.
 
-ghost use Rattle.std.specs.Prelude.{◌≡◌, ◌↔◌, ◌⊎◌, ℕ, ◌<◌, IfErr, IfOk, IsOk, IsTrue};
+ghost use Rattle.std.specs.Prelude.{◌≡◌, ◌↔◌, ◌⊎◌, ℕ, ◌<◌, ◌≤◌, IfErr, IfOk, IsOk, IsTrue};
 ghost use Rattle.std.specs.List.{AllByRecursion};
 ghost use Rattle.std.specs.Str.{IsValidUpTo};
 ghost use Rattle.pg_schema.specs.Invariant.{IsSchema};
 ghost use Rattle.pg_schema.specs.Parts.{field_shape, shape_of};
 ghost use Rattle.pg_dyn.specs.declared.error.DynError.TheVariants as errors;
 ghost use Rattle.pg_dyn.specs.Coding.{InRange, Text, scalar_form};
-ghost use Rattle.pg_dyn.specs.setting.ContentFaults.{AnyOf, code, ContentFault, ElementFault, FieldFault, IsLowest};
+ghost use Rattle.pg_dyn.specs.setting.ContentFaults.{code, ContentFault, ElementFault, FieldFault, FirstOf, IsLowest};
 ghost use Rattle.pg_dyn.specs.ContentFits.{ItemFits};
 ghost use Rattle.pg_dyn.specs.Message.{Bytes, F32, F64};
 ghost use Rattle.pg_dyn.specs.ScalarItems.{HoldsBytes, IsFaultOf, IsItemOf};
-ghost use Rattle.pg_dyn.specs.setting.Reported.{EntryFault, EntryFits, IsLowestOf, IsTaken, ItemsFit, Reports};
+ghost use Rattle.pg_dyn.specs.setting.Reported.{EntryFault, EntryFits, IsTaken, ItemsFit, Reports, reported_code};
 ghost use Rattle.pg_dyn.specs.WordOf.{IsInteger, IsIntegerOf};
 
 use crate::error::DynError;
@@ -110,16 +110,18 @@ pub(crate) fn check_item(scalar: Scalar, value: &Value) -> Result<(), DynError>
     }
 }
 
-/// Of two answers the error of the lower code. `Ok` only where both are.
+/// Of two answers the error of the lower code, of equal ones the first. `Ok` only where both are.
 pub(crate) fn lower(
     first: Result<(), DynError>,
     second: Result<(), DynError>,
 ) -> Result<(), DynError>
-    ensures one { (result ≡ first) ⊎ (result ≡ second) }
-    ensures lowest { IsLowestOf first second result }
+    ensures one { (result ≡ first)
+        ⊎ ((result ≡ second) × (reported_code second < reported_code first)) }
+    ensures lowest { reported_code result ≤ reported_code second }
 {
     match (first, second) {
-        (Ok(()), _) => second,
+        (Ok(()), Ok(())) => first,
+        (Ok(()), Err(_)) => second,
         (Err(_), Ok(())) => first,
         (Err(one), Err(other)) => {
             if other.rank() < one.rank() {
@@ -154,13 +156,13 @@ fn check_element(schema: &Schema, element: Element, value: &Value) -> Result<(),
 fn check_values(schema: &Schema, element: Element, values: &[Value]) -> Result<(), DynError>
     requires { IsSchema schema.now }
     ensures { Reports (AllByRecursion (ItemFits (shape_of schema.now) element) values.now)
-        (λ e. AnyOf (λ v. ElementFault (shape_of schema.now) element v e) values.now) result }
+        (FirstOf (ElementFault (shape_of schema.now) element) values.now) result }
 {
-    let mut told = Ok(());
+    let mut reported = Ok(());
     for value in values {
-        told = lower(told, check_element(schema, element, value));
+        reported = lower(reported, check_element(schema, element, value));
     }
-    told
+    reported
 }
 
 // The same of the key and the value of an entry.
@@ -187,13 +189,13 @@ fn check_entries(
 ) -> Result<(), DynError>
     requires { IsSchema schema.now }
     ensures { Reports (AllByRecursion (EntryFits (shape_of schema.now) key element) entries.now)
-        (λ e. AnyOf (λ x. EntryFault (shape_of schema.now) key element x e) entries.now) result }
+        (FirstOf (EntryFault (shape_of schema.now) key element) entries.now) result }
 {
-    let mut told = Ok(());
+    let mut reported = Ok(());
     for entry in entries {
-        told = lower(told, check_entry(schema, key, element, entry));
+        reported = lower(reported, check_entry(schema, key, element, entry));
     }
-    told
+    reported
 }
 
 // Whether the content is one of the field, but for keys that stand twice.

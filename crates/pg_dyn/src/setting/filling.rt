@@ -7,7 +7,7 @@ ghost use Rattle.pg_schema.specs.Invariant.{IsSchema};
 ghost use Rattle.pg_schema.specs.Parts.{shape_of};
 ghost use Rattle.pg_schema.specs.Shape.{field_at, fields};
 ghost use Rattle.pg_dyn.specs.declared.error.DynError.TheVariants as errors;
-ghost use Rattle.pg_dyn.specs.setting.ContentFaults.{AnyOf, ContentFault, ContentsFault, HasKeyTwice, HasNoFault, MayRefuseFor, PassTwice};
+ghost use Rattle.pg_dyn.specs.setting.ContentFaults.{AnyOf, ContentFault, ContentsFault, FirstOf, HasKeyTwice, HasNoEarlyFault, HasNoFault, MayRefuseFor, PassTwice};
 ghost use Rattle.pg_dyn.specs.ContentFits.{NoneSiblings};
 ghost use Rattle.pg_dyn.specs.Fits.{Fits};
 ghost use Rattle.pg_dyn.specs.Seen.{Rises};
@@ -42,14 +42,14 @@ fn check_contents(
 ) -> Result<(), DynError>
     requires { IsSchema schema.now }
     ensures { Reports (AllByRecursion (TakesContent (shape_of schema.now) type_id) contents.now)
-        (λ e. AnyOf (λ c. ContentFault (shape_of schema.now) type_id c.0 c.1 e) contents.now)
+        (FirstOf (λ c. ContentFault (shape_of schema.now) type_id c.0 c.1) contents.now)
         result }
 {
-    let mut told = Ok(());
+    let mut reported = Ok(());
     for one in contents {
-        told = lower(told, check_one(schema, type_id, one));
+        reported = lower(reported, check_one(schema, type_id, one));
     }
-    told
+    reported
 }
 
 // Whether no key stands twice in one of the contents.
@@ -155,8 +155,8 @@ impl Message {
     ///
     /// The errors are `NoSuchField`, `WrongKind`, `OutOfRange`, `NotUtf8`, `OneofTwice` where two
     /// contents are of one number or of members of one oneof (proto3 language guide, "Oneof"),
-    /// `DuplicateKey`, of several the first in this order, whichever content has it, and `Memory`.
-    /// The contents are then dropped.
+    /// `DuplicateKey`, of several the first in this order, whichever content has it, and `Memory`,
+    /// which comes only where none of the first four does. The contents are then dropped.
     pub fn whole(
         alloc: Global,
         schema: &Schema,
@@ -170,6 +170,8 @@ impl Message {
             (HasNoFault (ContentsFault (shape_of schema.now) type_id contents.items)) }
         ensures refused { IfErr result
             (MayRefuseFor (ContentsFault (shape_of schema.now) type_id contents.items)) }
+        ensures lacking { IfErr result (λ e. e ≡ errors.Memory → HasNoEarlyFault
+            (ContentsFault (shape_of schema.now) type_id contents.items)) }
     {
         // What holds of every schema.
         schema.parts();

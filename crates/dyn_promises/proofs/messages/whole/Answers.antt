@@ -12,3 +12,6 @@ returns-clause-accepted c = search rules
 
 pub returns-clause-refused : goal.returns-clause-refused
 returns-clause-refused c = search rules
+
+pub returns-clause-lacking : goal.returns-clause-lacking
+returns-clause-lacking c = search rules

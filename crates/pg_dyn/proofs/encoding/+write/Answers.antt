@@ -1,18 +1,21 @@
 -- What is written of each item, entry, content and message, and the lengths that are left.
-use Rattle.std.proofs.Common.{◌≡◌, ◌≤◌, ◌++◌, length, flat_map, Some, refl, ap, ap₂, sym, subst, ◌∙◌, arith, append_assoc, length-append}
+use Rattle.std.proofs.Common.{true, ◌≡◌, ◌≤◌, ◌++◌, length, flat_map, Some, refl, ap, ap₂, sym, subst, ◌∙◌, arith, append_assoc, length-append}
 use Rattle.std.proofs.lemmas.Result.{IfErr-weaker, err_from_is_err_and}
 use Rattle.std.specs.List.{AllByRecursion}
 use Rattle.pg_schema.specs.declared.parts.field.Element.TheVariants as elements
+use Rattle.pg_schema.specs.declared.parts.field.Scalar.{Scalar}
+use Rattle.pg_dyn.specs.NumberLists.{numbers_in}
+use Rattle.pg_dyn.proofs.lemmas.encoding.NumberWords.{numbers_fit, numbers_noted, numbers_written}
 use Rattle.pg_schema.specs.Parts.{field_shape, shape_of}
 use Rattle.pg_schema.specs.Shape.{fields, field_at}
 use Rattle.pg_wire.specs.declared.record.WireType.TheVariants.{Len}
 use Rattle.pg_wire.specs.Records.{written}
 use Rattle.pg_dyn.specs.Coding.{InRange, scalar_form}
 use Rattle.pg_dyn.specs.Kept.{type_of, unknown_of}
-use Rattle.pg_dyn.specs.encoding.Lending.{HoldsParts, bare_leaf}
+use Rattle.pg_dyn.specs.encoding.Lending.{HoldsParts, bare_leaf, item_part, lent_item}
 use Rattle.pg_dyn.specs.PartsFit.{IsPartOf}
 use Rattle.pg_dyn.specs.encoding.Writing.{bytes_of, item_record}
-use Rattle.pg_dyn.specs.encoding.Written.{BareFits, capped, entry_body, entry_record, field_lengths, field_written, item_body, item_bytes, item_lengths, own_bytes}
+use Rattle.pg_dyn.specs.encoding.Written.{BareFits, LeavesFit, capped, entry_body, entry_record, field_lengths, field_written, item_body, item_bytes, item_lengths, number_bytes, number_lengths, own_bytes}
 use Rattle.pg_dyn.proofs.lemmas.encoding.EncodeSteps.{adds_as, at_the_end, content_bytes, contents_held, entries_fit, entries_noted, entries_written, entry_in_turn, field_bytes, field_fits, first_is, if_ok, values_fit, items_noted, items_written, keyed, keyless, keys_fit, later_is, leaves_fit, longer, may_not_as, on_the_way, own_is, packable, packed_noted, packed_written, packs, record_in_turn, record_size, records_are, stopped_on_the_way}
 use Rattle.pg_dyn.proofs.lemmas.FitsSteps.{some_not_none}
 use Rattle.pg_dyn.proofs.lemmas.encoding.LentWeights.{content_lighter, entries_weigh, item_lighter, items_weigh, parts_weight}
@@ -317,30 +320,30 @@ pub write_content-push_packed-requires : goal.write_content-push_packed-requires
 write_content-push_packed-requires g t c =
     let shape = shape_of c.args.schema.now in
     let f = field_shape c.args.field.now in
-    let are = c.items-values.ensures c.args.field.now.number (keyless shape f (g.M.Lends.parts c.args.field.now.number c.args.content.now) c.in-None.ensures c.requires.fit) in
+    let are = c.items-values.ensures c.args.field.now.number c.in_default.ensures (keyless shape f (g.M.Lends.parts c.args.field.now.number c.args.content.now) c.in-None.ensures c.requires.fit) in
     let fit = subst (AllByRecursion (IsPartOf (shape_of c.args.schema.now) (field_shape c.args.field.now))) are.1 c.requires.fit in
-    let packed = sym c.is_packed.ensures ∙ c.if-is_packed.true in
+    let packed = sym c.is_packed-packed.ensures ∙ c.if-packed.true in
     leaves_fit g.M.Lends.item shape f.element c.items-values.result.now (packable f.presence f.element packed c.requires.packed) (values_fit g.M.Lends.item shape f c.args.field.now.number are.0 c.items-values.result.now fit)
 
-pub write_content-returns-then-is_packed-clause-ok : goal.write_content-returns-then-is_packed-clause-ok
-write_content-returns-then-is_packed-clause-ok g t c =
+pub write_content-returns-then-packed-clause-ok : goal.write_content-returns-then-packed-clause-ok
+write_content-returns-then-packed-clause-ok g t c =
     let shape = shape_of c.args.schema.now in
     let f = field_shape c.args.field.now in
-    let are = c.items-values.ensures c.args.field.now.number (keyless shape f (g.M.Lends.parts c.args.field.now.number c.args.content.now) c.in-None.ensures c.requires.fit) in
+    let are = c.items-values.ensures c.args.field.now.number c.in_default.ensures (keyless shape f (g.M.Lends.parts c.args.field.now.number c.args.content.now) c.in-None.ensures c.requires.fit) in
     let fit = subst (AllByRecursion (IsPartOf (shape_of c.args.schema.now) (field_shape c.args.field.now))) are.1 c.requires.fit in
-    let packed = sym c.is_packed.ensures ∙ c.if-is_packed.true in
+    let packed = sym c.is_packed-packed.ensures ∙ c.if-packed.true in
     adds_as c.push_packed.result (λ x. x.now) c.args.lengths.now _ _ c.args.out.now.items _ _ c.push_packed.new.out.items
     (sym (ap (field_lengths shape f) are.1 ∙ packed_noted g.M.Lends.item shape f are.0 c.items-values.result.now packed))
     (sym (ap (field_written shape f) are.1 ∙ packed_written g.M.Lends.item shape f are.0 c.items-values.result.now packed (packable f.presence f.element packed c.requires.packed) (values_fit g.M.Lends.item shape f c.args.field.now.number are.0 c.items-values.result.now fit)))
     c.push_packed.ensures.ok
 
-pub write_content-returns-then-is_packed-clause-err : goal.write_content-returns-then-is_packed-clause-err
-write_content-returns-then-is_packed-clause-err g t c =
+pub write_content-returns-then-packed-clause-err : goal.write_content-returns-then-packed-clause-err
+write_content-returns-then-packed-clause-err g t c =
     let shape = shape_of c.args.schema.now in
     let f = field_shape c.args.field.now in
-    let are = c.items-values.ensures c.args.field.now.number (keyless shape f (g.M.Lends.parts c.args.field.now.number c.args.content.now) c.in-None.ensures c.requires.fit) in
+    let are = c.items-values.ensures c.args.field.now.number c.in_default.ensures (keyless shape f (g.M.Lends.parts c.args.field.now.number c.args.content.now) c.in-None.ensures c.requires.fit) in
     let fit = subst (AllByRecursion (IsPartOf (shape_of c.args.schema.now) (field_shape c.args.field.now))) are.1 c.requires.fit in
-    let packed = sym c.is_packed.ensures ∙ c.if-is_packed.true in
+    let packed = sym c.is_packed-packed.ensures ∙ c.if-packed.true in
     may_not_as c.push_packed.result c.args.lengths.now _ _ _ _
     (sym (ap (field_lengths shape f) are.1 ∙ packed_noted g.M.Lends.item shape f are.0 c.items-values.result.now packed))
     (sym (ap (field_written shape f) are.1 ∙ packed_written g.M.Lends.item shape f are.0 c.items-values.result.now packed (packable f.presence f.element packed c.requires.packed) (values_fit g.M.Lends.item shape f c.args.field.now.number are.0 c.items-values.result.now fit)))
@@ -350,31 +353,69 @@ pub write_content-write_items-requires : goal.write_content-write_items-requires
 write_content-write_items-requires g t c κs within =
     let shape = shape_of c.args.schema.now in
     let f = field_shape c.args.field.now in
-    let are = c.items-values.ensures c.args.field.now.number (keyless shape f (g.M.Lends.parts c.args.field.now.number c.args.content.now) c.in-None.ensures c.requires.fit) in
+    let are = c.items-values.ensures c.args.field.now.number c.in_default.ensures (keyless shape f (g.M.Lends.parts c.args.field.now.number c.args.content.now) c.in-None.ensures c.requires.fit) in
     let fit = subst (AllByRecursion (IsPartOf (shape_of c.args.schema.now) (field_shape c.args.field.now))) are.1 c.requires.fit in
     let weigh = ap parts_weight are.1 ∙ items_weigh g.M.Lends.item c.args.field.now.number are.0 c.items-values.result.now in (
       omega (arith, weigh, c.decreases),
       (within.0, (within.1.0, (within.1.1.0, (within.1.1.1.0, (within.1.1.1.1, (c.requires.is_schema, values_fit g.M.Lends.item shape f c.args.field.now.number are.0 c.items-values.result.now fit)))))),
     )
 
-pub write_content-returns-else-is_packed-clause-ok : goal.write_content-returns-else-is_packed-clause-ok
-write_content-returns-else-is_packed-clause-ok g t c =
+pub write_content-returns-else-packed-clause-ok : goal.write_content-returns-else-packed-clause-ok
+write_content-returns-else-packed-clause-ok g t c =
     let shape = shape_of c.args.schema.now in
     let f = field_shape c.args.field.now in
-    let are = c.items-values.ensures c.args.field.now.number (keyless shape f (g.M.Lends.parts c.args.field.now.number c.args.content.now) c.in-None.ensures c.requires.fit) in
-    let single = sym c.is_packed.ensures ∙ c.if-is_packed.false in
+    let are = c.items-values.ensures c.args.field.now.number c.in_default.ensures (keyless shape f (g.M.Lends.parts c.args.field.now.number c.args.content.now) c.in-None.ensures c.requires.fit) in
+    let single = sym c.is_packed-packed.ensures ∙ c.if-packed.false in
     adds_as c.write_items.result (λ x. x.now) c.args.lengths.now _ _ c.args.out.now.items _ _ c.write_items.new.out.items
     (sym (ap (field_lengths shape f) are.1 ∙ items_noted g.M.Lends.item shape f are.0 c.items-values.result.now single))
     (sym (ap (field_written shape f) are.1 ∙ items_written g.M.Lends.item shape f are.0 c.items-values.result.now single c.in-None.ensures))
     c.write_items.ensures.ok
 
-pub write_content-returns-else-is_packed-clause-err : goal.write_content-returns-else-is_packed-clause-err
-write_content-returns-else-is_packed-clause-err g t c =
+pub write_content-returns-else-packed-clause-err : goal.write_content-returns-else-packed-clause-err
+write_content-returns-else-packed-clause-err g t c =
     let shape = shape_of c.args.schema.now in
     let f = field_shape c.args.field.now in
-    let are = c.items-values.ensures c.args.field.now.number (keyless shape f (g.M.Lends.parts c.args.field.now.number c.args.content.now) c.in-None.ensures c.requires.fit) in
-    let single = sym c.is_packed.ensures ∙ c.if-is_packed.false in
+    let are = c.items-values.ensures c.args.field.now.number c.in_default.ensures (keyless shape f (g.M.Lends.parts c.args.field.now.number c.args.content.now) c.in-None.ensures c.requires.fit) in
+    let single = sym c.is_packed-packed.ensures ∙ c.if-packed.false in
     may_not_as c.write_items.result c.args.lengths.now _ _ _ _
     (sym (ap (field_lengths shape f) are.1 ∙ items_noted g.M.Lends.item shape f are.0 c.items-values.result.now single))
     (sym (ap (field_written shape f) are.1 ∙ items_written g.M.Lends.item shape f are.0 c.items-values.result.now single c.in-None.ensures))
     c.write_items.ensures.err
+
+-- A content of numbers.
+
+pub write_content-push_numbers-requires : goal.write_content-push_numbers-requires
+write_content-push_numbers-requires g t c =
+    let shape = shape_of c.args.schema.now in
+    let f = field_shape c.args.field.now in
+    let ns = c.in-Some-numbers.numbers.now in
+    let are = c.in-Some-numbers.ensures c.args.field.now.number in
+    let fit = subst (AllByRecursion (IsPartOf (shape_of c.args.schema.now) (field_shape c.args.field.now))) are c.requires.fit in
+    let fits = values_fit lent_item shape f c.args.field.now.number true (numbers_in c.in-Some-numbers.numbers.now) fit in
+    subst (λ (s : Scalar). LeavesFit lent_item (elements.Scalar s) (numbers_in c.in-Some-numbers.numbers.now)) (sym c.scalar_of-scalar.ensures) (numbers_fit shape f ns fits)
+
+pub write_content-returns-in-Some-numbers-clause-ok : goal.write_content-returns-in-Some-numbers-clause-ok
+write_content-returns-in-Some-numbers-clause-ok g t c =
+    let shape = shape_of c.args.schema.now in
+    let f = field_shape c.args.field.now in
+    let ns = c.in-Some-numbers.numbers.now in
+    let are = c.in-Some-numbers.ensures c.args.field.now.number in
+    let fit = subst (AllByRecursion (IsPartOf (shape_of c.args.schema.now) (field_shape c.args.field.now))) are c.requires.fit in
+    let fits = values_fit lent_item shape f c.args.field.now.number true (numbers_in c.in-Some-numbers.numbers.now) fit in
+    adds_as c.push_numbers.result (λ x. x.now) c.args.lengths.now _ _ c.args.out.now.items _ _ c.push_numbers.new.out.items
+    (ap₂ (λ b (s : Scalar). number_lengths b (elements.Scalar s) c.in-Some-numbers.numbers.now) c.is_packed-packed.ensures c.scalar_of-scalar.ensures ∙ sym (ap (field_lengths shape f) are ∙ numbers_noted shape f ns))
+    (ap₂ (λ b (s : Scalar). number_bytes b c.args.field.now.number (elements.Scalar s) c.in-Some-numbers.numbers.now) c.is_packed-packed.ensures c.scalar_of-scalar.ensures ∙ sym (ap (field_written shape f) are ∙ numbers_written shape f ns c.in-None.ensures c.requires.packed fits))
+    c.push_numbers.ensures.ok
+
+pub write_content-returns-in-Some-numbers-clause-err : goal.write_content-returns-in-Some-numbers-clause-err
+write_content-returns-in-Some-numbers-clause-err g t c =
+    let shape = shape_of c.args.schema.now in
+    let f = field_shape c.args.field.now in
+    let ns = c.in-Some-numbers.numbers.now in
+    let are = c.in-Some-numbers.ensures c.args.field.now.number in
+    let fit = subst (AllByRecursion (IsPartOf (shape_of c.args.schema.now) (field_shape c.args.field.now))) are c.requires.fit in
+    let fits = values_fit lent_item shape f c.args.field.now.number true (numbers_in c.in-Some-numbers.numbers.now) fit in
+    may_not_as c.push_numbers.result c.args.lengths.now _ _ _ _
+    (ap₂ (λ b (s : Scalar). number_lengths b (elements.Scalar s) c.in-Some-numbers.numbers.now) c.is_packed-packed.ensures c.scalar_of-scalar.ensures ∙ sym (ap (field_lengths shape f) are ∙ numbers_noted shape f ns))
+    (ap₂ (λ b (s : Scalar). number_bytes b c.args.field.now.number (elements.Scalar s) c.in-Some-numbers.numbers.now) c.is_packed-packed.ensures c.scalar_of-scalar.ensures ∙ sym (ap (field_written shape f) are ∙ numbers_written shape f ns c.in-None.ensures c.requires.packed fits))
+    c.push_numbers.ensures.err

@@ -11,10 +11,12 @@ use Rattle.pg_dyn.specs.declared.message_ref.ContentRef.TheVariants as lent
 use Rattle.pg_dyn.specs.declared.message_ref.EntryRef.{EntryRef}
 use Rattle.pg_dyn.specs.declared.message_ref.ValueRef.{ValueRef}
 use Rattle.pg_dyn.specs.declared.message_ref.ValueRef.TheVariants as borrows
+use Rattle.pg_dyn.specs.declared.number_list.NumberList.{NumberList}
 use Rattle.pg_dyn.specs.Borrowed as borrowed
 use Rattle.pg_dyn.specs.Kept.{Kept, KeptItem, ends, type_of, unknown_of}
 use Rattle.pg_dyn.specs.encoding.Lending.{AreKeyed, AreKeyless, all_parts, bare_leaf, entry_part, in_list, item_part, lent_item, owned_item}
 use Rattle.pg_dyn.specs.Message.{Leaf, Part}
+use Rattle.pg_dyn.specs.NumberLists.{numbers_in}
 use Rattle.pg_dyn.specs.Replacing.{kept_onto}
 use Rattle.pg_dyn.specs.Seen.{IsFilled, content_seen, fields_onto, item_seen, leaf_of}
 use Rattle.pg_dyn.proofs.lemmas.ReplacingLaws.{fields_from, type_of-kept_onto, unknown_of-kept_onto}
@@ -128,23 +130,31 @@ pub lent_filled : (n : ℕ) (c : ContentRef) → borrowed.IsFilled c → borrowe
 lent_filled n (lent.One v) filled e = absurd (cc)
 lent_filled n (lent.Many vs) filled e = some_of (borrowed.item_part n true) vs.items filled e
 lent_filled n (lent.Map es) filled e = some_of (borrowed.entry_part n) es.items filled e
+lent_filled n (lent.Numbers ns) filled e = some_of (borrowed.item_part n true) (numbers_in ns) filled e
+
+pub lent_numbers : (n : ℕ) (ns : NumberList) → map (borrowed.item_part n true) (numbers_in ns) ≡ map (item_part lent_item n true) (numbers_in ns)
+lent_numbers n ns = map_as (borrowed.item_part n true) (item_part lent_item n true) (lent_item_part n true) (numbers_in ns)
 
 abbrev pub lent_items : ContentRef → List ValueRef
 lent_items (lent.One v) = v ∷ []
 lent_items (lent.Many vs) = vs.items
 lent_items (lent.Map es) = []
+lent_items (lent.Numbers ns) = numbers_in ns
 
 abbrev pub lent_entries : ContentRef → List EntryRef
 lent_entries (lent.One v) = []
 lent_entries (lent.Many vs) = []
 lent_entries (lent.Map es) = es.items
+lent_entries (lent.Numbers ns) = []
 
 pub lent_items_are : (n : ℕ) (c : ContentRef) → AreKeyless (borrowed.content_seen n c) → (l : Bool) × (borrowed.content_seen n c ≡ map (item_part lent_item n l) (lent_items c))
 lent_items_are n (lent.One v) keyless = (false, ap (λ p. p ∷ []) (lent_item_part n false v))
 lent_items_are n (lent.Many vs) keyless = (true, map_as (borrowed.item_part n true) (item_part lent_item n true) (lent_item_part n true) vs.items)
+lent_items_are n (lent.Numbers ns) keyless = (true, lent_numbers n ns)
 lent_items_are n (lent.Map es) keyless = (false, no_keys (borrowed.entry_part n) (λ (e : EntryRef). borrowed.leaf_of e.key) (λ e. refl) es.items keyless)
 
 pub lent_entries_are : (n : ℕ) (c : ContentRef) → AreKeyed (borrowed.content_seen n c) → borrowed.content_seen n c ≡ map (entry_part lent_item (λ (x : EntryRef). x.key) (λ (x : EntryRef). x.value) n) (lent_entries c)
 lent_entries_are n (lent.One v) keyed = absurd (keyed.0 refl)
 lent_entries_are n (lent.Many vs) keyed = all_keys (borrowed.item_part n true) (λ v. refl) vs.items keyed
+lent_entries_are n (lent.Numbers ns) keyed = all_keys (borrowed.item_part n true) (λ v. refl) (numbers_in ns) keyed
 lent_entries_are n (lent.Map es) keyed = map_as (borrowed.entry_part n) (entry_part lent_item (λ (x : EntryRef). x.key) (λ (x : EntryRef). x.value) n) (lent_entry_is n) es.items

@@ -1,5 +1,5 @@
 -- Kinds of presences and of elements.
-use Rattle.std.proofs.Common.{◌≡◌, ◌⊎◌, ⊎_elim, Bool, true, false, refl, ap, sym, subst}
+use Rattle.std.proofs.Common.{◌≡◌, ◌⊎◌, ⊎_elim, Bool, true, false, refl, ap, sym, subst, ◌∙◌}
 use Rattle.pg_schema.specs.declared.parts.field.TypeId.{TypeId}
 use Rattle.pg_schema.specs.declared.parts.field.EnumId.{EnumId}
 use Rattle.pg_schema.specs.declared.parts.field.Scalar.{Scalar}
@@ -70,3 +70,9 @@ pub form_as : (e : Element) → form e ≡ scalar_form (read_as e)
 form_as (elements.Scalar s) = refl
 form_as (elements.Enum x) = refl
 form_as (elements.Message t) = refl
+
+-- lists of an element that can be packed are those of the scalar as which it is read
+pub packable_as : (s : Scalar) (e : Element) → s ≡ read_as e → is_packable e ≡ true → is_packable (elements.Scalar s) ≡ true
+packable_as s (elements.Scalar x) is h = ap (λ y. is_packable (elements.Scalar y)) is ∙ h
+packable_as s (elements.Enum x) is h = ap (λ y. is_packable (elements.Scalar y)) is
+packable_as s (elements.Message t) is h = absurd (cc)

@@ -12,12 +12,14 @@ use Rattle.pg_dyn.specs.declared.message_ref.ContentRef.TheVariants as contents
 use Rattle.pg_dyn.specs.declared.message_ref.EntryRef.{EntryRef}
 use Rattle.pg_dyn.specs.declared.message_ref.ValueRef.{ValueRef}
 use Rattle.pg_dyn.specs.declared.message_ref.ValueRef.TheVariants as values
+use Rattle.pg_dyn.specs.declared.number_list.NumberList.{NumberList}
 use Rattle.pg_dyn.specs.Belonging.{KeyFits, MayFollow}
 use Rattle.pg_dyn.specs.Borrowed.{IsMapKey, entry_part, item_part, item_seen}
 use Rattle.pg_dyn.specs.BorrowedItems.{IsItemKept, ItemKept, KeysRise, key_of}
 use Rattle.pg_dyn.specs.Kept.{KeptItem, Plain, Msg}
 use Rattle.pg_dyn.specs.Message.{Part, key_cmp}
-use Rattle.pg_dyn.specs.PartsFit.{InOrder, IsElementKept, IsPartOf}
+use Rattle.pg_dyn.specs.NumberLists.{numbers_in}
+use Rattle.pg_dyn.specs.PartsFit.{FieldHolds, InOrder, IsElementKept, IsPartOf}
 use Rattle.pg_dyn.specs.reading.Steps.{HeldFits}
 use Rattle.pg_dyn.proofs.lemmas.BorrowedItems.{LeafMayBeZero, in_range, kept_listed, map_key, value_holds}
 use Rattle.pg_dyn.proofs.Lists.{each-map, each_weaker}
@@ -90,19 +92,12 @@ module _ (shape : Shape) (f : FieldShape) where
     (fits, tt),
   )
 
-  pub list_held : (vs : Vec ValueRef Global) → is_repeated f.presence ≡ true → AllByRecursion (ItemKept shape f.element) vs.items → vs.items ≢ []
-      → HeldFits shape f (Some (contents.Many vs))
-  list_held vs repeated fit some = (
-    record {
-      each = each-map (IsPartOf shape f) (item_part f.number true) vs.items
-          (each_weaker (ItemKept shape f.element) (λ (v : ValueRef). IsPartOf shape f (item_part f.number true v)) one vs.items fit);
-      in_order = list_in_order f.presence f.number repeated vs.items;
-    },
-    some,
-    tt,
-    each-map (λ (p : Part KeptItem). IsElementKept shape f.element p.item) (item_part f.number true) vs.items
-        (each_weaker (ItemKept shape f.element) (λ v. IsElementKept shape f.element (item_seen true v)) (kept_listed true shape f.element) vs.items fit),
-  )
+  list_fits : (vs : List ValueRef) → is_repeated f.presence ≡ true → AllByRecursion (ItemKept shape f.element) vs → FieldHolds shape f (map (item_part f.number true) vs)
+  list_fits vs repeated fit = record {
+    each = each-map (IsPartOf shape f) (item_part f.number true) vs
+        (each_weaker (ItemKept shape f.element) (λ (v : ValueRef). IsPartOf shape f (item_part f.number true v)) one vs fit);
+    in_order = list_in_order f.presence f.number repeated vs;
+  }
     where
       one : (v : ValueRef) → ItemKept shape f.element v → IsPartOf shape f (item_part f.number true v)
       one v h = record {
@@ -110,6 +105,19 @@ module _ (shape : Shape) (f : FieldShape) where
         key_fits = list_keyless f.presence repeated;
         item = value_holds shape f true v repeated h (list_zero f.presence (item_seen false v) repeated);
       }
+
+  list_kept : (vs : List ValueRef) → AllByRecursion (ItemKept shape f.element) vs → AllByRecursion (λ (p : Part KeptItem). IsElementKept shape f.element p.item) (map (item_part f.number true) vs)
+  list_kept vs fit =
+      each-map (λ (p : Part KeptItem). IsElementKept shape f.element p.item) (item_part f.number true) vs
+      (each_weaker (ItemKept shape f.element) (λ v. IsElementKept shape f.element (item_seen true v)) (kept_listed true shape f.element) vs fit)
+
+  pub list_held : (vs : Vec ValueRef Global) → is_repeated f.presence ≡ true → AllByRecursion (ItemKept shape f.element) vs.items → vs.items ≢ []
+      → HeldFits shape f (Some (contents.Many vs))
+  list_held vs repeated fit some = (list_fits vs.items repeated fit, some, tt, list_kept vs.items fit)
+
+  pub numbers_held : (ns : NumberList) → is_repeated f.presence ≡ true → AllByRecursion (ItemKept shape f.element) (numbers_in ns) → numbers_in ns ≢ []
+      → HeldFits shape f (Some (contents.Numbers ns))
+  numbers_held ns repeated fit some = (list_fits (numbers_in ns) repeated fit, some, tt, list_kept (numbers_in ns) fit)
 
   -- an entry is one of the map
   abbrev pub EntryFits : Scalar → EntryRef → Type 0

@@ -128,6 +128,7 @@ pub map_holds : (shape : Shape) (f : FieldShape) (key : Scalar) (rs : List WireR
     → AreEntriesRead shape key f.element rs es → IsMapOf (placed key_of [] es) c → HoldsOf shape f rs (Some c)
 map_holds shape f key rs es (contents.One v) is h made = absurd made
 map_holds shape f key rs es (contents.Many vs) is h made = absurd made
+map_holds shape f key rs es (contents.Numbers ns) is h made = absurd made
 map_holds shape f key rs es (contents.Map xs) is h made =
     let (ls, read, along) = leaves_read shape key f.element rs es h in
     ap (option_and_then (λ ps. all_some (map (read_part (dec shape) f.element) ps)))
@@ -141,6 +142,7 @@ pub map_fits : (shape : Shape) (f : FieldShape) (key : Scalar) (rs : List WireRe
     → AreEntriesRead shape key f.element rs es → IsMapOf (placed key_of [] es) c → HeldFits shape f (Some c)
 map_fits shape f key rs es (contents.One v) is scalar some h made = absurd made
 map_fits shape f key rs es (contents.Many vs) is scalar some h made = absurd made
+map_fits shape f key rs es (contents.Numbers ns) is scalar some h made = absurd made
 map_fits shape f key rs es (contents.Map xs) is scalar some h made =
     map_held shape f key xs is scalar
     (subst (λ ys. AllByRecursion (EntryFits shape f key) ys) (sym made) (each_normalized (EntryFits shape f key) es (entries_fit shape key f.element rs es h)))

@@ -1,8 +1,10 @@
--- Packed lists, element by element.
-use Rattle.std.proofs.Common.{◌≡◌, ℕ, zero, suc, ◌+◌, ◌-◌, ◌<◌, ◌≤◌, List, [], ◌∷◌, ◌++◌, length, map, take, drop, true, true≢false, Some, is_some, option_and_then, Result, Ok, Err, IfOk, refl, ap, ap₂, sym, ◌∙◌, arith, lt-ltb, le-ltb, length-append, length-drop, drop-drop, drop_at, append_assoc}
+-- Packed lists, element by element, and their words.
+use Rattle.std.proofs.Common.{◌≡◌, ℕ, zero, suc, ◌+◌, ◌-◌, ◌<◌, ◌≤◌, List, [], ◌∷◌, ◌++◌, length, map, take, drop, true, true≢false, Some, is_some, option_and_then, Result, Ok, Err, IfOk, refl, ap, ap₂, sym, subst, ◌∙◌, arith, lt-ltb, le-ltb, length-append, length-drop, drop-drop, drop_at, append_assoc}
 use Rattle.std.specs.List.{AllByRecursion}
 use Rattle.std.proofs.lemmas.List.{append-nil, map-append, drop_all, take_at, take_all}
+use Rattle.pg_schema.specs.declared.parts.field.Element.TheVariants as elements
 use Rattle.pg_schema.specs.declared.parts.field.Scalar.{Scalar}
+use Rattle.pg_schema.specs.Shape.{is_packable}
 use Rattle.pg_wire.specs.declared.error.WireError.{WireError}
 use Rattle.pg_wire.specs.declared.record.WireType.{WireType}
 use Rattle.pg_wire.specs.declared.record.WireType.TheVariants.{Varint, I64, Len, I32}
@@ -14,14 +16,16 @@ use Rattle.pg_wire.specs.Varint.{varint_at, varint_value}
 use Rattle.pg_wire.proofs.RecordLaws.{exactly_takes}
 use Rattle.pg_wire.proofs.Varints.{varint_at_takes, length-IsVarint}
 use Rattle.pg_dyn.specs.declared.message_ref.ValueRef.{ValueRef}
-use Rattle.pg_dyn.specs.WordOf.{HasBits}
+use Rattle.pg_dyn.specs.NumberLists.{number_item}
+use Rattle.pg_dyn.specs.WordOf.{HasBits, IsWord}
 use Rattle.pg_dyn.specs.Coding.{form_wire, leaf_in, element_at, scalar_form, word_in}
 use Rattle.pg_dyn.specs.reading.Content.{packed_leaves, option_from}
 use Rattle.pg_dyn.specs.Optional.{all_some}
+use Rattle.pg_dyn.specs.reading.Steps.{IsRow, RowReads, WordsRead}
 use Rattle.pg_dyn.specs.BorrowedItems.{IsItemKept}
 use Rattle.pg_dyn.specs.Borrowed.{leaf_of}
 use Rattle.pg_dyn.proofs.Lists.{each-append}
-use Rattle.pg_dyn.proofs.lemmas.reading.ReadsOn.{all_some-append}
+use Rattle.pg_dyn.proofs.lemmas.NumberLaws.{number_kept, number_read}
 
 -- One element at the front.
 
@@ -101,63 +105,90 @@ element_shortens I64 bytes a rest h = let taken = exactly_takes 8 bytes a rest h
 element_shortens I32 bytes a rest h = let taken = exactly_takes 4 bytes a rest h in omega (arith, ap length taken.1, length-append a rest, taken.0)
 element_shortens Len bytes a rest h = absurd (cc)
 
--- the items that are read of a packed list up to a place
-pub record RowSoFar (s : Scalar) (body : List ℕ) (start : ℕ) (old now : List ValueRef) : Type 0 where
+-- the words that are read of a packed list up to a place
+pub record RowSoFar (wire : WireType) (body : List ℕ) (start : ℕ) (old now : List ℕ) : Type 0 where
   pub inside : start ≤ length body
   pub done : List (List ℕ)
-  pub values : List ValueRef
-  pub now_is : now ≡ old ++ values
-  pub leaves : all_some (map (leaf_in (scalar_form s)) done) ≡ Some (map leaf_of values)
-  pub items : AllByRecursion (IsItemKept s) values
-  pub row_ok : (others : List (List ℕ)) → row (element_at (form_wire (scalar_form s))) (drop start body) ≡ Ok others → row (element_at (form_wire (scalar_form s))) body ≡ Ok (done ++ others)
-  pub row_err : (f : Fault) → row (element_at (form_wire (scalar_form s))) (drop start body) ≡ Err f → row (element_at (form_wire (scalar_form s))) body ≡ Err f
+  pub now_is : now ≡ old ++ map (word_in wire) done
+  pub words : AllByRecursion (λ b. IsWord wire (word_in wire b)) done
+  pub row_ok : (others : List (List ℕ)) → row (element_at wire) (drop start body) ≡ Ok others → row (element_at wire) body ≡ Ok (done ++ others)
+  pub row_err : (f : Fault) → row (element_at wire) (drop start body) ≡ Err f → row (element_at wire) body ≡ Err f
 
-module _ (s : Scalar) (body : List ℕ) (old : List ValueRef) where
-  pub row_begin : RowSoFar s body 0 old old
+module _ (wire : WireType) (body : List ℕ) (old : List ℕ) where
+  pub row_begin : RowSoFar wire body 0 old old
   row_begin = record {
     inside = omega arith;
     done = [];
-    values = [];
     now_is = sym (append-nil old);
-    leaves = refl;
-    items = tt;
+    words = tt;
     row_ok = λ others h. h;
     row_err = λ f h. h;
   }
 
-  module _ (start : ℕ) (now : List ValueRef) (a : RowSoFar s body start old now) where
-    pub row_done : length body ≤ start → (values : List ValueRef) × (now ≡ old ++ values) × (packed_leaves (scalar_form s) body ≡ Some (map leaf_of values)) × AllByRecursion (IsItemKept s) values
+  module _ (start : ℕ) (now : List ℕ) (a : RowSoFar wire body start old now) where
+    pub row_done : length body ≤ start → WordsRead wire body old now
     row_done end =
         let none : drop start body ≡ [] = drop_all start body end in
-        let whole = a.row_ok [] (ap (row (element_at (form_wire (scalar_form s)))) none ∙ row-end (element_at (form_wire (scalar_form s))) (element_shortens (form_wire (scalar_form s)))) in
-        (a.values, a.now_is, (ap (λ r. option_and_then (λ bodies. all_some (map (leaf_in (scalar_form s)) bodies)) (option_from r)) whole ∙ ap (λ bs. all_some (map (leaf_in (scalar_form s)) bs)) (append-nil a.done) ∙ a.leaves), a.items)
+        let whole = a.row_ok [] (ap (row (element_at wire)) none ∙ row-end (element_at wire) (element_shortens wire)) in
+        (a.done, whole ∙ ap (λ bs. Ok bs) (append-nil a.done), a.now_is, a.words)
 
-    pub row_broken : start < length body → (f : Fault) → element_at (form_wire (scalar_form s)) (drop start body) ≡ Err f → row (element_at (form_wire (scalar_form s))) body ≡ Err f
-    row_broken inside f h = a.row_err f (row-stop (element_at (form_wire (scalar_form s))) (element_shortens (form_wire (scalar_form s))) (drop start body) f (omega (arith, length-drop start body)) h)
+    pub row_broken : start < length body → (f : Fault) → element_at wire (drop start body) ≡ Err f → row (element_at wire) body ≡ Err f
+    row_broken inside f h = a.row_err f (row-stop (element_at wire) (element_shortens wire) (drop start body) f (omega (arith, length-drop start body)) h)
 
-    pub row_onward : (n : ℕ) (v : ValueRef) → IsOne (form_wire (scalar_form s)) (drop start body) n → leaf_in (scalar_form s) (take n (drop start body)) ≡ Some (leaf_of v) → IsItemKept s v → RowSoFar s body (start + n) old (now ++ v ∷ [])
-    row_onward n v one read item =
+    pub row_onward : (n word : ℕ) → IsOne wire (drop start body) n → word_in wire (take n (drop start body)) ≡ word → IsWord wire word → RowSoFar wire body (start + n) old (now ++ word ∷ [])
+    row_onward n word one read is_word =
         let rest_is : drop n (drop start body) ≡ drop (start + n) body = drop-drop n start body in
-        let step = row-step (element_at (form_wire (scalar_form s))) (element_shortens (form_wire (scalar_form s))) (drop start body) (take n (drop start body)) (drop n (drop start body)) one.0
-        ∙ ap (λ xs. row (element_at (form_wire (scalar_form s))) xs >>= λ others. Ok (take n (drop start body) ∷ others)) rest_is in
+        let step = row-step (element_at wire) (element_shortens wire) (drop start body) (take n (drop start body)) (drop n (drop start body)) one.0
+        ∙ ap (λ xs. row (element_at wire) xs >>= λ others. Ok (take n (drop start body) ∷ others)) rest_is in
         record {
           inside = omega (arith, one.2, length-drop start body);
           done = a.done ++ take n (drop start body) ∷ [];
-          values = a.values ++ v ∷ [];
-          now_is = ap (λ xs. xs ++ v ∷ []) a.now_is ∙ append_assoc old a.values (v ∷ []);
-          leaves = ap all_some (map-append (leaf_in (scalar_form s)) a.done (take n (drop start body) ∷ []))
-              ∙ all_some-append (map (leaf_in (scalar_form s)) a.done) (leaf_in (scalar_form s) (take n (drop start body))) (map leaf_of a.values) (leaf_of v) a.leaves read
-              ∙ ap (λ xs. Some xs) (sym (map-append leaf_of a.values (v ∷ [])));
-          items = each-append (IsItemKept s) a.values (v ∷ []) a.items (item, tt);
+          now_is = ap (λ xs. xs ++ word ∷ []) a.now_is ∙ append_assoc old (map (word_in wire) a.done) (word ∷ [])
+              ∙ ap (λ w. old ++ (map (word_in wire) a.done ++ w ∷ [])) (sym read)
+              ∙ ap (λ xs. old ++ xs) (sym (map-append (word_in wire) a.done (take n (drop start body) ∷ [])));
+          words = each-append (λ b. IsWord wire (word_in wire b)) a.done (take n (drop start body) ∷ []) a.words (subst (IsWord wire) (sym read) is_word, tt);
           row_ok = λ others h.
               a.row_ok (take n (drop start body) ∷ others) (step ∙ ap (λ r. r >>= λ others. Ok (take n (drop start body) ∷ others)) h)
               ∙ ap (λ xs. Ok xs) (sym (append_assoc a.done (take n (drop start body) ∷ []) others));
           row_err = λ f h. a.row_err f (step ∙ ap (λ r. r >>= λ others. Ok (take n (drop start body) ∷ others)) h);
         }
 
--- a row that can't be read has no items
-pub row_fault : (s : Scalar) (body : List ℕ) (f : Fault) → row (element_at (form_wire (scalar_form s))) body ≡ Err f → is_some (packed_leaves (scalar_form s) body) ≡ true → ⊥
-row_fault s body f is some = true≢false (sym some ∙ ap (λ r. is_some (option_and_then (λ bodies. all_some (map (leaf_in (scalar_form s)) bodies)) (option_from r))) is)
+-- a row that has a fault is none
+pub row_fault : (wire : WireType) (body : List ℕ) (f : Fault) → row (element_at wire) body ≡ Err f → IsRow wire body → ⊥
+row_fault wire body f is row_is = let clash : ◌≡◌ {A = Result (List (List ℕ)) Fault} (Err f) (Ok row_is.0) = sym is ∙ row_is.1 in cc
+
+-- the numbers of a row are those of its words
+module _ (s : Scalar) (packable : is_packable (elements.Scalar s) ≡ true) where
+  abbrev own_wire : WireType
+  own_wire = form_wire (scalar_form s)
+
+  abbrev own_item : ℕ → ValueRef
+  own_item word = number_item (scalar_form s) word
+
+  row_leaves : (bodies : List (List ℕ)) → AllByRecursion (λ b. IsWord own_wire (word_in own_wire b)) bodies
+      → all_some (map (leaf_in (scalar_form s)) bodies) ≡ Some (map leaf_of (map own_item (map (word_in own_wire) bodies)))
+  row_leaves [] words = refl
+  row_leaves (b ∷ bs) words = rw (number_read s b packable words.0.0, row_leaves bs words.1)
+
+  row_kept : (bodies : List (List ℕ)) → AllByRecursion (λ b. IsWord own_wire (word_in own_wire b)) bodies → AllByRecursion (IsItemKept s) (map own_item (map (word_in own_wire) bodies))
+  row_kept [] words = tt
+  row_kept (b ∷ bs) words = (number_kept s (word_in own_wire b) packable words.0, row_kept bs words.1)
+
+  pub row_numbers : (body old new : List ℕ) → WordsRead own_wire body old new → RowReads s body old new
+  row_numbers body old new h = (
+    map (word_in own_wire) h.0,
+    h.2,
+    ap (λ r. option_and_then (λ bodies. all_some (map (leaf_in (scalar_form s)) bodies)) (option_from r)) h.1 ∙ row_leaves h.0 h.3,
+    row_kept h.0 h.3,
+  )
+
+-- a packed list that can be read is a row
+pub row_there : (s : Scalar) (body : List ℕ) → is_some (packed_leaves (scalar_form s) body) ≡ true → IsRow (form_wire (scalar_form s)) body
+row_there s body some = of (row (element_at (form_wire (scalar_form s))) body) refl
+  where
+    of : (r : Result (List (List ℕ)) Fault) → row (element_at (form_wire (scalar_form s))) body ≡ r → IsRow (form_wire (scalar_form s)) body
+    of (Ok bodies) is = (bodies, is)
+    of (Err f) is = absurd (true≢false (sym some ∙ ap (λ r. is_some (option_and_then (λ bodies. all_some (map (leaf_in (scalar_form s)) bodies)) (option_from r))) is))
 
 -- a length that is there, or isn't
 pub if_there : (wire : WireType) (len : ℕ) (bytes : List ℕ) → 1 ≤ len → element_at wire bytes ≡ exactly len bytes → len ≤ length bytes → IsOne wire bytes len

@@ -1,7 +1,7 @@
 -- Items of the records of a field that is no map and holds no messages.
 use Rattle.std.proofs.Common.{◌≡◌, ℕ, List, [], ◌∷◌, ◌++◌, map, filter, Bool, true, false, true≢false, not, cond, ◌&&◌, Option, Some, None, is_some, option_map, option_and_then, refl, ap, ap₂, sym, subst, ◌∙◌}
 use Rattle.std.specs.List.{AllByRecursion}
-use Rattle.std.proofs.lemmas.Bool.{and_parts}
+use Rattle.std.proofs.lemmas.Bool.{and_parts, true_from_ne_false}
 use Rattle.std.proofs.lemmas.List.{map-append}
 use Rattle.pg_schema.specs.declared.parts.field.Element.{Element}
 use Rattle.pg_schema.specs.declared.parts.field.Element.TheVariants as elements
@@ -33,7 +33,7 @@ use Rattle.pg_dyn.proofs.lemmas.reading.PlainFields.{readable_is}
 use Rattle.pg_dyn.proofs.lemmas.reading.EntryByParts.{item_as}
 use Rattle.pg_dyn.proofs.lemmas.Fields.{field_of}
 use Rattle.pg_dyn.proofs.lemmas.BorrowedItems.{LeafMayBeZero, item_is_key, key_listed, key_seen, zero_of_key}
-use Rattle.pg_dyn.proofs.lemmas.reading.HeldFields.{list_held, one_held}
+use Rattle.pg_dyn.proofs.lemmas.reading.HeldFields.{list_held, numbers_held, one_held}
 use Rattle.pg_dyn.proofs.Lists.{and_then_some, each-append, option_map_some}
 use Rattle.pg_dyn.proofs.lemmas.reading.ReadsOn.{all_some-append, joined-append, last_of-append}
 use Rattle.pg_dyn.proofs.lemmas.reading.ShallowRecords.{scalar_shallow}
@@ -90,14 +90,9 @@ module _ (f : FieldShape) (r : WireRecord) where
       subst (λ x. HasShape (form_wire x) r.body) (form_as f.element ∙ ap scalar_form (sym is))
       (shape_of_body r.wire (form_wire (form f.element)) is_record.before r.body own is_record.is_body)
 
-  pub row_packable : (s : Scalar) → s ≡ read_as f.element → takes f r ≡ true → is_map f.presence ≡ false
-      → same_wire r.wire (form_wire (form f.element)) ≡ false → is_packable (elements.Scalar s) ≡ true
-  row_packable s is taken no_map other = ap (λ x. is_packable (elements.Scalar x)) is ∙ as_scalar f.element (packable_of f r taken no_map other)
-    where
-      as_scalar : (e : Element) → is_packable e ≡ true → is_packable (elements.Scalar (read_as e)) ≡ true
-      as_scalar (elements.Scalar x) h = h
-      as_scalar (elements.Enum x) h = refl
-      as_scalar (elements.Message t) h = absurd (cc)
+  -- a record of an element that can't be packed is of its wire type
+  pub own_of_single : takes f r ≡ true → is_map f.presence ≡ false → is_packable f.element ≡ false → same_wire r.wire (form_wire (form f.element)) ≡ true
+  own_of_single taken no_map single = true_from_ne_false (same_wire r.wire (form_wire (form f.element))) (λ other. true≢false (sym (packable_of f r taken no_map other) ∙ single))
 
   pub row_items : same_wire r.wire (form_wire (form f.element)) ≡ false → leaves_in f r ≡ packed_leaves (scalar_form (read_as f.element)) r.body
   row_items other = row_leaves f r other ∙ ap (λ x. packed_leaves x r.body) (form_as f.element)
@@ -202,6 +197,9 @@ module _ (shape : Shape) (f : FieldShape) (repeated : is_repeated f.presence ≡
   held_parts (w ∷ ws) (Some (contents.Many us)) items k =
       list_parts f.number f.element (w ∷ ws) items
       ∙ ap (λ xs. map part_of (map (λ value. record { number = f.number; key = None; item = item_seen true value }) xs)) (sym k)
+  held_parts (w ∷ ws) (Some (contents.Numbers ns)) items k =
+      list_parts f.number f.element (w ∷ ws) items
+      ∙ ap (λ xs. map part_of (map (λ value. record { number = f.number; key = None; item = item_seen true value }) xs)) (sym k)
 
   pub list_holds : HoldsOf shape f rs held
   list_holds =
@@ -212,6 +210,9 @@ module _ (shape : Shape) (f : FieldShape) (repeated : is_repeated f.presence ≡
   each_fits [] k = tt
   each_fits (w ∷ ws) k = (item_as shape f.element w scalar k.0, each_fits ws k.1)
 
+  some_none : (x : ValueRef) (xs : List ValueRef) → ◌≡◌ {A = List ValueRef} (x ∷ xs) [] → ⊥
+  some_none x xs e = cc
+
   fits_held : (ws : List ValueRef) (o : Option ContentRef) → AllByRecursion (ItemKept shape f.element) ws → IsHeldList ws o → HeldFits shape f o
   fits_held ws None each k = tt
   fits_held [] (Some c) each k = absurd k
@@ -219,9 +220,8 @@ module _ (shape : Shape) (f : FieldShape) (repeated : is_repeated f.presence ≡
   fits_held (w ∷ ws) (Some (contents.Map es)) each k = absurd k
   fits_held (w ∷ ws) (Some (contents.Many us)) each k =
       list_held shape f us repeated (subst (AllByRecursion (ItemKept shape f.element)) (sym k) each) (λ none. some_none w ws (sym k ∙ none))
-    where
-      some_none : (x : ValueRef) (xs : List ValueRef) → ◌≡◌ {A = List ValueRef} (x ∷ xs) [] → ⊥
-      some_none x xs e = cc
+  fits_held (w ∷ ws) (Some (contents.Numbers ns)) each k =
+      numbers_held shape f ns repeated (subst (AllByRecursion (ItemKept shape f.element)) (sym k) each) (λ none. some_none w ws (sym k ∙ none))
 
   pub list_fits : HeldFits shape f held
   list_fits = fits_held vs held (each_fits vs h.1) is

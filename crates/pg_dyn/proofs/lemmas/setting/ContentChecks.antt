@@ -1,5 +1,5 @@
 -- What a test of one content reports.
-use Rattle.std.proofs.Common.{Bool, Vec, Global, IsOk, IfErr, ◌≡◌, ℕ, ℤ, ◌<◌, ◌≤◌, ◌⊎◌, ⊎_elim, List, [], ◌∷◌, map, flat_map, Result, Ok, Err, Option, Some, None, true, inl, inr, refl, sym, subst, ◌∙◌, arith}
+use Rattle.std.proofs.Common.{Bool, Vec, Global, IsOk, IfErr, ◌≡◌, ℕ, ℤ, ◌<◌, ◌≤◌, ⊎_elim, List, [], ◌∷◌, map, flat_map, Result, Ok, Err, Option, Some, None, true, inl, inr, refl, sym, subst, ◌∙◌, arith}
 use Rattle.std.specs.Prelude.{⊤}
 use Rattle.std.specs.List.{AllByRecursion}
 use Rattle.std.specs.Str.{is_utf8}
@@ -23,10 +23,10 @@ use Rattle.pg_dyn.specs.Message.{Int}
 use Rattle.pg_dyn.specs.WordOf.{IsInteger, IsIntegerOf}
 use Rattle.pg_dyn.specs.Seen.{leaf_of, IsKey}
 use Rattle.pg_dyn.specs.ScalarItems.{IsItemOf, IsKindOf, IsOutOfRange, IsNoText, IsFaultOf}
-use Rattle.pg_dyn.specs.setting.ContentFaults.{AnyOf, ElementFault, HasPresence, HasItemFault, HasKeyTwice, FieldFault, ContentFault, items_in, code, IsLowest, HasNoFault}
+use Rattle.pg_dyn.specs.setting.ContentFaults.{ElementFault, FirstFault, FirstOf, HasPresence, HasItemFault, HasKeyTwice, FieldFault, ContentFault, items_in, code, IsLowest, HasNoFault, HasNoEarlyFault}
 use Rattle.pg_dyn.specs.ContentFits.{ItemFits}
 use Rattle.pg_dyn.specs.setting.Reported.{Reports, EntryFits, EntryFault, ItemsFit, TakesContent}
-use Rattle.pg_dyn.proofs.lemmas.setting.LowestFault.{NoneEarly, none_any, told_so}
+use Rattle.pg_dyn.proofs.lemmas.setting.LowestFault.{none_first, reported_so}
 
 -- Of several faults.
 
@@ -179,9 +179,9 @@ scalar_lowest s v (errors.TooDeep at) k = absurd k
 scalar_lowest s v (errors.Wire w) k = absurd k
 
 -- what a test of an item answers, in the words of its scalar
-pub told_scalar : (s : Scalar) (v : Value) (r : Result (Unit {0}) DynError) → (IsOk r → IsItemOf s v) → IfErr r (IsFaultOf s v) → Reports (IsItemOf s v) (IsFaultOf s v) r
-told_scalar s v (Ok t) fits fault = fits refl
-told_scalar s v (Err e) fits fault = scalar_lowest s v e fault
+pub reported_scalar : (s : Scalar) (v : Value) (r : Result (Unit {0}) DynError) → (IsOk r → IsItemOf s v) → IfErr r (IsFaultOf s v) → Reports (IsItemOf s v) (IsFaultOf s v) r
+reported_scalar s v (Ok t) fits fault = fits refl
+reported_scalar s v (Err e) fits fault = scalar_lowest s v e fault
 
 -- the errors of items
 abbrev IsOfItem : DynError → Type 0
@@ -217,10 +217,10 @@ module _ (shape : Shape) where
   item_error (elements.Message t) v (errors.TooDeep at) k = k
   item_error (elements.Message t) v (errors.Wire w) k = k
 
-  any_error : (xs : List (Element × Value)) (e : DynError) → AnyOf (λ (x : Element × Value). ElementFault shape x.0 x.1 e) xs → IsOfItem e
+  any_error : (xs : List (Element × Value)) (e : DynError) → FirstOf (λ (x : Element × Value). ElementFault shape x.0 x.1) xs e → IsOfItem e
   any_error [] e k = absurd k
   any_error (x ∷ xs) e (inl k) = item_error x.0 x.1 e k
-  any_error (x ∷ xs) e (inr k) = any_error xs e k
+  any_error (x ∷ xs) e (inr k) = any_error xs e k.1
 
   child_right : (t : TypeId) (v : Value) → ItemFits shape (elements.Message t) v → (e : DynError) → ElementFault shape (elements.Message t) v e → ⊥
   child_right t v h errors.WrongKind k = not_other t v h k
@@ -250,41 +250,48 @@ module _ (shape : Shape) where
   child_wrong t (values.Text x) none = tt
   child_wrong t (values.Bytes x) none = tt
 
-  pub item_right : (element : Element) (v : Value) → ItemFits shape element v → NoneEarly (ElementFault shape element v)
+  pub item_right : (element : Element) (v : Value) → ItemFits shape element v → HasNoEarlyFault (ElementFault shape element v)
   item_right (elements.Scalar s) v h e early k = no_scalar_fault s v h e k
   item_right (elements.Enum n) v h e early k = no_scalar_fault Int32 v h e k
   item_right (elements.Message t) v h e early k = child_right t v h e k
 
-  pub told_other : (t : TypeId) (v : Value) → (ItemFits shape (elements.Message t) v → ⊥) → IsLowest (ElementFault shape (elements.Message t) v) errors.WrongKind × (code errors.WrongKind < 605)
-  told_other t v none =
+  pub reported_other : (t : TypeId) (v : Value) → (ItemFits shape (elements.Message t) v → ⊥) → IsLowest (ElementFault shape (elements.Message t) v) errors.WrongKind × (code errors.WrongKind < 605)
+  reported_other t v none =
       (lowest (ElementFault shape (elements.Message t) v) errors.WrongKind (child_wrong t v none) (omega arith) (λ x. x) (λ low x. x) (λ low x. omega arith) (λ low x. omega arith) (λ low at x. omega arith), omega arith)
 
-  pub entry_right : (key : Scalar) (element : Element) (x : Value × Value) → EntryFits shape key element x → NoneEarly (EntryFault shape key element x)
-  entry_right key element x h e early k = ⊎_elim (λ a. item_right (elements.Scalar key) x.0 h.0 e early a) (λ b. item_right element x.1 h.1 e early b) k
+  pub entry_right : (key : Scalar) (element : Element) (x : Value × Value) → EntryFits shape key element x → HasNoEarlyFault (EntryFault shape key element x)
+  entry_right key element x h e early k = ⊎_elim (λ a. item_right (elements.Scalar key) x.0 h.0 e early a) (λ b. item_right element x.1 h.1 e early b.1) k
 
 -- The content of a field.
 
-any_to : {A B : Type 0} (P : B → Type 0) (f : A → B) (xs : List A) → AnyOf (λ x. P (f x)) xs → AnyOf P (map f xs)
-any_to P f [] k = k
-any_to P f (x ∷ xs) (inl k) = inl k
-any_to P f (x ∷ xs) (inr k) = inr (any_to P f xs k)
+first_to : {A B : Type 0} (F : B → DynError → Type 0) (f : A → B) (xs : List A) (e : DynError) → FirstOf (λ x. F (f x)) xs e → FirstOf F (map f xs) e
+first_to F f [] e k = k
+first_to F f (x ∷ xs) e (inl k) = inl k
+first_to F f (x ∷ xs) e (inr k) = inr (k.0, first_to F f xs e k.1)
 
-any_back : {A B : Type 0} (P : B → Type 0) (f : A → B) (xs : List A) → AnyOf P (map f xs) → AnyOf (λ x. P (f x)) xs
-any_back P f [] k = k
-any_back P f (x ∷ xs) (inl k) = inl k
-any_back P f (x ∷ xs) (inr k) = inr (any_back P f xs k)
+first_back : {A B : Type 0} (F : B → DynError → Type 0) (f : A → B) (xs : List A) (e : DynError) → FirstOf F (map f xs) e → FirstOf (λ x. F (f x)) xs e
+first_back F f [] e k = k
+first_back F f (x ∷ xs) e (inl k) = inl k
+first_back F f (x ∷ xs) e (inr k) = inr (k.0, first_back F f xs e k.1)
 
-any_two : {A B : Type 0} (P : B → Type 0) (f g : A → B) (xs : List A) → AnyOf (λ x. P (f x) ⊎ P (g x)) xs → AnyOf P (flat_map (λ x. f x ∷ g x ∷ []) xs)
-any_two P f g [] k = k
-any_two P f g (x ∷ xs) (inl (inl k)) = inl k
-any_two P f g (x ∷ xs) (inl (inr k)) = inr (inl k)
-any_two P f g (x ∷ xs) (inr k) = inr (inr (any_two P f g xs k))
+-- of two elements for each one
+first_two : {A B : Type 0} (F : B → DynError → Type 0) (f g : A → B) (xs : List A) (e : DynError) → FirstOf (λ x. FirstFault (F (f x)) (F (g x))) xs e → FirstOf F (flat_map (λ x. f x ∷ g x ∷ []) xs) e
+first_two F f g [] e k = k
+first_two F f g (x ∷ xs) e (inl (inl k)) = inl k
+first_two F f g (x ∷ xs) e (inl (inr k)) = inr (k.0, inl k.1)
+first_two F f g (x ∷ xs) e (inr k) =
+    let none : (other : DynError) → code other ≡ code e → F (f x) other → ⊥ = λ other same h. k.0 other same (inl h) in
+    inr (none, inr ((λ other same h. k.0 other same (inr ((λ another alike. none another (alike ∙ same)), h))), first_two F f g xs e k.1))
 
-two_back : {A B : Type 0} (P : B → Type 0) (f g : A → B) (xs : List A) → AnyOf P (flat_map (λ x. f x ∷ g x ∷ []) xs) → AnyOf (λ x. P (f x) ⊎ P (g x)) xs
-two_back P f g [] k = k
-two_back P f g (x ∷ xs) (inl k) = inl (inl k)
-two_back P f g (x ∷ xs) (inr (inl k)) = inl (inr k)
-two_back P f g (x ∷ xs) (inr (inr k)) = inr (two_back P f g xs k)
+neither : {A B : Type 0} (F : B → DynError → Type 0) (f g : A → B) (x : A) (other : DynError) → (F (f x) other → ⊥) → (F (g x) other → ⊥) → FirstFault (F (f x)) (F (g x)) other → ⊥
+neither F f g x other first second (inl h) = first h
+neither F f g x other first second (inr h) = second h.1
+
+two_back : {A B : Type 0} (F : B → DynError → Type 0) (f g : A → B) (xs : List A) (e : DynError) → FirstOf F (flat_map (λ x. f x ∷ g x ∷ []) xs) e → FirstOf (λ x. FirstFault (F (f x)) (F (g x))) xs e
+two_back F f g [] e k = k
+two_back F f g (x ∷ xs) e (inl k) = inl (inl k)
+two_back F f g (x ∷ xs) e (inr (none, inl k)) = inl (inr (none, k))
+two_back F f g (x ∷ xs) e (inr (none, inr k)) = inr ((λ other same. neither F f g x other (none other same) (k.0 other same)), two_back F f g xs e k.1)
 
 module _ (shape : Shape) (f : FieldShape) (c : Content) where
   to_field : (e : DynError) → HasItemFault shape f c e → FieldFault shape f c e
@@ -322,31 +329,31 @@ module _ (shape : Shape) (n : ℕ) (element : Element) (oneof : Option ℕ) (r :
   of_items : (p : Presence) (c : Content) (P : Type 0) (F : DynError → Type 0) → HasPresence p c → (P → ItemsFit shape p element c) → ((e : DynError) → F e → HasItemFault shape (with_presence p) c e)
       → ((e : DynError) → HasItemFault shape (with_presence p) c e → F e) → Reports P F r → TellsField p c
   of_items p c P F has right to back h =
-      told_so P (ItemsFit shape p element c) F (FieldFault shape (with_presence p) c) right (λ e k. to_field shape (with_presence p) c e (to e k)) (λ e early k. back e (from_field shape (with_presence p) c has e early k)) r h
+      reported_so P (ItemsFit shape p element c) F (FieldFault shape (with_presence p) c) right (λ e k. to_field shape (with_presence p) c e (to e k)) (λ e early k. back e (from_field shape (with_presence p) c has e early k)) r h
 
-  pub told_list : (packed : Bool) (vs : Vec Value Global) → Reports (AllByRecursion (ItemFits shape element) vs.items) (λ e. AnyOf (λ v. ElementFault shape element v e) vs.items) r → TellsField (presences.Repeated packed) (contents.Many vs)
-  told_list packed vs h =
-      of_items (presences.Repeated packed) (contents.Many vs) (AllByRecursion (ItemFits shape element) vs.items) (λ e. AnyOf (λ v. ElementFault shape element v e) vs.items) tt (λ k. k)
-      (λ e k. any_to (λ (x : Element × Value). ElementFault shape x.0 x.1 e) (λ (v : Value). (element, v)) vs.items k) (λ e k. any_back (λ (x : Element × Value). ElementFault shape x.0 x.1 e) (λ (v : Value). (element, v)) vs.items k) h
+  pub reported_list : (packed : Bool) (vs : Vec Value Global) → Reports (AllByRecursion (ItemFits shape element) vs.items) (FirstOf (ElementFault shape element) vs.items) r → TellsField (presences.Repeated packed) (contents.Many vs)
+  reported_list packed vs h =
+      of_items (presences.Repeated packed) (contents.Many vs) (AllByRecursion (ItemFits shape element) vs.items) (FirstOf (ElementFault shape element) vs.items) tt (λ k. k)
+      (first_to (λ (x : Element × Value). ElementFault shape x.0 x.1) (λ (v : Value). (element, v)) vs.items) (first_back (λ (x : Element × Value). ElementFault shape x.0 x.1) (λ (v : Value). (element, v)) vs.items) h
 
-  pub told_map : (key : Scalar) (es : Vec (Value × Value) Global) → Reports (AllByRecursion (EntryFits shape key element) es.items) (λ e. AnyOf (λ x. EntryFault shape key element x e) es.items) r → TellsField (presences.Map key) (contents.Map es)
-  told_map key es h =
-      of_items (presences.Map key) (contents.Map es) (AllByRecursion (EntryFits shape key element) es.items) (λ e. AnyOf (λ x. EntryFault shape key element x e) es.items) tt (λ k. k)
-      (λ e k. any_two (λ (x : Element × Value). ElementFault shape x.0 x.1 e) (λ (x : Value × Value). (elements.Scalar key, x.0)) (λ (x : Value × Value). (element, x.1)) es.items k)
-      (λ e k. two_back (λ (x : Element × Value). ElementFault shape x.0 x.1 e) (λ (x : Value × Value). (elements.Scalar key, x.0)) (λ (x : Value × Value). (element, x.1)) es.items k) h
+  pub reported_map : (key : Scalar) (es : Vec (Value × Value) Global) → Reports (AllByRecursion (EntryFits shape key element) es.items) (FirstOf (EntryFault shape key element) es.items) r → TellsField (presences.Map key) (contents.Map es)
+  reported_map key es h =
+      of_items (presences.Map key) (contents.Map es) (AllByRecursion (EntryFits shape key element) es.items) (FirstOf (EntryFault shape key element) es.items) tt (λ k. k)
+      (first_two (λ (x : Element × Value). ElementFault shape x.0 x.1) (λ (x : Value × Value). (elements.Scalar key, x.0)) (λ (x : Value × Value). (element, x.1)) es.items)
+      (two_back (λ (x : Element × Value). ElementFault shape x.0 x.1) (λ (x : Value × Value). (elements.Scalar key, x.0)) (λ (x : Value × Value). (element, x.1)) es.items) h
 
 module _ (shape : Shape) (n : ℕ) (element : Element) (oneof : Option ℕ) where
   -- a content with right items has no fault but a key twice
-  pub items_right : (p : Presence) (c : Content) → ItemsFit shape p element c → NoneEarly (FieldFault shape (record { number = n; presence = p; element = element; oneof = oneof }) c)
-  items_right presences.Implicit (contents.One v) h e early k = ⊎_elim (λ a. item_right shape element v h e early a) (λ b. b) (from_field shape (record { number = n; presence = presences.Implicit; element = element; oneof = oneof }) (contents.One v) tt e early k)
-  items_right presences.Explicit (contents.One v) h e early k = ⊎_elim (λ a. item_right shape element v h e early a) (λ b. b) (from_field shape (record { number = n; presence = presences.Explicit; element = element; oneof = oneof }) (contents.One v) tt e early k)
+  pub items_right : (p : Presence) (c : Content) → ItemsFit shape p element c → HasNoEarlyFault (FieldFault shape (record { number = n; presence = p; element = element; oneof = oneof }) c)
+  items_right presences.Implicit (contents.One v) h e early k = ⊎_elim (λ a. item_right shape element v h e early a) (λ b. b.1) (from_field shape (record { number = n; presence = presences.Implicit; element = element; oneof = oneof }) (contents.One v) tt e early k)
+  items_right presences.Explicit (contents.One v) h e early k = ⊎_elim (λ a. item_right shape element v h e early a) (λ b. b.1) (from_field shape (record { number = n; presence = presences.Explicit; element = element; oneof = oneof }) (contents.One v) tt e early k)
   items_right (presences.Repeated packed) (contents.Many vs) h e early k =
-      none_any (ItemFits shape element) (ElementFault shape element) (item_right shape element) vs.items h e early
-      (any_back (λ (x : Element × Value). ElementFault shape x.0 x.1 e) (λ (v : Value). (element, v)) vs.items
+      none_first (ItemFits shape element) (ElementFault shape element) (item_right shape element) vs.items h e early
+      (first_back (λ (x : Element × Value). ElementFault shape x.0 x.1) (λ (v : Value). (element, v)) vs.items e
       (from_field shape (record { number = n; presence = presences.Repeated packed; element = element; oneof = oneof }) (contents.Many vs) tt e early k))
   items_right (presences.Map key) (contents.Map es) h e early k =
-      none_any (EntryFits shape key element) (EntryFault shape key element) (entry_right shape key element) es.items h e early
-      (two_back (λ (x : Element × Value). ElementFault shape x.0 x.1 e) (λ (x : Value × Value). (elements.Scalar key, x.0)) (λ (x : Value × Value). (element, x.1)) es.items
+      none_first (EntryFits shape key element) (EntryFault shape key element) (entry_right shape key element) es.items h e early
+      (two_back (λ (x : Element × Value). ElementFault shape x.0 x.1) (λ (x : Value × Value). (elements.Scalar key, x.0)) (λ (x : Value × Value). (element, x.1)) es.items e
       (from_field shape (record { number = n; presence = presences.Map key; element = element; oneof = oneof }) (contents.Map es) tt e early k))
   items_right presences.Implicit (contents.Many vs) h e early k = absurd h
   items_right presences.Implicit (contents.Map es) h e early k = absurd h
@@ -407,11 +414,11 @@ module _ (shape : Shape) (type : TypeId) (n : ℕ) (c : Content) where
     content_lowest e h = (to_content e h.0, λ other low k. h.1 other low (from_content other k))
 
     module _ (items : ItemsFit shape f.presence f.element c) where
-      right : NoneEarly (FieldFault shape f c)
+      right : HasNoEarlyFault (FieldFault shape f c)
       right = items_right shape f.number f.element f.oneof f.presence c items
 
       -- none of the faults that a test of items finds
-      pub taken_early : NoneEarly Fault
+      pub taken_early : HasNoEarlyFault Fault
       taken_early e early k = right e early (from_content e k)
 
       pub taken_once : (HasKeyTwice c → ⊥) → HasNoFault Fault
@@ -445,5 +452,5 @@ module _ (shape : Shape) (type : TypeId) (n : ℕ) (c : Content) where
           below (errors.Wire w) low k = k
 
 -- a content that a field takes has none of the faults that a test of items finds
-pub takes_early : (shape : Shape) (type : TypeId) (x : ℕ × Content) → TakesContent shape type x → NoneEarly (ContentFault shape type x.0 x.1)
+pub takes_early : (shape : Shape) (type : TypeId) (x : ℕ × Content) → TakesContent shape type x → HasNoEarlyFault (ContentFault shape type x.0 x.1)
 takes_early shape type x (f, taken) = taken_early shape type x.0 x.1 f taken.found taken.items

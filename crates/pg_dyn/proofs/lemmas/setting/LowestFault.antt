@@ -3,55 +3,68 @@ use Rattle.std.proofs.Common.{◌≡◌, ◌≤◌, ◌<◌, ◌+◌, ℕ, zero,
 use Rattle.std.specs.List.{AllByRecursion}
 use Rattle.std.proofs.lemmas.List.{take_all}
 use Rattle.pg_dyn.specs.declared.error.DynError.{DynError}
-use Rattle.pg_dyn.specs.setting.ContentFaults.{AnyOf, code}
+use Rattle.pg_dyn.specs.setting.ContentFaults.{AnyOf, FirstFault, FirstOf, HasNoEarlyFault, code}
 use Rattle.pg_dyn.specs.setting.Reported.{Reports, reported_code}
 use Rattle.pg_dyn.proofs.Lists.{each-append}
 
-module _ {A : Type 0} (P : A → Type 0) where
-  pub any_left : (xs ys : List A) → AnyOf P xs → AnyOf P (xs ++ ys)
-  any_left [] ys h = absurd h
-  any_left (x ∷ xs) ys (inl h) = inl h
-  any_left (x ∷ xs) ys (inr h) = inr (any_left xs ys h)
+module _ {A : Type 0} (F : A → DynError → Type 0) where
+  pub any_of_first : (xs : List A) (e : DynError) → FirstOf F xs e → AnyOf (λ x. F x e) xs
+  any_of_first [] e h = absurd h
+  any_of_first (x ∷ xs) e (inl h) = inl h
+  any_of_first (x ∷ xs) e (inr h) = inr (any_of_first xs e h.1)
 
-  any_last : (xs : List A) (x : A) → P x → AnyOf P (xs ++ x ∷ [])
-  any_last [] x h = inl h
-  any_last (y ∷ xs) x h = inr (any_last xs x h)
+  first_left : (xs ys : List A) (e : DynError) → FirstOf F xs e → FirstOf F (xs ++ ys) e
+  first_left [] ys e h = absurd h
+  first_left (x ∷ xs) ys e (inl h) = inl h
+  first_left (x ∷ xs) ys e (inr h) = inr (h.0, first_left xs ys e h.1)
 
-  any_split : (xs : List A) (x : A) → AnyOf P (xs ++ x ∷ []) → AnyOf P xs ⊎ P x
-  any_split [] x (inl h) = inr h
-  any_split [] x (inr h) = absurd h
-  any_split (y ∷ xs) x (inl h) = inl (inl h)
-  any_split (y ∷ xs) x (inr h) = ⊎_elim (λ k. inl (inr k)) (λ k. inr k) (any_split xs x h)
+  abbrev NoneSo : (DynError → Type 0) → DynError → Type 0
+  NoneSo G e = (other : DynError) → code other ≡ code e → G other → ⊥
 
--- none of the faults that a test of items finds
-abbrev pub NoneEarly : (DynError → Type 0) → Type 0
-NoneEarly Fault = (e : DynError) → code e < 605 → Fault e → ⊥
+  first_last : (xs : List A) (x : A) (e : DynError) → NoneSo (FirstOf F xs) e → F x e → FirstOf F (xs ++ x ∷ []) e
+  first_last [] x e none h = inl h
+  first_last (y ∷ xs) x e none h =
+      let here : NoneSo (F y) e = λ other same k. none other same (inl k) in
+      inr (here, first_last xs x e (λ other same k. none other same (inr ((λ another alike. here another (alike ∙ same)), k))) h)
 
--- Of two answers the lower one is that of both.
-module _ (P Q : Type 0) (F G : DynError → Type 0) (p : P → NoneEarly F) (q : Q → NoneEarly G) where
-  first_lower : (a b : Result (Unit {0}) DynError) → Reports P F a → Reports Q G b → reported_code a ≤ reported_code b → Reports (P × Q) (λ e. F e ⊎ G e) a
+  none_so : (y : A) (xs : List A) (e : DynError) → NoneSo (F y) e → NoneSo (FirstOf F xs) e → NoneSo (FirstOf F (y ∷ xs)) e
+  none_so y xs e here later other same (inl k) = here other same k
+  none_so y xs e here later other same (inr k) = later other same k.1
+
+  first_split : (xs : List A) (x : A) (e : DynError) → FirstOf F (xs ++ x ∷ []) e → FirstFault (FirstOf F xs) (F x) e
+  first_split [] x e (inl h) = inr ((λ other same k. k), h)
+  first_split [] x e (inr h) = absurd h.1
+  first_split (y ∷ xs) x e (inl h) = inl (inl h)
+  first_split (y ∷ xs) x e (inr h) = ⊎_elim (λ k. inl (inr (h.0, k))) (λ k. inr (none_so y xs e h.0 k.0, k.1)) (first_split xs x e h.1)
+
+-- Of two answers the lower one is that of both, of equal ones the first.
+module _ (P Q : Type 0) (F G : DynError → Type 0) (p : P → HasNoEarlyFault F) (q : Q → HasNoEarlyFault G) where
+  first_lower : (a b : Result (Unit {0}) DynError) → Reports P F a → Reports Q G b → reported_code a ≤ reported_code b → Reports (P × Q) (FirstFault F G) a
   first_lower (Ok t) (Ok u) x y le = (x, y)
   first_lower (Ok t) (Err e) x y le = absurd (let early : code e < 605 = y.1 in omega arith)
   first_lower (Err e) (Ok u) x y le =
-      ((inl x.0.0, λ other low. ⊎_elim (λ k. x.0.1 other low k) (λ k. let early : code other < 605 = omega (arith, x.1) in q y other early k)), x.1)
-  first_lower (Err e) (Err d) x y le = ((inl x.0.0, λ other low. ⊎_elim (λ k. x.0.1 other low k) (λ k. let below : code other < code d = omega arith in y.0.1 other below k)), x.1)
+      ((inl x.0.0, λ other low. ⊎_elim (λ k. x.0.1 other low k) (λ k. let early : code other < 605 = omega (arith, x.1) in q y other early k.1)), x.1)
+  first_lower (Err e) (Err d) x y le = ((inl x.0.0, λ other low. ⊎_elim (λ k. x.0.1 other low k) (λ k. let below : code other < code d = omega arith in y.0.1 other below k.1)), x.1)
 
-  second_lower : (a b : Result (Unit {0}) DynError) → Reports P F a → Reports Q G b → reported_code b ≤ reported_code a → Reports (P × Q) (λ e. F e ⊎ G e) b
-  second_lower (Ok t) (Ok u) x y le = (x, y)
-  second_lower (Err e) (Ok u) x y le = absurd (let early : code e < 605 = x.1 in omega arith)
-  second_lower (Ok t) (Err e) x y le =
-      ((inr y.0.0, λ other low. ⊎_elim (λ k. let early : code other < 605 = omega (arith, y.1) in p x other early k) (λ k. y.0.1 other low k)), y.1)
-  second_lower (Err e) (Err d) x y le = ((inr y.0.0, λ other low. ⊎_elim (λ k. let below : code other < code e = omega arith in x.0.1 other below k) (λ k. y.0.1 other low k)), y.1)
+  second_lower : (a b : Result (Unit {0}) DynError) → Reports P F a → Reports Q G b → reported_code b < reported_code a → Reports (P × Q) (FirstFault F G) b
+  second_lower (Ok t) (Ok u) x y lt = absurd (omega arith)
+  second_lower (Err e) (Ok u) x y lt = absurd (let early : code e < 605 = x.1 in omega arith)
+  second_lower (Ok t) (Err e) x y lt =
+      let none : (other : DynError) → code other ≡ code e → F other → ⊥ = λ other same k. let early : code other < 605 = omega (arith, y.1) in p x other early k in
+      ((inr (none, y.0.0), λ other low. ⊎_elim (λ k. let early : code other < 605 = omega (arith, y.1) in p x other early k) (λ k. y.0.1 other low k.1)), y.1)
+  second_lower (Err e) (Err d) x y lt =
+      let none : (other : DynError) → code other ≡ code d → F other → ⊥ = λ other same k. let below : code other < code e = omega arith in x.0.1 other below k in
+      ((inr (none, y.0.0), λ other low. ⊎_elim (λ k. let below : code other < code e = omega arith in x.0.1 other below k) (λ k. y.0.1 other low k.1)), y.1)
 
-  pub told_both : (a b r : Result (Unit {0}) DynError) → Reports P F a → Reports Q G b → (r ≡ a) ⊎ (r ≡ b) → reported_code r ≤ reported_code a → reported_code r ≤ reported_code b → Reports (P × Q) (λ e. F e ⊎ G e) r
-  told_both a b r x y one le_a le_b =
-      ⊎_elim (λ is. subst (Reports (P × Q) (λ e. F e ⊎ G e)) (sym is) (first_lower a b x y (subst (λ k. reported_code k ≤ reported_code b) is le_b)))
-      (λ is. subst (Reports (P × Q) (λ e. F e ⊎ G e)) (sym is) (second_lower a b x y (subst (λ k. reported_code k ≤ reported_code a) is le_a))) one
+  pub reported_both : (a b r : Result (Unit {0}) DynError) → Reports P F a → Reports Q G b → (r ≡ a) ⊎ ((r ≡ b) × (reported_code b < reported_code a)) → reported_code r ≤ reported_code b → Reports (P × Q) (FirstFault F G) r
+  reported_both a b r x y one le =
+      ⊎_elim (λ is. subst (Reports (P × Q) (FirstFault F G)) (sym is) (first_lower a b x y (subst (λ k. reported_code k ≤ reported_code b) is le)))
+      (λ is. subst (Reports (P × Q) (FirstFault F G)) (sym is.0) (second_lower a b x y is.1)) one
 
 -- the same in other words
-pub told_so : (P Q : Type 0) (F G : DynError → Type 0) → (P → Q) → ((e : DynError) → F e → G e) → ((e : DynError) → code e < 605 → G e → F e) → (r : Result (Unit {0}) DynError) → Reports P F r → Reports Q G r
-told_so P Q F G right to back (Ok t) x = right x
-told_so P Q F G right to back (Err e) x = ((to e x.0.0, λ other low k. let early : code other < 605 = omega (arith, x.1) in x.0.1 other low (back other early k)), x.1)
+pub reported_so : (P Q : Type 0) (F G : DynError → Type 0) → (P → Q) → ((e : DynError) → F e → G e) → ((e : DynError) → code e < 605 → G e → F e) → (r : Result (Unit {0}) DynError) → Reports P F r → Reports Q G r
+reported_so P Q F G right to back (Ok t) x = right x
+reported_so P Q F G right to back (Err e) x = ((to e x.0.0, λ other low k. let early : code other < 605 = omega (arith, x.1) in x.0.1 other low (back other early k)), x.1)
 
 pub take_more : {X : Type 0} (xs : List X) (i : ℕ) (x : X) → i < length xs → x ≡ get_or xs i x → take (i + 1) xs ≡ take i xs ++ x ∷ []
 take_more xs i x inside is = ap (λ n. take n xs) (add-one i) ∙ more xs i x inside is
@@ -61,25 +74,25 @@ take_more xs i x inside is = ap (λ n. take n xs) (add-one i) ∙ more xs i x in
     more (z ∷ ys) zero y inside is = ap (λ w. w ∷ []) (sym is)
     more (z ∷ ys) (suc k) y inside is = ap (λ ws. z ∷ ws) (more ys k y (omega arith) is)
 
-module _ {A : Type 0} (P : A → Type 0) (F : A → DynError → Type 0) (p : (x : A) → P x → NoneEarly (F x)) where
+module _ {A : Type 0} (P : A → Type 0) (F : A → DynError → Type 0) (p : (x : A) → P x → HasNoEarlyFault (F x)) where
   -- what is reported of the elements of a row
-  abbrev pub TellsRow : List A → Result (Unit {0}) DynError → Type 0
-  TellsRow xs r = Reports (AllByRecursion P xs) (λ e. AnyOf (λ x. F x e) xs) r
+  abbrev pub ReportsEach : List A → Result (Unit {0}) DynError → Type 0
+  ReportsEach xs r = Reports (AllByRecursion P xs) (FirstOf F xs) r
 
-  pub none_any : (xs : List A) → AllByRecursion P xs → NoneEarly (λ e. AnyOf (λ x. F x e) xs)
-  none_any [] h e early k = k
-  none_any (x ∷ xs) h e early (inl k) = p x h.0 e early k
-  none_any (x ∷ xs) h e early (inr k) = none_any xs h.1 e early k
+  pub none_first : (xs : List A) → AllByRecursion P xs → HasNoEarlyFault (FirstOf F xs)
+  none_first [] h e early k = k
+  none_first (x ∷ xs) h e early (inl k) = p x h.0 e early k
+  none_first (x ∷ xs) h e early (inr k) = none_first xs h.1 e early k.1
 
-  pub told_more : (xs : List A) (i : ℕ) (x : A) (a b r : Result (Unit {0}) DynError) → i < length xs → x ≡ get_or xs i x → TellsRow (take i xs) a → Reports (P x) (F x) b → (r ≡ a) ⊎ (r ≡ b) → reported_code r ≤ reported_code a → reported_code r ≤ reported_code b
-      → TellsRow (take (i + 1) xs) r
-  told_more xs i x a b r inside is of_front of_next one le_a le_b =
+  pub reported_more : (xs : List A) (i : ℕ) (x : A) (a b r : Result (Unit {0}) DynError) → i < length xs → x ≡ get_or xs i x → ReportsEach (take i xs) a → Reports (P x) (F x) b → (r ≡ a) ⊎ ((r ≡ b) × (reported_code b < reported_code a)) → reported_code r ≤ reported_code b
+      → ReportsEach (take (i + 1) xs) r
+  reported_more xs i x a b r inside is of_front of_next one le =
       let front = take i xs in
       let more : take (i + 1) xs ≡ front ++ x ∷ [] = take_more xs i x inside is in
-      subst (λ ys. TellsRow ys r) (sym more)
-      (told_so (AllByRecursion P front × P x) (AllByRecursion P (front ++ x ∷ [])) (λ e. AnyOf (λ y. F y e) front ⊎ F x e) (λ e. AnyOf (λ y. F y e) (front ++ x ∷ []))
-      (λ k. each-append P front (x ∷ []) k.0 (k.1, tt)) (λ e. ⊎_elim (λ k. any_left (λ y. F y e) front (x ∷ []) k) (λ k. any_last (λ y. F y e) front x k)) (λ e early k. any_split (λ y. F y e) front x k) r
-      (told_both (AllByRecursion P front) (P x) (λ e. AnyOf (λ y. F y e) front) (F x) (none_any front) (p x) a b r of_front of_next one le_a le_b))
+      subst (λ ys. ReportsEach ys r) (sym more)
+      (reported_so (AllByRecursion P front × P x) (AllByRecursion P (front ++ x ∷ [])) (FirstFault (FirstOf F front) (F x)) (FirstOf F (front ++ x ∷ []))
+      (λ k. each-append P front (x ∷ []) k.0 (k.1, tt)) (λ e. ⊎_elim (λ k. first_left F front (x ∷ []) e k) (λ k. first_last F front x e k.0 k.1)) (λ e early k. first_split F front x e k) r
+      (reported_both (AllByRecursion P front) (P x) (FirstOf F front) (F x) (none_first front) (p x) a b r of_front of_next one le))
 
-  pub told_all : (xs : List A) (i : ℕ) (r : Result (Unit {0}) DynError) → length xs ≤ i → TellsRow (take i xs) r → TellsRow xs r
-  told_all xs i r past h = subst (λ ys. TellsRow ys r) (take_all i xs past) h
+  pub reported_all : (xs : List A) (i : ℕ) (r : Result (Unit {0}) DynError) → length xs ≤ i → ReportsEach (take i xs) r → ReportsEach xs r
+  reported_all xs i r past h = subst (λ ys. ReportsEach ys r) (take_all i xs past) h

@@ -1,5 +1,5 @@
 -- What setting a content does.
-use Rattle.std.proofs.Common.{◌≡◌, ℕ, List, nat_eq, not, ◌&&◌, false, Option, Some, None, IfSome, ap, sym, ◌∙◌, ⊎_elim, eq-eqb, ne_eqb}
+use Rattle.std.proofs.Common.{◌≡◌, ℕ, List, nat_eq, not, ◌&&◌, false, Option, Some, None, IfSome, ap, sym, subst, ◌∙◌, ⊎_elim, eq-eqb, ne_eqb}
 use Rattle.std.specs.List.{AllByRecursion}
 use Rattle.std.proofs.lemmas.Bool.{cases_eq}
 use Rattle.std.proofs.Math.Bool.{and-false}
@@ -16,10 +16,10 @@ use Rattle.pg_dyn.specs.Message.{Part}
 use Rattle.pg_dyn.specs.Seen.{content_seen}
 use Rattle.pg_dyn.specs.reading.Content.{is_sibling, same_oneof}
 use Rattle.pg_dyn.specs.Replacing.{is_sibling_number, with_parts, with_content, without_siblings}
-use Rattle.pg_dyn.specs.setting.ContentFaults.{ContentFault, HasKeyTwice, IsLowest, HasNoFault, MayRefuseFor}
+use Rattle.pg_dyn.specs.setting.ContentFaults.{ContentFault, HasKeyTwice, HasNoEarlyFault, IsLowest, HasNoFault, MayRefuseFor}
 use Rattle.pg_dyn.specs.setting.Setting.{normalized, IsSetTo}
 use Rattle.pg_dyn.specs.setting.Reported.{IsTaken}
-use Rattle.pg_dyn.proofs.lemmas.setting.ContentChecks.{taken_once, taken_twice}
+use Rattle.pg_dyn.proofs.lemmas.setting.ContentChecks.{takes_early, taken_once, taken_twice}
 use Rattle.pg_dyn.proofs.Lists.{each_of_all, list_any_none}
 use Rattle.pg_dyn.proofs.lemmas.setting.PutLaws.{no_self_sibling, siblings_after, normalized_number}
 use Rattle.pg_dyn.proofs.lemmas.Splitting.{found_number}
@@ -36,6 +36,10 @@ may_refuse F errors.DuplicateKey h = h
 may_refuse F errors.TooLong h = h
 may_refuse F (errors.TooDeep at) h = h
 may_refuse F (errors.Wire w) h = h
+
+-- memory is never the fault of a content
+pub no_memory : (parts : Parts) (type : TypeId) (n : ℕ) (c : Content) (e : DynError) → e ≡ errors.Memory → IsLowest (ContentFault (shape_of parts) type n c) e → ⊥
+no_memory parts type n c e is lowest = (subst (ContentFault (shape_of parts) type n c) is lowest.0).2
 
 module _ (parts : Parts) (h : IsSchema parts) (n : ℕ) (c : Content) (f : FieldShape) where
   -- the field that takes the content has its number
@@ -57,6 +61,9 @@ module _ (parts : Parts) (h : IsSchema parts) (n : ℕ) (c : Content) (f : Field
 
   pub accepted : (type : TypeId) → IsTaken (shape_of parts) type n c f → (HasKeyTwice c → ⊥) → HasNoFault (ContentFault (shape_of parts) type n c)
   accepted type taken once = taken_once (shape_of parts) type n c f taken.found taken.items once
+
+  pub none_early : (type : TypeId) → IsTaken (shape_of parts) type n c f → HasNoEarlyFault (ContentFault (shape_of parts) type n c)
+  none_early type taken = takes_early (shape_of parts) type (n, c) (f, taken)
 
   pub key_twice : (type : TypeId) → IsTaken (shape_of parts) type n c f → HasKeyTwice c → MayRefuseFor (ContentFault (shape_of parts) type n c) errors.DuplicateKey
   key_twice type taken twice = taken_twice (shape_of parts) type n c f taken.found taken.items twice

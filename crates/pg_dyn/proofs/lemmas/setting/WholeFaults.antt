@@ -1,5 +1,5 @@
 -- Which faults of a row of contents may be reported.
-use Rattle.std.proofs.Common.{◌≡◌, ℕ, option_and_then, ◌<◌, ◌≤◌, List, [], ◌∷◌, length, filter, flat_map, nat_eq, Bool, true, false, cond, not, ◌&&◌, Option, Some, None, inl, inr, refl, ap, ◌∙◌, arith, eq-eqb, ne_eqb}
+use Rattle.std.proofs.Common.{◌≡◌, ℕ, option_and_then, ◌<◌, ◌≤◌, List, [], ◌∷◌, length, filter, flat_map, nat_eq, Bool, true, false, cond, not, ◌&&◌, Option, Some, None, inl, inr, refl, ap, subst, ◌∙◌, arith, eq-eqb, ne_eqb}
 use Rattle.std.specs.List.{AllByRecursion}
 use Rattle.std.proofs.lemmas.Bool.{eqb-true}
 use Rattle.pg_schema.specs.declared.parts.field.TypeId.{TypeId}
@@ -13,13 +13,13 @@ use Rattle.pg_dyn.specs.reading.Content.{same_oneof, is_sibling}
 use Rattle.pg_dyn.specs.Kept.{Kept}
 use Rattle.pg_dyn.specs.Seen.{Rises}
 use Rattle.pg_dyn.specs.ContentFits.{AreApart, NoneSiblings}
-use Rattle.pg_dyn.specs.setting.ContentFaults.{AnyOf, ContentFault, ContentsFault, HasFieldTwice, HasKeyTwice, is_in_oneof, members, code, IsLowest, HasNoFault, MayRefuseFor}
+use Rattle.pg_dyn.specs.setting.ContentFaults.{AnyOf, ContentFault, ContentsFault, FirstOf, HasFieldTwice, HasKeyTwice, is_in_oneof, members, code, IsLowest, HasNoEarlyFault, HasNoFault, MayRefuseFor}
 use Rattle.pg_dyn.specs.setting.Setting.{normalized_parts, IsWhole}
 use Rattle.pg_dyn.specs.setting.Reported.{TakesContent}
 use Rattle.pg_dyn.proofs.Lists.{filter_none, each_weaker, each_both}
 use Rattle.pg_dyn.proofs.lemmas.setting.ContentChecks.{lowest, taken_once, takes_early}
 use Rattle.pg_dyn.proofs.lemmas.setting.SetSteps.{may_refuse}
-use Rattle.pg_dyn.proofs.lemmas.setting.LowestFault.{none_any}
+use Rattle.pg_dyn.proofs.lemmas.setting.LowestFault.{any_of_first, none_first}
 use Rattle.pg_dyn.proofs.lemmas.Standing.{StandsIn, all_in, passes_once}
 use Rattle.pg_dyn.proofs.lemmas.setting.WholeSteps.{of_field, Takes}
 
@@ -91,8 +91,11 @@ module _ (parts : Parts) (type : TypeId) where
   abbrev Faults : List (ℕ × Content) → DynError → Type 0
   Faults cs = ContentsFault (shape_of parts) type cs
 
-  early : (cs : List (ℕ × Content)) → Takes parts type cs → (e : DynError) → code e < 605 → AnyOf (λ (c : ℕ × Content). ContentFault (shape_of parts) type c.0 c.1 e) cs → ⊥
-  early cs takes e low k = none_any (TakesContent (shape_of parts) type) (λ (c : ℕ × Content). ContentFault (shape_of parts) type c.0 c.1) (takes_early (shape_of parts) type) cs takes e low k
+  abbrev FirstContent : List (ℕ × Content) → DynError → Type 0
+  FirstContent cs = FirstOf (λ (c : ℕ × Content). ContentFault (shape_of parts) type c.0 c.1) cs
+
+  early : (cs : List (ℕ × Content)) → Takes parts type cs → HasNoEarlyFault (FirstContent cs)
+  early cs takes = none_first (TakesContent (shape_of parts) type) (λ (c : ℕ × Content). ContentFault (shape_of parts) type c.0 c.1) (takes_early (shape_of parts) type) cs takes
 
   no_fault : (cs : List (ℕ × Content)) (e : DynError) → AllByRecursion (λ (c : ℕ × Content). HasNoFault (ContentFault (shape_of parts) type c.0 c.1)) cs → AnyOf (λ (c : ℕ × Content). ContentFault (shape_of parts) type c.0 c.1 e) cs → ⊥
   no_fault [] e h k = k
@@ -107,17 +110,20 @@ module _ (parts : Parts) (type : TypeId) where
           each_weaker (λ (c : ℕ × Content). TakesContent (shape_of parts) type c × (HasKeyTwice c.1 → ⊥)) (λ (c : ℕ × Content). HasNoFault (ContentFault (shape_of parts) type c.0 c.1))
           (λ c k. taken_once (shape_of parts) type c.0 c.1 k.0.0 k.0.1.found k.0.1.items k.1) cs (each_both (TakesContent (shape_of parts) type) (λ (c : ℕ × Content). HasKeyTwice c.1 → ⊥) cs takes keys_once)
 
+      first : (e : DynError) → FirstContent cs e → ⊥
+      first e k = no_fault cs e right (any_of_first (λ (c : ℕ × Content). ContentFault (shape_of parts) type c.0 c.1) cs e k)
+
       none : (e : DynError) → Faults cs e → ⊥
-      none errors.Memory k = no_fault cs errors.Memory right k
-      none errors.NoSuchField k = no_fault cs errors.NoSuchField right k
-      none errors.WrongKind k = no_fault cs errors.WrongKind right k
-      none errors.OutOfRange k = no_fault cs errors.OutOfRange right k
-      none (errors.NotUtf8 at) k = no_fault cs (errors.NotUtf8 at) right k
+      none errors.Memory k = first errors.Memory k
+      none errors.NoSuchField k = first errors.NoSuchField k
+      none errors.WrongKind k = first errors.WrongKind k
+      none errors.OutOfRange k = first errors.OutOfRange k
+      none (errors.NotUtf8 at) k = first (errors.NotUtf8 at) k
       none errors.OneofTwice k = fields_once k
       none errors.DuplicateKey k = no_fault cs errors.DuplicateKey right k
-      none errors.TooLong k = no_fault cs errors.TooLong right k
-      none (errors.TooDeep at) k = no_fault cs (errors.TooDeep at) right k
-      none (errors.Wire w) k = no_fault cs (errors.Wire w) right k
+      none errors.TooLong k = first errors.TooLong k
+      none (errors.TooDeep at) k = first (errors.TooDeep at) k
+      none (errors.Wire w) k = first (errors.Wire w) k
 
   pub whole_twice : (cs : List (ℕ × Content)) → Takes parts type cs → HasFieldTwice (fields (shape_of parts) type) cs → MayRefuseFor (Faults cs) errors.OneofTwice
   whole_twice cs takes two = lowest (Faults cs) errors.OneofTwice two (omega arith) (λ k. early cs takes errors.Memory (omega arith) k) (λ low k. early cs takes errors.NoSuchField (omega arith) k) (λ low k. early cs takes errors.WrongKind (omega arith) k)
@@ -143,34 +149,43 @@ module _ (parts : Parts) (type : TypeId) where
       below (errors.TooDeep at) low k = absurd (omega arith)
       below (errors.Wire w) low k = absurd (omega arith)
 
-  abbrev AnyFault : List (ℕ × Content) → DynError → Type 0
-  AnyFault cs e = AnyOf (λ (c : ℕ × Content). ContentFault (shape_of parts) type c.0 c.1 e) cs
-
-  to_faults : (cs : List (ℕ × Content)) (e : DynError) → code e < 605 → AnyFault cs e → Faults cs e
+  to_faults : (cs : List (ℕ × Content)) (e : DynError) → code e < 605 → FirstContent cs e → Faults cs e
   to_faults cs errors.Memory early k = k
   to_faults cs errors.NoSuchField early k = k
   to_faults cs errors.WrongKind early k = k
   to_faults cs errors.OutOfRange early k = k
   to_faults cs (errors.NotUtf8 at) early k = k
   to_faults cs errors.OneofTwice early k = absurd (omega arith)
-  to_faults cs errors.DuplicateKey early k = k
+  to_faults cs errors.DuplicateKey early k = absurd (omega arith)
   to_faults cs errors.TooLong early k = k
   to_faults cs (errors.TooDeep at) early k = k
   to_faults cs (errors.Wire w) early k = k
 
-  from_faults : (cs : List (ℕ × Content)) (e : DynError) → code e < 605 → Faults cs e → AnyFault cs e
+  from_faults : (cs : List (ℕ × Content)) (e : DynError) → code e < 605 → Faults cs e → FirstContent cs e
   from_faults cs errors.Memory early k = k
   from_faults cs errors.NoSuchField early k = k
   from_faults cs errors.WrongKind early k = k
   from_faults cs errors.OutOfRange early k = k
   from_faults cs (errors.NotUtf8 at) early k = k
   from_faults cs errors.OneofTwice early k = absurd (omega arith)
-  from_faults cs errors.DuplicateKey early k = k
+  from_faults cs errors.DuplicateKey early k = absurd (omega arith)
   from_faults cs errors.TooLong early k = k
   from_faults cs (errors.TooDeep at) early k = k
   from_faults cs (errors.Wire w) early k = k
 
-  pub whole_refused : (cs : List (ℕ × Content)) (e : DynError) → IsLowest (AnyFault cs) e → code e < 605 → MayRefuseFor (Faults cs) e
+  pub whole_early : (cs : List (ℕ × Content)) → Takes parts type cs → HasNoEarlyFault (Faults cs)
+  whole_early cs takes e low k = early cs takes e low (from_faults cs e low k)
+
+  no_memory_first : (cs : List (ℕ × Content)) → FirstContent cs errors.Memory → ⊥
+  no_memory_first [] k = k
+  no_memory_first (c ∷ cs) (inl k) = k.2
+  no_memory_first (c ∷ cs) (inr k) = no_memory_first cs k.1
+
+  -- memory is never the fault of a content
+  pub whole_no_memory : (cs : List (ℕ × Content)) (e : DynError) → e ≡ errors.Memory → IsLowest (FirstContent cs) e → ⊥
+  whole_no_memory cs e is lowest = no_memory_first cs (subst (FirstContent cs) is lowest.0)
+
+  pub whole_refused : (cs : List (ℕ × Content)) (e : DynError) → IsLowest (FirstContent cs) e → code e < 605 → MayRefuseFor (Faults cs) e
   whole_refused cs e fault early =
       may_refuse (Faults cs) e (to_faults cs e early fault.0, λ other low k. let lt : code other < 605 = omega arith in fault.1 other low (from_faults cs other lt k))
 

@@ -8,7 +8,7 @@ use Rattle.pg_dyn.specs.declared.message.Content.TheVariants as held
 use Rattle.pg_dyn.specs.declared.message_ref.ContentRef.{ContentRef}
 use Rattle.pg_dyn.specs.Copies.{IsContentCopy}
 use Rattle.pg_dyn.specs.Seen.{record_seen}
-use Rattle.pg_dyn.proofs.lemmas.BorrowedParts.{AreCopies, copy_shows, entry_copied, list_copied, map_copied, one_content_more, one_entry_more, rises_same}
+use Rattle.pg_dyn.proofs.lemmas.BorrowedParts.{AreCopies, copy_shows, entry_copied, list_copied, map_copied, numbers_copied, one_content_more, one_entry_more, rises_same}
 use Rattle.pg_dyn.proofs.lemmas.TakenApart.{taken_all, taken_more}
 use Rattle.pg_dyn.proofs.message_ref.+moving.Goals as goal
 
@@ -32,6 +32,11 @@ ContentRef::into_content-returns-in_ok-into_entries-in-Map t c =
     subst (λ (r : ContentRef). IsContentCopy r (held.Map c.in_ok-into_entries-in-Map.field-0)) (sym c.in-Map.is)
     (map_copied c.in-Map.entries c.in_ok-into_entries-in-Map.field-0 c.in_ok-into_entries-in-Map.ensures)
 
+pub ContentRef::into_content-returns-in_ok-to_values-in-Numbers : goal.ContentRef::into_content-returns-in_ok-to_values-in-Numbers
+ContentRef::into_content-returns-in_ok-to_values-in-Numbers t c =
+    subst (λ (r : ContentRef). IsContentCopy r (held.Many c.in_ok-to_values-in-Numbers.field-0)) (sym c.in-Numbers.is)
+    (numbers_copied c.in-Numbers.numbers c.in_ok-to_values-in-Numbers.field-0 c.in_ok-to_values-in-Numbers.ensures)
+
 pub MessageRef::into_message-loop-number-preserved : goal.MessageRef::into_message-loop-number-preserved
 MessageRef::into_message-loop-number-preserved t c =
     let l = c.loop-number in
@@ -51,7 +56,8 @@ MessageRef::into_message-invariant_of-result t c =
       rises = rises_same l.owned.items a.fields.items all.numbers c.self.invariant.rises;
       filled = all.filled c.self.invariant.filled;
       keys = all.keys c.self.invariant.keys;
-      records = subst (AllByRecursion IsRecord) (sym (c.in_ok-owned_records.ensures ∙ ap (map seen_record) c.deref.ensures.value)) c.self.invariant.records;
+      records = subst (AllByRecursion IsRecord) (sym (c.in_ok-owned_records.ensures.seen ∙ ap (map seen_record) c.deref.ensures.value)) c.self.invariant.records;
+      bodies = c.in_ok-owned_records.ensures.bodies;
     }
 
 pub MessageRef::into_message-returns : goal.MessageRef::into_message-returns
@@ -62,5 +68,5 @@ MessageRef::into_message-returns t c =
     let whole = taken_all (into_iter_items taken.result) l.yielded l.number-iterator c.next.new.self l.invariant.0 c.in-None.ensures.steps ∙ taken.ensures.into_iter_gives.0 in
     let all = subst (λ (fs : List (ℕ × ContentRef)). AreCopies fs l.owned.items) whole l.invariant.1 in
     copy_shows a.type_id a.fields.items l.owned.items (map record_seen c.in_ok-owned_records.field-0.items) (map seen_record a.unknown.items) all
-    (c.in_ok-owned_records.ensures ∙ ap (map seen_record) c.deref.ensures.value)
+    (c.in_ok-owned_records.ensures.seen ∙ ap (map seen_record) c.deref.ensures.value)
     ∙ c.self.view_is

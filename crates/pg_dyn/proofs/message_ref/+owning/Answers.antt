@@ -13,7 +13,7 @@ use Rattle.pg_dyn.specs.declared.message_ref.EntryRef.{EntryRef}
 use Rattle.pg_dyn.specs.Borrowed as borrowed
 use Rattle.pg_dyn.specs.Copies.{AreEntryCopies, IsContentCopy}
 use Rattle.pg_dyn.specs.Seen.{record_seen}
-use Rattle.pg_dyn.proofs.lemmas.BorrowedParts.{AreCopies, copies_more, copy_shows, entries_more, entry_copied, list_copied, map_copied, rises_same}
+use Rattle.pg_dyn.proofs.lemmas.BorrowedParts.{AreCopies, copies_more, copy_shows, entries_more, entry_copied, list_copied, map_copied, numbers_copied, rises_same}
 use Rattle.pg_dyn.proofs.message_ref.+owning.Goals as goal
 
 pub EntryRef::to_entry-returns : goal.EntryRef::to_entry-returns
@@ -42,6 +42,11 @@ ContentRef::to_content-returns-in_ok-to_entries-in-Map t c =
     subst (λ (r : ContentRef). IsContentCopy r (held.Map c.in_ok-to_entries-in-Map.field-0)) (sym c.in-Map.is)
     (map_copied c.in-Map.entries c.in_ok-to_entries-in-Map.field-0 (subst (λ (es : List EntryRef). AreEntryCopies es c.in_ok-to_entries-in-Map.field-0.items) c.deref-in-Map.ensures.value c.in_ok-to_entries-in-Map.ensures))
 
+pub ContentRef::to_content-returns-in_ok-to_values-in-Numbers : goal.ContentRef::to_content-returns-in_ok-to_values-in-Numbers
+ContentRef::to_content-returns-in_ok-to_values-in-Numbers t c =
+    subst (λ (r : ContentRef). IsContentCopy r (held.Many c.in_ok-to_values-in-Numbers.field-0)) (sym c.in-Numbers.is)
+    (numbers_copied c.in-Numbers.numbers c.in_ok-to_values-in-Numbers.field-0 c.in_ok-to_values-in-Numbers.ensures)
+
 pub MessageRef::to_message-loop-number-preserved : goal.MessageRef::to_message-loop-number-preserved
 MessageRef::to_message-loop-number-preserved t c =
     let l = c.loop-number in
@@ -57,7 +62,8 @@ MessageRef::to_message-invariant_of-result t c =
       rises = rises_same c.loop-number.fields.items a.fields.items all.numbers c.self.invariant.rises;
       filled = all.filled c.self.invariant.filled;
       keys = all.keys c.self.invariant.keys;
-      records = subst (AllByRecursion IsRecord) (sym (c.in_ok-unknown.ensures ∙ ap (map seen_record) c.deref.ensures.value)) c.self.invariant.records;
+      records = subst (AllByRecursion IsRecord) (sym (c.in_ok-unknown.ensures.seen ∙ ap (map seen_record) c.deref.ensures.value)) c.self.invariant.records;
+      bodies = c.in_ok-unknown.ensures.bodies;
     }
 
 pub MessageRef::to_message-returns : goal.MessageRef::to_message-returns
@@ -66,7 +72,7 @@ MessageRef::to_message-returns t c =
     let whole = take_all c.loop-number.number-index c.deref-number-items.result.now c.loop-number-test.false ∙ c.deref-number-items.ensures.value in
     let all = subst (λ (fs : List (ℕ × ContentRef)). AreCopies fs c.loop-number.fields.items) whole c.loop-number.invariant in
     copy_shows a.type_id a.fields.items c.loop-number.fields.items (map record_seen c.in_ok-unknown.unknown.items) (map seen_record a.unknown.items) all
-    (c.in_ok-unknown.ensures ∙ ap (map seen_record) c.deref.ensures.value)
+    (c.in_ok-unknown.ensures.seen ∙ ap (map seen_record) c.deref.ensures.value)
     ∙ c.self.view_is
 
 pub ContentRef::to_content-to_values-requires : goal.ContentRef::to_content-to_values-requires

@@ -12,6 +12,7 @@ use Rattle.pg_dyn.specs.Borrowed.{item_seen}
 use Rattle.std.proofs.lemmas.Result.{IfOk-weaker}
 use Rattle.pg_dyn.proofs.Lists.{list_all_each, each_at_index, each_from_take}
 use Rattle.pg_pairs.specs.Comparing.{HeldFits, ItemHasEncoding, items_match, Keyed, keyed, keyed_if, keyed_match, keyed_shown}
+use Rattle.pg_pairs.specs.HeldItems.{item_value}
 use Rattle.pg_pairs.proofs.SameSteps.{both_go_on, each_got, held_weight, of_number_seen, shown_weight, total, total_got, weight_is}
 use Rattle.pg_pairs.proofs.SameFields.{beside_with, first_alone, hides_first, hides_second, key_lent, message_fits, second_alone, shown_filled, shown_fits, single_found}
 use Rattle.pg_pairs.proofs.SameLengths.{child_encoded, shown_encoded}
@@ -31,49 +32,55 @@ are_same_fields-returns g t c =
 pub is_same_content-is_same_key-requires-clause-first : goal.is_same_content-is_same_key-requires-clause-first
 is_same_content-is_same_key-requires-clause-first g t c =
     key_lent c.held_at-first.result.key
-    (each_got (HeldFits (shape_of c.args.sides.now.old.now) c.args.fields.now.old.now.element) (keyed c.args.content.now) c.loop-at.at (option_copied c.held_at-first.result.key, c.held_at-first.result.item.now)
+    (each_got (HeldFits (shape_of c.args.sides.now.old.now) c.args.fields.now.old.now.element) (keyed c.args.content.now) c.loop-at.at (option_copied c.held_at-first.result.key, item_value c.held_at-first.result.item)
     c.requires.fits c.held_at-first.ensures).0
 
 pub is_same_content-is_same_key-requires-clause-second : goal.is_same_content-is_same_key-requires-clause-second
 is_same_content-is_same_key-requires-clause-second g t c =
     key_lent c.held_at-second.result.key
-    (each_got (HeldFits (shape_of c.args.sides.now.new.now) c.args.fields.now.new.now.element) (keyed c.args.read.now) c.loop-at.at (option_copied c.held_at-second.result.key, c.held_at-second.result.item.now)
+    (each_got (HeldFits (shape_of c.args.sides.now.new.now) c.args.fields.now.new.now.element) (keyed c.args.read.now) c.loop-at.at (option_copied c.held_at-second.result.key, item_value c.held_at-second.result.item)
     c.requires.read_fits c.held_at-second.ensures).0
 
 pub is_same_content-returns-then-not-is_same_key : goal.is_same_content-returns-then-not-is_same_key
 is_same_content-returns-then-not-is_same_key g t c =
     let test = keyed_match g.V.View.NAME c.args.sides.now.old.now c.args.sides.now.new.now (field_shape c.args.fields.now.old.now) (field_shape c.args.fields.now.new.now) in
-    let matches = items_match g.V.View.NAME c.args.sides.now.old.now c.args.sides.now.new.now (field_shape c.args.fields.now.old.now) (field_shape c.args.fields.now.new.now) c.held_at-first.result.item.now c.held_at-second.result.item.now in
+    let matches = items_match g.V.View.NAME c.args.sides.now.old.now c.args.sides.now.new.now (field_shape c.args.fields.now.old.now) (field_shape c.args.fields.now.new.now) (item_value c.held_at-first.result.item) (item_value c.held_at-second.result.item) in
     let rest = pointwise test (drop (c.loop-at.at + 1) (keyed c.args.content.now)) (drop (c.loop-at.at + 1) (keyed c.args.read.now)) in
     sym (sym c.loop-at.invariant
-    ∙ both_go_on test (keyed c.args.content.now) (keyed c.args.read.now) c.loop-at.at (option_copied c.held_at-first.result.key, c.held_at-first.result.item.now) (option_copied c.held_at-second.result.key, c.held_at-second.result.item.now) c.held_at-first.ensures c.held_at-second.ensures
+    ∙ both_go_on test (keyed c.args.content.now) (keyed c.args.read.now) c.loop-at.at (option_copied c.held_at-first.result.key, item_value c.held_at-first.result.item) (option_copied c.held_at-second.result.key, item_value c.held_at-second.result.item) c.held_at-first.ensures c.held_at-second.ensures
     ∙ ap (λ b. (b && matches) && rest) (sym c.is_same_key.ensures ∙ c.if-not-is_same_key.true))
 
 pub is_same_content-is_same_item-requires : goal.is_same_content-is_same_item-requires
 is_same_content-is_same_item-requires g t c κs within =
+    let one = c.held_at-first.ensures ∙ ap (λ v. Some (option_copied c.held_at-first.result.key, v)) (sym c.value-item.ensures) in
+    let two = c.held_at-second.ensures ∙ ap (λ v. Some (option_copied c.held_at-second.result.key, v)) (sym c.value-other.ensures) in
     let old = shape_of c.args.sides.now.old.now in
     let new = shape_of c.args.sides.now.new.now in
-    let first = each_got (HeldFits (shape_of c.args.sides.now.old.now) c.args.fields.now.old.now.element) (keyed c.args.content.now) c.loop-at.at (option_copied c.held_at-first.result.key, c.held_at-first.result.item.now)
-    c.requires.fits c.held_at-first.ensures in
-    let second = each_got (HeldFits (shape_of c.args.sides.now.new.now) c.args.fields.now.new.now.element) (keyed c.args.read.now) c.loop-at.at (option_copied c.held_at-second.result.key, c.held_at-second.result.item.now)
-    c.requires.read_fits c.held_at-second.ensures in
-    let encoded = each_got (λ (x : Keyed). ItemHasEncoding (shape_of c.args.sides.now.old.now) x.1) (keyed c.args.content.now) c.loop-at.at (option_copied c.held_at-first.result.key, c.held_at-first.result.item.now) c.requires.encoded c.held_at-first.ensures in
-    let less = total_got (keyed c.args.content.now) c.loop-at.at (option_copied c.held_at-first.result.key, c.held_at-first.result.item.now) c.held_at-first.ensures in
+    let first = each_got (HeldFits (shape_of c.args.sides.now.old.now) c.args.fields.now.old.now.element) (keyed c.args.content.now) c.loop-at.at (option_copied c.held_at-first.result.key, c.value-item.result.now)
+    c.requires.fits one in
+    let second = each_got (HeldFits (shape_of c.args.sides.now.new.now) c.args.fields.now.new.now.element) (keyed c.args.read.now) c.loop-at.at (option_copied c.held_at-second.result.key, c.value-other.result.now)
+    c.requires.read_fits two in
+    let encoded = each_got (λ (x : Keyed). ItemHasEncoding (shape_of c.args.sides.now.old.now) x.1) (keyed c.args.content.now) c.loop-at.at (option_copied c.held_at-first.result.key, c.value-item.result.now) c.requires.encoded one in
+    let less = total_got (keyed c.args.content.now) c.loop-at.at (option_copied c.held_at-first.result.key, c.value-item.result.now) one in
     (omega (arith, c.decreases, less), (within, (c.requires.old_schema, (c.requires.new_schema, (first.1, (encoded, second.1))))))
 
 pub is_same_content-returns-then-not-branch : goal.is_same_content-returns-then-not-branch
 is_same_content-returns-then-not-branch g t c =
+    let one = c.held_at-first.ensures ∙ ap (λ v. Some (option_copied c.held_at-first.result.key, v)) (sym c.value-item.ensures) in
+    let two = c.held_at-second.ensures ∙ ap (λ v. Some (option_copied c.held_at-second.result.key, v)) (sym c.value-other.ensures) in
     let test = keyed_match g.V.View.NAME c.args.sides.now.old.now c.args.sides.now.new.now (field_shape c.args.fields.now.old.now) (field_shape c.args.fields.now.new.now) in
     let rest = pointwise test (drop (c.loop-at.at + 1) (keyed c.args.content.now)) (drop (c.loop-at.at + 1) (keyed c.args.read.now)) in
     sym (sym c.loop-at.invariant
-    ∙ both_go_on test (keyed c.args.content.now) (keyed c.args.read.now) c.loop-at.at (option_copied c.held_at-first.result.key, c.held_at-first.result.item.now) (option_copied c.held_at-second.result.key, c.held_at-second.result.item.now) c.held_at-first.ensures c.held_at-second.ensures
+    ∙ both_go_on test (keyed c.args.content.now) (keyed c.args.read.now) c.loop-at.at (option_copied c.held_at-first.result.key, c.value-item.result.now) (option_copied c.held_at-second.result.key, c.value-other.result.now) one two
     ∙ ap₂ (λ a b. (a && b) && rest) (sym c.is_same_key.ensures ∙ c.if-not-is_same_key.false) (sym c.in_ok-is_same_item.ensures ∙ c.if-not-branch.true))
 
 pub is_same_content-loop-at-preserved : goal.is_same_content-loop-at-preserved
 is_same_content-loop-at-preserved g t c =
+    let one = c.held_at-first.ensures ∙ ap (λ v. Some (option_copied c.held_at-first.result.key, v)) (sym c.value-item.ensures) in
+    let two = c.held_at-second.ensures ∙ ap (λ v. Some (option_copied c.held_at-second.result.key, v)) (sym c.value-other.ensures) in
     let test = keyed_match g.V.View.NAME c.args.sides.now.old.now c.args.sides.now.new.now (field_shape c.args.fields.now.old.now) (field_shape c.args.fields.now.new.now) in
     let rest = pointwise test (drop (c.loop-at.at + 1) (keyed c.args.content.now)) (drop (c.loop-at.at + 1) (keyed c.args.read.now)) in
-    sym (both_go_on test (keyed c.args.content.now) (keyed c.args.read.now) c.loop-at.at (option_copied c.held_at-first.result.key, c.held_at-first.result.item.now) (option_copied c.held_at-second.result.key, c.held_at-second.result.item.now) c.held_at-first.ensures c.held_at-second.ensures
+    sym (both_go_on test (keyed c.args.content.now) (keyed c.args.read.now) c.loop-at.at (option_copied c.held_at-first.result.key, c.value-item.result.now) (option_copied c.held_at-second.result.key, c.value-other.result.now) one two
     ∙ ap₂ (λ a b. (a && b) && rest) (sym c.is_same_key.ensures ∙ c.if-not-is_same_key.false) (sym c.in_ok-is_same_item.ensures ∙ c.if-not-branch.false))
     ∙ c.loop-at.invariant
 

@@ -1,11 +1,13 @@
 -- A message's lines are those of its contents and of its unknown records, and what is inside weighs less.
-use Rattle.std.proofs.Common.{◌∙◌, ◌++◌, flat_map, string_bytes, take_all, ap, sym, arith, append_assoc}
+use Rattle.std.proofs.Common.{◌∙◌, ◌++◌, flat_map, None, string_bytes, take, take_all, ap, sym, arith, append_assoc}
 use Rattle.std.proofs.lemmas.Result.{on_ok_weaker}
 use denote.Param.Weighed.{at_most}
 use Rattle.pg_dyn.specs.Kept.{ends, type_of, unknown_of, weight}
 use Rattle.pg_dyn.specs.Borrowed.{fields_onto}
-use Rattle.pg_show.specs.Contents.{content_lines, record_line}
+use Rattle.pg_dyn.specs.NumberLists.{numbers_in}
+use Rattle.pg_show.specs.Contents.{content_lines, record_line, value_lines}
 use Rattle.pg_show.proofs.ByContent.{message_by_content}
+use Rattle.pg_show.proofs.ByIndex.{one_more, within_most}
 use Rattle.pg_show.proofs.Weights.{field_weight, fields_heavier, some_weight, value_weight}
 use Rattle.pg_show.proofs.lines.+lines.Goals as goal
 
@@ -37,3 +39,18 @@ push_message-returns t c =
 pub push_value-push_message-requires : goal.push_value-push_message-requires
 push_value-push_message-requires t c =
     omega (arith, c.decreases, ap value_weight c.in-Msg.is, ap weight c.deref.ensures, some_weight c.deref.result.now)
+
+pub push_numbers-push_value-requires : goal.push_numbers-push_value-requires
+push_numbers-push_value-requires t c =
+    omega (arith, c.decreases, within_most value_weight (numbers_in c.args.numbers.now) c.loop-at.at c.get-value.result c.get-value.ensures.item)
+
+pub push_numbers-loop-at-preserved : goal.push_numbers-loop-at-preserved
+push_numbers-loop-at-preserved t c =
+    let row = c.args.row.now in
+    let lines = value_lines row.schema.now row.indent.now row.number row.name.now row.element None in
+    let before = string_bytes c.args.text.now in
+    let numbers = numbers_in c.args.numbers.now in
+    c.in_ok-push_value.ensures
+    ∙ ap (λ t. t ++ lines c.get-value.result) c.loop-at.invariant
+    ∙ append_assoc before (flat_map lines (take c.loop-at.at numbers)) (lines c.get-value.result)
+    ∙ ap (λ t. before ++ t) (sym (one_more lines numbers c.loop-at.at c.get-value.result c.get-value.ensures.item))

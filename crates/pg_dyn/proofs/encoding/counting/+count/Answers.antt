@@ -1,15 +1,18 @@
 -- What is counted of each item, entry, content and message is the length of what is written of it.
-use Rattle.std.proofs.Common.{◌≡◌, ℕ, ◌++◌, List, length, flat_map, Some, refl, ap, ap₂, sym, subst, ◌∙◌, arith, length-append}
+use Rattle.std.proofs.Common.{true, ◌≡◌, ℕ, ◌++◌, List, length, flat_map, Some, refl, ap, ap₂, sym, subst, ◌∙◌, arith, length-append}
 use Rattle.pg_schema.specs.declared.parts.field.Element.TheVariants as elements
+use Rattle.pg_schema.specs.declared.parts.field.Scalar.{Scalar}
+use Rattle.pg_dyn.specs.NumberLists.{numbers_in}
+use Rattle.pg_dyn.proofs.lemmas.encoding.NumberWords.{numbers_fit, numbers_noted, numbers_written}
 use Rattle.pg_schema.specs.Parts.{field_shape, shape_of}
 use Rattle.pg_schema.specs.Shape.{fields, field_at}
 use Rattle.std.specs.List.{AllByRecursion}
 use Rattle.pg_wire.specs.Records.{written}
 use Rattle.pg_dyn.specs.Kept.{type_of, unknown_of}
-use Rattle.pg_dyn.specs.encoding.Lending.{HoldsParts, bare_leaf}
+use Rattle.pg_dyn.specs.encoding.Lending.{HoldsParts, bare_leaf, item_part, lent_item}
 use Rattle.pg_dyn.specs.PartsFit.{IsPartOf}
 use Rattle.pg_dyn.specs.encoding.Writing.{bytes_of, item_record}
-use Rattle.pg_dyn.specs.encoding.Written.{BareFits, capped, entry_body, entry_record, field_lengths, field_written, item_body, item_bytes, item_lengths}
+use Rattle.pg_dyn.specs.encoding.Written.{BareFits, LeavesFit, capped, entry_body, entry_record, field_lengths, field_written, item_body, item_bytes, item_lengths, number_bytes, number_lengths}
 use Rattle.pg_dyn.proofs.lemmas.encoding.EncodeSteps.{content_bytes, contents_held, counted_all, counted_more, entries_fit, entries_noted, entries_written, field_bytes, field_fits, field_is, values_fit, items_noted, items_written, keyed, keyless, if_on_ok, keys_fit, leaves_fit, listed_all, listed_more, ok_is, own_is, packable, packed_noted, packed_written, packs, records_are}
 use Rattle.pg_dyn.proofs.lemmas.FitsSteps.{some_not_none}
 use Rattle.pg_dyn.proofs.lemmas.encoding.LentWeights.{content_lighter, entries_weigh, item_lighter, items_weigh, parts_weight, bare_weight}
@@ -123,28 +126,28 @@ pub count_content-count_packed-requires-clause-fit : goal.count_content-count_pa
 count_content-count_packed-requires-clause-fit g t c =
     let shape = shape_of c.args.schema.now in
     let f = field_shape c.args.field.now in
-    let are = c.items-values.ensures c.args.field.now.number (keyless shape f (g.M.Lends.parts c.args.field.now.number c.args.content.now) c.in-None.ensures c.requires.fit) in
+    let are = c.items-values.ensures c.args.field.now.number c.in_default.ensures (keyless shape f (g.M.Lends.parts c.args.field.now.number c.args.content.now) c.in-None.ensures c.requires.fit) in
     let fit = subst (AllByRecursion (IsPartOf (shape_of c.args.schema.now) (field_shape c.args.field.now))) are.1 c.requires.fit in
-    let packed = sym c.is_packed.ensures ∙ c.if-is_packed.true in
+    let packed = sym c.is_packed-packed.ensures ∙ c.if-packed.true in
     leaves_fit g.M.Lends.item shape f.element c.items-values.result.now (packable f.presence f.element packed c.requires.packed) (values_fit g.M.Lends.item shape f c.args.field.now.number are.0 c.items-values.result.now fit)
 
-pub count_content-returns-then-is_packed-clause-len : goal.count_content-returns-then-is_packed-clause-len
-count_content-returns-then-is_packed-clause-len g t c =
+pub count_content-returns-then-packed-clause-len : goal.count_content-returns-then-packed-clause-len
+count_content-returns-then-packed-clause-len g t c =
     let shape = shape_of c.args.schema.now in
     let f = field_shape c.args.field.now in
-    let are = c.items-values.ensures c.args.field.now.number (keyless shape f (g.M.Lends.parts c.args.field.now.number c.args.content.now) c.in-None.ensures c.requires.fit) in
+    let are = c.items-values.ensures c.args.field.now.number c.in_default.ensures (keyless shape f (g.M.Lends.parts c.args.field.now.number c.args.content.now) c.in-None.ensures c.requires.fit) in
     let fit = subst (AllByRecursion (IsPartOf (shape_of c.args.schema.now) (field_shape c.args.field.now))) are.1 c.requires.fit in
-    let packed = sym c.is_packed.ensures ∙ c.if-is_packed.true in
+    let packed = sym c.is_packed-packed.ensures ∙ c.if-packed.true in
     let bytes = ap (field_written shape f) are.1
     ∙ packed_written g.M.Lends.item shape f are.0 c.items-values.result.now packed (packable f.presence f.element packed c.requires.packed) (values_fit g.M.Lends.item shape f c.args.field.now.number are.0 c.items-values.result.now fit) in
     ok_is c.count_packed.result (λ bs len. len ≡ capped (length bs)) (sym bytes) c.count_packed.ensures.len
 
-pub count_content-returns-then-is_packed-clause-inner : goal.count_content-returns-then-is_packed-clause-inner
-count_content-returns-then-is_packed-clause-inner g t c =
+pub count_content-returns-then-packed-clause-inner : goal.count_content-returns-then-packed-clause-inner
+count_content-returns-then-packed-clause-inner g t c =
     let shape = shape_of c.args.schema.now in
     let f = field_shape c.args.field.now in
-    let are = c.items-values.ensures c.args.field.now.number (keyless shape f (g.M.Lends.parts c.args.field.now.number c.args.content.now) c.in-None.ensures c.requires.fit) in
-    let packed = sym c.is_packed.ensures ∙ c.if-is_packed.true in
+    let are = c.items-values.ensures c.args.field.now.number c.in_default.ensures (keyless shape f (g.M.Lends.parts c.args.field.now.number c.args.content.now) c.in-None.ensures c.requires.fit) in
+    let packed = sym c.is_packed-packed.ensures ∙ c.if-packed.true in
     let noted = ap (field_lengths shape f) are.1 ∙ packed_noted g.M.Lends.item shape f are.0 c.items-values.result.now packed in
     if_on_ok c.count_packed.result (c.count_packed.ensures.inner) (λ e. e ∙ ap (λ ns. c.args.inner.now.items ++ ns) (sym noted))
 
@@ -152,7 +155,7 @@ pub count_content-count_items-requires : goal.count_content-count_items-requires
 count_content-count_items-requires g t c κs within =
     let shape = shape_of c.args.schema.now in
     let f = field_shape c.args.field.now in
-    let are = c.items-values.ensures c.args.field.now.number (keyless shape f (g.M.Lends.parts c.args.field.now.number c.args.content.now) c.in-None.ensures c.requires.fit) in
+    let are = c.items-values.ensures c.args.field.now.number c.in_default.ensures (keyless shape f (g.M.Lends.parts c.args.field.now.number c.args.content.now) c.in-None.ensures c.requires.fit) in
     let fit = subst (AllByRecursion (IsPartOf (shape_of c.args.schema.now) (field_shape c.args.field.now))) are.1 c.requires.fit in
     let weigh = ap parts_weight are.1 ∙ items_weigh g.M.Lends.item c.args.field.now.number are.0 c.items-values.result.now in (
       omega (arith, weigh, c.decreases),
@@ -177,20 +180,20 @@ count_content-count_items-requires g t c κs within =
       ),
     )
 
-pub count_content-returns-else-is_packed-clause-len : goal.count_content-returns-else-is_packed-clause-len
-count_content-returns-else-is_packed-clause-len g t c =
+pub count_content-returns-else-packed-clause-len : goal.count_content-returns-else-packed-clause-len
+count_content-returns-else-packed-clause-len g t c =
     let shape = shape_of c.args.schema.now in
     let f = field_shape c.args.field.now in
-    let are = c.items-values.ensures c.args.field.now.number (keyless shape f (g.M.Lends.parts c.args.field.now.number c.args.content.now) c.in-None.ensures c.requires.fit) in
-    let bytes = ap (field_written shape f) are.1 ∙ items_written g.M.Lends.item shape f are.0 c.items-values.result.now (sym c.is_packed.ensures ∙ c.if-is_packed.false) c.in-None.ensures in
+    let are = c.items-values.ensures c.args.field.now.number c.in_default.ensures (keyless shape f (g.M.Lends.parts c.args.field.now.number c.args.content.now) c.in-None.ensures c.requires.fit) in
+    let bytes = ap (field_written shape f) are.1 ∙ items_written g.M.Lends.item shape f are.0 c.items-values.result.now (sym c.is_packed-packed.ensures ∙ c.if-packed.false) c.in-None.ensures in
     ok_is c.count_items.result (λ bs len. len ≡ capped (length bs)) (sym bytes) c.count_items.ensures.len
 
-pub count_content-returns-else-is_packed-clause-inner : goal.count_content-returns-else-is_packed-clause-inner
-count_content-returns-else-is_packed-clause-inner g t c =
+pub count_content-returns-else-packed-clause-inner : goal.count_content-returns-else-packed-clause-inner
+count_content-returns-else-packed-clause-inner g t c =
     let shape = shape_of c.args.schema.now in
     let f = field_shape c.args.field.now in
-    let are = c.items-values.ensures c.args.field.now.number (keyless shape f (g.M.Lends.parts c.args.field.now.number c.args.content.now) c.in-None.ensures c.requires.fit) in
-    let noted = ap (field_lengths shape f) are.1 ∙ items_noted g.M.Lends.item shape f are.0 c.items-values.result.now (sym c.is_packed.ensures ∙ c.if-is_packed.false) in
+    let are = c.items-values.ensures c.args.field.now.number c.in_default.ensures (keyless shape f (g.M.Lends.parts c.args.field.now.number c.args.content.now) c.in-None.ensures c.requires.fit) in
+    let noted = ap (field_lengths shape f) are.1 ∙ items_noted g.M.Lends.item shape f are.0 c.items-values.result.now (sym c.is_packed-packed.ensures ∙ c.if-packed.false) in
     ok_is c.count_items.result (λ ns len. c.count_items.new.inner.items ≡ c.args.inner.now.items ++ ns) (sym noted) c.count_items.ensures.inner
 
 pub count_message-unreachable-requires : goal.count_message-unreachable-requires
@@ -278,3 +281,36 @@ count_message-returns-clause-inner g t c =
     let held = contents_held g.M.Lends.parts (shape_of c.args.schema.now) m ms c.requires.is_schema.shape c.requires.fits c.fields-number-items.ensures.whole c.fields-number-items.ensures.filled c.fields-number-items.ensures.numbered in
     listed_all (content_lengths g.M.Lends.parts (shape_of c.args.schema.now) m) ms ms c.loop-number.number-index c.args.inner.now.items c.loop-number.inner.items refl c.loop-number-test.false c.loop-number.invariant.inner
     ∙ ap (λ xs. c.args.inner.now.items ++ xs) (inner_is g.M.Lends.parts (shape_of c.args.schema.now) m ms c.requires.is_schema.shape c.fields-number-items.ensures.whole c.fields-number-items.ensures.rises held)
+
+-- A content of numbers.
+
+pub count_content-count_numbers-requires-clause-fit : goal.count_content-count_numbers-requires-clause-fit
+count_content-count_numbers-requires-clause-fit g t c =
+    let shape = shape_of c.args.schema.now in
+    let f = field_shape c.args.field.now in
+    let ns = c.in-Some-numbers.numbers.now in
+    let are = c.in-Some-numbers.ensures c.args.field.now.number in
+    let fit = subst (AllByRecursion (IsPartOf (shape_of c.args.schema.now) (field_shape c.args.field.now))) are c.requires.fit in
+    let fits = values_fit lent_item shape f c.args.field.now.number true (numbers_in c.in-Some-numbers.numbers.now) fit in
+    subst (λ (s : Scalar). LeavesFit lent_item (elements.Scalar s) (numbers_in c.in-Some-numbers.numbers.now)) (sym c.scalar_of-scalar.ensures) (numbers_fit shape f ns fits)
+
+pub count_content-returns-in-Some-numbers-clause-len : goal.count_content-returns-in-Some-numbers-clause-len
+count_content-returns-in-Some-numbers-clause-len g t c =
+    let shape = shape_of c.args.schema.now in
+    let f = field_shape c.args.field.now in
+    let ns = c.in-Some-numbers.numbers.now in
+    let are = c.in-Some-numbers.ensures c.args.field.now.number in
+    let fit = subst (AllByRecursion (IsPartOf (shape_of c.args.schema.now) (field_shape c.args.field.now))) are c.requires.fit in
+    let fits = values_fit lent_item shape f c.args.field.now.number true (numbers_in c.in-Some-numbers.numbers.now) fit in
+    ok_is c.count_numbers.result (λ bs len. len ≡ capped (length bs))
+    (ap₂ (λ b (s : Scalar). number_bytes b c.args.field.now.number (elements.Scalar s) c.in-Some-numbers.numbers.now) c.is_packed-packed.ensures c.scalar_of-scalar.ensures ∙ sym (ap (field_written shape f) are ∙ numbers_written shape f ns c.in-None.ensures c.requires.packed fits))
+    c.count_numbers.ensures.len
+
+pub count_content-returns-in-Some-numbers-clause-inner : goal.count_content-returns-in-Some-numbers-clause-inner
+count_content-returns-in-Some-numbers-clause-inner g t c =
+    let shape = shape_of c.args.schema.now in
+    let f = field_shape c.args.field.now in
+    let ns = c.in-Some-numbers.numbers.now in
+    let are = c.in-Some-numbers.ensures c.args.field.now.number in
+    if_on_ok c.count_numbers.result (c.count_numbers.ensures.inner) (λ e. e ∙ ap (λ ls. c.args.inner.now.items ++ ls)
+    (ap₂ (λ b (s : Scalar). number_lengths b (elements.Scalar s) c.in-Some-numbers.numbers.now) c.is_packed-packed.ensures c.scalar_of-scalar.ensures ∙ sym (ap (field_lengths shape f) are ∙ numbers_noted shape f ns)))

@@ -20,6 +20,7 @@ invariant_of-self c =
       filled = subst (AllByRecursion (λ (x : ℕ × Content). IsFilled x.1)) is (each_left (λ (x : ℕ × Content). IsFilled x.1) fs f a.fields.items c.self.invariant.filled);
       keys = subst (AllByRecursion (λ (x : ℕ × Content). HasKeys x.1)) is (each_left (λ (x : ℕ × Content). HasKeys x.1) fs f a.fields.items c.self.invariant.keys);
       records = c.self.invariant.records;
+      bodies = c.self.invariant.bodies;
     }
 
 pub returns : goal.returns

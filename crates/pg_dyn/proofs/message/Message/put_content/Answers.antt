@@ -25,6 +25,7 @@ invariant_of-self c =
       filled = subst (AllByRecursion (λ (f : ℕ × Content). IsFilled f.1)) is (each_removed (λ (f : ℕ × Content). IsFilled f.1) n a.fields.items c.self.invariant.filled);
       keys = subst (AllByRecursion (λ (f : ℕ × Content). HasKeys f.1)) is (each_removed (λ (f : ℕ × Content). HasKeys f.1) n a.fields.items c.self.invariant.keys);
       records = c.self.invariant.records;
+      bodies = c.self.invariant.bodies;
     }
 
 pub returns-then-is_nothing-clause-ok : goal.returns-then-is_nothing-clause-ok
@@ -65,6 +66,7 @@ invariant_of-self-2 c =
       filled = subst (AllByRecursion (λ (f : ℕ × Content). IsFilled f.1)) is (each_put (λ (f : ℕ × Content). IsFilled f.1) n c.normalized.result a.fields.items c.normalized.ensures.filled c.self.invariant.filled);
       keys = subst (AllByRecursion (λ (f : ℕ × Content). HasKeys f.1)) is (each_put (λ (f : ℕ × Content). HasKeys f.1) n c.normalized.result a.fields.items c.normalized.ensures.keys c.self.invariant.keys);
       records = c.self.invariant.records;
+      bodies = c.self.invariant.bodies;
     }
 
 pub returns-clause-ok : goal.returns-clause-ok

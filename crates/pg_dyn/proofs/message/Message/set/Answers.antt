@@ -12,7 +12,7 @@ use Rattle.pg_dyn.specs.Seen.{record_seen}
 use Rattle.pg_dyn.specs.setting.Reported.{IsTaken}
 use Rattle.pg_dyn.proofs.lemmas.setting.PutLaws.{cleared_fits, content_alike, normalized_number}
 use Rattle.pg_dyn.proofs.lemmas.ReplacingLaws.{type_shown, type_of-with_parts}
-use Rattle.pg_dyn.proofs.lemmas.setting.SetSteps.{accepted, key_twice, may_refuse, members_after, number_is, set_to}
+use Rattle.pg_dyn.proofs.lemmas.setting.SetSteps.{accepted, key_twice, may_refuse, members_after, no_memory, none_early, number_is, set_to}
 use Rattle.pg_dyn.proofs.message.Message.set.Goals as goal
 
 pub returns-in-Err-clause-refused : goal.returns-in-Err-clause-refused
@@ -95,3 +95,20 @@ returns-in-Ok-put_content-clause-accepted c =
     let same : type_of c.args.self.now ≡ a.type_id = sym (ap type_of c.self.view_is) ∙ type_shown a.type_id a.fields.items (map record_seen a.unknown.items) in
     let taken = subst (λ (t : TypeId). IsTaken (shape_of c.args.schema.now) t c.args.number c.args.content (field_shape c.in-Ok.field.now)) (sym same) c.in-Ok.ensures.ok in
     accepted c.args.schema.now c.parts.ensures.checked c.args.number c.args.content (field_shape c.in-Ok.field.now) (type_of c.args.self.now) taken c.in_default.ensures.ok
+
+pub returns-in-Err-clause-lacking : goal.returns-in-Err-clause-lacking
+returns-in-Err-clause-lacking c = λ is. absurd (no_memory c.args.schema.now c.self.inside.type_id c.args.number c.args.content c.in-Err.error is c.in-Err.ensures.err)
+
+pub returns-in-Err-check_keys-clause-lacking : goal.returns-in-Err-check_keys-clause-lacking
+returns-in-Err-check_keys-clause-lacking c =
+    let a = c.self.inside in
+    let same : type_of c.args.self.now ≡ a.type_id = sym (ap type_of c.self.view_is) ∙ type_shown a.type_id a.fields.items (map record_seen a.unknown.items) in
+    let taken = subst (λ (t : TypeId). IsTaken (shape_of c.args.schema.now) t c.args.number c.args.content (field_shape c.in-Ok.field.now)) (sym same) c.in-Ok.ensures.ok in
+    λ is. none_early c.args.schema.now c.parts.ensures.checked c.args.number c.args.content (field_shape c.in-Ok.field.now) (type_of c.args.self.now) taken
+
+pub returns-in-Err-put_content-clause-lacking : goal.returns-in-Err-put_content-clause-lacking
+returns-in-Err-put_content-clause-lacking c =
+    let a = c.self.inside in
+    let same : type_of c.args.self.now ≡ a.type_id = sym (ap type_of c.self.view_is) ∙ type_shown a.type_id a.fields.items (map record_seen a.unknown.items) in
+    let taken = subst (λ (t : TypeId). IsTaken (shape_of c.args.schema.now) t c.args.number c.args.content (field_shape c.in-Ok.field.now)) (sym same) c.in-Ok.ensures.ok in
+    λ is. none_early c.args.schema.now c.parts.ensures.checked c.args.number c.args.content (field_shape c.in-Ok.field.now) (type_of c.args.self.now) taken

@@ -8,16 +8,17 @@ use Rattle.std.specs.List.Sorted.{IsNonDecreasingBy}
 use Rattle.pg_schema.specs.Parts.{shape_of}
 use Rattle.pg_schema.specs.Shape.{fields}
 use Rattle.pg_dyn.specs.declared.error.DynError.{DynError}
+use Rattle.pg_dyn.specs.declared.error.DynError.TheVariants as errors
 use Rattle.pg_dyn.specs.declared.message.Content.{Content}
 use Rattle.pg_dyn.specs.declared.message.Message.{Message}
 use Rattle.pg_dyn.specs.Seen.{Rises}
-use Rattle.pg_dyn.specs.setting.ContentFaults.{AnyOf, PassTwice, ContentsFault, ContentFault, HasKeyTwice, is_in_oneof, members, IsLowest, MayRefuseFor}
+use Rattle.pg_dyn.specs.setting.ContentFaults.{AnyOf, FirstOf, PassTwice, ContentsFault, ContentFault, HasKeyTwice, HasNoEarlyFault, is_in_oneof, members, IsLowest, MayRefuseFor}
 use Rattle.pg_dyn.specs.setting.Setting.{IsWhole}
 use Rattle.pg_dyn.specs.setting.Reported.{TakesContent}
 use Rattle.pg_dyn.proofs.lemmas.KeyLaws.{count_moved, each_moved}
 use Rattle.pg_dyn.proofs.lemmas.Standing.{any_moved}
 use Rattle.pg_dyn.proofs.lemmas.setting.WholeSteps.{of_field, kept_under}
-use Rattle.pg_dyn.proofs.lemmas.setting.WholeFaults.{no_siblings_from, once, once_unsorted, whole_accepted, whole_key_twice, whole_refused, whole_twice, whole_unsorted}
+use Rattle.pg_dyn.proofs.lemmas.setting.WholeFaults.{no_siblings_from, once, once_unsorted, whole_accepted, whole_early, whole_key_twice, whole_no_memory, whole_refused, whole_twice, whole_unsorted}
 use Rattle.pg_dyn.proofs.message.Message.whole.Goals as goal
 
 if_ok : {T E : Type 0} (r : Result T E) (P Q : T → Type 0) → ((x : T) → P x → Q x) → IfOk r P → IfOk r Q
@@ -28,12 +29,16 @@ on_ok : {T E A : Type 0} (r : Result T E) → A → OnOk r A
 on_ok (Ok x) h = h
 on_ok (Err e) h = tt
 
+if_err : {T E : Type 0} (r : Result T E) (P : E → Type 0) → ((e : E) → P e) → IfErr r P
+if_err (Ok x) P h = tt
+if_err (Err e) P h = h e
+
 pub returns-in_err-check_contents-clause-refused : goal.returns-in_err-check_contents-clause-refused
 returns-in_err-check_contents-clause-refused c =
     let (y, is, from) = err_from_is_err_and c.from_residual.result c.from_residual.ensures.1 in
     let may : DynError → Type 0 = MayRefuseFor (ContentsFault (shape_of c.args.schema.now) c.args.type_id c.args.contents.items) in
     let error = c.in_err-check_contents.field-0.0 in
-    let lowest = subst (λ (xs : List (ℕ × Content)). IsLowest (λ e. AnyOf (λ (x : ℕ × Content). ContentFault (shape_of c.args.schema.now) c.args.type_id x.0 x.1 e) xs) c.in_err-check_contents.field-0.0) c.deref.ensures.value c.in_err-check_contents.ensures.0 in
+    let lowest = subst (λ (xs : List (ℕ × Content)). IsLowest (FirstOf (λ (x : ℕ × Content). ContentFault (shape_of c.args.schema.now) c.args.type_id x.0 x.1) xs) c.in_err-check_contents.field-0.0) c.deref.ensures.value c.in_err-check_contents.ensures.0 in
     subst (λ (x : Result Message DynError). IfErr x may) (sym is) (subst may (sym from) (whole_refused c.args.schema.now c.args.type_id c.args.contents.items error lowest c.in_err-check_contents.ensures.1))
 
 pub has_number_twice-requires : goal.has_number_twice-requires
@@ -131,3 +136,29 @@ returns-clause-accepted c =
     let fields_once = once fs xs (once_unsorted c.args.schema.now c.args.type_id xs ys same rises) oneof_once in
     let keys = subst (AllByRecursion (λ (x : ℕ × Content). HasKeyTwice x.1 → ⊥)) c.deref-4.ensures.value c.in_ok-check_all_keys.ensures.ok in
     on_ok c.filled.result (whole_accepted c.args.schema.now c.args.type_id xs takes fields_once (each_moved (λ (x : ℕ × Content). HasKeyTwice x.1 → ⊥) ys xs (IsPermutation-sym xs ys moved) keys))
+
+pub returns-in_err-check_contents-clause-lacking : goal.returns-in_err-check_contents-clause-lacking
+returns-in_err-check_contents-clause-lacking c =
+    let (y, is, from) = err_from_is_err_and c.from_residual.result c.from_residual.ensures.1 in
+    let lowest = subst (λ (xs : List (ℕ × Content)). IsLowest (FirstOf (λ (x : ℕ × Content). ContentFault (shape_of c.args.schema.now) c.args.type_id x.0 x.1) xs) c.in_err-check_contents.field-0.0) c.deref.ensures.value c.in_err-check_contents.ensures.0 in
+    let lacks : DynError → Type 0 = λ e. e ≡ errors.Memory → HasNoEarlyFault (ContentsFault (shape_of c.args.schema.now) c.args.type_id c.args.contents.items) in
+    subst (λ (x : Result Message DynError). IfErr x lacks) (sym is)
+    (subst lacks (sym from) (λ memory. absurd (whole_no_memory c.args.schema.now c.args.type_id c.args.contents.items c.in_err-check_contents.field-0.0 memory lowest)))
+
+pub returns-in_err-sort_by_key-clause-lacking : goal.returns-in_err-sort_by_key-clause-lacking
+returns-in_err-sort_by_key-clause-lacking c =
+    let takes = subst (AllByRecursion (TakesContent (shape_of c.args.schema.now) c.args.type_id)) c.deref.ensures.value c.in_ok-check_contents.ensures in
+    if_err c.from_residual-in_err-sort_by_key.result (λ e. e ≡ errors.Memory → HasNoEarlyFault (ContentsFault (shape_of c.args.schema.now) c.args.type_id c.args.contents.items))
+    (λ e is. whole_early c.args.schema.now c.args.type_id c.args.contents.items takes)
+
+pub returns-in_err-check_all_keys-clause-lacking : goal.returns-in_err-check_all_keys-clause-lacking
+returns-in_err-check_all_keys-clause-lacking c =
+    let takes = subst (AllByRecursion (TakesContent (shape_of c.args.schema.now) c.args.type_id)) c.deref.ensures.value c.in_ok-check_contents.ensures in
+    if_err c.from_residual-in_err-check_all_keys.result (λ e. e ≡ errors.Memory → HasNoEarlyFault (ContentsFault (shape_of c.args.schema.now) c.args.type_id c.args.contents.items))
+    (λ e is. whole_early c.args.schema.now c.args.type_id c.args.contents.items takes)
+
+pub returns-clause-lacking : goal.returns-clause-lacking
+returns-clause-lacking c =
+    let takes = subst (AllByRecursion (TakesContent (shape_of c.args.schema.now) c.args.type_id)) c.deref.ensures.value c.in_ok-check_contents.ensures in
+    if_err c.filled.result (λ e. e ≡ errors.Memory → HasNoEarlyFault (ContentsFault (shape_of c.args.schema.now) c.args.type_id c.args.contents.items))
+    (λ e is. whole_early c.args.schema.now c.args.type_id c.args.contents.items takes)

@@ -21,7 +21,7 @@ use Rattle.pg_dyn.proofs.lemmas.reading.ChildrenByFields as children
 use Rattle.pg_dyn.proofs.lemmas.reading.EntriesByFields as entries
 use Rattle.pg_dyn.proofs.lemmas.reading.MapsByFields as maps
 use Rattle.pg_dyn.proofs.lemmas.reading.StopSteps.{stopped, handed_on, stops_for}
-use Rattle.pg_dyn.proofs.reading.nested.+reading.Goals.{read_entry-in-Message+in_ok-value-in-Message, read_entry-in-Scalar, counted-in-Some+then-counts+in_ok-push, counted-in-Some+else-counts+in_ok-read_content+in-Some+in-One+in-Msg-1, counted-in-Some+else-counts+in_ok-read_content+in-Some+in-One+in-Int-1, counted-in-Some+else-counts+in_ok-read_content+in-Some+in-Many-1, counted-in-Some+else-counts+in_ok-read_content+in-Some+in-Map-1, counted-in-Some+else-counts+in_ok-read_content+in-None-1, counted-in_default, read_gathered-then-oneof_runs, read_gathered-else-oneof_runs+in_ok-left}
+use Rattle.pg_dyn.proofs.reading.nested.+reading.Goals.{read_entry-in-Message+in_ok-value-in-Message, read_entry-in-Scalar, counted-in-Some+then-counts+in_ok-push, counted-in-Some+else-counts+in_ok-read_content+in-Some+in-One+in-Msg-1, counted-in-Some+else-counts+in_ok-read_content+in-Some+in-One+in-Int-1, counted-in-Some+else-counts+in_ok-read_content+in-Some+in-Many-1, counted-in-Some+else-counts+in_ok-read_content+in-Some+in-Map-1, counted-in-Some+else-counts+in_ok-read_content+in-Some+in-Numbers-1, counted-in-Some+else-counts+in_ok-read_content+in-None-1, counted-in_default, read_gathered-then-oneof_runs, read_gathered-else-oneof_runs+in_ok-left}
 use Rattle.pg_dyn.proofs.reading.nested.+reading.Goals as goal
 use Rattle.pg_wire.specs.declared.record.Record.{Record}
 use Rattle.pg_dyn.proofs.lemmas.reading.CountedRecords as counting
@@ -488,6 +488,8 @@ counted-loop-place-preserved t c =
       | counted-in-Some+else-counts+in_ok-read_content+in-Some+in-One+in-Int-1 w ↦
           rw w.counted-is (drops _ _ (sym w.in-Some.ensures.shape) (sym w.counts.ensures ∙ w.if-counts.false) w.in_ok-read_content.ensures.good)
       | counted-in-Some+else-counts+in_ok-read_content+in-Some+in-Many-1 w ↦
+          rw w.counted-is (drops _ _ (sym w.in-Some.ensures.shape) (sym w.counts.ensures ∙ w.if-counts.false) w.in_ok-read_content.ensures.good)
+      | counted-in-Some+else-counts+in_ok-read_content+in-Some+in-Numbers-1 w ↦
           rw w.counted-is (drops _ _ (sym w.in-Some.ensures.shape) (sym w.counts.ensures ∙ w.if-counts.false) w.in_ok-read_content.ensures.good)
       | counted-in-Some+else-counts+in_ok-read_content+in-Some+in-Map-1 w ↦
           rw w.counted-is (drops _ _ (sym w.in-Some.ensures.shape) (sym w.counts.ensures ∙ w.if-counts.false) w.in_ok-read_content.ensures.good)

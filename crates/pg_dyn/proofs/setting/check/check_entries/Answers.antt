@@ -1,17 +1,17 @@
 use Rattle.pg_schema.specs.Parts.{shape_of}
 use Rattle.pg_dyn.specs.setting.Reported.{EntryFault, EntryFits}
 use Rattle.pg_dyn.proofs.lemmas.setting.ContentChecks.{entry_right}
-use Rattle.pg_dyn.proofs.lemmas.setting.LowestFault.{told_more, told_all}
+use Rattle.pg_dyn.proofs.lemmas.setting.LowestFault.{reported_more, reported_all}
 use Rattle.pg_dyn.proofs.setting.check.check_entries.Goals as goal
 
 pub loop-entry-preserved : goal.loop-entry-preserved
 loop-entry-preserved c =
     let shape = shape_of c.args.schema.now in
     let l = c.loop-entry in
-    told_more (EntryFits shape c.args.key c.args.element) (EntryFault shape c.args.key c.args.element) (entry_right shape c.args.key c.args.element) c.args.entries.now l.entry-index c.entry-item.result l.told c.check_entry.result c.lower-told.result c.loop-entry-test.true c.entry-item.is
-    l.invariant c.check_entry.ensures c.lower-told.ensures.one c.lower-told.ensures.lowest.0 c.lower-told.ensures.lowest.1
+    reported_more (EntryFits shape c.args.key c.args.element) (EntryFault shape c.args.key c.args.element) (entry_right shape c.args.key c.args.element) c.args.entries.now l.entry-index c.entry-item.result l.reported c.check_entry.result c.lower-reported.result c.loop-entry-test.true c.entry-item.is
+    l.invariant c.check_entry.ensures c.lower-reported.ensures.one c.lower-reported.ensures.lowest
 
 pub returns : goal.returns
 returns c =
     let shape = shape_of c.args.schema.now in
-    told_all (EntryFits shape c.args.key c.args.element) (EntryFault shape c.args.key c.args.element) (entry_right shape c.args.key c.args.element) c.args.entries.now c.loop-entry.entry-index c.loop-entry.told c.loop-entry-test.false c.loop-entry.invariant
+    reported_all (EntryFits shape c.args.key c.args.element) (EntryFault shape c.args.key c.args.element) (entry_right shape c.args.key c.args.element) c.args.entries.now c.loop-entry.entry-index c.loop-entry.reported c.loop-entry-test.false c.loop-entry.invariant

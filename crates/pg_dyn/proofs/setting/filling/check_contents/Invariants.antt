@@ -5,9 +5,9 @@ use Rattle.pg_dyn.specs.declared.message.Content.{Content}
 use Rattle.pg_dyn.specs.setting.ContentFaults.{ContentFault}
 use Rattle.pg_dyn.specs.setting.Reported.{TakesContent}
 use Rattle.pg_dyn.proofs.lemmas.setting.ContentChecks.{takes_early}
-use Rattle.pg_dyn.proofs.lemmas.setting.LowestFault.{TellsRow}
+use Rattle.pg_dyn.proofs.lemmas.setting.LowestFault.{ReportsEach}
 use Rattle.pg_dyn.proofs.setting.filling.check_contents.Given as goal
 
 abbrev pub invariant-loop-one : goal.invariant-loop-one
 invariant-loop-one l =
-    TellsRow (TakesContent (shape_of l.schema) l.type_id) (λ (x : ℕ × Content). ContentFault (shape_of l.schema) l.type_id x.0 x.1) (takes_early (shape_of l.schema) l.type_id) (take l.one-index l.contents) l.told
+    ReportsEach (TakesContent (shape_of l.schema) l.type_id) (λ (x : ℕ × Content). ContentFault (shape_of l.schema) l.type_id x.0 x.1) (takes_early (shape_of l.schema) l.type_id) (take l.one-index l.contents) l.reported

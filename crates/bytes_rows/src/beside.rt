@@ -1,0 +1,104 @@
+//! Messages that borrow from bytes, beside messages that own their parts.
+use pg_dyn::{
+    Content, ContentRef, EntryRef, Message, MessageRef, NumberList, UnknownRecord, Value, ValueRef,
+};
+use pg_wire::Record;
+
+/// Of a message inside the type alone is looked at: what it holds shows when both are written.
+fn is_value(lent: &ValueRef<'_>, owned: &Value) -> bool {
+    match (lent, owned) {
+        (ValueRef::Int(first), Value::Int(second)) => first == second,
+        (ValueRef::F32(first), Value::F32(second)) => first == second,
+        (ValueRef::F64(first), Value::F64(second)) => first == second,
+        (ValueRef::Text(first), Value::Text(second)) => *first == second.as_str(),
+        (ValueRef::Bytes(first), Value::Bytes(second)) => *first == second.as_slice(),
+        (ValueRef::Msg(first), Value::Msg(second)) => first.type_id() == second.type_id(),
+        _ => false,
+    }
+}
+
+fn are_values(lent: &[ValueRef<'_>], owned: &[Value]) -> bool {
+    if lent.len() != owned.len() {
+        return false;
+    }
+    for at in 0..lent.len() {
+        if !is_value(&lent[at], &owned[at]) {
+            return false;
+        }
+    }
+    true
+}
+
+fn are_numbers(lent: &NumberList, owned: &[Value]) -> bool {
+    if lent.len() != owned.len() {
+        return false;
+    }
+    for at in 0..lent.len() {
+        if !is_value(&lent.get(at), &owned[at]) {
+            return false;
+        }
+    }
+    true
+}
+
+fn are_entries(lent: &[EntryRef<'_>], owned: &[(Value, Value)]) -> bool {
+    if lent.len() != owned.len() {
+        return false;
+    }
+    for at in 0..lent.len() {
+        if !is_value(&lent[at].key, &owned[at].0) || !is_value(&lent[at].value, &owned[at].1) {
+            return false;
+        }
+    }
+    true
+}
+
+fn is_content(lent: &ContentRef<'_>, owned: &Content) -> bool {
+    match (lent, owned) {
+        (ContentRef::One(first), Content::One(second)) => is_value(first, second),
+        (ContentRef::Many(first), Content::Many(second)) => are_values(first, second),
+        (ContentRef::Numbers(first), Content::Many(second)) => are_numbers(first, second),
+        (ContentRef::Map(first), Content::Map(second)) => are_entries(first, second),
+        _ => false,
+    }
+}
+
+fn are_contents(lent: &[(u32, ContentRef<'_>)], owned: &[(u32, Content)]) -> bool {
+    if lent.len() != owned.len() {
+        return false;
+    }
+    for at in 0..lent.len() {
+        if lent[at].0 != owned[at].0 || !is_content(&lent[at].1, &owned[at].1) {
+            return false;
+        }
+    }
+    true
+}
+
+fn is_record(lent: &Record<'_>, owned: &UnknownRecord) -> bool {
+    lent.number == owned.number
+        && lent.wire_type == owned.wire_type
+        && lent.bytes == owned.bytes.as_slice()
+        && lent.bytes.len().checked_sub(lent.body.len()) == Some(owned.body_start)
+}
+
+fn are_records(lent: &[Record<'_>], owned: &[UnknownRecord]) -> bool {
+    if lent.len() != owned.len() {
+        return false;
+    }
+    for at in 0..lent.len() {
+        if !is_record(&lent[at], &owned[at]) {
+            return false;
+        }
+    }
+    true
+}
+
+/// Whether both messages show the same: their type, their contents, their unknown records, and
+/// whether they are plain.
+pub(crate) fn is_alike(lent: &MessageRef<'_>, owned: &Message) -> bool {
+    lent.type_id() == owned.type_id()
+        && lent.is_plain() == owned.is_plain()
+        && are_contents(lent.contents(), owned.contents())
+        && are_records(lent.unknown(), owned.unknown())
+}

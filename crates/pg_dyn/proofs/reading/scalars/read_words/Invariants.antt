@@ -1,0 +1,13 @@
+-- The numbers of the records so far.
+use Rattle.std.proofs.Common.{map, take}
+use Rattle.pg_schema.specs.Parts.{field_shape}
+use Rattle.pg_wire.specs.Reads.{seen_record}
+use Rattle.pg_dyn.specs.Coding.{scalar_form}
+use Rattle.pg_dyn.specs.NumberLists.{number_item}
+use Rattle.pg_dyn.specs.reading.Held.{read_as}
+use Rattle.pg_dyn.proofs.lemmas.reading.ScalarRuns.{ItemsSoFar}
+use Rattle.pg_dyn.proofs.reading.scalars.read_words.Given as goal
+
+abbrev pub invariant-loop-record : goal.invariant-loop-record
+invariant-loop-record l =
+    ItemsSoFar (field_shape l.fn.field) (map seen_record (take l.record-index l.run)) (map (number_item (scalar_form (read_as l.fn.field.element))) l.words.items)
