@@ -7,12 +7,12 @@ ghost use Rattle.std.specs.Prelude.{◌≡◌, ◌⊎◌, IfErr, IfOk};
 ghost use Rattle.pg_schema.specs.Parts.{shape_of};
 ghost use Rattle.pg_dyn.specs.declared.error.DynError.TheVariants as faults;
 ghost use Rattle.pg_fds.specs.declared.error.FdsError.TheVariants as errors;
-ghost use Rattle.pg_fds.specs.ErrorCodes as codes;
-ghost use Rattle.pg_fds.specs.Descriptor.{descriptor_shape};
-ghost use Rattle.pg_fds.specs.DescriptorParts.{descriptor_parts};
-ghost use Rattle.pg_fds.specs.Set.{fds};
-ghost use Rattle.pg_fds.specs.Views.{parts_view};
-ghost use Rattle.pg_fds.specs.Written.{HasNoSet};
+ghost use Rattle.pg_fds.specs.refusals.ErrorCodes as codes;
+ghost use Rattle.pg_fds.specs.descriptor.Descriptor.{descriptor_shape};
+ghost use Rattle.pg_fds.specs.descriptor.DescriptorParts.{descriptor_parts};
+ghost use Rattle.pg_fds.specs.writing.Set.{fds};
+ghost use Rattle.pg_fds.specs.stated.Views.{parts_view};
+ghost use Rattle.pg_fds.specs.writing.Written.{HasNoSet};
 
 use memchr::memmem;
 use pg_fds::FdsError;

@@ -4,11 +4,11 @@
 
 ghost use Rattle.std.specs.Prelude.{ℕ, ◌≡◌, List, IfErr, IfOk};
 ghost use Rattle.pg_schema.specs.rules.Sound.{IsSound};
-ghost use Rattle.pg_fds.specs.ReadAgain.{IsReadAgain};
-ghost use Rattle.pg_fds.specs.Reads.{fds_reads};
-ghost use Rattle.pg_fds.specs.Refused.{MayRefuseSet, NoneIsStated};
-ghost use Rattle.pg_fds.specs.Set.{fds};
-ghost use Rattle.pg_fds.specs.Views.{parts_view};
+ghost use Rattle.pg_fds.specs.again.ReadAgain.{IsReadAgain};
+ghost use Rattle.pg_fds.specs.stated.Reads.{fds_reads};
+ghost use Rattle.pg_fds.specs.refusals.Refused.{MayRefuseSet, NoneIsStated};
+ghost use Rattle.pg_fds.specs.writing.Set.{fds};
+ghost use Rattle.pg_fds.specs.stated.Views.{parts_view};
 
 use pg_fds::FdsError;
 use pg_schema::Schema;

@@ -3,13 +3,12 @@
 ghost use Rattle.std.specs.Prelude.{ℕ, ◌≡◌, ◌⊎◌, List, IfErr, IfOk};
 ghost use Rattle.pg_schema.specs.rules.Sound.{IsSound};
 ghost use Rattle.pg_fds.specs.declared.error.FdsError.TheVariants as errors;
-ghost use Rattle.pg_fds.specs.ReadAgain.{IsReadAgain, IsTooLong, MayRefuseAgain};
-ghost use Rattle.pg_fds.specs.Reads.{fds_reads};
-ghost use Rattle.pg_fds.specs.Set.{fds};
-ghost use Rattle.pg_fds.specs.Views.{parts_view};
+ghost use Rattle.pg_fds.specs.again.ReadAgain.{IsReadAgain, IsTooLong, MayRefuseAgain};
+ghost use Rattle.pg_fds.specs.stated.Reads.{fds_reads};
+ghost use Rattle.pg_fds.specs.writing.Set.{fds};
+ghost use Rattle.pg_fds.specs.stated.Views.{parts_view};
 
 use crate::error::FdsError;
-use crate::held_places::see_places;
 use crate::reading::read;
 use crate::writing::write;
 use pg_schema::Schema;
@@ -22,7 +21,7 @@ use std::alloc::Global;
 ///
 /// Of any other it is a schema that the same set states, and the errors are those of `write` and of
 /// `read`.
-#[tactic(auto, using(crate::proofs::ReadAgain::write_told))]
+#[tactic(auto, using(crate::proofs::lemmas::again::ReadAgain::write_refused))]
 pub fn read_again(alloc: Global, schema: &Schema) -> Result<Schema, FdsError>
     ensures stated { IfOk result (λ made. (bytes : List ℕ) → fds schema.now bytes
         → fds_reads bytes made) }
@@ -31,9 +30,10 @@ pub fn read_again(alloc: Global, schema: &Schema) -> Result<Schema, FdsError>
         → parts_view made ≡ parts_view schema.now) }
     ensures refused { IfErr result (λ e. IsReadAgain schema.now
         → (e ≡ errors.Memory) ⊎ IsTooLong schema.now e) }
-    ensures told { IfErr result (MayRefuseAgain schema.now) }
+    ensures reported { IfErr result (MayRefuseAgain schema.now) }
 {
-    see_places(schema);
+    // What holds of every schema.
+    schema.parts();
     let bytes = write(alloc, schema)?;
     read(alloc, bytes.as_slice())
 }

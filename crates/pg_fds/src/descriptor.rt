@@ -7,9 +7,9 @@ pub(crate) mod rows;
 
 ghost use Rattle.std.specs.Prelude.{◌≡◌, IfOk, map};
 ghost use Rattle.pg_schema.specs.Parts.{shape_of};
-ghost use Rattle.pg_fds.specs.Descriptor.{descriptor_shape};
-ghost use Rattle.pg_fds.specs.DescriptorParts.{descriptor_enums, descriptor_file, descriptor_parts, descriptor_types};
-ghost use Rattle.pg_fds.specs.Views.{enum_view, file_view, parts_view, type_view};
+ghost use Rattle.pg_fds.specs.descriptor.Descriptor.{descriptor_shape};
+ghost use Rattle.pg_fds.specs.descriptor.DescriptorParts.{descriptor_enums, descriptor_file, descriptor_parts, descriptor_types};
+ghost use Rattle.pg_fds.specs.stated.Views.{enum_view, file_view, parts_view, type_view};
 
 use crate::descriptor::rows::{
     EnumRow, FieldRow, TypeRow, ValueRow, enum_types, message_types, type_ids,
@@ -70,110 +70,163 @@ const SERVICE_OPTIONS: Element = Element::Message(TypeId { index: 16 });
 
 const METHOD_OPTIONS: Element = Element::Message(TypeId { index: 17 });
 
-const OF_SET: [FieldRow<'static>; 1] = [(1, "file", MANY, FILE)];
+const OF_SET: [FieldRow<'static>; 1] = [(proto::SET_FILE, "file", MANY, FILE)];
 
 const OF_FILE: [FieldRow<'static>; 9] = [
-    (1, "name", ONE, TEXT),
-    (2, "package", ONE, TEXT),
-    (3, "dependency", MANY, TEXT),
-    (4, "message_type", MANY, MESSAGE),
-    (5, "enum_type", MANY, ENUM),
-    (6, "service", MANY, SERVICE),
-    (8, "options", ONE, FILE_OPTIONS),
-    (10, "public_dependency", MANY, NUMBER),
-    (12, "syntax", ONE, TEXT),
+    (proto::FILE_NAME, "name", ONE, TEXT),
+    (proto::FILE_PACKAGE, "package", ONE, TEXT),
+    (proto::FILE_DEPENDENCY, "dependency", MANY, TEXT),
+    (proto::FILE_MESSAGE_TYPE, "message_type", MANY, MESSAGE),
+    (proto::FILE_ENUM_TYPE, "enum_type", MANY, ENUM),
+    (proto::FILE_SERVICE, "service", MANY, SERVICE),
+    (proto::FILE_OPTIONS, "options", ONE, FILE_OPTIONS),
+    (
+        proto::FILE_PUBLIC_DEPENDENCY,
+        "public_dependency",
+        MANY,
+        NUMBER,
+    ),
+    (proto::FILE_SYNTAX, "syntax", ONE, TEXT),
 ];
 
 const OF_MESSAGE: [FieldRow<'static>; 8] = [
-    (1, "name", ONE, TEXT),
-    (2, "field", MANY, FIELD),
-    (3, "nested_type", MANY, MESSAGE),
-    (4, "enum_type", MANY, ENUM),
-    (7, "options", ONE, MESSAGE_OPTIONS),
-    (8, "oneof_decl", MANY, ONEOF),
-    (9, "reserved_range", MANY, FIELD_RANGE),
-    (10, "reserved_name", MANY, TEXT),
+    (proto::MESSAGE_NAME, "name", ONE, TEXT),
+    (proto::MESSAGE_FIELD, "field", MANY, FIELD),
+    (proto::MESSAGE_NESTED_TYPE, "nested_type", MANY, MESSAGE),
+    (proto::MESSAGE_ENUM_TYPE, "enum_type", MANY, ENUM),
+    (proto::MESSAGE_OPTIONS, "options", ONE, MESSAGE_OPTIONS),
+    (proto::MESSAGE_ONEOF_DECL, "oneof_decl", MANY, ONEOF),
+    (
+        proto::MESSAGE_RESERVED_RANGE,
+        "reserved_range",
+        MANY,
+        FIELD_RANGE,
+    ),
+    (proto::MESSAGE_RESERVED_NAME, "reserved_name", MANY, TEXT),
 ];
 
-const OF_RANGE: [FieldRow<'static>; 2] = [(1, "start", ONE, NUMBER), (2, "end", ONE, NUMBER)];
+const OF_RANGE: [FieldRow<'static>; 2] = [
+    (proto::RANGE_START, "start", ONE, NUMBER),
+    (proto::RANGE_END, "end", ONE, NUMBER),
+];
 
 const OF_FIELD: [FieldRow<'static>; 9] = [
-    (1, "name", ONE, TEXT),
-    (3, "number", ONE, NUMBER),
-    (4, "label", ONE, LABEL),
-    (5, "type", ONE, TYPE),
-    (6, "type_name", ONE, TEXT),
-    (8, "options", ONE, FIELD_OPTIONS),
-    (9, "oneof_index", ONE, NUMBER),
-    (10, "json_name", ONE, TEXT),
-    (17, "proto3_optional", ONE, FLAG),
+    (proto::FIELD_NAME, "name", ONE, TEXT),
+    (proto::FIELD_NUMBER, "number", ONE, NUMBER),
+    (proto::FIELD_LABEL, "label", ONE, LABEL),
+    (proto::FIELD_TYPE, "type", ONE, TYPE),
+    (proto::FIELD_TYPE_NAME, "type_name", ONE, TEXT),
+    (proto::FIELD_OPTIONS, "options", ONE, FIELD_OPTIONS),
+    (proto::FIELD_ONEOF_INDEX, "oneof_index", ONE, NUMBER),
+    (proto::FIELD_JSON_NAME, "json_name", ONE, TEXT),
+    (proto::FIELD_PROTO3_OPTIONAL, "proto3_optional", ONE, FLAG),
 ];
 
-const OF_ONEOF: [FieldRow<'static>; 1] = [(1, "name", ONE, TEXT)];
+const OF_ONEOF: [FieldRow<'static>; 1] = [(proto::ONEOF_NAME, "name", ONE, TEXT)];
 
 const OF_ENUM: [FieldRow<'static>; 5] = [
-    (1, "name", ONE, TEXT),
-    (2, "value", MANY, VALUE),
-    (3, "options", ONE, ENUM_OPTIONS),
-    (4, "reserved_range", MANY, VALUE_RANGE),
-    (5, "reserved_name", MANY, TEXT),
+    (proto::ENUM_NAME, "name", ONE, TEXT),
+    (proto::ENUM_VALUE, "value", MANY, VALUE),
+    (proto::ENUM_OPTIONS, "options", ONE, ENUM_OPTIONS),
+    (
+        proto::ENUM_RESERVED_RANGE,
+        "reserved_range",
+        MANY,
+        VALUE_RANGE,
+    ),
+    (proto::ENUM_RESERVED_NAME, "reserved_name", MANY, TEXT),
 ];
 
 const OF_VALUE: [FieldRow<'static>; 3] = [
-    (1, "name", ONE, TEXT),
-    (2, "number", ONE, NUMBER),
-    (3, "options", ONE, VALUE_OPTIONS),
+    (proto::VALUE_NAME, "name", ONE, TEXT),
+    (proto::VALUE_NUMBER, "number", ONE, NUMBER),
+    (proto::VALUE_OPTIONS, "options", ONE, VALUE_OPTIONS),
 ];
 
 const OF_SERVICE: [FieldRow<'static>; 3] = [
-    (1, "name", ONE, TEXT),
-    (2, "method", MANY, METHOD),
-    (3, "options", ONE, SERVICE_OPTIONS),
+    (proto::SERVICE_NAME, "name", ONE, TEXT),
+    (proto::SERVICE_METHOD, "method", MANY, METHOD),
+    (proto::SERVICE_OPTIONS, "options", ONE, SERVICE_OPTIONS),
 ];
 
 const OF_METHOD: [FieldRow<'static>; 6] = [
-    (1, "name", ONE, TEXT),
-    (2, "input_type", ONE, TEXT),
-    (3, "output_type", ONE, TEXT),
-    (4, "options", ONE, METHOD_OPTIONS),
-    (5, "client_streaming", ONE, FLAG),
-    (6, "server_streaming", ONE, FLAG),
+    (proto::METHOD_NAME, "name", ONE, TEXT),
+    (proto::METHOD_INPUT_TYPE, "input_type", ONE, TEXT),
+    (proto::METHOD_OUTPUT_TYPE, "output_type", ONE, TEXT),
+    (proto::METHOD_OPTIONS, "options", ONE, METHOD_OPTIONS),
+    (
+        proto::METHOD_CLIENT_STREAMING,
+        "client_streaming",
+        ONE,
+        FLAG,
+    ),
+    (
+        proto::METHOD_SERVER_STREAMING,
+        "server_streaming",
+        ONE,
+        FLAG,
+    ),
 ];
 
 const OF_FILE_OPTIONS: [FieldRow<'static>; 13] = [
-    (1, "java_package", ONE, TEXT),
-    (8, "java_outer_classname", ONE, TEXT),
-    (9, "optimize_for", ONE, MODE),
-    (10, "java_multiple_files", ONE, FLAG),
-    (11, "go_package", ONE, TEXT),
-    (23, "deprecated", ONE, FLAG),
-    (31, "cc_enable_arenas", ONE, FLAG),
-    (36, "objc_class_prefix", ONE, TEXT),
-    (37, "csharp_namespace", ONE, TEXT),
-    (39, "swift_prefix", ONE, TEXT),
-    (40, "php_class_prefix", ONE, TEXT),
-    (41, "php_namespace", ONE, TEXT),
-    (45, "ruby_package", ONE, TEXT),
+    (proto::FILE_JAVA_PACKAGE, "java_package", ONE, TEXT),
+    (
+        proto::FILE_JAVA_OUTER_CLASSNAME,
+        "java_outer_classname",
+        ONE,
+        TEXT,
+    ),
+    (proto::FILE_OPTIMIZE_FOR, "optimize_for", ONE, MODE),
+    (
+        proto::FILE_JAVA_MULTIPLE_FILES,
+        "java_multiple_files",
+        ONE,
+        FLAG,
+    ),
+    (proto::FILE_GO_PACKAGE, "go_package", ONE, TEXT),
+    (proto::FILE_DEPRECATED, "deprecated", ONE, FLAG),
+    (proto::FILE_CC_ENABLE_ARENAS, "cc_enable_arenas", ONE, FLAG),
+    (
+        proto::FILE_OBJC_CLASS_PREFIX,
+        "objc_class_prefix",
+        ONE,
+        TEXT,
+    ),
+    (proto::FILE_CSHARP_NAMESPACE, "csharp_namespace", ONE, TEXT),
+    (proto::FILE_SWIFT_PREFIX, "swift_prefix", ONE, TEXT),
+    (proto::FILE_PHP_CLASS_PREFIX, "php_class_prefix", ONE, TEXT),
+    (proto::FILE_PHP_NAMESPACE, "php_namespace", ONE, TEXT),
+    (proto::FILE_RUBY_PACKAGE, "ruby_package", ONE, TEXT),
 ];
 
 const OF_MESSAGE_OPTIONS: [FieldRow<'static>; 2] = [
-    (3, "deprecated", ONE, FLAG),
-    (7, "map_entry", ONE, FLAG),
+    (proto::MESSAGE_DEPRECATED, "deprecated", ONE, FLAG),
+    (proto::MESSAGE_MAP_ENTRY, "map_entry", ONE, FLAG),
 ];
 
 const OF_FIELD_OPTIONS: [FieldRow<'static>; 2] = [
-    (2, "packed", ONE, FLAG),
-    (3, "deprecated", ONE, FLAG),
+    (proto::FIELD_PACKED, "packed", ONE, FLAG),
+    (proto::FIELD_DEPRECATED, "deprecated", ONE, FLAG),
 ];
 
 const OF_ENUM_OPTIONS: [FieldRow<'static>; 2] = [
-    (2, "allow_alias", ONE, FLAG),
-    (3, "deprecated", ONE, FLAG),
+    (proto::ENUM_ALLOW_ALIAS, "allow_alias", ONE, FLAG),
+    (proto::ENUM_DEPRECATED, "deprecated", ONE, FLAG),
 ];
 
-const OF_VALUE_OPTIONS: [FieldRow<'static>; 1] = [(1, "deprecated", ONE, FLAG)];
+const OF_VALUE_OPTIONS: [FieldRow<'static>; 1] = [(
+    proto::VALUE_DEPRECATED,
+    "deprecated",
+    ONE,
+    FLAG,
+)];
 
-const OF_SERVICE_OPTIONS: [FieldRow<'static>; 1] = [(33, "deprecated", ONE, FLAG)];
+const OF_SERVICE_OPTIONS: [FieldRow<'static>; 1] = [(
+    proto::SERVICE_DEPRECATED,
+    "deprecated",
+    ONE,
+    FLAG,
+)];
 
 const TYPES: [TypeRow<'static>; 18] = [
     ("google.protobuf.FileDescriptorSet", &OF_SET, &[], &[]),
@@ -308,7 +361,7 @@ const ENUMS: [EnumRow<'static>; 3] = [
 ];
 
 // The message types. Refused only where memory is.
-#[tactic(auto, unfolding(crate::proofs::DescriptorOpened::opened))]
+#[tactic(auto, unfolding(crate::proofs::lemmas::descriptor::DescriptorOpened::opened))]
 fn types(alloc: Global) -> Result<Vec<MessageType>, AllocError>
     ensures { IfOk result (λ types. map type_view types.items ≡ descriptor_types) }
 {
@@ -316,7 +369,7 @@ fn types(alloc: Global) -> Result<Vec<MessageType>, AllocError>
 }
 
 // The enums. Refused only where memory is.
-#[tactic(auto, unfolding(crate::proofs::DescriptorOpened::opened))]
+#[tactic(auto, unfolding(crate::proofs::lemmas::descriptor::DescriptorOpened::opened))]
 fn enums(alloc: Global) -> Result<Vec<EnumType>, AllocError>
     ensures { IfOk result (λ enums. map enum_view enums.items ≡ descriptor_enums) }
 {
@@ -324,7 +377,7 @@ fn enums(alloc: Global) -> Result<Vec<EnumType>, AllocError>
 }
 
 // The file. Refused only where memory is.
-#[tactic(auto, unfolding(crate::proofs::DescriptorOpened::opened))]
+#[tactic(auto, unfolding(crate::proofs::lemmas::descriptor::DescriptorOpened::opened))]
 fn file(alloc: Global) -> Result<File, AllocError>
     ensures { IfOk result (λ file. file_view file ≡ descriptor_file) }
 {

@@ -21,7 +21,8 @@ pub enum FdsError {
     #[error("A field of the set has an unsupported type or label.")]
     BadType,
     /// E704: an import or a name isn't in the set, stands twice or is of another kind, imports go
-    /// round, a place is none, or an `optional` field or an entry type hasn't its form.
+    /// round, a place is none, an `optional` field or an entry type hasn't its form, or an entry
+    /// type isn't that of just one field.
     #[error("The set has an invalid reference.")]
     BadReference,
     /// E705: what the set declares breaks a rule of the language, by the rule's error at no place.
@@ -31,7 +32,7 @@ pub enum FdsError {
 
 impl FdsError {
     ghost use Rattle.std.specs.Prelude.{◌≡◌};
-    ghost use Rattle.pg_fds.specs.ErrorCodes.{code_of, place_of};
+    ghost use Rattle.pg_fds.specs.refusals.ErrorCodes.{code_of, place_of};
 
     /// The number behind the E by which users know the error: of the bytes of a set, and of a rule
     /// that it breaks, the one that says what is wrong there.

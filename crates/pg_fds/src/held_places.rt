@@ -2,8 +2,8 @@
 
 ghost use Rattle.std.specs.Prelude.{◌<◌, ◌^◌};
 ghost use Rattle.std.specs.List.{AllByRecursion};
-ghost use Rattle.pg_fds.specs.Reads.{IsHeld};
-ghost use Rattle.pg_fds.specs.Small.{HasLowEnums, HasLowPlaces, IsLowEnum, IsLowService};
+ghost use Rattle.pg_fds.specs.stated.Reads.{IsHeld};
+ghost use Rattle.pg_fds.specs.writing.Small.{HasLowEnums, HasLowPlaces, IsLowEnum, IsLowService};
 
 use pg_schema::{EnumId, File, MessageType, Schema, ServiceId};
 
@@ -52,7 +52,7 @@ fn see_types(types: &[MessageType])
 }
 
 /// So there are at most 2^32 enums and services.
-#[tactic(auto, using(crate::proofs::FewPlaces::is_held))]
+#[tactic(auto, using(crate::proofs::lemmas::writing::FewPlaces::is_held))]
 pub(crate) fn see_places(schema: &Schema)
     ensures { IsHeld schema.now }
 {

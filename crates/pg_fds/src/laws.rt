@@ -1,17 +1,16 @@
 //! Laws about the definitions. Each is the contract of a function that does nothing.
 
-ghost use Rattle.pg_fds.specs.BadReferences.{BadReferences};
-ghost use Rattle.pg_fds.specs.CauseExamples.{WorkedCauses};
-ghost use Rattle.pg_fds.specs.DescriptorLaw.{DescriptorIsSound};
-ghost use Rattle.pg_fds.specs.Examples.{WorkedSets};
-ghost use Rattle.pg_fds.specs.OrderExamples.{WorkedOrders};
-ghost use Rattle.pg_fds.specs.NameExamples.{WorkedNames};
-ghost use Rattle.pg_fds.specs.Pieces.{WorkedPieces};
-ghost use Rattle.pg_fds.specs.PlaceExamples.{WorkedPlaces};
-ghost use Rattle.pg_fds.specs.ReadExamples.{OneFieldRead};
-ghost use Rattle.pg_fds.specs.StatedExamples.{WorkedStated};
-ghost use Rattle.pg_fds.specs.StatedLaw.{StatesStated};
-ghost use Rattle.pg_fds.specs.TextOrder.{TextsAreReadAgain};
+ghost use Rattle.pg_fds.specs.refusals.BadReferences.{BadReferences};
+ghost use Rattle.pg_fds.specs.examples.CauseExamples.{WorkedCauses};
+ghost use Rattle.pg_fds.specs.descriptor.DescriptorLaw.{DescriptorIsSound};
+ghost use Rattle.pg_fds.specs.examples.Examples.{WorkedSets};
+ghost use Rattle.pg_fds.specs.examples.OrderExamples.{WorkedOrders};
+ghost use Rattle.pg_fds.specs.examples.NameExamples.{WorkedNames};
+ghost use Rattle.pg_fds.specs.examples.Pieces.{WorkedPieces};
+ghost use Rattle.pg_fds.specs.examples.PlaceExamples.{WorkedPlaces};
+ghost use Rattle.pg_fds.specs.examples.ReadExamples.{OneFieldRead};
+ghost use Rattle.pg_fds.specs.examples.StatedExamples.{WorkedStated};
+ghost use Rattle.pg_fds.specs.again.TextOrder.{TextsAreReadAgain};
 
 use pg_check::laws::linked_parts_stand;
 
@@ -51,11 +50,6 @@ pub fn worked_places()
     ensures { WorkedPlaces }
 {}
 
-/// What a set states, as a relation of the set and a schema, is what is computed of the set.
-pub fn states_stated()
-    ensures { StatesStated }
-{}
-
 /// What two small sets state: one with a map and an `optional` field, and one of two files, of
 /// which the first imports the second.
 pub fn worked_stated()
@@ -74,14 +68,15 @@ pub fn worked_names()
     ensures { WorkedNames }
 {}
 
-/// Files state no schema, though each is proto3 with types and labels that are taken, where they have
-/// a bad reference, and there alone.
+/// Files state no schema, though each is proto3 with types and labels that are taken, where they
+/// have a bad reference, and there alone.
 pub fn bad_references()
     ensures { BadReferences }
 {}
 
 /// Small sets with a bad reference, each with its cause: an import that isn't there, imports that go
-/// round, a name without a dot in front, and one that is of another kind than the type says.
+/// round, a name without a dot in front, one that is of another kind than the type says, and an
+/// entry type that two fields name.
 pub fn worked_causes()
     ensures { WorkedCauses }
 {}

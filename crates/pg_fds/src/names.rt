@@ -3,7 +3,7 @@
 ghost use Rattle.std.specs.Prelude.{◌≡◌, ◌∷◌, ◌<◌, IfOk, map};
 ghost use Rattle.std.specs.String.{string_bytes};
 ghost use Rattle.pg_schema.specs.rules.DeclaredNames.{within};
-ghost use Rattle.pg_fds.specs.Messages.{own_name};
+ghost use Rattle.pg_fds.specs.writing.Messages.{own_name};
 
 use std::alloc::{AllocError, Global};
 

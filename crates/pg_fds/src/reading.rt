@@ -10,6 +10,8 @@ mod made_oneofs;
 mod made_parts;
 mod made_types;
 mod meanings;
+mod named_entries;
+mod names_table;
 mod order;
 mod outline;
 mod set_files;
@@ -25,17 +27,18 @@ ghost use Rattle.pg_dyn.specs.reading.Refusals.{MayRefuse};
 ghost use Rattle.pg_dyn.specs.Kept.{message_of};
 ghost use Rattle.pg_check.specs.standing.Places.{most_deep};
 ghost use Rattle.pg_fds.specs.declared.error.Unstated.TheVariants.{Memory};
-ghost use Rattle.pg_fds.specs.Building.{written_shape};
-ghost use Rattle.pg_fds.specs.Descriptor.{file_set};
-ghost use Rattle.pg_fds.specs.FilePlaces.{AreOrdered};
-ghost use Rattle.pg_fds.specs.Held.{IsHeldMessage};
-ghost use Rattle.pg_fds.specs.Outlines.{files_at};
-ghost use Rattle.pg_fds.specs.PostOrder.{importer_of};
-ghost use Rattle.pg_fds.specs.Reads.{fds_reads};
-ghost use Rattle.pg_fds.specs.Refused.{IsOfParts, IsOfRules, MayRefuseFiles, MayRefuseSet, NoneIsStated};
-ghost use Rattle.pg_fds.specs.SaidFiles.{is_proto3, kept_files, skips};
-ghost use Rattle.pg_fds.specs.Stated.{declared_by, stated, stated_files, stated_of};
-ghost use Rattle.pg_fds.specs.Views.{parts_view};
+ghost use Rattle.pg_fds.specs.writing.Building.{written_shape};
+ghost use Rattle.pg_fds.specs.descriptor.Descriptor.{file_set};
+ghost use Rattle.pg_fds.specs.reading.FilePlaces.{AreOrdered};
+ghost use Rattle.pg_fds.specs.reading.Held.{IsHeldMessage};
+ghost use Rattle.pg_fds.specs.stated.Outlines.{files_at};
+ghost use Rattle.pg_fds.specs.stated.PostOrder.{importer_of};
+ghost use Rattle.pg_fds.specs.stated.Reads.{fds_reads};
+ghost use Rattle.pg_fds.specs.refusals.Refused.{MayRefuseFiles, MayRefuseSet, NoneIsStated};
+ghost use Rattle.pg_fds.specs.reading.RefusedParts.{IsOfParts, IsOfRules};
+ghost use Rattle.pg_fds.specs.stated.SaidFiles.{is_proto3, kept_files, skips};
+ghost use Rattle.pg_fds.specs.stated.Stated.{declared_by, stated, stated_files, stated_of};
+ghost use Rattle.pg_fds.specs.stated.Views.{parts_view};
 
 use crate::descriptor::access::{Said, children};
 use crate::descriptor::places::SET;
@@ -43,6 +46,7 @@ use crate::descriptor::{descriptor_schema, proto};
 use crate::error::{FdsError, Unstated};
 use crate::reading::codes::files_have_types;
 use crate::reading::made_parts::made_parts;
+use crate::reading::names_table::SetKeys;
 use crate::reading::order::order;
 use crate::reading::outline::outline_files;
 use crate::reading::set_files::{is_proto3, kept, skips};
@@ -92,7 +96,13 @@ fn are_proto3(files: &[Said<'_>]) -> bool
 
 // The parts that the files declare, in that order. Refused, memory aside, only where they declare
 // none.
-fn parts(alloc: Global, skips: bool, files: &[Said<'_>], order: &[usize]) -> Result<Parts, Unstated>
+fn parts(
+    alloc: Global,
+    keys: SetKeys,
+    skips: bool,
+    files: &[Said<'_>],
+    order: &[usize],
+) -> Result<Parts, Unstated>
     requires { AreOrdered skips (map importer_of (map message_of files.now)) order.now }
     ensures made { IfOk result (λ made.
         declared_by skips (files_at (map message_of files.now) order.now)
@@ -100,12 +110,12 @@ fn parts(alloc: Global, skips: bool, files: &[Said<'_>], order: &[usize]) -> Res
     ensures none { IfErr result (λ e. (e ≡ Memory)
         ⊎ (declared_by skips (files_at (map message_of files.now) order.now) ≡ None)) }
 {
-    let outline = outline_files(alloc, DEFAULT_DEPTH_LIMIT, files, order)?;
+    let outline = outline_files(alloc, keys, DEFAULT_DEPTH_LIMIT, files, order)?;
     made_parts(alloc, skips, &outline)
 }
 
 // What is reported of parts that are refused so.
-fn told(error: CheckError) -> FdsError
+fn reported(error: CheckError) -> FdsError
     ensures { (parts : StatedParts) → IsRefusedOf parts error → IsOfRules parts result }
 {
     match error {
@@ -122,27 +132,35 @@ fn admitted(alloc: Global, parts: Parts) -> Result<Schema, FdsError>
 {
     match admit(alloc, parts) {
         Ok(schema) => Ok(schema),
-        Err(error) => Err(told(error)),
+        Err(error) => Err(reported(error)),
     }
 }
 
-// The schema that the files state, which are proto3 and have types that are taken.
-fn kept_schema(alloc: Global, skips: bool, files: &[Said<'_>]) -> Result<Schema, FdsError>
-    ensures ok { IfOk result (λ schema. stated_of skips (map message_of files.now)
-        ≡ Some (parts_view schema)) }
-    ensures sound { IfOk result IsSound }
+// The parts that the files state, which are proto3 and have types that are taken.
+fn kept_parts(
+    alloc: Global,
+    keys: SetKeys,
+    skips: bool,
+    files: &[Said<'_>],
+) -> Result<Parts, FdsError>
+    ensures ok { IfOk result (λ parts. stated_of skips (map message_of files.now)
+        ≡ Some (parts_view parts)) }
     ensures refused { IfErr result (IsOfParts skips (map message_of files.now)) }
 {
     let order = order(alloc, skips, files)?;
-    let parts = parts(alloc, skips, files, order.as_slice())?;
-    admitted(alloc, parts)
+    let parts = parts(alloc, keys, skips, files, order.as_slice())?;
+    Ok(parts)
 }
 
-// The schema that the files state.
-fn files_schema(alloc: Global, skips: bool, files: &[Said<'_>]) -> Result<Schema, FdsError>
-    ensures ok { IfOk result (λ schema. stated_files skips (map message_of files.now)
-        ≡ Some (parts_view schema)) }
-    ensures sound { IfOk result IsSound }
+// The parts that the files state.
+fn files_parts(
+    alloc: Global,
+    keys: SetKeys,
+    skips: bool,
+    files: &[Said<'_>],
+) -> Result<Parts, FdsError>
+    ensures ok { IfOk result (λ parts. stated_files skips (map message_of files.now)
+        ≡ Some (parts_view parts)) }
     ensures refused { IfErr result (MayRefuseFiles skips (map message_of files.now)) }
 {
     let proto3 = are_proto3(files);
@@ -153,14 +171,12 @@ fn files_schema(alloc: Global, skips: bool, files: &[Said<'_>]) -> Result<Schema
     if !typed {
         return Err(FdsError::BadType);
     }
-    kept_schema(alloc, skips, files)
+    kept_parts(alloc, keys, skips, files)
 }
 
-// The schema that a set's message states.
-fn set_schema(alloc: Global, set: &Said<'_>) -> Result<Schema, FdsError>
-    ensures ok { IfOk result (λ schema. stated (message_of set.now)
-        ≡ Some (parts_view schema)) }
-    ensures sound { IfOk result IsSound }
+// The parts that a set's message states.
+fn set_parts(alloc: Global, keys: SetKeys, set: &Said<'_>) -> Result<Parts, FdsError>
+    ensures ok { IfOk result (λ parts. stated (message_of set.now) ≡ Some (parts_view parts)) }
     ensures refused { IfErr result (MayRefuseFiles (skips (message_of set.now))
         (kept_files (message_of set.now))) }
 {
@@ -169,7 +185,19 @@ fn set_schema(alloc: Global, set: &Said<'_>) -> Result<Schema, FdsError>
     let skips = skips(all);
     let kept_files = kept(alloc, all)?;
     let files = kept_files.as_slice();
-    files_schema(alloc, skips, files)
+    files_parts(alloc, keys, skips, files)
+}
+
+// The parts that the bytes state. The message of the set is dropped with this call, so that it
+// takes no memory while the rules are tested.
+fn bytes_parts(alloc: Global, bytes: &[u8]) -> Result<Parts, FdsError>
+    ensures ok { IfOk result (λ parts. fds_reads bytes.now parts) }
+    ensures refused { IfErr result (MayRefuseSet bytes.now) }
+{
+    let set = decoded(alloc, bytes)?;
+    let said = Said::new(&set);
+    let keys = SetKeys::of(bytes);
+    set_parts(alloc, keys, &said)
 }
 
 // The schema that the bytes state.
@@ -178,9 +206,8 @@ fn bytes_schema(alloc: Global, bytes: &[u8]) -> Result<Schema, FdsError>
     ensures sound { IfOk result IsSound }
     ensures refused { IfErr result (MayRefuseSet bytes.now) }
 {
-    let set = decoded(alloc, bytes)?;
-    let said = Said::new(&set);
-    set_schema(alloc, &said)
+    let parts = bytes_parts(alloc, bytes)?;
+    admitted(alloc, parts)
 }
 
 /// The schema that the bytes of a descriptor set state (descriptor.proto; docs/PROOFS.md,
@@ -193,11 +220,11 @@ fn bytes_schema(alloc: Global, bytes: &[u8]) -> Result<Schema, FdsError>
 /// with messages nested at most 100 deep; `NotProto3` where a file isn't proto3; `BadType` where a
 /// field has a type or a label that isn't taken, or no type; `BadReference` where the files state
 /// nothing, since an import or a name isn't there, stands twice or is of another kind, imports go
-/// round, a place is none, or an `optional` field or an entry type hasn't its form; `Rule` with the
-/// error of the first rule that what they state breaks. A file `google/protobuf/descriptor.proto`
-/// that isn't proto3 is left out, as are imports of it. `Memory` may come in place of any. The
-/// others, but for messages nested too deep, come only where the bytes state no schema. The schema
-/// that is answered is the one that they state.
+/// round, a place is none, an `optional` field or an entry type hasn't its form, or an entry type
+/// isn't that of just one field; `Rule` with the error of the first rule that what they state
+/// breaks. A file `google/protobuf/descriptor.proto` that isn't proto3 is left out, as are imports
+/// of it. `Memory` may come in place of any. The others, but for messages nested too deep, come
+/// only where the bytes state no schema. The schema that is answered is the one that they state.
 pub fn read(alloc: Global, bytes: &[u8]) -> Result<Schema, FdsError>
     ensures ok { IfOk result (λ schema. fds_reads bytes.now schema) }
     ensures sound { IfOk result IsSound }

@@ -16,12 +16,12 @@ ghost use Rattle.pg_schema.specs.Parts.{shape_of};
 ghost use Rattle.pg_dyn.specs.declared.error.DynError.TheVariants as faults;
 ghost use Rattle.pg_check.specs.standing.Nesting.{are_shallow};
 ghost use Rattle.pg_fds.specs.declared.error.FdsError.TheVariants as errors;
-ghost use Rattle.pg_fds.specs.Again.{IsNotTooDeep, IsReadable};
-ghost use Rattle.pg_fds.specs.Building.{IsOf, items_of, written_shape};
-ghost use Rattle.pg_fds.specs.Reads.{fds_reads};
-ghost use Rattle.pg_fds.specs.Set.{fds};
-ghost use Rattle.pg_fds.specs.Written.{HasNoSet, set_items};
-ghost use Rattle.pg_fds.specs.Writable.{has_counted_imports};
+ghost use Rattle.pg_fds.specs.again.Again.{IsNotTooDeep, IsReadable};
+ghost use Rattle.pg_fds.specs.writing.Building.{IsOf, items_of, written_shape};
+ghost use Rattle.pg_fds.specs.stated.Reads.{fds_reads};
+ghost use Rattle.pg_fds.specs.writing.Set.{fds};
+ghost use Rattle.pg_fds.specs.writing.Written.{HasNoSet, set_items};
+ghost use Rattle.pg_fds.specs.writing.Writable.{has_counted_imports};
 
 use crate::descriptor::places::SET;
 use crate::descriptor::{descriptor_schema, proto};
@@ -52,7 +52,7 @@ fn have_counted_imports(files: &[File]) -> bool
 
 // The places of imports are those of an int32. Where they aren't, the set is too long: an import
 // takes two bytes at least.
-#[tactic(auto, using(crate::proofs::LongSets::set_too_long))]
+#[tactic(auto, using(crate::proofs::lemmas::writing::LongSets::set_too_long))]
 fn are_counted(parts: &Parts) -> bool
     ensures counted { result ≡ list_all has_counted_imports parts.now.files.items }
     ensures too_long { result ≡ false → HasNoSet parts.now }
@@ -78,9 +78,10 @@ fn set(alloc: Global, table: &Schema, source: &Schema) -> Result<Message, AllocE
 
 /// The bytes of the schema's descriptor set: a `FileDescriptorSet` of its files, in their order
 /// (descriptor.proto; docs/PROOFS.md, "Descriptor sets"). They are those of the definition, and at
-/// most 2,147,483,647. Where each file stands behind those that it imports, no path twice, and
-/// messages are nested at most 100 deep, they state the schema, as `read` asks it of a set. Where
-/// messages are nested at most 64 deep, no message of the set stands deeper than `read` takes.
+/// most 2,147,483,647. They state the schema, as `read` asks it of a set, where each file stands
+/// behind those that it imports, no path twice, messages are nested at most 100 deep, and all is
+/// numbered as `read` numbers it. Where messages are nested at most 64 deep, no message of the set
+/// stands deeper than `read` takes.
 ///
 /// The errors are `Memory`, and `Bytes` of `TooLong`: only where the set would have more than
 /// 2,147,483,647 bytes.
@@ -109,7 +110,7 @@ pub fn write(alloc: Global, schema: &Schema) -> Result<Vec<u8>, FdsError>
         Ok(bytes) => Ok(bytes),
         Err(DynError::TooLong) => Err(FdsError::Bytes(DynError::TooLong)),
         Err(DynError::Memory) => Err(FdsError::Memory),
-        // The codec tells nothing else of a message that fits its type.
+        // The codec reports nothing else of a message that fits its type.
         Err(_) => unreachable!(),
     }
 }

@@ -10,11 +10,11 @@ ghost use Rattle.std.specs.Option.{option_copied};
 ghost use Rattle.pg_dyn.specs.Kept.{message_of, of_number};
 ghost use Rattle.pg_dyn.specs.Seen.{IsFilled, content_seen};
 ghost use Rattle.pg_dyn.specs.declared.message.Value.{Value as Held};
-ghost use Rattle.pg_fds.specs.Building.{shown};
-ghost use Rattle.pg_fds.specs.Lent.{lent};
-ghost use Rattle.pg_fds.specs.Said.{child_in, children_at, flag_at, item_at, items_at, maybe_flag_at, maybe_number_at, maybe_text_at, natural, number_at, number_of, numbers_at, options_at, text_at, text_of, texts_at};
-ghost use Rattle.pg_fds.specs.SaidFiles.{is_place};
-ghost use Rattle.pg_fds.specs.Held.{AreSaid, IsSaid};
+ghost use Rattle.pg_fds.specs.writing.Building.{shown};
+ghost use Rattle.pg_fds.specs.descriptor.Lent.{lent};
+ghost use Rattle.pg_fds.specs.stated.Said.{child_in, children_at, flag_at, item_at, items_at, maybe_flag_at, maybe_number_at, maybe_text_at, natural, number_at, number_of, numbers_at, options_at, text_at, text_of, texts_at};
+ghost use Rattle.pg_fds.specs.stated.SaidFiles.{is_place};
+ghost use Rattle.pg_fds.specs.reading.Held.{AreSaid, IsSaid};
 
 use crate::error::Unstated;
 use pg_dyn::{Content, Message, Value};
@@ -31,7 +31,7 @@ pub(crate) struct Said<'a> {
 impl<'a> Model for Said<'a> {
     ghost use Rattle.pg_dyn.specs.Kept.{Kept};
     ghost use Rattle.pg_dyn.specs.KeptCode.{kept_code};
-    ghost use Rattle.pg_fds.specs.Held.{IsHeldMessage};
+    ghost use Rattle.pg_fds.specs.reading.Held.{IsHeldMessage};
 
     ghost Value = { Kept };
 
@@ -46,7 +46,7 @@ impl<'a> Said<'a> {
     ghost use Rattle.std.specs.Prelude.{◌≡◌};
     ghost use Rattle.pg_dyn.specs.Kept.{ends, type_of, unknown_of};
     ghost use Rattle.pg_dyn.specs.Seen.{fields_onto};
-    ghost use Rattle.pg_fds.specs.Held.{IsHeldMessage};
+    ghost use Rattle.pg_fds.specs.reading.Held.{IsHeldMessage};
 
     /// What is said by such a message.
     pub(crate) fn new(message: &'a Message) -> Said<'a>
@@ -85,7 +85,7 @@ impl<'a> Model for SaidItem<'a> {
     ghost use Rattle.pg_dyn.specs.contracts.message.Value as value_row;
     ghost use Rattle.pg_dyn.specs.declared.message.Value.{Value as Held};
     ghost use Rattle.pg_dyn.specs.KeptCode.{kept_code};
-    ghost use Rattle.pg_fds.specs.Held.{IsSaid};
+    ghost use Rattle.pg_fds.specs.reading.Held.{IsSaid};
 
     ghost Value = { Held };
 
@@ -98,7 +98,7 @@ impl<'a> Model for SaidItem<'a> {
 
 impl<'a> SaidItem<'a> {
     ghost use Rattle.std.specs.Prelude.{◌≡◌};
-    ghost use Rattle.pg_fds.specs.Held.{IsSaid};
+    ghost use Rattle.pg_fds.specs.reading.Held.{IsSaid};
 
     /// The item itself.
     pub(crate) fn value(&self) -> &'a Value
@@ -137,7 +137,7 @@ fn listed<'a>(alloc: Global, values: &'a [Value]) -> Result<Vec<SaidItem<'a>>, A
     requires { AllByRecursion IsSaid values.now }
     ensures { IfOk result (λ found. found.items ≡ values.now) }
 {
-    let mut found = Vec::new(alloc);
+    let mut found = Vec::with_capacity(alloc, values.len())?;
     for value in values {
         found.push(SaidItem { value })?;
     }
@@ -270,7 +270,7 @@ pub(crate) fn children<'a>(
         ≡ children_at number (message_of message.now)) }
 {
     let values = items(alloc, message, number)?;
-    let mut children = Vec::new(alloc);
+    let mut children = Vec::with_capacity(alloc, values.len())?;
     for value in &values {
         let Some(child) = child_in(value) else {
             continue;
@@ -350,7 +350,7 @@ pub(crate) fn whole(message: &Said<'_>, field: u32) -> i32
     }
 }
 
-/// The number of a singular field, which is above 0 and one of 32 bits; any other is told as 0.
+/// The number of a singular field, which is above 0 and one of 32 bits; 0 for any other.
 pub(crate) fn count(message: &Said<'_>, field: u32) -> u32
     ensures { result ≡ natural (number_at field (message_of message.now)) }
 {

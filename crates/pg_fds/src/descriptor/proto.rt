@@ -107,6 +107,33 @@ pub(crate) const METHOD_CLIENT_STREAMING: u32 = 5;
 
 pub(crate) const METHOD_SERVER_STREAMING: u32 = 6;
 
+// FileOptions
+pub(crate) const FILE_JAVA_PACKAGE: u32 = 1;
+
+pub(crate) const FILE_JAVA_OUTER_CLASSNAME: u32 = 8;
+
+pub(crate) const FILE_OPTIMIZE_FOR: u32 = 9;
+
+pub(crate) const FILE_JAVA_MULTIPLE_FILES: u32 = 10;
+
+pub(crate) const FILE_GO_PACKAGE: u32 = 11;
+
+pub(crate) const FILE_DEPRECATED: u32 = 23;
+
+pub(crate) const FILE_CC_ENABLE_ARENAS: u32 = 31;
+
+pub(crate) const FILE_OBJC_CLASS_PREFIX: u32 = 36;
+
+pub(crate) const FILE_CSHARP_NAMESPACE: u32 = 37;
+
+pub(crate) const FILE_SWIFT_PREFIX: u32 = 39;
+
+pub(crate) const FILE_PHP_CLASS_PREFIX: u32 = 40;
+
+pub(crate) const FILE_PHP_NAMESPACE: u32 = 41;
+
+pub(crate) const FILE_RUBY_PACKAGE: u32 = 45;
+
 // MessageOptions
 pub(crate) const MESSAGE_DEPRECATED: u32 = 3;
 

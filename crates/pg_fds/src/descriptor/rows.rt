@@ -2,9 +2,9 @@
 
 ghost use Rattle.std.specs.Prelude.{◌≡◌, IfOk, map};
 ghost use Rattle.pg_schema.specs.declared.parts.field.Field.{Field};
-ghost use Rattle.pg_fds.specs.Descriptor.{type_id};
-ghost use Rattle.pg_fds.specs.Rows.{enum_in, field_in, type_in, value_in};
-ghost use Rattle.pg_fds.specs.Views.{enum_view, field_view, type_view, value_view};
+ghost use Rattle.pg_fds.specs.descriptor.Descriptor.{type_id};
+ghost use Rattle.pg_fds.specs.descriptor.Rows.{enum_in, field_in, type_in, value_in};
+ghost use Rattle.pg_fds.specs.stated.Views.{enum_view, field_view, type_view, value_view};
 
 use pg_schema::{
     Element, EnumId, EnumOptions, EnumType, EnumValue, EnumValueOptions, Field, FieldOptions,
@@ -66,7 +66,7 @@ fn fields(alloc: Global, rows: &[FieldRow<'_>]) -> Result<Vec<Field>, AllocError
 pub(crate) fn numbers(alloc: Global, fields: &[Field]) -> Result<Vec<u32>, AllocError>
     ensures { IfOk result (λ numbers. numbers.items ≡ map (λ (f : Field). f.number) fields.now) }
 {
-    let mut numbers = Vec::new(alloc);
+    let mut numbers = Vec::with_capacity(alloc, fields.len())?;
     for field in fields {
         numbers.push(field.number)?;
     }

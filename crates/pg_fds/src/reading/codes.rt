@@ -4,11 +4,11 @@ ghost use Rattle.std.specs.Prelude.{◌≡◌, ◌&&◌, pos, IfOk, find, map};
 ghost use Rattle.std.specs.List.{list_all, list_any};
 ghost use Rattle.std.specs.Ordering.{int_eq};
 ghost use Rattle.pg_dyn.specs.Kept.{message_of};
-ghost use Rattle.pg_fds.specs.Codes.{file_has_types, have_types, is_taken, label_codes, scalars, type_codes};
-ghost use Rattle.pg_fds.specs.Fields.{scalar_code};
-ghost use Rattle.pg_fds.specs.Proto as proto;
-ghost use Rattle.pg_fds.specs.Said.{number_at};
-ghost use Rattle.pg_fds.specs.SaidTypes.{label_at};
+ghost use Rattle.pg_fds.specs.stated.Codes.{file_has_types, have_types, is_taken, label_codes, scalars, type_codes};
+ghost use Rattle.pg_fds.specs.writing.Fields.{scalar_code};
+ghost use Rattle.pg_fds.specs.declared.descriptor.proto.TheConstants as proto;
+ghost use Rattle.pg_fds.specs.stated.Said.{number_at};
+ghost use Rattle.pg_fds.specs.stated.SaidTypes.{label_at};
 
 use crate::descriptor::access::{Said, children, maybe_number, number};
 use crate::descriptor::proto;
@@ -44,7 +44,7 @@ const SCALARS: [Scalar; 15] = [
 
 // Whether the field's type is that scalar.
 fn has_code(field: &Said<'_>, scalar: Scalar) -> bool
-    ensures { result ≡ int_eq (number_at proto.field_type (message_of field.now))
+    ensures { result ≡ int_eq (number_at proto.FIELD_TYPE (message_of field.now))
         (pos (scalar_code scalar)) }
 {
     number(field, proto::FIELD_TYPE) == i128::from(scalar_code(scalar))
@@ -52,7 +52,7 @@ fn has_code(field: &Said<'_>, scalar: Scalar) -> bool
 
 /// The scalar that a field's type is. `None` of messages, enums and codes that aren't taken.
 pub(crate) fn scalar_of(field: &Said<'_>) -> Option<Scalar>
-    ensures { result ≡ find (λ s. int_eq (number_at proto.field_type (message_of field.now))
+    ensures { result ≡ find (λ s. int_eq (number_at proto.FIELD_TYPE (message_of field.now))
         (pos (scalar_code s))) scalars }
 {
     for scalar in SCALARS {

@@ -4,24 +4,20 @@
 ghost use Rattle.std.specs.Prelude.{◌≡◌, ◌∷◌, [], false, IfErr, IfOk, OnOk, length, map};
 ghost use Rattle.std.specs.String.{string_bytes};
 ghost use Rattle.pg_dyn.specs.Kept.{message_of};
-ghost use Rattle.pg_fds.specs.Declarations.{Adds, CannotAdd, all_named, fronts, is_package, named_in, package_part};
-ghost use Rattle.pg_fds.specs.SetNames.{full_name};
-ghost use Rattle.pg_fds.specs.SaidTypes.{AreMarked, real_oneofs};
+ghost use Rattle.pg_fds.specs.stated.Declarations.{Adds, CannotAdd, all_named, fronts, is_package, named_in, package_part};
+ghost use Rattle.pg_fds.specs.stated.SetNames.{full_name};
+ghost use Rattle.pg_fds.specs.stated.SaidTypes.{AreMarked, real_oneofs};
 
 use crate::descriptor::access::{Said, text};
 use crate::descriptor::proto;
 use crate::error::Unstated;
+use crate::reading::names_table::NameTable;
 use crate::reading::outline::Named;
 use pg_schema::full_name;
 use std::alloc::{AllocError, Global};
-use std::collections::BTreeMap;
 
 /// Puts a name in the table. Refused, memory aside, only where it may not be declared.
-pub(crate) fn declare(
-    names: &mut BTreeMap<String, Named>,
-    name: String,
-    named: Named,
-) -> Result<(), Unstated>
+pub(crate) fn declare(names: &mut NameTable, name: String, named: Named) -> Result<(), Unstated>
     ensures adds { OnOk result (Adds ((string_bytes name, named) ∷ []) names.old names.new) }
     ensures refused { IfErr result (λ e. is_package named ≡ false
         → CannotAdd ((string_bytes name, named) ∷ []) names.old e) }
@@ -35,7 +31,7 @@ pub(crate) fn declare(
 /// Puts the full name of what a message is called in the scope in the table, and answers it.
 pub(crate) fn declare_named(
     alloc: Global,
-    names: &mut BTreeMap<String, Named>,
+    names: &mut NameTable,
     scope: &str,
     message: &Said<'_>,
     named: Named,
@@ -56,7 +52,7 @@ pub(crate) fn declare_named(
 // Puts the full name of what a message is called in the scope in the table.
 fn declare_own(
     alloc: Global,
-    names: &mut BTreeMap<String, Named>,
+    names: &mut NameTable,
     scope: &str,
     message: &Said<'_>,
     named: Named,
@@ -66,14 +62,15 @@ fn declare_own(
     ensures refused { IfErr result (λ e. is_package named ≡ false
         → CannotAdd (named_in scope.now named (message_of message.now) ∷ []) names.old e) }
 {
-    declare_named(alloc, names, scope, message, named)?;
-    Ok(())
+    let own = text(message, proto::NAME);
+    let full = full_name(alloc, scope, own)?;
+    declare(names, full, named)
 }
 
 /// Puts the full names of what messages are called in the scope in the table.
 pub(crate) fn declare_each(
     alloc: Global,
-    names: &mut BTreeMap<String, Named>,
+    names: &mut NameTable,
     scope: &str,
     messages: &[Said<'_>],
     named: Named,
@@ -110,7 +107,7 @@ pub(crate) fn real_oneofs<'a>(
 }
 
 // Puts a part of a package in the table, which may have it as that.
-fn declare_part(names: &mut BTreeMap<String, Named>, part: String) -> Result<(), Unstated>
+fn declare_part(names: &mut NameTable, part: String) -> Result<(), Unstated>
     ensures adds { OnOk result (Adds (package_part (string_bytes part) ∷ []) names.old
         names.new) }
     ensures refused { IfErr result (CannotAdd (package_part (string_bytes part) ∷ [])
@@ -127,7 +124,7 @@ fn declare_part(names: &mut BTreeMap<String, Named>, part: String) -> Result<(),
 /// before a dot of it, and the whole.
 pub(crate) fn declare_package(
     alloc: Global,
-    names: &mut BTreeMap<String, Named>,
+    names: &mut NameTable,
     path: &str,
 ) -> Result<(), Unstated>
     ensures adds { OnOk result (Adds (map package_part (fronts path.now)) names.old names.new) }

@@ -2,7 +2,7 @@
 
 ghost use Rattle.std.specs.Prelude.{◌≡◌, IfOk, filter, map};
 ghost use Rattle.pg_dyn.specs.Kept.{message_of};
-ghost use Rattle.pg_fds.specs.SaidTypes.{is_entry, is_no_entry};
+ghost use Rattle.pg_fds.specs.stated.SaidTypes.{is_entry, is_no_entry};
 
 use crate::descriptor::access::{Said, option};
 use crate::descriptor::proto;

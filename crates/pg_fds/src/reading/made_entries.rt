@@ -3,12 +3,12 @@
 ghost use Rattle.std.specs.Prelude.{◌≡◌, [], None, IfOk, OnErr, OnOk, option_map, map};
 ghost use Rattle.pg_schema.specs.declared.parts.field.Element.TheVariants.{Scalar as ScalarElement};
 ghost use Rattle.pg_dyn.specs.Kept.{message_of};
-ghost use Rattle.pg_fds.specs.Proto as proto;
-ghost use Rattle.pg_fds.specs.Owners.{means_of};
+ghost use Rattle.pg_fds.specs.declared.descriptor.proto.TheConstants as proto;
+ghost use Rattle.pg_fds.specs.reading.Owners.{means_of};
 ghost use Rattle.pg_dyn.specs.Message.{parts};
-ghost use Rattle.pg_fds.specs.Said.{item_at, items_at, number_at, options_at};
-ghost use Rattle.pg_fds.specs.StatedEntries.{element, entry, has_fields_alone, is_entry_field, key_and_value, key_of, may_say, named_element, of_code, pair_of, says, scalar_of};
-ghost use Rattle.pg_fds.specs.StatedNames.{element_of_named};
+ghost use Rattle.pg_fds.specs.stated.Said.{item_at, items_at, number_at, options_at};
+ghost use Rattle.pg_fds.specs.stated.StatedEntries.{element, entry, has_fields_alone, is_entry_field, key_and_value, key_of, may_say, named_element, of_code, pair_of, says, scalar_of};
+ghost use Rattle.pg_fds.specs.stated.StatedNames.{element_of_named};
 
 use crate::descriptor::access::{
     Said, child_in, children, content, flag, item, maybe_text, number, option, text,
@@ -17,11 +17,11 @@ use crate::descriptor::proto;
 use crate::error::Unstated;
 use crate::reading::codes::{label_of, scalar_of};
 use crate::reading::meanings::meant;
+use crate::reading::names_table::NameTable;
 use crate::reading::outline::Named;
 use crate::writing::fields::element_code;
 use pg_schema::{Element, Scalar};
 use std::alloc::{AllocError, Global};
-use std::collections::BTreeMap;
 
 // ---- items
 
@@ -38,7 +38,7 @@ fn element_of(named: Named) -> Option<Element>
 
 // The element, where its code is that of the field's type.
 fn of_its_code(message: &Said<'_>, element: Element) -> Option<Element>
-    ensures { result ≡ of_code (number_at proto.field_type (message_of message.now)) element }
+    ensures { result ≡ of_code (number_at proto.FIELD_TYPE (message_of message.now)) element }
 {
     let code = element_code(element);
     if number(message, proto::FIELD_TYPE) != i128::from(code) {
@@ -48,7 +48,7 @@ fn of_its_code(message: &Said<'_>, element: Element) -> Option<Element>
 }
 
 // The items of a field that names a type.
-fn named_element(names: &BTreeMap<String, Named>, message: &Said<'_>) -> Option<Element>
+fn named_element(names: &NameTable, message: &Said<'_>) -> Option<Element>
     ensures { result ≡ named_element (means_of names.now) (message_of message.now) }
 {
     let named = meant(names, message, proto::FIELD_TYPE_NAME)?;
@@ -59,7 +59,7 @@ fn named_element(names: &BTreeMap<String, Named>, message: &Said<'_>) -> Option<
 // Those of one that names none.
 fn scalar_element(message: &Said<'_>) -> Option<Element>
     ensures { result ≡ option_map ScalarElement
-        (scalar_of (number_at proto.field_type (message_of message.now))) }
+        (scalar_of (number_at proto.FIELD_TYPE (message_of message.now))) }
 {
     match scalar_of(message) {
         Some(scalar) => Some(Element::Scalar(scalar)),
@@ -68,7 +68,7 @@ fn scalar_element(message: &Said<'_>) -> Option<Element>
 }
 
 /// The items of a field that is no map, or of an entry type's field.
-pub(crate) fn element(names: &BTreeMap<String, Named>, message: &Said<'_>) -> Option<Element>
+pub(crate) fn element(names: &NameTable, message: &Said<'_>) -> Option<Element>
     ensures { result ≡ element (means_of names.now) (message_of message.now) }
 {
     match item(message, proto::FIELD_TYPE_NAME) {
@@ -164,8 +164,8 @@ fn is_entry_field(message: &Said<'_>, name: &str, place: u32) -> bool
         && !flag(message, proto::FIELD_PROTO3_OPTIONAL)
 }
 
-// What a map's keys are. A type that may not be one is told as that of floats, which may not
-// either.
+// What a map's keys are. A type that may not be one is answered as that of floats, which
+// may not either.
 fn key_of(element: Element) -> Scalar
     ensures { result ≡ key_of element }
 {
@@ -176,11 +176,7 @@ fn key_of(element: Element) -> Scalar
 }
 
 // The key and the value, by their two fields.
-fn pair(
-    names: &BTreeMap<String, Named>,
-    first: &Said<'_>,
-    second: &Said<'_>,
-) -> Option<(Scalar, Element)>
+fn pair(names: &NameTable, first: &Said<'_>, second: &Said<'_>) -> Option<(Scalar, Element)>
     ensures { result ≡ pair_of (means_of names.now) (message_of first.now) (message_of second.now) }
 {
     let is_key = is_entry_field(first, "key", 1);
@@ -194,7 +190,7 @@ fn pair(
 }
 
 // The same, of an entry type's fields.
-fn key_and_value(names: &BTreeMap<String, Named>, fields: &[Said<'_>]) -> Option<(Scalar, Element)>
+fn key_and_value(names: &NameTable, fields: &[Said<'_>]) -> Option<(Scalar, Element)>
     ensures { result ≡ key_and_value (means_of names.now) (map message_of fields.now) }
 {
     match fields {
@@ -219,7 +215,7 @@ fn has_fields_alone(entry: &Said<'_>) -> bool
 /// The key and the value of an entry type, where it has its form.
 pub(crate) fn entry(
     alloc: Global,
-    names: &BTreeMap<String, Named>,
+    names: &NameTable,
     message: &Said<'_>,
 ) -> Result<Option<(Scalar, Element)>, AllocError>
     ensures { IfOk result (λ found. found

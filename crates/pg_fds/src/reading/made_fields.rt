@@ -6,13 +6,13 @@ ghost use Rattle.pg_schema.specs.rules.DeclaredNames.{entry_name};
 ghost use Rattle.pg_schema.specs.rules.Fields.{is_message};
 ghost use Rattle.pg_dyn.specs.Kept.{message_of};
 ghost use Rattle.pg_fds.specs.declared.error.Unstated.TheVariants.{Memory};
-ghost use Rattle.pg_fds.specs.Owners.{means_of, owner_of};
-ghost use Rattle.pg_fds.specs.Proto as proto;
-ghost use Rattle.pg_fds.specs.Said.{text_at};
-ghost use Rattle.pg_fds.specs.StatedFields.{field, is_map_field, items, map_items, names_its_entry, plain_items, presence, repeated, singular};
-ghost use Rattle.pg_fds.specs.StatedNames.{is_entry_type};
-ghost use Rattle.pg_fds.specs.SaidTypes.{json_name_at};
-ghost use Rattle.pg_fds.specs.Views.{field_view};
+ghost use Rattle.pg_fds.specs.reading.Owners.{means_of, owner_of};
+ghost use Rattle.pg_fds.specs.declared.descriptor.proto.TheConstants as proto;
+ghost use Rattle.pg_fds.specs.stated.Said.{text_at};
+ghost use Rattle.pg_fds.specs.stated.StatedFields.{field, is_map_field, items, map_items, names_its_entry, plain_items, presence, repeated, singular};
+ghost use Rattle.pg_fds.specs.stated.StatedNames.{is_entry_type};
+ghost use Rattle.pg_fds.specs.stated.SaidTypes.{json_name_at};
+ghost use Rattle.pg_fds.specs.stated.Views.{field_view};
 
 use crate::descriptor::access::{Said, count, ensure, flag, maybe_text, number, option, text};
 use crate::descriptor::proto;
@@ -22,6 +22,7 @@ use crate::reading::codes::{MESSAGE_CODE, REPEATED, label_of};
 use crate::reading::made_entries::{element, entry, says};
 use crate::reading::made_oneofs::{OneofMarks, oneof};
 use crate::reading::meanings::meant;
+use crate::reading::names_table::NameTable;
 use crate::reading::outline::Named;
 use pg_schema::{Element, Field, FieldOptions, Presence, default_json_name, entry_name};
 use std::alloc::{AllocError, Global};
@@ -32,7 +33,7 @@ use std::collections::BTreeMap;
 /// their names.
 #[derive(Drop)]
 pub(crate) struct Scope<'a> {
-    pub names: &'a BTreeMap<String, Named>,
+    pub names: &'a NameTable,
     pub name: &'a str,
     pub synthetic: OneofMarks,
     pub members: Vec<usize>,
@@ -88,11 +89,7 @@ fn presence(message: &Said<'_>, element: Element, member: bool) -> Option<Presen
 }
 
 // The presence and element of a field that is no map.
-fn plain_items(
-    names: &BTreeMap<String, Named>,
-    message: &Said<'_>,
-    member: bool,
-) -> Option<(Presence, Element)>
+fn plain_items(names: &NameTable, message: &Said<'_>, member: bool) -> Option<(Presence, Element)>
     ensures { result ≡ plain_items (means_of names.now) (message_of message.now) member }
 {
     let element = element(names, message)?;
@@ -113,7 +110,7 @@ fn is_entry_type(named: Option<Named>) -> bool
 }
 
 // Whether the field's type is an entry type.
-fn is_map_field(names: &BTreeMap<String, Named>, message: &Said<'_>) -> bool
+fn is_map_field(names: &NameTable, message: &Said<'_>) -> bool
     ensures { result ≡ is_map_field (means_of names.now) (message_of message.now) }
 {
     let is_entry = is_entry_type(meant(names, message, proto::FIELD_TYPE_NAME));
@@ -128,7 +125,7 @@ fn names_its_entry(
     message: &Said<'_>,
     own: &str,
 ) -> Result<bool, AllocError>
-    requires { own.now ≡ entry_name (text_at proto.field_name (message_of message.now)) }
+    requires { own.now ≡ entry_name (text_at proto.FIELD_NAME (message_of message.now)) }
     ensures { IfOk result (λ is. is
         ≡ names_its_entry (owner_of scope.now) (message_of message.now)) }
 {
@@ -196,8 +193,8 @@ fn json_name(alloc: Global, message: &Said<'_>) -> Result<String, AllocError>
     }
 }
 
-/// The field that a message states. A number that isn't above 0 is told as 0, which may not stand
-/// either.
+/// The field that a message states. A number that isn't above 0 is answered as 0, which may not
+/// stand either.
 pub(crate) fn made_field(
     alloc: Global,
     scope: &Scope<'_>,

@@ -5,20 +5,20 @@ ghost use Rattle.std.specs.Option.{unwrap_or};
 ghost use Rattle.pg_dyn.specs.Kept.{message_of};
 ghost use Rattle.pg_dyn.specs.Message.{ends};
 ghost use Rattle.pg_fds.specs.declared.error.Unstated.TheVariants.{Memory};
-ghost use Rattle.pg_fds.specs.Building.{shown};
-ghost use Rattle.pg_fds.specs.Lent.{lent};
-ghost use Rattle.pg_fds.specs.StatedFiles.{file, has_public_places, mode_of, numbered, option_value, options_under};
-ghost use Rattle.pg_fds.specs.OutlinedPlaces.{placed_file};
-ghost use Rattle.pg_fds.specs.Outlines.{row};
-ghost use Rattle.pg_fds.specs.Owners.{means_of};
-ghost use Rattle.pg_fds.specs.Proto as proto;
-ghost use Rattle.pg_fds.specs.Said.{numbers_at, options_at, texts_at};
-ghost use Rattle.pg_fds.specs.StatedNames.{each};
-ghost use Rattle.pg_fds.specs.StatedServices.{method, service};
-ghost use Rattle.pg_fds.specs.StatesFiles.{import_of};
-ghost use Rattle.pg_fds.specs.SaidFiles.{kept_imports, option_places};
-ghost use Rattle.pg_fds.specs.SaidTypes.{AreMarked};
-ghost use Rattle.pg_fds.specs.Views.{file_view, method_view, option_view, service_view, value_of};
+ghost use Rattle.pg_fds.specs.writing.Building.{shown};
+ghost use Rattle.pg_fds.specs.descriptor.Lent.{lent};
+ghost use Rattle.pg_fds.specs.stated.StatedFiles.{file, has_public_places, mode_of, numbered, option_value, options_under};
+ghost use Rattle.pg_fds.specs.reading.OutlinedPlaces.{placed_file};
+ghost use Rattle.pg_fds.specs.stated.Outlines.{row};
+ghost use Rattle.pg_fds.specs.reading.Owners.{means_of};
+ghost use Rattle.pg_fds.specs.declared.descriptor.proto.TheConstants as proto;
+ghost use Rattle.pg_fds.specs.stated.Said.{numbers_at, options_at, texts_at};
+ghost use Rattle.pg_fds.specs.stated.StatedNames.{each};
+ghost use Rattle.pg_fds.specs.stated.StatedServices.{method, service};
+ghost use Rattle.pg_fds.specs.reading.MadeImports.{import_of};
+ghost use Rattle.pg_fds.specs.stated.SaidFiles.{kept_imports, option_places};
+ghost use Rattle.pg_fds.specs.stated.SaidTypes.{AreMarked};
+ghost use Rattle.pg_fds.specs.stated.Views.{file_view, method_view, option_view, service_view, value_of};
 
 use crate::descriptor::access::{
     Said, SaidItem, child_in, children, flag, item, number_in, numbers, option, text, text_in,
@@ -28,7 +28,8 @@ use crate::descriptor::proto;
 use crate::error::Unstated;
 use crate::reading::made_oneofs::marks;
 use crate::reading::meanings::type_meant;
-use crate::reading::outline::{Named, Outlined, OutlinedFile};
+use crate::reading::names_table::NameTable;
+use crate::reading::outline::{Outlined, OutlinedFile};
 use crate::reading::set_files::is_left_out;
 use pg_dyn::Value;
 use pg_schema::{
@@ -36,20 +37,27 @@ use pg_schema::{
     ServiceOptions,
 };
 use std::alloc::{AllocError, Global};
-use std::collections::BTreeMap;
 
-// The options of files that are taken. In order: java_package, java_outer_classname, optimize_for,
-// java_multiple_files, go_package, deprecated, cc_enable_arenas, objc_class_prefix,
-// csharp_namespace, swift_prefix, php_class_prefix, php_namespace, ruby_package.
-const OPTIONS: [u32; 13] = [1, 8, 9, 10, 11, 23, 31, 36, 37, 39, 40, 41, 45];
+// The options of files that are taken.
+const OPTIONS: [u32; 13] = [
+    proto::FILE_JAVA_PACKAGE,
+    proto::FILE_JAVA_OUTER_CLASSNAME,
+    proto::FILE_OPTIMIZE_FOR,
+    proto::FILE_JAVA_MULTIPLE_FILES,
+    proto::FILE_GO_PACKAGE,
+    proto::FILE_DEPRECATED,
+    proto::FILE_CC_ENABLE_ARENAS,
+    proto::FILE_OBJC_CLASS_PREFIX,
+    proto::FILE_CSHARP_NAMESPACE,
+    proto::FILE_SWIFT_PREFIX,
+    proto::FILE_PHP_CLASS_PREFIX,
+    proto::FILE_PHP_NAMESPACE,
+    proto::FILE_RUBY_PACKAGE,
+];
 
 // ---- services
 
-fn method(
-    alloc: Global,
-    names: &BTreeMap<String, Named>,
-    message: &Said<'_>,
-) -> Result<Method, Unstated>
+fn method(alloc: Global, names: &NameTable, message: &Said<'_>) -> Result<Method, Unstated>
     ensures made { IfOk result (λ made. method (means_of names.now) (message_of message.now)
         ≡ Some (method_view made)) }
     ensures refused { IfErr result (λ e. (e ≡ Memory)
@@ -74,11 +82,7 @@ fn method(
     })
 }
 
-fn methods(
-    alloc: Global,
-    names: &BTreeMap<String, Named>,
-    messages: &[Said<'_>],
-) -> Result<Vec<Method>, Unstated>
+fn methods(alloc: Global, names: &NameTable, messages: &[Said<'_>]) -> Result<Vec<Method>, Unstated>
     ensures made { IfOk result (λ made. each (method (means_of names.now))
         (map message_of messages.now) ≡ Some (map method_view made.items)) }
     ensures refused { IfErr result (λ e. (e ≡ Memory)
@@ -95,7 +99,7 @@ fn methods(
 /// The service that a message states, where its methods name message types.
 pub(crate) fn service(
     alloc: Global,
-    names: &BTreeMap<String, Named>,
+    names: &NameTable,
     outlined: &Outlined<'_>,
 ) -> Result<Service, Unstated>
     ensures made { IfOk result (λ made. service (means_of names.now) (row outlined.now)
@@ -134,12 +138,12 @@ fn mode(found: i128) -> Option<OptimizeMode>
     None
 }
 
-// The value of the option of that number whose item is a number. A mode that isn't one is told as a
-// flag, which is of no mode's kind.
+// The value of the option of that number whose item is a number. A mode that isn't one is answered
+// as a flag, which is of no mode's kind.
 fn numbered(number: u32, found: i128) -> OptionValue
     ensures { result ≡ numbered number found }
 {
-    if number == 9 {
+    if number == proto::FILE_OPTIMIZE_FOR {
         let mode = mode(found);
         if let Some(mode) = mode {
             return OptionValue::Mode(mode);
@@ -184,7 +188,7 @@ fn options_under(
 // The message of a file's options, where there is one.
 fn own_options<'a>(message: &Said<'a>) -> Option<Said<'a>>
     ensures { unwrap_or (option_map message_of result) (ends [])
-        ≡ options_at proto.file_options (message_of message.now) }
+        ≡ options_at proto.FILE_OPTIONS (message_of message.now) }
 {
     let found = item(message, proto::FILE_OPTIONS);
     match found {
@@ -196,7 +200,7 @@ fn own_options<'a>(message: &Said<'a>) -> Option<Said<'a>>
 // The options of a file, by rising number.
 fn options(alloc: Global, message: &Said<'_>) -> Result<Vec<FileOption>, AllocError>
     ensures { IfOk result (λ made. map option_view made.items
-        ≡ options_under (options_at proto.file_options (message_of message.now)) option_places) }
+        ≡ options_under (options_at proto.FILE_OPTIONS (message_of message.now)) option_places) }
 {
     let own = own_options(message);
     match own {
@@ -234,8 +238,8 @@ fn kept(
 // The imports of a file, without those that are skipped.
 fn imports(alloc: Global, skips: bool, message: &Said<'_>) -> Result<Vec<Import>, Unstated>
     ensures made { IfOk result (λ made. map import_of made.items
-        ≡ kept_imports skips (numbers_at proto.file_public_dependency (message_of message.now)) 0
-        (texts_at proto.file_dependency (message_of message.now))) }
+        ≡ kept_imports skips (numbers_at proto.FILE_PUBLIC_DEPENDENCY (message_of message.now)) 0
+        (texts_at proto.FILE_DEPENDENCY (message_of message.now))) }
     ensures places { OnOk result (has_public_places (message_of message.now) ≡ true) }
     ensures refused { IfErr result (λ e. has_public_places (message_of message.now) ≡ true
         → e ≡ Memory) }

@@ -4,12 +4,12 @@ ghost use Rattle.std.specs.Prelude.{◌≡◌, ◌<◌, true, IfErr, IfOk, IfSom
 ghost use Rattle.std.specs.List.{list_all};
 ghost use Rattle.pg_dyn.specs.Kept.{message_of};
 ghost use Rattle.pg_fds.specs.declared.error.Unstated.TheVariants.{Memory};
-ghost use Rattle.pg_fds.specs.Lent.{lent};
-ghost use Rattle.pg_fds.specs.Proto as proto;
-ghost use Rattle.pg_fds.specs.Said.{text_at};
-ghost use Rattle.pg_fds.specs.SaidFiles.{is_place};
-ghost use Rattle.pg_fds.specs.SaidTypes.{AreMarked, real_oneofs, synthetic_places};
-ghost use Rattle.pg_fds.specs.StatedOneofs.{AreRanks, oneof, own_oneof, place_marked, real_oneof, real_place};
+ghost use Rattle.pg_fds.specs.descriptor.Lent.{lent};
+ghost use Rattle.pg_fds.specs.declared.descriptor.proto.TheConstants as proto;
+ghost use Rattle.pg_fds.specs.stated.Said.{text_at};
+ghost use Rattle.pg_fds.specs.stated.SaidFiles.{is_place};
+ghost use Rattle.pg_fds.specs.stated.SaidTypes.{AreMarked, real_oneofs, synthetic_places};
+ghost use Rattle.pg_fds.specs.stated.StatedOneofs.{AreRanks, oneof, own_oneof, place_marked, real_oneof, real_place};
 
 use crate::descriptor::access::{Said, flag, maybe_number, place_in, text};
 use crate::descriptor::proto;
@@ -61,7 +61,7 @@ pub(crate) fn real_names<'a>(
 ) -> Result<Vec<&'a str>, AllocError>
     requires { AreMarked numbers.now (length oneofs.now) marks.now }
     ensures { IfOk result (λ names. lent names.items
-        ≡ map (text_at proto.oneof_name)
+        ≡ map (text_at proto.ONEOF_NAME)
         (real_oneofs numbers.now 0 (map message_of oneofs.now))) }
 {
     let mut names = Vec::new(alloc);
@@ -85,7 +85,7 @@ pub(crate) struct OneofMarks {
 
 impl Model for OneofMarks {
     ghost use Rattle.std.specs.Prelude.{Bool, List, length};
-    ghost use Rattle.pg_fds.specs.StatedOneofs.{AreRanks};
+    ghost use Rattle.pg_fds.specs.stated.StatedOneofs.{AreRanks};
 
     ghost Value = { List Bool };
 
@@ -96,7 +96,7 @@ impl Model for OneofMarks {
 
 impl OneofMarks {
     ghost use Rattle.std.specs.Prelude.{◌≡◌, ◌<◌, IfOk, length};
-    ghost use Rattle.pg_fds.specs.StatedOneofs.{unmarked};
+    ghost use Rattle.pg_fds.specs.stated.StatedOneofs.{unmarked};
 
     /// Oneofs of which these are synthetic.
     pub(crate) fn new(alloc: Global, synthetic: Vec<bool>) -> Result<OneofMarks, AllocError>
@@ -114,7 +114,7 @@ impl OneofMarks {
     }
 
     // The rank of the one at that place.
-    #[tactic(auto, using(crate::proofs::OneofRanks::rank_is))]
+    #[tactic(auto, using(crate::proofs::lemmas::reading::OneofRanks::rank_is))]
     fn rank(&self, place: usize) -> usize
         requires { place < length self.now }
         ensures { result ≡ unmarked self.now place }

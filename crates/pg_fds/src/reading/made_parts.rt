@@ -2,24 +2,24 @@
 
 ghost use Rattle.std.specs.Prelude.{◌≡◌, ◌⊎◌, None, Some, IfErr, IfOk, map};
 ghost use Rattle.pg_fds.specs.declared.error.Unstated.TheVariants.{Memory};
-ghost use Rattle.pg_fds.specs.OutlinedPlaces.{placed_file, placed_type};
-ghost use Rattle.pg_fds.specs.Outlines.{row};
-ghost use Rattle.pg_fds.specs.Owners.{means_of};
-ghost use Rattle.pg_fds.specs.Stated.{parts_by};
-ghost use Rattle.pg_fds.specs.StatedEnums.{enum_type};
-ghost use Rattle.pg_fds.specs.StatedFiles.{file};
-ghost use Rattle.pg_fds.specs.StatedNames.{each};
-ghost use Rattle.pg_fds.specs.StatedServices.{service};
-ghost use Rattle.pg_fds.specs.StatedTypes.{message_type};
-ghost use Rattle.pg_fds.specs.Views.{enum_view, file_view, parts_view, service_view, type_view};
+ghost use Rattle.pg_fds.specs.reading.OutlinedPlaces.{placed_file, placed_type};
+ghost use Rattle.pg_fds.specs.stated.Outlines.{row};
+ghost use Rattle.pg_fds.specs.reading.Owners.{means_of};
+ghost use Rattle.pg_fds.specs.stated.Stated.{parts_by};
+ghost use Rattle.pg_fds.specs.stated.StatedEnums.{enum_type};
+ghost use Rattle.pg_fds.specs.stated.StatedFiles.{file};
+ghost use Rattle.pg_fds.specs.stated.StatedNames.{each};
+ghost use Rattle.pg_fds.specs.stated.StatedServices.{service};
+ghost use Rattle.pg_fds.specs.stated.StatedTypes.{message_type};
+ghost use Rattle.pg_fds.specs.stated.Views.{enum_view, file_view, parts_view, service_view, type_view};
 
 use crate::error::Unstated;
 use crate::reading::made_files::{file, service};
 use crate::reading::made_types::{made_enum, made_type};
-use crate::reading::outline::{Named, Outline, Outlined, OutlinedFile, OutlinedType};
+use crate::reading::names_table::NameTable;
+use crate::reading::outline::{Outline, Outlined, OutlinedFile, OutlinedType};
 use pg_schema::{EnumType, File, MessageType, Parts, Service};
 use std::alloc::{AllocError, Global};
-use std::collections::BTreeMap;
 
 // The files.
 fn all_files(
@@ -43,7 +43,7 @@ fn all_files(
 // The message types.
 fn all_types(
     alloc: Global,
-    names: &BTreeMap<String, Named>,
+    names: &NameTable,
     outlined: &[OutlinedType<'_>],
 ) -> Result<Vec<MessageType>, Unstated>
     ensures made { IfOk result (λ made. each (message_type (means_of names.now))
@@ -75,7 +75,7 @@ fn all_enums(alloc: Global, outlined: &[Outlined<'_>]) -> Result<Vec<EnumType>, 
 // The services.
 fn all_services(
     alloc: Global,
-    names: &BTreeMap<String, Named>,
+    names: &NameTable,
     outlined: &[Outlined<'_>],
 ) -> Result<Vec<Service>, Unstated>
     ensures made { IfOk result (λ made. each (service (means_of names.now))

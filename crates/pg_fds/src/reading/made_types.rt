@@ -1,26 +1,24 @@
 //! Message types and enums of a schema, made of a set's messages.
 
-ghost use Rattle.std.specs.Prelude.{◌≡◌, ◌⊎◌, ℕ, ◌<◌, pos, true, false, None, Some, List, IfErr, IfOk, IfSome, OnErr, filter, length, map, option_map};
+ghost use Rattle.std.specs.Prelude.{◌≡◌, ◌⊎◌, ℕ, ◌<◌, pos, true, false, None, Some, List, IfErr, IfOk, IfSome, OnErr, length, map, option_map};
 ghost use Rattle.std.specs.List.{list_all};
 ghost use Rattle.std.specs.String.{string_bytes};
-ghost use Rattle.pg_schema.specs.declared.parts.field.Field.{Field};
-ghost use Rattle.pg_schema.specs.Shape.{is_map};
 ghost use Rattle.pg_dyn.specs.Kept.{message_of};
 ghost use Rattle.pg_fds.specs.declared.error.Unstated.TheVariants.{Memory};
-ghost use Rattle.pg_fds.specs.Lent.{lent};
-ghost use Rattle.pg_fds.specs.Made.{AreCounted, has_place};
-ghost use Rattle.pg_fds.specs.MadeMembers.{HasMembers};
-ghost use Rattle.pg_fds.specs.OutlinedPlaces.{placed_type};
-ghost use Rattle.pg_fds.specs.Outlines.{row, type_row};
-ghost use Rattle.pg_fds.specs.Owners.{means_of, message_in, owner_of};
-ghost use Rattle.pg_fds.specs.Proto as proto;
-ghost use Rattle.pg_fds.specs.Said.{children_at, maybe_number_at, text_at};
-ghost use Rattle.pg_fds.specs.StatedEnums as stated;
-ghost use Rattle.pg_fds.specs.StatedFields.{field, fields};
-ghost use Rattle.pg_fds.specs.StatedNames.{each};
-ghost use Rattle.pg_fds.specs.StatedTypes.{by_key, declared_fields, field_range, last_named, message_type, number_of};
-ghost use Rattle.pg_fds.specs.SaidTypes.{AreMarked, real_oneofs, synthetic_places as stated_places};
-ghost use Rattle.pg_fds.specs.Views.{enum_view, field_view, type_view, value_view};
+ghost use Rattle.pg_fds.specs.descriptor.Lent.{lent};
+ghost use Rattle.pg_fds.specs.reading.Made.{AreCounted, has_place};
+ghost use Rattle.pg_fds.specs.reading.MadeMembers.{HasMembers};
+ghost use Rattle.pg_fds.specs.reading.OutlinedPlaces.{placed_type};
+ghost use Rattle.pg_fds.specs.stated.Outlines.{row, type_row};
+ghost use Rattle.pg_fds.specs.reading.Owners.{means_of, message_in, owner_of};
+ghost use Rattle.pg_fds.specs.declared.descriptor.proto.TheConstants as proto;
+ghost use Rattle.pg_fds.specs.stated.Said.{children_at, maybe_number_at, text_at};
+ghost use Rattle.pg_fds.specs.stated.StatedEnums as stated;
+ghost use Rattle.pg_fds.specs.stated.StatedFields.{field, fields};
+ghost use Rattle.pg_fds.specs.stated.StatedNames.{each};
+ghost use Rattle.pg_fds.specs.stated.StatedTypes.{by_key, declared_fields, field_range, last_named, message_type, number_of};
+ghost use Rattle.pg_fds.specs.stated.SaidTypes.{AreMarked, real_oneofs, synthetic_places as stated_places};
+ghost use Rattle.pg_fds.specs.stated.Views.{enum_view, field_view, type_view, value_view};
 
 use crate::descriptor::access::{
     Said, children, count, ensure, maybe_number, option, place_in, text, texts, whole,
@@ -31,10 +29,12 @@ use crate::error::Unstated;
 use crate::reading::inner_types::entries_of;
 use crate::reading::made_fields::{Scope, made_field};
 use crate::reading::made_oneofs::{OneofMarks, marks, real_names, synthetic_places};
-use crate::reading::outline::{Named, Outlined, OutlinedType};
+use crate::reading::named_entries::are_named_once;
+use crate::reading::names_table::NameTable;
+use crate::reading::outline::{Outlined, OutlinedType};
 use pg_schema::{
     EnumOptions, EnumType, EnumValue, EnumValueOptions, Field, MessageOptions, MessageType,
-    Presence, ReservedFields, ReservedValues,
+    ReservedFields, ReservedValues,
 };
 use std::alloc::{AllocError, Global};
 use std::collections::BTreeMap;
@@ -148,7 +148,7 @@ fn field_ranges(alloc: Global, messages: &[Said<'_>]) -> Result<Vec<ReservedFiel
 
 // The place of the oneof, among so many, that a field names, if it names one.
 fn named_place(field: &Said<'_>, count: usize) -> Result<Option<usize>, Unstated>
-    ensures ok { IfOk result (λ place. maybe_number_at proto.field_oneof_index
+    ensures ok { IfOk result (λ place. maybe_number_at proto.FIELD_ONEOF_INDEX
         (message_of field.now) ≡ option_map pos place) }
     ensures within { IfOk result (λ found. IfSome found (λ place. place < count)) }
     ensures refused { OnErr result (has_place count (message_of field.now) ≡ false) }
@@ -205,7 +205,7 @@ fn each_field(
         ⊎ (each (field (means_of scope.now.names.now) (owner_of scope.now))
         (map message_of messages.now) ≡ None)) }
 {
-    let mut fields = Vec::new(alloc);
+    let mut fields = Vec::with_capacity(alloc, messages.len())?;
     for message in messages {
         let made = made_field(alloc, scope, message)?;
         fields.push(made)?;
@@ -213,35 +213,22 @@ fn each_field(
     Ok(fields)
 }
 
-// How many of the fields are maps.
-fn map_count(fields: &[Field]) -> usize
-    ensures { result ≡ length (filter (λ (f : Field). is_map f.presence) fields.now) }
-{
-    let mut count = 0;
-    for field in fields {
-        if matches!(field.presence, Presence::Map { .. }) {
-            count += 1;
-        }
-    }
-    count
-}
-
-// The fields of these messages, where just so many are maps.
+// The fields of these messages, where each of the entry types is that of just one.
 fn fields(
     alloc: Global,
     scope: &Scope<'_>,
-    entries: usize,
+    entries: &[Said<'_>],
     messages: &[Said<'_>],
 ) -> Result<Vec<Field>, Unstated>
     ensures made { IfOk result (λ made. fields (means_of scope.now.names.now)
-        (owner_of scope.now) entries (map message_of messages.now)
+        (owner_of scope.now) (map message_of entries.now) (map message_of messages.now)
         ≡ Some (map field_view made.items)) }
     ensures refused { IfErr result (λ e. (e ≡ Memory)
-        ⊎ (fields (means_of scope.now.names.now) (owner_of scope.now) entries
-        (map message_of messages.now) ≡ None)) }
+        ⊎ (fields (means_of scope.now.names.now) (owner_of scope.now)
+        (map message_of entries.now) (map message_of messages.now) ≡ None)) }
 {
     let fields = each_field(alloc, scope, messages)?;
-    ensure(map_count(&fields) == entries)?;
+    ensure(are_named_once(alloc, &fields, entries)?)?;
     Ok(fields)
 }
 
@@ -258,15 +245,15 @@ fn sorted(mut fields: Vec<Field>) -> Result<Vec<Field>, AllocError>
 // which of its oneofs are synthetic.
 fn declared_fields(
     alloc: Global,
-    names: &BTreeMap<String, Named>,
+    names: &NameTable,
     outlined: &OutlinedType<'_>,
     own: &[Said<'_>],
     synthetic: Vec<bool>,
 ) -> Result<Vec<Field>, Unstated>
     requires own { map message_of own.now
-        ≡ children_at proto.message_field (message_of outlined.now.message) }
+        ≡ children_at proto.MESSAGE_FIELD (message_of outlined.now.message) }
     requires marked { AreMarked (stated_places (map message_of own.now))
-        (length (children_at proto.message_oneof_decl (message_of outlined.now.message)))
+        (length (children_at proto.MESSAGE_ONEOF_DECL (message_of outlined.now.message)))
         synthetic.items }
     ensures made { IfOk result (λ made. declared_fields (means_of names.now)
         (type_row outlined.now) ≡ Some (map field_view made.items)) }
@@ -285,7 +272,7 @@ fn declared_fields(
         members,
         entries,
     };
-    fields(alloc, &scope, messages.len(), own)
+    fields(alloc, &scope, &messages, own)
 }
 
 // Own copies of the names of the oneofs that aren't synthetic.
@@ -297,7 +284,7 @@ fn oneof_names(
 ) -> Result<Vec<String>, AllocError>
     requires { AreMarked places.now (length oneofs.now) synthetic.now }
     ensures { IfOk result (λ made. map string_bytes made.items
-        ≡ map (text_at proto.oneof_name)
+        ≡ map (text_at proto.ONEOF_NAME)
         (real_oneofs places.now 0 (map message_of oneofs.now))) }
 {
     let names = real_names(alloc, oneofs, places, synthetic)?;
@@ -315,7 +302,7 @@ struct Members {
 // marked.
 fn marked_members(
     alloc: Global,
-    names: &BTreeMap<String, Named>,
+    names: &NameTable,
     outlined: &OutlinedType<'_>,
     own: &[Said<'_>],
     inside: &[Said<'_>],
@@ -323,9 +310,9 @@ fn marked_members(
     synthetic: Vec<bool>,
 ) -> Result<Members, Unstated>
     requires own { map message_of own.now
-        ≡ children_at proto.message_field (message_of outlined.now.message) }
+        ≡ children_at proto.MESSAGE_FIELD (message_of outlined.now.message) }
     requires inside { map message_of inside.now
-        ≡ children_at proto.message_oneof_decl (message_of outlined.now.message) }
+        ≡ children_at proto.MESSAGE_ONEOF_DECL (message_of outlined.now.message) }
     requires places { places.now ≡ stated_places (map message_of own.now) }
     requires marked { AreMarked places.now (length inside.now) synthetic.items }
     ensures made { IfOk result (HasMembers names.now (type_row outlined.now)) }
@@ -340,15 +327,15 @@ fn marked_members(
 // The members of a message type, of its messages of fields and oneofs.
 fn members_of(
     alloc: Global,
-    names: &BTreeMap<String, Named>,
+    names: &NameTable,
     outlined: &OutlinedType<'_>,
     own: &[Said<'_>],
     inside: &[Said<'_>],
 ) -> Result<Members, Unstated>
     requires own { map message_of own.now
-        ≡ children_at proto.message_field (message_of outlined.now.message) }
+        ≡ children_at proto.MESSAGE_FIELD (message_of outlined.now.message) }
     requires inside { map message_of inside.now
-        ≡ children_at proto.message_oneof_decl (message_of outlined.now.message) }
+        ≡ children_at proto.MESSAGE_ONEOF_DECL (message_of outlined.now.message) }
     ensures made { IfOk result (HasMembers names.now (type_row outlined.now)) }
     ensures refused { IfErr result (λ e. (e ≡ Memory)
         ⊎ (declared_fields (means_of names.now) (type_row outlined.now) ≡ None)) }
@@ -361,7 +348,7 @@ fn members_of(
 // What a message type has for members.
 fn made_members(
     alloc: Global,
-    names: &BTreeMap<String, Named>,
+    names: &NameTable,
     outlined: &OutlinedType<'_>,
 ) -> Result<Members, Unstated>
     ensures made { IfOk result (HasMembers names.now (type_row outlined.now)) }
@@ -376,7 +363,7 @@ fn made_members(
 /// The message type that a message states. Refused, memory aside, only where it states none.
 pub(crate) fn made_type(
     alloc: Global,
-    names: &BTreeMap<String, Named>,
+    names: &NameTable,
     outlined: &OutlinedType<'_>,
 ) -> Result<MessageType, Unstated>
     ensures made { IfOk result (λ made. message_type (means_of names.now)

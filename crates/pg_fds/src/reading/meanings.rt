@@ -2,14 +2,14 @@
 
 ghost use Rattle.std.specs.Prelude.{◌≡◌, ◌∷◌, ℕ, List, Some, IfNone, IfSome};
 ghost use Rattle.pg_dyn.specs.Kept.{message_of};
-ghost use Rattle.pg_fds.specs.Owners.{means_of};
-ghost use Rattle.pg_fds.specs.Said.{maybe_text_at};
-ghost use Rattle.pg_fds.specs.StatedNames.{may_name, meant, named, type_meant};
+ghost use Rattle.pg_fds.specs.reading.Owners.{means_of};
+ghost use Rattle.pg_fds.specs.stated.Said.{maybe_text_at};
+ghost use Rattle.pg_fds.specs.stated.StatedNames.{may_name, meant, named, type_meant};
 
 use crate::descriptor::access::{Said, maybe_text};
+use crate::reading::names_table::NameTable;
 use crate::reading::outline::Named;
 use pg_schema::TypeId;
-use std::collections::BTreeMap;
 
 // The same, where a field or a method may name it.
 fn nameable(named: Named) -> Option<Named>
@@ -22,7 +22,7 @@ fn nameable(named: Named) -> Option<Named>
 }
 
 // What a full name is that of.
-fn meaning(names: &BTreeMap<String, Named>, name: &str) -> Option<Named>
+fn meaning(names: &NameTable, name: &str) -> Option<Named>
     ensures { result ≡ means_of names.now name.now }
 {
     match names.get(name) {
@@ -40,7 +40,7 @@ fn behind_dot(dotted: &str) -> Option<&str>
 }
 
 // What a full name with a dot in front is that of.
-fn named(names: &BTreeMap<String, Named>, dotted: &str) -> Option<Named>
+fn named(names: &NameTable, dotted: &str) -> Option<Named>
     ensures { result ≡ named (means_of names.now) dotted.now }
 {
     match behind_dot(dotted) {
@@ -50,11 +50,7 @@ fn named(names: &BTreeMap<String, Named>, dotted: &str) -> Option<Named>
 }
 
 /// What the name in a field of a message is that of.
-pub(crate) fn meant(
-    names: &BTreeMap<String, Named>,
-    message: &Said<'_>,
-    number: u32,
-) -> Option<Named>
+pub(crate) fn meant(names: &NameTable, message: &Said<'_>, number: u32) -> Option<Named>
     ensures { result ≡ meant (means_of names.now)
         (maybe_text_at number (message_of message.now)) }
 {
@@ -65,11 +61,7 @@ pub(crate) fn meant(
 }
 
 /// The message type that it is that of.
-pub(crate) fn type_meant(
-    names: &BTreeMap<String, Named>,
-    message: &Said<'_>,
-    number: u32,
-) -> Option<TypeId>
+pub(crate) fn type_meant(names: &NameTable, message: &Said<'_>, number: u32) -> Option<TypeId>
     ensures { result ≡ type_meant (means_of names.now)
         (maybe_text_at number (message_of message.now)) }
 {

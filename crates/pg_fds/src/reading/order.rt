@@ -6,12 +6,12 @@ ghost use Rattle.pg_schema.specs.rules.Pairs.{are_distinct};
 ghost use Rattle.pg_schema.specs.rules.TextSets.{is_among};
 ghost use Rattle.pg_dyn.specs.Kept.{message_of};
 ghost use Rattle.pg_fds.specs.declared.error.Unstated.TheVariants as errors;
-ghost use Rattle.pg_fds.specs.Lent.{lent};
-ghost use Rattle.pg_fds.specs.FilePlaces.{AreOrdered, ImportsAt, IsIndex, StandAt, importer, importers};
-ghost use Rattle.pg_fds.specs.Outlines.{files_at};
-ghost use Rattle.pg_fds.specs.PostOrder.{HasNoOrder, importer_of, imports_once, kept_paths, paths_of};
-ghost use Rattle.pg_fds.specs.StatedOrder.{in_post_order};
-ghost use Rattle.pg_fds.specs.Walks.{lists_of};
+ghost use Rattle.pg_fds.specs.descriptor.Lent.{lent};
+ghost use Rattle.pg_fds.specs.reading.FilePlaces.{AreOrdered, ImportsAt, IsIndex, StandAt, importer, importers};
+ghost use Rattle.pg_fds.specs.stated.Outlines.{files_at};
+ghost use Rattle.pg_fds.specs.stated.PostOrder.{HasNoOrder, importer_of, imports_once, kept_paths, paths_of};
+ghost use Rattle.pg_fds.specs.stated.StatedOrder.{in_post_order};
+ghost use Rattle.pg_fds.specs.reading.Walks.{lists_of};
 
 use crate::descriptor::access::{Said, text, texts};
 use crate::descriptor::proto;

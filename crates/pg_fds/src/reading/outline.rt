@@ -6,13 +6,13 @@ ghost use Rattle.std.specs.List.{AllByRecursion};
 ghost use Rattle.pg_schema.specs.rules.Scopes.{enum_places, type_places};
 ghost use Rattle.pg_dyn.specs.Kept.{message_of};
 ghost use Rattle.pg_fds.specs.declared.error.Unstated.TheVariants.{Memory};
-ghost use Rattle.pg_fds.specs.Declarations.{Adds, CannotAdd, file_declared, members_declared, package_declared, type_declared, types_declared};
-ghost use Rattle.pg_fds.specs.Outlines.{NameOneofs, NamesOneofs, StayFew, enum_rows, file_enums, file_types, files_at, type_row, type_rows};
-ghost use Rattle.pg_fds.specs.OutlinedPlaces.{PlacedType, counts_of, placed_type, places_of_types, without_inside};
-ghost use Rattle.pg_fds.specs.OutlinedScopes.{MayPlace, OutlinesFile, OutlinesFiles, OutlinesTypes};
-ghost use Rattle.pg_fds.specs.Owners.{means_of};
-ghost use Rattle.pg_fds.specs.StatedTable.{may_declare, meaning};
-ghost use Rattle.pg_fds.specs.SaidTypes.{is_entry};
+ghost use Rattle.pg_fds.specs.stated.Declarations.{Adds, CannotAdd, file_declared, members_declared, package_declared, type_declared, types_declared};
+ghost use Rattle.pg_fds.specs.stated.Outlines.{NameOneofs, NamesOneofs, StayFew, enum_rows, file_enums, file_types, files_at, type_row, type_rows};
+ghost use Rattle.pg_fds.specs.reading.OutlinedPlaces.{PlacedType, counts_of, placed_type, places_of_types, without_inside};
+ghost use Rattle.pg_fds.specs.reading.OutlinedScopes.{MayPlace, OutlinesFile, OutlinesFiles, OutlinesTypes};
+ghost use Rattle.pg_fds.specs.reading.Owners.{means_of};
+ghost use Rattle.pg_fds.specs.stated.StatedTable.{may_declare, meaning};
+ghost use Rattle.pg_fds.specs.stated.SaidTypes.{is_entry};
 
 mod enums;
 mod services;
@@ -23,11 +23,12 @@ use crate::error::Unstated;
 use crate::reading::declare::{declare, declare_each, declare_package, real_oneofs};
 use crate::reading::inner_types::{entries_of, types_of};
 use crate::reading::made_oneofs::{marks, synthetic_places};
+use crate::reading::names_table::{NameTable, SetKeys};
 use crate::reading::outline::enums::outline_enums;
 use crate::reading::outline::services::outline_services;
+use indexmap::IndexMap;
 use pg_schema::{EnumId, ServiceId, TypeId, full_name};
 use std::alloc::Global;
-use std::collections::BTreeMap;
 
 /// What a full name is that of.
 #[derive(Clone, Copy, PartialEq, Eq)]
@@ -71,7 +72,7 @@ pub(crate) struct Outline<'a> {
     pub types: Vec<OutlinedType<'a>>,
     pub enums: Vec<Outlined<'a>>,
     pub services: Vec<Outlined<'a>>,
-    pub names: BTreeMap<String, Named>,
+    pub names: NameTable,
 }
 
 // The next place behind so many.
@@ -90,7 +91,7 @@ fn next_place(count: usize) -> Result<u32, Unstated>
 // The names of a message type's fields and real oneofs.
 fn declare_members(
     alloc: Global,
-    names: &mut BTreeMap<String, Named>,
+    names: &mut NameTable,
     full: &str,
     message: &Said<'_>,
 ) -> Result<(), Unstated>
@@ -113,7 +114,7 @@ fn declare_members(
 // The names of a message type and its fields, real oneofs and entry types.
 fn declare_type(
     alloc: Global,
-    names: &mut BTreeMap<String, Named>,
+    names: &mut NameTable,
     full: &str,
     id: TypeId,
     message: &Said<'_>,
@@ -137,12 +138,8 @@ fn declare_type(
 // ---- files
 
 // Puts the parts of a package in the table, where it has a name.
-#[tactic(auto, using(crate::proofs::Declaring::adds_none))]
-fn declare_scope(
-    alloc: Global,
-    names: &mut BTreeMap<String, Named>,
-    scope: &str,
-) -> Result<(), Unstated>
+#[tactic(auto, using(crate::proofs::lemmas::outline::Declaring::adds_none))]
+fn declare_scope(alloc: Global, names: &mut NameTable, scope: &str) -> Result<(), Unstated>
     ensures adds { OnOk result (Adds (package_declared scope.now) names.old names.new) }
     ensures refused { IfErr result (CannotAdd (package_declared scope.now) names.old) }
 {
@@ -163,6 +160,17 @@ fn without_entries(alloc: Global, messages: &[Said<'_>]) -> Result<(), Unstated>
         return Err(Unstated::Reference);
     }
     Ok(())
+}
+
+// There is none of the messages.
+fn ensure_none(messages: &[Said<'_>]) -> Result<(), Unstated>
+    ensures none { OnOk result (map message_of messages.now ≡ []) }
+    ensures refused { OnErr result (map message_of messages.now ≡ [] → ⊥) }
+{
+    match messages {
+        [] => Ok(()),
+        [_, ..] => Err(Unstated::Reference),
+    }
 }
 
 impl<'a> Outline<'a> {
@@ -230,6 +238,7 @@ impl<'a> Outline<'a> {
     }
 
     // The message types that a scope declares, nested less deep than that, and the enums in them.
+    // Refused where one is nested deeper.
     fn outline_types(
         &mut self,
         alloc: Global,
@@ -253,6 +262,7 @@ impl<'a> Outline<'a> {
     {
         let mut ids = Vec::new(alloc);
         if depth == 0 {
+            ensure_none(messages)?;
             return Ok(ids);
         }
         for message in messages {
@@ -320,6 +330,7 @@ impl<'a> Outline<'a> {
 /// Refused, memory aside, only where not all of it may stand in one table.
 pub(crate) fn outline_files<'a>(
     alloc: Global,
+    keys: SetKeys,
     depth: usize,
     files: &[Said<'a>],
     order: &[usize],
@@ -340,7 +351,7 @@ pub(crate) fn outline_files<'a>(
         types: Vec::new(alloc),
         enums: Vec::new(alloc),
         services: Vec::new(alloc),
-        names: BTreeMap::new(alloc),
+        names: IndexMap::with_hasher(alloc, keys),
     };
     for place in order {
         let Some(file) = files.get(*place) else {

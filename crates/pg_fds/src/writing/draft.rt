@@ -6,8 +6,8 @@ ghost use Rattle.std.specs.List.{AllByRecursion};
 ghost use Rattle.std.specs.String.{string_bytes};
 ghost use Rattle.pg_dyn.specs.ContentFits.{ItemFits};
 ghost use Rattle.pg_dyn.specs.Message as model;
-ghost use Rattle.pg_fds.specs.Building.{shown, written_shape};
-ghost use Rattle.pg_fds.specs.Descriptor as descriptor;
+ghost use Rattle.pg_fds.specs.writing.Building.{shown, written_shape};
+ghost use Rattle.pg_fds.specs.descriptor.Descriptor as descriptor;
 
 use crate::descriptor::{FLAG, NUMBER, TEXT};
 use pg_dyn::{Content, Message, Value};
@@ -27,7 +27,7 @@ impl<'a> Model for Writer<'a> {
     ghost use Rattle.std.specs.Prelude.{◌≡◌};
     ghost use Rattle.pg_schema.specs.declared.parts.Parts.{Parts};
     ghost use Rattle.pg_schema.specs.Parts.{shape_of};
-    ghost use Rattle.pg_fds.specs.Building.{written_shape};
+    ghost use Rattle.pg_fds.specs.writing.Building.{written_shape};
 
     ghost Value = { Parts };
 
@@ -39,8 +39,8 @@ impl<'a> Model for Writer<'a> {
 impl<'a> Writer<'a> {
     ghost use Rattle.std.specs.Prelude.{◌≡◌, ◌<◌};
     ghost use Rattle.pg_schema.specs.Parts.{shape_of};
-    ghost use Rattle.pg_fds.specs.Building.{written_shape};
-    ghost use Rattle.pg_fds.specs.Drafts.{begun};
+    ghost use Rattle.pg_fds.specs.writing.Building.{written_shape};
+    ghost use Rattle.pg_fds.specs.writing.Drafts.{begun};
 
     /// Writes that schema.
     pub(crate) fn new(alloc: Global, table: &'a Schema, source: &'a Schema) -> Writer<'a>
@@ -80,7 +80,7 @@ pub(crate) struct Draft<'a> {
 
 impl<'a> Model for Draft<'a> {
     ghost use Rattle.pg_schema.specs.Parts.{shape_of};
-    ghost use Rattle.pg_fds.specs.Drafts.{Drafted, IsDraft, drafted, drafted_code};
+    ghost use Rattle.pg_fds.specs.writing.Drafts.{Drafted, IsDraft, drafted, drafted_code};
 
     ghost Value = { Drafted };
 
@@ -97,10 +97,10 @@ impl<'a> Draft<'a> {
     ghost use Rattle.std.specs.String.{string_bytes};
     ghost use Rattle.pg_schema.specs.declared.parts.field.Element.TheVariants as elements;
     ghost use Rattle.pg_dyn.specs.ContentFits.{ItemFits};
-    ghost use Rattle.pg_fds.specs.Building.{IsInt32, IsOf, items_of, shown, written_shape};
-    ghost use Rattle.pg_fds.specs.Descriptor as descriptor;
-    ghost use Rattle.pg_fds.specs.Drafts.{TakesMany, TakesOne, put};
-    ghost use Rattle.pg_fds.specs.Items as rows;
+    ghost use Rattle.pg_fds.specs.writing.Building.{IsInt32, IsOf, items_of, shown, written_shape};
+    ghost use Rattle.pg_fds.specs.descriptor.Descriptor as descriptor;
+    ghost use Rattle.pg_fds.specs.writing.Drafts.{TakesMany, TakesOne, put};
+    ghost use Rattle.pg_fds.specs.writing.Items as rows;
 
     /// The message.
     pub(crate) fn into_message(self) -> Message
@@ -289,7 +289,8 @@ impl<'a> Draft<'a> {
     /// Puts a message.
     pub(crate) fn put_child(&mut self, number: u32, child: Draft<'_>) -> Result<(), AllocError>
         requires { TakesOne number (elements.Message child.type) self.old }
-        ensures { OnOk result (self.new ≡ put number (rows.child number child.entry.items) self.old) }
+        ensures { OnOk result (self.new
+            ≡ put number (rows.child number child.entry.items) self.old) }
     {
         let element = Element::Message(child.message.type_id());
         let value = Value::Msg(Box::new(self.alloc, child.message)?);
@@ -329,8 +330,8 @@ pub(crate) struct Children {
 }
 
 impl Model for Children {
-    ghost use Rattle.pg_fds.specs.Building.{AreChildren, items_within};
-    ghost use Rattle.pg_fds.specs.Drafts.{Listed, listed, listed_code};
+    ghost use Rattle.pg_fds.specs.writing.Building.{AreChildren, items_within};
+    ghost use Rattle.pg_fds.specs.writing.Drafts.{Listed, listed, listed_code};
 
     ghost Value = { Listed };
 
@@ -343,7 +344,7 @@ impl Model for Children {
 
 impl Children {
     ghost use Rattle.std.specs.Prelude.{◌≡◌, ◌++◌, ◌∷◌, [], IfOk, OnOk};
-    ghost use Rattle.pg_fds.specs.Drafts.{listed};
+    ghost use Rattle.pg_fds.specs.writing.Drafts.{listed};
 
     /// No messages of that type.
     pub(crate) fn new(alloc: Global, type_id: TypeId) -> Children

@@ -2,9 +2,9 @@
 //! memory is.
 
 ghost use Rattle.std.specs.Prelude.{◌≡◌, IfOk, map};
-ghost use Rattle.pg_fds.specs.Drafts.{IsDraftOf, listed};
-ghost use Rattle.pg_fds.specs.Messages.{enum_items, enums_items, value_items, value_range};
-ghost use Rattle.pg_fds.specs.Places.{declared_in};
+ghost use Rattle.pg_fds.specs.writing.Drafts.{IsDraftOf, listed};
+ghost use Rattle.pg_fds.specs.writing.Messages.{enum_items, enums_items, value_items, value_range};
+ghost use Rattle.pg_fds.specs.writing.Places.{declared_in};
 
 use crate::descriptor::places::{ENUM, ENUM_OPTIONS, VALUE, VALUE_OPTIONS, VALUE_RANGE};
 use crate::descriptor::proto;

@@ -9,16 +9,16 @@ ghost use Rattle.pg_schema.specs.rules.Files.{is_file_option, option_numbers};
 ghost use Rattle.pg_schema.specs.rules.Pairs.{is_rising};
 ghost use Rattle.pg_dyn.specs.ContentFits.{ItemFits};
 ghost use Rattle.pg_dyn.specs.Message as model;
-ghost use Rattle.pg_fds.specs.Building.{shown, written_shape};
-ghost use Rattle.pg_fds.specs.Descriptor as descriptor;
-ghost use Rattle.pg_fds.specs.Drafts.{IsDraftOf, listed, put};
-ghost use Rattle.pg_fds.specs.Items as rows;
-ghost use Rattle.pg_fds.specs.Messages.{types_items};
-ghost use Rattle.pg_fds.specs.Places.{declared_in};
-ghost use Rattle.pg_fds.specs.PutParts.{declared_items};
-ghost use Rattle.pg_fds.specs.Set.{file_items, file_options, mode_code, option_items, public_places};
-ghost use Rattle.pg_fds.specs.Small.{IsSmallType};
-ghost use Rattle.pg_fds.specs.Writable.{IsWritable};
+ghost use Rattle.pg_fds.specs.writing.Building.{shown, written_shape};
+ghost use Rattle.pg_fds.specs.descriptor.Descriptor as descriptor;
+ghost use Rattle.pg_fds.specs.writing.Drafts.{IsDraftOf, listed, put};
+ghost use Rattle.pg_fds.specs.writing.Items as rows;
+ghost use Rattle.pg_fds.specs.writing.Messages.{types_items};
+ghost use Rattle.pg_fds.specs.writing.Places.{declared_in};
+ghost use Rattle.pg_fds.specs.writing.PutParts.{declared_items};
+ghost use Rattle.pg_fds.specs.writing.Set.{file_items, file_options, mode_code, option_items, public_places};
+ghost use Rattle.pg_fds.specs.writing.Small.{IsSmallType};
+ghost use Rattle.pg_fds.specs.writing.Writable.{IsWritable};
 
 use crate::descriptor::places::{FILE, FILE_OPTIONS, MESSAGE};
 use crate::descriptor::proto::{

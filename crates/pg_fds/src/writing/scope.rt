@@ -7,8 +7,8 @@ ghost use Rattle.pg_schema.specs.declared.parts.field.TypeId.{TypeId};
 ghost use Rattle.pg_schema.specs.rules.DeclaredNames.{entry_names, values_at};
 ghost use Rattle.pg_schema.specs.rules.Enums.{value_names};
 ghost use Rattle.pg_schema.specs.rules.Messages.{field_names};
-ghost use Rattle.pg_fds.specs.Messages.{names_within, own_enum_name, own_type_name, where_found};
-ghost use Rattle.pg_fds.specs.Places.{declared_in};
+ghost use Rattle.pg_fds.specs.writing.Messages.{names_within, own_enum_name, own_type_name, where_found};
+ghost use Rattle.pg_fds.specs.writing.Places.{declared_in};
 
 use crate::names::own_name;
 use pg_schema::{EnumId, EnumValue, Field, MessageType, Presence, Schema, TypeId, entry_name};

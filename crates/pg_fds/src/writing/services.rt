@@ -3,9 +3,9 @@
 
 ghost use Rattle.std.specs.Prelude.{◌≡◌, IfOk, map, slice_get};
 ghost use Rattle.std.specs.Option.{option_copied};
-ghost use Rattle.pg_fds.specs.Drafts.{IsDraftOf, listed};
-ghost use Rattle.pg_fds.specs.Places.{declared_in};
-ghost use Rattle.pg_fds.specs.Set.{method_items, service_items, services_items};
+ghost use Rattle.pg_fds.specs.writing.Drafts.{IsDraftOf, listed};
+ghost use Rattle.pg_fds.specs.writing.Places.{declared_in};
+ghost use Rattle.pg_fds.specs.writing.Set.{method_items, service_items, services_items};
 
 use crate::descriptor::places::{METHOD, METHOD_OPTIONS, SERVICE, SERVICE_OPTIONS};
 use crate::descriptor::proto;
@@ -20,7 +20,7 @@ use pg_schema::{Element, Method, Schema, Service, ServiceId};
 use std::alloc::AllocError;
 
 // The message of a method.
-#[tactic(auto, using(crate::proofs::Calls::called))]
+#[tactic(auto, using(crate::proofs::lemmas::writing::Calls::called))]
 fn method_message<'a>(writer: &Writer<'a>, method: &Method) -> Result<Draft<'a>, AllocError>
     ensures { IfOk result (IsDraftOf METHOD (method_items (declared_in writer.now) method.now)) }
 {

@@ -1,7 +1,7 @@
 use Rattle.std.proofs.Common.{ap, ◌∙◌}
-use Rattle.pg_fds.specs.Views.{parts_view}
-use Rattle.pg_fds.proofs.DescriptorShape.{has_its_shape}
-use Rattle.pg_fds.proofs.DescriptorSound.{descriptor_is_sound}
+use Rattle.pg_fds.specs.stated.Views.{parts_view}
+use Rattle.pg_fds.proofs.lemmas.descriptor.DescriptorShape.{has_its_shape}
+use Rattle.pg_fds.proofs.lemmas.descriptor.DescriptorSound.{descriptor_is_sound}
 use Rattle.pg_fds.proofs.descriptor.descriptor_schema.Goals as goal
 
 pub returns-in-Ok-clause-shape : goal.returns-in-Ok-clause-shape

@@ -1,4 +1,4 @@
-use Rattle.pg_fds.proofs.BadReferences.{bad_references}
+use Rattle.pg_fds.proofs.lemmas.refusals.BadReferences.{bad_references}
 use Rattle.pg_fds.proofs.laws.bad_references.Goals as goal
 
 pub returns : goal.returns

@@ -1,4 +1,4 @@
-use Rattle.pg_fds.proofs.DescriptorSound.{descriptor_is_sound}
+use Rattle.pg_fds.proofs.lemmas.descriptor.DescriptorSound.{descriptor_is_sound}
 use Rattle.pg_fds.proofs.laws.descriptor_rules.Goals as goal
 
 pub returns : goal.returns

@@ -1,4 +1,4 @@
-use Rattle.pg_fds.proofs.CauseExamples.{worked_causes}
+use Rattle.pg_fds.proofs.lemmas.examples.CauseExamples.{worked_causes}
 use Rattle.pg_fds.proofs.laws.worked_causes.Goals as goal
 
 pub returns : goal.returns

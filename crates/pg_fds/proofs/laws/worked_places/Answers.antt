@@ -1,4 +1,4 @@
-use Rattle.pg_fds.proofs.PlaceExamples.{worked_places}
+use Rattle.pg_fds.proofs.lemmas.examples.PlaceExamples.{worked_places}
 use Rattle.pg_fds.proofs.laws.worked_places.Goals as goal
 
 pub returns : goal.returns

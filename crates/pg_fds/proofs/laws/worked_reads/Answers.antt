@@ -1,4 +1,4 @@
-use Rattle.pg_fds.proofs.ReadExamples.{one_field_read}
+use Rattle.pg_fds.proofs.lemmas.examples.ReadExamples.{one_field_read}
 use Rattle.pg_fds.proofs.laws.worked_reads.Goals as goal
 
 pub returns : goal.returns

@@ -1,4 +1,4 @@
-use Rattle.pg_fds.proofs.Examples as Examples
+use Rattle.pg_fds.proofs.lemmas.examples.Examples as Examples
 use Rattle.pg_fds.proofs.laws.worked_sets.Goals as goal
 
 pub returns : goal.returns

@@ -1,4 +1,4 @@
-use Rattle.pg_fds.proofs.NameLaws.{own_behind, own_of_plain}
+use Rattle.pg_fds.proofs.lemmas.writing.NameLaws.{own_behind, own_of_plain}
 use Rattle.pg_fds.proofs.names.own_name.Goals as goal
 
 pub returns-in-Some : goal.returns-in-Some

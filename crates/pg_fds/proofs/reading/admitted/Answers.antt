@@ -6,4 +6,4 @@ pub returns-in-Ok-clause-sound : goal.returns-in-Ok-clause-sound
 returns-in-Ok-clause-sound c = subst IsSound (sym c.in-Ok.ensures.admitted) c.in-Ok.ensures.sound
 
 pub returns-in-Err-clause-refused : goal.returns-in-Err-clause-refused
-returns-in-Err-clause-refused c = c.told.ensures c.args.parts c.in-Err.ensures.refused
+returns-in-Err-clause-refused c = c.reported.ensures c.args.parts c.in-Err.ensures.refused

@@ -1,19 +1,12 @@
-use Rattle.std.proofs.Common.{◌≡◌, Some, subst, sym}
-use Rattle.pg_dyn.specs.reading.Decoding.{dec}
-use Rattle.pg_dyn.specs.Kept.{message_of}
-use Rattle.pg_fds.specs.Building.{written_shape}
-use Rattle.pg_fds.specs.Descriptor.{file_set}
-use Rattle.pg_fds.proofs.ReadLaws.{bytes_refused, bytes_stated}
+use Rattle.pg_fds.proofs.lemmas.reading.ReadLaws.{bytes_kept, bytes_rules}
 use Rattle.pg_fds.proofs.reading.bytes_schema.Goals as goal
 
 pub returns : goal.returns
 returns c =
     let bytes = c.args.bytes.now in
-    let set = message_of c.new-said.result in
-    let is : dec written_shape file_set bytes ≡ Some set =
-    subst (λ m. dec written_shape file_set bytes ≡ Some (message_of m)) (sym c.new-said.ensures) c.in_ok-set.ensures.message in
+    let parts = c.in_ok-parts.parts in
     record {
-      ok = bytes_stated bytes set is c.set_schema.result c.set_schema.ensures.ok;
-      sound = c.set_schema.ensures.sound;
-      refused = bytes_refused bytes set is c.set_schema.result c.set_schema.ensures.refused;
+      ok = bytes_kept bytes parts c.in_ok-parts.ensures.ok c.admitted.result c.admitted.ensures.ok;
+      sound = c.admitted.ensures.sound;
+      refused = bytes_rules bytes parts c.in_ok-parts.ensures.ok c.admitted.result c.admitted.ensures.refused;
     }

@@ -4,9 +4,9 @@ use Rattle.pg_dyn.specs.Fits.{Fits}
 use Rattle.pg_dyn.specs.Kept.{message_of}
 use Rattle.pg_dyn.specs.reading.Refusals.{MayRefuse}
 use Rattle.pg_dyn.specs.Texts.{KeepsTexts}
-use Rattle.pg_fds.specs.Building.{written_shape}
-use Rattle.pg_fds.specs.Descriptor.{file_set}
-use Rattle.pg_fds.proofs.HeldFits.{set_held}
+use Rattle.pg_fds.specs.writing.Building.{written_shape}
+use Rattle.pg_fds.specs.descriptor.Descriptor.{file_set}
+use Rattle.pg_fds.proofs.lemmas.descriptor.HeldFits.{set_held}
 use Rattle.pg_fds.proofs.reading.decoded.Goals as goal
 
 pub decode-requires : goal.decode-requires

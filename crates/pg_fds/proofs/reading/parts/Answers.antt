@@ -2,12 +2,12 @@ use Rattle.std.proofs.Common.{◌≡◌, ◌⊎◌, None, Some, inl, inr, map, �
 use Rattle.std.proofs.lemmas.Result.{IfErr-weaker, IfOk-weaker, err_from_is_err_and}
 use Rattle.pg_dyn.specs.Kept.{message_of}
 use Rattle.pg_fds.specs.declared.error.Unstated.TheVariants as unstated
-use Rattle.pg_fds.specs.Outlines.{files_at}
-use Rattle.pg_fds.specs.Stated.{declared_by}
-use Rattle.pg_fds.specs.Views.{parts_view}
-use Rattle.pg_fds.proofs.FilesInOrder.{lent_within}
-use Rattle.pg_fds.proofs.OrderSteps.{handed_on}
-use Rattle.pg_fds.proofs.ReadLaws.{none_declared, outline_declares}
+use Rattle.pg_fds.specs.stated.Outlines.{files_at}
+use Rattle.pg_fds.specs.stated.Stated.{declared_by}
+use Rattle.pg_fds.specs.stated.Views.{parts_view}
+use Rattle.pg_fds.proofs.lemmas.order.FilesInOrder.{lent_within}
+use Rattle.pg_fds.proofs.lemmas.order.OrderSteps.{handed_on}
+use Rattle.pg_fds.proofs.lemmas.reading.ReadLaws.{none_declared, outline_declares}
 use Rattle.pg_fds.proofs.reading.parts.Goals as goal
 
 pub returns-in_err-outline-clause-none : goal.returns-in_err-outline-clause-none

@@ -2,10 +2,10 @@ use Rattle.std.proofs.Common.{◌<◌, length, inl, inr, refl, sym, subst, ◌�
 use Rattle.pg_schema.specs.Parts.{shape_of}
 use Rattle.pg_dyn.specs.encoding.Encoding.{cap}
 use Rattle.pg_dyn.specs.Fits.{Fits}
-use Rattle.pg_fds.specs.Building.{written_shape}
+use Rattle.pg_fds.specs.writing.Building.{written_shape}
 use Rattle.pg_schema.specs.Shape.{IsShape}
-use Rattle.pg_fds.proofs.SmallLaws.{set_bytes}
-use Rattle.pg_fds.proofs.WrittenSets.{written_shallow, written_states}
+use Rattle.pg_fds.proofs.lemmas.writing.SmallLaws.{set_bytes}
+use Rattle.pg_fds.proofs.lemmas.written.WrittenSets.{written_shallow, written_states}
 use Rattle.pg_fds.proofs.writing.write.Goals as goal
 
 pub set-requires-clause-table : goal.set-requires-clause-table

@@ -4,22 +4,22 @@ ghost use Rattle.std.specs.Prelude.{◌≡◌, ◌+◌, ◌<◌, ◌≤◌, ◌^
 ghost use Rattle.pg_schema.specs.rules.Scopes.{enum_places};
 ghost use Rattle.pg_dyn.specs.Kept.{message_of};
 ghost use Rattle.pg_check.specs.standing.Places.{places_from};
-ghost use Rattle.pg_fds.specs.Declarations.{Adds, CannotAdd, enum_declared, enums_declared};
-ghost use Rattle.pg_fds.specs.Outlines.{StayFew, row, row_in, rows_in};
+ghost use Rattle.pg_fds.specs.stated.Declarations.{Adds, CannotAdd, enum_declared, enums_declared};
+ghost use Rattle.pg_fds.specs.stated.Outlines.{StayFew, row, row_in, rows_in};
 
 use crate::descriptor::access::{Said, children};
 use crate::descriptor::proto;
 use crate::error::Unstated;
 use crate::reading::declare::{declare_each, declare_named};
+use crate::reading::names_table::NameTable;
 use crate::reading::outline::{Named, Outlined, next_place};
 use pg_schema::EnumId;
 use std::alloc::Global;
-use std::collections::BTreeMap;
 
 // An enum, with its name and those of its values.
 fn outline_enum<'a>(
     alloc: Global,
-    names: &mut BTreeMap<String, Named>,
+    names: &mut NameTable,
     enums: &mut Vec<Outlined<'a>>,
     scope: &str,
     message: &Said<'a>,
@@ -50,7 +50,7 @@ fn outline_enum<'a>(
 /// The enums that a scope declares: the place of each, in order.
 pub(crate) fn outline_enums<'a>(
     alloc: Global,
-    names: &mut BTreeMap<String, Named>,
+    names: &mut NameTable,
     enums: &mut Vec<Outlined<'a>>,
     scope: &str,
     messages: &[Said<'a>],

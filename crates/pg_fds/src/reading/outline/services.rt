@@ -4,22 +4,22 @@ ghost use Rattle.std.specs.Prelude.{◌≡◌, ◌+◌, ◌<◌, ◌≤◌, ◌^
 ghost use Rattle.pg_schema.specs.rules.Scopes.{service_places};
 ghost use Rattle.pg_dyn.specs.Kept.{message_of};
 ghost use Rattle.pg_check.specs.standing.Places.{places_from};
-ghost use Rattle.pg_fds.specs.Declarations.{Adds, CannotAdd, service_declared, services_declared};
-ghost use Rattle.pg_fds.specs.Outlines.{StayFew, row, row_in, rows_in};
+ghost use Rattle.pg_fds.specs.stated.Declarations.{Adds, CannotAdd, service_declared, services_declared};
+ghost use Rattle.pg_fds.specs.stated.Outlines.{StayFew, row, row_in, rows_in};
 
 use crate::descriptor::access::{Said, children};
 use crate::descriptor::proto;
 use crate::error::Unstated;
 use crate::reading::declare::{declare_each, declare_named};
+use crate::reading::names_table::NameTable;
 use crate::reading::outline::{Named, Outlined, next_place};
 use pg_schema::ServiceId;
 use std::alloc::Global;
-use std::collections::BTreeMap;
 
 // A service, with its name and those of its methods.
 fn outline_service<'a>(
     alloc: Global,
-    names: &mut BTreeMap<String, Named>,
+    names: &mut NameTable,
     services: &mut Vec<Outlined<'a>>,
     scope: &str,
     message: &Said<'a>,
@@ -54,7 +54,7 @@ fn outline_service<'a>(
 /// The services that a scope declares: the place of each, in order.
 pub(crate) fn outline_services<'a>(
     alloc: Global,
-    names: &mut BTreeMap<String, Named>,
+    names: &mut NameTable,
     services: &mut Vec<Outlined<'a>>,
     scope: &str,
     messages: &[Said<'a>],

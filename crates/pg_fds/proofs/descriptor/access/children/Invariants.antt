@@ -1,7 +1,7 @@
 use Rattle.std.proofs.Common.{◌≡◌, ◌++◌, filter_map, map, drop}
 use Rattle.pg_dyn.specs.Kept.{message_of}
-use Rattle.pg_fds.specs.Building.{shown}
-use Rattle.pg_fds.specs.Said.{child_in}
+use Rattle.pg_fds.specs.writing.Building.{shown}
+use Rattle.pg_fds.specs.stated.Said.{child_in}
 use Rattle.pg_fds.proofs.descriptor.access.children.Given as goal
 
 abbrev pub invariant-loop-value : goal.invariant-loop-value

@@ -1,4 +1,4 @@
-use Rattle.pg_fds.proofs.HeldFits.{found_said}
+use Rattle.pg_fds.proofs.lemmas.descriptor.HeldFits.{found_said}
 use Rattle.pg_fds.proofs.descriptor.access.content.Goals as goal
 
 pub returns-clause-said : goal.returns-clause-said

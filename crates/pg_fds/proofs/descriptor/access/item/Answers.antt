@@ -1,6 +1,6 @@
 use Rattle.std.proofs.Common.{List, ap, option_map, slice_get, ◌∙◌}
 use Rattle.pg_dyn.specs.declared.message.Value.{Value}
-use Rattle.pg_fds.proofs.SaidLaws.{entry_items, first_entry, first_of, many_items, no_item, one_item}
+use Rattle.pg_fds.proofs.lemmas.descriptor.SaidLaws.{entry_items, first_entry, first_of, many_items, no_item, one_item}
 use Rattle.pg_fds.proofs.descriptor.access.item.Goals as goal
 
 pub returns-in-None : goal.returns-in-None

@@ -1,8 +1,8 @@
 use Rattle.std.proofs.Common.{List, ap, map, sym, ◌∙◌}
 use Rattle.std.proofs.lemmas.Result.{IfOk-weaker}
 use Rattle.pg_dyn.specs.declared.message.Value.{Value}
-use Rattle.pg_fds.specs.Building.{shown}
-use Rattle.pg_fds.proofs.SaidLaws.{entry_items, many_items, no_items, one_of}
+use Rattle.pg_fds.specs.writing.Building.{shown}
+use Rattle.pg_fds.proofs.lemmas.descriptor.SaidLaws.{entry_items, many_items, no_items, one_of}
 use Rattle.pg_fds.proofs.descriptor.access.items.Goals as goal
 
 pub returns-in-None : goal.returns-in-None

@@ -1,6 +1,6 @@
 use Rattle.std.proofs.Common.{◌≡◌, map, take}
-use Rattle.pg_fds.specs.Building.{shown}
-use Rattle.pg_fds.specs.Said.{number_of}
+use Rattle.pg_fds.specs.writing.Building.{shown}
+use Rattle.pg_fds.specs.stated.Said.{number_of}
 use Rattle.pg_fds.proofs.descriptor.access.numbers.Given as goal
 
 abbrev pub invariant-loop-value : goal.invariant-loop-value

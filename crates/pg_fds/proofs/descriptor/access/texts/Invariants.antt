@@ -1,7 +1,7 @@
 use Rattle.std.proofs.Common.{◌≡◌, map, take}
-use Rattle.pg_fds.specs.Building.{shown}
-use Rattle.pg_fds.specs.Lent.{lent}
-use Rattle.pg_fds.specs.Said.{text_of}
+use Rattle.pg_fds.specs.writing.Building.{shown}
+use Rattle.pg_fds.specs.descriptor.Lent.{lent}
+use Rattle.pg_fds.specs.stated.Said.{text_of}
 use Rattle.pg_fds.proofs.descriptor.access.texts.Given as goal
 
 abbrev pub invariant-loop-value : goal.invariant-loop-value

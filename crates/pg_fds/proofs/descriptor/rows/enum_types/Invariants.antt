@@ -1,6 +1,6 @@
 use Rattle.std.proofs.Common.{◌≡◌, take, map}
-use Rattle.pg_fds.specs.Rows.{enum_in}
-use Rattle.pg_fds.specs.Views.{enum_view}
+use Rattle.pg_fds.specs.descriptor.Rows.{enum_in}
+use Rattle.pg_fds.specs.stated.Views.{enum_view}
 use Rattle.pg_fds.proofs.descriptor.rows.enum_types.Given as goal
 
 abbrev pub invariant-loop-row : goal.invariant-loop-row

@@ -1,6 +1,6 @@
 use Rattle.std.proofs.Common.{◌≡◌, take, map}
-use Rattle.pg_fds.specs.Rows.{field_in}
-use Rattle.pg_fds.specs.Views.{field_view}
+use Rattle.pg_fds.specs.descriptor.Rows.{field_in}
+use Rattle.pg_fds.specs.stated.Views.{field_view}
 use Rattle.pg_fds.proofs.descriptor.rows.fields.Given as goal
 
 abbrev pub invariant-loop-row : goal.invariant-loop-row

@@ -1,8 +1,8 @@
 use Rattle.std.proofs.Common.{map, refl, ap, ◌∙◌}
 use Rattle.std.specs.String.{string_bytes}
 use Rattle.pg_schema.specs.declared.parts.field.Field.{Field}
-use Rattle.pg_fds.proofs.ViewLaws.{same_type}
-use Rattle.pg_fds.proofs.SeenRules.{numbers_seen}
+use Rattle.pg_fds.proofs.lemmas.lists.ViewLaws.{same_type}
+use Rattle.pg_fds.proofs.lemmas.descriptor.SeenRules.{numbers_seen}
 use Rattle.pg_fds.proofs.descriptor.rows.message_type.Goals as goal
 
 pub returns : goal.returns

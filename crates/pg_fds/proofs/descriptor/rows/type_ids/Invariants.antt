@@ -1,5 +1,5 @@
 use Rattle.std.proofs.Common.{◌≡◌, take, map}
-use Rattle.pg_fds.specs.Descriptor.{type_id}
+use Rattle.pg_fds.specs.descriptor.Descriptor.{type_id}
 use Rattle.pg_fds.proofs.descriptor.rows.type_ids.Given as goal
 
 abbrev pub invariant-loop-place : goal.invariant-loop-place

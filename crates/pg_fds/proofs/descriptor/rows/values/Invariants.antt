@@ -1,6 +1,6 @@
 use Rattle.std.proofs.Common.{◌≡◌, take, map}
-use Rattle.pg_fds.specs.Rows.{value_in}
-use Rattle.pg_fds.specs.Views.{value_view}
+use Rattle.pg_fds.specs.descriptor.Rows.{value_in}
+use Rattle.pg_fds.specs.stated.Views.{value_view}
 use Rattle.pg_fds.proofs.descriptor.rows.values.Given as goal
 
 abbrev pub invariant-loop-row : goal.invariant-loop-row

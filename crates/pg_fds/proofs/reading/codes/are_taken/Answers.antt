@@ -1,6 +1,6 @@
 use Rattle.std.proofs.Common.{sym, ◌∙◌}
-use Rattle.pg_fds.specs.Codes.{is_taken}
-use Rattle.pg_fds.proofs.SetLaws.{all_lost}
+use Rattle.pg_fds.specs.stated.Codes.{is_taken}
+use Rattle.pg_fds.proofs.lemmas.order.SetLaws.{all_lost}
 use Rattle.pg_fds.proofs.reading.codes.are_taken.Goals as goal
 
 pub returns-then-not-taken : goal.returns-then-not-taken

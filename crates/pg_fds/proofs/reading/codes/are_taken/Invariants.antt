@@ -1,7 +1,7 @@
 use Rattle.std.proofs.Common.{◌≡◌, map, take, true}
 use Rattle.std.specs.List.{list_all}
 use Rattle.pg_dyn.specs.Kept.{message_of}
-use Rattle.pg_fds.specs.Codes.{is_taken}
+use Rattle.pg_fds.specs.stated.Codes.{is_taken}
 use Rattle.pg_fds.proofs.reading.codes.are_taken.Given as goal
 
 abbrev pub invariant-loop-field : goal.invariant-loop-field

@@ -1,6 +1,6 @@
 use Rattle.std.proofs.Common.{sym, ◌∙◌}
-use Rattle.pg_fds.specs.Codes.{file_has_types}
-use Rattle.pg_fds.proofs.SetLaws.{all_lost}
+use Rattle.pg_fds.specs.stated.Codes.{file_has_types}
+use Rattle.pg_fds.proofs.lemmas.order.SetLaws.{all_lost}
 use Rattle.pg_fds.proofs.reading.codes.files_have_types.Goals as goal
 
 pub returns-then-not-taken : goal.returns-then-not-taken

@@ -3,7 +3,7 @@ use Rattle.std.specs.Int.{w128}
 use Rattle.std.specs.List.{list_any}
 use Rattle.std.specs.Ordering.{int_eq}
 use Rattle.std.proofs.lemmas.Int.{to_z-of_z}
-use Rattle.pg_fds.specs.Codes.{label_codes, type_codes}
+use Rattle.pg_fds.specs.stated.Codes.{label_codes, type_codes}
 use Rattle.pg_fds.proofs.reading.codes.is_taken.Goals as goal
 
 -- what is said of a number as it is passed holds of the number

@@ -2,11 +2,11 @@ use Rattle.std.proofs.Common.{get_or, pos, sym, ◌∙◌}
 use Rattle.std.specs.Ordering.{int_eq}
 use Rattle.pg_schema.specs.declared.parts.field.Scalar.TheVariants.{Double}
 use Rattle.pg_dyn.specs.Kept.{message_of}
-use Rattle.pg_fds.specs.Codes.{scalars}
-use Rattle.pg_fds.specs.Fields.{scalar_code}
-use Rattle.pg_fds.specs.Said.{number_at}
-use Rattle.pg_fds.proofs.ElementLaws.{find_step}
-use Rattle.pg_fds.proofs.FileLaws.{same_default}
+use Rattle.pg_fds.specs.stated.Codes.{scalars}
+use Rattle.pg_fds.specs.writing.Fields.{scalar_code}
+use Rattle.pg_fds.specs.stated.Said.{number_at}
+use Rattle.pg_fds.proofs.lemmas.reading.ElementLaws.{find_step}
+use Rattle.pg_fds.proofs.lemmas.writing.FileLaws.{same_default}
 use Rattle.pg_fds.proofs.reading.codes.scalar_of.Goals as goal
 
 pub loop-scalar-preserved : goal.loop-scalar-preserved

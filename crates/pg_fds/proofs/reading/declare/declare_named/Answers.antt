@@ -3,8 +3,8 @@ use Rattle.std.proofs.lemmas.Result.{err_from_is_err_and}
 use Rattle.std.specs.String.{string_bytes}
 use Rattle.pg_schema.specs.rules.DeclaredNames.{within}
 use Rattle.pg_dyn.specs.Kept.{message_of}
-use Rattle.pg_fds.specs.Declarations.{Adds, CannotAdd}
-use Rattle.pg_fds.specs.SetNames.{full_name}
+use Rattle.pg_fds.specs.stated.Declarations.{Adds, CannotAdd}
+use Rattle.pg_fds.specs.stated.SetNames.{full_name}
 use Rattle.pg_fds.proofs.reading.declare.declare_named.Goals as goal
 
 pub returns-in_err-declare-clause-refused : goal.returns-in_err-declare-clause-refused

@@ -2,9 +2,9 @@ use Rattle.std.proofs.Common.{◌≡◌, ◌++◌, ◌∷◌, [], map, rules, re
 use Rattle.std.proofs.lemmas.Result.{IfErr-weaker, err_from_is_err_and, on_ok_weaker}
 use Rattle.std.proofs.Math.Utf8.{encode}
 use Rattle.std.specs.String.{string_bytes}
-use Rattle.pg_fds.specs.Declarations.{Adds, CannotAdd, fronts, package_part}
-use Rattle.pg_fds.proofs.Declaring.{Left, left_all, left_fails, left_none, left_on}
-use Rattle.pg_fds.proofs.Fronts.{dot_past, letter_past, parts_begin, parts_end, parts_from}
+use Rattle.pg_fds.specs.stated.Declarations.{Adds, CannotAdd, fronts, package_part}
+use Rattle.pg_fds.proofs.lemmas.outline.Declaring.{Left, left_all, left_fails, left_none, left_on}
+use Rattle.pg_fds.proofs.lemmas.outline.Fronts.{dot_past, letter_past, parts_begin, parts_end, parts_from}
 use Rattle.pg_fds.proofs.reading.declare.declare_package.Goals as goal
 use Rattle.pg_fds.proofs.reading.declare.declare_package.Goals.{then-letter-eq46+in_ok-clone+in_ok-declare_part, else-letter-eq46}
 

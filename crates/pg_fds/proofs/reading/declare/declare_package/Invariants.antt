@@ -1,8 +1,8 @@
 use Rattle.std.proofs.Common.{map}
 use Rattle.std.specs.String.{string_bytes}
-use Rattle.pg_fds.specs.Declarations.{fronts, package_part}
-use Rattle.pg_fds.proofs.Declaring.{Left}
-use Rattle.pg_fds.proofs.Fronts.{parts_from}
+use Rattle.pg_fds.specs.stated.Declarations.{fronts, package_part}
+use Rattle.pg_fds.proofs.lemmas.outline.Declaring.{Left}
+use Rattle.pg_fds.proofs.lemmas.outline.Fronts.{parts_from}
 use Rattle.pg_fds.proofs.reading.declare.declare_package.Given as goal
 
 abbrev pub invariant-loop-letter : goal.invariant-loop-letter

@@ -4,8 +4,8 @@ use Rattle.pg_dyn.specs.declared.message.Content.{Content}
 use Rattle.pg_dyn.specs.Kept.{message_of, type_of, unknown_of}
 use Rattle.pg_dyn.specs.Message.{Item, Part, is_of}
 use Rattle.std.specs.Prelude.{filter}
-use Rattle.pg_fds.specs.Said.{items_at}
-use Rattle.pg_fds.proofs.SaidLaws.{all_more, all_taken, no_parts}
+use Rattle.pg_fds.specs.stated.Said.{items_at}
+use Rattle.pg_fds.proofs.lemmas.descriptor.SaidLaws.{all_more, all_taken, no_parts}
 use Rattle.pg_fds.proofs.reading.made_entries.is_empty.Goals as goal
 
 pub loop-content-preserved : goal.loop-content-preserved

@@ -2,7 +2,7 @@ use Rattle.std.proofs.Common.{[], ◌≡◌, take, ℕ}
 use Rattle.std.specs.List.{AllByRecursion}
 use Rattle.pg_dyn.specs.declared.message.Content.{Content}
 use Rattle.pg_dyn.specs.Kept.{message_of}
-use Rattle.pg_fds.specs.Said.{items_at}
+use Rattle.pg_fds.specs.stated.Said.{items_at}
 use Rattle.pg_fds.proofs.reading.made_entries.is_empty.Given as goal
 
 abbrev pub invariant-loop-content : goal.invariant-loop-content

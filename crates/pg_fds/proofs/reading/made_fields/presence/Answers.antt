@@ -3,10 +3,10 @@ use Rattle.std.proofs.lemmas.Int.{to_z-of_z}
 use Rattle.std.specs.Int.{w128}
 use Rattle.std.specs.Ordering.{int_eq}
 use Rattle.pg_dyn.specs.Kept.{message_of}
-use Rattle.pg_fds.specs.StatedFields.{packed_at, repeated, singular}
-use Rattle.pg_fds.specs.StatedNames.{only_if}
-use Rattle.pg_fds.specs.SaidTypes.{is_optional, label_at}
-use Rattle.pg_fds.proofs.PresenceLaws.{not_three}
+use Rattle.pg_fds.specs.stated.StatedFields.{packed_at, repeated, singular}
+use Rattle.pg_fds.specs.stated.StatedNames.{only_if}
+use Rattle.pg_fds.specs.stated.SaidTypes.{is_optional, label_at}
+use Rattle.pg_fds.proofs.lemmas.written.PresenceLaws.{not_three}
 use Rattle.pg_fds.proofs.reading.made_fields.presence.Goals as goal
 
 pub returns-then-label_of-ne-REPEATED : goal.returns-then-label_of-ne-REPEATED

@@ -1,7 +1,7 @@
 use Rattle.std.proofs.Common.{ap, ◌∙◌}
 use Rattle.pg_schema.specs.declared.parts.field.Presence.TheVariants.{Repeated}
 use Rattle.pg_schema.specs.rules.Fields.{stated_or}
-use Rattle.pg_fds.proofs.PresenceLaws.{stated_is}
+use Rattle.pg_fds.proofs.lemmas.written.PresenceLaws.{stated_is}
 use Rattle.pg_fds.proofs.reading.made_fields.repeated.Goals as goal
 
 pub returns : goal.returns

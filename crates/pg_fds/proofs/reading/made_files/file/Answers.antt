@@ -1,12 +1,12 @@
 use Rattle.std.proofs.Common.{◌≡◌, Some, ap, rules, sym, ◌∙◌}
 use Rattle.std.proofs.lemmas.List.Elements.{same_from_all_zip}
 use Rattle.std.proofs.lemmas.Result.{err_from_is_err_and}
-use Rattle.pg_fds.specs.OutlinedPlaces.{placed_file}
-use Rattle.pg_fds.specs.StatedFiles.{file_of}
-use Rattle.pg_fds.specs.StatedNames.{only_if}
-use Rattle.pg_fds.proofs.FileItems.{file_refused, imports_made}
-use Rattle.pg_fds.proofs.FoundFiles.{enums_of_places, services_of_places, types_of_places}
-use Rattle.pg_fds.proofs.Outlining.{same_file}
+use Rattle.pg_fds.specs.reading.OutlinedPlaces.{placed_file}
+use Rattle.pg_fds.specs.stated.StatedFiles.{file_of}
+use Rattle.pg_fds.specs.stated.StatedNames.{only_if}
+use Rattle.pg_fds.proofs.lemmas.reading.FileItems.{file_refused, imports_made}
+use Rattle.pg_fds.proofs.lemmas.rows.PlaceIds.{enums_of_places, services_of_places, types_of_places}
+use Rattle.pg_fds.proofs.lemmas.outline.Outlining.{same_file}
 use Rattle.pg_fds.proofs.reading.made_files.file.Goals as goal
 
 pub returns-in_err-imports-clause-refused : goal.returns-in_err-imports-clause-refused

@@ -1,9 +1,9 @@
 use Rattle.std.proofs.lemmas.Result.{err_from_is_err_and}
 use Rattle.pg_dyn.specs.Kept.{message_of}
-use Rattle.pg_fds.specs.Owners.{means_of}
-use Rattle.pg_fds.specs.StatedServices.{method}
-use Rattle.pg_fds.specs.Views.{method_view}
-use Rattle.pg_fds.proofs.Each.{made_more, made_none}
+use Rattle.pg_fds.specs.reading.Owners.{means_of}
+use Rattle.pg_fds.specs.stated.StatedServices.{method}
+use Rattle.pg_fds.specs.stated.Views.{method_view}
+use Rattle.pg_fds.proofs.lemmas.lists.Each.{made_more, made_none}
 use Rattle.pg_fds.proofs.reading.made_files.methods.Goals as goal
 
 pub loop-message-preserved : goal.loop-message-preserved

@@ -2,8 +2,8 @@ use Rattle.std.proofs.Common.{SFits, ap, rules, sym, ◌∙◌}
 use Rattle.std.proofs.lemmas.Int.{to_z-of_z}
 use Rattle.std.specs.Int.{w128}
 use Rattle.std.specs.String.{string_bytes}
-use Rattle.pg_fds.specs.Views.{value_of}
-use Rattle.pg_fds.proofs.OptionItems.{number_said, text_said}
+use Rattle.pg_fds.specs.stated.Views.{value_of}
+use Rattle.pg_fds.proofs.lemmas.reading.OptionItems.{number_said, text_said}
 use Rattle.pg_fds.proofs.reading.made_files.option_value.Goals as goal
 
 pub returns-in-Int : goal.returns-in-Int

@@ -3,10 +3,10 @@ use Rattle.std.proofs.lemmas.Result.{IfOk-weaker}
 use Rattle.std.specs.Option.{unwrap_or}
 use Rattle.pg_dyn.specs.Kept.{message_of}
 use Rattle.pg_dyn.specs.Message.{ends}
-use Rattle.pg_fds.specs.Said.{options_at}
-use Rattle.pg_fds.specs.StatedFiles.{options_under}
-use Rattle.pg_fds.specs.SaidFiles.{option_places}
-use Rattle.pg_fds.specs.Views.{option_view}
+use Rattle.pg_fds.specs.stated.Said.{options_at}
+use Rattle.pg_fds.specs.stated.StatedFiles.{options_under}
+use Rattle.pg_fds.specs.stated.SaidFiles.{option_places}
+use Rattle.pg_fds.specs.stated.Views.{option_view}
 use Rattle.pg_fds.proofs.reading.made_files.options.Goals as goal
 
 pub returns-in-Some : goal.returns-in-Some

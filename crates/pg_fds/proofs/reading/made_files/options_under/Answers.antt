@@ -1,10 +1,10 @@
 use Rattle.std.proofs.Common.{Global, Vec, ap, get_or, map, option_map, sym, ◌∙◌}
 use Rattle.pg_schema.specs.declared.parts.options.FileOption.{FileOption}
 use Rattle.pg_dyn.specs.Kept.{message_of}
-use Rattle.pg_fds.specs.Building.{shown}
-use Rattle.pg_fds.specs.Views.{option_view}
-use Rattle.pg_fds.proofs.FileLaws.{same_default}
-use Rattle.pg_fds.proofs.OptionItems.{found_more, none_more}
+use Rattle.pg_fds.specs.writing.Building.{shown}
+use Rattle.pg_fds.specs.stated.Views.{option_view}
+use Rattle.pg_fds.proofs.lemmas.writing.FileLaws.{same_default}
+use Rattle.pg_fds.proofs.lemmas.reading.OptionItems.{found_more, none_more}
 use Rattle.pg_fds.proofs.reading.made_files.options_under.Goals as goal
 use Rattle.pg_fds.proofs.reading.made_files.options_under.Goals.{in-Some+in_ok-value+in_ok-push, in_default}
 

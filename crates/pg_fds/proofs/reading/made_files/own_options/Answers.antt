@@ -1,7 +1,7 @@
 use Rattle.std.proofs.Common.{ap, option_map, sym, ◌∙◌}
 use Rattle.pg_dyn.specs.Kept.{message_of}
-use Rattle.pg_fds.specs.Building.{shown}
-use Rattle.pg_fds.proofs.MadeOptions.{options_found, options_missing}
+use Rattle.pg_fds.specs.writing.Building.{shown}
+use Rattle.pg_fds.proofs.lemmas.reading.MadeOptions.{options_found, options_missing}
 use Rattle.pg_fds.proofs.reading.made_files.own_options.Goals as goal
 
 pub returns-in-Some : goal.returns-in-Some

@@ -1,13 +1,13 @@
 use Rattle.std.proofs.Common.{◌≡◌, Some, ap, map, option_map, refl, sym, ◌∙◌}
 use Rattle.std.proofs.lemmas.Result.{err_from_is_err_and}
 use Rattle.pg_dyn.specs.Kept.{message_of}
-use Rattle.pg_fds.specs.Outlines.{row}
-use Rattle.pg_fds.specs.Owners.{means_of}
-use Rattle.pg_fds.specs.Said.{children_at}
-use Rattle.pg_fds.specs.StatedNames.{each}
-use Rattle.pg_fds.specs.StatedServices.{method, service_of}
-use Rattle.pg_fds.proofs.Each.{passed}
-use Rattle.pg_fds.proofs.ViewLaws.{same_service}
+use Rattle.pg_fds.specs.stated.Outlines.{row}
+use Rattle.pg_fds.specs.reading.Owners.{means_of}
+use Rattle.pg_fds.specs.stated.Said.{children_at}
+use Rattle.pg_fds.specs.stated.StatedNames.{each}
+use Rattle.pg_fds.specs.stated.StatedServices.{method, service_of}
+use Rattle.pg_fds.proofs.lemmas.lists.Each.{passed}
+use Rattle.pg_fds.proofs.lemmas.lists.ViewLaws.{same_service}
 use Rattle.pg_fds.proofs.reading.made_files.service.Goals as goal
 
 pub returns-in_err-methods-clause-refused : goal.returns-in_err-methods-clause-refused

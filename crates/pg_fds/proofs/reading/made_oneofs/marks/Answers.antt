@@ -1,8 +1,8 @@
 use Rattle.std.proofs.Common.{get_or, pos}
-use Rattle.pg_fds.specs.SaidFiles.{is_place}
-use Rattle.pg_fds.proofs.FileLaws.{same_default}
-use Rattle.pg_fds.proofs.OneofLaws.{is_one, marks_step}
-use Rattle.pg_fds.proofs.SetLaws.{all_step}
+use Rattle.pg_fds.specs.stated.SaidFiles.{is_place}
+use Rattle.pg_fds.proofs.lemmas.writing.FileLaws.{same_default}
+use Rattle.pg_fds.proofs.lemmas.reading.OneofLaws.{is_one, marks_step}
+use Rattle.pg_fds.proofs.lemmas.order.SetLaws.{all_step}
 use Rattle.pg_fds.proofs.reading.made_oneofs.marks.Goals as goal
 
 pub loop-number-preserved : goal.loop-number-preserved

@@ -1,6 +1,6 @@
 use Rattle.std.proofs.Common.{◌+◌, arith, subst, sym, ◌∙◌}
-use Rattle.pg_fds.specs.StatedOneofs.{AreRanks}
-use Rattle.pg_fds.proofs.OneofRanks.{free_more, marked_more, ranks_more}
+use Rattle.pg_fds.specs.stated.StatedOneofs.{AreRanks}
+use Rattle.pg_fds.proofs.lemmas.reading.OneofRanks.{free_more, marked_more, ranks_more}
 use Rattle.pg_fds.proofs.reading.made_oneofs.ranks.Goals as goal
 use Rattle.pg_fds.proofs.reading.made_oneofs.ranks.Goals.{then-not-mark, else-not-mark}
 

@@ -1,8 +1,8 @@
 use Rattle.std.proofs.lemmas.Result.{err_from_is_err_and}
-use Rattle.pg_fds.specs.OutlinedPlaces.{placed_file}
-use Rattle.pg_fds.specs.StatedFiles.{file}
-use Rattle.pg_fds.specs.Views.{file_view}
-use Rattle.pg_fds.proofs.Each.{made_more, made_none}
+use Rattle.pg_fds.specs.reading.OutlinedPlaces.{placed_file}
+use Rattle.pg_fds.specs.stated.StatedFiles.{file}
+use Rattle.pg_fds.specs.stated.Views.{file_view}
+use Rattle.pg_fds.proofs.lemmas.lists.Each.{made_more, made_none}
 use Rattle.pg_fds.proofs.reading.made_parts.all_files.Goals as goal
 
 pub loop-one-preserved : goal.loop-one-preserved

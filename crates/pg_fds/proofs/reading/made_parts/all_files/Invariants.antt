@@ -1,8 +1,8 @@
 use Rattle.std.proofs.Common.{◌≡◌, Some, map, take}
-use Rattle.pg_fds.specs.OutlinedPlaces.{placed_file}
-use Rattle.pg_fds.specs.StatedFiles.{file}
-use Rattle.pg_fds.specs.StatedNames.{each}
-use Rattle.pg_fds.specs.Views.{file_view}
+use Rattle.pg_fds.specs.reading.OutlinedPlaces.{placed_file}
+use Rattle.pg_fds.specs.stated.StatedFiles.{file}
+use Rattle.pg_fds.specs.stated.StatedNames.{each}
+use Rattle.pg_fds.specs.stated.Views.{file_view}
 use Rattle.pg_fds.proofs.reading.made_parts.all_files.Given as goal
 
 abbrev pub invariant-loop-one : goal.invariant-loop-one

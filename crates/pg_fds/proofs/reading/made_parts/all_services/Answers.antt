@@ -1,9 +1,9 @@
 use Rattle.std.proofs.lemmas.Result.{err_from_is_err_and}
-use Rattle.pg_fds.specs.Outlines.{row}
-use Rattle.pg_fds.specs.Owners.{means_of}
-use Rattle.pg_fds.specs.StatedServices.{service}
-use Rattle.pg_fds.specs.Views.{service_view}
-use Rattle.pg_fds.proofs.Each.{made_more, made_none}
+use Rattle.pg_fds.specs.stated.Outlines.{row}
+use Rattle.pg_fds.specs.reading.Owners.{means_of}
+use Rattle.pg_fds.specs.stated.StatedServices.{service}
+use Rattle.pg_fds.specs.stated.Views.{service_view}
+use Rattle.pg_fds.proofs.lemmas.lists.Each.{made_more, made_none}
 use Rattle.pg_fds.proofs.reading.made_parts.all_services.Goals as goal
 
 pub loop-one-preserved : goal.loop-one-preserved

@@ -1,9 +1,9 @@
 use Rattle.std.proofs.Common.{◌≡◌, Some, map, take}
-use Rattle.pg_fds.specs.Outlines.{row}
-use Rattle.pg_fds.specs.Owners.{means_of}
-use Rattle.pg_fds.specs.StatedServices.{service}
-use Rattle.pg_fds.specs.StatedNames.{each}
-use Rattle.pg_fds.specs.Views.{service_view}
+use Rattle.pg_fds.specs.stated.Outlines.{row}
+use Rattle.pg_fds.specs.reading.Owners.{means_of}
+use Rattle.pg_fds.specs.stated.StatedServices.{service}
+use Rattle.pg_fds.specs.stated.StatedNames.{each}
+use Rattle.pg_fds.specs.stated.Views.{service_view}
 use Rattle.pg_fds.proofs.reading.made_parts.all_services.Given as goal
 
 abbrev pub invariant-loop-one : goal.invariant-loop-one

@@ -1,9 +1,9 @@
 use Rattle.std.proofs.Common.{◌≡◌, Some, map, take}
-use Rattle.pg_fds.specs.OutlinedPlaces.{placed_type}
-use Rattle.pg_fds.specs.Owners.{means_of}
-use Rattle.pg_fds.specs.StatedTypes.{message_type}
-use Rattle.pg_fds.specs.StatedNames.{each}
-use Rattle.pg_fds.specs.Views.{type_view}
+use Rattle.pg_fds.specs.reading.OutlinedPlaces.{placed_type}
+use Rattle.pg_fds.specs.reading.Owners.{means_of}
+use Rattle.pg_fds.specs.stated.StatedTypes.{message_type}
+use Rattle.pg_fds.specs.stated.StatedNames.{each}
+use Rattle.pg_fds.specs.stated.Views.{type_view}
 use Rattle.pg_fds.proofs.reading.made_parts.all_types.Given as goal
 
 abbrev pub invariant-loop-one : goal.invariant-loop-one

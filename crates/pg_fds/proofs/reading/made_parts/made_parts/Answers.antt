@@ -1,17 +1,17 @@
 use Rattle.std.proofs.Common.{Some, ap, map, sym, ◌∙◌}
 use Rattle.std.proofs.lemmas.Result.{err_from_is_err_and}
-use Rattle.pg_fds.specs.OutlinedPlaces.{placed_file, placed_type}
-use Rattle.pg_fds.specs.Outlines.{row}
-use Rattle.pg_fds.specs.Owners.{means_of}
-use Rattle.pg_fds.specs.Stated.{parts_of}
-use Rattle.pg_fds.specs.StatedEnums.{enum_type}
-use Rattle.pg_fds.specs.StatedFiles.{file}
-use Rattle.pg_fds.specs.StatedNames.{each}
-use Rattle.pg_fds.specs.StatedServices.{service}
-use Rattle.pg_fds.specs.StatedTypes.{message_type}
-use Rattle.pg_fds.specs.Views.{file_view, service_view, type_view}
-use Rattle.pg_fds.proofs.Each.{passed}
-use Rattle.pg_fds.proofs.FoundSchema.{files_missing, parts_there, services_missing, types_missing}
+use Rattle.pg_fds.specs.reading.OutlinedPlaces.{placed_file, placed_type}
+use Rattle.pg_fds.specs.stated.Outlines.{row}
+use Rattle.pg_fds.specs.reading.Owners.{means_of}
+use Rattle.pg_fds.specs.stated.Stated.{parts_of}
+use Rattle.pg_fds.specs.stated.StatedEnums.{enum_type}
+use Rattle.pg_fds.specs.stated.StatedFiles.{file}
+use Rattle.pg_fds.specs.stated.StatedNames.{each}
+use Rattle.pg_fds.specs.stated.StatedServices.{service}
+use Rattle.pg_fds.specs.stated.StatedTypes.{message_type}
+use Rattle.pg_fds.specs.stated.Views.{file_view, service_view, type_view}
+use Rattle.pg_fds.proofs.lemmas.lists.Each.{passed}
+use Rattle.pg_fds.proofs.lemmas.rows.PartsMade.{files_missing, parts_there, services_missing, types_missing}
 use Rattle.pg_fds.proofs.reading.made_parts.made_parts.Goals as goal
 
 pub returns-in_err-files-clause-refused : goal.returns-in_err-files-clause-refused

@@ -1,9 +1,9 @@
 use Rattle.std.proofs.lemmas.Result.{err_from_is_err_and}
 use Rattle.pg_dyn.specs.Kept.{message_of}
-use Rattle.pg_fds.specs.Owners.{means_of, owner_of}
-use Rattle.pg_fds.specs.StatedFields.{field}
-use Rattle.pg_fds.specs.Views.{field_view}
-use Rattle.pg_fds.proofs.Each.{made_more, made_none}
+use Rattle.pg_fds.specs.reading.Owners.{means_of, owner_of}
+use Rattle.pg_fds.specs.stated.StatedFields.{field}
+use Rattle.pg_fds.specs.stated.Views.{field_view}
+use Rattle.pg_fds.proofs.lemmas.lists.Each.{made_more, made_none}
 use Rattle.pg_fds.proofs.reading.made_types.each_field.Goals as goal
 
 pub loop-message-preserved : goal.loop-message-preserved
@@ -15,5 +15,5 @@ loop-message-preserved c =
 pub returns-in_err-made-clause-refused : goal.returns-in_err-made-clause-refused
 returns-in_err-made-clause-refused c =
     let s = c.args.scope.now in
-    let p = err_from_is_err_and c.from_residual.result c.from_residual.ensures.1 in
+    let p = err_from_is_err_and c.from_residual-in_err-made.result c.from_residual-in_err-made.ensures.1 in
     rw (p.1, p.2) (made_none (field (means_of s.names.now) (owner_of s)) message_of _ c.args.messages.now c.loop-message.message-index c.message-item.result c.loop-message-test.true c.message-item.is c.in_err-made.ensures.refused)

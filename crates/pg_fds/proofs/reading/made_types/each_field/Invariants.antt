@@ -1,9 +1,9 @@
 use Rattle.std.proofs.Common.{◌≡◌, Some, map, take}
 use Rattle.pg_dyn.specs.Kept.{message_of}
-use Rattle.pg_fds.specs.Owners.{means_of, owner_of}
-use Rattle.pg_fds.specs.StatedFields.{field}
-use Rattle.pg_fds.specs.StatedNames.{each}
-use Rattle.pg_fds.specs.Views.{field_view}
+use Rattle.pg_fds.specs.reading.Owners.{means_of, owner_of}
+use Rattle.pg_fds.specs.stated.StatedFields.{field}
+use Rattle.pg_fds.specs.stated.StatedNames.{each}
+use Rattle.pg_fds.specs.stated.Views.{field_view}
 use Rattle.pg_fds.proofs.reading.made_types.each_field.Given as goal
 
 abbrev pub invariant-loop-message : goal.invariant-loop-message

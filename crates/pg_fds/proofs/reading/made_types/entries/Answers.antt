@@ -1,7 +1,7 @@
 use Rattle.std.proofs.Common.{Some, ◌∙◌}
 use Rattle.std.proofs.lemmas.Map.Text.{btree_map_updates_text}
 use Rattle.std.specs.String.{string_bytes}
-use Rattle.pg_fds.proofs.OwnerLaws.{named_more}
+use Rattle.pg_fds.proofs.lemmas.reading.OwnerLaws.{named_more}
 use Rattle.pg_fds.proofs.reading.made_types.entries.Goals as goal
 
 pub loop-message-preserved : goal.loop-message-preserved

@@ -1,6 +1,6 @@
 use Rattle.std.proofs.Common.{◌≡◌, map, take}
 use Rattle.pg_dyn.specs.Kept.{message_of}
-use Rattle.pg_fds.specs.StatedTypes.{field_range}
+use Rattle.pg_fds.specs.stated.StatedTypes.{field_range}
 use Rattle.pg_fds.proofs.reading.made_types.field_ranges.Given as goal
 
 abbrev pub invariant-loop-message : goal.invariant-loop-message

@@ -2,14 +2,14 @@ use Rattle.std.proofs.Common.{◌≡◌, Some, ap, map, option_map, rules, sym, 
 use Rattle.std.proofs.lemmas.List.Elements.{same_from_all_zip}
 use Rattle.std.proofs.lemmas.Result.{err_from_is_err_and}
 use Rattle.pg_dyn.specs.Kept.{message_of}
-use Rattle.pg_fds.specs.Lent.{lent}
-use Rattle.pg_fds.specs.OutlinedPlaces.{placed_type}
-use Rattle.pg_fds.specs.Said.{children_at}
-use Rattle.pg_fds.specs.StatedTypes.{field_range, type_of}
-use Rattle.pg_fds.proofs.Each.{passed}
-use Rattle.pg_fds.proofs.FoundFiles.{enums_of_places, types_of_places}
-use Rattle.pg_fds.proofs.MadeMessage.{view_numbers}
-use Rattle.pg_fds.proofs.ViewLaws.{same_type}
+use Rattle.pg_fds.specs.descriptor.Lent.{lent}
+use Rattle.pg_fds.specs.reading.OutlinedPlaces.{placed_type}
+use Rattle.pg_fds.specs.stated.Said.{children_at}
+use Rattle.pg_fds.specs.stated.StatedTypes.{field_range, type_of}
+use Rattle.pg_fds.proofs.lemmas.lists.Each.{passed}
+use Rattle.pg_fds.proofs.lemmas.rows.PlaceIds.{enums_of_places, types_of_places}
+use Rattle.pg_fds.proofs.lemmas.written.DeclaredViews.{view_numbers}
+use Rattle.pg_fds.proofs.lemmas.lists.ViewLaws.{same_type}
 use Rattle.pg_fds.proofs.reading.made_types.made_type.Goals as goal
 
 pub returns-in_err-members-clause-refused : goal.returns-in_err-members-clause-refused

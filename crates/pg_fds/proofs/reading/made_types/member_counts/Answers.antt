@@ -3,10 +3,10 @@ use Rattle.std.proofs.lemmas.Bool.{false≢true}
 use Rattle.std.proofs.lemmas.Result.{MatchResult-from_err}
 use Rattle.std.specs.Prelude.{IfSome}
 use Rattle.pg_dyn.specs.Kept.{message_of}
-use Rattle.pg_fds.specs.Made.{AreCounted, has_place}
-use Rattle.pg_fds.specs.Said.{maybe_number_at}
-use Rattle.pg_fds.proofs.Counted.{counted_more, uncounted_more}
-use Rattle.pg_fds.proofs.SetLaws.{all_lost}
+use Rattle.pg_fds.specs.reading.Made.{AreCounted, has_place}
+use Rattle.pg_fds.specs.stated.Said.{maybe_number_at}
+use Rattle.pg_fds.proofs.lemmas.reading.Counted.{counted_more, uncounted_more}
+use Rattle.pg_fds.proofs.lemmas.order.SetLaws.{all_lost}
 use Rattle.pg_fds.proofs.reading.made_types.member_counts.Goals as goal
 use Rattle.pg_fds.proofs.reading.made_types.member_counts.Goals.{in-Some, in_default}
 

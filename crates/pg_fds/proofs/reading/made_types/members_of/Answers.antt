@@ -2,14 +2,14 @@ use Rattle.std.proofs.Common.{◌≡◌, ap, length, subst, sym, true, ◌∙◌
 use Rattle.std.proofs.lemmas.Result.{err_from_is_err_and}
 use Rattle.std.specs.List.{list_all}
 use Rattle.pg_dyn.specs.Kept.{message_of}
-use Rattle.pg_fds.specs.Outlines.{type_row}
-use Rattle.pg_fds.specs.Owners.{means_of}
-use Rattle.pg_fds.specs.Said.{children_at}
-use Rattle.pg_fds.specs.StatedTypes.{own_entries, owner}
-use Rattle.pg_fds.specs.SaidFiles.{is_place}
-use Rattle.pg_fds.specs.SaidTypes.{is_marked, synthetic_places}
-use Rattle.pg_fds.proofs.OwnerLaws.{length_places, placed_or_none, synthetic_placed}
-use Rattle.pg_fds.proofs.Zips.{seen_length}
+use Rattle.pg_fds.specs.stated.Outlines.{type_row}
+use Rattle.pg_fds.specs.reading.Owners.{means_of}
+use Rattle.pg_fds.specs.stated.Said.{children_at}
+use Rattle.pg_fds.specs.stated.StatedTypes.{own_entries, owner}
+use Rattle.pg_fds.specs.stated.SaidFiles.{is_place}
+use Rattle.pg_fds.specs.stated.SaidTypes.{is_marked, synthetic_places}
+use Rattle.pg_fds.proofs.lemmas.reading.OwnerLaws.{length_places, placed_or_none, synthetic_placed}
+use Rattle.pg_fds.proofs.lemmas.lists.Zips.{seen_length}
 use Rattle.pg_fds.proofs.reading.made_types.members_of.Goals as goal
 
 pub returns-in_err-synthetic-clause-refused : goal.returns-in_err-synthetic-clause-refused
@@ -19,7 +19,7 @@ returns-in_err-synthetic-clause-refused c =
     let many : length c.args.inside.now ≡ length (children_at 8 m) = sym (seen_length c.args.inside.now) ∙ ap length c.requires.inside in
     let p = err_from_is_err_and c.from_residual-in_err-synthetic.result c.from_residual-in_err-synthetic.ensures.1 in
     rw (p.1, p.2)
-    (placed_or_none _ (means_of c.args.names.now) (owner (type_row o)) (length (own_entries m)) (length (children_at 8 m)) (children_at 2 m) (length_places (is_marked (synthetic_places (children_at 2 m))) 0 (length (children_at 8 m)))
+    (placed_or_none _ (means_of c.args.names.now) (owner (type_row o)) (own_entries m) (length (children_at 8 m)) (children_at 2 m) (length_places (is_marked (synthetic_places (children_at 2 m))) 0 (length (children_at 8 m)))
     (λ placed.
     c.in_err-synthetic.ensures.refused
     (subst (λ k. list_all (is_place k) c.deref.result.now ≡ true) (sym many)

@@ -1,7 +1,7 @@
 use Rattle.std.proofs.Common.{rules}
 use Rattle.std.proofs.lemmas.List.Sorted.{IsNonDecreasingBy-from_sort_by_key, answers_always, length_permutation}
 use Rattle.pg_schema.specs.declared.parts.field.Field.{Field}
-use Rattle.pg_fds.proofs.SortedFields.{sorted_fields}
+use Rattle.pg_fds.proofs.lemmas.reading.SortedFields.{sorted_fields}
 use Rattle.pg_fds.proofs.reading.made_types.sorted.Goals as goal
 
 pub returns : goal.returns

@@ -1,6 +1,6 @@
 use Rattle.std.proofs.Common.{◌≡◌, map, take}
 use Rattle.pg_dyn.specs.Kept.{message_of}
-use Rattle.pg_fds.specs.StatedEnums as stated
+use Rattle.pg_fds.specs.stated.StatedEnums as stated
 use Rattle.pg_fds.proofs.reading.made_types.value_ranges.Given as goal
 
 abbrev pub invariant-loop-message : goal.invariant-loop-message

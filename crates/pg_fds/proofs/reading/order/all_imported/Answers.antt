@@ -4,11 +4,11 @@ use Rattle.std.specs.List.{list_all}
 use Rattle.pg_schema.specs.rules.Pairs.{are_distinct}
 use Rattle.pg_schema.specs.rules.TextSets.{is_among}
 use Rattle.pg_fds.specs.declared.error.Unstated.TheVariants as errors
-use Rattle.pg_fds.specs.Lent.{lent}
-use Rattle.pg_fds.specs.FilePlaces.{importer, importers}
-use Rattle.pg_fds.specs.PostOrder.{HasNoOrder, kept_paths, paths_of}
-use Rattle.pg_fds.proofs.Ordering.{none_missing}
-use Rattle.pg_fds.proofs.OrderSteps.{handed_on, importer_at, imports_twice}
+use Rattle.pg_fds.specs.descriptor.Lent.{lent}
+use Rattle.pg_fds.specs.reading.FilePlaces.{importer, importers}
+use Rattle.pg_fds.specs.stated.PostOrder.{HasNoOrder, kept_paths, paths_of}
+use Rattle.pg_fds.proofs.lemmas.order.Ordering.{none_missing}
+use Rattle.pg_fds.proofs.lemmas.order.OrderSteps.{handed_on, importer_at, imports_twice}
 use Rattle.pg_fds.proofs.reading.order.all_imported.Goals as goal
 
 pub returns-in_err-are_apart-clause-refused : goal.returns-in_err-are_apart-clause-refused

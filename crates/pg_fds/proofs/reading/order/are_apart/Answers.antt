@@ -5,9 +5,10 @@ use Rattle.std.specs.String.{string_bytes}
 use denote.Ref.{Bor}
 use Rattle.pg_schema.specs.rules.Pairs.{are_distinct}
 use Rattle.pg_schema.specs.rules.TextSets.{IsSetOf, is_among}
-use Rattle.pg_schema.proofs.lemmas.rules.TextSetLemmas.{distinct_more, set_more}
-use Rattle.pg_fds.specs.Lent.{lent}
-use Rattle.pg_fds.proofs.OrderSteps.{item_at_place, one_step, stands_twice}
+use Rattle.pg_schema.proofs.lemmas.rules.TextSetLemmas.{distinct_more}
+use Rattle.pg_fds.specs.descriptor.Lent.{lent}
+use Rattle.pg_fds.proofs.lemmas.lists.TextSets.{set_more}
+use Rattle.pg_fds.proofs.lemmas.order.OrderSteps.{item_at_place, one_step, stands_twice}
 use Rattle.pg_fds.proofs.reading.order.are_apart.Goals as goal
 
 present : (b : Bool) → not b ≡ false → b ≡ true

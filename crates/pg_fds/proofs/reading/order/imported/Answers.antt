@@ -3,11 +3,11 @@ use Rattle.std.specs.BTreeMap.{get_by_text}
 use Rattle.std.specs.Option.{option_copied}
 use denote.Ref.{Bor}
 use Rattle.pg_schema.specs.rules.TextSets.{is_among}
-use Rattle.pg_fds.specs.Lent.{lent}
-use Rattle.pg_fds.specs.FilePlaces.{StandAt}
-use Rattle.pg_fds.specs.PostOrder.{kept_paths}
-use Rattle.pg_fds.proofs.Ordering.{index_lacks}
-use Rattle.pg_fds.proofs.OrderSteps.{item_at_place, kept_fails, one_step, path_kept, stand_more}
+use Rattle.pg_fds.specs.descriptor.Lent.{lent}
+use Rattle.pg_fds.specs.reading.FilePlaces.{StandAt}
+use Rattle.pg_fds.specs.stated.PostOrder.{kept_paths}
+use Rattle.pg_fds.proofs.lemmas.order.Ordering.{index_lacks}
+use Rattle.pg_fds.proofs.lemmas.order.OrderSteps.{item_at_place, kept_fails, one_step, path_kept, stand_more}
 use Rattle.pg_fds.proofs.reading.order.imported.Goals as goal
 
 pub returns-in-None-clause-refused : goal.returns-in-None-clause-refused

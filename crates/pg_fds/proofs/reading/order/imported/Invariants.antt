@@ -1,7 +1,7 @@
 use Rattle.std.proofs.Common.{ℕ, List, take}
-use Rattle.pg_fds.specs.Lent.{lent}
-use Rattle.pg_fds.specs.FilePlaces.{IsIndex, StandAt}
-use Rattle.pg_fds.specs.PostOrder.{kept_paths}
+use Rattle.pg_fds.specs.descriptor.Lent.{lent}
+use Rattle.pg_fds.specs.reading.FilePlaces.{IsIndex, StandAt}
+use Rattle.pg_fds.specs.stated.PostOrder.{kept_paths}
 use Rattle.pg_fds.proofs.reading.order.imported.Given as goal
 
 abbrev pub invariant-loop-path : goal.invariant-loop-path

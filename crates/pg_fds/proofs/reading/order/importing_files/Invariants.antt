@@ -1,7 +1,7 @@
 use Rattle.std.proofs.Common.{◌≡◌, map, take}
 use Rattle.pg_dyn.specs.Kept.{message_of}
-use Rattle.pg_fds.specs.FilePlaces.{importers}
-use Rattle.pg_fds.specs.PostOrder.{importer_of}
+use Rattle.pg_fds.specs.reading.FilePlaces.{importers}
+use Rattle.pg_fds.specs.stated.PostOrder.{importer_of}
 use Rattle.pg_fds.proofs.reading.order.importing_files.Given as goal
 
 abbrev pub invariant-loop-file : goal.invariant-loop-file

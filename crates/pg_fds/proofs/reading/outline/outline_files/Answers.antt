@@ -2,20 +2,20 @@ use Rattle.std.proofs.Common.{◌≡◌, ◌<◌, ◌∷◌, [], Some, filter, l
 use Rattle.std.proofs.lemmas.Result.{err_from_is_err_and}
 use Rattle.std.specs.List.{AllByRecursion, flat_map}
 use Rattle.pg_dyn.specs.Kept.{message_of}
-use Rattle.pg_fds.specs.Declarations.{file_declared, files_declared}
-use Rattle.pg_fds.specs.Outlines.{NameOneofs, file_enums, file_services, file_types, files_at, row, type_row}
-use Rattle.pg_fds.specs.OutlinedPlaces.{behind_file, counts_of, file_places, inside_file, no_counts, placed_file, placed_files, placed_type, placed_types, types_of_files}
-use Rattle.pg_fds.specs.Said.{children_at, text_at}
-use Rattle.pg_fds.specs.StatedTable.{may_declare}
-use Rattle.pg_fds.specs.SaidTypes.{is_entry}
-use Rattle.pg_fds.proofs.Declaring.{Left, from_nothing, left_all, left_none, left_on}
-use Rattle.pg_fds.proofs.FileLaws.{each_in, same_default}
-use Rattle.pg_fds.proofs.NameLoops.{seen}
-use Rattle.pg_fds.proofs.FreeFiles.{file_refused, fresh_free}
-use Rattle.pg_fds.proofs.MeantNames.{files_meant}
-use Rattle.pg_fds.proofs.OutlinedFiles.{count_of, file_at, file_left, files_on, files_whole, holds_or, none_left, one_more, seen_got, stand_may}
-use Rattle.pg_fds.proofs.OutlinedNames.{rows_long, taken}
-use Rattle.pg_fds.proofs.OutlinedPlaces.{counts_are, counts_on, each_on, none_counted}
+use Rattle.pg_fds.specs.stated.Declarations.{file_declared, files_declared}
+use Rattle.pg_fds.specs.stated.Outlines.{NameOneofs, file_enums, file_services, file_types, files_at, row, type_row}
+use Rattle.pg_fds.specs.reading.OutlinedPlaces.{behind_file, counts_of, file_places, inside_file, no_counts, placed_file, placed_files, placed_type, placed_types, types_of_files}
+use Rattle.pg_fds.specs.stated.Said.{children_at, text_at}
+use Rattle.pg_fds.specs.stated.StatedTable.{may_declare}
+use Rattle.pg_fds.specs.stated.SaidTypes.{is_entry}
+use Rattle.pg_fds.proofs.lemmas.outline.Declaring.{Left, from_nothing, left_all, left_none, left_on}
+use Rattle.pg_fds.proofs.lemmas.writing.FileLaws.{each_in, same_default}
+use Rattle.pg_fds.proofs.lemmas.outline.NameLoops.{seen}
+use Rattle.pg_fds.proofs.lemmas.outline.FreeFiles.{file_refused, fresh_free}
+use Rattle.pg_fds.proofs.lemmas.outline.MeantNames.{files_meant}
+use Rattle.pg_fds.proofs.lemmas.outline.OutlinedFiles.{count_of, file_at, file_left, files_on, files_whole, holds_or, none_left, one_more, seen_got, stand_may}
+use Rattle.pg_fds.proofs.lemmas.outline.OutlinedNames.{rows_long, taken}
+use Rattle.pg_fds.proofs.lemmas.outline.OutlinedPlaces.{counts_are, counts_on, each_on, none_counted}
 use Rattle.pg_fds.proofs.reading.outline.outline_files.Goals as goal
 
 pub loop-place-init : goal.loop-place-init
@@ -26,10 +26,10 @@ loop-place-init c = record {
   files = ap (map placed_file) c.new.ensures.items;
   placed = ap (map placed_type) c.new-2.ensures.items;
   counts = none_counted c.new-2.result.items c.new-3.result.items c.new-4.result.items c.new-2.ensures.items c.new-3.ensures.items c.new-4.ensures.items;
-  empty = λ name. rw c.new-5.ensures.empty;
-  left = subst (λ k. Left (files_declared c.args.depth k (files_at (seen c.args.files.now) c.args.order.now)) (files_declared c.args.depth no_counts (files_at (seen c.args.files.now) c.args.order.now)) c.new-5.result c.new-5.result)
+  empty = λ name. rw c.with_hasher.ensures.empty;
+  left = subst (λ k. Left (files_declared c.args.depth k (files_at (seen c.args.files.now) c.args.order.now)) (files_declared c.args.depth no_counts (files_at (seen c.args.files.now) c.args.order.now)) c.with_hasher.result c.with_hasher.result)
       (sym (none_counted c.new-2.result.items c.new-3.result.items c.new-4.result.items c.new-2.ensures.items c.new-3.ensures.items c.new-4.ensures.items))
-      (left_all (files_declared c.args.depth no_counts (files_at (seen c.args.files.now) c.args.order.now)) c.new-5.result);
+      (left_all (files_declared c.args.depth no_counts (files_at (seen c.args.files.now) c.args.order.now)) c.with_hasher.result);
   few_types = omega (arith, ap length c.new-2.ensures.items);
   few_enums = omega (arith, ap length c.new-3.ensures.items);
   few_services = omega (arith, ap length c.new-4.ensures.items);
@@ -69,8 +69,8 @@ loop-place-preserved c =
           inv.counts inv.placed c.in_ok-outline_file.ensures.outlined.placed;
       counts = counts_on (behind_file depth) no_counts (counts_of mid) (counts_of new) before after m more inv.counts grown;
       empty = inv.empty;
-      left = subst (λ k. Left (files_declared depth k left_files) all new.names c.new-5.result) (sym grown)
-          (left_on (files_declared depth (counts_of mid) (files_at fs (drop i order))) (file_declared depth (counts_of mid) m) (files_declared depth (behind_file depth (counts_of mid) m) left_files) all mid.names new.names c.new-5.result
+      left = subst (λ k. Left (files_declared depth k left_files) all new.names c.with_hasher.result) (sym grown)
+          (left_on (files_declared depth (counts_of mid) (files_at fs (drop i order))) (file_declared depth (counts_of mid) m) (files_declared depth (behind_file depth (counts_of mid) m) left_files) all mid.names new.names c.with_hasher.result
           (ap (files_declared depth (counts_of mid)) (file_left fs m order i place h (same_default order i 0 place h) there)) inv.left c.in_ok-outline_file.ensures.outlined.adds);
       few_types = c.in_ok-outline_file.ensures.outlined.few_types inv.few_types;
       few_enums = c.in_ok-outline_file.ensures.outlined.few_enums inv.few_enums;
@@ -94,7 +94,7 @@ returns-in_err-outline_file-clause-none c =
     let all = files_at fs order in
     let mid = c.loop-place.outline in
     let p = err_from_is_err_and c.from_residual.result c.from_residual.ensures.1 in
-    let refused = file_refused depth (files_at fs (take i order)) m (files_at fs (drop (suc i) order)) all (files_at fs (drop i order)) (files_at fs (drop (i + 1) order)) (counts_of mid) c.new-5.result mid.names c.in_err-outline_file.field-0.0
+    let refused = file_refused depth (files_at fs (take i order)) m (files_at fs (drop (suc i) order)) all (files_at fs (drop i order)) (files_at fs (drop (i + 1) order)) (counts_of mid) c.with_hasher.result mid.names c.in_err-outline_file.field-0.0
     (files_whole fs m order i place h (same_default order i 0 place h) there) (file_left fs m order i place h (same_default order i 0 place h) there) inv.empty (count_of type_row mid.types.items _ inv.types)
     (count_of row mid.enums.items _ inv.enums) (count_of row mid.services.items _ inv.services) inv.left c.in_err-outline_file.ensures.refused in
     rw (p.1, p.2) (λ places. holds_or (may_declare depth all) _ refused)
@@ -126,8 +126,8 @@ returns-clause-may c =
     let outline = c.loop-place.outline in
     let all = files_at fs order in
     let end = taken order i c.loop-place-test.false in
-    let made = from_nothing (files_declared depth no_counts all) c.new-5.result outline.names inv.empty
-    (left_none (files_declared depth (counts_of outline) (files_at fs (drop i order))) (files_declared depth no_counts all) outline.names c.new-5.result (ap (files_declared depth (counts_of outline)) (none_left fs order i c.loop-place-test.false)) inv.left) in
+    let made = from_nothing (files_declared depth no_counts all) c.with_hasher.result outline.names inv.empty
+    (left_none (files_declared depth (counts_of outline) (files_at fs (drop i order))) (files_declared depth no_counts all) outline.names c.with_hasher.result (ap (files_declared depth (counts_of outline)) (none_left fs order i c.loop-place-test.false)) inv.left) in
     stand_may depth all (record {
       free = fresh_free depth all made.1;
       no_entries = subst (λ places. AllByRecursion (λ m. filter is_entry (children_at 4 m) ≡ []) (files_at fs places)) end inv.no_entries;
@@ -146,8 +146,8 @@ returns-clause-means c =
     let inv = c.loop-place.invariant in
     let outline = c.loop-place.outline in
     let all = files_at fs order in
-    let made = from_nothing (files_declared depth no_counts all) c.new-5.result outline.names inv.empty
-    (left_none (files_declared depth (counts_of outline) (files_at fs (drop i order))) (files_declared depth no_counts all) outline.names c.new-5.result (ap (files_declared depth (counts_of outline)) (none_left fs order i c.loop-place-test.false)) inv.left) in
+    let made = from_nothing (files_declared depth no_counts all) c.with_hasher.result outline.names inv.empty
+    (left_none (files_declared depth (counts_of outline) (files_at fs (drop i order))) (files_declared depth no_counts all) outline.names c.with_hasher.result (ap (files_declared depth (counts_of outline)) (none_left fs order i c.loop-place-test.false)) inv.left) in
     files_meant depth all outline.names made.0 made.1
 
 pub returns-in_default-clause-none : goal.returns-in_default-clause-none

@@ -1,6 +1,6 @@
 use Rattle.std.proofs.Common.{sym, ◌∙◌}
-use Rattle.pg_fds.specs.SaidFiles.{is_skipped}
-use Rattle.pg_fds.proofs.SetLaws.{any_found}
+use Rattle.pg_fds.specs.stated.SaidFiles.{is_skipped}
+use Rattle.pg_fds.proofs.lemmas.order.SetLaws.{any_found}
 use Rattle.pg_fds.proofs.reading.set_files.skips.Goals as goal
 
 pub returns-then-skipped : goal.returns-then-skipped

@@ -1,9 +1,9 @@
 use Rattle.std.proofs.Common.{◌≡◌, ◌++◌, take}
 use Rattle.pg_fds.specs.declared.descriptor.places.TheConstants.{MESSAGE}
-use Rattle.pg_fds.specs.Drafts.{listed}
-use Rattle.pg_fds.specs.Entries.{entries}
-use Rattle.pg_fds.specs.Lent.{lent}
-use Rattle.pg_fds.specs.Places.{declared_in}
+use Rattle.pg_fds.specs.writing.Drafts.{listed}
+use Rattle.pg_fds.specs.writing.Entries.{entries}
+use Rattle.pg_fds.specs.descriptor.Lent.{lent}
+use Rattle.pg_fds.specs.writing.Places.{declared_in}
 use Rattle.pg_fds.proofs.writing.entries.push_entries.Given as goal
 
 abbrev pub invariant-loop-field : goal.invariant-loop-field

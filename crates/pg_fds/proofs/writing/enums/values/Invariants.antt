@@ -1,7 +1,7 @@
 use Rattle.std.proofs.Common.{◌≡◌, map, take}
 use Rattle.pg_fds.specs.declared.descriptor.places.TheConstants.{VALUE}
-use Rattle.pg_fds.specs.Drafts.{listed}
-use Rattle.pg_fds.specs.Messages.{value_items}
+use Rattle.pg_fds.specs.writing.Drafts.{listed}
+use Rattle.pg_fds.specs.writing.Messages.{value_items}
 use Rattle.pg_fds.proofs.writing.enums.values.Given as goal
 
 abbrev pub invariant-loop-value : goal.invariant-loop-value

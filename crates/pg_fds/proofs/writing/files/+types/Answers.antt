@@ -3,12 +3,13 @@ use Rattle.std.specs.Option.{option_copied}
 use Rattle.pg_schema.specs.declared.parts.field.TypeId.{TypeId}
 use Rattle.pg_schema.specs.declared.parts.Parts.{Parts}
 use Rattle.pg_fds.specs.declared.descriptor.places.TheConstants.{MESSAGE}
-use Rattle.pg_fds.specs.Drafts.{Listed, listed}
-use Rattle.pg_fds.specs.Messages.{type_items, types_items}
-use Rattle.pg_fds.specs.Places.{declared_in}
-use Rattle.pg_fds.specs.Small.{IsSmallType}
-use Rattle.pg_fds.proofs.FileLaws.{each_got, same_default, types_none, types_some}
+use Rattle.pg_fds.specs.writing.Drafts.{Listed, listed}
+use Rattle.pg_fds.specs.writing.Messages.{type_items, types_items}
+use Rattle.pg_fds.specs.writing.Places.{declared_in}
+use Rattle.pg_fds.specs.writing.Small.{IsSmallType}
+use Rattle.pg_fds.proofs.lemmas.writing.FileLaws.{same_default, types_none, types_some}
 use Rattle.pg_fds.proofs.writing.files.+types.Goals as goal
+use Rattle.pg_fds.proofs.lemmas.lists.Marks.{all_at}
 
 pub loop-id-preserved-in_default : goal.loop-id-preserved-in_default
 loop-id-preserved-in_default t c =
@@ -23,7 +24,7 @@ pub type_message-requires-clause-small : goal.type_message-requires-clause-small
 type_message-requires-clause-small t c =
     let first : TypeId = record { index = 0 } in
     let id = get_or c.args.ids.now c.loop-id.id-index first in
-    each_got IsSmallType c.args.writer.now.types.items id.index c.in-Some.declared.now c.requires (ap (λ (p : Parts). slice_get p.types.items id.index) (sym c.writer.view_is) ∙ (sym c.message_type.ensures.exact ∙ ap option_copied c.in-Some.is))
+    all_at IsSmallType c.args.writer.now.types.items id.index c.in-Some.declared.now c.requires (ap (λ (p : Parts). slice_get p.types.items id.index) (sym c.writer.view_is) ∙ (sym c.message_type.ensures.exact ∙ ap option_copied c.in-Some.is))
 
 pub loop-id-preserved : goal.loop-id-preserved
 loop-id-preserved t c =

@@ -1,8 +1,8 @@
 use Rattle.std.proofs.Common.{◌≡◌, take}
 use Rattle.pg_fds.specs.declared.descriptor.places.TheConstants.{MESSAGE}
-use Rattle.pg_fds.specs.Drafts.{listed}
-use Rattle.pg_fds.specs.Messages.{types_items}
-use Rattle.pg_fds.specs.Places.{declared_in}
+use Rattle.pg_fds.specs.writing.Drafts.{listed}
+use Rattle.pg_fds.specs.writing.Messages.{types_items}
+use Rattle.pg_fds.specs.writing.Places.{declared_in}
 use Rattle.pg_fds.proofs.writing.files.+types.Given as goal
 
 abbrev pub decreases-types : goal.decreases-types

@@ -2,12 +2,12 @@ use Rattle.std.proofs.Common.{◌∙◌, ◌++◌, [], ap, codes, length, map}
 use Rattle.std.specs.String.{string_bytes}
 use Rattle.pg_schema.specs.declared.parts.file.Import.{Import}
 use Rattle.pg_fds.specs.declared.descriptor.places.TheConstants.{FILE}
-use Rattle.pg_fds.specs.Drafts.{Drafted, IsDraftOf, put}
-use Rattle.pg_fds.specs.Items.{children, counts, filled, options, text, texts}
-use Rattle.pg_fds.specs.Messages.{enums_items, types_items}
-use Rattle.pg_fds.specs.Places.{declared_in}
-use Rattle.pg_fds.specs.Set.{file_options, public_places, services_items}
-use Rattle.pg_fds.proofs.FileLaws.{file_joined, more_put}
+use Rattle.pg_fds.specs.writing.Drafts.{Drafted, IsDraftOf, put}
+use Rattle.pg_fds.specs.writing.Items.{children, counts, filled, options, text, texts}
+use Rattle.pg_fds.specs.writing.Messages.{enums_items, types_items}
+use Rattle.pg_fds.specs.writing.Places.{declared_in}
+use Rattle.pg_fds.specs.writing.Set.{file_options, public_places, services_items}
+use Rattle.pg_fds.proofs.lemmas.writing.FileLaws.{file_joined, more_put}
 use Rattle.pg_fds.proofs.writing.files.file_message.Goals as goal
 
 pub returns : goal.returns

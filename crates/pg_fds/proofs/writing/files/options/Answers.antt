@@ -1,6 +1,6 @@
 use Rattle.std.proofs.Common.{ap, arith, ◌∙◌}
-use Rattle.pg_fds.specs.Drafts.{Drafted}
-use Rattle.pg_fds.proofs.FileLaws.{option_step, rising_next}
+use Rattle.pg_fds.specs.writing.Drafts.{Drafted}
+use Rattle.pg_fds.proofs.lemmas.writing.FileLaws.{option_step, rising_next}
 use Rattle.pg_fds.proofs.writing.files.options.Goals as goal
 
 pub loop-option-preserved : goal.loop-option-preserved

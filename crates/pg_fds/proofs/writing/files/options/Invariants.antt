@@ -2,7 +2,7 @@ use Rattle.std.proofs.Common.{◌≡◌, ◌∷◌, true, take, drop}
 use Rattle.pg_schema.specs.rules.Files.{option_numbers}
 use Rattle.pg_schema.specs.rules.Pairs.{is_rising}
 use Rattle.pg_fds.specs.declared.descriptor.places.TheConstants.{FILE_OPTIONS}
-use Rattle.pg_fds.specs.Set.{file_options}
+use Rattle.pg_fds.specs.writing.Set.{file_options}
 use Rattle.pg_fds.proofs.writing.files.options.Given as goal
 
 abbrev pub invariant-loop-option : goal.invariant-loop-option

@@ -2,9 +2,9 @@ use Rattle.std.proofs.Common.{◌≡◌, ◌++◌, map, drop, pos}
 use Rattle.std.specs.List.{AllByRecursion}
 use Rattle.pg_dyn.specs.ContentFits.{ItemFits}
 use Rattle.pg_dyn.specs.Message as model
-use Rattle.pg_fds.specs.Building.{shown, written_shape}
-use Rattle.pg_fds.specs.Descriptor as descriptor
-use Rattle.pg_fds.specs.Set.{public_places}
+use Rattle.pg_fds.specs.writing.Building.{shown, written_shape}
+use Rattle.pg_fds.specs.descriptor.Descriptor as descriptor
+use Rattle.pg_fds.specs.writing.Set.{public_places}
 use Rattle.pg_fds.proofs.writing.files.public_places.Given as goal
 
 abbrev pub invariant-loop-import : goal.invariant-loop-import

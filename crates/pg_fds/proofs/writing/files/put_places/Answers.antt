@@ -1,9 +1,9 @@
 use Rattle.std.proofs.Common.{◌≡◌, map, ap, subst, ◌∙◌}
 use Rattle.std.specs.Result.{OnOk}
-use Rattle.pg_fds.specs.Drafts.{put}
-use Rattle.pg_fds.specs.Items.{item}
-use Rattle.pg_fds.specs.Set.{public_places}
-use Rattle.pg_fds.proofs.FileLaws.{counts_shown}
+use Rattle.pg_fds.specs.writing.Drafts.{put}
+use Rattle.pg_fds.specs.writing.Items.{item}
+use Rattle.pg_fds.specs.writing.Set.{public_places}
+use Rattle.pg_fds.proofs.lemmas.writing.FileLaws.{counts_shown}
 use Rattle.pg_fds.proofs.writing.files.put_places.Goals as goal
 
 pub returns : goal.returns

@@ -1,5 +1,5 @@
-use Rattle.pg_fds.specs.Small.{HasSmallNumbers}
-use Rattle.pg_fds.proofs.SyntheticLaws.{each_at}
+use Rattle.pg_fds.specs.writing.Small.{HasSmallNumbers}
+use Rattle.pg_fds.proofs.lemmas.writing.SyntheticLaws.{each_at}
 use Rattle.pg_fds.proofs.writing.messages.fields.Goals as goal
 
 pub field_message-requires-clause-small : goal.field_message-requires-clause-small

@@ -1,8 +1,8 @@
 use Rattle.std.proofs.Common.{◌≡◌, ◌++◌, map, take}
-use Rattle.pg_fds.specs.Drafts.{listed}
+use Rattle.pg_fds.specs.writing.Drafts.{listed}
 use Rattle.std.specs.String.{string_bytes}
 use Rattle.pg_fds.specs.declared.descriptor.places.TheConstants.{ONEOF}
-use Rattle.pg_fds.specs.Messages.{oneof_items}
+use Rattle.pg_fds.specs.writing.Messages.{oneof_items}
 use Rattle.pg_fds.proofs.writing.messages.push_oneofs.Given as goal
 
 abbrev pub invariant-loop-name : goal.invariant-loop-name

@@ -2,7 +2,7 @@ use Rattle.std.proofs.Common.{◌≡◌, ◌++◌, take, map, slice_get}
 use Rattle.std.specs.List.{flat_map}
 use Rattle.std.specs.String.{string_bytes}
 use Rattle.pg_schema.specs.declared.parts.field.TypeId.{TypeId}
-use Rattle.pg_fds.specs.Messages.{own_type_name, where_found}
+use Rattle.pg_fds.specs.writing.Messages.{own_type_name, where_found}
 use Rattle.pg_fds.proofs.writing.scope.push_types.Given as goal
 
 abbrev pub invariant-loop-id : goal.invariant-loop-id

@@ -1,8 +1,8 @@
 use Rattle.std.proofs.Common.{◌≡◌, take}
 use Rattle.pg_fds.specs.declared.descriptor.places.TheConstants.{SERVICE}
-use Rattle.pg_fds.specs.Drafts.{listed}
-use Rattle.pg_fds.specs.Places.{declared_in}
-use Rattle.pg_fds.specs.Set.{services_items}
+use Rattle.pg_fds.specs.writing.Drafts.{listed}
+use Rattle.pg_fds.specs.writing.Places.{declared_in}
+use Rattle.pg_fds.specs.writing.Set.{services_items}
 use Rattle.pg_fds.proofs.writing.services.services.Given as goal
 
 abbrev pub invariant-loop-id : goal.invariant-loop-id

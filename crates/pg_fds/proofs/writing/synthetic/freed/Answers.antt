@@ -1,8 +1,8 @@
 use Rattle.std.proofs.Common.{◌≡◌, ◌+◌, ◌-◌, ◌∷◌, true, false, ap, sym, ◌∙◌}
 use Rattle.std.specs.BTreeSet.{contains_text}
 use Rattle.std.specs.String.{string_bytes}
-use Rattle.pg_fds.specs.Synthetic.{freed, sign}
-use Rattle.pg_fds.proofs.SyntheticLaws.{free, not_free, sign_begins}
+use Rattle.pg_fds.specs.writing.Synthetic.{freed, sign}
+use Rattle.pg_fds.proofs.lemmas.writing.SyntheticLaws.{free, not_free, sign_begins}
 use Rattle.pg_fds.proofs.writing.synthetic.freed.Goals as goal
 
 pub returns-then-not-contains : goal.returns-then-not-contains

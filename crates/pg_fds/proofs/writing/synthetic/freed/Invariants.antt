@@ -1,7 +1,7 @@
 use Rattle.std.proofs.Common.{◌≡◌, ℕ, ◌-◌, List, true}
 use Rattle.std.specs.String.{string_bytes}
-use Rattle.pg_fds.specs.MadeNames.{HasMade, begins_made}
-use Rattle.pg_fds.specs.Synthetic.{freed}
+use Rattle.pg_fds.specs.writing.MadeNames.{HasMade, begins_made}
+use Rattle.pg_fds.specs.writing.Synthetic.{freed}
 use Rattle.pg_fds.proofs.writing.synthetic.freed.Given as goal
 
 abbrev pub invariant-loop : goal.invariant-loop

@@ -1,10 +1,10 @@
 use Rattle.std.proofs.Common.{◌≡◌, ◌+◌, length, map, ap, sym, subst, ◌∙◌, arith}
 use Rattle.std.proofs.lemmas.List.{length-map}
 use Rattle.std.specs.String.{string_bytes}
-use Rattle.pg_fds.specs.Lent.{lent}
-use Rattle.pg_fds.specs.MadeNames.{HasMade}
-use Rattle.pg_fds.specs.Synthetic.{synthetic_name, synthetic_oneofs}
-use Rattle.pg_fds.proofs.SyntheticLaws.{length-onto, onto, onto-append, step_made}
+use Rattle.pg_fds.specs.descriptor.Lent.{lent}
+use Rattle.pg_fds.specs.writing.MadeNames.{HasMade}
+use Rattle.pg_fds.specs.writing.Synthetic.{synthetic_name, synthetic_oneofs}
+use Rattle.pg_fds.proofs.lemmas.writing.SyntheticLaws.{length-onto, onto, onto-append, step_made}
 use Rattle.pg_fds.proofs.writing.synthetic.synthetic_oneofs.Goals as goal
 
 pub loop-field-preserved : goal.loop-field-preserved

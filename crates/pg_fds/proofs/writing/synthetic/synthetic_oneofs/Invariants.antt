@@ -1,9 +1,9 @@
 use Rattle.std.proofs.Common.{◌≡◌, ◌++◌, map, drop}
 use Rattle.std.specs.String.{string_bytes}
-use Rattle.pg_fds.specs.Lent.{lent}
-use Rattle.pg_fds.specs.MadeNames.{HasMade}
-use Rattle.pg_fds.specs.Synthetic.{synthetic_oneofs}
-use Rattle.pg_fds.proofs.SyntheticLaws.{onto}
+use Rattle.pg_fds.specs.descriptor.Lent.{lent}
+use Rattle.pg_fds.specs.writing.MadeNames.{HasMade}
+use Rattle.pg_fds.specs.writing.Synthetic.{synthetic_oneofs}
+use Rattle.pg_fds.proofs.lemmas.writing.SyntheticLaws.{onto}
 use Rattle.pg_fds.proofs.writing.synthetic.synthetic_oneofs.Given as goal
 
 abbrev pub invariant-loop-field : goal.invariant-loop-field

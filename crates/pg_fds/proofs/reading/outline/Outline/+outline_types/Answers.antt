@@ -7,18 +7,23 @@ use Rattle.pg_schema.specs.rules.DeclaredNames.{within}
 use Rattle.pg_schema.specs.rules.Scopes.{enum_places, type_places}
 use Rattle.pg_dyn.specs.Kept.{message_of}
 use Rattle.pg_fds.specs.declared.reading.outline.Outlined.{Outlined}
-use Rattle.pg_fds.specs.Declarations.{Adds, types_declared, whole_declared}
-use Rattle.pg_fds.specs.Outlines.{NameOneofs, NamesOneofs, enum_rows, row, row_in, rows_in, rows_of_enums, rows_of_type, type_row, type_rows}
-use Rattle.pg_fds.specs.OutlinedPlaces.{behind_type, counts_of, each_from, inside_type, placed_type, placed_types, placed_with, places_of_types}
-use Rattle.pg_fds.specs.Said.{children_at}
-use Rattle.pg_fds.specs.SetNames.{full_name}
-use Rattle.pg_fds.specs.SaidTypes.{is_no_entry}
-use Rattle.pg_fds.proofs.Declaring.{Left, adds_none, left_all, left_none, left_on, seen_drop, seen_past}
-use Rattle.pg_fds.proofs.NameLoops.{has_on, seen}
-use Rattle.pg_fds.proofs.OutlinedNames.{declared_below, deep_fails, enum_rows_on, enums_below, enums_fail, few_enums, few_types, lists_end, lists_on, no_enum_rows, no_type_rows, oneofs_above, oneofs_here, rows_below, rows_long, taken, type_added, type_fails, type_rows_on, types_fail, seen_long}
-use Rattle.pg_fds.proofs.OutlinedPlaces.{counts_are, counts_on, each_on, no_placed, placed_below, placed_on, places_below, seen_more}
-use Rattle.pg_fds.proofs.OrderSteps.{map_more}
+use Rattle.pg_fds.specs.stated.Declarations.{Adds, types_declared, whole_declared}
+use Rattle.pg_fds.specs.stated.Outlines.{NameOneofs, NamesOneofs, enum_rows, row, row_in, rows_in, rows_of_enums, rows_of_type, type_row, type_rows}
+use Rattle.pg_fds.specs.reading.OutlinedPlaces.{behind_type, counts_of, each_from, inside_type, placed_type, placed_types, placed_with, places_of_types}
+use Rattle.pg_fds.specs.stated.Said.{children_at}
+use Rattle.pg_fds.specs.stated.SetNames.{full_name}
+use Rattle.pg_fds.specs.stated.SaidTypes.{is_no_entry}
+use Rattle.pg_fds.proofs.lemmas.outline.Declaring.{Left, adds_none, left_all, left_none, left_on, seen_drop, seen_past}
+use Rattle.pg_fds.proofs.lemmas.outline.NameLoops.{has_on, seen}
+use Rattle.pg_fds.proofs.lemmas.outline.OutlinedNames.{declared_below, deep_fails, enum_rows_on, enums_below, enums_fail, few_enums, few_types, lists_end, lists_on, no_enum_rows, no_type_rows, oneofs_above, oneofs_here, rows_below, rows_long, taken, type_added, type_fails, type_rows_on, types_fail, seen_long}
+use Rattle.pg_fds.proofs.lemmas.outline.OutlinedPlaces.{counts_are, counts_on, each_on, no_placed, placed_below, placed_on, places_below, seen_more}
+use Rattle.pg_fds.proofs.lemmas.order.OrderSteps.{map_more}
 use Rattle.pg_fds.proofs.reading.outline.Outline.+outline_types.Goals as goal
+
+pub returns-in_err-ensure_none-clause-refused : goal.returns-in_err-ensure_none-clause-refused
+returns-in_err-ensure_none-clause-refused t c =
+    let p = err_from_is_err_and c.from_residual.result c.from_residual.ensures.1 in
+    rw p.1 (λ types enums oneofs fresh. absurd (c.in_err-ensure_none.ensures.refused (subst (λ d. NameOneofs d (seen c.args.messages.now)) c.if-depth-eq0.true oneofs)))
 
 pub returns-then-depth-eq0 : goal.returns-then-depth-eq0
 returns-then-depth-eq0 t c =
@@ -35,7 +40,7 @@ returns-then-depth-eq0 t c =
         adds = subst (λ d. Adds (types_declared d scope (counts_of self) ms) self.names self.names) (sym c.if-depth-eq0.true) (adds_none self.names);
         few_types = λ before. before;
         few_enums = λ before. before;
-        oneofs = subst (λ d. NameOneofs d ms) (sym c.if-depth-eq0.true) tt;
+        oneofs = subst (λ d. NameOneofs d ms) (sym c.if-depth-eq0.true) c.in_ok-ensure_none.ensures.none;
       };
       refused = tt;
     }

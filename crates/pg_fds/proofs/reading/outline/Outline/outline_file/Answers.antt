@@ -4,14 +4,14 @@ use Rattle.std.proofs.lemmas.Result.{err_from_is_err_and}
 use Rattle.pg_schema.specs.rules.Scopes.{enum_places, service_places, type_places}
 use Rattle.pg_dyn.specs.Kept.{message_of}
 use Rattle.pg_fds.specs.declared.reading.outline.Outlined.{Outlined}
-use Rattle.pg_fds.specs.Outlines.{NameOneofs, enum_rows, file_enums, file_types, row, row_in, rows_in, type_row, type_rows}
-use Rattle.pg_fds.specs.OutlinedPlaces.{counts_of, inside_file, placed_file, placed_type, placed_types, places_of_types}
-use Rattle.pg_fds.specs.Said.{children_at, text_at}
-use Rattle.pg_fds.specs.SaidTypes.{is_entry}
-use Rattle.pg_fds.proofs.OutlinedFiles.{file_added, file_enums_fail, file_services_fail, file_types_fail, parts_fail}
-use Rattle.pg_fds.proofs.OutlinedNames.{rows_long, seen_long}
-use Rattle.pg_fds.proofs.OutlinedPlaces.{counts_are, file_placed}
-use Rattle.pg_fds.proofs.OrderSteps.{map_more}
+use Rattle.pg_fds.specs.stated.Outlines.{NameOneofs, enum_rows, file_enums, file_types, row, row_in, rows_in, type_row, type_rows}
+use Rattle.pg_fds.specs.reading.OutlinedPlaces.{counts_of, inside_file, placed_file, placed_type, placed_types, places_of_types}
+use Rattle.pg_fds.specs.stated.Said.{children_at, text_at}
+use Rattle.pg_fds.specs.stated.SaidTypes.{is_entry}
+use Rattle.pg_fds.proofs.lemmas.outline.OutlinedFiles.{file_added, file_enums_fail, file_services_fail, file_types_fail, parts_fail}
+use Rattle.pg_fds.proofs.lemmas.outline.OutlinedNames.{rows_long, seen_long}
+use Rattle.pg_fds.proofs.lemmas.outline.OutlinedPlaces.{counts_are, file_placed}
+use Rattle.pg_fds.proofs.lemmas.order.OrderSteps.{map_more}
 use Rattle.pg_fds.proofs.reading.outline.Outline.outline_file.Goals as goal
 
 pub returns-in_err-declare_scope-clause-refused : goal.returns-in_err-declare_scope-clause-refused

@@ -1,12 +1,12 @@
 use Rattle.std.proofs.Common.{◌≡◌, ◌+◌, ◌<◌, drop, ◌∷◌, [], length, map, suc, rules, sym, ap, subst, arith}
 use Rattle.std.proofs.lemmas.Result.{err_from_is_err_and}
 use Rattle.pg_schema.specs.declared.parts.field.EnumId.{EnumId}
-use Rattle.pg_fds.specs.Outlines.{row, row_in}
+use Rattle.pg_fds.specs.stated.Outlines.{row, row_in}
 use Rattle.pg_dyn.specs.Kept.{message_of}
-use Rattle.pg_fds.specs.Declarations.{enum_declared, enums_declared}
-use Rattle.pg_fds.proofs.Declaring.{Left, left_all, left_fails, left_none, left_on, seen_drop, seen_past}
-use Rattle.pg_fds.proofs.NameLoops.{seen}
-use Rattle.pg_fds.proofs.OutlinedNames.{count_at, ids_on, maps_on, rows_long}
+use Rattle.pg_fds.specs.stated.Declarations.{enum_declared, enums_declared}
+use Rattle.pg_fds.proofs.lemmas.outline.Declaring.{Left, left_all, left_fails, left_none, left_on, seen_drop, seen_past}
+use Rattle.pg_fds.proofs.lemmas.outline.NameLoops.{seen}
+use Rattle.pg_fds.proofs.lemmas.outline.OutlinedNames.{count_at, ids_on, maps_on, rows_long}
 use Rattle.pg_fds.proofs.reading.outline.enums.outline_enums.Goals as goal
 
 pub loop-message-init : goal.loop-message-init

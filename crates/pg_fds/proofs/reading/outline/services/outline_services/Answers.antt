@@ -1,12 +1,12 @@
 use Rattle.std.proofs.Common.{◌≡◌, ◌+◌, ◌<◌, drop, length, map, rules, ap, arith}
 use Rattle.std.proofs.lemmas.Result.{err_from_is_err_and}
 use Rattle.pg_schema.specs.declared.parts.service.ServiceId.{ServiceId}
-use Rattle.pg_fds.specs.Outlines.{row, row_in}
+use Rattle.pg_fds.specs.stated.Outlines.{row, row_in}
 use Rattle.pg_dyn.specs.Kept.{message_of}
-use Rattle.pg_fds.specs.Declarations.{service_declared, services_declared}
-use Rattle.pg_fds.proofs.Declaring.{left_all, left_fails, left_none, left_on, seen_drop, seen_past}
-use Rattle.pg_fds.proofs.NameLoops.{seen}
-use Rattle.pg_fds.proofs.OutlinedNames.{count_at, ids_on, maps_on}
+use Rattle.pg_fds.specs.stated.Declarations.{service_declared, services_declared}
+use Rattle.pg_fds.proofs.lemmas.outline.Declaring.{left_all, left_fails, left_none, left_on, seen_drop, seen_past}
+use Rattle.pg_fds.proofs.lemmas.outline.NameLoops.{seen}
+use Rattle.pg_fds.proofs.lemmas.outline.OutlinedNames.{count_at, ids_on, maps_on}
 use Rattle.pg_fds.proofs.reading.outline.services.outline_services.Goals as goal
 
 pub loop-message-init : goal.loop-message-init

@@ -1,7 +1,7 @@
 use Rattle.pg_dyn.specs.Kept.{ends, type_of, unknown_of}
 use Rattle.std.proofs.Common.{◌≢◌, [], sym, subst, ◌∙◌}
-use Rattle.pg_fds.specs.Drafts.{Drafted}
-use Rattle.pg_fds.proofs.Appending.{fields_filled}
+use Rattle.pg_fds.specs.writing.Drafts.{Drafted}
+use Rattle.pg_fds.proofs.lemmas.writing.Appending.{fields_filled}
 use Rattle.pg_fds.proofs.writing.draft.Draft.is_empty.Goals as goal
 
 pub returns-clause-filled : goal.returns-clause-filled

@@ -1,7 +1,7 @@
 use Rattle.std.proofs.Common.{◌∙◌, refl}
 use Rattle.pg_dyn.specs.declared.message.Content.TheVariants.{Many}
 use Rattle.pg_schema.specs.Parts.{shape_of}
-use Rattle.pg_fds.proofs.Appending.{list_put, takes_list}
+use Rattle.pg_fds.proofs.lemmas.writing.Appending.{list_put, takes_list}
 use Rattle.pg_fds.proofs.writing.draft.Draft.put_all.Goals as goal
 use Rattle.pg_fds.proofs.writing.draft.Draft.put_all.Goals.{in-Ok, in-Err}
 

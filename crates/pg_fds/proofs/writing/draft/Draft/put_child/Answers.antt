@@ -2,9 +2,9 @@ use Rattle.std.proofs.Common.{◌≡◌, [], ◌∷◌, ◌∙◌, ap, sym, subs
 use Rattle.std.specs.Result.{OnOk}
 use Rattle.pg_dyn.specs.Kept.{message_of, type_of}
 use Rattle.pg_dyn.specs.Message.{Msg, message_from}
-use Rattle.pg_fds.specs.Drafts.{Drafted, put}
-use Rattle.pg_fds.specs.Items.{item}
-use Rattle.pg_fds.proofs.Appending.{made_of}
+use Rattle.pg_fds.specs.writing.Drafts.{Drafted, put}
+use Rattle.pg_fds.specs.writing.Items.{item}
+use Rattle.pg_fds.proofs.lemmas.writing.Appending.{made_of}
 use Rattle.pg_fds.proofs.writing.draft.Draft.put_child.Goals as goal
 
 pub returns : goal.returns

@@ -1,8 +1,8 @@
 use Rattle.std.proofs.Common.{◌≡◌, ap, subst, ◌∙◌}
 use Rattle.std.specs.Result.{OnOk}
-use Rattle.pg_fds.specs.Drafts.{Listed, put}
-use Rattle.pg_fds.specs.Items.{children}
-use Rattle.pg_fds.proofs.Appending.{children_shown}
+use Rattle.pg_fds.specs.writing.Drafts.{Listed, put}
+use Rattle.pg_fds.specs.writing.Items.{children}
+use Rattle.pg_fds.proofs.lemmas.writing.Appending.{children_shown}
 use Rattle.pg_fds.proofs.writing.draft.Draft.put_children.Goals as goal
 
 pub returns : goal.returns

@@ -1,6 +1,6 @@
 use Rattle.std.proofs.Common.{◌∙◌}
 use Rattle.pg_schema.specs.Parts.{shape_of}
-use Rattle.pg_fds.proofs.Appending.{one_put, takes_one}
+use Rattle.pg_fds.proofs.lemmas.writing.Appending.{one_put, takes_one}
 use Rattle.pg_fds.proofs.writing.draft.Draft.put_one.Goals as goal
 use Rattle.pg_fds.proofs.writing.draft.Draft.put_one.Goals.{in-Ok, in-Err}
 

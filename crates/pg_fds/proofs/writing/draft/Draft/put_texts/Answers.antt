@@ -1,9 +1,9 @@
 use Rattle.std.proofs.Common.{◌≡◌, map, subst}
 use Rattle.std.specs.Result.{OnOk}
 use Rattle.std.specs.String.{string_bytes}
-use Rattle.pg_fds.specs.Building.{shown}
-use Rattle.pg_fds.specs.Drafts.{put}
-use Rattle.pg_fds.proofs.Appending.{texts_shown}
+use Rattle.pg_fds.specs.writing.Building.{shown}
+use Rattle.pg_fds.specs.writing.Drafts.{put}
+use Rattle.pg_fds.proofs.lemmas.writing.Appending.{texts_shown}
 use Rattle.pg_fds.proofs.writing.draft.Draft.put_texts.Goals as goal
 
 pub returns : goal.returns

@@ -1,5 +1,5 @@
 use Rattle.pg_schema.specs.Parts.{shape_of}
-use Rattle.pg_fds.proofs.Appending.{begun_is}
+use Rattle.pg_fds.proofs.lemmas.writing.Appending.{begun_is}
 use Rattle.pg_fds.proofs.writing.draft.Writer.draft.Goals as goal
 
 pub invariant_of-result : goal.invariant_of-result

@@ -1,0 +1,4 @@
+pub mod Examples
+pub mod ReadExamples
+pub mod PlaceExamples
+pub mod CauseExamples

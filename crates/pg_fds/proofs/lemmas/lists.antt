@@ -1,0 +1,13 @@
+pub mod Tests
+pub mod Zips
+pub mod ViewLaws
+pub mod Alike
+pub mod Seen
+pub mod Matched
+pub mod SameSorted
+pub mod Marks
+pub mod Each
+pub mod NameCounts
+pub mod PlacesOnce
+pub mod Sorting
+pub mod TextSets

@@ -1,0 +1,8 @@
+pub mod SetLaws
+pub mod Walking
+pub mod Visited
+pub mod Ordering
+pub mod OrderSteps
+pub mod FilesInOrder
+pub mod VisitLaws
+pub mod StatedOrder

@@ -1,0 +1,108 @@
+-- The order of a set's files is a function: their post-order, where they have one.
+use Rattle.std.proofs.Common.{◌≡◌, ℕ, zero, suc, ◌<◌, inl, inr, Bool, true, false, cond, not, ◌&&◌, List, [], ◌∷◌, map, length, Option, Some, None, option_map, slice_get, refl, ap, ap₂, sym, subst, ◌∙◌, arith}
+use Rattle.std.proofs.lemmas.List.{length-map}
+use Rattle.std.proofs.lemmas.Option.{none-some, same_Some, slice_get-map}
+use Rattle.std.proofs.lemmas.Slice.Eq.{bytes_eq-Decides}
+use Rattle.std.specs.List.{AllByRecursion, cons_option, list_all}
+use Rattle.std.specs.Option.{option_and_then, unwrap_or}
+use Rattle.std.specs.Str.{bytes_eq}
+use Rattle.pg_schema.specs.rules.Pairs.{are_distinct, differ}
+use Rattle.pg_schema.proofs.lemmas.rules.PairLemmas.{and_both, and_false_right, and_left, and_right}
+use Rattle.pg_dyn.specs.Message.{Message}
+use Rattle.pg_fds.specs.reading.FilePlaces.{AreOrdered, name_at}
+use Rattle.pg_fds.specs.stated.Outlines.{files_at}
+use Rattle.pg_fds.specs.stated.PostOrder.{HasNoOrder, Importer, IsPostOrder, importer_of, imports_at, imports_once, paths_of}
+use Rattle.pg_fds.specs.stated.Said.{text_at}
+use Rattle.pg_fds.specs.stated.StatedNames.{each, only_if}
+use Rattle.pg_fds.specs.stated.StatedOrder.{file_at, in_post_order, paths_in_post_order, visit}
+use Rattle.pg_fds.proofs.lemmas.order.FilesInOrder.{places_within}
+use Rattle.pg_fds.proofs.lemmas.order.SetLaws.{paths_are}
+use Rattle.pg_fds.proofs.lemmas.order.VisitLaws.{lists_visit, visit_lists}
+use Rattle.pg_fds.proofs.lemmas.order.Visited.{Text, is_file}
+use Rattle.pg_fds.proofs.lemmas.order.Ordering.{there}
+
+-- ---- paths
+
+pub paths_ordered : (skips : Bool) (files : List Importer) (paths : List Text) → are_distinct (paths_of files) ≡ true → list_all imports_once files ≡ true → IsPostOrder skips files paths
+    → paths_in_post_order skips files ≡ Some paths
+paths_ordered skips files paths once imports order =
+    ap (λ b. only_if b (visit (length files) (imports_at skips files) [] (paths_of files))) (and_both (are_distinct (paths_of files)) (list_all imports_once files) once imports)
+    ∙ subst (λ n. visit n (imports_at skips files) [] (paths_of files) ≡ Some paths) (length-map files (λ (i : Importer). i.path))
+    (lists_visit (imports_at skips files) (paths_of files) (is_file skips files) (paths_of files) paths order)
+
+pub no_paths : (skips : Bool) (files : List Importer) → HasNoOrder skips files → paths_in_post_order skips files ≡ None
+no_paths skips files (inl twice) = ap (λ b. only_if (b && list_all imports_once files) (visit (length files) (imports_at skips files) [] (paths_of files))) twice
+no_paths skips files (inr (inl twice)) =
+    ap (λ b. only_if (are_distinct (paths_of files) && b) (visit (length files) (imports_at skips files) [] (paths_of files))) twice
+    ∙ ap (λ b. only_if b (visit (length files) (imports_at skips files) [] (paths_of files))) (and_false_right (are_distinct (paths_of files)))
+no_paths skips files (inr (inr none)) =
+    ap (only_if (are_distinct (paths_of files) && list_all imports_once files)) (of (visit (length files) (imports_at skips files) [] (paths_of files)) refl)
+    ∙ still (are_distinct (paths_of files) && list_all imports_once files)
+  where
+    still : (b : Bool) → only_if {A = List Text} b None ≡ None
+    still true = refl
+    still false = refl
+
+    of : (o : Option (List Text)) → visit (length files) (imports_at skips files) [] (paths_of files) ≡ o → o ≡ None
+    of None e = refl
+    of (Some paths) e = absurd (none paths (visit_lists (imports_at skips files) (length files) [] (paths_of files) paths e))
+
+-- ---- the files of these paths
+
+abbrev pub name : Message → Text
+name m = text_at 1 m
+
+apart_at : (x : Text) (files : List Message) (place : ℕ) (m : Message) → list_all (differ x) (map name files) ≡ true → slice_get files place ≡ Some m → bytes_eq x (name m) ≡ false
+apart_at x [] place m apart is = absurd (none-some m is)
+apart_at x (f ∷ files) zero m apart is = of (bytes_eq x (name m)) (ap (λ f. differ x (name f)) (sym (same_Some f m is)) ∙ and_left (differ x (name f)) (list_all (differ x) (map name files)) apart)
+  where
+    of : (b : Bool) → not b ≡ true → b ≡ false
+    of true e = sym e
+    of false e = refl
+apart_at x (f ∷ files) (suc place) m apart is = apart_at x files place m (and_right (differ x (name f)) (list_all (differ x) (map name files)) apart) is
+
+-- where names stand once, a file is the one of its name
+pub file_named : (files : List Message) (place : ℕ) (m : Message) → are_distinct (map name files) ≡ true → slice_get files place ≡ Some m → file_at files (name m) ≡ Some m
+file_named [] place m once is = absurd (none-some m is)
+file_named (f ∷ files) zero m once is =
+    ap (λ b. cond b (Some f) (file_at files (name m))) ((bytes_eq-Decides (name f) (name m)).1 (ap name (same_Some f m is))) ∙ is
+file_named (f ∷ files) (suc place) m once is =
+    ap (λ b. cond b (Some f) (file_at files (name m))) (apart_at (name f) files place m (and_left (list_all (differ (name f)) (map name files)) (are_distinct (map name files)) once) is)
+    ∙ file_named files place m (and_right (list_all (differ (name f)) (map name files)) (are_distinct (map name files)) once) is
+
+abbrev pub IsFile : List Message → Message → Type 0
+IsFile files m = file_at files (name m) ≡ Some m
+
+each_file : (files listed : List Message) → AllByRecursion (IsFile files) listed → each (file_at files) (map name listed) ≡ Some listed
+each_file files [] are = refl
+each_file files (m ∷ listed) are =
+    ap (option_and_then (λ x. option_map (λ xs. x ∷ xs) (each (file_at files) (map name listed)))) are.0 ∙ ap (option_map (λ xs. m ∷ xs)) (each_file files listed are.1)
+
+-- files at places have the names there
+files_named : (files : List Message) (places : List ℕ) → are_distinct (map name files) ≡ true → AllByRecursion (λ place. place < length files) places
+    → (map (name_at (map name files)) places ≡ map name (files_at files places)) × AllByRecursion (IsFile files) (files_at files places)
+files_named files [] once within = (refl, tt)
+files_named files (p ∷ places) once within =
+    let (m, found) = there files p within.0 in
+    let named : name_at (map name files) p ≡ name m = ap (λ o. unwrap_or o []) (slice_get-map name files p ∙ ap (option_map name) found) in
+    let later = files_named files places once within.1 in
+    subst (λ o. (name_at (map name files) p ∷ map (name_at (map name files)) places ≡ map name (cons_option o (files_at files places))) × AllByRecursion (IsFile files) (cons_option o (files_at files places)))
+    (sym found) (ap₂ (λ n ns. n ∷ ns) named later.0, (file_named files p m once found, later.1))
+
+-- ---- the files in order
+
+-- files of which the names stand in post-order
+pub files_ordered : (skips : Bool) (files listed : List Message) → are_distinct (paths_of (map importer_of files)) ≡ true → list_all imports_once (map importer_of files) ≡ true
+    → IsPostOrder skips (map importer_of files) (map name listed) → AllByRecursion (IsFile files) listed → in_post_order skips files ≡ Some listed
+files_ordered skips files listed once imports order are =
+    ap (option_and_then (each (file_at files))) (paths_ordered skips (map importer_of files) (map name listed) once imports order) ∙ each_file files listed are
+
+-- the files at places in post-order
+pub order_is : (skips : Bool) (files : List Message) (places : List ℕ) → AreOrdered skips (map importer_of files) places → in_post_order skips files ≡ Some (files_at files places)
+order_is skips files places ordered =
+    let named = files_named files places (subst (λ paths. are_distinct paths ≡ true) (paths_are files) ordered.once) (places_within skips files places ordered) in
+    files_ordered skips files (files_at files places) ordered.once ordered.imports
+    (subst (IsPostOrder skips (map importer_of files)) (ap (λ paths. map (name_at paths) places) (paths_are files) ∙ named.0) ordered.order) named.1
+
+pub no_order : (skips : Bool) (files : List Message) → HasNoOrder skips (map importer_of files) → in_post_order skips files ≡ None
+no_order skips files none = ap (option_and_then (each (file_at files))) (no_paths skips (map importer_of files) none)

@@ -1,0 +1,13 @@
+pub mod Outlining
+pub mod Declaring
+pub mod FreshNames
+pub mod Fronts
+pub mod DeclaredLists
+pub mod DeclaredPlaces
+pub mod MeantNames
+pub mod FreeFiles
+pub mod NameLoops
+pub mod OutlinedNames
+pub mod OutlinedFiles
+pub mod OutlinedPlaces
+pub mod InOrderLaws

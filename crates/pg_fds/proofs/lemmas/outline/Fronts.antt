@@ -1,0 +1,129 @@
+-- The parts of packages: what stands before each dot of a name, and the whole.
+use Rattle.std.proofs.Common.{◌≡◌, ℕ, suc, ◌<◌, Bool, true, false, cond, not, ◌&&◌, nat_eq, List, [], ◌∷◌, ◌++◌, map, filter, length, get_or, refl, ap, sym, subst, ◌∙◌, arith, append_assoc, append-nil}
+use Rattle.std.proofs.lemmas.Bool.Decides.{nat_tests}
+use Rattle.std.proofs.lemmas.List.Folds.{list_all-append, list_all-map}
+use Rattle.std.proofs.lemmas.Str.{encode_ascii, inside_one}
+use Rattle.std.proofs.Math.Utf8.{encode}
+use Rattle.std.specs.List.{flat_map, list_all}
+use Rattle.std.specs.Str.{bytes_eq}
+use Rattle.pg_schema.specs.rules.Packages.{is_free_of, is_front}
+use Rattle.pg_schema.specs.rules.Pairs.{differ}
+use Rattle.pg_fds.specs.stated.Declarations.{fronts, package_parts}
+use Rattle.pg_fds.specs.stated.StatedTable.{has_name}
+use Rattle.pg_fds.proofs.lemmas.outline.FreshNames.{all_both, are_apart}
+use Rattle.pg_fds.proofs.lemmas.lists.Tests.{same_number}
+use Rattle.pg_fds.proofs.lemmas.lists.Alike.{all_agree}
+
+-- ---- parts and names
+
+all_true : {A : Type 0} (test : A → Bool) → ((x : A) → test x ≡ true) → (xs : List A) → list_all test xs ≡ true
+all_true test holds [] = refl
+all_true test holds (x ∷ xs) = ap (λ b. b && list_all test xs) (holds x) ∙ all_true test holds xs
+
+eq_sym : (a b : ℕ) → nat_eq a b ≡ nat_eq b a
+eq_sym a b = of (nat_eq a b) (nat_eq b a) refl refl
+  where
+    of : (r s : Bool) → nat_eq a b ≡ r → nat_eq b a ≡ s → nat_eq a b ≡ nat_eq b a
+    of true true p q = p ∙ sym q
+    of false false p q = p ∙ sym q
+    of true false p q = absurd (grind (arith, nat_tests))
+    of false true p q = absurd (grind (arith, nat_tests))
+
+-- the name is none of the parts, where it is no front of the whole
+no_front : (text name : List ℕ) → list_all (λ part. differ part name) (fronts text) ≡ not (is_front name text)
+no_front [] [] = refl
+no_front [] (x ∷ xs) = refl
+no_front (b ∷ bs) [] = of (nat_eq b 46) refl
+  where
+    longer : list_all (λ part. differ part []) (map (λ front. b ∷ front) (fronts bs)) ≡ true
+    longer = list_all-map (λ part. differ part []) (λ front. b ∷ front) (fronts bs) ∙ all_true (λ front. differ (b ∷ front) []) (λ front. refl) (fronts bs)
+
+    of : (r : Bool) → nat_eq b 46 ≡ r → list_all (λ part. differ part []) (fronts (b ∷ bs)) ≡ not (nat_eq b 46)
+    of true is = ap (λ r. list_all (λ part. differ part []) (cond r ([] ∷ map (λ front. b ∷ front) (fronts bs)) (map (λ front. b ∷ front) (fronts bs)))) is ∙ ap not (sym is)
+    of false is = ap (λ r. list_all (λ part. differ part []) (cond r ([] ∷ map (λ front. b ∷ front) (fronts bs)) (map (λ front. b ∷ front) (fronts bs)))) is ∙ (longer ∙ ap not (sym is))
+no_front (b ∷ bs) (x ∷ xs) = of (nat_eq b 46) refl ∙ (list_all-map (λ part. differ part (x ∷ xs)) (λ front. b ∷ front) (fronts bs) ∙ here (no_front bs xs) (nat_eq b x) refl)
+  where
+    of : (r : Bool) → nat_eq b 46 ≡ r → list_all (λ part. differ part (x ∷ xs)) (fronts (b ∷ bs)) ≡ list_all (λ part. differ part (x ∷ xs)) (map (λ front. b ∷ front) (fronts bs))
+    of true is = ap (λ r. list_all (λ part. differ part (x ∷ xs)) (cond r ([] ∷ map (λ front. b ∷ front) (fronts bs)) (map (λ front. b ∷ front) (fronts bs)))) is
+    of false is = ap (λ r. list_all (λ part. differ part (x ∷ xs)) (cond r ([] ∷ map (λ front. b ∷ front) (fronts bs)) (map (λ front. b ∷ front) (fronts bs)))) is
+
+    here : list_all (λ part. differ part xs) (fronts bs) ≡ not (is_front xs bs) → (r : Bool) → nat_eq b x ≡ r → list_all (λ front. differ (b ∷ front) (x ∷ xs)) (fronts bs) ≡ not (is_front (x ∷ xs) (b ∷ bs))
+    here before true is =
+        all_agree (λ front. differ (b ∷ front) (x ∷ xs)) (λ front. differ front xs) (λ front. ap (λ r. not (r && bytes_eq front xs)) is) (fronts bs)
+        ∙ (before ∙ ap (λ r. not (r && is_front xs bs)) (sym (eq_sym x b ∙ is)))
+    here before false is =
+        all_true (λ front. differ (b ∷ front) (x ∷ xs)) (λ front. ap (λ r. not (r && bytes_eq front xs)) is) (fronts bs)
+        ∙ ap (λ r. not (r && is_front xs bs)) (sym (eq_sym x b ∙ is))
+
+-- each part against each name, and each name against each part
+turned : {A B : Type 0} (test : A → B → Bool) (xs : List A) (ys : List B) → list_all (λ x. list_all (test x) ys) xs ≡ list_all (λ y. list_all (λ x. test x y) xs) ys
+turned test [] ys = sym (all_true (λ y. true) (λ y. refl) ys)
+turned test (x ∷ xs) ys = ap (λ r. list_all (test x) ys && r) (turned test xs ys) ∙ sym (all_both (test x) (λ y. list_all (λ z. test z y) xs) ys)
+
+parts_free : (names : List (List ℕ)) (whole : List ℕ) → are_apart names (fronts whole) ≡ is_free_of names whole
+parts_free names whole =
+    turned (λ part name. differ part name) (fronts whole) names ∙ all_agree (λ name. list_all (λ part. differ part name) (fronts whole)) (λ name. not (is_front name whole)) (no_front whole) names
+
+-- the names against the parts of packages: of those that have a name
+pub packages_free : (names packages : List (List ℕ)) → are_apart names (flat_map package_parts packages) ≡ list_all (is_free_of names) (filter has_name packages)
+packages_free names [] = refl
+packages_free names ([] ∷ packages) = packages_free names packages
+packages_free names ((b ∷ bs) ∷ packages) =
+    list_all-append (λ part. list_all (λ name. differ part name) names) (fronts (b ∷ bs)) (flat_map package_parts packages)
+    ∙ (ap (λ r. r && are_apart names (flat_map package_parts packages)) (parts_free names (b ∷ bs)) ∙ ap (λ r. is_free_of names (b ∷ bs) && r) (packages_free names packages))
+
+-- ---- the letters of a package
+
+-- bytes without a dot stand in front of each part of what is behind them
+fronts_past : (bytes later : List ℕ) → ((k : ℕ) → k < length bytes → get_or (bytes ++ later) k 0 ≡ 46 → ⊥) → fronts (bytes ++ later) ≡ map (λ front. bytes ++ front) (fronts later)
+fronts_past [] later none = sym (map-same (fronts later))
+  where
+    map-same : (xs : List (List ℕ)) → map (λ front. [] ++ front) xs ≡ xs
+    map-same [] = refl
+    map-same (x ∷ xs) = ap (λ ys. x ∷ ys) (map-same xs)
+fronts_past (b ∷ bs) later none = of (nat_eq b 46) refl ∙ (ap (map (λ front. b ∷ front)) (fronts_past bs later deeper) ∙ map-map (fronts later))
+  where
+    deeper : (k : ℕ) → k < length bs → get_or (bs ++ later) k 0 ≡ 46 → ⊥
+    deeper k h is = none (suc k) (omega (arith, h)) is
+
+    map-map : (xs : List (List ℕ)) → map (λ front. b ∷ front) (map (λ front. bs ++ front) xs) ≡ map (λ front. (b ∷ bs) ++ front) xs
+    map-map [] = refl
+    map-map (x ∷ xs) = ap (λ ys. (b ∷ bs ++ x) ∷ ys) (map-map xs)
+
+    of : (r : Bool) → nat_eq b 46 ≡ r → fronts (b ∷ bs ++ later) ≡ map (λ front. b ∷ front) (fronts (bs ++ later))
+    of true is = absurd (none 0 (omega arith) (same_number b 46 is))
+    of false is = ap (λ r. cond r ([] ∷ map (λ front. b ∷ front) (fronts (bs ++ later))) (map (λ front. b ∷ front) (fronts (bs ++ later)))) is
+
+-- the parts that begin with what was read, where so much is left
+abbrev pub parts_from : (front rest : List ℕ) → List (List ℕ)
+parts_from front rest = map (λ part. front ++ part) (fronts rest)
+
+pub parts_begin : (path : List ℕ) → parts_from [] path ≡ fronts path
+parts_begin path = of (fronts path)
+  where
+    of : (xs : List (List ℕ)) → map (λ part. [] ++ part) xs ≡ xs
+    of [] = refl
+    of (x ∷ xs) = ap (λ ys. x ∷ ys) (of xs)
+
+joined : (a b : List ℕ) (xs : List (List ℕ)) → map (λ part. a ++ part) (map (λ part. b ++ part) xs) ≡ map (λ part. (a ++ b) ++ part) xs
+joined a b [] = refl
+joined a b (x ∷ xs) = ap (λ y. y ∷ map (λ part. a ++ part) (map (λ part. b ++ part) xs)) (sym (append_assoc a b x)) ∙ ap (λ ys. ((a ++ b) ++ x) ∷ ys) (joined a b xs)
+
+-- a letter that is no dot
+pub letter_past : (front rest later grown : List ℕ) (letter : ℕ) → rest ≡ encode letter ++ later → grown ≡ front ++ encode letter → (letter ≡ 46 → ⊥) → parts_from front rest ≡ parts_from grown later
+letter_past front rest later grown letter next is other =
+    ap (λ r. parts_from front r) next
+    ∙ (ap (map (λ part. front ++ part)) (fronts_past (encode letter) later (λ k h dot. other (inside_one letter later (encode letter ++ later) k refl h (subst (λ n. n < 128) (sym dot) (omega arith)) ∙ dot)))
+    ∙ (joined front (encode letter) (fronts later) ∙ ap (λ g. parts_from g later) (sym is)))
+
+-- a dot
+pub dot_past : (front rest later grown : List ℕ) (letter : ℕ) → rest ≡ encode letter ++ later → grown ≡ front ++ encode letter → letter ≡ 46 → parts_from front rest ≡ front ∷ parts_from grown later
+dot_past front rest later grown letter next is dot =
+    let one : encode letter ≡ 46 ∷ [] = ap encode dot ∙ encode_ascii 46 (omega arith) in
+    ap (λ r. parts_from front r) (next ∙ ap (λ bs. bs ++ later) one)
+    ∙ (ap (λ f. f ∷ map (λ part. front ++ part) (map (λ part. 46 ∷ part) (fronts later))) (append-nil front)
+    ∙ ap (λ ps. front ∷ ps) (joined front (46 ∷ []) (fronts later) ∙ ap (λ g. parts_from g later) (ap (λ bs. front ++ bs) (sym one) ∙ sym is)))
+
+pub parts_end : (front rest : List ℕ) → length rest ≡ 0 → parts_from front rest ≡ front ∷ []
+parts_end front [] none = ap (λ f. f ∷ []) (append-nil front)
+parts_end front (x ∷ rest) none = absurd (omega (arith, none))

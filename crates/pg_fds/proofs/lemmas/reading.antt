@@ -1,0 +1,16 @@
+pub mod ElementLaws
+pub mod OneofLaws
+pub mod FileStateLaws
+pub mod CodeLaws
+pub mod Counted
+pub mod NamedOnce
+pub mod KeptOnce
+pub mod MadeOptions
+pub mod ReadLaws
+pub mod KeyAndValue
+pub mod OneofRanks
+pub mod FieldSteps
+pub mod OptionItems
+pub mod FileItems
+pub mod OwnerLaws
+pub mod SortedFields

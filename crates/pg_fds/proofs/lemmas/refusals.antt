@@ -1,0 +1,12 @@
+pub mod NoneStated
+pub mod NoneSteps
+pub mod BadTypes
+pub mod BadOneofs
+pub mod BadFields
+pub mod BadDeclarations
+pub mod BadOrder
+pub mod BadReferences
+pub mod NoneTypes
+pub mod NoneFields
+pub mod NoneDeclarations
+pub mod NoneOrder

@@ -1,0 +1,50 @@
+-- The names of rows, and of what they are of, where they mean what the rows are.
+use Rattle.std.proofs.Common.{◌≡◌, ℕ, List, None, Option, Some, length, map, option_map, slice_get, refl, ap, subst, ◌∙◌}
+use Rattle.std.proofs.lemmas.Option.{none-some, same_Some, slice_get-map}
+use Rattle.std.specs.List.{AllByRecursion}
+use Rattle.std.specs.String.{string_bytes}
+use Rattle.pg_schema.specs.declared.parts.message_type.MessageType.{MessageType}
+use Rattle.pg_fds.specs.declared.reading.outline.Named.{Named}
+use Rattle.pg_fds.specs.declared.reading.outline.Named.TheVariants as nameds
+use Rattle.pg_fds.specs.stated.Outlines.{Row}
+use Rattle.pg_fds.specs.writing.Places.{Declared}
+use Rattle.pg_fds.specs.stated.SetNames.{full_name}
+use Rattle.pg_fds.specs.stated.StatedNames.{Meanings}
+use Rattle.pg_fds.specs.stated.StatedTypes.{own_entries}
+use Rattle.pg_fds.proofs.lemmas.written.WrittenRows.{enum_row}
+use Rattle.pg_fds.proofs.lemmas.written.WrittenServices.{HasNames}
+use Rattle.pg_fds.proofs.lemmas.written.WrittenTypes.{EntriesMean, inside, none_entry, type_entries, type_row}
+
+-- the names of the message type's entry types mean some
+abbrev pub RowEntriesMean : Meanings → Row → Type 0
+RowEntriesMean means r = AllByRecursion (λ e. means (full_name r.0 e) ≡ Some nameds.Entry) (own_entries r.1)
+
+-- the names of the message types and enums mean them, by their places
+pub record AreMeant (means : Meanings) (type_rows enum_rows : List Row) : Type 0 where
+  pub types : (place : ℕ) (r : Row) → slice_get type_rows place ≡ Some r → means r.0 ≡ Some (nameds.Type (record { index = place }))
+  pub entries : (place : ℕ) (r : Row) → slice_get type_rows place ≡ Some r → RowEntriesMean means r
+  pub enums : (place : ℕ) (r : Row) → slice_get enum_rows place ≡ Some r → means r.0 ≡ Some (nameds.Enum (record { index = place }))
+
+module _ {T : Type 0} (row : T → Row) (ts : List T) (rows : List Row) (are : rows ≡ map row ts) where
+  row_of : (place : ℕ) (t : T) → slice_get ts place ≡ Some t → slice_get rows place ≡ Some (row t)
+  row_of place t at = ap (λ rs. slice_get rs place) are ∙ (slice_get-map row ts place ∙ ap (option_map row) at)
+
+  named_at : (means : Meanings) (named : ℕ → Named) → ((place : ℕ) (r : Row) → slice_get rows place ≡ Some r → means r.0 ≡ Some (named place)) → (place : ℕ) (n : List ℕ)
+      → option_map (λ t. (row t).0) (slice_get ts place) ≡ Some n → means n ≡ Some (named place)
+  named_at means named known place n is = of (slice_get ts place) refl is
+    where
+      of : (o : Option T) → slice_get ts place ≡ o → option_map (λ t. (row t).0) o ≡ Some n → means n ≡ Some (named place)
+      of None at is = absurd (none-some n is)
+      of (Some t) at is = subst (λ k. means k ≡ Some (named place)) (same_Some (row t).0 n is) (known place (row t) (row_of place t at))
+
+module _ (means : Meanings) (all : Declared) (types enums : List Row) (of_types : types ≡ map (type_row all) all.types) (of_enums : enums ≡ map enum_row all.enums) (meant : AreMeant means types enums) where
+  pub has_names : HasNames all means
+  has_names = record {
+    types = λ id name is. named_at (type_row all) all.types types of_types means (λ k. nameds.Type (record { index = k })) meant.types id.index name is;
+    enums = λ id name is. named_at enum_row all.enums enums of_enums means (λ k. nameds.Enum (record { index = k })) meant.enums id.index name is;
+  }
+
+  pub entries_mean : (place : ℕ) (t : MessageType) → slice_get all.types place ≡ Some t → EntriesMean means all t
+  entries_mean place t at =
+      subst (AllByRecursion (λ e. means (full_name (string_bytes t.name) e) ≡ Some nameds.Entry)) (type_entries all (inside all t) t (none_entry all (length all.types) t.nested_types.items))
+      (meant.entries place (type_row all t) (row_of (type_row all) all.types types of_types place t at))

@@ -1,0 +1,11 @@
+pub mod Appending
+pub mod NameLaws
+pub mod Calls
+pub mod SyntheticLaws
+pub mod FieldLaws
+pub mod FileLaws
+pub mod SmallLaws
+pub mod FewOneofs
+pub mod LongSets
+pub mod SoundPlaces
+pub mod FewPlaces

@@ -1,0 +1,88 @@
+-- An int32 holds all numbers of a schema; those of a file where it counts the imports.
+use Rattle.std.proofs.Common.{◌≡◌, ℕ, ◌+◌, ◌≤◌, ◌<◌, ◌^◌, true, nat_le, List, [], ◌∷◌, length, Option, Some, None, IfSome, ap, sym, ◌∙◌, arith}
+use Rattle.std.proofs.lemmas.Bool.Decides.{nat_tests}
+use Rattle.std.specs.List.{AllByRecursion, list_all}
+use Rattle.pg_schema.specs.declared.parts.field.Field.{Field}
+use Rattle.pg_schema.specs.declared.parts.file.File.{File}
+use Rattle.pg_schema.specs.declared.parts.message_type.MessageType.{MessageType}
+use Rattle.pg_schema.specs.declared.parts.message_type.ReservedFields.{ReservedFields}
+use Rattle.pg_schema.specs.declared.parts.Parts.{Parts}
+use Rattle.pg_schema.specs.rules.Fields.{is_oneof}
+use Rattle.pg_schema.specs.rules.Files.{is_file}
+use Rattle.pg_schema.specs.Invariant.{IsSchema}
+use Rattle.pg_schema.specs.rules.Messages.{is_field, is_message_type}
+use Rattle.pg_schema.specs.rules.Uses.{is_reserved_range}
+use Rattle.pg_schema.proofs.lemmas.rules.PairLemmas.{and_left, and_right}
+use Rattle.pg_schema.specs.Shape.{Shape}
+use Rattle.pg_dyn.specs.encoding.Encoding.{enc}
+use Rattle.pg_dyn.specs.Kept.{Kept, type_of, message_of}
+use Rattle.pg_dyn.specs.Message.{message_from}
+use Rattle.pg_fds.specs.writing.Building.{IsOf, items_of}
+use Rattle.pg_fds.specs.descriptor.Descriptor.{descriptor_shape, file_set}
+use Rattle.pg_fds.specs.writing.Set.{set_message}
+use Rattle.pg_fds.specs.writing.Written.{set_items}
+use Rattle.pg_fds.proofs.lemmas.writing.Appending.{made_of}
+use Rattle.pg_fds.proofs.lemmas.writing.FewOneofs.{few_places}
+use Rattle.pg_fds.specs.writing.Small.{HasSmallNumbers, IsSmallRange, IsSmallType}
+use Rattle.pg_fds.specs.writing.Writable.{IsWritable, has_counted_imports}
+use Rattle.pg_fds.proofs.lemmas.lists.Tests.{at_most, below}
+
+place_small : (o : Option ℕ) (n : ℕ) → n < 2 ^ 31 → is_oneof n o ≡ true → IfSome o (λ place. place < 2 ^ 31)
+place_small None n few h = tt
+place_small (Some place) n few h = let at = below place n h in omega (arith, at, few)
+
+field_small : (oneofs types enums : ℕ) (f : Field) → oneofs < 2 ^ 31 → is_field oneofs types enums f ≡ true → HasSmallNumbers f
+field_small oneofs types enums f few h = record {
+  number = let n = below f.number (2 ^ 29) (and_right _ _ (and_left _ _ (and_left _ _ (and_left _ _ (and_left _ _ (and_left _ _ (and_left _ _ h))))))) in omega (arith, n);
+  oneof = place_small f.oneof oneofs few (and_right _ _ h);
+}
+
+fields_small : (oneofs types enums : ℕ) (fs : List Field) → oneofs < 2 ^ 31 → list_all (is_field oneofs types enums) fs ≡ true → AllByRecursion HasSmallNumbers fs
+fields_small oneofs types enums [] few h = tt
+fields_small oneofs types enums (f ∷ fs) few h = (field_small oneofs types enums f few (and_left _ _ h), fields_small oneofs types enums fs few (and_right (is_field oneofs types enums f) _ h))
+
+range_small : (r : ReservedFields) → is_reserved_range r ≡ true → IsSmallRange r
+range_small r h =
+    let last = below r.last (2 ^ 29) (and_right _ _ h) in
+    let rises = at_most r.first r.last (and_right _ _ (and_left _ _ h)) in
+    record { first = omega (arith, last, rises); end = omega (arith, last) }
+
+ranges_small : (rs : List ReservedFields) → list_all is_reserved_range rs ≡ true → AllByRecursion IsSmallRange rs
+ranges_small [] h = tt
+ranges_small (r ∷ rs) h = (range_small r (and_left _ _ h), ranges_small rs (and_right (is_reserved_range r) _ h))
+
+type_small : (types enums : ℕ) (t : MessageType) → is_message_type types enums t ≡ true → IsSmallType t
+type_small types enums t h =
+    let places : length t.oneofs.items + length t.declared.items < 2 ^ 31 = few_places types enums t h in
+    let few : length t.oneofs.items < 2 ^ 31 = omega (arith, places) in
+    record {
+      fields = fields_small (length t.oneofs.items) types enums t.fields.items few (and_left _ _ (and_left _ _ (and_left _ _ (and_left _ _ (and_left _ _ h)))));
+      ranges = ranges_small t.reserved_numbers.items (and_left _ _ (and_left _ _ (and_right _ _ (and_left _ _ h))));
+      places = places;
+    }
+
+types_small : (types enums : ℕ) (ts : List MessageType) → list_all (is_message_type types enums) ts ≡ true → AllByRecursion IsSmallType ts
+types_small types enums [] h = tt
+types_small types enums (t ∷ ts) h = (type_small types enums t (and_left _ _ h), types_small types enums ts (and_right (is_message_type types enums t) _ h))
+
+files_writable : (fs : List File) → list_all is_file fs ≡ true → list_all has_counted_imports fs ≡ true → AllByRecursion IsWritable fs
+files_writable [] h counted = tt
+files_writable (f ∷ fs) h counted =
+    let here = and_left (is_file f) (list_all is_file fs) h in (
+      record {
+        imports = below (length f.imports.items) (2 ^ 31) (and_left _ _ counted);
+        kinds = and_right _ _ here;
+        rising = and_right _ _ (and_left _ _ here);
+      },
+      files_writable fs (and_right (is_file f) _ h) (and_right (has_counted_imports f) _ counted),
+    )
+
+pub all_small : (parts : Parts) → IsSchema parts → AllByRecursion IsSmallType parts.types.items
+all_small parts is = types_small (length parts.types.items) (length parts.enums.items) parts.types.items is.sound.message_types
+
+pub all_writable : (parts : Parts) → IsSchema parts → list_all has_counted_imports parts.files.items ≡ true → AllByRecursion IsWritable parts.files.items
+all_writable parts is counted = files_writable parts.files.items is.sound.files counted
+
+pub set_bytes : (given : Shape) (parts : Parts) (m : Kept) → given ≡ descriptor_shape → IsOf file_set m → items_of m ≡ set_items parts → enc given (type_of m) (message_of m) ≡ enc descriptor_shape file_set (set_message parts)
+set_bytes given parts m same is items =
+    ap (λ s. enc s (type_of m) (message_of m)) same ∙ (ap (λ t. enc descriptor_shape t (message_of m)) is.of_type ∙ ap (enc descriptor_shape file_set) (sym (made_of file_set m is) ∙ ap (λ ps. message_from ps []) items))

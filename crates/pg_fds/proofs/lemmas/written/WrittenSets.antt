@@ -1,0 +1,110 @@
+-- What is written of a schema states it.
+use Rattle.std.proofs.Common.{◌≡◌, ℕ, ◌≤◌, Bool, true, false, not, ◌&&◌, ◌||◌, List, [], ◌∷◌, map, filter, length, Some, option_and_then, refl, ap, ap₂, sym, subst, ◌∙◌, arith}
+use Rattle.std.specs.Prelude.{IsSomeAnd}
+use Rattle.std.specs.List.{list_all, list_any}
+use Rattle.pg_schema.specs.declared.parts.file.File.{File}
+use Rattle.pg_schema.specs.declared.parts.Parts.{Parts}
+use Rattle.pg_schema.specs.Shape.{IsShape, fields}
+use Rattle.pg_schema.proofs.lemmas.rules.PairLemmas.{and_both, and_false_right}
+use Rattle.pg_dyn.specs.Belonging.{IsMessage}
+use Rattle.pg_dyn.specs.reading.Decoding.{dec}
+use Rattle.pg_dyn.specs.encoding.Encoding.{cap}
+use Rattle.pg_dyn.specs.Kept.{Kept, message_of}
+use Rattle.pg_dyn.specs.Laws.{EncodingSpells, ReadsAgain, WritingSplits}
+use Rattle.pg_dyn.specs.Message.{Message, message_from}
+use Rattle.pg_dyn.specs.reading.TooDeep.{TooDeepIn}
+use Rattle.pg_check.specs.standing.Nesting.{are_shallow}
+use Rattle.pg_check.specs.standing.Places.{most_deep}
+use Rattle.pg_fds.specs.again.Again.{IsNotTooDeep, IsReadable}
+use Rattle.pg_fds.specs.writing.Building.{IsOf, items_of, written_shape}
+use Rattle.pg_fds.specs.stated.Codes.{file_has_types}
+use Rattle.pg_fds.specs.descriptor.Descriptor.{descriptor_shape, file_set}
+use Rattle.pg_fds.specs.writing.Places.{Declared, declared_in}
+use Rattle.pg_fds.specs.stated.Reads.{IsHeld, fds_reads}
+use Rattle.pg_fds.specs.stated.Said.{children_at, text_at}
+use Rattle.pg_fds.specs.stated.SaidFiles.{is_descriptor, is_proto3, is_skipped, kept_files, skips}
+use Rattle.pg_fds.specs.writing.Set.{fds, file_items, set_message}
+use Rattle.pg_fds.specs.stated.Stated.{are_taken, declared_by, stated, stated_files, stated_of}
+use Rattle.pg_fds.specs.stated.StatedNames.{only_if}
+use Rattle.pg_fds.specs.stated.Views.{parts_view}
+use Rattle.pg_fds.specs.writing.Written.{set_items}
+use Rattle.pg_fds.proofs.lemmas.writing.Appending.{made_of}
+use Rattle.pg_fds.proofs.lemmas.written.Levels.{AreFlat, none_too_deep}
+use Rattle.pg_fds.proofs.lemmas.written.Slots.{Slot, children_said, children_slot, made, says}
+use Rattle.pg_fds.proofs.lemmas.written.WrittenEntries.{all_pass}
+use Rattle.pg_fds.proofs.lemmas.written.WrittenFiles.{file_is_proto3, file_written}
+use Rattle.pg_fds.proofs.lemmas.written.WrittenLevels.{set_levels}
+use Rattle.pg_fds.proofs.lemmas.written.WrittenOrder.{written_in_order}
+use Rattle.pg_fds.proofs.lemmas.written.WrittenParts.{declared_are}
+use Rattle.pg_fds.proofs.lemmas.written.WrittenTaken.{file_typed}
+
+files_made : (all : Declared) (fs : List File) → map made (map (file_items all) fs) ≡ map (file_written all) fs
+files_made all [] = refl
+files_made all (f ∷ fs) = ap (λ ms. file_written all f ∷ ms) (files_made all fs)
+
+-- ---- no file is skipped
+
+kept_one : (all : Declared) (f : File) → is_skipped (made (file_items all f)) ≡ false
+kept_one all f =
+    ap (λ b. is_descriptor (text_at 1 (made (file_items all f))) && not b) (file_is_proto3 all f)
+    ∙ and_false_right (is_descriptor (text_at 1 (made (file_items all f))))
+
+none_skipped : (all : Declared) (fs : List File) → list_any is_skipped (map (file_written all) fs) ≡ false
+none_skipped all [] = refl
+none_skipped all (f ∷ fs) = ap (λ b. b || list_any is_skipped (map (file_written all) fs)) (kept_one all f) ∙ none_skipped all fs
+
+-- ---- the set
+
+files_passed : (test : Message → Bool) (all : Declared) → ((f : File) → test (made (file_items all f)) ≡ true) → (fs : List File) → list_all test (map (file_written all) fs) ≡ true
+files_passed test all each [] = refl
+files_passed test all each (f ∷ fs) = and_both (test (file_written all f)) (list_all test (map (file_written all) fs)) (each f) (files_passed test all each fs)
+
+-- the set's message states the schema
+set_states : (parts : Parts) → IsHeld parts → IsReadable parts → stated (set_message parts) ≡ Some (parts_view parts)
+set_states parts held readable =
+    let all : Declared = declared_in parts in
+    let fs : List File = parts.files.items in
+    let ms : List Message = map (file_written all) fs in
+    let slots : List Slot = children_slot 1 (map (file_items all) fs) ∷ [] in
+    let are : children_at 1 (set_message parts) ≡ ms = children_said 1 (set_message parts) (map (file_items all) fs) (says 1 slots refl) ∙ files_made all fs in
+    let skipped : skips (set_message parts) ≡ false = ap (list_any is_skipped) are ∙ none_skipped all fs in
+    let kept : kept_files (set_message parts) ≡ ms = ap (filter (λ m. not (is_skipped m))) are ∙ all_pass (λ m. not (is_skipped m)) ms (files_passed (λ m. not (is_skipped m)) all (λ f. ap not (kept_one all f)) fs) in
+    let taken : are_taken ms ≡ true = and_both (list_all is_proto3 ms) (list_all file_has_types ms) (files_passed is_proto3 all (file_is_proto3 all) fs) (files_passed file_has_types all (file_typed all) fs) in
+    ap₂ stated_files skipped kept
+    ∙ (ap (λ b. only_if b (stated_of false ms)) taken
+    ∙ (ap (option_and_then (declared_by false)) (written_in_order all fs readable.behind readable.imports_once)
+    ∙ declared_are parts held.sound readable.places readable.shallow held.few_enums held.few_services))
+
+-- ---- the bytes
+
+message_is : (parts : Parts) (m : Kept) → IsOf file_set m → items_of m ≡ set_items parts → message_of m ≡ set_message parts
+message_is parts m is items = sym (made_of file_set m is) ∙ ap (λ ps. message_from ps []) items
+
+set_belongs : (parts : Parts) (m : Kept) → IsOf file_set m → items_of m ≡ set_items parts → IsMessage written_shape file_set (set_message parts)
+set_belongs parts m is items =
+    subst (λ v. IsMessage written_shape file_set v) (message_is parts m is items) (subst (λ t. IsMessage written_shape t (message_of m)) is.of_type is.fits.is_message)
+
+set_read : (again : ReadsAgain) (parts : Parts) (m : Kept) (bytes : List ℕ) → IsShape written_shape → IsOf file_set m → items_of m ≡ set_items parts → fds parts bytes
+    → dec written_shape file_set bytes ≡ Some (set_message parts)
+unfolding written_shape
+set_read again parts m bytes shape is items written =
+    ap (dec written_shape file_set) written.0 ∙ again written_shape file_set (set_message parts) shape (set_belongs parts m is items) (subst (λ bs. length bs ≤ cap) written.0 written.1)
+
+pub written_states : (again : ReadsAgain) (parts : Parts) (m : Kept) (bytes : List ℕ) → IsShape written_shape → IsOf file_set m → items_of m ≡ set_items parts → fds parts bytes
+    → IsHeld parts → IsReadable parts → fds_reads bytes parts
+written_states again parts m bytes shape is items written held readable =
+    subst (λ o. IsSomeAnd o (λ set. stated set ≡ Some (parts_view parts))) (sym (set_read again parts m bytes shape is items written))
+    (set_states parts held readable)
+
+-- ---- its depth
+
+flat_shape : AreFlat descriptor_shape
+flat_shape = refl
+
+pub written_shallow : (spells : EncodingSpells) (splits : WritingSplits) (parts : Parts) (m : Kept) (bytes : List ℕ) → IsShape written_shape → IsOf file_set m → items_of m ≡ set_items parts → fds parts bytes
+    → are_shallow parts ≡ true → IsNotTooDeep bytes
+unfolding written_shape
+written_shallow spells splits parts m bytes shape is items written shallow place deep =
+    let low = set_levels 64 parts shallow in
+    none_too_deep spells splits written_shape file_set (set_message parts) most_deep place shape flat_shape (set_belongs parts m is items) (subst (λ bs. length bs ≤ cap) written.0 written.1) (omega (arith, low))
+    (subst (λ bs. TooDeepIn written_shape most_deep (fields written_shape file_set) bs place) written.0 deep)

@@ -1,0 +1,5 @@
+pub mod Descriptor
+pub mod Lent
+pub mod DescriptorParts
+pub mod DescriptorLaw
+pub mod Rows

@@ -1,0 +1,73 @@
+-- Small sets with a bad reference, each with its cause.
+use Rattle.std.specs.Prelude.{◌≡◌, ℕ, pos, true, false, List, [], ◌∷◌, codes, None, is_some}
+use Rattle.pg_dyn.specs.Message.{Bytes, Int, Message, ends, holds, nests}
+use Rattle.pg_fds.specs.refusals.BadReferences.{HasBadType, IsBadReference, means_in}
+use Rattle.pg_fds.specs.declared.descriptor.proto.TheConstants as proto
+use Rattle.pg_fds.specs.stated.Stated.{stated_of}
+
+abbrev text : ℕ → List ℕ → Message → Message
+text number bytes later = holds number None (Bytes bytes) later
+
+abbrev count : ℕ → ℕ → Message → Message
+count number n later = holds number None (Int (pos n)) later
+
+abbrev child : ℕ → Message → Message → Message
+child number m later = nests number None m later
+
+abbrev nothing : Message
+nothing = ends []
+
+-- a file of that path, which imports that other one
+abbrev pub importing : (path other : List ℕ) → Message
+importing path other = text proto.FILE_NAME path (text proto.FILE_DEPENDENCY other nothing)
+
+-- the field f of that label and type, whose type has that name
+abbrev pub naming : (label type : ℕ) → (name : List ℕ) → Message → Message
+naming label type name later =
+    text proto.FIELD_NAME (codes "f") (count proto.FIELD_NUMBER 1 (count proto.FIELD_LABEL label (count proto.FIELD_TYPE type (text proto.FIELD_TYPE_NAME name later))))
+
+-- a file with the message type M, which has that field
+abbrev pub file_with : (field : Message) → List Message
+file_with field = child proto.FILE_MESSAGE_TYPE (text proto.MESSAGE_NAME (codes "M") (child proto.MESSAGE_FIELD field nothing)) nothing ∷ []
+
+-- `M f = 1;`
+abbrev pub good : Message
+good = naming 1 11 (codes ".M") nothing
+
+abbrev pub without_dot : Message
+without_dot = naming 1 11 (codes "M") nothing
+
+abbrev pub of_enum_code : Message
+of_enum_code = naming 1 14 (codes ".M") nothing
+
+-- `M f = 1;`, marked `proto3_optional`
+abbrev pub without_oneof : Message
+without_oneof = naming 1 11 (codes ".M") (count proto.FIELD_PROTO3_OPTIONAL 1 nothing)
+
+-- a map field of that name, whose type is `M.AEntry`
+abbrev map_field : (name : List ℕ) → Message
+map_field name =
+    text proto.FIELD_NAME name (count proto.FIELD_LABEL 3 (count proto.FIELD_TYPE 11 (text proto.FIELD_TYPE_NAME (codes ".M.AEntry") nothing)))
+
+abbrev entry_type : (name : List ℕ) → Message
+entry_type name = text proto.MESSAGE_NAME name (child proto.MESSAGE_OPTIONS (count proto.MESSAGE_MAP_ENTRY 1 nothing) nothing)
+
+-- A file with the message type M. The names of its two fields give the same entry type, and no field's name gives the other.
+abbrev pub sharing : List Message
+sharing = child proto.FILE_MESSAGE_TYPE (
+    text proto.MESSAGE_NAME (codes "M") (
+    child proto.MESSAGE_FIELD (map_field (codes "a")) (
+    child proto.MESSAGE_FIELD (map_field (codes "A")) (
+    child proto.MESSAGE_NESTED_TYPE (entry_type (codes "AEntry")) (
+    child proto.MESSAGE_NESTED_TYPE (entry_type (codes "BEntry")) nothing))))) nothing ∷ []
+
+pub record WorkedCauses : Type 0 where
+  pub no_cause : is_some (stated_of false (file_with good)) ≡ true
+  pub import_missing : IsBadReference false (importing (codes "a") (codes "b") ∷ [])
+  pub imports_go_round : IsBadReference false (importing (codes "a") (codes "b") ∷ importing (codes "b") (codes "a") ∷ [])
+  pub no_dot : HasBadType (means_in (file_with without_dot)) without_dot
+  pub set_without_dot : IsBadReference false (file_with without_dot)
+  pub other_kind : HasBadType (means_in (file_with of_enum_code)) of_enum_code
+  pub set_of_other_kind : IsBadReference false (file_with of_enum_code)
+  pub set_without_oneof : IsBadReference false (file_with without_oneof)
+  pub set_sharing : IsBadReference false sharing

@@ -1,0 +1,11 @@
+pub mod Held
+pub mod Walks
+pub mod FilePlaces
+pub mod Made
+pub mod MadeMembers
+pub mod OutlinedPlaces
+pub mod OutlinedScopes
+pub mod NamedEntries
+pub mod Owners
+pub mod RefusedParts
+pub mod MadeImports

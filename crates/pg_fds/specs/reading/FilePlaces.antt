@@ -1,0 +1,38 @@
+-- Files by their places.
+use Rattle.std.specs.Prelude.{◌≡◌, ◌↔◌, ℕ, ◌<◌, Bool, true, List, [], map, length, Some, slice_get, String}
+use Rattle.std.specs.BTreeMap.{BTreeMap, get_by_text}
+use Rattle.std.specs.List.{AllByRecursion, list_all}
+use Rattle.std.specs.Option.{unwrap_or}
+use Rattle.pg_schema.specs.rules.Pairs.{are_distinct}
+use Rattle.pg_fds.specs.declared.reading.order.Importing.{Importing}
+use Rattle.pg_fds.specs.descriptor.Lent.{lent}
+use Rattle.pg_fds.specs.stated.PostOrder.{Importer, IsPostOrder, imports_once, kept_paths, paths_of}
+
+abbrev pub importer : Importing → Importer
+importer i = record { path = i.name.now; imports = lent i.paths.items }
+
+abbrev pub importers : List Importing → List Importer
+importers files = map importer files
+
+-- the map has the place of each path, and no other
+abbrev pub IsIndex : {Y : Type 0} → List (List ℕ) → BTreeMap (String Y) ℕ → Type 0
+IsIndex paths index = (path : List ℕ) (place : ℕ) → (get_by_text index path ≡ Some place) ↔ (slice_get paths place ≡ Some path)
+
+-- at these places stand these paths
+abbrev pub StandAt : List (List ℕ) → (places : List ℕ) → List (List ℕ) → Type 0
+StandAt paths places these = map (slice_get paths) places ≡ map Some these
+
+-- the places of what each file imports
+abbrev pub ImportsAt : (skips : Bool) → List Importer → List (List ℕ) → Type 0
+ImportsAt skips files all = map (map (slice_get (paths_of files))) all ≡ map (λ (i : Importer). map Some (kept_paths skips i.imports)) files
+
+-- the path at a place
+abbrev pub name_at : List (List ℕ) → ℕ → List ℕ
+name_at paths place = unwrap_or (slice_get paths place) []
+
+-- These are the places of the files in post-order of imports. Paths stand once, among the files and among the imports of each.
+pub record AreOrdered (skips : Bool) (files : List Importer) (places : List ℕ) : Type 0 where
+  pub once : are_distinct (paths_of files) ≡ true
+  pub imports : list_all imports_once files ≡ true
+  pub order : IsPostOrder skips files (map (name_at (paths_of files)) places)
+  pub within : AllByRecursion (λ place. place < length files) places

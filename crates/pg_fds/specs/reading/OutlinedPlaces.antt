@@ -1,0 +1,128 @@
+-- The places that each message type and each file of a set keeps: those of the message types, enums and services declared in it, which
+-- are counted in the order of their rows.
+use Rattle.std.specs.Prelude.{ℕ, zero, suc, ◌+◌, List, [], ◌∷◌, ◌++◌, filter, length}
+use Rattle.pg_schema.specs.rules.Scopes.{enum_places, service_places, type_places}
+use Rattle.pg_dyn.specs.Kept.{message_of}
+use Rattle.pg_dyn.specs.Message.{Message}
+use Rattle.pg_check.specs.standing.Places.{places_from}
+use Rattle.pg_fds.specs.declared.reading.outline.Outline.{Outline}
+use Rattle.pg_fds.specs.declared.reading.outline.OutlinedFile.{OutlinedFile}
+use Rattle.pg_fds.specs.declared.reading.outline.OutlinedType.{OutlinedType}
+use Rattle.pg_fds.specs.stated.Outlines.{Row, enum_rows, file_enums, file_services, file_types, row_in, rows_of_enums, rows_of_type, type_row, type_rows}
+use Rattle.pg_fds.specs.declared.descriptor.proto.TheConstants as proto
+use Rattle.pg_fds.specs.stated.Said.{children_at, text_at}
+use Rattle.pg_fds.specs.stated.SetNames.{full_name}
+use Rattle.pg_fds.specs.stated.SaidTypes.{is_no_entry}
+
+-- how many message types, enums and services stand in front
+pub record Counts : Type 0 where
+  pub types : ℕ
+  pub enums : ℕ
+  pub services : ℕ
+
+abbrev pub no_counts : Counts
+no_counts = record { types = 0; enums = 0; services = 0 }
+
+abbrev pub counts_of : Outline → Counts
+counts_of o = record { types = length o.types.items; enums = length o.enums.items; services = length o.services.items }
+
+-- what each message gives, where each moves the counts on
+abbrev pub each_from : {X : Type 0} → (on : Counts → Message → Counts) → (Counts → Message → List X) → Counts → List Message → List X
+each_from on give counts [] = []
+each_from on give counts (m ∷ ms) = give counts m ++ each_from on give (on counts m) ms
+
+abbrev pub counts_behind : (on : Counts → Message → Counts) → Counts → List Message → Counts
+counts_behind on counts [] = counts
+counts_behind on counts (m ∷ ms) = counts_behind on (on counts m) ms
+
+-- ---- message types
+
+-- behind a message type, with those inside it, which are nested less deep than that
+abbrev pub behind_type : (depth : ℕ) → (scope : List ℕ) → Counts → Message → Counts
+behind_type depth scope counts m = record {
+  types = counts.types + length (rows_of_type (type_rows depth) scope m);
+  enums = counts.enums + length (rows_of_enums (enum_rows depth) scope m);
+  services = counts.services;
+}
+
+-- where the first of what stands inside a message type, behind its enums
+abbrev pub inside_type : Counts → Message → Counts
+inside_type counts m = record { types = counts.types + 1; enums = counts.enums + length (children_at proto.MESSAGE_ENUM_TYPE m); services = counts.services }
+
+-- the places of message types, nested less deep than that, without those inside them
+abbrev pub places_of_types : (depth : ℕ) → (scope : List ℕ) → Counts → List Message → List ℕ
+places_of_types zero scope counts ms = []
+places_of_types (suc depth) scope counts ms = each_from (behind_type depth scope) (λ c m. c.types ∷ []) counts ms
+
+-- a message type, with the places of the message types and enums in it
+pub record PlacedType : Type 0 where
+  pub named : Row
+  pub types : List ℕ
+  pub enums : List ℕ
+
+abbrev pub placed_type : OutlinedType → PlacedType
+placed_type o = record { named = type_row o; types = type_places o.types.items; enums = enum_places o.enums.items }
+
+-- a message type of which nothing inside is known yet
+abbrev pub without_inside : Row → PlacedType
+without_inside named = record { named = named; types = []; enums = [] }
+
+-- the message types inside one, without entry types
+abbrev pub inner_types : Message → List Message
+inner_types m = filter is_no_entry (children_at proto.MESSAGE_NESTED_TYPE m)
+
+-- a message type and those inside it, with what stands in them
+abbrev pub placed_with : (depth : ℕ) → (inside : List ℕ → Counts → List Message → List PlacedType) → (scope : List ℕ) → Counts → Message → List PlacedType
+placed_with depth inside scope counts m =
+    record {
+      named = row_in scope m;
+      types = places_of_types depth (full_name scope m) (inside_type counts m) (inner_types m);
+      enums = places_from counts.enums (length (children_at proto.MESSAGE_ENUM_TYPE m));
+    } ∷ inside (full_name scope m) (inside_type counts m) (inner_types m)
+
+abbrev pub placed_types : (depth : ℕ) → (scope : List ℕ) → Counts → List Message → List PlacedType
+placed_types zero scope counts ms = []
+placed_types (suc depth) scope counts ms = each_from (behind_type depth scope) (placed_with depth (placed_types depth) scope) counts ms
+
+-- ---- files
+
+abbrev pub behind_file : (depth : ℕ) → Counts → Message → Counts
+behind_file depth counts m = record {
+  types = counts.types + length (file_types depth m);
+  enums = counts.enums + length (file_enums depth m);
+  services = counts.services + length (file_services m);
+}
+
+-- a file, with the places of what it declares by itself
+pub record PlacedFile : Type 0 where
+  pub message : Message
+  pub types : List ℕ
+  pub enums : List ℕ
+  pub services : List ℕ
+
+abbrev pub placed_file : OutlinedFile → PlacedFile
+placed_file o = record {
+  message = message_of o.message;
+  types = type_places o.types.items;
+  enums = enum_places o.enums.items;
+  services = service_places o.services.items;
+}
+
+-- where the first of its message types stands, behind its enums
+abbrev pub inside_file : Counts → Message → Counts
+inside_file counts m = record { types = counts.types; enums = counts.enums + length (children_at proto.FILE_ENUM_TYPE m); services = counts.services }
+
+abbrev pub file_places : (depth : ℕ) → Counts → Message → PlacedFile
+file_places depth counts m = record {
+  message = m;
+  types = places_of_types depth (text_at proto.FILE_PACKAGE m) (inside_file counts m) (children_at proto.FILE_MESSAGE_TYPE m);
+  enums = places_from counts.enums (length (children_at proto.FILE_ENUM_TYPE m));
+  services = places_from counts.services (length (children_at proto.FILE_SERVICE m));
+}
+
+abbrev pub placed_files : (depth : ℕ) → Counts → List Message → List PlacedFile
+placed_files depth counts ms = each_from (behind_file depth) (λ c m. file_places depth c m ∷ []) counts ms
+
+-- the message types of the files
+abbrev pub types_of_files : (depth : ℕ) → Counts → List Message → List PlacedType
+types_of_files depth counts ms = each_from (behind_file depth) (λ c m. placed_types depth (text_at proto.FILE_PACKAGE m) (inside_file c m) (children_at proto.FILE_MESSAGE_TYPE m)) counts ms

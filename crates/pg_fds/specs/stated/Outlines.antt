@@ -1,0 +1,77 @@
+-- What the message types, enums and services of a set are called, in the order of their places.
+use Rattle.std.specs.Prelude.{◌≡◌, ℕ, ◌≤◌, ◌^◌, zero, suc, true, List, [], ◌∷◌, ◌++◌, map, flat_map, filter, filter_map, length, slice_get}
+use Rattle.std.specs.List.{AllByRecursion, list_all}
+use Rattle.std.specs.String.{string_bytes}
+use Rattle.pg_dyn.specs.Kept.{message_of}
+use Rattle.pg_dyn.specs.Message.{Message}
+use Rattle.pg_fds.specs.declared.reading.outline.Outlined.{Outlined}
+use Rattle.pg_fds.specs.declared.reading.outline.OutlinedType.{OutlinedType}
+use Rattle.pg_fds.specs.stated.Said.{children_at, text_at}
+use Rattle.pg_fds.specs.stated.SetNames.{full_name}
+use Rattle.pg_fds.specs.stated.SaidFiles.{is_place}
+use Rattle.pg_fds.specs.stated.SaidTypes.{is_no_entry, synthetic_places}
+use Rattle.pg_fds.specs.declared.descriptor.proto.TheConstants as proto
+
+-- a full name, and the message of what has it
+abbrev pub Row : Type 0
+Row = List ℕ × Message
+
+abbrev pub row : Outlined → Row
+row o = (string_bytes o.name, message_of o.message)
+
+abbrev pub type_row : OutlinedType → Row
+type_row o = (string_bytes o.name, message_of o.message)
+
+abbrev pub row_in : (scope : List ℕ) → Message → Row
+row_in scope m = (full_name scope m, m)
+
+abbrev pub rows_in : (scope : List ℕ) → List Message → List Row
+rows_in scope ms = map (row_in scope) ms
+
+-- a message type's, and then those of the types inside it
+abbrev pub rows_of_type : (inside : List ℕ → List Message → List Row) → (scope : List ℕ) → Message → List Row
+rows_of_type inside scope m = row_in scope m ∷ inside (full_name scope m) (filter is_no_entry (children_at proto.MESSAGE_NESTED_TYPE m))
+
+-- message types, nested less deep than that
+abbrev pub type_rows : (depth : ℕ) → (scope : List ℕ) → List Message → List Row
+type_rows zero scope ms = []
+type_rows (suc depth) scope ms = flat_map (rows_of_type (type_rows depth) scope) ms
+
+-- the enums of a message type, and then those of the types inside it
+abbrev pub rows_of_enums : (inside : List ℕ → List Message → List Row) → (scope : List ℕ) → Message → List Row
+rows_of_enums inside scope m = rows_in (full_name scope m) (children_at proto.MESSAGE_ENUM_TYPE m) ++ inside (full_name scope m) (filter is_no_entry (children_at proto.MESSAGE_NESTED_TYPE m))
+
+-- the enums in message types, nested less deep than that
+abbrev pub enum_rows : (depth : ℕ) → (scope : List ℕ) → List Message → List Row
+enum_rows zero scope ms = []
+enum_rows (suc depth) scope ms = flat_map (rows_of_enums (enum_rows depth) scope) ms
+
+-- ---- files
+
+abbrev pub file_types : (depth : ℕ) → Message → List Row
+file_types depth m = type_rows depth (text_at proto.FILE_PACKAGE m) (children_at proto.FILE_MESSAGE_TYPE m)
+
+abbrev pub file_enums : (depth : ℕ) → Message → List Row
+file_enums depth m = rows_in (text_at proto.FILE_PACKAGE m) (children_at proto.FILE_ENUM_TYPE m) ++ enum_rows depth (text_at proto.FILE_PACKAGE m) (children_at proto.FILE_MESSAGE_TYPE m)
+
+abbrev pub file_services : Message → List Row
+file_services m = rows_in (text_at proto.FILE_PACKAGE m) (children_at proto.FILE_SERVICE m)
+
+-- the files at these places
+abbrev pub files_at : List Message → List ℕ → List Message
+files_at files places = filter_map (slice_get files) places
+
+-- 32 bits hold the places of all, where they did those of the ones in front
+abbrev pub StayFew : {A : Type 0} → (old new : List A) → Type 0
+StayFew old new = length old ≤ 2 ^ 32 → length new ≤ 2 ^ 32
+
+-- ---- oneofs
+
+-- the `optional` fields of a message type name oneofs of it
+abbrev pub NamesOneofs : Message → Type 0
+NamesOneofs m = list_all (is_place (length (children_at proto.MESSAGE_ONEOF_DECL m))) (synthetic_places (children_at proto.MESSAGE_FIELD m)) ≡ true
+
+-- so do those of message types nested less deep than that, and none is nested deeper
+abbrev pub NameOneofs : (depth : ℕ) → List Message → Type 0
+NameOneofs zero ms = ms ≡ []
+NameOneofs (suc depth) ms = AllByRecursion (λ m. NamesOneofs m × NameOneofs depth (filter is_no_entry (children_at proto.MESSAGE_NESTED_TYPE m))) ms

@@ -1,0 +1,60 @@
+-- The oneofs that a set's fields stand in, as a function of its messages (descriptor.proto, `FieldDescriptorProto.oneof_index` and
+-- `proto3_optional`).
+use Rattle.std.specs.Prelude.{◌≡◌, ℕ, ◌<◌, ◌^◌, ℤ, pos, negsuc, Bool, true, false, not, nat_eq, nat_lt, List, filter, length, map, take, Option, Some, None, option_map, slice_get, slice_index, if◌then◌else◌}
+use Rattle.std.specs.Option.{option_and_then}
+use Rattle.pg_dyn.specs.Message.{Message}
+use Rattle.pg_check.specs.standing.Places.{places_from}
+use Rattle.pg_fds.specs.stated.SaidTypes.{is_marked, is_optional, members_at, synthetic_places}
+use Rattle.pg_fds.specs.declared.descriptor.proto.TheConstants as proto
+use Rattle.pg_fds.specs.stated.Said.{maybe_number_at}
+use Rattle.pg_fds.specs.stated.StatedNames.{only_if}
+
+abbrev pub has_mark : Bool → Option Bool → Bool
+has_mark mark None = false
+has_mark true (Some own) = own
+has_mark false (Some own) = not own
+
+-- the place that a number is, which has this mark
+abbrev pub place_marked : (marks : List Bool) → (mark : Bool) → ℤ → Option ℕ
+place_marked marks mark (pos place) = only_if (has_mark mark (slice_get marks place)) (Some place)
+place_marked marks mark (negsuc n) = None
+
+-- a place that 32 bits hold
+abbrev pub small : ℕ → Option ℕ
+small place = only_if (nat_lt place (2 ^ 32)) (Some place)
+
+-- how many places in front aren't marked
+abbrev pub unmarked : (marks : List Bool) → ℕ → ℕ
+unmarked marks place = length (filter not (take place marks))
+
+-- the same of each of so many places
+pub record AreRanks (marks : List Bool) (count : ℕ) (ranks : List ℕ) : Type 0 where
+  pub all : length ranks ≡ count
+  pub each : (place : ℕ) → place < count → slice_index ranks place ≡ unmarked marks place
+
+-- the place among the real oneofs of the one that a number says
+abbrev pub real_place : (synthetic : List Bool) → ℤ → Option ℕ
+real_place synthetic number = option_and_then (λ place. small (unmarked synthetic place)) (place_marked synthetic false number)
+
+-- of a field that isn't `optional`
+abbrev pub real_oneof : (synthetic : List Bool) → Option ℤ → Option (Option ℕ)
+real_oneof synthetic None = Some None
+real_oneof synthetic (Some number) = option_map Some (real_place synthetic number)
+
+-- of one that is: it stands alone in a synthetic one
+abbrev pub own_oneof : (synthetic : List Bool) → (members : List ℕ) → Option ℤ → Option (Option ℕ)
+own_oneof synthetic members None = None
+own_oneof synthetic members (Some number) = option_and_then (λ place. only_if (nat_eq (slice_index members place) 1) (Some None)) (place_marked synthetic true number)
+
+-- The real oneof of a field, by its place among those, where it is known of each oneof whether it is synthetic and how many fields name it.
+abbrev pub oneof : (synthetic : List Bool) → (members : List ℕ) → Message → Option (Option ℕ)
+oneof synthetic members m =
+    if is_optional m then own_oneof synthetic members (maybe_number_at proto.FIELD_ONEOF_INDEX m) else real_oneof synthetic (maybe_number_at proto.FIELD_ONEOF_INDEX m)
+
+-- ---- what is known of each of so many oneofs
+
+abbrev pub synthetic_in : (fields : List Message) → (count : ℕ) → List Bool
+synthetic_in fields count = map (is_marked (synthetic_places fields)) (places_from 0 count)
+
+abbrev pub members_in : (fields : List Message) → (count : ℕ) → List ℕ
+members_in fields count = map (λ place. members_at place fields) (places_from 0 count)

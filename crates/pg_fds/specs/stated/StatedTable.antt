@@ -1,0 +1,83 @@
+-- What the full names of a set mean, and when all that its files declare may stand in one table: names stand once, 32 bits hold the
+-- places, `optional` fields name oneofs that are there, entry types stand in message types, and no message type is nested too deep.
+use Rattle.std.specs.Prelude.{ℕ, zero, suc, ◌^◌, Bool, true, false, ◌&&◌, nat_eq, nat_lt, List, [], ◌∷◌, filter, flat_map, length, map, Option, Some, None, option_map, if◌then◌else◌}
+use Rattle.std.specs.List.{list_all, position_from}
+use Rattle.std.specs.Str.{bytes_eq}
+use Rattle.pg_schema.specs.rules.Packages.{is_free_of}
+use Rattle.pg_schema.specs.rules.Pairs.{are_distinct}
+use Rattle.pg_schema.specs.rules.TextSets.{is_among}
+use Rattle.pg_dyn.specs.Message.{Message}
+use Rattle.pg_fds.specs.declared.reading.outline.Named.{Named}
+use Rattle.pg_fds.specs.declared.reading.outline.Named.TheVariants as nameds
+use Rattle.pg_fds.specs.stated.Outlines.{Row, file_enums, file_services, file_types}
+use Rattle.pg_fds.specs.declared.descriptor.proto.TheConstants as proto
+use Rattle.pg_fds.specs.stated.Said.{children_at, text_at}
+use Rattle.pg_fds.specs.stated.SetNames.{files_names, full_names}
+use Rattle.pg_fds.specs.stated.StatedNames.{Meanings, first_of}
+use Rattle.pg_fds.specs.stated.SaidFiles.{is_place}
+use Rattle.pg_fds.specs.stated.SaidTypes.{is_entry, is_no_entry, synthetic_places}
+
+-- ---- what names mean
+
+abbrev pub names_of : List Row → List (List ℕ)
+names_of rows = map (λ (r : Row). r.0) rows
+
+abbrev pub place_of : List (List ℕ) → List ℕ → Option ℕ
+place_of names name = position_from (bytes_eq name) 0 names
+
+abbrev pub entry_names : Row → List (List ℕ)
+entry_names r = full_names r.0 (filter is_entry (children_at proto.MESSAGE_NESTED_TYPE r.1))
+
+abbrev pub type_named : ℕ → Named
+type_named place = nameds.Type (record { index = place })
+
+abbrev pub enum_named : ℕ → Named
+enum_named place = nameds.Enum (record { index = place })
+
+-- What a name means where these are the message types and enums, in the order of their places: one of them, or an entry type.
+abbrev pub meaning : (types enums : List Row) → Meanings
+meaning types enums name =
+    first_of (option_map type_named (place_of (names_of types) name))
+    (first_of (option_map enum_named (place_of (names_of enums) name))
+    (if is_among (flat_map entry_names types) name then Some nameds.Entry else None))
+
+-- ---- what files declare
+
+abbrev pub has_name : List ℕ → Bool
+has_name [] = false
+has_name (byte ∷ bytes) = true
+
+-- those of the files that are in one
+abbrev pub packages_of : List Message → List (List ℕ)
+packages_of files = filter has_name (map (text_at proto.FILE_PACKAGE) files)
+
+-- all full names of the files stand once, and none is a part of a package
+abbrev pub are_free : (depth : ℕ) → List Message → Bool
+are_free depth files = are_distinct (files_names depth files) && list_all (is_free_of (files_names depth files)) (packages_of files)
+
+-- no entry type stands outside of message types
+abbrev pub has_no_entries : Message → Bool
+has_no_entries m = nat_eq (length (filter is_entry (children_at proto.FILE_MESSAGE_TYPE m))) 0
+
+-- message types are nested less deep than that
+abbrev pub nest_within : (depth : ℕ) → List Message → Bool
+nest_within zero ms = nat_eq (length ms) 0
+nest_within (suc depth) ms = list_all (λ m. nest_within depth (filter is_no_entry (children_at proto.MESSAGE_NESTED_TYPE m))) ms
+
+-- those of a file
+abbrev pub nests_within : (depth : ℕ) → Message → Bool
+nests_within depth m = nest_within depth (children_at proto.FILE_MESSAGE_TYPE m)
+
+-- 32 bits hold so many places
+abbrev pub few : ℕ → Bool
+few count = nat_lt count (suc (2 ^ 32))
+
+-- the `optional` fields of a message type name oneofs of it
+abbrev pub names_oneofs : Row → Bool
+names_oneofs r = list_all (is_place (length (children_at proto.MESSAGE_ONEOF_DECL r.1))) (synthetic_places (children_at proto.MESSAGE_FIELD r.1))
+
+-- all that the files declare may stand in one table, and message types are nested less deep than that
+abbrev pub may_declare : (depth : ℕ) → List Message → Bool
+may_declare depth files =
+    are_free depth files && list_all has_no_entries files && list_all (nests_within depth) files && list_all names_oneofs (flat_map (file_types depth) files)
+    && few (length (flat_map (file_types depth) files)) && few (length (flat_map (file_enums depth) files)) && few (length (flat_map file_services files))

@@ -1,0 +1,15 @@
+pub mod Places
+pub mod Items
+pub mod Fields
+pub mod Synthetic
+pub mod MadeNames
+pub mod Building
+pub mod DraftCode
+pub mod Drafts
+pub mod Small
+pub mod Entries
+pub mod Messages
+pub mod Set
+pub mod Writable
+pub mod Written
+pub mod PutParts

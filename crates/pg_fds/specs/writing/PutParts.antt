@@ -1,0 +1,29 @@
+-- Parts of messages that are put at one go.
+use Rattle.std.specs.Prelude.{ℕ, List, length, map, ◌++◌}
+use Rattle.std.specs.String.{string_bytes}
+use Rattle.pg_schema.specs.declared.parts.field.Field.{Field}
+use Rattle.pg_schema.specs.declared.parts.file.File.{File}
+use Rattle.pg_schema.specs.declared.parts.message_type.MessageType.{MessageType}
+use Rattle.pg_fds.specs.writing.Fields.{label, named_type, type_code}
+use Rattle.pg_fds.specs.writing.Items.{Items, children, count, maybe_text, options, stated, texts}
+use Rattle.pg_fds.specs.writing.Messages.{enums_items, field_range, oneof_items, oneof_names, types_items}
+use Rattle.pg_fds.specs.writing.Places.{Declared}
+use Rattle.pg_fds.specs.declared.descriptor.proto.TheConstants as proto
+use Rattle.pg_fds.specs.writing.Set.{services_items}
+
+-- what stands in a message type behind its enums
+abbrev pub type_rest : Declared → MessageType → Items
+type_rest all t =
+    options proto.MESSAGE_OPTIONS (stated proto.MESSAGE_DEPRECATED t.options.deprecated) ++ children proto.MESSAGE_ONEOF_DECL (map oneof_items (oneof_names all t))
+    ++ children proto.MESSAGE_RESERVED_RANGE (map field_range t.reserved_numbers.items) ++ texts proto.MESSAGE_RESERVED_NAME (map string_bytes t.reserved_names.items)
+
+-- what a file declares
+abbrev pub declared_items : Declared → File → Items
+declared_items all f =
+    children proto.FILE_MESSAGE_TYPE (types_items (length all.types) all f.types.items) ++ children proto.FILE_ENUM_TYPE (enums_items all f.enums.items)
+    ++ children proto.FILE_SERVICE (services_items all f.services.items)
+
+-- how often a field's items stand and what they are, in a message of that full name
+abbrev pub kind_items : Declared → (scope : List ℕ) → Field → Items
+kind_items all scope f =
+    count proto.FIELD_LABEL (label f.presence) ++ count proto.FIELD_TYPE (type_code f.presence f.element) ++ maybe_text proto.FIELD_TYPE_NAME (named_type all scope f)
