@@ -13,7 +13,10 @@ import tempfile
 
 from google.protobuf import descriptor_pb2 as pb
 
-from gate_rows import files, printed, rewrite, spelled
+from gate_rows import CRATES, files, printed, rewrite, spelled
+
+EXAMPLES = os.path.join(os.path.dirname(CRATES), "examples")
+DESCRIPTOR = "google/protobuf/descriptor.proto"
 
 SOURCES = {
     "m.proto": 'syntax = "proto3"; message M { int32 a = 1; }',
@@ -101,14 +104,13 @@ def error_of(code, at):
 
 
 def made(folder, name):
-    out = os.path.join(folder, "out.pb")
-    subprocess.run(
-        ["protoc", "-I", folder, "--include_imports", "--descriptor_set_out=" + out, name],
-        check=True,
-        stderr=subprocess.DEVNULL,
-    )
-    with open(out, "rb") as file:
-        return pb.FileDescriptorSet.FromString(file.read())
+    with tempfile.NamedTemporaryFile() as out:
+        subprocess.run(
+            ["protoc", "-I", folder, "--include_imports", "--descriptor_set_out=" + out.name, name],
+            check=True,
+            stderr=subprocess.DEVNULL,
+        )
+        return pb.FileDescriptorSet.FromString(out.read())
 
 
 def by_protoc():
@@ -117,6 +119,49 @@ def by_protoc():
             with open(os.path.join(folder, name), "w") as file:
                 file.write(text)
         return {name: made(folder, name) for name in SOURCES}
+
+
+def texts_of_examples():
+    """Returns the folder and the name of each text of the repository's examples."""
+    found = [(at, name) for at, _, names in os.walk(EXAMPLES) for name in names if name.endswith(".proto")]
+    return sorted(found)
+
+
+def bare(message):
+    """The message without fields that its type doesn't have, and without options that state nothing then."""
+    message.DiscardUnknownFields()
+    for field, value in message.ListFields():
+        inside = [] if field.message_type is None else value if field.label == field.LABEL_REPEATED else [value]
+        for it in inside:
+            bare(it)
+        if field.name == "options" and not value.ByteSize():
+            message.ClearField("options")
+
+
+def without_custom_options(given):
+    """The set without custom options, what declares them, and protoc's own file, which a schema of this profile doesn't have."""
+
+    def change(s):
+        for at in reversed([at for at, file in enumerate(s.file) if file.name == DESCRIPTOR]):
+            del s.file[at]
+        for file in s.file:
+            file.ClearField("extension")
+            kept = [it for it in file.dependency if it != DESCRIPTOR]
+            file.ClearField("dependency")
+            file.dependency.extend(kept)
+        bare(s)
+
+    return changed(given, change)
+
+
+def rows_of_examples():
+    """Rows of the repository's examples: the sets that protoc makes of them, what is read of each and written again. One is proto2."""
+    for folder, name in texts_of_examples():
+        given = made(folder, name)
+        what = "protoc's set of " + os.path.relpath(os.path.join(folder, name), os.path.dirname(EXAMPLES))
+        taken = all(file.syntax == "proto3" for file in given.file if file.name != DESCRIPTOR)
+        written = '"%s"' % printed(without_custom_options(given).SerializeToString())
+        yield what, given.SerializeToString(), written if taken else "refused " + SET_ERRORS[702]
 
 
 def changed(message, change):
@@ -141,10 +186,10 @@ def skipped(dependency):
 
     def change(s):
         last = s.file[-1]
-        last.dependency.insert(0, "google/protobuf/descriptor.proto")
+        last.dependency.insert(0, DESCRIPTOR)
         for at, place in enumerate(list(last.public_dependency)):
             last.public_dependency[at] = place + 1
-        file = pb.FileDescriptorProto(name="google/protobuf/descriptor.proto", package="google.protobuf")
+        file = pb.FileDescriptorProto(name=DESCRIPTOR, package="google.protobuf")
         if dependency:
             file.message_type.add(name="FileOptions")
         s.file.insert(0, file)
@@ -183,6 +228,7 @@ def variants(sets):
             f.ClearField("label")
 
     row("no label", oneofs, lambda s: each_field(s, no_label))
+    row("no label in entry types", maps, lambda s: each_field(s, no_label))
 
     def no_json(f):
         if f.json_name != "given":
@@ -215,6 +261,14 @@ def variants(sets):
         t.nested_type.extend(reversed(nested))
 
     row("entry types in front", maps, turned)
+
+    def around(s):
+        t = s.file[0].message_type[0]
+        nested = list(t.nested_type)
+        del t.nested_type[:]
+        t.nested_type.extend([nested[1], nested[0], *nested[2:]])
+
+    row("entry types around a declared type", maps, around)
 
     def other_names(s):
         for o in s.file[0].message_type[0].oneof_decl[2:]:
@@ -262,6 +316,13 @@ def record(number, body):
     """Returns the record of a body of less than 2^14 bytes."""
     length = bytes([len(body)]) if len(body) < 128 else bytes([len(body) & 127 | 128, len(body) >> 7])
     return bytes([8 * number + 2]) + length + body
+
+
+def named_as_first(message):
+    """Lets the message's second field name the entry type of its first, whose name gives the same one."""
+    message.field[1].name = "byNumber"
+    message.field[1].json_name = "x"
+    message.field[1].type_name = message.field[0].type_name
 
 
 def refused(sets):
@@ -337,6 +398,8 @@ def refused(sets):
     row("an entry that none names", 704, maps, lambda s: message(s).field.pop(0))
     row("an entry's name", 704, maps, lambda s: setattr(entry(s), "name", "XEntry"))
     row("an entry named twice", 704, maps, lambda s: setattr(message(s).field[1], "type_name", message(s).field[0].type_name))
+    row("an entry of two fields beside a spare one", 704, maps, lambda s: named_as_first(message(s)))
+    row("an entry of two fields", 704, maps, lambda s: (named_as_first(message(s)), message(s).nested_type.pop(2)))
     row("an entry of one item", 704, maps, lambda s: setattr(field(s), "label", 1))
     row("an entry as a value", 704, maps, lambda s: (setattr(entry(s).field[1], "type_name", ".p.q.M.XEntry")))
     row("an entry's key", 704, maps, lambda s: setattr(entry(s).field[0], "name", "k"))
@@ -386,6 +449,7 @@ def rows_of_sets(sets):
         rows.append(("changed: " + what, read.SerializeToString(), '"%s"' % printed(data[names[place]])))
     for what, code, read, at in refused(sets):
         rows.append(("refused: " + what, read, "refused " + error_of(code, at)))
+    rows.extend(rows_of_examples())
     rows.append(("97 types inside each other", nested(97), '"%s"' % printed(nested(97))))
     rows.append(("no bytes", b"", '""'))
     one = data["m.proto"]

@@ -38,11 +38,11 @@ put() {
 mkdir -p -- "$prefix/bin"
 prefix=$(CDPATH= cd -- "$prefix" && pwd -P)
 put 755 crates/protogate/out/protogate libexec/protogate
-# What users call gives the program the stack that messages nested deep need, as much as the system lets a user have, asks for large pages,
-# and where a terminal shows it says of a run of over a second that it is at work, as the script `protogate` does.
+# What users call gives the program the stack that messages nested deep need, as much as the system lets a user have, asks for large pages
+# and no fast bins, and where a terminal shows it says of a run of over a second that it is at work, as the script `protogate` does.
 write_script protogate <<'END_OF_SCRIPT'
 ulimit -S -s unlimited 2>/dev/null || ulimit -S -s "$(ulimit -H -s)" 2>/dev/null
-export GLIBC_TUNABLES="${GLIBC_TUNABLES:-glibc.malloc.hugetlb=1}"
+export GLIBC_TUNABLES="${GLIBC_TUNABLES:-glibc.malloc.hugetlb=1:glibc.malloc.mxfast=0}"
 say_at_work() {
     sleep 1
     case $(ps -o stat= -p $$ 2>/dev/null) in

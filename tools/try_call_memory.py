@@ -68,6 +68,8 @@ DESCRIPTOR = ("FileDescriptorSet FileDescriptorProto DescriptorProto DescriptorP
               " EnumDescriptorProto EnumDescriptorProto.EnumReservedRange EnumValueDescriptorProto ServiceDescriptorProto"
               " MethodDescriptorProto FileOptions MessageOptions FieldOptions EnumOptions EnumValueOptions ServiceOptions"
               " MethodOptions").split()
+# Of one field, and of all else that a set may hold, over one file and several.
+SETS = ["protoc's set of %s.proto" % name for name in ("m", "maps", "oneofs", "enums", "services", "d")]
 
 CALLS = [
     Rows("lex", "text_rows", "", ["the escapes of control characters", "a character over two literals", "a float on the second line"]),
@@ -103,7 +105,6 @@ CALLS = [
     Rows("Message::whole", "bytes_rows", "whole", ["a map by falling keys is written by rising ones"]),
     Rows("decode", "bytes_rows", "decode", ["a message in two parts, each with contents of all shapes"]),
     Rows("decode_ref", "bytes_rows", "decode_ref", ["a message in two parts, each with contents of all shapes"]),
-    Rows("decode_unlimited", "bytes_rows", "decode_unlimited", ["a message of all shapes is read without a limit"]),
     Rows("decode_ref_unlimited", "bytes_rows", "decode_ref_unlimited", ["a message of all shapes is read without a limit"]),
     Rows("encode", "bytes_rows", "encode", ["a copy of all shapes and of unknown records"]),
     Rows("encode_ref", "bytes_rows", "encode_ref", ["a copy of all shapes and of unknown records"]),
@@ -137,9 +138,9 @@ CALLS = [
     Rows("to_text", "answer_rows", "to_text", ["a text of two pairs without a witness", "a renamed number in a text by names"]),
     Rows("from_text", "answer_rows", "from_text", ["a text of a witness of all letters", "a renamed number in a text by names"]),
     Line("descriptor_schema", "fds_rows", "descriptor_schema", "".join(f"google.protobuf.{it} " for it in DESCRIPTOR)),
-    Rows("read", "fds_rows", "read", ["protoc's set of m.proto", "changed: no JSON name in oneofs", "refused: an alias"]),
-    Rows("write", "fds_rows", "write", ["protoc's set of m.proto"]),
-    Rows("read_again", "fds_rows", "read_again", ["protoc's set of m.proto"]),
+    Rows("read", "fds_rows", "read", ["changed: no JSON name in oneofs", "refused: an alias", *SETS]),
+    Rows("write", "fds_rows", "write", SETS),
+    Rows("read_again", "fds_rows", "read_again", SETS),
     Rows("gate", "view_rows", "gate", ["a renamed number in a child"]),
     Rows("gate_with", "view_rows", "gate_with", ["a renamed number in a child"]),
     Rows("relay", "view_rows", "relay", ["what the new type lacks is handed on"]),

@@ -186,9 +186,9 @@ try_terminal() {
     compare "$1: an open file" "free" "$(said_on_terminal "$1" '(flock -n 9; "$slow" show) 9>lock; flock -w 0.5 lock echo free')"
 }
 
-# Large pages are asked for, where the user asks the C library for nothing else.
+# Large pages and no fast bins are asked for, where the user asks the C library for nothing else.
 try_pages() {
-    compare "$1: pages" glibc.malloc.hugetlb=1 "$(env -u GLIBC_TUNABLES "$1" compile)"
+    compare "$1: pages" glibc.malloc.hugetlb=1:glibc.malloc.mxfast=0 "$(env -u GLIBC_TUNABLES "$1" compile)"
     compare "$1: what the user asks for" glibc.malloc.arena_max=1 "$(env GLIBC_TUNABLES=glibc.malloc.arena_max=1 "$1" compile)"
 }
 
