@@ -1,7 +1,8 @@
 #!/usr/bin/env python3
-"""Writes proto3 files that import each other: 1,024 files with 4,096 message types and 50,000 uses of type names.
+"""Writes proto3 files that import each other: 1,024 files with 4,096 message types and 50,000 uses of type names; or so many files, with as
+many of both for each.
 
-usage: link.py FOLDER
+usage: link.py FOLDER [FILES]
 
 The files are f0.proto to f1023.proto in the folder, and the last is the root: each file imports the eight before it, some
 publicly. Of the uses in a file some name types of the file itself, some those of its imports; by one word, by
@@ -10,9 +11,9 @@ a part of the package in front, and in full.
 import os
 import sys
 
-FILES = 1024
+FILES = int(sys.argv[2]) if len(sys.argv) > 2 else 1024
 TYPES = 4
-USES = 50_000
+USES = 50_000 * FILES // 1024
 IMPORTS = 8
 
 

@@ -1,11 +1,13 @@
 #!/usr/bin/env python3
-"""Writes a proto3 text of about 4 MB, of 3,700 message types with 32 fields each, with comments; or of so many types.
+"""Writes a proto3 text of about 4 MB, of 3,700 message types with 32 fields each; or of so many types. Each type has a comment, but where
+the last word is `bare`.
 
-usage: sets.py FILE [TYPES]
+usage: sets.py FILE [TYPES [bare]]
 """
 import sys
 
 TYPES = int(sys.argv[2]) if len(sys.argv) > 2 else 3700
+IS_BARE = sys.argv[3:] == ["bare"]
 SCALARS = ["int32", "string", "bool", "uint64", "bytes", "double", "sint64", "fixed32"]
 
 
@@ -27,7 +29,8 @@ def main():
     with open(sys.argv[1], "w", encoding="utf-8") as out:
         out.write('syntax = "proto3";\n\npackage bench.items;\n\n')
         for number in range(TYPES):
-            out.write(f"// Item {number} is one of many that stand in one file together, as a tool writes them.\n")
+            if not IS_BARE:
+                out.write(f"// Item {number} is one of many that stand in one file together, as a tool writes them.\n")
             out.write(f"message Item{number} {{\n")
             out.writelines(field(number, at) for at in range(1, 33))
             out.write("}\n\n")
