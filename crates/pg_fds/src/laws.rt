@@ -74,8 +74,8 @@ pub fn bad_references()
     ensures { BadReferences }
 {}
 
-/// Small sets with a bad reference, each with its cause: an import that isn't there, imports that go
-/// round, a name without a dot in front, one that is of another kind than the type says, and an
+/// Small sets with a bad reference, each with its cause: an import that isn't there, imports that
+/// go round, a name without a dot in front, one that is of another kind than the type says, and an
 /// entry type that two fields name.
 pub fn worked_causes()
     ensures { WorkedCauses }

@@ -22,8 +22,8 @@ use std::alloc::Global;
 /// field that the new type has without presence.
 ///
 /// The errors are `Wire` and `NotUtf8`, of bytes that have no reading, as `pg_dyn::decode`
-/// reports them; `TooLong`, where what is read has an encoding of more than 2,147,483,647 bytes; and
-/// `Memory`.
+/// reports them; `TooLong`, where what is read has an encoding of more than 2,147,483,647 bytes;
+/// and `Memory`.
 pub fn relay(
     alloc: Global,
     old: &Schema,

@@ -1,4 +1,4 @@
-//! The table of names of a set, which hashes them by keys that whoever writes the names can't choose.
+//! The table of names of a set. Whoever writes the names can't choose the keys that hash them.
 
 ghost use Rattle.std.specs.Prelude.{◌≡◌};
 
