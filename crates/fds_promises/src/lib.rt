@@ -1,15 +1,17 @@
 //! The promises of `pg_fds`, of what is written, said again of calls of it: the edits of
-//! `must-fail` turn each answer, and every one must be refused. Clauses that no edit here turns,
-//! such as what is read of the bytes, aren't said again.
+//! `must-fail` turn each answer, and every one must be refused.
 #![tactic(auto)]
 
-ghost use Rattle.std.specs.Prelude.{◌≡◌, ◌⊎◌, IfErr, IfOk};
+ghost use Rattle.std.specs.Prelude.{◌≡◌, ◌⊎◌, true, IfErr, IfOk};
 ghost use Rattle.pg_schema.specs.Parts.{shape_of};
 ghost use Rattle.pg_dyn.specs.declared.error.DynError.TheVariants as faults;
+ghost use Rattle.pg_check.specs.standing.Nesting.{are_shallow};
 ghost use Rattle.pg_fds.specs.declared.error.FdsError.TheVariants as errors;
+ghost use Rattle.pg_fds.specs.again.Again.{IsNotTooDeep, IsReadable};
 ghost use Rattle.pg_fds.specs.refusals.ErrorCodes as codes;
 ghost use Rattle.pg_fds.specs.descriptor.Descriptor.{descriptor_shape};
 ghost use Rattle.pg_fds.specs.descriptor.DescriptorParts.{descriptor_parts};
+ghost use Rattle.pg_fds.specs.stated.Reads.{fds_reads};
 ghost use Rattle.pg_fds.specs.writing.Set.{fds};
 ghost use Rattle.pg_fds.specs.stated.Views.{parts_view};
 ghost use Rattle.pg_fds.specs.writing.Written.{HasNoSet};
@@ -51,6 +53,21 @@ pub fn write(alloc: Global, schema: &Schema) -> Result<Vec<u8>, FdsError>
     ensures { IfOk result (λ bytes. fds schema.now bytes.items) }
 {
     pg_fds::write(alloc, schema)
+}
+
+/// What is read of what `write` answers.
+pub fn write_stated(alloc: Global, readable: &Schema) -> Result<Vec<u8>, FdsError>
+    ensures { IfOk result (λ bytes. IsReadable readable.now
+        → fds_reads bytes.items readable.now) }
+{
+    pg_fds::write(alloc, readable)
+}
+
+/// How deep the messages stand that `write` answers.
+pub fn write_shallow(alloc: Global, nested: &Schema) -> Result<Vec<u8>, FdsError>
+    ensures { IfOk result (λ bytes. are_shallow nested.now ≡ true → IsNotTooDeep bytes.items) }
+{
+    pg_fds::write(alloc, nested)
 }
 
 /// What `write` refuses.

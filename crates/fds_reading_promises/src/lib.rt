@@ -2,9 +2,10 @@
 //! turn each answer, and every one must be refused.
 #![tactic(auto)]
 
-ghost use Rattle.std.specs.Prelude.{ℕ, ◌≡◌, List, IfErr, IfOk};
+ghost use Rattle.std.specs.Prelude.{ℕ, ◌≡◌, ◌⊎◌, List, IfErr, IfOk};
 ghost use Rattle.pg_schema.specs.rules.Sound.{IsSound};
-ghost use Rattle.pg_fds.specs.again.ReadAgain.{IsReadAgain};
+ghost use Rattle.pg_fds.specs.declared.error.FdsError.TheVariants as errors;
+ghost use Rattle.pg_fds.specs.again.ReadAgain.{IsReadAgain, IsTooLong, MayRefuseAgain};
 ghost use Rattle.pg_fds.specs.stated.Reads.{fds_reads};
 ghost use Rattle.pg_fds.specs.refusals.Refused.{MayRefuseSet, NoneIsStated};
 ghost use Rattle.pg_fds.specs.writing.Set.{fds};
@@ -38,4 +39,13 @@ pub fn read_again(alloc: Global, schema: &Schema) -> Result<Schema, FdsError>
         → parts_view made ≡ parts_view schema.now) }
 {
     pg_fds::read_again(alloc, schema)
+}
+
+/// What `read_again` refuses.
+pub fn read_again_refused(alloc: Global, standing: &Schema) -> Result<Schema, FdsError>
+    ensures refused { IfErr result (λ e. IsReadAgain standing.now
+        → (e ≡ errors.Memory) ⊎ IsTooLong standing.now e) }
+    ensures reported { IfErr result (MayRefuseAgain standing.now) }
+{
+    pg_fds::read_again(alloc, standing)
 }
