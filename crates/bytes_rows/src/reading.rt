@@ -18,24 +18,40 @@ fn answer(alloc: Global, holds: bool) -> Result<String, DynError> {
     text(alloc, if holds { "true" } else { "false" })
 }
 
+/// The message; `WrongKind` where the one that borrows shows other things or is copied as another.
+fn like(
+    alloc: Global,
+    schema: &Schema,
+    lent: &MessageRef<'_>,
+    message: Message,
+) -> Result<Message, DynError> {
+    if !is_alike(lent, &message) {
+        return Err(DynError::WrongKind);
+    }
+    let copy = lent.to_message(alloc)?;
+    if written(alloc, schema, &copy)? != written(alloc, schema, &message)? {
+        return Err(DynError::WrongKind);
+    }
+    Ok(message)
+}
+
 /// The message of two readers, or why there is none: `WrongKind` where the one whose messages
-/// borrow answers otherwise, or gives a message that shows other things or is copied as another.
+/// borrow answers otherwise, or gives another message.
 fn agreed(
     alloc: Global,
     schema: &Schema,
     lent: Result<MessageRef<'_>, DynError>,
     owned: Result<Message, DynError>,
 ) -> Result<Message, DynError> {
-    match (lent, owned) {
-        (Ok(lent), Ok(message)) if is_alike(&lent, &message) => {
-            let copy = lent.to_message(alloc)?;
-            if written(alloc, schema, &copy)? != written(alloc, schema, &message)? {
-                return Err(DynError::WrongKind);
-            }
-            Ok(message)
-        }
-        (Err(first), Err(second)) if first == second => Err(second),
-        _ => Err(DynError::WrongKind),
+    match lent {
+        Ok(lent) => match owned {
+            Ok(message) => like(alloc, schema, &lent, message),
+            Err(_) => Err(DynError::WrongKind),
+        },
+        Err(error) => match owned {
+            Err(other) if other == error => Err(error),
+            _ => Err(DynError::WrongKind),
+        },
     }
 }
 
