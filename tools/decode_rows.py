@@ -2,71 +2,19 @@
 """Makes rows of crates/bytes_rows: byte strings, and what python3-protobuf (its C++ core) reads and writes again.
 
 Run `/usr/bin/python3 tools/decode_rows.py` at the top of the repository. It writes the lines of crates/bytes_rows/stdin and stdout that
-begin with `another runtime` anew, behind the others, which are written by hand. The rows are always the same. Those of APART are what this repository and that runtime make of bytes otherwise by choice,
-each with its reason; all others leave it out.
+begin with `another runtime` anew, behind the others, which are written by hand. The rows are always the same. Those of APART are what
+this repository and that runtime make of bytes otherwise by choice, each with its reason; all others leave it out. The lists of numbers
+stand in list_rows.py.
 """
 import random
 import sys
 
-from google.protobuf import descriptor_pb2, descriptor_pool, message_factory
+from google.protobuf import descriptor_pb2
 from google.protobuf.internal import api_implementation
 
-LABEL = descriptor_pb2.FieldDescriptorProto
-
-
-WORDS = {number: name[5:].lower() for name, number in LABEL.Type.items()}
-
-
-def declared_field(message, field):
-    """A field as a row declares it."""
-    kind = field.type_name[1:] or WORDS[field.type]
-    entries = {".%s.%s" % (message.name, entry.name): entry for entry in message.nested_type}
-    label = ""
-    if field.type_name in entries:
-        key, value = entries[field.type_name].field
-        kind = "map<%s,%s>" % (WORDS[key.type], value.type_name[1:] or WORDS[value.type])
-    elif field.label == LABEL.LABEL_REPEATED:
-        label = "unpacked " if field.options.HasField("packed") else "repeated "
-    elif field.proto3_optional:
-        label = "optional "
-    elif field.HasField("oneof_index"):
-        label = "k%d " % field.oneof_index
-    return "%s%s %s=%d" % (label, kind, field.name, field.number)
-
-
-def declared(file):
-    """The message type of a file as crates/tiny_schemas reads it."""
-    message = file.message_type[0]
-    fields = sorted(message.field, key=lambda field: field.number)
-    return "%s: %s" % (message.name, ", ".join(declared_field(message, field) for field in fields))
-
-
-def kind_of(file, name):
-    """The class of the messages of a type in a file, and the file's declarations."""
-    pool = descriptor_pool.DescriptorPool()
-    pool.Add(file)
-    return message_factory.MessageFactory(pool).GetPrototype(pool.FindMessageTypeByName(name)), declared(file)
-
-
-def adding(message):
-    """What adds a field to a message type."""
-
-    def add(name, number, kind, label=LABEL.LABEL_OPTIONAL, type_name=None):
-        field = message.field.add(name=name, number=number, type=kind, label=label)
-        if type_name:
-            field.type_name = type_name
-        return field
-
-    return add
-
-
-def add_entry(message, name, key, value, type_name=None):
-    """Adds the type of a map's entries."""
-    entry = message.nested_type.add(name=name)
-    entry.options.map_entry = True
-    add = adding(entry)
-    add("key", 1, key)
-    add("value", 2, value, type_name=type_name)
+sys.dont_write_bytecode = True
+import list_rows  # noqa: E402
+from row_types import LABEL, add_entry, adding, kind_of, record, spelled, varint  # noqa: E402
 
 
 def schema():
@@ -182,19 +130,6 @@ def entry_schema():
     add("f18", 18, LABEL.TYPE_INT32)
     add("f19", 19, LABEL.TYPE_STRING, LABEL.LABEL_REPEATED)
     return kind_of(file, "T")
-
-
-def varint(n):
-    out = b""
-    while n > 127:
-        out += bytes([n % 128 + 128])
-        n //= 128
-    return out + bytes([n])
-
-
-def record(number, wire, body):
-    head = varint(number * 8 + wire)
-    return head + (varint(len(body)) + body if wire == 2 else body)
 
 
 def word(r):
@@ -442,6 +377,21 @@ class Lines:
         message = kind(**{"f%d" % number: 7 for number in range(10_000, 0, -1)})
         self.add(": ten thousand falling fields are set", "whole 7 =10000<<9999 0  7 =#>>", spelled(message.SerializeToString()))
 
+    def add_lists(self):
+        """Lists of numbers of all kinds, read and written packed and not, and written by a type whose lists are of other kinds."""
+        others = list_rows.by_other_kinds()
+        for packed, name in ((True, "N"), (False, "U")):
+            kind, text = list_rows.schema(name, packed, list_rows.KINDS)
+            self.add_type(name, text)
+            for word, rows in list_rows.packed_and_not():
+                self.add_rows("%s: lists of %s" % (name, word), kind, rows)
+                self.add(": %s: what is read of a list of %s" % (name, word), "read " + spelled(rows[0]), list_rows.contents(kind, rows[0]))
+            self.add_copies("%s: all lists" % name, kind, [list_rows.all_lists(kind)])
+            self.add_rows("%s: lists at random" % name, kind, made_rows(kind, list_rows.records, 40, 23))
+            for other, data, back in [it[1:] for it in others if it[0] == packed]:
+                self.add(": type to compare with: " + other, "other " + other, "taken")
+                self.add(": %s: lists of other numbers" % name, "across " + data, back)
+
     def put_behind(self, folder):
         """Puts them behind the lines that are written by hand."""
         for name, lines in [("stdin", self.asked), ("stdout", self.answered)]:
@@ -449,11 +399,6 @@ class Lines:
                 kept = [line for line in file if not line.startswith("another runtime")]
             with open(folder + "/" + name, "w", encoding="utf-8") as file:
                 file.writelines(kept + lines)
-
-
-def spelled(data):
-    """How a row spells bytes, and that they are refused."""
-    return "refused" if data is None else data.hex() or "-"
 
 
 NINE = "80" * 9
@@ -597,6 +542,7 @@ def main():
     lines.add_rows("a key twice, and keys that are one", kind, [bytes.fromhex(word) for word in ENTRIES])
     lines.add_rows("entries between other records", kind, made_rows(kind, entries_between, 30, 21, longest=120))
     lines.add_many()
+    lines.add_lists()
     lines.put_behind("crates/bytes_rows")
 
 

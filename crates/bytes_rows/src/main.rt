@@ -4,7 +4,7 @@
 //!
 //! `type SCHEMA` and `other SCHEMA` make schemas, as `tiny_schemas` reads them. The first type of
 //! the one is that of the bytes and contents in the lines behind it, and that of the other is what
-//! `fits` and `outside` compare with.
+//! `fits` and `outside` compare with, and what `across` writes by.
 //!
 //! With `retry ` in front of the call it is made again where it lacks memory (`rows::retry`).
 //! `rows` says how a line spells a text many times. Of another row that runs out of memory `Memory`

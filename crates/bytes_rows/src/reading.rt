@@ -182,6 +182,29 @@ fn of_both(
     answer(alloc, fits(other, &message))
 }
 
+/// What is written by the other schema of a message that borrows, where it is one of that too; of
+/// its copy it is the same.
+fn across(
+    alloc: Global,
+    schema: &Schema,
+    other: &Schema,
+    bytes: &[u8],
+) -> Result<String, DynError> {
+    if !schema.has(FIRST) {
+        return Err(DynError::NoSuchField);
+    }
+    let lent = decode_ref(alloc, schema, FIRST, bytes, 100)?;
+    let copy = lent.to_message(alloc)?;
+    if !fits(other, &copy) {
+        return Err(DynError::WrongKind);
+    }
+    let found = encode_ref(alloc, other, &lent)?;
+    if encode(alloc, other, &copy)? != found {
+        return text(alloc, "written otherwise where it borrows");
+    }
+    Ok(word(alloc, &found)?)
+}
+
 /// What the other type doesn't have of a message.
 fn outside(
     alloc: Global,
@@ -227,6 +250,7 @@ fn found(
         "copy" => copied_again(alloc, schema, bytes),
         "unlimited" => unlimited(alloc, schema, bytes),
         "fits" => of_both(alloc, schema, other, bytes),
+        "across" => across(alloc, schema, other, bytes),
         "outside" => outside(alloc, schema, other, bytes),
         _ => shown(alloc, schema, bytes),
     }

@@ -27,6 +27,7 @@ fn by_type(
         | "copy"
         | "unlimited"
         | "fits"
+        | "across"
         | "outside"
         | "show" => answer_of_bytes(alloc, schema, other, call, input),
         _ => answer_of_wire(alloc, call, input),
