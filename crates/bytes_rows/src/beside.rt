@@ -17,12 +17,17 @@ fn is_value(lent: &ValueRef<'_>, owned: &Value) -> bool {
     }
 }
 
+fn is_number(lent: &ValueRef<'_>) -> bool {
+    matches!(lent, ValueRef::Int(_) | ValueRef::F32(_) | ValueRef::F64(_))
+}
+
+/// Of a list of numbers it is false: that has to be kept as words.
 fn are_values(lent: &[ValueRef<'_>], owned: &[Value]) -> bool {
     if lent.len() != owned.len() {
         return false;
     }
     for at in 0..lent.len() {
-        if !is_value(&lent[at], &owned[at]) {
+        if is_number(&lent[at]) || !is_value(&lent[at], &owned[at]) {
             return false;
         }
     }
