@@ -8,7 +8,7 @@ use Rattle.pg_fds.specs.reading.Owners.{means_of}
 use Rattle.pg_fds.specs.stated.StatedTypes.{declared_fields, oneof_names}
 use Rattle.pg_fds.specs.stated.Views.{field_view}
 
--- those that the message of that full name states
+-- those that the message of that name states
 pub record HasMembers {Y : Type 0} (names : NameTable Y) (r : Row) (made : Members) : Type 0 where
   pub fields : declared_fields (means_of names) r ≡ Some (map field_view made.fields.items)
   pub oneofs : map string_bytes made.oneofs.items ≡ oneof_names r.1

@@ -10,8 +10,8 @@ use Rattle.pg_fds.specs.declared.reading.outline.OutlinedFile.{OutlinedFile}
 use Rattle.pg_fds.specs.declared.reading.outline.OutlinedType.{OutlinedType}
 use Rattle.pg_fds.specs.stated.Outlines.{Row, enum_rows, file_enums, file_services, file_types, row_in, rows_of_enums, rows_of_type, type_row, type_rows}
 use Rattle.pg_fds.specs.declared.descriptor.proto.TheConstants as proto
-use Rattle.pg_fds.specs.stated.Said.{children_at, text_at}
-use Rattle.pg_fds.specs.stated.SetNames.{full_name}
+use Rattle.pg_fds.specs.stated.Said.{children_at}
+use Rattle.pg_fds.specs.stated.SetNames.{file_scope, qualified}
 use Rattle.pg_fds.specs.stated.SaidTypes.{is_no_entry}
 
 -- how many message types, enums and services stand in front
@@ -76,9 +76,9 @@ abbrev pub placed_with : (depth : ℕ) → (inside : List ℕ → Counts → Lis
 placed_with depth inside scope counts m =
     record {
       named = row_in scope m;
-      types = places_of_types depth (full_name scope m) (inside_type counts m) (inner_types m);
+      types = places_of_types depth (qualified scope m) (inside_type counts m) (inner_types m);
       enums = places_from counts.enums (length (children_at proto.MESSAGE_ENUM_TYPE m));
-    } ∷ inside (full_name scope m) (inside_type counts m) (inner_types m)
+    } ∷ inside (qualified scope m) (inside_type counts m) (inner_types m)
 
 abbrev pub placed_types : (depth : ℕ) → (scope : List ℕ) → Counts → List Message → List PlacedType
 placed_types zero scope counts ms = []
@@ -115,7 +115,7 @@ inside_file counts m = record { types = counts.types; enums = counts.enums + len
 abbrev pub file_places : (depth : ℕ) → Counts → Message → PlacedFile
 file_places depth counts m = record {
   message = m;
-  types = places_of_types depth (text_at proto.FILE_PACKAGE m) (inside_file counts m) (children_at proto.FILE_MESSAGE_TYPE m);
+  types = places_of_types depth (file_scope m) (inside_file counts m) (children_at proto.FILE_MESSAGE_TYPE m);
   enums = places_from counts.enums (length (children_at proto.FILE_ENUM_TYPE m));
   services = places_from counts.services (length (children_at proto.FILE_SERVICE m));
 }
@@ -125,4 +125,4 @@ placed_files depth counts ms = each_from (behind_file depth) (λ c m. file_place
 
 -- the message types of the files
 abbrev pub types_of_files : (depth : ℕ) → Counts → List Message → List PlacedType
-types_of_files depth counts ms = each_from (behind_file depth) (λ c m. placed_types depth (text_at proto.FILE_PACKAGE m) (inside_file c m) (children_at proto.FILE_MESSAGE_TYPE m)) counts ms
+types_of_files depth counts ms = each_from (behind_file depth) (λ c m. placed_types depth (file_scope m) (inside_file c m) (children_at proto.FILE_MESSAGE_TYPE m)) counts ms

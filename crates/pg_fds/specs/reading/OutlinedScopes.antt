@@ -6,8 +6,9 @@ use Rattle.pg_fds.specs.stated.Declarations.{Adds, file_declared, types_declared
 use Rattle.pg_fds.specs.reading.OutlinedPlaces.{Counts, counts_of, file_places, inside_file, no_counts, placed_file, placed_files, placed_type, placed_types, types_of_files}
 use Rattle.pg_fds.specs.stated.Outlines.{NameOneofs, StayFew, enum_rows, file_enums, file_services, file_types, row, type_row, type_rows}
 use Rattle.pg_fds.specs.declared.descriptor.proto.TheConstants as proto
-use Rattle.pg_fds.specs.stated.Said.{children_at, text_at}
+use Rattle.pg_fds.specs.stated.Said.{children_at}
 use Rattle.pg_fds.specs.stated.SaidTypes.{is_entry}
+use Rattle.pg_fds.specs.stated.SetNames.{file_scope}
 
 -- the message types of a scope, nested less deep than that, and the enums in them
 pub record OutlinesTypes (depth : ℕ) (scope : List ℕ) (ms : List Message) (old new : Outline) : Type 0 where
@@ -27,7 +28,7 @@ pub record OutlinesFile (depth : ℕ) (m : Message) (old new : Outline) : Type 0
   pub services : map row new.services.items ≡ map row old.services.items ++ file_services m
   pub files : map placed_file new.files.items ≡ map placed_file old.files.items ++ file_places depth (counts_of old) m ∷ []
   pub placed : map placed_type new.types.items
-      ≡ map placed_type old.types.items ++ placed_types depth (text_at proto.FILE_PACKAGE m) (inside_file (counts_of old) m) (children_at proto.FILE_MESSAGE_TYPE m)
+      ≡ map placed_type old.types.items ++ placed_types depth (file_scope m) (inside_file (counts_of old) m) (children_at proto.FILE_MESSAGE_TYPE m)
   pub adds : Adds (file_declared depth (counts_of old) m) old.names new.names
   pub few_types : StayFew old.types.items new.types.items
   pub few_enums : StayFew old.enums.items new.enums.items

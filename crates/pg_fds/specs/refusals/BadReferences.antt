@@ -5,25 +5,25 @@ use Rattle.std.specs.List.{Any}
 use Rattle.std.specs.Ordering.{int_eq}
 use Rattle.std.specs.Str.{bytes_eq}
 use Rattle.pg_schema.specs.declared.parts.field.Element.{Element}
-use Rattle.pg_schema.specs.rules.DeclaredNames.{entry_name, within}
+use Rattle.pg_schema.specs.rules.DeclaredNames.{entry_name}
 use Rattle.pg_schema.specs.rules.Packages.{is_free_of}
 use Rattle.pg_schema.specs.rules.Pairs.{are_distinct}
 use Rattle.pg_schema.specs.rules.TextSets.{is_among}
 use Rattle.pg_dyn.specs.Message.{Message}
 use Rattle.pg_check.specs.standing.Places.{most_deep}
 use Rattle.pg_fds.specs.declared.reading.outline.Named.{Named}
-use Rattle.pg_fds.specs.writing.Fields.{dotted, element_code}
+use Rattle.pg_fds.specs.writing.Fields.{element_code}
 use Rattle.pg_fds.specs.stated.Outlines.{Row, file_enums, file_services, file_types}
 use Rattle.pg_fds.specs.stated.PostOrder.{importer_of, imports_at, kept_paths}
 use Rattle.pg_fds.specs.declared.descriptor.proto.TheConstants as proto
 use Rattle.pg_fds.specs.stated.Said.{children_at, maybe_number_at, maybe_text_at, number_at, numbers_at, text_at, texts_at}
 use Rattle.pg_fds.specs.stated.SaidFiles.{is_place}
 use Rattle.pg_fds.specs.stated.SaidTypes.{is_entry, is_marked, is_optional, label_at, members_at, synthetic_places}
-use Rattle.pg_fds.specs.stated.SetNames.{files_names}
+use Rattle.pg_fds.specs.stated.SetNames.{files_names, name_in}
 use Rattle.pg_fds.specs.stated.Stated.{stated_of}
 use Rattle.pg_fds.specs.stated.StatedEntries.{has_fields_alone, is_entry_field, says, scalar_of}
 use Rattle.pg_fds.specs.stated.StatedFields.{is_map_field}
-use Rattle.pg_fds.specs.stated.StatedNames.{Meanings, element_of_named, meant, type_of_named, undotted}
+use Rattle.pg_fds.specs.stated.StatedNames.{Meanings, element_of_named, meant, type_of_named}
 use Rattle.pg_fds.specs.stated.StatedOneofs.{synthetic_in, unmarked}
 use Rattle.pg_fds.specs.stated.StatedOrder.{Paths, in_post_order}
 use Rattle.pg_fds.specs.stated.StatedTable.{meaning, nests_within, packages_of}
@@ -35,10 +35,9 @@ use Rattle.pg_fds.specs.stated.StatedTypes.{last_named, oneof_count, own_entries
 abbrev pub means_in : List Message → Meanings
 means_in files = meaning (flat_map (file_types most_deep) files) (flat_map (file_enums most_deep) files)
 
--- It names nothing: it has no dot in front, or no message type, enum or entry type has that name.
-pub data NamesNothing (means : Meanings) : List ℕ → Type 0 where
-  no_dot : (name : List ℕ) → undotted name ≡ None → NamesNothing means name
-  undeclared : (name : List ℕ) → means name ≡ None → NamesNothing means (dotted name)
+-- no message type, enum or entry type has that qualified name, which begins with a dot
+abbrev pub NamesNothing : Meanings → List ℕ → Type 0
+NamesNothing means name = means name ≡ None
 
 -- What a method sends or answers is no message type: it isn't named, its name names nothing, or another thing.
 pub data NamesNoType (means : Meanings) (name : Option (List ℕ)) : Type 0 where
@@ -83,9 +82,9 @@ pub data IsBadEntry (means : Meanings) (entry : Message) : Type 0 where
   bad_value : (key value : Message) → children_at proto.MESSAGE_FIELD entry ≡ key ∷ value ∷ [] → is_entry_field (codes "value") 2 value ≡ false → IsBadEntry means entry
   bad_item : Any (HasBadType means) (children_at proto.MESSAGE_FIELD entry) → IsBadEntry means entry
 
--- the full name of the field's own entry type, with the dot in front
+-- the qualified name of the field's own entry type
 abbrev pub own_entry_name : Row → Message → List ℕ
-own_entry_name r field = dotted (within r.0 (entry_name (text_at proto.FIELD_NAME field)))
+own_entry_name r field = name_in r.0 (entry_name (text_at proto.FIELD_NAME field))
 
 -- a field, in a message type, whose type is an entry type: it has to be that of its own name, and the field repeated
 pub data IsBadMap (means : Meanings) (r : Row) (field : Message) : Type 0 where

@@ -1,4 +1,4 @@
--- What a set declares: each full name with what it is that of, in order (descriptor.proto; proto3 language guide, "Packages";
+-- What a set declares: each qualified name with what it is that of, in order (descriptor.proto; proto3 language guide, "Packages";
 -- "Enumerations": the values of an enum are siblings of its name), and the tables of names that declarations make.
 use Rattle.std.specs.Prelude.{◌≡◌, ℕ, zero, suc, Bool, true, false, ◌&&◌, nat_eq, List, [], ◌∷◌, ◌++◌, filter, flat_map, map, Option, Some, None, String, if◌then◌else◌}
 use Rattle.std.specs.HashMap.{HashMap, get_by_text}
@@ -12,12 +12,12 @@ use Rattle.pg_fds.specs.declared.reading.outline.Named.{Named}
 use Rattle.pg_fds.specs.declared.reading.outline.Named.TheVariants as nameds
 use Rattle.pg_fds.specs.reading.OutlinedPlaces.{Counts, behind_file, behind_type, each_from, inner_types, inside_file, inside_type}
 use Rattle.pg_fds.specs.declared.descriptor.proto.TheConstants as proto
-use Rattle.pg_fds.specs.stated.Said.{children_at, text_at}
-use Rattle.pg_fds.specs.stated.SetNames.{full_name}
+use Rattle.pg_fds.specs.stated.Said.{children_at}
+use Rattle.pg_fds.specs.stated.SetNames.{file_scope, qualified}
 use Rattle.pg_fds.specs.stated.StatedNames.{Meanings}
 use Rattle.pg_fds.specs.stated.SaidTypes.{is_entry, real_oneofs, synthetic_places}
 
--- a full name, and what it is that of
+-- a qualified name, and what it is that of
 abbrev pub Declaration : Type 0
 Declaration = List ℕ × Named
 
@@ -67,7 +67,7 @@ CannotAdd ds table e = are_new (get_by_text table) ds ≡ true → e ≡ errors.
 
 -- what a message is called there
 abbrev pub named_in : (scope : List ℕ) → Named → Message → Declaration
-named_in scope thing m = (full_name scope m, thing)
+named_in scope thing m = (qualified scope m, thing)
 
 abbrev pub all_named : (scope : List ℕ) → Named → List Message → List Declaration
 all_named scope thing ms = map (named_in scope thing) ms
@@ -83,12 +83,12 @@ enums_declared scope place (m ∷ ms) = enum_declared scope place m ++ enums_dec
 
 -- a service and its methods
 abbrev pub service_declared : (scope : List ℕ) → Message → List Declaration
-service_declared scope m = named_in scope nameds.Other m ∷ all_named (full_name scope m) nameds.Other (children_at proto.SERVICE_METHOD m)
+service_declared scope m = named_in scope nameds.Other m ∷ all_named (qualified scope m) nameds.Other (children_at proto.SERVICE_METHOD m)
 
 abbrev pub services_declared : (scope : List ℕ) → List Message → List Declaration
 services_declared scope ms = flat_map (service_declared scope) ms
 
--- the fields and real oneofs of a message type of that full name
+-- the fields and real oneofs of a message type of that qualified name
 abbrev pub members_declared : (full : List ℕ) → Message → List Declaration
 members_declared full m =
     all_named full nameds.Other (children_at proto.MESSAGE_FIELD m)
@@ -102,8 +102,8 @@ type_declared full place m =
 -- with its enums and the types inside it
 abbrev pub whole_declared : (inside : List ℕ → Counts → List Message → List Declaration) → (scope : List ℕ) → Counts → Message → List Declaration
 whole_declared inside scope counts m =
-    type_declared (full_name scope m) counts.types m ++ enums_declared (full_name scope m) counts.enums (children_at proto.MESSAGE_ENUM_TYPE m)
-    ++ inside (full_name scope m) (inside_type counts m) (inner_types m)
+    type_declared (qualified scope m) counts.types m ++ enums_declared (qualified scope m) counts.enums (children_at proto.MESSAGE_ENUM_TYPE m)
+    ++ inside (qualified scope m) (inside_type counts m) (inner_types m)
 
 -- message types, nested less deep than that
 abbrev pub types_declared : (depth : ℕ) → (scope : List ℕ) → Counts → List Message → List Declaration
@@ -117,22 +117,21 @@ abbrev pub fronts : List ℕ → List (List ℕ)
 fronts [] = [] ∷ []
 fronts (byte ∷ bytes) = if nat_eq byte 46 then [] ∷ map (λ front. byte ∷ front) (fronts bytes) else map (λ front. byte ∷ front) (fronts bytes)
 
--- the parts of a package, of which there are none where it has no name
-abbrev pub package_parts : List ℕ → List (List ℕ)
+-- The parts of a package, by its scope: what stands before each dot but the first, and the whole. Of the outermost scope there are none.
+abbrev pub package_parts : (scope : List ℕ) → List (List ℕ)
 package_parts [] = []
-package_parts (byte ∷ bytes) = fronts (byte ∷ bytes)
+package_parts (byte ∷ bytes) = map (λ front. byte ∷ front) (fronts bytes)
 
 abbrev pub package_part : List ℕ → Declaration
 package_part name = (name, nameds.Package)
 
-abbrev pub package_declared : List ℕ → List Declaration
-package_declared name = map package_part (package_parts name)
+abbrev pub package_declared : (scope : List ℕ) → List Declaration
+package_declared scope = map package_part (package_parts scope)
 
 abbrev pub file_declared : (depth : ℕ) → Counts → Message → List Declaration
 file_declared depth counts m =
-    package_declared (text_at proto.FILE_PACKAGE m) ++ enums_declared (text_at proto.FILE_PACKAGE m) counts.enums (children_at proto.FILE_ENUM_TYPE m)
-    ++ types_declared depth (text_at proto.FILE_PACKAGE m) (inside_file counts m) (children_at proto.FILE_MESSAGE_TYPE m)
-    ++ services_declared (text_at proto.FILE_PACKAGE m) (children_at proto.FILE_SERVICE m)
+    package_declared (file_scope m) ++ enums_declared (file_scope m) counts.enums (children_at proto.FILE_ENUM_TYPE m)
+    ++ types_declared depth (file_scope m) (inside_file counts m) (children_at proto.FILE_MESSAGE_TYPE m) ++ services_declared (file_scope m) (children_at proto.FILE_SERVICE m)
 
 abbrev pub files_declared : (depth : ℕ) → Counts → List Message → List Declaration
 files_declared depth counts ms = each_from (behind_file depth) (file_declared depth) counts ms

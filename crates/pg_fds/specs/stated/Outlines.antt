@@ -6,13 +6,13 @@ use Rattle.pg_dyn.specs.Kept.{message_of}
 use Rattle.pg_dyn.specs.Message.{Message}
 use Rattle.pg_fds.specs.declared.reading.outline.Outlined.{Outlined}
 use Rattle.pg_fds.specs.declared.reading.outline.OutlinedType.{OutlinedType}
-use Rattle.pg_fds.specs.stated.Said.{children_at, text_at}
-use Rattle.pg_fds.specs.stated.SetNames.{full_name}
+use Rattle.pg_fds.specs.stated.Said.{children_at}
+use Rattle.pg_fds.specs.stated.SetNames.{file_scope, qualified}
 use Rattle.pg_fds.specs.stated.SaidFiles.{is_place}
 use Rattle.pg_fds.specs.stated.SaidTypes.{is_no_entry, synthetic_places}
 use Rattle.pg_fds.specs.declared.descriptor.proto.TheConstants as proto
 
--- a full name, and the message of what has it
+-- a qualified name, and the message of what has it
 abbrev pub Row : Type 0
 Row = List ℕ × Message
 
@@ -23,14 +23,14 @@ abbrev pub type_row : OutlinedType → Row
 type_row o = (string_bytes o.name, message_of o.message)
 
 abbrev pub row_in : (scope : List ℕ) → Message → Row
-row_in scope m = (full_name scope m, m)
+row_in scope m = (qualified scope m, m)
 
 abbrev pub rows_in : (scope : List ℕ) → List Message → List Row
 rows_in scope ms = map (row_in scope) ms
 
 -- a message type's, and then those of the types inside it
 abbrev pub rows_of_type : (inside : List ℕ → List Message → List Row) → (scope : List ℕ) → Message → List Row
-rows_of_type inside scope m = row_in scope m ∷ inside (full_name scope m) (filter is_no_entry (children_at proto.MESSAGE_NESTED_TYPE m))
+rows_of_type inside scope m = row_in scope m ∷ inside (qualified scope m) (filter is_no_entry (children_at proto.MESSAGE_NESTED_TYPE m))
 
 -- message types, nested less deep than that
 abbrev pub type_rows : (depth : ℕ) → (scope : List ℕ) → List Message → List Row
@@ -39,7 +39,7 @@ type_rows (suc depth) scope ms = flat_map (rows_of_type (type_rows depth) scope)
 
 -- the enums of a message type, and then those of the types inside it
 abbrev pub rows_of_enums : (inside : List ℕ → List Message → List Row) → (scope : List ℕ) → Message → List Row
-rows_of_enums inside scope m = rows_in (full_name scope m) (children_at proto.MESSAGE_ENUM_TYPE m) ++ inside (full_name scope m) (filter is_no_entry (children_at proto.MESSAGE_NESTED_TYPE m))
+rows_of_enums inside scope m = rows_in (qualified scope m) (children_at proto.MESSAGE_ENUM_TYPE m) ++ inside (qualified scope m) (filter is_no_entry (children_at proto.MESSAGE_NESTED_TYPE m))
 
 -- the enums in message types, nested less deep than that
 abbrev pub enum_rows : (depth : ℕ) → (scope : List ℕ) → List Message → List Row
@@ -49,13 +49,13 @@ enum_rows (suc depth) scope ms = flat_map (rows_of_enums (enum_rows depth) scope
 -- ---- files
 
 abbrev pub file_types : (depth : ℕ) → Message → List Row
-file_types depth m = type_rows depth (text_at proto.FILE_PACKAGE m) (children_at proto.FILE_MESSAGE_TYPE m)
+file_types depth m = type_rows depth (file_scope m) (children_at proto.FILE_MESSAGE_TYPE m)
 
 abbrev pub file_enums : (depth : ℕ) → Message → List Row
-file_enums depth m = rows_in (text_at proto.FILE_PACKAGE m) (children_at proto.FILE_ENUM_TYPE m) ++ enum_rows depth (text_at proto.FILE_PACKAGE m) (children_at proto.FILE_MESSAGE_TYPE m)
+file_enums depth m = rows_in (file_scope m) (children_at proto.FILE_ENUM_TYPE m) ++ enum_rows depth (file_scope m) (children_at proto.FILE_MESSAGE_TYPE m)
 
 abbrev pub file_services : Message → List Row
-file_services m = rows_in (text_at proto.FILE_PACKAGE m) (children_at proto.FILE_SERVICE m)
+file_services m = rows_in (file_scope m) (children_at proto.FILE_SERVICE m)
 
 -- the files at these places
 abbrev pub files_at : List Message → List ℕ → List Message

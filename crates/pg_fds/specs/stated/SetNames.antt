@@ -1,38 +1,71 @@
--- The full names that the messages of a set declare, in the order in which they are declared (descriptor.proto; proto3 language guide,
--- "Enumerations": the values of an enum are siblings of its name).
-use Rattle.std.specs.Prelude.{ℕ, zero, suc, List, [], ◌∷◌, ◌++◌, map, flat_map, filter}
-use Rattle.pg_schema.specs.rules.DeclaredNames.{within}
+-- The fully-qualified names that the messages of a set declare, in the order in which they are declared (descriptor.proto,
+-- `FieldDescriptorProto.type_name`; proto3 language guide, "Enumerations": the values of an enum are siblings of its name). Of each name on
+-- the way from the outermost scope they have a dot and the name. So that names of two scopes differ, whatever text a name is, a backslash
+-- stands in front of each dot and each backslash in one.
+use Rattle.std.specs.Prelude.{ℕ, zero, suc, Bool, ◌||◌, nat_eq, List, [], ◌∷◌, ◌++◌, map, flat_map, filter, if◌then◌else◌}
 use Rattle.pg_dyn.specs.Message.{Message}
+use Rattle.pg_fds.specs.writing.Fields.{dotted}
 use Rattle.pg_fds.specs.stated.Said.{children_at, text_at}
 use Rattle.pg_fds.specs.stated.SaidTypes.{is_entry, is_no_entry, real_oneofs, synthetic_places}
 use Rattle.pg_fds.specs.declared.descriptor.proto.TheConstants as proto
 
--- the full name of what a message is called in a scope
-abbrev pub full_name : (scope : List ℕ) → Message → List ℕ
-full_name scope m = within scope (text_at proto.NAME m)
+-- ---- names in scopes
 
-abbrev pub full_names : (scope : List ℕ) → List Message → List (List ℕ)
-full_names scope ms = map (full_name scope) ms
+-- with a backslash in front of each byte of that kind
+abbrev pub escaped : (kind : ℕ → Bool) → List ℕ → List ℕ
+escaped kind [] = []
+escaped kind (byte ∷ bytes) = if kind byte then 92 ∷ byte ∷ escaped kind bytes else byte ∷ escaped kind bytes
+
+abbrev pub is_backslash : ℕ → Bool
+is_backslash byte = nat_eq byte 92
+
+abbrev pub is_dot_or_backslash : ℕ → Bool
+is_dot_or_backslash byte = nat_eq byte 46 || is_backslash byte
+
+abbrev pub quoted : List ℕ → List ℕ
+quoted name = escaped is_dot_or_backslash name
+
+-- the qualified name of a name in a scope, which is called by its own
+abbrev pub name_in : (scope name : List ℕ) → List ℕ
+name_in scope name = scope ++ dotted (quoted name)
+
+-- of what a message is called there
+abbrev pub qualified : (scope : List ℕ) → Message → List ℕ
+qualified scope m = name_in scope (text_at proto.NAME m)
+
+abbrev pub qualified_names : (scope : List ℕ) → List Message → List (List ℕ)
+qualified_names scope ms = map (qualified scope) ms
+
+-- the scope of a package, whose dots part its words; without one it is the outermost
+abbrev pub package_scope : List ℕ → List ℕ
+package_scope [] = []
+package_scope (byte ∷ bytes) = dotted (escaped is_backslash (byte ∷ bytes))
+
+-- what a file declares by itself stands there
+abbrev pub file_scope : Message → List ℕ
+file_scope m = package_scope (text_at proto.FILE_PACKAGE m)
+
+-- ---- the names of a set
 
 -- its own and those of its values
 abbrev pub enum_names : (scope : List ℕ) → Message → List (List ℕ)
-enum_names scope m = full_name scope m ∷ full_names scope (children_at proto.ENUM_VALUE m)
+enum_names scope m = qualified scope m ∷ qualified_names scope (children_at proto.ENUM_VALUE m)
 
 abbrev pub enums_names : (scope : List ℕ) → List Message → List (List ℕ)
 enums_names scope ms = flat_map (enum_names scope) ms
 
--- those of the fields and real oneofs of a message type of that full name
+-- those of the fields and real oneofs of a message type of that qualified name
 abbrev pub member_names : (full : List ℕ) → Message → List (List ℕ)
-member_names full m = full_names full (children_at proto.MESSAGE_FIELD m) ++ full_names full (real_oneofs (synthetic_places (children_at proto.MESSAGE_FIELD m)) 0 (children_at proto.MESSAGE_ONEOF_DECL m))
+member_names full m = qualified_names full (children_at proto.MESSAGE_FIELD m) ++ qualified_names full (real_oneofs (synthetic_places (children_at proto.MESSAGE_FIELD m)) 0 (children_at proto.MESSAGE_ONEOF_DECL m))
 
 -- and of its entry types, without those of what it has inside
 abbrev pub own_names : (full : List ℕ) → Message → List (List ℕ)
-own_names full m = full ∷ member_names full m ++ full_names full (filter is_entry (children_at proto.MESSAGE_NESTED_TYPE m))
+own_names full m = full ∷ member_names full m ++ qualified_names full (filter is_entry (children_at proto.MESSAGE_NESTED_TYPE m))
 
 -- with those of its enums and of the types inside it
 abbrev pub type_names : (inside : List ℕ → List Message → List (List ℕ)) → (scope : List ℕ) → Message → List (List ℕ)
 type_names inside scope m =
-    own_names (full_name scope m) m ++ enums_names (full_name scope m) (children_at proto.MESSAGE_ENUM_TYPE m) ++ inside (full_name scope m) (filter is_no_entry (children_at proto.MESSAGE_NESTED_TYPE m))
+    own_names (qualified scope m) m ++ enums_names (qualified scope m) (children_at proto.MESSAGE_ENUM_TYPE m) ++ inside (qualified scope m) (filter is_no_entry (children_at proto.MESSAGE_NESTED_TYPE m))
 
 -- those of message types nested less deep than that
 abbrev pub types_names : (depth : ℕ) → (scope : List ℕ) → List Message → List (List ℕ)
@@ -41,7 +74,7 @@ types_names (suc depth) scope ms = flat_map (type_names (types_names depth) scop
 
 -- its own and those of its methods
 abbrev pub service_names : (scope : List ℕ) → Message → List (List ℕ)
-service_names scope m = full_name scope m ∷ full_names (full_name scope m) (children_at proto.SERVICE_METHOD m)
+service_names scope m = qualified scope m ∷ qualified_names (qualified scope m) (children_at proto.SERVICE_METHOD m)
 
 abbrev pub services_names : (scope : List ℕ) → List Message → List (List ℕ)
 services_names scope ms = flat_map (service_names scope) ms
@@ -49,9 +82,8 @@ services_names scope ms = flat_map (service_names scope) ms
 -- those of a file, with message types nested less deep than that
 abbrev pub file_names : (depth : ℕ) → Message → List (List ℕ)
 file_names depth m =
-    enums_names (text_at proto.FILE_PACKAGE m) (children_at proto.FILE_ENUM_TYPE m) ++ types_names depth (text_at proto.FILE_PACKAGE m) (children_at proto.FILE_MESSAGE_TYPE m) ++ services_names (text_at proto.FILE_PACKAGE m) (children_at proto.FILE_SERVICE m)
+    enums_names (file_scope m) (children_at proto.FILE_ENUM_TYPE m) ++ types_names depth (file_scope m) (children_at proto.FILE_MESSAGE_TYPE m)
+    ++ services_names (file_scope m) (children_at proto.FILE_SERVICE m)
 
 abbrev pub files_names : (depth : ℕ) → List Message → List (List ℕ)
 files_names depth ms = flat_map (file_names depth) ms
-
--- ---- the table

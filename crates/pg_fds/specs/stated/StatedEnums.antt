@@ -5,6 +5,7 @@ use Rattle.pg_dyn.specs.Message.{Message}
 use Rattle.pg_fds.specs.stated.Outlines.{Row}
 use Rattle.pg_fds.specs.declared.descriptor.proto.TheConstants as proto
 use Rattle.pg_fds.specs.stated.Said.{children_at, maybe_flag_at, number_at, options_at, text_at, texts_at}
+use Rattle.pg_fds.specs.stated.StatedNames.{undotted}
 use Rattle.pg_fds.specs.stated.Views.{EnumView, ValueView}
 
 abbrev pub value : Message → ValueView
@@ -18,10 +19,10 @@ value m = record {
 abbrev pub range : Message → ReservedValues
 range m = record { first = number_at proto.RANGE_START m; last = number_at proto.RANGE_END m }
 
--- the enum of that full name
+-- the enum of that name
 abbrev pub enum_type : Row → EnumView
 enum_type r = record {
-  name = r.0;
+  name = undotted r.0;
   values = map value (children_at proto.ENUM_VALUE r.1);
   reserved_numbers = map range (children_at proto.ENUM_RESERVED_RANGE r.1);
   reserved_names = texts_at proto.ENUM_RESERVED_NAME r.1;

@@ -9,13 +9,14 @@ use Rattle.pg_schema.specs.declared.parts.field.Element.{Element}
 use Rattle.pg_schema.specs.declared.parts.field.Presence.{Presence}
 use Rattle.pg_schema.specs.declared.parts.field.Presence.TheVariants as presences
 use Rattle.pg_schema.specs.declared.parts.field.Scalar.{Scalar}
-use Rattle.pg_schema.specs.rules.DeclaredNames.{entry_name, within}
+use Rattle.pg_schema.specs.rules.DeclaredNames.{entry_name}
 use Rattle.pg_schema.specs.rules.Fields.{is_message, stated_or}
 use Rattle.pg_schema.specs.Shape.{is_map, is_packable}
 use Rattle.pg_dyn.specs.Message.{Message}
-use Rattle.pg_fds.specs.writing.Fields.{dotted, message_code}
+use Rattle.pg_fds.specs.writing.Fields.{message_code}
 use Rattle.pg_fds.specs.declared.descriptor.proto.TheConstants as proto
 use Rattle.pg_fds.specs.stated.Said.{maybe_flag_at, maybe_text_at, natural, number_at, options_at, text_at}
+use Rattle.pg_fds.specs.stated.SetNames.{name_in}
 use Rattle.pg_fds.specs.stated.StatedEntries.{element, entry, says}
 use Rattle.pg_fds.specs.stated.StatedNames.{Meanings, each, is_entry_type, meant, only_if}
 use Rattle.pg_fds.specs.stated.StatedOneofs.{oneof}
@@ -46,7 +47,7 @@ plain_items means m member = option_and_then (λ e. option_map (λ p. (p, e)) (p
 
 -- ---- maps
 
--- What the fields of a message type are made with: its full name; which of its oneofs are synthetic, and how many fields name each; its
+-- What the fields of a message type are made with: its qualified name; which of its oneofs are synthetic, and how many fields name each; its
 -- entry types by their names.
 pub record Owner : Type 0 where
   pub full : List ℕ
@@ -61,7 +62,7 @@ is_map_field means m = is_entry_type (meant means (maybe_text_at proto.FIELD_TYP
 -- it is repeated, and its type the entry type of its own name in its own message type
 abbrev pub names_its_entry : Owner → Message → Bool
 names_its_entry o m =
-    int_eq (label_at m) (pos 3) && not (is_optional m) && says proto.FIELD_TYPE_NAME m (dotted (within o.full (entry_name (text_at proto.FIELD_NAME m))))
+    int_eq (label_at m) (pos 3) && not (is_optional m) && says proto.FIELD_TYPE_NAME m (name_in o.full (entry_name (text_at proto.FIELD_NAME m)))
 
 abbrev pub map_of : Scalar × Element → Items
 map_of e = (presences.Map e.0, e.1)

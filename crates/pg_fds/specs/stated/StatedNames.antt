@@ -29,17 +29,14 @@ both f a b = option_and_then (λ x. option_map (f x) b) a
 
 -- ---- names
 
--- what full names are those of
+-- what qualified names are those of
 abbrev pub Meanings : Type 0
 Meanings = List ℕ → Option Named
 
--- a full name without the dot in front
-abbrev pub undotted : List ℕ → Option (List ℕ)
-undotted [] = None
-undotted (byte ∷ name) = if nat_eq byte 46 then Some name else None
-
-abbrev pub named : Meanings → List ℕ → Option Named
-named means dotted = option_and_then means (undotted dotted)
+-- without the dot in front, as a schema has its names
+abbrev pub undotted : List ℕ → List ℕ
+undotted [] = []
+undotted (byte ∷ name) = if nat_eq byte 46 then name else byte ∷ name
 
 abbrev pub type_of_named : Named → Option TypeId
 type_of_named nameds.Package = None
@@ -48,9 +45,9 @@ type_of_named (nameds.Enum id) = None
 type_of_named nameds.Entry = None
 type_of_named nameds.Other = None
 
--- what the name in a message means, where there is one
+-- What the name in a message means, where there is one. A qualified name begins with a dot, so one that doesn't means nothing.
 abbrev pub meant : Meanings → Option (List ℕ) → Option Named
-meant means name = option_and_then (named means) name
+meant means name = option_and_then means name
 
 -- the message type that it means
 abbrev pub type_meant : Meanings → Option (List ℕ) → Option TypeId
@@ -63,7 +60,7 @@ element_of_named (nameds.Enum id) = Some (elements.Enum id)
 element_of_named nameds.Entry = None
 element_of_named nameds.Other = None
 
--- What a field or a method may name. Full names of packages, fields, oneofs, values and services are there only so that they stand once.
+-- What a field or a method may name. Names of packages, fields, oneofs, values and services are there only so that they stand once.
 abbrev pub may_name : Option Named → Option Named
 may_name None = None
 may_name (Some nameds.Package) = None

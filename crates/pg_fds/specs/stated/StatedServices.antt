@@ -6,7 +6,7 @@ use Rattle.pg_dyn.specs.Message.{Message}
 use Rattle.pg_fds.specs.stated.Outlines.{Row}
 use Rattle.pg_fds.specs.declared.descriptor.proto.TheConstants as proto
 use Rattle.pg_fds.specs.stated.Said.{children_at, flag_at, maybe_flag_at, maybe_text_at, options_at, text_at}
-use Rattle.pg_fds.specs.stated.StatedNames.{Meanings, both, each, type_meant}
+use Rattle.pg_fds.specs.stated.StatedNames.{Meanings, both, each, type_meant, undotted}
 use Rattle.pg_fds.specs.stated.Views.{MethodView, ServiceView}
 
 abbrev pub method_of : Message → TypeId → TypeId → MethodView
@@ -26,11 +26,11 @@ method means m =
 
 abbrev pub service_of : Row → List MethodView → ServiceView
 service_of r methods = record {
-  name = r.0;
+  name = undotted r.0;
   methods = methods;
   options = record { deprecated = maybe_flag_at proto.SERVICE_DEPRECATED (options_at proto.SERVICE_OPTIONS r.1) };
 }
 
--- the service of that full name
+-- the service of that name
 abbrev pub service : Meanings → Row → Option ServiceView
 service means r = option_map (service_of r) (each (method means) (children_at proto.SERVICE_METHOD r.1))

@@ -1,4 +1,4 @@
--- What the full names of a set mean, and when all that its files declare may stand in one table: names stand once, 32 bits hold the
+-- What the names of a set mean, and when all that its files declare may stand in one table: names stand once, 32 bits hold the
 -- places, `optional` fields name oneofs that are there, entry types stand in message types, and no message type is nested too deep.
 use Rattle.std.specs.Prelude.{ℕ, zero, suc, ◌^◌, Bool, true, false, ◌&&◌, nat_eq, nat_lt, List, [], ◌∷◌, filter, flat_map, length, map, Option, Some, None, option_map, if◌then◌else◌}
 use Rattle.std.specs.List.{list_all, position_from}
@@ -11,8 +11,8 @@ use Rattle.pg_fds.specs.declared.reading.outline.Named.{Named}
 use Rattle.pg_fds.specs.declared.reading.outline.Named.TheVariants as nameds
 use Rattle.pg_fds.specs.stated.Outlines.{Row, file_enums, file_services, file_types}
 use Rattle.pg_fds.specs.declared.descriptor.proto.TheConstants as proto
-use Rattle.pg_fds.specs.stated.Said.{children_at, text_at}
-use Rattle.pg_fds.specs.stated.SetNames.{files_names, full_names}
+use Rattle.pg_fds.specs.stated.Said.{children_at}
+use Rattle.pg_fds.specs.stated.SetNames.{file_scope, files_names, qualified_names}
 use Rattle.pg_fds.specs.stated.StatedNames.{Meanings, first_of}
 use Rattle.pg_fds.specs.stated.SaidFiles.{is_place}
 use Rattle.pg_fds.specs.stated.SaidTypes.{is_entry, is_no_entry, synthetic_places}
@@ -26,7 +26,7 @@ abbrev pub place_of : List (List ℕ) → List ℕ → Option ℕ
 place_of names name = position_from (bytes_eq name) 0 names
 
 abbrev pub entry_names : Row → List (List ℕ)
-entry_names r = full_names r.0 (filter is_entry (children_at proto.MESSAGE_NESTED_TYPE r.1))
+entry_names r = qualified_names r.0 (filter is_entry (children_at proto.MESSAGE_NESTED_TYPE r.1))
 
 abbrev pub type_named : ℕ → Named
 type_named place = nameds.Type (record { index = place })
@@ -47,11 +47,11 @@ abbrev pub has_name : List ℕ → Bool
 has_name [] = false
 has_name (byte ∷ bytes) = true
 
--- those of the files that are in one
+-- the scopes of the files that are in a package
 abbrev pub packages_of : List Message → List (List ℕ)
-packages_of files = filter has_name (map (text_at proto.FILE_PACKAGE) files)
+packages_of files = filter has_name (map file_scope files)
 
--- all full names of the files stand once, and none is a part of a package
+-- all names of the files stand once, and none is a part of a package
 abbrev pub are_free : (depth : ℕ) → List Message → Bool
 are_free depth files = are_distinct (files_names depth files) && list_all (is_free_of (files_names depth files)) (packages_of files)
 

@@ -10,7 +10,7 @@ use Rattle.pg_fds.specs.stated.Outlines.{Row}
 use Rattle.pg_fds.specs.declared.descriptor.proto.TheConstants as proto
 use Rattle.pg_fds.specs.stated.Said.{children_at, maybe_flag_at, natural, number_at, options_at, text_at, texts_at}
 use Rattle.pg_fds.specs.stated.StatedFields.{Owner, fields}
-use Rattle.pg_fds.specs.stated.StatedNames.{Meanings, first_of}
+use Rattle.pg_fds.specs.stated.StatedNames.{Meanings, first_of, undotted}
 use Rattle.pg_fds.specs.stated.StatedOneofs.{members_in, synthetic_in}
 use Rattle.pg_fds.specs.stated.SaidTypes.{is_entry, real_oneofs, synthetic_places}
 use Rattle.pg_fds.specs.stated.Views.{FieldView, TypeView}
@@ -70,7 +70,7 @@ enum_id place = record { index = place }
 
 abbrev pub type_of : PlacedType → List FieldView → TypeView
 type_of p declared = record {
-  name = p.named.0;
+  name = undotted p.named.0;
   fields = by_key number_of declared;
   declared = map number_of declared;
   oneofs = oneof_names p.named.1;
@@ -81,6 +81,6 @@ type_of p declared = record {
   options = record { deprecated = maybe_flag_at proto.MESSAGE_DEPRECATED (options_at proto.MESSAGE_OPTIONS p.named.1) };
 }
 
--- the message type of that full name, with the places of what stands in it
+-- the message type of that name, with the places of what stands in it
 abbrev pub message_type : Meanings → PlacedType → Option TypeView
 message_type means p = option_map (type_of p) (declared_fields means p.named)

@@ -7,7 +7,7 @@ use Rattle.pg_fds.specs.declared.reading.outline.Named.TheVariants as nameds
 use Rattle.pg_fds.specs.stated.Declarations.{Declaration, all_named, enum_declared, enums_declared, files_declared, is_package, package_declared, package_part, package_parts, service_declared, services_declared, type_declared, types_declared}
 use Rattle.pg_fds.specs.reading.OutlinedPlaces.{Counts, behind_file, behind_type, inner_types, inside_file, inside_type}
 use Rattle.pg_fds.specs.stated.Said.{children_at, text_at}
-use Rattle.pg_fds.specs.stated.SetNames.{enums_names, files_names, full_name, full_names, own_names, services_names, types_names}
+use Rattle.pg_fds.specs.stated.SetNames.{enums_names, files_names, qualified, qualified_names, own_names, services_names, types_names}
 use Rattle.pg_fds.specs.stated.SaidTypes.{is_entry, real_oneofs, synthetic_places}
 use Rattle.pg_fds.proofs.lemmas.outline.FreshNames.{is_thing, names_of, parts, pick, things}
 
@@ -34,16 +34,16 @@ names_append test a b = ap names_of (pick_append test a b) ∙ map_append (λ (d
 pub pick_all : (test : Named → Bool) (scope : List ℕ) (thing : Named) → test thing ≡ true → (ms : List Message) → pick test (all_named scope thing ms) ≡ all_named scope thing ms
 pick_all test scope thing is [] = refl
 pick_all test scope thing is (m ∷ ms) =
-    ap (λ b. cond b ((full_name scope m, thing) ∷ pick test (all_named scope thing ms)) (pick test (all_named scope thing ms))) is ∙ ap (λ ds. (full_name scope m, thing) ∷ ds) (pick_all test scope thing is ms)
+    ap (λ b. cond b ((qualified scope m, thing) ∷ pick test (all_named scope thing ms)) (pick test (all_named scope thing ms))) is ∙ ap (λ ds. (qualified scope m, thing) ∷ ds) (pick_all test scope thing is ms)
 
 pub pick_none : (test : Named → Bool) (scope : List ℕ) (thing : Named) → test thing ≡ false → (ms : List Message) → pick test (all_named scope thing ms) ≡ []
 pick_none test scope thing is [] = refl
 pick_none test scope thing is (m ∷ ms) =
-    ap (λ b. cond b ((full_name scope m, thing) ∷ pick test (all_named scope thing ms)) (pick test (all_named scope thing ms))) is ∙ pick_none test scope thing is ms
+    ap (λ b. cond b ((qualified scope m, thing) ∷ pick test (all_named scope thing ms)) (pick test (all_named scope thing ms))) is ∙ pick_none test scope thing is ms
 
-names_all : (scope : List ℕ) (thing : Named) (ms : List Message) → names_of (all_named scope thing ms) ≡ full_names scope ms
+names_all : (scope : List ℕ) (thing : Named) (ms : List Message) → names_of (all_named scope thing ms) ≡ qualified_names scope ms
 names_all scope thing [] = refl
-names_all scope thing (m ∷ ms) = ap (λ ns. full_name scope m ∷ ns) (names_all scope thing ms)
+names_all scope thing (m ∷ ms) = ap (λ ns. qualified scope m ∷ ns) (names_all scope thing ms)
 
 -- ---- from what single declarations come to, to what all of files do
 
@@ -53,19 +53,19 @@ module _ {X : Type 0} (h : List Declaration → List X) (none : h [] ≡ []) (sp
     (of_types : ℕ → List ℕ → Counts → List Message → List X) (no_depth : (scope : List ℕ) (counts : Counts) (ms : List Message) → [] ≡ of_types 0 scope counts ms)
     (no_types : (depth : ℕ) (scope : List ℕ) (counts : Counts) → [] ≡ of_types (suc depth) scope counts [])
     (one_type : (depth : ℕ) (scope : List ℕ) (counts : Counts) (m : Message) (ms : List Message)
-    → (of_type (full_name scope m) counts.types m ++ of_enums (full_name scope m) counts.enums (children_at 4 m) ++ of_types depth (full_name scope m) (inside_type counts m) (inner_types m))
+    → (of_type (qualified scope m) counts.types m ++ of_enums (qualified scope m) counts.enums (children_at 4 m) ++ of_types depth (qualified scope m) (inside_type counts m) (inner_types m))
     ++ of_types (suc depth) scope (behind_type depth scope counts m) ms ≡ of_types (suc depth) scope counts (m ∷ ms)) where
   each_type : (depth : ℕ) → ((scope : List ℕ) (counts : Counts) (ms : List Message) → h (types_declared depth scope counts ms) ≡ of_types depth scope counts ms)
       → (scope : List ℕ) (ms : List Message) (counts : Counts) → h (types_declared (suc depth) scope counts ms) ≡ of_types (suc depth) scope counts ms
   each_type depth deeper scope [] counts = none ∙ no_types depth scope counts
   each_type depth deeper scope (m ∷ ms) counts =
-      let own = type_declared (full_name scope m) counts.types m in
-      let enums = enums_declared (full_name scope m) counts.enums (children_at 4 m) in
-      let inside = types_declared depth (full_name scope m) (inside_type counts m) (inner_types m) in
+      let own = type_declared (qualified scope m) counts.types m in
+      let enums = enums_declared (qualified scope m) counts.enums (children_at 4 m) in
+      let inside = types_declared depth (qualified scope m) (inside_type counts m) (inner_types m) in
       split (own ++ enums ++ inside) (types_declared (suc depth) scope (behind_type depth scope counts m) ms)
       ∙ (ap₂ (λ a b. a ++ b)
       (split (own ++ enums) inside
-      ∙ ap₂ (λ a b. a ++ b) (split own enums ∙ ap₂ (λ a b. a ++ b) (type_is (full_name scope m) counts.types m) (enums_are (full_name scope m) counts.enums (children_at 4 m))) (deeper (full_name scope m) (inside_type counts m) (inner_types m)))
+      ∙ ap₂ (λ a b. a ++ b) (split own enums ∙ ap₂ (λ a b. a ++ b) (type_is (qualified scope m) counts.types m) (enums_are (qualified scope m) counts.enums (children_at 4 m))) (deeper (qualified scope m) (inside_type counts m) (inner_types m)))
       (each_type depth deeper scope ms (behind_type depth scope counts m)) ∙ one_type depth scope counts m ms)
 
   types_are : (depth : ℕ) (scope : List ℕ) (counts : Counts) (ms : List Message) → h (types_declared depth scope counts ms) ≡ of_types depth scope counts ms
@@ -96,7 +96,7 @@ module _ {X : Type 0} (h : List Declaration → List X) (none : h [] ≡ []) (sp
 
 -- ---- names
 
-things_all : (scope : List ℕ) (thing : Named) → is_package thing ≡ false → (ms : List Message) → things (all_named scope thing ms) ≡ full_names scope ms
+things_all : (scope : List ℕ) (thing : Named) → is_package thing ≡ false → (ms : List Message) → things (all_named scope thing ms) ≡ qualified_names scope ms
 things_all scope thing is ms = ap names_of (pick_all is_thing scope thing (ap not is) ms) ∙ names_all scope thing ms
 
 things_type : (full : List ℕ) (place : ℕ) (m : Message) → things (type_declared full place m) ≡ own_names full m
@@ -112,13 +112,13 @@ things_enums : (scope : List ℕ) (place : ℕ) (ms : List Message) → things (
 things_enums scope place [] = refl
 things_enums scope place (m ∷ ms) =
     names_append is_thing (enum_declared scope place m) (enums_declared scope (suc place) ms)
-    ∙ ap₂ (λ a b. a ++ b) (ap (λ ns. full_name scope m ∷ ns) (things_all scope nameds.Other refl (children_at 2 m))) (things_enums scope (suc place) ms)
+    ∙ ap₂ (λ a b. a ++ b) (ap (λ ns. qualified scope m ∷ ns) (things_all scope nameds.Other refl (children_at 2 m))) (things_enums scope (suc place) ms)
 
 things_services : (scope : List ℕ) (ms : List Message) → things (services_declared scope ms) ≡ services_names scope ms
 things_services scope [] = refl
 things_services scope (m ∷ ms) =
     names_append is_thing (service_declared scope m) (services_declared scope ms)
-    ∙ ap₂ (λ a b. a ++ b) (ap (λ ns. full_name scope m ∷ ns) (things_all (full_name scope m) nameds.Other refl (children_at 2 m))) (things_services scope ms)
+    ∙ ap₂ (λ a b. a ++ b) (ap (λ ns. qualified scope m ∷ ns) (things_all (qualified scope m) nameds.Other refl (children_at 2 m))) (things_services scope ms)
 
 things_parts : (names : List (List ℕ)) → things (map package_part names) ≡ []
 things_parts [] = refl
@@ -153,7 +153,7 @@ parts_enums scope place (m ∷ ms) =
 parts_services : (scope : List ℕ) (ms : List Message) → parts (services_declared scope ms) ≡ []
 parts_services scope [] = refl
 parts_services scope (m ∷ ms) =
-    names_append is_package (service_declared scope m) (services_declared scope ms) ∙ ap₂ (λ a b. a ++ b) (parts_all (full_name scope m) nameds.Other refl (children_at 2 m)) (parts_services scope ms)
+    names_append is_package (service_declared scope m) (services_declared scope ms) ∙ ap₂ (λ a b. a ++ b) (parts_all (qualified scope m) nameds.Other refl (children_at 2 m)) (parts_services scope ms)
 
 parts_parts : (names : List (List ℕ)) → parts (map package_part names) ≡ names
 parts_parts [] = refl

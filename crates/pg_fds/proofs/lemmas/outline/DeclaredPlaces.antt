@@ -10,7 +10,7 @@ use Rattle.pg_fds.specs.stated.Declarations.{Declaration, all_named, enum_declar
 use Rattle.pg_fds.specs.reading.OutlinedPlaces.{Counts, inner_types}
 use Rattle.pg_fds.specs.stated.Outlines.{Row, enum_rows, file_enums, file_types, row_in, rows_in, type_rows}
 use Rattle.pg_fds.specs.stated.Said.{children_at, text_at}
-use Rattle.pg_fds.specs.stated.SetNames.{full_name, full_names}
+use Rattle.pg_fds.specs.stated.SetNames.{qualified, qualified_names}
 use Rattle.pg_fds.specs.stated.StatedTable.{entry_names, enum_named, names_of as row_names, type_named}
 use Rattle.pg_fds.specs.stated.SaidTypes.{is_entry, real_oneofs, synthetic_places}
 use Rattle.pg_fds.proofs.lemmas.outline.DeclaredLists.{files_are, map_append, pick_all, pick_append, pick_none}
@@ -65,8 +65,8 @@ module _ (test : Named → Bool) where
   no_services is scope (m ∷ ms) =
       pick_append test (service_declared scope m) (services_declared scope ms)
       ∙ ap₂ (λ a b. a ++ b)
-      (ap (λ b. cond b ((full_name scope m, nameds.Other) ∷ pick test (all_named (full_name scope m) nameds.Other (children_at 2 m))) (pick test (all_named (full_name scope m) nameds.Other (children_at 2 m)))) is
-      ∙ pick_none test (full_name scope m) nameds.Other is (children_at 2 m)) (no_services is scope ms)
+      (ap (λ b. cond b ((qualified scope m, nameds.Other) ∷ pick test (all_named (qualified scope m) nameds.Other (children_at 2 m))) (pick test (all_named (qualified scope m) nameds.Other (children_at 2 m)))) is
+      ∙ pick_none test (qualified scope m) nameds.Other is (children_at 2 m)) (no_services is scope ms)
 
   no_parts : test nameds.Package ≡ false → (names : List (List ℕ)) → pick test (map package_part names) ≡ []
   no_parts is [] = refl
@@ -90,7 +90,7 @@ module _ (test : Named → Bool) where
   no_enums is other scope place (m ∷ ms) =
       pick_append test (enum_declared scope place m) (enums_declared scope (suc place) ms)
       ∙ ap₂ (λ a b. a ++ b)
-      (ap (λ b. cond b ((full_name scope m, enum_named place) ∷ pick test (all_named scope nameds.Other (children_at 2 m))) (pick test (all_named scope nameds.Other (children_at 2 m)))) (other place)
+      (ap (λ b. cond b ((qualified scope m, enum_named place) ∷ pick test (all_named scope nameds.Other (children_at 2 m))) (pick test (all_named scope nameds.Other (children_at 2 m)))) (other place)
       ∙ pick_none test scope nameds.Other is (children_at 2 m)) (no_enums is other scope (suc place) ms)
 
 -- ---- message types
@@ -105,9 +105,9 @@ types_files depth counts ms =
     files_are (pick is_type_name) refl (pick_append is_type_name) (λ full place m. (full, type_named place) ∷ []) types_type (λ scope place es. []) (no_enums is_type_name refl (λ id. refl))
     (λ d scope k ts. placed type_named k.types (row_names (type_rows d scope ts))) (λ scope k ts. refl) (λ d scope k. refl)
     (λ d scope k t ts.
-    let inner = type_rows d (full_name scope t) (inner_types t) in
+    let inner = type_rows d (qualified scope t) (inner_types t) in
     let one : k.types + 1 ≡ suc k.types = omega arith in
-    ap (λ n. ((full_name scope t, type_named k.types) ∷ placed type_named n (row_names inner)) ++ placed type_named (k.types + suc (length inner)) (row_names (type_rows (suc d) scope ts))) one
+    ap (λ n. ((qualified scope t, type_named k.types) ∷ placed type_named n (row_names inner)) ++ placed type_named (k.types + suc (length inner)) (row_names (type_rows (suc d) scope ts))) one
     ∙ sym (placed_rows type_named k.types (row_in scope t ∷ inner) (type_rows (suc d) scope ts)))
     (λ name. []) (λ name. no_parts is_type_name refl (package_parts name)) (λ scope ss. []) (no_services is_type_name refl) depth (λ k fs. placed type_named k.types (row_names (flat_map (file_types depth) fs))) (λ k. refl)
     (λ k f fs. ap (λ ds. ds ++ placed type_named (k.types + length (file_types depth f)) (row_names (flat_map (file_types depth) fs))) (append-nil (placed type_named k.types (row_names (file_types depth f))))
@@ -122,7 +122,7 @@ enums_enums : (scope : List ℕ) (place : ℕ) (ms : List Message) → pick is_e
 enums_enums scope place [] = refl
 enums_enums scope place (m ∷ ms) =
     pick_append is_enum_name (enum_declared scope place m) (enums_declared scope (suc place) ms)
-    ∙ ap₂ (λ a b. a ++ b) (ap (λ ds. (full_name scope m, enum_named place) ∷ ds) (pick_none is_enum_name scope nameds.Other refl (children_at 2 m))) (enums_enums scope (suc place) ms)
+    ∙ ap₂ (λ a b. a ++ b) (ap (λ ds. (qualified scope m, enum_named place) ∷ ds) (pick_none is_enum_name scope nameds.Other refl (children_at 2 m))) (enums_enums scope (suc place) ms)
 
 -- enums of a scope, those of the message types in it, and those behind
 three_rows : (place : ℕ) (a b c : List Row) (second third : ℕ) → second ≡ place + length a → third ≡ place + length (a ++ b)
@@ -136,8 +136,8 @@ enums_files depth counts ms =
     files_are (pick is_enum_name) refl (pick_append is_enum_name) (λ full place m. []) enums_type (λ scope place es. placed enum_named place (row_names (rows_in scope es))) enums_enums
     (λ d scope k ts. placed enum_named k.enums (row_names (enum_rows d scope ts))) (λ scope k ts. refl) (λ d scope k. refl)
     (λ d scope k t ts.
-    three_rows k.enums (rows_in (full_name scope t) (children_at 4 t)) (enum_rows d (full_name scope t) (inner_types t)) (enum_rows (suc d) scope ts) (k.enums + length (children_at 4 t))
-    (k.enums + length (rows_in (full_name scope t) (children_at 4 t) ++ enum_rows d (full_name scope t) (inner_types t))) (ap (λ n. k.enums + n) (sym (length-map (children_at 4 t) (row_in (full_name scope t))))) refl)
+    three_rows k.enums (rows_in (qualified scope t) (children_at 4 t)) (enum_rows d (qualified scope t) (inner_types t)) (enum_rows (suc d) scope ts) (k.enums + length (children_at 4 t))
+    (k.enums + length (rows_in (qualified scope t) (children_at 4 t) ++ enum_rows d (qualified scope t) (inner_types t))) (ap (λ n. k.enums + n) (sym (length-map (children_at 4 t) (row_in (qualified scope t))))) refl)
     (λ name. []) (λ name. no_parts is_enum_name refl (package_parts name)) (λ scope ss. []) (no_services is_enum_name refl) depth (λ k fs. placed enum_named k.enums (row_names (flat_map (file_enums depth) fs))) (λ k. refl)
     (λ k f fs.
     let own = rows_in (text_at 2 f) (children_at 5 f) in
@@ -155,9 +155,9 @@ entries_named names = map (λ name. (name, nameds.Entry)) names
 entries_append : (a b : List (List ℕ)) → entries_named (a ++ b) ≡ entries_named a ++ entries_named b
 entries_append a b = map_append (λ name. (name, nameds.Entry)) a b
 
-entries_all : (full : List ℕ) (ms : List Message) → all_named full nameds.Entry ms ≡ entries_named (full_names full ms)
+entries_all : (full : List ℕ) (ms : List Message) → all_named full nameds.Entry ms ≡ entries_named (qualified_names full ms)
 entries_all full [] = refl
-entries_all full (m ∷ ms) = ap (λ ds. (full_name full m, nameds.Entry) ∷ ds) (entries_all full ms)
+entries_all full (m ∷ ms) = ap (λ ds. (qualified full m, nameds.Entry) ∷ ds) (entries_all full ms)
 
 entries_type : (full : List ℕ) (place : ℕ) (m : Message) → pick is_entry_name (type_declared full place m) ≡ entries_named (entry_names (full, m))
 entries_type full place m =
@@ -171,7 +171,7 @@ entries_files depth counts ms =
     files_are (pick is_entry_name) refl (pick_append is_entry_name) (λ full place m. entries_named (entry_names (full, m))) entries_type (λ scope place es. []) (no_enums is_entry_name refl (λ id. refl))
     (λ d scope k ts. entries_named (flat_map entry_names (type_rows d scope ts))) (λ scope k ts. refl) (λ d scope k. refl)
     (λ d scope k t ts.
-    let inner = type_rows d (full_name scope t) (inner_types t) in
+    let inner = type_rows d (qualified scope t) (inner_types t) in
     ap (λ ds. ds ++ entries_named (flat_map entry_names (type_rows (suc d) scope ts)))
     (ap (λ ds. ds ++ entries_named (flat_map entry_names inner)) (append-nil (entries_named (entry_names (row_in scope t)))) ∙ sym (entries_append (entry_names (row_in scope t)) (flat_map entry_names inner)))
     ∙ entries_on (row_in scope t ∷ inner) (type_rows (suc d) scope ts))

@@ -16,7 +16,7 @@ use Rattle.pg_fds.specs.reading.OutlinedPlaces.{Counts, inside_file}
 use Rattle.pg_fds.specs.reading.OutlinedScopes.{MayPlace}
 use Rattle.pg_fds.specs.stated.Outlines.{NameOneofs, Row, file_enums, file_services, file_types, files_at, row_in, type_rows}
 use Rattle.pg_fds.specs.stated.Said.{children_at, text_at}
-use Rattle.pg_fds.specs.stated.SetNames.{files_names, full_name}
+use Rattle.pg_fds.specs.stated.SetNames.{files_names, qualified}
 use Rattle.pg_fds.specs.stated.StatedTable.{are_free, few, has_name, has_no_entries, may_declare, names_oneofs, nest_within, nests_within, packages_of}
 use Rattle.pg_fds.specs.stated.SaidTypes.{is_entry, is_no_entry}
 use Rattle.pg_fds.proofs.lemmas.outline.Declaring.{adds_both, first_fails, later_fails}
@@ -122,11 +122,11 @@ oneofs_of zero scope ms all deep = none_long ms deep
 oneofs_of (suc depth) scope [] all deep = tt
 oneofs_of (suc depth) scope (m ∷ ms) all deep =
     let own = filter is_no_entry (children_at 3 m) in
-    let inside = type_rows depth (full_name scope m) own in
+    let inside = type_rows depth (qualified scope m) own in
     let split = all_split names_oneofs (row_in scope m ∷ inside) (type_rows (suc depth) scope ms) all in (
       (
         and_left (names_oneofs (row_in scope m)) (list_all names_oneofs inside) split.0,
-        oneofs_of depth (full_name scope m) own (and_right (names_oneofs (row_in scope m)) (list_all names_oneofs inside) split.0) (and_left (nest_within depth own) (nest_within (suc depth) ms) deep),
+        oneofs_of depth (qualified scope m) own (and_right (names_oneofs (row_in scope m)) (list_all names_oneofs inside) split.0) (and_left (nest_within depth own) (nest_within (suc depth) ms) deep),
       ),
       oneofs_of (suc depth) scope ms split.1 (and_right (nest_within depth own) (nest_within (suc depth) ms) deep),
     )
@@ -135,9 +135,9 @@ of_oneofs : (depth : ℕ) (scope : List ℕ) (ms : List Message) → NameOneofs 
 of_oneofs zero scope ms all = refl
 of_oneofs (suc depth) scope [] all = refl
 of_oneofs (suc depth) scope (m ∷ ms) all =
-    let inside = type_rows depth (full_name scope m) (filter is_no_entry (children_at 3 m)) in
+    let inside = type_rows depth (qualified scope m) (filter is_no_entry (children_at 3 m)) in
     all_join names_oneofs (row_in scope m ∷ inside) (type_rows (suc depth) scope ms)
-    (and_both (names_oneofs (row_in scope m)) (list_all names_oneofs inside) all.0.0 (of_oneofs depth (full_name scope m) (filter is_no_entry (children_at 3 m)) all.0.1)) (of_oneofs (suc depth) scope ms all.1)
+    (and_both (names_oneofs (row_in scope m)) (list_all names_oneofs inside) all.0.0 (of_oneofs depth (qualified scope m) (filter is_no_entry (children_at 3 m)) all.0.1)) (of_oneofs (suc depth) scope ms all.1)
 
 -- of message types that name their oneofs, none is nested deeper
 deep_of : (depth : ℕ) (ms : List Message) → NameOneofs depth ms → nest_within depth ms ≡ true

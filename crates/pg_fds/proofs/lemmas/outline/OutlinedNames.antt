@@ -16,7 +16,7 @@ use Rattle.pg_fds.specs.stated.Declarations.{Adds, CannotAdd, Declaration, NameT
 use Rattle.pg_fds.specs.reading.OutlinedPlaces.{Counts, behind_type, each_from, inner_types, inside_type}
 use Rattle.pg_fds.specs.stated.Outlines.{NameOneofs, NamesOneofs, Row, enum_rows, row, row_in, rows_in, rows_of_enums, rows_of_type, type_row, type_rows}
 use Rattle.pg_fds.specs.stated.Said.{children_at}
-use Rattle.pg_fds.specs.stated.SetNames.{full_name}
+use Rattle.pg_fds.specs.stated.SetNames.{qualified}
 use Rattle.pg_fds.specs.stated.SaidFiles.{is_place}
 use Rattle.pg_fds.specs.stated.SaidTypes.{is_entry, is_no_entry, real_oneofs, synthetic_places}
 use Rattle.pg_fds.proofs.lemmas.outline.InOrderLaws.{more_from}
@@ -179,15 +179,15 @@ module _ (full : List ℕ) (place : ℕ) (m : Message) where
 
 module _ (depth : ℕ) (scope : List ℕ) (counts : Counts) (m : Message) where
   abbrev own : List Declaration
-  own = type_declared (full_name scope m) counts.types m
+  own = type_declared (qualified scope m) counts.types m
 
   abbrev enums : List Declaration
-  enums = enums_declared (full_name scope m) counts.enums (children_at 4 m)
+  enums = enums_declared (qualified scope m) counts.enums (children_at 4 m)
 
   abbrev inside : List Declaration
-  inside = types_declared depth (full_name scope m) (inside_type counts m) (inner_types m)
+  inside = types_declared depth (qualified scope m) (inside_type counts m) (inner_types m)
 
-  module _ (at : List ℕ) (here : at ≡ full_name scope m) where
+  module _ (at : List ℕ) (here : at ≡ qualified scope m) where
     same_own : type_declared at counts.types m ≡ own
     same_own = ap (λ a. type_declared a counts.types m) here
 
@@ -197,7 +197,7 @@ module _ (depth : ℕ) (scope : List ℕ) (counts : Counts) (m : Message) where
 
       module _ (t0 t1 : NameTable Y) (first : Adds (type_declared at counts.types m) t0 t1) (place : ℕ) (at_place : place ≡ counts.enums) (found : List Message) (all : found ≡ children_at 4 m) where
         same_enums : enums_declared at place found ≡ enums
-        same_enums = ap (λ a. enums_declared a place found) here ∙ ap₂ (enums_declared (full_name scope m)) at_place all
+        same_enums = ap (λ a. enums_declared a place found) here ∙ ap₂ (enums_declared (qualified scope m)) at_place all
 
         own_there : Adds own t0 t1
         own_there = subst (λ ds. Adds ds t0 t1) same_own first
@@ -207,7 +207,7 @@ module _ (depth : ℕ) (scope : List ℕ) (counts : Counts) (m : Message) where
 
         module _ (t2 : NameTable Y) (second : Adds (enums_declared at place found) t1 t2) (within_counts : Counts) (counted : within_counts ≡ inside_type counts m) (within : List Message) (types : within ≡ inner_types m) where
           same_inside : types_declared depth at within_counts within ≡ inside
-          same_inside = ap (λ a. types_declared depth a within_counts within) here ∙ ap₂ (types_declared depth (full_name scope m)) counted types
+          same_inside = ap (λ a. types_declared depth a within_counts within) here ∙ ap₂ (types_declared depth (qualified scope m)) counted types
 
           enums_there : Adds (own ++ enums) t0 t2
           enums_there = adds_both own enums t0 t1 t2 own_there (subst (λ ds. Adds ds t1 t2) same_enums second)
@@ -241,16 +241,16 @@ module _ (depth : ℕ) (scope : List ℕ) (ms : List Kept) (i : ℕ) (m : Kept) 
 
   -- a type's place is there, and so are those of the types inside it
   pub few_types : (old mid : List OutlinedType) → map type_row mid ≡ map type_row old ++ flat_map (rows_of_type (type_rows (depth - 1)) scope) (seen (take i ms)) → length old + length (type_rows depth scope (seen ms)) ≤ 2 ^ 32
-      → suc (length mid) + length (type_rows (depth - 1) (full_name scope (message_of m)) (filter is_no_entry (children_at 3 (message_of m)))) ≤ 2 ^ 32
+      → suc (length mid) + length (type_rows (depth - 1) (qualified scope (message_of m)) (filter is_no_entry (children_at 3 (message_of m)))) ≤ 2 ^ 32
   few_types old mid rows all =
       let f = rows_of_type (type_rows (depth - 1)) scope in
       omega (arith, up_to_here f ms i m h is (length old) (subst (λ rs. length old + length rs ≤ 2 ^ 32) (rows_below scope (seen ms) depth some) all), rows_long type_row old mid (flat_map f (seen (take i ms))) rows)
 
   pub few_enums : (old mid : List Outlined) → map row mid ≡ map row old ++ flat_map (rows_of_enums (enum_rows (depth - 1)) scope) (seen (take i ms)) → length old + length (enum_rows depth scope (seen ms)) ≤ 2 ^ 32
-      → length mid + length (children_at 4 (message_of m)) + length (enum_rows (depth - 1) (full_name scope (message_of m)) (filter is_no_entry (children_at 3 (message_of m)))) ≤ 2 ^ 32
+      → length mid + length (children_at 4 (message_of m)) + length (enum_rows (depth - 1) (qualified scope (message_of m)) (filter is_no_entry (children_at 3 (message_of m)))) ≤ 2 ^ 32
   few_enums old mid rows all =
       let f = rows_of_enums (enum_rows (depth - 1)) scope in
-      let full = full_name scope (message_of m) in
+      let full = qualified scope (message_of m) in
       let inner = enum_rows (depth - 1) full (filter is_no_entry (children_at 3 (message_of m))) in
       let own = rows_in full (children_at 4 (message_of m)) in
       omega (
@@ -265,18 +265,18 @@ module _ (depth : ℕ) (scope : List ℕ) (ms : List Kept) (i : ℕ) (m : Kept) 
   oneofs_here all = seen_at (λ x. NamesOneofs x × NameOneofs (depth - 1) (filter is_no_entry (children_at 3 x))) ms i m h is (oneofs_below depth (seen ms) some all)
 
 -- the rows of a message type and those inside it
-pub type_rows_on : (depth : ℕ) (scope at : List ℕ) (m : Message) (within : List Message) (mid first new : List Row) → at ≡ full_name scope m → within ≡ filter is_no_entry (children_at 3 m)
+pub type_rows_on : (depth : ℕ) (scope at : List ℕ) (m : Message) (within : List Message) (mid first new : List Row) → at ≡ qualified scope m → within ≡ filter is_no_entry (children_at 3 m)
     → first ≡ mid ++ (at, m) ∷ [] → new ≡ first ++ type_rows depth at within → new ≡ mid ++ rows_of_type (type_rows depth) scope m
 type_rows_on depth scope at m within mid first new here types one more =
     more ∙ (ap (λ rs. rs ++ type_rows depth at within) one
-    ∙ (append_assoc mid ((at, m) ∷ []) (type_rows depth at within) ∙ (ap (λ a. mid ++ (a, m) ∷ type_rows depth a within) here ∙ ap (λ ws. mid ++ (full_name scope m, m) ∷ type_rows depth (full_name scope m) ws) types)))
+    ∙ (append_assoc mid ((at, m) ∷ []) (type_rows depth at within) ∙ (ap (λ a. mid ++ (a, m) ∷ type_rows depth a within) here ∙ ap (λ ws. mid ++ (qualified scope m, m) ∷ type_rows depth (qualified scope m) ws) types)))
 
-pub enum_rows_on : (depth : ℕ) (scope at : List ℕ) (m : Message) (within found : List Message) (mid first new : List Row) → at ≡ full_name scope m → within ≡ filter is_no_entry (children_at 3 m) → found ≡ children_at 4 m
+pub enum_rows_on : (depth : ℕ) (scope at : List ℕ) (m : Message) (within found : List Message) (mid first new : List Row) → at ≡ qualified scope m → within ≡ filter is_no_entry (children_at 3 m) → found ≡ children_at 4 m
     → first ≡ mid ++ rows_in at found → new ≡ first ++ enum_rows depth at within → new ≡ mid ++ rows_of_enums (enum_rows depth) scope m
 enum_rows_on depth scope at m within found mid first new here types all one more =
     more ∙ (ap (λ rs. rs ++ enum_rows depth at within) one
     ∙ (append_assoc mid (rows_in at found) (enum_rows depth at within) ∙ (ap (λ a. mid ++ (rows_in a found ++ enum_rows depth a within)) here
-    ∙ ap₂ (λ fs ws. mid ++ (rows_in (full_name scope m) fs ++ enum_rows depth (full_name scope m) ws)) all types)))
+    ∙ ap₂ (λ fs ws. mid ++ (rows_in (qualified scope m) fs ++ enum_rows depth (qualified scope m) ws)) all types)))
 
 pub taken : {A : Type 0} (xs : List A) (i : ℕ) → length xs ≤ i → take i xs ≡ xs
 taken [] zero h = refl

@@ -9,7 +9,7 @@ use Rattle.pg_fds.specs.declared.reading.outline.OutlinedType.{OutlinedType}
 use Rattle.pg_fds.specs.stated.Outlines.{type_row}
 use Rattle.pg_fds.specs.reading.OutlinedPlaces.{Counts, PlacedType, behind_type, counts_behind, each_from, inner_types, file_places, inside_file, inside_type, no_counts, placed_type, placed_types, placed_with, places_of_types}
 use Rattle.pg_fds.specs.stated.Said.{children_at, text_at}
-use Rattle.pg_fds.specs.stated.SetNames.{full_name}
+use Rattle.pg_fds.specs.stated.SetNames.{qualified}
 use Rattle.pg_fds.proofs.lemmas.outline.NameLoops.{seen}
 use Rattle.pg_fds.proofs.lemmas.order.OrderSteps.{one_step}
 
@@ -77,7 +77,7 @@ placed_inside old place found grown types enums front behind r there made is at 
     map-set placed_type old place grown ∙ (ap₂ (λ xs n. set xs n (placed_type grown)) is (sym at) ∙ (set_middle front r (placed_type grown) behind ∙ ap (λ p. front ++ p ∷ behind) (made ∙ row)))
 
 -- a message type, with what is inside it
-pub placed_on : (depth : ℕ) (scope at : List ℕ) (m : Message) (within : List Message) (mid a b new : List PlacedType) (counts : Counts) (types enums : List ℕ) (count own : ℕ) → at ≡ full_name scope m → within ≡ inner_types m
+pub placed_on : (depth : ℕ) (scope at : List ℕ) (m : Message) (within : List Message) (mid a b new : List PlacedType) (counts : Counts) (types enums : List ℕ) (count own : ℕ) → at ≡ qualified scope m → within ≡ inner_types m
     → a ≡ mid ++ record { named = (at, m); types = []; enums = [] } ∷ [] → b ≡ a ++ placed_types depth at (inside_type counts m) within
     → types ≡ places_of_types depth at (inside_type counts m) within → enums ≡ places_from count own → count ≡ counts.enums → own ≡ length (children_at 4 m)
     → ((behind : List PlacedType) (r : PlacedType) → b ≡ mid ++ r ∷ behind → new ≡ mid ++ record { named = r.named; types = types; enums = enums } ∷ behind) → new ≡ mid ++ placed_with depth (placed_types depth) scope counts m
@@ -90,10 +90,10 @@ placed_on depth scope at m within mid a b new counts types enums count own here 
     ∙ (ap (λ f. mid ++ record { named = (f, m); types = places_of_types depth f (inside_type counts m) within; enums = places_from counts.enums (length (children_at 4 m)) }
     ∷ placed_types depth f (inside_type counts m) within) here
     ∙ ap (λ ws. mid ++ record {
-      named = (full_name scope m, m);
-      types = places_of_types depth (full_name scope m) (inside_type counts m) ws;
+      named = (qualified scope m, m);
+      types = places_of_types depth (qualified scope m) (inside_type counts m) ws;
       enums = places_from counts.enums (length (children_at 4 m));
-    } ∷ placed_types depth (full_name scope m) (inside_type counts m) ws) inner))
+    } ∷ placed_types depth (qualified scope m) (inside_type counts m) ws) inner))
 
 -- ---- one level down
 

@@ -16,7 +16,7 @@ use Rattle.pg_fds.specs.declared.descriptor.proto.TheConstants as proto
 use Rattle.pg_fds.specs.stated.Said.{children_at, maybe_number_at, numbers_at, text_at, texts_at}
 use Rattle.pg_fds.specs.stated.SaidFiles.{is_place}
 use Rattle.pg_fds.specs.stated.SaidTypes.{is_entry, is_optional, synthetic_places}
-use Rattle.pg_fds.specs.stated.SetNames.{files_names, full_name}
+use Rattle.pg_fds.specs.stated.SetNames.{files_names, qualified}
 use Rattle.pg_fds.specs.stated.Stated.{declared_by, parts_by, parts_of}
 use Rattle.pg_fds.specs.stated.StatedEnums.{enum_type}
 use Rattle.pg_fds.specs.stated.StatedFiles.{file, file_of, has_public_places}
@@ -43,7 +43,7 @@ types_named : (depth : ℕ) (scope : List ℕ) (counts : Counts) (ms : List Mess
 types_named zero scope counts ms = refl
 types_named (suc depth) scope counts ms =
     rows_from named_row (behind_type depth scope) (placed_with depth (placed_types depth) scope) (rows_of_type (type_rows depth) scope)
-    (λ c m. ap (λ rs. row_in scope m ∷ rs) (types_named depth (full_name scope m) (inside_type c m) (inner_types m))) counts ms
+    (λ c m. ap (λ rs. row_in scope m ∷ rs) (types_named depth (qualified scope m) (inside_type c m) (inner_types m))) counts ms
 
 pub files_named : (depth : ℕ) (counts : Counts) (ms : List Message) → map named_row (types_of_files depth counts ms) ≡ flat_map (file_types depth) ms
 files_named depth counts ms =

@@ -10,7 +10,7 @@ use Rattle.pg_dyn.specs.Message.{Message}
 use Rattle.pg_fds.specs.declared.reading.outline.Named.{Named}
 use Rattle.pg_fds.specs.declared.reading.outline.Named.TheVariants as nameds
 use Rattle.pg_fds.specs.stated.Outlines.{Row, file_enums, file_types}
-use Rattle.pg_fds.specs.stated.SetNames.{files_names, full_name, full_names}
+use Rattle.pg_fds.specs.stated.SetNames.{files_names, qualified, qualified_names}
 use Rattle.pg_fds.specs.stated.StatedTable.{entry_names, meaning, names_of, place_of}
 use Rattle.pg_fds.specs.stated.StatedNames.{first_of}
 use Rattle.pg_fds.specs.stated.StatedTypes.{enum_id, own_entries, type_id}
@@ -103,15 +103,15 @@ module _ (types enums : List Row) (once : (n : List ℕ) → as_row n types + as
   its_entry n (x ∷ rows) zero r at there = omega (arith, there, ap (λ y. count n (entry_names y)) (same_Some x r at), count_append n (entry_names x) (flat_map entry_names rows))
   its_entry n (x ∷ rows) (suc place) r at there = omega (arith, its_entry n rows place r at there, count_append n (entry_names x) (flat_map entry_names rows))
 
-  each_entry : (full : List ℕ) (es : List Message) → ((n : List ℕ) → 1 ≤ count n (full_names full es) → meaning types enums n ≡ Some nameds.Entry) → AllByRecursion (λ e. meaning types enums (full_name full e) ≡ Some nameds.Entry) es
+  each_entry : (full : List ℕ) (es : List Message) → ((n : List ℕ) → 1 ≤ count n (qualified_names full es) → meaning types enums n ≡ Some nameds.Entry) → AllByRecursion (λ e. meaning types enums (qualified full e) ≡ Some nameds.Entry) es
   each_entry full [] means = tt
   each_entry full (e ∷ es) means = (
-    means (full_name full e) (counted_there (full_name full e) (full_names full (e ∷ es)) zero refl),
+    means (qualified full e) (counted_there (qualified full e) (qualified_names full (e ∷ es)) zero refl),
     each_entry full es (λ n there. means n (behind n there)),
   )
     where
-      behind : (n : List ℕ) → 1 ≤ count n (full_names full es) → 1 ≤ count n (full_names full (e ∷ es))
-      behind n there = omega (arith, there, count_append n (full_name full e ∷ []) (full_names full es))
+      behind : (n : List ℕ) → 1 ≤ count n (qualified_names full es) → 1 ≤ count n (qualified_names full (e ∷ es))
+      behind n there = omega (arith, there, count_append n (qualified full e ∷ []) (qualified_names full es))
 
   pub rows_meant : AreMeant (meaning types enums) types enums
   rows_meant = record {

@@ -5,7 +5,7 @@ use Rattle.std.proofs.lemmas.List.{map-append}
 use Rattle.pg_dyn.specs.Message.{Message}
 use Rattle.pg_fds.specs.stated.Outlines.{Row, enum_rows, file_enums, file_services, file_types, rows_in, rows_of_enums, rows_of_type, type_rows}
 use Rattle.pg_fds.specs.stated.Said.{children_at, text_at}
-use Rattle.pg_fds.specs.stated.SetNames.{enum_names, enums_names, file_names, files_names, full_name, full_names, member_names, own_names, services_names, type_names, types_names}
+use Rattle.pg_fds.specs.stated.SetNames.{enum_names, enums_names, file_names, files_names, qualified, qualified_names, member_names, own_names, services_names, type_names, types_names}
 use Rattle.pg_fds.specs.stated.StatedTable.{entry_names, names_of}
 use Rattle.pg_fds.specs.stated.SaidTypes.{is_no_entry}
 use Rattle.pg_fds.proofs.lemmas.lists.NameCounts.{count, count_append}
@@ -14,14 +14,14 @@ use Rattle.pg_fds.proofs.lemmas.lists.NameCounts.{count, count_append}
 
 -- those of the values of enums in a scope
 abbrev pub values_names : (scope : List ℕ) → List Message → List (List ℕ)
-values_names scope ms = flat_map (λ m. full_names scope (children_at 2 m)) ms
+values_names scope ms = flat_map (λ m. qualified_names scope (children_at 2 m)) ms
 
 -- those of a message type's row, with those of the values of its enums
 abbrev pub in_type : Row → List (List ℕ)
 in_type r = own_names r.0 r.1 ++ values_names r.0 (children_at 4 r.1)
 
 abbrev pub in_service : Row → List (List ℕ)
-in_service r = r.0 ∷ full_names r.0 (children_at 2 r.1)
+in_service r = r.0 ∷ qualified_names r.0 (children_at 2 r.1)
 
 -- those of the values of a file's own enums
 abbrev pub in_file : Message → List (List ℕ)
@@ -55,7 +55,7 @@ module _ (n : List ℕ) where
   in_enums : (scope : List ℕ) (ms : List Message) → count n (enums_names scope ms) ≡ as_row (rows_in scope ms) + count n (values_names scope ms)
   in_enums scope [] = omega arith
   in_enums scope (m ∷ ms) =
-      let values = full_names scope (children_at 2 m) in
+      let values = qualified_names scope (children_at 2 m) in
       omega (arith, in_enums scope ms, count_append n (enum_names scope m) (enums_names scope ms), count_append n values (values_names scope ms))
 
   in_services : (scope : List ℕ) (ms : List Message) → count n (services_names scope ms) ≡ as_service (rows_in scope ms)
@@ -63,7 +63,7 @@ module _ (n : List ℕ) where
     where
       same : (ms : List Message) → services_names scope ms ≡ flat_map in_service (rows_in scope ms)
       same [] = refl
-      same (m ∷ ms) = ap (λ ns. full_name scope m ∷ full_names (full_name scope m) (children_at 2 m) ++ ns) (same ms)
+      same (m ∷ ms) = ap (λ ns. qualified scope m ∷ qualified_names (qualified scope m) (children_at 2 m) ++ ns) (same ms)
 
   -- ---- message types
 
@@ -76,7 +76,7 @@ module _ (n : List ℕ) where
   counted_one : (depth : ℕ) → AreCounted depth → (scope : List ℕ) (m : Message)
       → count n (type_names (types_names depth) scope m) ≡ as_type (rows_of_type (type_rows depth) scope m) + as_row (rows_of_enums (enum_rows depth) scope m)
   counted_one depth deeper scope m =
-      let full = full_name scope m in
+      let full = qualified scope m in
       let own = own_names full m in
       let enums = children_at 4 m in
       omega (

@@ -8,7 +8,7 @@ use Rattle.pg_fds.specs.declared.reading.outline.Named.{Named}
 use Rattle.pg_fds.specs.declared.reading.outline.Named.TheVariants as nameds
 use Rattle.pg_fds.specs.stated.Outlines.{Row}
 use Rattle.pg_fds.specs.writing.Places.{Declared}
-use Rattle.pg_fds.specs.stated.SetNames.{full_name}
+use Rattle.pg_fds.specs.stated.SetNames.{qualified}
 use Rattle.pg_fds.specs.stated.StatedNames.{Meanings}
 use Rattle.pg_fds.specs.stated.StatedTypes.{own_entries}
 use Rattle.pg_fds.proofs.lemmas.written.WrittenRows.{enum_row}
@@ -17,7 +17,7 @@ use Rattle.pg_fds.proofs.lemmas.written.WrittenTypes.{EntriesMean, inside, none_
 
 -- the names of the message type's entry types mean some
 abbrev pub RowEntriesMean : Meanings → Row → Type 0
-RowEntriesMean means r = AllByRecursion (λ e. means (full_name r.0 e) ≡ Some nameds.Entry) (own_entries r.1)
+RowEntriesMean means r = AllByRecursion (λ e. means (qualified r.0 e) ≡ Some nameds.Entry) (own_entries r.1)
 
 -- the names of the message types and enums mean them, by their places
 pub record AreMeant (means : Meanings) (type_rows enum_rows : List Row) : Type 0 where
@@ -46,5 +46,5 @@ module _ (means : Meanings) (all : Declared) (types enums : List Row) (of_types 
 
   pub entries_mean : (place : ℕ) (t : MessageType) → slice_get all.types place ≡ Some t → EntriesMean means all t
   entries_mean place t at =
-      subst (AllByRecursion (λ e. means (full_name (string_bytes t.name) e) ≡ Some nameds.Entry)) (type_entries all (inside all t) t (none_entry all (length all.types) t.nested_types.items))
+      subst (AllByRecursion (λ e. means (qualified (string_bytes t.name) e) ≡ Some nameds.Entry)) (type_entries all (inside all t) t (none_entry all (length all.types) t.nested_types.items))
       (meant.entries place (type_row all t) (row_of (type_row all) all.types types of_types place t at))

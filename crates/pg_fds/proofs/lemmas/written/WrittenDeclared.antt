@@ -38,7 +38,7 @@ use Rattle.pg_fds.specs.stated.Said.{children_at, text_at}
 use Rattle.pg_fds.specs.stated.SaidFiles.{is_place}
 use Rattle.pg_fds.specs.stated.SaidTypes.{is_entry, is_no_entry, real_oneofs, synthetic_places}
 use Rattle.pg_fds.specs.writing.Set.{method_items, service_items}
-use Rattle.pg_fds.specs.stated.SetNames.{files_names, full_name, full_names}
+use Rattle.pg_fds.specs.stated.SetNames.{files_names, qualified, qualified_names}
 use Rattle.pg_fds.specs.stated.StatedTable.{few, has_no_entries, may_declare, names_of, names_oneofs, nests_within}
 use Rattle.pg_fds.specs.stated.StatedTypes.{own_entries}
 use Rattle.pg_fds.proofs.lemmas.written.DeclaredFields.{declared_size}
@@ -64,17 +64,17 @@ map_twice f g (x ∷ xs) = ap (λ ys. g (f x) ∷ ys) (map_twice f g xs)
 -- ---- the names of one message type
 
 module _ (all : Declared) (scope : List ℕ) where
-  fields_called : (next : ℕ) (fs : List Field) → full_names scope (map made (fields_items all scope next fs)) ≡ map (within scope) (field_names fs)
+  fields_called : (next : ℕ) (fs : List Field) → qualified_names scope (map made (fields_items all scope next fs)) ≡ map (within scope) (field_names fs)
   fields_called next [] = refl
   fields_called next (f ∷ fs) = ap₂ (λ n ns. n ∷ ns) (ap (within scope) (name_said all scope next f)) (fields_called (cond f.states_optional (suc next) next) fs)
 
-  each_called : (ms : List Message) (names : List (List ℕ)) → map (text_at 1) ms ≡ names → full_names scope ms ≡ map (within scope) names
+  each_called : (ms : List Message) (names : List (List ℕ)) → map (text_at 1) ms ≡ names → qualified_names scope ms ≡ map (within scope) names
   each_called ms names called = sym (map_twice (text_at 1) (within scope) ms) ∙ ap (map (within scope)) called
 
-  one_called : (e : EnumType) → full_names scope (children_at 2 (made (enum_items e))) ≡ map (within scope) (value_names e.values.items)
+  one_called : (e : EnumType) → qualified_names scope (children_at 2 (made (enum_items e))) ≡ map (within scope) (value_names e.values.items)
   one_called e =
-      ap (full_names scope) (enum_values e)
-      ∙ (map_made (full_name scope) value_items (λ (v : EnumValue). within scope (string_bytes v.name)) (λ v. ap (within scope) (value_called v)) e.values.items
+      ap (qualified_names scope) (enum_values e)
+      ∙ (map_made (qualified scope) value_items (λ (v : EnumValue). within scope (string_bytes v.name)) (λ v. ap (within scope) (value_called v)) e.values.items
       ∙ sym (map_twice (λ (v : EnumValue). string_bytes v.name) (within scope) e.values.items))
 
   values_called : (ids : List EnumId) → values_names scope (map made (enums_items all ids)) ≡ map (within scope) (values_at all.enums ids)
@@ -125,13 +125,13 @@ module _ (all : Declared) (t : MessageType) (is_rising : is_rising (numbers t.fi
       → in_type (name, type_written all nested t) ≡ together name (its (field_names (declared_fields t))) (its oneofs) (its (entry_names (declared_fields t))) (its values)
   of_row nested plain =
       let m : Message = type_written all nested t in
-      let own : List (List ℕ) = full_names name (own_entries m) in
+      let own : List (List ℕ) = qualified_names name (own_entries m) in
       let last : List (List ℕ) = values_names name (children_at 4 m) in
-      let real : List (List ℕ) = full_names name (real_oneofs (synthetic_places (children_at 2 m)) 0 (children_at 8 m)) in
-      ap₂ (λ a b. together name a b own last) (ap (full_names name) (type_fields all nested t) ∙ fields_called all name (length t.oneofs.items) (declared_fields t))
+      let real : List (List ℕ) = qualified_names name (real_oneofs (synthetic_places (children_at 2 m)) 0 (children_at 8 m)) in
+      ap₂ (λ a b. together name a b own last) (ap (qualified_names name) (type_fields all nested t) ∙ fields_called all name (length t.oneofs.items) (declared_fields t))
       (each_called all name (real_oneofs (synthetic_places (children_at 2 m)) 0 (children_at 8 m)) oneofs (type_real_oneofs all nested t))
       ∙ ap₂ (λ c d. together name (its (field_names (declared_fields t))) (its oneofs) c d)
-      (ap (full_names name) (type_entries all nested t plain) ∙ each_called all name (map made (entries all (declared_fields t))) (entry_names (declared_fields t)) (entries_called all (declared_fields t)))
+      (ap (qualified_names name) (type_entries all nested t plain) ∙ each_called all name (map made (entries all (declared_fields t))) (entry_names (declared_fields t)) (entries_called all (declared_fields t)))
       (ap (values_names name) (type_enums all nested t) ∙ values_called all name t.nested_enums.items)
 
   pub entries_as_often : (n : List ℕ) → count n (its (entry_names (declared_fields t))) ≡ count n (its inner)
@@ -217,8 +217,8 @@ service_called_once : (all : Declared) (s : Service) → in_service (string_byte
 service_called_once all s =
     let name : List ℕ = string_bytes s.name in
     ap (λ ns. name ∷ ns)
-    (ap (full_names name) (service_methods all s)
-    ∙ (map_made (full_name name) (method_items all) (λ (d : Method). within name (string_bytes d.name)) (λ d. ap (within name) (method_called all d)) s.methods.items
+    (ap (qualified_names name) (service_methods all s)
+    ∙ (map_made (qualified name) (method_items all) (λ (d : Method). within name (string_bytes d.name)) (λ d. ap (within name) (method_called all d)) s.methods.items
     ∙ sym (map_twice (λ (d : Method). string_bytes d.name) (within name) s.methods.items)))
 
 files_called : (all : Declared) (fs : List File) → flat_map in_file (map (file_written all) fs) ≡ flat_map (schema.file_names all.enums) fs

@@ -21,7 +21,7 @@ use Rattle.pg_fds.specs.writing.Items.{Items}
 use Rattle.pg_fds.specs.writing.Places.{Declared}
 use Rattle.pg_fds.specs.stated.Said.{text_at}
 use Rattle.pg_fds.specs.stated.SaidTypes.{is_entry, is_no_entry}
-use Rattle.pg_fds.specs.stated.SetNames.{full_name}
+use Rattle.pg_fds.specs.stated.SetNames.{qualified}
 use Rattle.pg_fds.specs.stated.StatedFields.{is_map_view}
 use Rattle.pg_fds.specs.stated.StatedNames.{Meanings, first_of}
 use Rattle.pg_fds.specs.stated.StatedTypes.{last_named}
@@ -59,9 +59,9 @@ module _ (all : Declared) where
       (λ f key fs es is later. ap₂ (λ n ns. n ∷ ns) (entry_called all f key) later ∙ ap (λ p. cond (is_map p) (entry_name (string_bytes f.name) ∷ []) [] ++ entry_names fs) (sym is))
 
   -- where their full names mean entry types, those of the fields do
-  pub entries_named : (means : Meanings) (full : List ℕ) (fs : List Field) → AllByRecursion (λ e. means (full_name full e) ≡ Some nameds.Entry) (map made (entries all fs)) → AllByRecursion (HasEntryName means full) fs
+  pub entries_named : (means : Meanings) (full : List ℕ) (fs : List Field) → AllByRecursion (λ e. means (qualified full e) ≡ Some nameds.Entry) (map made (entries all fs)) → AllByRecursion (HasEntryName means full) fs
   entries_named means full =
-      each_entry all (λ fs es. AllByRecursion (λ e. means (full_name full e) ≡ Some nameds.Entry) (map made es) → AllByRecursion (HasEntryName means full) fs) (λ mean. tt)
+      each_entry all (λ fs es. AllByRecursion (λ e. means (qualified full e) ≡ Some nameds.Entry) (map made es) → AllByRecursion (HasEntryName means full) fs) (λ mean. tt)
       (λ f fs es plain later mean. ((λ map. absurd (false≢true (sym plain ∙ map))), later mean))
       (λ f key fs es is later mean. ((λ map. ap (λ n. means (within full n)) (sym (entry_called all f key)) ∙ mean.0), later mean.1))
 

@@ -27,7 +27,7 @@ use Rattle.pg_fds.specs.writing.Places.{Declared, declared_in}
 use Rattle.pg_fds.specs.stated.Said.{children_at, text_at}
 use Rattle.pg_fds.specs.stated.SaidTypes.{is_no_entry}
 use Rattle.pg_fds.specs.writing.Set.{service_items, services_items}
-use Rattle.pg_fds.specs.stated.SetNames.{full_name}
+use Rattle.pg_fds.specs.stated.SetNames.{qualified}
 use Rattle.pg_fds.proofs.lemmas.rows.RowPlaces.{AreAt, AreFrom, as_long, at_both, at_one, first_and_later, front_and_rest, test_at}
 use Rattle.pg_fds.proofs.lemmas.written.Slots.{made}
 use Rattle.pg_fds.proofs.lemmas.written.WrittenEnums.{enum_called}
@@ -131,9 +131,9 @@ module _ (all : Declared) where
         → PlacedAt (placed_with depth (placed_types depth) scope counts m) (place ∷ types_below depth all.types t.nested_types.items)
 
   one_row : (depth : ℕ) (scope : List ℕ) (m : Message) (place : ℕ) (t : MessageType) → slice_get all.types place ≡ Some t → row_in scope m ≡ type_row all t
-      → EnumsAt (rows_in (full_name scope m) (children_at 4 m)) (enum_places t.nested_enums.items) → AreRows depth (full_name scope m) (filter is_no_entry (children_at 3 m)) t.nested_types.items → IsRow depth scope m place t
+      → EnumsAt (rows_in (qualified scope m) (children_at 4 m)) (enum_places t.nested_enums.items) → AreRows depth (qualified scope m) (filter is_no_entry (children_at 3 m)) t.nested_types.items → IsRow depth scope m place t
   one_row depth scope m place t at is own deeper =
-      let full = full_name scope m in
+      let full = qualified scope m in
       let inner = filter is_no_entry (children_at 3 m) in
       let below = types_below depth all.types t.nested_types.items in
       let enums_inside = enums_below depth all.types t.nested_types.items in
@@ -203,7 +203,7 @@ module _ (parts : Parts) (sound : IsSound parts) where
       let name : List ℕ = string_bytes t.name in
       let m : Message = type_written all nested t in
       let scoped : is_type_scope all.types all.enums t ≡ true = test_at (is_type_scope all.types all.enums) all.types i t sound.type_scopes at in
-      let full : full_name scope m ≡ name = ap (within scope) (type_called all nested t) ∙ sym (name_within scope name here) in
+      let full : qualified scope m ≡ name = ap (within scope) (type_called all nested t) ∙ sym (name_within scope name here) in
       one_row all depth scope m i t at (in_scope scope name m here (type_called all nested t) ∙ ap (λ xs. (name, type_written all xs t)) (settled all deep (length all.types) low t.nested_types.items enough))
       (subst (λ s. EnumsAt all (rows_in s (children_at 4 m)) (enum_places t.nested_enums.items)) (sym full)
       (subst (λ ms. EnumsAt all (rows_in name ms) (enum_places t.nested_enums.items)) (sym (type_enums all nested t))

@@ -28,7 +28,7 @@ use Rattle.pg_fds.specs.stated.Outlines.{Row}
 use Rattle.pg_fds.specs.writing.Places.{Declared}
 use Rattle.pg_fds.specs.stated.Said.{children_at, flag_at, flag_of, maybe_flag_at, number_at, options_at, text_at, texts_at}
 use Rattle.pg_fds.specs.stated.SaidTypes.{is_entry, is_no_entry, real_oneofs, synthetic_places}
-use Rattle.pg_fds.specs.stated.SetNames.{full_name}
+use Rattle.pg_fds.specs.stated.SetNames.{qualified}
 use Rattle.pg_fds.specs.stated.StatedFields as fields
 use Rattle.pg_fds.specs.stated.StatedFields.{Owner}
 use Rattle.pg_fds.specs.stated.StatedNames.{Meanings, each, only_if}
@@ -218,7 +218,7 @@ placed_row all t = record { named = type_row all t; types = type_places t.nested
 
 -- where their full names mean entry types, so do those of its map fields
 abbrev pub EntriesMean : Meanings → Declared → MessageType → Type 0
-EntriesMean means all t = AllByRecursion (λ e. means (full_name (string_bytes t.name) e) ≡ Some nameds.Entry) (map made (entries all (declared_fields t)))
+EntriesMean means all t = AllByRecursion (λ e. means (qualified (string_bytes t.name) e) ≡ Some nameds.Entry) (map made (entries all (declared_fields t)))
 
 module _ (all : Declared) (means : Meanings) (has : HasNames all means) (t : MessageType) (rules : is_message_type (length all.types) (length all.enums) t ≡ true)
     (once : are_distinct (entry_names (declared_fields t)) ≡ true) (mean : EntriesMean means all t) where

@@ -11,7 +11,7 @@ use Rattle.pg_fds.specs.stated.Declarations.{Adds, types_declared, whole_declare
 use Rattle.pg_fds.specs.stated.Outlines.{NameOneofs, NamesOneofs, enum_rows, row, row_in, rows_in, rows_of_enums, rows_of_type, type_row, type_rows}
 use Rattle.pg_fds.specs.reading.OutlinedPlaces.{behind_type, counts_of, each_from, inside_type, placed_type, placed_types, placed_with, places_of_types}
 use Rattle.pg_fds.specs.stated.Said.{children_at}
-use Rattle.pg_fds.specs.stated.SetNames.{full_name}
+use Rattle.pg_fds.specs.stated.SetNames.{qualified}
 use Rattle.pg_fds.specs.stated.SaidTypes.{is_no_entry}
 use Rattle.pg_fds.proofs.lemmas.outline.Declaring.{Left, adds_none, left_all, left_none, left_on, seen_drop, seen_past}
 use Rattle.pg_fds.proofs.lemmas.outline.NameLoops.{has_on, seen}
@@ -91,7 +91,7 @@ returns-in_err-enums-clause-refused t c =
     let h = c.loop-message-test.true in
     let at = c.as_str-name.result.now in
     let found = map message_of c.as_slice-own_enums.result.now in
-    let here : at ≡ full_name scope mm = c.as_str-name.ensures.value ∙ (c.in_ok-full.ensures ∙ ap (within scope) c.text-own_name.ensures) in
+    let here : at ≡ qualified scope mm = c.as_str-name.ensures.value ∙ (c.in_ok-full.ensures ∙ ap (within scope) c.text-own_name.ensures) in
     let all : found ≡ children_at 4 mm = ap (λ xs. map message_of xs) c.as_slice-own_enums.ensures.value ∙ c.in_ok-enums_inside.ensures in
     let p = err_from_is_err_and c.from_residual-in_err-enums.result c.from_residual-in_err-enums.ensures.1 in
     rw (p.1, p.2) (λ room_types room_enums oneofs.
@@ -114,12 +114,12 @@ returns-in_err-types-clause-refused t c =
     let at = c.as_str-name.result.now in
     let inner = map message_of c.as_slice-own.result.now in
     let found = map message_of c.as_slice-own_enums.result.now in
-    let here : at ≡ full_name scope mm = c.as_str-name.ensures.value ∙ (c.in_ok-full.ensures ∙ ap (within scope) c.text-own_name.ensures) in
+    let here : at ≡ qualified scope mm = c.as_str-name.ensures.value ∙ (c.in_ok-full.ensures ∙ ap (within scope) c.text-own_name.ensures) in
     let types : inner ≡ filter is_no_entry (children_at 3 mm) =
     ap (λ xs. map message_of xs) c.as_slice-own.ensures.value ∙ (c.in_ok-declared.ensures ∙ ap (filter is_no_entry) (ap (λ xs. map message_of xs) c.as_slice-inside.ensures.value ∙ c.in_ok-all_inside.ensures)) in
     let all : found ≡ children_at 4 mm = ap (λ xs. map message_of xs) c.as_slice-own_enums.ensures.value ∙ c.in_ok-enums_inside.ensures in
-    let same_types = ap (λ a. type_rows (depth - 1) a inner) here ∙ ap (type_rows (depth - 1) (full_name scope mm)) types in
-    let same_enums = ap (λ a. enum_rows (depth - 1) a inner) here ∙ ap (enum_rows (depth - 1) (full_name scope mm)) types in
+    let same_types = ap (λ a. type_rows (depth - 1) a inner) here ∙ ap (type_rows (depth - 1) (qualified scope mm)) types in
+    let same_enums = ap (λ a. enum_rows (depth - 1) a inner) here ∙ ap (enum_rows (depth - 1) (qualified scope mm)) types in
     let one = rows_long type_row c.loop-message.self.types.items c.outline_type.new.self.types.items ((at, mm) ∷ []) c.in_ok-id.ensures.rows in
     let own = rows_long row c.outline_type.new.self.enums.items c.outline_enums.new.enums.items (rows_in at found) c.in_ok-enums.ensures.rows in
     let p = err_from_is_err_and c.from_residual-in_err-types.result c.from_residual-in_err-types.ensures.1 in
@@ -150,7 +150,7 @@ loop-message-preserved t c =
     let at = c.as_str-name.result.now in
     let inner = map message_of c.as_slice-own.result.now in
     let found = map message_of c.as_slice-own_enums.result.now in
-    let here : at ≡ full_name scope mm = c.as_str-name.ensures.value ∙ (c.in_ok-full.ensures ∙ ap (within scope) c.text-own_name.ensures) in
+    let here : at ≡ qualified scope mm = c.as_str-name.ensures.value ∙ (c.in_ok-full.ensures ∙ ap (within scope) c.text-own_name.ensures) in
     let types : inner ≡ filter is_no_entry (children_at 3 mm) =
     ap (λ xs. map message_of xs) c.as_slice-own.ensures.value ∙ (c.in_ok-declared.ensures ∙ ap (filter is_no_entry) (ap (λ xs. map message_of xs) c.as_slice-inside.ensures.value ∙ c.in_ok-all_inside.ensures)) in
     let all : found ≡ children_at 4 mm = ap (λ xs. map message_of xs) c.as_slice-own_enums.ensures.value ∙ c.in_ok-enums_inside.ensures in
