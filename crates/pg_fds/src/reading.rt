@@ -15,6 +15,7 @@ mod names_table;
 mod order;
 mod outline;
 mod set_files;
+mod set_names;
 mod walk;
 
 ghost use Rattle.std.specs.Prelude.{◌≡◌, ◌⊎◌, ℕ, List, None, Some, IfErr, IfOk, map};

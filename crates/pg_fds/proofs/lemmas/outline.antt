@@ -2,6 +2,8 @@ pub mod Outlining
 pub mod Declaring
 pub mod FreshNames
 pub mod Fronts
+pub mod Escaped
+pub mod ScopeNames
 pub mod DeclaredLists
 pub mod DeclaredPlaces
 pub mod MeantNames

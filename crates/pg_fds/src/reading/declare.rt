@@ -1,11 +1,11 @@
-//! The table of the full names that a set declares. A name that may be declared is refused only
+//! The table of the qualified names that a set declares. A name that may be declared is refused only
 //! where memory is.
 
 ghost use Rattle.std.specs.Prelude.{◌≡◌, ◌∷◌, [], false, IfErr, IfOk, OnOk, length, map};
 ghost use Rattle.std.specs.String.{string_bytes};
 ghost use Rattle.pg_dyn.specs.Kept.{message_of};
-ghost use Rattle.pg_fds.specs.stated.Declarations.{Adds, CannotAdd, all_named, fronts, is_package, named_in, package_part};
-ghost use Rattle.pg_fds.specs.stated.SetNames.{full_name};
+ghost use Rattle.pg_fds.specs.stated.Declarations.{Adds, CannotAdd, all_named, is_package, named_in, package_declared, package_part};
+ghost use Rattle.pg_fds.specs.stated.SetNames.{qualified};
 ghost use Rattle.pg_fds.specs.stated.SaidTypes.{AreMarked, real_oneofs};
 
 use crate::descriptor::access::{Said, text};
@@ -13,7 +13,7 @@ use crate::descriptor::proto;
 use crate::error::Unstated;
 use crate::reading::names_table::NameTable;
 use crate::reading::outline::Named;
-use pg_schema::full_name;
+use crate::reading::set_names::name_in;
 use std::alloc::{AllocError, Global};
 
 /// Puts a name in the table. Refused, memory aside, only where it may not be declared.
@@ -28,7 +28,7 @@ pub(crate) fn declare(names: &mut NameTable, name: String, named: Named) -> Resu
     }
 }
 
-/// Puts the full name of what a message is called in the scope in the table, and answers it.
+/// Puts the qualified name of what a message is called in the scope in the table, and answers it.
 pub(crate) fn declare_named(
     alloc: Global,
     names: &mut NameTable,
@@ -37,19 +37,19 @@ pub(crate) fn declare_named(
     named: Named,
 ) -> Result<String, Unstated>
     ensures name { IfOk result (λ name. string_bytes name
-        ≡ full_name scope.now (message_of message.now)) }
+        ≡ qualified scope.now (message_of message.now)) }
     ensures adds { OnOk result (Adds (named_in scope.now named (message_of message.now) ∷ [])
         names.old names.new) }
     ensures refused { IfErr result (λ e. is_package named ≡ false
         → CannotAdd (named_in scope.now named (message_of message.now) ∷ []) names.old e) }
 {
     let own = text(message, proto::NAME);
-    let full = full_name(alloc, scope, own)?;
+    let full = name_in(alloc, scope, own)?;
     declare(names, full.clone()?, named)?;
     Ok(full)
 }
 
-// Puts the full name of what a message is called in the scope in the table.
+// Puts the qualified name of what a message is called in the scope in the table.
 fn declare_own(
     alloc: Global,
     names: &mut NameTable,
@@ -63,11 +63,11 @@ fn declare_own(
         → CannotAdd (named_in scope.now named (message_of message.now) ∷ []) names.old e) }
 {
     let own = text(message, proto::NAME);
-    let full = full_name(alloc, scope, own)?;
+    let full = name_in(alloc, scope, own)?;
     declare(names, full, named)
 }
 
-/// Puts the full names of what messages are called in the scope in the table.
+/// Puts the qualified names of what messages are called in the scope in the table.
 pub(crate) fn declare_each(
     alloc: Global,
     names: &mut NameTable,
@@ -121,16 +121,17 @@ fn declare_part(names: &mut NameTable, part: String) -> Result<(), Unstated>
 }
 
 /// Puts the parts of a package in the table, which may have them as those of others: what stands
-/// before a dot of it, and the whole.
+/// before a dot behind that of its scope, and the whole.
 pub(crate) fn declare_package(
     alloc: Global,
     names: &mut NameTable,
     path: &str,
 ) -> Result<(), Unstated>
-    ensures adds { OnOk result (Adds (map package_part (fronts path.now)) names.old names.new) }
-    ensures refused { IfErr result (CannotAdd (map package_part (fronts path.now)) names.old) }
+    ensures adds { OnOk result (Adds (package_declared (46 ∷ path.now)) names.old names.new) }
+    ensures refused { IfErr result (CannotAdd (package_declared (46 ∷ path.now)) names.old) }
 {
     let mut front = String::new(alloc);
+    front.push('.')?;
     for letter in path.chars() {
         if letter == '.' {
             declare_part(names, front.clone()?)?;

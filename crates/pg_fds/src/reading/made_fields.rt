@@ -17,20 +17,20 @@ ghost use Rattle.pg_fds.specs.stated.Views.{field_view};
 use crate::descriptor::access::{Said, count, ensure, flag, maybe_text, number, option, text};
 use crate::descriptor::proto;
 use crate::error::Unstated;
-use crate::names::dotted_within;
 use crate::reading::codes::{MESSAGE_CODE, REPEATED, label_of};
 use crate::reading::made_entries::{element, entry, says};
 use crate::reading::made_oneofs::{OneofMarks, oneof};
 use crate::reading::meanings::meant;
 use crate::reading::names_table::NameTable;
 use crate::reading::outline::Named;
+use crate::reading::set_names::name_in;
 use pg_schema::{Element, Field, FieldOptions, Presence, default_json_name, entry_name};
 use std::alloc::{AllocError, Global};
 use std::collections::BTreeMap;
 
-/// What the fields of a message type are made with: the full names of all files; the type's own
-/// full name; which of its oneofs are synthetic, and how many fields name each; its entry types by
-/// their names.
+/// What the fields of a message type are made with: the names of all files; the type's own
+/// qualified name; which of its oneofs are synthetic, and how many fields name each; its entry types
+/// by their names.
 #[derive(Drop)]
 pub(crate) struct Scope<'a> {
     pub names: &'a NameTable,
@@ -129,7 +129,7 @@ fn names_its_entry(
     ensures { IfOk result (λ is. is
         ≡ names_its_entry (owner_of scope.now) (message_of message.now)) }
 {
-    let full = dotted_within(alloc, scope.name, own)?;
+    let full = name_in(alloc, scope.name, own)?;
     let names_it = says(message, proto::FIELD_TYPE_NAME, &full);
     let is_optional = flag(message, proto::FIELD_PROTO3_OPTIONAL);
     Ok(label_of(message) == REPEATED && !is_optional && names_it)

@@ -108,7 +108,7 @@ pub(crate) fn service(
         ⊎ (service (means_of names.now) (row outlined.now) ≡ None)) }
 {
     let message = &outlined.message;
-    let name = outlined.name.clone()?;
+    let name = String::from_str(alloc, undotted(outlined.name.as_str()))?;
     let inside = children(alloc, message, proto::SERVICE_METHOD)?;
     let methods = methods(alloc, names, &inside)?;
     Ok(Service {

@@ -32,6 +32,7 @@ use crate::reading::made_oneofs::{OneofMarks, marks, real_names, synthetic_place
 use crate::reading::named_entries::are_named_once;
 use crate::reading::names_table::NameTable;
 use crate::reading::outline::{Outlined, OutlinedType};
+use crate::reading::set_names::undotted;
 use pg_schema::{
     EnumOptions, EnumType, EnumValue, EnumValueOptions, Field, MessageOptions, MessageType,
     ReservedFields, ReservedValues,
@@ -102,7 +103,7 @@ pub(crate) fn made_enum(alloc: Global, outlined: &Outlined<'_>) -> Result<EnumTy
     ensures { IfOk result (λ made. enum_view made ≡ stated.enum_type (row outlined.now)) }
 {
     let message = &outlined.message;
-    let name = outlined.name.clone()?;
+    let name = String::from_str(alloc, undotted(outlined.name.as_str()))?;
     let values = values(alloc, &children(alloc, message, proto::ENUM_VALUE)?)?;
     let reserved_numbers = value_ranges(
         alloc,
@@ -378,7 +379,7 @@ pub(crate) fn made_type(
         &children(alloc, message, proto::MESSAGE_RESERVED_RANGE)?,
     )?;
     let reserved_names = copies(alloc, &texts(alloc, message, proto::MESSAGE_RESERVED_NAME)?)?;
-    let name = outlined.name.clone()?;
+    let name = String::from_str(alloc, undotted(outlined.name.as_str()))?;
     let nested_types = outlined.types.clone()?;
     let nested_enums = outlined.enums.clone()?;
     let declared = numbers(alloc, &members.fields)?;

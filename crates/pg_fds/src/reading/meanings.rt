@@ -1,10 +1,10 @@
 //! What the names in a set's messages mean.
 
-ghost use Rattle.std.specs.Prelude.{◌≡◌, ◌∷◌, ℕ, List, Some, IfNone, IfSome};
+ghost use Rattle.std.specs.Prelude.{◌≡◌, Some};
 ghost use Rattle.pg_dyn.specs.Kept.{message_of};
 ghost use Rattle.pg_fds.specs.reading.Owners.{means_of};
 ghost use Rattle.pg_fds.specs.stated.Said.{maybe_text_at};
-ghost use Rattle.pg_fds.specs.stated.StatedNames.{may_name, meant, named, type_meant};
+ghost use Rattle.pg_fds.specs.stated.StatedNames.{may_name, meant, type_meant};
 
 use crate::descriptor::access::{Said, maybe_text};
 use crate::reading::names_table::NameTable;
@@ -21,30 +21,12 @@ fn nameable(named: Named) -> Option<Named>
     }
 }
 
-// What a full name is that of.
+// What a qualified name is that of.
 fn meaning(names: &NameTable, name: &str) -> Option<Named>
     ensures { result ≡ means_of names.now name.now }
 {
     match names.get(name) {
         Some(named) => nameable(*named),
-        None => None,
-    }
-}
-
-// A full name without the dot in front.
-fn behind_dot(dotted: &str) -> Option<&str>
-    ensures ok { IfSome result (λ name. dotted.now ≡ 46 ∷ name.now) }
-    ensures none { IfNone result ((rest : List ℕ) → dotted.now ≡ 46 ∷ rest → ⊥) }
-{
-    dotted.strip_prefix(".")
-}
-
-// What a full name with a dot in front is that of.
-fn named(names: &NameTable, dotted: &str) -> Option<Named>
-    ensures { result ≡ named (means_of names.now) dotted.now }
-{
-    match behind_dot(dotted) {
-        Some(name) => meaning(names, name),
         None => None,
     }
 }
@@ -55,7 +37,7 @@ pub(crate) fn meant(names: &NameTable, message: &Said<'_>, number: u32) -> Optio
         (maybe_text_at number (message_of message.now)) }
 {
     match maybe_text(message, number) {
-        Some(name) => named(names, name),
+        Some(name) => meaning(names, name),
         None => None,
     }
 }

@@ -14,7 +14,7 @@ pub(crate) struct SetKeys {
     set: DefaultHasher,
 }
 
-/// What each full name of a set is that of.
+/// What each qualified name of a set is that of.
 pub(crate) type NameTable = IndexMap<String, Named, SetKeys>;
 
 /// What fills bytes up to whole words, so that the names behind them are hashed by words too.

@@ -1,8 +1,9 @@
-//! What a set declares: the places of message types, enums and services, and all full names. Memory
+//! What a set declares: the places of message types, enums and services, and all names. Memory
 //! aside, names are refused only where one stands twice or is a part of a package.
 
 ghost use Rattle.std.specs.Prelude.{◌≡◌, ◌⊎◌, ◌+◌, ◌<◌, ◌≤◌, ◌^◌, ◌++◌, ◌∷◌, [], true, false, IfErr, IfOk, List, OnErr, OnOk, filter, flat_map, length, map};
 ghost use Rattle.std.specs.List.{AllByRecursion};
+ghost use Rattle.std.specs.String.{string_bytes};
 ghost use Rattle.pg_schema.specs.rules.Scopes.{enum_places, type_places};
 ghost use Rattle.pg_dyn.specs.Kept.{message_of};
 ghost use Rattle.pg_fds.specs.declared.error.Unstated.TheVariants.{Memory};
@@ -13,6 +14,7 @@ ghost use Rattle.pg_fds.specs.reading.OutlinedScopes.{MayPlace, OutlinesFile, Ou
 ghost use Rattle.pg_fds.specs.reading.Owners.{means_of};
 ghost use Rattle.pg_fds.specs.stated.StatedTable.{may_declare, meaning};
 ghost use Rattle.pg_fds.specs.stated.SaidTypes.{is_entry};
+ghost use Rattle.pg_fds.specs.stated.SetNames.{package_scope};
 
 mod enums;
 mod services;
@@ -26,11 +28,12 @@ use crate::reading::made_oneofs::{marks, synthetic_places};
 use crate::reading::names_table::{NameTable, SetKeys};
 use crate::reading::outline::enums::outline_enums;
 use crate::reading::outline::services::outline_services;
+use crate::reading::set_names::{name_in, package_scope};
 use indexmap::IndexMap;
-use pg_schema::{EnumId, ServiceId, TypeId, full_name};
+use pg_schema::{EnumId, ServiceId, TypeId};
 use std::alloc::Global;
 
-/// What a full name is that of.
+/// What a qualified name is that of.
 #[derive(Clone, Copy, PartialEq, Eq)]
 pub(crate) enum Named {
     Package,
@@ -137,16 +140,19 @@ fn declare_type(
 
 // ---- files
 
-// Puts the parts of a package in the table, where it has a name.
-#[tactic(auto, using(crate::proofs::lemmas::outline::Declaring::adds_none))]
-fn declare_scope(alloc: Global, names: &mut NameTable, scope: &str) -> Result<(), Unstated>
-    ensures adds { OnOk result (Adds (package_declared scope.now) names.old names.new) }
-    ensures refused { IfErr result (CannotAdd (package_declared scope.now) names.old) }
+// Puts the parts of a package in the table, where it has a name, and answers its scope.
+fn declare_scope(alloc: Global, names: &mut NameTable, name: &str) -> Result<String, Unstated>
+    ensures scope { IfOk result (λ scope. string_bytes scope ≡ package_scope name.now) }
+    ensures adds { OnOk result (Adds (package_declared (package_scope name.now)) names.old
+        names.new) }
+    ensures refused { IfErr result (CannotAdd (package_declared (package_scope name.now))
+        names.old) }
 {
-    if scope.is_empty() {
-        return Ok(());
+    let scope = package_scope(alloc, name)?;
+    if let Some(path) = scope.as_str().strip_prefix(".") {
+        declare_package(alloc, names, path)?;
     }
-    declare_package(alloc, names, scope)
+    Ok(scope)
 }
 
 // None of the messages is an entry type.
@@ -267,7 +273,7 @@ impl<'a> Outline<'a> {
         }
         for message in messages {
             let own_name = text(message, proto::MESSAGE_NAME);
-            let full = full_name(alloc, scope, own_name)?;
+            let full = name_in(alloc, scope, own_name)?;
             let name = full.as_str();
             let id = self.outline_type(alloc, name, message)?;
             let enums_inside = children(alloc, message, proto::MESSAGE_ENUM_TYPE)?;
@@ -298,8 +304,9 @@ impl<'a> Outline<'a> {
             → CannotAdd (file_declared depth (counts_of self.old) (message_of message.now))
             self.old.names e) }
     {
-        let scope = text(message, proto::FILE_PACKAGE);
-        declare_scope(alloc, &mut self.names, scope)?;
+        let own_package = text(message, proto::FILE_PACKAGE);
+        let own_scope = declare_scope(alloc, &mut self.names, own_package)?;
+        let scope = own_scope.as_str();
         let types_inside = children(alloc, message, proto::FILE_MESSAGE_TYPE)?;
         let own_types = types_inside.as_slice();
         without_entries(alloc, own_types)?;

@@ -15,7 +15,7 @@ of_other : HasBadType (means_in (file_with of_enum_code)) of_enum_code → IsBad
 of_other bad = causes.bad_declaration (file_with of_enum_code) refl (causes.in_type (0, _, lit≤ tt, refl, causes.bad_field (0, of_enum_code, lit≤ tt, refl, causes.bad_type refl bad)))
 
 no_dot : HasBadType (means_in (file_with without_dot)) without_dot
-no_dot = causes.unknown_name (codes "M") refl (causes.no_dot (codes "M") refl)
+no_dot = causes.unknown_name (codes "M") refl refl
 
 no_oneof : IsBadReference false (file_with without_oneof)
 no_oneof = causes.bad_declaration (file_with without_oneof) refl (causes.in_type (0, _, lit≤ tt, refl, causes.bad_field (0, without_oneof, lit≤ tt, refl, causes.bad_oneof (causes.without_oneof refl refl))))

@@ -6,8 +6,8 @@ use Rattle.pg_fds.specs.declared.reading.outline.Named.{Named}
 use Rattle.pg_fds.specs.declared.reading.outline.Named.TheVariants as nameds
 use Rattle.pg_fds.specs.stated.Declarations.{Declaration, all_named, enum_declared, enums_declared, files_declared, is_package, package_declared, package_part, package_parts, service_declared, services_declared, type_declared, types_declared}
 use Rattle.pg_fds.specs.reading.OutlinedPlaces.{Counts, behind_file, behind_type, inner_types, inside_file, inside_type}
-use Rattle.pg_fds.specs.stated.Said.{children_at, text_at}
-use Rattle.pg_fds.specs.stated.SetNames.{enums_names, files_names, qualified, qualified_names, own_names, services_names, types_names}
+use Rattle.pg_fds.specs.stated.Said.{children_at}
+use Rattle.pg_fds.specs.stated.SetNames.{enums_names, file_scope, files_names, qualified, qualified_names, own_names, services_names, types_names}
 use Rattle.pg_fds.specs.stated.SaidTypes.{is_entry, real_oneofs, synthetic_places}
 use Rattle.pg_fds.proofs.lemmas.outline.FreshNames.{is_thing, names_of, parts, pick, things}
 
@@ -76,12 +76,12 @@ module _ {X : Type 0} (h : List Declaration → List X) (none : h [] ≡ []) (sp
       (of_services : List ℕ → List Message → List X) (services_are : (scope : List ℕ) (ms : List Message) → h (services_declared scope ms) ≡ of_services scope ms) (depth : ℕ)
       (of_files : Counts → List Message → List X) (no_files : (counts : Counts) → [] ≡ of_files counts [])
       (one_file : (counts : Counts) (m : Message) (ms : List Message)
-      → (of_package (text_at 2 m) ++ of_enums (text_at 2 m) counts.enums (children_at 5 m) ++ of_types depth (text_at 2 m) (inside_file counts m) (children_at 4 m) ++ of_services (text_at 2 m) (children_at 6 m))
+      → (of_package (file_scope m) ++ of_enums (file_scope m) counts.enums (children_at 5 m) ++ of_types depth (file_scope m) (inside_file counts m) (children_at 4 m) ++ of_services (file_scope m) (children_at 6 m))
       ++ of_files (behind_file depth counts m) ms ≡ of_files counts (m ∷ ms)) where
     pub files_are : (ms : List Message) (counts : Counts) → h (files_declared depth counts ms) ≡ of_files counts ms
     files_are [] counts = none ∙ no_files counts
     files_are (m ∷ ms) counts =
-        let at = text_at 2 m in
+        let at = file_scope m in
         let own = package_declared at in
         let enums = enums_declared at counts.enums (children_at 5 m) in
         let types = types_declared depth at (inside_file counts m) (children_at 4 m) in
@@ -160,9 +160,9 @@ parts_parts [] = refl
 parts_parts (n ∷ ns) = ap (λ xs. n ∷ xs) (parts_parts ns)
 
 -- the parts of their packages
-pub parts_files : (depth : ℕ) (counts : Counts) (ms : List Message) → parts (files_declared depth counts ms) ≡ flat_map package_parts (map (text_at 2) ms)
+pub parts_files : (depth : ℕ) (counts : Counts) (ms : List Message) → parts (files_declared depth counts ms) ≡ flat_map package_parts (map file_scope ms)
 parts_files depth counts ms =
     files_are parts refl (names_append is_package) (λ full place m. []) parts_type (λ scope place es. []) parts_enums (λ d scope k ts. [])
     (λ scope k ts. refl) (λ d scope k. refl) (λ d scope k t ts. refl) package_parts (λ name. parts_parts (package_parts name)) (λ scope ss. []) parts_services depth
-    (λ k fs. flat_map package_parts (map (text_at 2) fs)) (λ k. refl)
-    (λ k f fs. ap (λ ps. ps ++ flat_map package_parts (map (text_at 2) fs)) (append-nil _ ∙ (append-nil _ ∙ append-nil (package_parts (text_at 2 f))))) ms counts
+    (λ k fs. flat_map package_parts (map file_scope fs)) (λ k. refl)
+    (λ k f fs. ap (λ ps. ps ++ flat_map package_parts (map file_scope fs)) (append-nil _ ∙ (append-nil _ ∙ append-nil (package_parts (file_scope f))))) ms counts

@@ -9,8 +9,8 @@ use Rattle.pg_fds.specs.declared.reading.outline.Named.TheVariants as nameds
 use Rattle.pg_fds.specs.stated.Declarations.{Declaration, all_named, enum_declared, enums_declared, files_declared, package_part, package_parts, service_declared, services_declared, type_declared}
 use Rattle.pg_fds.specs.reading.OutlinedPlaces.{Counts, inner_types}
 use Rattle.pg_fds.specs.stated.Outlines.{Row, enum_rows, file_enums, file_types, row_in, rows_in, type_rows}
-use Rattle.pg_fds.specs.stated.Said.{children_at, text_at}
-use Rattle.pg_fds.specs.stated.SetNames.{qualified, qualified_names}
+use Rattle.pg_fds.specs.stated.Said.{children_at}
+use Rattle.pg_fds.specs.stated.SetNames.{file_scope, qualified, qualified_names}
 use Rattle.pg_fds.specs.stated.StatedTable.{entry_names, enum_named, names_of as row_names, type_named}
 use Rattle.pg_fds.specs.stated.SaidTypes.{is_entry, real_oneofs, synthetic_places}
 use Rattle.pg_fds.proofs.lemmas.outline.DeclaredLists.{files_are, map_append, pick_all, pick_append, pick_none}
@@ -140,12 +140,12 @@ enums_files depth counts ms =
     (k.enums + length (rows_in (qualified scope t) (children_at 4 t) ++ enum_rows d (qualified scope t) (inner_types t))) (ap (λ n. k.enums + n) (sym (length-map (children_at 4 t) (row_in (qualified scope t))))) refl)
     (λ name. []) (λ name. no_parts is_enum_name refl (package_parts name)) (λ scope ss. []) (no_services is_enum_name refl) depth (λ k fs. placed enum_named k.enums (row_names (flat_map (file_enums depth) fs))) (λ k. refl)
     (λ k f fs.
-    let own = rows_in (text_at 2 f) (children_at 5 f) in
-    let inner = enum_rows depth (text_at 2 f) (children_at 4 f) in
+    let own = rows_in (file_scope f) (children_at 5 f) in
+    let inner = enum_rows depth (file_scope f) (children_at 4 f) in
     ap (λ ds. ds ++ placed enum_named (k.enums + length (file_enums depth f)) (row_names (flat_map (file_enums depth) fs)))
     (append-nil (placed enum_named k.enums (row_names own) ++ placed enum_named (k.enums + length (children_at 5 f)) (row_names inner)))
     ∙ three_rows k.enums own inner (flat_map (file_enums depth) fs) (k.enums + length (children_at 5 f)) (k.enums + length (file_enums depth f))
-    (ap (λ n. k.enums + n) (sym (length-map (children_at 5 f) (row_in (text_at 2 f))))) refl) ms counts
+    (ap (λ n. k.enums + n) (sym (length-map (children_at 5 f) (row_in (file_scope f))))) refl) ms counts
 
 -- ---- entry types
 

@@ -10,14 +10,14 @@ use Rattle.pg_fds.specs.stated.Declarations.{CannotAdd, Declaration, NameTable, 
 use Rattle.pg_fds.specs.reading.OutlinedPlaces.{Counts, behind_file, no_counts}
 use Rattle.pg_fds.specs.reading.OutlinedScopes.{MayPlace}
 use Rattle.pg_fds.specs.stated.Outlines.{file_enums, file_services, file_types}
-use Rattle.pg_fds.specs.stated.Said.{text_at}
-use Rattle.pg_fds.specs.stated.SetNames.{files_names}
+use Rattle.pg_fds.specs.stated.SetNames.{file_scope, files_names}
 use Rattle.pg_fds.specs.stated.StatedTable.{are_free, may_declare}
 use Rattle.pg_fds.proofs.lemmas.outline.Declaring.{Left, fresh_there, left_fails}
 use Rattle.pg_fds.proofs.lemmas.outline.DeclaredLists.{parts_files, things_files}
 use Rattle.pg_fds.proofs.lemmas.outline.FreshNames.{apart_fresh, are_apart, fresh_apart, parts, things}
 use Rattle.pg_fds.proofs.lemmas.outline.Fronts.{packages_free}
 use Rattle.pg_fds.proofs.lemmas.outline.OutlinedFiles.{may_place, may_stand}
+use Rattle.pg_fds.proofs.lemmas.outline.ScopeNames.{some_names}
 
 module _ (depth : ℕ) (ms : List Message) where
   abbrev ds : List Declaration
@@ -26,7 +26,7 @@ module _ (depth : ℕ) (ms : List Message) where
   free_is : (are_distinct (things ds) && are_apart (things ds) (parts ds)) ≡ are_free depth ms
   free_is =
       ap₂ (λ ns ps. are_distinct ns && are_apart ns ps) (things_files depth no_counts ms) (parts_files depth no_counts ms)
-      ∙ ap (λ b. are_distinct (files_names depth ms) && b) (packages_free (files_names depth ms) (map (text_at 2) ms))
+      ∙ ap (λ b. are_distinct (files_names depth ms) && b) (packages_free (files_names depth ms) (some_names depth ms) (map file_scope ms))
 
   pub fresh_free : are_new no_names (files_declared depth no_counts ms) ≡ true → are_free depth ms ≡ true
   fresh_free fresh = sym free_is ∙ fresh_apart ds fresh

@@ -64,13 +64,24 @@ parts_free : (names : List (List ℕ)) (whole : List ℕ) → are_apart names (f
 parts_free names whole =
     turned (λ part name. differ part name) (fronts whole) names ∙ all_agree (λ name. list_all (λ part. differ part name) (fronts whole)) (λ name. not (is_front name whole)) (no_front whole) names
 
--- the names against the parts of packages: of those that have a name
-pub packages_free : (names packages : List (List ℕ)) → are_apart names (flat_map package_parts packages) ≡ list_all (is_free_of names) (filter has_name packages)
-packages_free names [] = refl
-packages_free names ([] ∷ packages) = packages_free names packages
-packages_free names ((b ∷ bs) ∷ packages) =
-    list_all-append (λ part. list_all (λ name. differ part name) names) (fronts (b ∷ bs)) (flat_map package_parts packages)
-    ∙ (ap (λ r. r && are_apart names (flat_map package_parts packages)) (parts_free names (b ∷ bs)) ∙ ap (λ r. is_free_of names (b ∷ bs) && r) (packages_free names packages))
+-- the names against the parts of packages, by their scopes: of those that have a name
+module _ (names : List (List ℕ)) (some : list_all (differ []) names ≡ true) where
+  -- what stands before the first dot of a scope is no name
+  whole_free : (b : ℕ) (bs : List ℕ) → are_apart names (package_parts (b ∷ bs)) ≡ is_free_of names (b ∷ bs)
+  whole_free b bs = of (nat_eq b 46) refl ∙ parts_free names (b ∷ bs)
+    where
+      of : (r : Bool) → nat_eq b 46 ≡ r → are_apart names (package_parts (b ∷ bs)) ≡ are_apart names (fronts (b ∷ bs))
+      of true is =
+          ap (λ r. r && are_apart names (package_parts (b ∷ bs))) (sym some)
+          ∙ ap (λ r. are_apart names (cond r ([] ∷ package_parts (b ∷ bs)) (package_parts (b ∷ bs)))) (sym is)
+      of false is = ap (λ r. are_apart names (cond r ([] ∷ package_parts (b ∷ bs)) (package_parts (b ∷ bs)))) (sym is)
+
+  pub packages_free : (scopes : List (List ℕ)) → are_apart names (flat_map package_parts scopes) ≡ list_all (is_free_of names) (filter has_name scopes)
+  packages_free [] = refl
+  packages_free ([] ∷ scopes) = packages_free scopes
+  packages_free ((b ∷ bs) ∷ scopes) =
+      list_all-append (λ part. list_all (λ name. differ part name) names) (package_parts (b ∷ bs)) (flat_map package_parts scopes)
+      ∙ (ap (λ r. r && are_apart names (flat_map package_parts scopes)) (whole_free b bs) ∙ ap (λ r. is_free_of names (b ∷ bs) && r) (packages_free scopes))
 
 -- ---- the letters of a package
 
@@ -97,13 +108,6 @@ fronts_past (b ∷ bs) later none = of (nat_eq b 46) refl ∙ (ap (map (λ front
 -- the parts that begin with what was read, where so much is left
 abbrev pub parts_from : (front rest : List ℕ) → List (List ℕ)
 parts_from front rest = map (λ part. front ++ part) (fronts rest)
-
-pub parts_begin : (path : List ℕ) → parts_from [] path ≡ fronts path
-parts_begin path = of (fronts path)
-  where
-    of : (xs : List (List ℕ)) → map (λ part. [] ++ part) xs ≡ xs
-    of [] = refl
-    of (x ∷ xs) = ap (λ ys. x ∷ ys) (of xs)
 
 joined : (a b : List ℕ) (xs : List (List ℕ)) → map (λ part. a ++ part) (map (λ part. b ++ part) xs) ≡ map (λ part. (a ++ b) ++ part) xs
 joined a b [] = refl

@@ -15,8 +15,8 @@ use Rattle.pg_fds.specs.stated.Declarations.{Adds, CannotAdd, Declaration, NameT
 use Rattle.pg_fds.specs.reading.OutlinedPlaces.{Counts, inside_file}
 use Rattle.pg_fds.specs.reading.OutlinedScopes.{MayPlace}
 use Rattle.pg_fds.specs.stated.Outlines.{NameOneofs, Row, file_enums, file_services, file_types, files_at, row_in, type_rows}
-use Rattle.pg_fds.specs.stated.Said.{children_at, text_at}
-use Rattle.pg_fds.specs.stated.SetNames.{files_names, qualified}
+use Rattle.pg_fds.specs.stated.Said.{children_at}
+use Rattle.pg_fds.specs.stated.SetNames.{file_scope, files_names, qualified}
 use Rattle.pg_fds.specs.stated.StatedTable.{are_free, few, has_name, has_no_entries, may_declare, names_oneofs, nest_within, nests_within, packages_of}
 use Rattle.pg_fds.specs.stated.SaidTypes.{is_entry, is_no_entry}
 use Rattle.pg_fds.proofs.lemmas.outline.Declaring.{adds_both, first_fails, later_fails}
@@ -151,7 +151,7 @@ file_oneofs : (depth : ℕ) (files : List Message) → list_all names_oneofs (fl
 file_oneofs depth [] all deep = tt
 file_oneofs depth (m ∷ ms) all deep =
     let split = all_split names_oneofs (file_types depth m) (flat_map (file_types depth) ms) all in
-    (oneofs_of depth (text_at 2 m) (children_at 4 m) split.0 (and_left (nests_within depth m) (list_all (nests_within depth) ms) deep), file_oneofs depth ms split.1 (and_right (nests_within depth m) (list_all (nests_within depth) ms) deep))
+    (oneofs_of depth (file_scope m) (children_at 4 m) split.0 (and_left (nests_within depth m) (list_all (nests_within depth) ms) deep), file_oneofs depth ms split.1 (and_right (nests_within depth m) (list_all (nests_within depth) ms) deep))
 
 deep_file : (depth : ℕ) (files : List Message) → AllByRecursion (λ m. NameOneofs depth (children_at 4 m)) files → list_all (nests_within depth) files ≡ true
 deep_file depth [] all = refl
@@ -159,7 +159,7 @@ deep_file depth (m ∷ ms) all = and_both (nests_within depth m) (list_all (nest
 
 oneofs_file : (depth : ℕ) (files : List Message) → AllByRecursion (λ m. NameOneofs depth (children_at 4 m)) files → list_all names_oneofs (flat_map (file_types depth) files) ≡ true
 oneofs_file depth [] all = refl
-oneofs_file depth (m ∷ ms) all = all_join names_oneofs (file_types depth m) (flat_map (file_types depth) ms) (of_oneofs depth (text_at 2 m) (children_at 4 m) all.0) (oneofs_file depth ms all.1)
+oneofs_file depth (m ∷ ms) all = all_join names_oneofs (file_types depth m) (flat_map (file_types depth) ms) (of_oneofs depth (file_scope m) (children_at 4 m) all.0) (oneofs_file depth ms all.1)
 
 module _ (depth : ℕ) (files : List Message) where
   abbrev free_part : Bool
@@ -209,9 +209,9 @@ module _ (depth : ℕ) (files : List Message) where
       (is_few _ all.few_enums)) (is_few _ all.few_services)
 
   -- names are free where they are of all packages, those without a name too
-  pub free_there : are_distinct (files_names depth files) ≡ true → list_all (is_free_of (files_names depth files)) (map (text_at 2) files) ≡ true → are_free depth files ≡ true
+  pub free_there : are_distinct (files_names depth files) ≡ true → list_all (is_free_of (files_names depth files)) (map file_scope files) ≡ true → are_free depth files ≡ true
   free_there once apart =
-      and_both (are_distinct (files_names depth files)) (list_all (is_free_of (files_names depth files)) (packages_of files)) once (fewer (is_free_of (files_names depth files)) (map (text_at 2) files) apart)
+      and_both (are_distinct (files_names depth files)) (list_all (is_free_of (files_names depth files)) (packages_of files)) once (fewer (is_free_of (files_names depth files)) (map file_scope files) apart)
     where
       fewer : (test : List ℕ → Bool) (names : List (List ℕ)) → list_all test names ≡ true → list_all test (filter has_name names) ≡ true
       fewer test [] all = refl
@@ -251,25 +251,25 @@ module _ (depth : ℕ) (before : List Message) (m : Message) (later all : List M
 
 module _ (depth : ℕ) (counts : Counts) (m : Message) where
   abbrev of_parts : List Declaration
-  of_parts = package_declared (text_at 2 m)
+  of_parts = package_declared (file_scope m)
 
   abbrev of_enums : List Declaration
-  of_enums = enums_declared (text_at 2 m) counts.enums (children_at 5 m)
+  of_enums = enums_declared (file_scope m) counts.enums (children_at 5 m)
 
   abbrev of_types : List Declaration
-  of_types = types_declared depth (text_at 2 m) (inside_file counts m) (children_at 4 m)
+  of_types = types_declared depth (file_scope m) (inside_file counts m) (children_at 4 m)
 
   abbrev of_services : List Declaration
-  of_services = services_declared (text_at 2 m) (children_at 6 m)
+  of_services = services_declared (file_scope m) (children_at 6 m)
 
-  module _ {Y : Type 0} (at : List ℕ) (here : at ≡ text_at 2 m) (t0 : NameTable Y) where
+  module _ {Y : Type 0} (at : List ℕ) (here : at ≡ file_scope m) (t0 : NameTable Y) where
     pub parts_fail : (e : Unstated) → CannotAdd (package_declared at) t0 e → CannotAdd (file_declared depth counts m) t0 e
     parts_fail e fails =
         first_fails (of_parts ++ of_enums ++ of_types) of_services t0 e (first_fails (of_parts ++ of_enums) of_types t0 e (first_fails of_parts of_enums t0 e (subst (λ a. CannotAdd (package_declared a) t0 e) here fails)))
 
     module _ (t1 : NameTable Y) (first : Adds (package_declared at) t0 t1) (enums : List Message) (same_enums : enums ≡ children_at 5 m) where
       enums_same : enums_declared at counts.enums enums ≡ of_enums
-      enums_same = ap (λ a. enums_declared a counts.enums enums) here ∙ ap (enums_declared (text_at 2 m) counts.enums) same_enums
+      enums_same = ap (λ a. enums_declared a counts.enums enums) here ∙ ap (enums_declared (file_scope m) counts.enums) same_enums
 
       parts_there : Adds of_parts t0 t1
       parts_there = subst (λ a. Adds (package_declared a) t0 t1) here first
@@ -281,7 +281,7 @@ module _ (depth : ℕ) (counts : Counts) (m : Message) where
 
       module _ (t2 : NameTable Y) (second : Adds (enums_declared at counts.enums enums) t1 t2) (within_counts : Counts) (counted : within_counts ≡ inside_file counts m) (types : List Message) (same_types : types ≡ children_at 4 m) where
         types_same : types_declared depth at within_counts types ≡ of_types
-        types_same = ap (λ a. types_declared depth a within_counts types) here ∙ ap₂ (types_declared depth (text_at 2 m)) counted same_types
+        types_same = ap (λ a. types_declared depth a within_counts types) here ∙ ap₂ (types_declared depth (file_scope m)) counted same_types
 
         enums_there : Adds (of_parts ++ of_enums) t0 t2
         enums_there = adds_both of_parts of_enums t0 t1 t2 parts_there (subst (λ ds. Adds ds t1 t2) enums_same second)
@@ -292,7 +292,7 @@ module _ (depth : ℕ) (counts : Counts) (m : Message) where
 
         module _ (t3 : NameTable Y) (third : Adds (types_declared depth at within_counts types) t2 t3) (services : List Message) (same_services : services ≡ children_at 6 m) where
           services_same : services_declared at services ≡ of_services
-          services_same = ap (λ a. services_declared a services) here ∙ ap (services_declared (text_at 2 m)) same_services
+          services_same = ap (λ a. services_declared a services) here ∙ ap (services_declared (file_scope m)) same_services
 
           types_there : Adds (of_parts ++ of_enums ++ of_types) t0 t3
           types_there = adds_both (of_parts ++ of_enums) of_types t0 t2 t3 enums_there (subst (λ ds. Adds ds t2 t3) types_same third)

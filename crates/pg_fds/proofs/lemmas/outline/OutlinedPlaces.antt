@@ -8,8 +8,8 @@ use Rattle.pg_check.specs.standing.Places.{places_from}
 use Rattle.pg_fds.specs.declared.reading.outline.OutlinedType.{OutlinedType}
 use Rattle.pg_fds.specs.stated.Outlines.{type_row}
 use Rattle.pg_fds.specs.reading.OutlinedPlaces.{Counts, PlacedType, behind_type, counts_behind, each_from, inner_types, file_places, inside_file, inside_type, no_counts, placed_type, placed_types, placed_with, places_of_types}
-use Rattle.pg_fds.specs.stated.Said.{children_at, text_at}
-use Rattle.pg_fds.specs.stated.SetNames.{qualified}
+use Rattle.pg_fds.specs.stated.Said.{children_at}
+use Rattle.pg_fds.specs.stated.SetNames.{file_scope, qualified}
 use Rattle.pg_fds.proofs.lemmas.outline.NameLoops.{seen}
 use Rattle.pg_fds.proofs.lemmas.order.OrderSteps.{one_step}
 
@@ -115,15 +115,15 @@ no_placed depth scope counts ms old none = sym (append-nil old) ∙ ap (λ d. ol
 
 -- ---- a file
 
-pub file_placed : (depth : ℕ) (m : Message) (at : List ℕ) (within : List Message) (counts : Counts) (types enums services : List ℕ) (enum_count own_enums service_count own_services : ℕ) → at ≡ text_at 2 m → within ≡ children_at 4 m
+pub file_placed : (depth : ℕ) (m : Message) (at : List ℕ) (within : List Message) (counts : Counts) (types enums services : List ℕ) (enum_count own_enums service_count own_services : ℕ) → at ≡ file_scope m → within ≡ children_at 4 m
     → types ≡ places_of_types depth at (inside_file counts m) within → enums ≡ places_from enum_count own_enums → enum_count ≡ counts.enums → own_enums ≡ length (children_at 5 m)
     → services ≡ places_from service_count own_services → service_count ≡ counts.services → own_services ≡ length (children_at 6 m)
     → record { message = m; types = types; enums = enums; services = services } ≡ file_places depth counts m
 file_placed depth m at within counts types enums services enum_count own_enums service_count own_services here inner ts es ecount eown ss scount sown =
     let behind = inside_file counts m in
-    let types_are : types ≡ places_of_types depth (text_at 2 m) behind (children_at 4 m) = ts ∙ (ap (λ a. places_of_types depth a behind within) here ∙ ap (places_of_types depth (text_at 2 m) behind) inner) in
+    let types_are : types ≡ places_of_types depth (file_scope m) behind (children_at 4 m) = ts ∙ (ap (λ a. places_of_types depth a behind within) here ∙ ap (places_of_types depth (file_scope m) behind) inner) in
     let enums_are : enums ≡ places_from counts.enums (length (children_at 5 m)) = es ∙ ap₂ places_from ecount eown in
     let services_are : services ≡ places_from counts.services (length (children_at 6 m)) = ss ∙ ap₂ places_from scount sown in
     ap (λ xs. record { message = m; types = xs; enums = enums; services = services }) types_are
-    ∙ (ap (λ xs. record { message = m; types = places_of_types depth (text_at 2 m) behind (children_at 4 m); enums = xs; services = services }) enums_are
-    ∙ ap (λ xs. record { message = m; types = places_of_types depth (text_at 2 m) behind (children_at 4 m); enums = places_from counts.enums (length (children_at 5 m)); services = xs }) services_are)
+    ∙ (ap (λ xs. record { message = m; types = places_of_types depth (file_scope m) behind (children_at 4 m); enums = xs; services = services }) enums_are
+    ∙ ap (λ xs. record { message = m; types = places_of_types depth (file_scope m) behind (children_at 4 m); enums = places_from counts.enums (length (children_at 5 m)); services = xs }) services_are)

@@ -16,7 +16,7 @@ use Rattle.pg_fds.specs.declared.descriptor.proto.TheConstants as proto
 use Rattle.pg_fds.specs.stated.Said.{children_at, maybe_number_at, numbers_at, text_at, texts_at}
 use Rattle.pg_fds.specs.stated.SaidFiles.{is_place}
 use Rattle.pg_fds.specs.stated.SaidTypes.{is_entry, is_optional, synthetic_places}
-use Rattle.pg_fds.specs.stated.SetNames.{files_names, qualified}
+use Rattle.pg_fds.specs.stated.SetNames.{file_scope, files_names, qualified}
 use Rattle.pg_fds.specs.stated.Stated.{declared_by, parts_by, parts_of}
 use Rattle.pg_fds.specs.stated.StatedEnums.{enum_type}
 use Rattle.pg_fds.specs.stated.StatedFiles.{file, file_of, has_public_places}
@@ -47,8 +47,8 @@ types_named (suc depth) scope counts ms =
 
 pub files_named : (depth : ℕ) (counts : Counts) (ms : List Message) → map named_row (types_of_files depth counts ms) ≡ flat_map (file_types depth) ms
 files_named depth counts ms =
-    rows_from named_row (behind_file depth) (λ c m. placed_types depth (text_at proto.FILE_PACKAGE m) (inside_file c m) (children_at proto.FILE_MESSAGE_TYPE m)) (file_types depth)
-    (λ c m. types_named depth (text_at proto.FILE_PACKAGE m) (inside_file c m) (children_at proto.FILE_MESSAGE_TYPE m)) counts ms
+    rows_from named_row (behind_file depth) (λ c m. placed_types depth (file_scope m) (inside_file c m) (children_at proto.FILE_MESSAGE_TYPE m)) (file_types depth)
+    (λ c m. types_named depth (file_scope m) (inside_file c m) (children_at proto.FILE_MESSAGE_TYPE m)) counts ms
 
 abbrev pub message_in : PlacedFile → Message
 message_in p = p.message

@@ -1,7 +1,5 @@
 -- What names no type, and fields and entry types without items, have a cause.
-use Rattle.std.proofs.Common.{◌≡◌, ◌⊎◌, inl, inr, ℕ, pos, Bool, true, false, cond, nat_eq, ◌&&◌, List, [], ◌∷◌, length, Option, Some, None, is_some, option_map, option_and_then, refl, ap, sym, subst, ◌∙◌, arith}
-use Rattle.std.proofs.lemmas.Bool.Decides.{nat_tests}
-use Rattle.std.proofs.lemmas.Option.{none-some, same_Some}
+use Rattle.std.proofs.Common.{◌≡◌, ◌⊎◌, inl, inr, ℕ, pos, false, cond, ◌&&◌, List, [], ◌∷◌, length, Option, Some, None, is_some, option_map, option_and_then, refl, ap, sym, subst, ◌∙◌, arith}
 use Rattle.std.specs.Prelude.{codes}
 use Rattle.std.specs.List.{Any}
 use Rattle.std.specs.Ordering.{int_eq}
@@ -9,35 +7,15 @@ use Rattle.pg_schema.specs.declared.parts.field.Element.{Element}
 use Rattle.pg_schema.specs.declared.parts.field.Element.TheVariants as elements
 use Rattle.pg_dyn.specs.Message.{Item, Message}
 use Rattle.pg_fds.specs.declared.reading.outline.Named.{Named}
-use Rattle.pg_fds.specs.refusals.BadReferences.{HasBadType, IsBadEntry, IsBadMethod, NamesNoType, NamesNothing}
+use Rattle.pg_fds.specs.refusals.BadReferences.{HasBadType, IsBadEntry, IsBadMethod, NamesNoType}
 use Rattle.pg_fds.specs.refusals.BadReferences as causes
-use Rattle.pg_fds.specs.writing.Fields.{dotted, element_code}
+use Rattle.pg_fds.specs.writing.Fields.{element_code}
 use Rattle.pg_fds.specs.declared.descriptor.proto.TheConstants as proto
 use Rattle.pg_fds.specs.stated.Said.{children_at, item_at, maybe_text_at, number_at, text_of}
 use Rattle.pg_fds.specs.stated.StatedEntries.{element, entry, has_fields_alone, is_entry_field, key_and_value, key_with, named_element, of_code, pair_of, scalar_of}
-use Rattle.pg_fds.specs.stated.StatedNames.{Meanings, both, element_of_named, meant, named, type_meant, type_of_named, undotted}
+use Rattle.pg_fds.specs.stated.StatedNames.{Meanings, both, element_of_named, meant, type_meant, type_of_named}
 use Rattle.pg_fds.specs.stated.StatedServices.{method, method_of}
 use Rattle.pg_fds.proofs.lemmas.refusals.NoneSteps.{and_none, any_here, any_there, both_none, map_none, only_none, test_none, then_none, then_some}
-
--- ---- names
-
-undotted_is : (name rest : List ℕ) → undotted name ≡ Some rest → name ≡ dotted rest
-undotted_is [] rest h = absurd (none-some rest h)
-undotted_is (byte ∷ bytes) rest h = of (nat_eq byte 46) refl h
-  where
-    dot : (n : ℕ) → nat_eq n 46 ≡ true → n ≡ 46
-    dot n e = grind (arith, nat_tests)
-
-    of : (b : Bool) → nat_eq byte 46 ≡ b → cond b (Some bytes) None ≡ Some rest → byte ∷ bytes ≡ dotted rest
-    of true e h = ap (λ n. n ∷ bytes) (dot byte e) ∙ ap dotted (same_Some bytes rest h)
-    of false e h = absurd (none-some rest h)
-
-pub names_nothing : (means : Meanings) (name : List ℕ) → named means name ≡ None → NamesNothing means name
-names_nothing means name h = of (then_none means (undotted name) h)
-  where
-    of : (undotted name ≡ None) ⊎ ((rest : List ℕ) × (undotted name ≡ Some rest) × (means rest ≡ None)) → NamesNothing means name
-    of (inl none) = causes.no_dot name none
-    of (inr (rest, is, none)) = subst (NamesNothing means) (sym (undotted_is name rest is)) (causes.undeclared rest none)
 
 -- ---- methods
 
@@ -46,7 +24,7 @@ names_no_type means None h = causes.unnamed refl
 names_no_type means (Some text) h = of (then_none type_of_named (meant means (Some text)) h)
   where
     of : (meant means (Some text) ≡ None) ⊎ ((thing : Named) × (meant means (Some text) ≡ Some thing) × (type_of_named thing ≡ None)) → NamesNoType means (Some text)
-    of (inl none) = causes.unknown_type text refl (names_nothing means text none)
+    of (inl none) = causes.unknown_type text refl none
     of (inr (thing, is, none)) = causes.no_type thing is none
 
 pub bad_method : (means : Meanings) (m : Message) → method means m ≡ None → IsBadMethod means m
@@ -67,7 +45,7 @@ module _ (means : Meanings) (m : Message) where
   bad_named name is h = of (then_none (of_code (number_at proto.FIELD_TYPE m)) (option_and_then element_of_named (meant means type_name)) h)
     where
       of_name : (meant means type_name ≡ None) ⊎ ((thing : Named) × (meant means type_name ≡ Some thing) × (element_of_named thing ≡ None)) → HasBadType means m
-      of_name (inl none) = causes.unknown_name name is (names_nothing means name (ap (meant means) (sym is) ∙ none))
+      of_name (inl none) = causes.unknown_name name is (ap (meant means) (sym is) ∙ none)
       of_name (inr (thing, means_it, none)) = causes.no_element thing means_it none
 
       of_kind : (e : Element) → ((thing : Named) × (meant means type_name ≡ Some thing) × (element_of_named thing ≡ Some e)) → of_code (number_at proto.FIELD_TYPE m) e ≡ None

@@ -8,25 +8,21 @@ use Rattle.pg_schema.specs.declared.parts.field.Element.{Element}
 use Rattle.pg_schema.specs.declared.parts.field.Element.TheVariants as elements
 use Rattle.pg_dyn.specs.Message.{Item, Message}
 use Rattle.pg_fds.specs.declared.reading.outline.Named.{Named}
-use Rattle.pg_fds.specs.refusals.BadReferences.{HasBadType, IsBadEntry, IsBadMethod, NamesNoType, NamesNothing}
+use Rattle.pg_fds.specs.refusals.BadReferences.{HasBadType, IsBadEntry, IsBadMethod, NamesNoType}
 use Rattle.pg_fds.specs.refusals.BadReferences as causes
 use Rattle.pg_fds.specs.writing.Fields.{element_code}
 use Rattle.pg_fds.specs.declared.descriptor.proto.TheConstants as proto
 use Rattle.pg_fds.specs.stated.Said.{children_at, item_at, maybe_text_at, number_at, text_of}
 use Rattle.pg_fds.specs.stated.StatedEntries.{element, entry, has_fields_alone, is_entry_field, key_and_value, key_with, named_element, of_code, scalar_of}
-use Rattle.pg_fds.specs.stated.StatedNames.{Meanings, both, element_of_named, meant, named, type_meant, type_of_named}
+use Rattle.pg_fds.specs.stated.StatedNames.{Meanings, both, element_of_named, meant, type_meant, type_of_named}
 use Rattle.pg_fds.specs.stated.StatedServices.{method, method_of}
 use Rattle.pg_fds.proofs.lemmas.refusals.NoneSteps.{and_false, any_of, first_none, none_and, none_any, only_false, only_nothing, second_none}
 
 -- ---- names
 
-named_none : (means : Meanings) (name : List ℕ) → NamesNothing means name → named means name ≡ None
-named_none means name (causes.no_dot n h) = ap (option_and_then means) h
-named_none means name (causes.undeclared n h) = h
-
 type_none : (means : Meanings) (name : Option (List ℕ)) → NamesNoType means name → type_meant means name ≡ None
 type_none means name (causes.unnamed is) = ap (type_meant means) is
-type_none means name (causes.unknown_type text is nothing) = ap (type_meant means) is ∙ ap (option_and_then type_of_named) (named_none means text nothing)
+type_none means name (causes.unknown_type text is nothing) = ap (type_meant means) is ∙ ap (option_and_then type_of_named) nothing
 type_none means name (causes.no_type thing is none) = ap (option_and_then type_of_named) is ∙ none
 
 pub method_none : (means : Meanings) (m : Message) → IsBadMethod means m → method means m ≡ None
@@ -73,7 +69,7 @@ module _ (means : Meanings) (m : Message) where
   pub element_none : HasBadType means m → element means m ≡ None
   element_none (causes.without_name none no_scalar) = without none (ap (option_map elements.Scalar) no_scalar)
   element_none (causes.unknown_name name is nothing) =
-      with_name name is (ap (λ o. coded (option_and_then element_of_named o)) (ap (meant means) is ∙ named_none means name nothing))
+      with_name name is (ap (λ o. coded (option_and_then element_of_named o)) (ap (meant means) is ∙ nothing))
   element_none (causes.no_element thing is none) = with_meaning thing is (ap coded (ap (option_and_then element_of_named) is ∙ none))
   element_none (causes.other_kind thing e is has other) =
       with_meaning thing is

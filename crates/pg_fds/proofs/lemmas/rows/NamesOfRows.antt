@@ -4,8 +4,8 @@ use Rattle.std.proofs.lemmas.Grind.{flat_map-append}
 use Rattle.std.proofs.lemmas.List.{map-append}
 use Rattle.pg_dyn.specs.Message.{Message}
 use Rattle.pg_fds.specs.stated.Outlines.{Row, enum_rows, file_enums, file_services, file_types, rows_in, rows_of_enums, rows_of_type, type_rows}
-use Rattle.pg_fds.specs.stated.Said.{children_at, text_at}
-use Rattle.pg_fds.specs.stated.SetNames.{enum_names, enums_names, file_names, files_names, qualified, qualified_names, member_names, own_names, services_names, type_names, types_names}
+use Rattle.pg_fds.specs.stated.Said.{children_at}
+use Rattle.pg_fds.specs.stated.SetNames.{enum_names, enums_names, file_names, file_scope, files_names, member_names, own_names, qualified, qualified_names, services_names, type_names, types_names}
 use Rattle.pg_fds.specs.stated.StatedTable.{entry_names, names_of}
 use Rattle.pg_fds.specs.stated.SaidTypes.{is_no_entry}
 use Rattle.pg_fds.proofs.lemmas.lists.NameCounts.{count, count_append}
@@ -25,7 +25,7 @@ in_service r = r.0 ∷ qualified_names r.0 (children_at 2 r.1)
 
 -- those of the values of a file's own enums
 abbrev pub in_file : Message → List (List ℕ)
-in_file m = values_names (text_at 2 m) (children_at 5 m)
+in_file m = values_names (file_scope m) (children_at 5 m)
 
 module _ (n : List ℕ) where
   -- how often it is a row's, and how often an entry type's
@@ -110,7 +110,7 @@ module _ (n : List ℕ) where
 
   in_one : (depth : ℕ) (m : Message) → count n (file_names depth m) ≡ as_type (file_types depth m) + as_row (file_enums depth m) + as_service (file_services m) + count n (in_file m)
   in_one depth m =
-      let scope = text_at 2 m in
+      let scope = file_scope m in
       let types = types_names depth scope (children_at 4 m) in
       let enums = enums_names scope (children_at 5 m) in
       omega (

@@ -4,7 +4,7 @@ use Rattle.pg_dyn.specs.Kept.{message_of}
 use Rattle.pg_fds.specs.stated.Outlines.{row}
 use Rattle.pg_fds.specs.reading.Owners.{means_of}
 use Rattle.pg_fds.specs.stated.Said.{children_at}
-use Rattle.pg_fds.specs.stated.StatedNames.{each}
+use Rattle.pg_fds.specs.stated.StatedNames.{each, undotted}
 use Rattle.pg_fds.specs.stated.StatedServices.{method, service_of}
 use Rattle.pg_fds.proofs.lemmas.lists.Each.{passed}
 use Rattle.pg_fds.proofs.lemmas.lists.ViewLaws.{same_service}
@@ -25,4 +25,4 @@ returns-clause-made c =
     let o = c.args.outlined.now in
     let inside : map message_of c.deref.result.now ≡ children_at 2 (message_of o.message) = ap (λ xs. map message_of xs) c.deref.ensures.value ∙ c.in_ok-inside.ensures in
     ap (option_map (service_of (row o))) (ap (each (method (means_of c.args.names.now))) (sym inside) ∙ c.in_ok-methods.ensures.made)
-    ∙ ap Some (sym (same_service c.in_ok-name.ensures.cases refl c.option.ensures))
+    ∙ ap Some (sym (same_service (c.in_ok-name.ensures.ok ∙ (c.undotted.ensures ∙ ap undotted c.as_str.ensures.value)) refl c.option.ensures))

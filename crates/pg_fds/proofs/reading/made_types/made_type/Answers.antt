@@ -5,6 +5,7 @@ use Rattle.pg_dyn.specs.Kept.{message_of}
 use Rattle.pg_fds.specs.descriptor.Lent.{lent}
 use Rattle.pg_fds.specs.reading.OutlinedPlaces.{placed_type}
 use Rattle.pg_fds.specs.stated.Said.{children_at}
+use Rattle.pg_fds.specs.stated.StatedNames.{undotted}
 use Rattle.pg_fds.specs.stated.StatedTypes.{field_range, type_of}
 use Rattle.pg_fds.proofs.lemmas.lists.Each.{passed}
 use Rattle.pg_fds.proofs.lemmas.rows.PlaceIds.{enums_of_places, types_of_places}
@@ -25,7 +26,7 @@ returns-clause-made c =
     let types : c.in_ok-nested_types.nested_types.items ≡ o.types.items = search (rules, same_from_all_zip) in
     let enums : c.in_ok-nested_enums.nested_enums.items ≡ o.enums.items = search (rules, same_from_all_zip) in
     ap (option_map (type_of (placed_type o))) has.fields
-    ∙ ap Some (sym (same_type c.in_ok-name.ensures.cases c.in_ok-sorted.ensures
+    ∙ ap Some (sym (same_type (c.in_ok-name.ensures.ok ∙ (c.undotted.ensures ∙ ap undotted c.as_str.ensures.value)) c.in_ok-sorted.ensures
     (c.in_ok-declared.ensures ∙ (ap (map (λ f. f.number)) c.deref-3.ensures.value ∙ sym (view_numbers c.in_ok-members.members.fields.items))) has.oneofs
     (types ∙ sym (types_of_places o.types.items)) (enums ∙ sym (enums_of_places o.enums.items)) (c.in_ok-reserved_numbers.ensures ∙ ap (map field_range) ranges)
     (c.in_ok-reserved_names.ensures ∙ (ap lent c.deref-2.ensures.value ∙ c.in_ok-texts.ensures)) c.option.ensures))

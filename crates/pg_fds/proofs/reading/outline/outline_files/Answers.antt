@@ -5,7 +5,8 @@ use Rattle.pg_dyn.specs.Kept.{message_of}
 use Rattle.pg_fds.specs.stated.Declarations.{file_declared, files_declared}
 use Rattle.pg_fds.specs.stated.Outlines.{NameOneofs, file_enums, file_services, file_types, files_at, row, type_row}
 use Rattle.pg_fds.specs.reading.OutlinedPlaces.{behind_file, counts_of, file_places, inside_file, no_counts, placed_file, placed_files, placed_type, placed_types, types_of_files}
-use Rattle.pg_fds.specs.stated.Said.{children_at, text_at}
+use Rattle.pg_fds.specs.stated.Said.{children_at}
+use Rattle.pg_fds.specs.stated.SetNames.{file_scope}
 use Rattle.pg_fds.specs.stated.StatedTable.{may_declare}
 use Rattle.pg_fds.specs.stated.SaidTypes.{is_entry}
 use Rattle.pg_fds.proofs.lemmas.outline.Declaring.{Left, from_nothing, left_all, left_none, left_on}
@@ -65,7 +66,7 @@ loop-place-preserved c =
       services = files_on file_services before after m (map row mid.services.items) (map row new.services.items) more inv.services c.in_ok-outline_file.ensures.outlined.services;
       files = each_on (behind_file depth) (λ k f. file_places depth k f ∷ []) no_counts (counts_of mid) before after m [] (map placed_file mid.files.items) (map placed_file new.files.items) more inv.counts inv.files
           c.in_ok-outline_file.ensures.outlined.files;
-      placed = each_on (behind_file depth) (λ k f. placed_types depth (text_at 2 f) (inside_file k f) (children_at 4 f)) no_counts (counts_of mid) before after m [] (map placed_type mid.types.items) (map placed_type new.types.items) more
+      placed = each_on (behind_file depth) (λ k f. placed_types depth (file_scope f) (inside_file k f) (children_at 4 f)) no_counts (counts_of mid) before after m [] (map placed_type mid.types.items) (map placed_type new.types.items) more
           inv.counts inv.placed c.in_ok-outline_file.ensures.outlined.placed;
       counts = counts_on (behind_file depth) no_counts (counts_of mid) (counts_of new) before after m more inv.counts grown;
       empty = inv.empty;

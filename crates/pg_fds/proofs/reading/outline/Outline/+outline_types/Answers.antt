@@ -3,7 +3,6 @@ use Rattle.std.proofs.lemmas.List.{length-map}
 use Rattle.std.proofs.lemmas.Result.{err_from_is_err_and}
 use Rattle.std.specs.List.{AllByRecursion}
 use Rattle.pg_schema.specs.declared.parts.field.TypeId.{TypeId}
-use Rattle.pg_schema.specs.rules.DeclaredNames.{within}
 use Rattle.pg_schema.specs.rules.Scopes.{enum_places, type_places}
 use Rattle.pg_dyn.specs.Kept.{message_of}
 use Rattle.pg_fds.specs.declared.reading.outline.Outlined.{Outlined}
@@ -11,7 +10,7 @@ use Rattle.pg_fds.specs.stated.Declarations.{Adds, types_declared, whole_declare
 use Rattle.pg_fds.specs.stated.Outlines.{NameOneofs, NamesOneofs, enum_rows, row, row_in, rows_in, rows_of_enums, rows_of_type, type_row, type_rows}
 use Rattle.pg_fds.specs.reading.OutlinedPlaces.{behind_type, counts_of, each_from, inside_type, placed_type, placed_types, placed_with, places_of_types}
 use Rattle.pg_fds.specs.stated.Said.{children_at}
-use Rattle.pg_fds.specs.stated.SetNames.{qualified}
+use Rattle.pg_fds.specs.stated.SetNames.{name_in, qualified}
 use Rattle.pg_fds.specs.stated.SaidTypes.{is_no_entry}
 use Rattle.pg_fds.proofs.lemmas.outline.Declaring.{Left, adds_none, left_all, left_none, left_on, seen_drop, seen_past}
 use Rattle.pg_fds.proofs.lemmas.outline.NameLoops.{has_on, seen}
@@ -70,7 +69,7 @@ returns-in_err-id-clause-refused t c =
     let inv = c.loop-message.invariant in
     let some = c.if-depth-eq0.false in
     let h = c.loop-message-test.true in
-    let here = c.as_str-name.ensures.value ∙ (c.in_ok-full.ensures ∙ ap (within scope) c.text-own_name.ensures) in
+    let here = c.as_str-name.ensures.value ∙ (c.in_ok-full.ensures ∙ ap (name_in scope) c.text-own_name.ensures) in
     let p = err_from_is_err_and c.from_residual-in_err-id.result c.from_residual-in_err-id.ensures.1 in
     rw (p.1, p.2) (λ types enums oneofs.
     let room = few_types depth scope ms i m some h c.message-item.is c.args.self.now.types.items c.loop-message.self.types.items inv.rows types in
@@ -91,7 +90,7 @@ returns-in_err-enums-clause-refused t c =
     let h = c.loop-message-test.true in
     let at = c.as_str-name.result.now in
     let found = map message_of c.as_slice-own_enums.result.now in
-    let here : at ≡ qualified scope mm = c.as_str-name.ensures.value ∙ (c.in_ok-full.ensures ∙ ap (within scope) c.text-own_name.ensures) in
+    let here : at ≡ qualified scope mm = c.as_str-name.ensures.value ∙ (c.in_ok-full.ensures ∙ ap (name_in scope) c.text-own_name.ensures) in
     let all : found ≡ children_at 4 mm = ap (λ xs. map message_of xs) c.as_slice-own_enums.ensures.value ∙ c.in_ok-enums_inside.ensures in
     let p = err_from_is_err_and c.from_residual-in_err-enums.result c.from_residual-in_err-enums.ensures.1 in
     rw (p.1, p.2) (λ room_types room_enums oneofs.
@@ -114,7 +113,7 @@ returns-in_err-types-clause-refused t c =
     let at = c.as_str-name.result.now in
     let inner = map message_of c.as_slice-own.result.now in
     let found = map message_of c.as_slice-own_enums.result.now in
-    let here : at ≡ qualified scope mm = c.as_str-name.ensures.value ∙ (c.in_ok-full.ensures ∙ ap (within scope) c.text-own_name.ensures) in
+    let here : at ≡ qualified scope mm = c.as_str-name.ensures.value ∙ (c.in_ok-full.ensures ∙ ap (name_in scope) c.text-own_name.ensures) in
     let types : inner ≡ filter is_no_entry (children_at 3 mm) =
     ap (λ xs. map message_of xs) c.as_slice-own.ensures.value ∙ (c.in_ok-declared.ensures ∙ ap (filter is_no_entry) (ap (λ xs. map message_of xs) c.as_slice-inside.ensures.value ∙ c.in_ok-all_inside.ensures)) in
     let all : found ≡ children_at 4 mm = ap (λ xs. map message_of xs) c.as_slice-own_enums.ensures.value ∙ c.in_ok-enums_inside.ensures in
@@ -150,7 +149,7 @@ loop-message-preserved t c =
     let at = c.as_str-name.result.now in
     let inner = map message_of c.as_slice-own.result.now in
     let found = map message_of c.as_slice-own_enums.result.now in
-    let here : at ≡ qualified scope mm = c.as_str-name.ensures.value ∙ (c.in_ok-full.ensures ∙ ap (within scope) c.text-own_name.ensures) in
+    let here : at ≡ qualified scope mm = c.as_str-name.ensures.value ∙ (c.in_ok-full.ensures ∙ ap (name_in scope) c.text-own_name.ensures) in
     let types : inner ≡ filter is_no_entry (children_at 3 mm) =
     ap (λ xs. map message_of xs) c.as_slice-own.ensures.value ∙ (c.in_ok-declared.ensures ∙ ap (filter is_no_entry) (ap (λ xs. map message_of xs) c.as_slice-inside.ensures.value ∙ c.in_ok-all_inside.ensures)) in
     let all : found ≡ children_at 4 mm = ap (λ xs. map message_of xs) c.as_slice-own_enums.ensures.value ∙ c.in_ok-enums_inside.ensures in

@@ -6,7 +6,9 @@ use Rattle.pg_dyn.specs.Kept.{message_of}
 use Rattle.pg_fds.specs.declared.reading.outline.Outlined.{Outlined}
 use Rattle.pg_fds.specs.stated.Outlines.{NameOneofs, enum_rows, file_enums, file_types, row, row_in, rows_in, type_row, type_rows}
 use Rattle.pg_fds.specs.reading.OutlinedPlaces.{counts_of, inside_file, placed_file, placed_type, placed_types, places_of_types}
-use Rattle.pg_fds.specs.stated.Said.{children_at, text_at}
+use Rattle.pg_fds.specs.stated.Declarations.{Adds, package_declared}
+use Rattle.pg_fds.specs.stated.Said.{children_at}
+use Rattle.pg_fds.specs.stated.SetNames.{file_scope, package_scope}
 use Rattle.pg_fds.specs.stated.SaidTypes.{is_entry}
 use Rattle.pg_fds.proofs.lemmas.outline.OutlinedFiles.{file_added, file_enums_fail, file_services_fail, file_types_fail, parts_fail}
 use Rattle.pg_fds.proofs.lemmas.outline.OutlinedNames.{rows_long, seen_long}
@@ -14,12 +16,12 @@ use Rattle.pg_fds.proofs.lemmas.outline.OutlinedPlaces.{counts_are, file_placed}
 use Rattle.pg_fds.proofs.lemmas.order.OrderSteps.{map_more}
 use Rattle.pg_fds.proofs.reading.outline.Outline.outline_file.Goals as goal
 
-pub returns-in_err-declare_scope-clause-refused : goal.returns-in_err-declare_scope-clause-refused
-returns-in_err-declare_scope-clause-refused c =
+pub returns-in_err-own_scope-clause-refused : goal.returns-in_err-own_scope-clause-refused
+returns-in_err-own_scope-clause-refused c =
     let m = message_of c.args.message.now in
-    let here : c.text-scope.result.now ≡ text_at 2 m = c.text-scope.ensures in
+    let here : package_scope c.text-own_package.result.now ≡ file_scope m = ap package_scope c.text-own_package.ensures in
     let p = err_from_is_err_and c.from_residual.result c.from_residual.ensures.1 in
-    rw (p.1, p.2) (λ may. parts_fail c.args.depth (counts_of c.args.self.now) m c.text-scope.result.now here c.args.self.now.names _ c.in_err-declare_scope.ensures.refused)
+    rw (p.1, p.2) (λ may. parts_fail c.args.depth (counts_of c.args.self.now) m (package_scope c.text-own_package.result.now) here c.args.self.now.names _ c.in_err-own_scope.ensures.refused)
 
 pub returns-in_err-without_entries-clause-refused : goal.returns-in_err-without_entries-clause-refused
 returns-in_err-without_entries-clause-refused c =
@@ -33,33 +35,37 @@ pub returns-in_err-enums-clause-refused : goal.returns-in_err-enums-clause-refus
 returns-in_err-enums-clause-refused c =
     let m = message_of c.args.message.now in
     let depth = c.args.depth in
-    let at = c.text-scope.result.now in
-    let here : at ≡ text_at 2 m = c.text-scope.ensures in
+    let at = c.as_str-scope.result.now in
+    let made : at ≡ package_scope c.text-own_package.result.now = c.as_str-scope.ensures.value ∙ c.in_ok-own_scope.ensures.scope in
+    let here : at ≡ file_scope m = made ∙ ap package_scope c.text-own_package.ensures in
+    let parts = subst (λ s. Adds (package_declared s) c.args.self.now.names c.declare_scope.new.names) (sym made) c.in_ok-own_scope.ensures.adds in
     let enums = map message_of c.as_slice-own_enums.result.now in
     let same_enums : enums ≡ children_at 5 m = ap (λ xs. map message_of xs) c.as_slice-own_enums.ensures.value ∙ c.in_ok-enums_inside.ensures in
     let p = err_from_is_err_and c.from_residual-in_err-enums.result c.from_residual-in_err-enums.ensures.1 in
     rw (p.1, p.2) (λ may.
     let b = may.few_enums in
-    file_enums_fail depth (counts_of c.args.self.now) m at here c.args.self.now.names c.declare_scope.new.names c.in_ok-declare_scope.ensures.adds enums same_enums _
+    file_enums_fail depth (counts_of c.args.self.now) m at here c.args.self.now.names c.declare_scope.new.names parts enums same_enums _
     (c.in_err-enums.ensures.refused (omega (
       arith,
       b,
       ap length same_enums,
       seen_long c.as_slice-own_enums.result.now,
-      length-map (children_at 5 m) (row_in (text_at 2 m)),
-      length-append (rows_in (text_at 2 m) (children_at 5 m)) (enum_rows depth (text_at 2 m) (children_at 4 m)),
+      length-map (children_at 5 m) (row_in (file_scope m)),
+      length-append (rows_in (file_scope m) (children_at 5 m)) (enum_rows depth (file_scope m) (children_at 4 m)),
     ))))
 
 pub returns-in_err-types-clause-refused : goal.returns-in_err-types-clause-refused
 returns-in_err-types-clause-refused c =
     let m = message_of c.args.message.now in
     let depth = c.args.depth in
-    let at = c.text-scope.result.now in
-    let here : at ≡ text_at 2 m = c.text-scope.ensures in
+    let at = c.as_str-scope.result.now in
+    let made : at ≡ package_scope c.text-own_package.result.now = c.as_str-scope.ensures.value ∙ c.in_ok-own_scope.ensures.scope in
+    let here : at ≡ file_scope m = made ∙ ap package_scope c.text-own_package.ensures in
+    let parts = subst (λ s. Adds (package_declared s) c.args.self.now.names c.declare_scope.new.names) (sym made) c.in_ok-own_scope.ensures.adds in
     let types = map message_of c.as_slice-own_types.result.now in
     let same_types : types ≡ children_at 4 m = ap (λ xs. map message_of xs) c.as_slice-own_types.ensures.value ∙ c.in_ok-types_inside.ensures in
-    let type_count : type_rows depth at types ≡ file_types depth m = ap (λ a. type_rows depth a types) here ∙ ap (type_rows depth (text_at 2 m)) same_types in
-    let enum_count : enum_rows depth at types ≡ enum_rows depth (text_at 2 m) (children_at 4 m) = ap (λ a. enum_rows depth a types) here ∙ ap (enum_rows depth (text_at 2 m)) same_types in
+    let type_count : type_rows depth at types ≡ file_types depth m = ap (λ a. type_rows depth a types) here ∙ ap (type_rows depth (file_scope m)) same_types in
+    let enum_count : enum_rows depth at types ≡ enum_rows depth (file_scope m) (children_at 4 m) = ap (λ a. enum_rows depth a types) here ∙ ap (enum_rows depth (file_scope m)) same_types in
     let enums = map message_of c.as_slice-own_enums.result.now in
     let same_enums : enums ≡ children_at 5 m = ap (λ xs. map message_of xs) c.as_slice-own_enums.ensures.value ∙ c.in_ok-enums_inside.ensures in
     let long = rows_long row c.args.self.now.enums.items c.outline_enums.new.enums.items (rows_in at enums) c.in_ok-enums.ensures.rows in
@@ -70,7 +76,7 @@ returns-in_err-types-clause-refused c =
     rw (p.1, p.2) (λ may.
     let a = may.few_types in
     let b = may.few_enums in
-    file_types_fail depth (counts_of self) m at here c.args.self.now.names c.declare_scope.new.names c.in_ok-declare_scope.ensures.adds enums same_enums
+    file_types_fail depth (counts_of self) m at here c.args.self.now.names c.declare_scope.new.names parts enums same_enums
     c.outline_enums.new.names c.in_ok-enums.ensures.adds (record { types = length self.types.items; enums = length c.outline_enums.new.enums.items; services = length self.services.items }) counts types same_types _
     (c.in_err-types.ensures.refused (omega (arith, a, ap length type_count))
     (omega (
@@ -80,16 +86,18 @@ returns-in_err-types-clause-refused c =
       ap length enum_count,
       ap length same_enums,
       length-map enums (row_in at),
-      length-map (children_at 5 m) (row_in (text_at 2 m)),
-      length-append (rows_in (text_at 2 m) (children_at 5 m)) (enum_rows depth (text_at 2 m) (children_at 4 m)),
+      length-map (children_at 5 m) (row_in (file_scope m)),
+      length-append (rows_in (file_scope m) (children_at 5 m)) (enum_rows depth (file_scope m) (children_at 4 m)),
     )) (subst (NameOneofs depth) (sym same_types) may.oneofs)))
 
 pub returns-in_err-services-clause-refused : goal.returns-in_err-services-clause-refused
 returns-in_err-services-clause-refused c =
     let m = message_of c.args.message.now in
     let depth = c.args.depth in
-    let at = c.text-scope.result.now in
-    let here : at ≡ text_at 2 m = c.text-scope.ensures in
+    let at = c.as_str-scope.result.now in
+    let made : at ≡ package_scope c.text-own_package.result.now = c.as_str-scope.ensures.value ∙ c.in_ok-own_scope.ensures.scope in
+    let here : at ≡ file_scope m = made ∙ ap package_scope c.text-own_package.ensures in
+    let parts = subst (λ s. Adds (package_declared s) c.args.self.now.names c.declare_scope.new.names) (sym made) c.in_ok-own_scope.ensures.adds in
     let types = map message_of c.as_slice-own_types.result.now in
     let same_types : types ≡ children_at 4 m = ap (λ xs. map message_of xs) c.as_slice-own_types.ensures.value ∙ c.in_ok-types_inside.ensures in
     let enums = map message_of c.as_slice-own_enums.result.now in
@@ -103,17 +111,19 @@ returns-in_err-services-clause-refused c =
     counts_are _ (inside_file (counts_of self) m) refl (omega (arith, long, ap length same_enums, length-map enums (row_in at))) refl in
     rw (p.1, p.2) (λ may.
     let few = may.few_services in
-    file_services_fail depth (counts_of self) m at here c.args.self.now.names c.declare_scope.new.names c.in_ok-declare_scope.ensures.adds enums same_enums
+    file_services_fail depth (counts_of self) m at here c.args.self.now.names c.declare_scope.new.names parts enums same_enums
     c.outline_enums.new.names c.in_ok-enums.ensures.adds (record { types = length self.types.items; enums = length c.outline_enums.new.enums.items; services = length self.services.items }) counts types same_types
     c.outline_types.new.self.names c.in_ok-types.ensures.outlined.adds services same_services _
-    (c.in_err-services.ensures.refused (omega (arith, few, ap length c.in_ok-types.ensures.outlined.others.0, ap length same_services, seen_long c.as_slice-own_services.result.now, length-map (children_at 6 m) (row_in (text_at 2 m))))))
+    (c.in_err-services.ensures.refused (omega (arith, few, ap length c.in_ok-types.ensures.outlined.others.0, ap length same_services, seen_long c.as_slice-own_services.result.now, length-map (children_at 6 m) (row_in (file_scope m))))))
 
 pub returns : goal.returns
 returns c =
     let m = message_of c.args.message.now in
     let depth = c.args.depth in
-    let at = c.text-scope.result.now in
-    let here : at ≡ text_at 2 m = c.text-scope.ensures in
+    let at = c.as_str-scope.result.now in
+    let made : at ≡ package_scope c.text-own_package.result.now = c.as_str-scope.ensures.value ∙ c.in_ok-own_scope.ensures.scope in
+    let here : at ≡ file_scope m = made ∙ ap package_scope c.text-own_package.ensures in
+    let parts = subst (λ s. Adds (package_declared s) c.args.self.now.names c.declare_scope.new.names) (sym made) c.in_ok-own_scope.ensures.adds in
     let types = map message_of c.as_slice-own_types.result.now in
     let same_types : types ≡ children_at 4 m = ap (λ xs. map message_of xs) c.as_slice-own_types.ensures.value ∙ c.in_ok-types_inside.ensures in
     let enums = map message_of c.as_slice-own_enums.result.now in
@@ -127,28 +137,27 @@ returns c =
     let t4 = c.outline_services.new.names in
     let self = c.args.self.now in
     let deep = c.outline_types.new.self in
-    let type_count : type_rows depth at types ≡ file_types depth m = ap (λ a. type_rows depth a types) here ∙ ap (type_rows depth (text_at 2 m)) same_types in
+    let type_count : type_rows depth at types ≡ file_types depth m = ap (λ a. type_rows depth a types) here ∙ ap (type_rows depth (file_scope m)) same_types in
     let enum_count : rows_in at enums ++ enum_rows depth at types ≡ file_enums depth m =
-    ap (λ a. rows_in a enums ++ enum_rows depth a types) here ∙ ap₂ (λ es ts. rows_in (text_at 2 m) es ++ enum_rows depth (text_at 2 m) ts) same_enums same_types in
+    ap (λ a. rows_in a enums ++ enum_rows depth a types) here ∙ ap₂ (λ es ts. rows_in (file_scope m) es ++ enum_rows depth (file_scope m) ts) same_enums same_types in
     let own = rows_long row self.enums.items c.outline_enums.new.enums.items (rows_in at enums) c.in_ok-enums.ensures.rows in
     let counts : record { types = length self.types.items; enums = length c.outline_enums.new.enums.items; services = length self.services.items } ≡ inside_file (counts_of self) m =
     counts_are _ (inside_file (counts_of self) m) refl (omega (arith, own, ap length same_enums, length-map enums (row_in at))) refl in
-    let first = c.in_ok-declare_scope.ensures.adds in
     record {
       outlined = record {
         types = c.in_ok-types.ensures.outlined.rows ∙ ap (λ rs. map type_row self.types.items ++ rs) type_count;
         enums = c.in_ok-types.ensures.outlined.enum_rows ∙ (ap (λ rs. rs ++ enum_rows depth at types) c.in_ok-enums.ensures.rows
             ∙ (append_assoc (map row self.enums.items) (rows_in at enums) (enum_rows depth at types) ∙ ap (λ rs. map row self.enums.items ++ rs) enum_count));
         services = c.in_ok-services.ensures.rows ∙ (ap (λ ss. map row ss ++ rows_in at services) c.in_ok-types.ensures.outlined.others.0
-            ∙ ap (λ rs. map row self.services.items ++ rs) (ap (λ a. rows_in a services) here ∙ ap (rows_in (text_at 2 m)) same_services));
+            ∙ ap (λ rs. map row self.services.items ++ rs) (ap (λ a. rows_in a services) here ∙ ap (rows_in (file_scope m)) same_services));
         files = ap (map placed_file) (rw c.again.ensures at c.in_ok-push.ensures.items) ∙ (map_more placed_file deep.files.items _ ∙ ap₂ (λ fs f. map placed_file fs ++ f ∷ []) c.in_ok-types.ensures.outlined.others.1
             (file_placed depth m at types (counts_of self) (type_places c.in_ok-types.types.items) (enum_places c.in_ok-enums.enums.items) (service_places c.in_ok-services.services.items)
             (length self.enums.items) (length c.as_slice-own_enums.result.now) (length deep.services.items) (length c.as_slice-own_services.result.now) here same_types
             (c.in_ok-types.ensures.ids ∙ ap (λ k. places_of_types depth at k types) counts) c.in_ok-enums.ensures.ids refl (sym (seen_long c.as_slice-own_enums.result.now) ∙ ap length same_enums)
             c.in_ok-services.ensures.ids (ap length c.in_ok-types.ensures.outlined.others.0) (sym (seen_long c.as_slice-own_services.result.now) ∙ ap length same_services)));
         placed = c.in_ok-types.ensures.outlined.placed
-            ∙ ap (λ ps. map placed_type self.types.items ++ ps) (ap (λ k. placed_types depth at k types) counts ∙ (ap (λ a. placed_types depth a (inside_file (counts_of self) m) types) here ∙ ap (placed_types depth (text_at 2 m) (inside_file (counts_of self) m)) same_types));
-        adds = file_added depth (counts_of self) m at here t0 t1 first enums same_enums t2 c.in_ok-enums.ensures.adds
+            ∙ ap (λ ps. map placed_type self.types.items ++ ps) (ap (λ k. placed_types depth at k types) counts ∙ (ap (λ a. placed_types depth a (inside_file (counts_of self) m) types) here ∙ ap (placed_types depth (file_scope m) (inside_file (counts_of self) m)) same_types));
+        adds = file_added depth (counts_of self) m at here t0 t1 parts enums same_enums t2 c.in_ok-enums.ensures.adds
             (record { types = length self.types.items; enums = length c.outline_enums.new.enums.items; services = length self.services.items }) counts types same_types t3 c.in_ok-types.ensures.outlined.adds services same_services t4
             c.in_ok-services.ensures.adds;
         few_types = c.in_ok-types.ensures.outlined.few_types;
