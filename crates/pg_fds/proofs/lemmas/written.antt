@@ -1,6 +1,7 @@
 pub mod PresenceLaws
 pub mod DeclaredFields
 pub mod Slots
+pub mod QualifiedNames
 pub mod WrittenNames
 pub mod WrittenEnums
 pub mod WrittenFields
@@ -20,6 +21,8 @@ pub mod WrittenFileRows
 pub mod WrittenItems
 pub mod WrittenNesting
 pub mod WrittenParts
+pub mod NamedScopes
+pub mod PlainNames
 pub mod WrittenRows
 pub mod WrittenServices
 pub mod WrittenTaken

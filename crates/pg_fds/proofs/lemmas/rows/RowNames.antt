@@ -3,10 +3,12 @@ use Rattle.std.proofs.Common.{◌≡◌, ℕ, List, None, Option, Some, length, 
 use Rattle.std.proofs.lemmas.Option.{none-some, same_Some, slice_get-map}
 use Rattle.std.specs.List.{AllByRecursion}
 use Rattle.std.specs.String.{string_bytes}
+use Rattle.pg_schema.specs.declared.parts.enum_type.EnumType.{EnumType}
 use Rattle.pg_schema.specs.declared.parts.message_type.MessageType.{MessageType}
 use Rattle.pg_fds.specs.declared.reading.outline.Named.{Named}
 use Rattle.pg_fds.specs.declared.reading.outline.Named.TheVariants as nameds
 use Rattle.pg_fds.specs.stated.Outlines.{Row}
+use Rattle.pg_fds.specs.writing.Fields.{dotted}
 use Rattle.pg_fds.specs.writing.Places.{Declared}
 use Rattle.pg_fds.specs.stated.SetNames.{qualified}
 use Rattle.pg_fds.specs.stated.StatedNames.{Meanings}
@@ -29,22 +31,23 @@ module _ {T : Type 0} (row : T → Row) (ts : List T) (rows : List Row) (are : r
   row_of : (place : ℕ) (t : T) → slice_get ts place ≡ Some t → slice_get rows place ≡ Some (row t)
   row_of place t at = ap (λ rs. slice_get rs place) are ∙ (slice_get-map row ts place ∙ ap (option_map row) at)
 
-  named_at : (means : Meanings) (named : ℕ → Named) → ((place : ℕ) (r : Row) → slice_get rows place ≡ Some r → means r.0 ≡ Some (named place)) → (place : ℕ) (n : List ℕ)
-      → option_map (λ t. (row t).0) (slice_get ts place) ≡ Some n → means n ≡ Some (named place)
-  named_at means named known place n is = of (slice_get ts place) refl is
+  -- where rows have full names with a dot in front
+  named_at : (full : T → List ℕ) → ((t : T) → (row t).0 ≡ dotted (full t)) → (means : Meanings) (named : ℕ → Named) → ((place : ℕ) (r : Row) → slice_get rows place ≡ Some r → means r.0 ≡ Some (named place))
+      → (place : ℕ) (n : List ℕ) → option_map full (slice_get ts place) ≡ Some n → means (dotted n) ≡ Some (named place)
+  named_at full dots means named known place n is = of (slice_get ts place) refl is
     where
-      of : (o : Option T) → slice_get ts place ≡ o → option_map (λ t. (row t).0) o ≡ Some n → means n ≡ Some (named place)
+      of : (o : Option T) → slice_get ts place ≡ o → option_map full o ≡ Some n → means (dotted n) ≡ Some (named place)
       of None at is = absurd (none-some n is)
-      of (Some t) at is = subst (λ k. means k ≡ Some (named place)) (same_Some (row t).0 n is) (known place (row t) (row_of place t at))
+      of (Some t) at is = subst (λ k. means k ≡ Some (named place)) (dots t ∙ ap dotted (same_Some (full t) n is)) (known place (row t) (row_of place t at))
 
 module _ (means : Meanings) (all : Declared) (types enums : List Row) (of_types : types ≡ map (type_row all) all.types) (of_enums : enums ≡ map enum_row all.enums) (meant : AreMeant means types enums) where
   pub has_names : HasNames all means
   has_names = record {
-    types = λ id name is. named_at (type_row all) all.types types of_types means (λ k. nameds.Type (record { index = k })) meant.types id.index name is;
-    enums = λ id name is. named_at enum_row all.enums enums of_enums means (λ k. nameds.Enum (record { index = k })) meant.enums id.index name is;
+    types = λ id name is. named_at (type_row all) all.types types of_types (λ (t : MessageType). string_bytes t.name) (λ t. refl) means (λ k. nameds.Type (record { index = k })) meant.types id.index name is;
+    enums = λ id name is. named_at enum_row all.enums enums of_enums (λ (e : EnumType). string_bytes e.name) (λ e. refl) means (λ k. nameds.Enum (record { index = k })) meant.enums id.index name is;
   }
 
   pub entries_mean : (place : ℕ) (t : MessageType) → slice_get all.types place ≡ Some t → EntriesMean means all t
   entries_mean place t at =
-      subst (AllByRecursion (λ e. means (qualified (string_bytes t.name) e) ≡ Some nameds.Entry)) (type_entries all (inside all t) t (none_entry all (length all.types) t.nested_types.items))
+      subst (AllByRecursion (λ e. means (qualified (dotted (string_bytes t.name)) e) ≡ Some nameds.Entry)) (type_entries all (inside all t) t (none_entry all (length all.types) t.nested_types.items))
       (meant.entries place (type_row all t) (row_of (type_row all) all.types types of_types place t at))

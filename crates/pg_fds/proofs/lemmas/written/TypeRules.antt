@@ -2,6 +2,7 @@
 use Rattle.std.proofs.Common.{◌≡◌, ℕ, ◌<◌, ◌^◌, true, ◌&&◌, nat_lt, List, [], ◌∷◌, length, Option, IfSome, arith}
 use Rattle.std.proofs.lemmas.Bool.Decides.{nat_tests}
 use Rattle.std.specs.List.{AllByRecursion, list_all}
+use Rattle.std.specs.String.{string_bytes}
 use Rattle.pg_schema.specs.declared.parts.field.Field.{Field}
 use Rattle.pg_schema.specs.declared.parts.message_type.MessageType.{MessageType}
 use Rattle.pg_schema.specs.rules.Fields.{is_oneof}
@@ -10,6 +11,8 @@ use Rattle.pg_schema.specs.rules.Pairs.{are_distinct, is_rising}
 use Rattle.pg_schema.specs.rules.Uses.{is_reserved_range}
 use Rattle.pg_schema.proofs.lemmas.rules.PairLemmas.{and_left, and_right}
 use Rattle.pg_fds.proofs.lemmas.writing.FewOneofs.{oneof_small}
+use Rattle.pg_fds.proofs.lemmas.written.PlainNames.{field_word}
+use Rattle.pg_fds.proofs.lemmas.written.QualifiedNames.{word_plain}
 use Rattle.pg_fds.proofs.lemmas.written.WrittenItems.{Keeps}
 
 -- ---- the rules of a message type
@@ -49,6 +52,7 @@ keeps_one oneofs types enums small f h = record {
   has = and_right _ _ (and_left _ _ (and_left _ _ (and_left _ _ h)));
   packs = and_right _ _ (and_left _ _ (and_left _ _ h));
   known = and_right _ _ (and_left _ _ h);
+  called = word_plain (string_bytes f.name) (field_word oneofs types enums f h);
 }
 
 keeps_each : (oneofs types enums : ℕ) → ((o : Option ℕ) → is_oneof oneofs o ≡ true → IfSome o (λ place. place < 2 ^ 32)) → (fs : List Field) → list_all (is_field oneofs types enums) fs ≡ true

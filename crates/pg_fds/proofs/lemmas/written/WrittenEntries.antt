@@ -10,7 +10,7 @@ use Rattle.pg_schema.specs.declared.parts.field.Field.{Field}
 use Rattle.pg_schema.specs.declared.parts.field.Presence.{Presence}
 use Rattle.pg_schema.specs.declared.parts.field.Presence.TheVariants as presences
 use Rattle.pg_schema.specs.declared.parts.field.Scalar.{Scalar}
-use Rattle.pg_schema.specs.rules.DeclaredNames.{entry_name, entry_names, within}
+use Rattle.pg_schema.specs.rules.DeclaredNames.{entry_name, entry_names}
 use Rattle.pg_schema.specs.rules.Pairs.{are_distinct, differ}
 use Rattle.pg_schema.specs.Shape.{is_map}
 use Rattle.pg_schema.proofs.lemmas.rules.PairLemmas.{and_both, and_left, and_right}
@@ -21,12 +21,13 @@ use Rattle.pg_fds.specs.writing.Items.{Items}
 use Rattle.pg_fds.specs.writing.Places.{Declared}
 use Rattle.pg_fds.specs.stated.Said.{text_at}
 use Rattle.pg_fds.specs.stated.SaidTypes.{is_entry, is_no_entry}
-use Rattle.pg_fds.specs.stated.SetNames.{qualified}
+use Rattle.pg_fds.specs.stated.SetNames.{name_in, qualified}
 use Rattle.pg_fds.specs.stated.StatedFields.{is_map_view}
 use Rattle.pg_fds.specs.stated.StatedNames.{Meanings, first_of}
 use Rattle.pg_fds.specs.stated.StatedTypes.{last_named}
 use Rattle.pg_fds.specs.stated.Views.{field_view}
 use Rattle.pg_fds.proofs.lemmas.lists.Matched.{Has, differ_apart}
+use Rattle.pg_fds.proofs.lemmas.written.QualifiedNames.{entry_plain, is_plain, plain_in, scope_of}
 use Rattle.pg_fds.proofs.lemmas.written.Slots.{made}
 use Rattle.pg_fds.proofs.lemmas.written.WrittenFields.{entry_called, entry_is_entry, entry_parts, entry_written}
 use Rattle.pg_fds.proofs.lemmas.written.WrittenItems.{HasEntry, HasEntryName}
@@ -58,12 +59,18 @@ module _ (all : Declared) where
       (λ f fs es plain later. later ∙ ap (λ b. cond b (entry_name (string_bytes f.name) ∷ []) [] ++ entry_names fs) (sym plain))
       (λ f key fs es is later. ap₂ (λ n ns. n ∷ ns) (entry_called all f key) later ∙ ap (λ p. cond (is_map p) (entry_name (string_bytes f.name) ∷ []) [] ++ entry_names fs) (sym is))
 
-  -- where their full names mean entry types, those of the fields do
-  pub entries_named : (means : Meanings) (full : List ℕ) (fs : List Field) → AllByRecursion (λ e. means (qualified full e) ≡ Some nameds.Entry) (map made (entries all fs)) → AllByRecursion (HasEntryName means full) fs
-  entries_named means full =
-      each_entry all (λ fs es. AllByRecursion (λ e. means (qualified full e) ≡ Some nameds.Entry) (map made es) → AllByRecursion (HasEntryName means full) fs) (λ mean. tt)
-      (λ f fs es plain later mean. ((λ map. absurd (false≢true (sym plain ∙ map))), later mean))
-      (λ f key fs es is later mean. ((λ map. ap (λ n. means (within full n)) (sym (entry_called all f key)) ∙ mean.0), later mean.1))
+  -- where their qualified names mean entry types, those of the fields do
+  pub entries_named : (means : Meanings) (scope : List ℕ) (fs : List Field) → AllByRecursion (λ (f : Field). is_plain (string_bytes f.name) ≡ true) fs
+      → AllByRecursion (λ e. means (qualified (scope_of scope) e) ≡ Some nameds.Entry) (map made (entries all fs)) → AllByRecursion (HasEntryName means scope) fs
+  entries_named means scope =
+      each_entry all
+      (λ fs es. AllByRecursion (λ (f : Field). is_plain (string_bytes f.name) ≡ true) fs → AllByRecursion (λ e. means (qualified (scope_of scope) e) ≡ Some nameds.Entry) (map made es) → AllByRecursion (HasEntryName means scope) fs)
+      (λ called mean. tt) (λ f fs es plain later called mean. ((λ map. absurd (false≢true (sym plain ∙ map))), later called.1 mean))
+      (λ f key fs es is later called mean. (
+        (λ map.
+            ap means (sym (plain_in scope (entry_name (string_bytes f.name)) (entry_plain (string_bytes f.name) called.0)) ∙ ap (name_in (scope_of scope)) (sym (entry_called all f key))) ∙ mean.0),
+        later called.1 mean.1,
+      ))
 
   same_key : (key other : Scalar) → presences.Map key ≡ presences.Map other → key ≡ other
   same_key key other same = cc

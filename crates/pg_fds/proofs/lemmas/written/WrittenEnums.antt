@@ -5,6 +5,7 @@ use Rattle.pg_schema.specs.declared.parts.enum_type.EnumType.{EnumType}
 use Rattle.pg_schema.specs.declared.parts.enum_type.EnumValue.{EnumValue}
 use Rattle.pg_schema.specs.declared.parts.enum_type.ReservedValues.{ReservedValues}
 use Rattle.pg_dyn.specs.Message.{Message}
+use Rattle.pg_fds.specs.writing.Fields.{dotted}
 use Rattle.pg_fds.specs.writing.Items.{Items, stated}
 use Rattle.pg_fds.specs.writing.Messages.{enum_items, enum_options, own_name, value_items, value_range}
 use Rattle.pg_fds.specs.stated.Said.{children_at, maybe_flag_at, options_at, text_at}
@@ -72,8 +73,8 @@ enum_called e = text_said 1 (made (enum_items e)) (own_name (string_bytes e.name
 pub enum_values : (e : EnumType) → children_at 2 (made (enum_items e)) ≡ map made (map value_items e.values.items)
 enum_values e = children_said 2 (made (enum_items e)) (map value_items e.values.items) (says 2 (enum_slots e) refl)
 
--- under its full name
-pub enum_is : (e : EnumType) → enum_type (string_bytes e.name, made (enum_items e)) ≡ enum_view e
+-- under its qualified name
+pub enum_is : (e : EnumType) → enum_type (dotted (string_bytes e.name), made (enum_items e)) ≡ enum_view e
 enum_is e =
     let m : Message = made (enum_items e) in
     let slots : List Slot = enum_slots e in

@@ -6,6 +6,7 @@ use Rattle.std.specs.List.{flat_map, list_all}
 use Rattle.std.specs.String.{string_bytes}
 use Rattle.pg_schema.specs.declared.parts.file.File.{File}
 use Rattle.pg_schema.specs.declared.parts.Parts.{Parts}
+use Rattle.pg_schema.specs.rules.Files.{is_file}
 use Rattle.pg_schema.specs.rules.Scopes.{enum_places, is_file_scope, service_places}
 use Rattle.pg_schema.specs.rules.Sound.{IsSound}
 use Rattle.pg_schema.proofs.lemmas.rules.PairLemmas.{and_left, and_right}
@@ -16,10 +17,12 @@ use Rattle.pg_check.specs.standing.Places.{places_from}
 use Rattle.pg_fds.specs.reading.OutlinedPlaces.{Counts, PlacedFile, behind_file, file_places, inside_file, placed_files, placed_types, types_of_files}
 use Rattle.pg_fds.specs.stated.Outlines.{Row, enum_rows, file_enums, file_services, file_types, row_in, rows_in}
 use Rattle.pg_fds.specs.writing.Places.{Declared, declared_in}
-use Rattle.pg_fds.specs.stated.Said.{children_at, text_at}
+use Rattle.pg_fds.specs.stated.Said.{children_at}
+use Rattle.pg_fds.specs.stated.SetNames.{file_scope}
 use Rattle.pg_fds.proofs.lemmas.rows.RowPlaces.{AreAt, AreFrom, as_long, at_both, front_and_rest}
+use Rattle.pg_fds.proofs.lemmas.written.QualifiedNames.{scope_of}
 use Rattle.pg_fds.proofs.lemmas.written.WrittenDepth.{nest_enough}
-use Rattle.pg_fds.proofs.lemmas.written.WrittenFiles.{enums_of_file, file_package, file_written, placed_file, services_of_file, types_of_file}
+use Rattle.pg_fds.proofs.lemmas.written.WrittenFiles.{enums_of_file, file_scoped, file_written, placed_file, services_of_file, types_of_file}
 use Rattle.pg_fds.proofs.lemmas.written.WrittenRows.{AreRows, EnumsAt, PlacedAt, TypesAt, enum_row, own_enums, own_services, service_row, types_written}
 use Rattle.pg_fds.proofs.lemmas.written.WrittenTypes.{placed_row, type_row}
 
@@ -57,19 +60,19 @@ module _ (all : Declared) (depth : ℕ) where
   -- what stands in one
   record IsFileRow (m : Message) (f : File) : Type 0 where
     is : m ≡ file_written all f
-    inner : AreRows all depth (text_at 2 m) (children_at 4 m) f.types.items
-    own : EnumsAt all (rows_in (text_at 2 m) (children_at 5 m)) (enum_places f.enums.items)
+    inner : AreRows all depth (file_scope m) (children_at 4 m) f.types.items
+    own : EnumsAt all (rows_in (file_scope m) (children_at 5 m)) (enum_places f.enums.items)
     services : ServicesAt (file_services m) (services_in f)
 
   module _ (m : Message) (f : File) (one : IsFileRow m f) where
     enums_of_one : EnumsAt all (file_enums depth m) (enums_in f)
-    enums_of_one = at_both enum_row all.enums (rows_in (text_at 2 m) (children_at 5 m)) (enum_rows depth (text_at 2 m) (children_at 4 m)) (enum_places f.enums.items) (enums_below depth all.types f.types.items) one.own one.inner.enums
+    enums_of_one = at_both enum_row all.enums (rows_in (file_scope m) (children_at 5 m)) (enum_rows depth (file_scope m) (children_at 4 m)) (enum_places f.enums.items) (enums_below depth all.types f.types.items) one.own one.inner.enums
 
     many : length (enum_places f.enums.items) ≡ length (children_at 5 m)
-    many = sym (as_long enum_row all.enums (rows_in (text_at 2 m) (children_at 5 m)) (enum_places f.enums.items) one.own) ∙ length-map (children_at 5 m) (row_in (text_at 2 m))
+    many = sym (as_long enum_row all.enums (rows_in (file_scope m) (children_at 5 m)) (enum_places f.enums.items) one.own) ∙ length-map (children_at 5 m) (row_in (file_scope m))
 
     many_services : length (services_in f) ≡ length (children_at 6 m)
-    many_services = sym (as_long (service_row all) all.services (file_services m) (services_in f) one.services) ∙ length-map (children_at 6 m) (row_in (text_at 2 m))
+    many_services = sym (as_long (service_row all) all.services (file_services m) (services_in f) one.services) ∙ length-map (children_at 6 m) (row_in (file_scope m))
 
     behind_own : (counts : Counts) → AreFrom counts.enums (enums_in f) → AreFrom (counts.enums + length (children_at 5 m)) (enums_below depth all.types f.types.items)
     behind_own counts enums =
@@ -105,7 +108,7 @@ module _ (all : Declared) (depth : ℕ) where
           services = at_both (service_row all) all.services (file_services m) (flat_map file_services ms) (services_in f) (flat_map services_in fs) one.services later.services;
           placed = λ counts behind.
               let here = split counts behind in
-              at_both (placed_row all) all.types (placed_types depth (text_at 2 m) (inside_file counts m) (children_at 4 m)) (types_of_files depth (behind_file depth counts m) ms) (types_in f) (flat_map types_in fs)
+              at_both (placed_row all) all.types (placed_types depth (file_scope m) (inside_file counts m) (children_at 4 m)) (types_of_files depth (behind_file depth counts m) ms) (types_in f) (flat_map types_in fs)
               (one.inner.placed (inside_file counts m) here.0.0 (behind_own counts here.0.1)) (later.placed (behind_file depth counts m) here.1);
           files = λ counts behind.
               let here = split counts behind in
@@ -122,23 +125,23 @@ module _ (parts : Parts) (sound : IsSound parts) (depth : ℕ) where
   abbrev is_shallow : File → Bool
   is_shallow f = nest_within depth parts.types.items f.types.items
 
-  file_row : (f : File) → is_scoped f ≡ true → is_shallow f ≡ true → IsFileRow all depth (file_written all f) f
-  file_row f scoped shallow =
+  file_row : (f : File) → is_file f ≡ true → is_scoped f ≡ true → is_shallow f ≡ true → IsFileRow all depth (file_written all f) f
+  file_row f kept scoped shallow =
       let m : Message = file_written all f in
       let name : List ℕ = string_bytes f.package in
       record {
         is = refl;
-        inner = subst (λ s. AreRows all depth s (children_at 4 m) f.types.items) (sym (file_package all f))
-            (subst (λ ms. AreRows all depth name ms f.types.items) (sym (types_of_file all f))
+        inner = subst (λ s. AreRows all depth s (children_at 4 m) f.types.items) (sym (file_scoped all f kept))
+            (subst (λ ms. AreRows all depth (scope_of name) ms f.types.items) (sym (types_of_file all f))
             (types_written parts sound depth (length all.types) (omega arith) name f.types.items shallow (nest_enough parts sound depth name f.types.items (and_left _ _ (and_left _ _ scoped)) shallow) (and_left _ _ (and_left _ _ scoped))));
-        own = subst (λ s. EnumsAt all (rows_in s (children_at 5 m)) (enum_places f.enums.items)) (sym (file_package all f))
-            (subst (λ ms. EnumsAt all (rows_in name ms) (enum_places f.enums.items)) (sym (enums_of_file all f)) (own_enums all name f.enums.items (and_right _ _ (and_left _ _ scoped))));
-        services = subst (λ s. ServicesAt all depth (rows_in s (children_at 6 m)) (service_places f.services.items)) (sym (file_package all f))
-            (subst (λ ms. ServicesAt all depth (rows_in name ms) (service_places f.services.items)) (sym (services_of_file all f)) (own_services all name f.services.items (and_right _ _ scoped)));
+        own = subst (λ s. EnumsAt all (rows_in s (children_at 5 m)) (enum_places f.enums.items)) (sym (file_scoped all f kept))
+            (subst (λ ms. EnumsAt all (rows_in (scope_of name) ms) (enum_places f.enums.items)) (sym (enums_of_file all f)) (own_enums all name f.enums.items (and_right _ _ (and_left _ _ scoped))));
+        services = subst (λ s. ServicesAt all depth (rows_in s (children_at 6 m)) (service_places f.services.items)) (sym (file_scoped all f kept))
+            (subst (λ ms. ServicesAt all depth (rows_in (scope_of name) ms) (service_places f.services.items)) (sym (services_of_file all f)) (own_services all name f.services.items (and_right _ _ scoped)));
       }
 
-  pub file_rows : (fs : List File) → list_all is_scoped fs ≡ true → list_all is_shallow fs ≡ true → AreFileRows all depth (map (file_written all) fs) fs
-  file_rows [] scoped shallow = record { types = refl; enums = refl; services = refl; placed = λ counts behind. refl; files = λ counts behind. refl }
-  file_rows (f ∷ fs) scoped shallow =
-      more_files all depth (file_written all f) f (file_row f (and_left (is_scoped f) (list_all is_scoped fs) scoped) (and_left (is_shallow f) (list_all is_shallow fs) shallow)) (map (file_written all) fs) fs
-      (file_rows fs (and_right (is_scoped f) (list_all is_scoped fs) scoped) (and_right (is_shallow f) (list_all is_shallow fs) shallow))
+  pub file_rows : (fs : List File) → list_all is_file fs ≡ true → list_all is_scoped fs ≡ true → list_all is_shallow fs ≡ true → AreFileRows all depth (map (file_written all) fs) fs
+  file_rows [] kept scoped shallow = record { types = refl; enums = refl; services = refl; placed = λ counts behind. refl; files = λ counts behind. refl }
+  file_rows (f ∷ fs) kept scoped shallow =
+      more_files all depth (file_written all f) f (file_row f (and_left (is_file f) (list_all is_file fs) kept) (and_left (is_scoped f) (list_all is_scoped fs) scoped) (and_left (is_shallow f) (list_all is_shallow fs) shallow)) (map (file_written all) fs) fs
+      (file_rows fs (and_right (is_file f) (list_all is_file fs) kept) (and_right (is_scoped f) (list_all is_scoped fs) scoped) (and_right (is_shallow f) (list_all is_shallow fs) shallow))

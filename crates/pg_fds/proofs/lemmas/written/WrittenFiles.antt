@@ -22,6 +22,7 @@ use Rattle.pg_fds.specs.stated.Said.{children_at, numbers_at, options_at, text_a
 use Rattle.pg_fds.specs.stated.SaidFiles.{is_place, is_proto3, kept_imports, option_places}
 use Rattle.pg_fds.specs.stated.SaidTypes.{is_marked}
 use Rattle.pg_fds.specs.writing.Set.{file_items, file_options, option_items, public_places, services_items}
+use Rattle.pg_fds.specs.stated.SetNames.{file_scope, package_scope}
 use Rattle.pg_fds.specs.stated.StatedFiles as files
 use Rattle.pg_fds.specs.stated.StatedNames.{only_if}
 use Rattle.pg_fds.specs.stated.Views.{OptionView, file_view, import_view, option_view}
@@ -29,6 +30,7 @@ use Rattle.pg_fds.proofs.lemmas.reading.FileItems.{imports_made}
 use Rattle.pg_fds.proofs.lemmas.reading.MadeOptions.{all_under, found_one, option_item, same_option, value_is, views_under}
 use Rattle.pg_fds.proofs.lemmas.outline.Outlining.{same_file}
 use Rattle.pg_fds.proofs.lemmas.rows.PlaceIds.{enums_of_places, services_of_places, types_of_places}
+use Rattle.pg_fds.proofs.lemmas.written.QualifiedNames.{package_words, scope_of}
 use Rattle.pg_fds.proofs.lemmas.written.Slots.{Slot, at, children_said, children_slot, counts_slot, filled_said, filled_slot, item_found, made, numbers_said, options_said, options_slot, says, text_said, text_slot, texts_said, texts_slot}
 
 -- ---- options
@@ -151,6 +153,10 @@ file_imports all f = texts_said 3 (made (file_items all f)) (map path_of f.impor
 
 pub file_package : (all : Declared) (f : File) → text_at 2 (file_written all f) ≡ string_bytes f.package
 file_package all f = filled_said 2 (file_written all f) (string_bytes f.package) (says 2 (file_slots all f) refl)
+
+-- its scope is its package
+pub file_scoped : (all : Declared) (f : File) → is_file f ≡ true → file_scope (file_written all f) ≡ scope_of (string_bytes f.package)
+file_scoped all f rules = ap package_scope (file_package all f) ∙ package_words (string_bytes f.package) (and_left _ _ (and_left _ _ rules))
 
 pub types_of_file : (all : Declared) (f : File) → children_at 4 (file_written all f) ≡ map made (types_items (length all.types) all f.types.items)
 types_of_file all f = children_said 4 (file_written all f) (types_items (length all.types) all f.types.items) (says 4 (file_slots all f) refl)

@@ -1,5 +1,5 @@
 -- What is written of a field states its items, and so does what is written of its entry type.
-use Rattle.std.proofs.Common.{◌≡◌, ℕ, ◌<◌, ◌^◌, ℤ, pos, Bool, true, false, cond, not, nat_eq, nat_lt, ◌&&◌, ◌||◌, List, [], length, codes, Option, None, Some, is_some, refl, ap, sym, subst, ◌∙◌, arith, option_map, option_and_then, unwrap_or, IfSome}
+use Rattle.std.proofs.Common.{◌≡◌, ℕ, ◌<◌, ◌^◌, ℤ, pos, Bool, true, false, cond, not, nat_eq, nat_lt, ◌&&◌, ◌||◌, List, [], length, codes, Option, None, Some, is_some, refl, ap, ap₂, sym, subst, ◌∙◌, arith, option_map, option_and_then, unwrap_or, IfSome}
 use Rattle.std.proofs.lemmas.Bool.{false≢true}
 use Rattle.std.proofs.lemmas.Bool.Decides.{nat_tests}
 use Rattle.std.proofs.lemmas.Option.{none-some}
@@ -25,6 +25,7 @@ use Rattle.pg_fds.specs.writing.Fields.{dotted, element_code, element_name, labe
 use Rattle.pg_fds.specs.writing.Places.{Declared}
 use Rattle.pg_fds.specs.stated.Said.{children_at, item_at, items_at, maybe_text_at, natural, number_at, text_at, text_of}
 use Rattle.pg_fds.specs.stated.SaidTypes.{is_optional}
+use Rattle.pg_fds.specs.stated.SetNames.{name_in}
 use Rattle.pg_fds.specs.stated.StatedEntries as entries
 use Rattle.pg_fds.specs.stated.StatedFields as stated
 use Rattle.pg_fds.specs.stated.StatedFields.{Owner}
@@ -32,6 +33,7 @@ use Rattle.pg_fds.specs.stated.StatedNames.{Meanings, both, element_of_named, is
 use Rattle.pg_fds.specs.stated.StatedOneofs.{oneof}
 use Rattle.pg_fds.specs.stated.Views.{field_view}
 use Rattle.pg_fds.proofs.lemmas.lists.ViewLaws.{same_field}
+use Rattle.pg_fds.proofs.lemmas.written.QualifiedNames.{entry_plain, is_plain, plain_in, scope_of}
 use Rattle.pg_fds.proofs.lemmas.written.WrittenFields as fields
 use Rattle.pg_fds.proofs.lemmas.written.WrittenFields.{entry_written, key_and_value, of_entry, written}
 use Rattle.pg_fds.proofs.lemmas.written.WrittenServices.{HasNames, means_enum, means_type}
@@ -160,6 +162,7 @@ pub record Keeps (types enums : ℕ) (f : Field) : Type 0 where
   pub has : has_presence f.presence f.element (is_some f.oneof) f.states_optional ≡ true
   pub packs : is_packed f.presence f.element f.options.packed ≡ true
   pub known : is_known types enums f.element ≡ true
+  pub called : is_plain (string_bytes f.name) ≡ true
 
 pub natural_is : (n : ℕ) (z : ℤ) → z ≡ pos n → n < 2 ^ 32 → natural z ≡ n
 natural_is n z is small = ap natural is ∙ ap (λ b. cond b n 0) (lower n (2 ^ 32) small)
@@ -167,9 +170,9 @@ natural_is n z is small = ap natural is ∙ ap (λ b. cond b n 0) (lower n (2 ^ 
     lower : (a b : ℕ) → a < b → nat_lt a b ≡ true
     lower a b h = grind (arith, nat_tests)
 
--- the full name of the field's entry type means one, where the field, of a message type of that full name, is a map
+-- the qualified name of the field's entry type means one, where the field, of a message type of that full name, is a map
 abbrev pub HasEntryName : Meanings → (scope : List ℕ) → Field → Type 0
-HasEntryName means scope f = is_map f.presence ≡ true → means (within scope (entry_name (string_bytes f.name))) ≡ Some nameds.Entry
+HasEntryName means scope f = is_map f.presence ≡ true → means (dotted (within scope (entry_name (string_bytes f.name)))) ≡ Some nameds.Entry
 
 -- a map field has its entry type under its name
 abbrev pub HasEntry : Declared → (List ℕ → Option Message) → Field → Type 0
@@ -187,16 +190,16 @@ plain_name all scope f presences.Explicit plain = refl
 plain_name all scope f (presences.Repeated packed) plain = refl
 plain_name all scope f (presences.Map key) plain = absurd (false≢true (sym plain))
 
-module _ (all : Declared) (means : Meanings) (has : HasNames all means) (o : Owner) (next : ℕ) (f : Field) (keeps : Keeps (length all.types) (length all.enums) f) where
+module _ (all : Declared) (means : Meanings) (has : HasNames all means) (scope : List ℕ) (o : Owner) (full : o.full ≡ scope_of scope) (next : ℕ) (f : Field) (keeps : Keeps (length all.types) (length all.enums) f) where
   abbrev m : Message
-  m = written all o.full next f
+  m = written all scope next f
 
   abbrev are : Type 0
   are = stated.items means o m (is_some f.oneof) ≡ Some (f.presence, f.element)
 
   plain_element : is_map f.presence ≡ false → entries.element means m ≡ Some f.element
   plain_element plain =
-      element_is all means has m f.element (fields.type_said all o.full next f ∙ ap pos (plain_code f.presence f.element plain)) (fields.type_name_said all o.full next f ∙ plain_name all o.full f f.presence plain) keeps.known
+      element_is all means has m f.element (fields.type_said all scope next f ∙ ap pos (plain_code f.presence f.element plain)) (fields.type_name_said all scope next f ∙ plain_name all scope f f.presence plain) keeps.known
 
   no_element : meant means (maybe_text_at 6 m) ≡ Some nameds.Entry → entries.element means m ≡ None
   no_element named =
@@ -216,9 +219,9 @@ module _ (all : Declared) (means : Meanings) (has : HasNames all means) (o : Own
 
   presence_is : is_map f.presence ≡ false → stated.presence m f.element (is_some f.oneof) ≡ Some f.presence
   presence_is plain =
-      ap (λ n. cond (int_eq n (pos 3)) (only_if (not (is_optional m)) (Some (stated.repeated f.element (stated.packed_at m)))) (Some (stated.singular f.element (is_some f.oneof) (is_optional m)))) (fields.label_said all o.full next f)
-      ∙ (ap (λ b. stands f.presence f.element (is_some f.oneof) b (stated.packed_at m)) (fields.optional_said all o.full next f)
-      ∙ (ap (stands f.presence f.element (is_some f.oneof) f.states_optional) (fields.packed_said all o.full next f)
+      ap (λ n. cond (int_eq n (pos 3)) (only_if (not (is_optional m)) (Some (stated.repeated f.element (stated.packed_at m)))) (Some (stated.singular f.element (is_some f.oneof) (is_optional m)))) (fields.label_said all scope next f)
+      ∙ (ap (λ b. stands f.presence f.element (is_some f.oneof) b (stated.packed_at m)) (fields.optional_said all scope next f)
+      ∙ (ap (stands f.presence f.element (is_some f.oneof) f.states_optional) (fields.packed_said all scope next f)
       ∙ stands_so f.presence f.element (is_some f.oneof) f.states_optional f.options.packed plain keeps.has keeps.packs))
 
   plain_items : is_map f.presence ≡ false → are
@@ -226,20 +229,21 @@ module _ (all : Declared) (means : Meanings) (has : HasNames all means) (o : Own
       ap (λ b. cond b (stated.map_items means o m) (stated.plain_items means m (is_some f.oneof))) (not_map plain)
       ∙ (ap (option_and_then (λ e. option_map (λ p. (p, e)) (stated.presence m e (is_some f.oneof)))) (plain_element plain) ∙ ap (option_map (λ p. (p, f.element))) (presence_is plain))
 
-  module _ (entry : HasEntryName means o.full f) (own : HasEntry all o.entries f) where
+  module _ (entry : HasEntryName means scope f) (own : HasEntry all o.entries f) where
     map_items : (key : Scalar) → f.presence ≡ presences.Map key → are
     map_items key is =
-        let name : maybe_text_at 6 m ≡ Some (dotted (within o.full (entry_name (string_bytes f.name)))) =
-        fields.type_name_said all o.full next f ∙ subst (λ p. named_type all o.full (record f { presence = p }) ≡ Some (dotted (within o.full (entry_name (string_bytes f.name))))) (sym is) refl in
+        let name : maybe_text_at 6 m ≡ Some (dotted (within scope (entry_name (string_bytes f.name)))) =
+        fields.type_name_said all scope next f ∙ subst (λ p. named_type all scope (record f { presence = p }) ≡ Some (dotted (within scope (entry_name (string_bytes f.name))))) (sym is) refl in
         let mapped : stated.is_map_field means m ≡ true =
-        and_both _ _ (ap is_entry_type (ap (meant means) name ∙ entry (ap is_map is))) (ap (λ n. int_eq n (pos 11)) (fields.type_said all o.full next f ∙ ap (λ p. pos (type_code p f.element)) is)) in
+        and_both _ _ (ap is_entry_type (ap (meant means) name ∙ entry (ap is_map is))) (ap (λ n. int_eq n (pos 11)) (fields.type_said all scope next f ∙ ap (λ p. pos (type_code p f.element)) is)) in
         let plain : f.states_optional ≡ false = unstated (is_some f.oneof) f.states_optional (and_left (not (is_some f.oneof || f.states_optional)) (is_key key) (subst (λ p. has_presence p f.element (is_some f.oneof) f.states_optional ≡ true) is keeps.has)) in
         let its : stated.names_its_entry o m ≡ true =
-        and_both _ _ (and_both _ _ (ap (λ n. int_eq n (pos 3)) (fields.label_said all o.full next f ∙ ap (λ p. pos (label p)) is)) (not_false (is_optional m) (fields.optional_said all o.full next f ∙ plain)))
-        (same_bytes _ _ (ap (λ t. unwrap_or t []) name ∙ ap (λ n. dotted (within o.full (entry_name n))) (sym (fields.name_said all o.full next f)))) in
+        and_both _ _ (and_both _ _ (ap (λ n. int_eq n (pos 3)) (fields.label_said all scope next f ∙ ap (λ p. pos (label p)) is)) (not_false (is_optional m) (fields.optional_said all scope next f ∙ plain)))
+        (same_bytes _ _ (ap (λ t. unwrap_or t []) name ∙ (sym (plain_in scope (entry_name (string_bytes f.name)) (entry_plain (string_bytes f.name) keeps.called))
+        ∙ ap₂ (λ s n. name_in s (entry_name n)) (sym full) (sym (fields.name_said all scope next f))))) in
         ap (λ b. cond b (stated.map_items means o m) (stated.plain_items means m (is_some f.oneof))) mapped
         ∙ (ap (λ b. only_if b (option_and_then (λ e. option_map stated.map_of (entries.entry means e)) (o.entries (entry_name (text_at 1 m))))) its
-        ∙ (ap (λ n. option_and_then (λ e. option_map stated.map_of (entries.entry means e)) (o.entries (entry_name n))) (fields.name_said all o.full next f)
+        ∙ (ap (λ n. option_and_then (λ e. option_map stated.map_of (entries.entry means e)) (o.entries (entry_name n))) (fields.name_said all scope next f)
         ∙ (ap (option_and_then (λ e. option_map stated.map_of (entries.entry means e))) (own key is)
         ∙ (ap (option_map stated.map_of) (entry_is all means has f key keeps.known) ∙ ap (λ p. Some (p, f.element)) (sym is)))))
 
@@ -257,5 +261,5 @@ module _ (all : Declared) (means : Meanings) (has : HasNames all means) (o : Own
     field_is stands =
         ap (option_and_then (λ one. option_map (stated.field_of m one) (stated.items means o m (is_some one)))) stands
         ∙ (ap (option_map (stated.field_of m f.oneof)) items_are
-        ∙ ap Some (same_field (natural_is f.number (number_at 3 m) (fields.field_number_said all o.full next f) keeps.number) (fields.name_said all o.full next f) refl refl refl (fields.json_said all o.full next f)
-        (fields.optional_said all o.full next f) (fields.packed_said all o.full next f) (fields.deprecated_said all o.full next f)))
+        ∙ ap Some (same_field (natural_is f.number (number_at 3 m) (fields.field_number_said all scope next f) keeps.number) (fields.name_said all scope next f) refl refl refl (fields.json_said all scope next f)
+        (fields.optional_said all scope next f) (fields.packed_said all scope next f) (fields.deprecated_said all scope next f)))

@@ -26,6 +26,7 @@ use Rattle.pg_fds.proofs.lemmas.rows.MeaningLaws.{files_meant}
 use Rattle.pg_fds.proofs.lemmas.rows.PartsMade.{parts_there}
 use Rattle.pg_fds.proofs.lemmas.rows.RowNames.{AreMeant, entries_mean, has_names}
 use Rattle.pg_fds.proofs.lemmas.rows.RowPlaces.{all_from, at_all, test_at}
+use Rattle.pg_fds.proofs.lemmas.written.NamedScopes.{type_is_scope}
 use Rattle.pg_fds.proofs.lemmas.written.WrittenDeclared.{its_entries_once, may_be_declared, names_once}
 use Rattle.pg_fds.proofs.lemmas.written.WrittenEnums.{enum_is}
 use Rattle.pg_fds.proofs.lemmas.written.WrittenFileRows.{AreFileRows, StandBehind, enums_in, file_rows, services_in, types_in}
@@ -52,7 +53,7 @@ module _ (parts : Parts) (sound : IsSound parts) (stand : StandInOrder parts) (s
   -- ---- rows and places
 
   rows : AreFileRows all most_deep ms fs
-  rows = file_rows parts sound most_deep fs sound.file_scopes shallow
+  rows = file_rows parts sound most_deep fs sound.files sound.file_scopes shallow
 
   first : StandBehind all most_deep no_counts fs
   first = record {
@@ -101,7 +102,7 @@ module _ (parts : Parts) (sound : IsSound parts) (stand : StandInOrder parts) (s
       ap (each (message_type means)) placed_are
       ∙ each_of (message_type means) (placed_row all) type_view all.types
       (λ place t at.
-      type_is all means has t (test_at (is_message_type (length all.types) (length all.enums)) all.types place t sound.message_types at) (its_entries_once parts sound place t at)
+      type_is all means has t (test_at (is_message_type (length all.types) (length all.enums)) all.types place t sound.message_types at) (type_is_scope parts sound place t at) (its_entries_once parts sound place t at)
       (entries_mean means all type_rows enum_rows types_are enums_are meant place t at))
 
   enums_made : map enum_type enum_rows ≡ map enum_view all.enums

@@ -11,7 +11,6 @@ use Rattle.pg_schema.specs.declared.parts.message_type.MessageType.{MessageType}
 use Rattle.pg_schema.specs.declared.parts.Parts.{Parts}
 use Rattle.pg_schema.specs.declared.parts.service.Service.{Service}
 use Rattle.pg_schema.specs.declared.parts.service.ServiceId.{ServiceId}
-use Rattle.pg_schema.specs.rules.DeclaredNames.{within}
 use Rattle.pg_schema.specs.rules.Scopes.{are_enums_in, are_services_in, are_types_in, enum_name, enum_places, is_in, is_named_in, is_type_scope, service_name, service_places, type_name, type_places}
 use Rattle.pg_schema.specs.rules.Sound.{IsSound}
 use Rattle.pg_schema.proofs.lemmas.rules.PairLemmas.{and_left, and_right}
@@ -19,6 +18,7 @@ use Rattle.pg_dyn.specs.Message.{Message}
 use Rattle.pg_check.specs.standing.InOrder.{enums_below, inner_enums, inner_types, types_below}
 use Rattle.pg_check.specs.standing.Nesting.{holds_inside, nest_within}
 use Rattle.pg_check.specs.standing.Places.{places_from}
+use Rattle.pg_fds.specs.writing.Fields.{dotted}
 use Rattle.pg_fds.specs.writing.Items.{Items}
 use Rattle.pg_fds.specs.writing.Messages.{enum_items, enums_items, own_name, type_items, types_items, where_found}
 use Rattle.pg_fds.specs.reading.OutlinedPlaces.{Counts, PlacedType, behind_type, inside_type, placed_types, placed_with, places_of_types}
@@ -27,47 +27,48 @@ use Rattle.pg_fds.specs.writing.Places.{Declared, declared_in}
 use Rattle.pg_fds.specs.stated.Said.{children_at, text_at}
 use Rattle.pg_fds.specs.stated.SaidTypes.{is_no_entry}
 use Rattle.pg_fds.specs.writing.Set.{service_items, services_items}
-use Rattle.pg_fds.specs.stated.SetNames.{qualified}
+use Rattle.pg_fds.specs.stated.SetNames.{name_in, qualified}
 use Rattle.pg_fds.proofs.lemmas.rows.RowPlaces.{AreAt, AreFrom, as_long, at_both, at_one, first_and_later, front_and_rest, test_at}
+use Rattle.pg_fds.proofs.lemmas.written.QualifiedNames.{scope_of}
 use Rattle.pg_fds.proofs.lemmas.written.Slots.{made}
 use Rattle.pg_fds.proofs.lemmas.written.WrittenEnums.{enum_called}
-use Rattle.pg_fds.proofs.lemmas.written.WrittenNames.{name_within, named_there}
+use Rattle.pg_fds.proofs.lemmas.written.WrittenNames.{is_scope, name_qualified, named_there}
 use Rattle.pg_fds.proofs.lemmas.written.WrittenServices.{service_called}
 use Rattle.pg_fds.proofs.lemmas.written.WrittenTypes.{inside, none_entry, placed_row, type_called, type_enums, type_nested, type_row, type_written}
 
 -- ---- enums and services of one scope
 
--- the row's name and message are those written of the enum
+-- the row's qualified name and message are those written of the enum
 abbrev pub enum_row : EnumType → Row
-enum_row e = (string_bytes e.name, made (enum_items e))
+enum_row e = (dotted (string_bytes e.name), made (enum_items e))
 
 abbrev pub service_row : Declared → Service → Row
-service_row all s = (string_bytes s.name, made (service_items all s))
+service_row all s = (dotted (string_bytes s.name), made (service_items all s))
 
--- what is written of one that stands in a scope has its full name there
-in_scope : (scope name : List ℕ) (m : Message) → is_in scope name ≡ true → text_at 1 m ≡ own_name name → row_in scope m ≡ (name, m)
-in_scope scope name m inside called = ap (λ n. (n, m)) (ap (within scope) called ∙ sym (name_within scope name inside))
+-- what is written of one that stands in a scope has its qualified name there
+in_scope : (scope name : List ℕ) (m : Message) → is_in scope name ≡ true → text_at 1 m ≡ own_name name → row_in (scope_of scope) m ≡ (dotted name, m)
+in_scope scope name m inside called = ap (λ n. (n, m)) (ap (name_in (scope_of scope)) called ∙ name_qualified scope name inside)
 
 module _ (all : Declared) where
-  pub own_enums : (scope : List ℕ) (ids : List EnumId) → are_enums_in all.enums scope ids ≡ true → AreAt enum_row all.enums (rows_in scope (map made (enums_items all ids))) (enum_places ids)
+  pub own_enums : (scope : List ℕ) (ids : List EnumId) → are_enums_in all.enums scope ids ≡ true → AreAt enum_row all.enums (rows_in (scope_of scope) (map made (enums_items all ids))) (enum_places ids)
   own_enums scope [] inside = refl
   own_enums scope (id ∷ ids) inside =
-      named_there (λ (e : EnumType). string_bytes e.name) scope (slice_get all.enums id.index) (AreAt enum_row all.enums (rows_in scope (map made (enums_items all (id ∷ ids)))) (enum_places (id ∷ ids)))
+      named_there (λ (e : EnumType). string_bytes e.name) scope (slice_get all.enums id.index) (AreAt enum_row all.enums (rows_in (scope_of scope) (map made (enums_items all (id ∷ ids)))) (enum_places (id ∷ ids)))
       (λ e at here.
-      subst (λ o. AreAt enum_row all.enums (rows_in scope (map made (where_found enum_items o ++ enums_items all ids))) (enum_places (id ∷ ids))) (sym at)
-      (at_one enum_row all.enums e (row_in scope (made (enum_items e))) id.index (rows_in scope (map made (enums_items all ids))) (enum_places ids) at (in_scope scope (string_bytes e.name) (made (enum_items e)) here (enum_called e))
+      subst (λ o. AreAt enum_row all.enums (rows_in (scope_of scope) (map made (where_found enum_items o ++ enums_items all ids))) (enum_places (id ∷ ids))) (sym at)
+      (at_one enum_row all.enums e (row_in (scope_of scope) (made (enum_items e))) id.index (rows_in (scope_of scope) (map made (enums_items all ids))) (enum_places ids) at (in_scope scope (string_bytes e.name) (made (enum_items e)) here (enum_called e))
       (own_enums scope ids (and_right (is_named_in scope (enum_name all.enums id)) (are_enums_in all.enums scope ids) inside))))
       (and_left (is_named_in scope (enum_name all.enums id)) (are_enums_in all.enums scope ids) inside)
 
   pub own_services : (scope : List ℕ) (ids : List ServiceId) → are_services_in all.services scope ids ≡ true
-      → AreAt (service_row all) all.services (rows_in scope (map made (services_items all ids))) (service_places ids)
+      → AreAt (service_row all) all.services (rows_in (scope_of scope) (map made (services_items all ids))) (service_places ids)
   own_services scope [] inside = refl
   own_services scope (id ∷ ids) inside =
       named_there (λ (s : Service). string_bytes s.name) scope (slice_get all.services id.index)
-      (AreAt (service_row all) all.services (rows_in scope (map made (services_items all (id ∷ ids)))) (service_places (id ∷ ids)))
+      (AreAt (service_row all) all.services (rows_in (scope_of scope) (map made (services_items all (id ∷ ids)))) (service_places (id ∷ ids)))
       (λ s at here.
-      subst (λ o. AreAt (service_row all) all.services (rows_in scope (map made (where_found (service_items all) o ++ services_items all ids))) (service_places (id ∷ ids))) (sym at)
-      (at_one (service_row all) all.services s (row_in scope (made (service_items all s))) id.index (rows_in scope (map made (services_items all ids))) (service_places ids) at
+      subst (λ o. AreAt (service_row all) all.services (rows_in (scope_of scope) (map made (where_found (service_items all) o ++ services_items all ids))) (service_places (id ∷ ids))) (sym at)
+      (at_one (service_row all) all.services s (row_in (scope_of scope) (made (service_items all s))) id.index (rows_in (scope_of scope) (map made (services_items all ids))) (service_places ids) at
       (in_scope scope (string_bytes s.name) (made (service_items all s)) here (service_called all s)) (own_services scope ids (and_right (is_named_in scope (service_name all.services id)) (are_services_in all.services scope ids) inside))))
       (and_left (is_named_in scope (service_name all.services id)) (are_services_in all.services scope ids) inside)
 
@@ -193,32 +194,32 @@ module _ (parts : Parts) (sound : IsSound parts) where
   abbrev Inner : ℕ → ℕ → Type 0
   Inner depth deep =
       (scope : List ℕ) (ids : List TypeId) → nest_within depth all.types ids ≡ true → nest_within deep all.types ids ≡ true → are_types_in all.types scope ids ≡ true
-      → AreRows all depth scope (map made (types_items deep all ids)) ids
+      → AreRows all depth (scope_of scope) (map made (types_items deep all ids)) ids
 
   whole : (depth deep : ℕ) → deep ≤ length all.types → Inner depth deep → (scope : List ℕ) (i : ℕ) (t : MessageType) → slice_get all.types i ≡ Some t → is_in scope (string_bytes t.name) ≡ true
       → nest_within depth all.types t.nested_types.items ≡ true → nest_within deep all.types t.nested_types.items ≡ true
-      → IsRow all depth scope (type_written all (types_items deep all t.nested_types.items) t) i t
+      → IsRow all depth (scope_of scope) (type_written all (types_items deep all t.nested_types.items) t) i t
   whole depth deep low inner scope i t at here shallow enough =
       let nested : List Items = types_items deep all t.nested_types.items in
       let name : List ℕ = string_bytes t.name in
       let m : Message = type_written all nested t in
       let scoped : is_type_scope all.types all.enums t ≡ true = test_at (is_type_scope all.types all.enums) all.types i t sound.type_scopes at in
-      let full : qualified scope m ≡ name = ap (within scope) (type_called all nested t) ∙ sym (name_within scope name here) in
-      one_row all depth scope m i t at (in_scope scope name m here (type_called all nested t) ∙ ap (λ xs. (name, type_written all xs t)) (settled all deep (length all.types) low t.nested_types.items enough))
+      let full : qualified (scope_of scope) m ≡ scope_of name = ap (name_in (scope_of scope)) (type_called all nested t) ∙ (name_qualified scope name here ∙ sym (is_scope scope name here)) in
+      one_row all depth (scope_of scope) m i t at (in_scope scope name m here (type_called all nested t) ∙ ap (λ xs. (dotted name, type_written all xs t)) (settled all deep (length all.types) low t.nested_types.items enough))
       (subst (λ s. EnumsAt all (rows_in s (children_at 4 m)) (enum_places t.nested_enums.items)) (sym full)
-      (subst (λ ms. EnumsAt all (rows_in name ms) (enum_places t.nested_enums.items)) (sym (type_enums all nested t))
+      (subst (λ ms. EnumsAt all (rows_in (scope_of name) ms) (enum_places t.nested_enums.items)) (sym (type_enums all nested t))
       (own_enums all name t.nested_enums.items (and_right (are_types_in all.types name t.nested_types.items) (are_enums_in all.enums name t.nested_enums.items) scoped))))
       (subst (λ s. AreRows all depth s (filter is_no_entry (children_at 3 m)) t.nested_types.items) (sym full)
-      (subst (λ ms. AreRows all depth name ms t.nested_types.items) (sym (type_nested all nested t (none_entry all deep t.nested_types.items)))
+      (subst (λ ms. AreRows all depth (scope_of name) ms t.nested_types.items) (sym (type_nested all nested t (none_entry all deep t.nested_types.items)))
       (inner name t.nested_types.items shallow enough (and_left (are_types_in all.types name t.nested_types.items) (are_enums_in all.enums name t.nested_enums.items) scoped))))
 
   each_type : (depth deep : ℕ) → deep ≤ length all.types → Inner depth deep → Inner (suc depth) (suc deep)
   each_type depth deep low inner scope [] shallow enough inside = record { types = refl; enums = refl; places = λ counts types enums. refl; placed = λ counts types enums. refl }
   each_type depth deep low inner scope (id ∷ ids) shallow enough inside =
-      named_there (λ (t : MessageType). string_bytes t.name) scope (slice_get all.types id.index) (AreRows all (suc depth) scope (map made (types_items (suc deep) all (id ∷ ids))) (id ∷ ids))
+      named_there (λ (t : MessageType). string_bytes t.name) scope (slice_get all.types id.index) (AreRows all (suc depth) (scope_of scope) (map made (types_items (suc deep) all (id ∷ ids))) (id ∷ ids))
       (λ t at here.
-      subst (λ o. AreRows all (suc depth) scope (map made (where_found (λ (x : MessageType). type_items all (types_items deep all x.nested_types.items) x) o ++ types_items (suc deep) all ids)) (id ∷ ids)) (sym at)
-      (more_rows all depth scope (type_written all (types_items deep all t.nested_types.items) t) (map made (types_items (suc deep) all ids)) id ids t at
+      subst (λ o. AreRows all (suc depth) (scope_of scope) (map made (where_found (λ (x : MessageType). type_items all (types_items deep all x.nested_types.items) x) o ++ types_items (suc deep) all ids)) (id ∷ ids)) (sym at)
+      (more_rows all depth (scope_of scope) (type_written all (types_items deep all t.nested_types.items) t) (map made (types_items (suc deep) all ids)) id ids t at
       (whole depth deep low inner scope id.index t at here
       (sym (ap (holds_inside (nest_within depth all.types)) at) ∙ and_left (holds_inside (nest_within depth all.types) (slice_get all.types id.index)) (nest_within (suc depth) all.types ids) shallow)
       (sym (ap (holds_inside (nest_within deep all.types)) at) ∙ and_left (holds_inside (nest_within deep all.types) (slice_get all.types id.index)) (nest_within (suc deep) all.types ids) enough))

@@ -30,10 +30,10 @@ use Rattle.pg_fds.proofs.lemmas.lists.ViewLaws.{same_method, same_service}
 
 -- ---- what names mean
 
--- the full name of each message type and enum means it, by its place
+-- the full name of each message type and enum, with a dot in front, means it, by its place
 pub record HasNames (all : Declared) (means : Meanings) : Type 0 where
-  pub types : (id : TypeId) (name : List ℕ) → type_name all.types id ≡ Some name → means name ≡ Some (nameds.Type id)
-  pub enums : (id : EnumId) (name : List ℕ) → enum_name all.enums id ≡ Some name → means name ≡ Some (nameds.Enum id)
+  pub types : (id : TypeId) (name : List ℕ) → type_name all.types id ≡ Some name → means (dotted name) ≡ Some (nameds.Type id)
+  pub enums : (id : EnumId) (name : List ℕ) → enum_name all.enums id ≡ Some name → means (dotted name) ≡ Some (nameds.Enum id)
 
 within_list : {A : Type 0} (xs : List A) (i : ℕ) → slice_get xs i ≡ None → nat_lt i (length xs) ≡ true → ⊥
 within_list [] i none h = grind (arith, nat_tests)
@@ -106,11 +106,11 @@ module _ (all : Declared) (means : Meanings) (has : HasNames all means) where
       (method_is d (and_left (is_method (length all.types) d) (list_all (is_method (length all.types)) ds) keep))
       (methods_are ds (and_right (is_method (length all.types) d) (list_all (is_method (length all.types)) ds) keep))
 
-  -- under its full name
-  pub service_is : (s : Service) → is_service (length all.types) s ≡ true → service means (string_bytes s.name, made (service_items all s)) ≡ Some (service_view s)
+  -- under its qualified name
+  pub service_is : (s : Service) → is_service (length all.types) s ≡ true → service means (dotted (string_bytes s.name), made (service_items all s)) ≡ Some (service_view s)
   service_is s keeps =
       let m : Message = made (service_items all s) in
-      ap (λ ms. option_map (service_of (string_bytes s.name, m)) (each (method means) ms)) (service_methods all s)
-      ∙ (ap (option_map (service_of (string_bytes s.name, m))) (methods_are s.methods.items keeps)
+      ap (λ ms. option_map (service_of (dotted (string_bytes s.name), m)) (each (method means) ms)) (service_methods all s)
+      ∙ (ap (option_map (service_of (dotted (string_bytes s.name), m))) (methods_are s.methods.items keeps)
       ∙ ap Some (same_service refl refl (ap (maybe_flag_at 33) (options_said 3 m (stated 33 s.options.deprecated) (says 3 (service_slots all s) refl))
       ∙ stated_said 33 (made (stated 33 s.options.deprecated)) s.options.deprecated (says 33 (stated_slot 33 s.options.deprecated ∷ []) refl))))

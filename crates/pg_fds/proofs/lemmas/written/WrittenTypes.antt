@@ -1,5 +1,5 @@
 -- What is written of message types states them, with all that stands inside.
-use Rattle.std.proofs.Common.{◌≡◌, ℕ, zero, suc, ◌+◌, ◌-◌, ◌<◌, ◌≤◌, ◌^◌, pos, Bool, true, false, cond, not, nat_eq, nat_lt, ◌&&◌, List, [], ◌∷◌, ◌++◌, map, filter, length, Option, Some, None, option_map, option_and_then, slice_get, refl, ap, ap₂, ◌∙◌, arith, unwrap_or}
+use Rattle.std.proofs.Common.{◌≡◌, ℕ, zero, suc, ◌+◌, ◌-◌, ◌<◌, ◌≤◌, ◌^◌, pos, Bool, true, false, cond, not, nat_eq, nat_lt, ◌&&◌, List, [], ◌∷◌, ◌++◌, map, filter, length, Option, Some, None, option_map, option_and_then, slice_get, refl, ap, ap₂, sym, subst, ◌∙◌, arith, unwrap_or}
 use Rattle.std.proofs.lemmas.Bool.{false≢true}
 use Rattle.std.proofs.lemmas.Bool.Decides.{nat_tests}
 use Rattle.std.proofs.lemmas.List.{length-map}
@@ -20,7 +20,7 @@ use Rattle.pg_schema.proofs.lemmas.rules.PairLemmas.{and_both, and_left, and_rig
 use Rattle.pg_dyn.specs.Message.{Message}
 use Rattle.pg_fds.specs.declared.reading.outline.Named.TheVariants as nameds
 use Rattle.pg_fds.specs.writing.Entries.{entries}
-use Rattle.pg_fds.specs.writing.Fields.{fields_items}
+use Rattle.pg_fds.specs.writing.Fields.{dotted, fields_items}
 use Rattle.pg_fds.specs.writing.Items.{Items, stated}
 use Rattle.pg_fds.specs.writing.Messages.{declared_fields, enums_items, field_range, names_within, oneof_items, oneof_names, own_type_name, type_items, types_items, where_found}
 use Rattle.pg_fds.specs.reading.OutlinedPlaces.{PlacedType}
@@ -41,6 +41,7 @@ use Rattle.pg_fds.proofs.lemmas.lists.Each.{each_cons}
 use Rattle.pg_fds.proofs.lemmas.reading.FieldSteps.{fields_named}
 use Rattle.pg_fds.proofs.lemmas.reading.NamedOnce.{written_once}
 use Rattle.pg_fds.proofs.lemmas.rows.PlaceIds.{enums_of_places, types_of_places}
+use Rattle.pg_fds.proofs.lemmas.written.QualifiedNames.{is_plain, scope_of}
 use Rattle.pg_fds.proofs.lemmas.written.Slots.{Slot, children_said, children_slot, count_slot, made, number_said, options_said, options_slot, says, stated_said, stated_slot, text_said, text_slot, texts_said, texts_slot}
 use Rattle.pg_fds.proofs.lemmas.written.TypeRules.{declared, fields_in_oneofs, fields_keep, ranges_kept, rising}
 use Rattle.pg_fds.proofs.lemmas.lists.ViewLaws.{same_type}
@@ -182,7 +183,7 @@ room : (b : Bool) (f : Field) (gs : List Field) (next most : ℕ) → next + len
 room true f gs next most h is = omega (arith, h)
 room false f gs next most h is = absurd (false≢true is)
 
-module _ (all : Declared) (means : Meanings) (has : HasNames all means) (name : List ℕ) (n : ℕ) (fs : List Field) (own : List Message)
+module _ (all : Declared) (means : Meanings) (has : HasNames all means) (name : List ℕ) (is_name : scope_of name ≡ dotted name) (n : ℕ) (fs : List Field) (own : List Message)
     (within : AllByRecursion (λ (f : Field). is_oneof n f.oneof ≡ true) fs) where
   abbrev messages : List Message
   messages = map made (fields_items all name n fs)
@@ -191,14 +192,14 @@ module _ (all : Declared) (means : Meanings) (has : HasNames all means) (name : 
   count = n + length (optional_fields fs)
 
   abbrev made_with : Owner
-  made_with = record { full = name; synthetic = synthetic_in messages count; members = members_in messages count; entries = set_types.last_named own }
+  made_with = record { full = dotted name; synthetic = synthetic_in messages count; members = members_in messages count; entries = set_types.last_named own }
 
   each_field : (next : ℕ) (gs : List Field) → n ≤ next → next + length (optional_fields gs) ≤ count → AllByRecursion (Keeps (length all.types) (length all.enums)) gs → AllByRecursion (λ (f : Field). is_oneof n f.oneof ≡ true) gs
       → AllByRecursion (HasEntryName means name) gs → AllByRecursion (HasEntry all (set_types.last_named own)) gs → each (fields.field means made_with) (map made (fields_items all name next gs)) ≡ Some (map field_view gs)
   each_field next [] above inside keep in_oneofs named had = refl
   each_field next (f ∷ gs) above inside keep in_oneofs named had =
       each_cons (fields.field means made_with) (written all name next f) (map made (fields_items all name (cond f.states_optional (suc next) next) gs)) (field_view f) (map field_view gs)
-      (field_is all means has made_with next f keep.0 named.0 had.0
+      (field_is all means has name made_with (sym is_name) next f keep.0 named.0 had.0
       (oneof_is all name n fs within f next in_oneofs.0 keep.0.oneof keep.0.has (λ optional. (above, room f.states_optional f (optional_fields gs) next count inside optional))))
       (each_field (cond f.states_optional (suc next) next) gs (later_above f.states_optional n next above) (later_within f.states_optional f (optional_fields gs) next count inside) keep.1 in_oneofs.1 named.1 had.1)
 
@@ -208,20 +209,24 @@ module _ (all : Declared) (means : Meanings) (has : HasNames all means) (name : 
 abbrev pub inside : Declared → MessageType → List Items
 inside all t = types_items (length all.types) all t.nested_types.items
 
--- its full name and what is written of it
+-- its qualified name and what is written of it
 abbrev pub type_row : Declared → MessageType → Row
-type_row all t = (string_bytes t.name, type_written all (inside all t) t)
+type_row all t = (dotted (string_bytes t.name), type_written all (inside all t) t)
 
 -- with the places of what is declared in it
 abbrev pub placed_row : Declared → MessageType → PlacedType
 placed_row all t = record { named = type_row all t; types = type_places t.nested_types.items; enums = enum_places t.nested_enums.items }
 
--- where their full names mean entry types, so do those of its map fields
+-- the qualified names of its map fields' entry types mean these
 abbrev pub EntriesMean : Meanings → Declared → MessageType → Type 0
-EntriesMean means all t = AllByRecursion (λ e. means (qualified (string_bytes t.name) e) ≡ Some nameds.Entry) (map made (entries all (declared_fields t)))
+EntriesMean means all t = AllByRecursion (λ e. means (qualified (dotted (string_bytes t.name)) e) ≡ Some nameds.Entry) (map made (entries all (declared_fields t)))
+
+are_called : (types enums : ℕ) (fs : List Field) → AllByRecursion (Keeps types enums) fs → AllByRecursion (λ (f : Field). is_plain (string_bytes f.name) ≡ true) fs
+are_called types enums [] keep = tt
+are_called types enums (f ∷ fs) keep = (keep.0.called, are_called types enums fs keep.1)
 
 module _ (all : Declared) (means : Meanings) (has : HasNames all means) (t : MessageType) (rules : is_message_type (length all.types) (length all.enums) t ≡ true)
-    (once : are_distinct (entry_names (declared_fields t)) ≡ true) (mean : EntriesMean means all t) where
+    (is_name : scope_of (string_bytes t.name) ≡ dotted (string_bytes t.name)) (once : are_distinct (entry_names (declared_fields t)) ≡ true) (mean : EntriesMean means all t) where
   abbrev name : List ℕ
   name = string_bytes t.name
 
@@ -238,22 +243,25 @@ module _ (all : Declared) (means : Meanings) (has : HasNames all means) (t : Mes
   within_oneofs = such_declared (λ (f : Field). is_oneof n f.oneof ≡ true) t (fields_in_oneofs (length all.types) (length all.enums) t rules)
 
   abbrev its_owner : Owner
-  its_owner = made_with all means has name n fs its within_oneofs
+  its_owner = made_with all means has name is_name n fs its within_oneofs
+
+  its_fields : AllByRecursion (Keeps (length all.types) (length all.enums)) fs
+  its_fields = such_declared (Keeps (length all.types) (length all.enums)) t (fields_keep (length all.types) (length all.enums) t rules)
 
   fields_made : fields.fields means its_owner its (map made (fields_items all name n fs)) ≡ Some (map field_view fs)
   fields_made =
       fields_named means its_owner its (map made (fields_items all name n fs)) fs true
-      (each_field all means has name n fs its within_oneofs n fs (omega arith) (omega arith) (such_declared (Keeps (length all.types) (length all.enums)) t (fields_keep (length all.types) (length all.enums) t rules))
-      within_oneofs (entries_named all means name fs mean) (have_entries all fs once))
+      (each_field all means has name is_name n fs its within_oneofs n fs (omega arith) (omega arith) its_fields within_oneofs
+      (entries_named all means name fs (are_called (length all.types) (length all.enums) fs its_fields) (subst (λ s. AllByRecursion (λ e. means (qualified s e) ≡ Some nameds.Entry) its) (sym is_name) mean)) (have_entries all fs once))
       (written_once all fs once)
 
   abbrev m : Message
   m = type_written all (inside all t) t
 
   abbrev owned : List Message → ℕ → List Message → Owner
-  owned ms count es = record { full = name; synthetic = synthetic_in ms count; members = members_in ms count; entries = set_types.last_named es }
+  owned ms count es = record { full = dotted name; synthetic = synthetic_in ms count; members = members_in ms count; entries = set_types.last_named es }
 
-  declared_are : set_types.declared_fields means (name, m) ≡ Some (map field_view fs)
+  declared_are : set_types.declared_fields means (dotted name, m) ≡ Some (map field_view fs)
   declared_are =
       ap (λ ms. fields.fields means (owned ms (set_types.oneof_count m) (set_types.own_entries m)) (set_types.own_entries m) ms) (type_fields all (inside all t) t)
       ∙ (ap₂ (λ count es. fields.fields means (owned (map made (fields_items all name n fs)) count es) es (map made (fields_items all name n fs))) (type_oneof_count all (inside all t) t)
