@@ -437,6 +437,12 @@ def refused(sets):
     row("a name that is no word", 415, one, lambda s: setattr(message(s), "name", "9"))
     row("no name", 415, one, lambda s: message(s).ClearField("name"))
     row("a package that is none", 415, one, lambda s: setattr(s.file[0], "package", "p..q"))
+    row("no name inside no name", 415, one, lambda s: (message(s).ClearField("name"), message(s).enum_type.add().value.add(name="A", number=0)))
+    row("two types without a name", 704, one, lambda s: (message(s).ClearField("name"), s.file[0].message_type.add()))
+    row("a dot in a name", 415, one, lambda s: setattr(message(s), "name", "a.b"))
+    row("a dot in a name beside a type in a type", 415, one, lambda s: (setattr(message(s), "name", "a.b"), s.file[0].message_type.add(name="a").nested_type.add(name="b")))
+    row("two types of a name with a dot", 704, one, lambda s: (setattr(message(s), "name", "a.b"), s.file[0].message_type.add(name="a.b")))
+    row("a type name for a name with a dot", 704, one, lambda s: (setattr(message(s), "name", "a.b"), setattr(field(s), "type", 11), setattr(field(s), "type_name", ".a.b")))
     return rows
 
 

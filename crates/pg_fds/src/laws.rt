@@ -11,6 +11,7 @@ ghost use Rattle.pg_fds.specs.examples.PlaceExamples.{WorkedPlaces};
 ghost use Rattle.pg_fds.specs.examples.ReadExamples.{OneFieldRead};
 ghost use Rattle.pg_fds.specs.examples.StatedExamples.{WorkedStated};
 ghost use Rattle.pg_fds.specs.again.TextOrder.{TextsAreReadAgain};
+ghost use Rattle.pg_fds.specs.stated.SetNames.{NamesApart};
 
 use pg_check::laws::linked_parts_stand;
 
@@ -62,8 +63,13 @@ pub fn worked_orders()
     ensures { WorkedOrders }
 {}
 
+/// A qualified name is that of just one name in one scope, whatever text the names on the way are.
+pub fn names_apart()
+    ensures { NamesApart }
+{}
+
 /// Names by small examples: the parts of a package, what names of nested types and enums mean, and
-/// which files may stand in one set.
+/// which files may stand in one set, also where a name is empty or has a dot.
 pub fn worked_names()
     ensures { WorkedNames }
 {}

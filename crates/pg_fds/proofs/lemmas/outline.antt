@@ -3,6 +3,7 @@ pub mod Declaring
 pub mod FreshNames
 pub mod Fronts
 pub mod Escaped
+pub mod NamesApart
 pub mod ScopeNames
 pub mod DeclaredLists
 pub mod DeclaredPlaces

@@ -44,22 +44,34 @@ of_enum_code = naming 1 14 (codes ".M") nothing
 abbrev pub without_oneof : Message
 without_oneof = naming 1 11 (codes ".M") (count proto.FIELD_PROTO3_OPTIONAL 1 nothing)
 
--- a map field of that name, whose type is `M.AEntry`
-abbrev map_field : (name : List ℕ) → Message
-map_field name =
-    text proto.FIELD_NAME name (count proto.FIELD_LABEL 3 (count proto.FIELD_TYPE 11 (text proto.FIELD_TYPE_NAME (codes ".M.AEntry") nothing)))
+-- a map field of that name and number, whose type is `M.AEntry`
+abbrev map_field : (name : List ℕ) → (number : ℕ) → Message
+map_field name number =
+    text proto.FIELD_NAME name (count proto.FIELD_NUMBER number (count proto.FIELD_LABEL 3 (count proto.FIELD_TYPE 11 (text proto.FIELD_TYPE_NAME (codes ".M.AEntry") nothing))))
 
-abbrev entry_type : (name : List ℕ) → Message
-entry_type name = text proto.MESSAGE_NAME name (child proto.MESSAGE_OPTIONS (count proto.MESSAGE_MAP_ENTRY 1 nothing) nothing)
+-- an int32 field of an entry type
+abbrev entry_field : (name : List ℕ) → (number : ℕ) → Message
+entry_field name number = text proto.FIELD_NAME name (count proto.FIELD_NUMBER number (count proto.FIELD_LABEL 1 (count proto.FIELD_TYPE 5 nothing)))
 
--- A file with the message type M. The names of its two fields give the same entry type, and no field's name gives the other.
+-- that of `map<int32, int32> a = 1;`
+abbrev entry_type : Message
+entry_type =
+    text proto.MESSAGE_NAME (codes "AEntry") (
+    child proto.MESSAGE_FIELD (entry_field (codes "key") 1) (
+    child proto.MESSAGE_FIELD (entry_field (codes "value") 2) (
+    child proto.MESSAGE_OPTIONS (count proto.MESSAGE_MAP_ENTRY 1 nothing) nothing)))
+
+-- a file with the message type M, which has the map field a, then these parts, and the entry type of a
+abbrev with_map : (Message → Message) → List Message
+with_map more = child proto.FILE_MESSAGE_TYPE (
+    text proto.MESSAGE_NAME (codes "M") (child proto.MESSAGE_FIELD (map_field (codes "a") 1) (more (child proto.MESSAGE_NESTED_TYPE entry_type nothing)))) nothing ∷ []
+
+abbrev pub one_map : List Message
+one_map = with_map (λ later. later)
+
+-- a second map field, whose name gives the same entry type
 abbrev pub sharing : List Message
-sharing = child proto.FILE_MESSAGE_TYPE (
-    text proto.MESSAGE_NAME (codes "M") (
-    child proto.MESSAGE_FIELD (map_field (codes "a")) (
-    child proto.MESSAGE_FIELD (map_field (codes "A")) (
-    child proto.MESSAGE_NESTED_TYPE (entry_type (codes "AEntry")) (
-    child proto.MESSAGE_NESTED_TYPE (entry_type (codes "BEntry")) nothing))))) nothing ∷ []
+sharing = with_map (child proto.MESSAGE_FIELD (map_field (codes "A") 2))
 
 pub record WorkedCauses : Type 0 where
   pub no_cause : is_some (stated_of false (file_with good)) ≡ true
@@ -70,4 +82,5 @@ pub record WorkedCauses : Type 0 where
   pub other_kind : HasBadType (means_in (file_with of_enum_code)) of_enum_code
   pub set_of_other_kind : IsBadReference false (file_with of_enum_code)
   pub set_without_oneof : IsBadReference false (file_with without_oneof)
+  pub no_sharing : is_some (stated_of false one_map) ≡ true
   pub set_sharing : IsBadReference false sharing

@@ -2,7 +2,7 @@
 -- `FieldDescriptorProto.type_name`; proto3 language guide, "Enumerations": the values of an enum are siblings of its name). Of each name on
 -- the way from the outermost scope they have a dot and the name. So that names of two scopes differ, whatever text a name is, a backslash
 -- stands in front of each dot and each backslash in one.
-use Rattle.std.specs.Prelude.{ℕ, zero, suc, Bool, ◌||◌, nat_eq, List, [], ◌∷◌, ◌++◌, map, flat_map, filter, if◌then◌else◌}
+use Rattle.std.specs.Prelude.{◌≡◌, ℕ, zero, suc, Bool, ◌||◌, nat_eq, List, [], ◌∷◌, ◌++◌, map, flat_map, filter, if◌then◌else◌}
 use Rattle.pg_dyn.specs.Message.{Message}
 use Rattle.pg_fds.specs.writing.Fields.{dotted}
 use Rattle.pg_fds.specs.stated.Said.{children_at, text_at}
@@ -44,6 +44,16 @@ package_scope (byte ∷ bytes) = dotted (escaped is_backslash (byte ∷ bytes))
 -- what a file declares by itself stands there
 abbrev pub file_scope : Message → List ℕ
 file_scope m = package_scope (text_at proto.FILE_PACKAGE m)
+
+-- a package, or none, or what has a name in another one
+pub data IsScope : List ℕ → Type 0 where
+  of_package : (name : List ℕ) → IsScope (package_scope name)
+  of_name : (scope name : List ℕ) → IsScope scope → IsScope (name_in scope name)
+
+-- a qualified name is that of just one name in one scope
+abbrev pub NamesApart : Type 0
+NamesApart =
+    (scope other name another : List ℕ) → IsScope scope → IsScope other → name_in scope name ≡ name_in other another → (scope ≡ other) × (name ≡ another)
 
 -- ---- the names of a set
 

@@ -36,5 +36,6 @@ worked_causes = record {
   other_kind = other_kind;
   set_of_other_kind = of_other other_kind;
   set_without_oneof = no_oneof;
+  no_sharing = refl;
   set_sharing = shared;
 }
