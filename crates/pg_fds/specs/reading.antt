@@ -1,4 +1,5 @@
 pub mod Held
+pub mod SaidItems
 pub mod Walks
 pub mod FilePlaces
 pub mod Made

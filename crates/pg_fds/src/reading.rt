@@ -53,7 +53,7 @@ use crate::reading::outline::outline_files;
 use crate::reading::set_files::{is_proto3, kept, skips};
 use pg_check::{CheckError, admit};
 use pg_dyn::laws::faults_are_real;
-use pg_dyn::{DEFAULT_DEPTH_LIMIT, DynError, Message, decode};
+use pg_dyn::{DEFAULT_DEPTH_LIMIT, DynError, MessageRef, decode_ref};
 use pg_schema::{Parts, Schema};
 use std::alloc::Global;
 
@@ -69,14 +69,14 @@ fn undecoded(error: DynError) -> FdsError
 }
 
 // The message of a set.
-fn decoded(alloc: Global, bytes: &[u8]) -> Result<Message, FdsError>
+fn decoded(alloc: Global, bytes: &[u8]) -> Result<MessageRef<'_>, FdsError>
     ensures message { IfOk result (λ set. dec written_shape file_set bytes.now
         ≡ Some (message_of set)) }
     ensures texts { IfOk result IsHeldMessage }
     ensures refused { IfErr result (MayRefuseSet bytes.now) }
 {
     let table = descriptor_schema(alloc)?;
-    match decode(alloc, &table, SET, bytes, DEFAULT_DEPTH_LIMIT) {
+    match decode_ref(alloc, &table, SET, bytes, DEFAULT_DEPTH_LIMIT) {
         Ok(set) => Ok(set),
         Err(error) => Err(undecoded(error)),
     }

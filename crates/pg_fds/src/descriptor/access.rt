@@ -1,31 +1,31 @@
 //! What the messages of a set say, by the numbers of their fields. An item of another kind than is
 //! asked for says what its kind says of that: a number no text, a text no number.
 //!
-//! The messages are as a decoded set has them: without bytes, since the written schema has no field
-//! of that type and the items of string fields are kept as texts, and with numbers of 32 bits.
+//! The messages are as a decoded set has them: the written schema has texts, numbers of 32 bits and
+//! messages, and nothing else.
 
-ghost use Rattle.std.specs.Prelude.{◌≡◌, [], ◌<◌, false, pos, true, IfOk, IfSome, MatchOption, OnErr, OnOk, map, option_map, slice_get};
-ghost use Rattle.std.specs.List.{AllByRecursion};
+ghost use Rattle.std.specs.Prelude.{◌≡◌, [], ◌<◌, false, pos, true, FitsSigned, IfOk, IfSome, MatchOption, OnErr, OnOk, Some, length, map, option_map, slice_get};
+ghost use Rattle.std.specs.Int.{w32};
 ghost use Rattle.std.specs.Option.{option_copied};
 ghost use Rattle.pg_dyn.specs.Kept.{message_of, of_number};
-ghost use Rattle.pg_dyn.specs.Seen.{IsFilled, content_seen};
-ghost use Rattle.pg_dyn.specs.declared.message.Value.{Value as Held};
-ghost use Rattle.pg_fds.specs.writing.Building.{shown};
+ghost use Rattle.pg_dyn.specs.Borrowed.{IsFilled, content_seen};
+ghost use Rattle.pg_dyn.specs.NumberLists.{IsNumber};
 ghost use Rattle.pg_fds.specs.descriptor.Lent.{lent};
 ghost use Rattle.pg_fds.specs.stated.Said.{child_in, children_at, flag_at, item_at, items_at, maybe_flag_at, maybe_number_at, maybe_text_at, natural, number_at, number_of, numbers_at, options_at, text_at, text_of, texts_at};
 ghost use Rattle.pg_fds.specs.stated.SaidFiles.{is_place};
-ghost use Rattle.pg_fds.specs.reading.Held.{AreSaid, IsSaid};
+ghost use Rattle.pg_fds.specs.reading.Held.{AreSaid, IsSaid, items_in, value_item, values_in};
+ghost use Rattle.pg_fds.specs.reading.SaidItems.{said};
 
 use crate::error::Unstated;
-use pg_dyn::{Content, Message, Value};
+use pg_dyn::{ContentRef, MessageRef, ValueRef};
 use std::alloc::{AllocError, Global};
 use std::marker::Model;
 
-/// A message of a set, at any depth without bytes and with numbers of 32 bits. Contracts see what
-/// the message keeps.
+/// A message of a set, which has at any depth nothing but texts and numbers of 32 bits. Contracts
+/// see what the message keeps.
 #[derive(Drop)]
 pub(crate) struct Said<'a> {
-    message: &'a Message,
+    message: &'a MessageRef<'a>,
 }
 
 impl<'a> Model for Said<'a> {
@@ -45,11 +45,11 @@ impl<'a> Model for Said<'a> {
 impl<'a> Said<'a> {
     ghost use Rattle.std.specs.Prelude.{◌≡◌};
     ghost use Rattle.pg_dyn.specs.Kept.{ends, type_of, unknown_of};
-    ghost use Rattle.pg_dyn.specs.Seen.{fields_onto};
+    ghost use Rattle.pg_dyn.specs.Borrowed.{fields_onto};
     ghost use Rattle.pg_fds.specs.reading.Held.{IsHeldMessage};
 
     /// What is said by such a message.
-    pub(crate) fn new(message: &'a Message) -> Said<'a>
+    pub(crate) fn new(message: &'a MessageRef<'a>) -> Said<'a>
         requires { IsHeldMessage message.now }
         ensures { result ≡ message.now }
     {
@@ -66,7 +66,7 @@ impl<'a> Said<'a> {
     }
 
     /// The contents of its fields.
-    pub(crate) fn contents(&self) -> &'a [(u32, Content)]
+    pub(crate) fn contents(&self) -> &'a [(u32, ContentRef<'a>)]
         ensures { self.now
             ≡ fields_onto result.now (ends (type_of self.now) (unknown_of self.now)) }
     {
@@ -76,37 +76,11 @@ impl<'a> Said<'a> {
 
 /// An item of such a message.
 #[derive(Drop)]
-pub(crate) struct SaidItem<'a> {
-    value: &'a Value,
-}
-
-impl<'a> Model for SaidItem<'a> {
-    ghost use Rattle.std.specs.Coded.{codes};
-    ghost use Rattle.pg_dyn.specs.contracts.message.Value as value_row;
-    ghost use Rattle.pg_dyn.specs.declared.message.Value.{Value as Held};
-    ghost use Rattle.pg_dyn.specs.KeptCode.{kept_code};
-    ghost use Rattle.pg_fds.specs.reading.Held.{IsSaid};
-
-    ghost Value = { Held };
-
-    ghost coded = { Prim.hlevel (codes, value_row.the_row.coded, kept_code) };
-
-    ghost view = { λ s. s.value.now };
-
-    ghost invariant = { λ s. IsSaid s.value.now };
-}
-
-impl<'a> SaidItem<'a> {
-    ghost use Rattle.std.specs.Prelude.{◌≡◌};
-    ghost use Rattle.pg_fds.specs.reading.Held.{IsSaid};
-
-    /// The item itself.
-    pub(crate) fn value(&self) -> &'a Value
-        ensures value { result.now ≡ self.now }
-        ensures said { IsSaid result.now }
-    {
-        self.value
-    }
+pub(crate) enum SaidItem<'a> {
+    /// A number, a mark as 0 or 1, or the number of an enum value.
+    Number(i32),
+    Text(&'a str),
+    Message(Said<'a>),
 }
 
 /// What has to hold of a set that states a schema.
@@ -123,7 +97,7 @@ pub(crate) fn ensure(holds: bool) -> Result<(), Unstated>
 // ---- items
 
 /// The content of a field.
-pub(crate) fn content<'a>(message: &Said<'a>, number: u32) -> Option<&'a Content>
+pub(crate) fn content<'a>(message: &Said<'a>, number: u32) -> Option<&'a ContentRef<'a>>
     ensures content { MatchOption result (of_number number message.now ≡ [])
         (λ content. of_number number message.now ≡ content_seen number content.now) }
     ensures filled { IfSome result (λ content. IsFilled content.now) }
@@ -132,81 +106,75 @@ pub(crate) fn content<'a>(message: &Said<'a>, number: u32) -> Option<&'a Content
     message.message.get(number)
 }
 
-// The items.
-fn listed<'a>(alloc: Global, values: &'a [Value]) -> Result<Vec<SaidItem<'a>>, AllocError>
-    requires { AllByRecursion IsSaid values.now }
-    ensures { IfOk result (λ found. found.items ≡ values.now) }
+// A number of 32 bits.
+fn narrow(found: i128) -> i32
+    requires { FitsSigned w32 found }
+    ensures { result ≡ found }
 {
-    let mut found = Vec::with_capacity(alloc, values.len())?;
-    for value in values {
-        found.push(SaidItem { value })?;
-    }
-    Ok(found)
-}
-
-// The values of entries.
-fn entry_values<'a>(
-    alloc: Global,
-    entries: &'a [(Value, Value)],
-) -> Result<Vec<SaidItem<'a>>, AllocError>
-    requires { AllByRecursion (λ (e : Held × Held). IsSaid e.1) entries.now }
-    ensures { IfOk result (λ found. found.items ≡ map (λ (e : Held × Held). e.1) entries.now) }
-{
-    let mut found = Vec::new(alloc);
-    for (_, value) in entries {
-        found.push(SaidItem { value })?;
-    }
-    Ok(found)
-}
-
-// The first of several.
-fn first<'a>(values: &'a [Value]) -> Option<SaidItem<'a>>
-    requires { AllByRecursion IsSaid values.now }
-    ensures { result ≡ slice_get values.now 0 }
-{
-    match values.first() {
-        Some(value) => Some(SaidItem { value }),
-        None => None,
+    match i32::try_from(found) {
+        Ok(number) => number,
+        Err(_) => unreachable!(),
     }
 }
 
-// The value of the first entry.
-fn first_value<'a>(entries: &'a [(Value, Value)]) -> Option<SaidItem<'a>>
-    requires { AllByRecursion (λ (e : Held × Held). IsSaid e.1) entries.now }
-    ensures { result ≡ option_map (λ (e : Held × Held). e.1) (slice_get entries.now 0) }
+// The item that a value is.
+fn lent_item<'a>(value: &'a ValueRef<'a>) -> SaidItem<'a>
+    requires { IsSaid value.now }
+    ensures { said result ≡ value_item value.now }
 {
-    match entries.first() {
-        Some((_, value)) => Some(SaidItem { value }),
-        None => None,
+    match value {
+        ValueRef::Int(found) => SaidItem::Number(narrow(*found)),
+        ValueRef::Text(text) => SaidItem::Text(*text),
+        ValueRef::Msg(child) => SaidItem::Message(Said { message: &**child }),
+        _ => unreachable!(),
+    }
+}
+
+// The item that a number of a list is.
+fn made_item<'a>(value: &ValueRef<'_>) -> SaidItem<'a>
+    requires number { IsNumber value.now }
+    requires said { IsSaid value.now }
+    ensures { said result ≡ value_item value.now }
+{
+    match value {
+        ValueRef::Int(found) => SaidItem::Number(narrow(*found)),
+        _ => unreachable!(),
+    }
+}
+
+// How many items a content has.
+fn item_count(content: &ContentRef<'_>) -> usize
+    ensures { result ≡ length (values_in content.now) }
+{
+    match content {
+        ContentRef::One(_) => 1,
+        ContentRef::Many(values) => values.len(),
+        ContentRef::Map(entries) => entries.len(),
+        ContentRef::Numbers(numbers) => numbers.len(),
+    }
+}
+
+// The item of a content at a place, an entry's being its value.
+fn item_of<'a>(content: &'a ContentRef<'a>, at: usize) -> SaidItem<'a>
+    requires within { at < length (values_in content.now) }
+    requires said { AreSaid content.now }
+    ensures { slice_get (items_in content.now) at ≡ Some (said result) }
+{
+    match content {
+        ContentRef::One(value) => lent_item(value),
+        ContentRef::Many(values) => lent_item(&values[at]),
+        ContentRef::Map(entries) => lent_item(&entries[at].value),
+        ContentRef::Numbers(numbers) => made_item(&numbers.get(at)),
     }
 }
 
 /// The item of a singular field: the first, where there are more.
 pub(crate) fn item<'a>(message: &Said<'a>, number: u32) -> Option<SaidItem<'a>>
-    ensures { option_map shown result ≡ item_at number (message_of message.now) }
+    ensures { option_map said result ≡ item_at number (message_of message.now) }
 {
     match content(message, number) {
         None => None,
-        Some(Content::One(value)) => Some(SaidItem { value }),
-        Some(Content::Many(values)) => first(values),
-        Some(Content::Map(entries)) => first_value(entries),
-    }
-}
-
-/// The items of a repeated field.
-pub(crate) fn items<'a>(
-    alloc: Global,
-    message: &Said<'a>,
-    number: u32,
-) -> Result<Vec<SaidItem<'a>>, AllocError>
-    ensures { IfOk result (λ found. map shown found.items
-        ≡ items_at number (message_of message.now)) }
-{
-    match content(message, number) {
-        None => Ok(Vec::new(alloc)),
-        Some(Content::One(value)) => Ok(vec![in alloc; SaidItem { value }]?),
-        Some(Content::Many(values)) => listed(alloc, values),
-        Some(Content::Map(entries)) => entry_values(alloc, entries),
+        Some(content) => Some(item_of(content, 0)),
     }
 }
 
@@ -214,48 +182,39 @@ pub(crate) fn items<'a>(
 
 /// The message that an item is.
 pub(crate) fn child_in<'a>(item: &SaidItem<'a>) -> Option<Said<'a>>
-    ensures { option_map message_of result ≡ child_in (shown item.now) }
+    ensures { option_map message_of result ≡ child_in (said item.now) }
 {
-    let value = item.value;
-    match value {
-        Value::Msg(child) => Some(Said { message: &**child }),
+    match item {
+        SaidItem::Message(child) => Some(child.again()),
         _ => None,
     }
 }
 
 /// The text that an item is.
 pub(crate) fn text_in<'a>(item: &SaidItem<'a>) -> &'a str
-    ensures { result.now ≡ text_of (shown item.now) }
+    ensures { result.now ≡ text_of (said item.now) }
 {
-    let value = item.value;
-    match value {
-        Value::Text(text) => text.as_str(),
-        Value::Bytes(_) => unreachable!(),
+    match item {
+        SaidItem::Text(text) => *text,
         _ => "",
     }
 }
 
-/// The number that an item is, 0 where it is none.
-pub(crate) fn number_in(item: &SaidItem<'_>) -> i128
-    ensures { result ≡ number_of (shown item.now) }
+// The number that an item is, 0 where it is none.
+fn whole_in(item: &SaidItem<'_>) -> i32
+    ensures { number_of (said item.now) ≡ result }
 {
-    match item.value {
-        Value::Int(found) => *found,
+    match item {
+        SaidItem::Number(found) => *found,
         _ => 0,
     }
 }
 
-// The same as a number of 32 bits, which it is.
-fn whole_in(item: &SaidItem<'_>) -> i32
-    ensures { number_of (shown item.now) ≡ result }
+/// The same as a number of more bits.
+pub(crate) fn number_in(item: &SaidItem<'_>) -> i128
+    ensures { result ≡ number_of (said item.now) }
 {
-    let Value::Int(found) = item.value() else {
-        return 0;
-    };
-    match i32::try_from(*found) {
-        Ok(number) => number,
-        Err(_) => unreachable!(),
-    }
+    i128::from(whole_in(item))
 }
 
 // ---- messages
@@ -269,13 +228,15 @@ pub(crate) fn children<'a>(
     ensures { IfOk result (λ found. map message_of found.items
         ≡ children_at number (message_of message.now)) }
 {
-    let values = items(alloc, message, number)?;
-    let mut children = Vec::with_capacity(alloc, values.len())?;
-    for value in &values {
-        let Some(child) = child_in(value) else {
-            continue;
-        };
-        children.push(child)?;
+    let Some(content) = content(message, number) else {
+        return Ok(Vec::new(alloc));
+    };
+    let count = item_count(content);
+    let mut children = Vec::with_capacity(alloc, count)?;
+    for at in 0..count {
+        if let SaidItem::Message(child) = item_of(content, at) {
+            children.push(child)?;
+        }
     }
     Ok(children)
 }
@@ -310,10 +271,13 @@ pub(crate) fn texts<'a>(
 ) -> Result<Vec<&'a str>, AllocError>
     ensures { IfOk result (λ found. lent found.items ≡ texts_at number (message_of message.now)) }
 {
-    let values = items(alloc, message, number)?;
-    let mut texts = Vec::new(alloc);
-    for value in &values {
-        texts.push(text_in(value))?;
+    let Some(content) = content(message, number) else {
+        return Ok(Vec::new(alloc));
+    };
+    let count = item_count(content);
+    let mut texts = Vec::with_capacity(alloc, count)?;
+    for at in 0..count {
+        texts.push(text_in(&item_of(content, at)))?;
     }
     Ok(texts)
 }
@@ -365,10 +329,13 @@ pub(crate) fn numbers(
 ) -> Result<Vec<i128>, AllocError>
     ensures { IfOk result (λ found. found.items ≡ numbers_at number (message_of message.now)) }
 {
-    let values = items(alloc, message, number)?;
-    let mut numbers = Vec::new(alloc);
-    for value in &values {
-        numbers.push(number_in(value))?;
+    let Some(content) = content(message, number) else {
+        return Ok(Vec::new(alloc));
+    };
+    let count = item_count(content);
+    let mut numbers = Vec::with_capacity(alloc, count)?;
+    for at in 0..count {
+        numbers.push(number_in(&item_of(content, at)))?;
     }
     Ok(numbers)
 }

@@ -5,10 +5,10 @@ ghost use Rattle.std.specs.Option.{unwrap_or};
 ghost use Rattle.pg_dyn.specs.Kept.{message_of};
 ghost use Rattle.pg_dyn.specs.Message.{ends};
 ghost use Rattle.pg_fds.specs.declared.error.Unstated.TheVariants.{Memory};
-ghost use Rattle.pg_fds.specs.writing.Building.{shown};
 ghost use Rattle.pg_fds.specs.descriptor.Lent.{lent};
 ghost use Rattle.pg_fds.specs.stated.StatedFiles.{file, has_public_places, mode_of, numbered, option_value, options_under};
 ghost use Rattle.pg_fds.specs.reading.OutlinedPlaces.{placed_file};
+ghost use Rattle.pg_fds.specs.reading.SaidItems.{said};
 ghost use Rattle.pg_fds.specs.stated.Outlines.{row};
 ghost use Rattle.pg_fds.specs.reading.Owners.{means_of};
 ghost use Rattle.pg_fds.specs.declared.descriptor.proto.TheConstants as proto;
@@ -31,7 +31,6 @@ use crate::reading::meanings::type_meant;
 use crate::reading::names_table::NameTable;
 use crate::reading::outline::{Outlined, OutlinedFile};
 use crate::reading::set_files::is_left_out;
-use pg_dyn::Value;
 use pg_schema::{
     File, FileOption, Import, Method, MethodOptions, OptimizeMode, OptionValue, Service,
     ServiceOptions,
@@ -154,9 +153,9 @@ fn numbered(number: u32, found: i128) -> OptionValue
 
 // The value of the option of that number.
 fn option_value(alloc: Global, number: u32, item: &SaidItem<'_>) -> Result<OptionValue, AllocError>
-    ensures { IfOk result (λ made. value_of made ≡ option_value number (shown item.now)) }
+    ensures { IfOk result (λ made. value_of made ≡ option_value number (said item.now)) }
 {
-    if let Value::Int(_) = item.value() {
+    if let SaidItem::Number(_) = item {
         return Ok(numbered(number, number_in(item)));
     }
     let found = text_in(item);

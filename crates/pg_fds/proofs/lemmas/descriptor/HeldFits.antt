@@ -13,17 +13,19 @@ use Rattle.pg_schema.specs.declared.parts.field.Scalar.TheVariants as scalars
 use Rattle.pg_schema.specs.declared.parts.field.TypeId.{TypeId}
 use Rattle.pg_schema.specs.Shape.{FieldShape, Shape, field_at, fields}
 use Rattle.pg_schema.proofs.lemmas.rules.PairLemmas.{and_left, and_right}
-use Rattle.pg_dyn.specs.declared.message.Content.{Content}
-use Rattle.pg_dyn.specs.declared.message.Content.TheVariants as contents
-use Rattle.pg_dyn.specs.declared.message.Value.{Value}
-use Rattle.pg_dyn.specs.declared.message.Value.TheVariants as values
+use Rattle.pg_dyn.specs.declared.message_ref.ContentRef.{ContentRef}
+use Rattle.pg_dyn.specs.declared.message_ref.ContentRef.TheVariants as contents
+use Rattle.pg_dyn.specs.declared.message_ref.EntryRef.{EntryRef}
+use Rattle.pg_dyn.specs.declared.message_ref.ValueRef.{ValueRef}
+use Rattle.pg_dyn.specs.declared.message_ref.ValueRef.TheVariants as values
 use Rattle.pg_dyn.specs.Belonging.{IsMessage, LeafFits}
 use Rattle.pg_dyn.specs.Coding.{InRange, scalar_form}
 use Rattle.pg_dyn.specs.encoding.Encoding.{child_type}
 use Rattle.pg_dyn.specs.Fits.{Fits, PartsAgree}
 use Rattle.pg_dyn.specs.Kept.{Kept, KeptItem, Plain, Msg, ends, holds, nests, message_of, of_number, parts_of, type_of}
 use Rattle.pg_dyn.specs.Message.{Bytes, F32, F64, Int, Part, is_of}
-use Rattle.pg_dyn.specs.Seen.{content_seen, item_seen, leaf_of}
+use Rattle.pg_dyn.specs.Borrowed.{content_seen, entry_part, item_part, item_seen}
+use Rattle.pg_dyn.specs.NumberLists.{numbers_in}
 use Rattle.pg_dyn.specs.Texts.{KeepsTexts, is_string, is_string_by}
 use Rattle.pg_fds.specs.writing.Building.{written_shape}
 use Rattle.pg_fds.specs.descriptor.Descriptor.{descriptor_shape}
@@ -121,22 +123,72 @@ number_held f (elements.Scalar s) n known fits = of s n known fits.0
     of scalars.String n known range = absurd range
     of scalars.Bytes n known range = absurd range
 
+-- there are no floats
+no_float : (f : FieldShape) (e : Element) (bits : ℕ) → is_known_element e ≡ true → LeafFits (record f { element = e }) (F32 bits) → ⊥
+no_float f (elements.Message t) bits known fits = fits
+no_float f (elements.Enum e) bits known fits = fits.0
+no_float f (elements.Scalar s) bits known fits = of s known fits.0
+  where
+    of : (s : Scalar) → is_known_scalar s ≡ true → InRange (scalar_form s) (F32 bits) → ⊥
+    of scalars.Double known range = range
+    of scalars.Float known range = false≢true known
+    of scalars.Int32 known range = range
+    of scalars.Int64 known range = range
+    of scalars.Uint32 known range = range
+    of scalars.Uint64 known range = range
+    of scalars.Sint32 known range = range
+    of scalars.Sint64 known range = range
+    of scalars.Fixed32 known range = range
+    of scalars.Fixed64 known range = range
+    of scalars.Sfixed32 known range = range
+    of scalars.Sfixed64 known range = range
+    of scalars.Bool known range = range
+    of scalars.String known range = range
+    of scalars.Bytes known range = range
+
+no_double : (f : FieldShape) (e : Element) (bits : ℕ) → is_known_element e ≡ true → LeafFits (record f { element = e }) (F64 bits) → ⊥
+no_double f (elements.Message t) bits known fits = fits
+no_double f (elements.Enum e) bits known fits = fits.0
+no_double f (elements.Scalar s) bits known fits = of s known fits.0
+  where
+    of : (s : Scalar) → is_known_scalar s ≡ true → InRange (scalar_form s) (F64 bits) → ⊥
+    of scalars.Double known range = false≢true known
+    of scalars.Float known range = range
+    of scalars.Int32 known range = range
+    of scalars.Int64 known range = range
+    of scalars.Uint32 known range = range
+    of scalars.Uint64 known range = range
+    of scalars.Sint32 known range = range
+    of scalars.Sint64 known range = range
+    of scalars.Fixed32 known range = range
+    of scalars.Fixed64 known range = range
+    of scalars.Sfixed32 known range = range
+    of scalars.Sfixed64 known range = range
+    of scalars.Bool known range = range
+    of scalars.String known range = range
+    of scalars.Bytes known range = range
+
 -- ---- messages of it
 
 child_is : (fs : List FieldShape) (number : ℕ) (f : FieldShape) (of : TypeId) → field_at fs number ≡ Some f → f.element ≡ elements.Message of → child_type fs number ≡ of
 child_is fs number f of found kind = rw (found, kind) refl
 
 module _ (shape : Shape) (known : list_all are_known shape ≡ true) where
+  -- the field of a number that a part of the message has
+  known_at : (type : TypeId) (number : ℕ) (f : FieldShape) → field_at (fields shape type) number ≡ Some f → is_known_field f ≡ true
+  known_at type number f found = field_known (fields shape type) number f found (type_known shape type.index known)
+
   message_held : (m : Kept) → IsMessage shape (type_of m) (message_of m) → PartsAgree shape m → KeepsTexts shape m → IsHeldMessage m
   message_held (ends type unknown) is agree keeps = tt
   message_held (holds number key manner (Int n) later) is agree keeps =
-      let f = is.0.field in
-      (number_held f f.element n (field_known (fields shape (type_of later)) number f is.0.found (type_known shape (type_of later).index known)) is.1, message_held later is.2 agree.1 keeps.1)
-  message_held (holds number key manner (F32 bits) later) is agree keeps = message_held later is.2 agree.1 keeps.1
-  message_held (holds number key manner (F64 bits) later) is agree keeps = message_held later is.2 agree.1 keeps.1
+      let f = is.0.field in (number_held f f.element n (known_at (type_of later) number f is.0.found) is.1, message_held later is.2 agree.1 keeps.1)
+  message_held (holds number key manner (F32 bits) later) is agree keeps =
+      let f = is.0.field in no_float f f.element bits (known_at (type_of later) number f is.0.found) is.1
+  message_held (holds number key manner (F64 bits) later) is agree keeps =
+      let f = is.0.field in no_double f f.element bits (known_at (type_of later) number f is.0.found) is.1
   message_held (holds number key manner (Bytes bytes) later) is agree keeps =
       let f = is.0.field in
-      let string = of_string f f.element bytes (field_known (fields shape (type_of later)) number f is.0.found (type_known shape (type_of later).index known)) is.1 in
+      let string = of_string f f.element bytes (known_at (type_of later) number f is.0.found) is.1 in
       (keeps.0 ∙ ap is_string_by is.0.found ∙ string, message_held later is.2 agree.1 keeps.1)
   message_held (nests number key listed child later) is agree keeps =
       let same : is.1 ≡ type_of child = sym (child_is (fields shape (type_of later)) number is.0.field is.1 is.0.found is.2) ∙ agree.1 in
@@ -150,8 +202,8 @@ set_held set fits keeps = message_held descriptor_shape refl set fits.is_message
 
 abbrev IsHeldItem : KeptItem → Type 0
 IsHeldItem (Plain manner (Int n)) = FitsSigned w32 n
-IsHeldItem (Plain manner (F32 bits)) = Unit {0}
-IsHeldItem (Plain manner (F64 bits)) = Unit {0}
+IsHeldItem (Plain manner (F32 bits)) = ⊥
+IsHeldItem (Plain manner (F64 bits)) = ⊥
 IsHeldItem (Plain manner (Bytes bytes)) = manner.text ≡ true
 IsHeldItem (Msg listed child) = IsHeldMessage child
 
@@ -161,8 +213,8 @@ IsHeldPart p = IsHeldItem p.item
 parts_held : (m : Kept) → IsHeldMessage m → AllByRecursion IsHeldPart (parts_of m)
 parts_held (ends type unknown) all = tt
 parts_held (holds number key manner (Int n) later) all = (all.0, parts_held later all.1)
-parts_held (holds number key manner (F32 bits) later) all = (tt, parts_held later all)
-parts_held (holds number key manner (F64 bits) later) all = (tt, parts_held later all)
+parts_held (holds number key manner (F32 bits) later) all = absurd all
+parts_held (holds number key manner (F64 bits) later) all = absurd all
 parts_held (holds number key manner (Bytes bytes) later) all = (all.0, parts_held later all.1)
 parts_held (nests number key listed child later) all = (all.0, parts_held later all.1)
 
@@ -174,33 +226,33 @@ filtered test (p ∷ ps) all = step (test p) (filtered test ps all.1)
     step true later = (all.0, later)
     step false later = later
 
-item_said : (listed : Bool) (v : Value) → IsHeldItem (item_seen listed v) → IsSaid v
+item_said : (listed : Bool) (v : ValueRef) → IsHeldItem (item_seen listed v) → IsSaid v
 item_said listed (values.Int n) is = is
-item_said listed (values.F32 bits) is = tt
-item_said listed (values.F64 bits) is = tt
+item_said listed (values.F32 bits) is = is
+item_said listed (values.F64 bits) is = is
 item_said listed (values.Text text) is = tt
 item_said listed (values.Bytes bytes) is = false≢true is
 item_said listed (values.Msg child) is = is
 
-content_said : (n : ℕ) (content : Content) → AllByRecursion IsHeldPart (content_seen n content) → AreSaid content
-content_said n (contents.One v) all = item_said false v all.0
-content_said n (contents.Many vs) all = each vs.items all
-  where
-    each : (vs : List Value) → AllByRecursion IsHeldPart (map (λ (v : Value). record { number = n; key = None; item = item_seen true v }) vs) → AllByRecursion IsSaid vs
-    each [] all = tt
-    each (v ∷ vs) all = (item_said true v all.0, each vs all.1)
+items_said : (n : ℕ) (vs : List ValueRef) → AllByRecursion IsHeldPart (map (item_part n true) vs) → AllByRecursion IsSaid vs
+items_said n [] all = tt
+items_said n (v ∷ vs) all = (item_said true v all.0, items_said n vs all.1)
+
+content_said : (n : ℕ) (content : ContentRef) → AllByRecursion IsHeldPart (content_seen n content) → AreSaid content
+content_said n (contents.One v) all = (item_said false v all.0, tt)
+content_said n (contents.Many vs) all = items_said n vs.items all
+content_said n (contents.Numbers ns) all = items_said n (numbers_in ns) all
 content_said n (contents.Map es) all = each es.items all
   where
-    each : (es : List (Value × Value)) → AllByRecursion IsHeldPart (map (λ (e : Value × Value). record { number = n; key = Some (leaf_of e.0); item = item_seen false e.1 }) es)
-        → AllByRecursion (λ (e : Value × Value). IsSaid e.1) es
+    each : (es : List EntryRef) → AllByRecursion IsHeldPart (map (entry_part n) es) → AllByRecursion IsSaid (map (λ (e : EntryRef). e.value) es)
     each [] all = tt
-    each (e ∷ es) all = (item_said false e.1 all.0, each es all.1)
+    each (e ∷ es) all = (item_said false e.value all.0, each es all.1)
 
 -- the items of a field of a held message
-pub field_said : (n : ℕ) (m : Kept) (content : Content) → of_number n m ≡ content_seen n content → IsHeldMessage m → AreSaid content
+pub field_said : (n : ℕ) (m : Kept) (content : ContentRef) → of_number n m ≡ content_seen n content → IsHeldMessage m → AreSaid content
 field_said n m content seen all = content_said n content (subst (AllByRecursion IsHeldPart) seen (filtered (is_of n) (parts_of m) (parts_held m all)))
 
-pub found_said : (n : ℕ) (m : Kept) (r : Option (Bor Content)) → MatchOption r (of_number n m ≡ []) (λ content. of_number n m ≡ content_seen n content.now) → IsHeldMessage m
+pub found_said : (n : ℕ) (m : Kept) (r : Option (Bor ContentRef)) → MatchOption r (of_number n m ≡ []) (λ content. of_number n m ≡ content_seen n content.now) → IsHeldMessage m
     → IfSome r (λ content. AreSaid content.now)
 found_said n m None none all = tt
 found_said n m (Some content) seen all = field_said n m content.now seen all

@@ -1,21 +1,26 @@
 -- What messages say by the numbers of their fields, from what they keep.
-use Rattle.std.proofs.Common.{◌≡◌, ℕ, zero, suc, ◌+◌, ◌<◌, ◌≤◌, Bool, true, false, cond, List, [], ◌∷◌, ◌++◌, map, length, take, get_or, filter, Option, Some, None, option_map, slice_get, refl, ap, sym, subst, ◌∙◌, arith, add-one, eq-eqb}
-use Rattle.std.proofs.lemmas.List.Elements.{filter-append}
-use Rattle.std.proofs.lemmas.Option.{none-some}
+use Rattle.std.proofs.Common.{◌≡◌, ℕ, zero, suc, ◌+◌, ◌<◌, ◌≤◌, Bool, true, false, cond, List, [], ◌∷◌, ◌++◌, map, length, take, get_or, filter, filter_map, Global, Vec, Some, None, option_map, slice_get, take_all, refl, ap, sym, subst, ◌∙◌, arith, add-one, eq-eqb}
+use Rattle.std.proofs.lemmas.List.{append-nil, length-map, map-append}
+use Rattle.std.proofs.lemmas.List.Elements.{filter-append, filter_map-append}
+use Rattle.std.proofs.lemmas.Option.{none-some, same_Some, slice_get-map, slice_get_read}
 use Rattle.std.specs.List.{AllByRecursion}
 use Rattle.pg_schema.specs.declared.parts.field.TypeId.{TypeId}
 use Rattle.pg_wire.specs.Records.{WireRecord}
-use Rattle.pg_dyn.specs.declared.message.Content.{Content}
-use Rattle.pg_dyn.specs.declared.message.Content.TheVariants as contents
-use Rattle.pg_dyn.specs.declared.message.Value.{Value}
-use Rattle.pg_dyn.specs.declared.message.Value.TheVariants as values
+use Rattle.pg_dyn.specs.declared.message_ref.ContentRef.{ContentRef}
+use Rattle.pg_dyn.specs.declared.message_ref.ContentRef.TheVariants as contents
+use Rattle.pg_dyn.specs.declared.message_ref.EntryRef.{EntryRef}
+use Rattle.pg_dyn.specs.declared.message_ref.ValueRef.{ValueRef}
+use Rattle.pg_dyn.specs.declared.message_ref.ValueRef.TheVariants as values
 use Rattle.pg_dyn.specs.Kept.{Kept, KeptItem, ends, parts_of, message_of, of_number}
-use Rattle.pg_dyn.specs.Message.{Item, Part, is_of, parts}
-use Rattle.pg_dyn.specs.Seen.{IsFilled, content_seen, fields_onto, item_seen, leaf_of}
-use Rattle.pg_dyn.proofs.lemmas.KeptParts.{parts_of-content_onto}
-use Rattle.pg_dyn.proofs.lemmas.ReplacingLaws.{parts-message_of, item_of, part_item}
-use Rattle.pg_fds.specs.writing.Building.{shown}
-use Rattle.pg_fds.specs.stated.Said.{item_at, items_at}
+use Rattle.pg_dyn.specs.Message.{Item, Message, Part, is_of, parts}
+use Rattle.pg_dyn.specs.Borrowed.{IsFilled, all_seen, content_seen, entry_part, fields_onto, item_part, item_seen}
+use Rattle.pg_dyn.specs.NumberLists.{numbers_in}
+use Rattle.pg_dyn.proofs.lemmas.ReplacingLaws.{item_of, part_item, parts-message_of, parts_of-kept_onto}
+use Rattle.pg_fds.specs.declared.descriptor.access.SaidItem.{SaidItem}
+use Rattle.pg_fds.specs.declared.descriptor.access.SaidItem.TheVariants as items
+use Rattle.pg_fds.specs.reading.Held.{IsSaid, items_in, value_item, values_in}
+use Rattle.pg_fds.specs.reading.SaidItems.{said}
+use Rattle.pg_fds.specs.stated.Said.{child_in, item_at, items_at}
 
 filtered : (n : ℕ) (ps : List (Part KeptItem)) → filter (is_of n) (map part_item ps) ≡ map part_item (filter (is_of n) ps)
 filtered n [] = refl
@@ -36,13 +41,32 @@ items_kept n m =
     ap (λ ps. map (λ (p : Part Item). p.item) (filter (is_of n) ps)) (parts-message_of m)
     ∙ ap (map (λ (p : Part Item). p.item)) (filtered n (parts_of m)) ∙ items_of_parts (of_number n m)
 
-shown_kept : (listed : Bool) (v : Value) → item_of (item_seen listed v) ≡ shown v
-shown_kept listed (values.Int n) = refl
-shown_kept listed (values.F32 n) = refl
-shown_kept listed (values.F64 n) = refl
-shown_kept listed (values.Text n) = refl
-shown_kept listed (values.Bytes n) = refl
-shown_kept listed (values.Msg n) = refl
+item_kept : (listed : Bool) (v : ValueRef) → item_of (item_seen listed v) ≡ value_item v
+item_kept listed (values.Int n) = refl
+item_kept listed (values.F32 n) = refl
+item_kept listed (values.F64 n) = refl
+item_kept listed (values.Text n) = refl
+item_kept listed (values.Bytes n) = refl
+item_kept listed (values.Msg n) = refl
+
+list_kept : (n : ℕ) (vs : List ValueRef) → map (λ (p : Part KeptItem). item_of p.item) (map (item_part n true) vs) ≡ map value_item vs
+list_kept n [] = refl
+list_kept n (v ∷ vs) = ap (λ x. x ∷ map (λ (p : Part KeptItem). item_of p.item) (map (item_part n true) vs)) (item_kept true v) ∙ ap (λ xs. value_item v ∷ xs) (list_kept n vs)
+
+entries_kept : (n : ℕ) (es : List EntryRef) → map (λ (p : Part KeptItem). item_of p.item) (map (entry_part n) es) ≡ map value_item (map (λ (e : EntryRef). e.value) es)
+entries_kept n [] = refl
+entries_kept n (e ∷ es) =
+    ap (λ x. x ∷ map (λ (p : Part KeptItem). item_of p.item) (map (entry_part n) es)) (item_kept false e.value) ∙ ap (λ xs. value_item e.value ∷ xs) (entries_kept n es)
+
+content_kept : (n : ℕ) (content : ContentRef) → map (λ (p : Part KeptItem). item_of p.item) (content_seen n content) ≡ items_in content
+content_kept n (contents.One v) = ap (λ x. x ∷ []) (item_kept false v)
+content_kept n (contents.Many vs) = list_kept n vs.items
+content_kept n (contents.Map es) = entries_kept n es.items
+content_kept n (contents.Numbers ns) = list_kept n (numbers_in ns)
+
+-- a field's items are those of its content
+pub content_items : (n : ℕ) (m : Kept) (content : ContentRef) → of_number n m ≡ content_seen n content → items_in content ≡ items_at n (message_of m)
+content_items n m content seen = sym (items_kept n m ∙ ap (map (λ (p : Part KeptItem). item_of p.item)) seen ∙ content_kept n content)
 
 pub no_items : (n : ℕ) (m : Kept) → of_number n m ≡ [] → items_at n (message_of m) ≡ []
 no_items n m none = items_kept n m ∙ ap (map (λ (p : Part KeptItem). item_of p.item)) none
@@ -50,62 +74,80 @@ no_items n m none = items_kept n m ∙ ap (map (λ (p : Part KeptItem). item_of 
 pub no_item : (n : ℕ) (m : Kept) → of_number n m ≡ [] → None ≡ item_at n (message_of m)
 no_item n m none = sym (ap (λ (xs : List Item). slice_get xs 0) (no_items n m none))
 
-pub one_item : (n : ℕ) (m : Kept) (v : Value) → of_number n m ≡ content_seen n (contents.One v) → Some (shown v) ≡ item_at n (message_of m)
-one_item n m v one =
-    sym (ap (λ (xs : List Item). slice_get xs 0) (items_kept n m ∙ ap (map (λ (p : Part KeptItem). item_of p.item)) one) ∙ ap Some (shown_kept false v))
-
-shown_list : (n : ℕ) (vs : List Value) → map (λ (p : Part KeptItem). item_of p.item) (map (λ (v : Value). record { number = n; key = None; item = item_seen true v }) vs) ≡ map shown vs
-shown_list n [] = refl
-shown_list n (v ∷ vs) = ap (λ x. x ∷ map (λ (p : Part KeptItem). item_of p.item) (map (λ (v : Value). record { number = n; key = None; item = item_seen true v }) vs)) (shown_kept true v) ∙ ap (λ xs. shown v ∷ xs) (shown_list n vs)
-
-pub many_items : (n : ℕ) (m : Kept) (vs : List Value) → of_number n m ≡ map (λ (v : Value). record { number = n; key = None; item = item_seen true v }) vs → map shown vs ≡ items_at n (message_of m)
-many_items n m vs many = sym (items_kept n m ∙ ap (map (λ (p : Part KeptItem). item_of p.item)) many ∙ shown_list n vs)
-
--- ---- the items of other contents
-
-first_shown : (vs : List Value) → option_map shown (slice_get vs 0) ≡ slice_get (map shown vs) 0
-first_shown [] = refl
-first_shown (v ∷ vs) = refl
-
--- the first of several
-pub first_of : (n : ℕ) (m : Kept) (vs : List Value) (first : Option Value) → map shown vs ≡ items_at n (message_of m) → first ≡ slice_get vs 0 → option_map shown first ≡ item_at n (message_of m)
-first_of n m vs first are is = ap (option_map shown) is ∙ (first_shown vs ∙ ap (λ (xs : List Item). slice_get xs 0) are)
-
-pub one_of : (n : ℕ) (m : Kept) (v : Value) → of_number n m ≡ content_seen n (contents.One v) → shown v ∷ [] ≡ items_at n (message_of m)
-one_of n m v one = sym (items_kept n m ∙ ap (map (λ (p : Part KeptItem). item_of p.item)) one ∙ ap (λ x. x ∷ []) (shown_kept false v))
-
-abbrev entry_part : ℕ → Value × Value → Part KeptItem
-entry_part n e = record { number = n; key = Some (leaf_of e.0); item = item_seen false e.1 }
-
-shown_entries : (n : ℕ) (es : List (Value × Value)) → map (λ (p : Part KeptItem). item_of p.item) (map (entry_part n) es) ≡ map shown (map (λ (e : Value × Value). e.1) es)
-shown_entries n [] = refl
-shown_entries n (e ∷ es) =
-    ap (λ x. x ∷ map (λ (p : Part KeptItem). item_of p.item) (map (entry_part n) es)) (shown_kept false e.1) ∙ ap (λ xs. shown e.1 ∷ xs) (shown_entries n es)
-
-pub entry_items : (n : ℕ) (m : Kept) (es : List (Value × Value)) → of_number n m ≡ map (entry_part n) es → map shown (map (λ (e : Value × Value). e.1) es) ≡ items_at n (message_of m)
-entry_items n m es entries = sym (items_kept n m ∙ ap (map (λ (p : Part KeptItem). item_of p.item)) entries ∙ shown_entries n es)
-
-first_shown_entry : (es : List (Value × Value)) → option_map shown (option_map (λ (e : Value × Value). e.1) (slice_get es 0)) ≡ slice_get (map shown (map (λ (e : Value × Value). e.1) es)) 0
-first_shown_entry [] = refl
-first_shown_entry (e ∷ es) = refl
-
--- the value of the first of several entries
-pub first_entry : (n : ℕ) (m : Kept) (es : List (Value × Value)) (first : Option Value) → map shown (map (λ (e : Value × Value). e.1) es) ≡ items_at n (message_of m)
-    → first ≡ option_map (λ (e : Value × Value). e.1) (slice_get es 0) → option_map shown first ≡ item_at n (message_of m)
-first_entry n m es first are is = ap (option_map shown) is ∙ (first_shown_entry es ∙ ap (λ (xs : List Item). slice_get xs 0) are)
-
 -- ---- contents that are filled
 
 none_mapped : {A B : Type 0} (f : A → B) (xs : List A) → map f xs ≡ [] → xs ≡ []
 none_mapped f [] none = refl
 none_mapped f (x ∷ xs) none = absurd (omega (arith, ap length none))
 
--- a content has items
-pub filled_items : (n : ℕ) (m : Kept) (content : Content) → of_number n m ≡ content_seen n content → IsFilled content → items_at n (message_of m) ≡ [] → ⊥
-filled_items n m (contents.One v) is filled none = none-some (shown v) (sym (one_item n m v is ∙ ap (λ (xs : List Item). slice_get xs 0) none))
-filled_items n m (contents.Many vs) is filled none = filled (none_mapped shown vs.items (many_items n m vs.items is ∙ none))
-filled_items n m (contents.Map es) is filled none =
-    filled (none_mapped (λ (e : Value × Value). e.1) es.items (none_mapped shown (map (λ (e : Value × Value). e.1) es.items) (entry_items n m es.items is ∙ none)))
+some_values : (vs : List ValueRef) → (vs ≡ [] → ⊥) → 0 < length vs
+some_values [] some = absurd (some refl)
+some_values (v ∷ vs) some = omega arith
+
+-- a content has values
+pub filled_values : (content : ContentRef) → IsFilled content → 0 < length (values_in content)
+filled_values (contents.One v) filled = omega arith
+filled_values (contents.Many vs) filled = some_values vs.items filled
+filled_values (contents.Map es) filled = some_values (map (λ (e : EntryRef). e.value) es.items) (λ none. filled (none_mapped (λ (e : EntryRef). e.value) es.items none))
+filled_values (contents.Numbers ns) filled = some_values (numbers_in ns) filled
+
+-- and so items
+pub filled_items : (n : ℕ) (m : Kept) (content : ContentRef) → of_number n m ≡ content_seen n content → IsFilled content → items_at n (message_of m) ≡ [] → ⊥
+filled_items n m content seen filled none =
+    let empty : values_in content ≡ [] = none_mapped value_item (values_in content) (content_items n m content seen ∙ none) in
+    omega (arith, filled_values content filled, ap length empty)
+
+-- ---- items by their places
+
+pub many_there : (content : ContentRef) (vs : Vec ValueRef Global) (i : ℕ) (v : ValueRef) → content ≡ contents.Many vs → i < length (values_in content) → v ≡ get_or vs.items i v
+    → slice_get (values_in content) i ≡ Some v
+many_there content vs i v is within read =
+    subst (λ c. i < length (values_in c) → slice_get (values_in c) i ≡ Some v) (sym is) (λ h. slice_get_read vs.items (length vs.items) i v refl h read) within
+
+value_there : (es : List EntryRef) (i : ℕ) (e : EntryRef) → i < length (map (λ (e : EntryRef). e.value) es) → e ≡ get_or es i e → slice_get (map (λ (e : EntryRef). e.value) es) i ≡ Some e.value
+value_there [] i e within read = absurd (omega (arith, within))
+value_there (d ∷ es) zero e within read = ap (λ (x : EntryRef). Some x.value) (sym read)
+value_there (d ∷ es) (suc i) e within read = value_there es i e (omega (arith, within)) read
+
+pub entry_there : (content : ContentRef) (es : Vec EntryRef Global) (i : ℕ) (e : EntryRef) → content ≡ contents.Map es → i < length (values_in content) → e ≡ get_or es.items i e
+    → slice_get (values_in content) i ≡ Some e.value
+entry_there content es i e is within read =
+    subst (λ c. i < length (values_in c) → slice_get (values_in c) i ≡ Some e.value) (sym is) (λ h. value_there es.items i e h read) within
+
+-- a value is said where all are
+pub said_there : (vs : List ValueRef) (i : ℕ) (v : ValueRef) → slice_get vs i ≡ Some v → AllByRecursion IsSaid vs → IsSaid v
+said_there [] i v there all = absurd (none-some v there)
+said_there (w ∷ vs) zero v there all = subst IsSaid (same_Some w v there) all.0
+said_there (w ∷ vs) (suc i) v there all = said_there vs i v there all.1
+
+pub item_there : (content : ContentRef) (i : ℕ) (v : ValueRef) (item : Item) → slice_get (values_in content) i ≡ Some v → item ≡ value_item v → slice_get (items_in content) i ≡ Some item
+item_there content i v item there is = slice_get-map value_item (values_in content) i ∙ (ap (option_map value_item) there ∙ ap Some (sym is))
+
+up_to : {A : Type 0} (xs : List A) (i : ℕ) (x : A) → slice_get xs i ≡ Some x → take (suc i) xs ≡ take i xs ++ x ∷ []
+up_to [] i x there = absurd (none-some x there)
+up_to (y ∷ ys) zero x there = ap (λ z. z ∷ []) (same_Some y x there)
+up_to (y ∷ ys) (suc i) x there = ap (λ zs. y ∷ zs) (up_to ys i x there)
+
+-- what is made of the items up to a place, and of the one there
+pub one_more : {B : Type 0} (f : Item → B) (xs : List Item) (i : ℕ) (x : Item) (made : List B) → slice_get xs i ≡ Some x → made ≡ map f (take i xs) → made ++ f x ∷ [] ≡ map f (take (i + 1) xs)
+one_more f xs i x made there before =
+    ap (λ ys. ys ++ f x ∷ []) before ∙ (sym (map-append f (take i xs) (x ∷ [])) ∙ ap (map f) (sym (up_to xs i x there) ∙ ap (λ n. take n xs) (sym (add-one i))))
+
+pub children_more : (xs : List Item) (i : ℕ) (x : Item) (made : List Message) → slice_get xs i ≡ Some x → made ≡ filter_map child_in (take i xs)
+    → made ++ filter_map child_in (x ∷ []) ≡ filter_map child_in (take (i + 1) xs)
+children_more xs i x made there before =
+    ap (λ ys. ys ++ filter_map child_in (x ∷ [])) before
+    ∙ (sym (filter_map-append child_in (take i xs) (x ∷ [])) ∙ ap (filter_map child_in) (sym (up_to xs i x there) ∙ ap (λ n. take n xs) (sym (add-one i))))
+
+pub no_child : (item : SaidItem) → ((child : Kept) → item ≡ items.Message child → ⊥) → filter_map child_in (said item ∷ []) ≡ []
+no_child (items.Number n) other = refl
+no_child (items.Text text) other = refl
+no_child (items.Message child) other = absurd (other child refl)
+
+-- all of them are the field's
+pub all_items : (n : ℕ) (m : Kept) (content : ContentRef) (count i : ℕ) → of_number n m ≡ content_seen n content → count ≡ length (values_in content) → count ≤ i → take i (items_in content) ≡ items_at n (message_of m)
+all_items n m content count i seen is past =
+    take_all i (items_in content) (omega (arith, length-map (values_in content) value_item, is, past)) ∙ content_items n m content seen
 
 -- ---- messages without contents
 
@@ -117,29 +159,29 @@ own_parts : {A : Type 0} (n : ℕ) (f : A → Part KeptItem) → ((x : A) → (f
 own_parts n f is [] = refl
 own_parts n f is (x ∷ xs) = rw (is x, eq-eqb n n refl, own_parts n f is xs)
 
-own_content : (n : ℕ) (content : Content) → filter (is_of n) (content_seen n content) ≡ content_seen n content
-own_content n (contents.One v) = own_parts n (λ (v : Value). record { number = n; key = None; item = item_seen false v }) (λ x. refl) (v ∷ [])
-own_content n (contents.Many vs) = own_parts n (λ (v : Value). record { number = n; key = None; item = item_seen true v }) (λ x. refl) vs.items
+own_content : (n : ℕ) (content : ContentRef) → filter (is_of n) (content_seen n content) ≡ content_seen n content
+own_content n (contents.One v) = own_parts n (item_part n false) (λ x. refl) (v ∷ [])
+own_content n (contents.Many vs) = own_parts n (item_part n true) (λ x. refl) vs.items
 own_content n (contents.Map es) = own_parts n (entry_part n) (λ x. refl) es.items
+own_content n (contents.Numbers ns) = own_parts n (item_part n true) (λ x. refl) (numbers_in ns)
 
-none_left : (fs : List (ℕ × Content)) (later : Kept) (ps : List (Part KeptItem)) → parts_of (fields_onto fs later) ≡ ps → parts_of later ≡ []
-    → AllByRecursion (λ (f : ℕ × Content). filter (is_of f.0) ps ≡ []) fs → ps ≡ []
-none_left [] later ps is none all = sym is ∙ none
-none_left (f ∷ fs) later ps is none all =
-    let whole : content_seen f.0 f.1 ++ parts_of (fields_onto fs later) ≡ ps = sym (parts_of-content_onto f.0 f.1 (fields_onto fs later)) ∙ is in
-    let own : filter (is_of f.0) (content_seen f.0 f.1) ++ filter (is_of f.0) (parts_of (fields_onto fs later)) ≡ [] =
-    sym (filter-append (is_of f.0) (content_seen f.0 f.1) (parts_of (fields_onto fs later))) ∙ (ap (filter (is_of f.0)) whole ∙ all.0) in
+none_left : (fs : List (ℕ × ContentRef)) (ps : List (Part KeptItem)) → all_seen fs ≡ ps → AllByRecursion (λ (f : ℕ × ContentRef). filter (is_of f.0) ps ≡ []) fs → ps ≡ []
+none_left [] ps is all = sym is
+none_left (f ∷ fs) ps is all =
+    let own : filter (is_of f.0) (content_seen f.0 f.1) ++ filter (is_of f.0) (all_seen fs) ≡ [] = sym (filter-append (is_of f.0) (content_seen f.0 f.1) (all_seen fs)) ∙ (ap (filter (is_of f.0)) is ∙ all.0) in
     let front : content_seen f.0 f.1 ≡ [] = sym (own_content f.0 f.1) ∙ front_nil (filter (is_of f.0) (content_seen f.0 f.1)) _ own in
-    none_left fs later ps (ap (λ xs. xs ++ parts_of (fields_onto fs later)) (sym front) ∙ whole) none all.1
+    none_left fs ps (ap (λ xs. xs ++ all_seen fs) (sym front) ∙ is) all.1
 
-unseen : (m : Kept) (fs : List (ℕ × Content)) → AllByRecursion (λ (f : ℕ × Content). items_at f.0 (message_of m) ≡ []) fs → AllByRecursion (λ (f : ℕ × Content). filter (is_of f.0) (parts_of m) ≡ []) fs
+unseen : (m : Kept) (fs : List (ℕ × ContentRef)) → AllByRecursion (λ (f : ℕ × ContentRef). items_at f.0 (message_of m) ≡ []) fs → AllByRecursion (λ (f : ℕ × ContentRef). filter (is_of f.0) (parts_of m) ≡ []) fs
 unseen m [] all = tt
 unseen m (f ∷ fs) all = (none_mapped (λ (p : Part KeptItem). item_of p.item) (of_number f.0 m) (sym (items_kept f.0 m) ∙ all.0), unseen m fs all.1)
 
 -- a message has no parts where it has no items under the numbers of its fields
-pub no_parts : (m : Kept) (fs : List (ℕ × Content)) (type : TypeId) (us : List WireRecord) → m ≡ fields_onto fs (ends type us)
-    → AllByRecursion (λ (f : ℕ × Content). items_at f.0 (message_of m) ≡ []) fs → parts (message_of m) ≡ []
-no_parts m fs type us is all = parts-message_of m ∙ ap (map part_item) (none_left fs (ends type us) (parts_of m) (ap parts_of (sym is)) refl (unseen m fs all))
+pub no_parts : (m : Kept) (fs : List (ℕ × ContentRef)) (type : TypeId) (us : List WireRecord) → m ≡ fields_onto fs (ends type us)
+    → AllByRecursion (λ (f : ℕ × ContentRef). items_at f.0 (message_of m) ≡ []) fs → parts (message_of m) ≡ []
+no_parts m fs type us is all =
+    let seen : all_seen fs ≡ parts_of m = sym (append-nil (all_seen fs)) ∙ (sym (parts_of-kept_onto (all_seen fs) (ends type us)) ∙ ap parts_of (sym is)) in
+    parts-message_of m ∙ ap (map part_item) (none_left fs (parts_of m) seen (unseen m fs all))
 
 all_suc : {A : Type 0} (P : A → Type 0) (xs : List A) (i : ℕ) (x : A) → i < length xs → x ≡ get_or xs i x → AllByRecursion P (take i xs) → P x → AllByRecursion P (take (suc i) xs)
 all_suc P [] i x h is before here = tt

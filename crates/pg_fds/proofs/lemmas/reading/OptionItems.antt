@@ -3,28 +3,25 @@ use Rattle.std.proofs.Common.{◌≡◌, ℕ, zero, suc, ◌+◌, ◌<◌, ℤ, 
 use Rattle.std.specs.List.{cons_option}
 use Rattle.pg_schema.specs.declared.parts.options.FileOption.{FileOption}
 use Rattle.pg_schema.specs.declared.parts.options.OptionValue.{OptionValue}
-use Rattle.pg_dyn.specs.declared.message.Value.{Value}
-use Rattle.pg_dyn.specs.declared.message.Value.TheVariants as held
 use Rattle.pg_dyn.specs.Message.{Item, Message}
-use Rattle.pg_fds.specs.writing.Building.{shown}
+use Rattle.pg_fds.specs.declared.descriptor.access.SaidItem.{SaidItem}
+use Rattle.pg_fds.specs.declared.descriptor.access.SaidItem.TheVariants as items
+use Rattle.pg_fds.specs.reading.SaidItems.{said}
 use Rattle.pg_fds.specs.stated.StatedFiles.{numbered, option_of, option_value, options_under}
 use Rattle.pg_fds.specs.writing.Messages.{where_found}
 use Rattle.pg_fds.specs.stated.Said.{item_at, number_of, text_of}
 use Rattle.pg_fds.specs.stated.Views.{OptionView, Text, option_view, value_of}
 
 -- what an item says that is a number
-pub number_said : (number : ℕ) (value : Value) (n : ℤ) → value ≡ held.Int n → (found : ℤ) → found ≡ number_of (shown value) → value_of (numbered number found) ≡ option_value number (shown value)
-number_said number value n is found same =
-    ap (λ k. value_of (numbered number k)) (same ∙ ap (λ v. number_of (shown v)) is) ∙ sym (ap (λ v. option_value number (shown v)) is)
+pub number_said : (number : ℕ) (item : SaidItem) (n : ℤ) → item ≡ items.Number n → (found : ℤ) → found ≡ number_of (said item) → value_of (numbered number found) ≡ option_value number (said item)
+number_said number item n is found same =
+    ap (λ k. value_of (numbered number k)) (same ∙ ap (λ v. number_of (said v)) is) ∙ sym (ap (λ v. option_value number (said v)) is)
 
 -- and one that isn't
-pub text_said : (number : ℕ) (value : Value) → ((n : ℤ) → value ≡ held.Int n → ⊥) → (text : List ℕ) → text ≡ text_of (shown value) → Text text ≡ option_value number (shown value)
-text_said number (held.Int n) other text is = absurd (other n refl)
-text_said number (held.F32 n) other text is = ap Text is
-text_said number (held.F64 n) other text is = ap Text is
-text_said number (held.Text n) other text is = ap Text is
-text_said number (held.Bytes n) other text is = ap Text is
-text_said number (held.Msg n) other text is = ap Text is
+pub text_said : (number : ℕ) (item : SaidItem) → ((n : ℤ) → item ≡ items.Number n → ⊥) → (text : List ℕ) → text ≡ text_of (said item) → Text text ≡ option_value number (said item)
+text_said number (items.Number n) other text is = absurd (other n refl)
+text_said number (items.Text found) other text is = ap Text is
+text_said number (items.Message child) other text is = ap Text is
 
 -- ---- one after the other
 

@@ -9,8 +9,8 @@ use Rattle.pg_fds.specs.descriptor.Descriptor.{file_set}
 use Rattle.pg_fds.proofs.lemmas.descriptor.HeldFits.{set_held}
 use Rattle.pg_fds.proofs.reading.decoded.Goals as goal
 
-pub decode-requires : goal.decode-requires
-decode-requires c = record { type_id = subst (λ s. 0 < length s) (sym c.in_ok-table.ensures.shape) (search rules) }
+pub decode_ref-requires : goal.decode_ref-requires
+decode_ref-requires c = record { type_id = subst (λ s. 0 < length s) (sym c.in_ok-table.ensures.shape) (search rules) }
 
 pub returns-in-Ok-clause-message : goal.returns-in-Ok-clause-message
 unfolding written_shape

@@ -1,6 +1,6 @@
 use Rattle.std.proofs.Common.{[], ◌≡◌, ap, map, ℕ}
 use Rattle.std.proofs.lemmas.Result.{MatchResult-from_err}
-use Rattle.pg_dyn.specs.declared.message.Content.{Content}
+use Rattle.pg_dyn.specs.declared.message_ref.ContentRef.{ContentRef}
 use Rattle.pg_dyn.specs.Kept.{message_of, type_of, unknown_of}
 use Rattle.pg_dyn.specs.Message.{Item, Part, is_of}
 use Rattle.std.specs.Prelude.{filter}
@@ -10,7 +10,7 @@ use Rattle.pg_fds.proofs.reading.made_entries.is_empty.Goals as goal
 
 pub loop-content-preserved : goal.loop-content-preserved
 loop-content-preserved c =
-    all_more (λ (f : ℕ × Content). items_at f.0 (message_of c.args.message.now) ≡ []) c.contents-contents.result.now c.loop-content.content-index c.content-item.result c.loop-content-test.true c.content-item.is
+    all_more (λ (f : ℕ × ContentRef). items_at f.0 (message_of c.args.message.now) ≡ []) c.contents-contents.result.now c.loop-content.content-index c.content-item.result c.loop-content-test.true c.content-item.is
     c.loop-content.invariant c.in_ok-lacks_all.ensures.ok
 
 pub returns-in_err-lacks_all-clause-refused : goal.returns-in_err-lacks_all-clause-refused
@@ -22,4 +22,4 @@ pub returns-clause-ok : goal.returns-clause-ok
 returns-clause-ok c =
     let m = c.args.message.now in
     no_parts m c.contents-contents.result.now (type_of m) (unknown_of m) c.contents-contents.ensures
-    (all_taken (λ (f : ℕ × Content). items_at f.0 (message_of m) ≡ []) c.contents-contents.result.now c.loop-content.content-index c.loop-content-test.false c.loop-content.invariant)
+    (all_taken (λ (f : ℕ × ContentRef). items_at f.0 (message_of m) ≡ []) c.contents-contents.result.now c.loop-content.content-index c.loop-content-test.false c.loop-content.invariant)

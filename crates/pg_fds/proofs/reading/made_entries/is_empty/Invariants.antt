@@ -1,9 +1,9 @@
 use Rattle.std.proofs.Common.{[], ◌≡◌, take, ℕ}
 use Rattle.std.specs.List.{AllByRecursion}
-use Rattle.pg_dyn.specs.declared.message.Content.{Content}
+use Rattle.pg_dyn.specs.declared.message_ref.ContentRef.{ContentRef}
 use Rattle.pg_dyn.specs.Kept.{message_of}
 use Rattle.pg_fds.specs.stated.Said.{items_at}
 use Rattle.pg_fds.proofs.reading.made_entries.is_empty.Given as goal
 
 abbrev pub invariant-loop-content : goal.invariant-loop-content
-invariant-loop-content l = AllByRecursion (λ (f : ℕ × Content). items_at f.0 (message_of l.message) ≡ []) (take l.content-index l.contents)
+invariant-loop-content l = AllByRecursion (λ (f : ℕ × ContentRef). items_at f.0 (message_of l.message) ≡ []) (take l.content-index l.contents)

@@ -1,7 +1,7 @@
 use Rattle.std.proofs.Common.{Global, Vec, ap, get_or, map, option_map, sym, ◌∙◌}
 use Rattle.pg_schema.specs.declared.parts.options.FileOption.{FileOption}
 use Rattle.pg_dyn.specs.Kept.{message_of}
-use Rattle.pg_fds.specs.writing.Building.{shown}
+use Rattle.pg_fds.specs.reading.SaidItems.{said}
 use Rattle.pg_fds.specs.stated.Views.{option_view}
 use Rattle.pg_fds.proofs.lemmas.writing.FileLaws.{same_default}
 use Rattle.pg_fds.proofs.lemmas.reading.OptionItems.{found_more, none_more}
@@ -20,9 +20,9 @@ loop-number-preserved c =
       | in-Some+in_ok-value+in_ok-push w ↦
           ap (λ (v : Vec FileOption Global). map option_view v.items) w.options-is
           ∙ (ap (map option_view) w.in_ok-push.ensures.items
-          ∙ found_more m numbers i n (shown w.in-Some.value) before w.in_ok-value.value c.loop-number-test.true at
-          (sym c.item-found.ensures ∙ ap (λ o. option_map shown o) w.in-Some.is) w.in_ok-value.ensures c.loop-number.invariant)
+          ∙ found_more m numbers i n (said w.in-Some.value) before w.in_ok-value.value c.loop-number-test.true at
+          (sym c.item-found.ensures ∙ ap (λ o. option_map said o) w.in-Some.is) w.in_ok-value.ensures c.loop-number.invariant)
       | in_default w ↦
           ap (λ (v : Vec FileOption Global). map option_view v.items) w.options-is
-          ∙ none_more m numbers i n before c.loop-number-test.true at (sym c.item-found.ensures ∙ ap (λ o. option_map shown o) w.in_default.is) c.loop-number.invariant
+          ∙ none_more m numbers i n before c.loop-number-test.true at (sym c.item-found.ensures ∙ ap (λ o. option_map said o) w.in_default.is) c.loop-number.invariant
     ]
