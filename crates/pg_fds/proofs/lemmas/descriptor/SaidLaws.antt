@@ -85,7 +85,7 @@ some_values [] some = absurd (some refl)
 some_values (v ∷ vs) some = omega arith
 
 -- a content has values
-pub filled_values : (content : ContentRef) → IsFilled content → 0 < length (values_in content)
+filled_values : (content : ContentRef) → IsFilled content → 0 < length (values_in content)
 filled_values (contents.One v) filled = omega arith
 filled_values (contents.Many vs) filled = some_values vs.items filled
 filled_values (contents.Map es) filled = some_values (map (λ (e : EntryRef). e.value) es.items) (λ none. filled (none_mapped (λ (e : EntryRef). e.value) es.items none))
