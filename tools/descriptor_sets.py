@@ -78,6 +78,23 @@ SOURCES["other.proto"] = 'syntax = "proto3"; message Other { int32 a = 1; }'
 SOURCES["services.proto"] = SOURCES["services.proto"].replace('"m.proto"', '"other.proto"')
 SOURCES["a.proto"] = 'syntax = "proto3"; import "b.proto"; message A { B b = 1; }'
 SOURCES["b.proto"] = 'syntax = "proto3"; message B { }'
+SOURCES["options.proto"] = """
+syntax = "proto3";
+option java_package = "a";
+option java_outer_classname = "b";
+option optimize_for = LITE_RUNTIME;
+option java_multiple_files = true;
+option go_package = "c";
+option deprecated = true;
+option cc_enable_arenas = false;
+option objc_class_prefix = "d";
+option csharp_namespace = "e";
+option swift_prefix = "f";
+option php_class_prefix = "g";
+option php_namespace = "h";
+option ruby_package = "i";
+enum E { option deprecated = true; ZERO = 0; }
+"""
 SOURCES["d.proto"] = 'syntax = "proto3"; import public "b.proto"; import public "m.proto"; message D { B b = 1; M m = 2; }'
 
 
@@ -88,7 +105,7 @@ SET_ERRORS = {702: "NotProto3", 703: "BadType", 704: "BadReference"}
 RULE_ERRORS = {
     401: "BadNumber", 402: "DuplicateNumber", 403: "ReservedNumber", 404: "ReservedName", 405: "RangeOverlap", 406: "JsonNameClash",
     407: "BadMapKey", 408: "BadOneofMember", 409: "EnumFirstNotZero", 410: "EnumAlias", 411: "BadOption", 412: "PackedNotAllowed",
-    414: "EnumEmpty", 415: "BadParts",
+    413: "TooManyTypes", 414: "EnumEmpty", 415: "BadParts",
 }
 
 
@@ -325,6 +342,18 @@ def named_as_first(message):
     message.field[1].type_name = message.field[0].type_name
 
 
+def packed_texts(message):
+    """A list of texts more, which is packed."""
+    field = message.field.add(name="texts", number=9, label=3, type=9, json_name="texts")
+    field.options.packed = True
+
+
+def many_types(file, count):
+    """Types more, until there are so many."""
+    for at in range(len(file.message_type), count):
+        file.message_type.add(name="N%X" % at)
+
+
 def refused(sets):
     """Sets that are refused, the code, and the byte that an error of bytes names."""
     one, two, maps, oneofs = sets["m.proto"], sets["a.proto"], sets["maps.proto"], sets["oneofs.proto"]
@@ -443,6 +472,12 @@ def refused(sets):
     row("a dot in a name beside a type in a type", 415, one, lambda s: (setattr(message(s), "name", "a.b"), s.file[0].message_type.add(name="a").nested_type.add(name="b")))
     row("two types of a name with a dot", 704, one, lambda s: (setattr(message(s), "name", "a.b"), s.file[0].message_type.add(name="a.b")))
     row("a type name for a name with a dot", 704, one, lambda s: (setattr(message(s), "name", "a.b"), setattr(field(s), "type", 11), setattr(field(s), "type_name", ".a.b")))
+    # The first that breaks a rule: types, enums, files. More than 4,096 types come before, and names that are no words behind all.
+    enum = lambda s: s.file[-1].enum_type[0]
+    row("a type's rule before an enum's", 412, enums, lambda s: (packed_texts(message(s)), setattr(enum(s).value[2], "number", -5)))
+    row("an enum's rule before a file's", 414, enums, lambda s: (s.file[0].enum_type.add(name="Empty"), with_bytes(s.file[0].options, b"\x48\x04")))
+    row("a rule before names", 409, enums, lambda s: (setattr(message(s), "name", "9"), setattr(enum(s).value[0], "number", 1)))
+    row("4097 types before a type's rule", 413, one, lambda s: (many_types(s.file[0], 4097), field(s).ClearField("number")))
     return rows
 
 

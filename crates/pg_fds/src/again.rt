@@ -1,11 +1,9 @@
 //! Schemas that are written and read again.
 
-ghost use Rattle.std.specs.Prelude.{ℕ, ◌≡◌, ◌⊎◌, List, IfErr, IfOk};
+ghost use Rattle.std.specs.Prelude.{◌≡◌, ◌⊎◌, IfErr, IfOk};
 ghost use Rattle.pg_schema.specs.rules.Sound.{IsSound};
 ghost use Rattle.pg_fds.specs.declared.error.FdsError.TheVariants as errors;
-ghost use Rattle.pg_fds.specs.again.ReadAgain.{IsReadAgain, IsTooLong, MayRefuseAgain};
-ghost use Rattle.pg_fds.specs.stated.Reads.{fds_reads};
-ghost use Rattle.pg_fds.specs.writing.Set.{fds};
+ghost use Rattle.pg_fds.specs.again.ReadAgain.{IsReadAgain, IsTooLong, MayRefuseAgain, SetStates};
 ghost use Rattle.pg_fds.specs.stated.Views.{parts_view};
 
 use crate::error::FdsError;
@@ -23,8 +21,7 @@ use std::alloc::Global;
 /// `read`.
 #[tactic(auto, using(crate::proofs::lemmas::again::ReadAgain::write_refused))]
 pub fn read_again(alloc: Global, schema: &Schema) -> Result<Schema, FdsError>
-    ensures stated { IfOk result (λ made. (bytes : List ℕ) → fds schema.now bytes
-        → fds_reads bytes made) }
+    ensures stated { IfOk result (SetStates schema.now) }
     ensures sound { IfOk result IsSound }
     ensures same { IfOk result (λ made. IsReadAgain schema.now
         → parts_view made ≡ parts_view schema.now) }

@@ -1,5 +1,5 @@
 -- A schema that is written is read as the same schema.
-use Rattle.std.proofs.Common.{◌≡◌, ℕ, zero, suc, ◌+◌, ◌⊎◌, inl, inr, true, List, [], ◌∷◌, Option, Some, None, Result, Ok, Err, IfErr, IfOk, slice_get, refl, subst, sym, ◌∙◌, arith}
+use Rattle.std.proofs.Common.{◌≡◌, ℕ, zero, suc, ◌+◌, ◌⊎◌, inl, inr, true, List, [], ◌∷◌, Option, Some, None, Result, Ok, Err, IfErr, IfOk, slice_get, refl, subst, sym, arith}
 use Rattle.std.proofs.lemmas.Bool.{false≢true}
 use Rattle.std.proofs.lemmas.Result.{IfOk-weaker}
 use Rattle.std.specs.List.{list_all}
@@ -16,7 +16,7 @@ use Rattle.pg_check.specs.standing.Places.{most_deep}
 use Rattle.pg_fds.specs.declared.error.FdsError.{FdsError}
 use Rattle.pg_fds.specs.declared.error.FdsError.TheVariants as errors
 use Rattle.pg_fds.specs.again.Again.{IsNotTooDeep, IsReadable}
-use Rattle.pg_fds.specs.again.ReadAgain.{IsReadAgain, IsTooLong, MayRefuseAgain}
+use Rattle.pg_fds.specs.again.ReadAgain.{IsReadAgain, IsTooLong, MayRefuseAgain, SetStates}
 use Rattle.pg_fds.specs.stated.Reads.{fds_reads}
 use Rattle.pg_fds.specs.refusals.Refused.{MayRefuseSet, NoneIsStated}
 use Rattle.pg_fds.specs.writing.Set.{fds}
@@ -111,15 +111,14 @@ module _ (parts : Parts) (bytes slice : List ℕ) (lent : slice ≡ bytes) (r : 
 -- ---- what is reported of any schema
 
 pub write_refused : (parts : Parts) (e : FdsError) → (e ≡ errors.Memory) ⊎ IsTooLong parts e → MayRefuseAgain parts e
-write_refused parts e (inl memory) = inr (λ bytes is. subst (λ x. MayRefuseSet bytes x × NoneIsStated bytes x) (sym memory) (tt, tt))
-write_refused parts e (inr long) = inl long
+write_refused parts e (inl memory) = inl memory
+write_refused parts e (inr long) = inr (inl long)
 
 pub read_reported : (parts : Parts) (bytes slice : List ℕ) → slice ≡ bytes → fds parts bytes → (r : Result Parts FdsError) → IfErr r (MayRefuseSet slice) → IfErr r (NoneIsStated slice) → IfErr r (MayRefuseAgain parts)
 read_reported parts bytes slice lent written (Ok made) may none = tt
-read_reported parts bytes slice lent written (Err e) may none = inr (λ bs is. subst (λ x. MayRefuseSet x e × NoneIsStated x e) (lent ∙ written.0 ∙ sym is.0) (may, none))
+read_reported parts bytes slice lent written (Err e) may none = inr (inr (bytes, (written, subst (λ bs. MayRefuseSet bs e × NoneIsStated bs e) lent (may, none))))
 
--- what is read of the bytes is stated by whatever bytes are its set
-pub read_stated : (parts : Parts) (bytes slice : List ℕ) → slice ≡ bytes → fds parts bytes → (r : Result Parts FdsError) → IfOk r (λ made. fds_reads slice made)
-    → IfOk r (λ made. (bs : List ℕ) → fds parts bs → fds_reads bs made)
-read_stated parts bytes slice lent written (Ok made) h = λ bs is. subst (λ x. fds_reads x made) (lent ∙ written.0 ∙ sym is.0) h
+-- what is read of the schema's set is stated by it
+pub read_stated : (parts : Parts) (bytes slice : List ℕ) → slice ≡ bytes → fds parts bytes → (r : Result Parts FdsError) → IfOk r (λ made. fds_reads slice made) → IfOk r (SetStates parts)
+read_stated parts bytes slice lent written (Ok made) h = (bytes, (written, subst (λ bs. fds_reads bs made) lent h))
 read_stated parts bytes slice lent written (Err e) h = tt
