@@ -20,9 +20,9 @@ pub enum FdsError {
     /// E703: a field has no type, or a code of a type or a label that isn't taken.
     #[error("A field of the set has an unsupported type or label.")]
     BadType,
-    /// E704: an import or a name isn't in the set, stands twice or is of another kind, imports go
-    /// round, a place is none, an `optional` field or an entry type hasn't its form, or an entry
-    /// type isn't that of just one field.
+    /// E704: an import or a name isn't in the set, stands twice or is of another kind, imports form
+    /// a cycle, an index is out of range, an `optional` field or an entry type isn't in its form, or
+    /// an entry type isn't that of just one field.
     #[error("The set has an invalid reference.")]
     BadReference,
     /// E705: what the set declares breaks a rule of the language, by the rule's error at no place.
@@ -86,7 +86,7 @@ impl From<AllocError> for FdsError {
     }
 }
 
-/// Why the messages of a set make no schema, or not the one that is asked for.
+/// Why the messages of a set make no schema.
 #[derive(Clone, Copy, Debug, PartialEq, Eq, Drop)]
 pub(crate) enum Unstated {
     /// Memory was refused.

@@ -58,7 +58,7 @@ pub fn worked_stated()
 {}
 
 /// The order of files by small examples: each file behind its imports, and no order where one is
-/// missing, a path or an import stands twice, or imports go round.
+/// missing, a path or an import stands twice, or imports form a cycle.
 pub fn worked_orders()
     ensures { WorkedOrders }
 {}
@@ -81,8 +81,8 @@ pub fn bad_references()
 {}
 
 /// Small sets with a bad reference, each with its cause: an import that isn't there, imports that
-/// go round, a name without a dot in front, one that is of another kind than the type says, and an
-/// entry type that two fields name.
+/// form a cycle, a name without a dot in front, one that is of another kind than the type says, and
+/// an entry type that two fields name.
 pub fn worked_causes()
     ensures { WorkedCauses }
 {}

@@ -220,12 +220,13 @@ fn bytes_schema(alloc: Global, bytes: &[u8]) -> Result<Schema, FdsError>
 /// The errors, over the whole set and in this order: `Bytes` where the codec refuses the bytes,
 /// with messages nested at most 100 deep; `NotProto3` where a file isn't proto3; `BadType` where a
 /// field has a type or a label that isn't taken, or no type; `BadReference` where the files state
-/// nothing, since an import or a name isn't there, stands twice or is of another kind, imports go
-/// round, a place is none, an `optional` field or an entry type hasn't its form, or an entry type
-/// isn't that of just one field; `Rule` with the error of the first rule that what they state
-/// breaks. A file `google/protobuf/descriptor.proto` that isn't proto3 is left out, as are imports
-/// of it. `Memory` may come in place of any. The others, but for messages nested too deep, come
-/// only where the bytes state no schema. The schema that is answered is the one that they state.
+/// nothing, since an import or a name isn't there, stands twice or is of another kind, imports form
+/// a cycle, an index is out of range, an `optional` field or an entry type isn't in its form, or an
+/// entry type isn't that of just one field; `Rule` with the error of the first rule that what they
+/// state breaks. A file `google/protobuf/descriptor.proto` that isn't proto3 is left out, as are
+/// imports of it. `Memory` may come in place of any. The others, but for messages nested too deep,
+/// come only where the bytes state no schema. The schema that is answered is the one that they
+/// state.
 pub fn read(alloc: Global, bytes: &[u8]) -> Result<Schema, FdsError>
     ensures ok { IfOk result (λ schema. fds_reads bytes.now schema) }
     ensures sound { IfOk result IsSound }

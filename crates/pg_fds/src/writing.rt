@@ -35,15 +35,15 @@ use pg_schema::{File, Parts, Schema};
 use pg_wire::laws::lengths_grow;
 use std::alloc::{AllocError, Global};
 
-// What an int32 counts.
-const MOST: usize = 2147483647;
+// An int32 counts up to this.
+const MAX_COUNT: usize = 2147483647;
 
 // The places of each file's imports are those of an int32.
 fn have_counted_imports(files: &[File]) -> bool
     ensures { result ≡ list_all has_counted_imports files.now }
 {
     for file in files {
-        if file.imports.len() > MOST {
+        if file.imports.len() > MAX_COUNT {
             return false;
         }
     }

@@ -4,7 +4,7 @@ use Rattle.std.specs.BTreeMap.{BTreeMap, get_by_text}
 use Rattle.pg_fds.specs.stated.StatedFields.{is_map_of}
 use Rattle.pg_fds.specs.stated.Views.{FieldView}
 
--- what is kept of a name that so many entry types have: whether just one has it
+-- what is kept of an entry type that so many fields name: whether just one does
 abbrev pub once_of : ℕ → Option Bool
 once_of zero = None
 once_of (suc zero) = Some true
