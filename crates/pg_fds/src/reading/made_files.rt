@@ -31,6 +31,7 @@ use crate::reading::meanings::type_meant;
 use crate::reading::names_table::NameTable;
 use crate::reading::outline::{Outlined, OutlinedFile};
 use crate::reading::set_files::is_left_out;
+use crate::reading::set_names::undotted;
 use pg_schema::{
     File, FileOption, Import, Method, MethodOptions, OptimizeMode, OptionValue, Service,
     ServiceOptions,

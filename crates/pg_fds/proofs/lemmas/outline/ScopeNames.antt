@@ -5,7 +5,7 @@ use Rattle.std.specs.List.{list_all}
 use Rattle.pg_schema.specs.rules.Pairs.{differ}
 use Rattle.pg_schema.proofs.lemmas.rules.PairLemmas.{and_both}
 use Rattle.pg_dyn.specs.Message.{Message}
-use Rattle.pg_fds.specs.stated.Said.{children_at}
+use Rattle.pg_fds.specs.stated.Said.{children_at, text_at}
 use Rattle.pg_fds.specs.stated.SaidTypes.{is_entry, is_no_entry, real_oneofs, synthetic_places}
 use Rattle.pg_fds.specs.stated.SetNames.{enum_names, enums_names, file_names, file_scope, files_names, member_names, name_in, own_names, qualified, qualified_names, service_names, services_names, type_names, types_names}
 
@@ -24,7 +24,7 @@ one_more name names first later = and_both (differ [] name) (list_all (differ []
 
 module _ (scope : List ℕ) where
   some_qualified : (m : Message) → differ [] (qualified scope m) ≡ true
-  some_qualified m = some_name scope _
+  some_qualified m = some_name scope (text_at 1 m)
 
   some_each : (ms : List Message) → AreSome (qualified_names scope ms)
   some_each [] = refl
