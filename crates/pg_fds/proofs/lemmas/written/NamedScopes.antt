@@ -1,5 +1,5 @@
 -- The message types and services of a sound schema stand in scopes, so they have names, which are scopes.
-use Rattle.std.proofs.Common.{◌≡◌, ℕ, Bool, ◌&&◌, true, List, [], ◌∷◌, length, Option, Some, option_map, slice_get, ap, sym, ◌∙◌}
+use Rattle.std.proofs.Common.{◌≡◌, ℕ, Bool, ◌&&◌, true, List, [], ◌∷◌, length, Some, option_map, slice_get, ap, sym, ◌∙◌}
 use Rattle.std.proofs.lemmas.Option.{slice_get_within}
 use Rattle.std.specs.List.{AllByRecursion, list_all}
 use Rattle.std.specs.String.{string_bytes}

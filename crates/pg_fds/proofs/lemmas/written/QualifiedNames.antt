@@ -1,5 +1,5 @@
--- Names whose bytes are letters and digits, and packages of them, are quoted as they stand. So the fully-qualified name of such a name is its
--- full name with a dot in front, and lists of these hold as often what lists of the full names do.
+-- Names whose bytes are letters and digits, and packages of them, stay as they are when they are quoted. So the qualified name of such a name
+-- is its full name with a dot in front, and such names stand once, or are free of a package, where the full names are.
 use Rattle.std.proofs.Common.{◌≡◌, ℕ, ◌-◌, Bool, true, false, cond, not, nat_eq, nat_le, nat_lt, eqb, ◌&&◌, ◌||◌, List, [], ◌∷◌, ◌++◌, map, codes, refl, ap, ap₂, sym, ◌∙◌, arith}
 use Rattle.std.proofs.lemmas.Bool.{false≢true}
 use Rattle.std.proofs.lemmas.Bool.Decides.{nat_tests}
@@ -42,15 +42,12 @@ word_plain (b ∷ bytes) word =
 
 -- ---- quoted
 
-pub quoted_plain : (name : List ℕ) → is_plain name ≡ true → quoted name ≡ name
+quoted_plain : (name : List ℕ) → is_plain name ≡ true → quoted name ≡ name
 quoted_plain [] plain = refl
 quoted_plain (b ∷ bytes) plain =
     let word = and_left (is_word_byte b) (is_plain bytes) plain in
     ap₂ (λ x y. cond (x || y) (92 ∷ b ∷ quoted bytes) (b ∷ quoted bytes)) (apart b 46 refl word) (apart b 92 refl word)
     ∙ ap (λ bs. b ∷ bs) (quoted_plain bytes (and_right (is_word_byte b) (is_plain bytes) plain))
-
-pub quoted_word : (name : List ℕ) → is_word name ≡ true → quoted name ≡ name
-quoted_word name word = quoted_plain name (word_plain name word)
 
 -- ---- packages
 

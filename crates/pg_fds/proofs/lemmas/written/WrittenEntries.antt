@@ -1,5 +1,5 @@
 -- What is written of the entry types of a message type's map fields, all of them: each field has its own, and there are no others.
-use Rattle.std.proofs.Common.{◌≡◌, inl, inr, ℕ, suc, Bool, true, false, cond, not, List, [], ◌∷◌, ◌++◌, map, filter, length, Option, Some, None, refl, ap, ap₂, sym, subst, ◌∙◌}
+use Rattle.std.proofs.Common.{◌≡◌, inl, inr, ℕ, Bool, true, false, cond, not, List, [], ◌∷◌, ◌++◌, map, filter, Option, Some, None, refl, ap, ap₂, sym, subst, ◌∙◌}
 use Rattle.std.proofs.lemmas.Bool.{false≢true}
 use Rattle.std.proofs.lemmas.List.{append-nil}
 use Rattle.std.proofs.lemmas.Slice.Eq.{bytes_eq-Decides}
@@ -22,10 +22,8 @@ use Rattle.pg_fds.specs.writing.Places.{Declared}
 use Rattle.pg_fds.specs.stated.Said.{text_at}
 use Rattle.pg_fds.specs.stated.SaidTypes.{is_entry, is_no_entry}
 use Rattle.pg_fds.specs.stated.SetNames.{name_in, qualified}
-use Rattle.pg_fds.specs.stated.StatedFields.{is_map_view}
 use Rattle.pg_fds.specs.stated.StatedNames.{Meanings, first_of}
 use Rattle.pg_fds.specs.stated.StatedTypes.{last_named}
-use Rattle.pg_fds.specs.stated.Views.{field_view}
 use Rattle.pg_fds.proofs.lemmas.lists.Matched.{Has, differ_apart}
 use Rattle.pg_fds.proofs.lemmas.written.QualifiedNames.{entry_plain, is_plain, plain_in, scope_of}
 use Rattle.pg_fds.proofs.lemmas.written.Slots.{made}

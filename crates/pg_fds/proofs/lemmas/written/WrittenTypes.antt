@@ -1,5 +1,5 @@
 -- What is written of message types states them, with all that stands inside.
-use Rattle.std.proofs.Common.{◌≡◌, ℕ, zero, suc, ◌+◌, ◌-◌, ◌<◌, ◌≤◌, ◌^◌, pos, Bool, true, false, cond, not, nat_eq, nat_lt, ◌&&◌, List, [], ◌∷◌, ◌++◌, map, filter, length, Option, Some, None, option_map, option_and_then, slice_get, refl, ap, ap₂, sym, subst, ◌∙◌, arith, unwrap_or}
+use Rattle.std.proofs.Common.{◌≡◌, ℕ, zero, suc, ◌+◌, ◌-◌, ◌<◌, ◌≤◌, ◌^◌, pos, Bool, true, false, cond, not, nat_lt, ◌&&◌, List, [], ◌∷◌, ◌++◌, map, filter, length, Option, Some, None, option_map, slice_get, refl, ap, ap₂, sym, subst, ◌∙◌, arith, unwrap_or}
 use Rattle.std.proofs.lemmas.Bool.{false≢true}
 use Rattle.std.proofs.lemmas.Bool.Decides.{nat_tests}
 use Rattle.std.proofs.lemmas.List.{length-map}
@@ -31,7 +31,7 @@ use Rattle.pg_fds.specs.stated.SaidTypes.{is_entry, is_no_entry, real_oneofs, sy
 use Rattle.pg_fds.specs.stated.SetNames.{qualified}
 use Rattle.pg_fds.specs.stated.StatedFields as fields
 use Rattle.pg_fds.specs.stated.StatedFields.{Owner}
-use Rattle.pg_fds.specs.stated.StatedNames.{Meanings, each, only_if}
+use Rattle.pg_fds.specs.stated.StatedNames.{Meanings, each}
 use Rattle.pg_fds.specs.stated.StatedOneofs.{members_in, synthetic_in}
 use Rattle.pg_fds.specs.stated.StatedTypes as set_types
 use Rattle.pg_fds.specs.stated.Views.{field_view, type_view}
