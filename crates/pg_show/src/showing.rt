@@ -1,9 +1,11 @@
 //! Messages shown by their schema.
 
-ghost use Rattle.std.specs.Prelude.{◌≡◌, ◌<◌, ◌++◌, length, ℕ, IfErr, IfOk, OnOk, string_bytes};
+ghost use Rattle.std.specs.Prelude.{◌≡◌, ◌<◌, ◌++◌, length, ℕ, true, is_some, IfErr, IfOk, OnOk, string_bytes};
 ghost use Rattle.pg_schema.specs.Parts.{shape_of};
 ghost use Rattle.pg_schema.specs.Shape.{fields};
+ghost use Rattle.pg_dyn.specs.reading.Decoding.{dec};
 ghost use Rattle.pg_dyn.specs.reading.TooDeep.{TooDeepIn};
+ghost use Rattle.pg_dyn.specs.declared.error.DynError.TheVariants as errors;
 ghost use Rattle.pg_show.specs.Shown.{Refuses, Shows, again_line, most_levels, names_of};
 
 use crate::hex_word::push_hex;
@@ -32,7 +34,8 @@ fn push_again(alloc: Global, text: &mut String, bytes: &[u8]) -> Result<(), Allo
 /// are two digits each, in lower case, and no bytes are `-`.
 ///
 /// The errors are those of `decode`, with the limit of 100 levels; `TooLong`, only where the
-/// message's encoding has more than 2,147,483,647 bytes; and `Memory`.
+/// message's encoding has more than 2,147,483,647 bytes; and `Memory`, only where the bytes have no
+/// fault.
 pub fn show(
     alloc: Global,
     schema: &Schema,
@@ -46,6 +49,10 @@ pub fn show(
         → TooDeepIn (shape_of schema.now) most_levels
         (fields (shape_of schema.now) type_id) bytes.now place → ⊥) }
     ensures refused { IfErr result (Refuses (shape_of schema.now) type_id bytes.now) }
+    ensures lacking { IfErr result (λ e. e ≡ errors.Memory
+        → (is_some (dec (shape_of schema.now) type_id bytes.now) ≡ true)
+        × ((place : ℕ) → TooDeepIn (shape_of schema.now) most_levels
+        (fields (shape_of schema.now) type_id) bytes.now place → ⊥)) }
 {
     let message = decode_ref(alloc, schema, type_id, bytes, DEFAULT_DEPTH_LIMIT)?;
     let again = encode_ref(alloc, schema, &message)?;

@@ -2,10 +2,12 @@
 //! and every one must be refused.
 #![tactic(auto)]
 
-ghost use Rattle.std.specs.Prelude.{◌≡◌, ◌<◌, ◌⊎◌, ℕ, length, None, Some, IfErr, IfOk, OnOk, string_bytes};
+ghost use Rattle.std.specs.Prelude.{◌≡◌, ◌<◌, ◌⊎◌, ℕ, length, true, is_some, None, Some, IfErr, IfOk, OnOk, string_bytes};
 ghost use Rattle.pg_schema.specs.Parts.{shape_of};
 ghost use Rattle.pg_schema.specs.Shape.{fields};
+ghost use Rattle.pg_dyn.specs.reading.Decoding.{dec};
 ghost use Rattle.pg_dyn.specs.reading.TooDeep.{TooDeepIn};
+ghost use Rattle.pg_dyn.specs.declared.error.DynError.TheVariants as errors;
 ghost use Rattle.pg_show.specs.Codes.{code_of};
 ghost use Rattle.pg_show.specs.Shown.{Refuses, Shows, most_levels, names_of};
 ghost use Rattle.pg_show.specs.declared.error.HexError.TheVariants.{BadHex, Memory};
@@ -30,6 +32,10 @@ pub fn show(
         → TooDeepIn (shape_of schema.now) most_levels
         (fields (shape_of schema.now) type_id) bytes.now place → ⊥) }
     ensures refused { IfErr result (Refuses (shape_of schema.now) type_id bytes.now) }
+    ensures lacking { IfErr result (λ e. e ≡ errors.Memory
+        → (is_some (dec (shape_of schema.now) type_id bytes.now) ≡ true)
+        × ((place : ℕ) → TooDeepIn (shape_of schema.now) most_levels
+        (fields (shape_of schema.now) type_id) bytes.now place → ⊥)) }
 {
     pg_show::show(alloc, schema, type_id, bytes)
 }

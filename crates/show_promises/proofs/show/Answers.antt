@@ -9,3 +9,6 @@ returns-clause-within c = search rules
 
 pub returns-clause-refused : goal.returns-clause-refused
 returns-clause-refused c = search rules
+
+pub returns-clause-lacking : goal.returns-clause-lacking
+returns-clause-lacking c = search rules
