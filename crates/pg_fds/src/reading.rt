@@ -83,7 +83,7 @@ fn decoded(alloc: Global, bytes: &[u8]) -> Result<MessageRef<'_>, FdsError>
 }
 
 // Whether the files are all proto3.
-fn are_proto3(files: &[Said<'_>]) -> bool
+fn are_proto3(files: &[Said<'_, '_>]) -> bool
     ensures { result ≡ list_all is_proto3 (map message_of files.now) }
 {
     for file in files {
@@ -101,7 +101,7 @@ fn parts(
     alloc: Global,
     keys: SetKeys,
     skips: bool,
-    files: &[Said<'_>],
+    files: &[Said<'_, '_>],
     order: &[usize],
 ) -> Result<Parts, Unstated>
     requires { AreOrdered skips (map importer_of (map message_of files.now)) order.now }
@@ -142,7 +142,7 @@ fn kept_parts(
     alloc: Global,
     keys: SetKeys,
     skips: bool,
-    files: &[Said<'_>],
+    files: &[Said<'_, '_>],
 ) -> Result<Parts, FdsError>
     ensures ok { IfOk result (λ parts. stated_of skips (map message_of files.now)
         ≡ Some (parts_view parts)) }
@@ -158,7 +158,7 @@ fn files_parts(
     alloc: Global,
     keys: SetKeys,
     skips: bool,
-    files: &[Said<'_>],
+    files: &[Said<'_, '_>],
 ) -> Result<Parts, FdsError>
     ensures ok { IfOk result (λ parts. stated_files skips (map message_of files.now)
         ≡ Some (parts_view parts)) }
@@ -176,7 +176,7 @@ fn files_parts(
 }
 
 // The parts that a set's message states.
-fn set_parts(alloc: Global, keys: SetKeys, set: &Said<'_>) -> Result<Parts, FdsError>
+fn set_parts(alloc: Global, keys: SetKeys, set: &Said<'_, '_>) -> Result<Parts, FdsError>
     ensures ok { IfOk result (λ parts. stated (message_of set.now) ≡ Some (parts_view parts)) }
     ensures refused { IfErr result (MayRefuseFiles (skips (message_of set.now))
         (kept_files (message_of set.now))) }

@@ -6,10 +6,12 @@
 
 ghost use Rattle.std.specs.Prelude.{◌≡◌, [], ◌<◌, false, pos, true, FitsSigned, IfOk, IfSome, MatchOption, OnErr, OnOk, Some, length, map, option_map, slice_get};
 ghost use Rattle.std.specs.Int.{w32};
+ghost use Rattle.std.specs.List.{AllByRecursion};
 ghost use Rattle.std.specs.Option.{option_copied};
 ghost use Rattle.pg_dyn.specs.Kept.{message_of, of_number};
 ghost use Rattle.pg_dyn.specs.Borrowed.{IsFilled, content_seen};
-ghost use Rattle.pg_dyn.specs.NumberLists.{IsNumber};
+ghost use Rattle.pg_dyn.specs.Message.{Int, Plain};
+ghost use Rattle.pg_dyn.specs.NumberLists.{IsNumber, numbers_in};
 ghost use Rattle.pg_fds.specs.descriptor.Lent.{lent};
 ghost use Rattle.pg_fds.specs.stated.Said.{child_in, children_at, flag_at, item_at, items_at, maybe_flag_at, maybe_number_at, maybe_text_at, natural, number_at, number_of, numbers_at, options_at, text_at, text_of, texts_at};
 ghost use Rattle.pg_fds.specs.stated.SaidFiles.{is_place};
@@ -17,18 +19,18 @@ ghost use Rattle.pg_fds.specs.reading.Held.{AreSaid, IsSaid, items_in, value_ite
 ghost use Rattle.pg_fds.specs.reading.SaidItems.{said};
 
 use crate::error::Unstated;
-use pg_dyn::{ContentRef, MessageRef, ValueRef};
+use pg_dyn::{ContentRef, MessageRef, NumberList, ValueRef};
 use std::alloc::{AllocError, Global};
 use std::marker::Model;
 
 /// A message of a set, which has at any depth nothing but texts and numbers of 32 bits. Contracts
 /// see what the message keeps.
 #[derive(Drop)]
-pub(crate) struct Said<'a> {
-    message: &'a MessageRef<'a>,
+pub(crate) struct Said<'b, 'a> {
+    message: &'b MessageRef<'a>,
 }
 
-impl<'a> Model for Said<'a> {
+impl<'b, 'a> Model for Said<'b, 'a> {
     ghost use Rattle.pg_dyn.specs.Kept.{Kept};
     ghost use Rattle.pg_dyn.specs.KeptCode.{kept_code};
     ghost use Rattle.pg_fds.specs.reading.Held.{IsHeldMessage};
@@ -42,14 +44,14 @@ impl<'a> Model for Said<'a> {
     ghost invariant = { λ s. IsHeldMessage s.message.now };
 }
 
-impl<'a> Said<'a> {
+impl<'b, 'a> Said<'b, 'a> {
     ghost use Rattle.std.specs.Prelude.{◌≡◌};
     ghost use Rattle.pg_dyn.specs.Kept.{ends, type_of, unknown_of};
     ghost use Rattle.pg_dyn.specs.Borrowed.{fields_onto};
     ghost use Rattle.pg_fds.specs.reading.Held.{IsHeldMessage};
 
     /// What is said by such a message.
-    pub(crate) fn new(message: &'a MessageRef<'a>) -> Said<'a>
+    pub(crate) fn new(message: &'b MessageRef<'a>) -> Said<'b, 'a>
         requires { IsHeldMessage message.now }
         ensures { result ≡ message.now }
     {
@@ -57,7 +59,7 @@ impl<'a> Said<'a> {
     }
 
     /// The same message.
-    pub(crate) fn again(&self) -> Said<'a>
+    pub(crate) fn again(&self) -> Said<'b, 'a>
         ensures { result ≡ self.now }
     {
         Said {
@@ -66,7 +68,7 @@ impl<'a> Said<'a> {
     }
 
     /// The contents of its fields.
-    pub(crate) fn contents(&self) -> &'a [(u32, ContentRef<'a>)]
+    pub(crate) fn contents(&self) -> &'b [(u32, ContentRef<'a>)]
         ensures { self.now
             ≡ fields_onto result.now (ends (type_of self.now) (unknown_of self.now)) }
     {
@@ -76,11 +78,11 @@ impl<'a> Said<'a> {
 
 /// An item of such a message.
 #[derive(Drop)]
-pub(crate) enum SaidItem<'a> {
+pub(crate) enum SaidItem<'b, 'a> {
     /// A number, a mark as 0 or 1, or the number of an enum value.
     Number(i32),
     Text(&'a str),
-    Message(Said<'a>),
+    Message(Said<'b, 'a>),
 }
 
 /// What has to hold of a set that states a schema.
@@ -97,7 +99,7 @@ pub(crate) fn ensure(holds: bool) -> Result<(), Unstated>
 // ---- items
 
 /// The content of a field.
-pub(crate) fn content<'a>(message: &Said<'a>, number: u32) -> Option<&'a ContentRef<'a>>
+pub(crate) fn content<'b, 'a>(message: &Said<'b, 'a>, number: u32) -> Option<&'b ContentRef<'a>>
     ensures content { MatchOption result (of_number number message.now ≡ [])
         (λ content. of_number number message.now ≡ content_seen number content.now) }
     ensures filled { IfSome result (λ content. IsFilled content.now) }
@@ -118,7 +120,7 @@ fn narrow(found: i128) -> i32
 }
 
 // The item that a value is.
-fn lent_item<'a>(value: &'a ValueRef<'a>) -> SaidItem<'a>
+fn lent_item<'b, 'a>(value: &'b ValueRef<'a>) -> SaidItem<'b, 'a>
     requires { IsSaid value.now }
     ensures { said result ≡ value_item value.now }
 {
@@ -130,16 +132,26 @@ fn lent_item<'a>(value: &'a ValueRef<'a>) -> SaidItem<'a>
     }
 }
 
-// The item that a number of a list is.
-fn made_item<'a>(value: &ValueRef<'_>) -> SaidItem<'a>
+// The number that a value is.
+fn number_of_value(value: &ValueRef<'_>) -> i32
     requires number { IsNumber value.now }
     requires said { IsSaid value.now }
-    ensures { said result ≡ value_item value.now }
+    ensures { value_item value.now ≡ Plain (Int result) }
 {
     match value {
-        ValueRef::Int(found) => SaidItem::Number(narrow(*found)),
+        ValueRef::Int(found) => narrow(*found),
         _ => unreachable!(),
     }
+}
+
+// The number at a place of a list.
+fn listed_number(numbers: &NumberList, at: usize) -> i32
+    requires within { at < length (numbers_in numbers.now) }
+    requires said { AllByRecursion IsSaid (numbers_in numbers.now) }
+    ensures { slice_get (map value_item (numbers_in numbers.now)) at ≡ Some (Plain (Int result)) }
+{
+    let value = numbers.get(at);
+    number_of_value(&value)
 }
 
 // How many items a content has.
@@ -155,7 +167,7 @@ fn item_count(content: &ContentRef<'_>) -> usize
 }
 
 // The item of a content at a place, an entry's being its value.
-fn item_of<'a>(content: &'a ContentRef<'a>, at: usize) -> SaidItem<'a>
+fn item_of<'b, 'a>(content: &'b ContentRef<'a>, at: usize) -> SaidItem<'b, 'a>
     requires within { at < length (values_in content.now) }
     requires said { AreSaid content.now }
     ensures { slice_get (items_in content.now) at ≡ Some (said result) }
@@ -164,12 +176,12 @@ fn item_of<'a>(content: &'a ContentRef<'a>, at: usize) -> SaidItem<'a>
         ContentRef::One(value) => lent_item(value),
         ContentRef::Many(values) => lent_item(&values[at]),
         ContentRef::Map(entries) => lent_item(&entries[at].value),
-        ContentRef::Numbers(numbers) => made_item(&numbers.get(at)),
+        ContentRef::Numbers(numbers) => SaidItem::Number(listed_number(numbers, at)),
     }
 }
 
 /// The item of a singular field: the first, where there are more.
-pub(crate) fn item<'a>(message: &Said<'a>, number: u32) -> Option<SaidItem<'a>>
+pub(crate) fn item<'b, 'a>(message: &Said<'b, 'a>, number: u32) -> Option<SaidItem<'b, 'a>>
     ensures { option_map said result ≡ item_at number (message_of message.now) }
 {
     match content(message, number) {
@@ -181,7 +193,7 @@ pub(crate) fn item<'a>(message: &Said<'a>, number: u32) -> Option<SaidItem<'a>>
 // ---- what an item is
 
 /// The message that an item is.
-pub(crate) fn child_in<'a>(item: &SaidItem<'a>) -> Option<Said<'a>>
+pub(crate) fn child_in<'b, 'a>(item: &SaidItem<'b, 'a>) -> Option<Said<'b, 'a>>
     ensures { option_map message_of result ≡ child_in (said item.now) }
 {
     match item {
@@ -191,7 +203,7 @@ pub(crate) fn child_in<'a>(item: &SaidItem<'a>) -> Option<Said<'a>>
 }
 
 /// The text that an item is.
-pub(crate) fn text_in<'a>(item: &SaidItem<'a>) -> &'a str
+pub(crate) fn text_in<'b, 'a>(item: &SaidItem<'b, 'a>) -> &'a str
     ensures { result.now ≡ text_of (said item.now) }
 {
     match item {
@@ -201,7 +213,7 @@ pub(crate) fn text_in<'a>(item: &SaidItem<'a>) -> &'a str
 }
 
 // The number that an item is, 0 where it is none.
-fn whole_in(item: &SaidItem<'_>) -> i32
+fn whole_in(item: &SaidItem<'_, '_>) -> i32
     ensures { number_of (said item.now) ≡ result }
 {
     match item {
@@ -211,7 +223,7 @@ fn whole_in(item: &SaidItem<'_>) -> i32
 }
 
 /// The same as a number of more bits.
-pub(crate) fn number_in(item: &SaidItem<'_>) -> i128
+pub(crate) fn number_in(item: &SaidItem<'_, '_>) -> i128
     ensures { result ≡ number_of (said item.now) }
 {
     i128::from(whole_in(item))
@@ -220,11 +232,11 @@ pub(crate) fn number_in(item: &SaidItem<'_>) -> i128
 // ---- messages
 
 /// The messages of a repeated field.
-pub(crate) fn children<'a>(
+pub(crate) fn children<'b, 'a>(
     alloc: Global,
-    message: &Said<'a>,
+    message: &Said<'b, 'a>,
     number: u32,
-) -> Result<Vec<Said<'a>>, AllocError>
+) -> Result<Vec<Said<'b, 'a>>, AllocError>
     ensures { IfOk result (λ found. map message_of found.items
         ≡ children_at number (message_of message.now)) }
 {
@@ -244,7 +256,7 @@ pub(crate) fn children<'a>(
 // ---- texts
 
 /// The text of a singular field, where there is one.
-pub(crate) fn maybe_text<'a>(message: &Said<'a>, number: u32) -> Option<&'a str>
+pub(crate) fn maybe_text<'b, 'a>(message: &Said<'b, 'a>, number: u32) -> Option<&'a str>
     ensures { option_copied result ≡ maybe_text_at number (message_of message.now) }
 {
     match item(message, number) {
@@ -254,7 +266,7 @@ pub(crate) fn maybe_text<'a>(message: &Said<'a>, number: u32) -> Option<&'a str>
 }
 
 /// The text of a singular field, empty where it is missing.
-pub(crate) fn text<'a>(message: &Said<'a>, number: u32) -> &'a str
+pub(crate) fn text<'b, 'a>(message: &Said<'b, 'a>, number: u32) -> &'a str
     ensures { result.now ≡ text_at number (message_of message.now) }
 {
     match maybe_text(message, number) {
@@ -264,9 +276,9 @@ pub(crate) fn text<'a>(message: &Said<'a>, number: u32) -> &'a str
 }
 
 /// The texts of a repeated field.
-pub(crate) fn texts<'a>(
+pub(crate) fn texts<'b, 'a>(
     alloc: Global,
-    message: &Said<'a>,
+    message: &Said<'b, 'a>,
     number: u32,
 ) -> Result<Vec<&'a str>, AllocError>
     ensures { IfOk result (λ found. lent found.items ≡ texts_at number (message_of message.now)) }
@@ -285,7 +297,7 @@ pub(crate) fn texts<'a>(
 // ---- numbers
 
 /// The number of a singular field, where there is one.
-pub(crate) fn maybe_number(message: &Said<'_>, number: u32) -> Option<i128>
+pub(crate) fn maybe_number(message: &Said<'_, '_>, number: u32) -> Option<i128>
     ensures { result ≡ maybe_number_at number (message_of message.now) }
 {
     match item(message, number) {
@@ -295,7 +307,7 @@ pub(crate) fn maybe_number(message: &Said<'_>, number: u32) -> Option<i128>
 }
 
 /// The number of a singular field, 0 where it is missing.
-pub(crate) fn number(message: &Said<'_>, number: u32) -> i128
+pub(crate) fn number(message: &Said<'_, '_>, number: u32) -> i128
     ensures { result ≡ number_at number (message_of message.now) }
 {
     match maybe_number(message, number) {
@@ -305,7 +317,7 @@ pub(crate) fn number(message: &Said<'_>, number: u32) -> i128
 }
 
 /// The same as a number of 32 bits, which it is.
-pub(crate) fn whole(message: &Said<'_>, field: u32) -> i32
+pub(crate) fn whole(message: &Said<'_, '_>, field: u32) -> i32
     ensures { number_at field (message_of message.now) ≡ result }
 {
     match item(message, field) {
@@ -315,7 +327,7 @@ pub(crate) fn whole(message: &Said<'_>, field: u32) -> i32
 }
 
 /// The number of a singular field, which is above 0 and one of 32 bits; 0 for any other.
-pub(crate) fn count(message: &Said<'_>, field: u32) -> u32
+pub(crate) fn count(message: &Said<'_, '_>, field: u32) -> u32
     ensures { result ≡ natural (number_at field (message_of message.now)) }
 {
     u32::try_from(number(message, field)).unwrap_or(0)
@@ -324,7 +336,7 @@ pub(crate) fn count(message: &Said<'_>, field: u32) -> u32
 /// The numbers of a repeated field.
 pub(crate) fn numbers(
     alloc: Global,
-    message: &Said<'_>,
+    message: &Said<'_, '_>,
     number: u32,
 ) -> Result<Vec<i128>, AllocError>
     ensures { IfOk result (λ found. found.items ≡ numbers_at number (message_of message.now)) }
@@ -355,7 +367,7 @@ pub(crate) fn place_in(number: &i128, count: usize) -> Result<usize, Unstated>
 // ---- marks
 
 /// The mark of a singular field, where there is one.
-pub(crate) fn maybe_flag(message: &Said<'_>, number: u32) -> Option<bool>
+pub(crate) fn maybe_flag(message: &Said<'_, '_>, number: u32) -> Option<bool>
     ensures { result ≡ maybe_flag_at number (message_of message.now) }
 {
     match maybe_number(message, number) {
@@ -365,7 +377,7 @@ pub(crate) fn maybe_flag(message: &Said<'_>, number: u32) -> Option<bool>
 }
 
 /// The mark of a singular field, false where it is missing.
-pub(crate) fn flag(message: &Said<'_>, number: u32) -> bool
+pub(crate) fn flag(message: &Said<'_, '_>, number: u32) -> bool
     ensures { result ≡ flag_at number (message_of message.now) }
 {
     match maybe_flag(message, number) {
@@ -375,7 +387,7 @@ pub(crate) fn flag(message: &Said<'_>, number: u32) -> bool
 }
 
 /// The mark with the second number in the options of the first, where both are there.
-pub(crate) fn option(message: &Said<'_>, options: u32, number: u32) -> Option<bool>
+pub(crate) fn option(message: &Said<'_, '_>, options: u32, number: u32) -> Option<bool>
     ensures { result ≡ maybe_flag_at number (options_at options (message_of message.now)) }
 {
     match item(message, options) {

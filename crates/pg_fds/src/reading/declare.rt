@@ -33,7 +33,7 @@ pub(crate) fn declare_named(
     alloc: Global,
     names: &mut NameTable,
     scope: &str,
-    message: &Said<'_>,
+    message: &Said<'_, '_>,
     named: Named,
 ) -> Result<String, Unstated>
     ensures name { IfOk result (λ name. string_bytes name
@@ -54,7 +54,7 @@ fn declare_own(
     alloc: Global,
     names: &mut NameTable,
     scope: &str,
-    message: &Said<'_>,
+    message: &Said<'_, '_>,
     named: Named,
 ) -> Result<(), Unstated>
     ensures adds { OnOk result (Adds (named_in scope.now named (message_of message.now) ∷ [])
@@ -72,7 +72,7 @@ pub(crate) fn declare_each(
     alloc: Global,
     names: &mut NameTable,
     scope: &str,
-    messages: &[Said<'_>],
+    messages: &[Said<'_, '_>],
     named: Named,
 ) -> Result<(), Unstated>
     ensures adds { OnOk result (Adds (all_named scope.now named (map message_of messages.now))
@@ -87,12 +87,12 @@ pub(crate) fn declare_each(
 }
 
 /// The oneofs at places that aren't marked.
-pub(crate) fn real_oneofs<'a>(
+pub(crate) fn real_oneofs<'b, 'a>(
     alloc: Global,
-    oneofs: &[Said<'a>],
+    oneofs: &[Said<'b, 'a>],
     numbers: &[i128],
     marks: &[bool],
-) -> Result<Vec<Said<'a>>, AllocError>
+) -> Result<Vec<Said<'b, 'a>>, AllocError>
     requires { AreMarked numbers.now (length oneofs.now) marks.now }
     ensures { IfOk result (λ real. map message_of real.items
         ≡ real_oneofs numbers.now 0 (map message_of oneofs.now)) }

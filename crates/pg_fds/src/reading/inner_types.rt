@@ -9,7 +9,7 @@ use crate::descriptor::proto;
 use std::alloc::{AllocError, Global};
 
 // Whether the message is marked `map_entry`.
-fn is_entry(message: &Said<'_>) -> bool
+fn is_entry(message: &Said<'_, '_>) -> bool
     ensures { result ≡ is_entry (message_of message.now) }
 {
     match option(message, proto::MESSAGE_OPTIONS, proto::MESSAGE_MAP_ENTRY) {
@@ -19,10 +19,10 @@ fn is_entry(message: &Said<'_>) -> bool
 }
 
 /// Those of the messages that are entry types, in their order.
-pub(crate) fn entries_of<'a>(
+pub(crate) fn entries_of<'b, 'a>(
     alloc: Global,
-    messages: &[Said<'a>],
-) -> Result<Vec<Said<'a>>, AllocError>
+    messages: &[Said<'b, 'a>],
+) -> Result<Vec<Said<'b, 'a>>, AllocError>
     ensures { IfOk result (λ found. map message_of found.items
         ≡ filter is_entry (map message_of messages.now)) }
 {
@@ -36,10 +36,10 @@ pub(crate) fn entries_of<'a>(
 }
 
 /// Those of the messages that aren't, in their order.
-pub(crate) fn types_of<'a>(
+pub(crate) fn types_of<'b, 'a>(
     alloc: Global,
-    messages: &[Said<'a>],
-) -> Result<Vec<Said<'a>>, AllocError>
+    messages: &[Said<'b, 'a>],
+) -> Result<Vec<Said<'b, 'a>>, AllocError>
     ensures { IfOk result (λ found. map message_of found.items
         ≡ filter is_no_entry (map message_of messages.now)) }
 {

@@ -37,7 +37,7 @@ fn element_of(named: Named) -> Option<Element>
 }
 
 // The element, where its code is that of the field's type.
-fn of_its_code(message: &Said<'_>, element: Element) -> Option<Element>
+fn of_its_code(message: &Said<'_, '_>, element: Element) -> Option<Element>
     ensures { result ≡ of_code (number_at proto.FIELD_TYPE (message_of message.now)) element }
 {
     let code = element_code(element);
@@ -48,7 +48,7 @@ fn of_its_code(message: &Said<'_>, element: Element) -> Option<Element>
 }
 
 // The items of a field that names a type.
-fn named_element(names: &NameTable, message: &Said<'_>) -> Option<Element>
+fn named_element(names: &NameTable, message: &Said<'_, '_>) -> Option<Element>
     ensures { result ≡ named_element (means_of names.now) (message_of message.now) }
 {
     let named = meant(names, message, proto::FIELD_TYPE_NAME)?;
@@ -57,7 +57,7 @@ fn named_element(names: &NameTable, message: &Said<'_>) -> Option<Element>
 }
 
 // Those of one that names none.
-fn scalar_element(message: &Said<'_>) -> Option<Element>
+fn scalar_element(message: &Said<'_, '_>) -> Option<Element>
     ensures { result ≡ option_map ScalarElement
         (scalar_of (number_at proto.FIELD_TYPE (message_of message.now))) }
 {
@@ -68,7 +68,7 @@ fn scalar_element(message: &Said<'_>) -> Option<Element>
 }
 
 /// The items of a field that is no map, or of an entry type's field.
-pub(crate) fn element(names: &NameTable, message: &Said<'_>) -> Option<Element>
+pub(crate) fn element(names: &NameTable, message: &Said<'_, '_>) -> Option<Element>
     ensures { result ≡ element (means_of names.now) (message_of message.now) }
 {
     match item(message, proto::FIELD_TYPE_NAME) {
@@ -80,7 +80,7 @@ pub(crate) fn element(names: &NameTable, message: &Said<'_>) -> Option<Element>
 // ---- what is missing
 
 // The singular field is missing.
-fn lacks(message: &Said<'_>, number: u32) -> Result<(), Unstated>
+fn lacks(message: &Said<'_, '_>, number: u32) -> Result<(), Unstated>
     ensures ok { OnOk result (item_at number (message_of message.now) ≡ None) }
     ensures refused { OnErr result (item_at number (message_of message.now) ≡ None → ⊥) }
 {
@@ -91,7 +91,7 @@ fn lacks(message: &Said<'_>, number: u32) -> Result<(), Unstated>
 }
 
 // The repeated field is missing.
-fn lacks_all(message: &Said<'_>, number: u32) -> Result<(), Unstated>
+fn lacks_all(message: &Said<'_, '_>, number: u32) -> Result<(), Unstated>
     ensures ok { OnOk result (items_at number (message_of message.now) ≡ []) }
     ensures refused { OnErr result (items_at number (message_of message.now) ≡ [] → ⊥) }
 {
@@ -102,7 +102,7 @@ fn lacks_all(message: &Said<'_>, number: u32) -> Result<(), Unstated>
 }
 
 // The message has no content.
-fn is_empty(message: &Said<'_>) -> Result<(), Unstated>
+fn is_empty(message: &Said<'_, '_>) -> Result<(), Unstated>
     ensures ok { OnOk result (parts (message_of message.now) ≡ []) }
     ensures refused { OnErr result (parts (message_of message.now) ≡ [] → ⊥) }
 {
@@ -114,7 +114,7 @@ fn is_empty(message: &Said<'_>) -> Result<(), Unstated>
 }
 
 // The options are missing, or none is in them.
-fn has_no_options(message: &Said<'_>, number: u32) -> Result<(), Unstated>
+fn has_no_options(message: &Said<'_, '_>, number: u32) -> Result<(), Unstated>
     ensures ok { OnOk result (parts (options_at number (message_of message.now)) ≡ []) }
     ensures refused { OnErr result (parts (options_at number (message_of message.now)) ≡ [] → ⊥) }
 {
@@ -130,14 +130,14 @@ fn has_no_options(message: &Said<'_>, number: u32) -> Result<(), Unstated>
 // ---- entry types
 
 /// The text of the field is that one.
-pub(crate) fn says(message: &Said<'_>, number: u32, stated: &str) -> bool
+pub(crate) fn says(message: &Said<'_, '_>, number: u32, stated: &str) -> bool
     ensures { result ≡ says number (message_of message.now) stated.now }
 {
     text(message, number) == stated
 }
 
 // The text of the field is that one, or missing.
-fn may_say(message: &Said<'_>, number: u32, stated: &str) -> bool
+fn may_say(message: &Said<'_, '_>, number: u32, stated: &str) -> bool
     ensures { result ≡ may_say number (message_of message.now) stated.now }
 {
     match maybe_text(message, number) {
@@ -148,7 +148,7 @@ fn may_say(message: &Said<'_>, number: u32, stated: &str) -> bool
 
 // The field `key` or `value` of an entry type, but for its items: it has no options, and stands in
 // no oneof.
-fn is_entry_field(message: &Said<'_>, name: &str, place: u32) -> bool
+fn is_entry_field(message: &Said<'_, '_>, name: &str, place: u32) -> bool
     ensures { result ≡ is_entry_field name.now place (message_of message.now) }
 {
     let is_named = says(message, proto::FIELD_NAME, name);
@@ -176,7 +176,7 @@ fn key_of(element: Element) -> Scalar
 }
 
 // The key and the value, by their two fields.
-fn pair(names: &NameTable, first: &Said<'_>, second: &Said<'_>) -> Option<(Scalar, Element)>
+fn pair(names: &NameTable, first: &Said<'_, '_>, second: &Said<'_, '_>) -> Option<(Scalar, Element)>
     ensures { result ≡ pair_of (means_of names.now) (message_of first.now) (message_of second.now) }
 {
     let is_key = is_entry_field(first, "key", 1);
@@ -190,7 +190,7 @@ fn pair(names: &NameTable, first: &Said<'_>, second: &Said<'_>) -> Option<(Scala
 }
 
 // The same, of an entry type's fields.
-fn key_and_value(names: &NameTable, fields: &[Said<'_>]) -> Option<(Scalar, Element)>
+fn key_and_value(names: &NameTable, fields: &[Said<'_, '_>]) -> Option<(Scalar, Element)>
     ensures { result ≡ key_and_value (means_of names.now) (map message_of fields.now) }
 {
     match fields {
@@ -200,7 +200,7 @@ fn key_and_value(names: &NameTable, fields: &[Said<'_>]) -> Option<(Scalar, Elem
 }
 
 // The message has nothing but fields.
-fn has_fields_alone(entry: &Said<'_>) -> bool
+fn has_fields_alone(entry: &Said<'_, '_>) -> bool
     ensures { result ≡ has_fields_alone (message_of entry.now) }
 {
     let no_types = lacks_all(entry, proto::MESSAGE_NESTED_TYPE).is_ok();
@@ -216,7 +216,7 @@ fn has_fields_alone(entry: &Said<'_>) -> bool
 pub(crate) fn entry(
     alloc: Global,
     names: &NameTable,
-    message: &Said<'_>,
+    message: &Said<'_, '_>,
 ) -> Result<Option<(Scalar, Element)>, AllocError>
     ensures { IfOk result (λ found. found
         ≡ entry (means_of names.now) (message_of message.now)) }

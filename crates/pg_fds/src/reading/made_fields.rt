@@ -32,12 +32,12 @@ use std::collections::BTreeMap;
 /// qualified name; which of its oneofs are synthetic, and how many fields name each; its entry types
 /// by their names.
 #[derive(Drop)]
-pub(crate) struct Scope<'a> {
-    pub names: &'a NameTable,
-    pub name: &'a str,
+pub(crate) struct Scope<'b, 'a> {
+    pub names: &'b NameTable,
+    pub name: &'b str,
     pub synthetic: OneofMarks,
     pub members: Vec<usize>,
-    pub entries: BTreeMap<String, Said<'a>>,
+    pub entries: BTreeMap<String, Said<'b, 'a>>,
 }
 
 // ---- how often items stand
@@ -74,7 +74,7 @@ fn repeated(element: Element, stated: Option<bool>) -> Presence
 }
 
 // The presence of a field that is no map.
-fn presence(message: &Said<'_>, element: Element, member: bool) -> Option<Presence>
+fn presence(message: &Said<'_, '_>, element: Element, member: bool) -> Option<Presence>
     ensures { result ≡ presence (message_of message.now) element member }
 {
     let optional = flag(message, proto::FIELD_PROTO3_OPTIONAL);
@@ -89,7 +89,11 @@ fn presence(message: &Said<'_>, element: Element, member: bool) -> Option<Presen
 }
 
 // The presence and element of a field that is no map.
-fn plain_items(names: &NameTable, message: &Said<'_>, member: bool) -> Option<(Presence, Element)>
+fn plain_items(
+    names: &NameTable,
+    message: &Said<'_, '_>,
+    member: bool,
+) -> Option<(Presence, Element)>
     ensures { result ≡ plain_items (means_of names.now) (message_of message.now) member }
 {
     let element = element(names, message)?;
@@ -110,7 +114,7 @@ fn is_entry_type(named: Option<Named>) -> bool
 }
 
 // Whether the field's type is an entry type.
-fn is_map_field(names: &NameTable, message: &Said<'_>) -> bool
+fn is_map_field(names: &NameTable, message: &Said<'_, '_>) -> bool
     ensures { result ≡ is_map_field (means_of names.now) (message_of message.now) }
 {
     let is_entry = is_entry_type(meant(names, message, proto::FIELD_TYPE_NAME));
@@ -121,8 +125,8 @@ fn is_map_field(names: &NameTable, message: &Said<'_>) -> bool
 // type.
 fn names_its_entry(
     alloc: Global,
-    scope: &Scope<'_>,
-    message: &Said<'_>,
+    scope: &Scope<'_, '_>,
+    message: &Said<'_, '_>,
     own: &str,
 ) -> Result<bool, AllocError>
     requires { own.now ≡ entry_name (text_at proto.FIELD_NAME (message_of message.now)) }
@@ -138,8 +142,8 @@ fn names_its_entry(
 // The presence and element of a map field, whose entry type has its form.
 fn map_items(
     alloc: Global,
-    scope: &Scope<'_>,
-    message: &Said<'_>,
+    scope: &Scope<'_, '_>,
+    message: &Said<'_, '_>,
 ) -> Result<(Presence, Element), Unstated>
     ensures made { IfOk result (λ made. map_items (means_of scope.now.names.now)
         (owner_of scope.now) (message_of message.now) ≡ Some made) }
@@ -163,8 +167,8 @@ fn map_items(
 // The presence and element of a field.
 fn items(
     alloc: Global,
-    scope: &Scope<'_>,
-    message: &Said<'_>,
+    scope: &Scope<'_, '_>,
+    message: &Said<'_, '_>,
     member: bool,
 ) -> Result<(Presence, Element), Unstated>
     ensures made { IfOk result (λ made. items (means_of scope.now.names.now)
@@ -183,7 +187,7 @@ fn items(
 }
 
 // The JSON name, given or default.
-fn json_name(alloc: Global, message: &Said<'_>) -> Result<String, AllocError>
+fn json_name(alloc: Global, message: &Said<'_, '_>) -> Result<String, AllocError>
     ensures { IfOk result (λ name. string_bytes name ≡ json_name_at (message_of message.now)) }
 {
     let given = maybe_text(message, proto::FIELD_JSON_NAME);
@@ -197,8 +201,8 @@ fn json_name(alloc: Global, message: &Said<'_>) -> Result<String, AllocError>
 /// stand either.
 pub(crate) fn made_field(
     alloc: Global,
-    scope: &Scope<'_>,
-    message: &Said<'_>,
+    scope: &Scope<'_, '_>,
+    message: &Said<'_, '_>,
 ) -> Result<Field, Unstated>
     ensures made { IfOk result (λ made. field (means_of scope.now.names.now)
         (owner_of scope.now) (message_of message.now) ≡ Some (field_view made)) }

@@ -57,7 +57,7 @@ const OPTIONS: [u32; 13] = [
 
 // ---- services
 
-fn method(alloc: Global, names: &NameTable, message: &Said<'_>) -> Result<Method, Unstated>
+fn method(alloc: Global, names: &NameTable, message: &Said<'_, '_>) -> Result<Method, Unstated>
     ensures made { IfOk result (λ made. method (means_of names.now) (message_of message.now)
         ≡ Some (method_view made)) }
     ensures refused { IfErr result (λ e. (e ≡ Memory)
@@ -82,7 +82,11 @@ fn method(alloc: Global, names: &NameTable, message: &Said<'_>) -> Result<Method
     })
 }
 
-fn methods(alloc: Global, names: &NameTable, messages: &[Said<'_>]) -> Result<Vec<Method>, Unstated>
+fn methods(
+    alloc: Global,
+    names: &NameTable,
+    messages: &[Said<'_, '_>],
+) -> Result<Vec<Method>, Unstated>
     ensures made { IfOk result (λ made. each (method (means_of names.now))
         (map message_of messages.now) ≡ Some (map method_view made.items)) }
     ensures refused { IfErr result (λ e. (e ≡ Memory)
@@ -100,7 +104,7 @@ fn methods(alloc: Global, names: &NameTable, messages: &[Said<'_>]) -> Result<Ve
 pub(crate) fn service(
     alloc: Global,
     names: &NameTable,
-    outlined: &Outlined<'_>,
+    outlined: &Outlined<'_, '_>,
 ) -> Result<Service, Unstated>
     ensures made { IfOk result (λ made. service (means_of names.now) (row outlined.now)
         ≡ Some (service_view made)) }
@@ -153,7 +157,11 @@ fn numbered(number: u32, found: i128) -> OptionValue
 }
 
 // The value of the option of that number.
-fn option_value(alloc: Global, number: u32, item: &SaidItem<'_>) -> Result<OptionValue, AllocError>
+fn option_value(
+    alloc: Global,
+    number: u32,
+    item: &SaidItem<'_, '_>,
+) -> Result<OptionValue, AllocError>
     ensures { IfOk result (λ made. value_of made ≡ option_value number (said item.now)) }
 {
     if let SaidItem::Number(_) = item {
@@ -167,7 +175,7 @@ fn option_value(alloc: Global, number: u32, item: &SaidItem<'_>) -> Result<Optio
 // The options of these numbers, in their order.
 fn options_under(
     alloc: Global,
-    message: &Said<'_>,
+    message: &Said<'_, '_>,
     numbers: &[u32],
 ) -> Result<Vec<FileOption>, AllocError>
     ensures { IfOk result (λ made. map option_view made.items
@@ -186,7 +194,7 @@ fn options_under(
 }
 
 // The message of a file's options, where there is one.
-fn own_options<'a>(message: &Said<'a>) -> Option<Said<'a>>
+fn own_options<'b, 'a>(message: &Said<'b, 'a>) -> Option<Said<'b, 'a>>
     ensures { unwrap_or (option_map message_of result) (ends [])
         ≡ options_at proto.FILE_OPTIONS (message_of message.now) }
 {
@@ -198,7 +206,7 @@ fn own_options<'a>(message: &Said<'a>) -> Option<Said<'a>>
 }
 
 // The options of a file, by rising number.
-fn options(alloc: Global, message: &Said<'_>) -> Result<Vec<FileOption>, AllocError>
+fn options(alloc: Global, message: &Said<'_, '_>) -> Result<Vec<FileOption>, AllocError>
     ensures { IfOk result (λ made. map option_view made.items
         ≡ options_under (options_at proto.FILE_OPTIONS (message_of message.now)) option_places) }
 {
@@ -236,7 +244,7 @@ fn kept(
 }
 
 // The imports of a file, without those that are skipped.
-fn imports(alloc: Global, skips: bool, message: &Said<'_>) -> Result<Vec<Import>, Unstated>
+fn imports(alloc: Global, skips: bool, message: &Said<'_, '_>) -> Result<Vec<Import>, Unstated>
     ensures made { IfOk result (λ made. map import_of made.items
         ≡ kept_imports skips (numbers_at proto.FILE_PUBLIC_DEPENDENCY (message_of message.now)) 0
         (texts_at proto.FILE_DEPENDENCY (message_of message.now))) }
@@ -255,7 +263,7 @@ fn imports(alloc: Global, skips: bool, message: &Said<'_>) -> Result<Vec<Import>
 pub(crate) fn file(
     alloc: Global,
     skips: bool,
-    outlined: &OutlinedFile<'_>,
+    outlined: &OutlinedFile<'_, '_>,
 ) -> Result<File, Unstated>
     ensures made { IfOk result (λ made. file skips (placed_file outlined.now)
         ≡ Some (file_view made)) }

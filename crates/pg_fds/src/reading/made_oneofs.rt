@@ -35,7 +35,10 @@ pub(crate) fn marks(alloc: Global, numbers: &[i128], count: usize) -> Result<Vec
 }
 
 /// The places of the oneofs that fields marked `proto3_optional` name.
-pub(crate) fn synthetic_places(alloc: Global, fields: &[Said<'_>]) -> Result<Vec<i128>, AllocError>
+pub(crate) fn synthetic_places(
+    alloc: Global,
+    fields: &[Said<'_, '_>],
+) -> Result<Vec<i128>, AllocError>
     ensures { IfOk result (λ places. places.items
         ≡ synthetic_places (map message_of fields.now)) }
 {
@@ -53,9 +56,9 @@ pub(crate) fn synthetic_places(alloc: Global, fields: &[Said<'_>]) -> Result<Vec
 }
 
 /// The names of the oneofs at places that aren't marked.
-pub(crate) fn real_names<'a>(
+pub(crate) fn real_names<'b, 'a>(
     alloc: Global,
-    oneofs: &[Said<'a>],
+    oneofs: &[Said<'b, 'a>],
     numbers: &[i128],
     marks: &[bool],
 ) -> Result<Vec<&'a str>, AllocError>
@@ -189,7 +192,7 @@ fn own_oneof(synthetic: &[bool], members: &[usize], named: Option<i128>) -> Opti
 pub(crate) fn oneof(
     marks: &OneofMarks,
     members: &[usize],
-    message: &Said<'_>,
+    message: &Said<'_, '_>,
 ) -> Option<Option<u32>>
     ensures { result ≡ oneof marks.now members.now (message_of message.now) }
 {

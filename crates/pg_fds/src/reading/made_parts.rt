@@ -25,7 +25,7 @@ use std::alloc::{AllocError, Global};
 fn all_files(
     alloc: Global,
     skips: bool,
-    outlined: &[OutlinedFile<'_>],
+    outlined: &[OutlinedFile<'_, '_>],
 ) -> Result<Vec<File>, Unstated>
     ensures made { IfOk result (λ made. each (file skips) (map placed_file outlined.now)
         ≡ Some (map file_view made.items)) }
@@ -44,7 +44,7 @@ fn all_files(
 fn all_types(
     alloc: Global,
     names: &NameTable,
-    outlined: &[OutlinedType<'_>],
+    outlined: &[OutlinedType<'_, '_>],
 ) -> Result<Vec<MessageType>, Unstated>
     ensures made { IfOk result (λ made. each (message_type (means_of names.now))
         (map placed_type outlined.now) ≡ Some (map type_view made.items)) }
@@ -60,7 +60,7 @@ fn all_types(
 }
 
 // The enums.
-fn all_enums(alloc: Global, outlined: &[Outlined<'_>]) -> Result<Vec<EnumType>, AllocError>
+fn all_enums(alloc: Global, outlined: &[Outlined<'_, '_>]) -> Result<Vec<EnumType>, AllocError>
     ensures { IfOk result (λ made. map enum_view made.items
         ≡ map enum_type (map row outlined.now)) }
 {
@@ -76,7 +76,7 @@ fn all_enums(alloc: Global, outlined: &[Outlined<'_>]) -> Result<Vec<EnumType>, 
 fn all_services(
     alloc: Global,
     names: &NameTable,
-    outlined: &[Outlined<'_>],
+    outlined: &[Outlined<'_, '_>],
 ) -> Result<Vec<Service>, Unstated>
     ensures made { IfOk result (λ made. each (service (means_of names.now))
         (map row outlined.now) ≡ Some (map service_view made.items)) }
@@ -95,7 +95,7 @@ fn all_services(
 pub(crate) fn made_parts(
     alloc: Global,
     skips: bool,
-    outline: &Outline<'_>,
+    outline: &Outline<'_, '_>,
 ) -> Result<Parts, Unstated>
     ensures made { IfOk result (λ made. parts_by (means_of outline.now.names) skips
         (map placed_file outline.now.files.items) (map placed_type outline.now.types.items)

@@ -53,7 +53,7 @@ fn copies(alloc: Global, texts: &[&str]) -> Result<Vec<String>, AllocError>
 
 // ---- enums
 
-fn value(alloc: Global, message: &Said<'_>) -> Result<EnumValue, AllocError>
+fn value(alloc: Global, message: &Said<'_, '_>) -> Result<EnumValue, AllocError>
     ensures { IfOk result (λ made. value_view made ≡ stated.value (message_of message.now)) }
 {
     Ok(EnumValue {
@@ -65,7 +65,7 @@ fn value(alloc: Global, message: &Said<'_>) -> Result<EnumValue, AllocError>
     })
 }
 
-fn values(alloc: Global, messages: &[Said<'_>]) -> Result<Vec<EnumValue>, AllocError>
+fn values(alloc: Global, messages: &[Said<'_, '_>]) -> Result<Vec<EnumValue>, AllocError>
     ensures { IfOk result (λ made. map value_view made.items
         ≡ map stated.value (map message_of messages.now)) }
 {
@@ -77,7 +77,7 @@ fn values(alloc: Global, messages: &[Said<'_>]) -> Result<Vec<EnumValue>, AllocE
     Ok(values)
 }
 
-fn value_range(message: &Said<'_>) -> ReservedValues
+fn value_range(message: &Said<'_, '_>) -> ReservedValues
     ensures { result ≡ stated.range (message_of message.now) }
 {
     ReservedValues {
@@ -86,7 +86,7 @@ fn value_range(message: &Said<'_>) -> ReservedValues
     }
 }
 
-fn value_ranges(alloc: Global, messages: &[Said<'_>]) -> Result<Vec<ReservedValues>, AllocError>
+fn value_ranges(alloc: Global, messages: &[Said<'_, '_>]) -> Result<Vec<ReservedValues>, AllocError>
     ensures { IfOk result (λ made. made.items
         ≡ map stated.range (map message_of messages.now)) }
 {
@@ -99,7 +99,7 @@ fn value_ranges(alloc: Global, messages: &[Said<'_>]) -> Result<Vec<ReservedValu
 }
 
 /// The enum that a message states.
-pub(crate) fn made_enum(alloc: Global, outlined: &Outlined<'_>) -> Result<EnumType, AllocError>
+pub(crate) fn made_enum(alloc: Global, outlined: &Outlined<'_, '_>) -> Result<EnumType, AllocError>
     ensures { IfOk result (λ made. enum_view made ≡ stated.enum_type (row outlined.now)) }
 {
     let message = &outlined.message;
@@ -125,7 +125,7 @@ pub(crate) fn made_enum(alloc: Global, outlined: &Outlined<'_>) -> Result<EnumTy
 // ---- message types
 
 // The reserved numbers, which end before the second number.
-fn field_range(message: &Said<'_>) -> ReservedFields
+fn field_range(message: &Said<'_, '_>) -> ReservedFields
     ensures { result ≡ field_range (message_of message.now) }
 {
     let end = count(message, proto::RANGE_END);
@@ -135,7 +135,7 @@ fn field_range(message: &Said<'_>) -> ReservedFields
     }
 }
 
-fn field_ranges(alloc: Global, messages: &[Said<'_>]) -> Result<Vec<ReservedFields>, AllocError>
+fn field_ranges(alloc: Global, messages: &[Said<'_, '_>]) -> Result<Vec<ReservedFields>, AllocError>
     ensures { IfOk result (λ made. made.items
         ≡ map field_range (map message_of messages.now)) }
 {
@@ -148,7 +148,7 @@ fn field_ranges(alloc: Global, messages: &[Said<'_>]) -> Result<Vec<ReservedFiel
 }
 
 // The place of the oneof, among so many, that a field names, if it names one.
-fn named_place(field: &Said<'_>, count: usize) -> Result<Option<usize>, Unstated>
+fn named_place(field: &Said<'_, '_>, count: usize) -> Result<Option<usize>, Unstated>
     ensures ok { IfOk result (λ place. maybe_number_at proto.FIELD_ONEOF_INDEX
         (message_of field.now) ≡ option_map pos place) }
     ensures within { IfOk result (λ found. IfSome found (λ place. place < count)) }
@@ -161,7 +161,11 @@ fn named_place(field: &Said<'_>, count: usize) -> Result<Option<usize>, Unstated
 }
 
 // How many of the fields name each of so many oneofs, where each names one of them or none.
-fn member_counts(alloc: Global, fields: &[Said<'_>], count: usize) -> Result<Vec<usize>, Unstated>
+fn member_counts(
+    alloc: Global,
+    fields: &[Said<'_, '_>],
+    count: usize,
+) -> Result<Vec<usize>, Unstated>
     ensures counted { IfOk result (λ counts.
         AreCounted (map message_of fields.now) count counts.items) }
     ensures refused { IfErr result (λ e. list_all (has_place count)
@@ -178,10 +182,10 @@ fn member_counts(alloc: Global, fields: &[Said<'_>], count: usize) -> Result<Vec
 }
 
 // The entry types by their names: of those of one name the last.
-fn entries<'a>(
+fn entries<'b, 'a>(
     alloc: Global,
-    messages: &[Said<'a>],
-) -> Result<BTreeMap<String, Said<'a>>, AllocError>
+    messages: &[Said<'b, 'a>],
+) -> Result<BTreeMap<String, Said<'b, 'a>>, AllocError>
     ensures { IfOk result (λ table. (name : List ℕ) → message_in table name
         ≡ last_named (map message_of messages.now) name) }
 {
@@ -196,8 +200,8 @@ fn entries<'a>(
 // The fields of these messages, one by one.
 fn each_field(
     alloc: Global,
-    scope: &Scope<'_>,
-    messages: &[Said<'_>],
+    scope: &Scope<'_, '_>,
+    messages: &[Said<'_, '_>],
 ) -> Result<Vec<Field>, Unstated>
     ensures made { IfOk result (λ made. each (field (means_of scope.now.names.now)
         (owner_of scope.now)) (map message_of messages.now)
@@ -217,9 +221,9 @@ fn each_field(
 // The fields of these messages, where each of the entry types is that of just one.
 fn fields(
     alloc: Global,
-    scope: &Scope<'_>,
-    entries: &[Said<'_>],
-    messages: &[Said<'_>],
+    scope: &Scope<'_, '_>,
+    entries: &[Said<'_, '_>],
+    messages: &[Said<'_, '_>],
 ) -> Result<Vec<Field>, Unstated>
     ensures made { IfOk result (λ made. fields (means_of scope.now.names.now)
         (owner_of scope.now) (map message_of entries.now) (map message_of messages.now)
@@ -247,8 +251,8 @@ fn sorted(mut fields: Vec<Field>) -> Result<Vec<Field>, AllocError>
 fn declared_fields(
     alloc: Global,
     names: &NameTable,
-    outlined: &OutlinedType<'_>,
-    own: &[Said<'_>],
+    outlined: &OutlinedType<'_, '_>,
+    own: &[Said<'_, '_>],
     synthetic: Vec<bool>,
 ) -> Result<Vec<Field>, Unstated>
     requires own { map message_of own.now
@@ -279,7 +283,7 @@ fn declared_fields(
 // Own copies of the names of the oneofs that aren't synthetic.
 fn oneof_names(
     alloc: Global,
-    oneofs: &[Said<'_>],
+    oneofs: &[Said<'_, '_>],
     places: &[i128],
     synthetic: &[bool],
 ) -> Result<Vec<String>, AllocError>
@@ -304,9 +308,9 @@ struct Members {
 fn marked_members(
     alloc: Global,
     names: &NameTable,
-    outlined: &OutlinedType<'_>,
-    own: &[Said<'_>],
-    inside: &[Said<'_>],
+    outlined: &OutlinedType<'_, '_>,
+    own: &[Said<'_, '_>],
+    inside: &[Said<'_, '_>],
     places: &[i128],
     synthetic: Vec<bool>,
 ) -> Result<Members, Unstated>
@@ -329,9 +333,9 @@ fn marked_members(
 fn members_of(
     alloc: Global,
     names: &NameTable,
-    outlined: &OutlinedType<'_>,
-    own: &[Said<'_>],
-    inside: &[Said<'_>],
+    outlined: &OutlinedType<'_, '_>,
+    own: &[Said<'_, '_>],
+    inside: &[Said<'_, '_>],
 ) -> Result<Members, Unstated>
     requires own { map message_of own.now
         ≡ children_at proto.MESSAGE_FIELD (message_of outlined.now.message) }
@@ -350,7 +354,7 @@ fn members_of(
 fn made_members(
     alloc: Global,
     names: &NameTable,
-    outlined: &OutlinedType<'_>,
+    outlined: &OutlinedType<'_, '_>,
 ) -> Result<Members, Unstated>
     ensures made { IfOk result (HasMembers names.now (type_row outlined.now)) }
     ensures refused { IfErr result (λ e. (e ≡ Memory)
@@ -365,7 +369,7 @@ fn made_members(
 pub(crate) fn made_type(
     alloc: Global,
     names: &NameTable,
-    outlined: &OutlinedType<'_>,
+    outlined: &OutlinedType<'_, '_>,
 ) -> Result<MessageType, Unstated>
     ensures made { IfOk result (λ made. message_type (means_of names.now)
         (placed_type outlined.now) ≡ Some (type_view made)) }

@@ -32,7 +32,7 @@ fn meaning(names: &NameTable, name: &str) -> Option<Named>
 }
 
 /// What the name in a field of a message is that of.
-pub(crate) fn meant(names: &NameTable, message: &Said<'_>, number: u32) -> Option<Named>
+pub(crate) fn meant(names: &NameTable, message: &Said<'_, '_>, number: u32) -> Option<Named>
     ensures { result ≡ meant (means_of names.now)
         (maybe_text_at number (message_of message.now)) }
 {
@@ -43,7 +43,7 @@ pub(crate) fn meant(names: &NameTable, message: &Said<'_>, number: u32) -> Optio
 }
 
 /// The message type that it is that of.
-pub(crate) fn type_meant(names: &NameTable, message: &Said<'_>, number: u32) -> Option<TypeId>
+pub(crate) fn type_meant(names: &NameTable, message: &Said<'_, '_>, number: u32) -> Option<TypeId>
     ensures { result ≡ type_meant (means_of names.now)
         (maybe_text_at number (message_of message.now)) }
 {

@@ -46,7 +46,7 @@ fn named_once(alloc: Global, fields: &[Field]) -> Result<BTreeMap<String, bool>,
 }
 
 // Whether just one field has an entry type of the name that the entry type has.
-fn is_once(once: &BTreeMap<String, bool>, entry: &Said<'_>) -> bool
+fn is_once(once: &BTreeMap<String, bool>, entry: &Said<'_, '_>) -> bool
     ensures { result ≡ is_kept_once (get_by_text once.now
         (text_at proto.MESSAGE_NAME (message_of entry.now))) }
 {
@@ -60,7 +60,7 @@ fn is_once(once: &BTreeMap<String, bool>, entry: &Said<'_>) -> bool
 pub(crate) fn are_named_once(
     alloc: Global,
     fields: &[Field],
-    entries: &[Said<'_>],
+    entries: &[Said<'_, '_>],
 ) -> Result<bool, AllocError>
     ensures { IfOk result (λ are. are ≡ list_all (is_named_once (map field_view fields.now))
         (map message_of entries.now)) }

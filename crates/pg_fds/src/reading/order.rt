@@ -122,7 +122,7 @@ fn order_of(alloc: Global, skips: bool, files: &[Importing<'_>]) -> Result<Vec<u
 }
 
 // What a file says of its name and its imports.
-fn importing_file<'a>(alloc: Global, file: &Said<'a>) -> Result<Importing<'a>, AllocError>
+fn importing_file<'b, 'a>(alloc: Global, file: &Said<'b, 'a>) -> Result<Importing<'a>, AllocError>
     ensures { IfOk result (λ i. importer i ≡ importer_of (message_of file.now)) }
 {
     let name = text(file, proto::FILE_NAME);
@@ -131,7 +131,10 @@ fn importing_file<'a>(alloc: Global, file: &Said<'a>) -> Result<Importing<'a>, A
 }
 
 // The same of all files.
-fn importing_files<'a>(alloc: Global, files: &[Said<'a>]) -> Result<Vec<Importing<'a>>, AllocError>
+fn importing_files<'b, 'a>(
+    alloc: Global,
+    files: &[Said<'b, 'a>],
+) -> Result<Vec<Importing<'a>>, AllocError>
     ensures { IfOk result (λ found. importers found.items
         ≡ map importer_of (map message_of files.now)) }
 {
@@ -145,7 +148,11 @@ fn importing_files<'a>(alloc: Global, files: &[Said<'a>]) -> Result<Vec<Importin
 
 /// The places of the files in post-order of imports, begun at the files in their order: each stands
 /// behind those that it imports. Refused, memory aside, only where they have no order.
-pub(crate) fn order(alloc: Global, skips: bool, files: &[Said<'_>]) -> Result<Vec<usize>, Unstated>
+pub(crate) fn order(
+    alloc: Global,
+    skips: bool,
+    files: &[Said<'_, '_>],
+) -> Result<Vec<usize>, Unstated>
     ensures ok { IfOk result (λ order. AreOrdered skips
         (map importer_of (map message_of files.now)) order.items) }
     ensures in_order { IfOk result (λ order. in_post_order skips (map message_of files.now)

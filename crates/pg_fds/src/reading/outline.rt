@@ -45,8 +45,8 @@ pub(crate) enum Named {
 
 /// A message type of a set.
 #[derive(Drop)]
-pub(crate) struct OutlinedType<'a> {
-    pub message: Said<'a>,
+pub(crate) struct OutlinedType<'b, 'a> {
+    pub message: Said<'b, 'a>,
     pub name: String,
     pub types: Vec<TypeId>,
     pub enums: Vec<EnumId>,
@@ -54,15 +54,15 @@ pub(crate) struct OutlinedType<'a> {
 
 /// An enum or a service of a set.
 #[derive(Drop)]
-pub(crate) struct Outlined<'a> {
-    pub message: Said<'a>,
+pub(crate) struct Outlined<'b, 'a> {
+    pub message: Said<'b, 'a>,
     pub name: String,
 }
 
 /// A file of a set.
 #[derive(Drop)]
-pub(crate) struct OutlinedFile<'a> {
-    pub message: Said<'a>,
+pub(crate) struct OutlinedFile<'b, 'a> {
+    pub message: Said<'b, 'a>,
     pub types: Vec<TypeId>,
     pub enums: Vec<EnumId>,
     pub services: Vec<ServiceId>,
@@ -70,11 +70,11 @@ pub(crate) struct OutlinedFile<'a> {
 
 /// All that a set declares.
 #[derive(Drop)]
-pub(crate) struct Outline<'a> {
-    pub files: Vec<OutlinedFile<'a>>,
-    pub types: Vec<OutlinedType<'a>>,
-    pub enums: Vec<Outlined<'a>>,
-    pub services: Vec<Outlined<'a>>,
+pub(crate) struct Outline<'b, 'a> {
+    pub files: Vec<OutlinedFile<'b, 'a>>,
+    pub types: Vec<OutlinedType<'b, 'a>>,
+    pub enums: Vec<Outlined<'b, 'a>>,
+    pub services: Vec<Outlined<'b, 'a>>,
     pub names: NameTable,
 }
 
@@ -96,7 +96,7 @@ fn declare_members(
     alloc: Global,
     names: &mut NameTable,
     full: &str,
-    message: &Said<'_>,
+    message: &Said<'_, '_>,
 ) -> Result<(), Unstated>
     ensures adds { OnOk result (Adds (members_declared full.now (message_of message.now))
         names.old names.new) }
@@ -120,7 +120,7 @@ fn declare_type(
     names: &mut NameTable,
     full: &str,
     id: TypeId,
-    message: &Said<'_>,
+    message: &Said<'_, '_>,
 ) -> Result<(), Unstated>
     ensures adds { OnOk result (Adds
         (type_declared full.now id.index (message_of message.now)) names.old names.new) }
@@ -156,7 +156,7 @@ fn declare_scope(alloc: Global, names: &mut NameTable, name: &str) -> Result<Str
 }
 
 // None of the messages is an entry type.
-fn without_entries(alloc: Global, messages: &[Said<'_>]) -> Result<(), Unstated>
+fn without_entries(alloc: Global, messages: &[Said<'_, '_>]) -> Result<(), Unstated>
     ensures ok { OnOk result (filter is_entry (map message_of messages.now) ≡ []) }
     ensures refused { IfErr result (λ e. filter is_entry (map message_of messages.now) ≡ []
         → e ≡ Memory) }
@@ -169,7 +169,7 @@ fn without_entries(alloc: Global, messages: &[Said<'_>]) -> Result<(), Unstated>
 }
 
 // There is none of the messages.
-fn ensure_none(messages: &[Said<'_>]) -> Result<(), Unstated>
+fn ensure_none(messages: &[Said<'_, '_>]) -> Result<(), Unstated>
     ensures none { OnOk result (map message_of messages.now ≡ []) }
     ensures refused { OnErr result (map message_of messages.now ≡ [] → ⊥) }
 {
@@ -179,13 +179,13 @@ fn ensure_none(messages: &[Said<'_>]) -> Result<(), Unstated>
     }
 }
 
-impl<'a> Outline<'a> {
+impl<'b, 'a> Outline<'b, 'a> {
     // A message type, without those inside it.
     fn outline_type(
         &mut self,
         alloc: Global,
         name: &str,
-        message: &Said<'a>,
+        message: &Said<'b, 'a>,
     ) -> Result<TypeId, Unstated>
         ensures placed { IfOk result (λ id. id.index ≡ length self.old.types.items) }
         ensures rows { OnOk result (map type_row self.new.types.items
@@ -250,7 +250,7 @@ impl<'a> Outline<'a> {
         alloc: Global,
         depth: usize,
         scope: &str,
-        messages: &[Said<'a>],
+        messages: &[Said<'b, 'a>],
     ) -> Result<Vec<TypeId>, Unstated>
         ensures ids { IfOk result (λ ids. type_places ids.items
             ≡ places_of_types depth scope.now (counts_of self.old)
@@ -295,7 +295,7 @@ impl<'a> Outline<'a> {
         &mut self,
         alloc: Global,
         depth: usize,
-        message: &Said<'a>,
+        message: &Said<'b, 'a>,
     ) -> Result<(), Unstated>
         ensures outlined { OnOk result (OutlinesFile depth (message_of message.now)
             self.old self.new) }
@@ -335,13 +335,13 @@ impl<'a> Outline<'a> {
 
 /// What the files declare, taken in that order, with message types nested less deep than that.
 /// Refused, memory aside, only where not all of it may stand in one table.
-pub(crate) fn outline_files<'a>(
+pub(crate) fn outline_files<'b, 'a>(
     alloc: Global,
     keys: SetKeys,
     depth: usize,
-    files: &[Said<'a>],
+    files: &[Said<'b, 'a>],
     order: &[usize],
-) -> Result<Outline<'a>, Unstated>
+) -> Result<Outline<'b, 'a>, Unstated>
     ensures outlined { IfOk result (OutlinesFiles depth
         (files_at (map message_of files.now) order.now)) }
     ensures may { OnOk result (may_declare depth

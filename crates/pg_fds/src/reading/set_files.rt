@@ -17,21 +17,21 @@ fn is_descriptor(path: &str) -> bool
 }
 
 /// Whether the file is proto3.
-pub(crate) fn is_proto3(message: &Said<'_>) -> bool
+pub(crate) fn is_proto3(message: &Said<'_, '_>) -> bool
     ensures { result ≡ is_proto3 (message_of message.now) }
 {
     text(message, proto::FILE_SYNTAX) == "proto3"
 }
 
 // Whether the file is skipped: descriptor.proto, where it isn't proto3.
-fn is_skipped(message: &Said<'_>) -> bool
+fn is_skipped(message: &Said<'_, '_>) -> bool
     ensures { result ≡ is_skipped (message_of message.now) }
 {
     is_descriptor(text(message, proto::FILE_NAME)) && !is_proto3(message)
 }
 
 /// Whether one of the files is skipped.
-pub(crate) fn skips(files: &[Said<'_>]) -> bool
+pub(crate) fn skips(files: &[Said<'_, '_>]) -> bool
     ensures { result ≡ list_any is_skipped (map message_of files.now) }
 {
     for file in files {
@@ -44,7 +44,10 @@ pub(crate) fn skips(files: &[Said<'_>]) -> bool
 }
 
 /// The files that aren't skipped, in their order.
-pub(crate) fn kept<'a>(alloc: Global, files: &[Said<'a>]) -> Result<Vec<Said<'a>>, AllocError>
+pub(crate) fn kept<'b, 'a>(
+    alloc: Global,
+    files: &[Said<'b, 'a>],
+) -> Result<Vec<Said<'b, 'a>>, AllocError>
     ensures { IfOk result (λ kept. map message_of kept.items
         ≡ filter (λ m. not (is_skipped m)) (map message_of files.now)) }
 {

@@ -120,8 +120,8 @@ said_there [] i v there all = absurd (none-some v there)
 said_there (w ∷ vs) zero v there all = subst IsSaid (same_Some w v there) all.0
 said_there (w ∷ vs) (suc i) v there all = said_there vs i v there all.1
 
-pub item_there : (content : ContentRef) (i : ℕ) (v : ValueRef) (item : Item) → slice_get (values_in content) i ≡ Some v → item ≡ value_item v → slice_get (items_in content) i ≡ Some item
-item_there content i v item there is = slice_get-map value_item (values_in content) i ∙ (ap (option_map value_item) there ∙ ap Some (sym is))
+pub item_there : (vs : List ValueRef) (i : ℕ) (v : ValueRef) (item : Item) → slice_get vs i ≡ Some v → item ≡ value_item v → slice_get (map value_item vs) i ≡ Some item
+item_there vs i v item there is = slice_get-map value_item vs i ∙ (ap (option_map value_item) there ∙ ap Some (sym is))
 
 up_to : {A : Type 0} (xs : List A) (i : ℕ) (x : A) → slice_get xs i ≡ Some x → take (suc i) xs ≡ take i xs ++ x ∷ []
 up_to [] i x there = absurd (none-some x there)

@@ -17,12 +17,12 @@ use pg_schema::EnumId;
 use std::alloc::Global;
 
 // An enum, with its name and those of its values.
-fn outline_enum<'a>(
+fn outline_enum<'b, 'a>(
     alloc: Global,
     names: &mut NameTable,
-    enums: &mut Vec<Outlined<'a>>,
+    enums: &mut Vec<Outlined<'b, 'a>>,
     scope: &str,
-    message: &Said<'a>,
+    message: &Said<'b, 'a>,
 ) -> Result<EnumId, Unstated>
     ensures placed { IfOk result (λ id. id.index ≡ length enums.old.items) }
     ensures rows { OnOk result (map row enums.new.items ≡ map row enums.old.items
@@ -48,12 +48,12 @@ fn outline_enum<'a>(
 }
 
 /// The enums that a scope declares: the place of each, in order.
-pub(crate) fn outline_enums<'a>(
+pub(crate) fn outline_enums<'b, 'a>(
     alloc: Global,
     names: &mut NameTable,
-    enums: &mut Vec<Outlined<'a>>,
+    enums: &mut Vec<Outlined<'b, 'a>>,
     scope: &str,
-    messages: &[Said<'a>],
+    messages: &[Said<'b, 'a>],
 ) -> Result<Vec<EnumId>, Unstated>
     ensures ids { IfOk result (λ ids. enum_places ids.items
         ≡ places_from (length enums.old.items) (length messages.now)) }

@@ -17,12 +17,12 @@ use pg_schema::ServiceId;
 use std::alloc::Global;
 
 // A service, with its name and those of its methods.
-fn outline_service<'a>(
+fn outline_service<'b, 'a>(
     alloc: Global,
     names: &mut NameTable,
-    services: &mut Vec<Outlined<'a>>,
+    services: &mut Vec<Outlined<'b, 'a>>,
     scope: &str,
-    message: &Said<'a>,
+    message: &Said<'b, 'a>,
 ) -> Result<ServiceId, Unstated>
     ensures placed { IfOk result (λ id. id.index ≡ length services.old.items) }
     ensures rows { OnOk result (map row services.new.items ≡ map row services.old.items
@@ -52,12 +52,12 @@ fn outline_service<'a>(
 }
 
 /// The services that a scope declares: the place of each, in order.
-pub(crate) fn outline_services<'a>(
+pub(crate) fn outline_services<'b, 'a>(
     alloc: Global,
     names: &mut NameTable,
-    services: &mut Vec<Outlined<'a>>,
+    services: &mut Vec<Outlined<'b, 'a>>,
     scope: &str,
-    messages: &[Said<'a>],
+    messages: &[Said<'b, 'a>],
 ) -> Result<Vec<ServiceId>, Unstated>
     ensures ids { IfOk result (λ ids. service_places ids.items
         ≡ places_from (length services.old.items) (length messages.now)) }
