@@ -40,17 +40,17 @@ loop-letter-preserved c =
     let rest = c.loop-letter.letter-iterator.rest.now in
     let later = c.next.new.self.rest.now in
     let letter = c.in-Some.letter in
-    let grown = string_bytes c.push.new.self in
+    let grown = string_bytes c.push-in-loop-letter.new.self in
     let all = package_declared (46 ∷ path) in
     elim c.if-letter-eq46.branch [
       | then-letter-eq46+in_ok-clone+in_ok-declare_part w ↦
           let adds = subst (λ n. Adds (package_part n ∷ []) c.loop-letter.names w.declare_part.new.names) w.in_ok-clone.ensures.cases w.in_ok-declare_part.ensures.adds in
           subst (λ table. Left (map package_part (parts_from grown later)) all table old) (sym w.names-is)
           (left_on (map package_part (parts_from now rest)) (package_part now ∷ []) (map package_part (parts_from grown later)) all c.loop-letter.names w.declare_part.new.names old
-          (ap (map package_part) (dot_past now rest later grown letter c.in-Some.ensures.steps.0 c.in_ok-push.ensures.bytes w.if-letter-eq46.true)) inv adds)
+          (ap (map package_part) (dot_past now rest later grown letter c.in-Some.ensures.steps.0 c.in_ok-push-2.ensures.bytes w.if-letter-eq46.true)) inv adds)
       | else-letter-eq46 w ↦
           subst (λ table. Left (map package_part (parts_from grown later)) all table old) (sym w.names-is)
-          (subst (λ ps. Left (map package_part ps) all c.loop-letter.names old) (letter_past now rest later grown letter c.in-Some.ensures.steps.0 c.in_ok-push.ensures.bytes w.if-letter-eq46.false) inv)
+          (subst (λ ps. Left (map package_part ps) all c.loop-letter.names old) (letter_past now rest later grown letter c.in-Some.ensures.steps.0 c.in_ok-push-2.ensures.bytes w.if-letter-eq46.false) inv)
     ]
 
 pub returns-clause-adds : goal.returns-clause-adds
