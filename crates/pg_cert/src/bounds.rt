@@ -68,7 +68,10 @@ fn entries_of(alloc: Global, bounds: &[PairBound]) -> Result<Entries, BoundsErro
         × (are_bounds bounds.now ≡ true)) }
     ensures broken { IfErr result (λ e. e ≡ Invariant → are_bounds bounds.now ≡ false) }
 {
-    let mut entries = IndexMap::with_hasher(alloc, PairKeys::of(bounds));
+    let keys = PairKeys::of(bounds);
+    let Ok(mut entries) = IndexMap::with_capacity_and_hasher(alloc, bounds.len(), keys) else {
+        return Err(BoundsError::Memory);
+    };
     for line in bounds {
         if !is_bound(line.bound) {
             return Err(BoundsError::Invariant);
