@@ -5,6 +5,7 @@ mod bounds;
 mod certificate;
 mod checking;
 mod error;
+mod guesses;
 mod heading;
 pub mod laws;
 mod pair_keys;

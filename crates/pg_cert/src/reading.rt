@@ -20,6 +20,7 @@ ghost use Rattle.pg_cert.specs.Text as spec;
 use crate::bounds::{Bounds, BoundsError, PairBound};
 use crate::certificate::Certificate;
 use crate::error::CertError;
+use crate::guesses::Guesses;
 use crate::heading::Heading;
 use crate::writing::text_under;
 use hex::FromHexError;
@@ -49,12 +50,28 @@ fn cut(text: &[u8], byte: u8) -> Option<(&[u8], &[u8])>
     }
 }
 
-/// The type of that name.
-fn named(schema: &Schema, word: &[u8]) -> Option<TypeId>
+/// Whether the type at that place has that name.
+fn is_named(schema: &Schema, id: TypeId, word: &[u8]) -> bool
+    ensures there { result ≡ true → id.index < length schema.now.types.items }
+    ensures named { result ≡ true → word.now ≡ spec.names_of schema.now id }
+{
+    match schema.message_type(id) {
+        Some(message_type) => message_type.name.as_bytes() == word,
+        None => false,
+    }
+}
+
+/// The type of that name, which is looked for at the guessed place first.
+fn named(schema: &Schema, word: &[u8], guess: TypeId) -> Option<TypeId>
     ensures there { IfSome result (λ id. id.index < length schema.now.types.items) }
     ensures found { (id : TypeId) → id.index < length schema.now.types.items
         → word.now ≡ spec.names_of schema.now id → result ≡ Some id }
 {
+    // What holds of every schema: no two types have one name.
+    schema.parts();
+    if is_named(schema, guess, word) {
+        return Some(guess);
+    }
     match str::from_utf8(word) {
         Ok(name) => schema.message(name),
         Err(_) => None,
@@ -62,7 +79,12 @@ fn named(schema: &Schema, word: &[u8]) -> Option<TypeId>
 }
 
 /// The type whose name stands before the first such blank, and what stands behind this.
-fn read_name<'a>(schema: &Schema, text: &'a [u8], blank: u8) -> Option<(TypeId, &'a [u8])>
+fn read_name<'a>(
+    schema: &Schema,
+    text: &'a [u8],
+    blank: u8,
+    guess: TypeId,
+) -> Option<(TypeId, &'a [u8])>
     requires { IsBlank blank }
     ensures shorter { IfSome result (λ parts. length parts.1.now < length text.now) }
     ensures there { IfSome result (λ parts. parts.0.index < length schema.now.types.items) }
@@ -74,13 +96,19 @@ fn read_name<'a>(schema: &Schema, text: &'a [u8], blank: u8) -> Option<(TypeId, 
     // What holds of every schema.
     schema.parts();
     let (word, rest) = cut(text, blank)?;
-    let id = named(schema, word)?;
+    let id = named(schema, word, guess)?;
     Some((id, rest))
 }
 
 /// The types of a pair, whose names stand in front with a space between and that blank behind them,
-/// and what stands behind this.
-fn read_pair<'a>(old: &Schema, new: &Schema, text: &'a [u8], blank: u8) -> Option<(Pair, &'a [u8])>
+/// and what stands behind this. The new type mostly stands at the old one's place.
+fn read_pair<'a>(
+    old: &Schema,
+    new: &Schema,
+    text: &'a [u8],
+    blank: u8,
+    guess: TypeId,
+) -> Option<(Pair, &'a [u8])>
     requires { IsBlank blank }
     ensures shorter { IfSome result (λ parts. length parts.1.now < length text.now) }
     ensures there { IfSome result (λ parts. spec.IsPairOf old.now new.now parts.0) }
@@ -90,8 +118,8 @@ fn read_pair<'a>(old: &Schema, new: &Schema, text: &'a [u8], blank: u8) -> Optio
         → option_map {U = Pair × List ℕ} (λ parts. (parts.0, parts.1.now)) result
         ≡ Some (pair, rest) }
 {
-    let (first, behind) = read_name(old, text, b' ')?;
-    let (second, rest) = read_name(new, behind, blank)?;
+    let (first, behind) = read_name(old, text, b' ', guess)?;
+    let (second, rest) = read_name(new, behind, blank, first)?;
     let pair = Pair {
         old: first,
         new: second,
@@ -140,7 +168,12 @@ fn after<'a>(text: &'a [u8], front: &[u8]) -> Option<&'a [u8]>
 
 /// The pair and its bound in a line whose first word is read already, and what stands behind the
 /// line.
-fn read_line<'a>(old: &Schema, new: &Schema, text: &'a [u8]) -> Option<(PairBound, &'a [u8])>
+fn read_line<'a>(
+    old: &Schema,
+    new: &Schema,
+    text: &'a [u8],
+    guess: TypeId,
+) -> Option<(PairBound, &'a [u8])>
     ensures shorter { IfSome result (λ parts. length parts.1.now < length text.now) }
     ensures there { IfSome result (λ parts. spec.IsPairOf old.now new.now parts.0.pair) }
     ensures found { (line : PairBound) (rest : List ℕ) → spec.IsPairOf old.now new.now line.pair
@@ -150,7 +183,7 @@ fn read_line<'a>(old: &Schema, new: &Schema, text: &'a [u8]) -> Option<(PairBoun
         → option_map {U = PairBound × List ℕ} (λ parts. (parts.0, parts.1.now)) result
         ≡ Some (line, rest) }
 {
-    let (pair, behind) = read_pair(old, new, text, b' ')?;
+    let (pair, behind) = read_pair(old, new, text, b' ', guess)?;
     let (bound, rest) = read_bound(behind)?;
     Some((PairBound { pair, bound }, rest))
 }
@@ -169,12 +202,15 @@ fn read_lines<'a>(
         MatchResult result (λ parts. (parts.0.items ≡ bounds) × (parts.1.now ≡ later))
         (λ e. e ≡ errors.Memory) }
 {
+    let mut guesses = Guesses::new(alloc, old)?;
     let mut bounds = Vec::new(alloc);
     let mut left = text;
     while let Some(words) = after(left, b"pair ") {
-        let Some((line, behind)) = read_line(old, new, words) else {
+        let guess = guesses.next(old, &bounds);
+        let Some((line, behind)) = read_line(old, new, words, guess) else {
             return Err(CertError::BadText);
         };
+        guesses.see(line.pair.old);
         bounds.push(line)?;
         left = behind;
     }
@@ -307,7 +343,8 @@ fn read_behind(
         → text.now ≡ behind (spec.names_of old.now) (spec.names_of new.now) claim
         → MatchResult result (λ c. c ≡ claim) (λ e. e ≡ errors.Memory) }
 {
-    let Some((root, lines)) = read_pair(old, new, text, b'\n') else {
+    let guess = TypeId { index: 0 };
+    let Some((root, lines)) = read_pair(old, new, text, b'\n', guess) else {
         return Err(CertError::BadText);
     };
     let (bounds, last) = read_lines(alloc, old, new, lines)?;
