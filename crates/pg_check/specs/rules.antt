@@ -2,6 +2,7 @@ pub mod Faults
 pub mod Numbers
 pub mod Tops
 pub mod Names
+pub mod TextKeys
 pub mod ReservedItems
 pub mod Options
 pub mod Enums

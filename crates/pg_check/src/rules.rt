@@ -11,4 +11,5 @@ pub(crate) mod options;
 pub(crate) mod outline;
 pub(crate) mod overlaps;
 pub(crate) mod reserved;
+pub(crate) mod text_keys;
 pub(crate) mod types;

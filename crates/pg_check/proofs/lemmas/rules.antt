@@ -2,6 +2,7 @@ pub mod FirstLaws
 pub mod Texts
 pub mod TextSets
 pub mod Titles
+pub mod TextKeys
 pub mod Outlines
 pub mod FileFaults
 pub mod FirstFaults

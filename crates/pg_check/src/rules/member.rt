@@ -3,10 +3,12 @@
 ghost use Rattle.std.specs.Prelude.{◌≡◌, ◌++◌, IfOk, OnOk, map, option_map, string_bytes};
 ghost use Rattle.pg_check.specs.rules.Members as spec;
 ghost use Rattle.pg_check.specs.rules.Names as names;
+ghost use Rattle.pg_check.specs.rules.TextKeys.{keyed, text_key};
 
 use crate::rules::names::{Called, Titled};
 use crate::rules::numbers::{Keyed, rank};
 use crate::rules::options::is_word;
+use crate::rules::text_keys::{default_json_key, text_key};
 use pg_schema::default_json_name;
 use pg_syntax::tree::{Field, MapField, Name, OneofPart, Part, Setting, Settings, Value};
 use std::alloc::{AllocError, Global};
@@ -199,4 +201,33 @@ pub(crate) fn json_names(
         })?;
     }
     Ok(list)
+}
+
+/// The key of the JSON name of a member, given or default.
+fn json_key(alloc: Global, member: DeclaredField<'_>) -> Result<u64, AllocError>
+    ensures { IfOk result (λ key. key ≡ text_key (spec.json_name (spec.member member.entry))) }
+{
+    match given_json(alloc, member.settings())? {
+        Some(text) => Ok(text_key(text.as_bytes())),
+        None => Ok(default_json_key(member.name().text.as_bytes())),
+    }
+}
+
+/// The keys of the members' JSON names.
+pub(crate) fn json_keys(
+    alloc: Global,
+    members: &[DeclaredField<'_>],
+) -> Result<Vec<Keyed>, AllocError>
+    ensures { IfOk result (λ keys. keys.items
+        ≡ map keyed (map spec.json_named (map spec.member members.now))) }
+{
+    let mut keys = Vec::with_capacity(alloc, members.len())?;
+    for member in members {
+        let key = json_key(alloc, *member)?;
+        keys.push(Keyed {
+            key: u128::from(key),
+            at: member.name().span.from,
+        })?;
+    }
+    Ok(keys)
 }

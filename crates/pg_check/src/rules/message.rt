@@ -3,14 +3,15 @@
 ghost use Rattle.std.specs.Prelude.{◌≡◌, IfOk, map, string_bytes};
 ghost use Rattle.pg_check.specs.parts.EnumPlaces.{target_in};
 ghost use Rattle.pg_check.specs.rules.Faults.{first_fault};
-ghost use Rattle.pg_check.specs.rules.Members.{key_of, member};
+ghost use Rattle.pg_check.specs.rules.Members.{json_named, key_of, member};
 ghost use Rattle.pg_check.specs.rules.Members as members;
 ghost use Rattle.pg_check.specs.rules.Messages as spec;
+ghost use Rattle.pg_check.specs.rules.Names as names;
 ghost use Rattle.pg_check.specs.rules.Options.{stated};
 
 use crate::rules::enumeration::is_true;
 use crate::rules::fault::{Fault, Rule, broken, declared_fault, earlier};
-use crate::rules::member::{DeclaredField, json_names, keys, members, names_of};
+use crate::rules::member::{DeclaredField, json_keys, json_names, keys, members, names_of};
 use crate::rules::names;
 use crate::rules::numbers::{
     HIGHEST_FIELD, Keyed, LOWEST_FIELD, Numbers, first_reserved, first_twice, is_field_number,
@@ -279,6 +280,20 @@ pub(crate) fn numbers_fault(
     Ok(earlier(broken(Rule::BadNumber, first_bad_number(keys)), of_twice))
 }
 
+/// The place of the first JSON name that stood before. The names are made only where keys don't
+/// tell them apart.
+fn first_clash(alloc: Global, list: &[DeclaredField<'_>]) -> Result<Option<usize>, AllocError>
+    ensures { IfOk result (λ place. place
+        ≡ names.first_twice (map json_named (map member list.now))) }
+{
+    let keys = json_keys(alloc, list)?;
+    if first_twice(alloc, &keys)?.is_none() {
+        return Ok(None);
+    }
+    let titles = json_names(alloc, list)?;
+    names::first_twice(alloc, &titles)
+}
+
 /// The first rule that the members' names and JSON names break.
 fn names_fault(
     alloc: Global,
@@ -290,8 +305,7 @@ fn names_fault(
 {
     let called = names_of(alloc, list)?;
     let among = names::first_among(alloc, reserved, &called)?;
-    let titles = json_names(alloc, list)?;
-    let twice = names::first_twice(alloc, &titles)?;
+    let twice = first_clash(alloc, list)?;
     Ok(earlier(
         broken(Rule::ReservedName, among),
         broken(Rule::JsonNameClash, twice),

@@ -1,0 +1,7 @@
+use Rattle.std.proofs.Common.{◌≡◌, map, take}
+use Rattle.pg_check.specs.rules.Members.{json_named, member}
+use Rattle.pg_check.specs.rules.TextKeys.{keyed}
+use Rattle.pg_check.proofs.rules.member.json_keys.Given as goal
+
+abbrev pub invariant-loop-member : goal.invariant-loop-member
+invariant-loop-member l = l.keys.items ≡ map keyed (map json_named (map member (take l.member-index l.members)))
