@@ -7,7 +7,7 @@ ghost use Rattle.pg_link.specs.Files.{all_names, visible_names};
 ghost use Rattle.pg_link.specs.Index.{texts};
 ghost use Rattle.pg_link.specs.Linked.{IsDeclaredAt, IsDeclaredNowhere, IsLinkedUp};
 ghost use Rattle.pg_link.specs.Resolves.{Resolves, reference};
-ghost use Rattle.pg_link.specs.Targets.{file_targets, target_at};
+ghost use Rattle.pg_link.specs.Targets.{file_places, file_targets, target_at};
 ghost use Rattle.pg_link.specs.UseFaults.{IsNoName};
 ghost use Rattle.pg_link.specs.Walk.{Entry, outlines, path_of};
 
@@ -33,6 +33,14 @@ pub fn targets(linked: &Linked, file: usize) -> &[Target]
         → map Some result.now ≡ file_targets linked.now.files e }
 {
     linked.targets(file)
+}
+
+/// What `Linked::places` answers.
+pub fn places(linked: &Linked, file: usize) -> &[usize]
+    requires { file < length linked.now.files }
+    ensures { (e : Entry) → slice_get linked.now.files file ≡ Some e → result.now ≡ file_places e }
+{
+    linked.places(file)
 }
 
 /// What `Linked::targets_by_place` answers.

@@ -9,7 +9,7 @@ use Rattle.pg_link.specs.Names.{Text}
 use Rattle.pg_link.specs.Outline.{file_names}
 use Rattle.pg_link.specs.VisibleFiles.{AreVisibleFiles}
 use Rattle.pg_link.specs.Standing.{Lists, NoneTwice, all_standings}
-use Rattle.pg_link.specs.Targets.{file_targets}
+use Rattle.pg_link.specs.Targets.{file_places, file_targets}
 use Rattle.pg_link.specs.Walk.{Entry, IsParsed, outlines, path_of}
 
 -- files, each behind those that it imports, and for each what its uses resolve to, in the order of its text
@@ -34,12 +34,13 @@ pub record IsRead (files : List Entry) : Type 0 where
   pub apart : Differ (paths_of (outlines files))
   pub few : length files ≤ 1024
 
--- linked files, beside their index and what each of them sees
-pub record IsSettled (files : List Entry) (index : indexes.Index) (visible_files : List (List Bool)) (targets : List (List Target)) : Type 0 where
+-- linked files, beside their index, what each of them sees, and where its uses begin
+pub record IsSettled (files : List Entry) (index : indexes.Index) (visible_files : List (List Bool)) (targets : List (List Target)) (places : List (List ℕ)) : Type 0 where
   pub linked : IsLinkedUp (record { files = files; targets = targets })
   pub lists : Lists index (all_standings files)
   pub visible_length : length visible_files ≡ length files
   pub are_visible : AreVisibleFiles files visible_files
+  pub placed : places ≡ map file_places files
 
 -- the full name, here without its dot, is declared in one of the files, at this line and column
 pub record IsDeclaredAt (files : List Entry) (full path : Text) (at_line at_column : ℕ) : Type 0 where

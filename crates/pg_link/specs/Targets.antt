@@ -77,6 +77,10 @@ file_targets files file = map (target_in (all_declared files) (visible_names (ou
 
 -- ---- by places
 
+-- the bytes at which the uses of a file begin, one by one
+abbrev pub file_places : FileEntry → List ℕ
+file_places file = map (λ u. u.at) (file_uses file.1.tree)
+
 -- the first use that begins at this byte
 abbrev pub use_at : List Use → ℕ → Option Use
 use_at uses at = find (λ u. u.at == at) uses

@@ -7,7 +7,7 @@ use crate::index::{Index, Visible};
 use crate::looking::{first_place, is_behind_dot};
 use crate::resolve::Unresolved;
 use crate::target::Target;
-use crate::targets::all_targets;
+use crate::targets::{FileTargets, all_targets};
 use crate::visible_files::visible_files_of;
 use crate::walk::SourceFile;
 use indexmap::IndexMap;
@@ -22,7 +22,7 @@ pub struct Linked {
     files: IndexMap<String, SourceFile>,
     index: Index,
     visible_files: Vec<Vec<bool>>,
-    targets: Vec<Vec<Target>>,
+    targets: Vec<FileTargets>,
 }
 
 impl Model for Linked {
@@ -37,11 +37,12 @@ impl Model for Linked {
 
     ghost view = { λ l. record {
       files = l.files.entries;
-      targets = map (λ ts. ts.items) l.targets.items;
+      targets = map (λ f. f.targets.items) l.targets.items;
     } };
 
     ghost invariant = { λ l. IsSettled l.files.entries l.index
-        (map (λ m. m.items) l.visible_files.items) (map (λ ts. ts.items) l.targets.items) };
+        (map (λ m. m.items) l.visible_files.items) (map (λ f. f.targets.items) l.targets.items)
+        (map (λ f. f.places.items) l.targets.items) };
 }
 
 impl Linked {
@@ -49,7 +50,7 @@ impl Linked {
     ghost use Rattle.pg_link.specs.Index.{texts};
     ghost use Rattle.pg_link.specs.Linked.{IsDeclaredAt, IsDeclaredNowhere, IsLinkedUp, IsRead};
     ghost use Rattle.pg_link.specs.Resolves.{Resolves, reference};
-    ghost use Rattle.pg_link.specs.Targets.{file_targets};
+    ghost use Rattle.pg_link.specs.Targets.{file_places, file_targets};
     ghost use Rattle.pg_link.specs.Unresolved.{Refuses};
     ghost use Rattle.pg_link.specs.UseFaults.{IsNameFault};
     ghost use Rattle.pg_link.specs.Walk.{Entry, outlines, path_of};
@@ -92,7 +93,16 @@ impl Linked {
         ensures resolved { (e : Entry) → slice_get self.now.files file ≡ Some e
             → map Some result.now ≡ file_targets self.now.files e }
     {
-        &self.targets[file]
+        &self.targets[file].targets
+    }
+
+    /// The byte at which each use of a type name in a file begins, in the order of its text: each
+    /// belongs to what stands in its place among `targets`. The file is given by its number.
+    pub fn places(&self, file: usize) -> &[usize]
+        requires { file < length self.now.files }
+        ensures { (e : Entry) → slice_get self.now.files file ≡ Some e → result.now ≡ file_places e }
+    {
+        &self.targets[file].places
     }
 
     /// The path of a file.

@@ -3,7 +3,7 @@ ghost use Rattle.std.specs.Prelude.{◌≡◌, IfErr, IfOk, List, None, Some, le
 ghost use Rattle.pg_link.specs.Index.{names_seen};
 ghost use Rattle.pg_link.specs.VisibleFiles.{AreVisibleFiles};
 ghost use Rattle.pg_link.specs.Standing.{IsNumbered, Lists, NoneTwice, Standing, all_standings, declared_in};
-ghost use Rattle.pg_link.specs.Targets.{file_targets, target_in};
+ghost use Rattle.pg_link.specs.Targets.{file_places, file_targets, target_in};
 ghost use Rattle.pg_link.specs.UseFaults.{IsUseFault, IsUseFaultIn, Says};
 ghost use Rattle.pg_link.specs.Uses.{file_uses};
 
@@ -31,6 +31,13 @@ fn use_fault(alloc: Global, path: &str, text: &[u8], at: usize, why: Unresolved)
     }
 }
 
+/// What the uses of a file resolve to, in the order of its text, and the byte at which each begins.
+#[derive(Debug, Drop)]
+pub(crate) struct FileTargets {
+    pub targets: Vec<Target>,
+    pub places: Vec<usize>,
+}
+
 /// What the uses of a file resolve to, in the order of its text.
 fn targets_of(
     alloc: Global,
@@ -38,11 +45,13 @@ fn targets_of(
     visible: Visible<'_>,
     path: &str,
     file: &SourceFile,
-) -> Result<Vec<Target>, LinkError>
-    ensures found { IfOk result (λ targets. (all : List Standing) → IsNumbered index.now all
-        → map Some targets.items ≡ map
+) -> Result<FileTargets, LinkError>
+    ensures found { IfOk result (λ found. (all : List Standing) → IsNumbered index.now all
+        → map Some found.targets.items ≡ map
         (target_in (declared_in all) (names_seen index.now.names (Some visible.entry.marks.now)))
         (file_uses file.now.tree)) }
+    ensures placed { IfOk result
+        (λ found. found.places.items ≡ map (λ u. u.at) (file_uses file.now.tree)) }
     // The fault is that of the first use that resolves to nothing.
     ensures fault { IfErr result (λ e. (all : List Standing) → IsNumbered index.now all
         → IsUseFault (target_in (declared_in all)
@@ -52,17 +61,17 @@ fn targets_of(
 {
     let sites = uses_of(alloc, &file.tree)?;
     let mut targets = Vec::with_capacity(alloc, sites.len())?;
+    let mut places = Vec::with_capacity(alloc, sites.len())?;
     let mut last = None;
     for site in &sites {
+        let at = site.name.span.from;
         match index.target(alloc, visible, site, &mut last) {
             Ok(target) => targets.push(target)?,
-            Err(why) => {
-                let at = site.name.span.from;
-                return Err(use_fault(alloc, path, &file.bytes, at, why));
-            }
+            Err(why) => return Err(use_fault(alloc, path, &file.bytes, at, why)),
         }
+        places.push(at)?;
     }
-    Ok(targets)
+    Ok(FileTargets { targets, places })
 }
 
 /// What the uses of all files resolve to, file by file, by the names that each file sees.
@@ -71,14 +80,17 @@ pub(crate) fn all_targets(
     files: &IndexMap<String, SourceFile>,
     index: &Index,
     visible_files: &[Vec<bool>],
-) -> Result<Vec<Vec<Target>>, LinkError>
+) -> Result<Vec<FileTargets>, LinkError>
     requires lists { Lists index.now (all_standings files.now.entries) }
     requires once { NoneTwice (all_standings files.now.entries) }
     requires visible_files { AreVisibleFiles files.now.entries
         (map (λ m. m.items) visible_files.now) }
     requires same_length { length visible_files.now ≡ length files.now.entries }
-    ensures resolved { IfOk result (λ targets. map (map Some) (map (λ ts. ts.items) targets.items)
+    ensures resolved { IfOk result
+        (λ found. map (map Some) (map (λ f. f.targets.items) found.items)
         ≡ map (file_targets files.now.entries) files.now.entries) }
+    ensures placed { IfOk result
+        (λ found. map (λ f. f.places.items) found.items ≡ map file_places files.now.entries) }
     // The fault is that of the first use that resolves to nothing, in the order of the files.
     ensures fault { IfErr result (IsUseFaultIn files.now.entries) }
 {

@@ -17,10 +17,10 @@ use Rattle.pg_link.proofs.UseFaultLaws.{all_are, its_marks, visible_are}
 use Rattle.pg_link.proofs.linked.Linked.look_up.Goals as goal
 
 -- what the file sees, through the index
-its_names : (es now : List Entry) (index : indexes.Index) (visible_files : List (Vec Bool Global)) (targets : List (List Target)) (i : ℕ) (e : Entry) (v : Vec Bool Global) (visible : List Bool)
-    → IsSettled es index (map (λ (m : Vec Bool Global). m.items) visible_files) targets → es ≡ now → slice_get now i ≡ Some e → v ≡ get_or visible_files i v → visible ≡ v.items
+its_names : (es now : List Entry) (index : indexes.Index) (visible_files : List (Vec Bool Global)) (targets : List (List Target)) (places : List (List ℕ)) (i : ℕ) (e : Entry) (v : Vec Bool Global) (visible : List Bool)
+    → IsSettled es index (map (λ (m : Vec Bool Global). m.items) visible_files) targets places → es ≡ now → slice_get now i ≡ Some e → v ≡ get_or visible_files i v → visible ≡ v.items
     → names_seen index.names (Some visible) ≡ visible_names (outlines now) (path_of e)
-its_names es now index visible_files targets i e v visible settled same at is seen =
+its_names es now index visible_files targets places i e v visible settled same at is seen =
     let here : slice_get es i ≡ Some e = ap (λ (l : List Entry). slice_get l i) same ∙ at in
     let within : i < length visible_files = omega (arith, slice_get_within es i e here, settled.visible_length, length-map visible_files (λ (m : Vec Bool Global). m.items)) in
     visible_are index es e visible settled.lists settled.linked.once (its_marks es visible_files i e v visible settled.are_visible here within is seen)
@@ -36,7 +36,7 @@ returns-clause-resolves c =
     (λ (full : Bor Text). (e : Entry) → slice_get c.args.self.now.files c.args.file ≡ Some e → Resolves (visible_names (outlines c.args.self.now.files) (path_of e)) scope name full.now)
     c.resolve.result
     (λ full resolves e at. subst (λ (names : Names). Resolves names scope name full.now)
-    (its_names c.self.inside.files.entries c.args.self.now.files index c.self.inside.visible_files.items _ c.args.file e c.index.result.now c.deref.result.now c.self.invariant same at
+    (its_names c.self.inside.files.entries c.args.self.now.files index c.self.inside.visible_files.items _ _ c.args.file e c.index.result.now c.deref.result.now c.self.invariant same at
     c.index.ensures c.deref.ensures.value) resolves)
     c.resolve.ensures.resolves
 
@@ -55,6 +55,6 @@ returns-clause-refused c =
     c.resolve.result
     (λ why refuses e at. subst (λ (names : Names). Refuses (visible_names (outlines c.args.self.now.files) (path_of e)) names scope name why) all
     (subst (λ (names : Names). Refuses names (names_seen index.names None) scope name why)
-    (its_names es c.args.self.now.files index c.self.inside.visible_files.items _ c.args.file e c.index.result.now c.deref.result.now c.self.invariant same at
+    (its_names es c.args.self.now.files index c.self.inside.visible_files.items _ _ c.args.file e c.index.result.now c.deref.result.now c.self.invariant same at
     c.index.ensures c.deref.ensures.value) refuses))
     c.resolve.ensures.cause

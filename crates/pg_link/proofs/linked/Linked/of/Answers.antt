@@ -21,4 +21,5 @@ invariant_of-result c = record {
   lists = (c.in_ok-index.ensures.holds, c.in_ok-index.ensures.numbered);
   visible_length = length-map c.in_ok-visible_files.visible_files.items (λ (m : Vec Bool Global). m.items) ∙ c.in_ok-visible_files.ensures.same_length;
   are_visible = c.in_ok-visible_files.ensures.visible_files;
+  placed = c.in_ok-targets.ensures.placed;
 }

@@ -1,9 +1,9 @@
-use Rattle.std.proofs.Common.{◌≡◌, ◌∙◌, ◌<◌, ℕ, List, Some, Vec, length, map, slice_get, refl, sym, ap, arith}
+use Rattle.std.proofs.Common.{◌≡◌, ◌∙◌, ◌<◌, ℕ, List, Some, length, map, slice_get, refl, sym, ap, arith}
 use Rattle.std.proofs.lemmas.Option.{slice_get-map, slice_get_read}
 use Rattle.std.proofs.lemmas.List.{length-map}
-use Rattle.std.specs.Global.{Global}
 use Rattle.std.specs.Option.{option_map}
 use Rattle.pg_link.specs.declared.target.Target.{Target}
+use Rattle.pg_link.specs.declared.targets.FileTargets.{FileTargets}
 use Rattle.pg_link.specs.Linked.{LinkedFiles}
 use Rattle.pg_link.specs.Targets.{file_targets}
 use Rattle.pg_link.specs.Walk.{Entry}
@@ -16,8 +16,8 @@ within_targets f g xs ys i same within = omega (arith, within, sym (length-map x
 pub returns-clause-resolved : goal.returns-clause-resolved
 returns-clause-resolved c = λ e at.
     let fs : List Entry = c.self.inside.files.entries in
-    let ts : List (Vec Target Global) = c.self.inside.targets.items in
-    let items = λ (t : Vec Target Global). t.items in
+    let ts : List FileTargets = c.self.inside.targets.items in
+    let items = λ (f : FileTargets). f.targets.items in
     let resolved = c.self.invariant.linked.resolved in
     let same : fs ≡ c.args.self.now.files = ap (λ (l : LinkedFiles). l.files) c.self.view_is in
     let there : slice_get fs c.args.file ≡ Some e = ap (λ (l : List Entry). slice_get l c.args.file) same ∙ at in
