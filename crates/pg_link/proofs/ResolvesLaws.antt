@@ -1,5 +1,5 @@
 -- Full names and scopes, word by word.
-use Rattle.std.proofs.Common.{◌≡◌, ◌∙◌, ℕ, Bool, true, false, List, [], ◌∷◌, ◌++◌, map, Option, Some, None, refl, ap, string_bytes, append_assoc}
+use Rattle.std.proofs.Common.{◌≡◌, ◌∙◌, ◌&&◌, ℕ, Bool, true, false, if◌then◌else◌, List, [], ◌∷◌, ◌++◌, map, Option, Some, None, refl, ap, string_bytes, append_assoc}
 use Rattle.std.proofs.Common.{zero, suc, ◌+◌, ◌-◌, ◌<◌, ◌≤◌, ◌≢◌, String, length, take, slice_index_or, subst, sym, add-one, arith}
 use Rattle.std.proofs.lemmas.List.{map_more}
 use Rattle.std.proofs.lemmas.Slice.Eq.{bytes_eq-Decides}
@@ -90,17 +90,22 @@ shown f = (f.0.now, f.1.now.kind)
 none_some : {X : Type 0} (x : X) → None ≡ Some x → ⊥
 none_some x is = absurd (cc (is))
 
--- whether the search ends at what was found
-pub ends_is : (names : Names) (full : Text) (o : Option (Bor Text × Bor nameds.Named)) (b : Bool) → option_map shown o ≡ borne names full
-    → b ≡ option_map_or (λ (f : Bor Text × Bor nameds.Named). ends_word f.1.now.kind) o false → bears names ends_word full ≡ b
-ends_is names full o b is ends = sym (ends ∙ by o (names full) is)
-  where
-    by : (o : Option (Bor Text × Bor nameds.Named)) (k : Option Kind) → option_map shown o ≡ option_map (λ (kind : Kind). (full, kind)) k
-        → option_map_or (λ (f : Bor Text × Bor nameds.Named). ends_word f.1.now.kind) o false ≡ option_map_or ends_word k false
-    by None None is = refl
-    by None (Some k) is = absurd (none_some (full, k) is)
-    by (Some f) None is = absurd (none_some (shown f) (sym is))
-    by (Some f) (Some k) is = ap (λ (p : Text × Kind). ends_word p.1) (same_Some (shown f) (full, k) is)
+and_true : (b : Bool) → (b && true) ≡ b
+and_true true = refl
+and_true false = refl
+
+and_false : (b : Bool) → (b && false) ≡ false
+and_false true = refl
+and_false false = refl
+
+ends_seen : (kind : Kind) (seen : Bool) → (ends_word kind && seen) ≡ option_map_or ends_word (if seen then Some kind else None) false
+ends_seen kind true = and_true (ends_word kind)
+ends_seen kind false = and_false (ends_word kind)
+
+-- whether the search for a word ends at what the index holds
+pub ends_held : {S : Type 0} (index : HashMap (String Global) nameds.Named S) (visible : Option (List Bool)) (full : Text) (named : nameds.Named)
+    → get_by_text index full ≡ Some named → (ends_word named.kind && is_seen visible (files_of named)) ≡ bears (names_seen index visible) ends_word full
+ends_held index visible full named held = rw held (ends_seen named.kind (is_seen visible (files_of named)))
 
 -- what the search ends at is what is meant
 pub word_found : (names : Names) (scope around : List Text) (outer part : Text) → innermost names ends_word part around ≡ innermost names ends_word part scope

@@ -1,7 +1,7 @@
 //! The names of all files, by their full names.
 ghost use Rattle.std.specs.HashMap.{get_by_text};
 ghost use Rattle.std.specs.Prelude.{◌≡◌, ◌++◌, IfOk, IfSome, List, OnOk, Some, None, [], ◌∷◌, string_bytes, false, true, ℕ};
-ghost use Rattle.std.specs.Option.{option_map, option_map_or};
+ghost use Rattle.std.specs.Option.{is_some, option_map};
 ghost use Rattle.pg_link.specs.Index as spec;
 ghost use Rattle.pg_link.specs.Names as names;
 ghost use Rattle.pg_link.specs.Resolves as resolves;
@@ -122,16 +122,6 @@ fn only_word(name: &TypeName) -> Option<&str>
     Some(name.path.first.text.as_str())
 }
 
-/// Whether the search for a word ends at what was found.
-fn ends_word(found: &Option<(&str, &Named)>) -> bool
-    ensures { result ≡ option_map_or (λ f. names.ends_word f.1.now.kind) found.now false }
-{
-    match found {
-        Some((_, named)) => named.kind.ends_word(),
-        None => false,
-    }
-}
-
 /// The names of all files, in the order in which they were first declared, and the places among
 /// them of the message types and of the enums.
 #[derive(Debug, Drop)]
@@ -151,6 +141,27 @@ impl Index {
     {
         let (name, named) = self.names.get_key_value(full)?;
         if is_seen(visible, named) {
+            Some((name.as_str(), named))
+        } else {
+            None
+        }
+    }
+
+    /// What bears the name in the files that are seen, where the search for a word ends at it. As
+    /// what it is declared is looked at first: a part of a package, which may stand in many files,
+    /// ends no such search.
+    fn seen_type(&self, visible: Option<Visible<'_>>, full: &str) -> Option<(&str, &Named)>
+        ensures borne { is_some result ≡ true
+            → option_map (λ f. (f.0.now, f.1.now.kind)) result
+            ≡ resolves.borne (spec.names_seen self.now.names (spec.visible_of visible.entry))
+            full.now }
+        ensures ends { is_some result ≡ names.bears
+            (spec.names_seen self.now.names (spec.visible_of visible.entry)) names.ends_word
+            full.now }
+        ensures held { IfSome result (λ f. get_by_text self.now.names f.0.now ≡ Some f.1.now) }
+    {
+        let (name, named) = self.names.get_key_value(full)?;
+        if named.kind.ends_word() && is_seen(visible, named) {
             Some((name.as_str(), named))
         } else {
             None
@@ -241,9 +252,9 @@ impl Index {
         let mut len = scope.len();
         'scopes: loop {
             push_word(&mut full, word)?;
-            let found = self.seen(visible, full.as_str());
+            let found = self.seen_type(visible, full.as_str());
             pop_word(&mut full, word);
-            if ends_word(&found) {
+            if found.is_some() {
                 return Ok(found);
             }
             if len == 0 {
