@@ -6,6 +6,7 @@ pub mod TextKeys
 pub mod ReservedItems
 pub mod Options
 pub mod Enums
+pub mod ByPlace
 pub mod Types
 pub mod Members
 pub mod Messages

@@ -14,6 +14,7 @@ use crate::declare::{FileFault, Refusal, declare};
 use crate::error::{CheckError, error_of};
 use crate::parts::enum_places::enum_places;
 use crate::parts::made_parts::Source;
+use crate::rules::by_place::ByPlace;
 use crate::rules::types::Targets;
 use pg_link::{Linked, place_in};
 use pg_schema::Schema;
@@ -36,7 +37,7 @@ fn sources_of<'a>(
         let Some((path, file)) = files.get_index(number) else {
             continue;
         };
-        let found = linked.targets_by_place(alloc, number)?;
+        let found = ByPlace::of(alloc, linked.places(number), linked.targets(number))?;
         sources.push(Source {
             path,
             text: &file.bytes,

@@ -1,5 +1,6 @@
 //! The rules of the language, and which of them a file breaks.
 
+pub(crate) mod by_place;
 pub(crate) mod enumeration;
 pub(crate) mod fault;
 pub(crate) mod file;

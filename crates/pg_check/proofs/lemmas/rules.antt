@@ -15,3 +15,4 @@ pub mod Keeping
 pub mod KeepingFiles
 pub mod Halves
 pub mod InARow
+pub mod PlaceLaws

@@ -1,15 +1,14 @@
 -- Where enums stand in a schema, which has them scope by scope, by where they stand in order of declaration.
 use Rattle.std.specs.Prelude.{◌≡◌, ◌<◌, ℕ, List, [], ◌∷◌, map, flat_map, length, get_or, Option, option_map}
-use Rattle.std.specs.BTreeMap.{get}
 use Rattle.std.specs.List.{position_from}
 use Rattle.std.specs.Option.{unwrap_or}
-use Rattle.std.specs.Ordering.{nat_cmp}
 use Rattle.std.specs.Str.{bytes_eq}
 use Rattle.pg_link.specs.declared.target.Target.{Target}
 use Rattle.pg_link.specs.declared.target.Target.TheVariants as targets
 use Rattle.pg_link.specs.Targets.{all_declared, enum_names, message_names}
 use Rattle.pg_link.specs.Walk.{Entry}
 use Rattle.pg_check.specs.declared.rules.types.Targets.{Targets}
+use Rattle.pg_check.specs.rules.ByPlace.{named_at}
 use Rattle.pg_check.specs.rules.Outline.{Enum, Message, file_enums, file_messages, scoped_enums}
 
 abbrev pub enum_full : Enum → List ℕ
@@ -38,7 +37,7 @@ by_scope places (targets.Enum n) = targets.Enum (get_or places n 0)
 
 -- what the type name that begins at a byte of a file names
 abbrev pub target_in : Targets → ℕ → Option Target
-target_in t at = option_map (by_scope t.enums.now) (get nat_cmp t.found at)
+target_in t at = option_map (by_scope t.enums.now) (named_at t.found.places.now t.found.targets.now at)
 
 -- ---- what linking numbers
 

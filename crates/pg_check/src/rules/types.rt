@@ -5,16 +5,16 @@ ghost use Rattle.pg_schema.specs.Shape.{is_key};
 ghost use Rattle.pg_check.specs.parts.EnumPlaces.{target_in};
 ghost use Rattle.pg_check.specs.rules.Types as spec;
 
+use crate::rules::by_place::ByPlace;
 use pg_link::Target;
 use pg_schema::{Element, Scalar};
 use pg_syntax::tree::TypeName;
-use std::collections::BTreeMap;
 
 /// What the type names of a file name, by the byte at which each begins; and for each enum, in
 /// order of declaration, its place in the schema.
 #[derive(Drop)]
 pub(crate) struct Targets<'a> {
-    pub found: BTreeMap<usize, Target>,
+    pub found: ByPlace<'a>,
     pub enums: &'a [usize],
 }
 
@@ -23,9 +23,9 @@ impl Targets<'_> {
     pub(crate) fn at(&self, at: usize) -> Option<Target>
         ensures { result ≡ target_in self.now at }
     {
-        match self.found.get(&at) {
-            Some(Target::Message(number)) => Some(Target::Message(*number)),
-            Some(Target::Enum(number)) => match self.enums.get(*number) {
+        match self.found.at(at) {
+            Some(Target::Message(number)) => Some(Target::Message(number)),
+            Some(Target::Enum(number)) => match self.enums.get(number) {
                 Some(place) => Some(Target::Enum(*place)),
                 None => Some(Target::Enum(0)),
             },
