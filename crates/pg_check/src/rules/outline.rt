@@ -1,6 +1,6 @@
 //! What files declare, inside and outside of messages, in order of declaration.
 
-ghost use Rattle.std.specs.Prelude.{◌≡◌, ◌++◌, IfOk, OnOk, flat_map, map, string_bytes};
+ghost use Rattle.std.specs.Prelude.{◌≡◌, ◌++◌, [], ℕ, IfOk, List, OnOk, false, flat_map, map, string_bytes};
 ghost use Rattle.pg_schema.specs.rules.DeclaredNames.{within};
 ghost use Rattle.pg_check.specs.rules.Outline as spec;
 
@@ -104,6 +104,34 @@ fn push_enum<'a>(
     Ok(())
 }
 
+/// Whether a part may have enums in it, or is one.
+fn may_hold_enums(part: &Part) -> bool
+    ensures { result ≡ false → (scope : List ℕ) → spec.enums_in scope part.now ≡ [] }
+{
+    match part {
+        Part::Message(_) => true,
+        Part::Enum(_) => true,
+        Part::Empty(_) => false,
+        Part::Oneof(_) => false,
+        Part::Option(_) => false,
+        Part::Reserved(_) => false,
+        Part::Map(_) => false,
+        Part::Field(_) => false,
+    }
+}
+
+/// Whether a part of a body may.
+fn may_have_enums(body: &[Part]) -> bool
+    ensures { result ≡ false → (scope : List ℕ) → flat_map (spec.enums_in scope) body.now ≡ [] }
+{
+    for part in body {
+        if may_hold_enums(part) {
+            return true;
+        }
+    }
+    false
+}
+
 /// Appends the enums of a part.
 #[cycle(enums)]
 fn push_enums_in<'a>(
@@ -158,6 +186,9 @@ fn push_enums_of<'a>(
     ensures { OnOk result (map spec.enumeration found.new.items
         ≡ map spec.enumeration found.old.items ++ spec.enums_of scope.now message.now) }
 {
+    if !may_have_enums(&message.parts) {
+        return Ok(());
+    }
     let inner = full_name(alloc, scope, &message.name.text)?;
     push_body_enums(alloc, found, &inner, &message.parts)
 }
