@@ -1,9 +1,10 @@
 -- What is named at a place, among places that rise and others.
-use Rattle.std.proofs.Common.{◌≡◌, ◌∙◌, ◌==◌, ◌<◌, ◌≤◌, ◌×◌, ℕ, zero, suc, Bool, true, false, ◌&&◌, cond, List, [], ◌∷◌, Option, Some, None, length, map, get_or, slice_get, nat_lt, refl, sym, ap, subst, arith}
+use Rattle.std.proofs.Common.{◌≡◌, ◌∙◌, ◌==◌, ◌<◌, ◌≤◌, ℕ, zero, suc, Bool, true, false, cond, List, [], ◌∷◌, Option, Some, None, length, map, get_or, slice_get, nat_lt, refl, sym, ap, arith}
 use Rattle.std.specs.List.{list_all}
-use Rattle.std.specs.Option.{option_and_then}
+use Rattle.std.specs.Borrow.{Bor}
+use Rattle.std.specs.Option.{IfSome, MatchOption, option_and_then, option_copied}
 use Rattle.std.proofs.lemmas.Bool.Decides.{nat_tests}
-use Rattle.std.proofs.lemmas.Option.{slice_get_past}
+use Rattle.std.proofs.lemmas.Option.{slice_get_past, slice_get_read}
 use Rattle.pg_link.specs.declared.target.Target.{Target}
 use Rattle.pg_link.specs.Targets.{Resolution, resolved_at, use_at}
 use Rattle.pg_link.specs.Uses.{Use}
@@ -11,11 +12,11 @@ use Rattle.pg_schema.specs.rules.Pairs.{is_rising}
 use Rattle.pg_schema.proofs.lemmas.rules.PairLemmas.{and_left, and_right}
 use Rattle.pg_check.specs.rules.ByPlace.{named_at}
 
-first_of : {X : Type 0} → X → List X → X
+abbrev first_of : {X : Type 0} → X → List X → X
 first_of d [] = d
 first_of d (x ∷ xs) = x
 
-rest_of : {X : Type 0} → List X → List X
+abbrev rest_of : {X : Type 0} → List X → List X
 rest_of [] = []
 rest_of (x ∷ xs) = xs
 
@@ -79,3 +80,10 @@ found_nowhere (p ∷ ps) [] at none = refl
 found_nowhere (p ∷ ps) (t ∷ ts) at none =
     ap (λ (b : Bool). cond b (Some t) (named_at ps ts at)) (is_other p at (none 0 (omega arith)))
     ∙ found_nowhere ps ts at (λ i lt is. none (suc i) (omega (arith, lt)) is)
+
+-- ---- how a slice answers
+
+pub copied_is : (ts : List Target) (i : ℕ) (found : Option (Bor Target)) (P : Bor Target → Type 0) → IfSome found (λ x. x.now ≡ get_or ts i x.now)
+    → MatchOption found (length ts ≤ i) (λ x. (i < length ts) × P x) → option_copied found ≡ slice_get ts i
+copied_is ts i None P is there = sym (slice_get_past ts i there)
+copied_is ts i (Some x) P is there = sym (slice_get_read ts (length ts) i x.now refl there.0 is)

@@ -1,4 +1,4 @@
-use Rattle.std.proofs.Common.{◌≡◌, ◌∙◌, ◌==◌, ◌∷◌, ◌<◌, ◌-◌, ℕ, Bool, List, Some, cond, drop, length, get_or, sym, ap, arith, suc, drop-cons, is_eq}
+use Rattle.std.proofs.Common.{◌≡◌, ◌∙◌, ◌==◌, ◌∷◌, ◌<◌, ◌-◌, ℕ, List, drop, length, get_or, sym, ap, arith, suc, drop-cons, is_eq}
 use Rattle.std.specs.BTreeMap.{get}
 use Rattle.std.specs.Ordering.{nat_cmp}
 use Rattle.std.proofs.lemmas.Bool.Decides.{nat_tests}
