@@ -1,5 +1,5 @@
 -- Full names and scopes, word by word.
-use Rattle.std.proofs.Common.{◌≡◌, ◌∙◌, ◌&&◌, ℕ, Bool, true, false, if◌then◌else◌, List, [], ◌∷◌, ◌++◌, map, Option, Some, None, refl, ap, string_bytes, append_assoc}
+use Rattle.std.proofs.Common.{◌≡◌, ◌∙◌, ℕ, Bool, true, false, List, [], ◌∷◌, ◌++◌, map, Option, Some, None, refl, ap, string_bytes, append_assoc}
 use Rattle.std.proofs.Common.{zero, suc, ◌+◌, ◌-◌, ◌<◌, ◌≤◌, ◌≢◌, String, length, take, slice_index_or, subst, sym, add-one, arith}
 use Rattle.std.proofs.lemmas.List.{map_more}
 use Rattle.std.proofs.lemmas.Slice.Eq.{bytes_eq-Decides}
@@ -9,7 +9,7 @@ use Rattle.std.specs.Global.{Global}
 use Rattle.std.specs.HashMap.{HashMap, get_by_text}
 use Rattle.pg_link.specs.declared.names.Named as nameds
 use Rattle.pg_link.specs.Index.{files_of, texts, is_seen, names_seen}
-use Rattle.std.specs.Option.{option_and_then, option_map, option_map_or}
+use Rattle.std.specs.Option.{option_and_then, option_map}
 use Rattle.std.proofs.lemmas.Option.{same_Some}
 use Rattle.pg_link.specs.declared.names.Kind.{Kind}
 use Rattle.pg_link.specs.Names.{Text, Names, called, bears, ends_word}
@@ -89,23 +89,6 @@ shown f = (f.0.now, f.1.now.kind)
 
 none_some : {X : Type 0} (x : X) → None ≡ Some x → ⊥
 none_some x is = absurd (cc (is))
-
-and_true : (b : Bool) → (b && true) ≡ b
-and_true true = refl
-and_true false = refl
-
-and_false : (b : Bool) → (b && false) ≡ false
-and_false true = refl
-and_false false = refl
-
-ends_seen : (kind : Kind) (seen : Bool) → (ends_word kind && seen) ≡ option_map_or ends_word (if seen then Some kind else None) false
-ends_seen kind true = and_true (ends_word kind)
-ends_seen kind false = and_false (ends_word kind)
-
--- whether the search for a word ends at what the index holds
-pub ends_held : {S : Type 0} (index : HashMap (String Global) nameds.Named S) (visible : Option (List Bool)) (full : Text) (named : nameds.Named)
-    → get_by_text index full ≡ Some named → (ends_word named.kind && is_seen visible (files_of named)) ≡ bears (names_seen index visible) ends_word full
-ends_held index visible full named held = rw held (ends_seen named.kind (is_seen visible (files_of named)))
 
 -- what the search ends at is what is meant
 pub word_found : (names : Names) (scope around : List Text) (outer part : Text) → innermost names ends_word part around ≡ innermost names ends_word part scope
