@@ -476,7 +476,7 @@ def refused(sets):
     enum = lambda s: s.file[-1].enum_type[0]
     row("a type's rule before an enum's", 412, enums, lambda s: (packed_texts(message(s)), setattr(enum(s).value[2], "number", -5)))
     row("an enum's rule before a file's", 414, enums, lambda s: (s.file[0].enum_type.add(name="Empty"), with_bytes(s.file[0].options, b"\x48\x04")))
-    row("a rule before names", 409, enums, lambda s: (setattr(message(s), "name", "9"), setattr(enum(s).value[0], "number", 1)))
+    row("a rule before names", 409, one, lambda s: (setattr(message(s), "name", "9"), s.file[0].enum_type.add(name="E").value.add(name="A", number=1)))
     row("4097 types before a type's rule", 413, one, lambda s: (many_types(s.file[0], 4097), field(s).ClearField("number")))
     return rows
 
