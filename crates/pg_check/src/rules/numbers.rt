@@ -1,7 +1,9 @@
 //! Numbers of fields and values, and those that are reserved.
 
-ghost use Rattle.std.specs.Prelude.{◌≡◌, ◌<◌, ◌^◌, IfOk, None, true};
+ghost use Rattle.std.specs.Prelude.{◌≡◌, ◌<◌, ◌^◌, IfOk, None, nat_eq, true};
+ghost use Rattle.std.specs.List.{list_any};
 ghost use Rattle.std.specs.List.Sorted.{IsNonDecreasingBy, IsPermutation};
+ghost use Rattle.pg_check.specs.declared.rules.numbers.Keyed.{Keyed};
 ghost use Rattle.pg_check.specs.declared.rules.numbers.Numbers.{Numbers};
 ghost use Rattle.pg_check.specs.rules.Numbers as spec;
 ghost use Rattle.pg_check.specs.rules.Tops.{tops_from};
@@ -111,12 +113,43 @@ fn rise(keys: &[Keyed]) -> bool
     true
 }
 
+/// So many numbers are compared one by one sooner than they are put into a set.
+const FEW: usize = 64;
+
+/// Whether one of these has the number.
+fn is_among(key: u128, keys: &[Keyed]) -> bool
+    ensures { result ≡ list_any (λ (k : Keyed). nat_eq key k.key) keys.now }
+{
+    for one in keys {
+        if one.key == key {
+            return true;
+        }
+    }
+    false
+}
+
+/// The place of the first number that stood before, where there are few.
+fn first_of_few(keys: &[Keyed]) -> Option<usize>
+    ensures { result ≡ spec.first_twice keys.now }
+{
+    for number in 0..keys.len() {
+        let one = keys[number];
+        if is_among(one.key, &keys[..number]) {
+            return Some(one.at);
+        }
+    }
+    None
+}
+
 /// The place of the first number that stood before.
 pub(crate) fn first_twice(alloc: Global, keys: &[Keyed]) -> Result<Option<usize>, AllocError>
     ensures { IfOk result (λ place. place ≡ spec.first_twice keys.now) }
 {
     if rise(keys) {
         return Ok(None);
+    }
+    if keys.len() <= FEW {
+        return Ok(first_of_few(keys));
     }
     let mut seen = BTreeSet::new(alloc);
     for one in keys {
