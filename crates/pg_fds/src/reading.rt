@@ -18,7 +18,7 @@ mod set_files;
 mod set_names;
 mod walk;
 
-ghost use Rattle.std.specs.Prelude.{◌≡◌, ◌⊎◌, ℕ, List, None, Some, IfErr, IfOk, map};
+ghost use Rattle.std.specs.Prelude.{◌≡◌, ◌⊎◌, ℕ, List, None, Some, IfErr, IfOk, OnOk, map};
 ghost use Rattle.std.specs.List.{list_all};
 ghost use Rattle.pg_schema.specs.declared.parts.Parts.{Parts as StatedParts};
 ghost use Rattle.pg_schema.specs.rules.Sound.{IsSound};
@@ -30,6 +30,7 @@ ghost use Rattle.pg_check.specs.standing.Places.{most_deep};
 ghost use Rattle.pg_fds.specs.declared.error.Unstated.TheVariants.{Memory};
 ghost use Rattle.pg_fds.specs.writing.Building.{written_shape};
 ghost use Rattle.pg_fds.specs.descriptor.Descriptor.{file_set};
+ghost use Rattle.pg_fds.specs.again.Again.{IsNotTooDeep};
 ghost use Rattle.pg_fds.specs.reading.FilePlaces.{AreOrdered};
 ghost use Rattle.pg_fds.specs.reading.Held.{IsHeldMessage};
 ghost use Rattle.pg_fds.specs.stated.Outlines.{files_at};
@@ -73,6 +74,7 @@ fn decoded(alloc: Global, bytes: &[u8]) -> Result<MessageRef<'_>, FdsError>
     ensures message { IfOk result (λ set. dec written_shape file_set bytes.now
         ≡ Some (message_of set)) }
     ensures texts { IfOk result IsHeldMessage }
+    ensures level { OnOk result (IsNotTooDeep bytes.now) }
     ensures refused { IfErr result (MayRefuseSet bytes.now) }
 {
     let table = descriptor_schema(alloc)?;
@@ -193,6 +195,7 @@ fn set_parts(alloc: Global, keys: SetKeys, set: &Said<'_, '_>) -> Result<Parts, 
 // takes no memory while the rules are tested.
 fn bytes_parts(alloc: Global, bytes: &[u8]) -> Result<Parts, FdsError>
     ensures ok { IfOk result (λ parts. fds_reads bytes.now parts) }
+    ensures level { OnOk result (IsNotTooDeep bytes.now) }
     ensures refused { IfErr result (MayRefuseSet bytes.now) }
 {
     let set = decoded(alloc, bytes)?;
@@ -205,6 +208,7 @@ fn bytes_parts(alloc: Global, bytes: &[u8]) -> Result<Parts, FdsError>
 fn bytes_schema(alloc: Global, bytes: &[u8]) -> Result<Schema, FdsError>
     ensures ok { IfOk result (λ schema. fds_reads bytes.now schema) }
     ensures sound { IfOk result IsSound }
+    ensures level { OnOk result (IsNotTooDeep bytes.now) }
     ensures refused { IfErr result (MayRefuseSet bytes.now) }
 {
     let parts = bytes_parts(alloc, bytes)?;
@@ -230,6 +234,7 @@ fn bytes_schema(alloc: Global, bytes: &[u8]) -> Result<Schema, FdsError>
 pub fn read(alloc: Global, bytes: &[u8]) -> Result<Schema, FdsError>
     ensures ok { IfOk result (λ schema. fds_reads bytes.now schema) }
     ensures sound { IfOk result IsSound }
+    ensures level { OnOk result (IsNotTooDeep bytes.now) }
     ensures refused { IfErr result (MayRefuseSet bytes.now) }
     ensures same { IfOk result (λ schema. (parts : StatedParts) → fds_reads bytes.now parts
         → parts_view schema ≡ parts_view parts) }

@@ -13,6 +13,7 @@ use Rattle.pg_dyn.specs.reading.Refusals.{MayRefuse}
 use Rattle.pg_check.specs.standing.Places.{most_deep}
 use Rattle.pg_fds.specs.declared.error.FdsError.{FdsError}
 use Rattle.pg_fds.specs.declared.error.FdsError.TheVariants as errors
+use Rattle.pg_fds.specs.again.Again.{IsNotTooDeep}
 use Rattle.pg_fds.specs.refusals.BadReferences.{IsBadReference}
 use Rattle.pg_fds.specs.writing.Building.{written_shape}
 use Rattle.pg_fds.specs.stated.Codes.{file_has_types}
@@ -38,12 +39,12 @@ MayRefuseFiles skips files errors.BadType = (list_all is_proto3 files ≡ true) 
 MayRefuseFiles skips files errors.BadReference = (are_taken files ≡ true) × IsBadReference skips files
 MayRefuseFiles skips files (errors.Rule e) = (are_taken files ≡ true) × BreaksRule skips files e
 
--- that of the message that the bytes are, if they are one
+-- that of the message that the bytes are, if they are one, and none in it stands too deep
 abbrev pub MayRefuseRead : List ℕ → FdsError → Type 0
-MayRefuseRead bytes e = IsSomeAnd (dec written_shape file_set bytes) (λ set. MayRefuseFiles (skips set) (kept_files set) e)
+MayRefuseRead bytes e = IsNotTooDeep bytes × IsSomeAnd (dec written_shape file_set bytes) (λ set. MayRefuseFiles (skips set) (kept_files set) e)
 
 -- What the codec refuses is a fault of the bytes, with messages nested at most 100 deep, and never a lack of memory. Otherwise the bytes are
--- a message, and what is said above holds of its files.
+-- a message that isn't nested deeper, and what is said above holds of its files.
 abbrev pub MayRefuseSet : List ℕ → FdsError → Type 0
 MayRefuseSet bytes errors.Memory = ⊤
 MayRefuseSet bytes (errors.Bytes e) = (e ≢ messages.Memory) × MayRefuse written_shape file_set most_deep bytes e

@@ -1,5 +1,5 @@
 -- What a set that was read says of its files, and why it may be refused.
-use Rattle.std.proofs.Common.{◌≡◌, ◌≢◌, ℕ, Bool, true, false, List, map, flat_map, filter, not, Option, Some, None, Result, IfOk, IfErr, ◌⊎◌, inl, inr, refl, ap, ap₂, sym, subst, ◌∙◌}
+use Rattle.std.proofs.Common.{◌≡◌, ◌≢◌, ℕ, Bool, true, false, List, map, flat_map, filter, not, Option, Some, None, Result, Ok, Err, IfOk, IfErr, OnOk, ◌⊎◌, inl, inr, refl, ap, ap₂, sym, subst, ◌∙◌}
 use Rattle.std.proofs.lemmas.Option.{none-some, same_Some}
 use Rattle.std.proofs.lemmas.Result.{IfErr-weaker, IfOk-weaker, err_from_is_err_and}
 use Rattle.std.specs.Prelude.{IsErrAnd, IsSomeAnd}
@@ -28,6 +28,7 @@ use Rattle.pg_fds.specs.reading.OutlinedScopes.{OutlinesFiles}
 use Rattle.pg_fds.specs.stated.Outlines.{Row, file_enums, file_services, file_types, files_at, row}
 use Rattle.pg_fds.specs.reading.Owners.{means_of}
 use Rattle.pg_fds.specs.stated.Reads.{fds_reads}
+use Rattle.pg_fds.specs.again.Again.{IsNotTooDeep}
 use Rattle.pg_fds.specs.refusals.Refused.{MayRefuseFiles, MayRefuseSet}
 use Rattle.pg_fds.specs.reading.RefusedParts.{IsOfParts, IsOfRules}
 use Rattle.pg_fds.specs.stated.Said.{children_at}
@@ -158,25 +159,31 @@ module _ (set : Message) (skip : Bool) (all files : List Kept) (seen : map messa
   pub set_refused : (r : Result Parts FdsError) → IfErr r (MayRefuseFiles skip (map message_of files)) → IfErr r (MayRefuseFiles (skips set) (kept_files set))
   set_refused r h = subst (λ b. IfErr r (MayRefuseFiles b (kept_files set))) set_skips (subst (λ ms. IfErr r (MayRefuseFiles skip ms)) set_kept h)
 
+-- what holds of whatever is answered holds of an answer
+pub always : {A E P : Type 0} (r : Result A E) → P → OnOk r P
+always (Ok x) holds = holds
+always (Err e) holds = tt
+
 -- ---- the bytes
 
 module _ (bytes : List ℕ) (set : Message) (is : dec written_shape file_set bytes ≡ Some set) where
-  refused_set : (e : FdsError) → MayRefuseFiles (skips set) (kept_files set) e → MayRefuseSet bytes e
-  refused_set errors.Memory h = tt
-  refused_set (errors.Bytes e) h = absurd h
-  refused_set errors.NotProto3 h = subst (λ r. IsSomeAnd r (λ s. MayRefuseFiles (skips s) (kept_files s) errors.NotProto3)) (sym is) h
-  refused_set errors.BadType h = subst (λ r. IsSomeAnd r (λ s. MayRefuseFiles (skips s) (kept_files s) errors.BadType)) (sym is) h
-  refused_set errors.BadReference h = subst (λ r. IsSomeAnd r (λ s. MayRefuseFiles (skips s) (kept_files s) errors.BadReference)) (sym is) h
-  refused_set (errors.Rule e) h = subst (λ r. IsSomeAnd r (λ s. MayRefuseFiles (skips s) (kept_files s) (errors.Rule e))) (sym is) h
-
   pub bytes_read : (parts : Parts) → stated set ≡ Some (parts_view parts) → fds_reads bytes parts
   bytes_read parts states = subst (λ d. IsSomeAnd d (λ s. stated s ≡ Some (parts_view parts))) (sym is) states
 
   pub bytes_stated : (r : Result Parts FdsError) → IfOk r (λ schema. stated set ≡ Some (parts_view schema)) → IfOk r (λ schema. fds_reads bytes schema)
   bytes_stated r h = IfOk-weaker r (λ schema. stated set ≡ Some (parts_view schema)) (λ schema. fds_reads bytes schema) bytes_read h
 
-  pub bytes_refused : (r : Result Parts FdsError) → IfErr r (MayRefuseFiles (skips set) (kept_files set)) → IfErr r (MayRefuseSet bytes)
-  bytes_refused r h = IfErr-weaker r (MayRefuseFiles (skips set) (kept_files set)) (MayRefuseSet bytes) refused_set h
+  module _ (level : IsNotTooDeep bytes) where
+    refused_set : (e : FdsError) → MayRefuseFiles (skips set) (kept_files set) e → MayRefuseSet bytes e
+    refused_set errors.Memory h = tt
+    refused_set (errors.Bytes e) h = absurd h
+    refused_set errors.NotProto3 h = (level, subst (λ r. IsSomeAnd r (λ s. MayRefuseFiles (skips s) (kept_files s) errors.NotProto3)) (sym is) h)
+    refused_set errors.BadType h = (level, subst (λ r. IsSomeAnd r (λ s. MayRefuseFiles (skips s) (kept_files s) errors.BadType)) (sym is) h)
+    refused_set errors.BadReference h = (level, subst (λ r. IsSomeAnd r (λ s. MayRefuseFiles (skips s) (kept_files s) errors.BadReference)) (sym is) h)
+    refused_set (errors.Rule e) h = (level, subst (λ r. IsSomeAnd r (λ s. MayRefuseFiles (skips s) (kept_files s) (errors.Rule e))) (sym is) h)
+
+    pub bytes_refused : (r : Result Parts FdsError) → IfErr r (MayRefuseFiles (skips set) (kept_files set)) → IfErr r (MayRefuseSet bytes)
+    bytes_refused r h = IfErr-weaker r (MayRefuseFiles (skips set) (kept_files set)) (MayRefuseSet bytes) refused_set h
 
 -- ---- the rules that the parts break
 
@@ -194,22 +201,23 @@ module _ (bytes : List ℕ) (parts : Parts) (reads : fds_reads bytes parts) wher
       let both = only_taken (are_taken (kept_files set)) (stated_of (skips set) (kept_files set)) (parts_view parts) is in
       (both.0, ((parts, both.1, h.0), h.1))
 
-  of_rules : (e : FdsError) → IsOfRules parts e → MayRefuseSet bytes e
-  of_rules errors.Memory h = tt
-  of_rules (errors.Bytes e) h = absurd h
-  of_rules errors.NotProto3 h = absurd h
-  of_rules errors.BadType h = absurd h
-  of_rules errors.BadReference h = absurd h
-  of_rules (errors.Rule x) h =
-      some_weaker (dec written_shape file_set bytes) (λ set. stated set ≡ Some (parts_view parts)) (λ set. MayRefuseFiles (skips set) (kept_files set) (errors.Rule x)) (broken x h) reads
-
-  -- what is told of the parts that the bytes state
-  pub bytes_rules : (r : Result Parts FdsError) → IfErr r (IsOfRules parts) → IfErr r (MayRefuseSet bytes)
-  bytes_rules r h = IfErr-weaker r (IsOfRules parts) (MayRefuseSet bytes) of_rules h
-
   -- and the schema that is answered is theirs
   pub bytes_kept : (r : Result Parts FdsError) → IfOk r (λ schema. schema ≡ parts) → IfOk r (λ schema. fds_reads bytes schema)
   bytes_kept r h = IfOk-weaker r (λ schema. schema ≡ parts) (λ schema. fds_reads bytes schema) (λ schema same. subst (fds_reads bytes) (sym same) reads) h
+
+  module _ (level : IsNotTooDeep bytes) where
+    of_rules : (e : FdsError) → IsOfRules parts e → MayRefuseSet bytes e
+    of_rules errors.Memory h = tt
+    of_rules (errors.Bytes e) h = absurd h
+    of_rules errors.NotProto3 h = absurd h
+    of_rules errors.BadType h = absurd h
+    of_rules errors.BadReference h = absurd h
+    of_rules (errors.Rule x) h =
+        (level, some_weaker (dec written_shape file_set bytes) (λ set. stated set ≡ Some (parts_view parts)) (λ set. MayRefuseFiles (skips set) (kept_files set) (errors.Rule x)) (broken x h) reads)
+
+    -- what is told of the parts that the bytes state
+    pub bytes_rules : (r : Result Parts FdsError) → IfErr r (IsOfRules parts) → IfErr r (MayRefuseSet bytes)
+    bytes_rules r h = IfErr-weaker r (IsOfRules parts) (MayRefuseSet bytes) of_rules h
 
 -- of a set one schema
 said_once : {A B : Type 0} (o : Option A) (f : A → Option B) (x y : B) → IsSomeAnd o (λ a. f a ≡ Some x) → IsSomeAnd o (λ a. f a ≡ Some y) → x ≡ y

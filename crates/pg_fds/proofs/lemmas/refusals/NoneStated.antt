@@ -88,16 +88,16 @@ none_stated real bytes errors.Memory may = tt
 none_stated real bytes (errors.Bytes e) may = bytes_unread real bytes e may.1
 none_stated real bytes errors.NotProto3 may =
     λ parts sound reads.
-    both_said (dec written_shape file_set bytes) (λ set. list_all is_proto3 (kept_files set) ≡ false) (λ set. stated set ≡ Some (parts_view parts)) (λ set other states. not_proto3 set parts states other) may reads
+    both_said (dec written_shape file_set bytes) (λ set. list_all is_proto3 (kept_files set) ≡ false) (λ set. stated set ≡ Some (parts_view parts)) (λ set other states. not_proto3 set parts states other) may.1 reads
 none_stated real bytes errors.BadType may =
     λ parts sound reads.
     both_said (dec written_shape file_set bytes) (λ set. (list_all is_proto3 (kept_files set) ≡ true) × (list_all file_has_types (kept_files set) ≡ false)) (λ set. stated set ≡ Some (parts_view parts))
-    (λ set other states. not_typed set parts states other.0 other.1) may reads
+    (λ set other states. not_typed set parts states other.0 other.1) may.1 reads
 none_stated real bytes errors.BadReference may =
     λ parts sound reads.
     both_said (dec written_shape file_set bytes) (λ set. (are_taken (kept_files set) ≡ true) × IsBadReference (skips set) (kept_files set)) (λ set. stated set ≡ Some (parts_view parts))
-    (λ set other states. not_found set parts states other.0 (states_none (skips set) (kept_files set) other.1)) may reads
+    (λ set other states. not_found set parts states other.0 (states_none (skips set) (kept_files set) other.1)) may.1 reads
 none_stated real bytes (errors.Rule e) may =
     λ parts sound reads.
     both_said (dec written_shape file_set bytes) (λ set. (are_taken (kept_files set) ≡ true) × BreaksRule (skips set) (kept_files set) e) (λ set. stated set ≡ Some (parts_view parts))
-    (λ set other states. not_broken set parts states sound other.0 e other.1) may reads
+    (λ set other states. not_broken set parts states sound other.0 e other.1) may.1 reads

@@ -3,7 +3,7 @@ use Rattle.pg_dyn.specs.reading.Decoding.{dec}
 use Rattle.pg_dyn.specs.Kept.{message_of}
 use Rattle.pg_fds.specs.writing.Building.{written_shape}
 use Rattle.pg_fds.specs.descriptor.Descriptor.{file_set}
-use Rattle.pg_fds.proofs.lemmas.reading.ReadLaws.{bytes_refused, bytes_stated}
+use Rattle.pg_fds.proofs.lemmas.reading.ReadLaws.{always, bytes_refused, bytes_stated}
 use Rattle.pg_fds.proofs.reading.bytes_parts.Goals as goal
 
 pub returns : goal.returns
@@ -14,5 +14,6 @@ returns c =
     subst (λ m. dec written_shape file_set bytes ≡ Some (message_of m)) (sym c.new-said.ensures) c.in_ok-set.ensures.message in
     record {
       ok = bytes_stated bytes set is c.set_parts.result c.set_parts.ensures.ok;
-      refused = bytes_refused bytes set is c.set_parts.result c.set_parts.ensures.refused;
+      level = always c.set_parts.result c.in_ok-set.ensures.level;
+      refused = bytes_refused bytes set is c.in_ok-set.ensures.level c.set_parts.result c.set_parts.ensures.refused;
     }

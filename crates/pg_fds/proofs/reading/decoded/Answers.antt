@@ -1,8 +1,10 @@
 use Rattle.std.proofs.Common.{◌≡◌, ◌<◌, length, Some, sym, subst, rules}
+use Rattle.pg_schema.specs.Shape.{fields}
 use Rattle.pg_dyn.specs.reading.Decoding.{dec}
 use Rattle.pg_dyn.specs.Fits.{Fits}
 use Rattle.pg_dyn.specs.Kept.{message_of}
 use Rattle.pg_dyn.specs.reading.Refusals.{MayRefuse}
+use Rattle.pg_dyn.specs.reading.TooDeep.{TooDeepIn}
 use Rattle.pg_dyn.specs.Texts.{KeepsTexts}
 use Rattle.pg_fds.specs.writing.Building.{written_shape}
 use Rattle.pg_fds.specs.descriptor.Descriptor.{file_set}
@@ -21,10 +23,15 @@ unfolding written_shape
 returns-in-Ok-clause-texts c =
     set_held c.in-Ok.set (subst (λ s. Fits s c.in-Ok.set) c.in_ok-table.ensures.shape c.in-Ok.ensures.fits.0) (subst (λ s. KeepsTexts s c.in-Ok.set) c.in_ok-table.ensures.shape c.in-Ok.ensures.texts)
 
+pub returns-in-Ok-clause-level : goal.returns-in-Ok-clause-level
+unfolding written_shape
+returns-in-Ok-clause-level c = λ place deep. c.in-Ok.ensures.within place (subst (λ s. TooDeepIn s 100 (fields s file_set) c.args.bytes.now place) (sym c.in_ok-table.ensures.shape) deep)
+
 pub returns : goal.returns
 unfolding written_shape
 returns c = record {
   message = tt;
   texts = tt;
+  level = tt;
   refused = c.undecoded.ensures c.args.bytes.now (subst (λ s. MayRefuse s file_set 100 c.args.bytes.now c.in-Err.error) c.in_ok-table.ensures.shape c.in-Err.ensures.refused);
 }

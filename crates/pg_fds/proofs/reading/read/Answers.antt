@@ -15,6 +15,7 @@ returns c =
     record {
       ok = c.bytes_schema.ensures.ok;
       sound = c.bytes_schema.ensures.sound;
+      level = c.bytes_schema.ensures.level;
       refused = c.bytes_schema.ensures.refused;
       same = IfOk-weaker r (λ made. fds_reads bytes made) (λ made. (parts : Parts) → fds_reads bytes parts → parts_view made ≡ parts_view parts)
           (λ made reads parts theirs. read_once bytes made parts reads theirs) c.bytes_schema.ensures.ok;
