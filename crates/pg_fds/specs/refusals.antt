@@ -1,3 +1,4 @@
 pub mod Refused
 pub mod ErrorCodes
 pub mod BadReferences
+pub mod TooDeep

@@ -30,7 +30,7 @@ ghost use Rattle.pg_check.specs.standing.Places.{most_deep};
 ghost use Rattle.pg_fds.specs.declared.error.Unstated.TheVariants.{Memory};
 ghost use Rattle.pg_fds.specs.writing.Building.{written_shape};
 ghost use Rattle.pg_fds.specs.descriptor.Descriptor.{file_set};
-ghost use Rattle.pg_fds.specs.again.Again.{IsNotTooDeep};
+ghost use Rattle.pg_fds.specs.refusals.TooDeep.{IsNotTooDeep};
 ghost use Rattle.pg_fds.specs.reading.FilePlaces.{AreOrdered};
 ghost use Rattle.pg_fds.specs.reading.Held.{IsHeldMessage};
 ghost use Rattle.pg_fds.specs.stated.Outlines.{files_at};

@@ -1,16 +1,12 @@
 -- Schemas whose sets are read again (descriptor.proto; that messages may be nested 100 deep is this profile's choice).
-use Rattle.std.specs.Prelude.{◌≡◌, ℕ, true, List, []}
+use Rattle.std.specs.Prelude.{◌≡◌, true, []}
 use Rattle.std.specs.List.{list_all}
 use Rattle.pg_schema.specs.declared.parts.file.File.{File}
 use Rattle.pg_schema.specs.declared.parts.Parts.{Parts}
-use Rattle.pg_schema.specs.Shape.{fields}
-use Rattle.pg_dyn.specs.reading.TooDeep.{TooDeepIn}
 use Rattle.pg_check.specs.standing.Imports.{AreBehind, imports_apart}
 use Rattle.pg_check.specs.standing.InOrder.{StandInOrder}
 use Rattle.pg_check.specs.standing.Nesting.{nest_within}
 use Rattle.pg_check.specs.standing.Places.{most_deep}
-use Rattle.pg_fds.specs.writing.Building.{written_shape}
-use Rattle.pg_fds.specs.descriptor.Descriptor.{file_set}
 
 -- each file imports no path twice and stands behind those that it imports, messages are nested at most 100 deep, and all is numbered in the
 -- order of a schema that a set states
@@ -19,7 +15,3 @@ pub record IsReadable (parts : Parts) : Type 0 where
   pub behind : AreBehind [] parts.files.items
   pub places : StandInOrder parts
   pub shallow : list_all (λ (f : File). nest_within most_deep parts.types.items f.types.items) parts.files.items ≡ true
-
--- no message of the set stands deeper than is read
-abbrev pub IsNotTooDeep : List ℕ → Type 0
-IsNotTooDeep bytes = (place : ℕ) → TooDeepIn written_shape most_deep (fields written_shape file_set) bytes place → ⊥

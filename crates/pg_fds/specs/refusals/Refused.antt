@@ -13,7 +13,7 @@ use Rattle.pg_dyn.specs.reading.Refusals.{MayRefuse}
 use Rattle.pg_check.specs.standing.Places.{most_deep}
 use Rattle.pg_fds.specs.declared.error.FdsError.{FdsError}
 use Rattle.pg_fds.specs.declared.error.FdsError.TheVariants as errors
-use Rattle.pg_fds.specs.again.Again.{IsNotTooDeep}
+use Rattle.pg_fds.specs.refusals.TooDeep.{IsNotTooDeep}
 use Rattle.pg_fds.specs.refusals.BadReferences.{IsBadReference}
 use Rattle.pg_fds.specs.writing.Building.{written_shape}
 use Rattle.pg_fds.specs.stated.Codes.{file_has_types}

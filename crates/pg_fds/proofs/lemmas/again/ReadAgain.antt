@@ -15,7 +15,8 @@ use Rattle.pg_check.specs.standing.Nesting.{are_shallow, holds_inside, nest_with
 use Rattle.pg_check.specs.standing.Places.{most_deep}
 use Rattle.pg_fds.specs.declared.error.FdsError.{FdsError}
 use Rattle.pg_fds.specs.declared.error.FdsError.TheVariants as errors
-use Rattle.pg_fds.specs.again.Again.{IsNotTooDeep, IsReadable}
+use Rattle.pg_fds.specs.again.Again.{IsReadable}
+use Rattle.pg_fds.specs.refusals.TooDeep.{IsNotTooDeep}
 use Rattle.pg_fds.specs.again.ReadAgain.{IsReadAgain, IsTooLong, MayRefuseAgain, SetStates}
 use Rattle.pg_fds.specs.stated.Reads.{fds_reads}
 use Rattle.pg_fds.specs.refusals.Refused.{MayRefuseSet, NoneIsStated}

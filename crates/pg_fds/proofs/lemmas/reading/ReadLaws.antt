@@ -28,7 +28,7 @@ use Rattle.pg_fds.specs.reading.OutlinedScopes.{OutlinesFiles}
 use Rattle.pg_fds.specs.stated.Outlines.{Row, file_enums, file_services, file_types, files_at, row}
 use Rattle.pg_fds.specs.reading.Owners.{means_of}
 use Rattle.pg_fds.specs.stated.Reads.{fds_reads}
-use Rattle.pg_fds.specs.again.Again.{IsNotTooDeep}
+use Rattle.pg_fds.specs.refusals.TooDeep.{IsNotTooDeep}
 use Rattle.pg_fds.specs.refusals.Refused.{MayRefuseFiles, MayRefuseSet}
 use Rattle.pg_fds.specs.reading.RefusedParts.{IsOfParts, IsOfRules}
 use Rattle.pg_fds.specs.stated.Said.{children_at}

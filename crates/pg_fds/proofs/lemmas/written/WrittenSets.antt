@@ -15,7 +15,8 @@ use Rattle.pg_dyn.specs.Message.{Message, message_from}
 use Rattle.pg_dyn.specs.reading.TooDeep.{TooDeepIn}
 use Rattle.pg_check.specs.standing.Nesting.{are_shallow}
 use Rattle.pg_check.specs.standing.Places.{most_deep}
-use Rattle.pg_fds.specs.again.Again.{IsNotTooDeep, IsReadable}
+use Rattle.pg_fds.specs.again.Again.{IsReadable}
+use Rattle.pg_fds.specs.refusals.TooDeep.{IsNotTooDeep}
 use Rattle.pg_fds.specs.writing.Building.{IsOf, items_of, written_shape}
 use Rattle.pg_fds.specs.stated.Codes.{file_has_types}
 use Rattle.pg_fds.specs.descriptor.Descriptor.{descriptor_shape, file_set}
