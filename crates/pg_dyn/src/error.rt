@@ -83,8 +83,8 @@ impl DynError {
         }
     }
 
-    /// The place that the error names, if it names one: a byte of the input, or of contents that are
-    /// set the length of a text's front.
+    /// The place that the error names, if it names one: a byte of the input, or of contents that
+    /// are set the length of a text's front.
     pub fn at(self) -> Option<usize>
         ensures { result ≡ place_of self }
     {

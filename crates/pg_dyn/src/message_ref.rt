@@ -38,6 +38,7 @@ pub struct EntryRef<'a> {
 #[derive(Drop)]
 pub enum ContentRef<'a> {
     One(ValueRef<'a>),
+    /// A list of texts, bytes or messages.
     Many(Vec<ValueRef<'a>>),
     /// Entries by rising key.
     Map(Vec<EntryRef<'a>>),

@@ -1,5 +1,5 @@
-//! Messages that borrow, turned into ones that own their parts. Each part is freed once it is
-//! copied, so that its memory serves the parts after it.
+//! Messages that borrow, turned into ones that own their parts. Each message is freed once it is
+//! copied, and a list or a map once all its items are, so that its memory serves what comes after.
 
 ghost use Rattle.std.specs.Prelude.{◌≡◌, map, true, IfOk};
 ghost use Rattle.pg_dyn.specs.Copies.{AreEntryCopies, IsContentCopy, IsEntryCopy, IsItemCopy};

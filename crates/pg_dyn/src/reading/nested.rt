@@ -167,8 +167,10 @@ fn read_map<'a>(
     Ok(Some(ContentRef::Map(last_of_keys(alloc, entries)?)))
 }
 
-// What a field holds after records that it accepts and that all count.
+// What a field holds after records that it accepts and that all count. A level of nesting has one
+// frame less on the stack, since this one is inlined.
 #[cycle(reading)]
+#[inline(always)]
 fn read_content<'a>(
     alloc: Global,
     schema: &Schema,
