@@ -1,7 +1,6 @@
 -- How many fields name each oneof, as a loop counts them.
-use Rattle.std.proofs.Common.{◌≡◌, ◌≢◌, ℕ, zero, suc, ◌+◌, ◌<◌, ◌≤◌, min, pos, Bool, true, false, cond, nat_eq, List, [], ◌∷◌, filter, length, map, take, get_or, Some, None, refl, ap, sym, subst, ◌∙◌, arith, add-one}
+use Rattle.std.proofs.Common.{◌≡◌, ℕ, zero, suc, ◌+◌, ◌<◌, ◌≤◌, min, pos, Bool, true, false, cond, nat_eq, List, [], ◌∷◌, filter, length, map, take, get_or, Some, None, refl, ap, sym, subst, ◌∙◌, arith, add-one}
 use Rattle.std.proofs.Math.ListN.{set, length-set}
-use Rattle.std.proofs.lemmas.Bool.Decides.{nat_tests}
 use Rattle.std.proofs.lemmas.Grind.{get_or-set_at}
 use Rattle.std.proofs.lemmas.List.{get_or-set_other}
 use Rattle.pg_dyn.specs.Kept.{Kept, message_of}

@@ -13,7 +13,7 @@ use Rattle.pg_fds.specs.refusals.BadReferences as causes
 use Rattle.pg_fds.specs.reading.OutlinedPlaces.{Counts, PlacedFile, PlacedType, behind_file, behind_type, each_from, inner_types, inside_file, inside_type, no_counts, placed_files, placed_types, placed_with, types_of_files}
 use Rattle.pg_fds.specs.stated.Outlines.{Row, file_enums, file_services, file_types, row_in, rows_of_type, type_rows}
 use Rattle.pg_fds.specs.declared.descriptor.proto.TheConstants as proto
-use Rattle.pg_fds.specs.stated.Said.{children_at, maybe_number_at, numbers_at, text_at, texts_at}
+use Rattle.pg_fds.specs.stated.Said.{children_at, maybe_number_at, numbers_at, texts_at}
 use Rattle.pg_fds.specs.stated.SaidFiles.{is_place}
 use Rattle.pg_fds.specs.stated.SaidTypes.{is_entry, is_optional, synthetic_places}
 use Rattle.pg_fds.specs.stated.SetNames.{file_scope, files_names, qualified}

@@ -1,13 +1,10 @@
-use Rattle.std.proofs.Common.{◌≡◌, Some, ap, false, inr, map, option_and_then, sym, true, ◌∙◌}
-use Rattle.std.proofs.lemmas.Result.{MatchResult-from_err, err_from_is_err_and}
+use Rattle.std.proofs.Common.{Some, ap, map, option_and_then}
+use Rattle.std.proofs.lemmas.Result.{err_from_is_err_and}
 use Rattle.std.specs.List.{list_all}
 use Rattle.pg_dyn.specs.Kept.{message_of}
-use Rattle.pg_fds.specs.reading.Owners.{means_of, owner_of}
 use Rattle.pg_fds.specs.stated.StatedFields.{is_named_once}
 use Rattle.pg_fds.specs.stated.StatedNames.{only_if}
-use Rattle.pg_fds.specs.stated.Views.{FieldView, field_view}
 use Rattle.pg_fds.proofs.lemmas.lists.Each.{passed}
-use Rattle.pg_fds.proofs.lemmas.reading.FieldSteps.{fields_named}
 use Rattle.pg_fds.proofs.reading.made_types.fields.Goals as goal
 
 pub returns-in_err-fields-clause-refused : goal.returns-in_err-fields-clause-refused
