@@ -9,6 +9,7 @@ use Rattle.pg_dyn.specs.Message.{Leaf, key_cmp, leaf_eq}
 use Rattle.pg_dyn.specs.Message as model
 use Rattle.pg_dyn.specs.Bodies.{BodiesReadAgain, EntryBodiesRead, PackedBodiesRead, SingleBodiesRead}
 use Rattle.pg_dyn.specs.encoding.Encoding.{enc, encoded_parts}
+use Rattle.pg_dyn.specs.encoding.Growing.{EncodingGrows}
 use Rattle.pg_dyn.specs.OwnParts.{ComparandsAreWritten, ChildrenAreShorter, OneIsEmpty, OwnPartsFit, SiblingsMutual}
 use Rattle.pg_dyn.specs.FieldLaws.{ContentsAreSeen, EntriesRise, EqualLeaves, FieldsAreFound, LastItems, OwnContents, PackableWires, PartsKeepTypes, PlainIsKept, RecordsOfFields, RisingEntriesStay, UnknownIsKept}
 use Rattle.pg_dyn.specs.Laws.{DecodingIs, EncodingSpells, KeptByField, MessageSplits, WritingSplits}
@@ -32,6 +33,7 @@ use Rattle.pg_dyn.proofs.lemmas.RecordsRead.{content_none}
 use Rattle.pg_dyn.proofs.lemmas.ItemLeaves.{item_is_key}
 use Rattle.pg_dyn.proofs.lemmas.ReplacingLaws.{content_number, kept_means, type_of-kept_onto, unknown-message_of, type_of-with_parts, type_of-without_siblings}
 use Rattle.pg_dyn.proofs.lemmas.SelfSame.{plain_unknown}
+use Rattle.pg_dyn.proofs.lemmas.encoding.Growing as Growing
 use Rattle.pg_dyn.proofs.lemmas.setting.SetTexts as SetTexts
 use Rattle.pg_dyn.proofs.lemmas.Leaves.{leaf_eq_self, same_leaf}
 
@@ -45,6 +47,9 @@ encoding_spells =
     λ shape type m is_shape is_message fits.
     let short : length (enc shape type m) < 2 ^ 64 = omega arith in
     records_of-enc shape type m is_shape is_message short
+
+pub encoding_grows : EncodingGrows
+encoding_grows = Growing.encoding_grows
 
 pub message_splits : MessageSplits
 message_splits =

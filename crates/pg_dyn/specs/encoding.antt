@@ -1,4 +1,5 @@
 pub mod Encoding
+pub mod Growing
 pub mod Lending
 pub mod Unshared
 pub mod Writing

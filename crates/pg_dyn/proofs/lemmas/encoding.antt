@@ -1,5 +1,6 @@
 pub mod EncodeSteps
 pub mod EncodedFields
+pub mod Growing
 pub mod LentParts
 pub mod LentWeights
 pub mod NotedLengths
