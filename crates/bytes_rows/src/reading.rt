@@ -29,6 +29,9 @@ fn like(
         return Err(DynError::WrongKind);
     }
     let copy = lent.to_message(alloc)?;
+    if !is_alike(lent, &copy) {
+        return Err(DynError::WrongKind);
+    }
     if written(alloc, schema, &copy)? != written(alloc, schema, &message)? {
         return Err(DynError::WrongKind);
     }

@@ -81,7 +81,7 @@ impl<'a> ContentRef<'a> {
             ContentRef::One(value) => Ok(Content::One(value.into_value(alloc)?)),
             ContentRef::Many(values) => Ok(Content::Many(ContentRef::into_values(values, alloc)?)),
             ContentRef::Map(entries) => Ok(Content::Map(ContentRef::into_entries(entries, alloc)?)),
-            ContentRef::Numbers(numbers) => Ok(Content::Many(numbers.to_values(alloc)?)),
+            ContentRef::Numbers(numbers) => Ok(Content::Numbers(numbers)),
         }
     }
 }

@@ -107,7 +107,7 @@ pub(crate) trait Lends {
 }
 
 impl Lends for Message {
-    ghost use Rattle.pg_dyn.specs.encoding.Lending.{owned_item};
+    ghost use Rattle.pg_dyn.specs.encoding.Lending.{OwnsValues, owned_item};
     ghost use Rattle.pg_dyn.specs.Seen.{content_seen, record_seen};
 
     type Value = Value;
@@ -128,7 +128,7 @@ impl Lends for Message {
 
     ghost parts = { content_seen };
 
-    ghost has_values = { λ _. ⊤ };
+    ghost has_values = { OwnsValues };
 
     ghost record_of = { record_seen };
 
@@ -149,8 +149,11 @@ impl Lends for Message {
     }
 
     #[inline(always)]
-    fn numbers<'b>(_content: &'b Content) -> Option<&'b NumberList> {
-        None
+    fn numbers<'b>(content: &'b Content) -> Option<&'b NumberList> {
+        match content {
+            Content::Numbers(numbers) => Some(numbers),
+            Content::One(_) | Content::Many(_) | Content::Map(_) => None,
+        }
     }
 
     #[inline(always)]
@@ -159,6 +162,7 @@ impl Lends for Message {
             Content::One(value) => std::slice::from_ref(value),
             Content::Many(values) => values,
             Content::Map(_) => &[],
+            Content::Numbers(_) => &[],
         }
     }
 
@@ -166,7 +170,7 @@ impl Lends for Message {
     fn entries<'b>(content: &'b Content) -> &'b [(Value, Value)] {
         match content {
             Content::Map(entries) => entries,
-            Content::One(_) | Content::Many(_) => &[],
+            Content::One(_) | Content::Many(_) | Content::Numbers(_) => &[],
         }
     }
 

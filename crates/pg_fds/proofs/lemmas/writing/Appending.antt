@@ -16,6 +16,7 @@ use Rattle.pg_dyn.specs.Kept.{Kept, KeptItem, ends, type_of, parts_of, unknown_o
 use Rattle.pg_dyn.specs.Message.{Leaf, Message, Part, Item, message_from}
 use Rattle.pg_dyn.specs.Message as model
 use Rattle.pg_dyn.specs.Replacing.{kept_from, with_parts, with_content}
+use Rattle.pg_dyn.specs.NumberLists.{values_in}
 use Rattle.pg_dyn.specs.Seen.{IsFilled, content_onto, content_seen, entries_onto, fields_onto, item_seen, items_onto, leaf_of, value_onto}
 use Rattle.pg_dyn.specs.setting.Setting.{IsSetTo, normalized}
 use Rattle.pg_dyn.specs.Texts.{kept_in, kept_item}
@@ -188,16 +189,19 @@ abbrev pub IsListOf : List Value → Content → Type 0
 IsListOf vs (contents.One v) = ⊥
 IsListOf vs (contents.Many ws) = ws.items ≡ vs
 IsListOf vs (contents.Map es) = ⊥
+IsListOf vs (contents.Numbers ns) = ⊥
 
 fits_list : (e : Element) (vs : List Value) (content : Content) → IsListOf vs content → AllByRecursion (ItemFits written_shape e) vs → ItemsFit written_shape (Repeated false) e content
 fits_list e vs (contents.One v) is all = absurd is
 fits_list e vs (contents.Many ws) is all = subst (λ xs. AllByRecursion (ItemFits written_shape e) xs) (sym is) all
 fits_list e vs (contents.Map es) is all = absurd is
+fits_list e vs (contents.Numbers ns) is all = absurd is
 
 seen_list : (number : ℕ) (vs : List Value) (content : Content) → IsListOf vs content → content_seen number content ≡ map (listed_part number) vs
 seen_list number vs (contents.One v) is = absurd is
 seen_list number vs (contents.Many ws) is = ap (map (listed_part number)) is
 seen_list number vs (contents.Map es) is = absurd is
+seen_list number vs (contents.Numbers ns) is = absurd is
 
 pub takes_list : (table : Shape) (last : ℕ) (m : Kept) (d : Drafted) (number : ℕ) (e : Element) (vs : List Value) (content : Content) → IsListOf vs content → IsDraft table last m → drafted last m ≡ d → TakesMany number e d
     → AllByRecursion (ItemFits written_shape e) vs → TakesContent table (type_of m) (number, content)
@@ -247,13 +251,14 @@ value_filled number key listed (values.Text n) later = not_nil _ _
 value_filled number key listed (values.Bytes n) later = not_nil _ _
 value_filled number key listed (values.Msg n) later = not_nil _ _
 
+items_filled : (number : ℕ) (vs : List Value) (later : Kept) → vs ≢ [] → items_of (items_onto number vs later) ≢ []
+items_filled number [] later some = absurd (some refl)
+items_filled number (v ∷ vs) later some = value_filled number None true v (items_onto number vs later)
+
 content_filled : (number : ℕ) (content : Content) (later : Kept) → IsFilled content → items_of (content_onto number content later) ≢ []
 content_filled number (contents.One v) later filled = value_filled number None false v later
-content_filled number (contents.Many vs) later filled = of vs.items filled
-  where
-    of : (vs : List Value) → vs ≢ [] → items_of (items_onto number vs later) ≢ []
-    of [] some = absurd (some refl)
-    of (v ∷ vs) some = value_filled number None true v (items_onto number vs later)
+content_filled number (contents.Many vs) later filled = items_filled number vs.items later filled
+content_filled number (contents.Numbers ns) later filled = items_filled number (values_in ns) later filled
 content_filled number (contents.Map es) later filled = of es.items filled
   where
     of : (es : List (Value × Value)) → es ≢ [] → items_of (entries_onto number es later) ≢ []
