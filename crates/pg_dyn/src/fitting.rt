@@ -32,7 +32,7 @@ impl Value {
         ensures { result ≡ key_cmp (leaf_of self.now) (leaf_of other.now) }
     {
         match (self, other) {
-            (Value::Int(first), Value::Int(second)) => first.cmp(second),
+            (Value::Int(first), Value::Int(second)) => first.get().cmp(&second.get()),
             (Value::Text(first), Value::Text(second)) => first.as_bytes().cmp(second.as_bytes()),
             (Value::Text(first), Value::Bytes(second)) => first.as_bytes().cmp(second.as_slice()),
             (Value::Bytes(first), Value::Text(second)) => first.as_slice().cmp(second.as_bytes()),

@@ -4,6 +4,7 @@ ghost use Rattle.std.specs.Prelude.{◌≡◌, ◌↔◌, [], map, false, Some, 
 ghost use Rattle.pg_dyn.specs.Borrowed as borrowed;
 
 use crate::field_list::place_of;
+use crate::integer::Integer;
 use crate::number_list::NumberList;
 use pg_schema::TypeId;
 use pg_wire::Record;
@@ -15,7 +16,7 @@ use std::marker::Model;
 #[derive(Drop)]
 pub enum ValueRef<'a> {
     /// An integer, a bool as 0 or 1, or the number of an enum value.
-    Int(i128),
+    Int(Integer),
     /// The bits of a float.
     F32(u32),
     /// The bits of a double.

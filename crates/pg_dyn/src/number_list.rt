@@ -10,6 +10,7 @@ ghost use Rattle.pg_dyn.specs.WordOf.{HasBits};
 use crate::encoding::body::wire_type_of;
 use crate::encoding::lending::LeafRef;
 use crate::error::DynError;
+use crate::integer::Integer;
 use crate::message::Value;
 use crate::message_ref::ValueRef;
 use crate::setting::check::check_item;
@@ -53,7 +54,7 @@ impl Number {
         ensures { result ≡ value_of (item_of self) }
     {
         match self {
-            Number::Int(number) => Value::Int(number),
+            Number::Int(number) => Value::Int(Integer::new(number)),
             Number::F32(bits) => Value::F32(bits),
             Number::F64(bits) => Value::F64(bits),
         }
@@ -66,7 +67,7 @@ impl Number {
         ensures number { IsNumber result }
     {
         match self {
-            Number::Int(number) => ValueRef::Int(number),
+            Number::Int(number) => ValueRef::Int(Integer::new(number)),
             Number::F32(bits) => ValueRef::F32(bits),
             Number::F64(bits) => ValueRef::F64(bits),
         }
@@ -106,7 +107,7 @@ fn word_for(scalar: Scalar, value: &Value) -> Option<u64>
     ensures listed { MatchOption result (IsListed value.now → ⊥) (λ word. IsListed value.now) }
 {
     match value {
-        Value::Int(number) => Some(word_of(scalar, *number)),
+        Value::Int(number) => Some(word_of(scalar, number.get())),
         Value::F32(bits) => Some(u64::from(*bits)),
         Value::F64(bits) => Some(*bits),
         Value::Text(_) | Value::Bytes(_) | Value::Msg(_) => None,

@@ -195,7 +195,7 @@ impl Lends for Message {
     #[inline(always)]
     fn leaf<'b>(value: &'b Value) -> LeafRef<'b> {
         match value {
-            Value::Int(number) => LeafRef::Int(*number),
+            Value::Int(number) => LeafRef::Int(number.get()),
             Value::F32(bits) => LeafRef::F32(*bits),
             Value::F64(bits) => LeafRef::F64(*bits),
             Value::Text(text) => LeafRef::Bytes(text.as_bytes()),
@@ -295,7 +295,7 @@ impl<'a> Lends for MessageRef<'a> {
     #[inline(always)]
     fn leaf<'b>(value: &'b ValueRef<'a>) -> LeafRef<'b> {
         match value {
-            ValueRef::Int(number) => LeafRef::Int(*number),
+            ValueRef::Int(number) => LeafRef::Int(number.get()),
             ValueRef::F32(bits) => LeafRef::F32(*bits),
             ValueRef::F64(bits) => LeafRef::F64(*bits),
             ValueRef::Text(text) => LeafRef::Bytes(text.as_bytes()),

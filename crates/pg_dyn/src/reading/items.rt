@@ -7,6 +7,7 @@ ghost use Rattle.pg_dyn.specs.Coding.{scalar_form, zero_leaf};
 ghost use Rattle.pg_dyn.specs.NumberLists.{number_item};
 ghost use Rattle.pg_dyn.specs.reading.Held.{IsHeldList, item_left};
 
+use crate::integer::Integer;
 use crate::message_ref::{ContentRef, ValueRef};
 use crate::number_list::NumberList;
 use pg_schema::{Presence, Scalar};
@@ -17,7 +18,7 @@ impl<'a> ValueRef<'a> {
         ensures { result ≡ is_zero_value self.now }
     {
         match self {
-            ValueRef::Int(number) => *number == 0,
+            ValueRef::Int(number) => number.get() == 0,
             ValueRef::F32(bits) => *bits == 0,
             ValueRef::F64(bits) => *bits == 0,
             ValueRef::Text(text) => text.is_empty(),
@@ -67,6 +68,6 @@ pub(crate) fn zero_of<'a>(scalar: Scalar) -> ValueRef<'a>
         Scalar::Bytes => ValueRef::Bytes(&[]),
         Scalar::Float => ValueRef::F32(0),
         Scalar::Double => ValueRef::F64(0),
-        _ => ValueRef::Int(0),
+        _ => ValueRef::Int(Integer::new(0)),
     }
 }

@@ -17,7 +17,7 @@ impl<'a> ValueRef<'a> {
         ensures { result ≡ number_in (leaf_of self.now) }
     {
         match self {
-            ValueRef::Int(number) => *number,
+            ValueRef::Int(number) => number.get(),
             _ => 0,
         }
     }

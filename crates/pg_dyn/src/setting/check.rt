@@ -102,7 +102,7 @@ pub(crate) fn check_item(scalar: Scalar, value: &Value) -> Result<(), DynError>
     ensures fault { IfErr result (IsFaultOf scalar value.now) }
 {
     match value {
-        Value::Int(number) if is_in_range(scalar, *number) => Ok(()),
+        Value::Int(number) if is_in_range(scalar, number.get()) => Ok(()),
         Value::Int(_) if is_integer(scalar) => Err(DynError::OutOfRange),
         Value::F32(bits) if is_single(scalar, *bits) => Ok(()),
         Value::F64(bits) if is_double(scalar, *bits) => Ok(()),

@@ -62,7 +62,7 @@ fn kept_values(schema: &Schema, element: Element, values: Vec<Value>) -> Vec<Val
     }
     let mut kept = values;
     for value in kept.iter_mut() {
-        let taken = mem::replace(value, Value::Int(0));
+        let taken = mem::replace(value, Value::F32(0));
         *value = taken.kept_for(schema, element);
     }
     kept
@@ -101,7 +101,7 @@ fn kept_entries(
     }
     let mut kept = entries;
     for entry in kept.iter_mut() {
-        let taken = mem::replace(entry, (Value::Int(0), Value::Int(0)));
+        let taken = mem::replace(entry, (Value::F32(0), Value::F32(0)));
         *entry = kept_entry(schema, key, element, taken);
     }
     kept
