@@ -9,7 +9,6 @@ ghost use Rattle.pg_dyn.specs.Borrowed as borrowed;
 ghost use Rattle.pg_dyn.specs.NumberLists.{numbers_in};
 ghost use Rattle.pg_dyn.specs.Seen.{HasBody, item_seen, record_seen};
 
-use crate::integer::Integer;
 use crate::message::{Content, Message, UnknownRecord, Value};
 use crate::message_ref::{ContentRef, EntryRef, MessageRef, ValueRef};
 use crate::number_list::NumberList;
