@@ -7,7 +7,7 @@ use pg_wire::Record;
 /// Of a message inside the type alone is looked at: what it holds shows when both are written.
 fn is_value(lent: &ValueRef<'_>, owned: &Value) -> bool {
     match (lent, owned) {
-        (ValueRef::Int(first), Value::Int(second)) => first == second,
+        (ValueRef::Int(first), Value::Int(second)) => first.get() == second.get(),
         (ValueRef::F32(first), Value::F32(second)) => first == second,
         (ValueRef::F64(first), Value::F64(second)) => first == second,
         (ValueRef::Text(first), Value::Text(second)) => *first == second.as_str(),

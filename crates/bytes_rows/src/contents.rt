@@ -19,7 +19,7 @@ pub(crate) fn name_of(alloc: Global, error: DynError) -> Result<String, AllocErr
 /// message.
 fn spelled_value(alloc: Global, value: &Value) -> Result<String, AllocError> {
     match value {
-        Value::Int(number) => format!(in alloc; "{number}"),
+        Value::Int(number) => format!(in alloc; "{}", number.get()),
         Value::F32(bits) => format!(in alloc; "f{bits}"),
         Value::F64(bits) => format!(in alloc; "d{bits}"),
         Value::Text(text) => format!(in alloc; "'{text}"),

@@ -4,7 +4,7 @@
 //! `=5+sint32` a list of numbers of that scalar type, and `=5:` a map; and `message` makes a message
 //! of the last content alone, which is a value.
 use crate::types::{FIRST, SECOND};
-use pg_dyn::{Content, DynError, Message, NumberList, Value};
+use pg_dyn::{Content, DynError, Integer, Message, NumberList, Value};
 use pg_schema::{Scalar, Schema, TypeId};
 use pg_show::{HexError, bytes_of_hex};
 use std::alloc::{AllocError, Global};
@@ -35,7 +35,7 @@ fn bytes(alloc: Global, digits: &str) -> Result<Value, DynError> {
 
 fn number(spelled: &str) -> Result<Value, DynError> {
     match spelled.parse::<i128>() {
-        Ok(number) => Ok(Value::Int(number)),
+        Ok(number) => Ok(Value::Int(Integer::new(number))),
         Err(_) => Err(UNSPELLED),
     }
 }

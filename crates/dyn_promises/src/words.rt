@@ -4,6 +4,7 @@ ghost use Rattle.std.specs.Prelude.{◌≡◌, ◌^◌};
 ghost use Rattle.pg_dyn.specs.Coding.{form, form_wire};
 ghost use Rattle.pg_wire.specs.Words.{IsBetween, twos_complement};
 
+use pg_dyn::Integer;
 use pg_schema::Element;
 use pg_wire::WireType;
 
@@ -20,4 +21,18 @@ pub fn complement_64(number: i128) -> u64
     ensures { result ≡ twos_complement (2 ^ 64) number }
 {
     pg_dyn::complement_64(number)
+}
+
+/// What `Integer::new` answers.
+pub fn integer_of(number: i128) -> Integer
+    ensures { result ≡ number }
+{
+    Integer::new(number)
+}
+
+/// What `Integer::get` answers.
+pub fn number_of(integer: Integer) -> i128
+    ensures { result ≡ integer }
+{
+    integer.get()
 }

@@ -38,7 +38,7 @@ fn is_alike<V: View>(sides: &Sides<'_, V>, fields: &Beside<'_>, value: &ValueRef
         return true;
     };
     match value {
-        ValueRef::Int(number) => sides.view.alike(from, to, *number as i32),
+        ValueRef::Int(number) => sides.view.alike(from, to, number.get() as i32),
         _ => true,
     }
 }

@@ -17,7 +17,7 @@ ghost use Rattle.pg_dyn.specs.Kept.{message_of};
 use crate::gap_kind::Gap;
 use crate::scalar_gap::gap;
 use crate::view::View;
-use pg_dyn::{Message, Value};
+use pg_dyn::{Integer, Message, Value};
 use pg_schema::{Element, EnumId, Scalar, Schema};
 use std::alloc::{AllocError, Global};
 
@@ -67,7 +67,7 @@ pub(crate) fn small_leaf(alloc: Global, scalar: Scalar, small: Small) -> Result<
         Scalar::Double => Ok(Value::F64(u64::from(bits))),
         Scalar::String => Ok(Value::Bytes(small_bytes(alloc, small)?)),
         Scalar::Bytes => Ok(Value::Bytes(small_bytes(alloc, small)?)),
-        _ => Ok(Value::Int(integer)),
+        _ => Ok(Value::Int(Integer::new(integer))),
     }
 }
 
@@ -121,7 +121,7 @@ fn scalar_gap_item(alloc: Global, old: Scalar, new: Scalar) -> Result<Option<Val
             Scalar::String | Scalar::Bytes => {
                 Ok(Some(Value::Bytes(Vec::from_slice(alloc, &[0x80])?)))
             }
-            _ => Ok(Some(Value::Int(value))),
+            _ => Ok(Some(Value::Int(Integer::new(value)))),
         },
     }
 }
@@ -144,7 +144,7 @@ fn enum_gap_item<V: View>(
         return None;
     };
     let number = view.least(from, to, zero)?;
-    Some(Value::Int(i128::from(number)))
+    Some(Value::Int(Integer::new(i128::from(number))))
 }
 
 /// The item of the gap between two elements, where there is one: one that counts, with the least

@@ -39,7 +39,7 @@ fn is_zero(value: &ValueRef<'_>) -> bool
     ensures { result ≡ is_zero_value value.now }
 {
     match value {
-        ValueRef::Int(number) => *number == 0,
+        ValueRef::Int(number) => number.get() == 0,
         ValueRef::F32(bits) => *bits == 0,
         ValueRef::F64(bits) => *bits == 0,
         ValueRef::Text(text) => text.is_empty(),
@@ -74,7 +74,7 @@ pub(crate) fn is_same_leaf(first: &ValueRef<'_>, second: &ValueRef<'_>) -> bool
     ensures { result ≡ leaf_eq (leaf_of first.now) (leaf_of second.now) }
 {
     match (first, second) {
-        (ValueRef::Int(first), ValueRef::Int(second)) => first == second,
+        (ValueRef::Int(first), ValueRef::Int(second)) => first.get() == second.get(),
         (ValueRef::F32(first), ValueRef::F32(second)) => first == second,
         (ValueRef::F64(first), ValueRef::F64(second)) => first == second,
         (ValueRef::Text(_), ValueRef::Text(_)) => has_same_bytes(first, second),

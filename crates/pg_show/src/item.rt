@@ -75,7 +75,7 @@ pub(crate) fn push_item(
     match value {
         ValueRef::Int(number) => {
             text.push_str("int ")?;
-            push_int(text, *number)
+            push_int(text, number.get())
         }
         ValueRef::F32(single) => {
             text.push_str("f32 ")?;

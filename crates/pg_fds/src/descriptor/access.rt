@@ -125,7 +125,7 @@ fn lent_item<'b, 'a>(value: &'b ValueRef<'a>) -> SaidItem<'b, 'a>
     ensures { said result ≡ value_item value.now }
 {
     match value {
-        ValueRef::Int(found) => SaidItem::Number(narrow(*found)),
+        ValueRef::Int(found) => SaidItem::Number(narrow(found.get())),
         ValueRef::Text(text) => SaidItem::Text(*text),
         ValueRef::Msg(child) => SaidItem::Message(Said { message: &**child }),
         _ => unreachable!(),
@@ -139,7 +139,7 @@ fn number_of_value(value: &ValueRef<'_>) -> i32
     ensures { value_item value.now ≡ Plain (Int result) }
 {
     match value {
-        ValueRef::Int(found) => narrow(*found),
+        ValueRef::Int(found) => narrow(found.get()),
         _ => unreachable!(),
     }
 }
