@@ -36,7 +36,7 @@ fn are_values(lent: &[ValueRef<'_>], owned: &[Value]) -> bool {
 
 fn is_same_number(first: &ValueRef<'_>, second: &ValueRef<'_>) -> bool {
     match (first, second) {
-        (ValueRef::Int(first), ValueRef::Int(second)) => first == second,
+        (ValueRef::Int(first), ValueRef::Int(second)) => first.get() == second.get(),
         (ValueRef::F32(first), ValueRef::F32(second)) => first == second,
         (ValueRef::F64(first), ValueRef::F64(second)) => first == second,
         _ => false,

@@ -51,7 +51,7 @@ fn spelled_list(alloc: Global, values: &[Value]) -> Result<String, AllocError> {
 /// A number, as it is spelled as a value.
 fn spelled_number(alloc: Global, number: &ValueRef<'_>) -> Result<String, AllocError> {
     match number {
-        ValueRef::Int(number) => format!(in alloc; "{number}"),
+        ValueRef::Int(number) => format!(in alloc; "{}", number.get()),
         ValueRef::F32(bits) => format!(in alloc; "f{bits}"),
         ValueRef::F64(bits) => format!(in alloc; "d{bits}"),
         ValueRef::Text(_) | ValueRef::Bytes(_) | ValueRef::Msg(_) => {
