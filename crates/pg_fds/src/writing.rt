@@ -6,6 +6,7 @@ mod enums;
 pub(crate) mod fields;
 mod files;
 mod messages;
+mod records;
 mod scope;
 mod services;
 mod synthetic;
@@ -25,13 +26,13 @@ ghost use Rattle.pg_fds.specs.writing.Written.{HasNoSet, set_items};
 ghost use Rattle.pg_fds.specs.writing.Writable.{has_counted_imports};
 
 use crate::descriptor::places::SET;
-use crate::descriptor::{descriptor_schema, proto};
+use crate::descriptor::proto;
 use crate::error::FdsError;
 use crate::held_places::see_places;
 use crate::writing::draft::Writer;
 use crate::writing::files::files;
 use pg_dyn::laws::{encoding_spells, reads_again, writing_splits};
-use pg_dyn::{DynError, Message, encode};
+use pg_dyn::{DynError, MAX_ENCODING_LEN};
 use pg_schema::{File, Parts, Schema};
 use pg_wire::laws::lengths_grow;
 use std::alloc::{AllocError, Global};
@@ -62,19 +63,17 @@ fn are_counted(parts: &Parts) -> bool
     have_counted_imports(&parts.files)
 }
 
-// The message of the set.
-fn set(alloc: Global, table: &Schema, source: &Schema) -> Result<Message, AllocError>
-    requires table { shape_of table.now ≡ written_shape }
-    requires counted { list_all has_counted_imports source.now.files.items ≡ true }
-    ensures items { IfOk result (λ m. items_of m ≡ set_items source.now) }
-    ensures kept { IfOk result (IsOf SET) }
+// The bytes of the set's message.
+fn set(alloc: Global, source: &Schema) -> Result<Vec<u8>, AllocError>
+    requires { list_all has_counted_imports source.now.files.items ≡ true }
+    ensures { IfOk result (λ bytes. IsEncodingOf SET (set_items source.now) bytes.items) }
 {
     // What holds of every schema.
     let parts = source.parts();
-    let writer = Writer::new(alloc, table, source);
+    let writer = Writer::new(alloc, source);
     let mut draft = writer.draft(SET);
     draft.put_children(proto::SET_FILE, files(&writer, &parts.files)?)?;
-    Ok(draft.into_message())
+    Ok(draft.into_bytes())
 }
 
 /// The bytes of the schema's descriptor set: a `FileDescriptorSet` of its files, in their order
@@ -100,18 +99,13 @@ pub fn write(alloc: Global, schema: &Schema) -> Result<Vec<u8>, FdsError>
     if !are_counted(parts) {
         return Err(FdsError::Bytes(DynError::TooLong));
     }
-    let table = descriptor_schema(alloc)?;
-    // What holds of every schema, and of what is written by it.
-    table.parts();
+    // What holds of what is written.
     reads_again();
     encoding_spells();
     writing_splits();
-    let message = set(alloc, &table, schema)?;
-    match encode(alloc, &table, &message) {
-        Ok(bytes) => Ok(bytes),
-        Err(DynError::TooLong) => Err(FdsError::Bytes(DynError::TooLong)),
-        Err(DynError::Memory) => Err(FdsError::Memory),
-        // The codec reports nothing else of a message that fits its type.
-        Err(_) => unreachable!(),
+    let bytes = set(alloc, schema)?;
+    if bytes.len() > MAX_ENCODING_LEN {
+        return Err(FdsError::Bytes(DynError::TooLong));
     }
+    Ok(bytes)
 }

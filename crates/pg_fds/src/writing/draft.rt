@@ -1,113 +1,97 @@
-//! Messages of the written schema as they are made: fields are put by rising number. Each call is
-//! refused only where memory is.
+//! Messages of the written schema as their bytes are made: fields are put by rising number, each as
+//! its records behind those before. Each call is refused only where memory is.
 
-ghost use Rattle.std.specs.Prelude.{◌≡◌, IfOk, map};
+ghost use Rattle.std.specs.Prelude.{◌≡◌, ◌<◌, ◌^◌, map};
 ghost use Rattle.std.specs.List.{AllByRecursion};
 ghost use Rattle.std.specs.String.{string_bytes};
-ghost use Rattle.pg_dyn.specs.ContentFits.{ItemFits};
-ghost use Rattle.pg_dyn.specs.Message as model;
-ghost use Rattle.pg_fds.specs.writing.Building.{shown, written_shape};
 ghost use Rattle.pg_fds.specs.descriptor.Descriptor as descriptor;
 
 use crate::descriptor::{FLAG, NUMBER, TEXT};
-use pg_dyn::{Content, Message, Value};
+use crate::writing::records::{push_bytes, push_word};
+use pg_dyn::complement_64;
 use pg_schema::{Element, Schema, TypeId};
 use std::alloc::{AllocError, Global};
 use std::marker::Model;
+use std::mem::replace;
 
-/// The schema that is written, and the written schema. Contracts see the former's parts.
+/// The schema that is written. Contracts see its parts.
 #[derive(Drop)]
 pub(crate) struct Writer<'a> {
     pub(crate) alloc: Global,
     pub(crate) source: &'a Schema,
-    table: &'a Schema,
 }
 
 impl<'a> Model for Writer<'a> {
-    ghost use Rattle.std.specs.Prelude.{◌≡◌};
     ghost use Rattle.pg_schema.specs.declared.parts.Parts.{Parts};
-    ghost use Rattle.pg_schema.specs.Parts.{shape_of};
-    ghost use Rattle.pg_fds.specs.writing.Building.{written_shape};
 
     ghost Value = { Parts };
 
     ghost view = { λ w. w.source.now };
-
-    ghost invariant = { λ w. shape_of w.table.now ≡ written_shape };
 }
 
 impl<'a> Writer<'a> {
     ghost use Rattle.std.specs.Prelude.{◌≡◌, ◌<◌};
-    ghost use Rattle.pg_schema.specs.Parts.{shape_of};
-    ghost use Rattle.pg_fds.specs.writing.Building.{written_shape};
     ghost use Rattle.pg_fds.specs.writing.Drafts.{begun};
 
     /// Writes that schema.
-    pub(crate) fn new(alloc: Global, table: &'a Schema, source: &'a Schema) -> Writer<'a>
-        requires { shape_of table.now ≡ written_shape }
+    pub(crate) fn new(alloc: Global, source: &'a Schema) -> Writer<'a>
         ensures { result ≡ source.now }
     {
-        Writer {
-            alloc,
-            source,
-            table,
-        }
+        Writer { alloc, source }
     }
 
     /// The draft of a message of that type, without fields.
-    pub(crate) fn draft(&self, type_id: TypeId) -> Draft<'a>
+    pub(crate) fn draft(&self, type_id: TypeId) -> Draft
         requires { type_id.index < 18 }
         ensures { result ≡ begun type_id }
     {
         Draft {
             alloc: self.alloc,
-            table: self.table,
+            type_id,
             last: 0,
-            message: Message::empty(self.alloc, type_id),
+            bytes: Vec::new(self.alloc),
         }
     }
 }
 
-/// A message of the written schema to which fields are put by rising number. Contracts see its
-/// type, the number of the last of them, and its parts.
+/// The bytes of a message of the written schema to which fields are put by rising number. Contracts
+/// see its type, the number of the last of them, and the parts that the bytes are read as.
 #[derive(Drop)]
-pub(crate) struct Draft<'a> {
+pub(crate) struct Draft {
     alloc: Global,
-    table: &'a Schema,
+    type_id: TypeId,
     last: u32,
-    message: Message,
+    bytes: Vec<u8>,
 }
 
-impl<'a> Model for Draft<'a> {
-    ghost use Rattle.pg_schema.specs.Parts.{shape_of};
+impl Model for Draft {
     ghost use Rattle.pg_fds.specs.writing.Drafts.{Drafted, IsDraft, drafted, drafted_code};
 
     ghost Value = { Drafted };
 
     ghost coded = { drafted_code };
 
-    ghost view = { λ d. drafted d.last d.message };
+    ghost view = { λ d. drafted d.type_id d.last d.bytes.items };
 
-    ghost invariant = { λ d. IsDraft (shape_of d.table.now) d.last d.message };
+    ghost invariant = { λ d. IsDraft d.type_id d.last d.bytes.items };
 }
 
-impl<'a> Draft<'a> {
-    ghost use Rattle.std.specs.Prelude.{◌≡◌, ◌≢◌, ◌<◌, ◌^◌, ◌∷◌, [], IfSome, OnOk, false, map, option_map, true};
+impl Draft {
+    ghost use Rattle.std.specs.Prelude.{◌≡◌, ◌≢◌, ◌<◌, ◌^◌, ◌⊎◌, ◌×◌, [], IfSome, OnOk, false, map, option_map, pos, true};
     ghost use Rattle.std.specs.List.{AllByRecursion};
     ghost use Rattle.std.specs.String.{string_bytes};
     ghost use Rattle.pg_schema.specs.declared.parts.field.Element.TheVariants as elements;
-    ghost use Rattle.pg_dyn.specs.ContentFits.{ItemFits};
-    ghost use Rattle.pg_fds.specs.writing.Building.{IsInt32, IsOf, items_of, shown, written_shape};
+    ghost use Rattle.pg_fds.specs.writing.Building.{IsInt32};
     ghost use Rattle.pg_fds.specs.descriptor.Descriptor as descriptor;
-    ghost use Rattle.pg_fds.specs.writing.Drafts.{TakesMany, TakesOne, put};
+    ghost use Rattle.pg_fds.specs.writing.Drafts.{Takes, TakesMany, TakesOne, IsEncoded, put, read_items};
     ghost use Rattle.pg_fds.specs.writing.Items as rows;
 
-    /// The message.
-    pub(crate) fn into_message(self) -> Message
-        ensures kept { IsOf self.entry.type result }
-        ensures items { items_of result ≡ self.entry.items }
+    /// The message's bytes.
+    pub(crate) fn into_bytes(self) -> Vec<u8>
+        ensures encoded { IsEncoded self.entry.type result.items }
+        ensures items { read_items self.entry.type result.items ≡ self.entry.items }
     {
-        self.message
+        self.bytes
     }
 
     // Whether no field has content.
@@ -115,7 +99,7 @@ impl<'a> Draft<'a> {
         ensures empty { result ≡ true → self.now.items ≡ [] }
         ensures filled { result ≡ false → self.now.items ≢ [] }
     {
-        self.message.contents().is_empty()
+        self.bytes.is_empty()
     }
 
     // Leaves the fields up to that number without content.
@@ -126,41 +110,54 @@ impl<'a> Draft<'a> {
         self.last = number;
     }
 
-    // Puts the item of a singular field.
-    fn put_one(&mut self, number: u32, element: Element, value: Value) -> Result<(), AllocError>
-        requires takes { TakesOne number element self.old }
-        requires fits { ItemFits written_shape element value }
-        ensures { OnOk result (self.new
-            ≡ put number (rows.item number (shown value) ∷ []) self.old) }
-    {
-        match self.message.put(self.table, number, Content::One(value)) {
-            Ok(()) => {
-                self.last = number;
-                Ok(())
-            }
-            Err(_) => Err(AllocError),
-        }
+    // Takes the bytes. The draft has none until they are put back, so that it is one also where
+    // memory is refused meanwhile.
+    fn take(&mut self) -> Vec<u8> {
+        replace(&mut self.bytes, Vec::new(self.alloc))
     }
 
-    /// Puts the items of a repeated field.
-    pub(crate) fn put_all(
+    // Puts a text, of a singular field or behind those of a list.
+    fn add_text(&mut self, number: u32, value: &str) -> Result<(), AllocError>
+        requires { Takes number descriptor.text self.old }
+        ensures { OnOk result (self.new ≡ put number (rows.text number value.now) self.old) }
+    {
+        let mut bytes = self.take();
+        push_bytes(&mut bytes, number, value.as_bytes())?;
+        self.bytes = bytes;
+        self.last = number;
+        Ok(())
+    }
+
+    // Puts a number of an int32 or an enum, likewise.
+    fn add_number(&mut self, number: u32, element: Element, value: i32) -> Result<(), AllocError>
+        requires takes { Takes number element self.old }
+        requires whole { IsInt32 element }
+        ensures { OnOk result (self.new ≡ put number (rows.whole number value) self.old) }
+    {
+        let mut bytes = self.take();
+        push_word(&mut bytes, number, complement_64(i128::from(value)))?;
+        self.bytes = bytes;
+        self.last = number;
+        Ok(())
+    }
+
+    // Puts a message with these bytes, likewise.
+    fn add_message(
         &mut self,
         number: u32,
-        element: Element,
-        values: Vec<Value>,
+        type_id: TypeId,
+        body: &[u8],
     ) -> Result<(), AllocError>
-        requires takes { TakesMany number element self.old }
-        requires fits { AllByRecursion (ItemFits written_shape element) values.items }
+        requires takes { Takes number (elements.Message type_id) self.old }
+        requires encoded { IsEncoded type_id body.now }
         ensures { OnOk result (self.new
-            ≡ put number (map (rows.item number) (map shown values.items)) self.old) }
+            ≡ put number (rows.child number (read_items type_id body.now)) self.old) }
     {
-        match self.message.put(self.table, number, Content::Many(values)) {
-            Ok(()) => {
-                self.last = number;
-                Ok(())
-            }
-            Err(_) => Err(AllocError),
-        }
+        let mut bytes = self.take();
+        push_bytes(&mut bytes, number, body)?;
+        self.bytes = bytes;
+        self.last = number;
+        Ok(())
     }
 
     /// Puts a text.
@@ -168,8 +165,7 @@ impl<'a> Draft<'a> {
         requires { TakesOne number descriptor.text self.old }
         ensures { OnOk result (self.new ≡ put number (rows.text number value.now) self.old) }
     {
-        let text = text_item(self.alloc, value)?;
-        self.put_one(number, TEXT, text)
+        self.add_text(number, value)
     }
 
     /// Puts a text, where there is one.
@@ -186,7 +182,7 @@ impl<'a> Draft<'a> {
             self.skip(number);
             return Ok(());
         };
-        self.put_one(number, TEXT, Value::Text(text))
+        self.add_text(number, &text)
     }
 
     /// Puts a text, where it isn't empty.
@@ -207,8 +203,11 @@ impl<'a> Draft<'a> {
         ensures { OnOk result (self.new
             ≡ put number (rows.texts number (map string_bytes texts.now)) self.old) }
     {
-        let values = text_items(self.alloc, texts)?;
-        self.put_all(number, TEXT, values)
+        self.skip(number);
+        for text in texts {
+            self.add_text(number, text)?;
+        }
+        Ok(())
     }
 
     /// Puts a number.
@@ -216,7 +215,7 @@ impl<'a> Draft<'a> {
         requires { TakesOne number descriptor.number self.old }
         ensures { OnOk result (self.new ≡ put number (rows.whole number value) self.old) }
     {
-        self.put_one(number, NUMBER, Value::Int(i128::from(value)))
+        self.add_number(number, NUMBER, value)
     }
 
     /// Puts a number that isn't negative, of an int32 or an enum.
@@ -231,7 +230,7 @@ impl<'a> Draft<'a> {
         requires small { value < 2 ^ 31 }
         ensures { OnOk result (self.new ≡ put number (rows.count number value) self.old) }
     {
-        self.put_one(number, element, Value::Int(i128::from(value)))
+        self.add_number(number, element, value as i32)
     }
 
     /// Puts a number that isn't negative, where there is one.
@@ -251,15 +250,28 @@ impl<'a> Draft<'a> {
         self.put_count(number, NUMBER, count)
     }
 
+    /// Puts numbers that aren't negative.
+    pub(crate) fn put_counts(&mut self, number: u32, values: &[u32]) -> Result<(), AllocError>
+        requires takes { TakesMany number descriptor.number self.old }
+        requires small { AllByRecursion (λ n. n < 2 ^ 31) values.now }
+        ensures { OnOk result (self.new ≡ put number (rows.counts number values.now) self.old) }
+    {
+        self.skip(number);
+        for value in values {
+            self.add_number(number, NUMBER, *value as i32)?;
+        }
+        Ok(())
+    }
+
     /// Puts a flag.
     pub(crate) fn put_flag(&mut self, number: u32, value: bool) -> Result<(), AllocError>
         requires { TakesOne number descriptor.flag self.old }
         ensures { OnOk result (self.new ≡ put number (rows.flag number value) self.old) }
     {
         if value {
-            return self.put_one(number, FLAG, Value::Int(1));
+            return self.add_number(number, FLAG, 1);
         }
-        self.put_one(number, FLAG, Value::Int(0))
+        self.add_number(number, FLAG, 0)
     }
 
     /// Puts a flag, where it is set.
@@ -287,18 +299,16 @@ impl<'a> Draft<'a> {
     }
 
     /// Puts a message.
-    pub(crate) fn put_child(&mut self, number: u32, child: Draft<'_>) -> Result<(), AllocError>
+    pub(crate) fn put_child(&mut self, number: u32, child: Draft) -> Result<(), AllocError>
         requires { TakesOne number (elements.Message child.type) self.old }
         ensures { OnOk result (self.new
             ≡ put number (rows.child number child.entry.items) self.old) }
     {
-        let element = Element::Message(child.message.type_id());
-        let value = Value::Msg(Box::new(self.alloc, child.message)?);
-        self.put_one(number, element, value)
+        self.add_message(number, child.type_id, &child.bytes)
     }
 
     /// Puts options, where one is stated.
-    pub(crate) fn put_options(&mut self, number: u32, options: Draft<'_>) -> Result<(), AllocError>
+    pub(crate) fn put_options(&mut self, number: u32, options: Draft) -> Result<(), AllocError>
         requires { TakesOne number (elements.Message options.type) self.old }
         ensures { OnOk result (self.new
             ≡ put number (rows.options number options.entry.items) self.old) }
@@ -316,30 +326,32 @@ impl<'a> Draft<'a> {
         ensures { OnOk result (self.new
             ≡ put number (rows.children number children.items) self.old) }
     {
-        let element = Element::Message(children.type_id);
-        self.put_all(number, element, children.values)
+        self.skip(number);
+        for body in &children.bodies {
+            self.add_message(number, children.type_id, body)?;
+        }
+        Ok(())
     }
 }
 
-/// Messages of one type of the written schema. Contracts see that type, and the parts of each
-/// message.
+/// Messages of one type of the written schema, by their bytes. Contracts see that type, and the
+/// parts of each message.
 #[derive(Drop)]
 pub(crate) struct Children {
     type_id: TypeId,
-    values: Vec<Value>,
+    bodies: Vec<Vec<u8>>,
 }
 
 impl Model for Children {
-    ghost use Rattle.pg_fds.specs.writing.Building.{AreChildren, items_within};
-    ghost use Rattle.pg_fds.specs.writing.Drafts.{Listed, listed, listed_code};
+    ghost use Rattle.pg_fds.specs.writing.Drafts.{AreEncoded, Listed, items_within, listed, listed_code};
 
     ghost Value = { Listed };
 
     ghost coded = { listed_code };
 
-    ghost view = { λ c. listed c.type_id (items_within c.values.items) };
+    ghost view = { λ c. listed c.type_id (items_within c.type_id c.bodies.items) };
 
-    ghost invariant = { λ c. AreChildren c.type_id c.values.items };
+    ghost invariant = { λ c. AreEncoded c.type_id c.bodies.items };
 }
 
 impl Children {
@@ -352,7 +364,7 @@ impl Children {
     {
         Children {
             type_id,
-            values: Vec::new(alloc),
+            bodies: Vec::new(alloc),
         }
     }
 
@@ -366,40 +378,17 @@ impl Children {
     {
         Ok(Children {
             type_id,
-            values: Vec::with_capacity(alloc, count)?,
+            bodies: Vec::with_capacity(alloc, count)?,
         })
     }
 
     /// Puts a message behind the others.
-    pub(crate) fn push(&mut self, child: Draft<'_>) -> Result<(), AllocError>
+    pub(crate) fn push(&mut self, child: Draft) -> Result<(), AllocError>
         requires { child.type ≡ self.old.type }
         ensures { OnOk result (self.new
             ≡ listed self.old.type (self.old.items ++ child.entry.items ∷ [])) }
     {
-        let message = Box::new(child.alloc, child.message)?;
-        self.values.push(Value::Msg(message))?;
+        self.bodies.push(child.bytes)?;
         Ok(())
     }
-}
-
-// The text as an item.
-fn text_item(alloc: Global, value: &str) -> Result<Value, AllocError>
-    ensures shown { IfOk result (λ item. shown item ≡ model.Plain (model.Bytes value.now)) }
-    ensures fits { IfOk result (λ item. ItemFits written_shape descriptor.text item) }
-{
-    Ok(Value::Text(String::from_str(alloc, value)?))
-}
-
-// The texts as items.
-fn text_items(alloc: Global, texts: &[String]) -> Result<Vec<Value>, AllocError>
-    ensures shown { IfOk result (λ values. map shown values.items
-        ≡ map (λ bytes. model.Plain (model.Bytes bytes)) (map string_bytes texts.now)) }
-    ensures fit { IfOk result (λ values.
-        AllByRecursion (ItemFits written_shape descriptor.text) values.items) }
-{
-    let mut values = Vec::with_capacity(alloc, texts.len())?;
-    for text in texts {
-        values.push(text_item(alloc, text)?)?;
-    }
-    Ok(values)
 }

@@ -20,12 +20,12 @@ use pg_schema::{Element, Field, Presence, Scalar, entry_name};
 use std::alloc::AllocError;
 
 // The message of a field of an entry type.
-fn field_message<'a>(
-    writer: &Writer<'a>,
+fn field_message(
+    writer: &Writer<'_>,
     name: &str,
     number: u32,
     element: Element,
-) -> Result<Draft<'a>, AllocError>
+) -> Result<Draft, AllocError>
     requires { number < 2 ^ 31 }
     ensures { IfOk result (IsDraftOf FIELD
         (entry_field (declared_in writer.now) name.now number element)) }
@@ -53,11 +53,11 @@ fn key_and_value(writer: &Writer<'_>, key: Scalar, value: Element) -> Result<Chi
 }
 
 // The message of a map field's entry type.
-fn entry_message<'a>(
-    writer: &Writer<'a>,
+fn entry_message(
+    writer: &Writer<'_>,
     field: &Field,
     key: Scalar,
-) -> Result<Draft<'a>, AllocError>
+) -> Result<Draft, AllocError>
     requires { field.now.presence ≡ presences.Map key }
     ensures of_type { IfOk result (λ draft. draft.type ≡ MESSAGE) }
     ensures items { IfOk result (λ draft. draft.items ∷ []

@@ -18,7 +18,7 @@ use pg_schema::{EnumId, EnumType, EnumValue, ReservedValues};
 use std::alloc::AllocError;
 
 // The message of a value.
-fn value_message<'a>(writer: &Writer<'a>, value: &EnumValue) -> Result<Draft<'a>, AllocError>
+fn value_message(writer: &Writer<'_>, value: &EnumValue) -> Result<Draft, AllocError>
     ensures { IfOk result (IsDraftOf VALUE (value_items value.now)) }
 {
     let mut draft = writer.draft(VALUE);
@@ -31,7 +31,7 @@ fn value_message<'a>(writer: &Writer<'a>, value: &EnumValue) -> Result<Draft<'a>
 }
 
 // The message of reserved numbers, both ends of which are in it.
-fn range_message<'a>(writer: &Writer<'a>, range: &ReservedValues) -> Result<Draft<'a>, AllocError>
+fn range_message(writer: &Writer<'_>, range: &ReservedValues) -> Result<Draft, AllocError>
     ensures { IfOk result (IsDraftOf VALUE_RANGE (value_range range.now)) }
 {
     let mut draft = writer.draft(VALUE_RANGE);
@@ -63,7 +63,7 @@ fn ranges(writer: &Writer<'_>, ranges: &[ReservedValues]) -> Result<Children, Al
 }
 
 // The message of an enum.
-fn enum_message<'a>(writer: &Writer<'a>, declared: &EnumType) -> Result<Draft<'a>, AllocError>
+fn enum_message(writer: &Writer<'_>, declared: &EnumType) -> Result<Draft, AllocError>
     ensures { IfOk result (IsDraftOf ENUM (enum_items declared.now)) }
 {
     let mut draft = writer.draft(ENUM);

@@ -132,7 +132,7 @@ fn oneof_place(next: u32, field: &Field) -> Option<u32>
 // called in a message of that full name.
 fn put_kind(
     writer: &Writer<'_>,
-    to: &mut Draft<'_>,
+    to: &mut Draft,
     scope: &str,
     field: &Field,
 ) -> Result<(), AllocError>
@@ -148,12 +148,12 @@ fn put_kind(
 
 /// The message of a field, in a message of that full name, where the next synthetic oneof has that
 /// place.
-pub(crate) fn field_message<'a>(
-    writer: &Writer<'a>,
+pub(crate) fn field_message(
+    writer: &Writer<'_>,
     scope: &str,
     next: u32,
     field: &Field,
-) -> Result<Draft<'a>, AllocError>
+) -> Result<Draft, AllocError>
     requires small { HasSmallNumbers field.now }
     requires next { next < 2 ^ 31 }
     ensures { IfOk result (IsDraftOf FIELD

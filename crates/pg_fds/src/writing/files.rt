@@ -25,12 +25,11 @@ use crate::descriptor::proto::{
     FILE_DEPENDENCY, FILE_ENUM_TYPE, FILE_MESSAGE_TYPE, FILE_NAME, FILE_PACKAGE,
     FILE_PUBLIC_DEPENDENCY, FILE_SERVICE, FILE_SYNTAX,
 };
-use crate::descriptor::{MODE, NUMBER, proto};
+use crate::descriptor::{MODE, proto};
 use crate::writing::draft::{Children, Draft, Writer};
 use crate::writing::enums::enums;
 use crate::writing::messages::type_message;
 use crate::writing::services::services;
-use pg_dyn::Value;
 use pg_schema::{File, FileOption, Import, OptimizeMode, OptionValue, Schema, TypeId};
 use std::alloc::{AllocError, Global};
 
@@ -47,7 +46,7 @@ pub(crate) fn mode_code(mode: OptimizeMode) -> u32
 }
 
 // Puts an option of a file.
-fn put_option(to: &mut Draft<'_>, option: &FileOption) -> Result<(), AllocError>
+fn put_option(to: &mut Draft, option: &FileOption) -> Result<(), AllocError>
     requires of_type { to.old.type ≡ FILE_OPTIONS }
     requires behind { to.old.last < option.now.number }
     requires kind { is_file_option option.now ≡ true }
@@ -62,7 +61,7 @@ fn put_option(to: &mut Draft<'_>, option: &FileOption) -> Result<(), AllocError>
 }
 
 // The options of a file.
-fn options<'a>(writer: &Writer<'a>, stated: &[FileOption]) -> Result<Draft<'a>, AllocError>
+fn options(writer: &Writer<'_>, stated: &[FileOption]) -> Result<Draft, AllocError>
     requires kinds { list_all is_file_option stated.now ≡ true }
     requires rising { is_rising (0 ∷ option_numbers stated.now) ≡ true }
     ensures { IfOk result (IsDraftOf FILE_OPTIONS (file_options stated.now)) }
@@ -86,13 +85,11 @@ fn paths(alloc: Global, imports: &[Import]) -> Result<Vec<String>, AllocError>
     Ok(paths)
 }
 
-// The places of the public imports as items, in order.
-fn public_places(alloc: Global, imports: &[Import]) -> Result<Vec<Value>, AllocError>
+// The places of the public imports, in order.
+fn public_places(alloc: Global, imports: &[Import]) -> Result<Vec<u32>, AllocError>
     requires { length imports.now < 2 ^ 31 }
-    ensures shown { IfOk result (λ places. map shown places.items
-        ≡ map (λ n. model.Plain (model.Int (pos n))) (public_places 0 imports.now)) }
-    ensures fit { IfOk result (λ places.
-        AllByRecursion (ItemFits written_shape descriptor.number) places.items) }
+    ensures places { IfOk result (λ places. places.items ≡ public_places 0 imports.now) }
+    ensures small { IfOk result (λ places. AllByRecursion (λ n. n < 2 ^ 31) places.items) }
 {
     let mut places = Vec::new(alloc);
     let mut next: u32 = 0;
@@ -102,24 +99,20 @@ fn public_places(alloc: Global, imports: &[Import]) -> Result<Vec<Value>, AllocE
         if !import.is_public {
             continue;
         }
-        places.push(Value::Int(i128::from(place)))?;
+        places.push(place)?;
     }
     Ok(places)
 }
 
 // Puts the places of the public imports.
-fn put_places(to: &mut Draft<'_>, alloc: Global, imports: &[Import]) -> Result<(), AllocError>
+fn put_places(to: &mut Draft, alloc: Global, imports: &[Import]) -> Result<(), AllocError>
     requires of_type { to.old.type ≡ FILE }
     requires behind { to.old.last < 10 }
     requires few { length imports.now < 2 ^ 31 }
     ensures { OnOk result (to.new
         ≡ put 10 (rows.counts 10 (public_places 0 imports.now)) to.old) }
 {
-    to.put_all(
-        FILE_PUBLIC_DEPENDENCY,
-        NUMBER,
-        public_places(alloc, imports)?,
-    )
+    to.put_counts(FILE_PUBLIC_DEPENDENCY, &public_places(alloc, imports)?)
 }
 
 // The messages of the message types at these places, with what stands inside them, nested so many
@@ -151,7 +144,7 @@ fn type_count(source: &Schema) -> usize
 }
 
 // Puts what a file declares: message types, enums and services.
-fn put_declared(writer: &Writer<'_>, to: &mut Draft<'_>, file: &File) -> Result<(), AllocError>
+fn put_declared(writer: &Writer<'_>, to: &mut Draft, file: &File) -> Result<(), AllocError>
     requires types { AllByRecursion IsSmallType writer.now.types.items }
     requires of_type { to.old.type ≡ FILE }
     requires behind { to.old.last < 4 }
@@ -165,7 +158,7 @@ fn put_declared(writer: &Writer<'_>, to: &mut Draft<'_>, file: &File) -> Result<
 }
 
 // The message of a file.
-fn file_message<'a>(writer: &Writer<'a>, file: &File) -> Result<Draft<'a>, AllocError>
+fn file_message(writer: &Writer<'_>, file: &File) -> Result<Draft, AllocError>
     requires types { AllByRecursion IsSmallType writer.now.types.items }
     requires file { IsWritable file.now }
     ensures { IfOk result (IsDraftOf FILE (file_items (declared_in writer.now) file.now)) }

@@ -31,7 +31,7 @@ use pg_schema::{Field, MessageType, ReservedFields, Schema, TypeId};
 use std::alloc::{AllocError, Global};
 
 // The message of reserved numbers, whose end is the first number behind them.
-fn range_message<'a>(writer: &Writer<'a>, range: &ReservedFields) -> Result<Draft<'a>, AllocError>
+fn range_message(writer: &Writer<'_>, range: &ReservedFields) -> Result<Draft, AllocError>
     requires { IsSmallRange range.now }
     ensures { IfOk result (IsDraftOf FIELD_RANGE (field_range range.now)) }
 {
@@ -149,7 +149,7 @@ fn fields(
 // Puts what stands behind the enums: options, oneofs and what is reserved.
 fn put_rest(
     writer: &Writer<'_>,
-    to: &mut Draft<'_>,
+    to: &mut Draft,
     message_type: &MessageType,
     fields: &[&Field],
 ) -> Result<(), AllocError>
@@ -170,12 +170,12 @@ fn put_rest(
 }
 
 /// The message of the message type at that place, with the messages of the message types inside it.
-pub(crate) fn type_message<'a>(
-    writer: &Writer<'a>,
+pub(crate) fn type_message(
+    writer: &Writer<'_>,
     id: TypeId,
     message_type: &MessageType,
     nested: Children,
-) -> Result<Draft<'a>, AllocError>
+) -> Result<Draft, AllocError>
     requires there { type_at writer.now id ≡ Some message_type.now }
     requires small { IsSmallType message_type.now }
     requires nested { nested.type ≡ MESSAGE }

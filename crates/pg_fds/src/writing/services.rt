@@ -21,7 +21,7 @@ use std::alloc::AllocError;
 
 // The message of a method.
 #[tactic(auto, using(crate::proofs::lemmas::writing::Calls::called))]
-fn method_message<'a>(writer: &Writer<'a>, method: &Method) -> Result<Draft<'a>, AllocError>
+fn method_message(writer: &Writer<'_>, method: &Method) -> Result<Draft, AllocError>
     ensures { IfOk result (IsDraftOf METHOD (method_items (declared_in writer.now) method.now)) }
 {
     let mut draft = writer.draft(METHOD);
@@ -51,7 +51,7 @@ fn methods(writer: &Writer<'_>, methods: &[Method]) -> Result<Children, AllocErr
 }
 
 // The message of a service.
-fn service_message<'a>(writer: &Writer<'a>, service: &Service) -> Result<Draft<'a>, AllocError>
+fn service_message(writer: &Writer<'_>, service: &Service) -> Result<Draft, AllocError>
     ensures { IfOk result (IsDraftOf SERVICE
         (service_items (declared_in writer.now) service.now)) }
 {
