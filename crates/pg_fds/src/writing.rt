@@ -13,13 +13,12 @@ mod synthetic;
 
 ghost use Rattle.std.specs.Prelude.{◌≡◌, ◌⊎◌, false, true, IfErr, IfOk};
 ghost use Rattle.std.specs.List.{list_all};
-ghost use Rattle.pg_schema.specs.Parts.{shape_of};
 ghost use Rattle.pg_dyn.specs.declared.error.DynError.TheVariants as faults;
 ghost use Rattle.pg_check.specs.standing.Nesting.{are_shallow};
 ghost use Rattle.pg_fds.specs.declared.error.FdsError.TheVariants as errors;
 ghost use Rattle.pg_fds.specs.again.Again.{IsReadable};
 ghost use Rattle.pg_fds.specs.refusals.TooDeep.{IsNotTooDeep};
-ghost use Rattle.pg_fds.specs.writing.Building.{IsOf, items_of, written_shape};
+ghost use Rattle.pg_fds.specs.writing.Drafts.{IsEncodingOf};
 ghost use Rattle.pg_fds.specs.stated.Reads.{fds_reads};
 ghost use Rattle.pg_fds.specs.writing.Set.{fds};
 ghost use Rattle.pg_fds.specs.writing.Written.{HasNoSet, set_items};

@@ -6,3 +6,4 @@ pub mod SameSound
 pub mod DescriptorOpened
 pub mod DescriptorSound
 pub mod DescriptorShape
+pub mod WrittenShape

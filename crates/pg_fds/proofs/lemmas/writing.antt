@@ -1,4 +1,6 @@
-pub mod Appending
+pub mod Growing
+pub mod Records
+pub mod Bodies
 pub mod NameLaws
 pub mod Calls
 pub mod SyntheticLaws

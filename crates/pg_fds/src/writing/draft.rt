@@ -1,7 +1,7 @@
 //! Messages of the written schema as their bytes are made: fields are put by rising number, each as
 //! its records behind those before. Each call is refused only where memory is.
 
-ghost use Rattle.std.specs.Prelude.{◌≡◌, ◌<◌, ◌^◌, map};
+ghost use Rattle.std.specs.Prelude.{◌≡◌, []};
 ghost use Rattle.std.specs.List.{AllByRecursion};
 ghost use Rattle.std.specs.String.{string_bytes};
 ghost use Rattle.pg_fds.specs.descriptor.Descriptor as descriptor;
@@ -77,19 +77,19 @@ impl Model for Draft {
 }
 
 impl Draft {
-    ghost use Rattle.std.specs.Prelude.{◌≡◌, ◌≢◌, ◌<◌, ◌^◌, ◌⊎◌, ◌×◌, [], IfSome, OnOk, false, map, option_map, pos, true};
+    ghost use Rattle.std.specs.Prelude.{◌≡◌, ◌≢◌, ◌<◌, ◌^◌, [], IfSome, OnOk, false, map, option_map, true};
     ghost use Rattle.std.specs.List.{AllByRecursion};
     ghost use Rattle.std.specs.String.{string_bytes};
     ghost use Rattle.pg_schema.specs.declared.parts.field.Element.TheVariants as elements;
-    ghost use Rattle.pg_fds.specs.writing.Building.{IsInt32};
+    ghost use Rattle.pg_fds.specs.writing.Building.{IsInt32, IsWhole};
     ghost use Rattle.pg_fds.specs.descriptor.Descriptor as descriptor;
     ghost use Rattle.pg_fds.specs.writing.Drafts.{Takes, TakesMany, TakesOne, IsEncoded, put, read_items};
     ghost use Rattle.pg_fds.specs.writing.Items as rows;
 
     /// The message's bytes.
     pub(crate) fn into_bytes(self) -> Vec<u8>
-        ensures encoded { IsEncoded self.entry.type result.items }
-        ensures items { read_items self.entry.type result.items ≡ self.entry.items }
+        ensures encoded { IsEncoded self.type result.items }
+        ensures items { read_items self.type result.items ≡ self.items }
     {
         self.bytes
     }
@@ -110,31 +110,25 @@ impl Draft {
         self.last = number;
     }
 
-    // Takes the bytes. The draft has none until they are put back, so that it is one also where
-    // memory is refused meanwhile.
-    fn take(&mut self) -> Vec<u8> {
-        replace(&mut self.bytes, Vec::new(self.alloc))
-    }
-
     // Puts a text, of a singular field or behind those of a list.
     fn add_text(&mut self, number: u32, value: &str) -> Result<(), AllocError>
         requires { Takes number descriptor.text self.old }
         ensures { OnOk result (self.new ≡ put number (rows.text number value.now) self.old) }
     {
-        let mut bytes = self.take();
+        let mut bytes = taken(&mut self.bytes, self.alloc);
         push_bytes(&mut bytes, number, value.as_bytes())?;
         self.bytes = bytes;
         self.last = number;
         Ok(())
     }
 
-    // Puts a number of an int32 or an enum, likewise.
+    // Puts a number of an int32 or an enum, or a flag, likewise.
     fn add_number(&mut self, number: u32, element: Element, value: i32) -> Result<(), AllocError>
         requires takes { Takes number element self.old }
-        requires whole { IsInt32 element }
+        requires whole { IsWhole element value }
         ensures { OnOk result (self.new ≡ put number (rows.whole number value) self.old) }
     {
-        let mut bytes = self.take();
+        let mut bytes = taken(&mut self.bytes, self.alloc);
         push_word(&mut bytes, number, complement_64(i128::from(value)))?;
         self.bytes = bytes;
         self.last = number;
@@ -142,18 +136,13 @@ impl Draft {
     }
 
     // Puts a message with these bytes, likewise.
-    fn add_message(
-        &mut self,
-        number: u32,
-        type_id: TypeId,
-        body: &[u8],
-    ) -> Result<(), AllocError>
+    fn add_message(&mut self, number: u32, type_id: TypeId, body: &[u8]) -> Result<(), AllocError>
         requires takes { Takes number (elements.Message type_id) self.old }
         requires encoded { IsEncoded type_id body.now }
         ensures { OnOk result (self.new
             ≡ put number (rows.child number (read_items type_id body.now)) self.old) }
     {
-        let mut bytes = self.take();
+        let mut bytes = taken(&mut self.bytes, self.alloc);
         push_bytes(&mut bytes, number, body)?;
         self.bytes = bytes;
         self.last = number;
@@ -302,7 +291,7 @@ impl Draft {
     pub(crate) fn put_child(&mut self, number: u32, child: Draft) -> Result<(), AllocError>
         requires { TakesOne number (elements.Message child.type) self.old }
         ensures { OnOk result (self.new
-            ≡ put number (rows.child number child.entry.items) self.old) }
+            ≡ put number (rows.child number child.items) self.old) }
     {
         self.add_message(number, child.type_id, &child.bytes)
     }
@@ -311,7 +300,7 @@ impl Draft {
     pub(crate) fn put_options(&mut self, number: u32, options: Draft) -> Result<(), AllocError>
         requires { TakesOne number (elements.Message options.type) self.old }
         ensures { OnOk result (self.new
-            ≡ put number (rows.options number options.entry.items) self.old) }
+            ≡ put number (rows.options number options.items) self.old) }
     {
         if options.is_empty() {
             self.skip(number);
@@ -386,9 +375,18 @@ impl Children {
     pub(crate) fn push(&mut self, child: Draft) -> Result<(), AllocError>
         requires { child.type ≡ self.old.type }
         ensures { OnOk result (self.new
-            ≡ listed self.old.type (self.old.items ++ child.entry.items ∷ [])) }
+            ≡ listed self.old.type (self.old.items ++ child.items ∷ [])) }
     {
         self.bodies.push(child.bytes)?;
         Ok(())
     }
+}
+
+// Takes the bytes of a draft. It has none until they are put back, so that it is one also where
+// memory is refused meanwhile.
+fn taken(bytes: &mut Vec<u8>, alloc: Global) -> Vec<u8>
+    ensures taken { result.items ≡ bytes.old.items }
+    ensures none { bytes.new.items ≡ [] }
+{
+    replace(bytes, Vec::new(alloc))
 }

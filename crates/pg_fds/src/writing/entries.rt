@@ -53,11 +53,7 @@ fn key_and_value(writer: &Writer<'_>, key: Scalar, value: Element) -> Result<Chi
 }
 
 // The message of a map field's entry type.
-fn entry_message(
-    writer: &Writer<'_>,
-    field: &Field,
-    key: Scalar,
-) -> Result<Draft, AllocError>
+fn entry_message(writer: &Writer<'_>, field: &Field, key: Scalar) -> Result<Draft, AllocError>
     requires { field.now.presence ≡ presences.Map key }
     ensures of_type { IfOk result (λ draft. draft.type ≡ MESSAGE) }
     ensures items { IfOk result (λ draft. draft.items ∷ []

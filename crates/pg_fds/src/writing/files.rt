@@ -1,16 +1,12 @@
 //! Messages of files, `FileDescriptorProto` of descriptor.proto, and of the set. Each call is
 //! refused only where memory is.
 
-ghost use Rattle.std.specs.Prelude.{◌≡◌, ◌<◌, ◌≤◌, ◌^◌, ◌∷◌, IfOk, OnOk, length, map, pos, true};
+ghost use Rattle.std.specs.Prelude.{◌≡◌, ◌<◌, ◌≤◌, ◌^◌, ◌∷◌, IfOk, OnOk, length, map, true};
 ghost use Rattle.std.specs.List.{AllByRecursion, list_all};
 ghost use Rattle.std.specs.String.{string_bytes};
 ghost use Rattle.pg_schema.specs.declared.parts.file.Import.{Import};
 ghost use Rattle.pg_schema.specs.rules.Files.{is_file_option, option_numbers};
 ghost use Rattle.pg_schema.specs.rules.Pairs.{is_rising};
-ghost use Rattle.pg_dyn.specs.ContentFits.{ItemFits};
-ghost use Rattle.pg_dyn.specs.Message as model;
-ghost use Rattle.pg_fds.specs.writing.Building.{shown, written_shape};
-ghost use Rattle.pg_fds.specs.descriptor.Descriptor as descriptor;
 ghost use Rattle.pg_fds.specs.writing.Drafts.{IsDraftOf, listed, put};
 ghost use Rattle.pg_fds.specs.writing.Items as rows;
 ghost use Rattle.pg_fds.specs.writing.Messages.{types_items};

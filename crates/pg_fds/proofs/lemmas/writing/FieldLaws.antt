@@ -1,8 +1,14 @@
 -- The fields that a message type declares.
-use Rattle.std.proofs.Common.{ℕ, ◌+◌, ◌≤◌, Bool, true, false, cond, List, [], ◌∷◌, ◌++◌, length, flat_map, find, nat_eq, Option, Some, None, arith}
+use Rattle.std.proofs.Common.{◌≡◌, ℕ, suc, ◌+◌, ◌≤◌, ◌<◌, Bool, true, false, cond, List, [], ◌∷◌, ◌++◌, length, flat_map, find, nat_eq, drop, get_or, Option, Some, None, ap, ap₂, sym, ◌∙◌, arith, add-one, append_assoc, drop-cons}
 use Rattle.std.specs.List.{AllByRecursion}
+use Rattle.std.specs.Prelude.{if◌then◌else◌}
+use denote.Ref.{Bor}
 use Rattle.pg_schema.specs.declared.parts.field.Field.{Field}
+use Rattle.pg_fds.specs.descriptor.Lent.{lent}
+use Rattle.pg_fds.specs.writing.Fields.{field_items, fields_items}
+use Rattle.pg_fds.specs.writing.Items.{Items}
 use Rattle.pg_fds.specs.writing.Messages.{where_found}
+use Rattle.pg_fds.specs.writing.Places.{Declared}
 
 abbrev found : List Field → ℕ → List Field
 found fs number = where_found (λ f. f) (find (λ (f : Field). nat_eq f.number number) fs)
@@ -28,3 +34,14 @@ pub as_many_found : (fs : List Field) (numbers : List ℕ) → length (flat_map 
 as_many_found fs [] = omega arith
 as_many_found fs (n ∷ ns) =
     let here = at_most_one (find (λ (f : Field). nat_eq f.number n) fs) (flat_map (found fs) ns) (length ns) (as_many_found fs ns) in omega (arith, here)
+
+-- one more of the fields of a message
+pub fields_step : (all : Declared) (scope : List ℕ) (next now i : ℕ) (fields : List (Bor Field)) (f : Bor Field) (made new whole : List Items) (it : Items) → i < length fields → f ≡ get_or fields i f
+    → it ≡ field_items all scope next f.now → new ≡ made ++ it ∷ [] → now ≡ (if f.now.states_optional then suc next else next)
+    → made ++ fields_items all scope next (lent (drop i fields)) ≡ whole → new ++ fields_items all scope now (lent (drop (i + 1) fields)) ≡ whole
+fields_step all scope next now i fields f made new whole it h is own more place before =
+    let rest = lent (drop (i + 1) fields) in
+    let here : drop i fields ≡ f ∷ drop (i + 1) fields = rw (add-one, drop-cons fields i f) (ap (λ x. x ∷ drop (suc i) fields) (sym is)) in
+    ap (λ xs. xs ++ fields_items all scope now rest) more ∙ append_assoc made (it ∷ []) (fields_items all scope now rest)
+    ∙ ap₂ (λ x n. made ++ x ∷ fields_items all scope n rest) own place
+    ∙ ap (λ (fs : List (Bor Field)). made ++ fields_items all scope next (lent fs)) (sym here) ∙ before

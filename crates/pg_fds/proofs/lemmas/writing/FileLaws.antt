@@ -1,5 +1,5 @@
 -- Options of files, and what holds at a place of a list.
-use Rattle.std.proofs.Common.{◌≡◌, ℕ, zero, suc, ◌+◌, ◌≤◌, ◌<◌, true, nat_lt, List, [], ◌∷◌, ◌++◌, ◌-◌, length, take, drop, get_or, map, flat_map, slice_get, pos, Option, Some, None, refl, ap, sym, subst, ◌∙◌, arith, add-one, append_assoc, drop-cons}
+use Rattle.std.proofs.Common.{◌≡◌, ℕ, zero, suc, ◌+◌, ◌≤◌, ◌<◌, true, nat_lt, List, [], ◌∷◌, ◌++◌, ◌-◌, length, take, drop, get_or, flat_map, slice_get, Option, Some, None, refl, ap, sym, subst, ◌∙◌, arith, add-one, append_assoc, drop-cons}
 use Rattle.std.proofs.lemmas.Bool.Decides.{nat_tests}
 use Rattle.std.proofs.lemmas.Grind.{flat_map-append}
 use Rattle.std.proofs.lemmas.List.{append-nil, take_more}
@@ -10,9 +10,8 @@ use Rattle.pg_schema.specs.declared.parts.options.FileOption.{FileOption}
 use Rattle.pg_schema.specs.rules.Files.{option_numbers}
 use Rattle.pg_schema.specs.rules.Pairs.{is_rising}
 use Rattle.pg_schema.proofs.lemmas.rules.PairLemmas.{and_both, and_left, and_right}
-use Rattle.pg_dyn.specs.Message as model
 use Rattle.pg_fds.specs.writing.Drafts.{Drafted, IsDraftOf, put}
-use Rattle.pg_fds.specs.writing.Items.{Items, item, counts}
+use Rattle.pg_fds.specs.writing.Items.{Items}
 use Rattle.pg_fds.specs.writing.Messages.{type_items, types_items, where_found}
 use Rattle.pg_fds.specs.writing.Places.{Declared}
 use Rattle.pg_fds.specs.writing.Set.{file_options, option_items}
@@ -55,10 +54,6 @@ one_more f xs i x h is =
 pub option_step : (message : Items) (os : List FileOption) (i : ℕ) (o : FileOption) (now : Items) → i < length os → o ≡ get_or os i o → message ≡ file_options (take i os) → now ≡ message ++ option_items o.number o.value → now ≡ file_options (take (i + 1) os)
 option_step message os i o now h is before grown =
     grown ∙ (ap (λ x. x ++ option_items o.number o.value) before ∙ sym (one_more (λ (x : FileOption). option_items x.number x.value) os i o h is))
-
-pub counts_shown : (number : ℕ) (list : List ℕ) → map (item number) (map (λ n. model.Plain (model.Int (pos n))) list) ≡ counts number list
-counts_shown number [] = refl
-counts_shown number (n ∷ ns) = ap (λ is. item number (model.Plain (model.Int (pos n))) ∷ is) (counts_shown number ns)
 
 -- ---- message types inside message types
 

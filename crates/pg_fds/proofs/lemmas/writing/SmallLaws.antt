@@ -1,5 +1,5 @@
 -- An int32 holds all numbers of a schema; those of a file where it counts the imports.
-use Rattle.std.proofs.Common.{◌≡◌, ℕ, ◌+◌, ◌<◌, ◌^◌, true, List, [], ◌∷◌, length, Option, Some, None, IfSome, ap, sym, ◌∙◌, arith}
+use Rattle.std.proofs.Common.{◌≡◌, ℕ, ◌+◌, ◌<◌, ◌≤◌, ◌^◌, true, List, [], ◌∷◌, length, Option, Some, None, IfSome, subst, arith}
 use Rattle.std.specs.List.{AllByRecursion, list_all}
 use Rattle.pg_schema.specs.declared.parts.field.Field.{Field}
 use Rattle.pg_schema.specs.declared.parts.file.File.{File}
@@ -12,15 +12,12 @@ use Rattle.pg_schema.specs.Invariant.{IsSchema}
 use Rattle.pg_schema.specs.rules.Messages.{is_field, is_message_type}
 use Rattle.pg_schema.specs.rules.Uses.{is_reserved_range}
 use Rattle.pg_schema.proofs.lemmas.rules.PairLemmas.{and_left, and_right}
-use Rattle.pg_schema.specs.Shape.{Shape}
-use Rattle.pg_dyn.specs.encoding.Encoding.{enc}
-use Rattle.pg_dyn.specs.Kept.{Kept, type_of, message_of}
-use Rattle.pg_dyn.specs.Message.{message_from}
-use Rattle.pg_fds.specs.writing.Building.{IsOf, items_of}
+use Rattle.pg_dyn.specs.encoding.Encoding.{cap, enc}
+use Rattle.pg_fds.specs.writing.Building.{written_shape}
+use Rattle.pg_fds.specs.writing.Drafts.{IsEncodingOf}
 use Rattle.pg_fds.specs.descriptor.Descriptor.{descriptor_shape, file_set}
-use Rattle.pg_fds.specs.writing.Set.{set_message}
-use Rattle.pg_fds.specs.writing.Written.{set_items}
-use Rattle.pg_fds.proofs.lemmas.writing.Appending.{made_of}
+use Rattle.pg_fds.specs.writing.Set.{fds, set_message}
+use Rattle.pg_fds.specs.writing.Written.{HasNoSet, set_items}
 use Rattle.pg_fds.proofs.lemmas.writing.FewOneofs.{few_places}
 use Rattle.pg_fds.specs.writing.Small.{HasSmallNumbers, IsSmallRange, IsSmallType}
 use Rattle.pg_fds.specs.writing.Writable.{IsWritable, has_counted_imports}
@@ -82,6 +79,12 @@ all_small parts is = types_small (length parts.types.items) (length parts.enums.
 pub all_writable : (parts : Parts) → IsSchema parts → list_all has_counted_imports parts.files.items ≡ true → AllByRecursion IsWritable parts.files.items
 all_writable parts is counted = files_writable parts.files.items is.sound.files counted
 
-pub set_bytes : (given : Shape) (parts : Parts) (m : Kept) → given ≡ descriptor_shape → IsOf file_set m → items_of m ≡ set_items parts → enc given (type_of m) (message_of m) ≡ enc descriptor_shape file_set (set_message parts)
-set_bytes given parts m same is items =
-    ap (λ s. enc s (type_of m) (message_of m)) same ∙ (ap (λ t. enc descriptor_shape t (message_of m)) is.of_type ∙ ap (enc descriptor_shape file_set) (sym (made_of file_set m is) ∙ ap (λ ps. message_from ps []) items))
+pub set_bytes : (parts : Parts) (bytes : List ℕ) → IsEncodingOf file_set (set_items parts) bytes → bytes ≡ enc descriptor_shape file_set (set_message parts)
+unfolding written_shape
+set_bytes parts bytes of = of.bytes_are
+
+pub set_written : (parts : Parts) (bytes : List ℕ) → IsEncodingOf file_set (set_items parts) bytes → length bytes ≤ cap → fds parts bytes
+set_written parts bytes of short = (set_bytes parts bytes of, short)
+
+pub set_long : (parts : Parts) (bytes : List ℕ) → IsEncodingOf file_set (set_items parts) bytes → cap < length bytes → HasNoSet parts
+set_long parts bytes of long = subst (λ bs. cap < length bs) (set_bytes parts bytes of) long

@@ -4,20 +4,19 @@ use Rattle.std.specs.Prelude.{IsSomeAnd}
 use Rattle.std.specs.List.{list_all, list_any}
 use Rattle.pg_schema.specs.declared.parts.file.File.{File}
 use Rattle.pg_schema.specs.declared.parts.Parts.{Parts}
-use Rattle.pg_schema.specs.Shape.{IsShape, fields}
+use Rattle.pg_schema.specs.Shape.{fields}
 use Rattle.pg_schema.proofs.lemmas.rules.PairLemmas.{and_both, and_false_right}
 use Rattle.pg_dyn.specs.Belonging.{IsMessage}
 use Rattle.pg_dyn.specs.reading.Decoding.{dec}
 use Rattle.pg_dyn.specs.encoding.Encoding.{cap}
-use Rattle.pg_dyn.specs.Kept.{Kept, message_of}
 use Rattle.pg_dyn.specs.Laws.{EncodingSpells, ReadsAgain, WritingSplits}
-use Rattle.pg_dyn.specs.Message.{Message, message_from}
+use Rattle.pg_dyn.specs.Message.{Message}
 use Rattle.pg_dyn.specs.reading.TooDeep.{TooDeepIn}
 use Rattle.pg_check.specs.standing.Nesting.{are_shallow}
 use Rattle.pg_check.specs.standing.Places.{most_deep}
 use Rattle.pg_fds.specs.again.Again.{IsReadable}
 use Rattle.pg_fds.specs.refusals.TooDeep.{IsNotTooDeep}
-use Rattle.pg_fds.specs.writing.Building.{IsOf, items_of, written_shape}
+use Rattle.pg_fds.specs.writing.Building.{written_shape}
 use Rattle.pg_fds.specs.stated.Codes.{file_has_types}
 use Rattle.pg_fds.specs.descriptor.Descriptor.{descriptor_shape, file_set}
 use Rattle.pg_fds.specs.writing.Places.{Declared, declared_in}
@@ -28,8 +27,7 @@ use Rattle.pg_fds.specs.writing.Set.{fds, file_items, set_message}
 use Rattle.pg_fds.specs.stated.Stated.{are_taken, declared_by, stated, stated_files, stated_of}
 use Rattle.pg_fds.specs.stated.StatedNames.{only_if}
 use Rattle.pg_fds.specs.stated.Views.{parts_view}
-use Rattle.pg_fds.specs.writing.Written.{set_items}
-use Rattle.pg_fds.proofs.lemmas.writing.Appending.{made_of}
+use Rattle.pg_fds.proofs.lemmas.descriptor.WrittenShape.{written_is_shape}
 use Rattle.pg_fds.proofs.lemmas.written.Levels.{AreFlat, none_too_deep}
 use Rattle.pg_fds.proofs.lemmas.written.Slots.{Slot, children_said, children_slot, made, says}
 use Rattle.pg_fds.proofs.lemmas.written.WrittenEntries.{all_pass}
@@ -78,34 +76,24 @@ set_states parts held readable =
 
 -- ---- the bytes
 
-message_is : (parts : Parts) (m : Kept) → IsOf file_set m → items_of m ≡ set_items parts → message_of m ≡ set_message parts
-message_is parts m is items = sym (made_of file_set m is) ∙ ap (λ ps. message_from ps []) items
-
-set_belongs : (parts : Parts) (m : Kept) → IsOf file_set m → items_of m ≡ set_items parts → IsMessage written_shape file_set (set_message parts)
-set_belongs parts m is items =
-    subst (λ v. IsMessage written_shape file_set v) (message_is parts m is items) (subst (λ t. IsMessage written_shape t (message_of m)) is.of_type is.fits.is_message)
-
-set_read : (again : ReadsAgain) (parts : Parts) (m : Kept) (bytes : List ℕ) → IsShape written_shape → IsOf file_set m → items_of m ≡ set_items parts → fds parts bytes
-    → dec written_shape file_set bytes ≡ Some (set_message parts)
+set_read : (again : ReadsAgain) (parts : Parts) (bytes : List ℕ) → IsMessage written_shape file_set (set_message parts) → fds parts bytes → dec written_shape file_set bytes ≡ Some (set_message parts)
 unfolding written_shape
-set_read again parts m bytes shape is items written =
-    ap (dec written_shape file_set) written.0 ∙ again written_shape file_set (set_message parts) shape (set_belongs parts m is items) (subst (λ bs. length bs ≤ cap) written.0 written.1)
+set_read again parts bytes is written =
+    ap (dec written_shape file_set) written.0 ∙ again written_shape file_set (set_message parts) written_is_shape is (subst (λ bs. length bs ≤ cap) written.0 written.1)
 
-pub written_states : (again : ReadsAgain) (parts : Parts) (m : Kept) (bytes : List ℕ) → IsShape written_shape → IsOf file_set m → items_of m ≡ set_items parts → fds parts bytes
-    → IsHeld parts → IsReadable parts → fds_reads bytes parts
-written_states again parts m bytes shape is items written held readable =
-    subst (λ o. IsSomeAnd o (λ set. stated set ≡ Some (parts_view parts))) (sym (set_read again parts m bytes shape is items written))
-    (set_states parts held readable)
+pub written_states : (again : ReadsAgain) (parts : Parts) (bytes : List ℕ) → IsMessage written_shape file_set (set_message parts) → fds parts bytes → IsHeld parts → IsReadable parts → fds_reads bytes parts
+written_states again parts bytes is written held readable =
+    subst (λ o. IsSomeAnd o (λ set. stated set ≡ Some (parts_view parts))) (sym (set_read again parts bytes is written)) (set_states parts held readable)
 
 -- ---- its depth
 
 flat_shape : AreFlat descriptor_shape
 flat_shape = refl
 
-pub written_shallow : (spells : EncodingSpells) (splits : WritingSplits) (parts : Parts) (m : Kept) (bytes : List ℕ) → IsShape written_shape → IsOf file_set m → items_of m ≡ set_items parts → fds parts bytes
+pub written_shallow : (spells : EncodingSpells) (splits : WritingSplits) (parts : Parts) (bytes : List ℕ) → IsMessage written_shape file_set (set_message parts) → fds parts bytes
     → are_shallow parts ≡ true → IsNotTooDeep bytes
 unfolding written_shape
-written_shallow spells splits parts m bytes shape is items written shallow place deep =
+written_shallow spells splits parts bytes is written shallow place deep =
     let low = set_levels 64 parts shallow in
-    none_too_deep spells splits written_shape file_set (set_message parts) most_deep place shape flat_shape (set_belongs parts m is items) (subst (λ bs. length bs ≤ cap) written.0 written.1) (omega (arith, low))
+    none_too_deep spells splits written_shape file_set (set_message parts) most_deep place written_is_shape flat_shape is (subst (λ bs. length bs ≤ cap) written.0 written.1) (omega (arith, low))
     (subst (λ bs. TooDeepIn written_shape most_deep (fields written_shape file_set) bs place) written.0 deep)

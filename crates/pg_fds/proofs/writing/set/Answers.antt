@@ -12,4 +12,4 @@ files-requires-clause-types c =
 
 pub files-requires-clause-files : goal.files-requires-clause-files
 files-requires-clause-files c =
-    subst (AllByRecursion IsWritable) (sym (c.deref.ensures.value ∙ ap (λ (p : Parts). p.files.items) c.parts-parts.ensures.parts)) (all_writable c.args.source.now c.parts-parts.ensures.checked c.requires.counted)
+    subst (AllByRecursion IsWritable) (sym (c.deref.ensures.value ∙ ap (λ (p : Parts). p.files.items) c.parts-parts.ensures.parts)) (all_writable c.args.source.now c.parts-parts.ensures.checked c.requires)

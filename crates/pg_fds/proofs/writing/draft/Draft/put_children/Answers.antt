@@ -1,11 +1,11 @@
-use Rattle.std.proofs.Common.{◌≡◌, ap, subst, ◌∙◌}
-use Rattle.std.specs.Result.{OnOk}
-use Rattle.pg_fds.specs.writing.Drafts.{Listed, put}
-use Rattle.pg_fds.specs.writing.Items.{children}
-use Rattle.pg_fds.proofs.lemmas.writing.Appending.{children_shown}
+use Rattle.std.proofs.Common.{ap, ◌∙◌}
+use Rattle.pg_fds.specs.writing.Drafts.{Listed, items_within}
+use Rattle.pg_fds.proofs.lemmas.writing.Bodies.{child_put}
 use Rattle.pg_fds.proofs.writing.draft.Draft.put_children.Goals as goal
 
-pub returns : goal.returns
-returns c =
-    let inside = c.children.inside in
-    subst (λ is. OnOk c.put_all.result (c.put_all.new.self ≡ put c.args.number is c.args.self.now)) (children_shown inside.type_id c.args.number inside.values.items c.children.invariant ∙ ap (λ (l : Listed). children c.args.number l.items) c.children.view_is) c.put_all.ensures
+pub loop-body-preserved : goal.loop-body-preserved
+loop-body-preserved c =
+    let type = c.children.inside.type_id in
+    let same = ap (items_within type) c.deref-body-items.ensures.value ∙ ap (λ (l : Listed). l.items) c.children.view_is in
+    child_put type c.args.number c.deref-body-items.result.now c.loop-body.body-index c.body-item.result c.deref.result.now c.args.children.items c.args.self.now c.loop-body.self c.add_message.new.self
+    c.loop-body-test.true c.body-item.is c.deref.ensures.value same c.loop-body.invariant c.in_ok-add_message.ensures

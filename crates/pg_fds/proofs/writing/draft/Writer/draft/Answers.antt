@@ -1,6 +1,10 @@
-use Rattle.pg_schema.specs.Parts.{shape_of}
-use Rattle.pg_fds.proofs.lemmas.writing.Appending.{begun_is}
+use Rattle.std.proofs.Common.{ap, sym, subst, ◌∙◌}
+use Rattle.pg_fds.specs.writing.Drafts.{IsDraft, drafted}
+use Rattle.pg_fds.proofs.lemmas.writing.Growing.{begun_draft, begun_is}
 use Rattle.pg_fds.proofs.writing.draft.Writer.draft.Goals as goal
 
 pub invariant_of-result : goal.invariant_of-result
-invariant_of-result c = begun_is (shape_of c.self.inside.table.now) c.args.type_id c.empty.result c.self.invariant c.requires c.empty.ensures
+invariant_of-result c = subst (IsDraft c.args.type_id 0) (sym c.new.ensures.items) (begun_draft c.args.type_id 0)
+
+pub returns : goal.returns
+returns c = ap (drafted c.args.type_id 0) c.new.ensures.items ∙ begun_is c.args.type_id
