@@ -355,7 +355,7 @@ filled_items : (xs : List ValueRef) → (xs ≡ [] → ⊥) → map {B = Keyed} 
 filled_items [] k e = k refl
 filled_items (x ∷ xs) k e = cc
 
-filled_keyed : (c : ContentRef) → IsFilled c → keyed c ≡ [] → ⊥
+pub filled_keyed : (c : ContentRef) → IsFilled c → keyed c ≡ [] → ⊥
 filled_keyed (contents.One v) h is = cc
 filled_keyed (contents.Many vs) h is = filled_items vs.items h is
 filled_keyed (contents.Numbers ns) h is = filled_items (numbers_in ns) h is

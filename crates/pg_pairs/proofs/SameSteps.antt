@@ -118,7 +118,7 @@ abbrev pub part_with : ℕ → Bool → Keyed → Part KeptItem
 part_with n listed x = record { number = n; key = option_map leaf_of x.0; item = item_seen listed x.1 }
 
 -- whether a content is a list
-abbrev is_list : ContentRef → Bool
+abbrev pub is_list : ContentRef → Bool
 is_list (contents.One value) = false
 is_list (contents.Many vs) = true
 is_list (contents.Numbers ns) = true

@@ -6,7 +6,7 @@ use Rattle.pg_schema.specs.declared.parts.field.Element.TheVariants as elements
 use Rattle.pg_schema.specs.declared.parts.field.TypeId.{TypeId}
 use Rattle.pg_schema.specs.declared.parts.Parts.{Parts}
 use Rattle.pg_schema.specs.Parts.{shape_of}
-use Rattle.pg_schema.specs.Shape.{Shape, FieldShape, field_at}
+use Rattle.pg_schema.specs.Shape.{Shape, FieldShape, field_at, fields}
 use Rattle.pg_wire.specs.declared.record.Record.{Record}
 use Rattle.pg_dyn.specs.declared.view_name.ViewName.{ViewName}
 use Rattle.pg_dyn.specs.declared.message_ref.ContentRef.{ContentRef}
@@ -38,6 +38,11 @@ module _ (view : ViewName) (old new : Parts) where
   abbrev pub is_same_beside : Kept → Kept → FieldShape → Option FieldShape → Bool
   is_same_beside v w f (Some g) = same_content (view_named view old new) f g (expected (view_named view old new) (shape_of old) (shape_of new) (type_of v) (type_of w) (message_of v)) (parts (message_of w))
   is_same_beside v w f None = true
+
+  -- it does so in a field of the old type, where there is one
+  abbrev pub is_same_if : Kept → Kept → Option FieldShape → Bool
+  is_same_if v w (Some f) = is_same_beside v w f (field_at (fields (shape_of new) (type_of w)) f.number)
+  is_same_if v w None = true
 
   -- what an item of a field whose messages are read as that type has to be met by
   abbrev pub value_expected : TypeId → ValueRef → Expected

@@ -1,6 +1,6 @@
 //! An old message beside what a new type reads of it.
 
-ghost use Rattle.std.specs.Prelude.{◌≡◌, ◌++◌, Some, IfOk, IfSome, OnOk};
+ghost use Rattle.std.specs.Prelude.{ℕ, ◌≡◌, [], ◌++◌, false, Some, IfOk, IfSome, OnOk};
 ghost use Rattle.std.specs.List.{AllByRecursion, list_all};
 ghost use Rattle.std.specs.Option.{option_copied};
 ghost use Rattle.std.specs.Str.{bytes_eq};
@@ -11,9 +11,9 @@ ghost use Rattle.pg_dyn.specs.Borrowed.{IsKey, leaf_of};
 ghost use Rattle.pg_dyn.specs.BorrowedItems.{ItemFits};
 ghost use Rattle.pg_dyn.specs.Comparison.{records_outside, unshared_bytes};
 ghost use Rattle.pg_dyn.specs.Fits.{Fits};
-ghost use Rattle.pg_dyn.specs.Kept.{message_of, type_of, unknown_of};
+ghost use Rattle.pg_dyn.specs.Kept.{message_of, of_number, type_of, unknown_of};
 ghost use Rattle.pg_dyn.specs.encoding.Writing.{bytes_of};
-ghost use Rattle.pg_pairs.specs.Comparing.{all_match, HasEncoding, HeldFits, is_alike_leaf, is_same, is_same_beside, ItemHasEncoding, items_match, keyed, keyed_if, outside_record};
+ghost use Rattle.pg_pairs.specs.Comparing.{all_match, HasEncoding, HeldFits, is_alike_leaf, is_same, is_same_beside, is_same_if, ItemHasEncoding, items_match, keyed, keyed_if, outside_record};
 
 use crate::item::Sides;
 use crate::shown::{count, held_at, is_same_key, is_same_leaf, shown};
@@ -204,12 +204,13 @@ fn is_same_field<V: View>(
     }
 }
 
-/// Whether each of the old fields is shown as it is meant.
+/// Whether the new type shows what the old type's field of the number means; where the old type has
+/// none, nothing is asked.
 #[cycle(same)]
-fn are_same_fields<V: View>(
+fn is_same_at<V: View>(
     alloc: Global,
     sides: &Sides<'_, V>,
-    list: &[Field],
+    number: u32,
     message: &MessageRef<'_>,
     read: &MessageRef<'_>,
 ) -> Result<bool, AllocError>
@@ -218,16 +219,93 @@ fn are_same_fields<V: View>(
     requires fits { Fits (shape_of sides.now.old.now) message.now }
     requires encoded { HasEncoding (shape_of sides.now.old.now) message.now }
     requires read_fits { Fits (shape_of sides.now.new.now) read.now }
-    requires found { AllByRecursion (λ f.
-        field_at (fields (shape_of sides.now.old.now) (type_of message.now)) f.number
-        ≡ Some (field_shape f)) list.now }
-    ensures { IfOk result (λ is. is ≡ list_all
-        (λ f. is_same_beside V.NAME sides.now.old.now sides.now.new.now message.now read.now
-        (field_shape f)
-        (field_at (fields (shape_of sides.now.new.now) (type_of read.now)) f.number)) list.now) }
+    ensures { IfOk result (λ is. is ≡ is_same_if V.NAME sides.now.old.now sides.now.new.now
+        message.now read.now
+        (field_at (fields (shape_of sides.now.old.now) (type_of message.now)) number)) }
 {
-    for field in list {
-        if !is_same_field(alloc, sides, field, message, read)? {
+    match sides.old.field(message.type_id(), number) {
+        Some(field) => is_same_field(alloc, sides, field, message, read),
+        None => Ok(true),
+    }
+}
+
+/// The same, where the field is known to be shown if the old message has a content of it.
+#[cycle(same)]
+fn is_same_other<V: View>(
+    alloc: Global,
+    sides: &Sides<'_, V>,
+    number: u32,
+    message: &MessageRef<'_>,
+    read: &MessageRef<'_>,
+) -> Result<bool, AllocError>
+    requires old_schema { IsSchema sides.now.old.now }
+    requires new_schema { IsSchema sides.now.new.now }
+    requires fits { Fits (shape_of sides.now.old.now) message.now }
+    requires encoded { HasEncoding (shape_of sides.now.old.now) message.now }
+    requires read_fits { Fits (shape_of sides.now.new.now) read.now }
+    requires held { is_same_if V.NAME sides.now.old.now sides.now.new.now message.now read.now
+        (field_at (fields (shape_of sides.now.old.now) (type_of message.now)) number) ≡ false
+        → of_number number message.now ≡ [] }
+    ensures { IfOk result (λ is. is ≡ is_same_if V.NAME sides.now.old.now sides.now.new.now
+        message.now read.now
+        (field_at (fields (shape_of sides.now.old.now) (type_of message.now)) number)) }
+{
+    match message.get(number) {
+        Some(_) => Ok(true),
+        None => is_same_at(alloc, sides, number, message, read),
+    }
+}
+
+/// Whether each old field whose number these contents have is shown as it is meant.
+#[cycle(same)]
+fn are_same_contents<V: View>(
+    alloc: Global,
+    sides: &Sides<'_, V>,
+    contents: &[(u32, ContentRef<'_>)],
+    message: &MessageRef<'_>,
+    read: &MessageRef<'_>,
+) -> Result<bool, AllocError>
+    requires old_schema { IsSchema sides.now.old.now }
+    requires new_schema { IsSchema sides.now.new.now }
+    requires fits { Fits (shape_of sides.now.old.now) message.now }
+    requires encoded { HasEncoding (shape_of sides.now.old.now) message.now }
+    requires read_fits { Fits (shape_of sides.now.new.now) read.now }
+    ensures { IfOk result (λ is. is ≡ list_all
+        (λ c. is_same_if V.NAME sides.now.old.now sides.now.new.now message.now read.now
+        (field_at (fields (shape_of sides.now.old.now) (type_of message.now)) c.0)) contents.now) }
+{
+    for (number, _) in contents {
+        if !is_same_at(alloc, sides, *number, message, read)? {
+            return Ok(false);
+        }
+    }
+    Ok(true)
+}
+
+/// The same, where each field that the old message has a content of is known to be shown.
+#[cycle(same)]
+fn are_same_others<V: View>(
+    alloc: Global,
+    sides: &Sides<'_, V>,
+    others: &[(u32, ContentRef<'_>)],
+    message: &MessageRef<'_>,
+    read: &MessageRef<'_>,
+) -> Result<bool, AllocError>
+    requires old_schema { IsSchema sides.now.old.now }
+    requires new_schema { IsSchema sides.now.new.now }
+    requires fits { Fits (shape_of sides.now.old.now) message.now }
+    requires encoded { HasEncoding (shape_of sides.now.old.now) message.now }
+    requires read_fits { Fits (shape_of sides.now.new.now) read.now }
+    requires held { (n : ℕ) → is_same_if V.NAME sides.now.old.now sides.now.new.now
+        message.now read.now
+        (field_at (fields (shape_of sides.now.old.now) (type_of message.now)) n) ≡ false
+        → of_number n message.now ≡ [] }
+    ensures { IfOk result (λ is. is ≡ list_all
+        (λ c. is_same_if V.NAME sides.now.old.now sides.now.new.now message.now read.now
+        (field_at (fields (shape_of sides.now.old.now) (type_of message.now)) c.0)) others.now) }
+{
+    for (number, _) in others {
+        if !is_same_other(alloc, sides, *number, message, read)? {
             return Ok(false);
         }
     }
@@ -253,10 +331,12 @@ pub(crate) fn is_same_message<V: View>(
     ensures { IfOk result (λ is. is ≡ is_same V.NAME sides.now.old.now sides.now.new.now
         message.now read.now) }
 {
-    if let Some(message_type) = sides.old.message_type(message.type_id()) {
-        if !are_same_fields(alloc, sides, &message_type.fields, message, read)? {
-            return Ok(false);
-        }
+    // A type may have many more fields than a message has contents, so only these are gone through.
+    if !are_same_contents(alloc, sides, message.contents(), message, read)? {
+        return Ok(false);
+    }
+    if !are_same_others(alloc, sides, read.contents(), message, read)? {
+        return Ok(false);
     }
     is_same_outside(alloc, sides, message, read)
 }

@@ -1,33 +1,63 @@
 -- Two messages show the same where their fields do, and these where their items do.
-use Rattle.std.proofs.Common.{◌≡◌, ◌∙◌, ◌+◌, ◌&&◌, [], true, false, Some, None, map, drop, ap, ap₂, refl, sym, arith}
+use Rattle.std.proofs.Common.{◌≡◌, ◌∙◌, ◌+◌, ◌&&◌, true, false, Some, None, drop, ap, ap₂, refl, sym, arith}
 use Rattle.std.specs.Option.{option_copied}
 use lib.Pointwise.{pointwise}
-use Rattle.pg_schema.specs.declared.parts.field.Field.{Field}
-use Rattle.pg_schema.specs.Parts.{field_shape, shape_of, type_at}
+use Rattle.pg_schema.specs.Parts.{field_shape, shape_of}
 use Rattle.pg_schema.specs.Shape.{field_at, fields}
 use Rattle.pg_dyn.specs.Comparison.{hides_zero}
-use Rattle.pg_dyn.specs.Kept.{type_of, weight}
+use Rattle.pg_dyn.specs.Kept.{type_of, unknown_of, weight}
 use Rattle.pg_dyn.specs.Kept as kept
 use Rattle.pg_dyn.specs.Borrowed.{item_seen}
 use Rattle.std.proofs.lemmas.Result.{IfOk-weaker}
-use Rattle.pg_dyn.proofs.Lists.{list_all_each, each_at_index, each_from_take}
+use Rattle.pg_dyn.proofs.Lists.{list_all_each, each_from_take}
+use Rattle.pg_dyn.proofs.PublicLaws.{fields_are_found}
 use Rattle.pg_pairs.specs.Comparing.{HeldFits, ItemHasEncoding, items_match, Keyed, keyed, keyed_if, keyed_match, keyed_shown}
 use Rattle.pg_pairs.specs.HeldItems.{item_value}
 use Rattle.pg_pairs.proofs.SameSteps.{both_go_on, each_got, held_weight, of_number_seen, shown_weight, total, total_got, weight_is}
 use Rattle.pg_pairs.proofs.SameFields.{beside_with, first_alone, hides_first, hides_second, key_lent, message_fits, second_alone, shown_filled, shown_fits, single_found}
 use Rattle.pg_pairs.proofs.SameLengths.{child_encoded, shown_encoded}
-use Rattle.pg_pairs.proofs.SameMessages.{all_found, no_fields, none_is, same_of_all, same_of_none}
-use Rattle.pg_pairs.proofs.comparing.+same.Goals.{is_same_message-in-Some+in_ok-are_same_fields+else-not-branch, is_same_message-in_default}
+use Rattle.pg_pairs.proofs.SameMessages.{each_more, none_held, one_not, same_at, same_held, same_of_all, same_of_none, some_held}
 use Rattle.pg_pairs.proofs.comparing.+same.Goals as goal
 
-pub are_same_fields-is_same_field-requires : goal.are_same_fields-is_same_field-requires
-are_same_fields-is_same_field-requires g t c κs within =
-    let found = each_at_index (λ (f : Field). field_at (fields (shape_of c.args.sides.now.old.now) (type_of c.args.message.now)) f.number ≡ Some (field_shape f)) c.args.list.now c.args.list.now c.loop-field.field-index c.field-item.result refl c.loop-field-test.true c.field-item.is c.requires.found in
-    (omega (arith, c.decreases, weight_is c.args.message.now), (within, (c.requires.old_schema, (c.requires.new_schema, (c.requires.fits, (c.requires.encoded, (c.requires.read_fits, found)))))))
+pub are_same_contents-is_same_at-requires : goal.are_same_contents-is_same_at-requires
+are_same_contents-is_same_at-requires g t c κs within =
+    (omega (arith, c.decreases, weight_is c.args.message.now), (within, (c.requires.old_schema, (c.requires.new_schema, (c.requires.fits, (c.requires.encoded, c.requires.read_fits))))))
 
-pub are_same_fields-returns : goal.are_same_fields-returns
-are_same_fields-returns g t c =
-    sym (list_all_each _ c.args.list.now (each_from_take _ c.args.list.now c.args.list.now c.loop-field.field-index refl c.loop-field-test.false c.loop-field.invariant))
+pub are_same_contents-returns-then-not-branch : goal.are_same_contents-returns-then-not-branch
+are_same_contents-returns-then-not-branch g t c =
+    one_not (same_held g.V.View.NAME c.args.sides.now.old.now c.args.sides.now.new.now c.args.message.now c.args.read.now) c.args.contents.now c.loop-number.number-index c.loop-number-item.result c.loop-number-test.true c.loop-number-item.is (sym c.in_ok-is_same_at.ensures ∙ c.if-not-branch.true)
+
+pub are_same_contents-loop-number-preserved : goal.are_same_contents-loop-number-preserved
+are_same_contents-loop-number-preserved g t c =
+    each_more (λ x. same_held g.V.View.NAME c.args.sides.now.old.now c.args.sides.now.new.now c.args.message.now c.args.read.now x ≡ true) c.args.contents.now c.loop-number.number-index c.loop-number-item.result c.loop-number-test.true c.loop-number-item.is c.loop-number.invariant (sym c.in_ok-is_same_at.ensures ∙ c.if-not-branch.false)
+
+pub are_same_contents-returns : goal.are_same_contents-returns
+are_same_contents-returns g t c =
+    sym (list_all_each (same_held g.V.View.NAME c.args.sides.now.old.now c.args.sides.now.new.now c.args.message.now c.args.read.now) c.args.contents.now (each_from_take (λ x. same_held g.V.View.NAME c.args.sides.now.old.now c.args.sides.now.new.now c.args.message.now c.args.read.now x ≡ true) c.args.contents.now c.args.contents.now c.loop-number.number-index refl c.loop-number-test.false c.loop-number.invariant))
+
+pub are_same_others-is_same_other-requires : goal.are_same_others-is_same_other-requires
+are_same_others-is_same_other-requires g t c κs within =
+    (omega (arith, c.decreases, weight_is c.args.message.now), (within, (c.requires.old_schema, (c.requires.new_schema, (c.requires.fits, (c.requires.encoded, (c.requires.read_fits, c.requires.held c.loop-number-item.result.0)))))))
+
+pub are_same_others-returns-then-not-branch : goal.are_same_others-returns-then-not-branch
+are_same_others-returns-then-not-branch g t c =
+    one_not (same_held g.V.View.NAME c.args.sides.now.old.now c.args.sides.now.new.now c.args.message.now c.args.read.now) c.args.others.now c.loop-number.number-index c.loop-number-item.result c.loop-number-test.true c.loop-number-item.is (sym c.in_ok-is_same_other.ensures ∙ c.if-not-branch.true)
+
+pub are_same_others-loop-number-preserved : goal.are_same_others-loop-number-preserved
+are_same_others-loop-number-preserved g t c =
+    each_more (λ x. same_held g.V.View.NAME c.args.sides.now.old.now c.args.sides.now.new.now c.args.message.now c.args.read.now x ≡ true) c.args.others.now c.loop-number.number-index c.loop-number-item.result c.loop-number-test.true c.loop-number-item.is c.loop-number.invariant (sym c.in_ok-is_same_other.ensures ∙ c.if-not-branch.false)
+
+pub are_same_others-returns : goal.are_same_others-returns
+are_same_others-returns g t c =
+    sym (list_all_each (same_held g.V.View.NAME c.args.sides.now.old.now c.args.sides.now.new.now c.args.message.now c.args.read.now) c.args.others.now (each_from_take (λ x. same_held g.V.View.NAME c.args.sides.now.old.now c.args.sides.now.new.now c.args.message.now c.args.read.now x ≡ true) c.args.others.now c.args.others.now c.loop-number.number-index refl c.loop-number-test.false c.loop-number.invariant))
+
+pub is_same_at-is_same_field-requires : goal.is_same_at-is_same_field-requires
+is_same_at-is_same_field-requires g t c κs within =
+    let its = fields (shape_of c.args.sides.now.old.now) (type_of c.args.message.now) in
+    let by_number : field_at (fields (shape_of c.args.sides.now.old.now) (type_of c.args.message.now)) c.args.number ≡ Some (field_shape c.in-Some.field.now) =
+    ap (λ type. field_at (fields (shape_of c.args.sides.now.old.now) type) c.args.number) (sym c.type_id.ensures) ∙ sym c.in-Some.ensures.shape in
+    let found = ap (field_at its) (fields_are_found.1 its c.args.number (field_shape c.in-Some.field.now) by_number) ∙ by_number in
+    (omega (arith, c.decreases, weight_is c.args.message.now), (within, (c.requires.old_schema, (c.requires.new_schema, (c.requires.fits, (c.requires.encoded, (c.requires.read_fits, found)))))))
 
 pub is_same_content-is_same_key-requires-clause-first : goal.is_same_content-is_same_key-requires-clause-first
 is_same_content-is_same_key-requires-clause-first g t c =
@@ -176,39 +206,36 @@ is_same_item-is_same_message-requires g t c κs within =
       ),
     )
 
-pub is_same_message-are_same_fields-requires : goal.is_same_message-are_same_fields-requires
-is_same_message-are_same_fields-requires g t c κs within =
-    let are : map field_shape c.deref.result.now ≡ fields (shape_of c.args.sides.now.old.now) (type_of c.args.message.now) =
-    ap (map field_shape) c.deref.ensures.value ∙ c.in-Some.ensures.fields ∙ ap (fields (shape_of c.args.sides.now.old.now)) c.type_id.ensures in (
-      omega (arith, c.decreases, weight_is c.args.message.now),
-      (
-        within,
-        (
-          c.requires.old_schema,
-          (
-            c.requires.new_schema,
-            (c.requires.fits, (c.requires.encoded, (c.requires.read_fits, all_found (shape_of c.args.sides.now.old.now) (type_of c.args.message.now) c.deref.result.now c.requires.old_schema.shape are))),
-          ),
-        ),
-      ),
-    )
+pub is_same_message-are_same_contents-requires : goal.is_same_message-are_same_contents-requires
+is_same_message-are_same_contents-requires g t c κs within =
+    (omega (arith, c.decreases, weight_is c.args.message.now), (within, (c.requires.old_schema, (c.requires.new_schema, (c.requires.fits, (c.requires.encoded, c.requires.read_fits))))))
 
 pub is_same_message-returns-then-not-branch : goal.is_same_message-returns-then-not-branch
 is_same_message-returns-then-not-branch g t c =
-    let are : map field_shape c.deref.result.now ≡ fields (shape_of c.args.sides.now.old.now) (type_of c.args.message.now) =
-    ap (map field_shape) c.deref.ensures.value ∙ c.in-Some.ensures.fields ∙ ap (fields (shape_of c.args.sides.now.old.now)) c.type_id.ensures in
-    same_of_none g.V.View.NAME c.args.sides.now.old.now c.args.sides.now.new.now c.args.message.now c.args.read.now c.deref.result.now are c.in_ok-are_same_fields.field-0 c.in_ok-are_same_fields.ensures c.if-not-branch.true
+    same_of_none g.V.View.NAME c.args.sides.now.old.now c.args.sides.now.new.now c.args.message.now c.args.read.now c.contents.result.now (sym c.if-not-branch.true ∙ c.in_ok-are_same_contents.ensures)
+
+pub is_same_message-are_same_others-requires : goal.is_same_message-are_same_others-requires
+is_same_message-are_same_others-requires g t c κs within =
+    let held = none_held (same_at g.V.View.NAME c.args.sides.now.old.now c.args.sides.now.new.now c.args.message.now c.args.read.now) c.contents.result.now c.args.message.now (type_of c.args.message.now) (unknown_of c.args.message.now) c.contents.ensures.whole (sym c.if-not-branch.false ∙ c.in_ok-are_same_contents.ensures) in
+    (omega (arith, c.decreases, weight_is c.args.message.now), (within, (c.requires.old_schema, (c.requires.new_schema, (c.requires.fits, (c.requires.encoded, (c.requires.read_fits, held)))))))
+
+pub is_same_message-returns-then-not-branch-2 : goal.is_same_message-returns-then-not-branch-2
+is_same_message-returns-then-not-branch-2 g t c =
+    same_of_none g.V.View.NAME c.args.sides.now.old.now c.args.sides.now.new.now c.args.message.now c.args.read.now c.contents-2.result.now (sym c.if-not-branch-2.true ∙ c.in_ok-are_same_others.ensures)
 
 pub is_same_message-returns : goal.is_same_message-returns
 is_same_message-returns g t c =
-    IfOk-weaker c.is_same_outside.result _ _ (λ so h.
-    h
-    ∙ elim c.match-message_type.branch [
-      | is_same_message-in-Some+in_ok-are_same_fields+else-not-branch w ↦
-          same_of_all g.V.View.NAME c.args.sides.now.old.now c.args.sides.now.new.now c.args.message.now c.args.read.now w.deref.result.now
-          (ap (map field_shape) w.deref.ensures.value ∙ w.in-Some.ensures.fields ∙ ap (fields (shape_of c.args.sides.now.old.now)) c.type_id.ensures) w.in_ok-are_same_fields.field-0 w.in_ok-are_same_fields.ensures w.if-not-branch.false
-      | is_same_message-in_default w ↦
-          same_of_all g.V.View.NAME c.args.sides.now.old.now c.args.sides.now.new.now c.args.message.now c.args.read.now []
-          (no_fields c.args.sides.now.old.now (type_of c.args.message.now) (ap (type_at c.args.sides.now.old.now) (sym c.type_id.ensures) ∙ none_is c.message_type.result w.in_default.not-Some (type_at c.args.sides.now.old.now c.type_id.result) c.message_type.ensures.exact)) true refl refl
-    ])
-    c.is_same_outside.ensures
+    let held = none_held (same_at g.V.View.NAME c.args.sides.now.old.now c.args.sides.now.new.now c.args.message.now c.args.read.now) c.contents.result.now c.args.message.now (type_of c.args.message.now) (unknown_of c.args.message.now) c.contents.ensures.whole (sym c.if-not-branch.false ∙ c.in_ok-are_same_contents.ensures) in
+    let read = none_held (same_at g.V.View.NAME c.args.sides.now.old.now c.args.sides.now.new.now c.args.message.now c.args.read.now) c.contents-2.result.now c.args.read.now (type_of c.args.read.now) (unknown_of c.args.read.now) c.contents-2.ensures.whole (sym c.if-not-branch-2.false ∙ c.in_ok-are_same_others.ensures) in
+    IfOk-weaker c.is_same_outside.result _ _ (λ so h. h ∙ same_of_all g.V.View.NAME c.args.sides.now.old.now c.args.sides.now.new.now c.args.message.now c.args.read.now c.requires.old_schema.shape c.requires.fits held read) c.is_same_outside.ensures
+
+pub is_same_other-is_same_at-requires : goal.is_same_other-is_same_at-requires
+is_same_other-is_same_at-requires g t c κs within =
+    (omega (arith, c.decreases, weight_is c.args.message.now), (within, (c.requires.old_schema, (c.requires.new_schema, (c.requires.fits, (c.requires.encoded, c.requires.read_fits))))))
+
+pub is_same_other-returns-in-Some : goal.is_same_other-returns-in-Some
+is_same_other-returns-in-Some g t c =
+    elim (same_at g.V.View.NAME c.args.sides.now.old.now c.args.sides.now.new.now c.args.message.now c.args.read.now c.args.number) as (λ b. same_at g.V.View.NAME c.args.sides.now.old.now c.args.sides.now.new.now c.args.message.now c.args.read.now c.args.number ≡ b → true ≡ b) [
+      | true ↦ λ e. refl
+      | false ↦ λ e. absurd (some_held c.args.number c.args.message.now c.in-Some.field-0.now c.in-Some.ensures.filled c.in-Some.ensures.content (c.requires.held e))
+    ] refl

@@ -1,11 +1,11 @@
--- Each call goes to a part of the old message. The fields before the index are the same; of two contents the items from the index on decide.
-use Rattle.std.proofs.Common.{◌≡◌, ◌+◌, ◌-◌, ◌*◌, true, take, drop}
+-- Each call goes to a part of the old message. The contents before the index are the same; of two contents the items from the index on decide.
+use Rattle.std.proofs.Common.{◌≡◌, ℕ, ◌+◌, ◌-◌, ◌*◌, true, take, drop}
 use Rattle.std.specs.List.{AllByRecursion}
 use Rattle.pg_schema.specs.Parts.{field_shape, shape_of}
 use Rattle.pg_schema.specs.Shape.{field_at, fields}
-use Rattle.pg_schema.specs.declared.parts.field.Field.{Field}
+use Rattle.pg_dyn.specs.declared.message_ref.ContentRef.{ContentRef}
 use Rattle.pg_dyn.specs.Kept.{type_of, weight}
-use Rattle.pg_pairs.specs.Comparing.{all_match, is_same_beside, keyed}
+use Rattle.pg_pairs.specs.Comparing.{all_match, is_same_if, keyed}
 use Rattle.pg_pairs.proofs.SameSteps.{held_weight, total}
 use Rattle.pg_pairs.proofs.comparing.+same.Given as goal
 
@@ -18,15 +18,28 @@ decreases-is_same_content g l = 8 * total (keyed l.content.now) + 1
 abbrev pub decreases-is_same_field : goal.decreases-is_same_field
 decreases-is_same_field g l = 8 * weight l.message.now - 6
 
-abbrev pub decreases-are_same_fields : goal.decreases-are_same_fields
-decreases-are_same_fields g l = 8 * weight l.message.now - 5
+abbrev pub decreases-is_same_at : goal.decreases-is_same_at
+decreases-is_same_at g l = 8 * weight l.message.now - 5
+
+abbrev pub decreases-is_same_other : goal.decreases-is_same_other
+decreases-is_same_other g l = 8 * weight l.message.now - 4
+
+abbrev pub decreases-are_same_contents : goal.decreases-are_same_contents
+decreases-are_same_contents g l = 8 * weight l.message.now - 4
+
+abbrev pub decreases-are_same_others : goal.decreases-are_same_others
+decreases-are_same_others g l = 8 * weight l.message.now - 3
 
 abbrev pub decreases-is_same_message : goal.decreases-is_same_message
-decreases-is_same_message g l = 8 * weight l.message.now - 4
+decreases-is_same_message g l = 8 * weight l.message.now - 2
 
-abbrev pub invariant-are_same_fields-loop-field : goal.invariant-are_same_fields-loop-field
-invariant-are_same_fields-loop-field g l =
-    AllByRecursion (λ (f : Field). is_same_beside g.V.View.NAME l.sides.old.now l.sides.new.now l.message l.read (field_shape f) (field_at (fields (shape_of l.sides.new.now) (type_of l.read)) f.number) ≡ true) (take l.field-index l.list)
+abbrev pub invariant-are_same_contents-loop-number : goal.invariant-are_same_contents-loop-number
+invariant-are_same_contents-loop-number g l =
+    AllByRecursion (λ (c : ℕ × ContentRef). is_same_if g.V.View.NAME l.sides.old.now l.sides.new.now l.message l.read (field_at (fields (shape_of l.sides.old.now) (type_of l.message)) c.0) ≡ true) (take l.number-index l.contents)
+
+abbrev pub invariant-are_same_others-loop-number : goal.invariant-are_same_others-loop-number
+invariant-are_same_others-loop-number g l =
+    AllByRecursion (λ (c : ℕ × ContentRef). is_same_if g.V.View.NAME l.sides.old.now l.sides.new.now l.message l.read (field_at (fields (shape_of l.sides.old.now) (type_of l.message)) c.0) ≡ true) (take l.number-index l.others)
 
 abbrev pub invariant-is_same_content-loop-at : goal.invariant-is_same_content-loop-at
 invariant-is_same_content-loop-at g l =
