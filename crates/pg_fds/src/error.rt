@@ -21,8 +21,8 @@ pub enum FdsError {
     #[error("A field of the set has an unsupported type or label.")]
     BadType,
     /// E704: an import or a name isn't in the set, stands twice or is of another kind, imports form
-    /// a cycle, an index is out of range, an `optional` field or an entry type isn't in its form, or
-    /// an entry type isn't that of just one field.
+    /// a cycle, an index is out of range, an `optional` field or an entry type isn't in its form,
+    /// or an entry type isn't that of just one field.
     #[error("The set has an invalid reference.")]
     BadReference,
     /// E705: what the set declares breaks a rule of the language, by the rule's error at no place.

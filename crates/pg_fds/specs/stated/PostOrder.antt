@@ -43,7 +43,7 @@ IsPostOrder skips files paths = Visits bytes_eq (imports_at skips files) [] (pat
 abbrev pub imports_once : Importer → Bool
 imports_once i = are_distinct i.imports
 
--- a path stands twice among the files, or among the imports of one, or they have no post-order: an import isn't there, or imports go round
+-- a path stands twice among the files, or among the imports of one, or they have no post-order: an import isn't there, or imports lead back
 abbrev pub HasNoOrder : (skips : Bool) → List Importer → Type 0
 HasNoOrder skips files =
     (are_distinct (paths_of files) ≡ false) ⊎ (list_all imports_once files ≡ false) ⊎ ((paths : List (List ℕ)) → IsPostOrder skips files paths → ⊥)

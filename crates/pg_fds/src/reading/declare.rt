@@ -1,5 +1,5 @@
-//! The table of the qualified names that a set declares. A name that may be declared is refused only
-//! where memory is.
+//! The table of the qualified names that a set declares. A name that may be declared is refused
+//! only where memory is.
 
 ghost use Rattle.std.specs.Prelude.{◌≡◌, ◌∷◌, [], false, IfErr, IfOk, OnOk, length, map};
 ghost use Rattle.std.specs.String.{string_bytes};

@@ -29,8 +29,8 @@ use std::alloc::{AllocError, Global};
 use std::collections::BTreeMap;
 
 /// What the fields of a message type are made with: the names of all files; the type's own
-/// qualified name; which of its oneofs are synthetic, and how many fields name each; its entry types
-/// by their names.
+/// qualified name; which of its oneofs are synthetic, and how many fields name each; its entry
+/// types by their names.
 #[derive(Drop)]
 pub(crate) struct Scope<'b, 'a> {
     pub names: &'b NameTable,

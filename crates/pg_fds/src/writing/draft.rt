@@ -2,11 +2,8 @@
 //! its records behind those before. Each call is refused only where memory is.
 
 ghost use Rattle.std.specs.Prelude.{◌≡◌, []};
-ghost use Rattle.std.specs.List.{AllByRecursion};
-ghost use Rattle.std.specs.String.{string_bytes};
-ghost use Rattle.pg_fds.specs.descriptor.Descriptor as descriptor;
 
-use crate::descriptor::{FLAG, NUMBER, TEXT};
+use crate::descriptor::{FLAG, NUMBER};
 use crate::writing::records::{push_bytes, push_word};
 use pg_dyn::complement_64;
 use pg_schema::{Element, Schema, TypeId};

@@ -1,6 +1,6 @@
 //! Records of descriptors, added behind each other.
 
-ghost use Rattle.std.specs.Prelude.{◌≡◌, ◌++◌, ◌*◌, ◌+◌, ◌<◌, ◌^◌, OnOk};
+ghost use Rattle.std.specs.Prelude.{◌≡◌, ◌++◌, OnOk};
 ghost use Rattle.pg_wire.specs.declared.record.WireType.TheVariants.{Len, Varint};
 ghost use Rattle.pg_wire.specs.Records.{written};
 ghost use Rattle.pg_wire.specs.Varint.{varint};
@@ -19,7 +19,8 @@ const FRONT: usize = 20;
 // The bytes that most messages of fields take, so that one piece of memory holds them.
 const ROOM: usize = 120;
 
-// Adds a varint at the end.
+// Adds a varint at the end. Most take one byte.
+#[inline(always)]
 fn push_varint(out: &mut Vec<u8>, value: u64) -> Result<(), AllocError>
     ensures { OnOk result (out.new.items ≡ out.old.items ++ varint value) }
 {

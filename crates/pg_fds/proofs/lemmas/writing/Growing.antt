@@ -18,7 +18,7 @@ use Rattle.pg_dyn.proofs.lemmas.Again.{reads_again}
 use Rattle.pg_dyn.proofs.lemmas.ReadSplits.{parts-message_from}
 use Rattle.pg_dyn.proofs.lemmas.Splitting.{records_in_none}
 use Rattle.pg_dyn.specs.encoding.Growing.{ComesLast, IsOfField, leaf_for}
-use Rattle.pg_dyn.proofs.lemmas.encoding.Growing.{encoding_grows}
+use Rattle.pg_dyn.proofs.PublicLaws.{encoding_grows}
 use Rattle.pg_fds.specs.descriptor.Descriptor as descriptor
 use Rattle.pg_fds.specs.descriptor.Descriptor.{many, one}
 use Rattle.pg_fds.specs.writing.Building.{HasMany, HasOne, IsWhole, written_shape}
