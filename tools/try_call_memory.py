@@ -36,7 +36,7 @@ PASSED = b"\ntest result: ok\n"
 # So many wrong runs of a row or a test are printed.
 MOST_PRINTED = 5
 # Calls that ask for no memory of their own: the buffers of a sink are those of whoever writes it. What `put` and `of_sound` make is tried
-# by the calls that they serve (`carry`, `write`, `read_again`; `build`): they ask for a proof of what they are handed, which no row has.
+# by the calls that they serve (`carry`; `build`): they ask for a proof of what they are handed, which no row has.
 NOT_TRIED = {"read_varint", "Records::next", "Certificate::new", "Sink::write", "write_all", "Message::put", "Schema::of_sound",
              "Sources::read"}
 
@@ -101,6 +101,8 @@ CALLS = [
     Rows("Message::set", "bytes_rows", "set", ["a map that is set by falling keys is written by rising ones"], [back("{3:1 1:0}", record(2, 7))]),
     Rows("Message::set", "bytes_rows", "set", ["a text and bytes are one key"], [back("{'k:# #6b:#}", record(2, 7))]),
     Rows("Message::set", "bytes_rows", "set", ["bytes are set as a text"], [back("#61")]),
+    # The numbers stay. A list of words begins with room for four.
+    Line("NumberList::push", "bytes_rows", "push 1 2 3 4 =1+int32", "1 2 3 4 7", ["1 2 3 4"]),
     Rows("Message::whole", "bytes_rows", "whole", ["messages in a list, a map and a field, and an explicit zero"]),
     Rows("Message::whole", "bytes_rows", "whole", ["a map by falling keys is written by rising ones"]),
     Rows("decode", "bytes_rows", "decode", ["a message in two parts, each with contents of all shapes"]),

@@ -60,7 +60,8 @@ fn spelled_number(alloc: Global, number: &ValueRef<'_>) -> Result<String, AllocE
     }
 }
 
-fn spelled_numbers(alloc: Global, numbers: &NumberList) -> Result<String, AllocError> {
+/// The numbers as they are spelled as values.
+pub(crate) fn spelled_numbers(alloc: Global, numbers: &NumberList) -> Result<String, AllocError> {
     let mut pieces = Vec::new(alloc);
     for at in 0..numbers.len() {
         pieces.push(spelled_number(alloc, &numbers.get(at))?)?;

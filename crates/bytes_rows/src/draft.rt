@@ -1,8 +1,8 @@
 //! Contents that are spelled by words, each of which takes what the words before it left: a value,
 //! as `contents` spells it, or `M` and `N` for a message of the first and the second type with
 //! nothing in it; `=5` makes the last value the content of field 5, `=5*` all values a list,
-//! `=5+sint32` a list of numbers of that scalar type, and `=5:` a map; and `message` makes a message
-//! of the last content alone, which is a value.
+//! `=5+sint32` a list of numbers of that scalar type, and `=5:` a map; and `message` makes a
+//! message of the last content alone, which is a value.
 use crate::types::{FIRST, SECOND};
 use pg_dyn::{Content, DynError, Integer, Message, NumberList, Value};
 use pg_schema::{Scalar, Schema, TypeId};

@@ -1,6 +1,7 @@
 //! Calls that are made again where memory is refused.
 mod bytes;
 mod lent;
+mod numbers;
 mod setting;
 
 use crate::types::Types;
@@ -15,6 +16,7 @@ pub(crate) fn answer(rt: &HostRuntime, types: &Types, input: &str) -> io::Result
     match call {
         "set" | "whole" => setting::answer(rt, &types.own, call, input),
         "decode" | "encode" | "show" | "hex" => { bytes::answer(rt, &types.own, call, input) }
+        "push" => numbers::answer(rt, &types.own, input),
         _ => lent::answer(rt, types, call, input),
     }
 }
