@@ -16,7 +16,7 @@ import sys
 import tempfile
 
 sys.dont_write_bytecode = True
-from try_edits import load_kit, plan  # noqa: E402
+from try_edits import plan  # noqa: E402
 
 TOP = os.path.dirname(os.path.dirname(os.path.abspath(__file__)))
 # So many edits are tried in one check.
@@ -37,7 +37,7 @@ def take_more(copy, names):
 
 def left_of(copy, found):
     """Removes what try_edits.py tries, and returns the crates that have other edits."""
-    for path in (path for it in plan(load_kit(), copy, found) for path in it.paths):
+    for path in (path for it in plan(copy, found) for path in it.paths):
         os.remove(path)
     return [name for name in found if glob.glob(f"{copy}/crates/{name}/must-fail/*.edit")]
 

@@ -11,9 +11,9 @@ prover's search, which proves the body as it stands, finds no proof of it.
 - Any other complaint, of a name, a type or a text that can't be read, is none of the contract, and then the body counts as not refused. So
   does one of which nothing is said, and one whose check the system ends, as for memory.
 
-What that rests on. The check is asked for these functions alone (`--only`), by their whole paths. It proves them and what they call in the
-crate, and so on down. It takes nothing from earlier checks but libraries, and, for an edit in place, what the check of the same crate's
-copies proved just before. A function is said to be proved only where a proof of its own statement was admitted, and a proof cites what the
+What that rests on. `rt check` is asked for these functions alone (`--only`), by their whole paths. It proves them and what they call in the
+crate, and so on down. It runs in a repository of its own, in which nothing is kept of earlier checks but libraries, and, for an edit in
+place, what the check of the same crate's copies proved just before. A function is said to be proved only where a proof of its own statement was admitted, and a proof cites what the
 functions that it calls are proved to do, so it is admitted only where theirs are: no contract of theirs can be left out. Left out are the
 other functions, with their proof files, and lemmas that none of these proofs cites. No edit changes those, and the gate proves them with
 the crate. So a check counts only where each function that was asked for is among those of which something is said, its last line counts

@@ -19,8 +19,9 @@ import unittest
 from unittest import mock
 
 sys.dont_write_bytecode = True
+import ending  # noqa: E402
 from read_goals import faults, of_edits, verdict, verdicts  # noqa: E402
-from try_edits import load_kit, plan, said_before, table_of, try_all, try_one  # noqa: E402
+from try_edits import plan, said_before, table_of, try_all, try_one  # noqa: E402
 from wrong_copies import CONTROL, Bad, Function, Left, Spot, Turned, answers_in, copies_for, file_of_type, functions_in, spots_of  # noqa: E402
 
 SOURCE = """//! Numbers.
@@ -160,7 +161,7 @@ abbrev pub decreases-{name} : goal.decreases-{name}
 decreases-{name} l = l.number
 """
 # What another run of the script says of the tries of a repository's first crate with edits.
-KEY = "import sys; from try_edits import key_of, load_kit, plan; kit = load_kit(); print(key_of(kit, plan(kit, sys.argv[1])[0]))"
+KEY = "import sys; from try_edits import key_of, plan; print(key_of(plan(sys.argv[1])[0]))"
 # By edit: what it turns, and what has to be said of it, or nothing where that is left to rt.
 EDITS = {
     "one_more": ("    u16::from(number) * 2", "    u16::from(number) * 2 + 1", "twice: returns"),
@@ -388,13 +389,12 @@ class Kept(unittest.TestCase):
     def run_with(self, said):
         """Returns the tries of a run over what was kept, which finds this of each edit that it tries itself."""
 
-        def try_each(_, tries, __):
+        def try_each(tries, _):
             tries.said.update({it.edit: said for it in tries.copies})
 
-        kit = load_kit()
-        (tries,) = plan(kit, self.room.name)
-        with mock.patch("try_edits.try_each", try_each), mock.patch("try_edits.kept_at", lambda _: self.room.name):
-            return try_one(kit, tries, False)
+        (tries,) = plan(self.room.name)
+        with mock.patch("try_edits.try_each", try_each), mock.patch("kit.store", lambda: self.room.name):
+            return try_one(tries, False)
 
     def test_what_passed_is_kept_and_nothing_else(self):
         self.assertFalse(self.run_with((False, "NOT REFUSED")).is_kept)
@@ -456,10 +456,9 @@ class Tries(unittest.TestCase):
             more = "old:     number.checked_add(1)\nnew:     None\n" if edit == "both" else ""
             write(f"{crate}/must-fail/{edit}.edit", f"file: {path}\nold: {old}\nnew: {new}\n{more}")
         subprocess.run(["git", "init", "-q", room.name], check=True)
-        kit = load_kit()
-        (tries,) = plan(kit, room.name)
+        (tries,) = plan(room.name)
         with contextlib.redirect_stdout(io.StringIO()):
-            try_all(kit, [tries], 2, True)
+            try_all([tries], 2, True)
         return tries
 
     def test_each_edit_comes_to_what_it_is(self):
@@ -482,4 +481,5 @@ class Tries(unittest.TestCase):
 
 
 if __name__ == "__main__":
+    ending.on_signals()
     unittest.main()

@@ -4,8 +4,8 @@
 usage: tools/try_edits.py [--anew] [--list] [--by COUNT] [CRATE..]    all crates with edits, where none is named
 
 Each alone, an edit costs a check of its crate, and nearly all of that is reading the libraries anew; and the edits of a crate begin with a
-second proof of it. So a check is made of a copy of the crate in which each wrong body stands beside the original (wrong_copies.py), of
-these copies alone and of what they call. An edit is refused where the prover leaves a goal open in just its copy, and says nothing else of
+second proof of it. So `rt check` is given a copy of the crate in which each wrong body stands beside the original (wrong_copies.py), and
+`--only` has it check these copies and what they call. An edit is refused where the prover leaves a goal open in just its copy, and says nothing else of
 it; and where all else is proved, among it a copy of each of these functions that is as it stands (read_goals.py says what that rests on).
 A function that calls itself, or others that call it, can't be copied so. The first check proves it as it stands, and then its edit is
 tried alone in its place, over what that check proved of what it calls.
@@ -14,55 +14,38 @@ A line says for each edit in which function it was refused, and for which clause
 that is refused for a name alone, fails. One that turns more than bodies of functions is not tried here, but by `rt must-fail` and `rt ci`
 alone, which try all others too.
 
-Wants the libraries that `rt lib` builds, and builds those that are not there. What an earlier run on this machine passed is kept beside
-what the kit keeps, by the checksum of all that it read; with --anew all is tried. With --by a check has the copies of so many edits at most,
+Wants the libraries that `rt lib` builds, and builds those that are not there. What an earlier run on this machine passed is kept, by the
+checksum of all that it read: beside what the kit keeps, or in this user's cache (kit.py). With --anew all is tried. With --by a check has the copies of so many edits at most,
 and a line says what each check took: so it shows which edits are cheap, and no dear one keeps the others waiting. With --list a table of all
 edits stands before the last line. This counts what was refused and what wasn't; the status is 1 where one wasn't.
 """
 
 import argparse
 import hashlib
-import importlib.machinery
-import importlib.util
 import json
 import os
-import re
 import shutil
-import subprocess
 import sys
 import tempfile
 from collections import namedtuple
 from concurrent.futures import ThreadPoolExecutor
 
 sys.dont_write_bytecode = True
+import ending  # noqa: E402
+import kit  # noqa: E402
+from crates import BadEdit, crates_of, files_of_edits, texts_of_edit  # noqa: E402
+from machine import lanes  # noqa: E402
 from read_goals import not_compiled, of_edits, verdicts  # noqa: E402
 from wrong_copies import CONTROL, PARTS, Bad, Left, controls, controls_in_place, copies_for, files_below  # noqa: E402
 from wrong_copies import make_edited_room, make_room, spots_of  # noqa: E402
 
 TOP = os.path.dirname(os.path.dirname(os.path.realpath(__file__)))
 # The scripts that a result rests on.
-TOOLS = ("try_edits.py", "wrong_copies.py", "read_goals.py", "why_refused.py")
+TOOLS = ("try_edits.py", "wrong_copies.py", "read_goals.py", "why_refused.py", "crates.py", "kit.py")
 # So many edits have their copies in one check, where nothing else is asked for: all.
 MOST = 1_000_000
 # An edit that is tried where it stands: the files' texts with it, and where the functions stand that it turns.
 InPlace = namedtuple("InPlace", "texts spots")
-
-
-def load_kit():
-    """Returns the kit's own script, which reads edits and knows the words of a check."""
-    loader = importlib.machinery.SourceFileLoader("kit_rt", os.path.realpath(shutil.which("rt")))
-    made = importlib.util.module_from_spec(importlib.util.spec_from_loader("kit_rt", loader))
-    loader.exec_module(made)
-    return made
-
-
-def lanes():
-    """Returns how many checks may run side by side: RT_JOBS, or one a processor, as many as there is memory of 5 GB for."""
-    if os.environ.get("RT_JOBS"):
-        return int(os.environ["RT_JOBS"])
-    with open("/proc/meminfo", encoding="utf-8") as file:
-        free = 1024 * int(re.search(r"MemAvailable:\s+(\d+)", file.read())[1])
-    return max(1, min(len(os.sched_getaffinity(0)), free // 5_000_000_000))
 
 
 class Tries:
@@ -70,25 +53,24 @@ class Tries:
     whether it was refused as it must be, those that are left to rt, what is wrong beside, and the processor seconds that it took, of which each
     check of copies is told with its edits."""
 
-    def __init__(self, kit, crate):
+    def __init__(self, crate):
         self.crate, self.copies, self.in_place, self.paths, self.left = crate, [], {}, [], {}
         self.said, self.faults, self.seconds, self.checks, self.is_kept = {}, [], 0.0, [], False
-        good, bad = kit.edits_of(crate)
+        good, bad = files_of_edits(crate.folder)
         for path in bad:
             self.fail(os.path.basename(path), "BAD EDIT: its name is none for an edit")
         for path in good:
-            self.add(path, *kit.read_edit(path, crate.folder))
+            self.add(path)
 
-    def add(self, path, texts, why):
-        edit = os.path.basename(path).removesuffix(".edit")
+    def add(self, path):
+        edit = os.path.basename(path)[: -len(".edit")]
         try:
-            if why:
-                raise Bad(why)
+            texts = texts_of_edit(path, self.crate.folder)
             copies = copies_for(texts, self.crate.folder, edit)
             self.copies += copies
             if not copies:
                 self.in_place[edit] = InPlace(texts, spots_of(texts, self.crate.folder, edit))
-        except Bad as reason:
+        except (Bad, BadEdit) as reason:
             self.fail(edit, f"BAD EDIT: {reason}")
         except Left as reason:
             self.left[edit] = str(reason)
@@ -112,18 +94,10 @@ class Tries:
         return found + [f"{name}: {it[:300]}" for it in self.faults[:10]]
 
 
-def check(kit, crate, room, spots, kept):
-    """Checks these functions of what stands in the room as this crate, and what they call: from nothing, or over the folder in which checks of the same
-    tries keep what they proved. Returns the status, what was said, and the processor seconds."""
+def check(folder, spots):
+    """Checks these functions of the crate in this folder, and what they call. Returns the status, what was said, and the processor seconds."""
     only = [word for it in dict.fromkeys(it.place for it in spots) for word in ("--only", it.replace("/", "::"))]
-    words = [kit.rtlib.RATTLE, "check", *crate.words(["--jobs", "1", *only], keeps=False), *(["--incremental", kept] if kept else [])]
-    with tempfile.TemporaryFile("w+", encoding="utf-8", errors="replace") as log:
-        how = {"cwd": room, "stdin": subprocess.DEVNULL, "stdout": log, "stderr": subprocess.STDOUT}
-        run = subprocess.Popen(words, **how)
-        _, status, used = os.wait4(run.pid, 0)
-        run.returncode = os.waitstatus_to_exitcode(status)
-        log.seek(0)
-        return run.returncode, log.read(), used.ru_utime + used.ru_stime
+    return kit.check(folder, only)
 
 
 def in_parts(copies, most):
@@ -133,14 +107,19 @@ def in_parts(copies, most):
     return [[it for it in copies if it.edit in part] for part in parts]
 
 
-def try_copies(kit, tries, copies, standing, kept):
-    """Tries the copies in one check, which also proves these functions as they stand, which other edits turn in place. Where some copies don't compile,
-    they are told, and the others are tried without them."""
+def try_copies(tries, copies, standing, kept):
+    """Tries the copies in one check, which also proves these functions as they stand, which other edits turn in place, and leaves in a folder what it kept.
+    Where some copies don't compile, they are told, and the others are tried without them."""
     crate = tries.crate
     while copies or standing:
         with tempfile.TemporaryDirectory(prefix="protogate-edits-") as room:
-            made = make_room(room, crate.name, crate.folder, copies + controls(crate.folder, copies)) | standing
-            status, told, seconds = check(kit, crate, room, made.values(), kept)
+            folder = kit.make_repository(room, crate)
+            made = make_room(folder, crate.name, crate.folder, copies + controls(crate.folder, copies))
+            made.update(standing)
+            status, told, seconds = check(folder, made.values())
+            if standing:
+                shutil.rmtree(kept, ignore_errors=True)
+                shutil.move(f"{folder}/out", kept)
         tries.seconds += seconds
         tries.checks.append((seconds, [*dict.fromkeys(it.edit for it in copies)]))
         broken = not_compiled(told, made)
@@ -154,14 +133,14 @@ def try_copies(kit, tries, copies, standing, kept):
         copies = [it for it in copies if it.edit not in {at.edit for at in broken}]
 
 
-def try_in_place(kit, tries, edit, kept):
+def try_in_place(tries, edit, kept):
     """Tries an edit alone, where it stands, over a copy of what was kept: so what one edit leaves is of no account to the next."""
     crate, (texts, spots) = tries.crate, tries.in_place[edit]
     with tempfile.TemporaryDirectory(prefix="protogate-edits-") as room:
-        make_edited_room(room, crate.folder, texts)
-        with tempfile.TemporaryDirectory(prefix="protogate-kept-") as own:
-            kit.linked(kept, f"{own}/kept")
-            status, told, seconds = check(kit, crate, room, spots.values(), f"{own}/kept")
+        folder = kit.make_repository(room, crate)
+        make_edited_room(folder, crate.folder, texts)
+        shutil.copytree(kept, f"{folder}/out", symlinks=True, dirs_exist_ok=True)
+        status, told, seconds = check(folder, spots.values())
     tries.seconds += seconds
     broken = not_compiled(told, spots)
     if broken:
@@ -170,44 +149,34 @@ def try_in_place(kit, tries, edit, kept):
         tries.said.update(of_edits(verdicts(crate.name, status, told, spots)[0]))
 
 
-def try_each(kit, tries, most):
+def try_each(tries, most):
     """Tries the copies, of so many edits in a check, and then each edit in place, over what the first check proved. Where that shows nothing, no edit
     counts."""
     standing = controls_in_place({it: spot for edited in tries.in_place.values() for it, spot in edited.spots.items()})
-    with tempfile.TemporaryDirectory(prefix="protogate-kept-") as kept:
+    with tempfile.TemporaryDirectory(prefix="protogate-kept-") as room:
         for copies in in_parts(tries.copies, most) or [[]]:
-            try_copies(kit, tries, copies, standing, kept if standing else None)
+            try_copies(tries, copies, standing, f"{room}/kept")
             standing = {}
         for edit in tries.in_place:
             if tries.faults:
                 tries.fail(edit, f"NOT TRIED: {tries.faults[0][:300]}")
             else:
-                try_in_place(kit, tries, edit, kept)
+                try_in_place(tries, edit, f"{room}/kept")
 
 
-def key_of(kit, tries):
+def key_of(tries):
     """Returns a sum of all that the tries rest on: the kit, these scripts, the crate with its copies, and those below it. Where an edit stands
     that is tried in place follows from these; and that has sets, which each run lists in another order."""
     texts = {edit: it.texts for edit, it in tries.in_place.items()}
-    made = hashlib.sha256(repr((kit.kit_sum(), tries.copies, texts)).encode())
+    made = hashlib.sha256(repr((kit.identity(), tries.copies, texts)).encode())
     files = {f"tools/{it}": f"{TOP}/tools/{it}" for it in TOOLS}
     for crate in (*tries.crate.below(), tries.crate):
-        made.update(repr((crate.name, crate.said)).encode())
-        files.update({f"{crate.name}{it.removeprefix(crate.folder)}": it for it in files_below(crate.folder, *PARTS)})
+        made.update(repr(crate.line).encode())
+        files.update({f"{crate.name}{it[len(crate.folder) :]}": it for it in files_below(crate.folder, *PARTS)})
     for name, path in sorted(files.items()):
         with open(path, "rb") as file:
             made.update(repr((name, file.read())).encode())
     return made.hexdigest()
-
-
-def kept_at(kit):
-    """Returns the folder in which passed tries are kept, where there is one that is ours alone."""
-    at = f"{kit.STORE}/protogate-edits"
-    try:
-        os.makedirs(at, 0o700, exist_ok=True)
-        return at if os.lstat(kit.STORE).st_uid == os.geteuid() else None
-    except OSError:
-        return None
 
 
 def said_before(path, edits):
@@ -220,37 +189,38 @@ def said_before(path, edits):
     return said if {*said} == edits and all(is_refused for is_refused, _ in said.values()) else {}
 
 
-def try_one(kit, tries, is_anew, most=MOST):
+def try_one(tries, is_anew, most=MOST):
     """Tries the edits of a crate, copies of so many in a check, or takes what an earlier run passed of the same. What is said already, of edits
     that can't be tried, stays said."""
-    at, key = kept_at(kit), key_of(kit, tries)
+    at, key = kit.store(), key_of(tries)
     edits = {*(it.edit for it in tries.copies), *tries.in_place}
     before = {} if is_anew or not at else said_before(f"{at}/{key}", edits)
     if before:
         tries.said.update(before)
         tries.is_kept = True
         return tries
-    try_each(kit, tries, most)
-    if at and not tries.failed() and key_of(kit, tries) == key:
+    try_each(tries, most)
+    if at and not tries.failed() and key_of(tries) == key:
         with tempfile.NamedTemporaryFile("w", dir=at, delete=False, encoding="utf-8") as file:
             json.dump(tries.said, file)
         os.replace(file.name, f"{at}/{key}")
     return tries
 
 
-def plan(kit, top, names=()):
+def plan(top, names=()):
     """Returns the tries of the crates in this repository that have edits, or of those that are named."""
-    crates = [it for it in kit.rtlib.crates_below(top) if it.name in (names or [it.name])]
-    return [Tries(kit, it) for it in crates if os.path.isdir(f"{it.folder}/must-fail")]
+    crates = [it for it in crates_of(top).values() if it.name in (names or [it.name])]
+    return [Tries(it) for it in crates if os.path.isdir(f"{it.folder}/must-fail")]
 
 
-def try_all(kit, plans, jobs, is_anew, most=MOST):
+def try_all(plans, jobs, is_anew, most=MOST, tell=lambda tries: None):
     """Tries the edits of these crates, those with most checks and copies first, and prints what is said of each, and what each check took where a crate
-    has several. Returns the counts of refused and of others."""
+    has several. Returns the counts of refused and of others. Each crate is handed to `tell` once its edits were tried."""
     begun = sorted(plans, key=lambda it: (-len(it.in_place), -len(it.copies)))
     with ThreadPoolExecutor(jobs) as pool:
-        for done in [pool.submit(try_one, kit, it, is_anew, most) for it in begun]:
+        for done in [pool.submit(try_one, it, is_anew, most) for it in begun]:
             tries = done.result()
+            tell(tries)
             how = "kept from an earlier run" if tries.is_kept else f"{tries.seconds:.0f} processor seconds"
             checks = [f"{seconds:.0f} processor seconds for {', '.join(edits)}" for seconds, edits in tries.checks if len(tries.checks) > 1]
             print("\n".join([*tries.lines(), *checks, f"{tries.crate.name}: {tries.passed()} edits refused, {how}"]), flush=True)
@@ -259,10 +229,7 @@ def try_all(kit, plans, jobs, is_anew, most=MOST):
 
 def build_below(plans):
     """Builds the libraries that these crates stand on, where they are not there, and returns whether all stand."""
-    for crate in {dep.folder: dep for it in plans for dep in it.crate.below()}.values():
-        if not crate.is_built() and subprocess.run(["rt", "lib"], cwd=crate.folder, check=False).returncode:
-            return False
-    return True
+    return kit.build_libraries({dep.folder: dep for it in plans for dep in it.crate.below()}.values())
 
 
 def table_of(plans):
@@ -283,15 +250,14 @@ def main(words):
     asked.add_argument("--by", type=int, default=MOST, metavar="COUNT")
     asked.add_argument("names", nargs="*", metavar="CRATE")
     asked = asked.parse_args(words)
-    names, kit = asked.names, load_kit()
-    plans = plan(kit, TOP, names)
+    names, plans = asked.names, plan(TOP, asked.names)
     unknown = {*names} - {it.crate.name for it in plans}
     if unknown:
         print(f"no crates with edits: {', '.join(sorted(unknown))}", file=sys.stderr)
         return 2
     if not build_below(plans):
         return 1
-    passed, failed = try_all(kit, plans, lanes(), asked.anew, max(1, asked.by))
+    passed, failed = try_all(plans, lanes(), asked.anew, max(1, asked.by))
     if asked.list:
         print("\n".join(table_of(plans)))
     left = sum(len(it.left) for it in plans)
@@ -300,4 +266,5 @@ def main(words):
 
 
 if __name__ == "__main__":
+    ending.on_signals()
     sys.exit(main(sys.argv[1:]))

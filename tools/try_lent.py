@@ -10,14 +10,15 @@ two were as they should be; the status is 1 where one wasn't.
 
 import os
 import shutil
-import subprocess
 import sys
 import tempfile
 
 sys.dont_write_bytecode = True
-from try_edits import load_kit  # noqa: E402
+import ending  # noqa: E402
+import kit  # noqa: E402
+from crates import Crate, crates_of  # noqa: E402
 
-LIBRARIES = ("pg_wire", "pg_schema", "pg_dyn")
+LIBRARIES = ("pg_schema", "pg_dyn")
 HEAD = """//! Reads bytes that are dropped.
 #![tactic(auto)]
 
@@ -37,36 +38,21 @@ FIRST = "    drop(bytes);\n    read.is_ok()\n}\n"
 AFTERWARDS = "    let is_read = read.is_ok();\n    drop(read);\n    drop(bytes);\n    is_read\n}\n"
 
 
-def lines_of(names):
-    """Returns the lines of crates.txt for these crates."""
-    with open("crates.txt", encoding="utf-8") as file:
-        return [it for it in file if it.partition(":")[0].strip() in names]
-
-
-def repository(room):
-    """Makes a repository of the libraries as they were built, and of a crate that is still empty."""
-    for name in LIBRARIES:
-        shutil.copytree(f"crates/{name}", f"{room}/crates/{name}", ignore=shutil.ignore_patterns("incremental"))
-    os.makedirs(f"{room}/crates/lent/src")
-    with open(f"{room}/crates.txt", "w", encoding="utf-8") as file:
-        file.write("".join(lines_of(LIBRARIES)) + "lent: pg_schema pg_dyn\n")
-
-
-def checked(kit, room, body):
-    """Returns what the check says of the crate with this body."""
-    with open(f"{room}/crates/lent/src/lib.rt", "w", encoding="utf-8") as file:
+def checked(room, body):
+    """Returns what the check says of the crate with this body, in a repository of its own in the room."""
+    crates = crates_of(".")
+    lent = Crate("lent", f"lent: {' '.join(LIBRARIES)}", "", [crates[it] for it in LIBRARIES])
+    shutil.rmtree(room, ignore_errors=True)
+    folder = kit.make_repository(room, lent)
+    os.makedirs(f"{folder}/src")
+    with open(f"{folder}/src/lib.rt", "w", encoding="utf-8") as file:
         file.write(HEAD + body)
-    crate = next(it for it in kit.rtlib.crates_below(room) if it.name == "lent")
-    words = [kit.rtlib.RATTLE, "check", *crate.words(["--jobs", "1"], keeps=False)]
-    how = {"stdin": subprocess.DEVNULL, "stdout": subprocess.PIPE, "stderr": subprocess.STDOUT, "text": True, "errors": "replace"}
-    return subprocess.run(words, cwd=crate.folder, check=False, **how).stdout
+    return kit.check(folder, [])[1]
 
 
 def main():
-    kit = load_kit()
     with tempfile.TemporaryDirectory(prefix="protogate-lent-") as room:
-        repository(room)
-        refused, proved = checked(kit, room, FIRST), checked(kit, room, AFTERWARDS)
+        refused, proved = checked(f"{room}/first", FIRST), checked(f"{room}/afterwards", AFTERWARDS)
     results = [("borrow-e0505" in refused and "logic=proved" not in refused, refused), ("logic=proved" in proved, proved)]
     for is_right, said in results:
         if not is_right:
@@ -76,5 +62,6 @@ def main():
 
 
 if __name__ == "__main__":
+    ending.on_signals()
     os.chdir(sys.argv[1] if sys.argv[1:] else os.path.dirname(os.path.dirname(os.path.realpath(__file__))))
     sys.exit(main())
