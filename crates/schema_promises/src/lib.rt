@@ -13,12 +13,13 @@ ghost use Rattle.pg_schema.specs.Invariant.{IsSchema};
 ghost use Rattle.pg_schema.specs.JsonName.{default_json_name};
 ghost use Rattle.pg_schema.specs.Parts.{enum_at, field_of, field_shape, name_at, shape_of, type_at};
 ghost use Rattle.pg_schema.specs.ScalarWords.{scalar_of};
-ghost use Rattle.pg_schema.specs.Shape.{field_at, fields, is_packable};
+ghost use Rattle.pg_schema.specs.Shape.{field_at, fields, is_map, is_packable};
 ghost use Rattle.pg_schema.specs.rules.Sound.{IsSound};
 ghost use Rattle.pg_schema.specs.ErrorText as spec;
 
 use pg_schema::{
-    Element, EnumId, EnumType, Field, MessageType, Parts, PartsError, Scalar, Schema, TypeId,
+    Element, EnumId, EnumType, Field, MessageType, Parts, PartsError, Presence, Scalar, Schema,
+    TypeId,
 };
 use std::alloc::{AllocError, Global};
 
@@ -108,6 +109,13 @@ pub fn is_packable(element: Element) -> bool
     ensures { result ≡ is_packable element }
 {
     element.is_packable()
+}
+
+/// What `Presence::is_map` answers.
+pub fn is_map(presence: Presence) -> bool
+    ensures { result ≡ is_map presence }
+{
+    presence.is_map()
 }
 
 /// What `default_json_name` answers.
