@@ -498,6 +498,8 @@ def main():
     options, begun = options_of(), time.time()
     if not os.access(options.program, os.X_OK):
         sys.exit(f"no program: {options.program}")
+    if not PROTOC:
+        print("passed over, without protoc: sets that `compile` writes, read by it")
     options.end = begun + options.seconds
     with tempfile.TemporaryDirectory(prefix="protogate-fuzz-") as folder:
         options.library = build_starter(folder)

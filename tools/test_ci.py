@@ -18,6 +18,8 @@ sys.dont_write_bytecode = True
 TOP = os.path.dirname(os.path.dirname(os.path.realpath(__file__)))
 GATE = f"{TOP}/examples/ci/gate.sh"
 PROGRAM = f"{TOP}/crates/protogate/out/protogate"
+import told_tests  # noqa: E402
+
 sys.path.insert(0, f"{TOP}/examples/ci")
 import gate  # noqa: E402
 import sets  # noqa: E402
@@ -387,4 +389,4 @@ class Sets(unittest.TestCase):
 if __name__ == "__main__":
     if len(sys.argv) > 1 and not sys.argv[1].startswith("-"):
         PROGRAM = os.path.realpath(sys.argv.pop(1))
-    unittest.main()
+    told_tests.main()

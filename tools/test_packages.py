@@ -17,6 +17,7 @@ import unittest
 sys.dont_write_bytecode = True
 import report  # noqa: E402
 import test_ci  # noqa: E402
+import told_tests  # noqa: E402
 from test_ci import GATE, HEAD, TOP, read  # noqa: E402
 
 
@@ -355,4 +356,4 @@ def open_bytes(path):
 if __name__ == "__main__":
     if len(sys.argv) > 1 and not sys.argv[1].startswith("-"):
         test_ci.PROGRAM = os.path.realpath(sys.argv.pop(1))
-    unittest.main()
+    told_tests.main()

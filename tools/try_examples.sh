@@ -90,6 +90,7 @@ commands_of() {
 try_document() {
     rm -f block.*
     blocks_of "$1"
+    compare "$1: blocks of commands" some "$([ -e block.001 ] && echo some || echo none)"
     for block in block.*; do
         if ! command -v protoc >/dev/null && grep -q '^\$ protoc ' "$block"; then
             echo "passed over, without protoc: $1, $block"

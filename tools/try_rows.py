@@ -123,6 +123,7 @@ def try_failing_files(program):
 def try_slow_outputs(program):
     """Runs the gate with an output that takes one byte at a time, and with one that fails at each byte, and returns what is wrong."""
     if not shutil.which("cc"):
+        print("passed over, without cc: slow outputs")
         return
     text = b"breaks M 11\nwitness 08ffffffffffffffffff01\nstep 1 M.a m.proto:2:19 M.a m.proto:2:20\n"
     with tempfile.TemporaryDirectory(prefix="protogate-rows-") as folder:
