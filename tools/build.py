@@ -1,13 +1,16 @@
 #!/usr/bin/env python3
-"""Proves and builds the program: each crate once those below it stand, as many side by side as there are processors and memory for.
+"""Proves and builds the program: each crate once those below it are proved, as many side by side as there are processors and memory for.
 
 usage: tools/build.py    what is built already, and unchanged, is taken as it stands, so a build that was stopped goes on from there
+
+It says at the start and each minute how long it is likely to take. Another build of the same checkout waits until this one has ended. Beside the
+program stands when its sources were read, and which kit proved it (stamp.py). What only a next check of the libraries needs is removed once
+all is built; with --keep it stays, so that a build after a change takes less time.
 """
 
 import contextlib
 import fcntl
 import os
-import re
 import shutil
 import signal
 import subprocess
@@ -15,54 +18,33 @@ import sys
 import tempfile
 import time
 
+sys.dont_write_bytecode = True
+import ending  # noqa: E402
+import stamp  # noqa: E402
+import times  # noqa: E402
+from crates import crates_of  # noqa: E402
+from kit import PARTS, link_or_copy  # noqa: E402
+from machine import free_memory, lanes, missing, processors  # noqa: E402
+
 TOP = os.path.dirname(os.path.dirname(os.path.realpath(__file__)))
-PROGRAM = "protogate"
+PROGRAM = stamp.PROGRAM
 # What a check is likely to take of memory at most, in bytes.
 CHECK = 4_000_000_000
+# What a build takes of the disk while it runs, in bytes.
+DISK = 5_000_000_000
 # The status with which the program ends after its help.
 USAGE = 4
-
-
-def crates():
-    """Returns what crates.txt says: each crate's libraries in this repository, by name."""
-    with open(f"{TOP}/crates.txt", encoding="utf-8") as file:
-        lines = [it.partition("#")[0].partition(":") for it in file]
-    said = {name.split()[0]: below.split() for name, _, below in lines if name.strip()}
-    return {name: [it for it in below if it in said] for name, below in said.items()}
-
-
-def below(name, said, found=None):
-    """Returns a crate and all that it stands on, lowest first, each once."""
-    found = [] if found is None else found
-    for it in said[name]:
-        if it not in found:
-            below(it, said, found)
-    return [*found, name] if name == PROGRAM else found.append(name)
-
-
-def size(name):
-    """Returns the bytes that a check of the crate reads of it, which its time goes by."""
-    walked = os.walk(f"{TOP}/crates/{name}")
-    parts = re.compile(r"/(src|specs|proofs)(/|$)")
-    return sum(os.path.getsize(f"{at}/{it}") for at, _, files in walked if parts.search(at) for it in files)
+# So many jobs a check is faster by more of them.
+MOST_JOBS = 4
+# The processor seconds below which a crate was taken as it stands.
+TAKEN = 4
+# What a build wants on the path, and what for.
+PROGRAMS = {"rt": "the kit that proves and builds", "cc": "it links the program"}
 
 
 def claims(name, said):
     """Returns what rt keeps other checks out of while it works on a crate: the crate and all below it."""
-    return {name}.union(*(claims(it, said) for it in said[name]))
-
-
-def chains(names, said):
-    """Returns for each crate how long the longest chain is that begins with it and goes upwards."""
-    longest = {}
-    for name in reversed(names):
-        longest[name] = size(name) + max([longest[it] for it in names if name in said[it]], default=0)
-    return longest
-
-
-def free_memory():
-    with open("/proc/meminfo", encoding="utf-8") as file:
-        return 1024 * int(re.search(r"MemAvailable:\s+(\d+)", file.read())[1])
+    return {name, *(it.name for it in said[name].below())}
 
 
 def say(text):
@@ -74,18 +56,13 @@ def lane_of(name):
     return f"{TOP}/crates/{PROGRAM}/out/lanes/{name}"
 
 
-def link_tree(source, to):
-    """Copies a folder by links, which take no room."""
-    shutil.copytree(source, to, copy_function=os.link, symlinks=True)
-
-
 def copy_crate(name, top, is_built):
     """Copies what a check reads of a crate, with its library where that is built."""
-    for it in ("src", "specs", "proofs"):
+    for it in PARTS:
         if os.path.isdir(f"{TOP}/crates/{name}/{it}"):
             shutil.copytree(f"{TOP}/crates/{name}/{it}", f"{top}/crates/{name}/{it}")
     if is_built:
-        link_tree(f"{TOP}/crates/{name}/out/rlib", f"{top}/crates/{name}/out/rlib")
+        shutil.copytree(f"{TOP}/crates/{name}/out/rlib", f"{top}/crates/{name}/out/rlib", copy_function=link_or_copy, symlinks=True)
 
 
 def open_lane(name, said):
@@ -96,8 +73,8 @@ def open_lane(name, said):
         copy_crate(it, top, it != name)
     if os.path.isdir(f"{TOP}/crates/{name}/out"):
         shutil.copytree(f"{TOP}/crates/{name}/out", f"{top}/crates/{name}/out", symlinks=True)
-    with open(f"{TOP}/crates.txt", encoding="utf-8") as whole, open(f"{top}/crates.txt", "w", encoding="utf-8") as file:
-        file.writelines(it for it in whole if it.partition(":")[0].strip() in claims(name, said))
+    with open(f"{top}/crates.txt", "w", encoding="utf-8") as file:
+        file.write("".join(f"{said[it].line}\n" for it in claims(name, said)))
     return f"{top}/crates/{name}"
 
 
@@ -110,109 +87,138 @@ def close_lane(name):
     shutil.rmtree(lane_of(name), ignore_errors=True)
 
 
-def begin(name, jobs, folder, room):
-    """Starts the crate's check. A program is run as soon as it is built: its help says that it is there."""
-    words = ["rt", "run", "--", "--help"] if name == PROGRAM else ["rt", "lib", "--jobs", str(jobs)]
-    with open(f"{room}/{name}", "w", encoding="utf-8") as log:
-        how = {"stdin": subprocess.DEVNULL, "stdout": log, "stderr": subprocess.STDOUT, "process_group": 0}
-        return subprocess.Popen(words, cwd=folder, **how)
+class Build:
+    """The crates of a build: those that are left, those whose checks run, and how long all is likely to take."""
 
+    def __init__(self, room):
+        self.room, self.said = room, crates_of(TOP)
+        self.names = [*(it.name for it in self.said[PROGRAM].below()), PROGRAM]
+        self.left, self.running, self.kept, self.seconds = [*self.names], {}, [], {}
+        costs, below = times.read(), {it: [dep.name for dep in self.said[it].deps] for it in self.names}
+        much = {it: sum(costs.get(it, times.UNKNOWN)[kind] for kind in ("proof", "programs")) for it in self.names}
+        self.longest = times.chains(much, below)
+        # (a check with several jobs is faster, but not by as much)
+        speed = 1 + 0.45 * (min(MOST_JOBS, self.jobs()) - 1)
+        much = {it: seconds / speed for it, seconds in much.items()}
+        self.progress = times.Progress({"crates": (much, below)}, max(1, round(lanes() / speed)), say)
 
-def ended(running):
-    """Waits until one of the checks has ended, and returns its crate and status."""
-    while True:
-        for name, check in running.items():
-            if check.poll() is not None:
-                return name, check.returncode
-        time.sleep(0.05)
+    @staticmethod
+    def jobs():
+        """Returns how many jobs a check may have: nearly one a processor, since its last functions are mostly proved one after the other. So checks that run
+        side by side fill each other's gaps."""
+        return max(1, min(processors() - 1, free_memory() // CHECK))
 
+    def choose(self):
+        """Returns the crates whose check can begin now, those with the longest chain of others first."""
+        most = max(1, min(processors(), free_memory() // CHECK + len(self.running)))
+        ready = [it for it in self.left if it not in self.running and not any(dep.name in self.left for dep in self.said[it].deps)]
+        return sorted(ready, key=lambda it: -self.longest[it])[: max(0, most - len(self.running))]
 
-def choose(left, running, longest, said):
-    """Returns the crates whose check can begin now, those with the longest chain behind them first."""
-    lanes = max(1, min(len(os.sched_getaffinity(0)), free_memory() // CHECK + len(running)))
-    ready = [it for it in left if it not in running and not any(dep in left for dep in said[it])]
-    return sorted(ready, key=lambda it: -longest[it])[: max(0, lanes - len(running))]
+    def start_ready(self):
+        """Starts the checks that can begin now."""
+        for name in self.choose():
+            taken = set().union(*(claims(it, self.said) for it in self.running))
+            folder = f"{TOP}/crates/{name}" if taken.isdisjoint(claims(name, self.said)) else open_lane(name, self.said)
+            self.begin(name, folder)
+            say(f"proving {name} ({len(self.left)} of {len(self.names)} crates left)")
 
+    def begin(self, name, folder):
+        """Starts the crate's check. A program is run as soon as it is built: its help says that it is there."""
+        words = ["rt", "run", "--", "--help"] if name == PROGRAM else ["rt", "lib", "--jobs", str(self.jobs())]
+        self.progress.begin(name)
+        with open(f"{self.room}/{name}", "w", encoding="utf-8") as log:
+            how = {"stdin": subprocess.DEVNULL, "stdout": log, "stderr": subprocess.STDOUT}
+            self.running[name] = ending.start(words, cwd=folder, **how)
 
-def start_ready(left, running, longest, said, room):
-    """Starts the checks that can begin now. Each may use nearly all processors, since its last functions are mostly proved one after the
-    other: so checks that run side by side fill each other's gaps."""
-    for name in choose(left, running, longest, said):
-        jobs = max(1, min(len(os.sched_getaffinity(0)) - 1, free_memory() // CHECK))
-        taken = set().union(*(claims(it, said) for it in running))
-        folder = f"{TOP}/crates/{name}" if taken.isdisjoint(claims(name, said)) else open_lane(name, said)
-        running[name] = begin(name, jobs, folder, room)
-        say(f"proving {name} ({len(left)} of {len(longest)} crates left)")
+    def ended(self):
+        """Waits until one of the checks has ended, and returns its crate and status."""
+        while True:
+            for name, check in self.running.items():
+                if os.waitid(os.P_PID, check.pid, os.WEXITED | os.WNOHANG | os.WNOWAIT):
+                    status, self.seconds[name] = ending.wait(check)
+                    return name, status
+            time.sleep(0.05)
 
-
-def stop(running):
-    """Stops the checks that are running, with what they started, and waits for them."""
-    for check in running.values():
-        with contextlib.suppress(ProcessLookupError):
-            os.killpg(check.pid, signal.SIGINT)
-        check.wait()
-
-
-def tell(name, room):
-    """Prints what the check said of a crate that isn't proved."""
-    with open(f"{room}/{name}", encoding="utf-8", errors="replace") as log:
-        sys.stderr.write(log.read())
-    say(f"{name} is not proved; what is proved is kept, and the next run goes on from there")
-
-
-def build(room):
-    said = crates()
-    names = below(PROGRAM, said)
-    longest, left, running = chains(names, said), [*names], {}
-    for name in names:
+    def close(self, name):
         close_lane(name)
-    try:
-        while left:
-            start_ready(left, running, longest, said, room)
-            name, status = ended(running)
+        del self.running[name]
+        self.left.remove(name)
+        self.progress.end(name)
+        if self.seconds[name] < TAKEN:
+            self.kept.append(name)
+
+    def run(self):
+        for name in self.names:
             close_lane(name)
-            del running[name]
-            left.remove(name)
-            if status != (USAGE if name == PROGRAM else 0):
-                tell(name, room)
-                return False
-        return True
-    finally:
-        stop(running)
+        try:
+            with self.progress:
+                while self.left:
+                    self.start_ready()
+                    name, status = self.ended()
+                    self.close(name)
+                    if status != (USAGE if name == PROGRAM else 0):
+                        self.tell(name)
+                        return False
+            return True
+        finally:
+            self.stop()
+
+    def stop(self):
+        """Stops the checks that are running, with what they started, and waits for them."""
+        if self.running:
+            ending.end_all()
+
+    def tell(self, name):
+        """Prints what the check said of a crate that isn't proved."""
+        with open(f"{self.room}/{name}", encoding="utf-8", errors="replace") as log:
+            sys.stderr.write(log.read())
+        say(f"{name} is not proved; what is proved is kept, and the next run goes on from there")
+
+
+def clear(names):
+    """Removes what only a next check of these libraries needs: of what was built of them, all but the libraries."""
+    for name in names:
+        out = f"{TOP}/crates/{name}/out"
+        for it in os.listdir(out) if name != PROGRAM and os.path.isdir(out) else []:
+            if it != "rlib":
+                shutil.rmtree(f"{out}/{it}", ignore_errors=True)
 
 
 @contextlib.contextmanager
 def alone():
-    """Waits until no other build of this checkout runs, since they share lanes. The program's folder is what is locked."""
-    folder = os.open(f"{TOP}/crates/{PROGRAM}", os.O_RDONLY)
-    try:
-        fcntl.flock(folder, fcntl.LOCK_EX | fcntl.LOCK_NB)
-    except BlockingIOError:
-        say("another build runs here; waiting for it")
-        fcntl.flock(folder, fcntl.LOCK_EX)
-    try:
+    """Waits until no other build of this checkout runs, since they share lanes. This script is what is locked: rt locks the folders of crates."""
+    path = os.path.realpath(__file__)
+    with open(path, "r+b" if os.access(path, os.W_OK) else "rb") as file:
+        try:
+            fcntl.flock(file, fcntl.LOCK_EX | fcntl.LOCK_NB)
+        except BlockingIOError:
+            say("another build runs here; waiting for it")
+            fcntl.flock(file, fcntl.LOCK_EX)
+        except OSError:
+            # (some file systems have no locks)
+            pass
         yield
-    finally:
-        os.close(folder)
 
 
 def main():
-    for number in (signal.SIGTERM, signal.SIGHUP):
-        signal.signal(number, lambda number, _: sys.exit(128 + number))
+    lacking = missing(PROGRAMS, {f"{TOP}/crates/{PROGRAM}/out": DISK, tempfile.gettempdir(): 0})
+    for it in lacking:
+        say(it)
+    if lacking:
+        return 2
+    ending.on_signals()
     with alone(), tempfile.TemporaryDirectory(prefix="protogate-build-") as room:
-        begun = time.time()
-        say("proving and building: some 40 minutes on four idle processors the first time")
-        if not build(room):
+        begun, build = stamp.read_at(TOP), Build(room)
+        say(f"proving and building: some {times.in_words(build.progress.left())} on {processors()} processors, where nothing is kept from earlier runs")
+        if not build.run():
             return 1
-    stamp = f"{TOP}/crates/{PROGRAM}/out/{PROGRAM}.begun"
-    with open(stamp, "w", encoding="utf-8"):
-        pass
-    os.utime(stamp, (begun, begun))
+        if build.kept:
+            say(f"kept from earlier runs: {' '.join(build.kept)}")
+        stamp.write(TOP, begun)
+        if "--keep" not in sys.argv[1:]:
+            clear(build.names)
     return 0
 
 
 if __name__ == "__main__":
-    try:
-        sys.exit(main())
-    except KeyboardInterrupt:
-        sys.exit(130)
+    sys.exit(main())

@@ -1,0 +1,99 @@
+"""How long proofs are likely to take: the measured seconds of each crate (costs.txt), and a model of checks that run side by side."""
+
+import os
+import threading
+import time
+
+COSTS = f"{os.path.dirname(os.path.realpath(__file__))}/costs.txt"
+KINDS = ("proof", "edits", "tests", "programs")
+# What a crate that isn't listed is likely to take, by kind.
+UNKNOWN = dict(zip(KINDS, (60, 0, 0, 10)))
+HEAD = """# Processor seconds of each crate by kind, from nothing; the last line is what tries the built program. They are written by
+# tools/prove.py --costs, and tell it and tools/build.py how long a run is likely to take.
+"""
+
+
+def read(path=COSTS):
+    """Returns the seconds of each crate by kind."""
+    found = {}
+    with open(path, encoding="utf-8") as file:
+        for line in (it.partition("#")[0].split() for it in file):
+            if line and line[0] != "crate":
+                found[line[0]] = dict(zip(KINDS, map(int, line[1:])))
+    return found
+
+
+def write(table, path=COSTS):
+    """Writes the seconds of each crate by kind."""
+    names = sorted(table, key=lambda it: (it == "testers", -sum(table[it].values()), it))
+    rows = [["crate", *KINDS], *([it, *(str(round(table[it].get(kind, 0))) for kind in KINDS)] for it in names)]
+    with open(path, "w", encoding="utf-8") as file:
+        file.write(HEAD + "".join(f"{row[0]:22}" + "".join(f"{it:>10}" for it in row[1:]) + "\n" for row in rows))
+
+
+def chains(seconds, below):
+    """Returns for each task the seconds of the longest chain that begins with it: of it and of those that wait for it. `below` gives what each waits for."""
+    found = {}
+
+    def chain(name):
+        if name not in found:
+            found[name] = seconds[name] + max((chain(it) for it in seconds if name in below[it]), default=0)
+        return found[name]
+
+    return {it: chain(it) for it in seconds}
+
+
+def clock(seconds, below, lanes):
+    """Returns how long these tasks take where so many run side by side: each once those that it waits for have ended, the longest chain first."""
+    longest, now, running, left = chains(seconds, below), 0, {}, {*seconds}
+    while left or running:
+        for name in sorted(left, key=lambda it: (-longest[it], it)):
+            if len(running) < lanes and not any(it in left or it in running for it in below[name]):
+                running[name] = now + seconds[name]
+        left -= {*running}
+        now = min(running.values())
+        running = {it: end for it, end in running.items() if end > now}
+    return now
+
+
+def in_words(seconds):
+    minutes = max(1, round(seconds / 60))
+    return f"{minutes} minutes" if minutes < 100 else f"{minutes / 60:.1f} hours"
+
+
+class Progress:
+    """What is done and what is left, in phases one after the other: each has tasks with their seconds, and what each waits for."""
+
+    def __init__(self, phases, lanes, say, pause=60):
+        self.phases, self.lanes, self.say, self.pause = phases, lanes, say, pause
+        self.begun, self.done, self.is_over = {}, set(), threading.Event()
+
+    def begin(self, name):
+        self.begun.setdefault(name, time.monotonic())
+
+    def end(self, name):
+        self.done.add(name)
+
+    def left(self):
+        """Returns how many seconds are likely to be left, of which those that tasks have run count as done."""
+        whole = 0
+        for seconds, below in self.phases.values():
+            now = time.monotonic()
+            rest = {it: max(1, much - (now - self.begun.get(it, now))) for it, much in seconds.items() if it not in self.done}
+            whole += clock(rest, {it: [at for at in below[it] if at in rest] for it in rest}, self.lanes)
+        return whole
+
+    def told(self):
+        parts = [f"{len(self.done & {*seconds})} of {len(seconds)} {name}" for name, (seconds, _) in self.phases.items() if seconds]
+        return f"done: {', '.join(parts)}; some {in_words(self.left())} left"
+
+    def watch(self):
+        while not self.is_over.wait(self.pause):
+            self.say(self.told())
+
+    def __enter__(self):
+        threading.Thread(target=self.watch, daemon=True).start()
+        return self
+
+    def __exit__(self, *_):
+        self.is_over.set()
