@@ -1,21 +1,23 @@
 #!/usr/bin/env python3
-"""Runs the gate (`rt ci`: each proof, the edits that must be refused, the tests and the programs) and tells what it cost.
+"""Runs the gate (`rt ci`: each proof, the tests and the programs; and the edits that must be refused) and tells what it cost.
 
-usage: tools/prove.py [--anew] [CRATE..]    ends with the gate's status, and with its last line, 'N passed, M failed'
+usage: tools/prove.py [--anew] [--costs] [CRATE..]    ends with the gate's status, and with its last line, 'N passed, M failed'
 
 The gate runs on a copy of the repository, or, where crates are named, of these and of those that they stand on. Edits are taken out of the
 copy, and tried afterwards over the libraries that `rt ci` built there, those of a crate in one check or a few (try_edits.py); `rt ci` in
 the repository itself tries each alone, and proves each crate that has some a second time. With no names the documents' words, links and
-pictures are compared first, a message that outlives its bytes is tried over the libraries too (try_lent.py), and what was built is put back
-into the repository and tried last: the program and the libraries' calls with each request for memory refused, the program on rows and on
-random inputs, the scripts that call it, and the commands of the documents.
+pictures are compared first, and that each public function has an edit; a message that outlives its bytes is tried over the libraries too
+(try_lent.py). What passed is put back into the repository, where its sources are still the same, and tried last: the program and the
+libraries' calls with each request for memory refused, the program on rows and on random inputs, the scripts that call it, the commands of
+the documents, and the tests of these scripts.
 What earlier runs on this machine passed is taken as it stands; with --anew all is proved and tried again.
 
-Lines of rt stand behind the seconds since the start. The last lines are the processor seconds of each crate by kind: its proof, its seeds (a second
-proof, where edits are left to `rt ci`), its edits, its tests, and what builds and runs programs, with what tries the built ones. Without
-RT_JOBS as many checks run side by side as there are processors, and memory for 5 GB each.
+It says at the start, and each minute, how long it is likely to take. A line of rt follows the seconds since the start. The last lines are the
+processor seconds of each crate by kind: its proof, its seeds (a second proof, where edits are left to `rt ci`), its edits, its tests, and
+what builds and runs programs, with what tries the built ones. With --costs these become what later runs are measured by (costs.txt).
 """
 
+import hashlib
 import os
 import re
 import resource
@@ -27,121 +29,50 @@ import threading
 import time
 
 sys.dont_write_bytecode = True
-from try_edits import lanes, load_kit, plan, try_all  # noqa: E402
+import ending  # noqa: E402
+import kit  # noqa: E402
+import stamp  # noqa: E402
+import times  # noqa: E402
+from costs import KINDS, Costs, print_costs  # noqa: E402
+from crates import crates_of  # noqa: E402
+from machine import lanes, missing, processors  # noqa: E402
+from try_edits import plan, try_all  # noqa: E402
 
-KINDS = ("proof", "seeds", "edits", "tests", "programs")
+# What compares the documents, pictures and edits with what they are of: it takes seconds.
+COMPARED = ("model_files.py", "links.py", "pictures.py", "held_edits.py")
 # What tries what was built: the program and the calls with each request for memory refused, the program on rows, and the scripts that
-# call it.
-TESTERS = ("try_program_memory.py", "try_call_memory.py", "try_rows.py", "test_ci.py", "test_packages.py")
+# call it. The last ones try the gate itself.
+TESTERS = (
+    "try_program_memory.py",
+    "try_call_memory.py",
+    "try_rows.py",
+    "test_ci.py",
+    "test_packages.py",
+    "test_try_edits.py",
+    "test_gate.py",
+    "try_other_kit.py",
+)
 # What tries the program on random inputs. It comes alone, since it keeps all processors busy for some minutes.
 FUZZER = ("tools/fuzz.py",)
 # What runs the commands of the documents with the program that was built. It comes last, since some of its waits go by the clock.
 EXAMPLES = ("tools/try_examples.sh", "crates/protogate/out/protogate")
-TICKS = os.sysconf("SC_CLK_TCK")
-# How often processes are looked at, in seconds: what a process takes after the last look counts for no crate, but for the sum.
-PAUSE = 0.2
+# What the gate wants on the path, and what for.
+PROGRAMS = {"rt": "the kit that proves and builds", "git": "it makes the repository that the gate runs on", "cc": "it links programs"}
+# What the gate takes of the disk, in bytes: of all crates, and of some.
+DISK, DISK_OF_SOME = 6_000_000_000, 2_000_000_000
+# What a line of rt says of a crate whose proof is done.
+DONE = re.compile(r"rt: (\w+) (?:proved|NOT PROVED|(is kept))\b")
+HOW = {"stdin": subprocess.DEVNULL, "stdout": subprocess.PIPE, "stderr": subprocess.STDOUT, "text": True, "errors": "replace"}
 
 
-def stat_of(pid):
-    """Returns a process's parent and the processor seconds of it and of the children that it has waited for."""
-    with open(f"/proc/{pid}/stat", encoding="utf-8", errors="replace") as file:
-        fields = file.read().rpartition(")")[2].split()
-    return int(fields[1]), sum(map(int, fields[11:15])) / TICKS
+def say(text):
+    print(f"protogate: {text}", flush=True)
 
 
-def words_of(pid):
-    with open(f"/proc/{pid}/cmdline", encoding="utf-8", errors="replace") as file:
-        return file.read().split("\0")
-
-
-def behind(word, words):
-    """Returns the word behind this one, or nothing."""
-    return next((other for one, other in zip(words, words[1:]) if one == word), "")
-
-
-def is_check(words):
-    return os.path.basename(words[0]) == "rattle" and words[1:2] in (["check"], ["build"])
-
-
-def kind_of(pid, words):
-    """Returns the crate that a check is of, and the kind of work that it is."""
-    crate = behind("--crate-name", words)
-    if "/rt-edit-" in os.readlink(f"/proc/{pid}/cwd"):
-        return crate, "seeds" if os.path.basename(behind("--incremental", words)) == "seed" else "edits"
-    if "--crate-checked" in words:
-        return crate, "programs"
-    return crate, "tests" if "--test" in words else "proof"
-
-
-class Costs:
-    """What the processes below one have taken, by crate and kind. Each is known by its number and what it runs, since numbers come again."""
-
-    def __init__(self, top):
-        self.top, self.seconds, self.is_over = top, {}, False
-
-    def is_below(self, pid, parents):
-        while pid in parents and pid != self.top:
-            pid = parents[pid]
-        return pid == self.top
-
-    def look(self):
-        parents, taken = {}, {}
-        for name in filter(str.isdigit, os.listdir("/proc")):
-            try:
-                parents[int(name)], taken[int(name)] = stat_of(name)
-            except (OSError, ValueError):
-                pass
-        for pid in taken:
-            if pid != self.top and self.is_below(pid, parents):
-                self.note(pid, parents[pid], taken[pid])
-
-    def note(self, pid, parent, seconds):
-        """Notes what a check has taken. One that another began counts there once it has ended."""
-        try:
-            words = words_of(pid)
-            if is_check(words) and not is_check(words_of(parent)):
-                key = pid, behind("-o", words), os.readlink(f"/proc/{pid}/cwd"), *kind_of(pid, words)
-                self.seconds[key] = max(self.seconds.get(key, 0), seconds)
-        except OSError:
-            pass
-
-    def watch(self):
-        while not self.is_over:
-            self.look()
-            time.sleep(PAUSE)
-
-    def table(self):
-        """Returns for each crate the seconds of each kind."""
-        found = {}
-        for (_, _, _, crate, kind), seconds in self.seconds.items():
-            row = found.setdefault(crate, dict.fromkeys(KINDS, 0.0))
-            row[kind] += seconds
-        return found
-
-
-def print_costs(table, whole):
-    """Prints a line for each crate and one for the sum; what no check took (rt itself, linking, the runs, testers) counts among programs."""
-    print(f"{'processor seconds':24}" + "".join(f"{it:>10}" for it in (*KINDS, "whole")))
-    sums = dict.fromkeys(KINDS, 0.0)
-    for crate, row in sorted(table.items(), key=lambda it: -sum(it[1].values())):
-        print(f"{crate:24}" + "".join(f"{it:10.0f}" for it in (*row.values(), sum(row.values()))))
-        sums = {kind: sums[kind] + row[kind] for kind in KINDS}
-    sums["programs"] += max(0.0, whole - sum(sums.values()))
-    print(f"{'sum':24}" + "".join(f"{it:10.0f}" for it in (*sums.values(), whole)))
-    print("; ".join(f"{kind} {seconds:.0f}" for kind, seconds in sums.items()) + f"; whole {whole:.0f} processor seconds")
-
-
-def below(names):
-    """Returns the lines of crates.txt for these crates and for those that they stand on."""
-    with open("crates.txt", encoding="utf-8") as file:
-        lines = {it.partition(":")[0].split()[0]: it for it in file if ":" in it.partition("#")[0]}
-    found, left = {}, [*names]
-    while left:
-        name = left.pop()
-        if name in lines and name not in found:
-            found[name] = lines[name]
-            left += lines[name].partition(":")[2].split()
-    return found
+def named(names):
+    """Returns these crates and those that they stand on."""
+    crates = crates_of(".")
+    return {it.name: it for name in names if name in crates for it in (*crates[name].below(), crates[name])}
 
 
 def copy_all(room):
@@ -156,21 +87,32 @@ def copy_all(room):
     subprocess.run(["git", "init", "-q", room], check=True)
 
 
-def copy_of(lines, room):
-    """Makes a repository of the crates of these lines."""
-    for name in lines:
+def copy_of(crates, room):
+    """Makes a repository of these crates."""
+    for name in crates:
         shutil.copytree(f"crates/{name}", f"{room}/crates/{name}", ignore=shutil.ignore_patterns("out"))
     shutil.copyfile("HANDLES", f"{room}/HANDLES")
     with open(f"{room}/crates.txt", "w", encoding="utf-8") as file:
-        file.write("".join(lines.values()))
+        file.write("".join(f"{it.line}\n" for it in crates.values()))
     subprocess.run(["git", "init", "-q", room], check=True)
 
 
-def take_edits(kit, room):
+def sums(top):
+    """Returns a checksum of each file that the program is made of, by its path."""
+    found = {}
+    crates = [f"{top}/crates/{it}/{part}" for it in os.listdir(f"{top}/crates") for part in kit.PARTS]
+    files = [f"{at}/{name}" for folder in crates for at, _, names in os.walk(folder) for name in names]
+    for path in (*files, f"{top}/crates.txt", f"{top}/HANDLES"):
+        with open(path, "rb") as file:
+            found[os.path.relpath(path, top)] = hashlib.sha256(file.read()).hexdigest()
+    return found
+
+
+def take_edits(room):
     """Takes the edits that try_edits.py tries out of a repository, and returns them: none where `rt ci` will say what is wrong with it."""
     try:
-        plans = plan(kit, room)
-    except SystemExit:
+        plans = plan(room)
+    except (SystemExit, OSError, KeyError):
         return []
     for path in (path for it in plans for path in it.paths):
         os.remove(path)
@@ -180,83 +122,149 @@ def take_edits(kit, room):
     return plans
 
 
-def pass_on(lines, begun, room):
-    """Prints each line as it comes but the last, which is returned."""
-    held = ""
-    for line in lines:
-        print(held, end="", flush=True)
-        line = line.replace(f"{room}/", "")
-        held = f"{time.time() - begun:5.0f} s  {line}" if line.startswith("rt:") else line
-    return held
+def progress_of(room, plans, testers):
+    """Returns how far a run is: the proofs of the crates in the room, their edits, and what tries the program."""
+    costs, crates = times.read(), crates_of(room)
+    proofs = {it: sum(costs.get(it, times.UNKNOWN)[kind] for kind in ("proof", "tests", "programs")) for it in crates}
+    edits = {f"edits of {it.crate.name}": max(10, costs.get(it.crate.name, times.UNKNOWN)["edits"]) for it in plans}
+    tried = {it: costs.get("testers", times.UNKNOWN)["programs"] / len(testers) for it in testers}
+    below = {it: [dep.name for dep in crates[it].deps] for it in crates}
+    phases = {"crates": (proofs, below), "crates' edits": (edits, dict.fromkeys(edits, ())), "testers": (tried, dict.fromkeys(tried, ()))}
+    return times.Progress(phases, lanes(), say)
 
 
-def run_ci(room, words, begun, jobs):
-    """Runs `rt ci` with these words on the repository in the room. Returns its status, its last line, the costs of each crate and their sum."""
-    how = {"stdout": subprocess.PIPE, "stderr": subprocess.STDOUT, "text": True, "errors": "replace"}
-    env = {**os.environ, "RT_JOBS": str(jobs)}
-    run = subprocess.Popen(["rt", "ci", *words], cwd=room, stdin=subprocess.DEVNULL, env=env, **how)
-    costs = Costs(run.pid)
-    watch = threading.Thread(target=costs.watch)
-    watch.start()
-    last = pass_on(run.stdout, begun, room)
-    costs.is_over = True
-    watch.join()
-    _, status, used = os.wait4(run.pid, 0)
-    return os.waitstatus_to_exitcode(status), last.strip(), costs.table(), used.ru_utime + used.ru_stime
+def environment():
+    """Returns what rt is told of its jobs: what the user set, else one check a processor where there is memory for each by what checks were measured to
+    take. Where there isn't, rt itself keeps checks apart by the memory that it expects, which is two to five times as much."""
+    is_set = "RT_JOBS" in os.environ or lanes() < processors()
+    return {**os.environ} if is_set else {**os.environ, "RT_JOBS": str(processors())}
 
 
-def prove(room, words):
-    """Runs `rt ci` on the repository in the room, and tries the edits of its crates. Returns the status, the last line, the costs of each
-    crate and their sum."""
-    begun, kit, jobs = time.time(), load_kit(), lanes()
-    plans = take_edits(kit, room)
-    status, last, table, whole = run_ci(room, words, begun, jobs)
-    if status == 0:
-        passed, failed = try_all(kit, plans, jobs, "--anew" in words)
-        status, last = int(failed > 0), counted(last, passed, failed)
-        for it in (it for it in plans if it.seconds):
-            table.setdefault(it.crate.name, dict.fromkeys(KINDS, 0.0))["edits"] += it.seconds
-            whole += it.seconds
-    print(f"{time.time() - begun:.0f} seconds by the clock, {jobs} checks side by side", flush=True)
+class Proofs:
+    """A run of `rt ci` on the repository in the room: its lines as they come, and what its checks take."""
+
+    def __init__(self, room, progress):
+        self.room, self.progress, self.kept, self.begun = room, progress, [], time.time()
+
+    def pass_on(self, lines):
+        """Prints each line as it comes but the last. Returns the first and the last."""
+        first = held = ""
+        for line in lines:
+            print(held, end="", flush=True)
+            line = line.replace(f"{self.room}/", "")
+            first = first or line
+            if done := DONE.match(line):
+                self.progress.end(done[1])
+                self.kept += [done[1]] * bool(done[2])
+            held = f"{time.time() - self.begun:5.0f} s  {line}" if line.startswith("rt:") else line
+        return first, held
+
+    def run(self, words):
+        """Runs `rt ci` with these words. Returns its status, its first and last line, the costs of each crate and their sum."""
+        run = ending.start(["rt", "ci", *words], cwd=self.room, env=environment(), **HOW)
+        costs = Costs(run.pid, self.progress.begin)
+        watch = threading.Thread(target=costs.watch, daemon=True)
+        watch.start()
+        first, last = self.pass_on(run.stdout)
+        costs.is_over = True
+        watch.join()
+        status, seconds = ending.wait(run)
+        return status, first, last.strip(), costs.table(), seconds
+
+
+def run_ci(room, flags, progress):
+    """Runs `rt ci` on the repository in the room, with --anew where that is asked for and the kit takes it. Returns its status, its last line, the costs
+    of each crate and their sum."""
+    proofs = Proofs(room, progress)
+    status, first, last, table, whole = proofs.run(flags)
+    if flags and status == 2 and first.lstrip().startswith("usage:"):
+        say("this kit's `rt ci` takes no --anew, and proves what it says itself")
+        status, first, last, table, whole = proofs.run([])
+    if proofs.kept:
+        say(f"kept from earlier runs: the proofs of {' '.join(proofs.kept)}")
     return status, last, table, whole
 
 
-def put_back(room):
-    """Puts the programs that were built in the room into the repository."""
+def try_plans(plans, is_anew, progress):
+    """Tries these edits over the libraries that were built. Returns how many passed and failed."""
+    if not kit.build_libraries({dep.folder: dep for it in plans for dep in it.crate.below()}.values()):
+        return 0, 1
+    passed, failed = try_all(plans, lanes(), is_anew, tell=lambda it: progress.end(f"edits of {it.crate.name}"))
+    kept = [it.crate.name for it in plans if it.is_kept]
+    if kept:
+        say(f"kept from earlier runs: the edits of {' '.join(kept)}")
+    return passed, failed
+
+
+def prove(room, flags, plans, progress):
+    """Runs `rt ci` on the repository in the room, and tries the edits of its crates. Returns the status, the last line, the costs of each
+    crate and their sum."""
+    begun = time.time()
+    status, last, table, whole = run_ci(room, flags, progress)
+    if status == 0:
+        before = resource.getrusage(resource.RUSAGE_CHILDREN)
+        passed, failed = try_plans(plans, "--anew" in flags, progress)
+        status, last = int(failed > 0), counted(last, passed, failed)
+        for it in (it for it in plans if it.seconds):
+            table.setdefault(it.crate.name, dict.fromkeys(KINDS, 0.0))["edits"] += it.seconds
+        whole += seconds_since(before)
+    print(f"{time.time() - begun:.0f} seconds by the clock, on {processors()} processors", flush=True)
+    return status, last, table, whole
+
+
+def seconds_since(before):
+    after = resource.getrusage(resource.RUSAGE_CHILDREN)
+    return after.ru_utime + after.ru_stime - before.ru_utime - before.ru_stime
+
+
+def put_back(room, copied, begun):
+    """Puts the programs that were built in the room into the repository, where its sources are those that were copied, and notes that. Returns whether it
+    did."""
+    here = sums(".")
+    changed = [it for it in sorted({*here, *copied}) if here.get(it) != copied.get(it)]
+    if changed:
+        say(f"{changed[0]} was changed while the gate ran, so what it built isn't put into place: run it again")
+        return False
     for name in os.listdir(f"{room}/crates"):
         made = f"{room}/crates/{name}/out"
         for it in os.listdir(made) if os.path.isdir(made) else []:
             if os.path.isfile(f"{made}/{it}"):
                 os.makedirs(f"crates/{name}/out", exist_ok=True)
-                shutil.copy2(f"{made}/{it}", f"crates/{name}/out/.new")
-                os.replace(f"crates/{name}/out/.new", f"crates/{name}/out/{it}")
+                with stamp.replaced(f"crates/{name}/out/{it}") as path:
+                    shutil.copy2(f"{made}/{it}", path)
+    stamp.write(".", begun)
+    return True
 
 
 def documents_agree():
-    """Returns whether the documents name the files that the promise rests on, their links lead somewhere, and the pictures say what
-    their texts say."""
-    return all([subprocess.run([f"tools/{it}", "--compare"]).returncode == 0 for it in ("model_files.py", "links.py", "pictures.py")])
+    """Returns whether the documents name the files that the promise rests on, their links lead somewhere, the pictures say what their texts say, and
+    each public function has an edit."""
+    return all([subprocess.run([f"tools/{it}", "--compare"]).returncode == 0 for it in COMPARED])
 
 
 def try_lent(room):
     """Tries a message that outlives its bytes over the libraries in the room. Prints what was said, and returns whether it was right."""
-    return subprocess.run([sys.executable, f"{os.getcwd()}/tools/try_lent.py", room], stdin=subprocess.DEVNULL, check=False).returncode == 0
+    return ending.run([sys.executable, f"{os.getcwd()}/tools/try_lent.py", room], stdin=subprocess.DEVNULL)[0] == 0
 
 
-def try_program():
+def try_program(progress):
     """Runs the testers of what `rt ci` built side by side, then the fuzzer, and then the examples. Prints what each said, in that order.
-    Returns which passed, and the processor seconds of all."""
-    before = resource.getrusage(resource.RUSAGE_CHILDREN)
-    how = {"stdin": subprocess.DEVNULL, "stdout": subprocess.PIPE, "stderr": subprocess.STDOUT, "text": True, "errors": "replace"}
-    testers = [subprocess.Popen([f"tools/{it}"], **how) for it in TESTERS]
-    for tester in testers:
-        print(tester.communicate()[0], end="", flush=True)
-    alone = []
+    Returns which passed, and what was passed over."""
+    passed, over = [], []
+
+    def ended(name, run):
+        said = run.stdout.read()
+        passed.append(ending.wait(run)[0] == 0)
+        progress.end(name)
+        print(said, end="", flush=True)
+        over.extend(it for it in said.splitlines() if it.startswith("passed over"))
+
+    testers = {it: ending.start([f"tools/{it}"], **HOW) for it in TESTERS}
+    for name, tester in testers.items():
+        ended(name, tester)
     for words in (FUZZER, EXAMPLES):
-        alone.append(subprocess.run(words, **how))
-        print(alone[-1].stdout, end="", flush=True)
-    after = resource.getrusage(resource.RUSAGE_CHILDREN)
-    return [it.returncode == 0 for it in (*testers, *alone)], after.ru_utime + after.ru_stime - before.ru_utime - before.ru_stime
+        ended(words[0], ending.start(words, **HOW))
+    return passed, over
 
 
 def counted(last, passed, failed):
@@ -265,41 +273,72 @@ def counted(last, passed, failed):
     return f"{int(found[1]) + passed} passed, {int(found[2]) + failed} failed" if found else last
 
 
+def tell_start(progress):
+    say(f"some {times.in_words(progress.left())} on {processors()} processors, where nothing is kept from earlier runs")
+
+
 def prove_all(flags):
+    """Runs the whole gate. Returns its status and the costs of each crate."""
     if not documents_agree():
-        print("the documents say something else than the repository\n0 passed, 1 failed")
-        return 1
+        print("the documents, pictures or edits lack something\n0 passed, 1 failed")
+        return 1, {}
+    before, passed, over = resource.getrusage(resource.RUSAGE_CHILDREN), [], []
     with tempfile.TemporaryDirectory(prefix="protogate-gate-") as room:
+        begun = stamp.read_at(".")
         copy_all(room)
-        status, last, table, whole = prove(room, flags)
-        lent = [try_lent(room)] if status == 0 else []
-        put_back(room)
-    passed, seconds = try_program() if status == 0 else ([], 0)
-    passed += lent
-    print_costs(table, whole + seconds)
+        copied, plans = sums(room), take_edits(room)
+        progress = progress_of(room, plans, (*TESTERS, FUZZER[0], EXAMPLES[0]))
+        tell_start(progress)
+        with progress:
+            status, last, table, _ = prove(room, flags, plans, progress)
+            if status == 0:
+                tested = resource.getrusage(resource.RUSAGE_CHILDREN)
+                passed = [try_lent(room), put_back(room, copied, begun)]
+                if passed[-1]:
+                    tried, over = try_program(progress)
+                    passed += tried
+                table["testers"] = {**dict.fromkeys(KINDS, 0.0), "programs": seconds_since(tested)}
+    print_costs(table, seconds_since(before))
+    for line in dict.fromkeys(over):
+        print(line)
     print(counted(last, sum(passed), len(passed) - sum(passed)))
-    return status or 1 - all(passed)
+    return status or 1 - all(passed), table
 
 
 def prove_named(names, flags):
-    """Runs the gate on a copy of these crates and of those that they stand on."""
-    lines = below(names)
-    unknown = [it for it in names if it not in lines]
+    """Runs the gate on a copy of these crates and of those that they stand on. Returns its status and the costs of each crate."""
+    crates = named(names)
+    unknown = [it for it in names if it not in crates]
     if unknown:
         print(f"crates.txt has no {', '.join(unknown)}", file=sys.stderr)
-        return 2
+        return 2, {}
     with tempfile.TemporaryDirectory(prefix="protogate-gate-") as room:
-        copy_of(lines, room)
-        status, last, table, whole = prove(room, flags)
+        copy_of(crates, room)
+        plans = take_edits(room)
+        progress = progress_of(room, plans, ())
+        tell_start(progress)
+        with progress:
+            status, last, table, whole = prove(room, flags, plans, progress)
     print_costs(table, whole)
     print(last)
-    return status
+    return status, table
 
 
 def main():
-    names = [it for it in sys.argv[1:] if it != "--anew"]
+    names = [it for it in sys.argv[1:] if not it.startswith("--")]
     flags = ["--anew"] * ("--anew" in sys.argv)
-    return prove_named(names, flags) if names else prove_all(flags)
+    places = {tempfile.gettempdir(): DISK_OF_SOME if names else DISK}
+    lacking = missing(PROGRAMS, places if names else {**places, stamp.out_of("."): 0})
+    if lacking:
+        print("\n".join([*lacking, "0 passed, 1 failed"]), flush=True)
+        return 2
+    ending.on_signals()
+    status, table = prove_named(names, flags) if names else prove_all(flags)
+    if status == 0 and "--costs" in sys.argv:
+        kept = {} if not names else times.read()
+        found = {it: {**row, "proof": row["proof"] + row["seeds"]} for it, row in table.items()}
+        times.write({**kept, **found})
+    return status
 
 
 if __name__ == "__main__":

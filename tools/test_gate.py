@@ -1,0 +1,428 @@
+#!/usr/bin/env python3
+"""Tests of the gate and the build themselves: with a kit of the tests' own, which proves nothing, on repositories of their own.
+
+usage: tools/test_gate.py    a few seconds
+"""
+
+import contextlib
+import fcntl
+import io
+import os
+import resource
+import shutil
+import signal
+import subprocess
+import sys
+import tempfile
+import time
+import unittest
+from unittest import mock
+
+sys.dont_write_bytecode = True
+import ending  # noqa: E402
+import held_edits  # noqa: E402
+import kit  # noqa: E402
+import machine  # noqa: E402
+import prove  # noqa: E402
+import stamp  # noqa: E402
+import times  # noqa: E402
+
+TOP = os.path.dirname(os.path.dirname(os.path.realpath(__file__)))
+LINE = "a kit of the tests"
+# So long something may take that takes a moment, in seconds: the gate keeps all processors busy beside these tests.
+PATIENCE = 120
+# A kit that says of each crate that it is proved. It locks the crate's folder, and takes as long as it is asked to.
+RT = """#!/bin/sh
+wait_a_while() {
+    flock -w 20 . true || exit 2
+    echo "$1" >>"$RT_LOG"
+    sleep "${RT_SLEEP:-0}"
+    mkdir -p out
+}
+case ${1-} in
+    version) echo 'a kit of the tests' ;;
+    ci)
+        [ $# -eq 1 ] || { echo 'usage: rt ci' >&2; exit 2; }
+        mkdir crates/protogate/out
+        echo proved >crates/protogate/out/protogate
+        wait_a_while ci
+        echo 'rt: low proved'
+        echo 'rt: protogate proved'
+        echo '2 passed, 0 failed' ;;
+    lib) wait_a_while lib && mkdir -p out/rlib out/incremental && echo made >out/rlib/library ;;
+    run) wait_a_while run && echo built >out/protogate && exit 4 ;;
+esac
+"""
+
+
+def write(path, text):
+    os.makedirs(os.path.dirname(path), exist_ok=True)
+    with open(path, "w", encoding="utf-8") as file:
+        file.write(text)
+
+
+def text_of(path):
+    with open(path, encoding="utf-8") as file:
+        return file.read()
+
+
+class Room(unittest.TestCase):
+    """A folder of the test's own, which is also that of temporary files, and a kit that is first on the path."""
+
+    def setUp(self):
+        room = tempfile.TemporaryDirectory()
+        self.addCleanup(room.cleanup)
+        self.room = room.name
+        self.top, self.log, self.made = f"{self.room}/repository", f"{self.room}/log", f"{self.room}/made"
+        os.mkdir(self.made)
+        write(f"{self.room}/kit/rt", RT)
+        os.chmod(f"{self.room}/kit/rt", 0o755)
+        write(f"{self.top}/crates/low/src/lib.rt", "fn low() {}\n")
+        write(f"{self.top}/crates/protogate/src/main.rt", "fn main() {}\n")
+        write(f"{self.top}/crates.txt", "# Two crates.\nlow:\nprotogate: low\n")
+        write(f"{self.top}/HANDLES", "Handles allowed: none.\n")
+        shutil.copytree(f"{TOP}/tools", f"{self.top}/tools", symlinks=True)
+        self.env = {**os.environ, "PATH": f"{self.room}/kit:{os.environ['PATH']}", "RT_LOG": self.log, "TMPDIR": self.made}
+        self.out = f"{self.top}/crates/protogate/out"
+
+    def start(self, script, *words, **env):
+        how = {"stdin": subprocess.DEVNULL, "stdout": subprocess.PIPE, "stderr": subprocess.STDOUT, "text": True}
+        started = subprocess.Popen([sys.executable, f"{self.top}/tools/{script}", *words], env={**self.env, **env}, **how)
+        self.addCleanup(started.stdout.close)
+        return started
+
+    def run_to_end(self, script, *words, **env):
+        """Returns the status and what was said."""
+        started = self.start(script, *words, **env)
+        return (said := started.communicate(timeout=PATIENCE)[0]) and started.returncode, said
+
+    def wait_for(self, is_so):
+        until = time.monotonic() + PATIENCE
+        while not is_so():
+            self.assertLess(time.monotonic(), until)
+            time.sleep(0.02)
+
+    def begun(self):
+        return text_of(self.log).split() if os.path.exists(self.log) else []
+
+    def own_processes(self):
+        """Returns the processes that have this test's folder in their environment."""
+        found = []
+        for pid in filter(str.isdigit, os.listdir("/proc")):
+            with contextlib.suppress(OSError), open(f"/proc/{pid}/environ", "rb") as file:
+                found += [pid] * (f"RT_LOG={self.log}\0".encode() in file.read())
+        return found
+
+
+class Signals(Room):
+    def is_ended_by(self, number, script, *words):
+        started = self.start(script, *words, RT_SLEEP="300")
+        self.wait_for(self.begun)
+        started.send_signal(number)
+        self.assertEqual(started.wait(timeout=PATIENCE), 128 + number)
+        self.assertEqual((self.own_processes(), os.listdir(self.made)), ([], []))
+
+    def test_what_ends_the_gate_ends_all_that_it_began(self):
+        for number in (signal.SIGINT, signal.SIGTERM, signal.SIGHUP):
+            with self.subTest(signal=number):
+                self.is_ended_by(number, "prove.py", "protogate")
+                os.remove(self.log)
+
+    def test_what_ends_a_build_ends_all_that_it_began(self):
+        self.is_ended_by(signal.SIGINT, "build.py")
+
+    def test_what_ignores_the_signal_is_killed(self):
+        script = "import ending; ending.PATIENCE = 0.2; ending.on_signals(); ending.run(['sh', '-c', 'trap \"\" TERM; echo >$RT_LOG; while :; do sleep 1; done'])"
+        started = subprocess.Popen([sys.executable, "-Bc", script], cwd=f"{TOP}/tools", env=self.env)
+        self.wait_for(lambda: os.path.exists(self.log))
+        started.terminate()
+        self.assertEqual((started.wait(timeout=PATIENCE), self.own_processes()), (128 + signal.SIGTERM, []))
+
+
+class Builds(Room):
+    def test_a_build_leaves_the_program_and_its_stamp(self):
+        before = time.time_ns()
+        status, said = self.run_to_end("build.py")
+        self.assertEqual((status, self.begun()), (0, ["lib", "run"]), said)
+        self.assertEqual((text_of(f"{self.out}/protogate"), text_of(f"{self.out}/protogate.begun")), ("built\n", f"{LINE}\n"))
+        self.assertTrue(os.path.samefile(f"{self.out}/protogate.kit", f"{self.room}/kit/rt"))
+        read = os.stat(f"{self.out}/protogate.begun").st_mtime_ns
+        self.assertTrue(before - 20_000_000 <= read <= os.stat(f"{self.top}/crates/low/out/rlib/library").st_mtime_ns)
+        self.assertEqual(os.listdir(f"{self.top}/crates/low/out"), ["rlib"])
+        self.assertIn(" minute", said.splitlines()[0])
+
+    def test_two_builds_take_turns(self):
+        first = self.start("build.py", RT_SLEEP="3")
+        self.wait_for(self.begun)
+        status, said = self.run_to_end("build.py")
+        self.assertIn("another build runs here; waiting for it", said)
+        self.assertEqual((first.wait(timeout=PATIENCE), status, self.begun()), (0, 0, ["lib", "run"] * 2))
+
+    def test_the_folders_that_a_kit_locks_are_free(self):
+        started = self.start("build.py", RT_SLEEP="3")
+        self.wait_for(self.begun)
+        folder = os.open(f"{self.top}/crates/protogate", os.O_RDONLY)
+        fcntl.flock(folder, fcntl.LOCK_EX | fcntl.LOCK_NB)
+        os.close(folder)
+        self.assertEqual(started.wait(timeout=PATIENCE), 0)
+
+
+class Gates(Room):
+    def test_a_kit_without_words_for_its_gate_is_asked_without(self):
+        status, said = self.run_to_end("prove.py", "--anew", "protogate")
+        self.assertEqual((status, said.splitlines()[-1], self.begun()), (0, "2 passed, 0 failed", ["ci"]), said)
+        self.assertIn("takes no --anew", said)
+
+    def test_proofs_and_edits_of_a_crate_are_apart(self):
+        write(f"{self.top}/crates/low/must-fail/turned.edit", "file: src/lib.rt\nold: low\nnew: lower\n")
+        phases = prove.progress_of(self.top, prove.plan(self.top), ("tester",)).phases
+        names = [name for seconds, _ in phases.values() for name in seconds]
+        self.assertEqual(sorted(names), ["edits of low", "low", "protogate", "tester"])
+
+    def test_it_says_each_minute_how_far_it_is(self):
+        said = []
+        progress = times.Progress({"crates": ({"low": 60, "protogate": 120}, {"low": [], "protogate": ["low"]})}, 2, said.append, 0.01)
+        with progress:
+            self.wait_for(lambda: said)
+            progress.end("low")
+            before = len(said)
+            self.wait_for(lambda: len(said) > before + 1)
+        self.assertEqual((said[0], said[-1]), ("done: 0 of 2 crates; some 3 minutes left", "done: 1 of 2 crates; some 2 minutes left"))
+
+
+class PutBack(Room):
+    """What a gate puts into the repository."""
+
+    def setUp(self):
+        super().setUp()
+        before = os.getcwd()
+        os.chdir(self.top)
+        self.addCleanup(os.chdir, before)
+        patched = mock.patch.dict(os.environ, self.env)
+        patched.start()
+        self.addCleanup(patched.stop)
+        self.proved = f"{self.room}/proved"
+        shutil.copytree(self.top, self.proved)
+        write(f"{self.proved}/crates/protogate/out/protogate", "proved\n")
+        self.copied, self.read = prove.sums(self.proved), stamp.read_at(".")
+        kit.version.cache_clear()
+        self.addCleanup(kit.version.cache_clear)
+
+    def put_back(self):
+        with contextlib.redirect_stdout(io.StringIO()) as said:
+            return prove.put_back(self.proved, self.copied, self.read), said.getvalue()
+
+    def test_what_was_proved_of_these_sources(self):
+        self.assertEqual(self.put_back(), (True, ""))
+        self.assertEqual((text_of(f"{self.out}/protogate"), text_of(f"{self.out}/protogate.begun")), ("proved\n", f"{LINE}\n"))
+        self.assertEqual(os.stat(f"{self.out}/protogate.begun").st_mtime_ns, self.read)
+        self.assertEqual(sorted(os.listdir(self.out)), ["protogate", "protogate.begun", "protogate.kit"])
+
+    def test_nothing_where_a_source_was_changed_added_or_removed(self):
+        path = f"{self.top}/crates/low/src/lib.rt"
+        for change in (lambda: write(path, "fn low() {};\n"), lambda: os.remove(path), lambda: write(f"{self.top}/crates/low/specs/Lib.antt", "")):
+            change()
+            is_put, said = self.put_back()
+            self.assertEqual((is_put, os.listdir(self.out)), (False, []))
+            self.assertIn("was changed while the gate ran", said)
+
+    def test_two_runs_put_back_at_once(self):
+        words = f"import os, prove, stamp; os.chdir({self.top!r}); copied = prove.sums('.'); "
+        words += f"[prove.put_back({self.proved!r}, copied, stamp.read_at('.')) or exit(1) for _ in range(20)]"
+        runs = [subprocess.Popen([sys.executable, "-Bc", words], cwd=f"{TOP}/tools") for _ in range(2)]
+        self.assertEqual([it.wait(timeout=PATIENCE) for it in runs], [0, 0])
+        self.assertEqual(sorted(os.listdir(self.out)), ["protogate", "protogate.begun", "protogate.kit"])
+
+    def test_a_link_stands_for_the_kit_where_it_can_have_no_other_name(self):
+        with mock.patch("os.link", side_effect=PermissionError):
+            self.put_back()
+        self.assertEqual(os.readlink(f"{self.out}/protogate.kit"), os.path.realpath(f"{self.room}/kit/rt"))
+
+
+class Missing(Room):
+    """What is missing is told before anything begins."""
+
+    def run_without(self, missing, *scripts):
+        """Runs these scripts with all tools on the path but one. Each has to say so within a second of a processor, with status 2, and begin nothing."""
+        os.mkdir(f"{self.room}/bin")
+        for it in {"rt", "git", "cc", "sh", "flock", "sleep", "mkdir"} - {missing}:
+            os.symlink(shutil.which(it, path=self.env["PATH"]), f"{self.room}/bin/{it}")
+        for words in scripts:
+            before = resource.getrusage(resource.RUSAGE_CHILDREN)
+            status, said = self.run_to_end(*words, PATH=f"{self.room}/bin")
+            after = resource.getrusage(resource.RUSAGE_CHILDREN)
+            self.assertLess(after.ru_utime + after.ru_stime - before.ru_utime - before.ru_stime, 1)
+            self.assertEqual((status, self.begun()), (2, []), said)
+            self.assertIn(f"there is no {missing} on the path", said)
+
+    def test_a_kit(self):
+        self.run_without("rt", ["prove.py", "protogate"], ["prove.py"], ["build.py"])
+
+    def test_git(self):
+        self.run_without("git", ["prove.py", "protogate"], ["prove.py"])
+
+    def test_a_linker(self):
+        self.run_without("cc", ["prove.py", "protogate"], ["prove.py"], ["build.py"])
+
+    def test_room_on_the_disk(self):
+        for folder, wanted in ((self.made, 1 << 60), (f"{self.made}/not/there", 1 << 60)):
+            (line,) = machine.missing({}, {folder: wanted})
+            self.assertRegex(line, r"has room for .* GB, and this takes some 1152921505 GB")
+        self.assertEqual(machine.missing({"sh": ""}, {self.made: 0}), [])
+
+    def test_a_place_to_write(self):
+        (line,) = machine.missing({}, {"/proc/none": 0})
+        self.assertEqual(line, "/proc/none can't be written")
+
+
+class Containers(unittest.TestCase):
+    """The limits of a container, in a folder that has the files of one."""
+
+    def setUp(self):
+        room = tempfile.TemporaryDirectory()
+        self.addCleanup(room.cleanup)
+        self.root = room.name
+        write(f"{self.root}/proc/meminfo", "MemTotal: 16000000 kB\nMemAvailable: 8000000 kB\n")
+        patched = mock.patch("os.sched_getaffinity", lambda _: {*range(8)})
+        patched.start()
+        self.addCleanup(patched.stop)
+
+    def group(self, path, **files):
+        for name, text in files.items():
+            write(f"{self.root}/sys/fs/cgroup/{path}/{name.replace('__', '.')}", text)
+
+    def found(self):
+        return machine.processors(self.root), machine.free_memory(self.root)
+
+    def test_there_is_none(self):
+        self.assertEqual(self.found(), (8, 8_192_000_000))
+        write(f"{self.root}/proc/self/cgroup", "0::/a\n")
+        self.group("a", cpu__max="max 100000\n", memory__max="max\n", memory__current="5\n")
+        self.assertEqual(self.found(), (8, 8_192_000_000))
+
+    def test_the_second_version(self):
+        write(f"{self.root}/proc/self/cgroup", "0::/a/b\n")
+        self.group("a", cpu__max="250000 100000\n")
+        self.group("a/b", memory__max="2000000\n", memory__current="1500000\n", memory__stat="anon 5\ninactive_file 400000\n")
+        self.assertEqual(self.found(), (2, 900_000))
+
+    def test_the_first_version(self):
+        write(f"{self.root}/proc/self/cgroup", "4:cpu,cpuacct:/box\n3:memory:/box\n0::/\n")
+        self.group("cpu,cpuacct/box", cpu__cfs_quota_us="-1\n", cpu__cfs_period_us="100000\n")
+        self.group("cpu,cpuacct", cpu__cfs_quota_us="300000\n", cpu__cfs_period_us="100000\n")
+        self.group("memory", memory__limit_in_bytes="7000000\n", memory__usage_in_bytes="6500000\n", memory__stat="total_inactive_file 100000\n")
+        self.assertEqual(self.found(), (3, 600_000))
+
+    def test_less_than_one_processor_is_one(self):
+        write(f"{self.root}/proc/self/cgroup", "0::/\n")
+        self.group("", cpu__max="50000 100000\n")
+        self.assertEqual(self.found()[0], 1)
+
+    def test_checks_by_memory_and_by_what_is_asked_for(self):
+        with mock.patch("machine.free_memory", lambda: 11_000_000_000), mock.patch("machine.processors", lambda: 8):
+            for jobs, wanted in (("", 2), ("5", 5), ("none", 2)):
+                with mock.patch.dict(os.environ, RT_JOBS=jobs):
+                    self.assertEqual(machine.lanes(), wanted)
+
+
+class Times(unittest.TestCase):
+    def test_checks_side_by_side(self):
+        seconds, below = {"a": 10, "b": 20, "c": 5, "d": 5}, {"a": [], "b": ["a"], "c": [], "d": []}
+        self.assertEqual([times.clock(seconds, below, it) for it in (1, 2, 4)], [40, 30, 30])
+        self.assertEqual(times.chains(seconds, below), {"a": 30, "b": 20, "c": 5, "d": 5})
+
+    def test_what_is_written_is_read_again(self):
+        table = {"low": dict(zip(times.KINDS, (5, 6, 7, 8))), "testers": dict(zip(times.KINDS, (0, 0, 0, 9)))}
+        with tempfile.TemporaryDirectory() as room:
+            times.write(table, f"{room}/costs.txt")
+            self.assertEqual(times.read(f"{room}/costs.txt"), table)
+
+    def test_each_crate_has_its_costs(self):
+        lines = [it.partition(":")[0].split()[0] for it in text_of(f"{TOP}/crates.txt").splitlines() if ":" in it.partition("#")[0]]
+        self.assertEqual({*times.read()}, {*lines, "testers"})
+
+
+class Kept(Room):
+    """Where passed tries are kept."""
+
+    def setUp(self):
+        super().setUp()
+        patched = mock.patch.dict(os.environ, PATH=f"{self.room}/a/kit/bin:{os.environ['PATH']}", XDG_CACHE_HOME=f"{self.room}/cache")
+        patched.start()
+        self.addCleanup(patched.stop)
+        os.makedirs(f"{self.room}/a/kit/bin")
+        os.rename(f"{self.room}/kit/rt", f"{self.room}/a/kit/bin/rt")
+
+    def test_beside_what_the_kit_keeps(self):
+        os.mkdir(f"{self.room}/a/rattle-kept", 0o700)
+        self.assertEqual(kit.store(), f"{os.path.realpath(self.room)}/a/rattle-kept/protogate-edits")
+
+    def test_in_the_users_cache(self):
+        self.assertEqual(kit.store(), f"{self.room}/cache/protogate")
+        os.mkdir(f"{self.room}/a/rattle-kept")
+        os.chmod(f"{self.room}/a/rattle-kept", 0o777)
+        self.assertEqual(kit.store(), f"{self.room}/cache/protogate")
+
+    def test_nowhere_where_others_can_write(self):
+        os.makedirs(f"{self.room}/cache/protogate")
+        os.chmod(f"{self.room}/cache/protogate", 0o777)
+        self.assertIsNone(kit.store())
+        shutil.rmtree(f"{self.room}/cache")
+        write(f"{self.room}/cache", "no folder")
+        self.assertIsNone(kit.store())
+
+
+class HeldEdits(unittest.TestCase):
+    SOURCE = """pub fn low(number: u8) -> u8
+    ensures { true }
+{
+    number / 2
+}
+
+pub fn law()
+    ensures { true }
+{}
+
+pub fn laws()
+    ensures { true }
+{
+    law();
+}
+"""
+
+    def lacking(self, source, edits):
+        """Returns which functions lack an edit in a repository whose library has this source and whose crates have these edits."""
+        with tempfile.TemporaryDirectory() as top:
+            write(f"{top}/crates.txt", "pg_low:\npg_other:\nlow_promises: pg_low\nother_promises: pg_other\n")
+            promise = "pub fn promise(number: u8) -> u8\n    ensures { true }\n{\n    pg_low::low(number)\n}\n"
+            for name, text in (("pg_low", source), ("pg_other", ""), ("low_promises", promise), ("other_promises", promise)):
+                write(f"{top}/crates/{name}/src/lib.rt", text)
+            for name, (old, new) in edits.items():
+                write(f"{top}/crates/{name}/must-fail/turned.edit", f"file: src/lib.rt\nold: {old}\nnew: {new}\n")
+            return held_edits.without_edits(top)
+
+    def test_an_edit_of_the_function_or_of_a_promise_of_its_library(self):
+        own, promised = ("number / 2", "number / 3"), ("pg_low::low(number)", "number")
+        self.assertEqual(self.lacking(self.SOURCE, {}), ["pg_low/src/lib.rt: low"])
+        self.assertEqual(self.lacking(self.SOURCE, {"pg_low": own}), [])
+        self.assertEqual(self.lacking(self.SOURCE, {"low_promises": promised}), [])
+        self.assertEqual(self.lacking(self.SOURCE, {"other_promises": promised}), ["pg_low/src/lib.rt: low"])
+        self.assertEqual(self.lacking(self.SOURCE, {"pg_low": ("number / 4", "number")}), ["pg_low/src/lib.rt: low"])
+
+    def test_what_calls_more_than_laws_is_none(self):
+        source = self.SOURCE.replace("    law();", "    low(3);")
+        self.assertEqual(self.lacking(source, {"pg_low": ("number / 2", "number")}), ["pg_low/src/lib.rt: laws"])
+
+
+class PassedOver(Room):
+    def test_what_is_passed_over_is_told(self):
+        tests = "import sys, unittest\nsys.path.insert(0, sys.argv.pop(1))\nimport told_tests\n\n\nclass Some(unittest.TestCase):\n"
+        tests += "    @unittest.skip('there is no fish')\n    def test_a_fish(self):\n        pass\n\n\ntold_tests.main()\n"
+        write(f"{self.room}/tests.py", tests)
+        run = subprocess.run([sys.executable, f"{self.room}/tests.py", f"{TOP}/tools"], capture_output=True, text=True, check=False)
+        self.assertEqual((run.returncode, run.stdout), (0, "passed over, there is no fish: 1 of the tests of tests.py\n"))
+
+
+if __name__ == "__main__":
+    ending.on_signals()
+    unittest.main()

@@ -1,0 +1,111 @@
+#!/usr/bin/env python3
+"""Tries the gate and the build with another kit on the path, of which only what `rt help` documents is there (other_kit/rt).
+
+usage: tools/try_other_kit.py    a minute or two of one processor
+
+The gate runs over two small crates with edits, each of which has to pass. The build is of a repository of two small crates, whose program
+has to be there afterwards, with its stamp: of the time before the first check, and with the line and the script of this kit.
+"""
+
+import os
+import shutil
+import subprocess
+import sys
+import tempfile
+
+sys.dont_write_bytecode = True
+import ending  # noqa: E402
+from crates import crates_of, files_of_edits  # noqa: E402
+
+TOP = os.path.dirname(os.path.dirname(os.path.realpath(__file__)))
+# The crates that the gate is tried on, with those below.
+TRIED = "wire_promises"
+LOW = """//! Half a number.
+#![tactic(auto)]
+
+ghost use Rattle.std.specs.Prelude.{◌≡◌, ◌/◌};
+
+/// Half the number.
+pub fn half(number: u8) -> u8
+    ensures { result ≡ number / 2 }
+{
+    number / 2
+}
+"""
+MAIN = """//! A program whose status is half of eight.
+#![tactic(auto)]
+
+use std::process::ExitCode;
+
+fn main(_rt: HostRuntime) -> ExitCode {
+    ExitCode::from(low::half(8))
+}
+"""
+
+
+def write(path, text):
+    os.makedirs(os.path.dirname(path), exist_ok=True)
+    with open(path, "w", encoding="utf-8") as file:
+        file.write(text)
+
+
+def run(words, env):
+    """Runs a command with the other kit on the path. Returns its status and what it said."""
+    how = {"env": env, "stdin": subprocess.DEVNULL, "stdout": subprocess.PIPE, "stderr": subprocess.STDOUT, "text": True, "errors": "replace"}
+    started = ending.start(words, **how)
+    said = started.stdout.read()
+    return ending.wait(started)[0], said
+
+
+def gate_passes(env):
+    """Returns what is wrong with the gate of the small crates, or nothing."""
+    crates = crates_of(TOP)
+    tried = [*crates[TRIED].below(), crates[TRIED]]
+    wanted = f"{len(tried) + sum(len(files_of_edits(it.folder)[0]) for it in tried)} passed, 0 failed"
+    status, said = run([f"{TOP}/tools/prove.py", TRIED], env)
+    last = said.rstrip("\n").rpartition("\n")[2]
+    return "" if (status, last) == (0, wanted) else f"the gate ended with status {status}, and not with '{wanted}':\n{said[-3000:]}"
+
+
+def make_repository(top):
+    write(f"{top}/crates/low/src/lib.rt", LOW)
+    write(f"{top}/crates/protogate/src/main.rt", MAIN)
+    write(f"{top}/crates.txt", "low:\nprotogate: low\n")
+    shutil.copytree(f"{TOP}/tools", f"{top}/tools", symlinks=True)
+    subprocess.run(["git", "init", "-q", top], check=True)
+
+
+def faults_of_build(top, env):
+    """Returns what is wrong with a build of the repository of two crates, one line each."""
+    status, said = run([f"{top}/tools/build.py"], env)
+    out = f"{top}/crates/protogate/out"
+    if status or not os.path.isfile(f"{out}/protogate"):
+        return [f"the build ended with status {status}:\n{said[-3000:]}"]
+    found = []
+    if subprocess.run([f"{out}/protogate"], stdin=subprocess.DEVNULL, check=False).returncode != 4:
+        found.append("the program that was built is another")
+    with open(f"{out}/protogate.begun", encoding="utf-8") as file:
+        line = file.read()
+    if line != subprocess.run(["rt", "version"], env=env, stdout=subprocess.PIPE, text=True, check=True).stdout:
+        found.append(f"the stamp names another kit: {line}")
+    if not os.path.samefile(f"{out}/protogate.kit", f"{TOP}/tools/other_kit/rt"):
+        found.append("the stamp's script is another")
+    read, made = os.stat(f"{out}/protogate.begun").st_mtime_ns, os.stat(f"{out}/protogate").st_mtime_ns
+    if not os.stat(f"{top}/crates/low/src/lib.rt").st_mtime_ns <= read < made:
+        found.append("the stamp's time isn't that before the first check")
+    return found
+
+
+def main():
+    ending.on_signals()
+    env = {**os.environ, "PATH": f"{TOP}/tools/other_kit:{os.environ['PATH']}"}
+    faults = [it for it in [gate_passes(env)] if it]
+    with tempfile.TemporaryDirectory(prefix="protogate-kit-") as top:
+        make_repository(f"{top}/repository")
+        faults += faults_of_build(f"{top}/repository", env)
+    print("\n".join([*faults, f"another kit: the gate of {TRIED} and a build, {len(faults)} faults"]))
+    return 1 if faults else 0
+
+
+if __name__ == "__main__":
+    sys.exit(main())
