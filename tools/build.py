@@ -4,8 +4,9 @@
 usage: tools/build.py    what is built already, and unchanged, is taken as it stands, so a build that was stopped goes on from there
 
 It says at the start and each minute how long it is likely to take. Another build of the same checkout waits until this one has ended. Beside the
-program stands when its sources were read, and which kit proved it (stamp.py). What only a next check of the libraries needs is removed once
-all is built; with --keep it stays, so that a build after a change takes less time.
+program stands when its sources were read, and which kit proved it (stamp.py). Only a next build needs the libraries; at most 4 GB of these are
+left. What only a next check of a library needs is removed once that is built; with --keep all stays, so that a build after a change takes
+less time.
 """
 
 import contextlib
@@ -23,15 +24,15 @@ import ending  # noqa: E402
 import stamp  # noqa: E402
 import times  # noqa: E402
 from crates import crates_of  # noqa: E402
-from kit import PARTS, link_or_copy  # noqa: E402
+from kit import KEPT, copy_parts, link_built  # noqa: E402
 from machine import free_memory, lanes, missing, processors  # noqa: E402
 
 TOP = os.path.dirname(os.path.dirname(os.path.realpath(__file__)))
 PROGRAM = stamp.PROGRAM
 # What a check is likely to take of memory at most, in bytes.
 CHECK = 4_000_000_000
-# What a build takes of the disk while it runs, in bytes.
-DISK = 5_000_000_000
+# What a build takes of the disk while it runs, and what it leaves at most, in bytes.
+DISK, MOST_LEFT = 6_000_000_000, 4_000_000_000
 # The status with which the program ends after its help.
 USAGE = 4
 # So many jobs a check is faster by more of them.
@@ -58,11 +59,9 @@ def lane_of(name):
 
 def copy_crate(name, top, is_built):
     """Copies what a check reads of a crate, with its library where that is built."""
-    for it in PARTS:
-        if os.path.isdir(f"{TOP}/crates/{name}/{it}"):
-            shutil.copytree(f"{TOP}/crates/{name}/{it}", f"{top}/crates/{name}/{it}")
+    copy_parts(f"{TOP}/crates/{name}", f"{top}/crates/{name}")
     if is_built:
-        shutil.copytree(f"{TOP}/crates/{name}/out/rlib", f"{top}/crates/{name}/out/rlib", copy_function=link_or_copy, symlinks=True)
+        link_built(f"{TOP}/crates/{name}", f"{top}/crates/{name}")
 
 
 def open_lane(name, said):
@@ -139,15 +138,17 @@ class Build:
                     return name, status
             time.sleep(0.05)
 
-    def close(self, name):
+    def close(self, name, keeps):
         close_lane(name)
+        if not keeps:
+            clear(name)
         del self.running[name]
         self.left.remove(name)
         self.progress.end(name)
         if self.seconds[name] < TAKEN:
             self.kept.append(name)
 
-    def run(self):
+    def run(self, keeps):
         for name in self.names:
             close_lane(name)
         try:
@@ -155,7 +156,7 @@ class Build:
                 while self.left:
                     self.start_ready()
                     name, status = self.ended()
-                    self.close(name)
+                    self.close(name, keeps or status)
                     if status != (USAGE if name == PROGRAM else 0):
                         self.tell(name)
                         return False
@@ -175,13 +176,25 @@ class Build:
         say(f"{name} is not proved; what is proved is kept, and the next run goes on from there")
 
 
-def clear(names):
-    """Removes what only a next check of these libraries needs: of what was built of them, all but the libraries."""
-    for name in names:
-        out = f"{TOP}/crates/{name}/out"
-        for it in os.listdir(out) if name != PROGRAM and os.path.isdir(out) else []:
-            if it != "rlib":
-                shutil.rmtree(f"{out}/{it}", ignore_errors=True)
+def clear(name):
+    """Removes what only a next check of the library needs."""
+    if name != PROGRAM:
+        shutil.rmtree(f"{TOP}/crates/{name}/{KEPT}", ignore_errors=True)
+
+
+def size_of(folder):
+    """Returns the bytes that the files below a folder take of the disk."""
+    return sum(512 * os.lstat(f"{at}/{it}").st_blocks for at, _, names in os.walk(folder) for it in names)
+
+
+def shrink(names, most):
+    """Removes the largest of these crates' libraries, until what was built takes so many bytes at most. Returns what it takes."""
+    left = {it: size_of(f"{TOP}/crates/{it}/out") for it in names}
+    while sum(left.values()) > most and {*left} != {PROGRAM}:
+        largest = max((it for it in left if it != PROGRAM), key=left.get)
+        shutil.rmtree(f"{TOP}/crates/{largest}/out", ignore_errors=True)
+        del left[largest]
+    return sum(left.values())
 
 
 @contextlib.contextmanager
@@ -210,13 +223,14 @@ def main():
     with alone(), tempfile.TemporaryDirectory(prefix="protogate-build-") as room:
         begun, build = stamp.read_at(TOP), Build(room)
         say(f"proving and building: some {times.in_words(build.progress.left())} on {processors()} processors, where nothing is kept from earlier runs")
-        if not build.run():
+        keeps = "--keep" in sys.argv[1:]
+        if not build.run(keeps):
             return 1
         if build.kept:
             say(f"kept from earlier runs: {' '.join(build.kept)}")
         stamp.write(TOP, begun)
-        if "--keep" not in sys.argv[1:]:
-            clear(build.names)
+        much = size_of(f"{TOP}/crates") if keeps else shrink(build.names, MOST_LEFT)
+        say(f"built; only a next build needs the {much / 1e9:.1f} GB in crates/*/out: rm -rf crates/pg_*/out frees most of them")
     return 0
 
 

@@ -77,13 +77,19 @@ def copy_parts(folder, to):
             shutil.copytree(f"{folder}/{part}", f"{to}/{part}")
 
 
+def link_built(folder, to):
+    """Gives what was built of a library another place by links, which take no room, without what its own checks keep."""
+    if os.path.isdir(f"{folder}/out"):
+        left = shutil.ignore_patterns(os.path.basename(KEPT))
+        shutil.copytree(f"{folder}/out", f"{to}/out", copy_function=link_or_copy, ignore=left, symlinks=True)
+
+
 def make_repository(room, crate):
     """Makes a repository of the crate and of the libraries below it, these with what was built of them. Returns the crate's folder, which is still
     empty."""
     for it in crate.below():
         copy_parts(it.folder, f"{room}/crates/{it.name}")
-        if os.path.isdir(f"{it.folder}/out/rlib"):
-            shutil.copytree(f"{it.folder}/out/rlib", f"{room}/crates/{it.name}/out/rlib", copy_function=link_or_copy)
+        link_built(it.folder, f"{room}/crates/{it.name}")
     with open(f"{room}/crates.txt", "w", encoding="utf-8") as file:
         file.write("".join(f"{it.line}\n" for it in (*crate.below(), crate)))
     os.makedirs(f"{room}/crates/{crate.name}/{KEPT}")

@@ -5,7 +5,7 @@ import re
 import shutil
 import tempfile
 
-# What a check is likely to take of memory at most, in bytes.
+# What a check is likely to take of memory at most, in bytes: 3.1 GB were seen.
 CHECK = 5_000_000_000
 # By the version of control groups: the files of a group that limit its processors and its memory, those that tell what it uses, and the word
 # of the part of this that can be taken back at once.

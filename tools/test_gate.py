@@ -19,6 +19,7 @@ import unittest
 from unittest import mock
 
 sys.dont_write_bytecode = True
+import build  # noqa: E402
 import ending  # noqa: E402
 import held_edits  # noqa: E402
 import kit  # noqa: E402
@@ -150,6 +151,19 @@ class Builds(Room):
         self.assertTrue(before - 20_000_000 <= read <= os.stat(f"{self.top}/crates/low/out/rlib/library").st_mtime_ns)
         self.assertEqual(os.listdir(f"{self.top}/crates/low/out"), ["rlib"])
         self.assertIn(" minute", said.splitlines()[0])
+
+    def test_no_more_is_left_than_is_allowed(self):
+        for name, much in (("low", 30_000), ("high", 90_000), ("protogate", 60_000)):
+            write(f"{self.top}/crates/{name}/out/made", "x" * much)
+        with mock.patch("build.TOP", self.top):
+            self.assertLess(build.shrink(["low", "high", "protogate"], 150_000), 100_000)
+            self.assertEqual([os.path.exists(f"{self.top}/crates/{it}/out") for it in ("low", "high", "protogate")], [True, False, True])
+            self.assertLess(build.shrink(["low", "protogate"], 0), 70_000)
+            self.assertEqual([os.path.exists(f"{self.top}/crates/{it}/out") for it in ("low", "protogate")], [False, True])
+
+    def test_what_a_next_check_needs_is_kept_where_that_is_asked_for(self):
+        self.assertEqual(self.run_to_end("build.py", "--keep")[0], 0)
+        self.assertEqual(sorted(os.listdir(f"{self.top}/crates/low/out")), ["incremental", "rlib"])
 
     def test_two_builds_take_turns(self):
         first = self.start("build.py", RT_SLEEP="3")
