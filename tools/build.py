@@ -222,7 +222,7 @@ def main():
     ending.on_signals()
     with alone(), tempfile.TemporaryDirectory(prefix="protogate-build-") as room:
         begun, build = stamp.read_at(TOP), Build(room)
-        say(f"proving and building: some {times.in_words(build.progress.left())} on {processors()} processors, where nothing is kept from earlier runs")
+        say(f"proving and building: {times.in_words(build.progress.left())} on {processors()} processors, where nothing is kept from earlier runs")
         keeps = "--keep" in sys.argv[1:]
         if not build.run(keeps):
             return 1

@@ -189,7 +189,11 @@ def try_plans(plans, is_anew, progress):
     """Tries these edits over the libraries that were built. Returns how many passed and failed."""
     if not kit.build_libraries({dep.folder: dep for it in plans for dep in it.crate.below()}.values()):
         return 0, 1
-    passed, failed = try_all(plans, lanes(), is_anew, tell=lambda it: progress.end(f"edits of {it.crate.name}"))
+
+    def note(tries, is_over):
+        (progress.end if is_over else progress.begin)(f"edits of {tries.crate.name}")
+
+    passed, failed = try_all(plans, lanes(), is_anew, note=note)
     kept = [it.crate.name for it in plans if it.is_kept]
     if kept:
         say(f"kept from earlier runs: the edits of {' '.join(kept)}")
@@ -274,7 +278,7 @@ def counted(last, passed, failed):
 
 
 def tell_start(progress):
-    say(f"some {times.in_words(progress.left())} on {processors()} processors, where nothing is kept from earlier runs")
+    say(f"{times.in_words(progress.left())} on {processors()} processors, where nothing is kept from earlier runs")
 
 
 def prove_all(flags):

@@ -204,6 +204,51 @@ class Gates(Room):
         self.assertEqual((said[0], said[-1]), ("done: 0 of 2 crates; some 3 minutes left", "done: 1 of 2 crates; some 2 minutes left"))
 
 
+# Runs the whole gate with these testers alone, and without what it says of documents and of messages that borrow.
+WHOLE = """import sys, prove
+prove.COMPARED, prove.TESTERS, prove.FUZZER, prove.EXAMPLES = (), ("one.py", "two.py"), ("tools/three.py",), ("tools/four.py",)
+prove.try_lent = lambda room: True
+sys.exit(prove.prove_all([])[0])
+"""
+
+
+class WholeGates(Room):
+    """The whole gate, over testers of the tests' own."""
+
+    def run_whole(self, **testers):
+        for name in ("one", "two", "three", "four"):
+            write(f"{self.top}/tools/{name}.py", f"#!/usr/bin/env python3\nimport sys\n{testers.get(name, '')}\n")
+            os.chmod(f"{self.top}/tools/{name}.py", 0o755)
+        env = {**self.env, "PYTHONPATH": f"{self.top}/tools"}
+        run = subprocess.run([sys.executable, "-Bc", WHOLE], cwd=self.top, env=env, capture_output=True, text=True, check=False)
+        return run.returncode, run.stdout.splitlines()
+
+    def test_what_all_testers_pass(self):
+        begun = time.time_ns() - 20_000_000
+        status, said = self.run_whole(two="print('passed over, without fish: a test')", four="print(open('crates/protogate/out/protogate').read())")
+        self.assertEqual((status, said[-2:]), (0, ["passed over, without fish: a test", "8 passed, 0 failed"]), said)
+        self.assertIn("proved", said)
+        self.assertTrue(begun < os.stat(f"{self.out}/protogate.begun").st_mtime_ns)
+        self.assertEqual(os.listdir(self.made), [])
+
+    def test_what_a_tester_fails(self):
+        for name in ("one", "three", "four"):
+            status, said = self.run_whole(**{name: "sys.exit(1)"})
+            self.assertEqual((status, said[-1]), (1, "7 passed, 1 failed"), said)
+
+    def test_what_is_changed_meanwhile(self):
+        write(f"{self.room}/kit/rt", RT.replace("ci)\n", f"ci)\n        echo >>{self.top}/crates/low/src/lib.rt\n", 1))
+        status, said = self.run_whole()
+        self.assertEqual((status, said[-1], os.listdir(self.out)), (1, "3 passed, 1 failed", []), said)
+
+    def test_what_is_not_proved(self):
+        write(f"{self.room}/kit/rt", RT.replace("echo '2 passed, 0 failed'", "echo '1 passed, 1 failed'; exit 1"))
+        write(f"{self.out}/protogate", "before\n")
+        status, said = self.run_whole()
+        self.assertEqual((status, said[-1], text_of(f"{self.out}/protogate")), (1, "1 passed, 1 failed", "before\n"), said)
+        self.assertEqual(os.listdir(self.out), ["protogate"])
+
+
 class PutBack(Room):
     """What a gate puts into the repository."""
 

@@ -57,8 +57,10 @@ def clock(seconds, below, lanes):
 
 
 def in_words(seconds):
-    minutes = max(1, round(seconds / 60))
-    return f"{minutes} minutes" if minutes < 100 else f"{minutes / 60:.1f} hours"
+    minutes = round(seconds / 60)
+    if minutes < 2:
+        return "a minute or two" if seconds > 60 else "a minute"
+    return f"some {minutes} minutes" if minutes < 100 else f"some {minutes / 60:.1f} hours"
 
 
 class Progress:
@@ -85,7 +87,7 @@ class Progress:
 
     def told(self):
         parts = [f"{len(self.done & {*seconds})} of {len(seconds)} {name}" for name, (seconds, _) in self.phases.items() if seconds]
-        return f"done: {', '.join(parts)}; some {in_words(self.left())} left"
+        return f"done: {', '.join(parts)}; {in_words(self.left())} left"
 
     def watch(self):
         while not self.is_over.wait(self.pause):

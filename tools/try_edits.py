@@ -213,14 +213,20 @@ def plan(top, names=()):
     return [Tries(it) for it in crates if os.path.isdir(f"{it.folder}/must-fail")]
 
 
-def try_all(plans, jobs, is_anew, most=MOST, tell=lambda tries: None):
+def try_all(plans, jobs, is_anew, most=MOST, note=lambda tries, is_over: None):
     """Tries the edits of these crates, those with most checks and copies first, and prints what is said of each, and what each check took where a crate
-    has several. Returns the counts of refused and of others. Each crate is handed to `tell` once its edits were tried."""
+    has several. Returns the counts of refused and of others. `note` is told when the tries of a crate begin, and when they are over."""
+
+    def noted(tries):
+        note(tries, False)
+        try_one(tries, is_anew, most)
+        note(tries, True)
+        return tries
+
     begun = sorted(plans, key=lambda it: (-len(it.in_place), -len(it.copies)))
     with ThreadPoolExecutor(jobs) as pool:
-        for done in [pool.submit(try_one, it, is_anew, most) for it in begun]:
+        for done in [pool.submit(noted, it) for it in begun]:
             tries = done.result()
-            tell(tries)
             how = "kept from an earlier run" if tries.is_kept else f"{tries.seconds:.0f} processor seconds"
             checks = [f"{seconds:.0f} processor seconds for {', '.join(edits)}" for seconds, edits in tries.checks if len(tries.checks) > 1]
             print("\n".join([*tries.lines(), *checks, f"{tries.crate.name}: {tries.passed()} edits refused, {how}"]), flush=True)
