@@ -8,14 +8,14 @@
 //!   and behind the last.
 //! - `WHAT | joined | TEXT`: the path of the first import, of which each literal is a part.
 //! - `WHAT | links | FILES`: the files, each with what its uses of types resolve to, or the
-//!   refusal; `links::options` says what else may !   stand behind the files.
+//!   refusal; `links::options` says what else may stand behind the files.
 //! - `WHAT | parts | CALL | PIECES`: what `admit` or `from_parts` makes of parts that come from no
-//!   text, which `parts::pieces` spells; !   with `json_name` a name's default JSON name, and with
+//!   text, which `parts::pieces` spells; with `json_name` a name's default JSON name, and with
 //!   `packable` whether a type's lists may be packed.
 //! - `WHAT | folder | PATH`: whether the folder of the system gives a file, misses it or fails.
 //! - `WHAT | schema | FILES`: `taken`, or the refusal; with `| types`, `| enums`, `| services` or
-//!   `| files` what the schema has of these, !   and with `| count` how many message types it has;
-//!   with `| message NAME`, `| has PLACE`, `| type PLACE`, `| field PLACE NUMBER` and !   `| enum
+//!   `| files` what the schema has of these, and with `| count` how many message types it has;
+//!   with `| message NAME`, `| has PLACE`, `| type PLACE`, `| field PLACE NUMBER` and `| enum
 //!   PLACE` what these calls of the schema answer.
 //!
 //! With `retry ` in front of the second part the row's call is made again where it lacks memory
