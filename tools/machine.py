@@ -106,5 +106,6 @@ def missing(programs, places):
         if not is_writable(folder):
             found.append(f"{folder} can't be written")
         elif room_in(folder) < wanted:
-            found.append(f"{folder} has room for {room_in(folder) / 1e9:.1f} GB, and this takes some {wanted / 1e9:.0f} GB")
+            more = "; TMPDIR names another folder for temporary files" if folder == tempfile.gettempdir() else ""
+            found.append(f"{folder} has room for {room_in(folder) / 1e9:.1f} GB, and this takes some {wanted / 1e9:.0f} GB{more}")
     return found

@@ -51,6 +51,7 @@ case ${1-} in
         echo 'rt: protogate proved'
         echo '2 passed, 0 failed' ;;
     lib) wait_a_while lib && mkdir -p out/rlib out/incremental && echo made >out/rlib/library ;;
+    check) RT_SLEEP=300 && wait_a_while check ;;
     run) wait_a_while run && echo built >out/protogate && exit 4 ;;
 esac
 """
@@ -116,9 +117,9 @@ class Room(unittest.TestCase):
 
 
 class Signals(Room):
-    def is_ended_by(self, number, script, *words):
-        started = self.start(script, *words, RT_SLEEP="300")
-        self.wait_for(self.begun)
+    def is_ended_by(self, number, script, *words, during="", **env):
+        started = self.start(script, *words, **(env or {"RT_SLEEP": "300"}))
+        self.wait_for(lambda: self.begun()[-1:] == [during] if during else self.begun())
         started.send_signal(number)
         self.assertEqual(started.wait(timeout=PATIENCE), 128 + number)
         self.assertEqual((self.own_processes(), os.listdir(self.made)), ([], []))
@@ -128,6 +129,13 @@ class Signals(Room):
             with self.subTest(signal=number):
                 self.is_ended_by(number, "prove.py", "protogate")
                 os.remove(self.log)
+
+    def test_what_ends_the_gate_ends_the_tries_of_edits(self):
+        for name in ("low", "protogate"):
+            folder, path = f"{self.top}/crates/{name}", f"src/{'lib' if name == 'low' else 'main'}.rt"
+            write(f"{folder}/{path}", "pub fn turned() -> u8\n{\n    1\n}\n")
+            write(f"{folder}/must-fail/turned.edit", f"file: {path}\nold:     1\nnew:     2\n")
+        self.is_ended_by(signal.SIGTERM, "prove.py", "protogate", during="check", RT_JOBS="1", XDG_CACHE_HOME=f"{self.room}/cache")
 
     def test_what_ends_a_build_ends_all_that_it_began(self):
         self.is_ended_by(signal.SIGINT, "build.py")
