@@ -102,8 +102,9 @@ def check(folder, words):
         how = {"cwd": folder, "stdin": subprocess.DEVNULL, "stdout": log, "stderr": subprocess.STDOUT}
         status, seconds = ending.run(["rt", "check", "--jobs", "1", *words], **how)
         log.seek(0)
-        said = "".join(it for it in log if not it.startswith(ADDED))
-    return status, said, seconds
+        lines = [*log]
+    # (where rt stopped, what it says itself is all that there is)
+    return status, "".join(it for it in lines if status == 2 or not it.startswith(ADDED)), seconds
 
 
 def build_libraries(crates):

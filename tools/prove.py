@@ -50,6 +50,7 @@ TESTERS = (
     "test_packages.py",
     "test_try_edits.py",
     "test_gate.py",
+    "test_gate_parts.py",
     "try_other_kit.py",
 )
 # What tries the program on random inputs. It comes alone, since it keeps all processors busy for some minutes.
