@@ -9,6 +9,7 @@ import os
 import shutil
 import stat
 import subprocess
+import sys
 import tempfile
 
 import ending
@@ -105,6 +106,26 @@ def check(folder, words):
         lines = [*log]
     # (where rt stopped, what it says itself is all that there is)
     return status, "".join(it for it in lines if status == 2 or not it.startswith(ADDED)), seconds
+
+
+# Has a kit that takes libraries from a store note of each that it is built, as it does of those that it builds itself.
+NOTE = """import importlib.machinery, importlib.util, os, sys
+loader = importlib.machinery.SourceFileLoader("kit_rt", sys.argv[1])
+made = importlib.util.module_from_spec(importlib.util.spec_from_loader("kit_rt", loader))
+loader.exec_module(made)
+for it in made.rtlib.crates_below(sys.argv[2]):
+    path = os.path.join(os.path.dirname(it.rlib), "stamp")
+    if os.path.isfile(os.path.join(it.rlib, "format")) and not os.path.exists(path):
+        with open(path, "w") as file:
+            file.write(it.stamp())
+"""
+
+
+def note_taken(top):
+    """Has `rt lib` know of the libraries that `rt ci` took from its store, where the kit is of that kind. With another nothing is done: `rt lib` builds
+    again what it doesn't know."""
+    how = {"stdin": subprocess.DEVNULL, "stdout": subprocess.DEVNULL, "stderr": subprocess.DEVNULL}
+    ending.run([sys.executable, "-Bc", NOTE, script(), top], **how)
 
 
 def build_libraries(crates):

@@ -186,8 +186,9 @@ def run_ci(room, flags, progress):
     return status, last, table, whole
 
 
-def try_plans(plans, is_anew, progress):
+def try_plans(room, plans, is_anew, progress):
     """Tries these edits over the libraries that were built. Returns how many passed and failed."""
+    kit.note_taken(room)
     if not kit.build_libraries({dep.folder: dep for it in plans for dep in it.crate.below()}.values()):
         return 0, 1
 
@@ -208,7 +209,7 @@ def prove(room, flags, plans, progress):
     status, last, table, whole = run_ci(room, flags, progress)
     if status == 0:
         before = resource.getrusage(resource.RUSAGE_CHILDREN)
-        passed, failed = try_plans(plans, "--anew" in flags, progress)
+        passed, failed = try_plans(room, plans, "--anew" in flags, progress)
         status, last = int(failed > 0), counted(last, passed, failed)
         for it in (it for it in plans if it.seconds):
             table.setdefault(it.crate.name, dict.fromkeys(KINDS, 0.0))["edits"] += it.seconds
