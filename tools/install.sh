@@ -1,14 +1,15 @@
 #!/bin/sh
-# Installs the built program, its page, what gates a folder with the files that one copies for it, and completions: tools/install.sh [PREFIX], by default /usr/local. It proves
-# and builds first where it has to. What is installed names no path, so a folder of it may be moved or packed whole.
+# Installs the proved program, its page, what gates a folder with the files that one copies for it, and completions: tools/install.sh [PREFIX],
+# by default /usr/local. tools/build.py or tools/prove.py has to prove and build the program first; nothing else is installed. What is installed
+# names no path, so a folder of it may be moved or packed whole.
 set -eu
 root=$(CDPATH= cd -- "$(dirname -- "$0")/.." && pwd -P)
 prefix=${1:-/usr/local}
 status=0
-"$root/protogate" --help >/dev/null || status=$?
-# Help ends with 4.
+PROTOGATE_PROVED_ONLY=1 "$root/protogate" --help >/dev/null || status=$?
+# Help ends with 4. Where there is no proved program the script ends with 127, and says so.
 if [ "$status" -ne 4 ]; then
-    echo "install: protogate isn't built" >&2
+    [ "$status" -eq 127 ] || echo "install: protogate --help ended with $status" >&2
     exit 1
 fi
 

@@ -1,6 +1,6 @@
 #!/bin/sh
-# Makes packages of the built program: a tarball and a Debian package, each with the program, what gates a folder, the page for `man`, and
-# completions. It proves and builds first where it has to, and then tries each package in a root of its own, without the kit.
+# Makes packages of the proved program: a tarball and a Debian package, each with the program, what gates a folder, the page for `man`, and
+# completions. tools/build.py or tools/prove.py has to prove and build it first. Each package is tried in a root of its own, without the kit.
 # usage: tools/release.sh FOLDER [VERSION]    puts them into FOLDER; without VERSION it is the program's, or that of the commit
 # It takes dpkg-deb, and for the try root's rights or `unshare`. Debian wants an address of whoever maintains a package. The project has none:
 # who makes one for others says theirs in MAINTAINER ('A Name <name@host>'). The same commit and program make the same packages, byte for byte.

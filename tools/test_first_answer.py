@@ -215,6 +215,24 @@ class Failures(Checkout):
         self.assertEqual(len(self.lines), 1)
         self.assertIn("tools/build.py", self.lines[0])
 
+    def test_nothing_else_is_installed(self):
+        write(f"{self.top}/tools/install.sh", read(f"{TOP}/tools/install.sh"), 0o755)
+        how = {"env": self.env, "stdout": subprocess.PIPE, "stderr": subprocess.PIPE}
+        done = subprocess.run([f"{self.top}/tools/install.sh", f"{self.room}/prefix"], check=False, **how)
+        self.assertEqual((done.returncode, done.stdout, len(done.stderr.splitlines())), (1, b"", 1), done.stderr)
+        self.assertFalse(os.path.exists(f"{self.room}/prefix"))
+
+    @unittest.skipUnless(shutil.which("git"), "there is no git")
+    def test_nothing_else_gates(self):
+        write(f"{self.folder}/proto/m.proto", OLD)
+        who = ["-c", "user.name=nobody", "-c", "user.email=nobody@example.org"]
+        for words in (["init", "-q"], ["add", "."], [*who, "commit", "-q", "-m", "m"]):
+            subprocess.run(["git", *words], cwd=self.folder, check=True)
+        how = {"cwd": self.folder, "stdout": subprocess.PIPE, "stderr": subprocess.PIPE}
+        env = {**self.env, "PROTOGATE": f"{self.top}/protogate"}
+        done = subprocess.run([f"{TOP}/examples/ci/gate.sh", "HEAD", "proto"], env=env, check=False, **how)
+        self.assertEqual((done.returncode, done.stdout, len(done.stderr.splitlines())), (127, b"", 1), done.stderr)
+
 
 class Running(Checkout):
     """What happens beside a call, or to it."""
@@ -262,140 +280,6 @@ class Running(Checkout):
             self.assertEqual([it for it in pids if is_alive(it)], [])
             # The stand-in was killed before it could remove its own folder, and that too is gone.
             self.assertEqual(os.listdir(f"{self.room}/temporary"), [])
-
-
-class Built(Checkout):
-    """The built program is started, and nothing else, unless what it was built of has changed since."""
-
-    def setUp(self):
-        super().setUp()
-        self.out = f"{self.top}/crates/protogate/out"
-        write(f"{self.out}/protogate", "#!/bin/sh\necho built; exit 7\n", 0o755)
-        os.symlink(f"{self.kit}/rt", f"{self.out}/protogate.kit")
-        write(f"{self.out}/protogate.begun", "stand-in\n")
-        self.age(self.top, self.kit)
-        os.utime(f"{self.out}/protogate.begun", (time.time() - 50, time.time() - 50))
-        self.env["PROTOGATE_PROVED_ONLY"] = "1"
-        self.is_built()
-
-    def age(self, *folders):
-        """Makes all as old as it is in a checkout that was built a while ago."""
-        for folder in folders:
-            for at, inside, files in os.walk(folder):
-                for it in [at, *(f"{at}/{name}" for name in files)]:
-                    os.utime(it, (time.time() - 100, time.time() - 100), follow_symlinks=not os.path.islink(it))
-
-    def is_built(self, **more):
-        self.assertEqual(self.call("--help", **more), (7, b"built\n"), self.lines)
-        self.assertEqual(self.lines, [])
-
-    def is_stale(self, **more):
-        self.assertEqual(self.call("--help", **more), (127, b""))
-
-    def test_from_anywhere(self):
-        os.symlink(f"{self.top}/protogate", f"{self.room}/link")
-        for words in ([f"{self.room}/link"], ["sh", f"{self.top}/protogate"], ["../protogate"], ["sh", "../protogate"]):
-            done = subprocess.run(words, cwd=f"{self.top}/crates", env=self.env, stdout=subprocess.PIPE, check=False)
-            self.assertEqual((done.returncode, done.stdout), (7, b"built\n"), words)
-
-    def test_what_changes_nothing(self):
-        write(f"{self.top}/crates/pg_low/proofs/Lib.antt", "new\n")
-        write(f"{self.top}/crates/pg_low/proofs/More.antt", "new\n")
-        write(f"{self.top}/crates/pg_low/out/rlib", "new\n")
-        write(f"{self.top}/crates/wire_rows/src/main.rt", "new\n")
-        write(f"{self.top}/tools/more.py", "new\n")
-        self.is_built()
-
-    def test_edits(self):
-        for it in ("crates.txt", "crates/pg_low/src/lib.rt", "crates/pg_low/src/deep/er/deepest.rt", "crates/pg_low/specs/Lib.antt",
-                   "crates/protogate/src/main.rt", "crates/protogate/specs/Lib.antt"):
-            with self.subTest(it):
-                with open(f"{self.top}/{it}", "a", encoding="utf-8") as file:
-                    file.write("more\n")
-                self.is_stale()
-                self.age(f"{self.top}/crates")
-                os.utime(f"{self.top}/crates.txt", (0, 0))
-                os.utime(f"{self.out}/protogate.begun")
-                self.is_built()
-
-    def changes(self, change):
-        """A change by a shell's line, in the folder of the crates, is seen."""
-        subprocess.run(["sh", "-ec", change], cwd=f"{self.top}/crates", check=True)
-        self.is_stale()
-
-    def test_a_new_file(self):
-        self.changes(": >pg_low/specs/More.antt; touch -d @1 pg_low/specs/More.antt")
-
-    def test_a_new_file_deep_down(self):
-        self.changes(": >pg_low/src/deep/er/more.rt; touch -d @1 pg_low/src/deep/er/more.rt")
-
-    def test_a_removed_file(self):
-        self.changes("rm pg_low/src/deep/er/deepest.rt")
-
-    def test_a_renamed_file(self):
-        self.changes("mv pg_low/src/lib.rt pg_low/src/bil.rt")
-
-    def test_a_renamed_folder(self):
-        self.changes("mv pg_low/src/deep/er pg_low/src/deep/re")
-
-    def test_a_folder_of_sources_that_is_gone(self):
-        self.changes("mv pg_low/specs pg_low/spec")
-
-    def test_a_renamed_crate(self):
-        self.changes("mv pg_low pg_high")
-
-    def test_a_linked_file(self):
-        self.changes("mv pg_low/src/lib.rt ..; ln -s ../../../lib.rt pg_low/src/lib.rt; touch -h -d @1 pg_low/src/lib.rt pg_low/src; "
-                     "touch -d @1 pg_low/src; touch ../lib.rt")
-
-    def test_no_program(self):
-        self.changes("rm protogate/out/protogate")
-
-    def test_a_program_that_cannot_be_run(self):
-        self.changes("chmod -x protogate/out/protogate")
-
-    def test_no_stamp(self):
-        self.changes("rm protogate/out/protogate.begun")
-
-    def test_no_kit_beside_it(self):
-        self.changes("rm protogate/out/protogate.kit")
-
-    def test_another_kit(self):
-        shutil.copytree(self.kit, f"{self.room}/other")
-        self.is_stale(PATH=f"{self.room}/other:{self.env['PATH']}")
-
-    def test_a_kit_that_was_replaced(self):
-        """A kit that a hard link keeps is no longer that on the path."""
-        os.remove(f"{self.out}/protogate.kit")
-        os.link(f"{self.kit}/rt", f"{self.out}/protogate.kit")
-        self.is_built()
-        shutil.copy2(f"{self.kit}/rt", f"{self.kit}/new")
-        os.replace(f"{self.kit}/new", f"{self.kit}/rt")
-        self.is_stale()
-
-    def test_a_kit_that_was_changed(self):
-        os.utime(f"{self.kit}/rt")
-        self.is_stale()
-
-    def test_a_link_to_the_kit(self):
-        os.mkdir(f"{self.room}/bin")
-        os.symlink("../kit/rt", f"{self.room}/bin/rt")
-        self.is_built(PATH=f"{self.room}/bin:{os.environ['PATH']}")
-
-    def test_no_kit_on_the_path(self):
-        os.mkdir(f"{self.room}/bin")
-        for it in ("sh", "find"):
-            os.symlink(shutil.which(it), f"{self.room}/bin/{it}")
-        self.is_built(PATH=f"{self.room}/bin")
-        os.utime(f"{self.top}/crates.txt")
-        self.is_stale(PATH=f"{self.room}/bin")
-
-    def test_a_path_with_other_things_of_that_name(self):
-        for it in ("folder", "file"):
-            os.mkdir(f"{self.room}/{it}")
-        os.mkdir(f"{self.room}/folder/rt")
-        write(f"{self.room}/file/rt", "none")
-        self.is_built(PATH=f"{self.room}/folder:{self.room}/none:{self.room}/file:{self.env['PATH']}")
 
 
 class Kit(unittest.TestCase):

@@ -152,7 +152,7 @@ try_status() {
 # A repository's scripts with a program that answers by its first word: `gate` takes two seconds, `show` none, `verify` stops, and
 # `compile` says what the C library is asked for.
 make_slow_program() {
-    mkdir -p slow/tools slow/docs slow/crates/protogate/out && cp -- "$root/protogate" slow && cp -R -- "$root/examples" slow \
+    mkdir -p slow/tools slow/docs slow/crates/protogate/out slow/crates/protogate/src slow/crates/protogate/specs && cp -- "$root/protogate" slow && cp -R -- "$root/examples" slow \
         && cp -R -- "$root/tools/install.sh" "$root/tools/report.py" "$root/tools/completions" slow/tools \
         && cp -- "$root/docs/protogate.1" "$root/docs/REFUSALS.md" slow/docs \
         && : >slow/crates.txt || return 1
@@ -166,7 +166,9 @@ case $1 in
     *) exit 4 ;;
 esac
 END
-    chmod 755 slow/crates/protogate/out/protogate && : >slow/crates/protogate/out/protogate.begun \
+    chmod 755 slow/crates/protogate/out/protogate || return 1
+    kit=$(command -v rt) && ln -s "$kit" slow/crates/protogate/out/protogate.kit
+    : >slow/crates/protogate/out/protogate.begun \
         && slow/tools/install.sh "slow/o'clock" >/dev/null
 }
 

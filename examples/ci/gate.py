@@ -14,7 +14,7 @@ or each that is named, and a line is printed of each:
 With --both a line of a type that is gated begins with 'forward', or with 'backward' for what old programs read of new messages.
 
 The status is the highest: 0 compatible or added, 1 breaks, 2 removed or refused, 3 out of memory, or a file or the program failed,
-4 a wrong call, 127 no protogate. Advice goes to standard error. protogate is taken from the path, or from PROTOGATE.
+4 a wrong call, 127 no protogate that is proved. Advice goes to standard error. protogate is taken from the path, or from PROTOGATE.
 """
 
 import argparse
@@ -51,13 +51,26 @@ def run(words, **how):
     return done.returncode, done.stdout, os.fsdecode(done.stderr or b"")
 
 
-def protogate(*words):
-    """Runs the program: its status and what it printed. A program that a signal ended, or that ended in no way of its own, is a 3."""
+def called(*words, **how):
+    """Runs the program, and only one that is proved. Returns its status, what it printed, and what was said on standard error, where that is
+    piped."""
     program = os.environ.get("PROTOGATE") or "protogate"
     try:
-        status, said, _ = run([program, *words])
+        return run([program, *words], env={**os.environ, "PROTOGATE_PROVED_ONLY": "1"}, **how)
     except OSError as fault:
         raise Stop(127, f"{program} can't be run ({fault.strerror}): install it, or say where it is in PROTOGATE") from None
+
+
+def look_for_program():
+    """Stops where there is no program, or the script of a checkout in which none is proved."""
+    status, _, why = called("--version", stderr=subprocess.PIPE)
+    if status == 127:
+        raise Stop(127, why.strip() or "protogate can't be run")
+
+
+def protogate(*words):
+    """Runs the program: its status and what it printed. A program that a signal ended, or that ended in no way of its own, is a 3."""
+    status, said, _ = called(*words)
     if status not in (0, 1, 2, 3):
         raise Stop(3, f"protogate ended with {status} on: {' '.join(words)[:500]}")
     return status, said
@@ -440,6 +453,7 @@ def recorded(call, room):
     new = Side("new", folder)
     if not old.files and not new.files:
         raise Stop(4, f"{folder} has no file whose name ends in .proto, at {call.revision} or now")
+    look_for_program()
     for side in (old, new):
         side.read(call.skip, room if call.with_protoc else None)
     known = sorted({*old.declared, *new.declared, *old.files, *new.files})
