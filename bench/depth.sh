@@ -16,7 +16,7 @@ shift $(($# < 2 ? $# : 2))
 . "$top/bench/build.sh"
 protogate=${PROTOGATE:-$top/crates/protogate/out/protogate}
 case " $* " in
-    *" gate "* | *" verify "*) [ -n "${PROTOGATE:-}" ] || "$top/protogate" --help > "$work/help.txt" || true ;;
+    *" gate "* | *" verify "*) [ -n "${PROTOGATE:-}" ] || PROTOGATE_PROVED_ONLY=1 "$top/protogate" --help > "$work/help.txt" || [ $? -eq 4 ] ;;
 esac
 case " $* " in
     *:* | *" types "*)

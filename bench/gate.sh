@@ -8,7 +8,7 @@ work=${1:-$(mktemp -d)}
 types=${2:-4096}
 python3 "$top/bench/gate.py" "$work" "$types"
 python3 "$top/bench/gate.py" "$work/quarter" $((types / 4))
-"$top/protogate" --help > "$work/help.txt" || true
+PROTOGATE_PROVED_ONLY=1 "$top/protogate" --help > "$work/help.txt" || [ $? -eq 4 ]
 program="$top/crates/protogate/out/protogate"
 cd "$work"
 for kind in graph chain front circle mesh same oneof; do

@@ -16,7 +16,7 @@ python3 "$top/bench/sets.py" "$work/bare.proto" 3700 bare
 python3 "$top/bench/sets.py" "$work/quarter.proto" 925
 python3 "$top/bench/link.py" "$work/files"
 python3 "$top/bench/link.py" "$work/fewer" 256
-"$top/protogate" --help > "$work/help.txt" || true
+PROTOGATE_PROVED_ONLY=1 "$top/protogate" --help > "$work/help.txt" || [ $? -eq 4 ]
 
 # compile FOLDER FILE WHAT
 compile() {

@@ -53,8 +53,18 @@ class NoAnswer(Exception):
         self.said = said
 
 
+def write_all(stream, data):
+    """Writes bytes to a stream as it was opened, and returns whether that went well."""
+    try:
+        while stream and data:
+            data = data[os.write(stream.fileno(), data) :]
+    except OSError:
+        return False
+    return not data
+
+
 def say(words):
-    print(f"protogate: {words}", file=sys.stderr, flush=True)
+    write_all(sys.stderr, os.fsencode(f"protogate: {words}\n"))
 
 
 def parents():
@@ -160,18 +170,6 @@ def answer(words, room):
     return printed, status
 
 
-def print_all(printed):
-    """Prints the program's output, and returns whether that went well."""
-    try:
-        sys.stdout.buffer.write(printed)
-        sys.stdout.buffer.flush()
-    except OSError:
-        # What is left in the buffer can't be written at the end either.
-        os.dup2(os.open(os.devnull, os.O_WRONLY), sys.stdout.fileno())
-        return False
-    return True
-
-
 def lacks_tools():
     """Says what is missing, and returns whether anything is."""
     if shutil.which("rt"):
@@ -189,10 +187,9 @@ def run(words):
     try:
         with tempfile.TemporaryDirectory(prefix="protogate-") as room:
             printed, status = answer(words, room)
-        status = status if print_all(printed) else NO_ANSWER
+        status = status if write_all(sys.stdout, printed) else NO_ANSWER
     except NoAnswer as fault:
-        sys.stderr.flush()
-        sys.stderr.buffer.write(fault.said)
+        write_all(sys.stderr, fault.said)
         say(f"no answer: {fault}")
     except (Unanswerable, OSError) as fault:
         say(f"no answer: {fault}")

@@ -3,9 +3,9 @@
 
 usage: tools/test_first_answer.py [PROGRAM]    by default the program that was built; without `rt` on the path a part is passed over
 
-Most tests have a stand-in for `rt`, which runs PROGRAM as `rt try` runs what it compiled: in a new folder, without environment, beside copies
-of the files that it is given. What is wanted is what PROGRAM says where it is called itself. Two builds of the kit's `rt try` then answer the
-first page's example, and a call of each kind. They take some 400 processor seconds.
+Most tests have a stand-in for `rt`, which runs PROGRAM as `rt try` runs what it compiled: in a new folder, without environment, beside
+copies of the files that it is given. What is wanted is what PROGRAM says where it is called itself. Two builds of the kit's `rt try` then
+answer the first page's example, and a call of each kind. They take some 450 processor seconds, and up to 3 GB of memory.
 """
 
 import contextlib
@@ -25,7 +25,7 @@ sys.dont_write_bytecode = True
 from call_files import call_of, copied  # noqa: E402
 from trial_checkout import TOP, Checkout, Compared, is_alive, read, stand_in, write  # noqa: E402
 
-README = ["gate", "--old-dir", "examples/old", "--new-dir", "examples/new", "--old", "order.proto", "--new", "order.proto", "--type", "Order"]
+README = "gate --old-dir examples/old --new-dir examples/new --old order.proto --new order.proto --type Order".split()
 HEAD = 'syntax = "proto3";\n'
 OLD, NEW = HEAD + "message M { bytes a = 1; }\n", HEAD + "message M { string a = 1; }\n"
 
@@ -38,8 +38,9 @@ class Answers(Compared):
         self.assertEqual(said.splitlines()[:2], [b"breaks Order 3", b"witness 220180"])
 
     def test_help_and_bad_command_lines(self):
-        for words in ([], ["--help"], ["--version"], ["-h"], ["gate", "--help"], ["types"], ["relay"], ["gate"], ["compile"], ["help", "gate"],
-                      ["gate", "--old", "a"], ["gate", "--old"], ["show", "--file", "a.proto", "--type", "M"], ["compile", "-x", "a.proto"],
+        for words in ([], ["--help"], ["--version"], ["-h"], ["gate", "--help"], ["types"], ["relay"], ["gate"], ["compile"],
+                      ["help", "gate"], ["gate", "--old", "a"],
+                      ["gate", "--old"], ["show", "--file", "a.proto", "--type", "M"], ["compile", "-x", "a.proto"],
                       ["gate", "--old", "a", "--old", "b", "--new", "a", "--type", "M"], ["types", "--dir", "."], ["compile", "--dir"],
                       ["gate", "--old", "a", "--new", "a", "--type", "M", "--view", "x"], ["verify", "--old", "a", "--new", "b", "c", "d"],
                       ["gate", "--old", "a", "--new", "a", "--type", "M", "--cert=x"], ["compile", "a", "--dir", "--", "b"]):
@@ -84,7 +85,8 @@ class Folders(Compared):
     """Files are found as the program finds them, wherever they are."""
 
     def test_imports(self):
-        self.write({"p/m.proto": HEAD + 'import "q/a b.proto";\nimport public /* c */ \'q\' "/c\\056proto"; // import "x";\nmessage M { A a = 1; }\n',
+        imports = 'import "q/a b.proto";\nimport public /* c */ \'q\' "/c\\056proto"; // import "x";\n'
+        self.write({"p/m.proto": HEAD + imports + "message M { A a = 1; }\n",
                     "p/q/a b.proto": HEAD + 'import "q/c.proto";\nmessage A { C c = 1; }\n', "p/q/c.proto": HEAD + "message C {}\n",
                     "m.proto": HEAD + 'import "q/a b.proto";\n'})
         self.same("compile", "--dir", "p", "m.proto", status=0)
@@ -160,7 +162,7 @@ class Failures(Checkout):
 
     def test_each_failure(self):
         for status, why in ((1, "refuses the sources"), (2, "failed"), (3, "limit"), (4, "check"), (5, "differ"), (6, "1 MiB")):
-            for last in ("run=none proved=no", f"run=fault status={status} proved=no", "proved=no", "something else", "run=ended proved=no"):
+            for last in ("run=none proved=no", f"run=fault status={status} proved=no", "proved=no", "another", "run=ended proved=no"):
                 self.says("as rt", status, last)
                 self.fails(why, last, "tools/build.py")
 
@@ -198,6 +200,13 @@ class Failures(Checkout):
         with open("/dev/full", "wb") as full:
             how = {"stdout": full, "stderr": subprocess.PIPE, "stdin": subprocess.DEVNULL}
             self.assertEqual(subprocess.run([f"{self.top}/protogate", "--help"], env=self.env, check=False, **how).returncode, 3)
+
+    def test_streams_that_are_closed(self):
+        call = f"exec '{self.top}/protogate' --version"
+        done = subprocess.run(["sh", "-c", f"{call} 2>&-"], env=self.env, stdout=subprocess.PIPE, check=False)
+        version = subprocess.run([self.program, "--version"], stdout=subprocess.PIPE, check=False).stdout
+        self.assertEqual((done.returncode, done.stdout), (4, version))
+        self.assertEqual(subprocess.run(["sh", "-c", f"{call} >&-"], env=self.env, stderr=subprocess.DEVNULL, check=False).returncode, 3)
 
     def test_tools_that_are_missing(self):
         for it in ("sh", "find", "dirname", "readlink"):

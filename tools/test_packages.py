@@ -318,8 +318,11 @@ class Packages(test_ci.Repository):
         self.git("init", "-q")
         self.git("add", ".")
         self.git("commit", "-q", "-m", "v1")
-        os.makedirs(f"{self.top}/crates/protogate/out")
+        for part in ("src", "specs", "out"):
+            os.makedirs(f"{self.top}/crates/protogate/{part}")
         shutil.copy(test_ci.PROGRAM, f"{self.top}/crates/protogate/out/protogate")
+        if shutil.which("rt"):
+            os.symlink(os.path.realpath(shutil.which("rt")), f"{self.top}/crates/protogate/out/protogate.kit")
         self.write({"crates/protogate/out/protogate.begun": ""})
         os.chmod(f"{self.top}/protogate", 0o755)
         made = []

@@ -3,13 +3,16 @@
 # and its descriptor sets; the commands of README.md, docs/USAGE.md, docs/REFUSALS.md and the page for `man`; the script for continuous integration; what the scripts that
 # start the program say on a terminal; and what `main` ends with on a full device, on a word that isn't UTF-8, and where memory is
 # refused. The page for `man` has each code of docs/REFUSALS.md.
-# usage: tools/try_examples.sh [PROGRAM]    by default the script `protogate` at the top
+# usage: tools/try_examples.sh [PROGRAM]    by default the script `protogate` at the top, which starts the proved program alone
 # Blocks of commands that call `protoc` want it on the path, and are passed over, with a line, where it isn't; so is what
 # is said on a terminal where there is no `script` of util-linux, or none of the other tools that it takes, and what is said where
 # memory is refused where there is no `cc`.
 set -u
 root=$(CDPATH= cd -- "$(dirname -- "$0")/.." && pwd -P) || exit 3
 program=$(readlink -f -- "${1:-"$root/protogate"}") || exit 3
+export PROTOGATE_PROVED_ONLY=1
+"$program" --version >/dev/null
+[ $? -ne 127 ] || exit 3
 room=$(mktemp -d) || exit 3
 trap 'rm -rf -- "$room"' EXIT
 passed=0
