@@ -85,10 +85,10 @@ class Folders(Compared):
     """Files are found as the program finds them, wherever they are."""
 
     def test_imports(self):
-        imports = 'import "q/a b.proto";\nimport public /* c */ \'q\' "/c\\056proto"; // import "x";\n'
+        imports = 'import "q/a b.proto";\nimport public /* c */ \'q\' "/d\\056proto"; // import "x";\n'
         self.write({"p/m.proto": HEAD + imports + "message M { A a = 1; }\n",
                     "p/q/a b.proto": HEAD + 'import "q/c.proto";\nmessage A { C c = 1; }\n', "p/q/c.proto": HEAD + "message C {}\n",
-                    "m.proto": HEAD + 'import "q/a b.proto";\n'})
+                    "p/q/d.proto": HEAD, "m.proto": HEAD + 'import "q/a b.proto";\n'})
         self.same("compile", "--dir", "p", "m.proto", status=0)
         self.same("compile", "--dir", f"{self.folder}/p", "m.proto", status=0)
         self.same("compile", "--dir", "../work/p", "m.proto", at=f"{self.folder}/p", status=2)
