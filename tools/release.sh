@@ -17,7 +17,7 @@ trap 'rm -rf -- "$room"' EXIT
 
 # The version of the program where it has one. Before that, a number below all others, with the commit's day and name.
 version_of() {
-    said=$("$room/usr/bin/protogate" --version | sed 's/^protogate \([^,]*\).*/\1/') || :
+    said=$("$room/usr/bin/protogate" --version | sed 's/^protogate //') || :
     case $said in
         [0-9]*) echo "$said" ;;
         *) echo "$(git -C "$root" log -1 --date=format:%Y%m%d --format='0~%cd.%h')$(changed)" ;;

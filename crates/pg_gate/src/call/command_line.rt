@@ -101,8 +101,8 @@ Statuses:
   3  out of memory, or a file or the output failed
   4  help, the version, or a bad command line";
 
-/// What follows the program's name with `--version`: its version, and the kit that proves it.
-const VERSION: &str = "unreleased, proved with rattle-kit-13f";
+/// What follows the program's name with `--version`.
+const VERSION: &str = "unreleased";
 
 /// The names of the views by which enums are compared.
 static VIEW_NAMES: [&str; 2] = ["numbers", "names"];
