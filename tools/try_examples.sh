@@ -269,7 +269,7 @@ try_memory() {
     try_refused_memory verify $sides Order.cert
     try_refused_memory show --dir examples/new --file order.proto --type Customer 08071a0161
     try_refused_memory show --help
-    try_refused_memory types --dir examples/new --file order.proto
+    try_refused_memory types --dir examples/new order.proto
     try_refused_memory types --dir examples/new
     try_refused_memory relay
 }

@@ -29,11 +29,10 @@ _protogate() {
         return
     fi
     case $command in
-        compile) options+=' --dir' ;;
+        compile | types) options+=' --dir' ;;
         gate) options+=' --old-dir --new-dir --old --new --type --view --both --cert --explain' ;;
         verify) options+=' --old-dir --new-dir --old --new' ;;
         show) options+=' --dir --file --type' ;;
-        types) options+=' --dir --file' ;;
         *) return ;;
     esac
     case $before in

@@ -38,6 +38,6 @@ complete -c protogate -n '__fish_seen_subcommand_from gate' -l both -d 'ask for 
 complete -c protogate -n '__fish_seen_subcommand_from gate' -l explain -d 'show what breaks as both sides read it'
 complete -c protogate -n '__fish_seen_subcommand_from gate' -l cert -d 'print the certificate'
 complete -c protogate -n '__fish_seen_subcommand_from compile show types' -l dir -x -a '(__fish_complete_directories)' -d 'the folder of the files'
-complete -c protogate -n '__fish_seen_subcommand_from show types' -l file -x -a '(__protogate_files --dir)' -d 'a text, or a descriptor set'
+complete -c protogate -n '__fish_seen_subcommand_from show' -l file -x -a '(__protogate_files --dir)' -d 'a text, or a descriptor set'
 complete -c protogate -n '__fish_seen_subcommand_from compile types' -a '(__protogate_files --dir)'
 complete -c protogate -n '__fish_seen_subcommand_from verify' -F

@@ -33,7 +33,7 @@ _protogate() {
     shift words
     ((CURRENT--))
     case $command in
-        compile) _arguments '--help[print help]' '--dir[the folder of the files]:folder:_files -/' '*:file:_protogate_files --dir' ;;
+        compile | types) _arguments '--help[print help]' '--dir[the folder of the files]:folder:_files -/' '*:file:_protogate_files --dir' ;;
         gate)
             _arguments '--help[print help]' $old_and_new '--type[the full name of the message type]:type: ' \
                 '--view[how enums are compared]:view:(numbers names)' '--both[ask for both directions]' '--cert[print the certificate]' \
@@ -44,10 +44,6 @@ _protogate() {
             _arguments '--help[print help]' '--dir[the folder of the file]:folder:_files -/' \
                 '--file[a text, or a descriptor set]:file:_protogate_files --dir' '--type[the full name of the message type]:type: ' \
                 ':bytes in hexadecimal digits: '
-            ;;
-        types)
-            _arguments '--help[print help]' '--dir[the folder of the files]:folder:_files -/' \
-                '--file[a text, or a descriptor set]:file:_protogate_files --dir' '*:file:_protogate_files --dir'
             ;;
     esac
 }

@@ -1,20 +1,20 @@
 -- What words call for doesn't depend on where the names of the views lie.
-use Rattle.std.specs.Prelude.{if◌then◌else◌}
+use Rattle.std.specs.Prelude.{◌&&◌, false, is_some, not, option_map, if◌then◌else◌}
 use Rattle.std.specs.List.{list_any}
 use Rattle.std.specs.Borrow.{Bor}
-use Rattle.std.proofs.Common.{◌≡◌, ◌∙◌, ◌||◌, Bool, ℕ, List, [], ◌∷◌, Option, Some, None, refl, ap, ap₂, sym, map}
+use Rattle.std.proofs.Common.{◌≡◌, ◌∙◌, ◌||◌, ◌⊎◌, Bool, true, List, [], ◌∷◌, Option, Some, None, inl, inr, refl, ap, sym, map}
 use Rattle.clap.proofs.OnLiterals.{clap_on_literals}
 use Rattle.clap.specs.Facts.{parser_of_value}
-use Rattle.clap.specs.Faults.{built_fault, fault_of}
-use Rattle.clap.specs.Kinds.{value_kinds}
-use Rattle.clap.specs.Simple.{App, built, entered, names_of, subcommand_of}
+use Rattle.clap.specs.Faults.{built_fault, fault_of, level_fault}
+use Rattle.clap.specs.Kinds.{Kinds, check_kinds, or_else, value_kinds}
+use Rattle.clap.specs.Simple.{App, Shape, argument_words, built, entered, names_of, subcommand_of}
 use Rattle.clap.specs.Values.{reading_of, same_text}
-use Rattle.clap.specs.Walk.{Text, nothing_held, stop_after, texts}
+use Rattle.clap.specs.Walk.{Held, Names, Row, Text, nothing_held, stop_after, texts}
 use Rattle.clap.specs.declared.builder.value_parser.ValueParser.{ValueParser}
 use Rattle.clap.specs.declared.builder.value_parser.ValueParser.TheVariants as parsers
 use Rattle.clap.specs.declared.error.kind.ErrorKind.TheVariants as kind
-use Rattle.pg_gate.specs.CommandLine.{whole_app}
-use Rattle.pg_gate.specs.Call.{OneCall, call_by, call_with}
+use Rattle.pg_gate.specs.CommandLine.{view_names, whole_app}
+use Rattle.pg_gate.specs.Call.{CallsFor, IsCall, IsRefused, OneCall, Request, request_in}
 use Rattle.pg_gate.proofs.AlikeFaults.{built_fault_alike, changed_app, entered_at_alike}
 
 -- a reference to these texts, all of them at the first place of all
@@ -74,11 +74,67 @@ same_subcommand : (names : Bor (List (Bor Text))) (words : List Text) → subcom
 same_subcommand names words =
     ap (λ (a : App). entered a (stop_after a.top.rules (names_of a) words)) (built_moved names) ∙ entered_at_alike moved same_reading same_kinds (built (whole_app names)) words
 
-same_call : (names : Bor (List (Bor Text))) (words : List Text) → call_with (placed (texts names.now)) words ≡ call_with names words
-same_call names words = ap₂ call_by (same_faults names words) (same_subcommand names words)
+faults_agree : (a b : Bor (List (Bor Text))) (words : List Text) → texts a.now ≡ texts b.now → fault_of (whole_app a) words ≡ fault_of (whole_app b) words
+faults_agree a b words same =
+    sym (same_faults a words) ∙ ap (λ (names : List Text). fault_of (whole_app (placed names)) words) same ∙ same_faults b words
+
+subcommands_agree : (a b : Bor (List (Bor Text))) (words : List Text) → texts a.now ≡ texts b.now → subcommand_of (whole_app a) words ≡ subcommand_of (whole_app b) words
+subcommands_agree a b words same =
+    sym (same_subcommand a words) ∙ ap (λ (names : List Text). subcommand_of (whole_app (placed names)) words) same ∙ same_subcommand b words
+
+-- ---- words without a fault enter a subcommand, for the command requires one
+
+no_last : (a b : Kinds) → or_else a b ≡ [] → b ≡ []
+no_last [] b none = none
+no_last (k ∷ ks) b none = cc
+
+check_entered : (wants_help required wants_argument has : Bool) → required ≡ true → check_kinds wants_help (not has && required) wants_argument ≡ [] → has ≡ true
+check_entered wants_help required wants_argument true is none = refl
+check_entered true required wants_argument false is none = cc
+check_entered false true wants_argument false is none = cc
+check_entered false false wants_argument false is none = cc
+
+level_entered : (s : Shape) (names : Names) (h : Held) (words : List Text) (has : Bool) (below : Kinds) → s.subcommand_required ≡ true
+    → level_fault s names h words has below ≡ [] → has ≡ true
+level_entered s names h words has below required none =
+    check_entered _ s.subcommand_required _ has required (no_last _ _ (no_last _ _ (no_last _ _ (no_last _ _ none))))
+
+required : (names : Bor (List (Bor Text))) → (built (whole_app names)).top.subcommand_required ≡ true
+unfolding clap_on_literals
+required names = refl
+
+is_entered : (names : Bor (List (Bor Text))) (words : List Text) → fault_of (whole_app names) words ≡ [] → is_some (subcommand_of (whole_app names) words) ≡ true
+is_entered names words taken =
+    let app = built (whole_app names) in
+    level_entered app.top (names_of app) nothing_held (argument_words (whole_app names) words) _ _ (required names) taken
+
+-- some reference to the names of the views
+abbrev some_names : Bor (List (Bor Text))
+some_names = placed view_names
+
+called : (words : List Text) (met : Option (Text × List Row)) → fault_of (whole_app some_names) words ≡ [] → subcommand_of (whole_app some_names) words ≡ met → is_some met ≡ true → IsCall words
+called words None taken is some = cc
+called words (Some entered) taken is some =
+    record { call = request_in entered; called = record { names = some_names; are_names = refl; taken = taken; by_matches = ap (option_map request_in) is } }
+
+called_or_refused : (words : List Text) (kinds : Kinds) → fault_of (whole_app some_names) words ≡ kinds → IsCall words ⊎ IsRefused words
+called_or_refused words [] is = inl (called words (subcommand_of (whole_app some_names) words) is refl (is_entered some_names words is))
+called_or_refused words (kind ∷ kinds) is = inr (record { names = some_names; are_names = refl; by_clap = λ none. cc })
+
+never_both : (words : List Text) → IsCall words → ¬ (IsRefused words)
+never_both words call refused =
+    let agree = faults_agree refused.names call.called.names words (refused.are_names ∙ sym call.called.are_names) in
+    refused.by_clap (agree ∙ call.called.taken)
+
+one : (words : List Text) (a b : Request) → CallsFor words a → CallsFor words b → a ≡ b
+one words a b first second =
+    let agree = subcommands_agree first.names second.names words (first.are_names ∙ sym second.are_names) in
+    let same : Some a ≡ Some b = sym first.by_matches ∙ ap (option_map request_in) agree ∙ second.by_matches in
+    cc
 
 pub one_call : OneCall
-one_call words a b one other =
-    sym one.by_clap ∙ sym (same_call one.names words)
-    ∙ ap (λ (names : List Text). call_with (placed names) words) (one.are_names ∙ sym other.are_names)
-    ∙ same_call other.names words ∙ other.by_clap
+one_call = record {
+  called_or_refused = λ words. called_or_refused words _ refl;
+  never_both = never_both;
+  one = one;
+}

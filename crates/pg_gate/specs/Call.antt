@@ -1,11 +1,11 @@
 -- What the words of a command line call for.
-use Rattle.std.specs.Prelude.{◌≡◌, Bool, true, false, List, [], ◌∷◌, ◌++◌, Option, Some, None, codes}
-use Rattle.std.specs.Prelude.{unwrap_or, option_and_then, if◌then◌else◌}
+use Rattle.std.specs.Prelude.{◌≡◌, ◌≢◌, ◌⊎◌, Bool, true, false, List, [], Some, codes}
+use Rattle.std.specs.Prelude.{unwrap_or, option_map, if◌then◌else◌}
 use Rattle.std.specs.Borrow.{Bor}
 use Rattle.std.specs.Option.{option_map_or}
 use Rattle.std.specs.Str.{bytes_eq}
 use Rattle.clap.specs.Walk.{texts}
-use Rattle.clap.specs.Words.{Kinds, Row, Text, all_of, fault_of, first_of, subcommand_of}
+use Rattle.clap.specs.Words.{Row, Text, all_of, fault_of, first_of, subcommand_of}
 use Rattle.pg_dyn.specs.declared.view_name.ViewName.{ViewName}
 use Rattle.pg_dyn.specs.declared.view_name.ViewName.TheVariants as views
 use Rattle.pg_gate.specs.CommandLine.{view_names, whole_app}
@@ -83,50 +83,43 @@ verify_in rows = verify (sides_in rows) (text_at (codes "CERT") rows)
 abbrev pub show_in : List Row → Request
 show_in rows = show (text_at (codes "dir") rows) (text_at (codes "file") rows) (text_at (codes "type") rows) (text_at (codes "HEX") rows)
 
--- at least one file
-abbrev pub types_of : Text → List Text → Option Request
-types_of dir [] = None
-types_of dir (file ∷ files) = Some (types dir (file ∷ files))
+abbrev pub types_in : List Row → Request
+types_in rows = types (text_at (codes "dir") rows) (texts_at (codes "FILE") rows)
 
--- the file of `--file`, where it is there, and those that are named without it
-abbrev pub types_in : List Row → Option Request
-types_in rows = types_of (text_at (codes "dir") rows) (texts_at (codes "file") rows ++ texts_at (codes "FILE") rows)
-
--- the call of a subcommand and its matches, if they are one; clap has only these five
-abbrev pub request_in : Text × List Row → Option Request
+-- the call of a subcommand and its matches; clap has only these five
+abbrev pub request_in : Text × List Row → Request
 request_in met =
-    if bytes_eq met.0 (codes "compile") then Some (compile_in met.1)
-    else if bytes_eq met.0 (codes "gate") then Some (gate_in met.1)
-    else if bytes_eq met.0 (codes "verify") then Some (verify_in met.1)
+    if bytes_eq met.0 (codes "compile") then compile_in met.1
+    else if bytes_eq met.0 (codes "gate") then gate_in met.1
+    else if bytes_eq met.0 (codes "verify") then verify_in met.1
     else if bytes_eq met.0 (codes "types") then types_in met.1
-    else Some (show_in met.1)
+    else show_in met.1
 
--- the call of a parse with these faults, at this subcommand
-abbrev pub call_by : Kinds → Option (Text × List Row) → Option Request
-call_by [] met = option_and_then request_in met
-call_by (kind ∷ kinds) met = None
+-- ---- from the words
 
--- what the words call for, where clap takes them and they are a call, by a command that has the views' names from this reference
-abbrev pub call_with : Bor (List (Bor Text)) → List Text → Option Request
-call_with names words = call_by (fault_of (whole_app names) words) (subcommand_of (whole_app names) words)
+-- A command keeps the reference to the list of names that `--view` takes, and so do clap's definitions, and where it lies nobody
+-- knows beforehand. So what clap does is said of some reference to just these names. By law it is the same for each (`OneCall`).
 
--- What the words call for, or that they are no call. A command keeps the reference to the list of names that `--view` takes, and so do
--- clap's definitions, and where it lies nobody knows beforehand. So this is said of some reference to just these names. By law it is
--- the same for each (`OneCall`).
-pub record CallsFor (words : List Text) (called : Option Request) : Type 0 where
+-- clap takes the words, and its matches are those of this call
+pub record CallsFor (words : List Text) (call : Request) : Type 0 where
   pub names : Bor (List (Bor Text))
   pub are_names : texts names.now ≡ view_names
-  pub by_clap : call_with names words ≡ called
-
--- Words have one call at most, and have none where they are no call: whichever such reference the command keeps.
-abbrev pub OneCall : Type 0
-OneCall = (words : List Text) (a b : Option Request) → CallsFor words a → CallsFor words b → a ≡ b
-
--- clap doesn't take the words, or `types` stands without a file
-abbrev pub IsNoCall : List Text → Type 0
-IsNoCall words = CallsFor words None
+  pub taken : fault_of (whole_app names) words ≡ []
+  pub by_matches : option_map request_in (subcommand_of (whole_app names) words) ≡ Some call
 
 -- the words call for something
 pub record IsCall (words : List Text) : Type 0 where
   pub call : Request
-  pub called : CallsFor words (Some call)
+  pub called : CallsFor words call
+
+-- clap doesn't take the words: it finds a fault of them, or they ask for help or the version
+pub record IsRefused (words : List Text) : Type 0 where
+  pub names : Bor (List (Bor Text))
+  pub are_names : texts names.now ≡ view_names
+  pub by_clap : fault_of (whole_app names) words ≢ []
+
+-- Words that clap takes are just one call: whichever such reference the command keeps.
+pub record OneCall : Type 0 where
+  pub called_or_refused : (words : List Text) → IsCall words ⊎ IsRefused words
+  pub never_both : (words : List Text) → IsCall words → ¬ (IsRefused words)
+  pub one : (words : List Text) (a b : Request) → CallsFor words a → CallsFor words b → a ≡ b

@@ -34,10 +34,6 @@ positional name = record (new_rule name) { required = true }
 abbrev pub positionals : Text → Rule
 positionals name = record (positional name) { action = Some Append }
 
--- the same of an argument that may be left out
-abbrev pub optional : Rule → Rule
-optional rule = record rule { required = false }
-
 -- `--NAME`
 abbrev pub flag : Text → Rule
 flag name = record (new_rule name) { long = Some name; action = Some SetTrue }
@@ -69,13 +65,8 @@ abbrev pub show_app : App
 show_app = with_rules (new_app (codes "show")) (folder (codes "dir") ∷ named (codes "file") ∷ named (codes "type")
     ∷ positional (codes "HEX") ∷ [])
 
--- the command without any words asks for help
-abbrev pub needs_words : App → App
-needs_words app = record app { top = record app.top { arg_required_else_help = true } }
-
 abbrev pub types_app : App
-types_app = with_rules (needs_words (new_app (codes "types"))) (folder (codes "dir") ∷ optional (named (codes "file"))
-    ∷ optional (positionals (codes "FILE")) ∷ [])
+types_app = with_rules (new_app (codes "types")) (folder (codes "dir") ∷ positionals (codes "FILE") ∷ [])
 
 abbrev pub top_app : App
 top_app = let app = new_app (codes "protogate") in

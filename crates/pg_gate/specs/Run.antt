@@ -1,5 +1,5 @@
 -- What a run does to its sink.
-use Rattle.std.specs.Prelude.{◌≡◌, ◌⊎◌, ℕ, List, ◌++◌, take, Some, Result, Ok, Err}
+use Rattle.std.specs.Prelude.{◌≡◌, ◌⊎◌, ℕ, List, ◌++◌, take, Result, Ok, Err}
 use Rattle.clap.specs.Words.{Text}
 use Rattle.pg_gate.specs.Call.{CallsFor, Request}
 use Rattle.pg_gate.specs.Printed.{printed}
@@ -11,7 +11,7 @@ use Rattle.pg_gate.specs.declared.print.reply.Reply.{Reply}
 pub record Prints (granted : Request → Reply → Type 0) (words : List Text) (status : ℕ) (old new : Text) : Type 0 where
   pub call : Request
   pub reply : Reply
-  pub called : CallsFor words (Some call)
+  pub called : CallsFor words call
   pub answered : granted call reply
   pub ended : status ≡ (printed call reply).status
   pub written : new ≡ old ++ (printed call reply).text
@@ -20,7 +20,7 @@ pub record Prints (granted : Request → Reply → Type 0) (words : List Text) (
 pub record Begins (granted : Request → Reply → Type 0) (words : List Text) (old new : Text) : Type 0 where
   pub call : Request
   pub reply : Reply
-  pub called : CallsFor words (Some call)
+  pub called : CallsFor words call
   pub answered : granted call reply
   pub count : ℕ
   pub written : new ≡ old ++ take count (printed call reply).text
@@ -34,7 +34,7 @@ pub record Keeps (old new : Text) : Type 0 where
 -- call.
 pub data MayLack (granted : Request → Reply → Type 0) (words : List Text) (none_failed : Type 0) : Type 0 where
   unfailed : none_failed → MayLack granted words none_failed
-  answered : (call : Request) (reply : Reply) → CallsFor words (Some call) → granted call reply → MayLack granted words none_failed
+  answered : (call : Request) (reply : Reply) → CallsFor words call → granted call reply → MayLack granted words none_failed
 
 -- a run ends without a status only where memory or its sink failed
 abbrev pub IsRunError : GateError → Type 0

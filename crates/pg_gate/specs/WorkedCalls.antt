@@ -1,9 +1,9 @@
 -- Words of the command line, and what they call for.
-use Rattle.std.specs.Prelude.{Bool, true, false, List, [], ◌∷◌, Some, codes}
+use Rattle.std.specs.Prelude.{Bool, true, false, List, [], ◌∷◌, codes}
 use Rattle.clap.specs.Words.{Text}
 use Rattle.pg_dyn.specs.declared.view_name.ViewName.{ViewName}
 use Rattle.pg_dyn.specs.declared.view_name.ViewName.TheVariants as views
-use Rattle.pg_gate.specs.Call.{CallsFor, IsNoCall, Request, gate, types}
+use Rattle.pg_gate.specs.Call.{CallsFor, IsRefused, Request, gate, types}
 
 -- `gate` for a type M of two files, and further words
 abbrev pub gate_words : List Text → List Text
@@ -16,15 +16,18 @@ abbrev pub gate_by : ViewName → Request
 gate_by view = asked_gate false view
 
 pub record WorkedCalls : Type 0 where
-  pub by_numbers : CallsFor (gate_words (codes "--view" ∷ codes "numbers" ∷ [])) (Some (gate_by views.Numbers))
-  pub by_names : CallsFor (gate_words (codes "--view" ∷ codes "names" ∷ [])) (Some (gate_by views.Names))
-  pub behind_a_mark : CallsFor (gate_words (codes "--view=names" ∷ [])) (Some (gate_by views.Names))
-  pub no_view : CallsFor (gate_words []) (Some (gate_by views.Numbers))
-  pub with_readings : CallsFor (gate_words (codes "--explain" ∷ [])) (Some (asked_gate true views.Numbers))
-  pub another_word : IsNoCall (gate_words (codes "--view" ∷ codes "other" ∷ []))
-  pub capitals : IsNoCall (gate_words (codes "--view" ∷ codes "Names" ∷ []))
-  pub empty_word : IsNoCall (gate_words (codes "--view" ∷ [] ∷ []))
-  pub no_word : IsNoCall (gate_words (codes "--view" ∷ []))
-  pub twice : IsNoCall (gate_words (codes "--view" ∷ codes "names" ∷ codes "--view" ∷ codes "names" ∷ []))
-  pub types_of_a_file : CallsFor (codes "types" ∷ codes "--file" ∷ codes "f" ∷ codes "--dir" ∷ codes "d" ∷ []) (Some (types (codes "d") (codes "f" ∷ [])))
-  pub types_of_no_file : IsNoCall (codes "types" ∷ codes "--dir" ∷ codes "d" ∷ [])
+  pub by_numbers : CallsFor (gate_words (codes "--view" ∷ codes "numbers" ∷ [])) (gate_by views.Numbers)
+  pub by_names : CallsFor (gate_words (codes "--view" ∷ codes "names" ∷ [])) (gate_by views.Names)
+  pub behind_a_mark : CallsFor (gate_words (codes "--view=names" ∷ [])) (gate_by views.Names)
+  pub no_view : CallsFor (gate_words []) (gate_by views.Numbers)
+  pub with_readings : CallsFor (gate_words (codes "--explain" ∷ [])) (asked_gate true views.Numbers)
+  pub another_word : IsRefused (gate_words (codes "--view" ∷ codes "other" ∷ []))
+  pub capitals : IsRefused (gate_words (codes "--view" ∷ codes "Names" ∷ []))
+  pub empty_word : IsRefused (gate_words (codes "--view" ∷ [] ∷ []))
+  pub no_word : IsRefused (gate_words (codes "--view" ∷ []))
+  pub twice : IsRefused (gate_words (codes "--view" ∷ codes "names" ∷ codes "--view" ∷ codes "names" ∷ []))
+  pub types_of_a_file : CallsFor (codes "types" ∷ codes "f" ∷ codes "--dir" ∷ codes "d" ∷ []) (types (codes "d") (codes "f" ∷ []))
+  pub types_of_files : CallsFor (codes "types" ∷ codes "f" ∷ codes "g" ∷ []) (types (codes ".") (codes "f" ∷ codes "g" ∷ []))
+  pub types_of_no_file : IsRefused (codes "types" ∷ codes "--dir" ∷ codes "d" ∷ [])
+  pub no_words : IsRefused []
+  pub help : IsRefused (codes "types" ∷ codes "--help" ∷ [])

@@ -3,7 +3,7 @@
 ghost use Rattle.pg_gate.specs.Call.{OneCall};
 ghost use Rattle.pg_gate.specs.WorkedCalls.{WorkedCalls};
 
-/// Words have one call at most, wherever the names of the views lie.
+/// Words that `clap` takes are one call, wherever the names of the views lie.
 pub fn one_call()
     ensures { OneCall }
 {}

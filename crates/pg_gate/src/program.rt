@@ -2,7 +2,7 @@
 ghost use Rattle.std.specs.Prelude.{◌≡◌, ◌≢◌, ◌⊎◌, ◌+◌, IfErr, IfOk, IsErrOf, OnOk};
 ghost use Rattle.clap.specs.Walk.{texts};
 ghost use Rattle.clap.specs.Words.{kind_of};
-ghost use Rattle.pg_gate.specs.Call.{IsCall, IsNoCall, request_of};
+ghost use Rattle.pg_gate.specs.Call.{IsCall, IsRefused, request_of};
 ghost use Rattle.pg_gate.specs.Grants.{Grants, seen};
 ghost use Rattle.pg_gate.specs.Printed.{root_of};
 ghost use Rattle.pg_gate.specs.Run.{Begins, IsRunError, Keeps, MayLack, Prints, failures_in};
@@ -15,7 +15,7 @@ use clap::error::ErrorKind;
 use pg_link::Sources;
 use std::alloc::Global;
 
-/// The status of words that are no call, and of help.
+/// The status of words that `clap` doesn't take, as of those that ask for help.
 const USAGE: u8 = 4;
 
 impl Call<'_> {
@@ -31,7 +31,7 @@ impl Call<'_> {
     }
 }
 
-/// Writes why words are no call, as `clap` says it.
+/// Writes why `clap` doesn't take the words, as it says it itself.
 fn usage<W: Sink>(alloc: Global, error: &clap::Error, sink: &mut W) -> Result<u8, GateError>
     ensures usage { IfOk result (λ status.
         (status ≡ USAGE) × (kind_of error.now ≢ ErrorKind.OutOfMemory)) }
@@ -65,20 +65,20 @@ pub fn run<S: Sources, T: Sources, W: Sink>(
     new: &mut T,
     sink: &mut W,
 ) -> Result<u8, GateError>
-    // Only words that are no call end with the status of usage.
-    ensures usage { IfOk result (λ status. status ≡ USAGE → IsNoCall (texts words.now)) }
+    // Only words that `clap` doesn't take end with the status of usage.
+    ensures usage { IfOk result (λ status. status ≡ USAGE → IsRefused (texts words.now)) }
 
     // Else the sink took exactly the text of the words' call and an answer granted to it.
     ensures printed { IfOk result (λ status. status ≢ USAGE → Prints
         (Grants (seen S.Sources old.old old.new) (seen T.Sources new.old new.new))
         (texts words.now) status (W.taken sink.old) (W.taken sink.new)) }
 
-    // A sink that fails took a beginning of it; or the words are no call, and the sources are as
-    // they were. Memory that fails leaves the sink alone.
+    // A sink that fails took a beginning of it; or `clap` doesn't take the words, and the sources
+    // are as they were. Memory that fails leaves the sink alone.
     ensures begun { IsErrOf result GateError.WriteFailed → Begins
         (Grants (seen S.Sources old.old old.new) (seen T.Sources new.old new.new))
         (texts words.now) (W.taken sink.old) (W.taken sink.new)
-        ⊎ (IsNoCall (texts words.now) × (old.new ≡ old.old) × (new.new ≡ new.old)) }
+        ⊎ (IsRefused (texts words.now) × (old.new ≡ old.old) × (new.new ≡ new.old)) }
     ensures only { IfErr result IsRunError }
     ensures untouched { IsErrOf result GateError.Memory → W.taken sink.new ≡ W.taken sink.old }
     ensures kept { Keeps (W.taken sink.old) (W.taken sink.new) }

@@ -5,7 +5,7 @@
 
 ghost use Rattle.std.specs.Prelude.{◌≡◌, ◌≢◌, ◌⊎◌, ◌+◌, IfErr, IfOk, IsErrOf};
 ghost use Rattle.clap.specs.Walk.{texts};
-ghost use Rattle.pg_gate.specs.Call.{IsCall, IsNoCall};
+ghost use Rattle.pg_gate.specs.Call.{IsCall, IsRefused};
 ghost use Rattle.pg_gate.specs.Grants.{Grants, seen};
 ghost use Rattle.pg_gate.specs.Run.{Begins, IsRunError, MayLack, Prints, failures_in};
 
@@ -37,8 +37,8 @@ pub fn run_usage<S: Sources, T: Sources, W: Sink>(
     new: &mut T,
     sink: &mut W,
 ) -> Result<u8, GateError>
-    // Only words that are no call end with it.
-    ensures usage { IfOk result (λ status. status ≡ 4 → IsNoCall (texts said.now)) }
+    // Only words that `clap` doesn't take end with it.
+    ensures usage { IfOk result (λ status. status ≡ 4 → IsRefused (texts said.now)) }
 {
     pg_gate::run(alloc, said, old, new, sink)
 }
@@ -72,12 +72,12 @@ pub fn run_failed<S: Sources, T: Sources, W: Sink>(
     new: &mut T,
     sink: &mut W,
 ) -> Result<u8, GateError>
-    // A sink that fails took a beginning of the text; or the words are no call, and the sources are
-    // as they were. Memory that fails leaves the sink alone.
+    // A sink that fails took a beginning of the text; or `clap` doesn't take the words, and the
+    // sources are as they were. Memory that fails leaves the sink alone.
     ensures begun { IsErrOf result GateError.WriteFailed → Begins
         (Grants (seen S.Sources old.old old.new) (seen T.Sources new.old new.new))
         (texts asked.now) (W.taken sink.old) (W.taken sink.new)
-        ⊎ (IsNoCall (texts asked.now) × (old.new ≡ old.old) × (new.new ≡ new.old)) }
+        ⊎ (IsRefused (texts asked.now) × (old.new ≡ old.old) × (new.new ≡ new.old)) }
     ensures only { IfErr result IsRunError }
     ensures untouched { IsErrOf result GateError.Memory → W.taken sink.new ≡ W.taken sink.old }
     // Its count rose by one where it ends so, and by none else.

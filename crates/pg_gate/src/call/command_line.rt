@@ -1,5 +1,5 @@
 //! The command line, read with `clap`.
-ghost use Rattle.std.specs.Prelude.{◌≡◌, ◌≢◌, Some, None, false, option_map, IfErr, IfOk};
+ghost use Rattle.std.specs.Prelude.{◌≡◌, ◌≢◌, false, IfErr, IfOk};
 ghost use Rattle.clap.specs.Walk.{texts};
 ghost use Rattle.clap.specs.Words.{found_of, kind_of, rows_of, rule_of};
 ghost use Rattle.pg_gate.specs.CommandLine.{HasApp};
@@ -112,7 +112,7 @@ const OLD_FILE: &str = "The old proto3 file, or a descriptor set where F doesn't
 
 const NEW_FILE: &str = "The new proto3 file, or a descriptor set where F doesn't end in .proto";
 
-/// What help says of the file by which a message is shown, or whose types are named.
+/// What help says of the file by which a message is shown.
 const SHOWN_FILE: &str = "The proto3 file, or a descriptor set where F doesn't end in .proto";
 
 /// An option that may be left out, and then has that value.
@@ -183,14 +183,6 @@ fn positionals<'a>(alloc: Global, name: &'a str, help: &'a str) -> Arg<'a>
     ensures local { result.global ≡ false }
 {
     positional(alloc, name, help).action(ArgAction::Append)
-}
-
-/// The same of an argument that may be left out.
-fn optional<'a>(arg: Arg<'a>) -> Arg<'a>
-    ensures rule { rule_of result ≡ command_line.optional (rule_of arg.entry) }
-    ensures local { result.global ≡ arg.entry.global }
-{
-    arg.required(false)
 }
 
 /// An option without a value.
@@ -291,14 +283,12 @@ fn types_command<'a>(alloc: Global) -> Result<Command<'a>, AllocError>
     Command::new(alloc, "types")
         .about("Name the message types of files and of all that they import")
         .after_help(TYPES_ANSWERS)
-        .arg_required_else_help(true)
         .arg(folder(alloc, "dir", "The folder of the files and of their imports"))?
-        .arg(optional(named(alloc, "file", "F", SHOWN_FILE)))?
-        .arg(optional(positionals(
+        .arg(positionals(
             alloc,
             "FILE",
-            "The same without --file; or more proto3 files",
-        )))
+            "The proto3 files, or one descriptor set where FILE doesn't end in .proto",
+        ))
 }
 
 /// The whole command line, but for the program's name.
@@ -421,74 +411,39 @@ fn show_call<'a>(found: &ArgMatches<'a>) -> Call<'a>
     }
 }
 
-/// The call of `types`, where a file is named.
-fn types_call<'a>(alloc: Global, found: &ArgMatches<'a>) -> Result<Option<Call<'a>>, AllocError>
+fn types_call<'a>(alloc: Global, found: &ArgMatches<'a>) -> Result<Call<'a>, AllocError>
     ensures { IfOk result (λ call.
-        option_map spec.request_of call ≡ spec.types_in (rows_of (found_of found.now))) }
+        spec.request_of call ≡ spec.types_in (rows_of (found_of found.now))) }
 {
-    let mut files = texts(alloc, found, "file")?;
-    let more = texts(alloc, found, "FILE")?;
-    files.extend_from_slice(&more)?;
-    if files.is_empty() {
-        return Ok(None);
-    }
-    Ok(Some(Call::Types {
+    Ok(Call::Types {
         dir: text(found, "dir"),
-        files,
-    }))
+        files: texts(alloc, found, "FILE")?,
+    })
 }
 
-/// What the subcommand of this name calls for. `types` without a file is no call.
-fn call_in<'a>(
-    alloc: Global,
-    name: &str,
-    found: &ArgMatches<'a>,
-) -> Result<Option<Call<'a>>, AllocError>
-    ensures { IfOk result (λ call. option_map spec.request_of call
+/// What the subcommand of this name calls for.
+fn call_in<'a>(alloc: Global, name: &str, found: &ArgMatches<'a>) -> Result<Call<'a>, AllocError>
+    ensures { IfOk result (λ call. spec.request_of call
         ≡ spec.request_in (name.now, rows_of (found_of found.now))) }
 {
     match name {
-        "compile" => Ok(Some(compile_call(alloc, found)?)),
-        "gate" => Ok(Some(gate_call(found))),
-        "verify" => Ok(Some(verify_call(found))),
+        "compile" => compile_call(alloc, found),
+        "gate" => Ok(gate_call(found)),
+        "verify" => Ok(verify_call(found)),
         "types" => types_call(alloc, found),
-        _ => Ok(Some(show_call(found))),
+        _ => Ok(show_call(found)),
     }
 }
 
-/// Why `types` without a file is no call: `clap` has no rule that wants one of two arguments, by
-/// which it can be told beforehand what words are refused.
-fn no_file(alloc: Global) -> Result<Error, AllocError>
-    ensures { IfOk result (λ error. kind_of error ≡ ErrorKind.MissingRequiredArgument) }
-{
-    types_command(alloc)?.bin_name("protogate types")?.error(
-        ErrorKind::MissingRequiredArgument,
-        "a file is wanted: FILE, or --file <F>",
-    )
-}
-
-/// The call of the subcommand of this name, or why there is none.
-fn subcommand_call<'a>(alloc: Global, name: &str, found: &ArgMatches<'a>) -> Result<Call<'a>, Error>
-    ensures call { IfOk result (λ call. spec.request_in (name.now, rows_of (found_of found.now))
-        ≡ Some (spec.request_of call)) }
-    ensures refused { IfErr result (λ error. kind_of error ≢ ErrorKind.OutOfMemory
-        → spec.request_in (name.now, rows_of (found_of found.now)) ≡ None) }
-{
-    match call_in(alloc, name, found)? {
-        Some(call) => Ok(call),
-        None => Err(no_file(alloc)?),
-    }
-}
-
-/// What the words after the program's name call for, or why they are no call.
+/// What the words after the program's name call for, or why `clap` doesn't take them.
 pub(crate) fn call_of<'a>(alloc: Global, words: &'a [&'a str]) -> Result<Call<'a>, Error>
     ensures call { IfOk result (λ call.
-        spec.CallsFor (texts words.entry.now) (Some (spec.request_of call))) }
+        spec.CallsFor (texts words.entry.now) (spec.request_of call)) }
     ensures refused { IfErr result (λ error. kind_of error ≢ ErrorKind.OutOfMemory
-        → spec.IsNoCall (texts words.entry.now)) }
+        → spec.IsRefused (texts words.entry.now)) }
 {
     let command = whole_command(alloc, VIEW_NAMES.as_slice())?;
     let matches = command.try_get_matches_from(words)?;
     let (name, found) = matches.subcommand().unwrap();
-    subcommand_call(alloc, name, found)
+    Ok(call_in(alloc, name, found)?)
 }
