@@ -4,12 +4,13 @@ use Rattle.std.specs.List.{list_any}
 use Rattle.std.specs.Borrow.{Bor}
 use Rattle.std.proofs.Common.{◌≡◌, ◌∙◌, ◌||◌, ◌⊎◌, Bool, true, List, [], ◌∷◌, Option, Some, None, inl, inr, refl, ap, sym, map}
 use Rattle.clap.proofs.OnLiterals.{clap_on_literals}
-use Rattle.clap.specs.Facts.{parser_of_value}
-use Rattle.clap.specs.Faults.{built_fault, fault_of, level_fault}
+use Rattle.clap.specs.Facts.{explicit_source, parser_of_value}
+use Rattle.clap.specs.Faults.{built_fault, check_fault, defaults_fault, fault_of, level_fault, settle_fault, walk_fault}
 use Rattle.clap.specs.Kinds.{Kinds, check_kinds, or_else, value_kinds}
 use Rattle.clap.specs.Simple.{App, Shape, argument_words, built, entered, names_of, subcommand_of}
+use Rattle.clap.specs.Takes.{is_given}
 use Rattle.clap.specs.Values.{reading_of, same_text}
-use Rattle.clap.specs.Walk.{Held, Names, Row, Text, nothing_held, stop_after, texts}
+use Rattle.clap.specs.Walk.{Held, Names, Row, Rule, Text, finished, nothing_held, settled, stop_after, texts, walk, walk_from}
 use Rattle.clap.specs.declared.builder.value_parser.ValueParser.{ValueParser}
 use Rattle.clap.specs.declared.builder.value_parser.ValueParser.TheVariants as parsers
 use Rattle.clap.specs.declared.error.kind.ErrorKind.TheVariants as kind
@@ -97,7 +98,17 @@ check_entered false false wants_argument false is none = cc
 level_entered : (s : Shape) (names : Names) (h : Held) (words : List Text) (has : Bool) (below : Kinds) → s.subcommand_required ≡ true
     → level_fault s names h words has below ≡ [] → has ≡ true
 level_entered s names h words has below required none =
-    check_entered _ s.subcommand_required _ has required (no_last _ _ (no_last _ _ (no_last _ _ (no_last _ _ none))))
+    let end = (walk s.rules names h words).held in
+    let rows = finished s.rules end in
+    let checked = check_fault s rows has in
+    let defaults = defaults_fault (settled s.rules end).rows s.rules in
+    let settling = settle_fault s.rules s.args_override_self end in
+    let last = or_else settling (or_else defaults checked) in
+    let all_but_walk = no_last (walk_fault s names (walk_from h) words) (or_else below last) none in
+    let all_but_below = no_last below last all_but_walk in
+    check_entered (not has && (s.arg_required_else_help && not (list_any (λ (r : Row). explicit_source r.source) rows))) s.subcommand_required
+        (not (s.subcommand_negates_reqs && has) && list_any (λ (a : Rule). a.required && not (is_given a.id rows)) s.rules) has required
+        (no_last defaults checked (no_last settling (or_else defaults checked) all_but_below))
 
 required : (names : Bor (List (Bor Text))) → (built (whole_app names)).top.subcommand_required ≡ true
 unfolding clap_on_literals
