@@ -2,6 +2,7 @@
 # folder and the release. It needs protogate-ci on the path.
 PROTO_FOLDER ?= proto
 PROTO_RELEASE ?= v1.4
+# What protogate.ini at the top of the repository says may be left out here.
 # A type that is removed on purpose: `--skip TYPE`. Texts with custom options, or that import google/protobuf/*.proto: `--with-protoc`,
 # which needs protoc on the path.
 PROTO_OPTIONS ?=

@@ -1,4 +1,4 @@
-"""Which message types the files of a descriptor set declare: what gate.py reads of the sets that protogate and protoc write."""
+"""Which message types the files of a descriptor set declare: what is read of the sets that protogate and protoc write."""
 
 import os
 

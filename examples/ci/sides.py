@@ -1,0 +1,110 @@
+"""What a side is: its texts, the types that they declare, what is refused, and the sets that protoc makes."""
+
+import os
+import re
+import subprocess
+
+from calls import Stop, plain, protogate, run, side_by_side
+from sets import types_in
+from trees import LINK, SUBMODULE
+from walks import is_below, is_text
+
+# What `--with-protoc` may mend: what stands in a text and is skipped in a set, and imports that protoc brings with it.
+MENDED_BY_PROTOC = ("E107", "E204", "E205", "E301", "E411")
+
+# A file, and a line and a column in it where there are some.
+PLACE = re.compile(r"(.+?)((?::\d+:\d+)?)", re.S)
+
+
+def is_skipped(path, skipped):
+    """Returns whether a call leaves out a path or a folder around it. A path may be given as it is printed."""
+    return is_below(path, skipped) or plain(path) in skipped
+
+
+def types_of(folder, file):
+    """Returns the message types that a text declares, and the line of its refusal where it has none, with the status."""
+    status, said = protogate("compile", f"--dir={folder}", "--", file)
+    if status == 0:
+        return types_in(said, file), None, 0
+    return [], os.fsdecode(said).strip(), status
+
+
+class Side:
+    """One side: its source files, which of them declares each type, the set that each is gated as, each refusal with its files, and what
+    can't be gated, with the reason. `laid` is the gated folder, as git lists it. `roots` has the folders of its imports too."""
+
+    def __init__(self, name, laid, roots):
+        self.name, self.laid, self.roots, self.folder = name, laid, roots, roots.folder
+        self.walk = roots.roots[0].walk
+        self.files = self.walk.texts
+        self.unread = {**self.walk.unread, **laid.unread, **roots.twice}
+        self.declared, self.sets, self.refusals, self.protoc_says = {}, {}, {}, {}
+        # The source files that were read and that are refused. What is shown of files outside the gated folder, with their paths from the
+        # top of the repository.
+        self.was_read, self.refused, self.outside = set(), set(), {}
+
+    def read(self, skipped, room):
+        """Reads each text. With a folder for sets, what is refused is tried by protoc."""
+        files = [it for it in self.files if not is_skipped(it, skipped)]
+        self.was_read.update(files)
+        for file, (types, refusal, status) in zip(files, side_by_side(lambda it: types_of(self.folder, it), files)):
+            if refusal and room and refusal.split()[1] in MENDED_BY_PROTOC:
+                types, refusal = self.read_by_protoc(file, refusal, room)
+            for it in types:
+                self.declared.setdefault(it, []).append(file)
+            if refusal:
+                self.refusals.setdefault((refusal.partition(" ")[2], status), []).append(file)
+                self.refused.add(file)
+
+    def read_by_protoc(self, file, refusal, room):
+        """Returns the types of a text by the set that protoc makes of it. Where it makes none, the refusal stands."""
+        made = f"{room}/{self.name}.{len(self.sets)}.pb"
+        words = ["protoc", "-I.", "--include_imports", f"--descriptor_set_out={made}", f"./{file}"]
+        try:
+            status, _, faults = run(words, cwd=self.folder, stderr=subprocess.PIPE)
+        except OSError:
+            raise Stop(3, "--with-protoc: there is no protoc on the path") from None
+        if status != 0:
+            self.protoc_says[file] = faults.strip()
+            return [], refusal
+        self.sets[file] = made
+        with open(made, "rb") as opened:
+            return types_in(opened.read(), file), None
+
+    def hides(self, file):
+        """Returns whether a file may declare what isn't known, since it is refused or can't be read."""
+        return file in self.refused or is_below(file, self.unread)
+
+    def all_texts(self):
+        """Returns what there is to look at: what git lists and what the walk found."""
+        listed = {it for it, mode in self.laid.listed.items() if is_text(it) or mode in (LINK, SUBMODULE)}
+        return sorted(listed.union(self.walk.texts))
+
+    def looked_at(self, path):
+        """Returns whether a path was read or refused, or needn't be: a folder that was walked, or a file that its name leaves out."""
+        walk = self.walk
+        return path in self.was_read or path in walk.folders or path in walk.idle or path in walk.passed_over or is_below(path, self.unread)
+
+    def shown(self, place):
+        """Returns a position as users know it. Notes the file's path in the repository, if it is outside the gated folder."""
+        if place == "-":
+            return place
+        found = PLACE.fullmatch(place)
+        shown = self.roots.shown(found[1])
+        if self.roots.of(found[1]) is not self.roots.roots[0]:
+            self.outside[shown] = self.roots.in_repository(found[1])
+        return shown + found[2]
+
+    def words(self, file, option_of_folder, option_of_file):
+        """The words of a call that name this side's text, or the set that stands for it."""
+        folder, named = os.path.split(self.sets[file]) if file in self.sets else (self.folder, file)
+        return [f"{option_of_folder}={folder}", f"{option_of_file}={named}"]
+
+    def line_at(self, place):
+        """Returns the text of the line of a place, or nothing."""
+        file, _, line = place.rpartition(":")[0].rpartition(":")
+        try:
+            with open(f"{self.folder}/{file}", encoding="utf-8", errors="replace") as text:
+                return text.read().split("\n")[int(line) - 1].strip()
+        except (OSError, ValueError, IndexError):
+            return ""

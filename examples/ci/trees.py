@@ -1,0 +1,203 @@
+"""What git knows of both sides: the old side, laid out of a revision with its submodules, and what git lists of each side."""
+
+import os
+import re
+import subprocess
+import tempfile
+
+from calls import Stop, did_you_mean, plain, run
+
+LINK, SUBMODULE = "120000", "160000"
+# A hook has these in its environment. They must not lead git to the hook's repository where another one is meant.
+OF_ONE_REPOSITORY = ("GIT_DIR", "GIT_WORK_TREE", "GIT_INDEX_FILE", "GIT_COMMON_DIR", "GIT_OBJECT_DIRECTORY", "GIT_PREFIX")
+
+
+def git(*words, at=(), **how):
+    """Runs git, here or in the repository that the arguments `at` name."""
+    environment = {name: it for name, it in os.environ.items() if not at or name not in OF_ONE_REPOSITORY}
+    more = {name: how.pop(name) for name in list(how) if name.startswith("GIT_")}
+    try:
+        return run(["git", *at, *words], stderr=subprocess.PIPE, env={**environment, **more}, **how)
+    except OSError:
+        raise Stop(4, "there is no git") from None
+
+
+def lines_of(*words, must_work=False, **how):
+    """Returns the lines that git prints, or with `-z` the items that zero bytes end. Where git fails there are none, or the run stops."""
+    status, said, faults = git(*words, **how)
+    if status != 0 and must_work:
+        raise Stop(3, f"git {words[0]} failed: {faults.strip()}")
+    said = os.fsdecode(said) if status == 0 else ""
+    return [it for it in said.split("\0" if "-z" in words else "\n") if it]
+
+
+# The revision.
+
+
+def how_to_fetch(revision):
+    """Returns what fetches a revision that isn't here, for a message."""
+    remotes = lines_of("remote")
+    if not remotes:
+        return ""
+    remote = "origin" if "origin" in remotes else remotes[0]
+    what = f"tag {revision}"
+    if re.fullmatch("[0-9a-f]{40}", revision):
+        what = revision
+    elif revision.startswith(f"{remote}/"):
+        branch = revision[len(remote) + 1 :]
+        what = f"+{branch}:refs/remotes/{revision}"
+    return f" To fetch it: git fetch --depth 1 {remote} {what} (in a fork, name the project's address in the place of {remote})"
+
+
+def commit_of(revision):
+    """Returns the full name of a revision's commit."""
+    status, said, faults = git("rev-parse", "--verify", "--quiet", "--end-of-options", f"{revision}^{{commit}}")
+    if status == 0:
+        return os.fsdecode(said).strip()
+    names = lines_of("for-each-ref", "--format=%(refname:short)")
+    meant = did_you_mean(revision, names) or "."
+    raise Stop(4, faults.strip() or f"git has no revision {plain(revision)} here{meant}{how_to_fetch(revision)}")
+
+
+def advice_on_branch(revision, commit):
+    """Returns what to gate against in the place of a branch that has moved on, or nothing."""
+    name = "".join(lines_of("rev-parse", "--verify", "--quiet", "--symbolic-full-name", revision))
+    if not name.startswith(("refs/heads/", "refs/remotes/")) or git("merge-base", "--is-ancestor", commit, "HEAD")[0] != 1:
+        return None
+    shallow = lines_of("rev-parse", "--is-shallow-repository") == ["true"]
+    return (f"{plain(revision)} has commits that HEAD hasn't, and what came with them counts as removed or changed here: gate against "
+            f"$(git merge-base {plain(revision)} HEAD)" + ", after git fetch --unshallow" * shallow)
+
+
+# The old side.
+
+
+class Place:
+    """A folder as users name it, and its path from the top of the repository."""
+
+    def __init__(self, folder):
+        self.folder = os.path.relpath(folder)
+        prefix = "".join(lines_of("rev-parse", "--show-prefix"))
+        top = os.path.normpath(os.path.join(prefix, self.folder))
+        if top.split("/")[0] in ("..", ""):
+            raise Stop(4, f"{plain(folder)} isn't in the repository")
+        self.top = "" if top == "." else f"{top}/"
+
+
+class Laid:
+    """A folder that is laid out of git: where it is, what git lists of it with the modes, and which submodules aren't laid out."""
+
+    def __init__(self, folder):
+        self.folder, self.listed, self.unread, self.files_outside = folder, {}, {}, set()
+
+
+def write_tree(tree, laid, below, room, at=()):
+    """Writes a tree's files below a folder that is laid out, as links where they are links, and returns the commits of its submodules."""
+    into = os.path.join(laid.folder, below)
+    os.makedirs(into, exist_ok=True)
+    index = {"GIT_INDEX_FILE": os.path.join(tempfile.mkdtemp(dir=room), "index")}
+    plainly = ["-c", "core.symlinks=true", "-c", "core.sparseCheckout=false", f"--work-tree={into}"]
+    for words in (["read-tree", tree], ["checkout-index", "--all"]):
+        status, _, faults = git(*plainly, *words, at=at, **index)
+        if status != 0:
+            raise Stop(3, f"the files of {tree} can't be laid out: {faults.strip()}")
+    submodules = {}
+    for line in lines_of("ls-tree", "-r", "-z", "--full-tree", tree, at=at, must_work=True):
+        (mode, _, name), path = line.partition("\t")[0].split(), os.path.join(below, line.partition("\t")[2])
+        laid.listed[path] = mode
+        if mode == SUBMODULE:
+            submodules[path] = name
+    return submodules
+
+
+def repository_of(commit, checked_out, at, path):
+    """Returns the arguments by which git finds a submodule's own repository, if that is here and has the commit: in the work tree, or
+    among those that the repository around it keeps, where `path` is the submodule's."""
+    kept = "".join(lines_of("rev-parse", "--git-path", f"modules/{path}", at=at))
+    kept = os.path.join(at[1] if at[:1] == ("-C",) else "", kept)
+    # Its settings name a folder for its files, which may be gone.
+    alone = ("--git-dir", kept, "--work-tree", kept)
+    for words, there in ((("-C", checked_out), f"{checked_out}/.git"), (alone, f"{kept}/HEAD")):
+        if os.path.lexists(there) and git("cat-file", "-e", f"{commit}^{{commit}}", at=words)[0] == 0:
+            return words
+    return None
+
+
+def write_submodules(laid, submodules, room, around):
+    """Lays out what submodules had, and what theirs had."""
+    pending = [(path, commit, (), os.path.normpath(around.top + path)) for path, commit in submodules.items()]
+    for path, commit, at, path_there in pending:
+        words = repository_of(commit, os.path.join(around.folder, path), at, path_there)
+        if words:
+            inner = write_tree(f"{commit}^{{tree}}", laid, path, room, words)
+            pending += [(it, name, words, os.path.relpath(it, path)) for it, name in inner.items()]
+        else:
+            here = plain(os.path.normpath(os.path.join(around.folder, path)))
+            laid.unread[path] = ("submodule", f"{here} was a submodule, and its commit {commit[:12]} isn't here: git submodule update --init "
+                                 f"{here}, and git -C {here} fetch --depth 1 origin {commit}")
+
+
+def lay_out(commit, around, room):
+    """Lays a folder out as it was in a commit. Returns nothing where the commit has no such folder."""
+    name = "".join(lines_of("rev-parse", "--verify", "--quiet", "--end-of-options", f"{commit}:{around.top[:-1]}"))
+    kind = lines_of("cat-file", "-t", name) if name else ["blob"]
+    if kind == ["blob"]:
+        return None
+    laid = Laid(tempfile.mkdtemp(dir=room))
+    # A submodule is the name of a commit that this repository hasn't.
+    write_submodules(laid, write_tree(name, laid, "", room) if kind == ["tree"] else {"": name}, room, around)
+    if "" in laid.unread:
+        raise Stop(4, laid.unread[""][1])
+    laid.files_outside = files_outside(commit, laid, around.top)
+    return laid
+
+
+def files_outside(commit, laid, top):
+    """Returns the links that lead out of a folder to what is a file in the commit, and no folder."""
+    targets = {}
+    for path in (it for it, mode in laid.listed.items() if mode == LINK and os.path.islink(os.path.join(laid.folder, it))):
+        target = os.path.normpath(os.path.join(top, os.path.dirname(path), os.readlink(os.path.join(laid.folder, path))))
+        if not target.startswith(("/", "../")) and "\n" not in target:
+            targets[path] = target
+    asked = "".join(f"{commit}:{it}\n" for it in targets.values())
+    status, said, _ = git("cat-file", "--batch-check=%(objecttype)", input=os.fsencode(asked)) if targets else (0, b"", "")
+    return {path for path, kind in zip(targets, said.split(b"\n")) if kind == b"blob"}
+
+
+def no_folder(revision, commit, folder):
+    folders = lines_of("ls-tree", "-rd", "-z", "--name-only", commit)
+    return Stop(4, f"{plain(revision)} has no folder {plain(folder)}{did_you_mean(folder, folders)}")
+
+
+# The new side.
+
+
+def indexed(folder, top="", at=()):
+    """Returns what git's index lists of a folder, whose path from the top is given: of each path the letter of its state and its mode."""
+    words = ("ls-files", "--full-name", "-s", "-t", "-z", "--", folder)
+    listed = {}
+    for line in lines_of(*words, at=at, must_work=True, GIT_LITERAL_PATHSPECS="1"):
+        state, _, path = line.partition("\t")
+        if path.startswith(top):
+            listed[path[len(top):]] = state.split()[:2]
+    return listed
+
+
+def of_work_tree(place):
+    """Returns a folder of the work tree, as one that is laid out, with what git's index lists of it."""
+    folder = place.folder
+    laid = Laid(folder)
+    is_submodule = place.top and os.path.lexists(f"{folder}/.git")
+    pending = [("", indexed(".", at=("-C", folder)) if is_submodule else indexed(folder, place.top))]
+    for around, listed in pending:
+        for path, (state, mode) in listed.items():
+            path = os.path.join(around, path)
+            here = os.path.normpath(os.path.join(folder, path))
+            laid.listed[path] = mode
+            if state == "S" and not os.path.lexists(here):
+                laid.unread[path] = ("unseen", f"{plain(here)} isn't in this sparse checkout: add it to that")
+            elif mode == SUBMODULE and os.path.lexists(f"{here}/.git"):
+                pending.append((path, indexed(".", at=("-C", here))))
+            elif mode == SUBMODULE:
+                laid.unread[path] = ("submodule", f"{plain(here)} is a submodule that isn't checked out: git submodule update --init {plain(here)}")
+    return laid

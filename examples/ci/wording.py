@@ -1,0 +1,188 @@
+"""What is printed of a run: its lines, advice, and annotations."""
+
+import re
+import sys
+
+from calls import plain
+from refusals import code_in, rule_of, sentences_on
+from settings import FILE
+
+# As many hexadecimal digits of a witness are printed; the record has them all.
+SHOWN_DIGITS = 400
+
+
+def advise(words):
+    print("gate: " + "\n".join(map(plain, str(words).split("\n"))), file=sys.stderr)
+
+
+def shortened(digits):
+    return digits if len(digits) <= SHOWN_DIGITS else f"{digits[:SHOWN_DIGITS]}.."
+
+
+def last_fields(answer):
+    """Returns the steps of what breaks: the last one, or the last two where these fields meet in a oneof. Those are of one pair of types,
+    which no way to a shortest message passes twice."""
+    owners = [(step["old"].rpartition(".")[0], step["new"].rpartition(".")[0]) for step in answer["steps"]]
+    return answer["steps"][-2:] if owners[-2:-1] == owners[-1:] else answer["steps"][-1:]
+
+
+def line_of(answer, both):
+    verdict, name = answer["verdict"], answer["type"]
+    words = [verdict, name]
+    if verdict == "breaks":
+        fields = [" ".join(step[it] for it in ("old", "old_place", "new", "new_place")) for step in last_fields(answer)]
+        words += [str(answer["length"]), "witness", shortened(answer["witness"]) or "-", "at", " and ".join(fields)]
+    elif verdict == "refused":
+        words = [verdict, answer["said"], name]
+    is_gated = both and answer["new_file"] and answer["old_file"]
+    return " ".join([answer["direction"]] * bool(is_gated) + words)
+
+
+def explanation_of(it, name):
+    """Returns what the refusal of a line means and what to do about it, or nothing."""
+    code = code_in(it.get("code") or it.get("said") or "") if it.get("verdict", "refused") == "refused" else None
+    if code == "E901":
+        return f"E901: Neither side has a message type {it['type']}. What to do: {rule_of(code)[1]}"
+    return f"{code}: {sentences_on(code, name)}" if code and sentences_on(code, name) else ""
+
+
+def advice_on(it):
+    """Returns what may help with a line, or nothing."""
+    near = it.get("nearest")
+    if it.get("advice"):
+        return it["advice"]
+    if it.get("verdict") == "removed":
+        return f"{it['type']} was removed" + (f"; was it renamed to {near}?" if near else ".") + f" If that is meant: --skip {it['type']}"
+    words = [f"did you mean {near}?"] if near else []
+    if it.get("protoc") and it["code"] == "E301":
+        words.append(f"{it['place']} imports a file of the library that isn't below the folder, an --include, protoc's folder or the "
+                     "system's; protoc may bring it: use --with-protoc")
+    elif it.get("protoc"):
+        words.append(f"{it['place']} isn't taken as a text; protoc may make a set of it: use --with-protoc")
+    if it.get("protoc_says"):
+        lacks = re.search(r"google/protobuf/\S+: File not found", it["protoc_says"])
+        words.append(f"protoc refuses it on the {it['side']} side, too: {it['protoc_says']}"
+                     + " (Debian has the library's files in libprotobuf-dev)" * bool(lacks))
+    return " ".join(words)
+
+
+def escaped(words, more=""):
+    """As GitHub wants the words of an annotation."""
+    for mark in "%\r\n" + more:
+        words = words.replace(mark, f"%{ord(mark):02X}")
+    return words
+
+
+def annotation(title, message, path=None, place=None, kind="error"):
+    properties = {"file": path, "title": plain(title)}
+    found = path and re.fullmatch(r".+:(\d+):(\d+)", place or "")
+    if found:
+        properties.update(line=found[1], col=found[2])
+    words = ",".join(f"{name}={escaped(value, ':,')}" for name, value in properties.items() if value)
+    return f"::{kind} {words}::{escaped(message)}"
+
+
+def reading(side, lines):
+    """A side's reading of a witness, for an annotation. `show` refuses messages that are too deep or too long, which programs read."""
+    refused, _, why = lines.strip().partition("refused ")
+    if refused or not why:
+        return f"The {side} side reads:\n{lines.strip()}"
+    if why.split()[0] in ("E001", "E607", "E608"):
+        return f"The {side} side's reading isn't shown: {why}"
+    return f"The {side} side refuses it: {why}" + " (a text that isn't UTF-8)" * why.startswith("E604 ")
+
+
+def what_breaks(answer):
+    """What is said of a witness, for an annotation."""
+    who = "an old" if answer["direction"] == "forward" else "a new"
+    what = f"The shortest message that {who} program writes and the other"
+    witness = shortened(answer["witness"])
+    if answer["is_by_names"]:
+        message = f"{what} takes for something else: {witness}\nBoth sides read the same numbers in it; the enums give one of them other names."
+    else:
+        message = f"{what} misreads: {witness}"
+    fields = last_fields(answer)
+    if len(fields) == 2:
+        reader = "new" if answer["direction"] == "forward" else "old"
+        named = " and ".join(f"{it[reader]} ({it[reader + '_place']})" for it in fields)
+        message += f"\n{named} are in one oneof on the {reader} side, which keeps the last of them alone."
+    return message
+
+
+def path_of(file, run):
+    """Returns where a file is, from the top of the repository, or nothing where it isn't in that."""
+    return run["outside"].get(file, run["prefix"] + file)
+
+
+def told(it, run):
+    """Returns what an annotation says of a refusal, or of a type that has no answer: what it means, what to do, and what may help."""
+    return " ".join(filter(None, (explanation_of(it, run["call"][0]), advice_on(it))))
+
+
+def annotation_of(answer, run):
+    """The annotation of an answer that is no release, at the new side's last step where it has a place."""
+    verdict, path = answer["verdict"], answer["new_file"] or answer["old_file"]
+    title = f"protogate: {verdict} {answer['type']}"
+    if verdict != "breaks":
+        return annotation(title, told(answer, run) or title, path and path_of(path, run))
+    place = answer["steps"][-1]["new_place"]
+    file = path if place == "-" else place.rpartition(":")[0].rpartition(":")[0]
+    reads = "\n".join(reading(side, lines) for side, lines in answer["readings"].items())
+    return annotation(title, f"{what_breaks(answer)}\n{reads}", path_of(file, run), place)
+
+
+def annotation_of_refusal(refusal, run):
+    title = f"protogate: refused {refusal['side']} {refusal['code']} {refusal['place']}"
+    is_here = refusal["side"] == "new"
+    path, place = (path_of(refusal["file"], run), refusal["place"]) if is_here else (None, None)
+    return annotation(title, told(refusal, run) or title, path, place)
+
+
+def annotation_of_caution(caution, run):
+    place = caution["new_place"]
+    file = place and re.sub(r":\d+:\d+$", "", place)
+    return annotation(f"protogate: {caution['subject']}", caution["words"], file and path_of(file, run), place, "warning")
+
+
+def hints_of(run):
+    """Returns what goes to standard error beside the lines: what each code means, what may help, and warnings, each once."""
+    name, lines = run["call"][0], [*run["refusals"], *run["answers"]]
+    warnings = [f"warning: {it['subject']}, {it['side']} {it['place']}: {it['words']}" for it in run["warnings"]]
+    return list(dict.fromkeys(filter(None, [explanation_of(it, name) for it in lines] + [advice_on(it) for it in lines] + warnings)))
+
+
+def annotations_of(run):
+    return [*(annotation_of_refusal(it, run) for it in run["refusals"]), *(annotation_of(it, run) for it in run["answers"] if it["status"]),
+            *(annotation_of_caution(it, run) for it in run["warnings"])]
+
+
+def print_skips(skips, github):
+    """Prints the skips of the settings whose last day is over."""
+    for it in skips:
+        if it["is_over"]:
+            place = f"{FILE}:{it['line']}"
+            why = (f"the skip of {it['name']} ended on {it['until']}. Its reason was: {it['reason']} Take it out, or give it a later day if the "
+                   "reason still holds.")
+            print(f"refused skip {it['name']} {it['until']}", flush=True)
+            advise(f"{place}: {why}")
+            if github:
+                print(annotation(f"protogate: refused skip {it['name']}", why, FILE, f"{place}:1"))
+
+
+def say(line):
+    """Prints one line, whatever is in a file's name."""
+    print(plain(line))
+
+
+def print_all(run, github):
+    for refusal in run["refusals"]:
+        say(f"refused {refusal['side']} {refusal['code']} {refusal['place']}")
+    for answer in run["answers"]:
+        say(line_of(answer, run["both"]))
+    if run["is_empty"]:
+        say("no message types")
+    sys.stdout.flush()
+    for hint in hints_of(run):
+        advise(hint)
+    for line in annotations_of(run) if github else ():
+        say(line)

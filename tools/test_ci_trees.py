@@ -1,0 +1,500 @@
+#!/usr/bin/env python3
+"""Tests of what examples/ci/gate.sh looks at, on trees of its own: links, submodules, names, import roots and the library's files.
+
+usage: tools/test_ci_trees.py [PROGRAM]    by default the program that was built
+
+A type that has an int64 on the old side and an int32 on the new one breaks. So a tree that is narrowed and not gated shows as a status 0.
+"""
+
+import os
+import shutil
+import subprocess
+import sys
+import unittest
+
+sys.dont_write_bytecode = True
+import test_ci  # noqa: E402
+from test_ci import HEAD, TOP  # noqa: E402
+
+# What each side of a narrowed type is, by the type's name.
+WIDE, NARROW = (HEAD + "package p; message %s { " + it + " a = 1; }" for it in ("int64", "int32"))
+
+
+class Trees(test_ci.Repository):
+    def commit(self, at=None):
+        self.git("init", "-q", at=at)
+        self.git("add", "-A", at=at)
+        self.git("commit", "-q", "-m", "v1", "--allow-empty", at=at)
+        self.git("tag", "-f", "v1", at=at)
+
+    def link(self, target, path):
+        path = f"{self.top}/{path}"
+        os.makedirs(os.path.dirname(path), exist_ok=True)
+        os.symlink(target, path)
+
+    def verdicts(self, *words, **more):
+        """The status, and each line without its witness."""
+        status, said = self.call(*words, **more)
+        return status, [it.partition(" witness")[0] for it in said]
+
+    def broken(self, *words, **more):
+        """The new files of what breaks."""
+        return [it.split()[-1].partition(":")[0] for it in self.call(*words, **more)[1] if it.startswith("breaks ")]
+
+
+class Submodules(Trees):
+    def setUp(self):
+        super().setUp()
+        self.env.update({"GIT_CONFIG_COUNT": "1", "GIT_CONFIG_KEY_0": "protocol.file.allow", "GIT_CONFIG_VALUE_0": "always"})
+        self.library = f"{self.room.name}/library"
+        self.write({"l.proto": WIDE % "L"}, self.library)
+        self.commit(self.library)
+        self.write({"proto/a.proto": HEAD + "message A { }"})
+        self.git("init", "-q")
+        self.git("submodule", "--quiet", "add", self.library, "proto/lib")
+        self.commit()
+
+    def narrow(self):
+        self.write({"proto/lib/l.proto": NARROW % "L"})
+
+    def test_one_that_is_checked_out(self):
+        self.narrow()
+        self.git("commit", "-q", "-a", "-m", "narrowed", at=f"{self.top}/proto/lib")
+        self.git("commit", "-q", "-a", "-m", "v2")
+        self.assertEqual(self.verdicts("v1", "proto"), (1, ["compatible A", "breaks p.L 6"]))
+        self.assertEqual(self.broken("v1", "../proto", at=f"{self.top}/proto"), ["lib/l.proto"])
+
+    def test_from_a_hook(self):
+        self.narrow()
+        self.assertEqual(self.broken("v1", "proto", GIT_DIR=".git", GIT_INDEX_FILE=f"{self.top}/.git/index"), ["lib/l.proto"])
+
+    def test_one_inside_another(self):
+        inner = f"{self.room.name}/inner"
+        self.write({"i.proto": WIDE % "I"}, inner)
+        self.commit(inner)
+        self.git("submodule", "--quiet", "add", inner, "deep/in", at=f"{self.top}/proto/lib")
+        self.git("commit", "-q", "-m", "in", at=f"{self.top}/proto/lib")
+        self.commit()
+        self.write({"proto/lib/deep/in/i.proto": NARROW % "I"})
+        self.assertEqual(self.broken("v1", "proto"), ["lib/deep/in/i.proto"])
+        self.git("submodule", "--quiet", "deinit", "--force", "deep/in", at=f"{self.top}/proto/lib")
+        self.assertEqual(self.verdicts("v1", "proto"), (2, ["refused new submodule lib/deep/in", "compatible A", "compatible p.L"]))
+
+    def test_one_that_is_not_checked_out(self):
+        self.git("submodule", "--quiet", "deinit", "--force", "proto/lib")
+        self.assertEqual(self.call("v1", "proto"), (2, ["refused new submodule lib", "compatible A"]))
+        self.assertIn("proto/lib is a submodule that isn't checked out: git submodule update --init proto/lib, or ", self.advice)
+        self.assertEqual(self.call("v1", "proto", "A"), (2, ["refused new submodule lib", "compatible A"]))
+        self.assertEqual(self.call("v1", "proto", "--skip", "lib"), (0, ["compatible A"]))
+        self.assertNotIn("names nothing", self.advice)
+
+    def test_a_clone_without_submodules(self):
+        clone = f"{self.room.name}/clone"
+        self.git("clone", "-q", self.top, clone)
+        self.assertEqual(self.call("v1", "proto", at=clone), (2, ["refused old submodule lib", "refused new submodule lib", "compatible A"]))
+
+    def test_one_without_its_old_commit(self):
+        clone, old = f"{self.room.name}/clone", self.git("rev-parse", "HEAD", at=self.library)
+        self.write({"l.proto": NARROW % "L"}, self.library)
+        self.git("commit", "-q", "-a", "-m", "narrowed", at=self.library)
+        self.git("pull", "-q", "origin", "main", at=f"{self.top}/proto/lib")
+        self.git("commit", "-q", "-a", "-m", "v2")
+        self.git("clone", "-q", self.top, clone)
+        self.git("config", "submodule.proto/lib.url", f"file://{self.library}", at=clone)
+        self.git("submodule", "--quiet", "update", "--init", "--depth", "1", at=clone)
+        self.assertEqual(self.call("v1", "proto", at=clone), (2, ["refused old submodule lib", "compatible A"]))
+        self.assertIn(f"git -C proto/lib fetch --depth 1 origin {old}", self.advice)
+        self.git("fetch", "-q", "--depth", "1", "origin", old, at=f"{clone}/proto/lib")
+        self.assertEqual(self.broken("v1", "proto", at=clone), ["lib/l.proto"])
+
+    def test_one_that_was_removed(self):
+        self.git("rm", "-q", "proto/lib")
+        self.assertEqual(self.call("v1", "proto"), (2, ["compatible A", "removed p.L"]))
+
+
+class Links(Trees):
+    def test_a_folder(self):
+        self.write({"proto/real/a.proto": WIDE % "A"})
+        self.link("../real", "proto/v1/common")
+        self.commit()
+        self.write({"proto/real/a.proto": NARROW % "A"})
+        self.assertEqual(self.broken("v1", "proto"), ["real/a.proto", "v1/common/a.proto"])
+        self.assertEqual(self.broken("v1", "proto", "--skip", "real/"), ["v1/common/a.proto"])
+
+    def test_a_file(self):
+        self.write({"proto/.real/a.txt": WIDE % "A"})
+        self.link(".real/a.txt", "proto/a.proto")
+        self.commit()
+        self.write({"proto/.real/a.txt": NARROW % "A"})
+        self.assertEqual(self.broken("v1", "proto"), ["a.proto"])
+
+    def refuse(self, paths):
+        """Both sides refuse the links, and gate the rest."""
+        self.write({"proto/keep.proto": WIDE % "Keep"})
+        self.commit()
+        said = [f"refused {side} link {it}" for side in ("old", "new") for it in paths]
+        self.assertEqual(self.call("v1", "proto"), (2, [*said, "compatible p.Keep"]))
+        skipped = [word for it in paths for word in ("--skip", it)]
+        self.assertEqual(self.call("v1", "proto", *skipped), (0, ["compatible p.Keep"]))
+
+    def test_absolute(self):
+        self.write({"today/a.proto": NARROW % "A", "proto/in/b.proto": WIDE % "B"}, self.room.name)
+        self.link(f"{self.room.name}/today", "proto/folder")
+        self.link(f"{self.room.name}/today/a.proto", "proto/file.proto")
+        self.refuse(["file.proto", "folder"])
+        self.call("v1", "proto")
+        self.assertIn("gate: proto/folder is a link that leads out of the folder: ", self.advice)
+
+    def test_one_that_leads_out(self):
+        self.write({"elsewhere/a.proto": WIDE % "A", "LICENSE": "mine"})
+        self.link("../elsewhere", "proto/folder")
+        self.link("../elsewhere/a.proto", "proto/a.proto")
+        self.link("../LICENSE", "proto/LICENSE")
+        self.link("a.proto", "proto/b.proto")
+        self.refuse(["a.proto", "b.proto", "folder"])
+
+    def test_an_import_by_one_that_leads_out(self):
+        """What an old text imports is what it was, and not today's file."""
+        self.write({"shared/a.proto": WIDE % "A", "proto/b.proto": HEAD + 'import "folder/a.proto"; message B { p.A a = 1; }'})
+        self.link(f"{self.top}/shared", "proto/folder")
+        self.commit()
+        self.write({"shared/a.proto": NARROW % "A"})
+        status, said = self.call("v1", "proto", "--skip", "folder")
+        self.assertEqual((status, said[0]), (2, "refused old E301 b.proto:2:8"))
+
+    def test_circles(self):
+        self.link(".", "proto/self")
+        self.link("../..", "proto/in/up")
+        self.link("b", "proto/a")
+        self.link("a", "proto/b")
+        self.refuse(["a", "b", "self", "in/up"])
+
+    def test_one_that_leads_to_nothing(self):
+        self.link("gone", "proto/nothing")
+        self.link("gone.proto", "proto/a.proto")
+        self.refuse(["a.proto"])
+
+    def test_one_that_came(self):
+        """A link that is new hides nothing of the old side."""
+        self.write({"proto/a/t.proto": WIDE % "A"})
+        self.commit()
+        os.rename(f"{self.top}/proto/a", f"{self.top}/proto/b")
+        self.write({"proto/b/t.proto": NARROW % "A"})
+        self.link("b", "proto/a")
+        self.assertEqual(self.broken("v1", "proto"), ["a/t.proto", "b/t.proto"])
+
+
+class Namesakes(Trees):
+    def test_one_that_moved(self):
+        self.release({"a.proto": WIDE % "T", "b.proto": WIDE % "T"}, {"a.proto": WIDE % "T", "c.proto": NARROW % "T"})
+        self.assertEqual(self.broken("v1", "proto"), ["c.proto", "c.proto"])
+        self.assertEqual(self.broken("v1", "proto", "p.T"), ["c.proto", "c.proto"])
+
+    def test_one_that_came(self):
+        self.release({"a.proto": WIDE % "T"}, {"a.proto": WIDE % "T", "b.proto": NARROW % "T"})
+        self.assertEqual(self.broken("v1", "proto"), ["b.proto"])
+
+    def test_one_that_went(self):
+        self.release({"a.proto": WIDE % "T", "b.proto": WIDE % "T"}, {"a.proto": NARROW % "T"})
+        self.assertEqual(self.broken("v1", "proto"), ["a.proto", "a.proto"])
+
+    def test_one_whose_text_is_refused(self):
+        self.release({"a.proto": WIDE % "T", "b.proto": WIDE % "T"}, {"a.proto": WIDE % "T", "b.proto": "no text"})
+        refused = "refused new E201 b.proto:1:1"
+        self.assertEqual(self.call("v1", "proto"), (2, [refused, "compatible p.T"]))
+        self.assertEqual(self.call("v1", "proto", "p.T"), (2, [refused, "compatible p.T"]))
+
+
+class Names(Trees):
+    strange = ("-x.proto", "--help.proto", "it's a \"text\".proto", "a b/ c.proto", ".proto", "\u00fc.proto", "a:1:2.proto")
+
+    def test_strange_names(self):
+        self.write({f"proto/{it}": WIDE % f"T{number}" for number, it in enumerate(self.strange)})
+        self.commit()
+        self.write({f"proto/{it}": NARROW % f"T{number}" for number, it in enumerate(self.strange)})
+        status, said = self.verdicts("v1", "proto")
+        self.assertEqual((status, sorted(said)), (1, [f"breaks p.T{number} 6" for number in range(len(self.strange))]))
+
+    def test_a_strange_folder(self):
+        for folder in ("-f", os.fsdecode(b"\xff"), "a\nb", "*"):
+            self.write({f"{folder}/a.proto": WIDE % "A"})
+            self.commit()
+            self.write({f"{folder}/a.proto": NARROW % "A"})
+            self.assertEqual(self.broken("v1", f"./{folder}"), ["a.proto"], folder)
+
+    def test_bad_names(self):
+        """A bad name is one refusal, on one line, and the run goes on."""
+        bad = (b"a\n::error::b.proto", b"\xff.proto", b"\x1b\n.proto")
+        self.write({os.fsdecode(b"proto/" + it): WIDE % "A" for it in bad})
+        self.write({"proto/keep.proto": WIDE % "Keep"})
+        self.commit()
+        shown = [r"\x1b\x0a.proto", r"a\x0a::error::b.proto", r"\xff.proto"]
+        said = [f"refused {side} name {it}" for side in ("old", "new") for it in shown]
+        self.assertEqual(self.call("v1", "proto"), (2, [*said, "compatible p.Keep"]))
+        self.assertIn(r"proto/\xff.proto has a line feed in its name, or what isn't UTF-8: rename it", self.advice)
+        status, said = self.call("v1", "proto", "--github")
+        self.assertEqual([it.partition(" ")[0] for it in said[7:]], ["::error"] * 6)
+        skipped = [word for it in shown for word in ("--skip", it)]
+        self.assertEqual(self.call("v1", "proto", *skipped), (0, ["compatible p.Keep"]))
+
+    def test_no_regular_files(self):
+        """They aren't opened, by an import either."""
+        self.write({"proto/keep.proto": WIDE % "Keep"})
+        self.commit()
+        for name in ("proto/u.proto", "proto/pipe"):
+            os.mkfifo(f"{self.top}/{name}")
+        self.write({"proto/b.proto": HEAD + 'import "u.proto";', "proto/c.proto": HEAD + 'import "pipe";'})
+        refused = ["refused new E301 b.proto:2:8", "refused new E301 c.proto:2:8", "refused new file u.proto"]
+        self.assertEqual(self.call("v1", "proto"), (2, [*refused, "compatible p.Keep"]))
+
+    def test_what_a_name_leaves_out_is_said_once(self):
+        self.write({"proto/keep.proto": WIDE % "Keep", "proto/x.PROTO": "", "proto/.h/a.proto": "", ".github/w.yml": ""})
+        self.commit()
+        self.assertEqual(self.call("v1", "."), (0, ["compatible p.Keep"]))
+        self.assertEqual(self.advice, "gate: what is in a hidden folder isn't gated: proto/.h/a.proto\n"
+                                      "gate: a file is only gated if its name ends in .proto, in small letters: proto/x.PROTO\n")
+
+    def test_no_message_types(self):
+        self.release({"a.proto": HEAD + "enum E { A = 0; }"}, {"a.proto": HEAD})
+        self.assertEqual(self.call("v1", "proto"), (0, ["no message types"]))
+
+
+class Clones(Trees):
+    """What a repository is, in which a gate runs: shallow, sparse, a fork, a second work tree, a branch."""
+
+    def setUp(self):
+        super().setUp()
+        self.release({"a.proto": WIDE % "A", "b/b.proto": WIDE % "B"}, {"a.proto": NARROW % "A", "b/b.proto": NARROW % "B"})
+        self.git("commit", "-q", "-a", "-m", "v2")
+        self.clone = f"{self.room.name}/clone"
+
+    def test_a_shallow_one(self):
+        self.git("clone", "-q", "--depth", "1", f"file://{self.top}", self.clone)
+        commit = self.git("rev-parse", "v1")
+        for revision, what in (("v1", "tag v1"), (commit, commit), ("origin/x", "+x:refs/remotes/origin/x")):
+            self.assertEqual(self.call(revision, "proto", at=self.clone), (4, []))
+            self.assertTrue(self.advice.startswith(f"gate: git has no revision {revision} here"), self.advice)
+            self.assertIn(f" To fetch it: git fetch --depth 1 origin {what} (", self.advice)
+        self.git("fetch", "-q", "--depth", "1", "origin", "tag", "v1", at=self.clone)
+        self.assertEqual(self.broken("v1", "proto", at=self.clone), ["a.proto", "b/b.proto"])
+
+    def test_a_fork(self):
+        """A fork may have no tags: they come from the project."""
+        self.git("clone", "-q", "--no-tags", self.top, self.clone)
+        self.assertEqual(self.call("v1", "proto", at=self.clone), (4, []))
+        self.assertIn("(in a fork, name the project's address in the place of origin)\n", self.advice)
+        self.git("fetch", "-q", "--depth", "1", self.top, "tag", "v1", at=self.clone)
+        self.assertEqual(self.broken("v1", "proto", at=self.clone), ["a.proto", "b/b.proto"])
+
+    def test_a_sparse_one(self):
+        self.git("sparse-checkout", "set", "--no-cone", "/proto/*", "!/proto/b")
+        self.assertFalse(os.path.exists(f"{self.top}/proto/b"))
+        status, said = self.verdicts("v1", "proto")
+        self.assertEqual((status, said), (2, ["refused new unseen b/b.proto", "breaks p.A 6"]))
+        self.assertIn("proto/b/b.proto isn't in this sparse checkout", self.advice)
+        self.git("sparse-checkout", "disable")
+        self.assertEqual(self.broken("v1", "proto"), ["a.proto", "b/b.proto"])
+
+    def test_a_second_work_tree(self):
+        self.git("worktree", "add", "-q", self.clone, "HEAD")
+        self.assertEqual(self.broken("v1", "proto", at=self.clone), ["a.proto", "b/b.proto"])
+
+    def test_what_the_work_tree_has_no_longer(self):
+        """What is gone is removed, and what was only in the index isn't passed over."""
+        self.write({"proto/b/c.proto": WIDE % "C"})
+        self.git("add", ".")
+        for name in ("a.proto", "b/b.proto", "b/c.proto"):
+            os.remove(f"{self.top}/proto/{name}")
+        for folder, at in (("proto", self.top), ("..", f"{self.top}/proto/b")):
+            self.assertEqual(self.call("v1", folder, at=at), (2, ["refused new unseen b/c.proto", "removed p.A", "removed p.B"]))
+
+    def test_a_branch_that_moved_on(self):
+        """What came to a branch after another left it isn't removed on that."""
+        self.git("checkout", "-q", "-b", "mine", "v1")
+        self.git("checkout", "-q", "main")
+        self.write({"proto/n.proto": WIDE % "N"})
+        self.commit()
+        self.git("checkout", "-q", "mine")
+        self.assertEqual(self.verdicts("main", "proto"), (2, ["compatible p.A", "compatible p.B", "removed p.N"]))
+        self.assertIn("gate against $(git merge-base main HEAD)\n", self.advice)
+        self.assertNotIn("--skip", self.advice)
+        self.assertEqual(self.call(self.git("merge-base", "main", "HEAD"), "proto")[0], 0)
+        # A release is a tag, and what it had is gone, wherever its commit is.
+        self.call("v1", "proto")
+        self.assertIn("--skip p.N", self.advice)
+
+    def test_from_a_folder_below(self):
+        self.write({"tools/run": ""})
+        status, said = self.call("v1", "../proto", "--github", at=f"{self.top}/tools")
+        self.assertEqual([it.partition(",")[0] for it in said[2:]], ["::error file=proto/a.proto", "::error file=proto/b/b.proto"])
+        self.assertEqual(self.call("v1", "../../elsewhere", at=f"{self.top}/tools")[0], 4)
+
+
+class Unseen(Trees):
+    """The end of a run compares what there is with what was looked at, whatever went wrong on the way."""
+
+    def setUp(self):
+        super().setUp()
+        self.release({"a.proto": WIDE % "A"}, {"a.proto": WIDE % "A"})
+
+    def with_git(self, command, does):
+        """Calls with a git that also does something else, after it does what the command wants."""
+        real = shutil.which("git")
+        script = f"#!/bin/sh\n'{real}' \"$@\" || exit\ncase \" $* \" in *' {command} '*) {does} ;; esac\n"
+        self.write({"git": script}, f"{self.room.name}/tools")
+        os.chmod(f"{self.room.name}/tools/git", 0o755)
+        return self.call("v1", "proto", PATH=f"{self.room.name}/tools:{os.environ['PATH']}")
+
+    def test_what_git_lists_of_the_old_side(self):
+        for mode in ("100644 blob", "120000 blob"):
+            said = self.with_git("ls-tree -r", f"printf '{mode} 0123\tb.proto\\0'")
+            self.assertEqual(said, (2, ["refused old unseen b.proto", "compatible p.A"]))
+        said = self.with_git("ls-tree -r", "printf '120000 blob 0123\tfolder\\0'")
+        self.assertEqual(said, (2, ["refused old unseen folder", "compatible p.A"]))
+
+    def test_what_git_lists_of_the_new_side(self):
+        said = self.with_git("ls-files", "printf 'H 100644 0123 0\tproto/b.proto\\0'")
+        self.assertEqual(said, (2, ["refused new unseen b.proto", "compatible p.A"]))
+
+    def test_a_list_that_git_does_not_give(self):
+        for command in ("ls-tree -r", "ls-files"):
+            self.assertEqual(self.with_git(command, "exit 1"), (3, []))
+
+    def patched(self, patch):
+        """Calls a script of which a part is lost."""
+        words = [sys.executable, "-B", "-c", f"import sys; sys.path.insert(0, '{TOP}/examples/ci'); import answers, gate, sides, walks\n"
+                 f"{patch}\nsys.exit(gate.main(['v1', 'proto']))"]
+        done = subprocess.run(words, cwd=self.top, env=self.env, stdout=subprocess.PIPE, stderr=subprocess.PIPE)
+        return done.returncode, done.stdout.decode().splitlines()
+
+    def test_a_text_that_is_not_read(self):
+        refused = [f"refused {side} unseen a.proto" for side in ("old", "new")]
+        self.assertEqual(self.patched("sides.Side.read = lambda *_: None"), (2, refused))
+        self.assertEqual(self.patched("walks.Walk.look_at_file = lambda *_: None"), (4, []))
+
+    def test_a_type_that_is_not_gated(self):
+        refused = [f"refused {side} unseen a.proto" for side in ("old", "new")]
+        self.assertEqual(self.patched("answers.pairs_of = lambda *_: []"), (2, refused))
+
+
+class Roots(Trees):
+    """Folders for imports, and the library's files."""
+
+    IMPORT = HEAD + 'import "m/m.proto"; message A { p.M a = 1; }'
+
+    def test_an_include(self):
+        """It is laid out of the same revision, and only what imports it is gated."""
+        self.write({"proto/a.proto": self.IMPORT, "third/m/m.proto": WIDE % "M", "third/other.proto": "no text"})
+        self.commit()
+        self.assertEqual(self.call("v1", "proto")[0], 2)
+        self.assertEqual(self.call("v1", "proto", "--include", "third"), (0, ["compatible A"]))
+        self.write({"third/m/m.proto": "\n" + NARROW % "M"})
+        said = ["breaks A 8 witness 0a06088080808008 at p.M.a third/m/m.proto:2:30 p.M.a third/m/m.proto:3:30"]
+        self.assertEqual(self.call("v1", "proto", "--include=./third/"), (1, said))
+        status, said = self.call("v1", "../../proto", "--include", "..", "--github", at=f"{self.top}/third/m")
+        self.assertIn("::error file=third/m/m.proto,title=protogate%3A breaks A,line=3,col=30::", said[1])
+        record = self.record("v1", "proto", "--include", "third")
+        self.assertEqual(record["call"][-4:], ["--include", "third", "v1", "proto"])
+
+    def test_several_includes(self):
+        self.write({"proto/a.proto": HEAD + 'import "m/m.proto"; import "m/n.proto"; message A { p.M a = 1; p.N b = 2; }'})
+        self.write({"one/m/m.proto": WIDE % "M", "two/m/n.proto": WIDE % "N", "one/README": "one", "two/README": "two", "proto/m/o.proto": HEAD})
+        self.commit()
+        words = ("v1", "proto", "--include", "one", "--include", "two")
+        self.assertEqual(self.call(*words), (0, ["compatible A"]))
+        self.write({"two/m/n.proto": NARROW % "N"})
+        self.assertEqual(self.broken(*words), ["two/m/n.proto"])
+        self.write({"two/m/m.proto": WIDE % "M", "two/m/n.proto": WIDE % "N"})
+        self.assertEqual(self.call(*words), (0, ["compatible A"]))
+        self.write({"two/m/m.proto": NARROW % "M"})
+        self.assertEqual(self.call(*words), (2, ["refused new twice m/m.proto", "compatible A"]))
+        self.assertIn("one/m/m.proto and two/m/m.proto go by one name, and differ: ", self.advice)
+
+    def test_an_include_that_is_a_submodule(self):
+        self.write({"m/m.proto": WIDE % "M"}, f"{self.room.name}/library")
+        self.commit(f"{self.room.name}/library")
+        self.write({"proto/a.proto": self.IMPORT})
+        self.git("init", "-q")
+        self.git("-c", "protocol.file.allow=always", "submodule", "--quiet", "add", f"{self.room.name}/library", "third")
+        self.commit()
+        self.write({"third/m/m.proto": NARROW % "M"})
+        self.assertEqual(self.broken("v1", "proto", "--include", "third"), ["third/m/m.proto"])
+
+    def test_an_include_of_one_side(self):
+        self.write({"proto/a.proto": HEAD + "message A { }"})
+        self.commit()
+        self.assertEqual(self.call("v1", "proto", "--include", "third"), (4, []))
+        self.assertEqual(self.call("v1", "proto", "--include", self.room.name), (4, []))
+        self.write({"third/m/m.proto": WIDE % "M", "proto/b.proto": HEAD + 'import "m/m.proto"; message B { p.M a = 1; }'})
+        self.assertEqual(self.call("v1", "proto", "--include", "third"), (0, ["compatible A", "added B"]))
+
+    def test_what_an_include_may_not_reach(self):
+        """An absolute link of an include isn't read on either side."""
+        self.write({"today/m.proto": WIDE % "M"}, self.room.name)
+        self.write({"proto/a.proto": self.IMPORT})
+        self.link(f"{self.room.name}/today", "third/m")
+        self.commit()
+        self.assertEqual(self.call("v1", "proto", "--include", "third"), (2, [f"refused {it} E301 a.proto:2:8" for it in ("old", "new")]))
+
+
+class Library(Trees):
+    """The library's own files. Those of these tests are in no library, but where a test puts them."""
+
+    IMPORT = HEAD + 'import "google/protobuf/%s.proto"; message A { google.protobuf.L a = 1; int64 b = 2; }'
+    TEXT = HEAD + "package google.protobuf; message L { }"
+
+    def protoc_of(self, texts):
+        """Puts a protoc on the path, with a library beside it that has these texts."""
+        self.write({"bin/protoc": "#!/bin/sh\nexit 1\n"}, self.room.name)
+        self.write({f"include/google/protobuf/{name}.proto": text for name, text in texts.items()}, self.room.name)
+        os.chmod(f"{self.room.name}/bin/protoc", 0o755)
+        self.env["PATH"] = f"{self.room.name}/bin:{os.environ['PATH']}"
+
+    def release_import(self, name):
+        text = self.IMPORT % name
+        self.release({"a.proto": text}, {"a.proto": text.replace("int64", "int32")})
+
+    def test_beside_protoc(self):
+        self.protoc_of({"here": self.TEXT})
+        self.release_import("here")
+        place = f"a.proto:2:{(self.IMPORT % 'here').split(chr(10))[1].index('b = 2') + 1}"
+        self.assertEqual(self.call("v1", "proto"), (1, [f"breaks A 6 witness 108080808008 at A.b {place} A.b {place}"]))
+
+    def test_below_an_include(self):
+        """What the repository has goes before what the machine has."""
+        self.protoc_of({"here": "no text"})
+        self.write({"third/google/protobuf/here.proto": self.TEXT})
+        self.release_import("here")
+        self.assertEqual(self.broken("v1", "proto", "--include", "third"), ["a.proto"])
+
+    @unittest.skipUnless(os.path.isfile("/usr/include/google/protobuf/timestamp.proto"), "the system has no library")
+    def test_of_the_system(self):
+        self.write({"none": ""}, f"{self.room.name}/bin")
+        text = HEAD + 'import "google/protobuf/timestamp.proto"; message A {\n google.protobuf.Timestamp a = 1;\n int64 b = 2; }'
+        self.release({"a.proto": text}, {"a.proto": text.replace("int64", "int32")})
+        self.assertEqual(self.call("v1", "proto"), (1, ["breaks A 6 witness 108080808008 at A.b a.proto:4:8 A.b a.proto:4:8"]))
+
+    def test_a_fault_in_the_library(self):
+        """Its place is where the file is."""
+        self.protoc_of({"here": HEAD + "package google.protobuf;\nmessage L { int32 a = 0; }"})
+        self.release_import("here")
+        place = f"{os.path.realpath(self.room.name)}/include/google/protobuf/here.proto:3:19"
+        status, said = self.call("v1", "proto", "--github")
+        self.assertEqual((status, said[:2]), (2, [f"refused {it} E401 {place}" for it in ("old", "new")]))
+        self.assertNotIn("file=", said[3])
+
+    def test_what_is_not_found(self):
+        """Only what may be the library's comes with protoc. Its proto2 files are no texts."""
+        self.protoc_of({"two": 'syntax = "proto2";'})
+        for name in ("google/protobuf/two.proto", "google/type/money.proto"):
+            text = HEAD + f'import "{name}";'
+            self.write({"proto/a.proto": text})
+            self.commit()
+            self.assertEqual(self.call("v1", "proto"), (2, ["refused old E301 a.proto:2:8", "refused new E301 a.proto:2:8"]))
+            self.assertEqual("--with-protoc" in self.advice, name.startswith("google/protobuf/"), name)
+
+
+if __name__ == "__main__":
+    if len(sys.argv) > 1 and not sys.argv[1].startswith("-"):
+        test_ci.PROGRAM = os.path.realpath(sys.argv.pop(1))
+    unittest.main()
