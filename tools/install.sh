@@ -1,7 +1,7 @@
 #!/bin/sh
-# Installs the proved program, its page, what gates a folder with the files that one copies for it, and completions: tools/install.sh [PREFIX],
-# by default /usr/local. tools/build.py or tools/prove.py has to prove and build the program first; nothing else is installed. What is installed
-# names no path, so a folder of it may be moved or packed whole.
+# Installs the proved program, what gates a folder with the files that one copies for it, the pages for `man`, and completions:
+# tools/install.sh [PREFIX], by default /usr/local. tools/build.py or tools/prove.py has to prove and build the program first; nothing else is
+# installed. What is installed names no path, so a folder of it may be moved or packed whole.
 set -eu
 root=$(CDPATH= cd -- "$(dirname -- "$0")/.." && pwd -P)
 prefix=${1:-/usr/local}
@@ -59,22 +59,31 @@ fi
 exec "$here/../libexec/protogate" "$@"
 END_OF_SCRIPT
 put 755 examples/ci/gate.sh share/protogate/gate.sh
-put 755 examples/ci/gate.py share/protogate/gate.py
-put 644 examples/ci/sets.py share/protogate/sets.py
+# All modules of the script: what is a Python file in that folder.
+for file in "$root"/examples/ci/*.py; do
+    put 644 "examples/ci/${file##*/}" "share/protogate/${file##*/}"
+done
 put 755 tools/report.py share/protogate/report.py
-put 644 docs/REFUSALS.md share/protogate/REFUSALS.md
 write_script protogate-ci <<'END_OF_SCRIPT'
 export PROTOGATE="${PROTOGATE:-$here/protogate}" PROTOGATE_CI_NAME=protogate-ci
 exec "$here/../share/protogate/gate.sh" "$@"
 END_OF_SCRIPT
 write_script protogate-report <<'END_OF_SCRIPT'
+export PROTOGATE="${PROTOGATE:-$here/protogate}" PROTOGATE_REPORT_NAME=protogate-report
 exec "$here/../share/protogate/report.py" "$@"
 END_OF_SCRIPT
 for file in github.yml gitlab.yml pre-commit.yaml protogate.mk; do
     put 644 "examples/ci/$file" "share/doc/protogate/examples/$file"
 done
-put 644 docs/protogate.1 share/man/man1/protogate.1
-put 644 tools/completions/protogate.bash share/bash-completion/completions/protogate
-put 644 tools/completions/protogate.zsh share/zsh/site-functions/_protogate
-put 644 tools/completions/protogate.fish share/fish/vendor_completions.d/protogate.fish
+for page in protogate protogate-ci protogate-report; do
+    put 644 "docs/$page.1" "share/man/man1/$page.1"
+done
+# Shells look for a command's completions in a file of its name, but for zsh, where the file says the names.
+for name in protogate protogate-ci; do
+    put 644 "tools/completions/$name.bash" "share/bash-completion/completions/$name"
+    put 644 "tools/completions/$name.zsh" "share/zsh/site-functions/_$name"
+    put 644 "tools/completions/$name.fish" "share/fish/vendor_completions.d/$name.fish"
+done
+put 644 tools/completions/protogate-ci.bash share/bash-completion/completions/protogate-report
+put 644 tools/completions/protogate-ci.fish share/fish/vendor_completions.d/protogate-report.fish
 echo "installed $prefix/bin/protogate"

@@ -2,14 +2,23 @@
 # Makes packages of the proved program: a tarball and a Debian package, each with the program, what gates a folder, the page for `man`, and
 # completions. tools/build.py or tools/prove.py has to prove and build it first. Each package is tried in a root of its own, without the kit.
 # usage: tools/release.sh FOLDER [VERSION]    puts them into FOLDER; without VERSION it is the program's, or that of the commit
-# It takes dpkg-deb, and for the try root's rights or `unshare`. Debian wants an address of whoever maintains a package. The project has none:
-# who makes one for others says theirs in MAINTAINER ('A Name <name@host>'). The same commit and program make the same packages, byte for byte.
+# It takes dpkg-deb, and for the try root's rights or `unshare`. Debian wants the address of whoever maintains a package: say yours in
+# MAINTAINER ('A Name <name@host>'). Without it the Debian package isn't made, and a line says so. The same commit, program and maintainer
+# make the same packages, byte for byte.
 set -eu
 root=$(CDPATH= cd -- "$(dirname -- "$0")/.." && pwd -P)
 if [ $# -lt 1 ] || [ $# -gt 2 ]; then
     echo "usage: $0 FOLDER [VERSION]" >&2
     exit 4
 fi
+maintainer=${MAINTAINER-}
+case $maintainer in
+    '' | ?*\ \<?*@?*\>) ;;
+    *)
+        echo "release: MAINTAINER is 'A Name <name@host>', not '$maintainer'" >&2
+        exit 4
+        ;;
+esac
 mkdir -p -- "$1"
 made=$(CDPATH= cd -- "$1" && pwd -P)
 room=$(mktemp -d)
@@ -44,19 +53,19 @@ make_tarball() {
     pack "$room" "$name" >"$made/$name.tar.gz"
 }
 
-# Debian has its own folder for completions of zsh, and packs pages for `man`.
+# Debian has its own folder for completions of zsh, and compresses pages for `man`.
 make_package() {
     mkdir -p -- "$room/deb/DEBIAN"
     cp -R -- "$room/usr" "$room/deb/usr"
     mkdir -p -- "$room/deb/usr/share/zsh/vendor-completions"
-    mv -- "$room/deb/usr/share/zsh/site-functions/_protogate" "$room/deb/usr/share/zsh/vendor-completions"
+    mv -- "$room/deb/usr/share/zsh/site-functions"/_* "$room/deb/usr/share/zsh/vendor-completions"
     rmdir -- "$room/deb/usr/share/zsh/site-functions"
-    gzip -9n -- "$room/deb/usr/share/man/man1/protogate.1"
+    gzip -9n -- "$room/deb/usr/share/man/man1"/*.1
     cat >"$room/deb/DEBIAN/control" <<END_OF_CONTROL
 Package: protogate
 Version: $version
 Architecture: amd64
-Maintainer: ${MAINTAINER:-The protogate project <nobody@example.org>}
+Maintainer: $maintainer
 Installed-Size: $(du -sk --apparent-size "$room/usr" | cut -f 1)
 Depends: libc6 (>= $(needed_library "$room/usr/libexec/protogate"))
 Recommends: git, python3
@@ -109,12 +118,15 @@ step 4 Order.note order.proto:7:9 Order.note order.proto:7:10'
     echo "tried $3"
 }
 
-try_packages() {
+try_tarball() {
     make_root "$room/tarball"
     tar -xzf "$made/$name.tar.gz" -C "$room/tarball/tmp"
     try_root "$room/tarball" "/tmp/$name/bin/protogate" "$name.tar.gz"
+}
+
+try_package() {
     make_root "$room/installed"
-    # What it depends on stands there as files, of which this dpkg knows nothing.
+    # What it depends on is there as files, of which this dpkg knows nothing.
     as_root dpkg --root="$room/installed" --force-depends --install "$made/protogate_${version}_amd64.deb" >"$room/log" 2>&1 || {
         cat "$room/log" >&2
         exit 1
@@ -127,5 +139,10 @@ version=${2:-$(version_of)}
 time=$(git -C "$root" log -1 --format=%ct)
 name=protogate-$version-linux-x86_64
 make_tarball
-make_package
-try_packages
+try_tarball
+if [ -n "$maintainer" ]; then
+    make_package
+    try_package
+else
+    echo "release: no Debian package is made: say who maintains it in MAINTAINER ('A Name <name@host>')" >&2
+fi

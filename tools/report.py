@@ -1,12 +1,11 @@
 #!/usr/bin/env python3
 """Writes one page of what examples/ci/gate.sh found: each type with its answer, the witness as each side reads it, the fields on the
-way to what breaks, and what was refused and how to mend it.
+way to what breaks, what was refused and how to mend it, and warnings.
 
 usage: gate.sh --record run.json REVISION FOLDER; tools/report.py run.json > report.html
 
 The page needs nothing else: no script, no other file, no network. A place is a link into the repository where the record was made on
-GitHub or GitLab, or where --old-link and --new-link say how it goes, with {path} and {line} in it. What to do about a refusal is
-taken from REFUSALS.md, which is looked for beside this script and in docs.
+GitHub or GitLab, or where --old-link and --new-link say how it goes, with {path} and {line} in it.
 """
 
 import argparse
@@ -17,12 +16,21 @@ import re
 import shlex
 import string
 import struct
+import subprocess
 import sys
 from collections import Counter
 from urllib.parse import quote
 
 HERE = os.path.dirname(os.path.realpath(__file__))
-REFUSALS = (f"{HERE}/REFUSALS.md", f"{HERE}/../docs/REFUSALS.md")
+# What it shares with gate.py is beside it where it is installed, where nothing is to be written.
+sys.dont_write_bytecode = True
+sys.path += [HERE, f"{HERE}/../examples/ci"]
+from refusals import code_in, meaning_of, rule_of  # noqa: E402
+from wording import last_fields  # noqa: E402
+
+NAME = os.environ.get("PROTOGATE_REPORT_NAME") or "report.py"
+# The version of the records that it reads.
+VERSION = 1
 # As many bytes of a witness, and lines of a reading, are printed.
 SHOWN = 2000
 SAYS = {"breaks": "breaks", "refused": "refused", "removed": "removed", "added": "new", "compatible": "compatible"}
@@ -98,15 +106,22 @@ def links(record, environment):
     return {"old": f"{base}/{record['commit']}/{{path}}{mark}", "new": f"{base}/{head}/{{path}}{mark}"}
 
 
-def place_of(place, prefix, link):
+def path_of(file, record):
+    """Returns where a file is, from the top of the repository, or nothing where it isn't in that."""
+    return record.get("outside", {}).get(file, record["prefix"] + file)
+
+
+def place_of(place, record, link):
     """A place, as a link where one is known. One that is '-' is none: the side was gated as a set."""
     found = re.fullmatch(r"(.+):(\d+):\d+", place)
     if not found:
         return tag("span", "in a descriptor set", "dim") if place == "-" else code(place)
-    if not link:
-        return code(prefix + place)
-    target = link.replace("{path}", quote(prefix + found[1], errors="surrogateescape")).replace("{line}", found[2])
-    return f'<a href="{text(target)}">{code(prefix + place)}</a>'
+    path = path_of(found[1], record)
+    shown = code((path or found[1]) + place[len(found[1]):])
+    if not link or not path:
+        return shown
+    target = link.replace("{path}", quote(path, errors="surrogateescape")).replace("{line}", found[2])
+    return f'<a href="{text(target)}">{shown}</a>'
 
 
 # Readings.
@@ -130,30 +145,40 @@ def unnamed(line):
     return re.sub(r"^( *\d+) \S+", r"\1", line)
 
 
+def only_here(lines, others):
+    """Returns of each line whether the other reading hasn't it. Of equal ones the other may have fewer: it has the last, as a field keeps
+    the last of several items."""
+    left, found = Counter(map(unnamed, others)), []
+    for line in reversed(lines):
+        found.append(left[unnamed(line)] == 0)
+        left[unnamed(line)] -= not found[-1]
+    return found[::-1]
+
+
 def reading(lines, others):
     """The lines of one reading; those that the other reading hasn't are marked."""
-    known = {unnamed(it) for it in others}
-    shown = [tag("span", readable(it), "same" if unnamed(it) in known else "only") for it in lines[:SHOWN]]
+    marks = only_here(lines, others)
+    shown = [tag("span", readable(line), "only" if is_only else "same") for line, is_only in list(zip(lines, marks))[:SHOWN]]
     more = tag("span", f"and {len(lines) - SHOWN} more lines", "dim") if len(lines) > SHOWN else ""
     return tag("pre", "".join(shown) + more)
 
 
-def head_of_reading(side, line, mends):
+def head_of_reading(side, line):
     """What is said over a reading and below it, by its first line."""
     if not line.startswith("refused "):
         return f"The {side} side reads", ""
     refusal = line.split()[1]
-    meaning = marked(mends.get(refusal, ("",))[0])
+    meaning = marked(meaning_of(refusal, is_shown=True))
     if refusal in NOT_SHOWN:
         return f"The {side} side's reading isn't shown", tag("p", meaning, "dim")
     return f"The {side} side refuses it", tag("p", f"{meaning} {tag('b', 'What to do:')} {MEND_READING}", "dim")
 
 
-def readings(answer, mends):
+def readings(answer):
     lines = {side: it.strip().split("\n") for side, it in answer["readings"].items()}
     boxes = []
     for side, other in (("old", "new"), ("new", "old")):
-        head, why = head_of_reading(side, lines[side][0], mends)
+        head, why = head_of_reading(side, lines[side][0])
         boxes.append(tag("div", tag("h4", text(head)) + reading(lines[side], lines[other]) + why, "side"))
     return tag("div", "".join(boxes), "sides")
 
@@ -169,7 +194,7 @@ def step_of(step, record, link):
     sides = []
     for side in ("old", "new"):
         declared = tag("pre", text(step[f"{side}_text"])) if step[f"{side}_text"] else ""
-        sides.append(tag("div", tag("h4", f"{side}: {place_of(step[side + '_place'], record['prefix'], link[side])}") + declared, "side"))
+        sides.append(tag("div", tag("h4", f"{side}: {place_of(step[side + '_place'], record, link[side])}") + declared, "side"))
     return tag("li", f"{name}{tag('div', ''.join(sides), 'sides')}")
 
 
@@ -184,7 +209,16 @@ def head_of(answer, record):
     return tag("div", f"{tag('span', SAYS[answer['verdict']], 'verdict ' + answer['verdict'])} {tag('h3', code(answer['type']))} {way}", "head")
 
 
-def breaking(answer, record, link, mends):
+def way_to(answer, record, link):
+    """The fields on the way to what breaks; of two that meet in a oneof it is said that they do."""
+    fields = last_fields(answer)
+    reader = "new" if answer["direction"] == "forward" else "old"
+    meet = f"{code(fields[0][reader])} and {code(fields[-1][reader])} are in one oneof on the {reader} side, which keeps the last of them alone."
+    return [tag("p", "The way to what breaks in it:"), tag("ol", "".join(step_of(it, record, link) for it in answer["steps"])),
+            tag("p", meet) if len(fields) == 2 else ""]
+
+
+def breaking(answer, record, link):
     writer, reader = ("old", "new") if answer["direction"] == "forward" else ("new", "old")
     witness = answer["witness"] or "-"
     shown = witness if len(witness) <= 2 * SHOWN else f"{witness[:2 * SHOWN]}.."
@@ -197,15 +231,14 @@ def breaking(answer, record, link, mends):
         head_of(answer, record),
         tag("p", f"{breaks} None that breaks is shorter."),
         tag("pre", text(shown)),
-        readings(answer, mends),
-        tag("p", "The way to what breaks in it:"),
-        tag("ol", "".join(step_of(it, record, link) for it in answer["steps"])),
+        readings(answer),
+        *way_to(answer, record, link),
         tag("p", BACKWARD if writer == "new" else MEND_NAMES if answer["is_by_names"] else MEND),
     ]
     return tag("article", "".join(parts))
 
 
-def missing(answer, record, mends):
+def missing(answer, record):
     """A type that has no answer: it was removed, or refused."""
     near = f" Did you mean {code(answer['nearest'])}?" if answer.get("nearest") else ""
     if answer["verdict"] == "removed":
@@ -213,41 +246,21 @@ def missing(answer, record, mends):
         words = "The new side has no such type, so nothing reads what is stored or sent of it."
         words += near + f" If that is meant: {code('--skip ' + answer['type'])}."
     else:
-        words = f"{code('refused ' + answer['said'])}{near} {mend_of(answer['said'], mends)}"
+        words = f"{code('refused ' + answer['said'])}{near} {mend_of(answer['said'])}"
     return tag("article", head_of(answer, record) + tag("p", words))
 
 
 # Refusals.
 
 
-def rules_in(page):
-    """Returns what each code means and what to do about it, by the tables of REFUSALS.md: by a row of its own, where it has one."""
-    found, before = {}, ""
-    for line in page.split("\n"):
-        cells = [it.strip() for it in re.split(r"(?<!\\)\|", line)[1:-1]]
-        if len(cells) < 3 or not re.match(r"E\d{3}", cells[0]):
-            continue
-        codes = re.findall(r"E\d{3}", cells[0])
-        if len(codes) == 2 and " to " in cells[0].partition(codes[1])[0]:
-            codes = [f"E{it}" for it in range(int(codes[0][1:]), int(codes[1][1:]) + 1)]
-        before = before if cells[-1] == "The same." else cells[-1]
-        for it in codes:
-            if len(codes) == 1 or it not in found:
-                found[it] = (cells[1], before)
-    return found
-
-
 def marked(words):
-    """Words of a page: code, and links by their words alone, without what leads elsewhere on it."""
-    words = re.sub(r" \(see (below|\[below\]\([^)]*\))\)", "", words)
-    words = re.sub(r"\[([^]]*)\]\([^)]*\)", r"\1", words)
+    """Words of the table of codes, with its code as such."""
     return re.sub(r"`([^`]*)`", lambda it: f"<code>{it[1]}</code>", text(words))
 
 
-def mend_of(said, mends):
-    found = re.search(r"E\d{3}", said)
-    meaning, mend = mends.get(found[0], ("", "")) if found else ("", "")
-    return f"{marked(meaning)} {tag('b', 'What to do:')} {marked(mend)}" if mend else ""
+def mend_of(said):
+    refusal = code_in(said)
+    return f"{marked(meaning_of(refusal))} {tag('b', 'What to do:')} {marked(rule_of(refusal)[1])}" if refusal and rule_of(refusal)[1] else ""
 
 
 def by_protoc(record):
@@ -256,20 +269,38 @@ def by_protoc(record):
     return tag("p", "This call gates what protoc makes of it:") + tag("div", tag("pre", text(shlex.join([name, "--with-protoc", *words]))), "side")
 
 
-def refused(refusal, record, link, mends):
+def refused(refusal, record, link):
     head = f"{tag('span', 'refused', 'verdict refused')} {tag('h3', text(refusal['side'] + ' ' + refusal['code']))} "
-    head += place_of(refusal["place"], record["prefix"], link[refusal["side"]])
+    head += place_of(refusal["place"], record, link[refusal["side"]])
     parts = [tag("div", head, "head")]
     if refusal["text"]:
         parts.append(tag("div", tag("pre", text(refusal["text"])), "side"))
     near = f" Did you mean {code(refusal['nearest'])}?" if refusal.get("nearest") else ""
-    parts.append(tag("p", mend_of(refusal["code"], mends) + near))
+    parts.append(tag("p", (text(refusal.get("advice") or "") or mend_of(refusal["code"])) + near))
     if refusal["protoc"]:
         parts.append(by_protoc(record))
     if refusal["protoc_says"]:
         parts.append(tag("p", "protoc refuses it, too:") + tag("div", tag("pre", text(refusal["protoc_says"])), "side"))
     parts.append(tag("p", f"Not gated for it: {', '.join(map(code, refusal['texts']))}", "dim"))
     return tag("article", "".join(parts))
+
+
+# Warnings, and skips of the settings.
+
+
+def caution_of(caution, record, link):
+    """A warning: what it is on, where, and its words."""
+    place = caution["place"]
+    is_file = not re.search(r":\d+:\d+$", place)
+    place = code(path_of(place, record) or place) if is_file else place_of(place, record, link[caution["side"]])
+    return tag("li", f"{code(caution['subject'])}, {caution['side']} {place}: {marked(caution['words'])}")
+
+
+def skip_of(skip):
+    """A skip of the settings, with its reason."""
+    end = "ended on" if skip["is_over"] else "is skipped until"
+    head = tag("span", "refused skip", "verdict refused") if skip["is_over"] else ""
+    return tag("li", f"{head} {code(skip['name'])} {end} {text(skip['until'])}: {text(skip['reason'])}")
 
 
 # The page.
@@ -288,48 +319,88 @@ def summary(record):
     counts["refused", ""] += len(record["refusals"])
     ways = [(it, way) for it in SAYS for way in ("", "forward", "backward")]
     listed = "".join(tag("li", f"{counts[it, way]} {SAYS[it]} {way}".strip(), it) for it, way in ways if counts[it, way])
+    listed += tag("li", f"{len(record['warnings'])} warning{'s' * (len(record['warnings']) > 1)}", "refused") if record["warnings"] else ""
     what = f"{code(record['folder'])} against {code(record['revision'])} ({code(record['commit'][:12])})"
     by = "numbers and names" if record["view"] == "names" else "numbers"
     return (tag("h1", f"{text(record['folder'])} {headline(record)}")
             + tag("p", f"{what}. Enums are compared by {by}. The run's status is {record['status']}.", "dim") + tag("ul", listed, "counts"))
 
 
-def page_of(record, link, mends):
+def part_of(record, link):
+    """What the page says of one release."""
     answers = {it: [a for a in record["answers"] if a["verdict"] == it] for it in SAYS}
     parts = [summary(record)]
     if answers["breaks"]:
-        parts += [tag("h2", "What breaks"), *(breaking(it, record, link, mends) for it in answers["breaks"])]
+        parts += [tag("h2", "What breaks"), *(breaking(it, record, link) for it in answers["breaks"])]
     if record["refusals"] or answers["refused"] or answers["removed"]:
-        parts += [tag("h2", "What has no answer"), *(refused(it, record, link, mends) for it in record["refusals"])]
-        parts += [missing(it, record, mends) for it in answers["refused"] + answers["removed"]]
+        parts += [tag("h2", "What has no answer"), *(refused(it, record, link) for it in record["refusals"])]
+        parts += [missing(it, record) for it in answers["refused"] + answers["removed"]]
+    if record["warnings"]:
+        parts += [tag("h2", "Warnings"), tag("ul", "".join(caution_of(it, record, link) for it in record["warnings"]))]
     for verdict, head in (("compatible", "Compatible"), ("added", "New types, with nothing to break")):
         if answers[verdict]:
             listed = "".join(tag("li", f"{code(it['type'])} {tag('span', way_of(it, record), 'dim')}") for it in answers[verdict])
             parts += [tag("h2", head), tag("ul", listed, "types")]
-    title = text(f"protogate: {record['folder']} against {record['revision']}")
-    return PAGE.substitute(title=title, style=STYLE, body="\n".join(parts))
+    return "\n".join(parts)
 
 
-def main(words):
-    parser = argparse.ArgumentParser(description=__doc__, formatter_class=argparse.RawDescriptionHelpFormatter)
+def page_of(record, linked):
+    """The page of a record: a part for each release, and what is skipped. `linked` returns how links of a run go."""
+    skips = tag("ul", "".join(map(skip_of, record["skips"])))
+    parts = [part_of(run, linked(run)) for run in record["runs"]]
+    parts += [tag("h2", "Skipped by the settings"), skips] if record["skips"] else []
+    title = f"protogate: {record['runs'][0]['folder']} against {', '.join(it['revision'] for it in record['runs'])}"
+    return PAGE.substitute(title=text(title), style=STYLE, body="\n".join(parts))
+
+
+def read(path):
+    """Returns the record of a file, and why it is none."""
+    try:
+        with open(path, encoding="utf-8") as file:
+            record = json.load(file)
+    except (OSError, ValueError) as fault:
+        return None, f"{path} is no record of protogate-ci: {fault}"
+    if not isinstance(record, dict) or record.get("format") != "protogate-ci":
+        return None, f"{path} is no record of protogate-ci: write one by `protogate-ci --record {path} REVISION FOLDER`"
+    if record.get("version") != VERSION:
+        return None, f"{path} is a record of version {record.get('version')}, and this reads version {VERSION}: take both scripts of one package"
+    return record, None
+
+
+class Version(argparse.Action):
+    """Prints the version of the records that are read, and that of the program, where it is installed beside."""
+
+    def __call__(self, *_):
+        print(f"{NAME}, which reads records of version {VERSION}", flush=True)
+        if os.environ.get("PROTOGATE"):
+            subprocess.run([os.environ["PROTOGATE"], "--version"], stdin=subprocess.DEVNULL)
+        sys.exit(0)
+
+
+def parsed(words):
+    parser = argparse.ArgumentParser(prog=NAME, description=__doc__, formatter_class=argparse.RawDescriptionHelpFormatter, allow_abbrev=False)
     parser.add_argument("record", metavar="FILE", help="what gate.sh --record wrote")
     parser.add_argument("--old-link", metavar="URL", help="how a link to a line of the old side goes, with {path} and {line}")
     parser.add_argument("--new-link", metavar="URL", help="the same of the new side")
-    call = parser.parse_args(words)
-    try:
-        with open(call.record, encoding="utf-8") as file:
-            record = json.load(file)
-    except (OSError, ValueError) as fault:
-        print(f"report: {call.record} is no record of gate.sh: {fault}", file=sys.stderr)
+    parser.add_argument("--version", action=Version, nargs=0, help="print the version of records, and the program's")
+    return parser.parse_args(words)
+
+
+def main(words):
+    call = parsed(words)
+    record, fault = read(call.record)
+    if record:
+        def linked(run):
+            known = links(run, os.environ)
+            return {"old": call.old_link or known["old"], "new": call.new_link or known["new"]}
+        try:
+            page = page_of(record, linked).encode()
+        except (LookupError, TypeError, AttributeError, ValueError) as wrong:
+            fault = f"{call.record} is no whole record of version {VERSION} ({type(wrong).__name__}: {wrong}): write it anew"
+    if fault:
+        print(f"report: {fault}", file=sys.stderr)
         return 3
-    page = next((it for it in REFUSALS if os.path.isfile(it)), None)
-    mends = {}
-    if page:
-        with open(page, encoding="utf-8") as file:
-            mends = rules_in(file.read())
-    known = links(record, os.environ)
-    link = {"old": call.old_link or known["old"], "new": call.new_link or known["new"]}
-    sys.stdout.buffer.write(page_of(record, link, mends).encode())
+    sys.stdout.buffer.write(page)
     return 0
 
 

@@ -1,5 +1,5 @@
 #!/usr/bin/env python3
-"""Tests of tools/report.py, of the files in examples/ci that one copies, and of tools/completions and tools/release.sh.
+"""Tests of tools/report.py, of the files in examples/ci that one copies, of tools/completions, the pages for `man` and tools/release.sh.
 
 usage: tools/test_packages.py [PROGRAM]    by default the program that was built
 
@@ -12,6 +12,7 @@ import re
 import shutil
 import subprocess
 import sys
+import tempfile
 import unittest
 
 sys.dont_write_bytecode = True
@@ -67,8 +68,9 @@ class Reports(test_ci.Repository):
         self.release_orders()
         commit = self.git("rev-parse", "v1")
         there = {"GITHUB_SERVER_URL": "https://github.com", "GITHUB_REPOSITORY": "o/r", "GITHUB_SHA": "abc"}
-        self.assertEqual(self.page("v1", "proto", **there).targets,
-                         [f"https://github.com/o/r/blob/{commit}/proto/order.proto#L7", "https://github.com/o/r/blob/abc/proto/order.proto#L7"])
+        old = f"https://github.com/o/r/blob/{commit}/proto/order.proto"
+        # The last is that of a warning: line 14 has a field that was removed.
+        self.assertEqual(self.page("v1", "proto", **there).targets, [f"{old}#L7", "https://github.com/o/r/blob/abc/proto/order.proto#L7", f"{old}#L14"])
         there = {"CI_PROJECT_URL": "https://gitlab.com/o/r", "CI_COMMIT_SHA": "abc"}
         self.assertEqual(self.page("v1", "proto", **there).targets[1], "https://gitlab.com/o/r/-/blob/abc/proto/order.proto#L7")
 
@@ -90,12 +92,6 @@ class Reports(test_ci.Repository):
         page = self.page("v1", "a folder", PROTOGATE_CI_NAME="protogate-ci")
         self.assertIn("protogate-ci --with-protoc v1 'a folder'", page.words)
 
-    def test_words_of_another_page(self):
-        """What leads elsewhere on the page of refusals isn't taken along."""
-        rules = report.rules_in(read("docs/REFUSALS.md"))
-        for code, words in rules.items():
-            self.assertNotRegex(report.mend_of(code, rules), "see below|see <|\\]\\(", code)
-
     def test_names_of_enums(self):
         sides = [{"a.proto": read(f"examples/changes/number_reused/{side}.proto")} for side in ("old", "new")]
         self.release(*sides)
@@ -114,7 +110,7 @@ class Reports(test_ci.Repository):
     def test_a_witness_that_is_too_deep_to_show(self):
         """`show` goes down 100 levels: beyond that it refuses what a program reads."""
         answer = {"readings": {"old": "refused E608 at 200\n", "new": "refused E608 at 200\n"}}
-        page = report.readings(answer, report.rules_in(read("docs/REFUSALS.md")))
+        page = report.readings(answer)
         self.assertIn("The old side&#x27;s reading isn&#x27;t shown", page)
         self.assertNotIn("refuses it", page)
 
@@ -142,15 +138,6 @@ class Reports(test_ci.Repository):
             done = subprocess.run([f"{TOP}/tools/report.py", name], cwd=self.top, stderr=subprocess.PIPE, stdout=subprocess.PIPE)
             self.assertEqual((done.returncode, done.stdout), (3, b""))
             self.assertTrue(done.stderr.startswith(b"report: "), done.stderr)
-
-    def test_each_code_has_words(self):
-        """Each code that the page of refusals has is known, by a row of its own where it has one."""
-        page = read("docs/REFUSALS.md")
-        rules = report.rules_in(page)
-        listed = re.findall(r"^\| (E\d{3})", page, re.M)
-        self.assertEqual(set(listed) - set(rules), set())
-        self.assertIn("isn't UTF-8", rules["E604"][0])
-        self.assertEqual(rules["E703"][1], "protogate reads proto3 only.")
 
     def test_items(self):
         self.assertIn("&quot;Ann&quot;", report.readable("1 name text 416e6e"))
@@ -186,7 +173,7 @@ class Templates(test_ci.Repository):
         return [re.sub(r"^\s*(?:- |#.*\n)?", "", block, flags=re.M) for _, block in found]
 
     def test_github(self):
-        gates, reports = self.blocks("examples/ci/github.yml", "run")
+        _, gates, reports = self.blocks("examples/ci/github.yml", "run")
         status, said = self.shell(gates, RELEASE="v1.4", FOLDER="proto")
         self.assertEqual(status, 1)
         self.assertIn("::error file=proto/order.proto,title=protogate%3A breaks Order,line=7,col=10::", said)
@@ -212,12 +199,49 @@ class Templates(test_ci.Repository):
         self.git("remote", "set-url", "origin", f"file://{self.room.name}/none", at=self.clone)
         self.assertEqual(self.gitlab(RELEASE="v1.4", CI_MERGE_REQUEST_PROJECT_URL=f"file://{self.top}")[0], 1)
 
+    def test_gitlab_asks_the_project_first(self):
+        """The release of a fork may be another one, which must not be what is gated against."""
+        self.git("fetch", "-q", "--depth", "1", "origin", "tag", "v1.4", at=self.clone)
+        fork = f"{self.room.name}/fork"
+        self.git("clone", "-q", f"file://{self.top}", fork)
+        self.git("tag", "-f", "v1.4", "HEAD", at=fork)
+        self.git("remote", "set-url", "origin", f"file://{fork}", at=self.clone)
+        self.assertEqual(self.gitlab(RELEASE="v1.4")[0], 0)
+        self.assertEqual(self.gitlab(RELEASE="v1.4", CI_MERGE_REQUEST_PROJECT_URL=f"file://{self.top}")[0], 1)
+
+    def test_gitlab_without_the_release(self):
+        """Where neither project has the release, a tag that the clone still has isn't gated against."""
+        self.git("fetch", "-q", "--depth", "1", "origin", "tag", "v1.4", at=self.clone)
+        self.git("remote", "set-url", "origin", f"file://{self.room.name}/none", at=self.clone)
+        self.assertNotIn(self.gitlab(RELEASE="v1.4", CI_MERGE_REQUEST_PROJECT_URL=f"file://{self.room.name}/none")[0], (0, 1))
+        self.assertFalse(os.path.isfile(f"{self.clone}/run.json"))
+
+    def test_the_sum_of_the_package(self):
+        """A package is installed only where its sum is the one that is kept outside."""
+        tools = f"{self.room.name}/tools"
+        self.write({"sudo": '#!/bin/sh\nexec "$@"\n', "apt-get": "#!/bin/sh\n", "dpkg": '#!/bin/sh\necho "$@" >>"$INSTALLED"\n'}, tools)
+        for name in ("sudo", "apt-get", "dpkg"):
+            os.chmod(f"{tools}/{name}", 0o755)
+        self.write({"ci/protogate.deb": "a package"}, self.clone)
+        # By coreutils' own words: the sum of these bytes.
+        right = subprocess.run(["sha256sum", f"{self.clone}/ci/protogate.deb"], stdout=subprocess.PIPE, check=True).stdout.decode()[:64]
+        self.env["INSTALLED"] = f"{self.room.name}/installed"
+        (script,) = self.blocks("examples/ci/gitlab.yml", "before_script")
+        for script, name in ((self.blocks("examples/ci/github.yml", "run")[0], "SHA256"), (script, "PROTOGATE_SHA256")):
+            for value in ("", "0" * 64, right[:-1], right.replace(right[0], "x")):
+                self.assertNotEqual(self.shell(script, **{name: value})[0], 0, value)
+                self.assertFalse(os.path.exists(self.env["INSTALLED"]))
+            self.assertEqual(self.shell(script, **{name: right})[0], 0)
+            with open(self.env["INSTALLED"], encoding="utf-8") as file:
+                self.assertEqual(file.read(), "-i ci/protogate.deb\n")
+            os.remove(self.env["INSTALLED"])
+
     def test_releases(self):
         """A release is a tag, whatever its name, a branch, or a full commit."""
         commit = self.git("rev-parse", "v1.4")
         self.git("branch", "release/1.4", "v1.4")
         self.git("tag", "proto/v1.4", "v1.4")
-        gates, _ = self.blocks("examples/ci/github.yml", "run")
+        _, gates, _ = self.blocks("examples/ci/github.yml", "run")
         for release in ("proto/v1.4", "release/1.4", commit):
             self.assertEqual(self.shell(gates, RELEASE=release, FOLDER="proto")[0], 1, release)
             self.assertEqual(self.gitlab(RELEASE=release)[0], 1, release)
@@ -228,7 +252,7 @@ class Templates(test_ci.Repository):
     def test_options(self):
         """A type that is removed on purpose is left out where each template has room for it."""
         self.git("fetch", "-q", "--depth", "1", "origin", "tag", "v1.4", at=self.clone)
-        gates, _ = self.blocks("examples/ci/github.yml", "run")
+        _, gates, _ = self.blocks("examples/ci/github.yml", "run")
         self.assertEqual(self.shell(gates, RELEASE="v1.4", FOLDER="proto", OPTIONS="--skip Order")[0], 0)
         self.assertEqual(self.gitlab(RELEASE="v1.4", OPTIONS="--skip Order")[0], 0)
         self.assertEqual(self.shell(f"{self.hook()['entry']} --skip Order")[0], 0)
@@ -306,6 +330,75 @@ class Completions(unittest.TestCase):
         self.assertEqual(set(re.findall(r"'(--[a-z-]+)\[", read("tools/completions/protogate.zsh"))) - {"--version"}, options)
 
 
+class Scripts(unittest.TestCase):
+    """protogate-ci and protogate-report: their pages and completions have the options that the scripts take."""
+
+    tools = {"protogate-ci": "examples/ci/gate.sh", "protogate-report": "tools/report.py"}
+
+    def options(self, name):
+        said = subprocess.run([f"{TOP}/{self.tools[name]}", "--help"], stdout=subprocess.PIPE, check=True).stdout.decode()
+        return set(re.findall(r"--[a-z-]+", said.partition("\noptions:")[2] or said.partition("\noptional arguments:")[2]))
+
+    def test_pages(self):
+        for name in self.tools:
+            page = read(f"docs/{name}.1").replace("\\-", "-")
+            synopsis, options = page.partition(".SH DESCRIPTION")[0], page.partition(".SH OPTIONS")[2].partition(".SH ")[0]
+            for part in (synopsis, options):
+                self.assertEqual(set(re.findall(r"--[a-z-]+", part)), self.options(name), name)
+
+    @unittest.skipUnless(shutil.which("groff"), "there is no groff")
+    def test_pages_are_laid_out(self):
+        for name in self.tools:
+            words = ["groff", "-man", "-Tutf8", "-ww", f"{TOP}/docs/{name}.1"]
+            done = subprocess.run(words, stdout=subprocess.PIPE, stderr=subprocess.PIPE, check=True)
+            self.assertEqual(done.stderr, b"")
+
+    def bash(self, *words, at=TOP):
+        spelled = " ".join(f"'{it}'" for it in words)
+        script = (f"source {TOP}/tools/completions/protogate-ci.bash; COMP_WORDS=({spelled}); COMP_CWORD={len(words) - 1}; "
+                  f"{words[0].replace('-', '_').replace('protogate', '_protogate')}; printf '%s\\n' \"${{COMPREPLY[@]}}\"")
+        done = subprocess.run(["bash", "-c", script], cwd=at, stdout=subprocess.PIPE, stderr=subprocess.DEVNULL)
+        return set(done.stdout.decode().split())
+
+    def test_bash(self):
+        for name in self.tools:
+            self.assertEqual(self.bash(name, "--"), self.options(name), name)
+        self.assertEqual(self.bash("protogate-ci", "--view", ""), {"numbers", "names"})
+        self.assertEqual(self.bash("protogate-ci", "--both", "v1", "examples/c"), {"examples/changes", "examples/ci"})
+        self.assertEqual(self.bash("protogate-ci", "--skip", "A", "v1", "examples/s"), {"examples/sets"})
+        self.assertEqual(self.bash("protogate-report", "docs/RECO"), {"docs/RECORD.md"})
+
+    def test_bash_revisions(self):
+        with tempfile.TemporaryDirectory() as room:
+            words = ["git", "-c", "user.name=nobody", "-c", "user.email=nobody@localhost"]
+            for more in (["init", "-q"], ["commit", "-q", "--allow-empty", "-m", "one"], ["tag", "v1.4"], ["tag", "w2"]):
+                subprocess.run([*words, *more], cwd=room, check=True)
+            self.assertEqual(self.bash("protogate-ci", "v", at=room), {"v1.4"})
+
+    @unittest.skipUnless(shutil.which("fish"), "there is no fish")
+    def test_fish(self):
+        for name in self.tools:
+            script = f"source tools/completions/protogate-ci.fish; complete -C '{name} --'"
+            said = subprocess.run(["fish", "--no-config", "-c", script], cwd=TOP, stdout=subprocess.PIPE, check=True).stdout.decode()
+            self.assertEqual({it.split()[0] for it in said.splitlines()}, self.options(name), name)
+
+    def test_files_for_fish_and_zsh(self):
+        zsh = read("tools/completions/protogate-ci.zsh")
+        for name in self.tools:
+            found = re.findall(rf"^complete -c {name} .*-l ([a-z-]+)", read("tools/completions/protogate-ci.fish"), re.M)
+            self.assertEqual({f"--{it}" for it in found}, self.options(name), name)
+            part = zsh.partition(f"    {name})")[2].partition(";;")[0]
+            self.assertEqual(set(re.findall(r"'\*?(--[a-z-]+)\[", part)), self.options(name), name)
+
+    def test_versions(self):
+        said = subprocess.run([f"{TOP}/examples/ci/gate.sh", "--version"], env={**os.environ, "PROTOGATE": test_ci.PROGRAM}, stdout=subprocess.PIPE)
+        program = subprocess.run([test_ci.PROGRAM, "--version"], stdout=subprocess.PIPE).stdout.decode()
+        self.assertEqual((said.returncode, said.stdout.decode()), (0, f"gate.sh, which writes records of version 1\n{program}"))
+        self.assertTrue(program.startswith("protogate "))
+        said = subprocess.run([f"{TOP}/tools/report.py", "--version"], stdout=subprocess.PIPE)
+        self.assertEqual((said.returncode, said.stdout.decode()), (0, "report.py, which reads records of version 1\n"))
+
+
 class Packages(test_ci.Repository):
     @unittest.skipUnless(shutil.which("dpkg-deb") and (os.getuid() == 0 or shutil.which("unshare")), "no packages can be made here")
     def test_packages(self):
@@ -326,14 +419,33 @@ class Packages(test_ci.Repository):
         self.write({"crates/protogate/out/protogate.begun": ""})
         os.chmod(f"{self.top}/protogate", 0o755)
         made = []
+        names = ["protogate-1.2.3-linux-x86_64.tar.gz", "protogate_1.2.3_amd64.deb"]
         for folder in ("one", "two"):
-            words = [f"{self.top}/tools/release.sh", f"{self.room.name}/{folder}", "1.2.3"]
-            done = subprocess.run(words, env=self.env, stdout=subprocess.PIPE, check=True)
-            names = ["protogate-1.2.3-linux-x86_64.tar.gz", "protogate_1.2.3_amd64.deb"]
+            done = self.make(folder, "A. Nother <a.nother@localhost>")
             self.assertEqual(done.stdout.decode(), "".join(f"tried {it}\n" for it in names))
             made.append([open_bytes(f"{self.room.name}/{folder}/{it}") for it in names])
         self.assertEqual(*made)
+        control = subprocess.run(["dpkg-deb", "--field", f"{self.room.name}/one/{names[1]}", "Maintainer"], stdout=subprocess.PIPE, check=True)
+        self.assertEqual(control.stdout.decode(), "A. Nother <a.nother@localhost>\n")
+        self.assertEqual(self.make("three", None).stdout.decode(), f"tried {names[0]}\n")
+        self.assertEqual(os.listdir(f"{self.room.name}/three"), names[:1])
         self.gate_by_tarball(f"{self.room.name}/one/{names[0]}")
+
+    def make(self, folder, maintainer):
+        """Makes packages into a folder, and asks for the line that says that one is missing just where nobody maintains it."""
+        env = {name: it for name, it in self.env.items() if name != "MAINTAINER"}
+        env.update({"MAINTAINER": maintainer} if maintainer else {})
+        words = [f"{self.top}/tools/release.sh", f"{self.room.name}/{folder}", "1.2.3"]
+        done = subprocess.run(words, env=env, stdout=subprocess.PIPE, stderr=subprocess.PIPE, check=True)
+        self.assertEqual(b"release: no Debian package is made: say who maintains it in MAINTAINER" in done.stderr, maintainer is None)
+        return done
+
+    def test_a_maintainer_without_an_address(self):
+        for name in ("Nobody", "nobody@localhost", "<nobody@localhost>", "Nobody <nobody>"):
+            words = [f"{TOP}/tools/release.sh", f"{self.room.name}/none"]
+            done = subprocess.run(words, env={**self.env, "MAINTAINER": name}, stdout=subprocess.PIPE, stderr=subprocess.PIPE)
+            self.assertEqual((done.returncode, os.path.exists(f"{self.room.name}/none")), (4, False), name)
+            self.assertTrue(done.stderr.startswith(b"release: MAINTAINER is 'A Name <name@host>', not "), done.stderr)
 
     def gate_by_tarball(self, tarball):
         """The unpacked folder gates as it stands, also through a link, and writes a page."""
@@ -346,9 +458,22 @@ class Packages(test_ci.Repository):
         self.assertEqual(done.stdout.decode(), "compatible A\n")
         copied = os.listdir(f"{os.path.dirname(os.path.dirname(tool))}/share/doc/protogate/examples")
         self.assertEqual(sorted(copied), ["github.yml", "gitlab.yml", "pre-commit.yaml", "protogate.mk"])
-        self.assertIn(b'"call": [\n  "protogate-ci",', open_bytes(f"{self.top}/run.json"))
+        self.assertIn(b'"call": [\n    "protogate-ci",', open_bytes(f"{self.top}/run.json"))
+        self.shares(f"{os.path.dirname(os.path.dirname(tool))}/share")
+        for name in ("ci", "report"):
+            said = subprocess.run([f"{tool}-{name}", "--version"], env=env, stdout=subprocess.PIPE, check=True).stdout.decode()
+            self.assertRegex(said, rf"\Aprotogate-{name}, which (reads|writes) records of version 1\nprotogate .*\n\Z")
         page = subprocess.run([f"{tool}-report", "run.json"], cwd=self.top, env=env, stdout=subprocess.PIPE, check=True)
         self.assertIn("proto may be released", page.stdout.decode())
+
+
+    def shares(self, share):
+        """Each script has its page and completions, by the names where `man` and the shells look."""
+        for name in ("protogate", "protogate-ci", "protogate-report"):
+            for path in (f"man/man1/{name}.1", f"bash-completion/completions/{name}", f"fish/vendor_completions.d/{name}.fish"):
+                self.assertTrue(os.path.isfile(f"{share}/{path}"), path)
+        for name in ("protogate", "protogate-ci"):
+            self.assertTrue(os.path.isfile(f"{share}/zsh/site-functions/_{name}"))
 
 
 def open_bytes(path):

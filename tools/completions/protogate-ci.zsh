@@ -1,0 +1,23 @@
+#compdef protogate-ci protogate-report
+# Completions of protogate-ci and protogate-report for zsh.
+
+_protogate_revisions() {
+    local -a found=(${(f)"$(git for-each-ref --format='%(refname:short)' 2>/dev/null)"})
+    compadd -a found
+}
+
+case $service in
+    protogate-ci)
+        _arguments '--help[print help]' '--version[print versions]' '*--include[look for imports there too]:folder:_files -/' \
+            '*--skip[leave out a type or a file]:name: ' \
+            '--both[ask for both directions]' '--no-both[ask for old messages alone]' \
+            '--view[how enums are compared]:view:(numbers names)' \
+            '--with-protoc[gate what protoc makes of files that are refused]' '--no-with-protoc[gate source files alone]' \
+            '--github[print annotations for GitHub]' '--record[write all that was found as JSON]:file:_files' \
+            '1:revision:_protogate_revisions' '2:folder:_files -/' '*:type: '
+        ;;
+    protogate-report)
+        _arguments '--help[print help]' '--version[print versions]' '--old-link[how a link to the old side goes]:URL: ' \
+            '--new-link[how a link to the new side goes]:URL: ' ':record:_files'
+        ;;
+esac
