@@ -39,24 +39,30 @@ from machine import lanes, missing, processors  # noqa: E402
 from try_edits import plan, try_all  # noqa: E402
 
 # What compares the documents, pictures and edits with what they are of: it takes seconds.
-COMPARED = ("model_files.py", "links.py", "pictures.py", "held_edits.py")
+COMPARED = ("model_files.py", "links.py", "pictures.py", "code_table.py", "held_edits.py")
 # What tries what was built: the program and the calls with each request for memory refused, the program on rows, and the scripts that
-# call it. The last ones try the gate itself.
+# call it. The last ones try the launcher and the gate itself.
 TESTERS = (
     "try_program_memory.py",
     "try_call_memory.py",
     "try_rows.py",
     "test_ci.py",
+    "test_ci_trees.py",
+    "test_ci_words.py",
     "test_packages.py",
     "test_try_edits.py",
+    "test_launcher.py",
     "test_gate.py",
     "test_gate_parts.py",
     "try_other_kit.py",
 )
-# What tries the program on random inputs. It comes alone, since it keeps all processors busy for some minutes.
-FUZZER = ("tools/fuzz.py",)
-# What runs the commands of the documents with the program that was built. It comes last, since some of its waits go by the clock.
-EXAMPLES = ("tools/try_examples.sh", "crates/protogate/out/protogate")
+# What comes alone, each with its words: what compares the first answers of a checkout with the program's, and tells how long one takes; what
+# tries the program on random inputs, on all processors; and, last, the commands of the documents, of which some waits go by the clock.
+ALONE = (
+    ("tools/test_first_answer.py",),
+    ("tools/fuzz.py",),
+    ("tools/try_examples.sh", "crates/protogate/out/protogate"),
+)
 # What the gate wants on the path, and what for.
 PROGRAMS = {"rt": "the kit that proves and builds", "git": "it makes the repository that the gate runs on", "cc": "it links programs"}
 # What the gate takes of the disk, in bytes: of all crates, and of some.
@@ -268,7 +274,7 @@ def try_program(progress):
     testers = {it: ending.start([f"tools/{it}"], **HOW) for it in TESTERS}
     for name, tester in testers.items():
         ended(name, tester)
-    for words in (FUZZER, EXAMPLES):
+    for words in ALONE:
         ended(words[0], ending.start(words, **HOW))
     return passed, over
 
@@ -293,7 +299,7 @@ def prove_all(flags):
         begun = stamp.read_at(".")
         copy_all(room)
         copied, plans = sums(room), take_edits(room)
-        progress = progress_of(room, plans, (*TESTERS, FUZZER[0], EXAMPLES[0]))
+        progress = progress_of(room, plans, (*TESTERS, *(it[0] for it in ALONE)))
         tell_start(progress)
         with progress:
             status, last, table, _ = prove(room, flags, plans, progress)

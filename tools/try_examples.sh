@@ -157,7 +157,7 @@ try_status() {
 make_slow_program() {
     mkdir -p slow/tools slow/docs slow/crates/protogate/out slow/crates/protogate/src slow/crates/protogate/specs && cp -- "$root/protogate" slow && cp -R -- "$root/examples" slow \
         && cp -R -- "$root/tools/install.sh" "$root/tools/report.py" "$root/tools/completions" slow/tools \
-        && cp -- "$root/docs/protogate.1" "$root/docs/REFUSALS.md" slow/docs \
+        && cp -- "$root/docs/protogate.1" "$root/docs/protogate-ci.1" "$root/docs/protogate-report.1" slow/docs \
         && : >slow/crates.txt || return 1
     cat >slow/crates/protogate/out/protogate <<'END'
 #!/bin/sh
@@ -282,7 +282,7 @@ done
 
 mkdir -- "$room/top" && cp -R -- "$root/examples" "$room/top/examples" && cd -- "$room/top" || exit 3
 printf '#!/bin/sh\nexec "$PROGRAM" "$@"\n' >protogate && chmod 755 protogate || exit 3
-mkdir tools docs && cp -- "$root/tools/report.py" tools && cp -- "$root/docs/REFUSALS.md" docs || exit 3
+mkdir tools && cp -- "$root/tools/report.py" tools || exit 3
 PROGRAM=$program
 PATH=$room/top:$PATH
 export PROGRAM PATH
