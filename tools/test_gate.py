@@ -213,7 +213,7 @@ class Gates(Room):
 
 # Runs the whole gate with these testers alone, and without what it says of documents and of messages that borrow.
 WHOLE = """import sys, prove
-prove.COMPARED, prove.TESTERS, prove.FUZZER, prove.EXAMPLES = (), ("one.py", "two.py"), ("tools/three.py",), ("tools/four.py",)
+prove.COMPARED, prove.TESTERS, prove.ALONE = (), ("one.py", "two.py"), (("tools/three.py",), ("tools/four.py",))
 prove.try_lent = lambda room: True
 sys.exit(prove.prove_all([])[0])
 """
