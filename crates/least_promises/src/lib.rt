@@ -10,7 +10,7 @@ ghost use Rattle.pg_pairs.specs.EnumView.{by_numbers};
 ghost use Rattle.pg_pairs.specs.SeenBy.{seen_by};
 ghost use Rattle.pg_cert.specs.Bounds.{bound_in};
 ghost use Rattle.pg_cert.specs.ClaimView.{view_in};
-ghost use Rattle.pg_least.specs.Descent.{IsPath};
+ghost use Rattle.pg_least.specs.Path.{IsPath};
 ghost use Rattle.pg_least.specs.Exact.{IsBesideClaim, IsSearched};
 ghost use Rattle.pg_least.specs.Least.{IsCounted, IsSettled};
 

@@ -1,5 +1,5 @@
 -- What a search answers, as the gate's answer; and this as the answer of two sides.
-use Rattle.std.proofs.Common.{◌≡◌, ◌∙◌, ℕ, List, length, Bool, true, false, ◌&&◌, Option, Some, None, refl, ap, sym, subst, option_and_then, is_some, Result, IfErr}
+use Rattle.std.proofs.Common.{◌≡◌, ◌∙◌, ℕ, List, length, Bool, true, false, ◌&&◌, Option, Some, None, refl, ap, sym, subst, option_and_then, option_map, is_some, IfSome, Result, IfErr}
 use Rattle.std.proofs.lemmas.Slice.Eq.{bytes_eq-Decides}
 use Rattle.clap.specs.Words.{Text}
 use Rattle.pg_schema.specs.declared.parts.Parts.{Parts}
@@ -21,7 +21,8 @@ use Rattle.pg_cert.specs.Bounds.{bound_in}
 use Rattle.pg_cert.specs.Certificate.{Claim, IsWitnessedIfThere}
 use Rattle.pg_cert.specs.ClaimView.{view_in}
 use Rattle.pg_cert.specs.Text.{IsClaimOf}
-use Rattle.pg_least.specs.Exact.{IsBesideClaim, IsSearched, IsWitnessMessage}
+use Rattle.pg_least.specs.Exact.{AreCarried, IsBesideClaim, IsSearched, IsWitnessMessage}
+use Rattle.pg_least.specs.Path.{IsPath, carried_along}
 use Rattle.pg_gate.specs.Answer.{AreRoots, IsAnswer, IsAnswerBy, IsBroken, IsCompatible, IsLost, IsRefusedRoot, Lacks, NewSees, OldWrites, certificate_of}
 use Rattle.pg_gate.specs.ViewAnswer.{IsAnswerUnder}
 use Rattle.pg_gate.specs.Files.{IsFaultOfSide, IsSide, IsSideError}
@@ -30,6 +31,8 @@ use Rattle.pg_gate.specs.declared.error.Side.TheVariants as sides
 use Rattle.pg_link.specs.Walk.{World}
 use Rattle.pg_gate.specs.declared.answer.gate.Answer.{Answer}
 use Rattle.pg_gate.specs.declared.answer.gate.Answer.TheVariants as answers
+use Rattle.pg_gate.specs.declared.answer.step.Step.{Step}
+use Rattle.pg_gate.specs.Steps.{AreSteps}
 use Rattle.pg_gate.specs.declared.error.GateError.{GateError}
 use Rattle.pg_gate.specs.declared.print.reply.Finding.{Finding}
 use Rattle.pg_gate.specs.declared.print.reply.Finding.TheVariants as findings
@@ -179,13 +182,23 @@ searched_by view old new root (answers.Breaks witness certificate) is =
 
 -- ---- what is told of an answer
 
+-- the witness is the encoding of the message that the path of its steps carries
+steps_carry : (view : ViewName) (old new : Parts) (certificate : Claim) (bytes : List ℕ) (steps : List Step) → certificate.view ≡ view
+    → IsSearched (seen_under view old new) (shape_of old) (shape_of new) certificate.root certificate → certificate.witness ≡ Some bytes → (are : AreSteps old new certificate steps)
+    → option_map (enc (shape_of old) certificate.root.old) (carried_along (seen_under view old new) (shape_of old) (shape_of new) are.path) ≡ Some bytes
+steps_carry view old new certificate bytes steps named searched written are =
+    let carried : AreCarried (seen_under view old new) (shape_of old) (shape_of new) certificate bytes =
+    subst (λ (o : Option (List ℕ)). IfSome o (AreCarried (seen_under view old new) (shape_of old) (shape_of new) certificate)) written searched.carried in
+    carried are.path
+    (subst (λ (v : ViewName). IsPath (seen_under v old new) (shape_of old) (shape_of new) (bound_in certificate.bounds) certificate.root are.path) named are.is_path)
+
 -- what is told of an answer's certificate is what is found
 pub found_by : (view : ViewName) (old new : Parts) (root : Text) (answer : Answer) (certificate_only explain : Bool) (finding : Finding) → IsAnswerUnder view old new root answer
     → Reports old new (certificate_of answer) certificate_only explain finding → IsFindingOf view old new root certificate_only explain finding
 found_by view old new root (answers.Compatible certificate) false explain findings.Compatible is tells = record { certificate = certificate; named = is.0; compatible = is.1 }
 found_by view old new root (answers.Breaks message certificate) false explain findings.Compatible is tells = absurd (let no : ◌≡◌ {A = Option (List ℕ)} None (Some _) = sym tells ∙ is.1.bytes_are in cc)
 found_by view old new root (answers.Compatible certificate) false explain (findings.Breaks bytes steps readings) is tells = absurd (let no : ◌≡◌ {A = Option (List ℕ)} None (Some bytes.items) = sym is.1.no_witness ∙ tells.0 in cc)
-found_by view old new root (answers.Breaks message certificate) false explain (findings.Breaks bytes steps readings) is tells = record { message = message; certificate = certificate; named = is.0; broken = is.1; bytes_are = tells.0; are_steps = tells.1; explained = tells.2 }
+found_by view old new root (answers.Breaks message certificate) false explain (findings.Breaks bytes steps readings) is tells = record { message = message; certificate = certificate; named = is.0; broken = is.1; bytes_are = tells.0; are_steps = tells.1; carried = steps_carry view old new certificate bytes.items steps.items is.0 is.1.searched tells.0 tells.1; explained = tells.2 }
 found_by view old new root answer false explain (findings.Certified text breaks) is tells = absurd tells
 found_by view old new root answer true explain findings.Compatible is tells = absurd tells
 found_by view old new root answer true explain (findings.Breaks bytes steps readings) is tells = absurd tells

@@ -1,12 +1,15 @@
 -- What a call may be answered, by what its sources may give and lack.
-use Rattle.std.specs.Prelude.{◌≡◌, ◌+◌, ◌&&◌, ℕ, Bool, true, false, not, List, [], ◌∷◌, Option, Some, None, is_some, string_bytes, IsTrue}
+use Rattle.std.specs.Prelude.{◌≡◌, ◌+◌, ◌&&◌, ℕ, Bool, true, false, not, List, [], ◌∷◌, Option, Some, None, is_some, option_map, string_bytes, IsTrue}
 use Rattle.clap.specs.Words.{Text}
 use Rattle.pg_cert.specs.Certificate.{Claim}
 use Rattle.pg_cert.specs.Text.{Certifies, IsSecondText}
 use Rattle.pg_dyn.specs.declared.view_name.ViewName.{ViewName}
+use Rattle.pg_dyn.specs.encoding.Encoding.{enc}
 use Rattle.pg_dyn.specs.Kept.{Kept}
+use Rattle.pg_least.specs.Path.{carried_along}
 use Rattle.pg_pairs.specs.NamedView.{seen_under}
 use Rattle.pg_schema.specs.declared.parts.Parts.{Parts}
+use Rattle.pg_schema.specs.Parts.{shape_of}
 use Rattle.pg_gate.specs.Call.{Request, compile, gate, show, types, verify}
 use Rattle.pg_link.specs.Walk.{World, world}
 use Rattle.pg_link.specs.declared.sources.Sources.{Ghosts}
@@ -76,7 +79,8 @@ pub record IsShownCompatible (view : ViewName) (old new : Parts) (root : Text) :
   pub compatible : IsCompatible (seen_under view old new) old new root certificate
 
 -- The bytes are those of a message that breaks under the view, and no message that breaks has fewer, as some certificate shows. The steps
--- are those of the certificate's witness. Where it is asked for, the readings are those of the bytes by the root types.
+-- are the fields on a path from its root, by the cheapest choice of each pair, and the message is the one that these choices carry. Where
+-- it is asked for, the readings are those of the bytes by the root types.
 pub record IsLeastWitness (view : ViewName) (old new : Parts) (root : Text) (explain : Bool) (bytes : List ℕ) (steps : List Step) (readings : Option Readings) : Type 0 where
   pub message : Kept
   pub certificate : Claim
@@ -84,6 +88,8 @@ pub record IsLeastWitness (view : ViewName) (old new : Parts) (root : Text) (exp
   pub broken : IsBroken (seen_under view old new) old new root message certificate
   pub bytes_are : certificate.witness ≡ Some bytes
   pub are_steps : AreSteps old new certificate steps
+  pub carried : option_map (enc (shape_of old) certificate.root.old)
+      (carried_along (seen_under view old new) (shape_of old) (shape_of new) are_steps.path) ≡ Some bytes
   pub explained : IsExplained explain old new certificate.root bytes readings
 
 -- the text is that of the certificate of an answer under the view, in version 2, and this is whether a message breaks

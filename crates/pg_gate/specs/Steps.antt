@@ -7,7 +7,7 @@ use Rattle.pg_cert.specs.Bounds.{bound_in}
 use Rattle.pg_cert.specs.Certificate.{Claim}
 use Rattle.pg_cert.specs.ClaimView.{view_in}
 use Rattle.pg_cert.specs.Text.{names_of}
-use Rattle.pg_least.specs.Descent.{IsPath}
+use Rattle.pg_least.specs.Path.{IsPath}
 use Rattle.pg_least.specs.declared.witness.Step as stages
 use Rattle.pg_pairs.specs.declared.choice.Choice.{Choice}
 use Rattle.pg_pairs.specs.declared.choice.Pair.{Pair}

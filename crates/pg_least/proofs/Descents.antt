@@ -1,5 +1,5 @@
 -- The path down of a witness, by the cheapest choices.
-use Rattle.std.proofs.Common.{◌≡◌, ℕ, ◌<◌, ◌≤◌, List, [], ◌∷◌, ◌++◌, length, true, is_some, option_and_then, Option, Some, None, ⊎_elim, refl, ap, sym, ◌∙◌, subst, arith}
+use Rattle.std.proofs.Common.{◌≡◌, ℕ, ◌<◌, ◌≤◌, List, [], ◌∷◌, ◌++◌, length, true, is_some, option_and_then, Option, Some, None, ⊎_elim, refl, ap, ap₂, sym, ◌∙◌, subst, arith, append_assoc}
 use Rattle.std.specs.List.{AllByRecursion}
 use Rattle.std.proofs.lemmas.Bool.{cases_lt}
 use Rattle.std.proofs.lemmas.List.{get_or_past}
@@ -10,14 +10,15 @@ use Rattle.pg_dyn.specs.Kept.{Kept, message_of, type_of}
 use Rattle.pg_pairs.specs.declared.choice.Choice.{Choice}
 use Rattle.pg_pairs.specs.declared.choice.Pair.{Pair}
 use Rattle.pg_pairs.specs.EnumView.{EnumView}
-use Rattle.pg_pairs.specs.Carried.{ChildReached, ChildThere, choice_child, IsChoiceRound, IsOfPair}
+use Rattle.pg_pairs.specs.Carried.{ChildReached, ChildThere, carried, choice_child, IsChoiceRound, IsOfPair}
 use Rattle.pg_pairs.specs.Cheapest.{cheapest, IsCheapest, CheapestIsLeast}
 use Rattle.pg_pairs.specs.Choices.{Table, number_for, all_choices, affordable, choices}
 use Rattle.pg_pairs.specs.Covering.{IsWithin}
 use Rattle.pg_pairs.specs.Laws.{ReachedBy}
 use Rattle.pg_pairs.specs.Among.{IsAmong}
 use Rattle.pg_least.specs.declared.witness.Step.{Step}
-use Rattle.pg_least.specs.Descent.{IsExactTable, IsStep, IsPath, IsPathDown, IsWholePath, first_step}
+use Rattle.pg_least.specs.Descent.{IsExactTable, IsStep, IsPathDown, IsWholePath, first_step}
+use Rattle.pg_least.specs.Path.{IsCarriedFrom, IsPath, carried_along}
 
 among_each : {A : Type 0} (P : A → Type 0) (x : A) (xs : List A) → IsAmong x xs → AllByRecursion P xs → P x
 among_each P x [] among h = absurd among
@@ -112,10 +113,45 @@ module _ (enum_view : EnumView) (old new : Shape) (table : Table) where
   pub child_given : (o : Option Pair) (last : Step) (m : Message) → o ≡ Some last.pair → IsStep enum_view old new table last → ReachedBy enum_view old new last.pair m last.choice.cost → ChildReached enum_view old new table o (Some m)
   child_given o last m is step reached = subst (λ x. ChildReached enum_view old new table x (Some m)) (sym is) (last.choice.cost, step.costs, reached)
 
--- The message of the last of these steps, on the path to which stands that first one.
-pub record IsInside (enum_view : EnumView) (old new : Shape) (first : Step) (steps : List Step) (m : Kept) : Type 0 where
+-- two steps of one pair by one choice are one step
+same_step : (s t : Step) → s.pair ≡ t.pair → s.choice ≡ t.choice → s ≡ t
+same_step s t pair choice = λ j. record { pair = pair j; choice = choice j }
+
+same_choice : {c d : Choice} {o : Option Choice} → o ≡ Some c → o ≡ Some d → c ≡ d
+same_choice h k = cc
+
+same_child : {p q : Pair} {o : Option Pair} → o ≡ Some p → o ≡ Some q → p ≡ q
+same_child h k = cc
+
+never_both : {p : Pair} {o : Option Pair} → o ≡ None → o ≡ Some p → ⊥
+never_both h k = cc
+
+-- A table has one path from a pair.
+pub one_path : (enum_view : EnumView) (old new : Shape) (table : Table) (pair : Pair) (ss ts : List Step)
+    → IsPath enum_view old new table pair ss → IsPath enum_view old new table pair ts → ss ≡ ts
+one_path enum_view old new table pair [] ts h k = absurd h
+one_path enum_view old new table pair (s ∷ []) [] h k = absurd k
+one_path enum_view old new table pair (s ∷ []) (t ∷ []) h k =
+    ap (λ (x : Step). x ∷ []) (same_step s t (h.0 ∙ sym k.0) (same_choice h.1 k.1))
+one_path enum_view old new table pair (s ∷ []) (t ∷ u ∷ ts) h k =
+    absurd (never_both h.2 (ap (choice_child old new pair) (same_choice h.1 k.1) ∙ k.2))
+one_path enum_view old new table pair (s ∷ r ∷ ss) [] h k = absurd k
+one_path enum_view old new table pair (s ∷ r ∷ ss) (t ∷ []) h k =
+    absurd (never_both k.2 (ap (choice_child old new pair) (same_choice k.1 h.1) ∙ h.2))
+one_path enum_view old new table pair (s ∷ r ∷ ss) (t ∷ u ∷ ts) h k =
+    let below : u.pair ≡ r.pair = same_child (ap (choice_child old new pair) (same_choice h.1 k.1) ∙ k.2) h.2 in
+    let later : r ∷ ss ≡ u ∷ ts =
+    one_path enum_view old new table r.pair (r ∷ ss) (u ∷ ts) h.3
+    (subst (λ (p : Pair). IsPath enum_view old new table p (u ∷ ts)) below k.3) in
+    ap₂ (λ (x : Step) (xs : List Step). x ∷ xs) (same_step s t (h.0 ∙ sym k.0) (same_choice h.1 k.1)) later
+
+-- The message of the last of these steps, on the path to which stands that first one. It is what the path carries from there on.
+pub record IsInside (enum_view : EnumView) (old new : Shape) (first : Step) (on steps : List Step) (m : Kept) : Type 0 where
   pub table : Table
   pub last : Step
+  pub later : List Step
+  pub along : carried_along enum_view old new (last ∷ later) ≡ Some (message_of m)
+  pub whole : steps ++ last ∷ later ≡ on
   pub path : IsPathDown enum_view old new table steps last
   pub first_is : first_step steps last ≡ first
   pub fits : Fits old m
@@ -132,10 +168,14 @@ module _ (enum_view : EnumView) (old new : Shape) where
     of_pair = subst (λ o. IsOfPair o None) (sym whole.ends) tt;
   }
 
-  pub innermost : (table : Table) (steps : List Step) (last : Step) (m : Kept) → IsWholePath enum_view old new table steps last → Fits old m → type_of m ≡ last.pair.old → ReachedBy enum_view old new last.pair (message_of m) last.choice.cost → IsInside enum_view old new (first_step steps last) steps m
-  innermost table steps last m whole fits type_is reached = record {
+  pub innermost : (table : Table) (steps : List Step) (last : Step) (m : Kept) → IsWholePath enum_view old new table steps last → Fits old m → type_of m ≡ last.pair.old → ReachedBy enum_view old new last.pair (message_of m) last.choice.cost
+      → message_of m ≡ carried enum_view old new last.pair last.choice None → IsInside enum_view old new (first_step steps last) (steps ++ last ∷ []) steps m
+  innermost table steps last m whole fits type_is reached made = record {
     table = table;
     last = last;
+    later = [];
+    along = ap Some (sym made);
+    whole = refl;
     path = whole.path;
     first_is = refl;
     fits = fits;
@@ -144,8 +184,8 @@ module _ (enum_view : EnumView) (old new : Shape) where
   }
 
   -- the message inside is that of the next step's child
-  pub next_round : (first step : Step) (steps all : List Step) (inner : Kept) → IsInside enum_view old new first all inner → all ≡ steps ++ step ∷ [] → IsChoiceRound enum_view old new step.pair step.choice (Some inner)
-  next_round first step steps all inner inside is =
+  pub next_round : (first step : Step) (on steps all : List Step) (inner : Kept) → IsInside enum_view old new first on all inner → all ≡ steps ++ step ∷ [] → IsChoiceRound enum_view old new step.pair step.choice (Some inner)
+  next_round first step on steps all inner inside is =
       let whole : IsPathDown enum_view old new inside.table (steps ++ step ∷ []) inside.last = subst (λ ss. IsPathDown enum_view old new inside.table ss inside.last) is inside.path in
       let (path, child) = path_off enum_view old new inside.table steps step inside.last whole in
       record {
@@ -156,13 +196,17 @@ module _ (enum_view : EnumView) (old new : Shape) where
       }
 
   -- one step out
-  pub round : (first step : Step) (steps all : List Step) (inner m : Kept) → IsInside enum_view old new first all inner → all ≡ steps ++ step ∷ [] → Fits old m → type_of m ≡ step.pair.old → ReachedBy enum_view old new step.pair (message_of m) step.choice.cost → IsInside enum_view old new first steps m
-  round first step steps all inner m inside is fits type_is reached =
+  pub round : (first step : Step) (on steps all : List Step) (inner m : Kept) → IsInside enum_view old new first on all inner → all ≡ steps ++ step ∷ [] → Fits old m → type_of m ≡ step.pair.old → ReachedBy enum_view old new step.pair (message_of m) step.choice.cost
+      → message_of m ≡ carried enum_view old new step.pair step.choice (Some (message_of inner)) → IsInside enum_view old new first on steps m
+  round first step on steps all inner m inside is fits type_is reached made =
       let whole : IsPathDown enum_view old new inside.table (steps ++ step ∷ []) inside.last = subst (λ ss. IsPathDown enum_view old new inside.table ss inside.last) is inside.path in
       let (path, child) = path_off enum_view old new inside.table steps step inside.last whole in
       record {
         table = inside.table;
         last = step;
+        later = inside.last ∷ inside.later;
+        along = ap (λ (o : Option Message). Some (carried enum_view old new step.pair step.choice o)) inside.along ∙ ap Some (sym made);
+        whole = sym (append_assoc steps (step ∷ []) (inside.last ∷ inside.later)) ∙ ap (λ (ss : List Step). ss ++ inside.last ∷ inside.later) (sym is) ∙ inside.whole;
         path = path;
         first_is = sym (first_on steps step inside.last) ∙ ap (λ ss. first_step ss inside.last) (sym is) ∙ inside.first_is;
         fits = fits;
@@ -171,7 +215,20 @@ module _ (enum_view : EnumView) (old new : Shape) where
       }
 
   -- the type of a step that stands next is there
-  pub next_there : (first step : Step) (steps all : List Step) (inner : Kept) → IsInside enum_view old new first all inner → all ≡ steps ++ step ∷ [] → step.pair.old.index < length old
-  next_there first step steps all inner inside is =
+  pub next_there : (first step : Step) (on steps all : List Step) (inner : Kept) → IsInside enum_view old new first on all inner → all ≡ steps ++ step ∷ [] → step.pair.old.index < length old
+  next_there first step on steps all inner inside is =
       let whole : IsPathDown enum_view old new inside.table (steps ++ step ∷ []) inside.last = subst (λ ss. IsPathDown enum_view old new inside.table ss inside.last) is inside.path in
       type_there enum_view old new inside.table step.pair step.choice (last_step enum_view old new inside.table steps step (path_off enum_view old new inside.table steps step inside.last whole).0).among
+
+  -- With no step left the message is what the whole path carries.
+  pub outermost : (first : Step) (on steps : List Step) (m : Kept) → length steps ≡ 0 → IsInside enum_view old new first on steps m → carried_along enum_view old new on ≡ Some (message_of m)
+  outermost first on [] m none inside = subst (λ (ss : List Step). carried_along enum_view old new ss ≡ Some (message_of m)) inside.whole inside.along
+  outermost first on (s ∷ steps) m none inside = absurd (omega arith)
+
+  -- The message that one path from a pair carries is the one that each does.
+  pub carried_from : (table : Table) (pair : Pair) (steps : List Step) (last : Step) (m : Message) → IsWholePath enum_view old new table steps last → (first_step steps last).pair ≡ pair
+      → carried_along enum_view old new (steps ++ last ∷ []) ≡ Some m → IsCarriedFrom enum_view old new table pair m
+  carried_from table pair steps last m whole first along path is =
+      let own : IsPath enum_view old new table pair (steps ++ last ∷ []) =
+      subst (λ (p : Pair). IsPath enum_view old new table p (steps ++ last ∷ [])) first (whole_is_path enum_view old new table steps last whole.path whole.ends) in
+      ap (carried_along enum_view old new) (one_path enum_view old new table pair path (steps ++ last ∷ []) is own) ∙ along

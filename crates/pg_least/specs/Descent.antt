@@ -44,13 +44,3 @@ IsPathDown enum_view old new table (s ∷ ss) last =
 pub record IsWholePath (enum_view : EnumView) (old new : Shape) (table : Table) (steps : List Step) (last : Step) : Type 0 where
   pub path : IsPathDown enum_view old new table steps last
   pub ends : choice_child old new last.pair last.choice ≡ None
-
--- The path of a witness: from the pair by its cheapest choice, of several the first, to the choice's child, and so on from there, as long
--- as there is a child. A table has one path from a pair.
-abbrev pub IsPath : EnumView → Shape → Shape → Table → Pair → List Step → Type 0
-IsPath enum_view old new table pair [] = ⊥
-IsPath enum_view old new table pair (s ∷ []) =
-    (s.pair ≡ pair) × (cheapest (choices enum_view table old new pair) ≡ Some s.choice) × (choice_child old new pair s.choice ≡ None)
-IsPath enum_view old new table pair (s ∷ t ∷ steps) =
-    (s.pair ≡ pair) × (cheapest (choices enum_view table old new pair) ≡ Some s.choice) × (choice_child old new pair s.choice ≡ Some t.pair)
-    × IsPath enum_view old new table t.pair (t ∷ steps)

@@ -1,3 +1,4 @@
+pub mod Path
 pub mod Exact
 pub mod Descent
 pub mod Queues

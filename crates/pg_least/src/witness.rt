@@ -1,18 +1,19 @@
 //! The messages that bounds tell of.
 
-ghost use Rattle.std.specs.Prelude.{◌≡◌, ℕ, true, is_some, Some, IfOk, IfSome};
+ghost use Rattle.std.specs.Prelude.{◌≡◌, ◌++◌, [], ◌∷◌, ℕ, true, is_some, option_map, Some, IfOk, IfSome};
 ghost use Rattle.pg_schema.specs.Parts.{shape_of};
 ghost use Rattle.pg_dyn.specs.Fits.{Fits};
 ghost use Rattle.pg_dyn.specs.Kept.{message_of, type_of};
-ghost use Rattle.pg_pairs.specs.Carried.{IsChoiceRound};
+ghost use Rattle.pg_pairs.specs.Carried.{IsChoiceRound, carried};
 ghost use Rattle.pg_pairs.specs.Choices.{Table, number_for};
 ghost use Rattle.pg_pairs.specs.Laws.{ReachedBy};
 ghost use Rattle.pg_pairs.specs.NamedView.{seen_under};
 ghost use Rattle.pg_pairs.specs.SeenBy.{seen_by};
 ghost use Rattle.pg_cert.specs.Bounds.{bound_in};
 ghost use Rattle.pg_cert.specs.ClaimView.{view_in};
-ghost use Rattle.pg_least.specs.Descent.{IsExactTable, IsStep, IsPath, IsWholePath, first_step};
+ghost use Rattle.pg_least.specs.Descent.{IsExactTable, IsStep, IsWholePath, first_step};
 ghost use Rattle.pg_least.specs.Exact.{IsSearched};
+ghost use Rattle.pg_least.specs.Path.{IsCarriedFrom, IsPath, carried_along};
 
 use pg_cert::{Bounds, Certificate};
 use pg_dyn::{Message, ViewName};
@@ -101,6 +102,9 @@ fn carried<V: View>(
     ensures reached { IfOk result (λ m.
         ReachedBy (seen_by V.View view.now old.now new.now)
         (shape_of old.now) (shape_of new.now) step.pair (message_of m) step.choice.cost) }
+    ensures made { IfOk result (λ m. message_of m
+        ≡ carried (seen_by V.View view.now old.now new.now) (shape_of old.now) (shape_of new.now)
+        step.pair step.choice (option_map message_of child)) }
 {
     carry(alloc, view, old, new, step.pair, &step.choice, child)
 }
@@ -123,6 +127,9 @@ fn built<V: View>(
         ReachedBy (seen_by V.View view.now old.now new.now)
         (shape_of old.now) (shape_of new.now) (first_step steps.items last).pair (message_of m)
         (first_step steps.items last).choice.cost) }
+    ensures along { IfOk result (λ m.
+        carried_along (seen_by V.View view.now old.now new.now) (shape_of old.now)
+        (shape_of new.now) (steps.items ++ last ∷ []) ≡ Some (message_of m)) }
 {
     let mut message = carried(alloc, view, old, new, last, None)?;
     while let Some(step) = steps.pop() {
@@ -151,6 +158,9 @@ pub(crate) fn witness<V: View>(
     ensures reached { IfOk result (λ m. (bytes : ℕ) → bound_in bounds.now pair ≡ Some (Some bytes)
         → ReachedBy (seen_by V.View view.now old.now new.now)
         (shape_of old.now) (shape_of new.now) pair (message_of m) bytes) }
+    ensures along { IfOk result (λ m.
+        IsCarriedFrom (seen_by V.View view.now old.now new.now)
+        (shape_of old.now) (shape_of new.now) (bound_in bounds.now) pair (message_of m)) }
 {
     let (steps, last) = steps_down(alloc, view, old, new, bounds, pair)?;
     built(alloc, view, old, new, steps, last)
@@ -220,8 +230,8 @@ fn path_under(
 
 /// The path of the witness of a certificate that a search answers: from the root by the cheapest
 /// choice of each pair to the pair of the message that the choice holds, as long as it holds one.
-/// The certificate has to be one that a search under the view that it names answered for these two
-/// schemas, with a witness.
+/// The witness is the message that these choices carry. The certificate has to be one that a search
+/// under the view that it names answered for these two schemas, with a witness.
 ///
 /// Refused only where memory is.
 pub fn path(

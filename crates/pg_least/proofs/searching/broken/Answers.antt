@@ -26,4 +26,4 @@ returns-clause-searched g c =
     let (n, number) = number_there (bound_in c.args.bounds) c.args.root c.requires.number in
     subst (IsSearched enum_view old new c.args.root) (sym c.in-Ok.ensures.claim)
     (searched_some enum_view old new c.sees.ensures c.parts.ensures.checked.shape c.parts-2.ensures.checked.shape c.exact_is_least.ensures c.none_is_compatible.ensures _ c.args.root c.args.bounds c.requires.table
-    c.in_ok-message.message c.in_ok-message.ensures.type_is n number (c.in_ok-message.ensures.reached n number) c.in_ok-bytes.bytes.items c.in_ok-bytes.ensures)
+    c.in_ok-message.message c.in_ok-message.ensures.type_is n number (c.in_ok-message.ensures.reached n number) c.in_ok-bytes.bytes.items c.in_ok-bytes.ensures c.in_ok-message.ensures.along)

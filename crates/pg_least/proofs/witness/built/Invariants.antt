@@ -1,4 +1,4 @@
-use Rattle.std.proofs.Common.{vec_len}
+use Rattle.std.proofs.Common.{[], ◌∷◌, ◌++◌, vec_len}
 use Rattle.pg_schema.specs.Parts.{shape_of}
 use Rattle.pg_pairs.specs.SeenBy.{seen_by}
 use Rattle.pg_least.specs.Descent.{first_step}
@@ -6,7 +6,7 @@ use Rattle.pg_least.proofs.Descents.{IsInside}
 use Rattle.pg_least.proofs.witness.built.Given as goal
 
 abbrev pub invariant-loop-step : goal.invariant-loop-step
-invariant-loop-step g l = IsInside (seen_by g.V.View l.view l.old l.new) (shape_of l.old) (shape_of l.new) (first_step l.fn.steps.items l.fn.last) l.steps.items l.message
+invariant-loop-step g l = IsInside (seen_by g.V.View l.view l.old l.new) (shape_of l.old) (shape_of l.new) (first_step l.fn.steps.items l.fn.last) (l.fn.steps.items ++ l.fn.last ∷ []) l.steps.items l.message
 
 abbrev pub decreases-loop-step : goal.decreases-loop-step
 decreases-loop-step g l = vec_len l.steps

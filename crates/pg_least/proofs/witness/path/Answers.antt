@@ -4,7 +4,7 @@ use Rattle.pg_schema.specs.Parts.{shape_of}
 use Rattle.pg_dyn.specs.declared.view_name.ViewName.{ViewName}
 use Rattle.pg_pairs.specs.NamedView.{seen_under}
 use Rattle.pg_cert.specs.Bounds.{bound_in}
-use Rattle.pg_least.specs.Descent.{IsPath}
+use Rattle.pg_least.specs.Path.{IsPath}
 use Rattle.pg_least.specs.Exact.{IsSearched}
 use Rattle.pg_least.proofs.witness.path.Goals as goal
 

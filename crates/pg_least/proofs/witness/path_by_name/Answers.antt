@@ -2,7 +2,7 @@
 use Rattle.std.proofs.Common.{IfOk, subst, sym}
 use Rattle.pg_schema.specs.Parts.{shape_of}
 use Rattle.pg_cert.specs.Bounds.{bound_in}
-use Rattle.pg_least.specs.Descent.{IsPath}
+use Rattle.pg_least.specs.Path.{IsPath}
 use Rattle.pg_least.specs.Exact.{IsSearched}
 use Rattle.pg_least.proofs.witness.path_by_name.Goals as goal
 

@@ -6,7 +6,8 @@ use Rattle.pg_pairs.specs.SeenBy.{seen_by}
 use Rattle.pg_cert.specs.Bounds.{bound_in}
 use Rattle.pg_cert.specs.declared.bounds.PairBound.{PairBound}
 use Rattle.pg_least.specs.declared.witness.Step.{Step}
-use Rattle.pg_least.specs.Descent.{IsExactTable, IsPath, first_step}
+use Rattle.pg_least.specs.Descent.{IsExactTable, first_step}
+use Rattle.pg_least.specs.Path.{IsPath}
 use Rattle.pg_least.proofs.Descents.{whole_is_path}
 use Rattle.pg_least.proofs.witness.path_with.Goals as goal
 

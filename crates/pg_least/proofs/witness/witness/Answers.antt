@@ -1,0 +1,15 @@
+use Rattle.std.proofs.lemmas.Result.{IfOk-weaker}
+use Rattle.pg_schema.specs.Parts.{shape_of}
+use Rattle.pg_dyn.specs.Kept.{message_of}
+use Rattle.pg_pairs.specs.SeenBy.{seen_by}
+use Rattle.pg_cert.specs.Bounds.{bound_in}
+use Rattle.pg_least.proofs.Descents.{carried_from}
+use Rattle.pg_least.proofs.witness.witness.Goals as goal
+
+pub returns-clause-along : goal.returns-clause-along
+returns-clause-along g c =
+    let enum_view = seen_by g.V.View c.args.view.now c.args.old.now c.args.new.now in
+    IfOk-weaker c.built.result _ _
+    (λ m along. carried_from enum_view (shape_of c.args.old.now) (shape_of c.args.new.now) (bound_in c.args.bounds.now) c.args.pair c.in_ok-steps.steps.items c.in_ok-steps.last (message_of m)
+    c.in_ok-steps.ensures.whole c.in_ok-steps.ensures.first along)
+    c.built.ensures.along

@@ -1,0 +1,36 @@
+-- The path of a witness, and the message that it carries.
+use Rattle.std.specs.Prelude.{◌≡◌, List, [], ◌∷◌, Option, Some, None}
+use Rattle.pg_schema.specs.Shape.{Shape}
+use Rattle.pg_dyn.specs.Message.{Message}
+use Rattle.pg_pairs.specs.declared.choice.Pair.{Pair}
+use Rattle.pg_pairs.specs.EnumView.{EnumView}
+use Rattle.pg_pairs.specs.Carried.{carried, choice_child}
+use Rattle.pg_pairs.specs.Cheapest.{cheapest}
+use Rattle.pg_pairs.specs.Choices.{Table, choices}
+use Rattle.pg_least.specs.declared.witness.Step.{Step}
+
+-- The path of a witness: from the pair by its cheapest choice, of several the first, to the
+-- choice's child, and so on from there, as long as there is a child. A table has one path from a
+-- pair.
+abbrev pub IsPath : EnumView → Shape → Shape → Table → Pair → List Step → Type 0
+IsPath enum_view old new table pair [] = ⊥
+IsPath enum_view old new table pair (s ∷ []) =
+    (s.pair ≡ pair) × (cheapest (choices enum_view table old new pair) ≡ Some s.choice)
+    × (choice_child old new pair s.choice ≡ None)
+IsPath enum_view old new table pair (s ∷ t ∷ steps) =
+    (s.pair ≡ pair) × (cheapest (choices enum_view table old new pair) ≡ Some s.choice)
+    × (choice_child old new pair s.choice ≡ Some t.pair)
+    × IsPath enum_view old new table t.pair (t ∷ steps)
+
+-- The message that a path carries: that of its first choice, around the one that the rest of the
+-- path carries.
+abbrev pub carried_along : EnumView → Shape → Shape → List Step → Option Message
+carried_along enum_view old new [] = None
+carried_along enum_view old new (s ∷ steps) =
+    Some (carried enum_view old new s.pair s.choice (carried_along enum_view old new steps))
+
+-- the message is the one that the path from the pair carries
+abbrev pub IsCarriedFrom : EnumView → Shape → Shape → Table → Pair → Message → Type 0
+IsCarriedFrom enum_view old new table pair message =
+    (path : List Step) → IsPath enum_view old new table pair path
+    → carried_along enum_view old new path ≡ Some message
