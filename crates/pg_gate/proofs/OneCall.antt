@@ -107,8 +107,8 @@ level_entered s names h words has below required none =
     let all_but_walk = no_last (walk_fault s names (walk_from h) words) (or_else below last) none in
     let all_but_below = no_last below last all_but_walk in
     check_entered (not has && (s.arg_required_else_help && not (list_any (λ (r : Row). explicit_source r.source) rows))) s.subcommand_required
-        (not (s.subcommand_negates_reqs && has) && list_any (λ (a : Rule). a.required && not (is_given a.id rows)) s.rules) has required
-        (no_last defaults checked (no_last settling (or_else defaults checked) all_but_below))
+    (not (s.subcommand_negates_reqs && has) && list_any (λ (a : Rule). a.required && not (is_given a.id rows)) s.rules) has required
+    (no_last defaults checked (no_last settling (or_else defaults checked) all_but_below))
 
 required : (names : Bor (List (Bor Text))) → (built (whole_app names)).top.subcommand_required ≡ true
 unfolding clap_on_literals
