@@ -16,13 +16,13 @@ OPTIONS = {
     "compile": ("dir",),
     "gate": ("old-dir", "new-dir", "old", "new", "type", "view"),
     "show": ("dir", "file", "type"),
-    "types": ("dir", "file"),
+    "types": ("dir",),
     "verify": ("old-dir", "new-dir", "old", "new"),
 }
 REQUIRED = {"compile": (), "gate": ("old", "new", "type"), "show": ("file", "type"), "types": (), "verify": ("old", "new")}
 FLAGS = {"gate": ("cert", "both", "explain")}
 # How many words without a name a subcommand takes, at least and at most.
-PLAIN = {"compile": (1, None), "gate": (0, 0), "show": (1, 1), "types": (0, None), "verify": (1, 1)}
+PLAIN = {"compile": (1, None), "gate": (0, 0), "show": (1, 1), "types": (1, None), "verify": (1, 1)}
 VIEWS = ("numbers", "names")
 # What reading a path comes to, where it isn't bytes.
 MISSING, FAILED = "missing", "failed"
@@ -110,7 +110,6 @@ def call_of(words):
         and all(it in values for it in REQUIRED[name])
         and values.get("view", VIEWS[0]) in VIEWS
         and least <= len(plain) <= (len(plain) if most is None else most)
-        and (name != "types" or plain or "file" in values)
     )
     return Call(name, values, flags, plain) if is_whole else None
 

@@ -43,7 +43,8 @@ class Answers(Compared):
                       ["gate", "--old"], ["show", "--file", "a.proto", "--type", "M"], ["compile", "-x", "a.proto"],
                       ["gate", "--old", "a", "--old", "b", "--new", "a", "--type", "M"], ["types", "--dir", "."], ["compile", "--dir"],
                       ["gate", "--old", "a", "--new", "a", "--type", "M", "--view", "x"], ["verify", "--old", "a", "--new", "b", "c", "d"],
-                      ["gate", "--old", "a", "--new", "a", "--type", "M", "--cert=x"], ["compile", "a", "--dir", "--", "b"]):
+                      ["gate", "--old", "a", "--new", "a", "--type", "M", "--cert=x"], ["compile", "a", "--dir", "--", "b"],
+                      ["types", "--file", "a"], ["types", "--dir", "a=b", "--file=a", "a=b"]):
             self.same(*words, status=4)
 
     def test_each_subcommand(self):
@@ -60,7 +61,7 @@ class Answers(Compared):
         self.same("show", "--dir", "old", "--file", "m.proto", "--type", "M", "-", status=0)
         self.same("show", "--type=M", "--file=m.proto", "--dir=new", "0a0180", status=2)
         self.same("types", "--dir", "old", "m.proto", status=0)
-        self.same("types", "--dir", "old", "--file", "m.proto", "m.proto", status=0)
+        self.same("types", "--dir", "old", "m.proto", "m.proto", status=0)
 
     def test_sets(self):
         self.write({"old/m.proto": OLD, "new/m.proto": NEW})
@@ -69,7 +70,7 @@ class Answers(Compared):
         self.write({"old.pb": said, "stdout": said, "program/old.pb": said})
         for file in ("old.pb", f"{self.folder}/old.pb", "./old.pb", "stdout", "program/old.pb", "old/../old.pb"):
             self.same("gate", "--old", file, "--new-dir", "new", "--new", "m.proto", "--type", "M", status=1)
-            self.same("types", "--file", file, status=0)
+            self.same("types", file, status=0)
         self.same("types", "old.pb", "old/m.proto", status=2)
 
     def test_a_status_of_rt_itself(self):
@@ -102,7 +103,7 @@ class Folders(Compared):
             self.same("types", f"--dir={name}", "m.proto", status=0)
             self.same("types", "--", f"{name}/m.proto", status=0)
             self.same("types", f"--dir={name}", "--", f"{name}.proto", status=0)
-            self.same("types", f"--file={name}/set", status=2)
+            self.same("types", "--", f"{name}/set", status=2)
         self.write({"a=b/m.proto": OLD})
         self.same("types", "--dir", "a=b", "m.proto", status=0)
 
