@@ -1,6 +1,7 @@
 """Runs other programs so that they end with this one: each is the first of a session of its own, and all of a session are ended together.
 
 `on_signals` has Ctrl-C, SIGTERM and SIGHUP end them, and then this program by SystemExit. So what stands in a `finally` or a `with` is done.
+One that the caller ignores, as SIGHUP below nohup, is ignored here too.
 """
 
 import contextlib
@@ -99,4 +100,5 @@ def end(number, _):
 def on_signals():
     """Has signals that end this program end all that it started."""
     for it in SIGNALS:
-        signal.signal(it, end)
+        if signal.getsignal(it) is not signal.SIG_IGN:
+            signal.signal(it, end)

@@ -285,6 +285,10 @@ class Running(Checkout):
 
     def test_signals(self):
         for number in (signal.SIGINT, signal.SIGTERM, signal.SIGHUP):
+            # What this process ignores, as below nohup, would be ignored by the call too.
+            if signal.getsignal(number) is signal.SIG_IGN:
+                signal.signal(number, signal.SIG_DFL)
+                self.addCleanup(signal.signal, number, signal.SIG_IGN)
             pids, status = self.told(number)
             self.assertEqual(status, -number)
             self.assertEqual([it for it in pids if is_alive(it)], [])

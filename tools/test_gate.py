@@ -116,6 +116,14 @@ class Room(unittest.TestCase):
 
 
 class Signals(Room):
+    def setUp(self):
+        super().setUp()
+        for it in ending.SIGNALS:
+            # (what this process ignores, as below nohup, would be ignored by all that it starts)
+            if signal.getsignal(it) is signal.SIG_IGN:
+                signal.signal(it, signal.SIG_DFL)
+                self.addCleanup(signal.signal, it, signal.SIG_IGN)
+
     def is_ended_by(self, number, script, *words, during="", **env):
         started = self.start(script, *words, **(env or {"RT_SLEEP": "300"}))
         self.wait_for(lambda: self.begun()[-1:] == [during] if during else self.begun())
@@ -138,6 +146,16 @@ class Signals(Room):
 
     def test_what_ends_a_build_ends_all_that_it_began(self):
         self.is_ended_by(signal.SIGINT, "build.py")
+
+    def test_a_signal_that_the_caller_ignores_ends_nothing(self):
+        before = signal.signal(signal.SIGHUP, signal.SIG_IGN)
+        try:
+            started = self.start("build.py", RT_SLEEP="1")
+        finally:
+            signal.signal(signal.SIGHUP, before)
+        self.wait_for(self.begun)
+        started.send_signal(signal.SIGHUP)
+        self.assertEqual((started.wait(timeout=PATIENCE), self.begun()), (0, ["lib", "run"]))
 
     def test_what_ignores_the_signal_is_killed(self):
         script = "import ending; ending.PATIENCE = 0.2; ending.on_signals(); ending.run(['sh', '-c', 'trap \"\" TERM; echo >$RT_LOG; while :; do sleep 1; done'])"
