@@ -90,6 +90,16 @@ def end_all():
         time.sleep(0.05)
 
 
+@contextlib.contextmanager
+def all_ended():
+    """Ends all that was begun meanwhile, where an error ends what is inside."""
+    try:
+        yield
+    except BaseException:
+        end_all()
+        raise
+
+
 def end(number, _):
     for it in SIGNALS:
         signal.signal(it, signal.SIG_IGN)

@@ -295,7 +295,7 @@ def prove_all(flags):
         print("the documents, pictures or edits lack something\n0 passed, 1 failed")
         return 1, {}
     before, passed, over = resource.getrusage(resource.RUSAGE_CHILDREN), [], []
-    with tempfile.TemporaryDirectory(prefix="protogate-gate-") as room:
+    with tempfile.TemporaryDirectory(prefix="protogate-gate-") as room, ending.all_ended():
         begun = stamp.read_at(".")
         copy_all(room)
         copied, plans = sums(room), take_edits(room)
@@ -324,7 +324,7 @@ def prove_named(names, flags):
     if unknown:
         print(f"crates.txt has no {', '.join(unknown)}", file=sys.stderr)
         return 2, {}
-    with tempfile.TemporaryDirectory(prefix="protogate-gate-") as room:
+    with tempfile.TemporaryDirectory(prefix="protogate-gate-") as room, ending.all_ended():
         copy_of(crates, room)
         plans = take_edits(room)
         progress = progress_of(room, plans, ())

@@ -144,6 +144,15 @@ class Signals(Room):
             write(f"{folder}/must-fail/turned.edit", f"file: {path}\nold:     1\nnew:     2\n")
         self.is_ended_by(signal.SIGTERM, "prove.py", "protogate", during="check", RT_JOBS="1", XDG_CACHE_HOME=f"{self.room}/cache")
 
+    def test_an_error_ends_the_gate_and_all_that_it_began(self):
+        """As where nobody reads any longer what it says."""
+        write(f"{self.room}/kit/rt", RT.replace("wait_a_while ci\n", "echo one; echo two; wait_a_while ci\n"))
+        started = self.start("prove.py", "protogate", RT_SLEEP="300")
+        started.stdout.readline()
+        started.stdout.close()
+        self.assertNotEqual(started.wait(timeout=PATIENCE), 0)
+        self.assertEqual((self.own_processes(), os.listdir(self.made)), ([], []))
+
     def test_what_ends_a_build_ends_all_that_it_began(self):
         self.is_ended_by(signal.SIGINT, "build.py")
 
