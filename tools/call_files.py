@@ -33,7 +33,8 @@ MOST_FILES = 4096
 # The file that keeps a folder in the copy, since only files are handed over.
 KEPT = "kept.folder"
 
-TOKEN = re.compile(rb"""//[^\n]*|/\*.*?\*/|"(?:[^"\\\n]|\\[^\n])*"|'(?:[^'\\\n]|\\[^\n])*'|[A-Za-z_][A-Za-z0-9_]*|[^\s]""", re.S)
+# A comment or a string that nothing ends goes to the end of the file or line: the program reads no further either.
+TOKEN = re.compile(rb"""//[^\n]*|/\*.*?(?:\*/|\Z)|"(?:[^"\\\n]|\\[^\n])*"?|'(?:[^'\\\n]|\\[^\n])*'?|[A-Za-z_][A-Za-z0-9_]*|[^\s]""", re.S)
 ESCAPE = re.compile(rb"\\(?:([0-7]{1,3})|[xX]([0-9a-fA-F]{1,2})|u([0-9a-fA-F]{4})|U([0-9a-fA-F]{8})|(.))", re.S)
 SIMPLE = {b"a": b"\a", b"b": b"\b", b"f": b"\f", b"n": b"\n", b"r": b"\r", b"t": b"\t", b"v": b"\v"}
 
@@ -147,7 +148,7 @@ def imports_in(source):
     for token in TOKEN.findall(source):
         if token[:2] in (b"//", b"/*") and len(token) > 1:
             continue
-        if state and token[:1] in (b'"', b"'") and len(token) > 1:
+        if state and token[:1] in (b'"', b"'") and token[1:].endswith(token[:1]):
             parts.append(ESCAPE.sub(unescaped, token[1:-1]))
             continue
         if parts:

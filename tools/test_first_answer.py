@@ -22,7 +22,7 @@ import time
 import unittest
 
 sys.dont_write_bytecode = True
-from call_files import call_of, copied  # noqa: E402
+from call_files import call_of, copied, imports_in  # noqa: E402
 from trial_checkout import TOP, Checkout, Compared, is_alive, read, stand_in, write  # noqa: E402
 
 README = "gate --old-dir examples/old --new-dir examples/new --old order.proto --new order.proto --type Order".split()
@@ -151,6 +151,15 @@ class Folders(Compared):
         for count, status in ((1023, 0), (1024, 2)):
             self.write({"m.proto": HEAD + "".join(f'import "{n}.proto";\n' for n in range(1, count + 1)) + "message M {}\n"})
             self.same("types", "m.proto", status=status)
+
+
+class Imports(unittest.TestCase):
+    def test_what_nothing_ends(self):
+        """Each is read once, however often it begins."""
+        for more in (b"/* ", b"'" + b"\\'" * 9, b'"' + b'\\"' * 9):
+            begun = time.process_time()
+            self.assertEqual(imports_in(b'import "a"; ' + more * 50_000)[:1], ["a"])
+            self.assertLess(time.process_time() - begun, 10)
 
 
 class Failures(Checkout):
