@@ -1,6 +1,7 @@
-"""The kit on the path, by what `rt help` documents alone: its name, checks of a copy of a crate, and a folder for what passed.
+"""The kit on the path: its name, checks of a copy of a crate, and a folder for what passed.
 
-Kits differ from machine to machine. So nothing is imported from one, and no file of it is read but its script `rt`, for a checksum.
+Kits differ from machine to machine. So each verdict rests on what `rt help` documents alone. The script `rt` is read for a checksum. Where it
+is of the kind that has a store, it is also told which libraries came from there (`note_taken`); where it isn't, nothing but time is lost.
 """
 
 import functools
@@ -22,7 +23,7 @@ ADDED = ("rt: ", "so far: ", "checked ")
 
 
 def script():
-    """Returns the path of the kit's script, behind all links."""
+    """Returns the path of the kit's script, with all links followed."""
     return os.path.realpath(shutil.which("rt") or "rt")
 
 

@@ -3,7 +3,7 @@
 
 usage: tools/prove.py [--anew] [--costs] [CRATE..]    ends with the gate's status, and with its last line, 'N passed, M failed'
 
-The gate runs on a copy of the repository, or, where crates are named, of these and of those that they stand on. Edits are taken out of the
+The gate runs on a copy of the repository, or, where crates are named, of these and of those below them. Edits are taken out of the
 copy, and tried afterwards over the libraries that `rt ci` built there, those of a crate in one check or a few (try_edits.py); `rt ci` in
 the repository itself tries each alone, and proves each crate that has some a second time. With no names the documents' words, links and
 pictures are compared first, and that each public function has an edit; a message that outlives its bytes is tried over the libraries too
@@ -63,7 +63,7 @@ ALONE = (
     ("tools/fuzz.py",),
     ("tools/try_examples.sh", "crates/protogate/out/protogate"),
 )
-# What the gate wants on the path, and what for.
+# The programs that the gate needs, and what for.
 PROGRAMS = {"rt": "the kit that proves and builds", "git": "it makes the repository that the gate runs on", "cc": "it links programs"}
 # What the gate takes of the disk, in bytes: of all crates, and of some.
 DISK, DISK_OF_SOME = 6_000_000_000, 2_000_000_000
@@ -77,7 +77,7 @@ def say(text):
 
 
 def named(names):
-    """Returns these crates and those that they stand on."""
+    """Returns these crates and those below them."""
     crates = crates_of(".")
     return {it.name: it for name in names if name in crates for it in (*crates[name].below(), crates[name])}
 
@@ -185,7 +185,7 @@ def run_ci(room, flags, progress):
     proofs = Proofs(room, progress)
     status, first, last, table, whole = proofs.run(flags)
     if flags and status == 2 and first.lstrip().startswith("usage:"):
-        say("this kit's `rt ci` takes no --anew, and proves what it says itself")
+        say("this kit's `rt ci` takes no --anew: it decides itself what to prove again")
         status, first, last, table, whole = proofs.run([])
     if proofs.kept:
         say(f"kept from earlier runs: the proofs of {' '.join(proofs.kept)}")
@@ -213,6 +213,7 @@ def prove(room, flags, plans, progress):
     crate and their sum."""
     begun = time.time()
     status, last, table, whole = run_ci(room, flags, progress)
+    last = counted(last, 0, 0)
     if status == 0:
         before = resource.getrusage(resource.RUSAGE_CHILDREN)
         passed, failed = try_plans(room, plans, "--anew" in flags, progress)
@@ -280,9 +281,9 @@ def try_program(progress):
 
 
 def counted(last, passed, failed):
-    """Returns the last line of `rt ci` with these among what passed and failed."""
+    """Returns the last line of `rt ci` with these among what passed and failed. Where it ended in another way, that failed too."""
     found = re.match(r"(\d+) passed, (\d+) failed", last)
-    return f"{int(found[1]) + passed} passed, {int(found[2]) + failed} failed" if found else last
+    return f"{int(found[1]) + passed} passed, {int(found[2]) + failed} failed" if found else f"{passed} passed, {failed + 1} failed"
 
 
 def tell_start(progress):
@@ -318,7 +319,7 @@ def prove_all(flags):
 
 
 def prove_named(names, flags):
-    """Runs the gate on a copy of these crates and of those that they stand on. Returns its status and the costs of each crate."""
+    """Runs the gate on a copy of these crates and of those below them. Returns its status and the costs of each crate."""
     crates = named(names)
     unknown = [it for it in names if it not in crates]
     if unknown:
@@ -338,6 +339,10 @@ def prove_named(names, flags):
 
 def main():
     names = [it for it in sys.argv[1:] if not it.startswith("--")]
+    unknown = {*sys.argv[1:]} - {*names, "--anew", "--costs"}
+    if unknown:
+        print(f"unknown: {' '.join(sorted(unknown))}\n\n{__doc__}", file=sys.stderr)
+        return 2
     flags = ["--anew"] * ("--anew" in sys.argv)
     places = {tempfile.gettempdir(): DISK_OF_SOME if names else DISK}
     lacking = missing(PROGRAMS, places if names else {**places, stamp.out_of("."): 0})

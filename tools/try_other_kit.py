@@ -98,9 +98,10 @@ def faults_of_build(top, env):
 
 def main():
     ending.on_signals()
-    env = {**os.environ, "PATH": f"{TOP}/tools/other_kit:{os.environ['PATH']}"}
-    faults = [it for it in [gate_passes(env)] if it]
     with tempfile.TemporaryDirectory(prefix="protogate-kit-") as top:
+        # (what is kept of edits is kept here, so that each run tries them)
+        env = {**os.environ, "PATH": f"{TOP}/tools/other_kit:{os.environ['PATH']}", "XDG_CACHE_HOME": f"{top}/cache"}
+        faults = [it for it in [gate_passes(env)] if it]
         make_repository(f"{top}/repository")
         faults += faults_of_build(f"{top}/repository", env)
     print("\n".join([*faults, f"another kit: the gate of {TRIED} and a build, {len(faults)} faults"]))
