@@ -357,6 +357,15 @@ class Faults(Repository):
             os.chmod(f"{self.top}/program", 0o755)
             self.assertEqual(self.call("v1", "proto", PROTOGATE=f"{self.top}/program"), (3, []), says)
 
+    def test_a_program_that_says_nothing(self):
+        """A source file of which the program says nothing isn't one without types."""
+        self.release({"a.proto": HEAD + "message A { int64 a = 1; }"}, {"a.proto": HEAD + "message A { int32 a = 1; }"})
+        for does in ("exit 0", "exit 1", "exit 2", "exit 3", "echo refused; exit 2", f"'{PROGRAM}' \"$@\" | head -c 12; exit 0"):
+            self.write({"program": f"#!/bin/sh\ncase $1 in compile) {does} ;; esac\nexec '{PROGRAM}' \"$@\"\n"})
+            os.chmod(f"{self.top}/program", 0o755)
+            self.assertEqual(self.call("v1", "proto", PROTOGATE=f"{self.top}/program"), (3, []), does)
+            self.assertNotIn("Traceback", self.advice)
+
     def test_a_program_that_fails(self):
         text = {"a.proto": HEAD + "message A { }"}
         self.release(text, text)
@@ -383,7 +392,12 @@ class Sets(unittest.TestCase):
         made = record(1, other) + record(1, file)
         self.assertEqual(sets.types_in(made, "a.proto"), ["p.q.Outer", "p.q.Outer.Inner", "p.q.Next"])
         self.assertEqual(sets.types_in(made, "b.proto"), ["Bare"])
-        self.assertEqual(sets.types_in(made, "c.proto"), [])
+        with self.assertRaises(LookupError):
+            sets.types_in(made, "c.proto")
+        for cut in range(1, len(made) - len(record(1, other))):
+            with self.assertRaises((LookupError, ValueError)):
+                sets.types_in(made[:-cut], "a.proto")
+
 
     def test_records(self):
         data = bytes([0x08, 0x96, 0x01, 0x11]) + bytes(8) + bytes([0x1D]) + b"abcd" + bytes([0x22, 0])

@@ -23,6 +23,8 @@ def records(data):
         else:
             size, at = varint(data, at) if tag & 7 == 2 else ({1: 8, 5: 4}[tag & 7], at)
             value, at = data[at : at + size], at + size
+        if at > len(data):
+            raise ValueError("the set is cut off")
         yield tag >> 3, value
 
 
@@ -42,10 +44,11 @@ def types_below(message, scope):
 
 
 def types_in(descriptor_set, file):
-    """Returns the full names of the message types that a file of a FileDescriptorSet declares, in order of declaration."""
+    """Returns the full names of the message types that a file of a FileDescriptorSet declares, in order of declaration. A set without the
+    file is a fault, as is one that is cut off."""
     for _, descriptor in records(descriptor_set):
         if last(descriptor, 1) == os.fsencode(file):
             package = last(descriptor, 2).decode()
             messages = [value for number, value in records(descriptor) if number == 4]
             return [it for message in messages for it in types_below(message, f"{package}." if package else "")]
-    return []
+    raise LookupError(file)

@@ -25,8 +25,19 @@ def types_of(folder, file):
     """Returns the message types that a text declares, and the line of its refusal where it has none, with the status."""
     status, said = protogate("compile", f"--dir={folder}", "--", file)
     if status == 0:
-        return types_in(said, file), None, 0
-    return [], os.fsdecode(said).strip(), status
+        return types_of_set(said, file, "protogate"), None, 0
+    said = os.fsdecode(said).strip()
+    if status == 1 or not re.fullmatch(r"refused E\d{3}(?: .+)?", said, re.S):
+        raise Stop(3, f"protogate ended with {status} on {plain(file)}, and it isn't clear what it says: {said[:500]}")
+    return [], said, status
+
+
+def types_of_set(made, file, maker):
+    """Returns the message types that a file of a set declares. A set that is cut off, or that lacks the file, is no answer."""
+    try:
+        return types_in(made, file)
+    except (LookupError, ValueError):
+        raise Stop(3, f"the set that {maker} made of {plain(file)} isn't whole") from None
 
 
 class Side:
@@ -69,7 +80,7 @@ class Side:
             return [], refusal
         self.sets[file] = made
         with open(made, "rb") as opened:
-            return types_in(opened.read(), file), None
+            return types_of_set(opened.read(), file, "protoc"), None
 
     def hides(self, file):
         """Returns whether a file may declare what isn't known, since it is refused or can't be read."""
