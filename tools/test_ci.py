@@ -366,6 +366,12 @@ class Faults(Repository):
             self.assertEqual(self.call("v1", "proto", PROTOGATE=f"{self.top}/program"), (3, []), does)
             self.assertNotIn("Traceback", self.advice)
 
+    @NO_PROTOC
+    def test_a_type_that_says_it_is_an_entry(self):
+        text = HEAD + "message T { option map_entry = true; int32 key = 1; %s value = 2; }"
+        self.release({"a.proto": text % "int64"}, {"a.proto": text % "int32"})
+        self.assertEqual(self.call("v1", "proto", "--with-protoc")[0], 2)
+
     def test_a_program_that_fails(self):
         text = {"a.proto": HEAD + "message A { }"}
         self.release(text, text)
@@ -398,6 +404,11 @@ class Sets(unittest.TestCase):
             with self.assertRaises((LookupError, ValueError)):
                 sets.types_in(made[:-cut], "a.proto")
 
+    def test_a_type_that_says_it_is_an_entry(self):
+        """The entry types of maps are nested. One that isn't is gated, and refused there."""
+        record = self.record
+        entry = record(1, b"T") + record(7, bytes([7 << 3, 1]))
+        self.assertEqual(sets.types_in(record(1, record(1, b"a.proto") + record(4, entry)), "a.proto"), ["T"])
 
     def test_records(self):
         data = bytes([0x08, 0x96, 0x01, 0x11]) + bytes(8) + bytes([0x1D]) + b"abcd" + bytes([0x22, 0])

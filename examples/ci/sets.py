@@ -32,15 +32,15 @@ def last(data, number, default=b""):
     return next((value for one, value in reversed(list(records(data))) if one == number), default)
 
 
-def types_below(message, scope):
-    """Yields the full names of a DescriptorProto and of those in it, but for the entry types of maps."""
-    if last(last(message, 7), 7, 0):
+def types_below(message, scope, is_nested=False):
+    """Yields the full names of a DescriptorProto and of those in it, but for the entry types of maps, which are always nested."""
+    if is_nested and last(last(message, 7), 7, 0):
         return
     name = f"{scope}{last(message, 1).decode()}"
     yield name
     for number, inner in records(message):
         if number == 3:
-            yield from types_below(inner, f"{name}.")
+            yield from types_below(inner, f"{name}.", True)
 
 
 def types_in(descriptor_set, file):
