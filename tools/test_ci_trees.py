@@ -205,6 +205,20 @@ class Namesakes(Trees):
         self.assertEqual(self.call("v1", "proto", "p.T"), (2, [refused, "compatible p.T"]))
 
 
+    def test_a_named_one_in_a_text_that_is_refused(self):
+        """A second declaration may be in a text that wasn't read, on either side."""
+        fault = " option (x) = 1;"
+        hidden = WIDE.replace("message", "message /* here */\n") % "T"
+        self.release({"a.proto": WIDE % "T", "c.proto": WIDE % "C"},
+                     {"a.proto": WIDE % "T", "b.proto": NARROW % "T" + fault, "c.proto": WIDE % "C"})
+        self.assertEqual(self.call("v1", "proto", "p.T"), (2, ["refused new E205 b.proto:2:46", "compatible p.T"]))
+        self.assertEqual(self.call("v1", "proto", "p.C"), (0, ["compatible p.C"]))
+        self.write({"proto/b.proto": hidden + fault})
+        self.commit()
+        os.remove(f"{self.top}/proto/b.proto")
+        self.assertEqual(self.call("v1", "proto", "p.T"), (2, ["refused old E205 b.proto:3:28", "compatible p.T"]))
+
+
 class Names(Trees):
     strange = ("-x.proto", "--help.proto", "it's a \"text\".proto", "a b/ c.proto", ".proto", "\u00fc.proto", "a:1:2.proto")
 

@@ -115,6 +115,7 @@ def gate_all(old, new, names, skipped, options):
     is_hidden = not all(found) or any(it["verdict"] in ("removed", "refused", "added") for it in answers)
     is_hidden = is_hidden or any(new.hides(file) for it in wanted for file in old.declared.get(it, []))
     is_hidden = is_hidden or any(old.hides(file) for it in wanted for file in new.declared.get(it, []))
+    is_hidden = is_hidden or names and any(side.may_declare(it) for side in (old, new) for it in wanted)
     refusals = [*refusals_of(old), *refusals_of(new)] if not names or is_hidden else []
     unread = [it for side in (old, new) for it in unread_of(side, skipped)]
     return answers, refusals + unread + list(passed_by(old, new, answers, wanted, skipped))

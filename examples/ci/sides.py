@@ -86,6 +86,16 @@ class Side:
         """Returns whether a file may declare what isn't known, since it is refused or can't be read."""
         return file in self.refused or is_below(file, self.unread)
 
+    def may_declare(self, name):
+        """Returns whether a file that is refused declares a message type that may be the one of this full name."""
+        last_part = re.escape(os.fsencode(name.rpartition(".")[2]))
+        declaration = re.compile(rb"\bmessage(?:\s|//[^\n]*\n|/\*.*?\*/)+" + last_part + rb"\b", re.S)
+        for file in self.refused:
+            with open(f"{self.folder}/{file}", "rb") as text:
+                if declaration.search(text.read()):
+                    return True
+        return False
+
     def all_texts(self):
         """Returns what there is to look at: what git lists and what the walk found."""
         listed = {it for it, mode in self.laid.listed.items() if is_text(it) or mode in (LINK, SUBMODULE)}
