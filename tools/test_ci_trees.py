@@ -451,6 +451,16 @@ class Roots(Trees):
         self.assertEqual(self.call("v1", "proto", "--include", "third"), (2, [f"refused {it} E301 a.proto:2:8" for it in ("old", "new")]))
 
 
+    def test_a_file_where_an_include_has_a_folder(self):
+        """What is closed in a folder stays closed, whatever another include has by the folder's name."""
+        self.write({"today/m.proto": WIDE % "M"}, self.room.name)
+        self.write({"proto/a.proto": self.IMPORT, "two/m": "a file", "third/README": "mine"})
+        self.link(f"{self.room.name}/today/m.proto", "third/m/m.proto")
+        self.commit()
+        said = [f"refused {it} E301 a.proto:2:8" for it in ("old", "new")]
+        self.assertEqual(self.call("v1", "proto", "--include", "third", "--include", "two"), (2, said))
+
+
 class Library(Trees):
     """The library's own files. Those of these tests are in no library, but where a test puts them."""
 

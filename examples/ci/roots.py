@@ -65,6 +65,8 @@ class Roots:
         is one link."""
         into = os.path.join(self.folder, path) if path else self.folder
         folders = [it for it in roots if os.path.isdir(os.path.join(it.folder, path))]
+        # A file that another root has there is no way to what is closed in the first one's folder.
+        roots = folders if roots[0] in folders else roots
         if folders != roots or path and len(roots) == 1 and path not in roots[0].around:
             self.compare(path, roots)
             os.symlink(os.path.abspath(os.path.join(roots[0].folder, path)), into)
