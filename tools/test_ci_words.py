@@ -270,6 +270,14 @@ class Settings(Repository):
         self.settle("[gate]\nfolder = proto\nreleases = none\n")
         self.assertEqual(self.call("v2"), (0, ["compatible A"]))
 
+    def test_empty_words(self):
+        """A word that is there and empty isn't left out: `$(git merge-base main HEAD)` prints nothing where it fails."""
+        self.release_two()
+        self.settle("[gate]\nfolder = proto\nreleases = v2\n")
+        for words in (("", "proto"), ("v2", ""), ("v2", "proto", "--include", "")):
+            self.assertEqual(self.call(*words), (4, []), words)
+            self.assertRegex(self.advice, r"\Agate: .* is empty.*\n\Z")
+
     def test_what_is_missing(self):
         self.release_two()
         for text, words, lacks in (("", (), "REVISION, FOLDER"), ("[gate]\nfolder = proto\n", (), "REVISION"),

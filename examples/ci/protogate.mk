@@ -2,11 +2,11 @@
 # folder and the release. It needs protogate-ci on the path.
 PROTO_FOLDER ?= proto
 PROTO_RELEASE ?= v1.4
-# What protogate.ini at the top of the repository says may be left out here.
+# What protogate.ini at the top of the repository says may be left out here: an empty release leaves the folder to it too.
 # A type that is removed on purpose: `--skip TYPE`. Texts with custom options, or that import google/protobuf/*.proto: `--with-protoc`,
 # which needs protoc on the path.
 PROTO_OPTIONS ?=
 
 .PHONY: protogate
 protogate:
-	protogate-ci $(PROTO_OPTIONS) '$(PROTO_RELEASE)' '$(PROTO_FOLDER)'
+	protogate-ci $(PROTO_OPTIONS) $(if $(PROTO_RELEASE),'$(PROTO_RELEASE)' '$(PROTO_FOLDER)')

@@ -125,13 +125,13 @@ def completed(call, settings, top):
         raise settings.stop(settings.at("gate", "include"), "this script takes no include")
     if here and not call.include:
         call.include = here
-    call.releases = [call.revision] if call.revision else said.get("releases", [])
-    if not call.folder and "folder" in said:
+    call.releases = said.get("releases", []) if call.revision is None else [call.revision]
+    if call.folder is None and "folder" in said:
         call.folder = os.path.relpath(os.path.join(top, said["folder"]))
     call.view = call.view or said.get("view")
     call.both = said.get("both", False) if call.both is None else call.both
     call.with_protoc = said.get("with-protoc", False) if call.with_protoc is None else call.with_protoc
     call.skips = settings.skips
     call.skip = call.skip + [it["name"] for it in call.skips if not it["is_over"]]
-    missing = ["REVISION"] * (not call.releases) + ["FOLDER"] * (not call.folder)
+    missing = ["REVISION"] * (not call.releases) + ["FOLDER"] * (call.folder is None)
     return f"the following arguments are required: {', '.join(missing)}" if missing else None

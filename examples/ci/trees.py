@@ -51,6 +51,8 @@ def how_to_fetch(revision):
 
 def commit_of(revision):
     """Returns the full name of a revision's commit."""
+    if not revision:
+        raise Stop(4, "REVISION is empty: the command or variable that it comes from gave nothing")
     status, said, faults = git("rev-parse", "--verify", "--quiet", "--end-of-options", f"{revision}^{{commit}}")
     if status == 0:
         return os.fsdecode(said).strip()
@@ -76,6 +78,8 @@ class Place:
     """A folder as users name it, and its path from the top of the repository."""
 
     def __init__(self, folder):
+        if not folder:
+            raise Stop(4, "a folder's name is empty")
         self.folder = os.path.relpath(folder)
         prefix = "".join(lines_of("rev-parse", "--show-prefix"))
         top = os.path.normpath(os.path.join(prefix, self.folder))
