@@ -346,6 +346,19 @@ class Settings(Repository):
             self.assertTrue(self.advice.startswith(f"gate: protogate.ini:{line}: "), self.advice)
             self.assertIn(words, self.advice)
 
+    def test_settings_that_are_not_read(self):
+        """What the repository has, and the work tree hasn't as a file, isn't passed over."""
+        self.release_two()
+        self.settle("[gate]\nview = names\n")
+        self.git("add", "-A")
+        self.git("commit", "-q", "-m", "v3")
+        self.git("sparse-checkout", "set", "--no-cone", "/proto/*")
+        self.assertEqual(self.call("v2", "proto"), (4, []))
+        self.assertIn("gate: protogate.ini isn't in this sparse checkout", self.advice)
+        os.symlink("gone.ini", f"{self.top}/protogate.ini")
+        self.assertEqual(self.call("v2", "proto"), (4, []))
+        self.assertIn("gate: protogate.ini is no file", self.advice)
+
     def test_includes(self):
         """They count from the top of the repository."""
         if b"--include" not in subprocess.run([GATE, "--help"], stdout=subprocess.PIPE, env=self.env).stdout:

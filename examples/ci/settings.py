@@ -35,6 +35,8 @@ class Settings:
         self.skips = []
         if os.path.isfile(path):
             self.read()
+        elif os.path.lexists(path):
+            raise Stop(4, f"{FILE} is no file")
 
     def stop(self, line, why):
         return Stop(4, f"{FILE}:{line}: {why}")
