@@ -306,6 +306,16 @@ class Settings(Repository):
         self.settle(self.skip("A", "2020-02-29"))
         self.assertEqual(self.call("v2"), (2, ["refused skip A 2020-02-29", "compatible A"]))
 
+    def test_names_that_are_not_printable(self):
+        """They are printed by numbers, in each line."""
+        self.release_two()
+        self.settle("[skip A\x1b[2J]\nreason = none\x1b[2J\nuntil = 2020-02-29\n")
+        status, said = self.call("v2", "proto", "--github")
+        self.assertEqual((status, said[0]), (2, "refused skip A\\x1b[2J 2020-02-29"))
+        self.assertNotIn("\x1b", "".join(said) + self.advice)
+        self.settle("[gate]\nfolder = proto\nreleases = v2\n v\x1b[2J\n")
+        self.assertEqual(self.call(), (4, ["== v2 ==", "compatible A", "== v\\x1b[2J =="]))
+
     def test_the_last_day(self):
         day = datetime.date(2024, 2, 29)
         self.assertFalse(settings.is_over(day, day))

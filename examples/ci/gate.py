@@ -40,7 +40,7 @@ from settings import FILE, Settings, completed
 from sides import Side
 from trees import Laid, Place, advice_on_branch, commit_of, git, lay_out, lines_of, no_folder, of_work_tree
 from walks import Walk
-from wording import advise, print_all, print_skips
+from wording import advise, print_all, print_skips, say
 
 # As users call this.
 NAME = os.environ.get("PROTOGATE_CI_NAME") or "gate.sh"
@@ -193,7 +193,7 @@ def gate_releases(call):
     print_skips(call.skips, call.github)
     for call.revision in call.releases:
         if len(call.releases) > 1:
-            print(f"== {call.revision} ==", flush=True)
+            say(f"== {call.revision} ==")
         with tempfile.TemporaryDirectory(prefix="protogate-ci-") as room:
             record["runs"].append(recorded(call, room))
         print_all(record["runs"][-1], call.github)

@@ -163,15 +163,15 @@ def print_skips(skips, github):
             place = f"{FILE}:{it['line']}"
             why = (f"the skip of {it['name']} ended on {it['until']}. Its reason was: {it['reason']} Take it out, or give it a later day if the "
                    "reason still holds.")
-            print(f"refused skip {it['name']} {it['until']}", flush=True)
+            say(f"refused skip {it['name']} {it['until']}")
             advise(f"{place}: {why}")
             if github:
-                print(annotation(f"protogate: refused skip {it['name']}", why, FILE, f"{place}:1"))
+                say(annotation(f"protogate: refused skip {it['name']}", why, FILE, f"{place}:1"))
 
 
 def say(line):
     """Prints one line, whatever is in a file's name."""
-    print(plain(line))
+    print(plain(line), flush=True)
 
 
 def print_all(run, github):
