@@ -309,6 +309,13 @@ class Clones(Trees):
         self.git("sparse-checkout", "disable")
         self.assertEqual(self.broken("v1", "proto"), ["a.proto", "b/b.proto"])
 
+    def test_a_folder_below_with_the_environment_of_a_hook(self):
+        """With GIT_DIR git takes the current folder for the top, and another folder for the old side."""
+        self.write({"below/proto/a.proto": NARROW % "A"})
+        for at, said in ((self.top, (1, ["breaks p.A 6", "breaks p.B 6"])), (f"{self.top}/below", (4, []))):
+            self.assertEqual(self.verdicts("v1", "proto", at=at, GIT_DIR=f"{self.top}/.git"), said)
+        self.assertIn("unset GIT_DIR", self.advice)
+
     def test_a_second_work_tree(self):
         self.git("worktree", "add", "-q", self.clone, "HEAD")
         self.assertEqual(self.broken("v1", "proto", at=self.clone), ["a.proto", "b/b.proto"])

@@ -38,7 +38,7 @@ from cautions import cautions_of
 from roots import Root, Roots, library
 from settings import FILE, Settings, completed
 from sides import Side
-from trees import Laid, Place, advice_on_branch, commit_of, git, lay_out, lines_of, no_folder, of_work_tree
+from trees import Laid, Place, advice_on_branch, commit_of, lay_out, lines_of, no_folder, of_work_tree, top_of_work_tree
 from walks import Walk
 from wording import advise, print_all, print_skips, say
 
@@ -86,8 +86,7 @@ def parsed(words):
     """Returns what the words call for, completed by the settings of the repository."""
     parser = parser_of()
     call = parser.parse_intermixed_args(words)
-    status, top, _ = git("rev-parse", "--show-toplevel")
-    top = os.fsdecode(top)[:-1] if status == 0 else "."
+    top = top_of_work_tree()
     path = os.path.join(top, FILE)
     if not os.path.lexists(path) and any(it.startswith("S ") for it in lines_of("ls-files", "-t", "-z", "--", FILE, at=("-C", top))):
         raise Stop(4, f"{FILE} isn't in this sparse checkout: add it to that")

@@ -31,6 +31,17 @@ def lines_of(*words, must_work=False, **how):
     return [it for it in said.split("\0" if "-z" in words else "\n") if it]
 
 
+def top_of_work_tree():
+    """Returns the top of the work tree, or `.` where there is none. With GIT_DIR alone git takes the current folder for it."""
+    tops = []
+    for at in ((), ("-C", ".")):
+        status, said, _ = git("rev-parse", "--show-toplevel", at=at)
+        tops += [os.fsdecode(said)[:-1]] if status == 0 else []
+    if len(tops) == 2 and tops[0] != tops[1]:
+        raise Stop(4, f"git takes {plain(tops[0])} for the top of the work tree, which is {plain(tops[1])}: unset GIT_DIR and GIT_WORK_TREE")
+    return tops[0] if tops else "."
+
+
 # The revision.
 
 
