@@ -309,6 +309,14 @@ class Clones(Trees):
         self.git("sparse-checkout", "disable")
         self.assertEqual(self.broken("v1", "proto"), ["a.proto", "b/b.proto"])
 
+    def test_a_sparse_one_of_source_files(self):
+        """What is no source file needn't be checked out."""
+        self.write({"proto/README": "mine"})
+        self.commit()
+        self.git("sparse-checkout", "set", "--no-cone", "*.proto")
+        self.assertFalse(os.path.exists(f"{self.top}/proto/README"))
+        self.assertEqual(self.call("v1", "proto"), (0, ["compatible p.A", "compatible p.B"]))
+
     def test_a_folder_below_with_the_environment_of_a_hook(self):
         """With GIT_DIR git takes the current folder for the top, and another folder for the old side."""
         self.write({"below/proto/a.proto": NARROW % "A"})

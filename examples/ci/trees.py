@@ -6,6 +6,7 @@ import subprocess
 import tempfile
 
 from calls import Stop, did_you_mean, plain, run
+from walks import is_text
 
 LINK, SUBMODULE = "120000", "160000"
 # A hook has these in its environment. They must not lead git to the hook's repository where another one is meant.
@@ -210,6 +211,8 @@ def of_work_tree(place):
             here = os.path.normpath(os.path.join(folder, path))
             laid.listed[path] = mode
             if state == "S" and not os.path.lexists(here):
+                if not is_text(path) and mode not in (LINK, SUBMODULE):
+                    continue
                 laid.unread[path] = ("unseen", f"{plain(here)} isn't in this sparse checkout: add it to that")
             elif mode == SUBMODULE and os.path.lexists(f"{here}/.git"):
                 pending.append((path, indexed(".", at=("-C", here))))
