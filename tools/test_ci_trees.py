@@ -153,6 +153,14 @@ class Links(Trees):
         self.link("a.proto", "proto/b.proto")
         self.refuse(["a.proto", "b.proto", "folder"])
 
+    def test_one_that_leads_out_of_a_linked_folder(self):
+        """A link to what is no source file does no harm, in a folder that a link leads to either."""
+        self.write({"proto/real/a.proto": WIDE % "A", "LICENSE": "mine"})
+        self.link("../../LICENSE", "proto/real/LICENSE")
+        self.link("real", "proto/v1")
+        self.commit()
+        self.assertEqual(self.call("v1", "proto"), (0, ["compatible p.A", "compatible p.A"]))
+
     def test_an_import_by_one_that_leads_out(self):
         """What an old text imports is what it was, and not today's file."""
         self.write({"shared/a.proto": WIDE % "A", "proto/b.proto": HEAD + 'import "folder/a.proto"; message B { p.A a = 1; }'})

@@ -63,8 +63,10 @@ class Walk:
     def may_follow(self, path, way, is_folder, is_file):
         """Returns whether a link leads to a folder or a file of this folder."""
         real = os.path.realpath(os.path.join(self.folder, path))
+        # The link's path but for links on the way to it, as git lists it.
+        listed = os.path.relpath(os.path.join(way[-1], os.path.basename(path)), self.top)
         is_inside = real == self.top or real.startswith(os.path.join(self.top, ""))
-        if not is_inside and (is_text(path) or not is_file and path not in self.files_outside):
+        if not is_inside and (is_text(path) or not is_file and listed not in self.files_outside):
             self.refuse(path, "link", "is a link that leads out of the folder: put what it leads to into the folder, or gate the folder around both")
         elif not is_inside:
             self.closed.add(path)
