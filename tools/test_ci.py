@@ -357,6 +357,16 @@ class Faults(Repository):
             os.chmod(f"{self.top}/program", 0o755)
             self.assertEqual(self.call("v1", "proto", PROTOGATE=f"{self.top}/program"), (3, []), says)
 
+    def test_a_program_that_answers_something_else(self):
+        """An answer is of the type that was asked for, and of each direction."""
+        text = {"a.proto": HEAD + "message A { }"}
+        self.release(text, text)
+        for says, words in (("compatible B", ()), ("compatible A\\ncompatible A", ()), ("forward\\ncompatible A", ("--both",)),
+                            ("compatible A", ("--both",)), ("forward\\ncompatible A\\nbackward", ("--both",))):
+            self.write({"program": f"#!/bin/sh\ncase $1 in gate) printf '{says}\\n'; exit 0 ;; esac\nexec '{PROGRAM}' \"$@\"\n"})
+            os.chmod(f"{self.top}/program", 0o755)
+            self.assertEqual(self.call("v1", "proto", *words, PROTOGATE=f"{self.top}/program"), (3, []), says)
+
     def test_a_program_that_says_nothing(self):
         """A source file of which the program says nothing isn't one without types."""
         self.release({"a.proto": HEAD + "message A { int64 a = 1; }"}, {"a.proto": HEAD + "message A { int32 a = 1; }"})

@@ -43,6 +43,10 @@ def gate_type(name, old, new, files, options):
     sides = old.words(old_file, "--old-dir", "--old") + new.words(new_file, "--new-dir", "--new")
     status, said = protogate("gate", *sides, f"--type={name}", "--explain", *options)
     answers = answers_in(os.fsdecode(said), status)
+    ways = ["forward", "backward"] if "--both" in options else ["forward"]
+    is_refused = [it["verdict"] for it in answers] == ["refused"]
+    if not is_refused and [(it["direction"], it["said"].split()[:1]) for it in answers] != [(it, [name]) for it in ways]:
+        raise Stop(3, f"protogate ended with {status}, and its lines don't answer for {name}: {os.fsdecode(said)[:500]}")
     for answer in answers:
         answer.update({"type": name, "old_file": old_file, "new_file": new_file})
         if answer["verdict"] == "breaks":
