@@ -457,6 +457,21 @@ class Roots(Trees):
         self.write({"third/m/m.proto": NARROW % "M"})
         self.assertEqual(self.broken("v1", "proto", "--include", "third"), ["third/m/m.proto"])
 
+    def test_a_submodule_of_an_include_that_is_not_checked_out(self):
+        """Another include's file of the same name doesn't count in its place."""
+        library = f"{self.room.name}/library"
+        self.write({"m.proto": WIDE % "M"}, library)
+        self.commit(library)
+        self.write({"proto/a.proto": self.IMPORT, "two/m/m.proto": WIDE % "M"})
+        self.git("init", "-q")
+        self.git("-c", "protocol.file.allow=always", "submodule", "--quiet", "add", library, "third/m")
+        self.commit()
+        self.git("submodule", "--quiet", "deinit", "--force", "third/m")
+        words = ("v1", "proto", "--include", "third")
+        self.assertEqual(self.call(*words)[1], ["refused new E301 a.proto:2:8"])
+        self.assertEqual(self.call(*words, "--include", "two"), (2, ["refused new submodule m", "compatible A"]))
+        self.assertEqual(self.call(*words, "--include", "two", "--skip", "m")[0], 0)
+
     def test_an_include_of_one_side(self):
         self.write({"proto/a.proto": HEAD + "message A { }"})
         self.commit()

@@ -109,7 +109,7 @@ def side_of(name, places, laid, library_root, room):
     """Returns a side: its folder, the first of the places, with those where its imports are looked for too."""
     there = [(place, it) for place, it in zip(places, laid) if it]
     walks = [Walk(it.folder, place.folder, it.files_outside) for place, it in there]
-    roots = [Root(it.folder, walk, place.top) for (place, it), walk in zip(there, walks)]
+    roots = [Root(it.folder, walk, place.top, it.unread) for (place, it), walk in zip(there, walks)]
     return Side(name, laid[0], Roots(roots + [library_root] * bool(library_root), room))
 
 
@@ -125,7 +125,7 @@ def sides_of(call, commit, places, room):
     for place, old_one, new_one in zip(places, old, new):
         if not old_one and not new_one:
             raise Stop(4, f"--include: there is no folder {plain(place.folder)}, at {plain(call.revision)} or now")
-    new[0] = of_work_tree(places[0])
+    new = [of_work_tree(place) if it else None for place, it in zip(places, new)]
     library_root = library(room)
     return side_of("old", places, old, library_root, room), side_of("new", places, new, library_root, room)
 

@@ -16,8 +16,10 @@ SYSTEM = "/usr/include"
 class Root:
     """A folder, its walk, and its path from the top of the repository. The library has neither of these."""
 
-    def __init__(self, folder, walk, top):
+    def __init__(self, folder, walk, top, unread=()):
         self.folder, self.walk, self.top = folder, walk, top
+        # What isn't there to be read, or must not be, by path: the kind and the reason.
+        self.unread = {**walk.unread, **dict(unread)} if walk else {}
         closed = walk.closed if walk else ()
         # The folders on the way to what is closed.
         self.around = {"/".join(it.split("/")[:count]) for it in closed for count in range(1, it.count("/") + 1)}
@@ -59,6 +61,14 @@ class Roots:
             os.symlink(os.path.abspath(roots[0].folder), self.folder)
         else:
             self.lay("", roots)
+        self.note_unread()
+
+    def note_unread(self):
+        """Notes what an include has and can't show, where a later one has something by its name, which would count in its place."""
+        for at, root in enumerate(self.roots[1:], 2):
+            for path, why in root.unread.items():
+                if any(it.walk and os.path.lexists(os.path.join(it.folder, path)) for it in self.roots[at:]):
+                    self.twice[path] = why
 
     def lay(self, path, roots):
         """Lays what the roots have at a path. A folder that several have, or that has something closed below it, is made anew; all else
