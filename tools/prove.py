@@ -48,6 +48,7 @@ TESTERS = (
     "try_rows.py",
     "test_ci.py",
     "test_ci_trees.py",
+    "test_ci_roots.py",
     "test_ci_words.py",
     "test_packages.py",
     "test_try_edits.py",
