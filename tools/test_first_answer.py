@@ -360,10 +360,10 @@ class Kit(unittest.TestCase):
         }
 
     def test_a_call_of_each_kind(self):
-        """One build answers all, with the words and the files that each call would have."""
+        """Each has the words and the files that the launcher would hand over. One build answers all, where the kit takes cases."""
         os.chdir(self.top)
         self.addCleanup(os.chdir, TOP)
-        wanted, handed = {}, {}
+        wanted, asked, handed = {}, {}, {}
         for name, (words, status) in self.calls().items():
             wanted[name] = self.said(words)
             self.assertEqual(wanted[name][0], status, name)
@@ -372,17 +372,32 @@ class Kit(unittest.TestCase):
                 copies, words = copied(call, f"{self.room}/files of {name}")
                 for at, file in copies.handed():
                     self.assertEqual(read(file), read(handed.setdefault(at, file)))
+            asked[name] = words
+        data = [word for at, file in handed.items() for word in ("--data", f"{at}={file}")]
+        takes_cases = b"--cases" in subprocess.run(["rt", "help"], stdout=subprocess.PIPE, check=True).stdout
+        (self.compare_cases if takes_cases else self.compare_each)(asked, wanted, data)
+
+    def tried(self, words):
+        """Runs `rt try` on the program with these words."""
+        how = {"cwd": f"{self.top}/crates/protogate", "stdin": subprocess.DEVNULL, "stdout": subprocess.PIPE, "stderr": subprocess.PIPE}
+        return subprocess.run(["rt", "try", *words], check=False, **how)
+
+    def compare_cases(self, asked, wanted, data):
+        for name, words in asked.items():
             write(f"{self.room}/cases/{name}", "")
             write(f"{self.room}/cases/{name}.args", "".join(f"{it}\n" for it in words))
             write(f"{self.room}/cases/{name}.stdout", wanted[name][1])
-        data = [word for at, file in handed.items() for word in ("--data", f"{at}={file}")]
-        how = {"cwd": f"{self.top}/crates/protogate", "stdin": subprocess.DEVNULL, "stdout": subprocess.PIPE, "stderr": subprocess.PIPE}
-        done = subprocess.run(["rt", "try", *data, "--cases", f"{self.room}/cases"], check=False, **how)
+        done = self.tried([*data, "--cases", f"{self.room}/cases"])
         lines = done.stderr.decode("utf-8", "replace").splitlines()
         for name, (status, _) in wanted.items():
             found = [it for it in lines if re.match(rf"case={name} .*\bstatus={status}\b.*\boutput=expected\b", it)]
             self.assertEqual(len(found), 1, lines)
         self.assertEqual(done.returncode, 0)
+
+    def compare_each(self, asked, wanted, data):
+        for name, words in asked.items():
+            done = self.tried([*data, "--", *words])
+            self.assertEqual((done.returncode, done.stdout), wanted[name], done.stderr)
 
 
 def main():
