@@ -374,7 +374,8 @@ class Kit(unittest.TestCase):
                     self.assertEqual(read(file), read(handed.setdefault(at, file)))
             asked[name] = words
         data = [word for at, file in handed.items() for word in ("--data", f"{at}={file}")]
-        takes_cases = b"--cases" in subprocess.run(["rt", "help"], stdout=subprocess.PIPE, check=True).stdout
+        how = {"stdin": subprocess.DEVNULL, "stdout": subprocess.PIPE, "stderr": subprocess.STDOUT}
+        takes_cases = b"--cases" in subprocess.run(["rt", "help"], check=False, **how).stdout
         (self.compare_cases if takes_cases else self.compare_each)(asked, wanted, data)
 
     def tried(self, words):
