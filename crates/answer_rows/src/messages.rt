@@ -180,7 +180,10 @@ fn carry_words<V: View>(
     words: &str,
 ) -> Result<Option<Message>, AllocError> {
     let (choice, child) = cut(words);
-    let Some(choice) = chosen(alloc, view, old, new, pair, table, &choice_of(choice))? else {
+    let Some(choice) = choice_of(choice) else {
+        return Ok(None);
+    };
+    let Some(choice) = chosen(alloc, view, old, new, pair, table, &choice)? else {
         return Ok(None);
     };
     let child = if child.is_empty() {

@@ -27,7 +27,7 @@ pub(crate) fn choice(alloc: Global, choice: &Choice) -> Result<String, AllocErro
         part,
         cost,
     } = choice;
-    format!(in alloc; "{number} {case} {part} {cost}")
+    format!(in alloc; "{number} {} {part} {cost}", case.number())
 }
 
 pub(crate) fn pair(alloc: Global, pair: Pair) -> Result<String, AllocError> {
@@ -51,8 +51,10 @@ pub(crate) fn step(alloc: Global, step: &Step) -> Result<String, AllocError> {
     } = step.choice;
     let Pair { old, new } = step.pair;
     format!(in alloc;
-        "{} {} by {number} {case} {part} {cost}",
-        old.index, new.index
+        "{} {} by {number} {} {part} {cost}",
+        old.index,
+        new.index,
+        case.number()
     )
 }
 

@@ -1,7 +1,7 @@
 //! Numbers, pairs, bounds, choices and bytes as rows spell them.
 use hex::FromHexError;
 use pg_cert::{Bounds, BoundsError, PairBound};
-use pg_pairs::{Choice, Pair};
+use pg_pairs::{Case, Choice, Pair};
 use pg_schema::TypeId;
 use std::alloc::{AllocError, Global};
 
@@ -26,14 +26,27 @@ pub(crate) fn pair_of(text: &str) -> Pair {
     }
 }
 
-/// The choice that four words spell.
-pub(crate) fn choice_of(text: &str) -> Choice {
-    Choice {
+/// The case that the word spells by its number.
+fn case_of(word: &str) -> Option<Case> {
+    match word {
+        "1" => Some(Case::Unlike),
+        "2" => Some(Case::Gap),
+        "3" => Some(Case::Child),
+        "4" => Some(Case::List),
+        "5" => Some(Case::Map),
+        "6" => Some(Case::Oneof),
+        _ => None,
+    }
+}
+
+/// The choice that four words spell; `None` where the second is no case.
+pub(crate) fn choice_of(text: &str) -> Option<Choice> {
+    Some(Choice {
         number: number_at(text, 0),
-        case: word_at(text, 1).parse().unwrap_or(0),
+        case: case_of(word_at(text, 1))?,
         part: number_at(text, 2),
         cost: number_at(text, 3),
-    }
+    })
 }
 
 fn bound_of(text: &str) -> PairBound {

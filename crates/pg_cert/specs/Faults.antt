@@ -5,6 +5,7 @@ use Rattle.std.specs.Option.{option_or}
 use Rattle.pg_schema.specs.Shape.{Shape}
 use Rattle.pg_pairs.specs.declared.choice.Choice.{Choice}
 use Rattle.pg_pairs.specs.declared.choice.Pair.{Pair}
+use Rattle.pg_pairs.specs.Cases.{case_number}
 use Rattle.pg_pairs.specs.EnumView.{EnumView}
 use Rattle.pg_pairs.specs.Choices.{Table, choices}
 use Rattle.pg_pairs.specs.Covering.{children}
@@ -31,7 +32,7 @@ abbrev pub cheaper_choice : EnumView → Shape → Shape → Table → PairBound
 cheaper_choice enum_view old new table b = find (λ (c : Choice). not (is_within b.bound c.cost)) (choices enum_view table old new b.pair)
 
 abbrev pub too_high : Pair → Choice → CertError
-too_high pair c = BoundTooHigh pair c.number c.case
+too_high pair c = BoundTooHigh pair c.number (case_number c.case)
 
 abbrev pub pair_fault : EnumView → Shape → Shape → Table → PairBound → Option CertError
 pair_fault enum_view old new table b =

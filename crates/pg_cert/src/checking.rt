@@ -154,7 +154,7 @@ fn check_pair<V: View>(
         Some(choice) => Err(CertError::BoundTooHigh {
             pair: line.pair,
             number: choice.number,
-            case: choice.case,
+            case: choice.case.number(),
         }),
         None => Ok(()),
     }

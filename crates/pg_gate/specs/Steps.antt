@@ -1,5 +1,5 @@
 -- The fields on a witness's path: what its steps name.
-use Rattle.std.specs.Prelude.{◌≡◌, ℕ, nat_eq, List, [], ◌∷◌, ◌++◌, map, codes, if◌then◌else◌, string_bytes}
+use Rattle.std.specs.Prelude.{◌≡◌, ℕ, List, [], ◌∷◌, ◌++◌, map, codes, if◌then◌else◌, string_bytes}
 use Rattle.std.specs.List.{flat_map}
 use Rattle.std.specs.Option.{option_map_or}
 use Rattle.clap.specs.Words.{Text}
@@ -9,6 +9,7 @@ use Rattle.pg_cert.specs.ClaimView.{view_in}
 use Rattle.pg_cert.specs.Text.{names_of}
 use Rattle.pg_least.specs.Path.{IsPath}
 use Rattle.pg_least.specs.declared.witness.Step as stages
+use Rattle.pg_pairs.specs.Cases.{is_oneof}
 use Rattle.pg_pairs.specs.declared.choice.Choice.{Choice}
 use Rattle.pg_pairs.specs.declared.choice.Pair.{Pair}
 use Rattle.pg_schema.specs.declared.parts.field.Field.{Field}
@@ -32,7 +33,7 @@ named_at old new pair number = record { number = number; old = field_name old pa
 
 -- The fields of a choice: one, and of two fields that meet in a oneof of the new type both, the smaller number first.
 abbrev pub numbers_of : Choice → List ℕ
-numbers_of c = if nat_eq c.case 6 then c.number ∷ c.part ∷ [] else c.number ∷ []
+numbers_of c = if is_oneof c.case then c.number ∷ c.part ∷ [] else c.number ∷ []
 
 abbrev pub steps_by : Parts → Parts → stages.Step → List NamedStep
 steps_by old new stage = map (named_at old new stage.pair) (numbers_of stage.choice)

@@ -15,8 +15,11 @@ use Rattle.pg_dyn.specs.Coding.{form, form_wire, zero_leaf, InRange}
 use Rattle.pg_dyn.specs.encoding.Encoding.{cap}
 use Rattle.pg_dyn.specs.Belonging.{KeyFits}
 use Rattle.pg_dyn.proofs.Lists.{each-append, option_map_some}
+use Rattle.pg_pairs.specs.declared.case.Case.{Case}
+use Rattle.pg_pairs.specs.declared.case.Case.TheVariants as cases
 use Rattle.pg_pairs.specs.declared.choice.Choice.{Choice}
 use Rattle.pg_pairs.specs.declared.choice.Pair.{Pair}
+use Rattle.pg_pairs.specs.Cases.{is_oneof}
 use Rattle.pg_pairs.specs.EnumView.{EnumView, IsEnumView}
 use Rattle.pg_pairs.specs.Likeness.{like}
 use Rattle.pg_pairs.specs.Gaps.{body_length, gap_item}
@@ -50,9 +53,9 @@ module _ (enum_view : EnumView) (law : IsEnumView enum_view) (old new : Shape) (
 
   -- a choice of the field alone
   abbrev pub CarriesOwn : FieldShape → FieldShape → Choice → Type 0
-  CarriesOwn f g c = (c.number ≡ f.number) × (nat_eq c.case 6 ≡ false) × CarriesField f g c
+  CarriesOwn f g c = (c.number ≡ f.number) × (is_oneof c.case ≡ false) × CarriesField f g c
 
-  offered : (f g : FieldShape) (case part : ℕ) (o : Option ℕ) → nat_eq case 6 ≡ false → ((cost : ℕ) → o ≡ Some cost → CarriesField f g (choice f.number case part cost)) → AllByRecursion (CarriesOwn f g) (choice_of f.number case part o)
+  offered : (f g : FieldShape) (case : Case) (part : ℕ) (o : Option ℕ) → is_oneof case ≡ false → ((cost : ℕ) → o ≡ Some cost → CarriesField f g (choice f.number case part cost)) → AllByRecursion (CarriesOwn f g) (choice_of f.number case part o)
   offered f g case part None alone h = tt
   offered f g case part (Some cost) alone h = ((refl, alone, h cost refl), tt)
 
@@ -70,7 +73,7 @@ module _ (enum_view : EnumView) (law : IsEnumView enum_view) (old new : Shape) (
         let same = same_bound (table (record { old = s; new = t })) y x there_y there in
         reach_child enum_view old new shape_old shape_new pair number p q s t o r found at no_key no_map unpacked cost_is m x (subst (ReachedBy enum_view old new (record { old = s; new = t }) m) same reached) small
 
-  child_carried : (number : ℕ) (o r : Option ℕ) (e d : Element) (p q : Presence) → KeyFits p None → IsNoMap q → ((x : Element) → IsUnpacked (record { number = number; presence = p; element = x; oneof = o })) → ((x : Element) (b : ℕ) → one_item (record { number = number; presence = p; element = x; oneof = o }) b ≡ length (tag number (form_wire (form x))) + b) → field_at (fields old pair.old) number ≡ Some (record { number = number; presence = p; element = e; oneof = o }) → field_at (fields new pair.new) number ≡ Some (record { number = number; presence = q; element = d; oneof = r }) → (cost : ℕ) → option_map (one_item (record { number = number; presence = p; element = e; oneof = o })) (child_body table e d) ≡ Some cost → CarriesField (record { number = number; presence = p; element = e; oneof = o }) (record { number = number; presence = q; element = d; oneof = r }) (choice number 3 0 cost)
+  child_carried : (number : ℕ) (o r : Option ℕ) (e d : Element) (p q : Presence) → KeyFits p None → IsNoMap q → ((x : Element) → IsUnpacked (record { number = number; presence = p; element = x; oneof = o })) → ((x : Element) (b : ℕ) → one_item (record { number = number; presence = p; element = x; oneof = o }) b ≡ length (tag number (form_wire (form x))) + b) → field_at (fields old pair.old) number ≡ Some (record { number = number; presence = p; element = e; oneof = o }) → field_at (fields new pair.new) number ≡ Some (record { number = number; presence = q; element = d; oneof = r }) → (cost : ℕ) → option_map (one_item (record { number = number; presence = p; element = e; oneof = o })) (child_body table e d) ≡ Some cost → CarriesField (record { number = number; presence = p; element = e; oneof = o }) (record { number = number; presence = q; element = d; oneof = r }) (choice number cases.Child 0 cost)
   child_carried number o r (elements.Message s) (elements.Message t) p q no_key no_map unpacked cost_is found at cost h small =
       let f = child_old number o r s t p q in
       let (body, there, made) = option_map_some (one_item (child_old number o r s t p q)) (child_body table (elements.Message s) (elements.Message t)) cost h in
@@ -97,7 +100,7 @@ module _ (enum_view : EnumView) (law : IsEnumView enum_view) (old new : Shape) (
       let same = same_bound (table (record { old = s; new = t })) y x there_y there in
       reach_map_child enum_view old new shape_old shape_new pair number s t o r k l found at m x (subst (ReachedBy enum_view old new (record { old = s; new = t }) m) same reached) small
 
-  map_child_carried : (number : ℕ) (o r : Option ℕ) (e d : Element) (k l : Scalar) → field_at (fields old pair.old) number ≡ Some (map_field number o e k) → field_at (fields new pair.new) number ≡ Some (map_field number r d l) → (cost : ℕ) → option_map (one_item (map_field number o e k)) (child_body table e d) ≡ Some cost → CarriesField (map_field number o e k) (map_field number r d l) (choice number 5 2 cost)
+  map_child_carried : (number : ℕ) (o r : Option ℕ) (e d : Element) (k l : Scalar) → field_at (fields old pair.old) number ≡ Some (map_field number o e k) → field_at (fields new pair.new) number ≡ Some (map_field number r d l) → (cost : ℕ) → option_map (one_item (map_field number o e k)) (child_body table e d) ≡ Some cost → CarriesField (map_field number o e k) (map_field number r d l) (choice number cases.Map 2 cost)
   map_child_carried number o r (elements.Message s) (elements.Message t) k l found at cost h small =
       let (body, there, made) = option_map_some (one_item (map_field number o (elements.Message s) k)) (child_body table (elements.Message s) (elements.Message t)) cost h in
       let (x, at_x, body_is) = nested table s t body there in
@@ -120,11 +123,11 @@ module _ (enum_view : EnumView) (law : IsEnumView enum_view) (old new : Shape) (
     abbrev at_new : Presence → FieldShape
     at_new q = record { number = number; presence = q; element = d; oneof = r }
 
-    abbrev Carries : Presence → Presence → ℕ → ℕ → ℕ → Type 0
+    abbrev Carries : Presence → Presence → Case → ℕ → ℕ → Type 0
     Carries p q case part cost = CarriesField (at_old p) (at_new q) (choice number case part cost)
 
     -- A gap: the message of its item.
-    gap_carried_by : (p q : Presence) (body : ℕ) → (gap : Gapped enum_view (zero_counts (at_old p) (at_new q)) e d body) → (one_item (at_old p) (body_length (form e) gap.item) ≤ cap → ReachedBy enum_view old new pair (holds number None gap.item (ends [])) (one_item (at_old p) (body_length (form e) gap.item))) → Carries p q 2 0 (one_item (at_old p) body)
+    gap_carried_by : (p q : Presence) (body : ℕ) → (gap : Gapped enum_view (zero_counts (at_old p) (at_new q)) e d body) → (one_item (at_old p) (body_length (form e) gap.item) ≤ cap → ReachedBy enum_view old new pair (holds number None gap.item (ends [])) (one_item (at_old p) (body_length (form e) gap.item))) → Carries p q cases.Gap 0 (one_item (at_old p) body)
     gap_carried_by p q body gap h =
         childless (leaf_alone number None (gap_item enum_view (zero_counts (at_old p) (at_new q)) e d)) (one_item (at_old p) body)
         (λ small.
@@ -132,12 +135,12 @@ module _ (enum_view : EnumView) (law : IsEnumView enum_view) (old new : Shape) (
         (subst (λ b. ReachedBy enum_view old new pair (holds number None gap.item (ends [])) (one_item (at_old p) b)) gap.body_is
         (h (subst (λ b. one_item (at_old p) b ≤ cap) (sym gap.body_is) small))))
 
-    unpacked_gap : (p q : Presence) → KeyFits p None → IsNoMap q → IsUnpacked (at_old p) → ((b : ℕ) → one_item (at_old p) b ≡ length (tag number (form_wire (form e))) + b) → like e d ≡ true → field_at (fields old pair.old) number ≡ Some (at_old p) → field_at (fields new pair.new) number ≡ Some (at_new q) → (body : ℕ) → Gapped enum_view (zero_counts (at_old p) (at_new q)) e d body → Carries p q 2 0 (one_item (at_old p) body)
+    unpacked_gap : (p q : Presence) → KeyFits p None → IsNoMap q → IsUnpacked (at_old p) → ((b : ℕ) → one_item (at_old p) b ≡ length (tag number (form_wire (form e))) + b) → like e d ≡ true → field_at (fields old pair.old) number ≡ Some (at_old p) → field_at (fields new pair.new) number ≡ Some (at_new q) → (body : ℕ) → Gapped enum_view (zero_counts (at_old p) (at_new q)) e d body → Carries p q cases.Gap 0 (one_item (at_old p) body)
     unpacked_gap p q no_key no_map unpacked cost_is is_like found at body gap =
         gap_carried_by p q body gap
         (reach_gap enum_view old new shape_old shape_new pair (at_old p) (at_new q) found at refl no_key no_map unpacked cost_is gap.old_leafy gap.new_leafy (like_wire e d is_like) gap.item gap.least)
 
-    packed_gap : (q : Presence) → IsNoMap q → like e d ≡ true → is_packable e ≡ true → field_at (fields old pair.old) number ≡ Some (at_old (presences.Repeated true)) → field_at (fields new pair.new) number ≡ Some (at_new q) → (body : ℕ) → Gapped enum_view (zero_counts (at_old (presences.Repeated true)) (at_new q)) e d body → Carries (presences.Repeated true) q 2 0 (one_item (at_old (presences.Repeated true)) body)
+    packed_gap : (q : Presence) → IsNoMap q → like e d ≡ true → is_packable e ≡ true → field_at (fields old pair.old) number ≡ Some (at_old (presences.Repeated true)) → field_at (fields new pair.new) number ≡ Some (at_new q) → (body : ℕ) → Gapped enum_view (zero_counts (at_old (presences.Repeated true)) (at_new q)) e d body → Carries (presences.Repeated true) q cases.Gap 0 (one_item (at_old (presences.Repeated true)) body)
     packed_gap q no_map is_like packable found at body gap = gap_carried_by (presences.Repeated true) q body gap (of q no_map at)
       where
         of : (x : Presence) → IsNoMap x → field_at (fields new pair.new) number ≡ Some (at_new x) → one_item (at_old (presences.Repeated true)) (body_length (form e) gap.item) ≤ cap → ReachedBy enum_view old new pair (holds number None gap.item (ends [])) (one_item (at_old (presences.Repeated true)) (body_length (form e) gap.item))
@@ -146,14 +149,14 @@ module _ (enum_view : EnumView) (law : IsEnumView enum_view) (old new : Shape) (
         of (presences.Repeated w) h there few = reach_packed_gap enum_view old new shape_old shape_new pair number e d o r is_like w found there packable gap.item gap.least.unseen.in_range gap.least.unseen.not_seen few
         of (presences.Map k) h there few = absurd h
 
-    gap_carried : (p q : Presence) → IsNoMap p → IsNoMap q → like e d ≡ true → field_at (fields old pair.old) number ≡ Some (at_old p) → field_at (fields new pair.new) number ≡ Some (at_new q) → PresenceFits p e o → (body : ℕ) → Gapped enum_view (zero_counts (at_old p) (at_new q)) e d body → Carries p q 2 0 (one_item (at_old p) body)
+    gap_carried : (p q : Presence) → IsNoMap p → IsNoMap q → like e d ≡ true → field_at (fields old pair.old) number ≡ Some (at_old p) → field_at (fields new pair.new) number ≡ Some (at_new q) → PresenceFits p e o → (body : ℕ) → Gapped enum_view (zero_counts (at_old p) (at_new q)) e d body → Carries p q cases.Gap 0 (one_item (at_old p) body)
     gap_carried presences.Implicit q no_map_old no_map is_like found at fits body gap = unpacked_gap presences.Implicit q refl no_map (unpacked_implicit number e o) (λ b. refl) is_like found at body gap
     gap_carried presences.Explicit q no_map_old no_map is_like found at fits body gap = unpacked_gap presences.Explicit q refl no_map (unpacked_explicit number e o) (λ b. refl) is_like found at body gap
     gap_carried (presences.Repeated false) q no_map_old no_map is_like found at fits body gap = unpacked_gap (presences.Repeated false) q refl no_map (unpacked_repeated number e o) (λ b. refl) is_like found at body gap
     gap_carried (presences.Repeated true) q no_map_old no_map is_like found at fits body gap = packed_gap q no_map is_like (fits.1 refl) found at body gap
     gap_carried (presences.Map k) q no_map_old no_map is_like found at fits body gap = absurd no_map_old
 
-    child_reached : (p q : Presence) → IsNoMap p → IsNoMap q → field_at (fields old pair.old) number ≡ Some (at_old p) → field_at (fields new pair.new) number ≡ Some (at_new q) → PresenceFits p e o → (cost : ℕ) → option_map (one_item (at_old p)) (child_body table e d) ≡ Some cost → Carries p q 3 0 cost
+    child_reached : (p q : Presence) → IsNoMap p → IsNoMap q → field_at (fields old pair.old) number ≡ Some (at_old p) → field_at (fields new pair.new) number ≡ Some (at_new q) → PresenceFits p e o → (cost : ℕ) → option_map (one_item (at_old p)) (child_body table e d) ≡ Some cost → Carries p q cases.Child 0 cost
     child_reached presences.Implicit q no_map_old no_map found at fits cost h = child_carried number o r e d presences.Implicit q refl no_map (λ x. unpacked_implicit number x o) (λ x b. refl) found at cost h
     child_reached presences.Explicit q no_map_old no_map found at fits cost h = child_carried number o r e d presences.Explicit q refl no_map (λ x. unpacked_explicit number x o) (λ x b. refl) found at cost h
     child_reached (presences.Repeated false) q no_map_old no_map found at fits cost h = child_carried number o r e d (presences.Repeated false) q refl no_map (λ x. unpacked_repeated number x o) (λ x b. refl) found at cost h
@@ -166,7 +169,7 @@ module _ (enum_view : EnumView) (law : IsEnumView enum_view) (old new : Shape) (
     child_reached (presences.Map k) q no_map_old no_map found at fits cost h = absurd no_map_old
 
     -- one packed zero, whose record isn't accepted
-    packed_zero : (q : Presence) → is_singular q ≡ true → like e d ≡ true → field_at (fields old pair.old) number ≡ Some (at_old (presences.Repeated true)) → field_at (fields new pair.new) number ≡ Some (at_new q) → is_packable e ≡ true → (cost : ℕ) → Some (least_content (at_old (presences.Repeated true))) ≡ Some cost → Carries (presences.Repeated true) q 4 0 cost
+    packed_zero : (q : Presence) → is_singular q ≡ true → like e d ≡ true → field_at (fields old pair.old) number ≡ Some (at_old (presences.Repeated true)) → field_at (fields new pair.new) number ≡ Some (at_new q) → is_packable e ≡ true → (cost : ℕ) → Some (least_content (at_old (presences.Repeated true))) ≡ Some cost → Carries (presences.Repeated true) q cases.List 0 cost
     packed_zero q singular is_like found at packable cost h =
         let leafy = packable_leafy e packable in
         let least = ap (one_item (at_old (presences.Repeated true))) (zero_length e leafy) ∙ same_cost (least_content (at_old (presences.Repeated true))) cost h in
@@ -177,7 +180,7 @@ module _ (enum_view : EnumView) (law : IsEnumView enum_view) (old new : Shape) (
         (reach_packed enum_view old new shape_old shape_new pair number e d o r is_like q singular found at packable (zero_leaf (form e)) (zero_in_range e leafy) (subst (λ n. n ≤ cap) (sym least) small))))
 
     -- one zero, which an implicit field doesn't show
-    one_zero : like e d ≡ true → field_at (fields old pair.old) number ≡ Some (at_old (presences.Repeated false)) → field_at (fields new pair.new) number ≡ Some (at_new presences.Implicit) → PresenceFits presences.Implicit d r → (cost : ℕ) → Some (least_content (at_old (presences.Repeated false))) ≡ Some cost → Carries (presences.Repeated false) presences.Implicit 4 0 cost
+    one_zero : like e d ≡ true → field_at (fields old pair.old) number ≡ Some (at_old (presences.Repeated false)) → field_at (fields new pair.new) number ≡ Some (at_new presences.Implicit) → PresenceFits presences.Implicit d r → (cost : ℕ) → Some (least_content (at_old (presences.Repeated false))) ≡ Some cost → Carries (presences.Repeated false) presences.Implicit cases.List 0 cost
     one_zero is_like found at fits_new cost h =
         let new_leafy = implicit_leafy d r fits_new in
         let leafy = leafy_like e d is_like new_leafy in
@@ -189,7 +192,7 @@ module _ (enum_view : EnumView) (law : IsEnumView enum_view) (old new : Shape) (
         (reach_zero enum_view old new shape_old shape_new pair number e d o r is_like leafy new_leafy found at (subst (λ n. n ≤ cap) (sym least) small))))
 
     -- two items, of which one is read
-    two_items : like e d ≡ true → field_at (fields old pair.old) number ≡ Some (at_old (presences.Repeated false)) → field_at (fields new pair.new) number ≡ Some (at_new presences.Explicit) → (cost : ℕ) → Some (2 * least_content (at_old (presences.Repeated false))) ≡ Some cost → Carries (presences.Repeated false) presences.Explicit 4 0 cost
+    two_items : like e d ≡ true → field_at (fields old pair.old) number ≡ Some (at_old (presences.Repeated false)) → field_at (fields new pair.new) number ≡ Some (at_new presences.Explicit) → (cost : ℕ) → Some (2 * least_content (at_old (presences.Repeated false))) ≡ Some cost → Carries (presences.Repeated false) presences.Explicit cases.List 0 cost
     two_items is_like found at cost h =
         childless (with_part number None (item_by (λ x. zero_leaf x) e) (alone number None (item_by (λ x. zero_leaf x) e))) cost
         (λ small. subst (ReachedBy enum_view old new pair (with_part number None (item_by (λ x. zero_leaf x) e) (alone number None (item_by (λ x. zero_leaf x) e)))) least (of (leaf_or_message e) (subst (λ n. n ≤ cap) (sym least) small)))
@@ -214,7 +217,7 @@ module _ (enum_view : EnumView) (law : IsEnumView enum_view) (old new : Shape) (
             (subst (λ x. 2 * one_item (record { number = number; presence = presences.Repeated false; element = x; oneof = o }) (least_body x) ≤ cap) is few))
 
     -- a list where the new type has one item
-    singular_carried : (p q : Presence) → like e d ≡ true → field_at (fields old pair.old) number ≡ Some (at_old p) → field_at (fields new pair.new) number ≡ Some (at_new q) → PresenceFits p e o → PresenceFits q d r → (cost : ℕ) → singular_cost (at_old p) (at_new q) ≡ Some cost → Carries p q 4 0 cost
+    singular_carried : (p q : Presence) → like e d ≡ true → field_at (fields old pair.old) number ≡ Some (at_old p) → field_at (fields new pair.new) number ≡ Some (at_new q) → PresenceFits p e o → PresenceFits q d r → (cost : ℕ) → singular_cost (at_old p) (at_new q) ≡ Some cost → Carries p q cases.List 0 cost
     singular_carried presences.Implicit q is_like found at fits fits_new cost h = absurd (cc)
     singular_carried presences.Explicit q is_like found at fits fits_new cost h = absurd (cc)
     singular_carried (presences.Map k) q is_like found at fits fits_new cost h = absurd (cc)
@@ -229,7 +232,7 @@ module _ (enum_view : EnumView) (law : IsEnumView enum_view) (old new : Shape) (
     nonzero_child : (s : TypeId) → e ≡ elements.Message s → least_part (at_old presences.Explicit) (ends []) ≡ alone number None (item_by (λ x. nonzero_leaf x) e)
     nonzero_child s is = subst (λ x. least_part (record { number = number; presence = presences.Explicit; element = x; oneof = o }) (ends []) ≡ alone number None (item_by (λ y. nonzero_leaf y) x)) (sym is) refl
 
-    unlike_carried : (p q : Presence) → IsNoMap p → IsNoMap q → like e d ≡ false → field_at (fields old pair.old) number ≡ Some (at_old p) → field_at (fields new pair.new) number ≡ Some (at_new q) → PresenceFits p e o → Carries p q 1 0 (unlike_cost (at_old p) (at_new q))
+    unlike_carried : (p q : Presence) → IsNoMap p → IsNoMap q → like e d ≡ false → field_at (fields old pair.old) number ≡ Some (at_old p) → field_at (fields new pair.new) number ≡ Some (at_new q) → PresenceFits p e o → Carries p q cases.Unlike 0 (unlike_cost (at_old p) (at_new q))
     unlike_carried presences.Implicit q no_map_old no_map unlike found at fits =
         childless (alone number None (item_by (λ x. nonzero_leaf x) e)) (one_item (at_old presences.Implicit) (nonzero_body e))
         (λ small. subst (λ v. ReachedBy enum_view old new pair v (one_item (at_old presences.Implicit) (nonzero_body e))) (implicit_least number e (ends [])) (reach_unlike_implicit enum_view old new shape_old shape_new pair number o r e d q no_map unlike found at small))
@@ -259,20 +262,20 @@ module _ (enum_view : EnumView) (law : IsEnumView enum_view) (old new : Shape) (
 
     plain_carried : (p q : Presence) → IsNoMap p → IsNoMap q → field_at (fields old pair.old) number ≡ Some (at_old p) → field_at (fields new pair.new) number ≡ Some (at_new q) → PresenceFits p e o → PresenceFits q d r → AllByRecursion (CarriesOwn (at_old p) (at_new q)) (plain_choices enum_view table (at_old p) (at_new q))
     plain_carried p q no_map_old no_map found at fits fits_new =
-        elim (like e d) as (λ b. like e d ≡ b → AllByRecursion (CarriesOwn (at_old p) (at_new q)) (if b then choice_of number 2 0 (option_map (one_item (at_old p)) (gap_body enum_view (zero_counts (at_old p) (at_new q)) e d)) ++ choice_of number 3 0 (option_map (one_item (at_old p)) (child_body table e d)) ++ choice_of number 4 0 (singular_cost (at_old p) (at_new q)) else choice number 1 0 (unlike_cost (at_old p) (at_new q)) ∷ [])) [
+        elim (like e d) as (λ b. like e d ≡ b → AllByRecursion (CarriesOwn (at_old p) (at_new q)) (if b then choice_of number cases.Gap 0 (option_map (one_item (at_old p)) (gap_body enum_view (zero_counts (at_old p) (at_new q)) e d)) ++ choice_of number cases.Child 0 (option_map (one_item (at_old p)) (child_body table e d)) ++ choice_of number cases.List 0 (singular_cost (at_old p) (at_new q)) else choice number cases.Unlike 0 (unlike_cost (at_old p) (at_new q)) ∷ [])) [
           | true ↦ λ is_like.
               each-append (CarriesOwn (at_old p) (at_new q))
-              (choice_of number 2 0 (option_map (one_item (at_old p)) (gap_body enum_view (zero_counts (at_old p) (at_new q)) e d)) ++ choice_of number 3 0 (option_map (one_item (at_old p)) (child_body table e d)))
-              (choice_of number 4 0 (singular_cost (at_old p) (at_new q)))
+              (choice_of number cases.Gap 0 (option_map (one_item (at_old p)) (gap_body enum_view (zero_counts (at_old p) (at_new q)) e d)) ++ choice_of number cases.Child 0 (option_map (one_item (at_old p)) (child_body table e d)))
+              (choice_of number cases.List 0 (singular_cost (at_old p) (at_new q)))
               (each-append (CarriesOwn (at_old p) (at_new q))
-              (choice_of number 2 0 (option_map (one_item (at_old p)) (gap_body enum_view (zero_counts (at_old p) (at_new q)) e d)))
-              (choice_of number 3 0 (option_map (one_item (at_old p)) (child_body table e d)))
-              (offered (at_old p) (at_new q) 2 0 _ refl
+              (choice_of number cases.Gap 0 (option_map (one_item (at_old p)) (gap_body enum_view (zero_counts (at_old p) (at_new q)) e d)))
+              (choice_of number cases.Child 0 (option_map (one_item (at_old p)) (child_body table e d)))
+              (offered (at_old p) (at_new q) cases.Gap 0 _ refl
               (λ cost h.
               let (body, there, made) = option_map_some (one_item (at_old p)) (gap_body enum_view (zero_counts (at_old p) (at_new q)) e d) cost h in
-              subst (Carries p q 2 0) made (gap_carried p q no_map_old no_map is_like found at fits body (gapped enum_view law (zero_counts (at_old p) (at_new q)) e d is_like body there))))
-              (offered (at_old p) (at_new q) 3 0 _ refl (child_reached p q no_map_old no_map found at fits)))
-              (offered (at_old p) (at_new q) 4 0 _ refl (singular_carried p q is_like found at fits fits_new))
+              subst (Carries p q cases.Gap 0) made (gap_carried p q no_map_old no_map is_like found at fits body (gapped enum_view law (zero_counts (at_old p) (at_new q)) e d is_like body there))))
+              (offered (at_old p) (at_new q) cases.Child 0 _ refl (child_reached p q no_map_old no_map found at fits)))
+              (offered (at_old p) (at_new q) cases.List 0 _ refl (singular_carried p q is_like found at fits fits_new))
           | false ↦ λ unlike. ((refl, refl, unlike_carried p q no_map_old no_map unlike found at fits), tt)
         ] refl
 
@@ -305,7 +308,7 @@ module _ (enum_view : EnumView) (law : IsEnumView enum_view) (old new : Shape) (
           (subst (λ x. entry_cost number (body_length (form (elements.Scalar k)) gap.item) (least_body x) ≤ cap) is few))))
           (leaf_or_message e)
 
-      key_gap_carried : like (elements.Scalar k) (elements.Scalar l) ≡ true → like e d ≡ true → field_at (fields old pair.old) number ≡ Some old_map → field_at (fields new pair.new) number ≡ Some new_map → (body : ℕ) → Gapped enum_view true (elements.Scalar k) (elements.Scalar l) body → Carries (presences.Map k) (presences.Map l) 5 1 (entry_cost number body (least_body e))
+      key_gap_carried : like (elements.Scalar k) (elements.Scalar l) ≡ true → like e d ≡ true → field_at (fields old pair.old) number ≡ Some old_map → field_at (fields new pair.new) number ≡ Some new_map → (body : ℕ) → Gapped enum_view true (elements.Scalar k) (elements.Scalar l) body → Carries (presences.Map k) (presences.Map l) cases.Map 1 (entry_cost number body (least_body e))
       key_gap_carried like_keys like_values found at body gap =
           childless (key_alone number e (gap_item enum_view true (elements.Scalar k) (elements.Scalar l))) (entry_cost number body (least_body e))
           (λ small.
@@ -313,7 +316,7 @@ module _ (enum_view : EnumView) (law : IsEnumView enum_view) (old new : Shape) (
           (subst (λ b. ReachedBy enum_view old new pair (alone number (Some gap.item) (item_by (λ x. zero_leaf x) e)) (entry_cost number b (least_body e))) gap.body_is
           (key_gap_made like_keys like_values found at body gap (subst (λ b. entry_cost number b (least_body e) ≤ cap) (sym gap.body_is) small))))
 
-      value_gap_carried : like e d ≡ true → field_at (fields old pair.old) number ≡ Some old_map → field_at (fields new pair.new) number ≡ Some new_map → (body : ℕ) → Gapped enum_view true e d body → Carries (presences.Map k) (presences.Map l) 5 2 (one_item old_map body)
+      value_gap_carried : like e d ≡ true → field_at (fields old pair.old) number ≡ Some old_map → field_at (fields new pair.new) number ≡ Some new_map → (body : ℕ) → Gapped enum_view true e d body → Carries (presences.Map k) (presences.Map l) cases.Map 2 (one_item old_map body)
       value_gap_carried like_values found at body gap =
           subst (λ w. IsCarried w (λ child. value_alone number (zero_leaf (form (elements.Scalar k))) child (gap_item enum_view true e d)) (one_item old_map body)) (sym (leafy_childless e d gap.old_leafy))
           (λ small. (tt, of small))
@@ -393,33 +396,33 @@ module _ (enum_view : EnumView) (law : IsEnumView enum_view) (old new : Shape) (
 
       maps_carried : field_at (fields old pair.old) number ≡ Some old_map → field_at (fields new pair.new) number ≡ Some new_map → AllByRecursion (CarriesOwn old_map new_map) (map_choices enum_view table old_map new_map k l)
       maps_carried found at =
-          elim (like (elements.Scalar k) (elements.Scalar l) && like e d) as (λ b. (like (elements.Scalar k) (elements.Scalar l) && like e d) ≡ b → AllByRecursion (CarriesOwn old_map new_map) (if b then choice_of number 5 1 (option_map (λ body. entry_cost number body (least_body e)) (gap_body enum_view true (elements.Scalar k) (elements.Scalar l))) ++ choice_of number 5 2 (option_map (one_item old_map) (gap_body enum_view true e d)) ++ choice_of number 5 2 (option_map (one_item old_map) (child_body table e d)) else choice number 5 0 (least_content old_map) ∷ [])) [
+          elim (like (elements.Scalar k) (elements.Scalar l) && like e d) as (λ b. (like (elements.Scalar k) (elements.Scalar l) && like e d) ≡ b → AllByRecursion (CarriesOwn old_map new_map) (if b then choice_of number cases.Map 1 (option_map (λ body. entry_cost number body (least_body e)) (gap_body enum_view true (elements.Scalar k) (elements.Scalar l))) ++ choice_of number cases.Map 2 (option_map (one_item old_map) (gap_body enum_view true e d)) ++ choice_of number cases.Map 2 (option_map (one_item old_map) (child_body table e d)) else choice number cases.Map 0 (least_content old_map) ∷ [])) [
             | true ↦ λ both.
                 let (like_keys, like_values) = and_parts (like (elements.Scalar k) (elements.Scalar l)) (like e d) both in
                 each-append (CarriesOwn old_map new_map)
-                (choice_of number 5 1 (option_map (λ body. entry_cost number body (least_body e)) (gap_body enum_view true (elements.Scalar k) (elements.Scalar l))) ++ choice_of number 5 2 (option_map (one_item old_map) (gap_body enum_view true e d)))
-                (choice_of number 5 2 (option_map (one_item old_map) (child_body table e d)))
+                (choice_of number cases.Map 1 (option_map (λ body. entry_cost number body (least_body e)) (gap_body enum_view true (elements.Scalar k) (elements.Scalar l))) ++ choice_of number cases.Map 2 (option_map (one_item old_map) (gap_body enum_view true e d)))
+                (choice_of number cases.Map 2 (option_map (one_item old_map) (child_body table e d)))
                 (each-append (CarriesOwn old_map new_map)
-                (choice_of number 5 1 (option_map (λ body. entry_cost number body (least_body e)) (gap_body enum_view true (elements.Scalar k) (elements.Scalar l))))
-                (choice_of number 5 2 (option_map (one_item old_map) (gap_body enum_view true e d)))
-                (offered old_map new_map 5 1 _ refl
+                (choice_of number cases.Map 1 (option_map (λ body. entry_cost number body (least_body e)) (gap_body enum_view true (elements.Scalar k) (elements.Scalar l))))
+                (choice_of number cases.Map 2 (option_map (one_item old_map) (gap_body enum_view true e d)))
+                (offered old_map new_map cases.Map 1 _ refl
                 (λ cost h.
                 let (body, there, made) = option_map_some (λ body. entry_cost number body (least_body e)) (gap_body enum_view true (elements.Scalar k) (elements.Scalar l)) cost h in
-                subst (Carries (presences.Map k) (presences.Map l) 5 1) made (key_gap_carried like_keys like_values found at body (gapped enum_view law true (elements.Scalar k) (elements.Scalar l) like_keys body there))))
-                (offered old_map new_map 5 2 _ refl
+                subst (Carries (presences.Map k) (presences.Map l) cases.Map 1) made (key_gap_carried like_keys like_values found at body (gapped enum_view law true (elements.Scalar k) (elements.Scalar l) like_keys body there))))
+                (offered old_map new_map cases.Map 2 _ refl
                 (λ cost h.
                 let (body, there, made) = option_map_some (one_item old_map) (gap_body enum_view true e d) cost h in
-                subst (Carries (presences.Map k) (presences.Map l) 5 2) made (value_gap_carried like_values found at body (gapped enum_view law true e d like_values body there)))))
-                (offered old_map new_map 5 2 _ refl (map_child_carried number o r e d k l found at))
+                subst (Carries (presences.Map k) (presences.Map l) cases.Map 2) made (value_gap_carried like_values found at body (gapped enum_view law true e d like_values body there)))))
+                (offered old_map new_map cases.Map 2 _ refl (map_child_carried number o r e d k l found at))
             | false ↦ λ unlike. ((refl, refl, childless (alone number (Some (apart_leaf (elements.Scalar k) (elements.Scalar l))) (apart_item e d)) (least_content old_map) (unlike_maps_made unlike found at)), tt)
           ] refl
 
     -- a map beside a field that is none, and the other way round
-    map_beside_carried : (k : Scalar) (q : Presence) → IsNoMap q → field_at (fields old pair.old) number ≡ Some (at_old (presences.Map k)) → field_at (fields new pair.new) number ≡ Some (at_new q) → Carries (presences.Map k) q 1 0 (unlike_cost (at_old (presences.Map k)) (at_new q))
+    map_beside_carried : (k : Scalar) (q : Presence) → IsNoMap q → field_at (fields old pair.old) number ≡ Some (at_old (presences.Map k)) → field_at (fields new pair.new) number ≡ Some (at_new q) → Carries (presences.Map k) q cases.Unlike 0 (unlike_cost (at_old (presences.Map k)) (at_new q))
     map_beside_carried k q no_map found at =
         childless (least_part (at_old (presences.Map k)) (ends [])) (least_content (at_old (presences.Map k))) (reach_map enum_view old new shape_old shape_new pair number o r e d k q no_map found at)
 
-    beside_map_carried : (p : Presence) → IsNoMap p → (l : Scalar) → field_at (fields old pair.old) number ≡ Some (at_old p) → field_at (fields new pair.new) number ≡ Some (at_new (presences.Map l)) → Carries p (presences.Map l) 1 0 (unlike_cost (at_old p) (at_new (presences.Map l)))
+    beside_map_carried : (p : Presence) → IsNoMap p → (l : Scalar) → field_at (fields old pair.old) number ≡ Some (at_old p) → field_at (fields new pair.new) number ≡ Some (at_new (presences.Map l)) → Carries p (presences.Map l) cases.Unlike 0 (unlike_cost (at_old p) (at_new (presences.Map l)))
     beside_map_carried presences.Implicit no_map l found at =
         childless (alone number None (item_by (λ x. nonzero_leaf x) e)) (one_item (at_old presences.Implicit) (nonzero_body e))
         (λ small. subst (λ v. ReachedBy enum_view old new pair v (one_item (at_old presences.Implicit) (nonzero_body e))) (implicit_least number e (ends [])) (reach_beside_map enum_view old new shape_old shape_new pair number o r e d presences.Implicit tt l found at small))

@@ -14,8 +14,11 @@ use Rattle.pg_dyn.specs.Coding.{form, zero_leaf}
 use Rattle.pg_dyn.specs.encoding.Encoding.{enc}
 use Rattle.pg_dyn.specs.Fits.{Fits}
 use Rattle.pg_dyn.specs.Kept.{Kept, message_of, type_of}
+use Rattle.pg_pairs.specs.declared.case.Case.{Case}
+use Rattle.pg_pairs.specs.declared.case.Case.TheVariants as cases
 use Rattle.pg_pairs.specs.declared.choice.Choice.{Choice}
 use Rattle.pg_pairs.specs.declared.choice.Pair.{Pair}
+use Rattle.pg_pairs.specs.Cases.{is_oneof}
 use Rattle.pg_pairs.specs.EnumView.{EnumView, IsEnumView}
 use Rattle.pg_pairs.specs.Gaps.{gap_item}
 use Rattle.pg_pairs.specs.Choices.{Table, zero_counts, choices}
@@ -25,7 +28,7 @@ use Rattle.pg_pairs.specs.Carried.{apart_leaf, apart_item, item_by, alone, leaf_
 use Rattle.pg_pairs.specs.CarriedItems.{is_child_of, has_value, has_entry, has_content}
 use Rattle.pg_pairs.proofs.LeastCosts.{choice_some}
 use Rattle.pg_pairs.proofs.Messages.{one_found}
-use Rattle.pg_pairs.proofs.ChoicePlaces.{IsPlaced}
+use Rattle.pg_pairs.proofs.ChoicePlaces.{IsPlaced, IsPlacedBy}
 use Rattle.pg_pairs.proofs.Reached.{choice_known, choices_carried}
 use Rattle.pg_dyn.proofs.PublicLaws.{fields_are_found, own_contents}
 use Rattle.pg_dyn.proofs.Lists.{each_at}
@@ -97,10 +100,6 @@ module _ (enum_view : EnumView) (old new : Shape) (pair : Pair) (cost : ℕ) (so
       gap_key_there (Some key) by = rw (mapped key (item_by (λ x. zero_leaf x) f.element) by) refl
       gap_key_there None by = absurd (empty_reaches by)
 
-      either_there : (b : Bool) (v w : Message) (s t : Bool) → (Reaches v → s ≡ true) → (Reaches w → t ≡ true) → Reaches (if b then v else w) → (if b then s else t) ≡ true
-      either_there true v w s t h k = h
-      either_there false v w s t h k = k
-
       both_there : (m b : Bool) (v w : Message) (s t : Bool) → (Reaches v → (m && s) ≡ true) → (Reaches w → (m && t) ≡ true) → Reaches (if b then v else w) → (m && (if b then s else t)) ≡ true
       both_there m true v w s t h k = h
       both_there m false v w s t h k = k
@@ -120,13 +119,13 @@ module _ (enum_view : EnumView) (old new : Shape) (pair : Pair) (cost : ℕ) (so
           (value_there (zero_leaf (form (elements.Scalar k))) child (gap_item enum_view true f.element g.element) refl)
           (λ by. rw (mapped (apart_leaf (elements.Scalar k) (elements.Scalar l)) (apart_item f.element g.element) by) refl))
 
-      pub content_there : (case part : ℕ) → Reaches (carried_field enum_view f g case part (option_map message_of child)) → has_content enum_view f g case part child ≡ true
-      content_there case part =
-          either_there (nat_eq case 1) _ _ _ _ (λ by. refl)
-          (either_there (nat_eq case 2) _ _ _ _ (leaf_there (gap_item enum_view (zero_counts f g) f.element g.element))
-          (either_there (nat_eq case 3) _ _ _ _ (child_there child refl)
-          (either_there (nat_eq case 4) _ _ _ _ (lost_there (item_by (λ x. zero_leaf x) f.element))
-          (entry_there (key_of f.presence) (key_of g.presence) part))))
+      pub content_there : (case : Case) (part : ℕ) → Reaches (carried_field enum_view f g case part (option_map message_of child)) → has_content enum_view f g case part child ≡ true
+      content_there cases.Unlike part by = refl
+      content_there cases.Gap part by = leaf_there (gap_item enum_view (zero_counts f g) f.element g.element) by
+      content_there cases.Child part by = child_there child refl by
+      content_there cases.List part by = lost_there (item_by (λ x. zero_leaf x) f.element) by
+      content_there cases.Map part by = entry_there (key_of f.presence) (key_of g.presence) part by
+      content_there cases.Oneof part by = absurd (empty_reaches by)
 
 -- a message's type that a field has is there
 pub element_there : (shape : Shape) → IsShape shape → (type : TypeId) (n : ℕ) (f : FieldShape) → field_at (fields shape type) n ≡ Some f → ElementFits (length shape) f.element
@@ -141,10 +140,7 @@ given_fits shape (Some p) (Some m) given = given.0
 
 -- A choice round a child: it is of the field's type, in a field that is no map or in an entry.
 
-has_child_case : (case part : ℕ) → has_child case part ≡ true → (nat_eq case 3 ≡ true) ⊎ ((nat_eq case 5 ≡ true) × (nat_eq part 2 ≡ true))
-has_child_case case part h = ⊎_elim (λ three. inl three) (λ five. inr (and_parts (nat_eq case 5) (nat_eq part 2) five)) (or_cases (nat_eq case 3) (nat_eq case 5 && nat_eq part 2) h)
-
-pub child_there_is : (f g : FieldShape) (case part : ℕ) (p : Pair) → field_child f g case part ≡ Some p → (has_child case part ≡ true) × (f.element ≡ elements.Message p.old)
+pub child_there_is : (f g : FieldShape) (case : Case) (part : ℕ) (p : Pair) → field_child f g case part ≡ Some p → (has_child case part ≡ true) × (f.element ≡ elements.Message p.old)
 child_there_is f g case part p =
     elim (has_child case part) as (λ b. (if b then child_pair f.element g.element else None) ≡ Some p → (b ≡ true) × (f.element ≡ elements.Message p.old)) [
       | true ↦ λ h. (refl, element f.element g.element h)
@@ -158,19 +154,22 @@ child_there_is f g case part p =
     element (elements.Scalar s) d h = absurd (cc)
     element (elements.Enum s) d h = absurd (cc)
 
-child_content : (enum_view : EnumView) (f g : FieldShape) (case part : ℕ) (type : TypeId) (m : Kept) → has_child case part ≡ true → f.element ≡ elements.Message type → type_of m ≡ type → (nat_eq case 3 ≡ true → is_map f.presence ≡ false) → (nat_eq case 5 ≡ true → is_map f.presence ≡ true) → has_content enum_view f g case part (Some m) ≡ true
-child_content enum_view f g case part type m is_child element of_type unmapped mapped =
-    ⊎_elim (λ three. subst (λ n. has_content enum_view f g n part (Some m) ≡ true) (sym (eqb-true case 3 three)) (rw (unmapped three) typed))
-    (λ five.
-    subst (λ n. has_content enum_view f g n part (Some m) ≡ true) (sym (eqb-true case 5 five.0))
-    (subst (λ n. has_content enum_view f g 5 n (Some m) ≡ true) (sym (eqb-true part 2 five.1)) (rw (mapped five.0) typed)))
-    (has_child_case case part is_child)
+child_content : (enum_view : EnumView) (f g : FieldShape) (case : Case) (part : ℕ) (type : TypeId) (m : Kept) → has_child case part ≡ true → f.element ≡ elements.Message type → type_of m ≡ type → IsPlacedBy f.presence case → has_content enum_view f g case part (Some m) ≡ true
+child_content enum_view f g case part type m is_child element of_type placed = of case is_child placed
   where
     typed : is_child_of f.element (Some m) ≡ true
     typed = subst (λ e. is_child_of e (Some m) ≡ true) (sym element) (eq-eqb (type_of m).index type.index (ap (λ x. x.index) of_type))
 
+    of : (c : Case) → has_child c part ≡ true → IsPlacedBy f.presence c → has_content enum_view f g c part (Some m) ≡ true
+    of cases.Unlike h unmapped = absurd (cc)
+    of cases.Gap h unmapped = absurd (cc)
+    of cases.Child h unmapped = rw unmapped typed
+    of cases.List h unmapped = absurd (cc)
+    of cases.Map h mapped = subst (λ n. has_content enum_view f g cases.Map n (Some m) ≡ true) (sym (eqb-true part 2 h)) (rw mapped typed)
+    of cases.Oneof h none = absurd (cc)
+
 -- A field takes the content of each of its choices, round its child.
-pub choice_content : (enum_view : EnumView) (old new : Shape) (table : Table) → IsEnumView enum_view → IsShape old → IsShape new → (pair : Pair) (c : Choice) → IsAmong c (choices enum_view table old new pair) → (child : Option Kept) → ChildGiven old (choice_child old new pair c) child → nat_eq c.case 6 ≡ false → (f g : FieldShape) → field_at (fields old pair.old) c.number ≡ Some f → field_at (fields new pair.new) c.number ≡ Some g → f.number ≡ c.number → has_content enum_view f g c.case c.part child ≡ true
+pub choice_content : (enum_view : EnumView) (old new : Shape) (table : Table) → IsEnumView enum_view → IsShape old → IsShape new → (pair : Pair) (c : Choice) → IsAmong c (choices enum_view table old new pair) → (child : Option Kept) → ChildGiven old (choice_child old new pair c) child → is_oneof c.case ≡ false → (f g : FieldShape) → field_at (fields old pair.old) c.number ≡ Some f → field_at (fields new pair.new) c.number ≡ Some g → f.number ≡ c.number → has_content enum_view f g c.case c.part child ≡ true
 choice_content enum_view old new table law shape_old shape_new pair c among child given single f g found at own =
     of (field_child f g c.case c.part) child refl (subst (λ o. ChildGiven old o child) child_is given)
   where
@@ -185,7 +184,7 @@ choice_content enum_view old new table law shape_old shape_new pair c among chil
     is_placed : IsPlaced f.presence c
     is_placed =
         let stands = (choice_known enum_view law old new shape_old shape_new table pair c among).1 in
-        subst (λ (x : FieldShape). IsPlaced x.presence c) (one_found (fields old pair.old) c.number stands.field f stands.found found) (stands.placed single)
+        subst (λ (x : FieldShape). IsPlaced x.presence c) (one_found (fields old pair.old) c.number stands.field f stands.found found) stands.placed
 
     of : (wanted : Option Pair) (o : Option Kept) → field_child f g c.case c.part ≡ wanted → ChildGiven old wanted o → has_content enum_view f g c.case c.part o ≡ true
     of None None is given =
@@ -196,4 +195,4 @@ choice_content enum_view old new table law shape_old shape_new pair c among chil
     of (Some p) None is given = absurd given
     of (Some p) (Some m) is given =
         let (is_child, element) = child_there_is f g c.case c.part p is in
-        child_content enum_view f g c.case c.part p.old m is_child element given.1 is_placed.0 is_placed.1
+        child_content enum_view f g c.case c.part p.old m is_child element given.1 is_placed

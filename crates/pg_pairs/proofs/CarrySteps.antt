@@ -24,8 +24,11 @@ use Rattle.pg_dyn.specs.Seen.{leaf_of, item_seen, content_seen}
 use Rattle.pg_dyn.specs.setting.Setting.{normalized, normalized_by, IsSetTo}
 use Rattle.pg_dyn.specs.Texts.{kept_in}
 use Rattle.pg_dyn.proofs.Lists.{each_at, each_weaker, list_any_none}
+use Rattle.pg_pairs.specs.declared.case.Case.{Case}
+use Rattle.pg_pairs.specs.declared.case.Case.TheVariants as cases
 use Rattle.pg_pairs.specs.declared.choice.Choice.{Choice}
 use Rattle.pg_pairs.specs.declared.choice.Pair.{Pair}
+use Rattle.pg_pairs.specs.Cases.{is_oneof}
 use Rattle.pg_pairs.specs.EnumView.{EnumView, IsEnumView}
 use Rattle.pg_pairs.specs.Gaps.{gap_item}
 use Rattle.pg_pairs.specs.Choices.{Table, zero_counts, choices}
@@ -126,16 +129,17 @@ lost_normalized number presences.Explicit q zero = inr (alone_short number None 
 lost_normalized number (presences.Map k) q zero = inr (alone_short number None zero)
 lost_normalized number (presences.Repeated w) q zero = inl refl
 
-carried_normalized : (enum_view : EnumView) (f g : FieldShape) (case part : ℕ) (child : Option Message) → IsSettled f.presence (carried_field enum_view f g case part child)
-carried_normalized enum_view f g case part child =
-    either f.presence (nat_eq case 1) _ _
-    (either f.presence (zero_counts f g) _ _ (inr (least_short f.number f.presence f.element)) (inr (alone_short f.number (least_key f.presence) (item_by (λ x. nonzero_leaf x) f.element))))
-    (either f.presence (nat_eq case 2) _ _ (inr (leaf_short f.number None (gap_item enum_view (zero_counts f g) f.element g.element)))
-    (either f.presence (nat_eq case 3) _ _ (inr (child_short f.number None child))
-    (either f.presence (nat_eq case 4) _ _ (lost_normalized f.number f.presence g.presence (item_by (λ x. zero_leaf x) f.element))
-    (either f.presence (nat_eq part 1) _ _ (inr (key_short f.number f.element (gap_item enum_view true (elements.Scalar (key_of f.presence)) (elements.Scalar (key_of g.presence)))))
+carried_normalized : (enum_view : EnumView) (f g : FieldShape) (case : Case) (part : ℕ) (child : Option Message) → IsSettled f.presence (carried_field enum_view f g case part child)
+carried_normalized enum_view f g cases.Unlike part child =
+    either f.presence (zero_counts f g) _ _ (inr (least_short f.number f.presence f.element)) (inr (alone_short f.number (least_key f.presence) (item_by (λ x. nonzero_leaf x) f.element)))
+carried_normalized enum_view f g cases.Gap part child = inr (leaf_short f.number None (gap_item enum_view (zero_counts f g) f.element g.element))
+carried_normalized enum_view f g cases.Child part child = inr (child_short f.number None child)
+carried_normalized enum_view f g cases.List part child = lost_normalized f.number f.presence g.presence (item_by (λ x. zero_leaf x) f.element)
+carried_normalized enum_view f g cases.Map part child =
+    either f.presence (nat_eq part 1) _ _ (inr (key_short f.number f.element (gap_item enum_view true (elements.Scalar (key_of f.presence)) (elements.Scalar (key_of g.presence)))))
     (either f.presence (nat_eq part 2) _ _ (inr (value_short f.number (zero_leaf (form (elements.Scalar (key_of f.presence)))) child (gap_item enum_view true f.element g.element)))
-    (inr (alone_short f.number (Some (apart_leaf (elements.Scalar (key_of f.presence)) (elements.Scalar (key_of g.presence)))) (apart_item f.element g.element))))))))
+    (inr (alone_short f.number (Some (apart_leaf (elements.Scalar (key_of f.presence)) (elements.Scalar (key_of g.presence)))) (apart_item f.element g.element))))
+carried_normalized enum_view f g cases.Oneof part child = inr tt
 
 -- whether the first part is a zero
 abbrev first_is_zero : Message → Bool
@@ -203,7 +207,7 @@ module _ (shape : Shape) (type : TypeId) where
 
 module _ (enum_view : EnumView) (old new : Shape) (table : Table) (law : IsEnumView enum_view) (shape_old : IsShape old) (shape_new : IsShape new) (pair : Pair) (c : Choice) (among : IsAmong c (choices enum_view table old new pair)) where
   -- A choice of one field: its content stays as it is where it is set, and makes the choice's message.
-  module _ (single : nat_eq c.case 6 ≡ false) (f g : FieldShape) (found : field_at (fields old pair.old) c.number ≡ Some f) (at : field_at (fields new pair.new) c.number ≡ Some g) (own : f.number ≡ c.number) where
+  module _ (single : is_oneof c.case ≡ false) (f g : FieldShape) (found : field_at (fields old pair.old) c.number ≡ Some f) (at : field_at (fields new pair.new) c.number ≡ Some g) (own : f.number ≡ c.number) where
     carried_is : (child : Option Message) → carried enum_view old new pair c child ≡ carried_field enum_view f g c.case c.part child
     carried_is child =
         ap₂ (λ x y. carried_of enum_view x y (field_at (fields old pair.old) c.part) c child) found at
@@ -288,7 +292,7 @@ module _ (enum_view : EnumView) (old new : Shape) (table : Table) (law : IsEnumV
       ap (map (kept_in f.element)) (normalized_same old pair.old f.presence ps (inr (subst (λ v. IsShort (places v)) (sym is) (least_short f.number f.presence f.element)))
       (λ implicit. ap first_is_zero is ∙ least_nonzero f.number f.presence f.element implicit))
 
-  pub carried_double : nat_eq c.case 6 ≡ true → (f e g : FieldShape) → field_at (fields old pair.old) c.number ≡ Some f → field_at (fields old pair.old) c.part ≡ Some e → field_at (fields new pair.new) c.number ≡ Some g → f.number ≡ c.number → e.number ≡ c.part → (first second : Content) (child : Option Message) → Puts c.number first (least_part f) → Puts c.part second (least_part e) → (m n : Kept) → IsSetTo old c.number first (ends pair.old []) m → IsSetTo old c.part second m n → message_of n ≡ carried enum_view old new pair c child
+  pub carried_double : is_oneof c.case ≡ true → (f e g : FieldShape) → field_at (fields old pair.old) c.number ≡ Some f → field_at (fields old pair.old) c.part ≡ Some e → field_at (fields new pair.new) c.number ≡ Some g → f.number ≡ c.number → e.number ≡ c.part → (first second : Content) (child : Option Message) → Puts c.number first (least_part f) → Puts c.part second (least_part e) → (m n : Kept) → IsSetTo old c.number first (ends pair.old []) m → IsSetTo old c.part second m n → message_of n ≡ carried enum_view old new pair c child
   carried_double six f e g found found_e at own own_e first second child puts puts_e m n (f', found', m_is) (e', found_e', n_is) =
       let ps = content_seen c.number first in
       let qs = content_seen c.part second in

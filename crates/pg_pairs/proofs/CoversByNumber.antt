@@ -8,6 +8,8 @@ use Rattle.pg_schema.specs.declared.parts.field.Presence.{Presence}
 use Rattle.pg_schema.specs.declared.parts.field.Presence.TheVariants as presences
 use Rattle.pg_schema.specs.Shape.{Shape, FieldShape, fields, field_at}
 use Rattle.pg_dyn.specs.encoding.Encoding.{cap}
+use Rattle.pg_pairs.specs.declared.case.Case.{Case}
+use Rattle.pg_pairs.specs.declared.case.Case.TheVariants as cases
 use Rattle.pg_pairs.specs.declared.choice.Choice.{Choice}
 use Rattle.pg_pairs.specs.declared.choice.Pair.{Pair}
 use Rattle.pg_pairs.specs.EnumView.{EnumView, by_numbers}
@@ -35,7 +37,7 @@ module _ (P : Choice → Type 0) (enum_view : EnumView) (table : Table) where
   where_like false cs ds unlike over = λ all. all
 
   -- two enums have no gap by number, and any other two elements the same one
-  gap_over : (zero : Bool) (old new : Element) (number case part : ℕ) (cost : ℕ → ℕ) →
+  gap_over : (zero : Bool) (old new : Element) (number : ℕ) (case : Case) (part : ℕ) (cost : ℕ → ℕ) →
       each (choice_of number case part (option_map cost (gap_body enum_view zero old new))) → each (choice_of number case part (option_map cost (gap_body by_numbers zero old new)))
   gap_over zero (elements.Enum s) (elements.Enum t) number case part cost all = tt
   gap_over zero (elements.Enum s) (elements.Scalar t) number case part cost all = all
@@ -47,35 +49,35 @@ module _ (P : Choice → Type 0) (enum_view : EnumView) (table : Table) where
 
   module _ (f g : FieldShape) where
     abbrev gap_under : EnumView → List Choice
-    gap_under view = choice_of f.number 2 0 (option_map (one_item f) (gap_body view (zero_counts f g) f.element g.element))
+    gap_under view = choice_of f.number cases.Gap 0 (option_map (one_item f) (gap_body view (zero_counts f g) f.element g.element))
 
     abbrev child : List Choice
-    child = choice_of f.number 3 0 (option_map (one_item f) (child_body table f.element g.element))
+    child = choice_of f.number cases.Child 0 (option_map (one_item f) (child_body table f.element g.element))
 
     abbrev list : List Choice
-    list = choice_of f.number 4 0 (singular_cost f g)
+    list = choice_of f.number cases.List 0 (singular_cost f g)
 
     plain_over : each (plain_choices enum_view table f g) → each (plain_choices by_numbers table f g)
     plain_over =
-        where_like (like f.element g.element) (gap_under enum_view ++ child ++ list) (gap_under by_numbers ++ child ++ list) (choice f.number 1 0 (unlike_cost f g) ∷ [])
+        where_like (like f.element g.element) (gap_under enum_view ++ child ++ list) (gap_under by_numbers ++ child ++ list) (choice f.number cases.Unlike 0 (unlike_cost f g) ∷ [])
         (in_front (gap_under enum_view ++ child) (gap_under by_numbers ++ child) list
-        (in_front (gap_under enum_view) (gap_under by_numbers) child (gap_over (zero_counts f g) f.element g.element f.number 2 0 (one_item f))))
+        (in_front (gap_under enum_view) (gap_under by_numbers) child (gap_over (zero_counts f g) f.element g.element f.number cases.Gap 0 (one_item f))))
 
     abbrev value_under : EnumView → List Choice
-    value_under view = choice_of f.number 5 2 (option_map (one_item f) (gap_body view true f.element g.element))
+    value_under view = choice_of f.number cases.Map 2 (option_map (one_item f) (gap_body view true f.element g.element))
 
     abbrev value_child : List Choice
-    value_child = choice_of f.number 5 2 (option_map (one_item f) (child_body table f.element g.element))
+    value_child = choice_of f.number cases.Map 2 (option_map (one_item f) (child_body table f.element g.element))
 
     abbrev key : Scalar → Scalar → List Choice
-    key k l = choice_of f.number 5 1 (option_map (λ body. entry_cost f.number body (least_body f.element)) (gap_body by_numbers true (elements.Scalar k) (elements.Scalar l)))
+    key k l = choice_of f.number cases.Map 1 (option_map (λ body. entry_cost f.number body (least_body f.element)) (gap_body by_numbers true (elements.Scalar k) (elements.Scalar l)))
 
     map_over : (k l : Scalar) → each (map_choices enum_view table f g k l) → each (map_choices by_numbers table f g k l)
     map_over k l =
         where_like (like (elements.Scalar k) (elements.Scalar l) && like f.element g.element) (key k l ++ value_under enum_view ++ value_child) (key k l ++ value_under by_numbers ++ value_child)
-        (choice f.number 5 0 (least_content f) ∷ [])
+        (choice f.number cases.Map 0 (least_content f) ∷ [])
         (in_front (key k l ++ value_under enum_view) (key k l ++ value_under by_numbers) value_child
-        (behind (key k l) (value_under enum_view) (value_under by_numbers) (gap_over true f.element g.element f.number 5 2 (one_item f))))
+        (behind (key k l) (value_under enum_view) (value_under by_numbers) (gap_over true f.element g.element f.number cases.Map 2 (one_item f))))
 
   module _ (number : ℕ) (e d : Element) (o r : Option ℕ) where
     abbrev at_old : Presence → FieldShape

@@ -12,6 +12,8 @@ use Rattle.pg_schema.specs.Shape.{Shape, FieldShape, fields, field_at}
 use Rattle.pg_dyn.specs.encoding.Encoding.{cap}
 use Rattle.pg_dyn.proofs.Lists.{filter-append'}
 use Rattle.pg_dyn.proofs.PublicLaws.{fields_are_found}
+use Rattle.pg_pairs.specs.declared.case.Case.{Case}
+use Rattle.pg_pairs.specs.declared.case.Case.TheVariants as cases
 use Rattle.pg_pairs.specs.declared.choice.Choice.{Choice}
 use Rattle.pg_pairs.specs.declared.choice.Pair.{Pair}
 use Rattle.pg_pairs.specs.declared.edge.Edge.{Edge}
@@ -100,24 +102,24 @@ message_pair_unlike (elements.Enum s) d h = refl
 
 module _ (enum_view : EnumView) (table : Table) where
   -- a field's choice of that case and part by a child, at its bound
-  abbrev by_child : FieldShape → ℕ → ℕ → Pair → List Choice
+  abbrev by_child : FieldShape → Case → ℕ → Pair → List Choice
   by_child f case part p = choice_of f.number case part (option_map (one_item f) (option_map with_length (number_for table p)))
 
   -- the choices under the table are those without bounds and those by these children
-  abbrev Splits : FieldShape → ℕ → ℕ → List Choice → List Choice → List Pair → Type 0
+  abbrev Splits : FieldShape → Case → ℕ → List Choice → List Choice → List Pair → Type 0
   Splits f case part under without ps = Same under (without ++ flat_map (by_child f case part) ps)
 
-  with_none : (f : FieldShape) (case part : ℕ) (cs : List Choice) → Splits f case part cs cs []
+  with_none : (f : FieldShape) (case : Case) (part : ℕ) (cs : List Choice) → Splits f case part cs cs []
   with_none f case part cs = rw (append-nil cs) (same_list cs)
 
-  child_without : (f : FieldShape) (case part : ℕ) (e d : Element) → choice_of f.number case part (option_map (one_item f) (child_body no_bounds e d)) ≡ []
+  child_without : (f : FieldShape) (case : Case) (part : ℕ) (e d : Element) → choice_of f.number case part (option_map (one_item f) (child_body no_bounds e d)) ≡ []
   child_without f case part (elements.Message s) (elements.Message t) = refl
   child_without f case part (elements.Message s) (elements.Scalar t) = refl
   child_without f case part (elements.Message s) (elements.Enum t) = refl
   child_without f case part (elements.Scalar s) d = refl
   child_without f case part (elements.Enum s) d = refl
 
-  child_under : (f : FieldShape) (case part : ℕ) (e d : Element) → choice_of f.number case part (option_map (one_item f) (child_body table e d)) ≡ flat_map (by_child f case part) (message_pair e d)
+  child_under : (f : FieldShape) (case : Case) (part : ℕ) (e d : Element) → choice_of f.number case part (option_map (one_item f) (child_body table e d)) ≡ flat_map (by_child f case part) (message_pair e d)
   child_under f case part (elements.Message s) (elements.Message t) = sym (append-nil (by_child f case part (record { old = s; new = t })))
   child_under f case part (elements.Message s) (elements.Scalar t) = refl
   child_under f case part (elements.Message s) (elements.Enum t) = refl
@@ -128,27 +130,27 @@ module _ (enum_view : EnumView) (table : Table) where
   child_last : (others child none by : List Choice) → child ≡ by → none ≡ [] → Same (others ++ child) (others ++ none ++ by)
   child_last others child none by is empty = rw (is, empty, append-nil others) (same_list (others ++ by))
 
-  like_split : (f g : FieldShape) → Splits f 3 0 (like_choices enum_view table f g) (like_choices enum_view no_bounds f g) (message_pair f.element g.element)
+  like_split : (f g : FieldShape) → Splits f cases.Child 0 (like_choices enum_view table f g) (like_choices enum_view no_bounds f g) (message_pair f.element g.element)
   like_split f g =
       let gap = gap_choice enum_view f g in
       let list = list_choice f g in
       let none = child_choice no_bounds f g in
-      let by = flat_map (by_child f 3 0) (message_pair f.element g.element) in
+      let by = flat_map (by_child f cases.Child 0) (message_pair f.element g.element) in
       same_through (gap ++ child_choice table f g ++ list) (gap ++ none ++ by ++ list) (gap ++ none ++ list ++ by)
-      (same_both (gap ++ child_choice table f g) (gap ++ none ++ by) list list (child_last gap (child_choice table f g) none by (child_under f 3 0 f.element g.element) (child_without f 3 0 f.element g.element)) (same_list list))
+      (same_both (gap ++ child_choice table f g) (gap ++ none ++ by) list list (child_last gap (child_choice table f g) none by (child_under f cases.Child 0 f.element g.element) (child_without f cases.Child 0 f.element g.element)) (same_list list))
       (same_turned (gap ++ none) by list)
 
-  like_maps_split : (f g : FieldShape) (k l : Scalar) → Splits f 5 2 (like_map_choices enum_view table f g k l) (like_map_choices enum_view no_bounds f g k l) (message_pair f.element g.element)
+  like_maps_split : (f g : FieldShape) (k l : Scalar) → Splits f cases.Map 2 (like_map_choices enum_view table f g k l) (like_map_choices enum_view no_bounds f g k l) (message_pair f.element g.element)
   like_maps_split f g k l =
-      child_last (key_choice enum_view f k l ++ value_choice enum_view f g) (map_child_choice table f g) (map_child_choice no_bounds f g) (flat_map (by_child f 5 2) (message_pair f.element g.element))
-      (child_under f 5 2 f.element g.element) (child_without f 5 2 f.element g.element)
+      child_last (key_choice enum_view f k l ++ value_choice enum_view f g) (map_child_choice table f g) (map_child_choice no_bounds f g) (flat_map (by_child f cases.Map 2) (message_pair f.element g.element))
+      (child_under f cases.Map 2 f.element g.element) (child_without f cases.Map 2 f.element g.element)
 
-  plain_split : (f g : FieldShape) → Splits f 3 0 (plain_choices enum_view table f g) (plain_choices enum_view no_bounds f g) (message_pair f.element g.element)
+  plain_split : (f g : FieldShape) → Splits f cases.Child 0 (plain_choices enum_view table f g) (plain_choices enum_view no_bounds f g) (message_pair f.element g.element)
   plain_split f g = of (like f.element g.element) refl
     where
-      of : (b : Bool) → like f.element g.element ≡ b → Splits f 3 0 (if b then like_choices enum_view table f g else choice f.number 1 0 (unlike_cost f g) ∷ []) (if b then like_choices enum_view no_bounds f g else choice f.number 1 0 (unlike_cost f g) ∷ []) (message_pair f.element g.element)
+      of : (b : Bool) → like f.element g.element ≡ b → Splits f cases.Child 0 (if b then like_choices enum_view table f g else choice f.number cases.Unlike 0 (unlike_cost f g) ∷ []) (if b then like_choices enum_view no_bounds f g else choice f.number cases.Unlike 0 (unlike_cost f g) ∷ []) (message_pair f.element g.element)
       of true is = like_split f g
-      of false is = rw (message_pair_unlike f.element g.element is) (with_none f 3 0 (choice f.number 1 0 (unlike_cost f g) ∷ []))
+      of false is = rw (message_pair_unlike f.element g.element is) (with_none f cases.Child 0 (choice f.number cases.Unlike 0 (unlike_cost f g) ∷ []))
 
   module _ (number : ℕ) (e d : Element) (o r : Option ℕ) where
     abbrev at_old : Presence → FieldShape
@@ -157,24 +159,24 @@ module _ (enum_view : EnumView) (table : Table) where
     abbrev at_new : Presence → ℕ → FieldShape
     at_new q n = record { number = n; presence = q; element = d; oneof = r }
 
-    maps_split : (k l : Scalar) (n : ℕ) → Splits (at_old (presences.Map k)) 5 2 (map_choices enum_view table (at_old (presences.Map k)) (at_new (presences.Map l) n) k l) (map_choices enum_view no_bounds (at_old (presences.Map k)) (at_new (presences.Map l) n) k l)
+    maps_split : (k l : Scalar) (n : ℕ) → Splits (at_old (presences.Map k)) cases.Map 2 (map_choices enum_view table (at_old (presences.Map k)) (at_new (presences.Map l) n) k l) (map_choices enum_view no_bounds (at_old (presences.Map k)) (at_new (presences.Map l) n) k l)
         (field_children (at_old (presences.Map k)) (at_new (presences.Map l) n))
     maps_split k l n = of (like (elements.Scalar k) (elements.Scalar l)) (like e d) refl refl
       where
-        of : (a b : Bool) → like (elements.Scalar k) (elements.Scalar l) ≡ a → like e d ≡ b → Splits (at_old (presences.Map k)) 5 2 (map_choices enum_view table (at_old (presences.Map k)) (at_new (presences.Map l) n) k l) (map_choices enum_view no_bounds (at_old (presences.Map k)) (at_new (presences.Map l) n) k l)
+        of : (a b : Bool) → like (elements.Scalar k) (elements.Scalar l) ≡ a → like e d ≡ b → Splits (at_old (presences.Map k)) cases.Map 2 (map_choices enum_view table (at_old (presences.Map k)) (at_new (presences.Map l) n) k l) (map_choices enum_view no_bounds (at_old (presences.Map k)) (at_new (presences.Map l) n) k l)
             (field_children (at_old (presences.Map k)) (at_new (presences.Map l) n))
-        of false b keys values = rw keys (with_none (at_old (presences.Map k)) 5 2 (choice number 5 0 (least_content (at_old (presences.Map k))) ∷ []))
-        of true false keys values = rw (keys, values, message_pair_unlike e d values) (with_none (at_old (presences.Map k)) 5 2 (choice number 5 0 (least_content (at_old (presences.Map k))) ∷ []))
+        of false b keys values = rw keys (with_none (at_old (presences.Map k)) cases.Map 2 (choice number cases.Map 0 (least_content (at_old (presences.Map k))) ∷ []))
+        of true false keys values = rw (keys, values, message_pair_unlike e d values) (with_none (at_old (presences.Map k)) cases.Map 2 (choice number cases.Map 0 (least_content (at_old (presences.Map k))) ∷ []))
         of true true keys values = rw (keys, values) (like_maps_split (at_old (presences.Map k)) (at_new (presences.Map l) n) k l)
 
     presences_split : (p q : Presence) (n : ℕ) → Splits (at_old p) (child_case (part_of p)) (child_part (part_of p)) (field_choices enum_view table (at_old p) (at_new q n)) (field_choices enum_view no_bounds (at_old p) (at_new q n)) (field_children (at_old p) (at_new q n))
     presences_split (presences.Map k) (presences.Map l) n = maps_split k l n
-    presences_split (presences.Map k) presences.Implicit n = with_none (at_old (presences.Map k)) 5 2 (choice number 1 0 (unlike_cost (at_old (presences.Map k)) (at_new presences.Implicit n)) ∷ [])
-    presences_split (presences.Map k) presences.Explicit n = with_none (at_old (presences.Map k)) 5 2 (choice number 1 0 (unlike_cost (at_old (presences.Map k)) (at_new presences.Explicit n)) ∷ [])
-    presences_split (presences.Map k) (presences.Repeated w) n = with_none (at_old (presences.Map k)) 5 2 (choice number 1 0 (unlike_cost (at_old (presences.Map k)) (at_new (presences.Repeated w) n)) ∷ [])
-    presences_split presences.Implicit (presences.Map l) n = with_none (at_old presences.Implicit) 3 0 (choice number 1 0 (unlike_cost (at_old presences.Implicit) (at_new (presences.Map l) n)) ∷ [])
-    presences_split presences.Explicit (presences.Map l) n = with_none (at_old presences.Explicit) 3 0 (choice number 1 0 (unlike_cost (at_old presences.Explicit) (at_new (presences.Map l) n)) ∷ [])
-    presences_split (presences.Repeated v) (presences.Map l) n = with_none (at_old (presences.Repeated v)) 3 0 (choice number 1 0 (unlike_cost (at_old (presences.Repeated v)) (at_new (presences.Map l) n)) ∷ [])
+    presences_split (presences.Map k) presences.Implicit n = with_none (at_old (presences.Map k)) cases.Map 2 (choice number cases.Unlike 0 (unlike_cost (at_old (presences.Map k)) (at_new presences.Implicit n)) ∷ [])
+    presences_split (presences.Map k) presences.Explicit n = with_none (at_old (presences.Map k)) cases.Map 2 (choice number cases.Unlike 0 (unlike_cost (at_old (presences.Map k)) (at_new presences.Explicit n)) ∷ [])
+    presences_split (presences.Map k) (presences.Repeated w) n = with_none (at_old (presences.Map k)) cases.Map 2 (choice number cases.Unlike 0 (unlike_cost (at_old (presences.Map k)) (at_new (presences.Repeated w) n)) ∷ [])
+    presences_split presences.Implicit (presences.Map l) n = with_none (at_old presences.Implicit) cases.Child 0 (choice number cases.Unlike 0 (unlike_cost (at_old presences.Implicit) (at_new (presences.Map l) n)) ∷ [])
+    presences_split presences.Explicit (presences.Map l) n = with_none (at_old presences.Explicit) cases.Child 0 (choice number cases.Unlike 0 (unlike_cost (at_old presences.Explicit) (at_new (presences.Map l) n)) ∷ [])
+    presences_split (presences.Repeated v) (presences.Map l) n = with_none (at_old (presences.Repeated v)) cases.Child 0 (choice number cases.Unlike 0 (unlike_cost (at_old (presences.Repeated v)) (at_new (presences.Map l) n)) ∷ [])
     presences_split presences.Implicit presences.Implicit n = plain_split (at_old presences.Implicit) (at_new presences.Implicit n)
     presences_split presences.Implicit presences.Explicit n = plain_split (at_old presences.Implicit) (at_new presences.Explicit n)
     presences_split presences.Implicit (presences.Repeated w) n = plain_split (at_old presences.Implicit) (at_new (presences.Repeated w) n)
@@ -222,7 +224,7 @@ module _ (table : Table) (old new : Shape) (pair : Pair) where
   abbrev own_edges : List FieldShape → List Edge
   own_edges fs = flat_map (λ (f : FieldShape). map (edge_to pair f) (children_beside f (field_at (fields new pair.new) f.number))) fs
 
-  capped : (f : FieldShape) (case part : ℕ) (o : Option ℕ) → affordable (choice_of f.number case part (option_map (one_item f) (option_map with_length o))) ≡ choice_of f.number case part (option_and_then (child_cost f) o)
+  capped : (f : FieldShape) (case : Case) (part : ℕ) (o : Option ℕ) → affordable (choice_of f.number case part (option_map (one_item f) (option_map with_length o))) ≡ choice_of f.number case part (option_and_then (child_cost f) o)
   capped f case part None = refl
   capped f case part (Some n) =
       let cost = one_item f (with_length n) in

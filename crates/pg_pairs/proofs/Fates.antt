@@ -20,6 +20,8 @@ use Rattle.pg_dyn.specs.Belonging.{KeyFits}
 use Rattle.pg_dyn.specs.Bodies.{BodyShape}
 use Rattle.pg_dyn.specs.Comparison.{Comparand, writes}
 use Rattle.pg_dyn.proofs.Lists.{each_weaker, each_both, each_of_all, each_before, each_after}
+use Rattle.pg_pairs.specs.declared.case.Case.{Case}
+use Rattle.pg_pairs.specs.declared.case.Case.TheVariants as cases
 use Rattle.pg_pairs.specs.declared.choice.Choice.{Choice}
 use Rattle.pg_pairs.specs.EnumView.{EnumView, IsEnumView}
 use Rattle.pg_pairs.specs.Likeness.{like}
@@ -61,7 +63,7 @@ zigzag_gap enum_view zero (elements.Enum s) d h = absurd (cc)
 zigzag_gap enum_view zero (elements.Message s) d h = absurd (cc)
 
 -- no zigzag number stands beside a bool, or the gap costs no more
-not_zigzag : (enum_view : EnumView) (Q : ℕ → Type 0) (up : (m n : ℕ) → m ≤ n → Q m → Q n) (zero : Bool) (e d : Element) (number case part : ℕ) (price : ℕ → ℕ) → AllByRecursion (λ (c : Choice). Q c.cost) (choice_of number case part (option_map price (gap_body enum_view zero e d))) → (whole len : ℕ) → least_body e ≤ len → ((b : ℕ) → b ≤ len → price b ≤ whole) → (is_bool_of_zigzag e d ≡ false) ⊎ Q whole
+not_zigzag : (enum_view : EnumView) (Q : ℕ → Type 0) (up : (m n : ℕ) → m ≤ n → Q m → Q n) (zero : Bool) (e d : Element) (number : ℕ) (case : Case) (part : ℕ) (price : ℕ → ℕ) → AllByRecursion (λ (c : Choice). Q c.cost) (choice_of number case part (option_map price (gap_body enum_view zero e d))) → (whole len : ℕ) → least_body e ≤ len → ((b : ℕ) → b ≤ len → price b ≤ whole) → (is_bool_of_zigzag e d ≡ false) ⊎ Q whole
 not_zigzag enum_view Q up zero e d number case part price gaps whole len least cost =
     ⊎_elim
     (λ yes.
@@ -131,17 +133,17 @@ module _ (enum_view : EnumView) (law : IsEnumView enum_view) (table : Table) (ch
 
   -- Like fields that are no maps.
 
-  plain_allowed : (p q : Presence) → like e d ≡ true → Allowed (plain_choices enum_view table (old p) (new q)) → Allowed ((choice_of number 2 0 (option_map (one_item (old p)) (gap_body enum_view (zero_counts (old p) (new q)) e d)) ++ choice_of number 3 0 (option_map (one_item (old p)) (child_body table e d))) ++ choice_of number 4 0 (singular_cost (old p) (new q)))
+  plain_allowed : (p q : Presence) → like e d ≡ true → Allowed (plain_choices enum_view table (old p) (new q)) → Allowed ((choice_of number cases.Gap 0 (option_map (one_item (old p)) (gap_body enum_view (zero_counts (old p) (new q)) e d)) ++ choice_of number cases.Child 0 (option_map (one_item (old p)) (child_body table e d))) ++ choice_of number cases.List 0 (singular_cost (old p) (new q)))
   plain_allowed p q is_like allowed = rw is_like at allowed
 
-  allowed_gap : (p q : Presence) → like e d ≡ true → Allowed (plain_choices enum_view table (old p) (new q)) → Allowed (choice_of number 2 0 (option_map (one_item (old p)) (gap_body enum_view (zero_counts (old p) (new q)) e d)))
+  allowed_gap : (p q : Presence) → like e d ≡ true → Allowed (plain_choices enum_view table (old p) (new q)) → Allowed (choice_of number cases.Gap 0 (option_map (one_item (old p)) (gap_body enum_view (zero_counts (old p) (new q)) e d)))
   allowed_gap p q is_like allowed = each_before _ _ _ (each_before _ _ _ (plain_allowed p q is_like allowed))
 
-  allowed_child : (p q : Presence) → like e d ≡ true → Allowed (plain_choices enum_view table (old p) (new q)) → Allowed (choice_of number 3 0 (option_map (one_item (old p)) (child_body table e d)))
-  allowed_child p q is_like allowed = each_after _ (choice_of number 2 0 (option_map (one_item (old p)) (gap_body enum_view (zero_counts (old p) (new q)) e d))) _ (each_before _ _ _ (plain_allowed p q is_like allowed))
+  allowed_child : (p q : Presence) → like e d ≡ true → Allowed (plain_choices enum_view table (old p) (new q)) → Allowed (choice_of number cases.Child 0 (option_map (one_item (old p)) (child_body table e d)))
+  allowed_child p q is_like allowed = each_after _ (choice_of number cases.Gap 0 (option_map (one_item (old p)) (gap_body enum_view (zero_counts (old p) (new q)) e d))) _ (each_before _ _ _ (plain_allowed p q is_like allowed))
 
-  allowed_shape : (p q : Presence) → like e d ≡ true → Allowed (plain_choices enum_view table (old p) (new q)) → Allowed (choice_of number 4 0 (singular_cost (old p) (new q)))
-  allowed_shape p q is_like allowed = each_after _ (choice_of number 2 0 (option_map (one_item (old p)) (gap_body enum_view (zero_counts (old p) (new q)) e d)) ++ choice_of number 3 0 (option_map (one_item (old p)) (child_body table e d))) _ (plain_allowed p q is_like allowed)
+  allowed_shape : (p q : Presence) → like e d ≡ true → Allowed (plain_choices enum_view table (old p) (new q)) → Allowed (choice_of number cases.List 0 (singular_cost (old p) (new q)))
+  allowed_shape p q is_like allowed = each_after _ (choice_of number cases.Gap 0 (option_map (one_item (old p)) (gap_body enum_view (zero_counts (old p) (new q)) e d)) ++ choice_of number cases.Child 0 (option_map (one_item (old p)) (child_body table e d))) _ (plain_allowed p q is_like allowed)
 
   -- each comparand that counts is seen, or a choice costs no more
   all_seen : (p q : Presence) (cs : List Comparand) → Known p q cs → has_children p q ≡ true → like e d ≡ true → Allowed (plain_choices enum_view table (old p) (new q)) → AllByRecursion (λ c. ItemCounts (zero_counts (old p) (new q)) c.written) cs → AllByRecursion (Seen enum_view.alike child (old p) (new q)) cs ⊎ Q (total (old p) cs)
@@ -150,7 +152,7 @@ module _ (enum_view : EnumView) (law : IsEnumView enum_view) (table : Table) (ch
       (each_weaker
       (λ c. (Holds (old p) c × ItemCounts (zero_counts (old p) (new q)) c.written) × (ChildBound table child e d c × Costs (old p) (total (old p) cs) c)) (λ c. Seen enum_view.alike child (old p) (new q) c ⊎ Q (total (old p) cs))
       (λ c h.
-      comparand_or enum_view law table child Q up (old p) (new q) (zero_counts (old p) (new q)) (one_item (old p)) is_like number 2 0 3 0
+      comparand_or enum_view law table child Q up (old p) (new q) (zero_counts (old p) (new q)) (one_item (old p)) is_like number cases.Gap 0 cases.Child 0
       (allowed_gap p q is_like allowed) (allowed_child p q is_like allowed) (total (old p) cs) c h.0.0 h.0.1 h.1.0 h.1.1)
       cs
       (each_both _ _ cs (each_both _ _ cs known.holds counts) (each_both _ _ cs (known.bounds has) (each_costs p q cs known))))
@@ -170,7 +172,7 @@ module _ (enum_view : EnumView) (law : IsEnumView enum_view) (table : Table) (ch
         way = inl way;
       }))))
       (λ dear. inr dear)
-      (not_zigzag enum_view Q up (zero_counts (old p) (new q)) e d number 2 0 (one_item (old p)) (allowed_gap p q is_like allowed) (total (old p) (c ∷ rest)) (body_length (form e) c.written)
+      (not_zigzag enum_view Q up (zero_counts (old p) (new q)) e d number cases.Gap 0 (one_item (old p)) (allowed_gap p q is_like allowed) (total (old p) (c ∷ rest)) (body_length (form e) c.written)
       (least_body_below e c.written (comparand_reads e c known.holds.0.item)) (each_costs p q (c ∷ rest) known).0))
       (λ dear. inr dear)
       (all_seen p q (c ∷ rest) known has is_like allowed counts)
@@ -271,13 +273,13 @@ module _ (enum_view : EnumView) (law : IsEnumView enum_view) (table : Table) (ch
       }
 
   abbrev KeyGaps : Scalar → Scalar → Type 0
-  KeyGaps k l = Allowed (choice_of number 5 1 (option_map (λ body. entry_cost number body (least_body e)) (gap_body enum_view true (elements.Scalar k) (elements.Scalar l))))
+  KeyGaps k l = Allowed (choice_of number cases.Map 1 (option_map (λ body. entry_cost number body (least_body e)) (gap_body enum_view true (elements.Scalar k) (elements.Scalar l))))
 
   abbrev ValueGaps : Scalar → Type 0
-  ValueGaps k = Allowed (choice_of number 5 2 (option_map (one_item (old (presences.Map k))) (gap_body enum_view true e d)))
+  ValueGaps k = Allowed (choice_of number cases.Map 2 (option_map (one_item (old (presences.Map k))) (gap_body enum_view true e d)))
 
   abbrev Children : Scalar → Type 0
-  Children k = Allowed (choice_of number 5 2 (option_map (one_item (old (presences.Map k))) (child_body table e d)))
+  Children k = Allowed (choice_of number cases.Map 2 (option_map (one_item (old (presences.Map k))) (child_body table e d)))
 
   key_price : (k : Scalar) (whole : ℕ) (c : Comparand) → Holds (old (presences.Map k)) c → EntryCosts (old (presences.Map k)) k whole c → (b : ℕ) → b ≤ body_length (form (elements.Scalar k)) (key_of k (writes c)) → entry_cost number b (least_body e) ≤ whole
   key_price k whole c holds cost b le = cost b (least_body e) le (least_body_below e c.written (comparand_reads e c holds.item))
@@ -292,10 +294,10 @@ module _ (enum_view : EnumView) (law : IsEnumView enum_view) (table : Table) (ch
       ⊎_elim
       (λ seen.
       ⊎_elim (λ key. inl (seen, key_seen k l like_keys whole short c holds cost key)) (λ dear. inr dear)
-      (leaf_or enum_view law table child Q up (λ body. entry_cost number body (least_body e)) true (elements.Scalar k) (elements.Scalar l) tt like_keys number 5 1 key_gaps whole
+      (leaf_or enum_view law table child Q up (λ body. entry_cost number body (least_body e)) true (elements.Scalar k) (elements.Scalar l) tt like_keys number cases.Map 1 key_gaps whole
       (key_of k (writes c)) (key_range k c holds.key_fits) tt (key_price k whole c holds cost)))
       (λ dear. inr dear)
-      (comparand_or enum_view law table child Q up (old (presences.Map k)) (new (presences.Map l)) true (one_item (old (presences.Map k))) like_values number 5 2 5 2 value_gaps children whole c
+      (comparand_or enum_view law table child Q up (old (presences.Map k)) (new (presences.Map l)) true (one_item (old (presences.Map k))) like_values number cases.Map 2 cases.Map 2 value_gaps children whole c
       holds tt bound (value_price k whole c holds cost))
 
   -- no zigzag number stands beside a bool, neither as a key nor as a value
@@ -303,9 +305,9 @@ module _ (enum_view : EnumView) (law : IsEnumView enum_view) (table : Table) (ch
   apart_or k l key_gaps value_gaps whole c holds cost =
       ⊎_elim
       (λ keys. ⊎_elim (λ values. inl (keys, values)) (λ dear. inr dear)
-      (not_zigzag enum_view Q up true e d number 5 2 (one_item (old (presences.Map k))) value_gaps whole (body_length (form e) c.written) (least_body_below e c.written (comparand_reads e c holds.item)) (value_price k whole c holds cost)))
+      (not_zigzag enum_view Q up true e d number cases.Map 2 (one_item (old (presences.Map k))) value_gaps whole (body_length (form e) c.written) (least_body_below e c.written (comparand_reads e c holds.item)) (value_price k whole c holds cost)))
       (λ dear. inr dear)
-      (not_zigzag enum_view Q up true (elements.Scalar k) (elements.Scalar l) number 5 1 (λ body. entry_cost number body (least_body e)) key_gaps whole (body_length (form (elements.Scalar k)) (key_of k (writes c)))
+      (not_zigzag enum_view Q up true (elements.Scalar k) (elements.Scalar l) number cases.Map 1 (λ body. entry_cost number body (least_body e)) key_gaps whole (body_length (form (elements.Scalar k)) (key_of k (writes c)))
       (least_body_below (elements.Scalar k) (key_of k (writes c)) (bodies_read_again (elements.Scalar k) (key_of k (writes c)) (key_range k c holds.key_fits))) (key_price k whole c holds cost))
 
   like_maps : (k l : Scalar) (c : Comparand) (rest : List Comparand) → Known (presences.Map k) (presences.Map l) (c ∷ rest) → like (elements.Scalar k) (elements.Scalar l) ≡ true → like e d ≡ true → KeyGaps k l → ValueGaps k → Children k → Fate (presences.Map k) (presences.Map l) (c ∷ rest)
@@ -352,9 +354,9 @@ module _ (enum_view : EnumView) (law : IsEnumView enum_view) (table : Table) (ch
       ⊎_elim
       (λ is_like.
       let parts = and_parts _ _ is_like in
-      let keys = choice_of number 5 1 (option_map (λ body. entry_cost number body (least_body e)) (gap_body enum_view true (elements.Scalar k) (elements.Scalar l))) in
-      let values = choice_of number 5 2 (option_map (one_item (old (presences.Map k))) (gap_body enum_view true e d)) in
-      let all : Allowed ((keys ++ values) ++ choice_of number 5 2 (option_map (one_item (old (presences.Map k))) (child_body table e d))) = rw is_like at allowed in
+      let keys = choice_of number cases.Map 1 (option_map (λ body. entry_cost number body (least_body e)) (gap_body enum_view true (elements.Scalar k) (elements.Scalar l))) in
+      let values = choice_of number cases.Map 2 (option_map (one_item (old (presences.Map k))) (gap_body enum_view true e d)) in
+      let all : Allowed ((keys ++ values) ++ choice_of number cases.Map 2 (option_map (one_item (old (presences.Map k))) (child_body table e d))) = rw is_like at allowed in
       like_maps k l c rest known parts.0 parts.1 (each_before _ _ _ (each_before _ _ _ all)) (each_after _ keys values (each_before _ _ _ all)) (each_after _ (keys ++ values) _ all))
       (λ unlike. by_least (presences.Map k) (presences.Map l) (c ∷ rest) known (rw unlike at allowed).0)
       (cases_Bool (like (elements.Scalar k) (elements.Scalar l) && like e d))

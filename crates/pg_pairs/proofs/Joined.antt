@@ -9,6 +9,7 @@ use Rattle.pg_schema.specs.Shape.{FieldShape, field_at}
 use Rattle.pg_dyn.specs.reading.Content.{same_oneof}
 use Rattle.pg_dyn.specs.encoding.Encoding.{cap}
 use Rattle.pg_dyn.proofs.Lists.{filter-append'}
+use Rattle.pg_pairs.specs.declared.case.Case.TheVariants as cases
 use Rattle.pg_pairs.specs.declared.choice.Choice.{Choice}
 use Rattle.pg_pairs.specs.Costs.{least_content}
 use Rattle.pg_pairs.specs.Choices.{choice, in_one_oneof, joins, joined_choices, affordable}
@@ -107,7 +108,7 @@ module _ (gs : List FieldShape) (a : FieldShape) where
       let no : joins gs a (field_shape f) ≡ false = and_right (not (same_oneof a.oneof f.oneof)) (in_one_oneof (field_at gs a.number) (field_at gs f.number)) (in_oneof_is gs a (field_shape f) ∙ h) in
       rw no refl
 
-  pub together : (f : Field) (later : List Field) → same_oneof (new_oneof gs a) (new_oneof gs (field_shape f)) ≡ true → joined_choices gs a (map field_shape (f ∷ later)) ≡ (if not (same_oneof a.oneof f.oneof) then choice a.number 6 f.number (least_content a + least_content (field_shape f)) ∷ [] else []) ++ joined_choices gs a (map field_shape later)
+  pub together : (f : Field) (later : List Field) → same_oneof (new_oneof gs a) (new_oneof gs (field_shape f)) ≡ true → joined_choices gs a (map field_shape (f ∷ later)) ≡ (if not (same_oneof a.oneof f.oneof) then choice a.number cases.Oneof f.number (least_content a + least_content (field_shape f)) ∷ [] else []) ++ joined_choices gs a (map field_shape later)
   together f later h =
       let one : in_one_oneof (field_at gs a.number) (field_at gs f.number) ≡ true = in_oneof_is gs a (field_shape f) ∙ h in
       rw (one, and-true (not (same_oneof a.oneof f.oneof))) refl
@@ -192,23 +193,23 @@ module _ (list : List Field) (oneofs : List (Option ℕ)) (next : List ℕ) (lon
     pub joins_at : (f b : Field) (at p n : ℕ) → at < length list → p < length list → f ≡ slice_index_or list at f → b ≡ slice_index_or list p b → same_oneof (get_or oneofs at None) (get_or oneofs p None) ≡ true →
         joined_choices gs (field_shape f) (map field_shape (drop (suc p) list)) ≡ joined_choices gs (field_shape f) (map field_shape (drop n list)) →
         joined_choices gs (field_shape f) (map field_shape (drop p list))
-        ≡ (if not (same_oneof f.oneof b.oneof) then choice f.number 6 b.number (least_content (field_shape f) + least_content (field_shape b)) ∷ [] else []) ++ joined_choices gs (field_shape f) (map field_shape (drop n list))
+        ≡ (if not (same_oneof f.oneof b.oneof) then choice f.number cases.Oneof b.number (least_content (field_shape f) + least_content (field_shape b)) ∷ [] else []) ++ joined_choices gs (field_shape f) (map field_shape (drop n list))
     joins_at f b at p n inside there f_is b_is same jump =
         let first = oneof_at f at inside f_is in
         let second = oneof_at b p there b_is in
         let one : same_oneof (new_oneof gs (field_shape f)) (new_oneof gs (field_shape b)) ≡ true = subst (λ o. same_oneof o (new_oneof gs (field_shape b)) ≡ true) first (subst (λ o. same_oneof (get_or oneofs at None) o ≡ true) second same) in
         ap (λ fs. joined_choices gs (field_shape f) (map field_shape fs)) (drop_at list p b b there b_is)
         ∙ together gs (field_shape f) b (drop (suc p) list) one
-        ∙ ap (λ cs. (if not (same_oneof f.oneof b.oneof) then choice f.number 6 b.number (least_content (field_shape f) + least_content (field_shape b)) ∷ [] else []) ++ cs) jump
+        ∙ ap (λ cs. (if not (same_oneof f.oneof b.oneof) then choice f.number cases.Oneof b.number (least_content (field_shape f) + least_content (field_shape b)) ∷ [] else []) ++ cs) jump
 
     -- one turn of the loop
     own_turn : (before now after : List Choice) (f b : Field) (at p n : ℕ) → at < length list → p < length list → f ≡ slice_index_or list at f → b ≡ slice_index_or list p b → same_oneof (get_or oneofs at None) (get_or oneofs p None) ≡ true →
         joined_choices gs (field_shape f) (map field_shape (drop (suc p) list)) ≡ joined_choices gs (field_shape f) (map field_shape (drop n list)) →
         now ++ affordable (joined_choices gs (field_shape f) (map field_shape (drop p list))) ≡ before ++ affordable (joined_choices gs (field_shape f) (map field_shape (drop (suc at) list))) →
-        after ≡ now ++ affordable (if not (same_oneof f.oneof b.oneof) then choice f.number 6 b.number (least_content (field_shape f) + least_content (field_shape b)) ∷ [] else []) →
+        after ≡ now ++ affordable (if not (same_oneof f.oneof b.oneof) then choice f.number cases.Oneof b.number (least_content (field_shape f) + least_content (field_shape b)) ∷ [] else []) →
         after ++ affordable (joined_choices gs (field_shape f) (map field_shape (drop n list))) ≡ before ++ affordable (joined_choices gs (field_shape f) (map field_shape (drop (suc at) list)))
     own_turn before now after f b at p n inside there f_is b_is same jump kept made =
-        let offered = if not (same_oneof f.oneof b.oneof) then choice f.number 6 b.number (least_content (field_shape f) + least_content (field_shape b)) ∷ [] else [] in
+        let offered = if not (same_oneof f.oneof b.oneof) then choice f.number cases.Oneof b.number (least_content (field_shape f) + least_content (field_shape b)) ∷ [] else [] in
         ap (λ cs. cs ++ affordable (joined_choices gs (field_shape f) (map field_shape (drop n list)))) made
         ∙ append_assoc now (affordable offered) (affordable (joined_choices gs (field_shape f) (map field_shape (drop n list))))
         ∙ ap (λ cs. now ++ cs) (sym (filter-append' (λ (c : Choice). nat_le c.cost cap) offered (joined_choices gs (field_shape f) (map field_shape (drop n list)))))
@@ -219,7 +220,7 @@ module _ (list : List Field) (oneofs : List (Option ℕ)) (next : List ℕ) (lon
     pub turn : (before now after : List Choice) (f a b : Field) (at p n : ℕ) → at < length list → p < length list → f ≡ slice_index_or list at f → a ≡ slice_index_or list at a → b ≡ slice_index_or list p b → same_oneof (get_or oneofs at None) (get_or oneofs p None) ≡ true →
         joined_choices gs (field_shape a) (map field_shape (drop (suc p) list)) ≡ joined_choices gs (field_shape a) (map field_shape (drop n list)) →
         now ++ affordable (joined_choices gs (field_shape a) (map field_shape (drop p list))) ≡ before ++ affordable (joined_choices gs (field_shape a) (map field_shape (drop (suc at) list))) →
-        after ≡ now ++ affordable (if not (same_oneof a.oneof b.oneof) then choice a.number 6 b.number (least_content (field_shape a) + least_content (field_shape b)) ∷ [] else []) →
+        after ≡ now ++ affordable (if not (same_oneof a.oneof b.oneof) then choice a.number cases.Oneof b.number (least_content (field_shape a) + least_content (field_shape b)) ∷ [] else []) →
         after ++ affordable (joined_choices gs (field_shape f) (map field_shape (drop n list))) ≡ before ++ affordable (joined_choices gs (field_shape f) (map field_shape (drop (suc at) list)))
     turn before now after f a b at p n inside there f_is a_is b_is same jump kept made =
         subst (λ (x : Field). after ++ affordable (joined_choices gs (field_shape x) (map field_shape (drop n list))) ≡ before ++ affordable (joined_choices gs (field_shape x) (map field_shape (drop (suc at) list)))) (item_is list at a f inside a_is f_is)

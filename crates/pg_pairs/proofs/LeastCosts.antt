@@ -14,6 +14,8 @@ use Rattle.pg_wire.specs.Records.{tag}
 use Rattle.pg_dyn.specs.Coding.{form, form_wire}
 use Rattle.pg_dyn.specs.encoding.Encoding.{cap}
 use Rattle.pg_dyn.proofs.Lists.{each-append, each_weaker}
+use Rattle.pg_pairs.specs.declared.case.Case.{Case}
+use Rattle.pg_pairs.specs.declared.case.Case.TheVariants as cases
 use Rattle.pg_pairs.specs.declared.choice.Choice.{Choice}
 use Rattle.pg_pairs.specs.declared.choice.Pair.{Pair}
 use Rattle.pg_pairs.specs.EnumView.{EnumView}
@@ -92,71 +94,71 @@ AreSome cs = AllByRecursion (λ (c : Choice). 1 ≤ c.cost) cs
 some-append : (ds es : List Choice) → AreSome ds → AreSome es → AreSome (ds ++ es)
 some-append = each-append (λ (c : Choice). 1 ≤ c.cost)
 
-some-offered : (number case part : ℕ) (o : Option ℕ) → IsSomeLength o → AreSome (choice_of number case part o)
+some-offered : (number : ℕ) (case : Case) (part : ℕ) (o : Option ℕ) → IsSomeLength o → AreSome (choice_of number case part o)
 some-offered number case part None some = tt
 some-offered number case part (Some n) some = (some, tt)
 
 -- The parts of a field's choices.
 
 abbrev pub gap_choice : EnumView → FieldShape → FieldShape → List Choice
-gap_choice enum_view f g = choice_of f.number 2 0 (option_map (one_item f) (gap_body enum_view (zero_counts f g) f.element g.element))
+gap_choice enum_view f g = choice_of f.number cases.Gap 0 (option_map (one_item f) (gap_body enum_view (zero_counts f g) f.element g.element))
 
 abbrev pub child_choice : Table → FieldShape → FieldShape → List Choice
-child_choice table f g = choice_of f.number 3 0 (option_map (one_item f) (child_body table f.element g.element))
+child_choice table f g = choice_of f.number cases.Child 0 (option_map (one_item f) (child_body table f.element g.element))
 
 abbrev pub list_choice : FieldShape → FieldShape → List Choice
-list_choice f g = choice_of f.number 4 0 (singular_cost f g)
+list_choice f g = choice_of f.number cases.List 0 (singular_cost f g)
 
 abbrev pub like_choices : EnumView → Table → FieldShape → FieldShape → List Choice
 like_choices enum_view table f g = gap_choice enum_view f g ++ child_choice table f g ++ list_choice f g
 
 abbrev pub key_choice : EnumView → FieldShape → Scalar → Scalar → List Choice
-key_choice enum_view f k l = choice_of f.number 5 1 (option_map (λ body. entry_cost f.number body (least_body f.element)) (gap_body enum_view true (elements.Scalar k) (elements.Scalar l)))
+key_choice enum_view f k l = choice_of f.number cases.Map 1 (option_map (λ body. entry_cost f.number body (least_body f.element)) (gap_body enum_view true (elements.Scalar k) (elements.Scalar l)))
 
 abbrev pub value_choice : EnumView → FieldShape → FieldShape → List Choice
-value_choice enum_view f g = choice_of f.number 5 2 (option_map (one_item f) (gap_body enum_view true f.element g.element))
+value_choice enum_view f g = choice_of f.number cases.Map 2 (option_map (one_item f) (gap_body enum_view true f.element g.element))
 
 abbrev pub map_child_choice : Table → FieldShape → FieldShape → List Choice
-map_child_choice table f g = choice_of f.number 5 2 (option_map (one_item f) (child_body table f.element g.element))
+map_child_choice table f g = choice_of f.number cases.Map 2 (option_map (one_item f) (child_body table f.element g.element))
 
 abbrev pub like_map_choices : EnumView → Table → FieldShape → FieldShape → Scalar → Scalar → List Choice
 like_map_choices enum_view table f g k l = key_choice enum_view f k l ++ value_choice enum_view f g ++ map_child_choice table f g
 
 -- The choices of a pair under a table.
 module _ (enum_view : EnumView) (table : Table) where
-  some-child : (f g : FieldShape) (case part : ℕ) → AreSome (choice_of f.number case part (option_map (one_item f) (child_body table f.element g.element)))
+  some-child : (f g : FieldShape) (case : Case) (part : ℕ) → AreSome (choice_of f.number case part (option_map (one_item f) (child_body table f.element g.element)))
   some-child f g case part =
       some-offered f.number case part (option_map (one_item f) (child_body table f.element g.element)) (mapped_some (one_item f) (one_item_some f) (child_body table f.element g.element))
 
-  some-gap : (f g : FieldShape) (zero : Bool) (case part : ℕ) → AreSome (choice_of f.number case part (option_map (one_item f) (gap_body enum_view zero f.element g.element)))
+  some-gap : (f g : FieldShape) (zero : Bool) (case : Case) (part : ℕ) → AreSome (choice_of f.number case part (option_map (one_item f) (gap_body enum_view zero f.element g.element)))
   some-gap f g zero case part =
       some-offered f.number case part (option_map (one_item f) (gap_body enum_view zero f.element g.element)) (mapped_some (one_item f) (one_item_some f) (gap_body enum_view zero f.element g.element))
 
-  some-unlike : (f g : FieldShape) → AreSome (choice f.number 1 0 (unlike_cost f g) ∷ [])
+  some-unlike : (f g : FieldShape) → AreSome (choice f.number cases.Unlike 0 (unlike_cost f g) ∷ [])
   some-unlike f g = (unlike_some f g, tt)
 
   some-like : (f g : FieldShape) → AreSome (like_choices enum_view table f g)
   some-like f g =
       some-append (gap_choice enum_view f g ++ child_choice table f g) (list_choice f g)
-      (some-append (gap_choice enum_view f g) (child_choice table f g) (some-gap f g (zero_counts f g) 2 0) (some-child f g 3 0))
-      (some-offered f.number 4 0 (singular_cost f g) (singular_some f.number f.presence g.presence f.element g.element f.oneof g.oneof))
+      (some-append (gap_choice enum_view f g) (child_choice table f g) (some-gap f g (zero_counts f g) cases.Gap 0) (some-child f g cases.Child 0))
+      (some-offered f.number cases.List 0 (singular_cost f g) (singular_some f.number f.presence g.presence f.element g.element f.oneof g.oneof))
 
   some-plain : (f g : FieldShape) → AreSome (plain_choices enum_view table f g)
   some-plain f g =
-      elim (like f.element g.element) as (λ b. AreSome (if b then like_choices enum_view table f g else choice f.number 1 0 (unlike_cost f g) ∷ [])) [ true ↦ some-like f g | false ↦ some-unlike f g ]
+      elim (like f.element g.element) as (λ b. AreSome (if b then like_choices enum_view table f g else choice f.number cases.Unlike 0 (unlike_cost f g) ∷ [])) [ true ↦ some-like f g | false ↦ some-unlike f g ]
 
   some-like_maps : (f g : FieldShape) (k l : Scalar) → AreSome (like_map_choices enum_view table f g k l)
   some-like_maps f g k l =
       some-append (key_choice enum_view f k l ++ value_choice enum_view f g) (map_child_choice table f g)
       (some-append (key_choice enum_view f k l) (value_choice enum_view f g)
-      (some-offered f.number 5 1 (option_map (λ body. entry_cost f.number body (least_body f.element)) (gap_body enum_view true (elements.Scalar k) (elements.Scalar l)))
+      (some-offered f.number cases.Map 1 (option_map (λ body. entry_cost f.number body (least_body f.element)) (gap_body enum_view true (elements.Scalar k) (elements.Scalar l)))
       (mapped_some (λ body. entry_cost f.number body (least_body f.element)) (λ body. entry_some f.number body (least_body f.element)) (gap_body enum_view true (elements.Scalar k) (elements.Scalar l))))
-      (some-gap f g true 5 2))
-      (some-child f g 5 2)
+      (some-gap f g true cases.Map 2))
+      (some-child f g cases.Map 2)
 
   some-maps : (f g : FieldShape) (k l : Scalar) → AreSome (map_choices enum_view table f g k l)
   some-maps f g k l =
-      elim (like (elements.Scalar k) (elements.Scalar l) && like f.element g.element) as (λ b. AreSome (if b then like_map_choices enum_view table f g k l else choice f.number 5 0 (least_content f) ∷ []))
+      elim (like (elements.Scalar k) (elements.Scalar l) && like f.element g.element) as (λ b. AreSome (if b then like_map_choices enum_view table f g k l else choice f.number cases.Map 0 (least_content f) ∷ []))
       [ true ↦ some-like_maps f g k l | false ↦ (least_content_some f, tt) ]
 
   module _ (number : ℕ) (e d : Element) (o r : Option ℕ) where
@@ -192,8 +194,8 @@ module _ (enum_view : EnumView) (table : Table) where
   some-joined gs a [] = tt
   some-joined gs a (b ∷ later) =
       let both = least_content_some a in
-      some-append (if joins gs a b then choice a.number 6 b.number (least_content a + least_content b) ∷ [] else []) (joined_choices gs a later)
-      (elim (joins gs a b) as (λ c. AreSome (if c then choice a.number 6 b.number (least_content a + least_content b) ∷ [] else [])) [ true ↦ (omega arith, tt) | false ↦ tt ])
+      some-append (if joins gs a b then choice a.number cases.Oneof b.number (least_content a + least_content b) ∷ [] else []) (joined_choices gs a later)
+      (elim (joins gs a b) as (λ c. AreSome (if c then choice a.number cases.Oneof b.number (least_content a + least_content b) ∷ [] else [])) [ true ↦ (omega arith, tt) | false ↦ tt ])
       (some-joined gs a later)
 
   some-all : (gs fs : List FieldShape) → AreSome (all_choices enum_view table gs fs)

@@ -4,6 +4,7 @@ use Rattle.std.specs.HashMap.{HashMap, get, Updates}
 use Rattle.std.proofs.lemmas.Bool.{leb-true, leb-false, le-leb, lt-leb}
 use Rattle.pg_schema.specs.Shape.{FieldShape}
 use Rattle.pg_dyn.specs.reading.Content.{same_oneof}
+use Rattle.pg_pairs.specs.declared.case.Case.TheVariants as cases
 use Rattle.pg_pairs.specs.declared.choice.Choice.{Choice}
 use Rattle.pg_pairs.specs.declared.least_member.Member.{Member}
 use Rattle.pg_pairs.specs.declared.least_member.Two.{Two}
@@ -42,7 +43,7 @@ cheapest-joined gs a [] = refl
 cheapest-joined gs a (b ∷ later) = rw (joins_is gs a b) (of (same_oneof (new_oneof gs a) (new_oneof gs b) && not (same_oneof a.oneof b.oneof)) (cheapest-joined gs a later))
   where
     of : (t : Bool) → cheapest (joined_choices gs a later) ≡ cheapest (met_choices (member_of a) (least_member gs (new_oneof gs a) a.oneof later)) →
-        cheapest ((if t then choice a.number 6 b.number (least_content a + least_content b) ∷ [] else []) ++ joined_choices gs a later)
+        cheapest ((if t then choice a.number cases.Oneof b.number (least_content a + least_content b) ∷ [] else []) ++ joined_choices gs a later)
         ≡ cheapest (met_choices (member_of a) (if t then Some (lesser (member_of b) (least_member gs (new_oneof gs a) a.oneof later)) else least_member gs (new_oneof gs a) a.oneof later))
     of true rest = ap (λ o. Some (cheaper (joined_with (member_of a) (member_of b)) o)) rest ∙ lesser-joined (member_of a) (member_of b) (least_member gs (new_oneof gs a) a.oneof later)
     of false rest = rest

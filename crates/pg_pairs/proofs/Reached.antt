@@ -7,8 +7,10 @@ use Rattle.pg_dyn.specs.Message.{Message}
 use Rattle.pg_dyn.specs.reading.Content.{same_oneof}
 use Rattle.pg_dyn.specs.encoding.Encoding.{cap}
 use Rattle.pg_dyn.proofs.Lists.{each-append, each_both, each_weaker, each_at}
+use Rattle.pg_pairs.specs.declared.case.Case.TheVariants as cases
 use Rattle.pg_pairs.specs.declared.choice.Choice.{Choice}
 use Rattle.pg_pairs.specs.declared.choice.Pair.{Pair}
+use Rattle.pg_pairs.specs.Cases.{is_oneof}
 use Rattle.pg_pairs.specs.EnumView.{EnumView, IsEnumView}
 use Rattle.pg_pairs.specs.Costs.{least_content}
 use Rattle.pg_pairs.specs.Choices.{Table, choice, field_choices, in_one_oneof, joins, joined_choices, choices_beside, all_choices, choices}
@@ -25,7 +27,7 @@ use Rattle.pg_dyn.proofs.PublicLaws.{fields_are_found}
 module _ (enum_view : EnumView) (law : IsEnumView enum_view) (old new : Shape) (shape_old : IsShape old) (shape_new : IsShape new) (table : Table) (pair : Pair) where
   -- two fields that meet stand in order, and not in one old oneof
   abbrev pub AreApart : Choice → Type 0
-  AreApart c = nat_eq c.case 6 ≡ true → (c.number < c.part) × ((f e : FieldShape) → field_at (fields old pair.old) c.number ≡ Some f → field_at (fields old pair.old) c.part ≡ Some e → same_oneof f.oneof e.oneof ≡ false)
+  AreApart c = is_oneof c.case ≡ true → (c.number < c.part) × ((f e : FieldShape) → field_at (fields old pair.old) c.number ≡ Some f → field_at (fields old pair.old) c.part ≡ Some e → same_oneof f.oneof e.oneof ≡ false)
 
   -- the fields of both types that a choice stands in, and of two that meet the second
   pub record Stands (c : Choice) : Type 0 where
@@ -33,8 +35,8 @@ module _ (enum_view : EnumView) (law : IsEnumView enum_view) (old new : Shape) (
     pub beside : FieldShape
     pub found : field_at (fields old pair.old) c.number ≡ Some field
     pub at : field_at (fields new pair.new) c.number ≡ Some beside
-    pub placed : nat_eq c.case 6 ≡ false → IsPlaced field.presence c
-    pub second : nat_eq c.case 6 ≡ true → (e : FieldShape) × (field_at (fields old pair.old) c.part ≡ Some e)
+    pub placed : IsPlaced field.presence c
+    pub second : is_oneof c.case ≡ true → (e : FieldShape) × (field_at (fields old pair.old) c.part ≡ Some e)
 
   abbrev CarriesChoice : Choice → Type 0
   CarriesChoice c = AreApart c × Stands c × IsCarried enum_view law old new shape_old shape_new table pair (choice_child old new pair c) (carried enum_view old new pair c) c.cost
@@ -52,7 +54,7 @@ module _ (enum_view : EnumView) (law : IsEnumView enum_view) (old new : Shape) (
       subst (λ x. AllByRecursion (CarriesOwn enum_view law old new shape_old shape_new table pair f x) (field_choices enum_view table f x)) (sym same)
       (presences_carried enum_view law old new shape_old shape_new table pair f.number f.element g.element f.oneof g.oneof f.presence g.presence found (at ∙ ap Some same) (fits_old f.number f found) (fits_new f.number g at))
 
-  own_made : (f g : FieldShape) → field_at (fields old pair.old) f.number ≡ Some f → field_at (fields new pair.new) f.number ≡ Some g → (c : Choice) → c.number ≡ f.number → nat_eq c.case 6 ≡ false → IsCarried enum_view law old new shape_old shape_new table pair (field_child f g c.case c.part) (carried_field enum_view f g c.case c.part) c.cost → IsCarried enum_view law old new shape_old shape_new table pair (choice_child old new pair c) (carried enum_view old new pair c) c.cost
+  own_made : (f g : FieldShape) → field_at (fields old pair.old) f.number ≡ Some f → field_at (fields new pair.new) f.number ≡ Some g → (c : Choice) → c.number ≡ f.number → is_oneof c.case ≡ false → IsCarried enum_view law old new shape_old shape_new table pair (field_child f g c.case c.part) (carried_field enum_view f g c.case c.part) c.cost → IsCarried enum_view law old new shape_old shape_new table pair (choice_child old new pair c) (carried enum_view old new pair c) c.cost
   own_made f g found at c number single h =
       let old_is : field_at (fields old pair.old) c.number ≡ Some f = ap (field_at (fields old pair.old)) number ∙ found in
       let new_is : field_at (fields new pair.new) c.number ≡ Some g = ap (field_at (fields new pair.new)) number ∙ at in
@@ -64,16 +66,16 @@ module _ (enum_view : EnumView) (law : IsEnumView enum_view) (old new : Shape) (
 
   own_carried : (f g : FieldShape) → field_at (fields old pair.old) f.number ≡ Some f → field_at (fields new pair.new) f.number ≡ Some g → (c : Choice) → IsOwn f g c → CarriesChoice c
   own_carried f g found at c ((number, single, h), is_placed) =
-      let not_two : nat_eq c.case 6 ≡ true → ⊥ = λ six. let no : true ≡ false = sym six ∙ single in cc in
+      let not_two : is_oneof c.case ≡ true → ⊥ = λ six. let no : true ≡ false = sym six ∙ single in cc in
       (λ six. absurd (not_two six), stands not_two, own_made f g found at c number single h)
     where
-      stands : (nat_eq c.case 6 ≡ true → ⊥) → Stands c
+      stands : (is_oneof c.case ≡ true → ⊥) → Stands c
       stands not_two = record {
         field = f;
         beside = g;
         found = ap (field_at (fields old pair.old)) number ∙ found;
         at = ap (field_at (fields new pair.new)) number ∙ at;
-        placed = λ one. is_placed;
+        placed = is_placed;
         second = λ six. absurd (not_two six);
       }
 
@@ -108,14 +110,14 @@ module _ (enum_view : EnumView) (law : IsEnumView enum_view) (old new : Shape) (
       of (Some g) None at_g at_k apart together = absurd (cc)
       of None y at_g at_k apart together = absurd (cc)
 
-  meeting_carried : (a b : FieldShape) → field_at (fields old pair.old) a.number ≡ Some a → field_at (fields old pair.old) b.number ≡ Some b → joins (fields new pair.new) a b ≡ true → a.number < b.number → CarriesChoice (choice a.number 6 b.number (least_content a + least_content b))
+  meeting_carried : (a b : FieldShape) → field_at (fields old pair.old) a.number ≡ Some a → field_at (fields old pair.old) b.number ≡ Some b → joins (fields new pair.new) a b ≡ true → a.number < b.number → CarriesChoice (choice a.number cases.Oneof b.number (least_content a + least_content b))
   meeting_carried a b found_a found_b h below = (apart, stands, made)
     where
       m : Meet a b
       m = meet a b h
 
       c : Choice
-      c = choice a.number 6 b.number (least_content a + least_content b)
+      c = choice a.number cases.Oneof b.number (least_content a + least_content b)
 
       apart : AreApart c
       apart six = (
@@ -130,7 +132,7 @@ module _ (enum_view : EnumView) (law : IsEnumView enum_view) (old new : Shape) (
         beside = m.first;
         found = found_a;
         at = m.at_first;
-        placed = λ one. absurd (let no : true ≡ false = one in cc);
+        placed = tt;
         second = λ six. (b, found_b);
       }
 
@@ -146,8 +148,8 @@ module _ (enum_view : EnumView) (law : IsEnumView enum_view) (old new : Shape) (
   joined_carried : (a : FieldShape) → field_at (fields old pair.old) a.number ≡ Some a → (later : List FieldShape) → AllByRecursion (λ x. field_at (fields old pair.old) x.number ≡ Some x) later → AllByRecursion (λ x. a.number < x.number) later → AllByRecursion CarriesChoice (joined_choices (fields new pair.new) a later)
   joined_carried a found [] each below = tt
   joined_carried a found (b ∷ later) each below =
-      each-append CarriesChoice (if joins (fields new pair.new) a b then choice a.number 6 b.number (least_content a + least_content b) ∷ [] else []) (joined_choices (fields new pair.new) a later)
-      (elim (joins (fields new pair.new) a b) as (λ c. joins (fields new pair.new) a b ≡ c → AllByRecursion CarriesChoice (if c then choice a.number 6 b.number (least_content a + least_content b) ∷ [] else [])) [
+      each-append CarriesChoice (if joins (fields new pair.new) a b then choice a.number cases.Oneof b.number (least_content a + least_content b) ∷ [] else []) (joined_choices (fields new pair.new) a later)
+      (elim (joins (fields new pair.new) a b) as (λ c. joins (fields new pair.new) a b ≡ c → AllByRecursion CarriesChoice (if c then choice a.number cases.Oneof b.number (least_content a + least_content b) ∷ [] else [])) [
         | true ↦ λ h. (meeting_carried a b found each.0 h below.0, tt)
         | false ↦ λ h. tt
       ] refl)

@@ -14,6 +14,8 @@ use Rattle.pg_dyn.specs.Coding.{form}
 use Rattle.pg_dyn.specs.encoding.Encoding.{enc, cap}
 use Rattle.pg_dyn.specs.Comparison.{Comparand}
 use Rattle.pg_dyn.proofs.Lists.{each_before, each_after}
+use Rattle.pg_pairs.specs.declared.case.Case.{Case}
+use Rattle.pg_pairs.specs.declared.case.Case.TheVariants as cases
 use Rattle.pg_pairs.specs.declared.choice.Choice.{Choice}
 use Rattle.pg_pairs.specs.declared.choice.Pair.{Pair}
 use Rattle.pg_pairs.specs.EnumView.{EnumView, by_numbers}
@@ -36,37 +38,37 @@ module _ (P : Choice → Type 0) (enum_view : EnumView) (table : Table) (s t : T
   of_new q = record { number = n; presence = q; element = elements.Message t; oneof = r }
 
   abbrev Costing : ℕ → Type 0
-  Costing k = (number case part : ℕ) → P (record { number = number; case = case; part = part; cost = k }) → ⊥
+  Costing k = (number : ℕ) (case : Case) (part : ℕ) → P (record { number = number; case = case; part = part; cost = k }) → ⊥
 
-  in_plain : (p q : Presence) → AllByRecursion P (plain_choices enum_view table (of_old p) (of_new q)) → P (record { number = m; case = 3; part = 0; cost = one_item (of_old p) (with_length x) })
-  in_plain p q all = (rw bound at (each_before P (choice_of m 3 0 (option_map (one_item (of_old p)) (child_body table (elements.Message s) (elements.Message t)))) (choice_of m 4 0 (singular_cost (of_old p) (of_new q))) all)).0
+  in_plain : (p q : Presence) → AllByRecursion P (plain_choices enum_view table (of_old p) (of_new q)) → P (record { number = m; case = cases.Child; part = 0; cost = one_item (of_old p) (with_length x) })
+  in_plain p q all = (rw bound at (each_before P (choice_of m cases.Child 0 (option_map (one_item (of_old p)) (child_body table (elements.Message s) (elements.Message t)))) (choice_of m cases.List 0 (singular_cost (of_old p) (of_new q))) all)).0
 
-  in_map : (k l : Scalar) → like (elements.Scalar k) (elements.Scalar l) ≡ true → AllByRecursion P (map_choices enum_view table (of_old (presences.Map k)) (of_new (presences.Map l)) k l) → P (record { number = m; case = 5; part = 2; cost = one_item (of_old (presences.Map k)) (with_length x) })
+  in_map : (k l : Scalar) → like (elements.Scalar k) (elements.Scalar l) ≡ true → AllByRecursion P (map_choices enum_view table (of_old (presences.Map k)) (of_new (presences.Map l)) k l) → P (record { number = m; case = cases.Map; part = 2; cost = one_item (of_old (presences.Map k)) (with_length x) })
   in_map k l alike all =
       let open_all = rw alike at all in
-      (rw bound at (each_after P (choice_of m 5 1 (option_map (λ body. entry_cost m body (least_body (elements.Message s))) (gap_body enum_view true (elements.Scalar k) (elements.Scalar l))) ++ [])
-      (choice_of m 5 2 (option_map (one_item (of_old (presences.Map k))) (child_body table (elements.Message s) (elements.Message t)))) open_all)).0
+      (rw bound at (each_after P (choice_of m cases.Map 1 (option_map (λ body. entry_cost m body (least_body (elements.Message s))) (gap_body enum_view true (elements.Scalar k) (elements.Scalar l))) ++ [])
+      (choice_of m cases.Map 2 (option_map (one_item (of_old (presences.Map k))) (child_body table (elements.Message s) (elements.Message t)))) open_all)).0
 
   abbrev Priced : Presence → Type 0
-  Priced p = (case : ℕ) × (part : ℕ) × P (record { number = m; case = case; part = part; cost = one_item (of_old p) (with_length x) })
+  Priced p = (case : Case) × (part : ℕ) × P (record { number = m; case = case; part = part; cost = one_item (of_old p) (with_length x) })
 
   in_field : (p q : Presence) → has_children p q ≡ true → AllByRecursion P (field_choices enum_view table (of_old p) (of_new q)) → Priced p
-  in_field (presences.Map k) (presences.Map l) has all = (5, 2, in_map k l has all)
+  in_field (presences.Map k) (presences.Map l) has all = (cases.Map, 2, in_map k l has all)
   in_field (presences.Map k) presences.Implicit has all = absurd (cc)
   in_field (presences.Map k) presences.Explicit has all = absurd (cc)
   in_field (presences.Map k) (presences.Repeated w) has all = absurd (cc)
   in_field presences.Implicit (presences.Map l) has all = absurd (cc)
   in_field presences.Explicit (presences.Map l) has all = absurd (cc)
   in_field (presences.Repeated w) (presences.Map l) has all = absurd (cc)
-  in_field presences.Implicit presences.Implicit has all = (3, 0, in_plain presences.Implicit presences.Implicit all)
-  in_field presences.Implicit presences.Explicit has all = (3, 0, in_plain presences.Implicit presences.Explicit all)
-  in_field presences.Implicit (presences.Repeated w) has all = (3, 0, in_plain presences.Implicit (presences.Repeated w) all)
-  in_field presences.Explicit presences.Implicit has all = (3, 0, in_plain presences.Explicit presences.Implicit all)
-  in_field presences.Explicit presences.Explicit has all = (3, 0, in_plain presences.Explicit presences.Explicit all)
-  in_field presences.Explicit (presences.Repeated w) has all = (3, 0, in_plain presences.Explicit (presences.Repeated w) all)
-  in_field (presences.Repeated p) presences.Implicit has all = (3, 0, in_plain (presences.Repeated p) presences.Implicit all)
-  in_field (presences.Repeated p) presences.Explicit has all = (3, 0, in_plain (presences.Repeated p) presences.Explicit all)
-  in_field (presences.Repeated p) (presences.Repeated w) has all = (3, 0, in_plain (presences.Repeated p) (presences.Repeated w) all)
+  in_field presences.Implicit presences.Implicit has all = (cases.Child, 0, in_plain presences.Implicit presences.Implicit all)
+  in_field presences.Implicit presences.Explicit has all = (cases.Child, 0, in_plain presences.Implicit presences.Explicit all)
+  in_field presences.Implicit (presences.Repeated w) has all = (cases.Child, 0, in_plain presences.Implicit (presences.Repeated w) all)
+  in_field presences.Explicit presences.Implicit has all = (cases.Child, 0, in_plain presences.Explicit presences.Implicit all)
+  in_field presences.Explicit presences.Explicit has all = (cases.Child, 0, in_plain presences.Explicit presences.Explicit all)
+  in_field presences.Explicit (presences.Repeated w) has all = (cases.Child, 0, in_plain presences.Explicit (presences.Repeated w) all)
+  in_field (presences.Repeated p) presences.Implicit has all = (cases.Child, 0, in_plain (presences.Repeated p) presences.Implicit all)
+  in_field (presences.Repeated p) presences.Explicit has all = (cases.Child, 0, in_plain (presences.Repeated p) presences.Explicit all)
+  in_field (presences.Repeated p) (presences.Repeated w) has all = (cases.Child, 0, in_plain (presences.Repeated p) (presences.Repeated w) all)
 
 -- Down to a child, whose bytes a comparand of the field holds.
 module _ (old new : Shape) (shape_old : IsShape old) (shape_new : IsShape new) (a b : TypeId) (n : ℕ) (small : n ≤ cap) (fine : CompatibleTo n old new a b) where

@@ -11,8 +11,11 @@ use Rattle.pg_dyn.specs.Message.{Leaf, Int, F32, F64, Bytes, Item, Plain, Msg, M
 use Rattle.pg_dyn.specs.Coding.{Form, Integer, Single, Double, Text, Raw, form, zero_leaf}
 use Rattle.pg_dyn.specs.Fits.{Fits}
 use Rattle.pg_dyn.specs.Kept.{Kept, message_of, type_of}
+use Rattle.pg_pairs.specs.declared.case.Case.{Case}
+use Rattle.pg_pairs.specs.declared.case.Case.TheVariants as cases
 use Rattle.pg_pairs.specs.declared.choice.Choice.{Choice}
 use Rattle.pg_pairs.specs.declared.choice.Pair.{Pair}
+use Rattle.pg_pairs.specs.Cases.{is_oneof}
 use Rattle.pg_pairs.specs.EnumView.{EnumView, IsEnumView}
 use Rattle.pg_pairs.specs.Likeness.{like}
 use Rattle.pg_pairs.specs.Gaps.{gap_item}
@@ -116,13 +119,13 @@ entry_message enum_view number k l e d part child =
     else alone number (Some (apart_leaf (elements.Scalar k) (elements.Scalar l))) (apart_item e d)
 
 -- the message of a field's choice, of that case and part, round that child
-abbrev pub carried_field : EnumView → FieldShape → FieldShape → ℕ → ℕ → Option Message → Message
-carried_field enum_view f g case part child =
-    if nat_eq case 1 then unlike_message f g
-    else if nat_eq case 2 then leaf_alone f.number None (gap_item enum_view (zero_counts f g) f.element g.element)
-    else if nat_eq case 3 then child_alone f.number None child
-    else if nat_eq case 4 then lost_onto f.number f.presence g.presence (item_by zero_leaf f.element)
-    else entry_message enum_view f.number (key_of f.presence) (key_of g.presence) f.element g.element part child
+abbrev pub carried_field : EnumView → FieldShape → FieldShape → Case → ℕ → Option Message → Message
+carried_field enum_view f g cases.Unlike part child = unlike_message f g
+carried_field enum_view f g cases.Gap part child = leaf_alone f.number None (gap_item enum_view (zero_counts f g) f.element g.element)
+carried_field enum_view f g cases.Child part child = child_alone f.number None child
+carried_field enum_view f g cases.List part child = lost_onto f.number f.presence g.presence (item_by zero_leaf f.element)
+carried_field enum_view f g cases.Map part child = entry_message enum_view f.number (key_of f.presence) (key_of g.presence) f.element g.element part child
+carried_field enum_view f g cases.Oneof part child = ends []
 
 -- two fields that meet: the least contents of both
 abbrev pub carried_two : FieldShape → Option FieldShape → Message
@@ -130,7 +133,7 @@ carried_two f (Some e) = least_part f (least_part e (ends []))
 carried_two f None = ends []
 
 abbrev pub carried_of : EnumView → Option FieldShape → Option FieldShape → Option FieldShape → Choice → Option Message → Message
-carried_of enum_view (Some f) (Some g) e c child = if nat_eq c.case 6 then carried_two f e else carried_field enum_view f g c.case c.part child
+carried_of enum_view (Some f) (Some g) e c child = if is_oneof c.case then carried_two f e else carried_field enum_view f g c.case c.part child
 carried_of enum_view (Some f) None e c child = ends []
 carried_of enum_view None g e c child = ends []
 
@@ -149,10 +152,15 @@ child_pair (elements.Scalar s) t = None
 child_pair (elements.Enum s) t = None
 
 -- an item that is a child, and the value of an entry
-abbrev pub has_child : ℕ → ℕ → Bool
-has_child case part = nat_eq case 3 || (nat_eq case 5 && nat_eq part 2)
+abbrev pub has_child : Case → ℕ → Bool
+has_child cases.Unlike part = false
+has_child cases.Gap part = false
+has_child cases.Child part = true
+has_child cases.List part = false
+has_child cases.Map part = nat_eq part 2
+has_child cases.Oneof part = false
 
-abbrev pub field_child : FieldShape → FieldShape → ℕ → ℕ → Option Pair
+abbrev pub field_child : FieldShape → FieldShape → Case → ℕ → Option Pair
 field_child f g case part = if has_child case part then child_pair f.element g.element else None
 
 abbrev pub child_of : Option FieldShape → Option FieldShape → Choice → Option Pair

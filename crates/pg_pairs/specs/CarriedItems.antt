@@ -16,6 +16,8 @@ use Rattle.pg_dyn.specs.Coding.{Form, zero_leaf}
 use Rattle.pg_dyn.specs.Kept.{Kept, message_of, type_of}
 use Rattle.pg_dyn.specs.NumberLists.{values_in}
 use Rattle.pg_dyn.specs.Seen.{leaf_of}
+use Rattle.pg_pairs.specs.declared.case.Case.{Case}
+use Rattle.pg_pairs.specs.declared.case.Case.TheVariants as cases
 use Rattle.pg_pairs.specs.declared.item.Small.{Small}
 use Rattle.pg_pairs.specs.declared.item.Small.TheVariants.{Zero, NotZero, Far}
 use Rattle.pg_pairs.specs.EnumView.{EnumView}
@@ -85,10 +87,10 @@ has_entry enum_view f k l d part child =
     else true
 
 -- Whether a field takes a content of that case and part round that child: in a map it is an entry, and of no map an item or a list.
-abbrev pub has_content : EnumView → FieldShape → FieldShape → ℕ → ℕ → Option Kept → Bool
-has_content enum_view f g case part child =
-    if nat_eq case 1 then true
-    else if nat_eq case 2 then not (is_map f.presence) && is_some (gap_item enum_view (zero_counts f g) f.element g.element)
-    else if nat_eq case 3 then not (is_map f.presence) && is_child_of f.element child
-    else if nat_eq case 4 then not (is_map f.presence)
-    else is_map f.presence && has_entry enum_view f (key_of f.presence) (key_of g.presence) g.element part child
+abbrev pub has_content : EnumView → FieldShape → FieldShape → Case → ℕ → Option Kept → Bool
+has_content enum_view f g cases.Unlike part child = true
+has_content enum_view f g cases.Gap part child = not (is_map f.presence) && is_some (gap_item enum_view (zero_counts f g) f.element g.element)
+has_content enum_view f g cases.Child part child = not (is_map f.presence) && is_child_of f.element child
+has_content enum_view f g cases.List part child = not (is_map f.presence)
+has_content enum_view f g cases.Map part child = is_map f.presence && has_entry enum_view f (key_of f.presence) (key_of g.presence) g.element part child
+has_content enum_view f g cases.Oneof part child = false

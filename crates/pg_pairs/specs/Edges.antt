@@ -6,6 +6,8 @@ use Rattle.pg_schema.specs.declared.parts.field.Presence.{Presence}
 use Rattle.pg_schema.specs.declared.parts.field.Presence.TheVariants as presences
 use Rattle.pg_schema.specs.Shape.{Shape, FieldShape, IsShape, fields, field_at}
 use Rattle.pg_dyn.specs.encoding.Encoding.{cap}
+use Rattle.pg_pairs.specs.declared.case.Case.{Case}
+use Rattle.pg_pairs.specs.declared.case.Case.TheVariants as cases
 use Rattle.pg_pairs.specs.declared.choice.Choice.{Choice}
 use Rattle.pg_pairs.specs.declared.choice.Pair.{Pair}
 use Rattle.pg_pairs.specs.declared.edge.Edge.{Edge}
@@ -68,10 +70,10 @@ pub record ArePriced (old new : Shape) : Type 0 where
   pub bases_are_lengths : (enum_view : EnumView) (pair : Pair) → IfSome (least_cost enum_view no_bounds old new pair) (λ cost. (1 ≤ cost) × (cost ≤ cap))
   pub costs_more : (edge : Edge) (bound : ℕ) → IfSome (edge_price old edge bound) (λ cost. (bound < cost) × (cost ≤ cap))
 
--- the case of a child's choice: 3 where an item is the message, 5 where a map's value is
-abbrev pub child_case : Part → ℕ
-child_case Whole = 3
-child_case Value = 5
+-- the case of a child's choice: that of a map where its value is the message
+abbrev pub child_case : Part → Case
+child_case Whole = cases.Child
+child_case Value = cases.Map
 
 -- and its part: of a map the value is part 2
 abbrev pub child_part : Part → ℕ

@@ -3,6 +3,7 @@ use Rattle.std.specs.Prelude.{◌≡◌, ℕ, ◌+◌, ◌≤◌, nat_eq, nat_le
 use Rattle.std.specs.HashMap.{HashMap, get}
 use Rattle.pg_schema.specs.Shape.{FieldShape}
 use Rattle.pg_dyn.specs.reading.Content.{same_oneof}
+use Rattle.pg_pairs.specs.declared.case.Case.TheVariants as cases
 use Rattle.pg_pairs.specs.declared.choice.Choice.{Choice}
 use Rattle.pg_pairs.specs.declared.least_member.Member.{Member}
 use Rattle.pg_pairs.specs.declared.least_member.Two.{Two}
@@ -26,7 +27,7 @@ least_member gs new old (f ∷ fs) =
 
 -- what both contents cost
 abbrev pub joined_with : Member → Member → Choice
-joined_with a b = choice a.number 6 b.number (a.cost + b.cost)
+joined_with a b = choice a.number cases.Oneof b.number (a.cost + b.cost)
 
 -- the choice of a field with the one that it meets, where it meets one
 abbrev pub met_choices : Member → Option Member → List Choice

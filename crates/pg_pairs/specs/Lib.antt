@@ -11,6 +11,7 @@ pub mod SeenBy
 pub mod Likeness
 pub mod Gaps
 pub mod Costs
+pub mod Cases
 pub mod Carried
 pub mod CarriedItems
 pub mod Choices

@@ -6,6 +6,7 @@ ghost use Rattle.pg_schema.specs.Shape.{field_at, fields};
 ghost use Rattle.pg_pairs.specs.Carried.{child_pair, choice_child, has_child};
 ghost use Rattle.pg_pairs.specs.Covering.{all_children, children, children_beside, distinct, field_children, message_pair};
 
+use crate::case::Case;
 use crate::choice::{Choice, Pair};
 use crate::element::are_like;
 use pg_schema::{Element, Field, Presence, Schema, TypeId};
@@ -90,10 +91,14 @@ pub fn children(
 
 /// Whether a choice of that case and part has a child: an item that is one, or the value of an
 /// entry.
-fn has_child(case: u8, part: u32) -> bool
+fn has_child(case: Case, part: u32) -> bool
     ensures { result ≡ has_child case part }
 {
-    case == 3 || (case == 5 && part == 2)
+    match case {
+        Case::Child => true,
+        Case::Map => part == 2,
+        Case::Unlike | Case::Gap | Case::List | Case::Oneof => false,
+    }
 }
 
 /// The pair of the child that the message of the choice holds; `None` where it holds none.

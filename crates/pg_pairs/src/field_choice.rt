@@ -7,6 +7,7 @@ ghost use Rattle.pg_pairs.specs.Choices.{affordable, choice_of, choices_beside, 
 ghost use Rattle.pg_pairs.specs.Costs.{entry_cost, least_body, one_item};
 ghost use Rattle.pg_pairs.specs.SeenBy.{seen_by};
 
+use crate::case::Case;
 use crate::choice::Choice;
 use crate::cost::{entry_cost, least_body, least_content, nonzero_body, one_item};
 use crate::element::are_like;
@@ -80,7 +81,7 @@ fn key_cost(field: &Field, body: Option<u64>) -> Option<u64>
 pub(crate) fn offer(
     choices: &mut Vec<Choice>,
     number: u32,
-    case: u8,
+    case: Case,
     part: u32,
     cost: Option<u64>,
 ) -> Result<(), AllocError>
@@ -128,14 +129,20 @@ fn offer_plain<V: View, T: Table>(
     let number = old.number;
     let elements = (old.element, new.element);
     if !are_like(old.element, new.element) {
-        return offer(choices, number, 1, 0, Some(unlike_cost(old, new)));
+        return offer(
+            choices,
+            number,
+            Case::Unlike,
+            0,
+            Some(unlike_cost(old, new)),
+        );
     }
     let zero = zero_counts(old, new);
     let gap = gap_body(between.view, between.old, between.new, zero, elements);
     let child = child_body(between.table, elements);
-    offer(choices, number, 2, 0, item_cost(old, gap))?;
-    offer(choices, number, 3, 0, item_cost(old, child))?;
-    offer(choices, number, 4, 0, singular_cost(old, new))
+    offer(choices, number, Case::Gap, 0, item_cost(old, gap))?;
+    offer(choices, number, Case::Child, 0, item_cost(old, child))?;
+    offer(choices, number, Case::List, 0, singular_cost(old, new))
 }
 
 /// The choices of a field that is a map in both types, with those keys.
@@ -157,14 +164,14 @@ fn offer_map<V: View, T: Table>(
     let keys = (Element::Scalar(keys.0), Element::Scalar(keys.1));
     let values = (old.element, new.element);
     if !are_like(keys.0, keys.1) || !are_like(values.0, values.1) {
-        return offer(choices, number, 5, 0, Some(least_content(old)));
+        return offer(choices, number, Case::Map, 0, Some(least_content(old)));
     }
     let key_gap = gap_body(between.view, between.old, between.new, true, keys);
     let value_gap = gap_body(between.view, between.old, between.new, true, values);
     let child = child_body(between.table, values);
-    offer(choices, number, 5, 1, key_cost(old, key_gap))?;
-    offer(choices, number, 5, 2, item_cost(old, value_gap))?;
-    offer(choices, number, 5, 2, item_cost(old, child))
+    offer(choices, number, Case::Map, 1, key_cost(old, key_gap))?;
+    offer(choices, number, Case::Map, 2, item_cost(old, value_gap))?;
+    offer(choices, number, Case::Map, 2, item_cost(old, child))
 }
 
 /// Appends the choices of the field with one number, by case and part.
@@ -186,7 +193,13 @@ pub(crate) fn offer_field<V: View, T: Table>(
             offer_map(between, choices, old, new, (old_key, new_key))
         }
         (Presence::Map { .. }, _) | (_, Presence::Map { .. }) => {
-            offer(choices, old.number, 1, 0, Some(unlike_cost(old, new)))
+            offer(
+                choices,
+                old.number,
+                Case::Unlike,
+                0,
+                Some(unlike_cost(old, new)),
+            )
         }
         _ => offer_plain(between, choices, old, new),
     }

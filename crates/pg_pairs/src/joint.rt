@@ -10,6 +10,7 @@ ghost use Rattle.pg_pairs.specs.Choices.{affordable, choice};
 ghost use Rattle.pg_pairs.specs.Costs.{least_content};
 ghost use Rattle.pg_pairs.specs.Members.{JoinsWith, PassesBy, links, new_oneof};
 
+use crate::case::Case;
 use crate::choice::Choice;
 use crate::cost::least_content;
 use crate::field_choice::offer;
@@ -23,7 +24,7 @@ fn offer_meeting(choices: &mut Vec<Choice>, first: &Field, second: &Field) -> Re
     requires second { second.now.number < 2 ^ 29 }
     ensures { OnOk result (choices.new.items
         ≡ choices.old.items ++ affordable
-        (if not (same_oneof first.now.oneof second.now.oneof) then choice first.now.number 6
+        (if not (same_oneof first.now.oneof second.now.oneof) then choice first.now.number Case.Oneof
         second.now.number (least_content (field_shape first.now) + least_content
         (field_shape second.now)) ∷ [] else [])) }
 {
@@ -31,7 +32,13 @@ fn offer_meeting(choices: &mut Vec<Choice>, first: &Field, second: &Field) -> Re
         return Ok(());
     }
     let cost = least_content(first) + least_content(second);
-    offer(choices, first.number, 6, second.number, Some(cost))
+    offer(
+        choices,
+        first.number,
+        Case::Oneof,
+        second.number,
+        Some(cost),
+    )
 }
 
 /// The place that a field goes on to behind a later one: where this is in its old oneof, past that

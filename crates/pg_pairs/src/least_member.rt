@@ -8,6 +8,7 @@ ghost use Rattle.pg_pairs.specs.Choices.{affordable};
 ghost use Rattle.pg_pairs.specs.LeastMembers.{IsOrdered, KeepsLeast, beside, least_member, lesser, member_of, met_choices};
 ghost use Rattle.pg_pairs.specs.Members.{new_oneof};
 
+use crate::case::Case;
 use crate::choice::Choice;
 use crate::cost::least_content;
 use crate::field_choice::offer;
@@ -110,7 +111,7 @@ fn offer_with(
     offer(
         choices,
         member.number,
-        6,
+        Case::Oneof,
         met.number,
         member.cost.checked_add(met.cost),
     )

@@ -3,6 +3,7 @@
 #![tactic(auto)]
 
 mod breaking;
+mod case;
 mod choice;
 mod comparing;
 mod cost;
@@ -33,6 +34,7 @@ mod witness_message;
 mod work;
 
 pub use breaking::{breaks, breaks_as_written};
+pub use case::Case;
 pub use choice::{Choice, Pair};
 pub use descent::{children, choice_child};
 pub use edge::{Edge, Part};

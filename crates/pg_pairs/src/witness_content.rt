@@ -15,6 +15,7 @@ ghost use Rattle.pg_pairs.specs.CarriedItems.{apart_small, content_alone, has_co
 ghost use Rattle.pg_pairs.specs.Gaps.{gap_item};
 ghost use Rattle.pg_pairs.specs.SeenBy.{seen_by};
 
+use crate::case::Case;
 use crate::choice::Choice;
 use crate::element::are_like;
 use crate::field_choice::zero_counts;
@@ -407,14 +408,15 @@ pub(crate) fn broken_content<V: View>(
 {
     let (old, new) = (fields.old, fields.new);
     match choice.case {
-        1 => Ok(Some(unlike_content(alloc, old, new)?)),
-        2 => {
+        Case::Unlike => Ok(Some(unlike_content(alloc, old, new)?)),
+        Case::Gap => {
             let zero = zero_counts(old, new);
             let item = gap_item(alloc, sides, zero, (old.element, new.element))?;
             some_content(alloc, old, item)
         }
-        3 => child_content(alloc, old, child),
-        4 => lost_content(alloc, old, new),
-        _ => broken_entry(alloc, sides, fields, choice.part, child),
+        Case::Child => child_content(alloc, old, child),
+        Case::List => lost_content(alloc, old, new),
+        Case::Map => broken_entry(alloc, sides, fields, choice.part, child),
+        Case::Oneof => Ok(None),
     }
 }

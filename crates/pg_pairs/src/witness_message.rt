@@ -13,6 +13,7 @@ ghost use Rattle.pg_pairs.specs.Laws.{ReachedBy};
 ghost use Rattle.pg_pairs.specs.Among.{IsAmong};
 ghost use Rattle.pg_pairs.specs.SeenBy.{seen_by};
 
+use crate::case::Case;
 use crate::choice::{Choice, Pair};
 use crate::item::Sides;
 use crate::view::View;
@@ -98,7 +99,7 @@ pub fn carry<V: View>(
     let sides = Sides { view, old, new };
     let field = field_there(old, pair.old, choice.number);
     let mut message = Message::empty(alloc, pair.old);
-    if choice.case == 6 {
+    if choice.case == Case::Oneof {
         let other = field_there(old, pair.old, choice.part);
         add(&mut message, old, field, least_content(alloc, field)?)?;
         add(&mut message, old, other, least_content(alloc, other)?)?;

@@ -58,7 +58,9 @@ fn of_choice(rt: &HostRuntime, old: &Schema, new: &Schema, words: &str) -> io::R
     let Some(table) = table_of(rt.alloc(), bounds)? else {
         return Ok(String::from_str(rt.alloc(), "no table")?);
     };
-    let wanted = choice_of(choice);
+    let Some(wanted) = choice_of(choice) else {
+        return Ok(String::from_str(rt.alloc(), "no choice")?);
+    };
     let Some(choice) = chosen(rt.alloc(), &Numbers, old, new, pair, &table, &wanted)? else {
         return Ok(String::from_str(rt.alloc(), "no choice")?);
     };

@@ -14,12 +14,9 @@ use crate::answer::verifying::name_of;
 use pg_cert::Certificate;
 use pg_least::path;
 use pg_link::Place;
-use pg_pairs::Pair;
+use pg_pairs::{Case, Pair};
 use pg_schema::{Schema, TypeId};
 use std::alloc::{AllocError, Global};
-
-/// The case of two fields that meet in a oneof of the new type.
-const MEETING: u8 = 6;
 
 /// A schema, and where its fields are declared: those of a descriptor set are nowhere.
 #[derive(Clone, Copy)]
@@ -101,7 +98,7 @@ fn add_steps(
 {
     let choice = stage.choice;
     steps.push(step_of(alloc, old, new, stage.pair, choice.number)?)?;
-    if choice.case == MEETING {
+    if choice.case == Case::Oneof {
         steps.push(step_of(alloc, old, new, stage.pair, choice.part)?)?;
     }
     Ok(())

@@ -1,8 +1,9 @@
-use Rattle.std.proofs.Common.{◌≡◌, ◌∙◌, [], Some, IfSome, is_some, option_map, ap, sym, subst, eq-eqb, ne_eqb, true≢false}
+use Rattle.std.proofs.Common.{rules, true, false, ◌≡◌, ◌∙◌, [], Some, IfSome, is_some, option_map, ap, sym, subst, eq-eqb, ne_eqb, true≢false}
 use Rattle.pg_schema.specs.Parts.{field_shape, shape_of}
 use Rattle.pg_schema.specs.Shape.{fields, field_at}
 use Rattle.pg_dyn.specs.Kept.{ends, message_of, type_of}
 use Rattle.pg_dyn.specs.setting.Setting.{IsSetTo}
+use Rattle.pg_pairs.specs.Cases.{is_oneof}
 use Rattle.pg_pairs.specs.Carried.{carried_field, least_part}
 use Rattle.pg_pairs.specs.CarriedItems.{content_alone, IsTakenBy, Puts}
 use Rattle.pg_pairs.specs.Laws.{ReachedBy}
@@ -24,7 +25,7 @@ pub field_there-other-requires : goal.field_there-other-requires
 field_there-other-requires g c =
     let enum_view = seen_by g.V.View c.args.view.now c.args.old.now c.args.new.now in
     let law = enum_view_seen g.V.View.NAME (g.V.View.least_differing c.args.view.now) (g.met.V.View.least_is c.args.view.now) c.args.old.now c.args.new.now in
-    ap is_some ((choice_known enum_view law (shape_of c.args.old.now) (shape_of c.args.new.now) c.parts.ensures.checked.shape c.parts-2.ensures.checked.shape c.requires.choice.0 c.args.pair c.args.choice.now c.requires.choice.1).1.second (eq-eqb c.args.choice.now.case 6 c.if-choice-eq6.true)).1
+    ap is_some ((choice_known enum_view law (shape_of c.args.old.now) (shape_of c.args.new.now) c.parts.ensures.checked.shape c.parts-2.ensures.checked.shape c.requires.choice.0 c.args.pair c.args.choice.now c.requires.choice.1).1.second (let two : is_oneof c.args.choice.now.case ≡ true = search rules in two)).1
 
 pub field_there-requires : goal.field_there-requires
 field_there-requires g c =
@@ -42,18 +43,18 @@ pub add-requires-clause-taken : goal.add-requires-clause-taken
 add-requires-clause-taken g c =
     c.in_ok-least_content.ensures.taken (shape_of c.args.old.now) (element_there (shape_of c.args.old.now) c.parts.ensures.checked.shape c.args.pair.old c.args.choice.now.number (field_shape c.field_there-field.result.now) c.field_there-field.ensures)
 
-pub add-requires-then-choice-eq6-clause-found : goal.add-requires-then-choice-eq6-clause-found
-add-requires-then-choice-eq6-clause-found g c =
+pub add-requires-then-eq-clause-found : goal.add-requires-then-eq-clause-found
+add-requires-then-eq-clause-found g c =
     let other = c.field_there-other.ensures in
     let own = fields_are_found.1 (fields (shape_of c.args.old.now) c.args.pair.old) c.args.choice.now.part (field_shape c.field_there-other.result.now) other in
     subst (λ type. field_at (fields (shape_of c.args.old.now) type) c.field_there-other.result.now.number ≡ Some (field_shape c.field_there-other.result.now)) (sym (c.in_ok-add.ensures.type_is ∙ ap type_of c.empty-message.ensures)) (ap (field_at (fields (shape_of c.args.old.now) c.args.pair.old)) own ∙ other)
 
-pub add-requires-then-choice-eq6-clause-taken : goal.add-requires-then-choice-eq6-clause-taken
-add-requires-then-choice-eq6-clause-taken g c =
+pub add-requires-then-eq-clause-taken : goal.add-requires-then-eq-clause-taken
+add-requires-then-eq-clause-taken g c =
     c.in_ok-least_content-2.ensures.taken (shape_of c.args.old.now) (element_there (shape_of c.args.old.now) c.parts.ensures.checked.shape c.args.pair.old c.args.choice.now.part (field_shape c.field_there-other.result.now) c.field_there-other.ensures)
 
-pub returns-then-choice-eq6-clause-made : goal.returns-then-choice-eq6-clause-made
-returns-then-choice-eq6-clause-made g c =
+pub returns-then-eq-clause-made : goal.returns-then-eq-clause-made
+returns-then-eq-clause-made g c =
     let enum_view = seen_by g.V.View c.args.view.now c.args.old.now c.args.new.now in
     let law = enum_view_seen g.V.View.NAME (g.V.View.least_differing c.args.view.now) (g.met.V.View.least_is c.args.view.now) c.args.old.now c.args.new.now in
     let old = shape_of c.args.old.now in
@@ -63,20 +64,20 @@ returns-then-choice-eq6-clause-made g c =
     let e = field_shape c.field_there-other.result.now in
     let own = fields_are_found.1 (fields old c.args.pair.old) c.args.choice.now.number f c.field_there-field.ensures in
     let own_other = fields_are_found.1 (fields old c.args.pair.old) c.args.choice.now.part e c.field_there-other.ensures in
-    carried_double enum_view old new c.requires.choice.0 law c.parts.ensures.checked.shape c.parts-2.ensures.checked.shape c.args.pair c.args.choice.now c.requires.choice.1 (eq-eqb c.args.choice.now.case 6 c.if-choice-eq6.true)
+    carried_double enum_view old new c.requires.choice.0 law c.parts.ensures.checked.shape c.parts-2.ensures.checked.shape c.args.pair c.args.choice.now c.requires.choice.1 (let two : is_oneof c.args.choice.now.case ≡ true = search rules in two)
     f e stands.beside c.field_there-field.ensures c.field_there-other.ensures stands.at own own_other
     c.in_ok-least_content.field-0 c.in_ok-least_content-2.field-0 (option_map message_of c.args.child)
     (subst (λ n. Puts n c.in_ok-least_content.field-0 (least_part f)) own c.in_ok-least_content.ensures.seen)
     (subst (λ n. Puts n c.in_ok-least_content-2.field-0 (least_part e)) own_other c.in_ok-least_content-2.ensures.seen)
-    c.add.new.message c.add-then-choice-eq6.new.message
+    c.add.new.message c.add-then-eq.new.message
     (subst (λ n. IsSetTo old n c.in_ok-least_content.field-0 (ends c.args.pair.old []) c.add.new.message) own (subst (λ m. IsSetTo old c.field_there-field.result.now.number c.in_ok-least_content.field-0 m c.add.new.message) c.empty-message.ensures c.in_ok-add.ensures.set))
-    (subst (λ n. IsSetTo old n c.in_ok-least_content-2.field-0 c.add.new.message c.add-then-choice-eq6.new.message) own_other c.in_ok-add-2.ensures.set)
+    (subst (λ n. IsSetTo old n c.in_ok-least_content-2.field-0 c.add.new.message c.add-then-eq.new.message) own_other c.in_ok-add-2.ensures.set)
 
-pub returns-then-choice-eq6-clause-reached : goal.returns-then-choice-eq6-clause-reached
-returns-then-choice-eq6-clause-reached g c = λ table among reached.
+pub returns-then-eq-clause-reached : goal.returns-then-eq-clause-reached
+returns-then-eq-clause-reached g c = λ table among reached.
     let enum_view = seen_by g.V.View c.args.view.now c.args.old.now c.args.new.now in
     let law = enum_view_seen g.V.View.NAME (g.V.View.least_differing c.args.view.now) (g.met.V.View.least_is c.args.view.now) c.args.old.now c.args.new.now in
-    subst (λ v. ReachedBy enum_view (shape_of c.args.old.now) (shape_of c.args.new.now) c.args.pair v c.args.choice.now.cost) (sym (returns-then-choice-eq6-clause-made g c))
+    subst (λ v. ReachedBy enum_view (shape_of c.args.old.now) (shape_of c.args.new.now) c.args.pair v c.args.choice.now.cost) (sym (returns-then-eq-clause-made g c))
     (choices_carried enum_view (shape_of c.args.old.now) (shape_of c.args.new.now) table law c.parts.ensures.checked.shape c.parts-2.ensures.checked.shape c.args.pair c.args.choice.now among (option_map message_of c.args.child) reached)
 
 pub add-requires-in-Some-clause-found : goal.add-requires-in-Some-clause-found
@@ -97,7 +98,7 @@ unreachable-requires g c =
     let old = shape_of c.args.old.now in
     let new = shape_of c.args.new.now in
     let f = field_shape c.field_there-field.result.now in
-    let there = choice_content enum_view old new c.requires.choice.0 law c.parts.ensures.checked.shape c.parts-2.ensures.checked.shape c.args.pair c.args.choice.now c.requires.choice.1 c.args.child c.requires.child (ne_eqb c.args.choice.now.case 6 c.if-choice-eq6.false) f (field_shape c.field_there.result.now) c.field_there-field.ensures c.field_there.ensures
+    let there = choice_content enum_view old new c.requires.choice.0 law c.parts.ensures.checked.shape c.parts-2.ensures.checked.shape c.args.pair c.args.choice.now c.requires.choice.1 c.args.child c.requires.child (let one : is_oneof c.args.choice.now.case ≡ false = search rules in one) f (field_shape c.field_there.result.now) c.field_there-field.ensures c.field_there.ensures
     (fields_are_found.1 (fields old c.args.pair.old) c.args.choice.now.number f c.field_there-field.ensures) in
     true≢false (sym there ∙ sym c.in_ok-content.ensures.some ∙ ap is_some c.in-None.is)
 
@@ -112,7 +113,7 @@ returns-clause-made g c =
     let beside = field_shape c.field_there.result.now in
     let own = fields_are_found.1 (fields old c.args.pair.old) c.args.choice.now.number f c.field_there-field.ensures in
     let made = subst (λ o. IfSome o (λ content. content_alone number content ≡ carried_field enum_view f beside c.args.choice.now.case c.args.choice.now.part (option_map message_of c.args.child))) c.in-Some.is c.in_ok-content.ensures.seen in
-    carried_single enum_view old new c.requires.choice.0 law c.parts.ensures.checked.shape c.parts-2.ensures.checked.shape c.args.pair c.args.choice.now c.requires.choice.1 (ne_eqb c.args.choice.now.case 6 c.if-choice-eq6.false)
+    carried_single enum_view old new c.requires.choice.0 law c.parts.ensures.checked.shape c.parts-2.ensures.checked.shape c.args.pair c.args.choice.now c.requires.choice.1 (let one : is_oneof c.args.choice.now.case ≡ false = search rules in one)
     f beside c.field_there-field.ensures c.field_there.ensures own c.in-Some.content c.args.child
     (subst (λ n. content_alone n c.in-Some.content ≡ carried_field enum_view f beside c.args.choice.now.case c.args.choice.now.part (option_map message_of c.args.child)) own made) c.add-in-Some.new.message
     (subst (λ n. IsSetTo old n c.in-Some.content (ends c.args.pair.old []) c.add-in-Some.new.message) own (subst (λ m. IsSetTo old number c.in-Some.content m c.add-in-Some.new.message) c.empty-message.ensures c.in_ok-add-in-Some.ensures.set)) c.requires.child
