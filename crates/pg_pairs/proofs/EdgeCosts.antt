@@ -17,6 +17,8 @@ use Rattle.pg_pairs.specs.declared.case.Case.TheVariants as cases
 use Rattle.pg_pairs.specs.declared.choice.Choice.{Choice}
 use Rattle.pg_pairs.specs.declared.choice.Pair.{Pair}
 use Rattle.pg_pairs.specs.declared.edge.Edge.{Edge}
+use Rattle.pg_pairs.specs.declared.edge.Part.{Part}
+use Rattle.pg_pairs.specs.declared.edge.Part.TheVariants.{Whole, Value}
 use Rattle.pg_pairs.specs.EnumView.{EnumView}
 use Rattle.pg_pairs.specs.Among.{IsAmong}
 use Rattle.pg_pairs.specs.Likeness.{like}
@@ -26,7 +28,7 @@ use Rattle.pg_pairs.specs.Cheapest.{cheapest, first_of}
 use Rattle.pg_pairs.specs.Covering.{message_pair, field_children, children_beside}
 use Rattle.pg_pairs.specs.LeastCosts.{IsNoMore}
 use Rattle.pg_pairs.specs.LeastOf.{cost_under, least_of, lesser_cost}
-use Rattle.pg_pairs.specs.Edges.{ChoicesByEdges, IsByEdges, LeastCostsByEdges, child_case, child_cost, child_part, edge_choice, edge_price, edge_to, edges, no_bounds, part_of}
+use Rattle.pg_pairs.specs.Edges.{LeastCostsByEdges, child_cost, edge_price, edge_to, edges, no_bounds, part_of}
 use Rattle.pg_pairs.specs.EdgeChildren.{among_append, append_left, append_right}
 use Rattle.pg_pairs.proofs.Among.{among_each}
 use Rattle.pg_pairs.proofs.Cheaper.{cheapest-append}
@@ -92,6 +94,15 @@ same_affordable cs ds h c =
     (λ x. among_affordable c ds ((h c).0 (affordable_among c cs x).0) (affordable_among c cs x).1, λ x. among_affordable c cs ((h c).1 (affordable_among c ds x).0) (affordable_among c ds x).1)
 
 -- Choices of fields.
+
+-- a child's choice is that of a map where its value is the message, in part 2
+abbrev child_case : Part → Case
+child_case Whole = cases.Child
+child_case Value = cases.Map
+
+abbrev child_part : Part → ℕ
+child_part Whole = 0
+child_part Value = 2
 
 message_pair_unlike : (e d : Element) → like e d ≡ false → message_pair e d ≡ []
 message_pair_unlike (elements.Message s) (elements.Message t) h = absurd (cc)
@@ -253,26 +264,6 @@ module _ (table : Table) (old new : Shape) (pair : Pair) where
       ∙ ap₂ (λ cs ds. cs ++ ds) (own_choices f ps found.0) (all_of_edges later found.1)
       ∙ sym (flat_map-append of_edge (map (edge_to pair f) ps) (own_edges later))
 
-  -- just the edges' choices stand there
-  to_edge : (c : Choice) (es : List Edge) → IsAmong c (flat_map of_edge es) → (edge : Edge) × IsAmong edge es × (edge_choice old table edge ≡ Some c)
-  to_edge c [] h = absurd h
-  to_edge c (e ∷ es) h =
-      ⊎_elim (λ here. (e, inl refl, one (cost_under (edge_price old) table e) here)) (λ later. let found = to_edge c es later in (found.0, inr found.1, found.2)) (among_append c (of_edge e) (flat_map of_edge es) h)
-    where
-      one : (o : Option ℕ) → IsAmong c (choice_of e.number (child_case e.part) (child_part e.part) o) → option_map (choice e.number (child_case e.part) (child_part e.part)) o ≡ Some c
-      one None h = absurd h
-      one (Some cost) h = ⊎_elim (λ same. ap (λ x. Some x) (sym same)) (λ none. absurd none) h
-
-  from_edge : (c : Choice) (es : List Edge) (edge : Edge) → IsAmong edge es → edge_choice old table edge ≡ Some c → IsAmong c (flat_map of_edge es)
-  from_edge c [] edge among is = absurd among
-  from_edge c (e ∷ es) edge among is =
-      ⊎_elim (λ same. append_left c (of_edge e) (flat_map of_edge es) (one (cost_under (edge_price old) table e) (subst (λ (x : Edge). edge_choice old table x ≡ Some c) same is)))
-      (λ later. append_right c (of_edge e) (flat_map of_edge es) (from_edge c es edge later is)) among
-    where
-      one : (o : Option ℕ) → option_map (choice e.number (child_case e.part) (child_part e.part)) o ≡ Some c → IsAmong c (choice_of e.number (child_case e.part) (child_part e.part) o)
-      one None k = absurd (cc)
-      one (Some cost) k = let same : c ≡ choice e.number (child_case e.part) (child_part e.part) cost = cc in inl same
-
 -- The laws.
 
 same_choices : (enum_view : EnumView) (old new : Shape) (table : Table) (pair : Pair) → AllByRecursion (λ (f : FieldShape). field_at (fields old pair.old) f.number ≡ Some f) (fields old pair.old)
@@ -285,22 +276,6 @@ same_choices enum_view old new table pair found =
     let is : affordable (without ++ by) ≡ choices enum_view no_bounds old new pair ++ flat_map (of_edge table old new pair) (edges old new pair) =
     filter-append' (λ (c : Choice). nat_le c.cost cap) without by ∙ ap (λ cs. affordable without ++ cs) (all_of_edges table old new pair fs found) in
     subst (λ cs. Same (choices enum_view table old new pair) cs) is (same_affordable (all_choices enum_view table gs fs) (without ++ by) (all_split enum_view table gs fs))
-
-pub choices_by_edges : ChoicesByEdges
-choices_by_edges enum_view old new table shape pair c = (to, from)
-  where
-    same : Same (choices enum_view table old new pair) (choices enum_view no_bounds old new pair ++ flat_map (of_edge table old new pair) (edges old new pair))
-    same = same_choices enum_view old new table pair (fields_are_found.2 (fields old pair.old) (fields_are_found.0 old pair.old shape).rising)
-
-    to : IsAmong c (choices enum_view table old new pair) → IsByEdges enum_view old new table pair c
-    to h =
-        ⊎_elim (λ own. inl own) (λ edge. inr (to_edge table old new pair c (edges old new pair) edge))
-        (among_append c (choices enum_view no_bounds old new pair) (flat_map (of_edge table old new pair) (edges old new pair)) ((same c).0 h))
-
-    from : IsByEdges enum_view old new table pair c → IsAmong c (choices enum_view table old new pair)
-    from h =
-        (same c).1 (⊎_elim (λ own. append_left c (choices enum_view no_bounds old new pair) (flat_map (of_edge table old new pair) (edges old new pair)) own)
-        (λ edge. append_right c (choices enum_view no_bounds old new pair) (flat_map (of_edge table old new pair) (edges old new pair)) (from_edge table old new pair c (edges old new pair) edge.0 edge.1 edge.2)) h)
 
 -- Least costs.
 

@@ -25,7 +25,7 @@ use Rattle.pg_pairs.specs.Choices.{Table, choice, choice_of, zero_counts, unlike
 use Rattle.pg_pairs.specs.Cheapest.{cheaper, cheapest, IsCheapest}
 use Rattle.pg_pairs.specs.Covering.{IsWithin}
 use Rattle.pg_pairs.specs.Among.{IsAmong}
-use Rattle.pg_pairs.specs.LeastCosts.{IsNoMore, LeastCostsAreLengths, LeastCostsAreExact}
+use Rattle.pg_pairs.specs.LeastCosts.{least_cost, IsNoMore, LeastCostsAreExact}
 use Rattle.pg_pairs.proofs.Among.{among_each}
 use Rattle.pg_pairs.proofs.Cheaper.{cheapest_is_least}
 use Rattle.pg_wire.proofs.PublicLaws.{lengths_grow}
@@ -259,7 +259,8 @@ met_no_more ds cs h = of (cheapest cs) refl
 each_length : (enum_view : EnumView) (old new : Shape) (table : Table) (pair : Pair) → AllByRecursion (λ (c : Choice). (1 ≤ c.cost) × (c.cost ≤ cap)) (choices enum_view table old new pair)
 each_length enum_view old new table pair = some-affordable (all_choices enum_view table (fields new pair.new) (fields old pair.old)) (some-all enum_view table (fields new pair.new) (fields old pair.old))
 
-pub least_costs_are_lengths : LeastCostsAreLengths
+-- A least cost is a length that an encoding of a breaking message may have.
+pub least_costs_are_lengths : (enum_view : EnumView) (old new : Shape) (table : Table) (pair : Pair) → IfSome (least_cost enum_view table old new pair) (λ n. (1 ≤ n) × (n ≤ cap))
 least_costs_are_lengths enum_view old new table pair = of (cheapest (choices enum_view table old new pair)) refl
   where
     of : (o : Option Choice) → cheapest (choices enum_view table old new pair) ≡ o → IfSome (cost_of o) (λ n. (1 ≤ n) × (n ≤ cap))

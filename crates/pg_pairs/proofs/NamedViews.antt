@@ -7,18 +7,14 @@ use Rattle.pg_dyn.specs.declared.view_name.ViewName.{ViewName}
 use Rattle.pg_dyn.specs.declared.view_name.ViewName.TheVariants as views
 use Rattle.pg_dyn.specs.ViewNames.{alike_under, view_named}
 use Rattle.pg_pairs.specs.LeastNumberLaws.{one_least}
-use Rattle.pg_pairs.specs.NamedView.{least_under, seen_under, NamedViews}
+use Rattle.pg_pairs.specs.NamedView.{least_under, seen_under}
 use Rattle.pg_pairs.specs.NameLaws.{least_by_name_is}
 use Rattle.pg_pairs.specs.EnumView.{IsLeastOf, none_differs}
 use Rattle.pg_pairs.specs.Views.{least_at, enum_view_of}
-use Rattle.pg_pairs.proofs.EnumViews.{enum_view_seen}
 
 least_under_is : (view : ViewName) (old new : EnumType) (zero : Bool) → IsLeastOf (alike_under view old new) zero (least_under view old new zero)
 least_under_is views.Numbers old new zero = none_differs zero
 least_under_is views.Names old new zero = least_by_name_is old new zero
-
-pub named_views : NamedViews
-named_views view old new = (enum_view_seen view (least_under view) (least_under_is view) old new, refl)
 
 module _ (view : ViewName) (least : EnumType → EnumType → Bool → Option ℤ) (law : (old new : EnumType) (zero : Bool) → IsLeastOf (alike_under view old new) zero (least old new zero)) where
   least_is : (old new : EnumType) (zero : Bool) → least old new zero ≡ least_under view old new zero

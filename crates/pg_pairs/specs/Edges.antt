@@ -1,14 +1,11 @@
 -- Two schemas as a graph: the edges of a pair of types are its fields that hold messages in both, and an edge costs what the choice
 -- of its child does.
-use Rattle.std.specs.Prelude.{◌≡◌, ℕ, ◌^◌, ◌<◌, ◌≤◌, nat_le, nat_lt, Bool, true, ◌&&◌, ◌⊎◌, List, ◌∷◌, map, flat_map, length, if◌then◌else◌, Option, Some, None, option_map, option_and_then, IfSome}
+use Rattle.std.specs.Prelude.{◌≡◌, ℕ, ◌^◌, ◌<◌, ◌≤◌, nat_le, nat_lt, Bool, true, ◌&&◌, List, ◌∷◌, map, flat_map, length, if◌then◌else◌, Option, Some, None, option_map, option_and_then, IfSome}
 use Rattle.std.specs.List.{AllByRecursion}
 use Rattle.pg_schema.specs.declared.parts.field.Presence.{Presence}
 use Rattle.pg_schema.specs.declared.parts.field.Presence.TheVariants as presences
 use Rattle.pg_schema.specs.Shape.{Shape, FieldShape, IsShape, fields, field_at}
 use Rattle.pg_dyn.specs.encoding.Encoding.{cap}
-use Rattle.pg_pairs.specs.declared.case.Case.{Case}
-use Rattle.pg_pairs.specs.declared.case.Case.TheVariants as cases
-use Rattle.pg_pairs.specs.declared.choice.Choice.{Choice}
 use Rattle.pg_pairs.specs.declared.choice.Pair.{Pair}
 use Rattle.pg_pairs.specs.declared.edge.Edge.{Edge}
 use Rattle.pg_pairs.specs.declared.edge.Part.{Part}
@@ -16,7 +13,7 @@ use Rattle.pg_pairs.specs.declared.edge.Part.TheVariants.{Whole, Value}
 use Rattle.pg_pairs.specs.EnumView.{EnumView}
 use Rattle.pg_pairs.specs.Among.{IsAmong}
 use Rattle.pg_pairs.specs.Costs.{one_item, with_length}
-use Rattle.pg_pairs.specs.Choices.{Table, choice, choices}
+use Rattle.pg_pairs.specs.Choices.{Table}
 use Rattle.pg_pairs.specs.Covering.{children, children_beside, distinct}
 use Rattle.pg_pairs.specs.LeastCosts.{least_cost}
 use Rattle.pg_pairs.specs.LeastOf.{cost_under, least_of}
@@ -70,35 +67,7 @@ pub record ArePriced (old new : Shape) : Type 0 where
   pub bases_are_lengths : (enum_view : EnumView) (pair : Pair) → IfSome (least_cost enum_view no_bounds old new pair) (λ cost. (1 ≤ cost) × (cost ≤ cap))
   pub costs_more : (edge : Edge) (bound : ℕ) → IfSome (edge_price old edge bound) (λ cost. (bound < cost) × (cost ≤ cap))
 
--- the case of a child's choice: that of a map where its value is the message
-abbrev pub child_case : Part → Case
-child_case Whole = cases.Child
-child_case Value = cases.Map
-
--- and its part: of a map the value is part 2
-abbrev pub child_part : Part → ℕ
-child_part Whole = 0
-child_part Value = 2
-
--- the choice of an edge at the bound of its child, where there is one
-abbrev pub edge_choice : Shape → Table → Edge → Option Choice
-edge_choice old table edge = option_map (choice edge.number (child_case edge.part) (child_part edge.part)) (cost_under (edge_price old) table edge)
-
--- the choice is that of one of the pair's edges
-abbrev pub IsOfEdge : Shape → Shape → Table → Pair → Choice → Type 0
-IsOfEdge old new table pair c = (edge : Edge) × IsAmong edge (edges old new pair) × (edge_choice old table edge ≡ Some c)
-
--- the choice is one without bounds, or that of an edge at its child's bound
-abbrev pub IsByEdges : EnumView → Shape → Shape → Table → Pair → Choice → Type 0
-IsByEdges enum_view old new table pair c = IsAmong c (choices enum_view no_bounds old new pair) ⊎ IsOfEdge old new table pair c
-
--- A pair's choices under a table are those without bounds and those of its edges at their children's bounds, no others and all of them.
-abbrev pub ChoicesByEdges : Type 0
-ChoicesByEdges =
-    (enum_view : EnumView) (old new : Shape) (table : Table) → IsShape old → (pair : Pair) (c : Choice) →
-    (IsAmong c (choices enum_view table old new pair) → IsByEdges enum_view old new table pair c) × (IsByEdges enum_view old new table pair c → IsAmong c (choices enum_view table old new pair))
-
--- So a pair's least cost under a table is the least of its least cost without bounds and of what its edges cost under the table.
+-- A pair's least cost under a table is the least of its least cost without bounds and of what its edges cost under the table.
 abbrev pub LeastCostsByEdges : Type 0
 LeastCostsByEdges =
     (enum_view : EnumView) (old new : Shape) (table : Table) → IsShape old → (pair : Pair) →

@@ -21,11 +21,6 @@ IsNoMore m None = ⊤
 IsNoMore None (Some n) = ⊥
 IsNoMore (Some m) (Some n) = m ≤ n
 
--- A least cost is a length that an encoding of a breaking message may have.
-abbrev pub LeastCostsAreLengths : Type 0
-LeastCostsAreLengths =
-    (enum_view : EnumView) (old new : Shape) (table : Table) (pair : Pair) → IfSome (least_cost enum_view table old new pair) (λ n. (1 ≤ n) × (n ≤ cap))
-
 -- Where a pair's children are there, its least cost is exact as its bound.
 abbrev pub LeastCostsAreExact : Type 0
 LeastCostsAreExact =

@@ -6,15 +6,14 @@ ghost use Rattle.pg_pairs.specs.Cheapest.{CheapestIsLeast};
 ghost use Rattle.pg_pairs.specs.ComesHome.{MessagesComeHome};
 ghost use Rattle.pg_pairs.specs.Contents.{ContentsCost};
 ghost use Rattle.pg_pairs.specs.CoversByNumber.{CoversByNumber};
-ghost use Rattle.pg_pairs.specs.Edges.{ChoicesByEdges, LeastCostsByEdges, PairsLeadToPairs};
+ghost use Rattle.pg_pairs.specs.Edges.{LeastCostsByEdges, PairsLeadToPairs};
 ghost use Rattle.pg_pairs.specs.ElementGaps.{ElementGaps, UnseenAreNotZero};
 ghost use Rattle.pg_pairs.specs.FieldCosts.{ChildrenCost, ListsCost, MapsCost, SingleScalarsCost};
-ghost use Rattle.pg_pairs.specs.FirstSeen.{OnePairMore};
 ghost use Rattle.pg_pairs.specs.Gaps.{GapTable};
 ghost use Rattle.pg_pairs.specs.HomeExamples.{HomeExamples};
-ghost use Rattle.pg_pairs.specs.Laws.{CoveringBounds, EachChoiceIsReached, ExactIsLeast, ExactTablesAgree, NoneIsCompatible};
-ghost use Rattle.pg_pairs.specs.LeastCosts.{LeastCostsAreExact, LeastCostsAreLengths};
-ghost use Rattle.pg_pairs.specs.NamedView.{NamedViews, seen_under};
+ghost use Rattle.pg_pairs.specs.Laws.{CoveringBounds, ExactIsLeast, NoneIsCompatible};
+ghost use Rattle.pg_pairs.specs.LeastCosts.{LeastCostsAreExact};
+ghost use Rattle.pg_pairs.specs.NamedView.{seen_under};
 ghost use Rattle.pg_pairs.specs.ReadBack.{SeenItemsHaveOneBody};
 ghost use Rattle.pg_pairs.specs.SmallPairs.{SmallPairs};
 ghost use Rattle.pg_pairs.specs.EnumView.{IsEnumView};
@@ -74,12 +73,6 @@ pub fn sees_by_name<V: View>(_view: &V, _old: &Schema, _new: &Schema)
     ensures { seen_by V.View _view.now _old.now _new.now ≡ seen_under V.NAME _old.now _new.now }
 {}
 
-/// What the view of a name sees keeps the law of views, and finds alike what the view of that name
-/// does.
-pub fn named_views()
-    ensures { NamedViews }
-{}
-
 /// A content that breaks alone has at least the bytes of one of its field's choices: of scalars,
 /// lists and maps, and of children that are as long as the table says.
 pub fn contents_cost()
@@ -123,12 +116,6 @@ pub fn covers_by_number()
     ensures { CoversByNumber }
 {}
 
-/// Each choice of a pair is the length of a message that breaks, if for each smaller number in the
-/// table there is one.
-pub fn each_choice_is_reached()
-    ensures { EachChoiceIsReached }
-{}
-
 /// The message of a choice breaks and has the choice's cost, if its child, where it has one, breaks
 /// and has the length of its pair's bound.
 pub fn each_choice_is_carried()
@@ -152,16 +139,6 @@ pub fn exact_is_least()
     ensures { ExactIsLeast }
 {}
 
-/// Two such tables say the same of a pair that is in both.
-pub fn exact_tables_agree()
-    ensures { ExactTablesAgree }
-{}
-
-/// A pair's least cost is a length that the encoding of a breaking message may have.
-pub fn least_costs_are_lengths()
-    ensures { LeastCostsAreLengths }
-{}
-
 /// As its bound, a pair's least cost is exact.
 pub fn least_costs_are_exact()
     ensures { LeastCostsAreExact }
@@ -172,21 +149,10 @@ pub fn pairs_lead_to_pairs()
     ensures { PairsLeadToPairs }
 {}
 
-/// A choice of a pair under a table is one without bounds or that of an edge at its child's bound;
-/// and these are all choices.
-pub fn choices_by_edges()
-    ensures { ChoicesByEdges }
-{}
-
-/// So a pair's least cost under a table is the least of its least cost without bounds and of what
-/// its edges cost at the bounds of their children.
+/// A pair's least cost under a table is the least of its least cost without bounds and of what its
+/// edges cost at the bounds of their children.
 pub fn least_costs_by_edges()
     ensures { LeastCostsByEdges }
-{}
-
-/// One pair more at the end of a list stands among its distinct pairs if it isn't one of them.
-pub fn one_pair_more()
-    ensures { OnePairMore }
 {}
 
 /// Where two types are compatible under a view and the pair returns, each plain message of the old

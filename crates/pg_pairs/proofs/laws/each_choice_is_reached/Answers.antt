@@ -1,5 +1,0 @@
-use Rattle.pg_pairs.proofs.Reached as Reached
-use Rattle.pg_pairs.proofs.laws.each_choice_is_reached.Goals as goal
-
-pub returns : goal.returns
-returns c = Reached.choices_reached

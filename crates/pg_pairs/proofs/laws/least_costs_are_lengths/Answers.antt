@@ -1,5 +1,0 @@
-use Rattle.pg_pairs.proofs.LeastCosts as LeastCosts
-use Rattle.pg_pairs.proofs.laws.least_costs_are_lengths.Goals as goal
-
-pub returns : goal.returns
-returns c = LeastCosts.least_costs_are_lengths
