@@ -6,7 +6,7 @@ ghost use Rattle.std.specs.Prelude.{◌≡◌, ◌⊎◌, length, nat_eq, slice_
 ghost use Rattle.std.specs.Option.{option_copied};
 ghost use Rattle.pg_cert.specs.declared.bounds.BoundsError.TheVariants.{Invariant};
 ghost use Rattle.pg_cert.specs.declared.error.CertError.TheVariants as errors;
-ghost use Rattle.pg_cert.specs.Bounds.{are_bounds, bound_in, is_bound, with_bound};
+ghost use Rattle.pg_cert.specs.Bounds.{are_bounds, bound_in};
 ghost use Rattle.pg_cert.specs.Certificate.{AreBytes, Claim, is_witness, verdict_of};
 ghost use Rattle.pg_cert.specs.ClaimView.{HoldsOf, IsFirstFaultOf, SaysOf};
 ghost use Rattle.pg_cert.specs.Codes.{code_of};
@@ -173,14 +173,6 @@ pub fn get(bounds: &Bounds, at: usize) -> Option<PairBound>
     ensures { result ≡ slice_get bounds.now at }
 {
     bounds.get(at)
-}
-
-/// What `Bounds::set_bound` does.
-pub fn set_bound(bounds: &mut Bounds, at: usize, bound: Option<u32>)
-    requires { is_bound bound ≡ true }
-    ensures { bounds.new ≡ with_bound bounds.old at bound }
-{
-    bounds.set_bound(at, bound)
 }
 
 /// The bound of a pair in a table.

@@ -17,5 +17,4 @@ pub mod OneSpelling
 pub mod OneText
 pub mod WorkedTexts
 pub mod Witnesses
-pub mod Setting
 pub mod WitnessSteps

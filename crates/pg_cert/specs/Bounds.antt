@@ -1,5 +1,5 @@
 -- Tables of bounds as lists (this profile's choice: what a certificate holds).
-use Rattle.std.specs.Prelude.{ℕ, zero, suc, nat_le, List, [], ◌∷◌, find, Bool, true, not, ◌&&◌, Option, Some, None, option_map, is_some}
+use Rattle.std.specs.Prelude.{ℕ, nat_le, List, [], ◌∷◌, find, Bool, true, not, ◌&&◌, Option, Some, None, option_map, is_some}
 use Rattle.pg_dyn.specs.encoding.Encoding.{cap}
 use Rattle.pg_pairs.specs.Choices.{Table}
 use Rattle.pg_pairs.specs.Covering.{same_pair}
@@ -18,9 +18,3 @@ bound_in bounds pair = option_map (λ (b : PairBound). b.bound) (find (λ (b : P
 abbrev pub are_bounds : List PairBound → Bool
 are_bounds [] = true
 are_bounds (b ∷ bounds) = is_bound b.bound && not (is_some (bound_in bounds b.pair)) && are_bounds bounds
-
--- the same bounds with another one at that place
-abbrev pub with_bound : List PairBound → ℕ → Option ℕ → List PairBound
-with_bound [] at bound = []
-with_bound (b ∷ bounds) zero bound = record { pair = b.pair; bound = bound } ∷ bounds
-with_bound (b ∷ bounds) (suc at) bound = b ∷ with_bound bounds at bound

@@ -2,7 +2,7 @@
 
 ghost use Rattle.std.specs.Prelude.{◌≡◌, true, false, length, map, nat_eq, slice_get, IfErr, IfOk, Option};
 ghost use Rattle.pg_cert.specs.declared.bounds.BoundsError.TheVariants.{Invariant};
-ghost use Rattle.pg_cert.specs.Bounds.{are_bounds, is_bound, bound_in, with_bound};
+ghost use Rattle.pg_cert.specs.Bounds.{are_bounds, is_bound, bound_in};
 ghost use Rattle.pg_cert.specs.Entries.{bound_of};
 
 use crate::pair_keys::PairKeys;
@@ -134,17 +134,6 @@ impl Bounds {
             },
             bound: *bound,
         })
-    }
-
-    /// Sets the bound of the pair at the place, counted from 0; where there are not so many, the
-    /// table stays as it is. The bound is 'none' or from 1 to 2,147,483,647.
-    pub fn set_bound(&mut self, at: usize, bound: Option<u32>)
-        requires { is_bound bound ≡ true }
-        ensures { self.new ≡ with_bound self.old at bound }
-    {
-        if let Some(entry) = self.entries.get_index_mut(at) {
-            *entry = bound;
-        }
     }
 }
 

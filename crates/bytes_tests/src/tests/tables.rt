@@ -53,17 +53,6 @@ fn the_bounds_of_a_table(rt: HostRuntime) -> Result<(), Fail> {
 }
 
 #[test]
-fn another_bound(rt: HostRuntime) -> Result<(), Fail> {
-    let mut table = table(rt.alloc(), &[line(ROOT, None), line(OTHER, Some(11))])?;
-    table.set_bound(0, Some(8));
-    assert!(rt; has(&table, Some(8), Some(11)));
-    table.set_bound(1, None);
-    table.set_bound(2, Some(3));
-    assert!(rt; has(&table, Some(8), None));
-    Ok(())
-}
-
-#[test]
 fn a_witness_has_bytes(rt: HostRuntime) -> Result<(), Fail> {
     let alloc = rt.alloc();
     let table_of_none = table(alloc, &[])?;
