@@ -8,6 +8,10 @@ mod relaying;
 ghost use Rattle.std.specs.Prelude.{◌≡◌, Err, IfErr, IfOk};
 ghost use Rattle.pg_cert.specs.declared.error.CertError.TheVariants as faults;
 ghost use Rattle.pg_cert.specs.Certificate.{verdict_of};
+ghost use Rattle.pg_least.specs.Path.{CarriesWitness};
+ghost use Rattle.pg_pairs.specs.EnumView.{by_numbers};
+ghost use Rattle.pg_pairs.specs.NamedView.{seen_under};
+ghost use Rattle.pg_schema.specs.Parts.{shape_of};
 ghost use Rattle.pg_gate.specs.Answer.{IsAnswer, IsRefusedRoot, Lacks, certificate_of};
 ghost use Rattle.pg_gate.specs.Codes.{code_of};
 ghost use Rattle.pg_gate.specs.ViewAnswer.{IsAnswerUnder};
@@ -22,6 +26,8 @@ use std::alloc::{AllocError, AllocFailed, Global};
 /// What `gate` answers.
 pub fn gate(alloc: Global, old: &Schema, new: &Schema, root: &str) -> Result<Answer, GateError>
     ensures answer { IfOk result (IsAnswer old.now new.now root.now) }
+    ensures carried { IfOk result (λ answer. CarriesWitness by_numbers (shape_of old.now)
+        (shape_of new.now) (certificate_of answer)) }
     ensures old_missing { Lacks old.now root.now → result ≡ Err errors.RootMissingOld }
     ensures new_missing { (Lacks old.now root.now → ⊥) → Lacks new.now root.now
         → result ≡ Err errors.RootMissingNew }
@@ -39,6 +45,8 @@ pub fn gate_with(
     view: ViewName,
 ) -> Result<Answer, GateError>
     ensures answer { IfOk result (IsAnswerUnder view old.now new.now root.now) }
+    ensures carried { IfOk result (λ answer. CarriesWitness (seen_under view old.now new.now)
+        (shape_of old.now) (shape_of new.now) (certificate_of answer)) }
     ensures old_missing { Lacks old.now root.now → result ≡ Err errors.RootMissingOld }
     ensures new_missing { (Lacks old.now root.now → ⊥) → Lacks new.now root.now
         → result ≡ Err errors.RootMissingNew }

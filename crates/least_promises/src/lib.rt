@@ -10,7 +10,7 @@ ghost use Rattle.pg_pairs.specs.EnumView.{by_numbers};
 ghost use Rattle.pg_pairs.specs.SeenBy.{seen_by};
 ghost use Rattle.pg_cert.specs.Bounds.{bound_in};
 ghost use Rattle.pg_cert.specs.ClaimView.{view_in};
-ghost use Rattle.pg_least.specs.Path.{IsPath};
+ghost use Rattle.pg_least.specs.Path.{CarriesWitness, IsPath};
 ghost use Rattle.pg_least.specs.Exact.{IsBesideClaim, IsSearched};
 ghost use Rattle.pg_least.specs.Least.{IsCounted, IsSettled};
 
@@ -26,6 +26,8 @@ pub fn find(alloc: Global, old: &Schema, new: &Schema, root: Pair) -> Result<Fou
     requires new_type { root.new.index < length (shape_of new.now) }
     ensures searched { IfOk result (λ found. IsSearched by_numbers (shape_of old.now)
         (shape_of new.now) root found.certificate) }
+    ensures carried { IfOk result (λ found. CarriesWitness by_numbers (shape_of old.now)
+        (shape_of new.now) found.certificate) }
     ensures witness { IfOk result (λ found. IsBesideClaim by_numbers (shape_of old.now)
         (shape_of new.now) found.certificate found.witness) }
     ensures named { IfOk result (λ found. found.certificate.view ≡ views.Numbers) }
@@ -46,6 +48,9 @@ pub fn find_with<V: View>(
     ensures searched { IfOk result (λ found.
         IsSearched (seen_by V.View view.now old.now new.now)
         (shape_of old.now) (shape_of new.now) root found.certificate) }
+    ensures carried { IfOk result (λ found.
+        CarriesWitness (seen_by V.View view.now old.now new.now)
+        (shape_of old.now) (shape_of new.now) found.certificate) }
     ensures witness { IfOk result (λ found.
         IsBesideClaim (seen_by V.View view.now old.now new.now)
         (shape_of old.now) (shape_of new.now) found.certificate found.witness) }
@@ -67,6 +72,9 @@ pub fn search_with<V: View>(
     ensures searched { IfOk result (λ certificate.
         IsSearched (seen_by V.View view.now old.now new.now)
         (shape_of old.now) (shape_of new.now) root certificate) }
+    ensures carried { IfOk result (λ certificate.
+        CarriesWitness (seen_by V.View view.now old.now new.now)
+        (shape_of old.now) (shape_of new.now) certificate) }
     ensures named { IfOk result (λ certificate. certificate.view ≡ V.NAME) }
 {
     pg_least::search_with(alloc, view, old, new, root)
@@ -83,6 +91,8 @@ pub fn search(
     requires new_type { root.new.index < length (shape_of new.now) }
     ensures searched { IfOk result (λ certificate. IsSearched by_numbers (shape_of old.now)
         (shape_of new.now) root certificate) }
+    ensures carried { IfOk result (λ certificate. CarriesWitness by_numbers (shape_of old.now)
+        (shape_of new.now) certificate) }
     ensures named { IfOk result (λ certificate. certificate.view ≡ views.Numbers) }
 {
     pg_least::search(alloc, old, new, root)
@@ -99,6 +109,8 @@ pub fn search_counted(
     requires new_type { root.new.index < length (shape_of new.now) }
     ensures searched { IfOk result (λ found. IsSearched by_numbers (shape_of old.now)
         (shape_of new.now) root found.0) }
+    ensures carried { IfOk result (λ found. CarriesWitness by_numbers (shape_of old.now)
+        (shape_of new.now) found.0) }
     ensures named { IfOk result (λ found. found.0.view ≡ views.Numbers) }
     ensures counted { IfOk result (λ found.
         IsCounted (edges (shape_of old.now) (shape_of new.now)) found.0.bounds found.1) }

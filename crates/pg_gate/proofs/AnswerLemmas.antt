@@ -1,5 +1,5 @@
 -- What a search answers, as the gate's answer; and this as the answer of two sides.
-use Rattle.std.proofs.Common.{◌≡◌, ◌∙◌, ℕ, List, length, Bool, true, false, ◌&&◌, Option, Some, None, refl, ap, sym, subst, option_and_then, option_map, is_some, IfSome, Result, IfErr}
+use Rattle.std.proofs.Common.{◌≡◌, ◌∙◌, ℕ, List, length, Bool, true, false, ◌&&◌, Option, Some, None, refl, ap, sym, subst, option_and_then, option_map, is_some, IfSome, Result, Ok, Err, IfErr, IfOk}
 use Rattle.std.proofs.lemmas.Slice.Eq.{bytes_eq-Decides}
 use Rattle.clap.specs.Words.{Text}
 use Rattle.pg_schema.specs.declared.parts.Parts.{Parts}
@@ -16,13 +16,13 @@ use Rattle.pg_pairs.specs.declared.choice.Pair.{Pair}
 use Rattle.pg_pairs.specs.Choices.{number_for}
 use Rattle.pg_dyn.specs.declared.view_name.ViewName.{ViewName}
 use Rattle.pg_pairs.specs.NamedView.{seen_under}
-use Rattle.pg_pairs.specs.EnumView.{EnumView}
+use Rattle.pg_pairs.specs.EnumView.{EnumView, by_numbers}
 use Rattle.pg_cert.specs.Bounds.{bound_in}
 use Rattle.pg_cert.specs.Certificate.{Claim, IsWitnessedIfThere}
 use Rattle.pg_cert.specs.ClaimView.{view_in}
 use Rattle.pg_cert.specs.Text.{IsClaimOf}
-use Rattle.pg_least.specs.Exact.{AreCarried, IsBesideClaim, IsSearched, IsWitnessMessage}
-use Rattle.pg_least.specs.Path.{IsPath, carried_along}
+use Rattle.pg_least.specs.Exact.{IsBesideClaim, IsSearched, IsWitnessMessage}
+use Rattle.pg_least.specs.Path.{AreCarried, CarriesWitness, IsPath, carried_along}
 use Rattle.pg_gate.specs.Answer.{AreRoots, IsAnswer, IsAnswerBy, IsBroken, IsCompatible, IsLost, IsRefusedRoot, Lacks, NewSees, OldWrites, certificate_of}
 use Rattle.pg_gate.specs.ViewAnswer.{IsAnswerUnder}
 use Rattle.pg_gate.specs.Files.{IsFaultOfSide, IsSide, IsSideError}
@@ -184,29 +184,34 @@ searched_by view old new root (answers.Breaks witness certificate) is =
 
 -- the witness is the encoding of the message that the path of its steps carries
 steps_carry : (view : ViewName) (old new : Parts) (certificate : Claim) (bytes : List ℕ) (steps : List Step) → certificate.view ≡ view
-    → IsSearched (seen_under view old new) (shape_of old) (shape_of new) certificate.root certificate → certificate.witness ≡ Some bytes → (are : AreSteps old new certificate steps)
+    → CarriesWitness (seen_under view old new) (shape_of old) (shape_of new) certificate → certificate.witness ≡ Some bytes → (are : AreSteps old new certificate steps)
     → option_map (enc (shape_of old) certificate.root.old) (carried_along (seen_under view old new) (shape_of old) (shape_of new) are.path) ≡ Some bytes
-steps_carry view old new certificate bytes steps named searched written are =
+steps_carry view old new certificate bytes steps named carries written are =
     let carried : AreCarried (seen_under view old new) (shape_of old) (shape_of new) certificate bytes =
-    subst (λ (o : Option (List ℕ)). IfSome o (AreCarried (seen_under view old new) (shape_of old) (shape_of new) certificate)) written searched.carried in
+    subst (λ (o : Option (List ℕ)). IfSome o (AreCarried (seen_under view old new) (shape_of old) (shape_of new) certificate)) written carries in
     carried are.path
     (subst (λ (v : ViewName). IsPath (seen_under v old new) (shape_of old) (shape_of new) (bound_in certificate.bounds) certificate.root are.path) named are.is_path)
 
 -- what is told of an answer's certificate is what is found
-pub found_by : (view : ViewName) (old new : Parts) (root : Text) (answer : Answer) (certificate_only explain : Bool) (finding : Finding) → IsAnswerUnder view old new root answer
+pub found_by : (view : ViewName) (old new : Parts) (root : Text) (answer : Answer) (certificate_only explain : Bool) (finding : Finding) → IsAnswerUnder view old new root answer → CarriesWitness (seen_under view old new) (shape_of old) (shape_of new) (certificate_of answer)
     → Reports old new (certificate_of answer) certificate_only explain finding → IsFindingOf view old new root certificate_only explain finding
-found_by view old new root (answers.Compatible certificate) false explain findings.Compatible is tells = record { certificate = certificate; named = is.0; compatible = is.1 }
-found_by view old new root (answers.Breaks message certificate) false explain findings.Compatible is tells = absurd (let no : ◌≡◌ {A = Option (List ℕ)} None (Some _) = sym tells ∙ is.1.bytes_are in cc)
-found_by view old new root (answers.Compatible certificate) false explain (findings.Breaks bytes steps readings) is tells = absurd (let no : ◌≡◌ {A = Option (List ℕ)} None (Some bytes.items) = sym is.1.no_witness ∙ tells.0 in cc)
-found_by view old new root (answers.Breaks message certificate) false explain (findings.Breaks bytes steps readings) is tells = record { message = message; certificate = certificate; named = is.0; broken = is.1; bytes_are = tells.0; are_steps = tells.1; carried = steps_carry view old new certificate bytes.items steps.items is.0 is.1.searched tells.0 tells.1; explained = tells.2 }
-found_by view old new root answer false explain (findings.Certified text breaks) is tells = absurd tells
-found_by view old new root answer true explain findings.Compatible is tells = absurd tells
-found_by view old new root answer true explain (findings.Breaks bytes steps readings) is tells = absurd tells
-found_by view old new root answer true explain (findings.Certified text breaks) is tells = record { answer = answer; is_answer = is; certifies = tells.0; is_second = tells.1; breaks_is = tells.2 }
-found_by view old new root answer false explain (findings.Verified verified) is tells = absurd tells
-found_by view old new root answer true explain (findings.Verified verified) is tells = absurd tells
+found_by view old new root (answers.Compatible certificate) false explain findings.Compatible is carries tells = record { certificate = certificate; named = is.0; compatible = is.1 }
+found_by view old new root (answers.Breaks message certificate) false explain findings.Compatible is carries tells = absurd (let no : ◌≡◌ {A = Option (List ℕ)} None (Some _) = sym tells ∙ is.1.bytes_are in cc)
+found_by view old new root (answers.Compatible certificate) false explain (findings.Breaks bytes steps readings) is carries tells = absurd (let no : ◌≡◌ {A = Option (List ℕ)} None (Some bytes.items) = sym is.1.no_witness ∙ tells.0 in cc)
+found_by view old new root (answers.Breaks message certificate) false explain (findings.Breaks bytes steps readings) is carries tells = record { message = message; certificate = certificate; named = is.0; broken = is.1; bytes_are = tells.0; are_steps = tells.1; carried = steps_carry view old new certificate bytes.items steps.items is.0 carries tells.0 tells.1; explained = tells.2 }
+found_by view old new root answer false explain (findings.Certified text breaks) is carries tells = absurd tells
+found_by view old new root answer true explain findings.Compatible is carries tells = absurd tells
+found_by view old new root answer true explain (findings.Breaks bytes steps readings) is carries tells = absurd tells
+found_by view old new root answer true explain (findings.Certified text breaks) is carries tells = record { answer = answer; is_answer = is; certifies = tells.0; is_second = tells.1; breaks_is = tells.2 }
+found_by view old new root answer false explain (findings.Verified verified) is carries tells = absurd tells
+found_by view old new root answer true explain (findings.Verified verified) is carries tells = absurd tells
 
 -- ---- sides
+
+-- what follows from two facts of an answer
+pub both_ok : {A E : Type 0} (r : Result A E) (P Q R : A → Type 0) → ((x : A) → P x → Q x → R x) → IfOk r P → IfOk r Q → IfOk r R
+both_ok (Ok x) P Q R f p q = f x p q
+both_ok (Err e) P Q R f p q = tt
 
 -- a fault of the old side
 pub of_old_side : (old new : World) (error : GateError) → IsSideError old sides.Old error → IsSidesError old new error
@@ -226,8 +231,8 @@ of_sides root old new error is =
     error-weaker (IsSidesFault old new) (IsSidesFault old new) (λ no. absurd no) (λ no. absurd no) (λ no. no) (λ side fault is. is) error is
 
 module _ (root : Text) (old new : World) (a b : Parts) (of_old : IsSide old a) (of_new : IsSide new b) where
-  pub answer_of_files : (answer : Answer) → IsAnswer a b root answer → IsAnswerOfFiles root old new answer
-  answer_of_files answer is = record { old_schema = a; new_schema = b; of_old = of_old; of_new = of_new; so = is }
+  pub answer_of_files : (answer : Answer) → IsAnswer a b root answer → CarriesWitness by_numbers (shape_of a) (shape_of b) (certificate_of answer) → IsAnswerOfFiles root old new answer
+  answer_of_files answer is carried = record { old_schema = a; new_schema = b; of_old = of_old; of_new = of_new; so = (is, carried) }
 
   pub reply_of_files : (view : ViewName) (certificate_only both explain : Bool) (reply : Reply) → IsGateReply view a b root certificate_only both explain reply
       → Between old new (λ a b. IsGateReply view a b root certificate_only both explain reply)

@@ -6,7 +6,8 @@ use Rattle.pg_cert.specs.Text.{Certifies, IsSecondText}
 use Rattle.pg_dyn.specs.declared.view_name.ViewName.{ViewName}
 use Rattle.pg_dyn.specs.encoding.Encoding.{enc}
 use Rattle.pg_dyn.specs.Kept.{Kept}
-use Rattle.pg_least.specs.Path.{carried_along}
+use Rattle.pg_least.specs.Path.{CarriesWitness, carried_along}
+use Rattle.pg_pairs.specs.EnumView.{by_numbers}
 use Rattle.pg_pairs.specs.NamedView.{seen_under}
 use Rattle.pg_schema.specs.declared.parts.Parts.{Parts}
 use Rattle.pg_schema.specs.Parts.{shape_of}
@@ -69,8 +70,9 @@ IsSidesError old new = IsError ⊥ ⊥ ⊥ (IsSidesFault old new)
 abbrev pub IsGateError : Text → World → World → GateError → Type 0
 IsGateError root old new = IsError (Between old new (λ a b. Lacks a root)) (Between old new (λ a b. (Lacks a root → ⊥) × Lacks b root)) ⊥ (IsSidesFault old new)
 
+-- of two sides that compile the answer is the gate's, and a witness in it is what the path of its certificate carries
 abbrev pub IsAnswerOfFiles : Text → World → World → Answer → Type 0
-IsAnswerOfFiles root old new answer = Between old new (λ a b. IsAnswer a b root answer)
+IsAnswerOfFiles root old new answer = Between old new (λ a b. IsAnswer a b root answer × CarriesWitness by_numbers (shape_of a) (shape_of b) (certificate_of answer))
 
 -- the types are compatible under the view, as some certificate shows
 pub record IsShownCompatible (view : ViewName) (old new : Parts) (root : Text) : Type 0 where

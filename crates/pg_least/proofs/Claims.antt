@@ -14,8 +14,8 @@ use Rattle.pg_cert.specs.declared.bounds.PairBound.{PairBound}
 use Rattle.pg_cert.specs.Bounds.{are_bounds, bound_in, is_bound}
 use Rattle.pg_cert.specs.Certificate.{Claim, IsWitnessedIfThere, is_witness}
 use Rattle.pg_least.specs.Descent.{IsTableOf}
-use Rattle.pg_least.specs.Exact.{AreCarried, BoundSays, IsSearched, pairs_of}
-use Rattle.pg_least.specs.Path.{IsCarriedFrom}
+use Rattle.pg_least.specs.Exact.{BoundSays, IsSearched, pairs_of}
+use Rattle.pg_least.specs.Path.{CarriesWitness, IsCarriedFrom}
 
 same_pair-refl : (p : Pair) → same_pair p p ≡ true
 same_pair-refl p = rw (eq-eqb p.old.index p.old.index refl, eq-eqb p.new.index p.new.index refl) refl
@@ -63,19 +63,18 @@ module _ (enum_view : EnumView) (old new : Shape) (law : IsEnumView enum_view) (
   abbrev pub claim : Option (List ℕ) → Claim
   claim witness = record { view = view; root = root; bounds = bounds; witness = witness }
 
-  searched : (witness : Option (List ℕ)) → IsWitnessedIfThere enum_view old new root (bound_in bounds root) witness → is_some witness ≡ is_some (number_for (bound_in bounds) root) → IfSome witness (AreCarried enum_view old new (claim witness)) → IsSearched enum_view old new root (claim witness)
-  searched witness witnessed where_it_breaks carried = record {
+  searched : (witness : Option (List ℕ)) → IsWitnessedIfThere enum_view old new root (bound_in bounds root) witness → is_some witness ≡ is_some (number_for (bound_in bounds) root) → IsSearched enum_view old new root (claim witness)
+  searched witness witnessed where_it_breaks = record {
     root_is = refl;
     holds = record { covers = covers; witnessed = witnessed };
     witness_where_it_breaks = where_it_breaks;
-    carried = carried;
     reached = table.reached;
     exact = table.exact;
     says = says;
   }
 
   pub searched_none : is_some (number_for (bound_in bounds) root) ≡ false → IsSearched enum_view old new root (claim None)
-  searched_none no_number = searched None tt (sym no_number) tt
+  searched_none no_number = searched None tt (sym no_number)
 
   -- with a message of as many bytes as the root's bound says
   module _ (kept : Kept) (type_is : type_of kept ≡ root.old) (n : ℕ) (number : bound_in bounds root ≡ Some (Some n)) (reached : ReachedBy enum_view old new root (message_of kept) n) (bytes : List ℕ) (written : bytes ≡ enc old (type_of kept) (message_of kept)) where
@@ -85,8 +84,8 @@ module _ (enum_view : EnumView) (old new : Shape) (law : IsEnumView enum_view) (
     pub bytes_length : length bytes ≡ n
     bytes_length = ap length of_root ∙ reached.1
 
-    pub searched_some : IsCarriedFrom enum_view old new (bound_in bounds) root (message_of kept) → IsSearched enum_view old new root (claim (Some bytes))
-    searched_some along =
+    pub searched_some : IsSearched enum_view old new root (claim (Some bytes))
+    searched_some =
         searched (Some bytes)
         (record {
           message = message_of kept;
@@ -95,4 +94,6 @@ module _ (enum_view : EnumView) (old new : Shape) (law : IsEnumView enum_view) (
           length_is = number ∙ ap (λ x. Some (Some x)) (sym bytes_length);
         })
         (rw number refl)
-        (λ path is. ap (option_map (enc old root.old)) (along path is) ∙ ap Some (sym of_root))
+
+    pub carried_some : IsCarriedFrom enum_view old new (bound_in bounds) root (message_of kept) → CarriesWitness enum_view old new (claim (Some bytes))
+    carried_some along path is = ap (option_map (enc old root.old)) (along path is) ∙ ap Some (sym of_root)

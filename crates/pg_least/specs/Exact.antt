@@ -14,8 +14,6 @@ use Rattle.pg_cert.specs.declared.bounds.PairBound.{PairBound}
 use Rattle.pg_cert.specs.Bounds.{bound_in}
 use Rattle.pg_cert.specs.Certificate.{Claim, Holds}
 use Rattle.pg_pairs.specs.Reached.{IsReachedInOrder}
-use Rattle.pg_least.specs.declared.witness.Step.{Step}
-use Rattle.pg_least.specs.Path.{IsPath, carried_along}
 
 abbrev pub pairs_of : List PairBound → List Pair
 pairs_of bounds = map (λ (b : PairBound). b.pair) bounds
@@ -25,22 +23,14 @@ abbrev pub BoundSays : EnumView → Shape → Shape → Pair → Option ℕ → 
 BoundSays enum_view old new pair (Some n) = Least enum_view.alike old new pair.old pair.new n
 BoundSays enum_view old new pair None = Compatible enum_view.alike old new pair.old pair.new
 
--- the bytes are those of the message that the path from the root carries
-abbrev pub AreCarried : EnumView → Shape → Shape → Claim → List ℕ → Type 0
-AreCarried enum_view old new claim bytes =
-    (path : List Step) → IsPath enum_view old new (bound_in claim.bounds) claim.root path
-    → option_map (enc old claim.root.old) (carried_along enum_view old new path) ≡ Some bytes
-
 -- The claim is of the pair asked for. A checker takes it: its table covers the root, and its witness is a breaking message of as many
--- bytes as the root's bound says. There is a witness just where this bound is a number. It is the encoding
--- of the message that the path from the root carries. The table has the root and the pairs that it
--- leads to, breadth first, and no others. Each bound is the least cost of its pair's choices, under this table itself; and it says the
--- least length of the pair's breaking messages, or that there are none.
+-- bytes as the root's bound says. There is a witness just where this bound is a number. The table has the
+-- root and the pairs that it leads to, breadth first, and no others. Each bound is the least cost of its pair's choices, under this table
+-- itself; and it says the least length of the pair's breaking messages, or that there are none.
 pub record IsSearched (enum_view : EnumView) (old new : Shape) (root : Pair) (claim : Claim) : Type 0 where
   pub root_is : claim.root ≡ root
   pub holds : Holds enum_view old new claim
   pub witness_where_it_breaks : is_some claim.witness ≡ is_some (number_for (bound_in claim.bounds) root)
-  pub carried : IfSome claim.witness (AreCarried enum_view old new claim)
   pub reached : IsReachedInOrder (children old new) root (pairs_of claim.bounds)
   pub exact : (pair : Pair) (bound : Option ℕ) → bound_in claim.bounds pair ≡ Some bound → IsExact enum_view old new (bound_in claim.bounds) pair bound
   pub says : (pair : Pair) (bound : Option ℕ) → bound_in claim.bounds pair ≡ Some bound → BoundSays enum_view old new pair bound

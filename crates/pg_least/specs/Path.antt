@@ -1,12 +1,15 @@
 -- The path of a witness, and the message that it carries.
-use Rattle.std.specs.Prelude.{◌≡◌, List, [], ◌∷◌, Option, Some, None}
+use Rattle.std.specs.Prelude.{◌≡◌, ℕ, List, [], ◌∷◌, Option, Some, None, option_map, IfSome}
 use Rattle.pg_schema.specs.Shape.{Shape}
+use Rattle.pg_dyn.specs.encoding.Encoding.{enc}
 use Rattle.pg_dyn.specs.Message.{Message}
 use Rattle.pg_pairs.specs.declared.choice.Pair.{Pair}
 use Rattle.pg_pairs.specs.EnumView.{EnumView}
 use Rattle.pg_pairs.specs.Carried.{carried, choice_child}
 use Rattle.pg_pairs.specs.Cheapest.{cheapest}
 use Rattle.pg_pairs.specs.Choices.{Table, choices}
+use Rattle.pg_cert.specs.Bounds.{bound_in}
+use Rattle.pg_cert.specs.Certificate.{Claim}
 use Rattle.pg_least.specs.declared.witness.Step.{Step}
 
 -- The path of a witness: from the pair by its cheapest choice, of several the first, to the
@@ -34,3 +37,14 @@ abbrev pub IsCarriedFrom : EnumView → Shape → Shape → Table → Pair → M
 IsCarriedFrom enum_view old new table pair message =
     (path : List Step) → IsPath enum_view old new table pair path
     → carried_along enum_view old new path ≡ Some message
+
+-- the bytes are those of the message that the path from the claim's root carries
+abbrev pub AreCarried : EnumView → Shape → Shape → Claim → List ℕ → Type 0
+AreCarried enum_view old new claim bytes =
+    (path : List Step) → IsPath enum_view old new (bound_in claim.bounds) claim.root path
+    → option_map (enc old claim.root.old) (carried_along enum_view old new path) ≡ Some bytes
+
+-- The claim's witness, where it has one, is the encoding of the message that the path from its root
+-- carries.
+abbrev pub CarriesWitness : EnumView → Shape → Shape → Claim → Type 0
+CarriesWitness enum_view old new claim = IfSome claim.witness (AreCarried enum_view old new claim)

@@ -14,6 +14,7 @@ ghost use Rattle.pg_cert.specs.Bounds.{bound_in};
 ghost use Rattle.pg_least.specs.Descent.{IsTableOf};
 ghost use Rattle.pg_least.specs.Exact.{IsBesideClaim, IsSearched};
 ghost use Rattle.pg_least.specs.Least.{IsCounted};
+ghost use Rattle.pg_least.specs.Path.{CarriesWitness};
 
 use crate::least_bounds::settle;
 use crate::witness::witness;
@@ -65,6 +66,9 @@ fn broken<V: View>(
     ensures searched { IfOk result (λ found.
         IsSearched (seen_by V.View view.now old.now new.now)
         (shape_of old.now) (shape_of new.now) root found.certificate) }
+    ensures carried { IfOk result (λ found.
+        CarriesWitness (seen_by V.View view.now old.now new.now)
+        (shape_of old.now) (shape_of new.now) found.certificate) }
     ensures witness { IfOk result (λ found.
         IsBesideClaim (seen_by V.View view.now old.now new.now)
         (shape_of old.now) (shape_of new.now) found.certificate found.witness) }
@@ -97,6 +101,8 @@ fn unbroken<V: View>(view: &V, old: &Schema, new: &Schema, root: Pair, bounds: B
     requires none { is_some (number_for (bound_in bounds) root) ≡ false }
     ensures searched { IsSearched (seen_by V.View view.now old.now new.now) (shape_of old.now)
         (shape_of new.now) root result.certificate }
+    ensures carried { CarriesWitness (seen_by V.View view.now old.now new.now) (shape_of old.now)
+        (shape_of new.now) result.certificate }
     ensures witness { IsBesideClaim (seen_by V.View view.now old.now new.now) (shape_of old.now)
         (shape_of new.now) result.certificate result.witness }
     ensures bounds { result.certificate.bounds ≡ bounds }
@@ -132,6 +138,9 @@ fn certified<V: View>(
     ensures searched { IfOk result (λ found.
         IsSearched (seen_by V.View view.now old.now new.now)
         (shape_of old.now) (shape_of new.now) root found.certificate) }
+    ensures carried { IfOk result (λ found.
+        CarriesWitness (seen_by V.View view.now old.now new.now)
+        (shape_of old.now) (shape_of new.now) found.certificate) }
     ensures witness { IfOk result (λ found.
         IsBesideClaim (seen_by V.View view.now old.now new.now)
         (shape_of old.now) (shape_of new.now) found.certificate found.witness) }
@@ -181,6 +190,9 @@ fn found_counted<V: View>(
     ensures searched { IfOk result (λ found.
         IsSearched (seen_by V.View view.now old.now new.now)
         (shape_of old.now) (shape_of new.now) root found.0.certificate) }
+    ensures carried { IfOk result (λ found.
+        CarriesWitness (seen_by V.View view.now old.now new.now)
+        (shape_of old.now) (shape_of new.now) found.0.certificate) }
     ensures witness { IfOk result (λ found.
         IsBesideClaim (seen_by V.View view.now old.now new.now)
         (shape_of old.now) (shape_of new.now) found.0.certificate found.0.witness) }
@@ -212,6 +224,9 @@ pub fn find_with<V: View>(
     ensures searched { IfOk result (λ found.
         IsSearched (seen_by V.View view.now old.now new.now)
         (shape_of old.now) (shape_of new.now) root found.certificate) }
+    ensures carried { IfOk result (λ found.
+        CarriesWitness (seen_by V.View view.now old.now new.now)
+        (shape_of old.now) (shape_of new.now) found.certificate) }
     ensures witness { IfOk result (λ found.
         IsBesideClaim (seen_by V.View view.now old.now new.now)
         (shape_of old.now) (shape_of new.now) found.certificate found.witness) }
@@ -232,6 +247,8 @@ pub fn find(alloc: Global, old: &Schema, new: &Schema, root: Pair) -> Result<Fou
     requires new_type { root.new.index < length (shape_of new.now) }
     ensures searched { IfOk result (λ found. IsSearched by_numbers (shape_of old.now)
         (shape_of new.now) root found.certificate) }
+    ensures carried { IfOk result (λ found. CarriesWitness by_numbers (shape_of old.now)
+        (shape_of new.now) found.certificate) }
     ensures witness { IfOk result (λ found. IsBesideClaim by_numbers (shape_of old.now)
         (shape_of new.now) found.certificate found.witness) }
     ensures named { IfOk result (λ found. found.certificate.view ≡ views.Numbers) }
@@ -256,6 +273,9 @@ pub fn search_with<V: View>(
     ensures searched { IfOk result (λ certificate.
         IsSearched (seen_by V.View view.now old.now new.now)
         (shape_of old.now) (shape_of new.now) root certificate) }
+    ensures carried { IfOk result (λ certificate.
+        CarriesWitness (seen_by V.View view.now old.now new.now)
+        (shape_of old.now) (shape_of new.now) certificate) }
     ensures named { IfOk result (λ certificate. certificate.view ≡ V.NAME) }
 {
     let found = find_with(alloc, view, old, new, root)?;
@@ -277,6 +297,8 @@ pub fn search_counted(
     requires new_type { root.new.index < length (shape_of new.now) }
     ensures searched { IfOk result (λ found. IsSearched by_numbers (shape_of old.now)
         (shape_of new.now) root found.0) }
+    ensures carried { IfOk result (λ found. CarriesWitness by_numbers (shape_of old.now)
+        (shape_of new.now) found.0) }
     ensures named { IfOk result (λ found. found.0.view ≡ views.Numbers) }
     ensures counted { IfOk result (λ found.
         IsCounted (edges (shape_of old.now) (shape_of new.now)) found.0.bounds found.1) }
@@ -300,6 +322,8 @@ pub fn search(
     requires new_type { root.new.index < length (shape_of new.now) }
     ensures searched { IfOk result (λ certificate. IsSearched by_numbers (shape_of old.now)
         (shape_of new.now) root certificate) }
+    ensures carried { IfOk result (λ certificate. CarriesWitness by_numbers (shape_of old.now)
+        (shape_of new.now) certificate) }
     ensures named { IfOk result (λ certificate. certificate.view ≡ views.Numbers) }
 {
     let (certificate, _) = search_counted(alloc, old, new, root)?;

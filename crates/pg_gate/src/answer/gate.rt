@@ -1,8 +1,10 @@
 //! The gate: whether a reader of the new type sees all that a writer of the old one writes.
 ghost use Rattle.std.specs.Prelude.{◌≡◌, ◌+◌, ◌<◌, length, Err, codes, IfErr, IfOk};
 ghost use Rattle.pg_schema.specs.Parts.{shape_of};
+ghost use Rattle.pg_pairs.specs.EnumView.{by_numbers};
 ghost use Rattle.pg_pairs.specs.NamedView.{seen_under};
 ghost use Rattle.pg_least.specs.Exact.{IsBesideClaim, IsSearched};
+ghost use Rattle.pg_least.specs.Path.{CarriesWitness};
 ghost use Rattle.pg_gate.specs.Answer.{AreRoots, IsAnswer, IsRefusedRoot, Lacks, certificate_of};
 ghost use Rattle.pg_gate.specs.Failures.{side_failures};
 ghost use Rattle.pg_gate.specs.Files.{paths_of};
@@ -80,6 +82,8 @@ fn found_by<V: View>(
     requires new_type { pair.new.index < length (shape_of new.now) }
     ensures searched { IfOk result (λ found. IsSearched (seen_under V.NAME old.now new.now)
         (shape_of old.now) (shape_of new.now) pair found.certificate) }
+    ensures carried { IfOk result (λ found. CarriesWitness (seen_under V.NAME old.now new.now)
+        (shape_of old.now) (shape_of new.now) found.certificate) }
     ensures witness { IfOk result (λ found. IsBesideClaim (seen_under V.NAME old.now new.now)
         (shape_of old.now) (shape_of new.now) found.certificate found.witness) }
     ensures named { IfOk result (λ found. found.certificate.view ≡ V.NAME) }
@@ -100,6 +104,8 @@ fn found_under(
     requires new_type { pair.new.index < length (shape_of new.now) }
     ensures searched { IfOk result (λ found. IsSearched (seen_under view old.now new.now)
         (shape_of old.now) (shape_of new.now) pair found.certificate) }
+    ensures carried { IfOk result (λ found. CarriesWitness (seen_under view old.now new.now)
+        (shape_of old.now) (shape_of new.now) found.certificate) }
     ensures witness { IfOk result (λ found. IsBesideClaim (seen_under view old.now new.now)
         (shape_of old.now) (shape_of new.now) found.certificate found.witness) }
     ensures named { IfOk result (λ found. found.certificate.view ≡ view) }
@@ -126,6 +132,8 @@ pub fn gate_with(
     view: ViewName,
 ) -> Result<Answer, GateError>
     ensures answer { IfOk result (IsAnswerUnder view old.now new.now root.now) }
+    ensures carried { IfOk result (λ answer. CarriesWitness (seen_under view old.now new.now)
+        (shape_of old.now) (shape_of new.now) (certificate_of answer)) }
     ensures old_missing { Lacks old.now root.now → result ≡ Err errors.RootMissingOld }
     ensures new_missing { (Lacks old.now root.now → ⊥) → Lacks new.now root.now
         → result ≡ Err errors.RootMissingNew }
@@ -154,6 +162,8 @@ pub fn gate_with(
 /// (`RootMissingNew`). `Memory` is out of memory.
 pub fn gate(alloc: Global, old: &Schema, new: &Schema, root: &str) -> Result<Answer, GateError>
     ensures answer { IfOk result (IsAnswer old.now new.now root.now) }
+    ensures carried { IfOk result (λ answer. CarriesWitness by_numbers (shape_of old.now)
+        (shape_of new.now) (certificate_of answer)) }
     ensures old_missing { Lacks old.now root.now → result ≡ Err errors.RootMissingOld }
     ensures new_missing { (Lacks old.now root.now → ⊥) → Lacks new.now root.now
         → result ≡ Err errors.RootMissingNew }

@@ -3,7 +3,8 @@ use Rattle.pg_schema.specs.Parts.{shape_of}
 use Rattle.pg_pairs.specs.SeenBy.{seen_by}
 use Rattle.pg_cert.specs.Bounds.{bound_in}
 use Rattle.pg_least.specs.Exact.{IsSearched}
-use Rattle.pg_least.proofs.Claims.{bytes_length, never_empty, one_at_least, searched_some}
+use Rattle.pg_least.specs.Path.{CarriesWitness}
+use Rattle.pg_least.proofs.Claims.{bytes_length, carried_some, never_empty, one_at_least, searched_some}
 use Rattle.pg_least.proofs.Descents.{number_there}
 use Rattle.pg_least.proofs.searching.broken.Goals as goal
 
@@ -26,4 +27,14 @@ returns-clause-searched g c =
     let (n, number) = number_there (bound_in c.args.bounds) c.args.root c.requires.number in
     subst (IsSearched enum_view old new c.args.root) (sym c.in-Ok.ensures.claim)
     (searched_some enum_view old new c.sees.ensures c.parts.ensures.checked.shape c.parts-2.ensures.checked.shape c.exact_is_least.ensures c.none_is_compatible.ensures _ c.args.root c.args.bounds c.requires.table
+    c.in_ok-message.message c.in_ok-message.ensures.type_is n number (c.in_ok-message.ensures.reached n number) c.in_ok-bytes.bytes.items c.in_ok-bytes.ensures)
+
+pub returns-clause-carried : goal.returns-clause-carried
+returns-clause-carried g c =
+    let enum_view = seen_by g.V.View c.args.view.now c.args.old.now c.args.new.now in
+    let old = shape_of c.args.old.now in
+    let new = shape_of c.args.new.now in
+    let (n, number) = number_there (bound_in c.args.bounds) c.args.root c.requires.number in
+    subst (CarriesWitness enum_view old new) (sym c.in-Ok.ensures.claim)
+    (carried_some enum_view old new c.sees.ensures c.parts.ensures.checked.shape c.parts-2.ensures.checked.shape c.exact_is_least.ensures c.none_is_compatible.ensures g.V.View.NAME c.args.root c.args.bounds c.requires.table
     c.in_ok-message.message c.in_ok-message.ensures.type_is n number (c.in_ok-message.ensures.reached n number) c.in_ok-bytes.bytes.items c.in_ok-bytes.ensures c.in_ok-message.ensures.along)

@@ -26,5 +26,5 @@ pub returns-clause-found : goal.returns-clause-found
 returns-clause-found c =
     let old = c.args.old.now.schema in
     let new = c.args.new.now.schema in
-    found_by c.args.view old new c.args.root.now c.in_ok-answer.answer c.args.certificate_only c.args.explain c.in_ok-finding.finding c.in_ok-answer.ensures.answer
+    found_by c.args.view old new c.args.root.now c.in_ok-answer.answer c.args.certificate_only c.args.explain c.in_ok-finding.finding c.in_ok-answer.ensures.answer c.in_ok-answer.ensures.carried
     (subst (λ (claim : Claim). Reports old new claim c.args.certificate_only c.args.explain c.in_ok-finding.finding) c.certificate-certificate.ensures c.in_ok-finding.ensures)

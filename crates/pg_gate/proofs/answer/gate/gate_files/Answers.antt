@@ -1,12 +1,12 @@
 use Rattle.std.proofs.Common.{◌≡◌, ◌∙◌, ◌+◌, ap, arith, codes, subst, sym}
-use Rattle.std.proofs.lemmas.Result.{IfErr-weaker, IfOk-weaker}
+use Rattle.std.proofs.lemmas.Result.{IfErr-weaker}
 use Rattle.pg_link.specs.Walk.{world}
 use Rattle.pg_gate.specs.Failures.{failures_at}
 use Rattle.pg_gate.specs.Files.{paths_of}
 use Rattle.pg_gate.specs.Grants.{IsGateError}
 use Rattle.pg_gate.specs.declared.error.GateError.{GateError}
 use Rattle.pg_gate.specs.declared.error.Side.TheVariants as sides
-use Rattle.pg_gate.proofs.AnswerLemmas.{answer_of_files, of_sides, refused_of_files, root_uncounted}
+use Rattle.pg_gate.proofs.AnswerLemmas.{answer_of_files, both_ok, of_sides, refused_of_files, root_uncounted}
 use Rattle.pg_gate.proofs.CallLemmas.{IfErr-IsErrAnd}
 use Rattle.pg_gate.proofs.ErrorLemmas.{passed_on}
 use Rattle.pg_gate.proofs.answer.gate.gate_files.Goals as goal
@@ -34,7 +34,7 @@ returns-clause-answer g c =
     let old = world (g.S.Sources.may_give c.args.old.now) (g.S.Sources.may_lack c.args.old.now) (codes ".") (paths_of c.args.old_roots.now) in
     let new = world (g.T.Sources.may_give c.args.new.now) (g.T.Sources.may_lack c.args.new.now) (codes ".") (paths_of c.args.new_roots.now) in
     let both = c.in_ok-both.both in
-    IfOk-weaker c.gate.result _ _ (λ answer is. answer_of_files c.args.root.now old new both.old.schema both.new.schema c.in_ok-both.ensures.old_compiled c.in_ok-both.ensures.new_compiled answer is) c.gate.ensures.answer
+    both_ok c.gate.result _ _ _ (λ answer is carried. answer_of_files c.args.root.now old new both.old.schema both.new.schema c.in_ok-both.ensures.old_compiled c.in_ok-both.ensures.new_compiled answer is carried) c.gate.ensures.answer c.gate.ensures.carried
 
 pub returns-clause-refused : goal.returns-clause-refused
 returns-clause-refused g c =
