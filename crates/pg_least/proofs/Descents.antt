@@ -1,5 +1,5 @@
 -- The path down of a witness, by the cheapest choices.
-use Rattle.std.proofs.Common.{◌≡◌, ℕ, ◌<◌, ◌≤◌, List, [], ◌∷◌, ◌++◌, length, true, is_some, option_and_then, Option, Some, None, ⊎_elim, refl, ap, ap₂, sym, ◌∙◌, subst, arith, append_assoc}
+use Rattle.std.proofs.Common.{◌≡◌, ℕ, ◌<◌, ◌≤◌, List, [], ◌∷◌, ◌++◌, length, true, is_some, option_and_then, Option, Some, None, ⊎_elim, refl, ap, ap₂, sym, ◌∙◌, subst, subst₂, arith, append_assoc}
 use Rattle.std.specs.List.{AllByRecursion}
 use Rattle.std.proofs.lemmas.Bool.{cases_lt}
 use Rattle.std.proofs.lemmas.List.{get_or_past}
@@ -232,3 +232,12 @@ module _ (enum_view : EnumView) (old new : Shape) where
       let own : IsPath enum_view old new table pair (steps ++ last ∷ []) =
       subst (λ (p : Pair). IsPath enum_view old new table p (steps ++ last ∷ [])) first (whole_is_path enum_view old new table steps last whole.path whole.ends) in
       ap (carried_along enum_view old new) (one_path enum_view old new table pair path (steps ++ last ∷ []) is own) ∙ along
+
+  -- The message of the first step's choice has as many bytes as the table says of its pair.
+  pub reached_there : (table : Table) (pair : Pair) (steps : List Step) (last : Step) (m : Message) → IsPathDown enum_view old new table steps last → (first_step steps last).pair ≡ pair
+      → ReachedBy enum_view old new (first_step steps last).pair m (first_step steps last).choice.cost → (n : ℕ) → table pair ≡ Some (Some n) → ReachedBy enum_view old new pair m n
+  reached_there table pair steps last m path first reached n is = of steps path first reached
+    where
+      of : (ss : List Step) → IsPathDown enum_view old new table ss last → (first_step ss last).pair ≡ pair → ReachedBy enum_view old new (first_step ss last).pair m (first_step ss last).choice.cost → ReachedBy enum_view old new pair m n
+      of [] step first reached = subst₂ (λ (p : Pair) k. ReachedBy enum_view old new p m k) first (same_number step.costs (ap table first ∙ is)) reached
+      of (s ∷ ss) down first reached = subst₂ (λ (p : Pair) k. ReachedBy enum_view old new p m k) first (same_number down.0.costs (ap table first ∙ is)) reached
