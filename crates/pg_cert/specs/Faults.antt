@@ -5,9 +5,8 @@ use Rattle.std.specs.Option.{option_or}
 use Rattle.pg_schema.specs.Shape.{Shape}
 use Rattle.pg_pairs.specs.declared.choice.Choice.{Choice}
 use Rattle.pg_pairs.specs.declared.choice.Pair.{Pair}
-use Rattle.pg_pairs.specs.Cases.{case_number}
 use Rattle.pg_pairs.specs.EnumView.{EnumView}
-use Rattle.pg_pairs.specs.Choices.{Table, choices}
+use Rattle.pg_pairs.specs.Choices.{case_number, Table, choices}
 use Rattle.pg_pairs.specs.Covering.{children}
 use Rattle.pg_cert.specs.declared.bounds.PairBound.{PairBound}
 use Rattle.pg_cert.specs.declared.error.CertError.{CertError}

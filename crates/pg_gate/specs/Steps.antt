@@ -9,7 +9,7 @@ use Rattle.pg_cert.specs.ClaimView.{view_in}
 use Rattle.pg_cert.specs.Text.{names_of}
 use Rattle.pg_least.specs.Path.{IsPath}
 use Rattle.pg_least.specs.declared.witness.Step as stages
-use Rattle.pg_pairs.specs.Cases.{is_oneof}
+use Rattle.pg_pairs.specs.Choices.{is_oneof}
 use Rattle.pg_pairs.specs.declared.choice.Choice.{Choice}
 use Rattle.pg_pairs.specs.declared.choice.Pair.{Pair}
 use Rattle.pg_schema.specs.declared.parts.field.Field.{Field}

@@ -10,8 +10,8 @@ use Rattle.pg_pairs.specs.EnumView.{EnumView, IsEnumView}
 use Rattle.pg_pairs.specs.Likeness.{like}
 use Rattle.pg_pairs.specs.Gaps.{body_length, IsLeastUnseen, IsGapItem, gap_item}
 use Rattle.pg_pairs.specs.Costs.{with_length}
-use Rattle.pg_pairs.specs.Choices.{Table, number_for, gap_body, child_body}
-use Rattle.pg_pairs.specs.Carried.{nonzero_leaf, item_by, least_part_of, child_pair}
+use Rattle.pg_pairs.specs.Choices.{child_pair, Table, number_for, gap_body, child_body}
+use Rattle.pg_pairs.specs.Carried.{nonzero_leaf, item_by, least_part_of}
 use Rattle.pg_pairs.proofs.GapItems.{IsLeafy, gap_item_is}
 use Rattle.pg_wire.proofs.PublicLaws.{lengths_grow}
 use Rattle.pg_dyn.proofs.Lists.{option_map_some}

@@ -1,5 +1,5 @@
 -- The children of a message: the new type keeps them, and they come home.
-use Rattle.std.proofs.Common.{◌≡◌, ℕ, ◌<◌, ◌≤◌, List, ◌++◌, length, Bool, true, false, ◌&&◌, nat_eq, if◌then◌else◌, Option, Some, is_some, refl, ap, ap₂, sym, ◌∙◌, subst, arith, eqb-true}
+use Rattle.std.proofs.Common.{option_to_list, ◌≡◌, ℕ, ◌<◌, ◌≤◌, List, ◌++◌, length, Bool, true, false, ◌&&◌, nat_eq, if◌then◌else◌, Option, Some, is_some, refl, ap, ap₂, sym, ◌∙◌, subst, arith, eqb-true}
 use Rattle.std.specs.List.{AllByRecursion}
 use Rattle.pg_schema.specs.declared.parts.field.TypeId.{TypeId}
 use Rattle.pg_schema.specs.declared.parts.field.Element.{Element}
@@ -18,7 +18,8 @@ use Rattle.pg_dyn.specs.Comparison.{Alike, Expected, numbers, Comparand, compara
 use Rattle.pg_dyn.proofs.Lists.{each_weaker, each_both, each-filter, each_at, none_list_any}
 use Rattle.pg_pairs.specs.declared.choice.Pair.{Pair}
 use Rattle.pg_pairs.specs.Among.{IsAmong}
-use Rattle.pg_pairs.specs.Covering.{children, message_pair}
+use Rattle.pg_pairs.specs.Choices.{child_pair}
+use Rattle.pg_pairs.specs.Covering.{children}
 use Rattle.pg_pairs.specs.Reached.{LeadsTo, itself, onwards}
 use Rattle.pg_pairs.specs.Returns.{Returns, becomes_packed}
 use Rattle.pg_pairs.specs.Home.{home, home_message, homeward, message_eq}
@@ -61,7 +62,7 @@ pub child_among : (old new : Shape) (a b : TypeId) (f g : FieldShape) (n : ℕ) 
 child_among old new a b f g n s t found at has is_old is_new =
     let each = children_allowed (λ q. IsAmong q (children old new (pair_of a b))) (fields new b) (fields old a) n f g found at
     (every_is_among (λ q. IsAmong q (children old new (pair_of a b))) (children old new (pair_of a b)) (λ q among. among)) in
-    (subst (AllByRecursion (λ q. IsAmong q (children old new (pair_of a b)))) (children_are f g has ∙ ap₂ message_pair is_old is_new) each).0
+    (subst (AllByRecursion (λ q. IsAmong q (children old new (pair_of a b)))) (children_are f g has ∙ ap₂ (λ e d. option_to_list (child_pair e d)) is_old is_new) each).0
 
 -- what a pair returns its children return
 pub child_returns : (old new : Shape) (root child : Pair) → IsAmong child (children old new root) → Returns old new root → Returns old new child

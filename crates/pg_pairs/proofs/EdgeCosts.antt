@@ -1,5 +1,5 @@
 -- A pair's choices under a table, and so its least cost, by those without bounds and by its edges.
-use Rattle.std.proofs.Common.{◌≡◌, ℕ, List, [], ◌∷◌, ◌++◌, map, flat_map, Bool, true, false, nat_le, cond, if◌then◌else◌, Option, Some, None, option_map, option_and_then, inl, inr, ⊎_elim, refl, ap, ap₂, sym, ◌∙◌, subst, arith}
+use Rattle.std.proofs.Common.{option_to_list, ◌≡◌, ℕ, List, [], ◌∷◌, ◌++◌, map, flat_map, Bool, true, false, nat_le, cond, if◌then◌else◌, Option, Some, None, option_map, option_and_then, inl, inr, ⊎_elim, refl, ap, ap₂, sym, ◌∙◌, subst, arith}
 use Rattle.std.specs.List.{AllByRecursion}
 use Rattle.std.proofs.lemmas.Grind.{flat_map-append}
 use Rattle.std.proofs.lemmas.List.{append-nil}
@@ -23,9 +23,9 @@ use Rattle.pg_pairs.specs.EnumView.{EnumView}
 use Rattle.pg_pairs.specs.Among.{IsAmong}
 use Rattle.pg_pairs.specs.Likeness.{like}
 use Rattle.pg_pairs.specs.Costs.{with_length, one_item, least_content}
-use Rattle.pg_pairs.specs.Choices.{Table, number_for, choice, choice_of, unlike_cost, child_body, plain_choices, map_choices, field_choices, joined_choices, choices_beside, all_choices, affordable, choices}
+use Rattle.pg_pairs.specs.Choices.{child_pair, Table, number_for, choice, choice_of, unlike_cost, child_body, plain_choices, map_choices, field_choices, joined_choices, choices_beside, all_choices, affordable, choices}
 use Rattle.pg_pairs.specs.Cheapest.{cheapest, first_of}
-use Rattle.pg_pairs.specs.Covering.{message_pair, field_children, children_beside}
+use Rattle.pg_pairs.specs.Covering.{field_children, children_beside}
 use Rattle.pg_pairs.specs.LeastCosts.{IsNoMore}
 use Rattle.pg_pairs.specs.LeastOf.{cost_under, least_of, lesser_cost}
 use Rattle.pg_pairs.specs.Edges.{LeastCostsByEdges, child_cost, edge_price, edge_to, edges, no_bounds, part_of}
@@ -104,12 +104,12 @@ abbrev child_part : Part → ℕ
 child_part Whole = 0
 child_part Value = 2
 
-message_pair_unlike : (e d : Element) → like e d ≡ false → message_pair e d ≡ []
-message_pair_unlike (elements.Message s) (elements.Message t) h = absurd (cc)
-message_pair_unlike (elements.Message s) (elements.Scalar t) h = refl
-message_pair_unlike (elements.Message s) (elements.Enum t) h = refl
-message_pair_unlike (elements.Scalar s) d h = refl
-message_pair_unlike (elements.Enum s) d h = refl
+child_pair_unlike : (e d : Element) → like e d ≡ false → option_to_list (child_pair e d) ≡ []
+child_pair_unlike (elements.Message s) (elements.Message t) h = absurd (cc)
+child_pair_unlike (elements.Message s) (elements.Scalar t) h = refl
+child_pair_unlike (elements.Message s) (elements.Enum t) h = refl
+child_pair_unlike (elements.Scalar s) d h = refl
+child_pair_unlike (elements.Enum s) d h = refl
 
 module _ (enum_view : EnumView) (table : Table) where
   -- a field's choice of that case and part by a child, at its bound
@@ -130,7 +130,7 @@ module _ (enum_view : EnumView) (table : Table) where
   child_without f case part (elements.Scalar s) d = refl
   child_without f case part (elements.Enum s) d = refl
 
-  child_under : (f : FieldShape) (case : Case) (part : ℕ) (e d : Element) → choice_of f.number case part (option_map (one_item f) (child_body table e d)) ≡ flat_map (by_child f case part) (message_pair e d)
+  child_under : (f : FieldShape) (case : Case) (part : ℕ) (e d : Element) → choice_of f.number case part (option_map (one_item f) (child_body table e d)) ≡ flat_map (by_child f case part) (option_to_list (child_pair e d))
   child_under f case part (elements.Message s) (elements.Message t) = sym (append-nil (by_child f case part (record { old = s; new = t })))
   child_under f case part (elements.Message s) (elements.Scalar t) = refl
   child_under f case part (elements.Message s) (elements.Enum t) = refl
@@ -141,27 +141,27 @@ module _ (enum_view : EnumView) (table : Table) where
   child_last : (others child none by : List Choice) → child ≡ by → none ≡ [] → Same (others ++ child) (others ++ none ++ by)
   child_last others child none by is empty = rw (is, empty, append-nil others) (same_list (others ++ by))
 
-  like_split : (f g : FieldShape) → Splits f cases.Child 0 (like_choices enum_view table f g) (like_choices enum_view no_bounds f g) (message_pair f.element g.element)
+  like_split : (f g : FieldShape) → Splits f cases.Child 0 (like_choices enum_view table f g) (like_choices enum_view no_bounds f g) (option_to_list (child_pair f.element g.element))
   like_split f g =
       let gap = gap_choice enum_view f g in
       let list = list_choice f g in
       let none = child_choice no_bounds f g in
-      let by = flat_map (by_child f cases.Child 0) (message_pair f.element g.element) in
+      let by = flat_map (by_child f cases.Child 0) (option_to_list (child_pair f.element g.element)) in
       same_through (gap ++ child_choice table f g ++ list) (gap ++ none ++ by ++ list) (gap ++ none ++ list ++ by)
       (same_both (gap ++ child_choice table f g) (gap ++ none ++ by) list list (child_last gap (child_choice table f g) none by (child_under f cases.Child 0 f.element g.element) (child_without f cases.Child 0 f.element g.element)) (same_list list))
       (same_turned (gap ++ none) by list)
 
-  like_maps_split : (f g : FieldShape) (k l : Scalar) → Splits f cases.Map 2 (like_map_choices enum_view table f g k l) (like_map_choices enum_view no_bounds f g k l) (message_pair f.element g.element)
+  like_maps_split : (f g : FieldShape) (k l : Scalar) → Splits f cases.Map 2 (like_map_choices enum_view table f g k l) (like_map_choices enum_view no_bounds f g k l) (option_to_list (child_pair f.element g.element))
   like_maps_split f g k l =
-      child_last (key_choice enum_view f k l ++ value_choice enum_view f g) (map_child_choice table f g) (map_child_choice no_bounds f g) (flat_map (by_child f cases.Map 2) (message_pair f.element g.element))
+      child_last (key_choice enum_view f k l ++ value_choice enum_view f g) (map_child_choice table f g) (map_child_choice no_bounds f g) (flat_map (by_child f cases.Map 2) (option_to_list (child_pair f.element g.element)))
       (child_under f cases.Map 2 f.element g.element) (child_without f cases.Map 2 f.element g.element)
 
-  plain_split : (f g : FieldShape) → Splits f cases.Child 0 (plain_choices enum_view table f g) (plain_choices enum_view no_bounds f g) (message_pair f.element g.element)
+  plain_split : (f g : FieldShape) → Splits f cases.Child 0 (plain_choices enum_view table f g) (plain_choices enum_view no_bounds f g) (option_to_list (child_pair f.element g.element))
   plain_split f g = of (like f.element g.element) refl
     where
-      of : (b : Bool) → like f.element g.element ≡ b → Splits f cases.Child 0 (if b then like_choices enum_view table f g else choice f.number cases.Unlike 0 (unlike_cost f g) ∷ []) (if b then like_choices enum_view no_bounds f g else choice f.number cases.Unlike 0 (unlike_cost f g) ∷ []) (message_pair f.element g.element)
+      of : (b : Bool) → like f.element g.element ≡ b → Splits f cases.Child 0 (if b then like_choices enum_view table f g else choice f.number cases.Unlike 0 (unlike_cost f g) ∷ []) (if b then like_choices enum_view no_bounds f g else choice f.number cases.Unlike 0 (unlike_cost f g) ∷ []) (option_to_list (child_pair f.element g.element))
       of true is = like_split f g
-      of false is = rw (message_pair_unlike f.element g.element is) (with_none f cases.Child 0 (choice f.number cases.Unlike 0 (unlike_cost f g) ∷ []))
+      of false is = rw (child_pair_unlike f.element g.element is) (with_none f cases.Child 0 (choice f.number cases.Unlike 0 (unlike_cost f g) ∷ []))
 
   module _ (number : ℕ) (e d : Element) (o r : Option ℕ) where
     abbrev at_old : Presence → FieldShape
@@ -177,7 +177,7 @@ module _ (enum_view : EnumView) (table : Table) where
         of : (a b : Bool) → like (elements.Scalar k) (elements.Scalar l) ≡ a → like e d ≡ b → Splits (at_old (presences.Map k)) cases.Map 2 (map_choices enum_view table (at_old (presences.Map k)) (at_new (presences.Map l) n) k l) (map_choices enum_view no_bounds (at_old (presences.Map k)) (at_new (presences.Map l) n) k l)
             (field_children (at_old (presences.Map k)) (at_new (presences.Map l) n))
         of false b keys values = rw keys (with_none (at_old (presences.Map k)) cases.Map 2 (choice number cases.Map 0 (least_content (at_old (presences.Map k))) ∷ []))
-        of true false keys values = rw (keys, values, message_pair_unlike e d values) (with_none (at_old (presences.Map k)) cases.Map 2 (choice number cases.Map 0 (least_content (at_old (presences.Map k))) ∷ []))
+        of true false keys values = rw (keys, values, child_pair_unlike e d values) (with_none (at_old (presences.Map k)) cases.Map 2 (choice number cases.Map 0 (least_content (at_old (presences.Map k))) ∷ []))
         of true true keys values = rw (keys, values) (like_maps_split (at_old (presences.Map k)) (at_new (presences.Map l) n) k l)
 
     presences_split : (p q : Presence) (n : ℕ) → Splits (at_old p) (child_case (part_of p)) (child_part (part_of p)) (field_choices enum_view table (at_old p) (at_new q n)) (field_choices enum_view no_bounds (at_old p) (at_new q n)) (field_children (at_old p) (at_new q n))

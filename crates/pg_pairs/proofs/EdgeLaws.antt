@@ -1,5 +1,5 @@
 -- What holds of the pairs of two schemas' types, of their edges, and of what these cost.
-use Rattle.std.proofs.Common.{◌≡◌, ℕ, suc, ◌+◌, ◌*◌, ◌^◌, ◌<◌, ◌≤◌, ◌⊎◌, List, [], ◌∷◌, map, flat_map, filter, length, Bool, true, false, not, ◌||◌, nat_le, nat_lt, eqb, eqb-true, eq-eqb, ne_eqb, cond, if◌then◌else◌, Option, Some, None, IfSome, option_and_then, inl, inr, ⊎_elim, refl, sym, ◌∙◌, subst, arith, ltb-true, lt-ltb, length-append}
+use Rattle.std.proofs.Common.{option_to_list, ◌≡◌, ℕ, suc, ◌+◌, ◌*◌, ◌^◌, ◌<◌, ◌≤◌, ◌⊎◌, List, [], ◌∷◌, map, flat_map, filter, length, Bool, true, false, not, ◌||◌, nat_le, nat_lt, eqb, eqb-true, eq-eqb, ne_eqb, cond, if◌then◌else◌, Option, Some, None, IfSome, option_and_then, inl, inr, ⊎_elim, refl, sym, ◌∙◌, subst, arith, ltb-true, lt-ltb, length-append}
 use Rattle.std.specs.List.{AllByRecursion, IsDistinct, list_any}
 use Rattle.std.proofs.lemmas.Bool.{and_parts, leb-true}
 use Rattle.std.proofs.lemmas.List.{length-map}
@@ -19,7 +19,8 @@ use Rattle.pg_pairs.specs.declared.edge.Edge.{Edge}
 use Rattle.pg_pairs.specs.Among.{IsAmong}
 use Rattle.pg_pairs.specs.Likeness.{like}
 use Rattle.pg_pairs.specs.Costs.{least_body, one_item, with_length}
-use Rattle.pg_pairs.specs.Covering.{all_children, children, children_beside, distinct, field_children, message_pair, same_pair}
+use Rattle.pg_pairs.specs.Choices.{child_pair}
+use Rattle.pg_pairs.specs.Covering.{all_children, children, children_beside, distinct, field_children, same_pair}
 use Rattle.pg_pairs.specs.Edges.{ArePriced, PairsLeadToPairs, child_cost, edge_price, edge_to, edges, is_pair, no_bounds}
 use Rattle.pg_pairs.specs.Reached.{itself, onwards}
 use Rattle.pg_pairs.proofs.Among.{among_each}
@@ -113,17 +114,17 @@ few_pairs old new few_old few_new ps once known =
 -- Children.
 
 -- the children of two fields are the pair of their messages, or none
-children_cases : (f g : FieldShape) → (field_children f g ≡ []) ⊎ (field_children f g ≡ message_pair f.element g.element)
+children_cases : (f g : FieldShape) → (field_children f g ≡ []) ⊎ (field_children f g ≡ option_to_list (child_pair f.element g.element))
 children_cases f g = of f.number f.presence f.element f.oneof g.number g.presence g.element g.oneof
   where
     of : (m : ℕ) (p : Presence) (e : Element) (o : Option ℕ) (n : ℕ) (q : Presence) (d : Element) (r : Option ℕ)
         → (field_children (record { number = m; presence = p; element = e; oneof = o }) (record { number = n; presence = q; element = d; oneof = r }) ≡ [])
-        ⊎ (field_children (record { number = m; presence = p; element = e; oneof = o }) (record { number = n; presence = q; element = d; oneof = r }) ≡ message_pair e d)
+        ⊎ (field_children (record { number = m; presence = p; element = e; oneof = o }) (record { number = n; presence = q; element = d; oneof = r }) ≡ option_to_list (child_pair e d))
     of m (presences.Map k) e o n (presences.Map l) d r = under (like (elements.Scalar k) (elements.Scalar l)) refl
       where
         under : (b : Bool) → like (elements.Scalar k) (elements.Scalar l) ≡ b
             → (field_children (record { number = m; presence = presences.Map k; element = e; oneof = o }) (record { number = n; presence = presences.Map l; element = d; oneof = r }) ≡ [])
-            ⊎ (field_children (record { number = m; presence = presences.Map k; element = e; oneof = o }) (record { number = n; presence = presences.Map l; element = d; oneof = r }) ≡ message_pair e d)
+            ⊎ (field_children (record { number = m; presence = presences.Map k; element = e; oneof = o }) (record { number = n; presence = presences.Map l; element = d; oneof = r }) ≡ option_to_list (child_pair e d))
         under true is = inr (rw is refl)
         under false is = inl (rw is refl)
     of m (presences.Map k) e o n q d r = inl refl
@@ -134,7 +135,7 @@ children_cases f g = of f.number f.presence f.element f.oneof g.number g.presenc
     of m presences.Explicit e o n q d r = inr refl
     of m (presences.Repeated w) e o n q d r = inr refl
 
-one_message : (e d : Element) → length (message_pair e d) ≤ 1
+one_message : (e d : Element) → length (option_to_list (child_pair e d)) ≤ 1
 one_message (elements.Message s) (elements.Message t) = omega arith
 one_message (elements.Message s) (elements.Scalar t) = omega arith
 one_message (elements.Message s) (elements.Enum t) = omega arith
@@ -146,7 +147,7 @@ one_child f None = omega arith
 one_child f (Some g) = ⊎_elim (λ none. subst (λ ps. length ps ≤ 1) (sym none) (omega arith)) (λ one. subst (λ ps. length ps ≤ 1) (sym one) (one_message f.element g.element)) (children_cases f g)
 
 module _ (old new : Shape) (is_old : IsShape old) (is_new : IsShape new) where
-  pair_there : (e d : Element) → ElementFits (length old) e → ElementFits (length new) d → AllByRecursion (λ p. is_pair old new p ≡ true) (message_pair e d)
+  pair_there : (e d : Element) → ElementFits (length old) e → ElementFits (length new) d → AllByRecursion (λ p. is_pair old new p ≡ true) (option_to_list (child_pair e d))
   pair_there (elements.Message s) (elements.Message t) here beside = (is_there old new (record { old = s; new = t }) here beside, tt)
   pair_there (elements.Message s) (elements.Scalar t) here beside = tt
   pair_there (elements.Message s) (elements.Enum t) here beside = tt

@@ -15,11 +15,10 @@ use Rattle.pg_pairs.specs.declared.case.Case.{Case}
 use Rattle.pg_pairs.specs.declared.case.Case.TheVariants as cases
 use Rattle.pg_pairs.specs.declared.choice.Choice.{Choice}
 use Rattle.pg_pairs.specs.declared.choice.Pair.{Pair}
-use Rattle.pg_pairs.specs.Cases.{is_oneof}
 use Rattle.pg_pairs.specs.EnumView.{EnumView, IsEnumView}
 use Rattle.pg_pairs.specs.Likeness.{like}
 use Rattle.pg_pairs.specs.Gaps.{gap_item}
-use Rattle.pg_pairs.specs.Choices.{Table, zero_counts, choices}
+use Rattle.pg_pairs.specs.Choices.{is_oneof, Table, child_pair, zero_counts, choices}
 use Rattle.pg_pairs.specs.Among.{IsAmong}
 use Rattle.pg_pairs.specs.Laws.{ReachedBy}
 
@@ -143,13 +142,6 @@ carried enum_view old new pair c child =
     carried_of enum_view (field_at (fields old pair.old) c.number) (field_at (fields new pair.new) c.number) (field_at (fields old pair.old) c.part) c child
 
 -- Which choices have a child, and of which pair.
-
-abbrev pub child_pair : Element → Element → Option Pair
-child_pair (elements.Message s) (elements.Message t) = Some (record { old = s; new = t })
-child_pair (elements.Message s) (elements.Scalar t) = None
-child_pair (elements.Message s) (elements.Enum t) = None
-child_pair (elements.Scalar s) t = None
-child_pair (elements.Enum s) t = None
 
 -- an item that is a child, and the value of an entry
 abbrev pub has_child : Case → ℕ → Bool

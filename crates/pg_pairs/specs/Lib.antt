@@ -11,7 +11,6 @@ pub mod SeenBy
 pub mod Likeness
 pub mod Gaps
 pub mod Costs
-pub mod Cases
 pub mod Carried
 pub mod CarriedItems
 pub mod Choices

@@ -14,12 +14,10 @@ use Rattle.pg_pairs.specs.declared.choice.Pair.{Pair}
 use Rattle.pg_pairs.specs.EnumView.{by_numbers}
 use Rattle.pg_pairs.specs.Choices.{Table, choices, choice}
 use Rattle.pg_pairs.specs.Covering.{children}
+use Rattle.pg_pairs.specs.Edges.{no_bounds}
 
 abbrev pub both : TypeId → Pair
 both type = record { old = type; new = type }
-
-abbrev pub no_bounds : Table
-no_bounds pair = None
 
 abbrev pub HasChoices : List FieldShape → List FieldShape → List Choice → Type 0
 HasChoices fs gs cs = choices by_numbers no_bounds (of_fields fs) (of_fields gs) (both first) ≡ cs

@@ -1,7 +1,7 @@
 //! What breaks in the message of a choice.
 
 ghost use Rattle.std.specs.Prelude.{◌≡◌};
-ghost use Rattle.pg_pairs.specs.Cases.{case_number};
+ghost use Rattle.pg_pairs.specs.Choices.{case_number};
 
 /// What breaks.
 #[derive(Clone, Copy, Debug, PartialEq, Eq)]

@@ -3,8 +3,9 @@
 ghost use Rattle.std.specs.Prelude.{◌≡◌, map, IfOk, option_to_list};
 ghost use Rattle.pg_schema.specs.Parts.{field_shape, shape_of};
 ghost use Rattle.pg_schema.specs.Shape.{field_at, fields};
-ghost use Rattle.pg_pairs.specs.Carried.{child_pair, choice_child, has_child};
-ghost use Rattle.pg_pairs.specs.Covering.{all_children, children, children_beside, distinct, field_children, message_pair};
+ghost use Rattle.pg_pairs.specs.Carried.{choice_child, has_child};
+ghost use Rattle.pg_pairs.specs.Choices.{child_pair};
+ghost use Rattle.pg_pairs.specs.Covering.{all_children, children, children_beside, distinct, field_children};
 
 use crate::case::Case;
 use crate::choice::{Choice, Pair};
@@ -14,9 +15,8 @@ use std::alloc::{AllocError, Global};
 use std::collections::BTreeSet;
 
 /// The pair of two elements that are messages.
-fn message_pair(old: Element, new: Element) -> Option<Pair>
-    ensures pair { result ≡ child_pair old new }
-    ensures list { option_to_list result ≡ message_pair old new }
+pub(crate) fn child_pair(old: Element, new: Element) -> Option<Pair>
+    ensures { result ≡ child_pair old new }
 {
     match (old, new) {
         (Element::Message(old), Element::Message(new)) => Some(Pair { old, new }),
@@ -33,10 +33,10 @@ fn field_child(old: &Field, new: &Field) -> Option<Pair>
             if !are_like(Element::Scalar(old_key), Element::Scalar(new_key)) {
                 return None;
             }
-            message_pair(old.element, new.element)
+            child_pair(old.element, new.element)
         }
         (Presence::Map { .. }, _) | (_, Presence::Map { .. }) => None,
-        _ => message_pair(old.element, new.element),
+        _ => child_pair(old.element, new.element),
     }
 }
 
@@ -110,5 +110,5 @@ pub fn choice_child(old: &Schema, new: &Schema, pair: Pair, choice: &Choice) -> 
     if !has_child(choice.case, choice.part) {
         return None;
     }
-    message_pair(field.element, beside.element)
+    child_pair(field.element, beside.element)
 }

@@ -9,8 +9,8 @@ ghost use Rattle.pg_pairs.specs.Choices.{child_body, gap_body};
 ghost use Rattle.pg_pairs.specs.Gaps.{body_length, gap, item_of};
 ghost use Rattle.pg_pairs.specs.SeenBy.{seen_by};
 
-use crate::choice::Pair;
 use crate::cost::{varint_bytes, with_length};
+use crate::descent::child_pair;
 use crate::gap_kind::Gap;
 use crate::scalar_gap::gap;
 use crate::table::Table;
@@ -86,10 +86,7 @@ pub(crate) fn child_body<T: Table>(table: &T, pair: (Element, Element)) -> Optio
     ensures body { result ≡ child_body (T.bounds table.now) pair.0 pair.1 }
     ensures few { IfSome result (λ body. body < 2 ^ 33) }
 {
-    let (Element::Message(old), Element::Message(new)) = pair else {
-        return None;
-    };
-    match table.bound(Pair { old, new }) {
+    match table.bound(child_pair(pair.0, pair.1)?) {
         Some(Some(bound)) => Some(with_length(u64::from(bound))),
         Some(None) | None => None,
     }

@@ -3,7 +3,7 @@ use Rattle.pg_schema.specs.Parts.{field_shape, shape_of}
 use Rattle.pg_schema.specs.Shape.{fields, field_at}
 use Rattle.pg_dyn.specs.Kept.{ends, message_of, type_of}
 use Rattle.pg_dyn.specs.setting.Setting.{IsSetTo}
-use Rattle.pg_pairs.specs.Cases.{is_oneof}
+use Rattle.pg_pairs.specs.Choices.{is_oneof}
 use Rattle.pg_pairs.specs.Carried.{carried_field, least_part}
 use Rattle.pg_pairs.specs.CarriedItems.{content_alone, IsTakenBy, Puts}
 use Rattle.pg_pairs.specs.Laws.{ReachedBy}
