@@ -1,5 +1,5 @@
 -- What a search answers.
-use Rattle.std.specs.Prelude.{◌≡◌, ℕ, List, map, is_some, Option, Some, None, option_map, IfSome}
+use Rattle.std.specs.Prelude.{◌≡◌, ℕ, List, map, is_some, Option, Some, None}
 use Rattle.pg_schema.specs.Shape.{Shape}
 use Rattle.pg_dyn.specs.Breaking.{Breaks, Compatible, Least}
 use Rattle.pg_dyn.specs.encoding.Encoding.{enc}

@@ -1,6 +1,5 @@
 -- A field takes the content of each of its choices.
-use Rattle.std.proofs.Common.{◌≡◌, ◌≤◌, ℕ, [], length, Bool, true, false, not, ◌&&◌, nat_eq, if◌then◌else◌, Option, Some, None, IfSome, option_map, is_some, ◌⊎◌, inl, inr, ⊎_elim, refl, ap, ap₂, sym, ◌∙◌, subst, arith, eq-eqb, eqb-true}
-use Rattle.std.proofs.lemmas.Bool.{and_parts, or_cases}
+use Rattle.std.proofs.Common.{◌≡◌, ◌≤◌, ℕ, [], length, Bool, true, false, not, ◌&&◌, nat_eq, if◌then◌else◌, Option, Some, None, IfSome, option_map, is_some, refl, ap, ap₂, sym, ◌∙◌, subst, arith, eq-eqb, eqb-true}
 use Rattle.pg_schema.specs.declared.parts.field.Element.{Element}
 use Rattle.pg_schema.specs.declared.parts.field.Element.TheVariants as elements
 use Rattle.pg_schema.specs.declared.parts.field.Presence.{Presence}

@@ -1,5 +1,5 @@
 -- Each choice of a pair is reached, by its own message, if the smaller bounds in the table are.
-use Rattle.std.proofs.Common.{◌≡◌, ℕ, ◌+◌, ◌<◌, List, [], ◌∷◌, ◌++◌, length, filter, Bool, true, false, not, cond, nat_le, nat_eq, if◌then◌else◌, Option, Some, None, refl, ap, sym, ◌∙◌, subst, subst₂}
+use Rattle.std.proofs.Common.{◌≡◌, ℕ, ◌+◌, ◌<◌, List, [], ◌∷◌, ◌++◌, length, filter, Bool, true, false, not, cond, nat_le, if◌then◌else◌, Option, Some, None, refl, ap, sym, ◌∙◌, subst, subst₂}
 use Rattle.std.specs.List.{AllByRecursion}
 use Rattle.std.proofs.lemmas.Bool.{and_parts, leb-true, not-true}
 use Rattle.pg_schema.specs.Shape.{Shape, FieldShape, PresenceFits, IsField, IsShape, Rising, fields, field_at}

@@ -1,5 +1,5 @@
 -- The message that a choice is reached by.
-use Rattle.std.specs.Prelude.{◌≡◌, ℕ, ◌<◌, nat_eq, pos, ⊤, [], ◌∷◌, Bool, true, false, ◌&&◌, ◌||◌, if◌then◌else◌, Option, Some, None, option_map}
+use Rattle.std.specs.Prelude.{◌≡◌, ℕ, ◌<◌, nat_eq, pos, ⊤, [], ◌∷◌, Bool, true, false, if◌then◌else◌, Option, Some, None, option_map}
 use Rattle.pg_schema.specs.declared.parts.field.Scalar.{Scalar}
 use Rattle.pg_schema.specs.declared.parts.field.Scalar.TheVariants.{Int32}
 use Rattle.pg_schema.specs.declared.parts.field.Element.{Element}
@@ -79,7 +79,9 @@ alone number key item = with_part number key item (ends [])
 
 -- the least content of unlike fields; where zero doesn't count an item that isn't zero
 abbrev pub unlike_message : FieldShape → FieldShape → Message
-unlike_message f g = if zero_counts f g then least_part f (ends []) else alone f.number (least_key f.presence) (item_by nonzero_leaf f.element)
+unlike_message f g =
+    if zero_counts f g then least_part f (ends [])
+    else alone f.number (least_key f.presence) (item_by nonzero_leaf f.element)
 
 -- a message of the item of a gap, and of a child, where there is one
 abbrev pub leaf_alone : ℕ → Option Leaf → Option Leaf → Message
@@ -92,7 +94,8 @@ child_alone number key None = ends []
 
 -- a list that the new field doesn't keep: two zeros beside an explicit field, of which one is read, else one
 abbrev pub lost_onto : ℕ → Presence → Presence → Item → Message
-lost_onto number (presences.Repeated false) presences.Explicit zero = with_part number None zero (alone number None zero)
+lost_onto number (presences.Repeated false) presences.Explicit zero =
+    with_part number None zero (alone number None zero)
 lost_onto number p q zero = alone number None zero
 
 abbrev pub key_of : Presence → Scalar
@@ -114,16 +117,20 @@ value_alone number key None leaf = leaf_alone number (Some key) leaf
 abbrev pub entry_message : EnumView → ℕ → Scalar → Scalar → Element → Element → ℕ → Option Message → Message
 entry_message enum_view number k l e d part child =
     if nat_eq part 1 then key_alone number e (gap_item enum_view true (elements.Scalar k) (elements.Scalar l))
-    else if nat_eq part 2 then value_alone number (zero_leaf (form (elements.Scalar k))) child (gap_item enum_view true e d)
+    else if nat_eq part 2
+    then value_alone number (zero_leaf (form (elements.Scalar k))) child (gap_item enum_view true e d)
     else alone number (Some (apart_leaf (elements.Scalar k) (elements.Scalar l))) (apart_item e d)
 
 -- the message of a field's choice, of that case and part, round that child
 abbrev pub carried_field : EnumView → FieldShape → FieldShape → Case → ℕ → Option Message → Message
 carried_field enum_view f g cases.Unlike part child = unlike_message f g
-carried_field enum_view f g cases.Gap part child = leaf_alone f.number None (gap_item enum_view (zero_counts f g) f.element g.element)
+carried_field enum_view f g cases.Gap part child =
+    leaf_alone f.number None (gap_item enum_view (zero_counts f g) f.element g.element)
 carried_field enum_view f g cases.Child part child = child_alone f.number None child
-carried_field enum_view f g cases.List part child = lost_onto f.number f.presence g.presence (item_by zero_leaf f.element)
-carried_field enum_view f g cases.Map part child = entry_message enum_view f.number (key_of f.presence) (key_of g.presence) f.element g.element part child
+carried_field enum_view f g cases.List part child =
+    lost_onto f.number f.presence g.presence (item_by zero_leaf f.element)
+carried_field enum_view f g cases.Map part child =
+    entry_message enum_view f.number (key_of f.presence) (key_of g.presence) f.element g.element part child
 carried_field enum_view f g cases.Oneof part child = ends []
 
 -- two fields that meet: the least contents of both
@@ -131,15 +138,17 @@ abbrev pub carried_two : FieldShape → Option FieldShape → Message
 carried_two f (Some e) = least_part f (least_part e (ends []))
 carried_two f None = ends []
 
-abbrev pub carried_of : EnumView → Option FieldShape → Option FieldShape → Option FieldShape → Choice → Option Message → Message
-carried_of enum_view (Some f) (Some g) e c child = if is_oneof c.case then carried_two f e else carried_field enum_view f g c.case c.part child
+abbrev pub carried_of : EnumView → (first beside second : Option FieldShape) → Choice → Option Message → Message
+carried_of enum_view (Some f) (Some g) e c child =
+    if is_oneof c.case then carried_two f e else carried_field enum_view f g c.case c.part child
 carried_of enum_view (Some f) None e c child = ends []
 carried_of enum_view None g e c child = ends []
 
 -- the message of a choice
 abbrev pub carried : EnumView → Shape → Shape → Pair → Choice → Option Message → Message
 carried enum_view old new pair c child =
-    carried_of enum_view (field_at (fields old pair.old) c.number) (field_at (fields new pair.new) c.number) (field_at (fields old pair.old) c.part) c child
+    carried_of enum_view (field_at (fields old pair.old) c.number) (field_at (fields new pair.new) c.number)
+    (field_at (fields old pair.old) c.part) c child
 
 -- Which choices have a child, and of which pair.
 
@@ -161,7 +170,8 @@ child_of (Some f) None c = None
 child_of None g c = None
 
 abbrev pub choice_child : Shape → Shape → Pair → Choice → Option Pair
-choice_child old new pair c = child_of (field_at (fields old pair.old) c.number) (field_at (fields new pair.new) c.number) c
+choice_child old new pair c =
+    child_of (field_at (fields old pair.old) c.number) (field_at (fields new pair.new) c.number) c
 
 -- the choice is one of the pair's, under some table of bounds
 abbrev pub IsChoiceOf : EnumView → Shape → Shape → Pair → Choice → Type 0
@@ -179,7 +189,8 @@ abbrev pub ChildReached : EnumView → Shape → Shape → Table → Option Pair
 ChildReached enum_view old new table None None = ⊤
 ChildReached enum_view old new table None (Some m) = ⊥
 ChildReached enum_view old new table (Some p) None = ⊥
-ChildReached enum_view old new table (Some p) (Some m) = (x : ℕ) × (table p ≡ Some (Some x)) × ReachedBy enum_view old new p m x
+ChildReached enum_view old new table (Some p) (Some m) =
+    (x : ℕ) × (table p ≡ Some (Some x)) × ReachedBy enum_view old new p m x
 
 -- The child, where a choice has one, is of that pair's old type.
 abbrev pub IsOfPair : Option Pair → Option Kept → Type 0
@@ -187,8 +198,8 @@ IsOfPair (Some pair) (Some child) = type_of child ≡ pair.old
 IsOfPair (Some pair) None = ⊤
 IsOfPair None child = ⊤
 
--- The choice is one of the pair's under some table of bounds, and its child, where it has one, is a message of the child's old type that
--- breaks and has the length of its bound.
+-- The choice is one of the pair's under some table of bounds, and its child, where it has one, is a message of the
+-- child's old type that breaks and has the length of its bound.
 pub record IsChoiceRound (enum_view : EnumView) (old new : Shape) (pair : Pair) (choice : Choice) (child : Option Kept) : Type 0 where
   pub table : Table
   pub among : IsAmong choice (choices enum_view table old new pair)
@@ -204,11 +215,13 @@ ChildThere table (Some p) cost = (x : ℕ) × (table p ≡ Some (Some x)) × (x 
 abbrev pub EachChildCostsLess : Type 0
 EachChildCostsLess =
     (enum_view : EnumView) (old new : Shape) (table : Table) → IsEnumView enum_view → IsShape old → IsShape new →
-    (pair : Pair) (c : Choice) → IsAmong c (choices enum_view table old new pair) → ChildThere table (choice_child old new pair c) c.cost
+    (pair : Pair) (c : Choice) → IsAmong c (choices enum_view table old new pair) →
+    ChildThere table (choice_child old new pair c) c.cost
 
 -- The message of each choice breaks and has the choice's cost.
 abbrev pub EachChoiceIsCarried : Type 0
 EachChoiceIsCarried =
     (enum_view : EnumView) (old new : Shape) (table : Table) → IsEnumView enum_view → IsShape old → IsShape new →
     (pair : Pair) (c : Choice) → IsAmong c (choices enum_view table old new pair) →
-    (child : Option Message) → ChildReached enum_view old new table (choice_child old new pair c) child → ReachedBy enum_view old new pair (carried enum_view old new pair c child) c.cost
+    (child : Option Message) → ChildReached enum_view old new table (choice_child old new pair c) child →
+    ReachedBy enum_view old new pair (carried enum_view old new pair c child) c.cost

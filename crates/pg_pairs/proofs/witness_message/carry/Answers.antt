@@ -1,4 +1,4 @@
-use Rattle.std.proofs.Common.{rules, true, false, ◌≡◌, ◌∙◌, [], Some, IfSome, is_some, option_map, ap, sym, subst, eq-eqb, ne_eqb, true≢false}
+use Rattle.std.proofs.Common.{rules, true, false, ◌≡◌, ◌∙◌, [], Some, IfSome, is_some, option_map, ap, sym, subst, true≢false}
 use Rattle.pg_schema.specs.Parts.{field_shape, shape_of}
 use Rattle.pg_schema.specs.Shape.{fields, field_at}
 use Rattle.pg_dyn.specs.Kept.{ends, message_of, type_of}
