@@ -16,7 +16,7 @@ ghost use Rattle.pg_dyn.specs.Kept.{message_of, type_of};
 ghost use Rattle.pg_pairs.specs.Among.{IsAmong};
 ghost use Rattle.pg_pairs.specs.Carried as carried;
 ghost use Rattle.pg_pairs.specs.Cheapest as least;
-ghost use Rattle.pg_pairs.specs.Choices.{Table, choices};
+ghost use Rattle.pg_pairs.specs.Choices.{Table, case_number, choices};
 ghost use Rattle.pg_pairs.specs.Covering as covering;
 ghost use Rattle.pg_pairs.specs.Gaps as gaps;
 ghost use Rattle.pg_pairs.specs.Laws.{ReachedBy};
@@ -25,10 +25,17 @@ ghost use Rattle.pg_pairs.specs.SeenBy.{seen_by};
 pub use graph::{base, edge_cost, edges, knows, priced, reached_pairs};
 pub use names::{alike_as_named, alike_by_name, least_by_name, name_of_names};
 use pg_dyn::{DynError, Message, MessageRef};
-use pg_pairs::{Choice, Gap, Numbers, Pair, Table, View};
+use pg_pairs::{Case, Choice, Gap, Numbers, Pair, Table, View};
 use pg_schema::{EnumType, Scalar, Schema};
 pub use returning::returns;
 use std::alloc::{AllocError, Global};
+
+/// What `Case::number` answers.
+pub fn number(case: Case) -> u8
+    ensures { result ≡ case_number case }
+{
+    case.number()
+}
 
 /// What `breaks` answers.
 pub fn breaks<V: View>(
