@@ -256,7 +256,7 @@ met_no_more ds cs h = of (cheapest cs) refl
 
 -- The laws.
 
-each_length : (enum_view : EnumView) (old new : Shape) (table : Table) (pair : Pair) → AllByRecursion (λ (c : Choice). (1 ≤ c.cost) × (c.cost ≤ cap)) (choices enum_view table old new pair)
+pub each_length : (enum_view : EnumView) (old new : Shape) (table : Table) (pair : Pair) → AllByRecursion (λ (c : Choice). (1 ≤ c.cost) × (c.cost ≤ cap)) (choices enum_view table old new pair)
 each_length enum_view old new table pair = some-affordable (all_choices enum_view table (fields new pair.new) (fields old pair.old)) (some-all enum_view table (fields new pair.new) (fields old pair.old))
 
 -- A least cost is a length that an encoding of a breaking message may have.

@@ -56,6 +56,7 @@ pub mod Cheaper
 pub mod LeastMembers
 pub mod SetTypes
 pub mod LeastCosts
+pub mod LowCosts
 pub mod SameSteps
 pub mod SameFields
 pub mod SameMessages
@@ -64,6 +65,7 @@ pub mod TakenItems
 pub mod CarryContents
 pub mod EdgeCosts
 pub mod EdgeLaws
+pub mod NearPrices
 pub mod PublicLaws
 pub mod ChoicePlaces
 pub mod SameLengths

@@ -3,12 +3,13 @@ use Rattle.std.proofs.Common.{◌≡◌, ℕ, zero, suc, ◌+◌, ◌<◌, List,
 use Rattle.std.specs.List.{AllByRecursion}
 use Rattle.std.proofs.lemmas.List.{take-append-le}
 use Rattle.std.proofs.lemmas.Option.{slice_get-get_or, slice_get_cases}
+use Rattle.pg_dyn.proofs.Lists.{each_weaker}
 use Rattle.pg_pairs.specs.declared.choice.Pair.{Pair}
 use Rattle.pg_pairs.specs.Covering.{distinct}
 use Rattle.pg_pairs.specs.FirstSeen.{OnePairMore}
 use Rattle.pg_pairs.specs.Among.{IsAmong}
 use Rattle.pg_pairs.specs.Seen.{AreClosed}
-use Rattle.pg_pairs.specs.Reached.{LeadsTo, IsReachedInOrder, itself, onwards}
+use Rattle.pg_pairs.specs.Reached.{FromOneRoot, IsLedTo, IsReachedFrom, LeadsTo, itself, onwards}
 use Rattle.pg_pairs.proofs.Grown.{distinct-again, distinct-front, grown_behind, each_distinct, among_distinct}
 
 -- Places in lists.
@@ -77,13 +78,13 @@ each_flat h (x ∷ xs) all within = (
   each_flat h xs all (λ y among. within y (among_right y (h x) (flat_map h xs) among)),
 )
 
-module _ (law : OnePairMore) (kids : Pair → List Pair) (root : Pair) where
-  -- the root and the children of the pairs before that place
+module _ (law : OnePairMore) (kids : Pair → List Pair) (roots : List Pair) where
+  -- the roots and the children of the pairs before that place
   abbrev pub found_to : ℕ → List Pair → List Pair
-  found_to at ps = distinct (root ∷ flat_map kids (take at ps))
+  found_to at ps = distinct (roots ++ flat_map kids (take at ps))
 
   pub once : (at : ℕ) (ps : List Pair) → ps ≡ found_to at ps → distinct ps ≡ ps
-  once at ps so_far = ap distinct so_far ∙ distinct-again law (root ∷ flat_map kids (take at ps)) ∙ sym so_far
+  once at ps so_far = ap distinct so_far ∙ distinct-again law (roots ++ flat_map kids (take at ps)) ∙ sym so_far
 
   module _ (ps : List Pair) (at : ℕ) (x : Pair) (here : slice_get ps at ≡ Some x) (after : List Pair) (is : after ≡ distinct (ps ++ kids x)) where
     front_stays : ps ≡ found_to at ps → take (at + 1) after ≡ take (at + 1) ps
@@ -93,41 +94,59 @@ module _ (law : OnePairMore) (kids : Pair → List Pair) (root : Pair) where
 
     pub next_found : ps ≡ found_to at ps → after ≡ found_to (at + 1) after
     next_found so_far =
-        is ∙ ap (λ qs. distinct (qs ++ kids x)) so_far ∙ distinct-front law (root ∷ flat_map kids (take at ps)) (kids x)
-        ∙ ap (λ qs. distinct (root ∷ qs)) (sym (flat_map-end kids (take at ps) x))
-        ∙ ap (λ qs. distinct (root ∷ flat_map kids qs)) (sym (front_stays so_far ∙ take_one_more ps at x here))
+        is ∙ ap (λ qs. distinct (qs ++ kids x)) so_far ∙ distinct-front law (roots ++ flat_map kids (take at ps)) (kids x)
+        ∙ ap distinct (append_assoc roots (flat_map kids (take at ps)) (kids x))
+        ∙ ap (λ qs. distinct (roots ++ qs)) (sym (flat_map-end kids (take at ps) x))
+        ∙ ap (λ qs. distinct (roots ++ flat_map kids qs)) (sym (front_stays so_far ∙ take_one_more ps at x here))
 
-    pub next_led : AllByRecursion (LeadsTo kids root) ps → AllByRecursion (LeadsTo kids root) after
+    child_led : (c : Pair) → IsLedTo kids roots x → IsAmong c (kids x) → IsLedTo kids roots c
+    child_led c led among = record { root = led.root; among = led.among; leads = onwards x c led.leads among }
+
+    pub next_led : AllByRecursion (IsLedTo kids roots) ps → AllByRecursion (IsLedTo kids roots) after
     next_led led =
-        subst (AllByRecursion (LeadsTo kids root)) (sym is)
-        (each_distinct (LeadsTo kids root) (ps ++ kids x)
-        (each-append (LeadsTo kids root) ps (kids x) led
-        (every_is_among (LeadsTo kids root) (kids x) (λ c among. onwards x c (each_at (LeadsTo kids root) ps at x here led) among))))
+        subst (AllByRecursion (IsLedTo kids roots)) (sym is)
+        (each_distinct (IsLedTo kids roots) (ps ++ kids x)
+        (each-append (IsLedTo kids roots) ps (kids x) led
+        (every_is_among (IsLedTo kids roots) (kids x) (λ c among. child_led c (each_at (IsLedTo kids roots) ps at x here led) among))))
 
   -- what holds of the pairs and of the children of the next holds of all that are found
   pub next_each : (P : Pair → Type 0) (ps : List Pair) (x : Pair) (after : List Pair) → after ≡ distinct (ps ++ kids x) → AllByRecursion P ps → ((y : Pair) → IsAmong y (kids x) → P y) → AllByRecursion P after
   next_each P ps x after is each more = subst (AllByRecursion P) (sym is) (each_distinct P (ps ++ kids x) (each-append P ps (kids x) each (every_is_among P (kids x) more)))
 
-  module _ (ps : List Pair) (in_order : ps ≡ distinct (root ∷ flat_map kids ps)) where
+  module _ (ps : List Pair) (in_order : ps ≡ distinct (roots ++ flat_map kids ps)) where
     -- what is found stands in the list
-    among_found : (y : Pair) → IsAmong y (root ∷ flat_map kids ps) → IsAmong y ps
-    among_found y among = subst (IsAmong y) (sym in_order) (among_distinct y (root ∷ flat_map kids ps) among)
+    among_found : (y : Pair) → IsAmong y (roots ++ flat_map kids ps) → IsAmong y ps
+    among_found y among = subst (IsAmong y) (sym in_order) (among_distinct y (roots ++ flat_map kids ps) among)
 
     pub all_closed : AreClosed kids ps
-    all_closed = each_flat kids ps ps (λ y among. among_found y (inr among))
+    all_closed = each_flat kids ps ps (λ y among. among_found y (among_right y roots (flat_map kids ps) among))
 
-    all_led : (p : Pair) → LeadsTo kids root p → IsAmong p ps
-    all_led p itself = among_found root (inl refl)
-    all_led p (onwards above child leads among) =
+    led_among : (root : Pair) → IsAmong root roots → (p : Pair) → LeadsTo kids root p → IsAmong p ps
+    led_among root first p itself = among_found root (among_left root roots (flat_map kids ps) first)
+    led_among root first p (onwards above child leads among) =
         among_each (λ y. IsAmong y ps) child (kids above) among
-        (among_each (λ q. AllByRecursion (λ y. IsAmong y ps) (kids q)) above ps (all_led above leads) all_closed)
+        (among_each (λ q. AllByRecursion (λ y. IsAmong y ps) (kids q)) above ps (led_among root first above leads) all_closed)
+
+    all_led : (p : Pair) → IsLedTo kids roots p → IsAmong p ps
+    all_led p led = led_among led.root led.among p led.leads
 
   -- all are found
-  pub all_found : (ps : List Pair) (at : ℕ) → take at ps ≡ ps → ps ≡ found_to at ps → AllByRecursion (LeadsTo kids root) ps → IsReachedInOrder kids root ps
+  pub all_found : (ps : List Pair) (at : ℕ) → take at ps ≡ ps → ps ≡ found_to at ps → AllByRecursion (IsLedTo kids roots) ps → IsReachedFrom kids roots ps
   all_found ps at past so_far led =
-      let in_order : ps ≡ distinct (root ∷ flat_map kids ps) = so_far ∙ ap (λ qs. distinct (root ∷ flat_map kids qs)) past in
+      let in_order : ps ≡ distinct (roots ++ flat_map kids ps) = so_far ∙ ap (λ qs. distinct (roots ++ flat_map kids qs)) past in
       record {
         in_order = in_order;
         led_to = led;
         all = all_led ps in_order;
       }
+
+-- one root leads to its own pairs alone
+one_leads : (kids : Pair → List Pair) (root p : Pair) → IsLedTo kids (root ∷ []) p → LeadsTo kids root p
+one_leads kids root p led = subst (λ r. LeadsTo kids r p) (⊎_elim (λ same. same) (λ none. absurd none) led.among) led.leads
+
+pub from_one_root : FromOneRoot
+from_one_root kids root ps reached = record {
+  in_order = reached.in_order;
+  led_to = each_weaker (IsLedTo kids (root ∷ [])) (LeadsTo kids root) (λ p led. one_leads kids root p led) ps reached.led_to;
+  all = λ p leads. reached.all p (record { root = root; among = inl refl; leads = leads });
+}

@@ -67,6 +67,9 @@ pub record ArePriced (old new : Shape) : Type 0 where
   pub bases_are_lengths : (enum_view : EnumView) (pair : Pair) → IfSome (least_cost enum_view no_bounds old new pair) (λ cost. (1 ≤ cost) × (cost ≤ cap))
   pub costs_more : (edge : Edge) (bound : ℕ) → IfSome (edge_price old edge bound) (λ cost. (bound < cost) × (cost ≤ cap))
 
+abbrev pub SchemasArePriced : Type 0
+SchemasArePriced = (old new : Shape) → IsShape old → IsShape new → ArePriced old new
+
 -- A pair's least cost under a table is the least of its least cost without bounds and of what its edges cost under the table.
 abbrev pub LeastCostsByEdges : Type 0
 LeastCostsByEdges =

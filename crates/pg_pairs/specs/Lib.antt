@@ -39,4 +39,5 @@ pub mod HomeExamples
 pub mod ReadBack
 pub mod LeastOf
 pub mod Edges
+pub mod Causes
 pub mod EdgeChildren

@@ -2,11 +2,12 @@
 
 ghost use Rattle.std.specs.Prelude.{◌≡◌};
 ghost use Rattle.pg_pairs.specs.Carried.{EachChildCostsLess, EachChoiceIsCarried};
+ghost use Rattle.pg_pairs.specs.Causes.{CausesAreOwn, NamesAlone, PricesAreNear};
 ghost use Rattle.pg_pairs.specs.Cheapest.{CheapestIsLeast};
 ghost use Rattle.pg_pairs.specs.ComesHome.{MessagesComeHome};
 ghost use Rattle.pg_pairs.specs.Contents.{ContentsCost};
 ghost use Rattle.pg_pairs.specs.CoversByNumber.{CoversByNumber};
-ghost use Rattle.pg_pairs.specs.Edges.{LeastCostsByEdges, PairsLeadToPairs};
+ghost use Rattle.pg_pairs.specs.Edges.{LeastCostsByEdges, PairsLeadToPairs, SchemasArePriced};
 ghost use Rattle.pg_pairs.specs.ElementGaps.{ElementGaps, UnseenAreNotZero};
 ghost use Rattle.pg_pairs.specs.FieldCosts.{ChildrenCost, ListsCost, MapsCost, SingleScalarsCost};
 ghost use Rattle.pg_pairs.specs.Gaps.{GapTable};
@@ -15,6 +16,7 @@ ghost use Rattle.pg_pairs.specs.Laws.{CoveringBounds, ExactIsLeast, NoneIsCompat
 ghost use Rattle.pg_pairs.specs.LeastCosts.{LeastCostsAreExact};
 ghost use Rattle.pg_pairs.specs.NamedView.{seen_under};
 ghost use Rattle.pg_pairs.specs.ReadBack.{SeenItemsHaveOneBody};
+ghost use Rattle.pg_pairs.specs.Reached.{FromOneRoot};
 ghost use Rattle.pg_pairs.specs.SmallPairs.{SmallPairs};
 ghost use Rattle.pg_pairs.specs.EnumView.{IsEnumView};
 ghost use Rattle.pg_pairs.specs.SeenBy.{seen_by};
@@ -153,6 +155,34 @@ pub fn pairs_lead_to_pairs()
 /// edges cost at the bounds of their children.
 pub fn least_costs_by_edges()
     ensures { LeastCostsByEdges }
+{}
+
+/// A cause has no child, and costs what an encoding may have.
+pub fn causes_are_own()
+    ensures { CausesAreOwn }
+{}
+
+/// A view bears on gaps between two enums alone, and by numbers there are none of these: so names
+/// alone make causes of enums that are renamed.
+pub fn names_alone()
+    ensures { NamesAlone }
+{}
+
+/// Costs stay low: a cause's, and what an edge costs more than its child's bound. Each child has an
+/// edge.
+pub fn prices_are_near()
+    ensures { PricesAreNear }
+{}
+
+/// Between any two schemas pairs and edges are few, and costs are lengths that an encoding may
+/// have.
+pub fn schemas_are_priced()
+    ensures { SchemasArePriced }
+{}
+
+/// The pairs reached from one root alone are those that it leads to.
+pub fn from_one_root()
+    ensures { FromOneRoot }
 {}
 
 /// Where two types are compatible under a view and the pair returns, each plain message of the old

@@ -4,6 +4,7 @@
 
 mod breaking;
 mod case;
+mod causing;
 mod choice;
 mod comparing;
 mod cost;
@@ -35,6 +36,7 @@ mod work;
 
 pub use breaking::{breaks, breaks_as_written};
 pub use case::Case;
+pub use causing::{carry_cause, causes};
 pub use choice::{Choice, Pair};
 pub use descent::{children, choice_child};
 pub use edge::{Edge, Part};
@@ -48,6 +50,6 @@ pub use returning::returns;
 pub use scalar_gap::gap;
 pub use table::Table;
 pub use view::{Numbers, View};
-pub use walking::reached_pairs;
+pub use walking::{reached_from, reached_pairs};
 pub use witness_message::carry;
 pub use work::Work;

@@ -1,9 +1,9 @@
-//! The pairs that a root pair leads to.
+//! The pairs that root pairs lead to.
 
 ghost use Rattle.std.specs.Prelude.{◌≡◌, ◌++◌, true, IfOk, OnOk};
 ghost use Rattle.std.specs.List.{AllByRecursion};
 ghost use Rattle.pg_pairs.specs.Covering.{distinct};
-ghost use Rattle.pg_pairs.specs.Reached.{IsReachedInOrder};
+ghost use Rattle.pg_pairs.specs.Reached.{IsReachedFrom, IsReachedInOrder};
 ghost use Rattle.pg_pairs.specs.Seen.{AreClosed, AreSeen};
 
 use crate::choice::Pair;
@@ -30,6 +30,36 @@ fn add_unseen(
     Ok(())
 }
 
+/// The roots, which the graph knows, in their order, then the children of each pair in turn, each
+/// pair once, where it was first seen. The graph knows them all.
+///
+/// Refused only where memory is.
+pub fn reached_from<G: Prices>(
+    alloc: Global,
+    graph: &G,
+    roots: &[Pair],
+) -> Result<Vec<Pair>, AllocError>
+    requires { AllByRecursion (λ p. G.is_known graph.now p ≡ true) roots.now }
+    ensures in_order { IfOk result (λ pairs. IsReachedFrom
+        (G.children_of graph.now) roots.now pairs.items) }
+    ensures once { IfOk result (λ pairs. distinct pairs.items ≡ pairs.items) }
+    ensures closed { IfOk result (λ pairs. AreClosed (G.children_of graph.now) pairs.items) }
+    ensures known { IfOk result (λ pairs. AllByRecursion
+        (λ p. G.is_known graph.now p ≡ true) pairs.items) }
+{
+    let mut pairs = Vec::new(alloc);
+    let mut seen = BTreeSet::new(alloc);
+    add_unseen(&mut pairs, &mut seen, roots)?;
+    for at in 0..usize::MAX {
+        let Some(pair) = pairs.get(at).copied() else {
+            break;
+        };
+        let found = graph.children(alloc, pair)?;
+        add_unseen(&mut pairs, &mut seen, &found)?;
+    }
+    Ok(pairs)
+}
+
 /// The root, which the graph knows, then the children of each pair in turn, each pair once, where
 /// it was first seen. The graph knows them all.
 ///
@@ -47,15 +77,5 @@ pub fn reached_pairs<G: Prices>(
     ensures known { IfOk result (λ pairs. AllByRecursion
         (λ p. G.is_known graph.now p ≡ true) pairs.items) }
 {
-    let mut pairs = Vec::new(alloc);
-    let mut seen = BTreeSet::new(alloc);
-    add_unseen(&mut pairs, &mut seen, &[root])?;
-    for at in 0..usize::MAX {
-        let Some(pair) = pairs.get(at).copied() else {
-            break;
-        };
-        let found = graph.children(alloc, pair)?;
-        add_unseen(&mut pairs, &mut seen, &found)?;
-    }
-    Ok(pairs)
+    reached_from(alloc, graph, &[root])
 }

@@ -1,65 +1,14 @@
-use Rattle.std.proofs.Common.{◌≡◌, true, ◌∷◌, ◌++◌, [], List, take, Option, Some, None, slice_get, refl, ap, sym, ◌∙◌, subst, arith}
-use Rattle.std.proofs.lemmas.List.{take_all}
-use Rattle.std.specs.List.{AllByRecursion}
-use Rattle.pg_pairs.specs.declared.choice.Pair.{Pair}
-use Rattle.pg_pairs.specs.Covering.{distinct}
-use Rattle.pg_pairs.specs.Reached.{LeadsTo, itself}
-use Rattle.pg_pairs.proofs.FirstSeen.{distinct-more}
-use Rattle.pg_pairs.proofs.Reaching.{copied_at, once, next_found, next_led, all_found, all_closed, take_past, next_each, each_at}
+use Rattle.std.proofs.Common.{◌∷◌, [], Ok, Err, IfOk, Result}
+use Rattle.pg_pairs.specs.Reached.{IsReachedFrom, IsReachedInOrder}
+use Rattle.pg_pairs.proofs.Reaching.{from_one_root}
 use Rattle.pg_pairs.proofs.walking.reached_pairs.Goals as goal
-use Rattle.pg_pairs.proofs.walking.reached_pairs.Goals.{else-loop-at-test, then-loop-at-test+in_default}
 
-none_is : (o : Option Pair) → ((p : Pair) → o ≡ Some p → ⊥) → o ≡ None
-none_is None h = refl
-none_is (Some p) h = absurd (h p refl)
-
-pub loop-at-init : goal.loop-at-init
-loop-at-init g c =
-    let first : c.add_unseen.new.pairs.items ≡ c.args.root ∷ [] = c.in_ok-add_unseen.ensures.added ∙ ap (λ (qs : List Pair). distinct (qs ++ c.args.root ∷ [])) c.new-pairs.ensures.items in
-    record {
-      in_order = first;
-      led_to = subst (AllByRecursion (LeadsTo (g.G.Prices.children_of c.args.graph.now) c.args.root)) (sym first) (itself, tt);
-      seen = c.in_ok-add_unseen.ensures.seen;
-      known = subst (AllByRecursion (λ (p : Pair). g.G.Prices.is_known c.args.graph.now p ≡ true)) (sym first) (c.requires, tt);
-    }
-
-pub add_unseen-requires-in-loop-at-clause-once : goal.add_unseen-requires-in-loop-at-clause-once
-add_unseen-requires-in-loop-at-clause-once g c =
-    once distinct-more (g.G.Prices.children_of c.args.graph.now) c.args.root c.loop-at.at c.loop-at.pairs.items c.loop-at.invariant.in_order
-
-pub loop-at-preserved : goal.loop-at-preserved
-loop-at-preserved g c =
-    let ps = c.loop-at.pairs.items in
-    let after = c.add_unseen-in-loop-at.new.pairs.items in
-    let kids = g.G.Prices.children_of c.args.graph.now in
-    let law = distinct-more in
-    let root = c.args.root in
-    let at = c.loop-at.at in
-    let x = c.in-Some.pair in
-    let here : slice_get ps at ≡ Some x = ap (λ (qs : List Pair). slice_get qs at) (sym c.deref.ensures.value) ∙ sym (copied_at (λ b. b.now) c.deref.result.now at c.get.result c.get.ensures.lookup.0 (c.get.ensures.lookup.4 (omega arith))) ∙ sym c.copied.ensures ∙ c.in-Some.is in
-    let is : after ≡ distinct (ps ++ kids x) = c.in_ok-add_unseen-2.ensures.added ∙ ap (λ (qs : List Pair). distinct (ps ++ qs)) (c.deref-in-loop-at.ensures.value ∙ c.in_ok-found.ensures) in
-    record {
-      in_order = next_found law kids root ps at x here after is c.loop-at.invariant.in_order;
-      led_to = next_led law kids root ps at x here after is c.loop-at.invariant.led_to;
-      seen = c.in_ok-add_unseen-2.ensures.seen;
-      known = next_each law kids root (λ (p : Pair). g.G.Prices.is_known c.args.graph.now p ≡ true) ps x after is c.loop-at.invariant.known (λ y among. g.G.Prices.children_are_known c.args.graph.now x y (each_at (λ (p : Pair). g.G.Prices.is_known c.args.graph.now p ≡ true) ps at x here c.loop-at.invariant.known) among);
-    }
-
-pub returns-clause-once : goal.returns-clause-once
-returns-clause-once g c =
-    once distinct-more (g.G.Prices.children_of c.args.graph.now) c.args.root c.loop-at.at c.loop-at.pairs.items c.loop-at.invariant.in_order
+if_ok_so : {A E : Type 0} (P Q : A → Type 0) → ((x : A) → P x → Q x) → (r : Result A E) → IfOk r P → IfOk r Q
+if_ok_so P Q so (Ok x) h = so x h
+if_ok_so P Q so (Err e) h = tt
 
 pub returns-clause-in_order : goal.returns-clause-in_order
 returns-clause-in_order g c =
-    let ps = c.loop-at.pairs.items in
-    let past : take c.loop-at.at ps ≡ ps =
-    elim c.loop-at-test.branch [
-      | else-loop-at-test w ↦ take_all c.loop-at.at ps (let far = w.loop-at-test.false in let small = c.loop-at.pairs.small in omega arith)
-      | then-loop-at-test+in_default w ↦ take_past ps c.loop-at.at (ap (λ (qs : List Pair). slice_get qs c.loop-at.at) (sym w.deref.ensures.value) ∙ sym (copied_at (λ b. b.now) w.deref.result.now c.loop-at.at w.get.result w.get.ensures.lookup.0 (w.get.ensures.lookup.4 (omega arith))) ∙ sym w.copied.ensures ∙ none_is w.copied.result w.in_default.not-Some)
-    ] in
-    all_found distinct-more (g.G.Prices.children_of c.args.graph.now) c.args.root ps c.loop-at.at past c.loop-at.invariant.in_order c.loop-at.invariant.led_to
-
-pub returns-clause-closed : goal.returns-clause-closed
-returns-clause-closed g c =
-    let reached = returns-clause-in_order g c in
-    all_closed distinct-more (g.G.Prices.children_of c.args.graph.now) c.args.root c.loop-at.pairs.items reached.in_order
+    let kids = g.G.Prices.children_of c.args.graph.now in
+    if_ok_so (λ pairs. IsReachedFrom kids (c.args.root ∷ []) pairs.items) (λ pairs. IsReachedInOrder kids c.args.root pairs.items)
+    (λ pairs reached. from_one_root kids c.args.root pairs.items reached) c.reached_from.result c.reached_from.ensures.in_order

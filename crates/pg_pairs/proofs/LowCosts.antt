@@ -1,0 +1,274 @@
+-- How far costs go: a cause's, and what an edge's is more than its child's bound.
+use Rattle.std.proofs.Common.{◌≡◌, ℕ, zero, suc, ◌+◌, ◌/◌, ◌%◌, ◌≤◌, ℤ, pos, negsuc, List, [], ◌∷◌, ◌++◌, length, Bool, true, false, ◌&&◌, nat_le, nat_lt, if◌then◌else◌, Option, Some, None, option_map, IfSome, refl, arith, length-append}
+use Rattle.std.specs.List.{AllByRecursion}
+use Rattle.pg_schema.specs.declared.parts.field.Scalar.{Scalar}
+use Rattle.pg_schema.specs.declared.parts.field.Scalar.TheVariants.{Int32}
+use Rattle.pg_schema.specs.declared.parts.field.Element.{Element}
+use Rattle.pg_schema.specs.declared.parts.field.Element.TheVariants as elements
+use Rattle.pg_schema.specs.declared.parts.field.Presence.{Presence}
+use Rattle.pg_schema.specs.declared.parts.field.Presence.TheVariants as presences
+use Rattle.pg_schema.specs.Shape.{Shape, FieldShape, fields, field_at}
+use Rattle.pg_wire.specs.declared.record.WireType.{WireType}
+use Rattle.pg_wire.specs.declared.record.WireType.TheVariants.{Varint, I64, Len, I32}
+use Rattle.pg_wire.specs.Varint.{shortest_within, varint}
+use Rattle.pg_wire.specs.Records.{length_before, tag}
+use Rattle.pg_dyn.specs.Message.{Leaf, Int, Bytes}
+use Rattle.pg_dyn.specs.Coding.{Form, Integer, Single, Double, Text, Raw, body, form, form_wire, int32, scalar_form, word_bytes}
+use Rattle.pg_dyn.specs.encoding.Encoding.{cap}
+use Rattle.pg_dyn.proofs.Lists.{each-append, each_filtered}
+use Rattle.pg_pairs.specs.declared.case.Case.{Case}
+use Rattle.pg_pairs.specs.declared.case.Case.TheVariants as cases
+use Rattle.pg_pairs.specs.declared.choice.Choice.{Choice}
+use Rattle.pg_pairs.specs.declared.choice.Pair.{Pair}
+use Rattle.pg_pairs.specs.declared.gap_kind.Gap.{Gap}
+use Rattle.pg_pairs.specs.declared.gap_kind.Gap.TheVariants as gaps
+use Rattle.pg_pairs.specs.EnumView.{EnumView}
+use Rattle.pg_pairs.specs.Among.{IsAmong}
+use Rattle.pg_pairs.specs.Likeness.{like}
+use Rattle.pg_pairs.specs.Gaps.{body_length, gap, item_named, item_of}
+use Rattle.pg_pairs.specs.Costs.{with_length, least_of_wire, least_body, least_nonzero, nonzero_body, entry_cost, one_item, least_content}
+use Rattle.pg_pairs.specs.Choices.{choice, choice_of, zero_counts, unlike_cost, gap_body, child_body, singular_cost, plain_choices, map_choices, field_choices, joins, joined_choices, choices_beside, all_choices}
+use Rattle.pg_pairs.specs.Causes.{causes}
+use Rattle.pg_pairs.specs.Edges.{no_bounds}
+use Rattle.pg_pairs.proofs.Among.{among_each}
+use Rattle.pg_pairs.proofs.LeastCosts.{gap_choice, child_choice, list_choice, like_choices, key_choice, value_choice, map_child_choice, like_map_choices}
+
+-- Lengths.
+
+within_short : (m n : ℕ) → length (shortest_within m n) ≤ suc m
+within_short zero n = omega arith
+within_short (suc m) n =
+    let rest = within_short m (n / 128) in
+    elim (nat_lt n 128) as (λ b. length (if b then n ∷ [] else (128 + n % 128) ∷ shortest_within m (n / 128)) ≤ suc (suc m)) [ true ↦ omega arith | false ↦ omega arith ]
+
+varint_short : (n : ℕ) → length (varint n) ≤ 10
+unfolding varint
+varint_short n = within_short 9 n
+
+tag_short : (number : ℕ) (wire : WireType) → length (tag number wire) ≤ 10
+unfolding tag
+tag_short number wire = varint_short _
+
+pub lengths_near : (n : ℕ) → with_length n ≤ n + 10
+lengths_near n = let short = varint_short n in omega arith
+
+wire_low : (wire : WireType) → least_of_wire wire ≤ 8
+wire_low Varint = omega arith
+wire_low I64 = omega arith
+wire_low Len = omega arith
+wire_low I32 = omega arith
+
+least_low : (e : Element) → least_body e ≤ 8
+least_low e = wire_low (form_wire (form e))
+
+form_low : (f : Form) → least_nonzero f ≤ 8
+form_low (Integer whole) = wire_low whole.wire
+form_low Single = omega arith
+form_low Double = omega arith
+form_low Text = omega arith
+form_low Raw = omega arith
+
+nonzero_low : (e : Element) → nonzero_body e ≤ 8
+nonzero_low (elements.Message t) = omega arith
+nonzero_low (elements.Scalar s) = form_low (form (elements.Scalar s))
+nonzero_low (elements.Enum e) = form_low (form (elements.Enum e))
+
+entry_near : (number key value : ℕ) → entry_cost number key value ≤ key + value + 22
+entry_near number key value = let own = tag_short number Len in let whole = lengths_near (2 + key + value) in omega arith
+
+item_by : (number : ℕ) (p : Presence) (e : Element) (o : Option ℕ) (n : ℕ) → one_item (record { number = number; presence = p; element = e; oneof = o }) n ≤ n + 30
+item_by number presences.Implicit e o n = let own = tag_short number (form_wire (form e)) in omega arith
+item_by number presences.Explicit e o n = let own = tag_short number (form_wire (form e)) in omega arith
+item_by number (presences.Repeated false) e o n = let own = tag_short number (form_wire (form e)) in omega arith
+item_by number (presences.Repeated true) e o n = let own = tag_short number Len in let whole = lengths_near n in omega arith
+item_by number (presences.Map key) e o n = let low = least_low (elements.Scalar key) in let entry = entry_near number (least_body (elements.Scalar key)) n in omega arith
+
+pub item_near : (f : FieldShape) (n : ℕ) → one_item f n ≤ n + 30
+item_near f n = item_by f.number f.presence f.element f.oneof n
+
+content_by : (number : ℕ) (p : Presence) (e : Element) (o : Option ℕ) → least_content (record { number = number; presence = p; element = e; oneof = o }) ≤ 38
+content_by number presences.Implicit e o = let low = nonzero_low e in let near = item_by number presences.Implicit e o (nonzero_body e) in omega arith
+content_by number presences.Explicit e o = let low = least_low e in let near = item_by number presences.Explicit e o (least_body e) in omega arith
+content_by number (presences.Repeated packed) e o = let low = least_low e in let near = item_by number (presences.Repeated packed) e o (least_body e) in omega arith
+content_by number (presences.Map key) e o = let low = least_low e in let near = item_by number (presences.Map key) e o (least_body e) in omega arith
+
+content_low : (f : FieldShape) → least_content f ≤ 38
+content_low f = content_by f.number f.presence f.element f.oneof
+
+unlike_low : (f g : FieldShape) → unlike_cost f g ≤ 38
+unlike_low f g =
+    let low = nonzero_low f.element in
+    let near = item_near f (nonzero_body f.element) in
+    elim (zero_counts f g) as (λ b. (if b then least_content f else one_item f (nonzero_body f.element)) ≤ 38) [ true ↦ content_low f | false ↦ omega arith ]
+
+-- none, or a number that is no more
+abbrev IsUpTo : ℕ → Option ℕ → Type 0
+IsUpTo most o = IfSome o (λ n. n ≤ most)
+
+mapped_low : (h : ℕ → ℕ) (few many : ℕ) → ((n : ℕ) → n ≤ few → h n ≤ many) → (o : Option ℕ) → IsUpTo few o → IsUpTo many (option_map h o)
+mapped_low h few many low None up = tt
+mapped_low h few many low (Some n) up = low n up
+
+singular_low : (number : ℕ) (p q : Presence) (e d : Element) (o r : Option ℕ) → IsUpTo 100 (singular_cost (record { number = number; presence = p; element = e; oneof = o }) (record { number = number; presence = q; element = d; oneof = r }))
+singular_low number (presences.Repeated true) presences.Explicit e d o r = let low = content_by number (presences.Repeated true) e o in omega arith
+singular_low number (presences.Repeated false) presences.Explicit e d o r = let low = content_by number (presences.Repeated false) e o in omega arith
+singular_low number (presences.Repeated packed) presences.Implicit e d o r = let low = content_by number (presences.Repeated packed) e o in omega arith
+singular_low number (presences.Repeated packed) (presences.Repeated q) e d o r = tt
+singular_low number (presences.Repeated packed) (presences.Map key) e d o r = tt
+singular_low number presences.Implicit q e d o r = tt
+singular_low number presences.Explicit q e d o r = tt
+singular_low number (presences.Map key) q e d o r = tt
+
+-- Gaps: their items are numbers or texts of one letter.
+
+word_short : (wire : WireType) (word : ℕ) → length (word_bytes wire word) ≤ 10
+unfolding word_bytes
+word_short Varint word = varint_short word
+word_short I64 word = omega arith
+word_short I32 word = omega arith
+word_short Len word = omega arith
+
+before_short : (wire : WireType) (bytes : List ℕ) → length (length_before wire bytes) ≤ 10
+before_short Varint bytes = omega arith
+before_short I64 bytes = omega arith
+before_short I32 bytes = omega arith
+before_short Len bytes = varint_short (length bytes)
+
+short_body : (f : Form) (item : Leaf) → length (body f item) ≤ 10 → body_length f item ≤ 20
+short_body f item short =
+    let sum = length-append (length_before (form_wire f) (body f item)) (body f item) in
+    let before = before_short (form_wire f) (body f item) in
+    omega arith
+
+named_low : (f : Form) (value : ℤ) → body_length f (item_named f value) ≤ 20
+named_low (Integer whole) value = short_body (Integer whole) (Int value) (word_short whole.wire (whole.word value))
+named_low Single value = short_body Single (Int value) (omega arith)
+named_low Double value = short_body Double (Int value) (omega arith)
+named_low Text (pos n) = short_body Text (Bytes (n ∷ [])) (omega arith)
+named_low Text (negsuc n) = short_body Text (Bytes []) (omega arith)
+named_low Raw (pos n) = short_body Raw (Bytes (n ∷ [])) (omega arith)
+named_low Raw (negsuc n) = short_body Raw (Bytes []) (omega arith)
+
+item_low : (f : Form) (g : Gap) → IsUpTo 20 (option_map (body_length f) (item_of f g))
+item_low f gaps.Unlike = tt
+item_low f gaps.None = tt
+item_low f (gaps.Least bytes value) = named_low f value
+
+gap_low : (enum_view : EnumView) (counts : Bool) (old new : Element) → IsUpTo 20 (gap_body enum_view counts old new)
+gap_low enum_view counts (elements.Message s) new = tt
+gap_low enum_view counts (elements.Scalar s) (elements.Message t) = tt
+gap_low enum_view counts (elements.Scalar s) (elements.Scalar t) = item_low (scalar_form s) (gap s t)
+gap_low enum_view counts (elements.Scalar s) (elements.Enum t) = item_low (scalar_form s) (gap s Int32)
+gap_low enum_view counts (elements.Enum s) (elements.Message t) = tt
+gap_low enum_view counts (elements.Enum s) (elements.Scalar t) = item_low (form (elements.Enum s)) (gap Int32 t)
+gap_low enum_view counts (elements.Enum s) (elements.Enum t) = of (enum_view.least s t counts) refl
+  where
+    of : (o : Option ℤ) → enum_view.least s t counts ≡ o → IsUpTo 20 (gap_body enum_view counts (elements.Enum s) (elements.Enum t))
+    of None is = rw is tt
+    of (Some n) is = rw is (named_low (Integer int32) n)
+
+-- Choices without bounds.
+
+abbrev AreLow : List Choice → Type 0
+AreLow cs = AllByRecursion (λ (c : Choice). c.cost ≤ 100) cs
+
+low-append : (cs ds : List Choice) → AreLow cs → AreLow ds → AreLow (cs ++ ds)
+low-append = each-append (λ (c : Choice). c.cost ≤ 100)
+
+low-offered : (number : ℕ) (case : Case) (part : ℕ) (o : Option ℕ) → IsUpTo 100 o → AreLow (choice_of number case part o)
+low-offered number case part None up = tt
+low-offered number case part (Some n) up = (up, tt)
+
+-- no bound is there, so that no child has a cost
+low-child : (f : FieldShape) (case : Case) (part : ℕ) (e d : Element) → AreLow (choice_of f.number case part (option_map (one_item f) (child_body no_bounds e d)))
+low-child f case part (elements.Message s) (elements.Message t) = tt
+low-child f case part (elements.Message s) (elements.Scalar t) = tt
+low-child f case part (elements.Message s) (elements.Enum t) = tt
+low-child f case part (elements.Scalar s) d = tt
+low-child f case part (elements.Enum s) d = tt
+
+low-unlike : (f g : FieldShape) → AreLow (choice f.number cases.Unlike 0 (unlike_cost f g) ∷ [])
+low-unlike f g = let low = unlike_low f g in (omega arith, tt)
+
+module _ (enum_view : EnumView) where
+  low-gap : (f g : FieldShape) (counts : Bool) (case : Case) (part : ℕ) → AreLow (choice_of f.number case part (option_map (one_item f) (gap_body enum_view counts f.element g.element)))
+  low-gap f g counts case part =
+      low-offered f.number case part (option_map (one_item f) (gap_body enum_view counts f.element g.element))
+      (mapped_low (one_item f) 20 100 (λ n up. let near = item_near f n in omega arith) (gap_body enum_view counts f.element g.element) (gap_low enum_view counts f.element g.element))
+
+  low-like : (f g : FieldShape) → AreLow (like_choices enum_view no_bounds f g)
+  low-like f g =
+      low-append (gap_choice enum_view f g ++ child_choice no_bounds f g) (list_choice f g)
+      (low-append (gap_choice enum_view f g) (child_choice no_bounds f g) (low-gap f g (zero_counts f g) cases.Gap 0) (low-child f cases.Child 0 f.element g.element))
+      (low-offered f.number cases.List 0 (singular_cost f g) (singular_low f.number f.presence g.presence f.element g.element f.oneof g.oneof))
+
+  low-plain : (f g : FieldShape) → AreLow (plain_choices enum_view no_bounds f g)
+  low-plain f g =
+      elim (like f.element g.element) as (λ b. AreLow (if b then like_choices enum_view no_bounds f g else choice f.number cases.Unlike 0 (unlike_cost f g) ∷ [])) [ true ↦ low-like f g | false ↦ low-unlike f g ]
+
+  low-like_maps : (f g : FieldShape) (k l : Scalar) → AreLow (like_map_choices enum_view no_bounds f g k l)
+  low-like_maps f g k l =
+      let low = least_low f.element in
+      low-append (key_choice enum_view f k l ++ value_choice enum_view f g) (map_child_choice no_bounds f g)
+      (low-append (key_choice enum_view f k l) (value_choice enum_view f g)
+      (low-offered f.number cases.Map 1 (option_map (λ body. entry_cost f.number body (least_body f.element)) (gap_body enum_view true (elements.Scalar k) (elements.Scalar l)))
+      (mapped_low (λ body. entry_cost f.number body (least_body f.element)) 20 100 (λ n up. let near = entry_near f.number n (least_body f.element) in omega arith)
+      (gap_body enum_view true (elements.Scalar k) (elements.Scalar l)) (gap_low enum_view true (elements.Scalar k) (elements.Scalar l))))
+      (low-gap f g true cases.Map 2))
+      (low-child f cases.Map 2 f.element g.element)
+
+  low-maps : (f g : FieldShape) (k l : Scalar) → AreLow (map_choices enum_view no_bounds f g k l)
+  low-maps f g k l =
+      let low = content_low f in
+      elim (like (elements.Scalar k) (elements.Scalar l) && like f.element g.element) as (λ b. AreLow (if b then like_map_choices enum_view no_bounds f g k l else choice f.number cases.Map 0 (least_content f) ∷ []))
+      [ true ↦ low-like_maps f g k l | false ↦ (omega arith, tt) ]
+
+  module _ (number : ℕ) (e d : Element) (o r : Option ℕ) where
+    abbrev at_old : Presence → FieldShape
+    at_old p = record { number = number; presence = p; element = e; oneof = o }
+
+    abbrev at_new : Presence → ℕ → FieldShape
+    at_new q n = record { number = n; presence = q; element = d; oneof = r }
+
+    low-presences : (p q : Presence) (n : ℕ) → AreLow (field_choices enum_view no_bounds (at_old p) (at_new q n))
+    low-presences (presences.Map k) (presences.Map l) n = low-maps (at_old (presences.Map k)) (at_new (presences.Map l) n) k l
+    low-presences (presences.Map k) presences.Implicit n = low-unlike (at_old (presences.Map k)) (at_new presences.Implicit n)
+    low-presences (presences.Map k) presences.Explicit n = low-unlike (at_old (presences.Map k)) (at_new presences.Explicit n)
+    low-presences (presences.Map k) (presences.Repeated w) n = low-unlike (at_old (presences.Map k)) (at_new (presences.Repeated w) n)
+    low-presences presences.Implicit (presences.Map l) n = low-unlike (at_old presences.Implicit) (at_new (presences.Map l) n)
+    low-presences presences.Implicit presences.Implicit n = low-plain (at_old presences.Implicit) (at_new presences.Implicit n)
+    low-presences presences.Implicit presences.Explicit n = low-plain (at_old presences.Implicit) (at_new presences.Explicit n)
+    low-presences presences.Implicit (presences.Repeated w) n = low-plain (at_old presences.Implicit) (at_new (presences.Repeated w) n)
+    low-presences presences.Explicit (presences.Map l) n = low-unlike (at_old presences.Explicit) (at_new (presences.Map l) n)
+    low-presences presences.Explicit presences.Implicit n = low-plain (at_old presences.Explicit) (at_new presences.Implicit n)
+    low-presences presences.Explicit presences.Explicit n = low-plain (at_old presences.Explicit) (at_new presences.Explicit n)
+    low-presences presences.Explicit (presences.Repeated w) n = low-plain (at_old presences.Explicit) (at_new (presences.Repeated w) n)
+    low-presences (presences.Repeated v) (presences.Map l) n = low-unlike (at_old (presences.Repeated v)) (at_new (presences.Map l) n)
+    low-presences (presences.Repeated v) presences.Implicit n = low-plain (at_old (presences.Repeated v)) (at_new presences.Implicit n)
+    low-presences (presences.Repeated v) presences.Explicit n = low-plain (at_old (presences.Repeated v)) (at_new presences.Explicit n)
+    low-presences (presences.Repeated v) (presences.Repeated w) n = low-plain (at_old (presences.Repeated v)) (at_new (presences.Repeated w) n)
+
+  low-beside : (f : FieldShape) (o : Option FieldShape) → AreLow (choices_beside enum_view no_bounds f o)
+  low-beside f None = tt
+  low-beside f (Some g) = low-presences f.number f.element g.element f.oneof g.oneof f.presence g.presence g.number
+
+  low-joined : (gs : List FieldShape) (a : FieldShape) (later : List FieldShape) → AreLow (joined_choices gs a later)
+  low-joined gs a [] = tt
+  low-joined gs a (b ∷ later) =
+      let one = content_low a in
+      let other = content_low b in
+      low-append (if joins gs a b then choice a.number cases.Oneof b.number (least_content a + least_content b) ∷ [] else []) (joined_choices gs a later)
+      (elim (joins gs a b) as (λ c. AreLow (if c then choice a.number cases.Oneof b.number (least_content a + least_content b) ∷ [] else [])) [ true ↦ (omega arith, tt) | false ↦ tt ])
+      (low-joined gs a later)
+
+  low-all : (gs fs : List FieldShape) → AreLow (all_choices enum_view no_bounds gs fs)
+  low-all gs [] = tt
+  low-all gs (f ∷ later) =
+      low-append (choices_beside enum_view no_bounds f (field_at gs f.number) ++ joined_choices gs f later) (all_choices enum_view no_bounds gs later)
+      (low-append (choices_beside enum_view no_bounds f (field_at gs f.number)) (joined_choices gs f later) (low-beside f (field_at gs f.number)) (low-joined gs f later))
+      (low-all gs later)
+
+  pub causes_are_low : (old new : Shape) (pair : Pair) (c : Choice) → IsAmong c (causes enum_view old new pair) → c.cost ≤ 100
+  causes_are_low old new pair c among =
+      among_each (λ (x : Choice). x.cost ≤ 100) c (causes enum_view old new pair) among
+      (each_filtered (λ (x : Choice). x.cost ≤ 100) (λ (x : Choice). nat_le x.cost cap) (all_choices enum_view no_bounds (fields new pair.new) (fields old pair.old)) (low-all (fields new pair.new) (fields old pair.old)))

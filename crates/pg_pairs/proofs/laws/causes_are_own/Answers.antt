@@ -1,0 +1,5 @@
+use Rattle.pg_pairs.proofs.NearPrices as NearPrices
+use Rattle.pg_pairs.proofs.laws.causes_are_own.Goals as goal
+
+pub returns : goal.returns
+returns c = NearPrices.causes_are_own

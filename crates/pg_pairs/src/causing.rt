@@ -1,0 +1,68 @@
+//! The causes of a pair: its choices that need no child, and the messages that reach them.
+
+ghost use Rattle.std.specs.Prelude.{◌≡◌, None, IfOk};
+ghost use Rattle.pg_schema.specs.Parts.{shape_of};
+ghost use Rattle.pg_dyn.specs.Fits.{Fits};
+ghost use Rattle.pg_dyn.specs.Kept.{message_of, type_of};
+ghost use Rattle.pg_pairs.specs.Among.{IsAmong};
+ghost use Rattle.pg_pairs.specs.Carried.{carried};
+ghost use Rattle.pg_pairs.specs.Causes.{causes};
+ghost use Rattle.pg_pairs.specs.Laws.{ReachedBy};
+ghost use Rattle.pg_pairs.specs.SeenBy.{seen_by};
+
+use crate::choice::{Choice, Pair};
+use crate::laws::{causes_are_own, sees};
+use crate::option_list::options;
+use crate::table::NoBounds;
+use crate::view::View;
+use crate::witness_message::carry;
+use pg_dyn::Message;
+use pg_schema::Schema;
+use std::alloc::{AllocError, Global};
+
+/// The ways in which a message of the pair's old type can break beside its new one without a child,
+/// each with the bytes of the shortest message that breaks so, by number, case and part.
+///
+/// Refused only where memory is.
+pub fn causes<V: View>(
+    alloc: Global,
+    view: &V,
+    old: &Schema,
+    new: &Schema,
+    pair: Pair,
+) -> Result<Vec<Choice>, AllocError>
+    ensures { IfOk result (λ cs. cs.items ≡ causes (seen_by V.View view.now old.now new.now)
+        (shape_of old.now) (shape_of new.now) pair) }
+{
+    options(alloc, view, old, new, pair, &NoBounds)
+}
+
+/// The message by which the cause is reached, a message of the pair's old type. It breaks and has
+/// just the cause's cost. The cause has to be one that `causes` gives for the pair under this view.
+///
+/// Refused only where memory is.
+pub fn carry_cause<V: View>(
+    alloc: Global,
+    view: &V,
+    old: &Schema,
+    new: &Schema,
+    pair: Pair,
+    cause: &Choice,
+) -> Result<Message, AllocError>
+    requires { IsAmong cause.now (causes (seen_by V.View view.now old.now new.now)
+        (shape_of old.now) (shape_of new.now) pair) }
+    ensures fits { IfOk result (λ m. Fits (shape_of old.now) m) }
+    ensures type_is { IfOk result (λ m. type_of m ≡ pair.old) }
+    ensures made { IfOk result (λ m. message_of m
+        ≡ carried (seen_by V.View view.now old.now new.now) (shape_of old.now)
+        (shape_of new.now) pair cause.now None) }
+    ensures reached { IfOk result (λ m. ReachedBy (seen_by V.View view.now old.now new.now)
+        (shape_of old.now) (shape_of new.now) pair (message_of m) cause.now.cost) }
+{
+    // What holds of every schema, every view and every cause.
+    old.parts();
+    new.parts();
+    sees(view, old, new);
+    causes_are_own();
+    carry(alloc, view, old, new, pair, cause, None)
+}
