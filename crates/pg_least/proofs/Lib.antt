@@ -11,3 +11,5 @@ pub mod Tables
 pub mod Bounding
 pub mod OneSolution
 pub mod Exactness
+pub mod WithoutBases
+pub mod WithoutCauses

@@ -12,7 +12,7 @@ abbrev AtMost : Option ℕ → ℕ → Type 0
 AtMost o n = (m : ℕ) × (o ≡ Some m) × (m ≤ n)
 
 -- a least cost is one of the costs
-least_among : (os : List (Option ℕ)) (n : ℕ) → least_of os ≡ Some n → IsAmong (Some n) os
+pub least_among : (os : List (Option ℕ)) (n : ℕ) → least_of os ≡ Some n → IsAmong (Some n) os
 least_among [] n h = absurd (cc)
 least_among (o ∷ os) n h = ⊎_elim (λ first. inl (sym first)) (λ rest. inr (least_among os n rest)) (either o (least_of os) h)
   where
@@ -48,7 +48,7 @@ some_one : {A : Type 0} {x y : A} → Some x ≡ Some y → x ≡ y
 some_one h = cc
 
 -- a number in a table
-number_is : (table : Table) (p : Pair) (n : ℕ) → number_for table p ≡ Some n → table p ≡ Some (Some n)
+pub number_is : (table : Table) (p : Pair) (n : ℕ) → number_for table p ≡ Some n → table p ≡ Some (Some n)
 number_is table p n h = of (table p) h
   where
     of : (o : Option (Option ℕ)) → option_and_then (λ bound. bound) o ≡ Some n → o ≡ Some (Some n)

@@ -6,3 +6,4 @@ pub mod Relaxing
 pub mod Graphs
 pub mod Places
 pub mod Least
+pub mod From

@@ -5,12 +5,14 @@ ghost use Rattle.std.specs.List.{AllByRecursion};
 ghost use Rattle.pg_pairs.specs.Covering.{distinct};
 ghost use Rattle.pg_pairs.specs.Works.{opened_more};
 ghost use Rattle.pg_cert.specs.Bounds.{is_bound};
+ghost use Rattle.pg_least.specs.From.{IsSettledFrom};
 ghost use Rattle.pg_least.specs.Least.{IsCounted, IsSettled, lines, opened_by};
 
 use crate::arcs::arcs_of;
 use crate::relaxing::settle_all;
 use pg_cert::{Bounds, BoundsError, PairBound};
-use pg_pairs::{Pair, Prices, Work, reached_pairs};
+use pg_pairs::laws::from_one_root;
+use pg_pairs::{Pair, Prices, Work, reached_from};
 use std::alloc::{AllocError, Global};
 
 /// Puts what the pair costs without a child behind the other costs.
@@ -86,6 +88,35 @@ fn count_numbers(costs: &[Option<u32>]) -> u64
     count
 }
 
+/// The least bounds of pairs that the graph knows, the roots, and of the pairs that they lead to,
+/// breadth first, each the least of the pair's base and of what its edges cost at the bounds of
+/// their children, 'none' where there is none; and the work that they took: the pairs whose bound
+/// is a number, the edges whose child's bound is one, and the pairs.
+///
+/// Refused only where memory is.
+pub fn settle_from<G: Prices>(
+    alloc: Global,
+    graph: &G,
+    roots: &[Pair],
+) -> Result<(Bounds, Work), AllocError>
+    requires { AllByRecursion (λ p. G.is_known graph.now p ≡ true) roots.now }
+    ensures settled { IfOk result (λ found. IsSettledFrom (G.children_of graph.now)
+        (G.edges_of graph.now) (G.base_of graph.now) (G.price_of graph.now) roots.now found.0) }
+    ensures counted { IfOk result (λ found. IsCounted (G.edges_of graph.now) found.0 found.1) }
+{
+    let mut work = Work {
+        settled: 0,
+        relaxed: 0,
+        opened: 0,
+    };
+    let pairs = reached_from(alloc, graph, roots)?;
+    let mut costs = bases_of(alloc, graph, &pairs, &mut work)?;
+    let arcs = arcs_of(alloc, graph, &pairs)?;
+    settle_all(alloc, graph, &arcs, &mut costs, &mut work)?;
+    work.settled = count_numbers(&costs);
+    Ok((table_of(alloc, &pairs, &costs)?, work))
+}
+
 /// The least bounds of a pair that the graph knows and of the pairs that it leads to, breadth
 /// first, each the least of the pair's base and of what its edges cost at the bounds of their
 /// children, 'none' where there is none; and the work that they took: the pairs whose bound is a
@@ -98,15 +129,7 @@ pub fn settle<G: Prices>(alloc: Global, graph: &G, root: Pair) -> Result<(Bounds
         (G.edges_of graph.now) (G.base_of graph.now) (G.price_of graph.now) root found.0) }
     ensures counted { IfOk result (λ found. IsCounted (G.edges_of graph.now) found.0 found.1) }
 {
-    let mut work = Work {
-        settled: 0,
-        relaxed: 0,
-        opened: 0,
-    };
-    let pairs = reached_pairs(alloc, graph, root)?;
-    let mut costs = bases_of(alloc, graph, &pairs, &mut work)?;
-    let arcs = arcs_of(alloc, graph, &pairs)?;
-    settle_all(alloc, graph, &arcs, &mut costs, &mut work)?;
-    work.settled = count_numbers(&costs);
-    Ok((table_of(alloc, &pairs, &costs)?, work))
+    // The pairs reached from one root alone are those that it leads to.
+    from_one_root();
+    settle_from(alloc, graph, &[root])
 }

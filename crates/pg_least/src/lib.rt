@@ -8,8 +8,10 @@ mod least_bounds;
 mod queue;
 mod relaxing;
 mod searching;
+mod several;
 mod witness;
 
-pub use least_bounds::settle;
+pub use least_bounds::{settle, settle_from};
 pub use searching::{Found, find, find_with, search, search_counted, search_with};
+pub use several::bounds_from;
 pub use witness::{Step, path};
