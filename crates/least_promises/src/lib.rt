@@ -2,6 +2,8 @@
 //! answer, and every one must be refused.
 #![tactic(auto)]
 
+mod several;
+
 ghost use Rattle.std.specs.Prelude.{◌≡◌, ◌<◌, true, is_some, length, IfOk};
 ghost use Rattle.pg_schema.specs.Parts.{shape_of};
 ghost use Rattle.pg_dyn.specs.declared.view_name.ViewName.TheVariants as views;
@@ -18,6 +20,7 @@ use pg_cert::{Bounds, Certificate};
 use pg_least::{Found, Step};
 use pg_pairs::{Pair, Prices, View, Work};
 use pg_schema::Schema;
+pub use several::{bounds_from, settle_from};
 use std::alloc::{AllocError, Global};
 
 /// What `find` answers.

@@ -7,7 +7,7 @@ ghost use Rattle.pg_pairs.specs.Among.{IsAmong};
 ghost use Rattle.pg_pairs.specs.Covering as covering;
 ghost use Rattle.pg_pairs.specs.Edges as prices;
 ghost use Rattle.pg_pairs.specs.LeastCosts.{least_cost};
-ghost use Rattle.pg_pairs.specs.Reached.{IsReachedInOrder};
+ghost use Rattle.pg_pairs.specs.Reached.{IsReachedFrom, IsReachedInOrder};
 ghost use Rattle.pg_pairs.specs.Seen.{AreClosed};
 ghost use Rattle.pg_pairs.specs.SeenBy.{seen_by};
 ghost use Rattle.pg_pairs.specs.Works.{opened_more, relaxed_more};
@@ -113,4 +113,21 @@ pub fn reached_pairs<G: Prices>(
         (λ p. G.is_known graph.now p ≡ true) pairs.items) }
 {
     pg_pairs::reached_pairs(alloc, graph, root)
+}
+
+/// What `reached_from` answers.
+pub fn reached_from<G: Prices>(
+    alloc: Global,
+    graph: &G,
+    roots: &[Pair],
+) -> Result<Vec<Pair>, AllocError>
+    requires { AllByRecursion (λ p. G.is_known graph.now p ≡ true) roots.now }
+    ensures in_order { IfOk result (λ pairs. IsReachedFrom
+        (G.children_of graph.now) roots.now pairs.items) }
+    ensures once { IfOk result (λ pairs. covering.distinct pairs.items ≡ pairs.items) }
+    ensures closed { IfOk result (λ pairs. AreClosed (G.children_of graph.now) pairs.items) }
+    ensures known { IfOk result (λ pairs. AllByRecursion
+        (λ p. G.is_known graph.now p ≡ true) pairs.items) }
+{
+    pg_pairs::reached_from(alloc, graph, roots)
 }

@@ -2,6 +2,7 @@
 //! answer, and every one must be refused.
 #![tactic(auto)]
 
+mod causing;
 mod graph;
 mod names;
 mod returning;
@@ -22,7 +23,8 @@ ghost use Rattle.pg_pairs.specs.Gaps as gaps;
 ghost use Rattle.pg_pairs.specs.Laws.{ReachedBy};
 ghost use Rattle.pg_pairs.specs.SeenBy.{seen_by};
 
-pub use graph::{base, edge_cost, edges, knows, priced, reached_pairs};
+pub use causing::{carry_cause, causes};
+pub use graph::{base, edge_cost, edges, knows, priced, reached_from, reached_pairs};
 pub use names::{alike_as_named, alike_by_name, least_by_name, name_of_names};
 use pg_dyn::{DynError, Message, MessageRef};
 use pg_pairs::{Case, Choice, Gap, Numbers, Pair, Table, View};

@@ -1,0 +1,5 @@
+use Rattle.std.proofs.Common.{rules}
+use Rattle.pairs_promises.proofs.causing.causes.Goals as goal
+
+pub returns : goal.returns
+returns g c = search rules
