@@ -118,11 +118,15 @@ CALLS = [
     Rows("children", "answer_rows", "children", ["children beside two fields that meet"]),
     Rows("cheapest", "answer_rows", "cheapest", ["the cheapest of two choices", "the cheapest two members of different old oneofs"]),
     Line("reached_pairs", "answer_rows", f"reached_pairs | {TWO} | 1 1", "1 1, 0 0"),
+    Line("reached_from", "answer_rows", f"reached_from | {TWO} | 0 0 | 1 1", "0 0, 1 1"),
     Line("Prices::children", "answer_rows", f"Prices::children | {TWO} | 1 1", "1 1, 0 0"),
     Line("Prices::edges", "answer_rows", f"Prices::edges | {TWO} | 1 1", "1 1, 0 0"),
     # The work that it was lent is as it was.
     Line("Prices::base", "answer_rows", f"Prices::base | {TWO} | 0 0", "6 1", ["0"]),
     Rows("carry", "answer_rows", "carry", ["message of an entry round a child that breaks"]),
+    # A number that a signed reader takes for one below 0: a tag, and the five bytes of 2^31.
+    Line("causes", "answer_rows", f"causes | {TWO} | 0 0", "1 2 0 6"),
+    Line("carry_cause", "answer_rows", f"carry_cause | {TWO} | 0 0", "088080808008"),
     Rows("breaks", "answer_rows", "breaks", ["lists, texts and a child are kept"]),
     Rows("breaks_as_written", "answer_rows", "breaks_as_written", ["lists, texts and a child are kept"]),
     Rows("returns", "answer_rows", "returns", ["in a child of a child that leads back"]),
@@ -130,6 +134,9 @@ CALLS = [
     Rows("find", "answer_rows", "find", ["search of four steps down"]),
     Rows("search_counted", "answer_rows", "counts", ["work of a type that holds itself and changes"]),
     Rows("settle", "answer_rows", "drawn", ["bounds of a graph in which an edge costs three times the bound"]),
+    # The child's bound, and a tag and a length more; two numbers, two edges to a number, two pairs.
+    Line("settle_from", "answer_rows", f"settle_from | {TWO} | 0 0 | 1 1", "0 0 6, 1 1 8 | 2 2 2"),
+    Line("bounds_from", "answer_rows", f"bounds_from | {TWO} | 0 0 | 1 1", "0 0 6, 1 1 8 | 2 2 2"),
     Rows("path", "answer_rows", "path", ["way of four steps down"]),
     Rows("search_with", "answer_rows", "search_with", ["by names, a renamed number in a child, found"]),
     Rows("find_with", "answer_rows", "find_with", ["by names, a renamed number in a child, found"]),

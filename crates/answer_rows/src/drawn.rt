@@ -173,7 +173,11 @@ pub(crate) fn drawn_bounds(alloc: Global, words: &str) -> Result<String, AllocEr
     shown_bounds(alloc, &bounds, &work)
 }
 
-fn shown_bounds(alloc: Global, bounds: &Bounds, work: &Work) -> Result<String, AllocError> {
+pub(crate) fn shown_bounds(
+    alloc: Global,
+    bounds: &Bounds,
+    work: &Work,
+) -> Result<String, AllocError> {
     let list = list_of(alloc, bounds)?;
     let work = shown::work(alloc, work)?;
     format!(in alloc; "{list} | {work}")

@@ -3,6 +3,7 @@ mod certificates;
 mod messages;
 mod pairs;
 mod searches;
+mod several;
 
 use crate::drawn;
 use pg_schema::Schema;
@@ -22,6 +23,9 @@ fn between(
         "check" | "from_text" | "to_text" => certificates::answer(rt, call, old, new, words),
         "search" | "search_with" | "find" | "find_with" | "counts" | "path" => {
             searches::answer(rt, call, old, new, words)
+        }
+        "reached_from" | "settle_from" | "bounds_from" | "causes" | "carry_cause" => {
+            several::answer(rt, call, old, new, words)
         }
         _ => pairs::answer(rt, call, old, new, words),
     }
