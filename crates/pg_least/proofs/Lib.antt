@@ -13,3 +13,6 @@ pub mod OneSolution
 pub mod Exactness
 pub mod WithoutBases
 pub mod WithoutCauses
+pub mod Losses
+pub mod NamedTypes
+pub mod PublicLaws

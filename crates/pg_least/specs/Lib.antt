@@ -7,3 +7,7 @@ pub mod Graphs
 pub mod Places
 pub mod Least
 pub mod From
+pub mod Roots
+pub mod Loss
+pub mod LossLaws
+pub mod Tables

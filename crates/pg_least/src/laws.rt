@@ -2,6 +2,8 @@
 
 ghost use Rattle.pg_least.specs.From.{CompatibleWithoutCauses};
 ghost use Rattle.pg_least.specs.Least.{OneSolution};
+ghost use Rattle.pg_least.specs.LossLaws.{CompatibleIsSeen, LostMessagesBreak, NamedTypesAreThere};
+ghost use Rattle.pg_least.specs.Tables.{TablesByLines};
 
 use pg_pairs::laws::{
     cheapest_is_least, least_costs_by_edges, pairs_lead_to_pairs, prices_are_near,
@@ -26,3 +28,24 @@ pub fn compatible_without_causes()
     prices_are_near();
     schemas_are_priced();
 }
+
+/// A message is lost, in the words of the gate's promise, just where it breaks.
+pub fn lost_messages_break()
+    ensures { LostMessagesBreak }
+{}
+
+/// Where no message of a pair breaks, the new reader sees each one that the old writer encodes.
+pub fn compatible_is_seen()
+    ensures { CompatibleIsSeen }
+{}
+
+/// A message type that has a name is one of its schema.
+pub fn named_types_are_there()
+    ensures { NamedTypesAreThere }
+{}
+
+/// A table has a bound for each pair in its lines and for no other, and the bound of a line is that
+/// of its pair.
+pub fn tables_by_lines()
+    ensures { TablesByLines }
+{}
