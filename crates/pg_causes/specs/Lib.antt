@@ -1,0 +1,5 @@
+pub mod Names
+pub mod Reasons
+pub mod Causes
+pub mod TypeLines
+pub mod Overview
