@@ -1,8 +1,8 @@
 #!/usr/bin/env python3
 """Lists the files of definitions that a promise rests on, and compares them with docs/MODEL.md.
 
-usage: tools/model_files.py            the files and lines: of a breaking message, of what `gate`, `gate_with` and `relay` promise of
-                                       schemas, and of what the gate over files and the whole program promise
+usage: tools/model_files.py            the files and lines: of a breaking message, of what `gate`, `gate_with`, `relay` and `gate_all`
+                                       promise of schemas, and of what the gate over files and the whole program promise
        tools/model_files.py --compare  status 1 where docs/MODEL.md lists other files, where it or README.md says other counts, or where
                                        a document names a file of code or definitions, or docs/PROOFS.md a word, that isn't there
 
@@ -20,6 +20,7 @@ ROOTS = {
     "what `gate` promises": "crates/pg_gate/specs/Answer.antt",
     "what `gate_with` promises": "crates/pg_gate/specs/ViewAnswer.antt",
     "what `relay` promises": "crates/pg_gate/specs/Relaying.antt",
+    "what `gate_all` promises": "crates/pg_causes/specs/Overview.antt",
 }
 # Promises of which docs/MODEL.md says the counts alone, by the words of their contracts.
 UNLISTED = {
@@ -29,7 +30,7 @@ UNLISTED = {
 # Which documents say the counts of which promise.
 COUNTED = {
     "README.md": ["a message breaks", "what `gate` promises", *UNLISTED],
-    "docs/MODEL.md": ["what `gate` promises", "what `gate_with` promises", "what `relay` promises", *UNLISTED],
+    "docs/MODEL.md": ["what `gate` promises", "what `gate_with` promises", "what `relay` promises", "what `gate_all` promises", *UNLISTED],
 }
 # A path of code or definitions that a document names: from the top, below `crates`, or below a crate's folder.
 NAMED = re.compile(r"`([\w/+-]+/[\w+-]+\.(?:rt|antt))`")

@@ -63,6 +63,9 @@ def back(content, *records):
 MEMBERS = ((1, 1), (2, 7), (4, 1), (5, 1), (6, 1), (7, 1))
 ONEOF = "a oneof among others | type M: int32 a=1, k0 int32 b=2, k0 int32 c=3, int32 d=4, int32 e=5, int32 f=6, int32 g=7"
 TWO = "M: uint32 a=1; N: N next=1, M m=2 | M: int32 a=1; N: N next=1, M m=2"
+# A field of each kind of change, in a type that another has; a type that is removed, and one that is added.
+REPOSITORY = ("T: uint32 a=1, repeated string b=2, int32 c=3, int32 d=4, map<uint32,string> e=5; U: T t=1; V: int32 x=1 |"
+              " T: int32 a=1, string b=2, string c=3, bool d=4, map<int32,string> e=5; U: T t=1; W: int32 x=1")
 # The message types that are written of descriptor.proto, in its order.
 DESCRIPTOR = ("FileDescriptorSet FileDescriptorProto DescriptorProto DescriptorProto.ReservedRange FieldDescriptorProto OneofDescriptorProto"
               " EnumDescriptorProto EnumDescriptorProto.EnumReservedRange EnumValueDescriptorProto ServiceDescriptorProto"
@@ -152,6 +155,10 @@ CALLS = [
     Rows("read_again", "fds_rows", "read_again", SETS),
     Rows("gate", "view_rows", "gate", ["a renamed number in a child"]),
     Rows("gate_with", "view_rows", "gate_with", ["a renamed number in a child"]),
+    Line("gate_all", "view_rows", f"gate_all {REPOSITORY}",
+         "Value 088080808008, ListToOne 1200, Unlike 1801, Value 2002, MapKey 2a080880808080081200, breaks T 2, breaks U 4, removed V, added W"),
+    Line("gate_all", "view_rows", "gate_all E: A=0, B=1; M: E e=1, map<int32,E> m=2 | E: A=0, C=1; M: E e=1, map<int32,E> m=2",
+         "Name 0801, MapValue 120408001001, breaks M 2"),
     Rows("relay", "view_rows", "relay", ["what the new type lacks is handed on"]),
     Tests("gate_files", "gate_tests", ["a_gate_over_files_answers_one_of_two", "a_gate_over_files_tells_the_old_side_first"]),
     Tests("Reply::into_text", "gate_tests", ["a_reply_is_a_text"]),

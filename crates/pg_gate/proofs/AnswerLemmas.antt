@@ -1,17 +1,13 @@
 -- What a search answers, as the gate's answer; and this as the answer of two sides.
-use Rattle.std.proofs.Common.{◌≡◌, ◌∙◌, ℕ, List, length, Bool, true, false, ◌&&◌, Option, Some, None, refl, ap, sym, subst, option_and_then, option_map, is_some, IfSome, Result, Ok, Err, IfErr, IfOk}
-use Rattle.std.proofs.lemmas.Slice.Eq.{bytes_eq-Decides}
+use Rattle.std.proofs.Common.{◌≡◌, ◌∙◌, ℕ, List, length, Bool, true, false, Option, Some, None, refl, ap, sym, subst, option_and_then, option_map, is_some, IfSome, Result, Ok, Err, IfErr, IfOk}
 use Rattle.clap.specs.Words.{Text}
 use Rattle.pg_schema.specs.declared.parts.Parts.{Parts}
 use Rattle.pg_schema.specs.Parts.{shape_of}
-use Rattle.pg_schema.specs.Shape.{IsShape, Shape, fields}
-use Rattle.pg_dyn.specs.Breaking.{Breaks, Compatible, is_kept}
-use Rattle.pg_dyn.specs.Comparison.{View, records_outside, same, unshared_bytes}
-use Rattle.pg_dyn.specs.reading.Decoding.{dec}
+use Rattle.pg_schema.specs.Shape.{IsShape}
+use Rattle.pg_dyn.specs.Breaking.{Breaks, Compatible}
+use Rattle.pg_dyn.specs.Comparison.{same}
 use Rattle.pg_dyn.specs.encoding.Encoding.{enc}
 use Rattle.pg_dyn.specs.Kept.{Kept, message_of}
-use Rattle.pg_dyn.specs.Message.{Message, unknown_of}
-use Rattle.pg_dyn.specs.encoding.Writing.{bytes_of}
 use Rattle.pg_pairs.specs.declared.choice.Pair.{Pair}
 use Rattle.pg_pairs.specs.Choices.{number_for}
 use Rattle.pg_dyn.specs.declared.view_name.ViewName.{ViewName}
@@ -23,7 +19,9 @@ use Rattle.pg_cert.specs.ClaimView.{view_in}
 use Rattle.pg_cert.specs.Text.{IsClaimOf}
 use Rattle.pg_least.specs.Exact.{IsBesideClaim, IsSearched, IsWitnessMessage}
 use Rattle.pg_least.specs.Path.{AreCarried, CarriesWitness, IsPath, carried_along}
-use Rattle.pg_gate.specs.Answer.{AreRoots, IsAnswer, IsAnswerBy, IsBroken, IsCompatible, IsLost, IsRefusedRoot, Lacks, NewSees, OldWrites, certificate_of}
+use Rattle.pg_least.specs.Roots.{AreRoots, Lacks}
+use Rattle.pg_least.proofs.PublicLaws.{compatible_is_seen, lost_messages_break, named_types_are_there}
+use Rattle.pg_gate.specs.Answer.{IsAnswer, IsAnswerBy, IsBroken, IsCompatible, IsRefusedRoot, certificate_of}
 use Rattle.pg_gate.specs.ViewAnswer.{IsAnswerUnder}
 use Rattle.pg_gate.specs.Files.{IsFaultOfSide, IsSide, IsSideError}
 use Rattle.pg_gate.specs.Grants.{Between, IsAnswerOfFiles, IsFindingOf, IsGateError, IsGateReply, IsSidesError, IsSidesFault, Reports}
@@ -41,7 +39,6 @@ use Rattle.pg_gate.specs.Failures.{failures_at, failures_by}
 use Rattle.pg_gate.specs.declared.error.Side.{Side}
 use Rattle.pg_gate.proofs.ErrorLemmas.{error-weaker, none_counted, of_none}
 use Rattle.pg_gate.proofs.Ranges.{searched_there}
-use Rattle.pg_gate.proofs.Roots.{named_there}
 
 -- ---- what a search answers
 
@@ -60,58 +57,6 @@ none_is_there None there no_number = absurd (cc)
 none_is_there (Some None) there no_number = refl
 none_is_there (Some (Some n)) there no_number = absurd (cc)
 
--- of two tests that both hold the second
-both_right : (a b : Bool) → (a && b) ≡ true → b ≡ true
-both_right true b is = is
-both_right false b is = absurd (cc)
-
--- what a message that shows the same says of the records that the reader doesn't know
-given_back : (view : View) (old new : Shape) (pair : Pair) (v w : Message) → same view old new pair.old pair.new v w ≡ true
-    → bytes_of (records_outside (fields new pair.new) (unknown_of w)) ≡ unshared_bytes old pair.old (fields new pair.new) v
-unfolding same
-given_back view old new pair v w is =
-    (bytes_eq-Decides (bytes_of (records_outside (fields new pair.new) (unknown_of w))) (unshared_bytes old pair.old (fields new pair.new) v)).0 (both_right _ _ is)
-
--- a message that is kept is seen whole
-seen_whole : (view : View) (old new : Shape) (pair : Pair) (v : Message) → is_kept view old new pair.old pair.new v ≡ true → NewSees view old new pair v
-unfolding is_kept
-seen_whole view old new pair v kept = of (dec new pair.new (enc old pair.old v)) refl
-  where
-    seen : (w : Message) → dec new pair.new (enc old pair.old v) ≡ Some w → same view old new pair.old pair.new v w ≡ true → NewSees view old new pair v
-    seen w is shows = record { read = w; reads = is; same = shows; gives_back = given_back view old new pair v w shows }
-
-    of : (o : Option Message) → dec new pair.new (enc old pair.old v) ≡ o → NewSees view old new pair v
-    of (Some w) is = seen w is (rw is at kept)
-    of None is = absurd (let no = rw is at kept in cc)
-
--- and one that is seen whole is kept
-seen_is_kept : (view : View) (old new : Shape) (pair : Pair) (v : Message) → NewSees view old new pair v → is_kept view old new pair.old pair.new v ≡ true
-unfolding is_kept
-seen_is_kept view old new pair v seen = rw seen.reads seen.same
-
--- what the old writer encodes is kept, where no message breaks
-each_kept : (view : View) (old new : Shape) (pair : Pair) → Compatible view old new pair.old pair.new → (v : Message) → OldWrites old pair v → NewSees view old new pair v
-each_kept view old new pair compatible v writes = seen_whole view old new pair v (of (is_kept view old new pair.old pair.new v) refl)
-  where
-    of : (b : Bool) → is_kept view old new pair.old pair.new v ≡ b → is_kept view old new pair.old pair.new v ≡ true
-    of true is = is
-    of false is = absurd (compatible v (record { is_message = writes.is_message; is_plain = writes.is_plain; has_encoding = writes.has_encoding; not_kept = is }))
-
--- what breaks the old writer encodes, and the new reader doesn't see it
-lost_where_it_breaks : (view : View) (old new : Shape) (pair : Pair) (v : Message) → Breaks view old new pair.old pair.new v → IsLost view old new pair v
-lost_where_it_breaks view old new pair v breaks = record {
-  written = record { is_message = breaks.is_message; is_plain = breaks.is_plain; has_encoding = breaks.has_encoding };
-  not_seen = λ seen. let kept = seen_is_kept view old new pair v seen in let not_kept = breaks.not_kept in cc;
-}
-
--- and the other way round
-breaks_where_it_is_lost : (view : View) (old new : Shape) (pair : Pair) (v : Message) → IsLost view old new pair v → Breaks view old new pair.old pair.new v
-breaks_where_it_is_lost view old new pair v lost = of (is_kept view old new pair.old pair.new v) refl
-  where
-    of : (b : Bool) → is_kept view old new pair.old pair.new v ≡ b → Breaks view old new pair.old pair.new v
-    of true is = absurd (lost.not_seen (seen_whole view old new pair v is))
-    of false is = record { is_message = lost.written.is_message; is_plain = lost.written.is_plain; has_encoding = lost.written.has_encoding; not_kept = is }
-
 module _ (enum_view : EnumView) (old new : Parts) (root : Text) (claim : Claim) (roots : AreRoots old new root claim.root) (searched : IsSearched enum_view (shape_of old) (shape_of new) claim.root claim) where
   compatible_without : claim.witness ≡ None → IsCompatible enum_view old new root claim
   compatible_without none =
@@ -120,7 +65,7 @@ module _ (enum_view : EnumView) (old new : Parts) (root : Text) (claim : Claim) 
       let compatible = searched.says claim.root None bound in
       record {
         roots = roots;
-        each_is_seen = each_kept enum_view.alike (shape_of old) (shape_of new) claim.root compatible;
+        each_is_seen = compatible_is_seen enum_view.alike (shape_of old) (shape_of new) claim.root compatible;
         passes = searched.holds;
         searched = searched;
         bound_is_none = bound;
@@ -137,8 +82,8 @@ module _ (enum_view : EnumView) (old new : Parts) (root : Text) (claim : Claim) 
         roots = roots;
         fits = is.fits;
         type_is = is.type_is;
-        lost = lost_where_it_breaks enum_view.alike (shape_of old) (shape_of new) claim.root (message_of kept) is.breaks;
-        none_shorter = λ v lost. least.least v (breaks_where_it_is_lost enum_view.alike (shape_of old) (shape_of new) claim.root v lost);
+        lost = (lost_messages_break enum_view.alike (shape_of old) (shape_of new) claim.root (message_of kept)).1 is.breaks;
+        none_shorter = λ v lost. least.least v ((lost_messages_break enum_view.alike (shape_of old) (shape_of new) claim.root v).0 lost);
         passes = searched.holds;
         searched = searched;
         breaks = is.breaks;
@@ -165,12 +110,12 @@ claim_of_answer view old new root is_old is_new (answers.Compatible certificate)
   where
     of : (claim : Claim) → AreRoots old new root claim.root → IsSearched (seen_under view old new) (shape_of old) (shape_of new) claim.root claim → IsClaimOf old new claim
     of claim roots searched =
-        searched_there (seen_under view old new) old new claim is_old is_new (named_there old root claim.root.old roots.old_named) (named_there new root claim.root.new roots.new_named) searched
+        searched_there (seen_under view old new) old new claim is_old is_new (named_types_are_there old root claim.root.old roots.old_named) (named_types_are_there new root claim.root.new roots.new_named) searched
 claim_of_answer view old new root is_old is_new (answers.Breaks witness certificate) is = of certificate is.1.roots is.1.searched
   where
     of : (claim : Claim) → AreRoots old new root claim.root → IsSearched (seen_under view old new) (shape_of old) (shape_of new) claim.root claim → IsClaimOf old new claim
     of claim roots searched =
-        searched_there (seen_under view old new) old new claim is_old is_new (named_there old root claim.root.old roots.old_named) (named_there new root claim.root.new roots.new_named) searched
+        searched_there (seen_under view old new) old new claim is_old is_new (named_types_are_there old root claim.root.old roots.old_named) (named_types_are_there new root claim.root.new roots.new_named) searched
 
 -- the certificate of an answer is that of a search under the view that it names
 pub searched_by : (view : ViewName) (old new : Parts) (root : Text) (answer : Answer) → IsAnswerUnder view old new root answer

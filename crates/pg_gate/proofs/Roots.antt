@@ -1,25 +1,11 @@
--- The root types, by their full name.
-use Rattle.std.proofs.Common.{◌≡◌, ◌<◌, length, map, Option, Some, None, string_bytes}
-use Rattle.std.specs.Option.{option_map}
+-- The root types.
+use Rattle.std.proofs.Common.{◌<◌, length, map}
 use Rattle.std.proofs.lemmas.List.{length-map}
-use Rattle.std.proofs.lemmas.Option.{slice_get_within}
-use Rattle.clap.specs.Words.{Text}
 use Rattle.pg_schema.specs.declared.parts.field.TypeId.{TypeId}
 use Rattle.pg_schema.specs.declared.parts.message_type.MessageType.{MessageType}
 use Rattle.pg_schema.specs.declared.parts.Parts.{Parts}
 use Rattle.pg_schema.specs.Parts.{field_shape, shape_of}
-use Rattle.pg_gate.specs.Answer.{IsNamed}
-
-from_some : {X Y : Type 0} (f : X → Y) (o : Option X) (y : Y) → option_map f o ≡ Some y → (x : X) × (o ≡ Some x)
-from_some f None y mapped = absurd (cc)
-from_some f (Some x) y mapped = (x, cc)
 
 -- a type's place is one of the shape
 pub type_there : (parts : Parts) (id : TypeId) → id.index < length parts.types.items → id.index < length (shape_of parts)
 type_there parts id within = rw (length-map parts.types.items (λ (t : MessageType). map field_shape t.fields.items)) within
-
--- a type that has a name is there
-pub named_there : (parts : Parts) (name : Text) (id : TypeId) → IsNamed parts name id → id.index < length (shape_of parts)
-named_there parts name id named =
-    let found = from_some (λ (t : MessageType). string_bytes t.name) _ name named in
-    type_there parts id (slice_get_within parts.types.items id.index found.0 found.1)

@@ -7,6 +7,7 @@ use Rattle.pg_dyn.specs.declared.view_name.ViewName.{ViewName}
 use Rattle.pg_dyn.specs.encoding.Encoding.{enc}
 use Rattle.pg_dyn.specs.Kept.{Kept}
 use Rattle.pg_least.specs.Path.{CarriesWitness, carried_along}
+use Rattle.pg_least.specs.Roots.{Lacks}
 use Rattle.pg_pairs.specs.EnumView.{by_numbers}
 use Rattle.pg_pairs.specs.NamedView.{seen_under}
 use Rattle.pg_schema.specs.declared.parts.Parts.{Parts}
@@ -18,7 +19,7 @@ use Rattle.pg_gate.specs.Errors.{IsCallError, IsError, IsMemory}
 use Rattle.pg_gate.specs.Explained.{IsExplained}
 use Rattle.pg_gate.specs.Failures.{call_failures_at}
 use Rattle.pg_gate.specs.Files.{IsErrorOf, IsFaultOfSet, IsFaultOfSide, IsSetOf, IsSide, IsSideError}
-use Rattle.pg_gate.specs.Answer.{IsAnswer, IsBroken, IsCompatible, Lacks, certificate_of}
+use Rattle.pg_gate.specs.Answer.{IsAnswer, IsBroken, IsCompatible, certificate_of}
 use Rattle.pg_gate.specs.declared.answer.gate.Answer.{Answer}
 use Rattle.pg_gate.specs.Refusals.{refusal_for}
 use Rattle.pg_gate.specs.Showing.{IsBadWord, IsRefusedWord, IsShown}

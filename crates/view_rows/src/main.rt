@@ -11,6 +11,7 @@
 //! printed.
 #![tactic(auto)]
 
+mod overviews;
 mod relaying;
 mod retries;
 mod row;

@@ -1,10 +1,13 @@
 //! Calls that are made again where memory is refused.
+use crate::overviews;
 use crate::relaying::{FIRST, shown};
 use crate::row::answered_with;
+use pg_causes::gate_all;
 use pg_dyn::DynError;
 use pg_gate::{GateError, ViewName, gate, gate_with, relay};
 use pg_schema::Schema;
 use rows::{cut, retry};
+use std::alloc::AllocError;
 use std::io;
 use tiny_schemas::schemas;
 
@@ -37,8 +40,17 @@ fn gated_by_names(rt: &HostRuntime, old: &Schema, new: &Schema) -> io::Result<St
     Ok(answered_with(rt.alloc(), found)?)
 }
 
+fn overviewed(rt: &HostRuntime, old: &Schema, new: &Schema) -> io::Result<String> {
+    let found = retry!(
+        rt,
+        Err(AllocError),
+        gate_all(rt.alloc(), old, new, ViewName::Names)
+    )?;
+    Ok(overviews::shown(rt.alloc(), &found)?)
+}
+
 /// What is printed of `CALL OLD SCHEMA | NEW SCHEMA [| DIGITS]`, with what comes in front of the
-/// answer (`rows::retry`): of `gate`, of `gate_with` by names and of `relay`.
+/// answer (`rows::retry`): of `gate`, of `gate_with` and `gate_all` by names and of `relay`.
 pub(crate) fn answer(rt: &HostRuntime, input: &str) -> io::Result<String> {
     let (call, schemas_of) = input.split_once(' ').unwrap_or((input, ""));
     let (old, words) = cut(schemas_of);
@@ -47,6 +59,7 @@ pub(crate) fn answer(rt: &HostRuntime, input: &str) -> io::Result<String> {
         Some((old, new)) => match call {
             "gate" => gated(rt, &old, &new),
             "gate_with" => gated_by_names(rt, &old, &new),
+            "gate_all" => overviewed(rt, &old, &new),
             _ => relayed(rt, &old, &new, digits),
         },
         None => Ok(String::from_str(rt.alloc(), "no schemas")?),

@@ -4,14 +4,14 @@ use Rattle.pg_gate.specs.Showing.{IsShowFault}
 use Rattle.pg_gate.specs.declared.call.error.CallError.{CallError}
 use Rattle.pg_gate.specs.declared.call.error.CallError.TheVariants as calls
 use Rattle.pg_gate.proofs.CallLemmas.{IfErr-IsErrAnd}
-use Rattle.pg_gate.proofs.Roots.{named_there}
+use Rattle.pg_least.proofs.PublicLaws.{named_types_are_there}
 use Rattle.pg_gate.proofs.ShowLemmas.{shown_there, unread_there, unspelled_there}
 use Rattle.pg_gate.proofs.answer.showing.shown_by.Goals as goal
 
 pub lines_of-requires : goal.lines_of-requires
 lines_of-requires c =
     let named = (c.in-Some.ensures c.in-Some.type_id).0 refl in
-    named_there c.args.schema.now c.args.root.now c.in-Some.type_id named
+    named_types_are_there c.args.schema.now c.args.root.now c.in-Some.type_id named
 
 pub returns-in_err-bytes-clause-refused : goal.returns-in_err-bytes-clause-refused
 returns-in_err-bytes-clause-refused c =
