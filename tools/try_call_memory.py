@@ -161,9 +161,10 @@ CALLS = [
          "Name 0801, MapValue 120408001001, breaks M 2"),
     Rows("relay", "view_rows", "relay", ["what the new type lacks is handed on"]),
     Tests("gate_files", "gate_tests", ["a_gate_over_files_answers_one_of_two", "a_gate_over_files_tells_the_old_side_first"]),
-    Tests("Reply::into_text", "gate_tests", ["a_reply_is_a_text"]),
+    Tests("Reply::into_text", "gate_tests", ["a_reply_is_a_text", "a_reply_of_all_types_is_a_text"]),
     # The sink is left alone where `run` lacks memory.
-    Tests("run", "gate_tests", ["compiles_again", "shows_again", "verifies_again", "gates_in_both_directions_again", "gates_a_oneof_again"]),
+    Tests("run", "gate_tests", ["compiles_again", "shows_again", "verifies_again", "gates_in_both_directions_again", "gates_a_oneof_again",
+                                "gates_all_types_again"]),
 ]
 # In a row of these crates the words of a call stand in front of this; what stands before it is another call's, or nothing.
 ENDS = {"bytes_rows": " ", "answer_rows": " | "}

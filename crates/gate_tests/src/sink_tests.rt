@@ -120,6 +120,13 @@ fn gates_a_oneof_again(rt: HostRuntime) -> Result<(), Fail> {
     Ok(())
 }
 
+#[test]
+fn gates_all_types_again(rt: HostRuntime) -> Result<(), Fail> {
+    let (words, printed, status) = CALLS[16];
+    assert!(rt; runs_again(&rt, words, printed, status)?);
+    Ok(())
+}
+
 /// Help is said whole, or memory is reported and the sink left alone, where any one request may be
 /// refused.
 #[test]

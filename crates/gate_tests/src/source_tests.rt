@@ -7,7 +7,7 @@ use std::test::Fail;
 
 /// Words, the read of the old and of the new side that fails, counted from 1 (0 for none), and what
 /// is printed: the file that couldn't be read, whoever imports it.
-static FAILING: [(&[&str], u32, u32, &str); 14] = [
+static FAILING: [(&[&str], u32, u32, &str); 16] = [
     (
         &["gate", "--old=m.proto", "--new=u.proto", "--type=M"],
         1,
@@ -92,6 +92,18 @@ static FAILING: [(&[&str], u32, u32, &str); 14] = [
         2,
         0,
         "refused E309 b.proto\n",
+    ),
+    (
+        &["gate-all", "--old=m.proto", "--old=k.proto", "--new=u.proto"],
+        2,
+        0,
+        "refused old E309 k.proto\n",
+    ),
+    (
+        &["gate-all", "--old=m.proto", "--old=k.proto", "--new=u.proto"],
+        0,
+        1,
+        "refused new E309 u.proto\n",
     ),
 ];
 

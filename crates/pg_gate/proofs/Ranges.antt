@@ -19,12 +19,12 @@ use Rattle.pg_cert.specs.Certificate.{Claim}
 use Rattle.pg_cert.specs.Text.{IsClaimOf, IsPairOf}
 use Rattle.pg_least.specs.Exact.{IsSearched}
 
-each_unmapped : {A B : Type 0} (P : B → Type 0) (f : A → B) (xs : List A) → AllByRecursion P (map f xs) → AllByRecursion (λ x. P (f x)) xs
+pub each_unmapped : {A B : Type 0} (P : B → Type 0) (f : A → B) (xs : List A) → AllByRecursion P (map f xs) → AllByRecursion (λ x. P (f x)) xs
 each_unmapped P f [] all = tt
 each_unmapped P f (x ∷ xs) all = (all.0, each_unmapped P f xs all.1)
 
 module _ (old new : Parts) where
-  as_types : (pair : Pair) → is_pair (shape_of old) (shape_of new) pair ≡ true → IsPairOf old new pair
+  pub as_types : (pair : Pair) → is_pair (shape_of old) (shape_of new) pair ≡ true → IsPairOf old new pair
   as_types pair known =
       let both = and_parts (nat_lt pair.old.index (length (shape_of old))) (nat_lt pair.new.index (length (shape_of new))) known in (
         subst (λ n. pair.old.index < n) (length-map old.types.items (λ (t : MessageType). map field_shape t.fields.items)) (ltb-true pair.old.index (length (shape_of old)) both.0),

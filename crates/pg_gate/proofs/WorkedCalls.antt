@@ -1,6 +1,6 @@
 -- The calls of small lists of words, by computation.
 use Rattle.std.specs.Prelude.{codes, option_map}
-use Rattle.std.proofs.Common.{◌≡◌, ◌≢◌, true, List, [], ◌∷◌, Some, refl}
+use Rattle.std.proofs.Common.{◌≡◌, ◌≢◌, true, false, List, [], ◌∷◌, Some, refl}
 use Rattle.std.specs.Borrow.{Bor}
 use Rattle.clap.proofs.OnLiterals.{clap_on_literals}
 use Rattle.clap.specs.Words.{Kinds, Text, fault_of, subcommand_of}
@@ -9,7 +9,7 @@ use Rattle.clap.specs.declared.error.ErrorKind.TheVariants as kind
 use Rattle.pg_dyn.specs.declared.view_name.ViewName.TheVariants as views
 use Rattle.pg_gate.specs.Call.{CallsFor, IsRefused, Request, request_in, types}
 use Rattle.pg_gate.specs.CommandLine.{whole_app}
-use Rattle.pg_gate.specs.WorkedCalls.{WorkedCalls, asked_gate, gate_by, gate_words}
+use Rattle.pg_gate.specs.WorkedCalls.{WorkedCalls, asked_all, asked_gate, gate_all_words, gate_by, gate_words}
 
 -- some reference to the names of the views
 abbrev names : Bor (List (Bor Text))
@@ -67,6 +67,22 @@ twice : fault_of (whole_app names) (gate_words (codes "--view" ∷ codes "names"
 unfolding clap_on_literals
 twice = refl
 
+all_of_two_files : IsCalled (gate_all_words []) (asked_all false views.Numbers)
+unfolding clap_on_literals
+all_of_two_files = (refl, refl)
+
+all_by_names : IsCalled (gate_all_words (codes "--explain" ∷ codes "--view=names" ∷ [])) (asked_all true views.Names)
+unfolding clap_on_literals
+all_by_names = (refl, refl)
+
+all_of_one_side : fault_of (whole_app names) (codes "gate-all" ∷ codes "--old" ∷ codes "o" ∷ []) ≡ kind.MissingRequiredArgument ∷ []
+unfolding clap_on_literals
+all_of_one_side = refl
+
+all_of_a_bare_word : fault_of (whole_app names) (gate_all_words (codes "c" ∷ [])) ≡ kind.UnknownArgument ∷ []
+unfolding clap_on_literals
+all_of_a_bare_word = refl
+
 types_of_a_file : IsCalled (codes "types" ∷ codes "f" ∷ codes "--dir" ∷ codes "d" ∷ []) (types (codes "d") (codes "f" ∷ []))
 unfolding clap_on_literals
 types_of_a_file = (refl, refl)
@@ -99,6 +115,10 @@ worked_calls = record {
   empty_word = refused _ _ empty_word;
   no_word = refused _ _ no_word;
   twice = refused _ _ twice;
+  all_of_two_files = calls _ _ all_of_two_files;
+  all_by_names = calls _ _ all_by_names;
+  all_of_one_side = refused _ _ all_of_one_side;
+  all_of_a_bare_word = refused _ _ all_of_a_bare_word;
   types_of_a_file = calls _ _ types_of_a_file;
   types_of_files = calls _ _ types_of_files;
   types_of_no_file = refused _ _ types_of_no_file;

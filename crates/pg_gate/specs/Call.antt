@@ -11,6 +11,7 @@ use Rattle.pg_dyn.specs.declared.view_name.ViewName.TheVariants as views
 use Rattle.pg_gate.specs.CommandLine.{view_names, whole_app}
 use Rattle.pg_gate.specs.declared.call.Call.{Call}
 use Rattle.pg_gate.specs.declared.call.Call.TheVariants as call
+use Rattle.pg_gate.specs.declared.call.AllSides.{AllSides}
 use Rattle.pg_gate.specs.declared.call.Sides.{Sides}
 
 -- the texts of the two sides
@@ -20,10 +21,18 @@ pub record SideTexts : Type 0 where
   pub old : Text
   pub new : Text
 
+-- the texts of two sides of more files than one each
+pub record AllSideTexts : Type 0 where
+  pub old_dir : Text
+  pub new_dir : Text
+  pub old : List Text
+  pub new : List Text
+
 -- a call, as texts
 pub data Request : Type 0 where
   compile : (dir : Text) (files : List Text) → Request
   gate : (sides : SideTexts) (root : Text) (certificate_only both explain : Bool) (view : ViewName) → Request
+  gate_all : (sides : AllSideTexts) (explain : Bool) (view : ViewName) → Request
   show : (dir file root word : Text) → Request
   verify : (sides : SideTexts) (certificate : Text) → Request
   types : (dir : Text) (files : List Text) → Request
@@ -36,9 +45,18 @@ sides_of s = record {
   new = s.new.now;
 }
 
+abbrev pub all_sides_of : AllSides → AllSideTexts
+all_sides_of s = record {
+  old_dir = s.old_dir.now;
+  new_dir = s.new_dir.now;
+  old = texts s.old.items;
+  new = texts s.new.items;
+}
+
 abbrev pub request_of : Call → Request
 request_of (call.Compile dir files) = compile dir.now (texts files.items)
 request_of (call.Gate sides root certificate_only both explain view) = gate (sides_of sides) root.now certificate_only both explain view
+request_of (call.GateAll sides explain view) = gate_all (all_sides_of sides) explain view
 request_of (call.Show dir file root word) = show dir.now file.now root.now word.now
 request_of (call.Verify sides certificate) = verify (sides_of sides) certificate.now
 request_of (call.Types dir files) = types dir.now (texts files.items)
@@ -70,12 +88,23 @@ sides_in rows = record {
   new = text_at (codes "new") rows;
 }
 
+abbrev pub all_sides_in : List Row → AllSideTexts
+all_sides_in rows = record {
+  old_dir = text_at (codes "old-dir") rows;
+  new_dir = text_at (codes "new-dir") rows;
+  old = texts_at (codes "old") rows;
+  new = texts_at (codes "new") rows;
+}
+
 abbrev pub compile_in : List Row → Request
 compile_in rows = compile (text_at (codes "dir") rows) (texts_at (codes "FILE") rows)
 
 abbrev pub gate_in : List Row → Request
 gate_in rows = gate (sides_in rows) (text_at (codes "type") rows) (flag_at (codes "cert") rows) (flag_at (codes "both") rows) (flag_at (codes "explain") rows)
     (view_at (codes "view") rows)
+
+abbrev pub gate_all_in : List Row → Request
+gate_all_in rows = gate_all (all_sides_in rows) (flag_at (codes "explain") rows) (view_at (codes "view") rows)
 
 abbrev pub verify_in : List Row → Request
 verify_in rows = verify (sides_in rows) (text_at (codes "CERT") rows)
@@ -86,11 +115,12 @@ show_in rows = show (text_at (codes "dir") rows) (text_at (codes "file") rows) (
 abbrev pub types_in : List Row → Request
 types_in rows = types (text_at (codes "dir") rows) (texts_at (codes "FILE") rows)
 
--- the call of a subcommand and its matches; clap has only these five
+-- the call of a subcommand and its matches; clap has only these six
 abbrev pub request_in : Text × List Row → Request
 request_in met =
     if bytes_eq met.0 (codes "compile") then compile_in met.1
     else if bytes_eq met.0 (codes "gate") then gate_in met.1
+    else if bytes_eq met.0 (codes "gate-all") then gate_all_in met.1
     else if bytes_eq met.0 (codes "verify") then verify_in met.1
     else if bytes_eq met.0 (codes "types") then types_in met.1
     else show_in met.1

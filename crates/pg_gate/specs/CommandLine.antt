@@ -26,6 +26,10 @@ among name values value = record (defaulted name value) { parser = Some (parsers
 abbrev pub named : Text → Rule
 named name = record (new_rule name) { long = Some name; value_names = 1; required = true }
 
+-- `--NAME VALUE`, once or more
+abbrev pub named_each : Text → Rule
+named_each name = record (named name) { action = Some Append }
+
 -- a word without a name
 abbrev pub positional : Text → Rule
 positional name = record (new_rule name) { required = true }
@@ -57,6 +61,10 @@ gate_app names = with_rules (new_app (codes "gate")) (folder (codes "old-dir") �
     ∷ named (codes "old") ∷ named (codes "new") ∷ named (codes "type") ∷ flag (codes "cert")
     ∷ flag (codes "both") ∷ flag (codes "explain") ∷ among (codes "view") names (codes "numbers") ∷ [])
 
+abbrev pub gate_all_app : Bor (List (Bor Text)) → App
+gate_all_app names = with_rules (new_app (codes "gate-all")) (folder (codes "old-dir") ∷ folder (codes "new-dir")
+    ∷ named_each (codes "old") ∷ named_each (codes "new") ∷ flag (codes "explain") ∷ among (codes "view") names (codes "numbers") ∷ [])
+
 abbrev pub verify_app : App
 verify_app = with_rules (new_app (codes "verify")) (folder (codes "old-dir") ∷ folder (codes "new-dir")
     ∷ named (codes "old") ∷ named (codes "new") ∷ positional (codes "CERT") ∷ [])
@@ -73,8 +81,9 @@ top_app = let app = new_app (codes "protogate") in
     record app { top = record app.top { no_binary_name = true; subcommand_required = true; has_version = true } }
 
 abbrev pub whole_app : Bor (List (Bor Text)) → App
-whole_app names = with_subcommand (with_subcommand (with_subcommand (with_subcommand (with_subcommand top_app compile_app.top) (gate_app names).top)
-    verify_app.top) show_app.top) types_app.top
+whole_app names =
+    with_subcommand (with_subcommand (with_subcommand (with_subcommand (with_subcommand (with_subcommand top_app compile_app.top) (gate_app names).top)
+    (gate_all_app names).top) verify_app.top) show_app.top) types_app.top
 
 -- a command of this shape, with no argument that is global
 pub record HasApp (app : App) (command : Command) : Type 0 where

@@ -12,7 +12,8 @@ use Rattle.pg_pairs.specs.EnumView.{by_numbers}
 use Rattle.pg_pairs.specs.NamedView.{seen_under}
 use Rattle.pg_schema.specs.declared.parts.Parts.{Parts}
 use Rattle.pg_schema.specs.Parts.{shape_of}
-use Rattle.pg_gate.specs.Call.{Request, compile, gate, show, types, verify}
+use Rattle.pg_gate.specs.AllTypes.{IsAllTypes}
+use Rattle.pg_gate.specs.Call.{Request, compile, gate, gate_all, show, types, verify}
 use Rattle.pg_link.specs.Walk.{World, world}
 use Rattle.pg_link.specs.declared.sources.Sources.{Ghosts}
 use Rattle.pg_gate.specs.Errors.{IsCallError, IsError, IsMemory}
@@ -123,6 +124,7 @@ IsGateReply view old new root certificate_only both explain (replies.Found findi
     ((both && not certificate_only) ≡ false) × IsFindingOf view old new root certificate_only explain finding
 IsGateReply view old new root certificate_only both explain (replies.Both forward backward) =
     ((both && not certificate_only) ≡ true) × IsFindingOf view old new root false explain forward × IsFindingOf view new old root false explain backward
+IsGateReply view old new root certificate_only both explain (replies.All all) = ⊥
 IsGateReply view old new root certificate_only both explain (replies.Refused refusal) = ⊥
 
 -- a finding tells a certificate's witness, its steps and, where they are asked for, its readings; or that it has none
@@ -216,6 +218,7 @@ IsSetReply w (replies.Set bytes) = IsSetOf w bytes.items
 IsSetReply w (replies.Shown text) = ⊥
 IsSetReply w (replies.Found finding) = ⊥
 IsSetReply w (replies.Both forward backward) = ⊥
+IsSetReply w (replies.All all) = ⊥
 IsSetReply w (replies.Refused refusal) = ⊥
 
 -- the lines of the message that the word's bytes are read as, and nothing else
@@ -224,6 +227,7 @@ IsShowReply w root word (replies.Set bytes) = ⊥
 IsShowReply w root word (replies.Shown text) = OfSide w (λ schema. IsShown schema root word (string_bytes text))
 IsShowReply w root word (replies.Found finding) = ⊥
 IsShowReply w root word (replies.Both forward backward) = ⊥
+IsShowReply w root word (replies.All all) = ⊥
 IsShowReply w root word (replies.Refused refusal) = ⊥
 
 -- the full names of the message types of the files, and nothing else
@@ -232,7 +236,17 @@ IsTypesReply w (replies.Set bytes) = ⊥
 IsTypesReply w (replies.Shown text) = OfSide w (λ schema. ListsTypes schema (string_bytes text))
 IsTypesReply w (replies.Found finding) = ⊥
 IsTypesReply w (replies.Both forward backward) = ⊥
+IsTypesReply w (replies.All all) = ⊥
 IsTypesReply w (replies.Refused refusal) = ⊥
+
+-- what is found of all message types of two schemas, and nothing else
+abbrev pub IsAllReply : ViewName → Parts → Parts → (explain : Bool) → Reply → Type 0
+IsAllReply view old new explain (replies.Set bytes) = ⊥
+IsAllReply view old new explain (replies.Shown text) = ⊥
+IsAllReply view old new explain (replies.Found finding) = ⊥
+IsAllReply view old new explain (replies.Both forward backward) = ⊥
+IsAllReply view old new explain (replies.All all) = IsAllTypes view old new explain all
+IsAllReply view old new explain (replies.Refused refusal) = ⊥
 
 -- what a certificate shows, and nothing else
 abbrev pub IsVerifyReply : Text → World → World → Reply → Type 0
@@ -240,6 +254,7 @@ IsVerifyReply path old new (replies.Set bytes) = ⊥
 IsVerifyReply path old new (replies.Shown text) = ⊥
 IsVerifyReply path old new (replies.Found finding) = IsVerified path old new finding
 IsVerifyReply path old new (replies.Both forward backward) = ⊥
+IsVerifyReply path old new (replies.All all) = ⊥
 IsVerifyReply path old new (replies.Refused refusal) = ⊥
 
 -- what is answered to a call, where nothing is refused
@@ -247,6 +262,8 @@ abbrev pub IsReplyFor : Seen → Seen → Request → Reply → Type 0
 IsReplyFor old new (compile dir files) reply = IsSetReply (world_of old dir files) reply
 IsReplyFor old new (gate sides root certificate_only both explain view) reply =
     Between (world_of old sides.old_dir (sides.old ∷ [])) (world_of new sides.new_dir (sides.new ∷ [])) (λ a b. IsGateReply view a b root certificate_only both explain reply)
+IsReplyFor old new (gate_all sides explain view) reply =
+    Between (world_of old sides.old_dir sides.old) (world_of new sides.new_dir sides.new) (λ a b. IsAllReply view a b explain reply)
 IsReplyFor old new (show dir file root word) reply = IsShowReply (world_of old dir (file ∷ [])) root word reply
 IsReplyFor old new (verify sides certificate) reply =
     IsVerifyReply certificate (world_of old sides.old_dir (sides.old ∷ [])) (world_of new sides.new_dir (sides.new ∷ [])) reply
@@ -261,6 +278,7 @@ abbrev pub IsErrorFor : Seen → Seen → Request → CallError → Type 0
 IsErrorFor old new (compile dir files) error = OfGate (IsSetError (world_of old dir files)) error
 IsErrorFor old new (gate sides root certificate_only both explain view) error =
     OfGate (IsGateError root (world_of old sides.old_dir (sides.old ∷ [])) (world_of new sides.new_dir (sides.new ∷ []))) error
+IsErrorFor old new (gate_all sides explain view) error = OfGate (IsSidesError (world_of old sides.old_dir sides.old) (world_of new sides.new_dir sides.new)) error
 IsErrorFor old new (show dir file root word) error = IsShowError (world_of old dir (file ∷ [])) root word error
 IsErrorFor old new (verify sides certificate) error =
     IsVerifyError certificate (world_of old sides.old_dir (sides.old ∷ [])) (world_of new sides.new_dir (sides.new ∷ [])) error
@@ -288,4 +306,5 @@ Grants old new call (replies.Set bytes) = IsAnswered old new call (replies.Set b
 Grants old new call (replies.Shown text) = IsAnswered old new call (replies.Shown text)
 Grants old new call (replies.Found finding) = IsAnswered old new call (replies.Found finding)
 Grants old new call (replies.Both forward backward) = IsAnswered old new call (replies.Both forward backward)
+Grants old new call (replies.All all) = IsAnswered old new call (replies.All all)
 Grants old new call (replies.Refused refusal) = IsRefusal old new call refusal

@@ -1,10 +1,12 @@
 -- What a call's answer prints, and its status.
-use Rattle.std.specs.Prelude.{ℕ, ◌==◌, ◌||◌, [], if◌then◌else◌, string_bytes}
+use Rattle.std.specs.Prelude.{ℕ, ◌==◌, ◌||◌, [], if◌then◌else◌, length, string_bytes}
 use Rattle.clap.specs.Words.{Text}
 use Rattle.pg_cert.specs.declared.verdict.Verdict.{Verdict}
 use Rattle.pg_cert.specs.declared.verdict.Verdict.TheVariants as verdicts
-use Rattle.pg_gate.specs.Call.{Request, compile, gate, show, types, verify}
+use Rattle.pg_gate.specs.Call.{Request, compile, gate, gate_all, show, types, verify}
+use Rattle.pg_gate.specs.AllText.{all_of}
 use Rattle.pg_gate.specs.Text.{both_of, finding_of, refusal_of}
+use Rattle.pg_gate.specs.declared.answer.all_types.AllTypes.{AllTypes}
 use Rattle.pg_gate.specs.declared.print.refusal.Refusal.{Refusal}
 use Rattle.pg_gate.specs.declared.print.reply.Finding.{Finding}
 use Rattle.pg_gate.specs.declared.print.reply.Finding.TheVariants as finding
@@ -34,11 +36,18 @@ refusal_status refusal = if refusal.code == 309 then 3 else 2
 abbrev pub either_status : ℕ → ℕ → ℕ
 either_status forward backward = if forward == 1 || backward == 1 then 1 else 0
 
+-- 2 where a type is removed, else 1 where there is a cause
+abbrev pub all_status : AllTypes → ℕ
+all_status all =
+    if length all.removed.items == 0 then (if length all.causes.items == 0 then 0 else 1)
+    else 2
+
 abbrev pub status_of : Reply → ℕ
 status_of (reply.Set bytes) = 0
 status_of (reply.Shown text) = 0
 status_of (reply.Found f) = finding_status f
 status_of (reply.Both forward backward) = either_status (finding_status forward) (finding_status backward)
+status_of (reply.All all) = all_status all
 status_of (reply.Refused r) = refusal_status r
 
 -- ---- texts
@@ -48,12 +57,14 @@ text_of root (reply.Set bytes) = bytes.items
 text_of root (reply.Shown text) = string_bytes text
 text_of root (reply.Found f) = finding_of root f
 text_of root (reply.Both forward backward) = both_of root forward backward
+text_of root (reply.All all) = all_of all
 text_of root (reply.Refused r) = refusal_of r
 
--- the name of the root types; a certificate has its own; a set, the lines of a message and the names of types have none
+-- the name of the root types; a certificate has its own; a set, all types, the lines of a message and the names of types have none
 abbrev pub root_of : Request → Text
 root_of (compile dir files) = []
 root_of (gate sides root certificate_only both explain view) = root
+root_of (gate_all sides explain view) = []
 root_of (show dir file root word) = []
 root_of (verify sides certificate) = []
 root_of (types dir files) = []

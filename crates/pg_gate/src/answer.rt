@@ -1,6 +1,8 @@
 //! What a call answers.
 
+pub(crate) mod all_types;
 pub(crate) mod both_sides;
+pub(crate) mod causes;
 pub(crate) mod compile;
 pub(crate) mod cursor;
 pub(crate) mod dispatch;

@@ -38,6 +38,14 @@ pub(crate) enum Call<'a> {
         sides: Sides<'a>,
         certificate: &'a str,
     },
+    /// What a reader of the new types sees of the messages that a writer of the old ones writes, for
+    /// all message types that both sides have: with enums compared by the view, and each cause
+    /// explained where that is asked for.
+    GateAll {
+        sides: AllSides<'a>,
+        explain: bool,
+        view: ViewName,
+    },
     /// The full names of the message types of the files at these paths below the folder: texts,
     /// with all that they import, or one descriptor set.
     Types {
@@ -54,4 +62,13 @@ pub(crate) struct Sides<'a> {
     pub new_dir: &'a str,
     pub old: &'a str,
     pub new: &'a str,
+}
+
+/// The folders and all files of the old and the new side: texts, or one descriptor set.
+#[derive(Debug, Drop)]
+pub(crate) struct AllSides<'a> {
+    pub old_dir: &'a str,
+    pub new_dir: &'a str,
+    pub old: Vec<&'a str>,
+    pub new: Vec<&'a str>,
 }

@@ -9,10 +9,12 @@ mod print;
 mod program;
 mod relaying;
 
+pub use answer::all_types::{AllTypes, PlacedCause};
 pub use answer::gate::{Answer, gate, gate_files, gate_with};
 pub use answer::step::{NamedField, Step};
 pub use answer::verified::Verified;
 pub use error::{Fault, GateError, Side};
+pub use pg_causes::{Cause, Reason, TypeLine};
 pub use pg_cert::{Certificate, Verdict};
 pub use pg_check::CheckError;
 pub use pg_dyn::ViewName;

@@ -25,8 +25,11 @@ impl Call<'_> {
     {
         match self {
             Call::Gate { root, .. } => root,
-            Call::Compile { .. } | Call::Show { .. } | Call::Verify { .. } | Call::Types { .. } =>
-                "",
+            Call::Compile { .. }
+            | Call::GateAll { .. }
+            | Call::Show { .. }
+            | Call::Verify { .. }
+            | Call::Types { .. } => "",
         }
     }
 }
@@ -54,7 +57,7 @@ fn usage<W: Sink>(alloc: Global, error: &clap::Error, sink: &mut W) -> Result<u8
 /// answer's text to the sink, and gives the exit status.
 ///
 /// 0: compatible, or a set is written, a message shown, or types named. 1: breaks, of two
-/// directions either. 2: refused. 3: a source failed. 4: help, or a bad command line. 5: a
+/// directions either. 2: refused, or a type is removed. 3: a source failed. 4: help, or a bad command line. 5: a
 /// certificate says how many bytes a message has at least that breaks, and no more. The only errors
 /// are `Memory`, with the sink untouched, and `WriteFailed`, after which the sink took a beginning
 /// of the text.

@@ -4,14 +4,17 @@ ghost use Rattle.pg_cert.specs.ClaimView.{view_in};
 ghost use Rattle.pg_cert.specs.Text.{IsClaimOf};
 ghost use Rattle.pg_least.specs.Exact.{IsSearched};
 ghost use Rattle.pg_schema.specs.Parts.{shape_of};
+ghost use Rattle.pg_gate.specs.AllTypes.{IsAllTypes};
 ghost use Rattle.pg_gate.specs.Answer.{IsRefusedRoot};
 ghost use Rattle.pg_gate.specs.Call.{request_of, sides_of};
 ghost use Rattle.pg_gate.specs.Failures.{call_failures, side_failures};
 ghost use Rattle.pg_gate.specs.Files.{paths_of};
-ghost use Rattle.pg_gate.specs.Grants.{Between, Grants, IsErrorFor, IsFindingOf, IsGateError, IsGateReply, IsReplyFor, Reports, ReportsAnswer, ReportsCertificate, seen};
+ghost use Rattle.pg_gate.specs.Grants.{Between, Grants, IsErrorFor, IsFindingOf, IsGateError, IsGateReply, IsReplyFor, IsSidesError, Reports, ReportsAnswer, ReportsCertificate, seen};
 ghost use Rattle.pg_link.specs.Walk.{world};
 
+use crate::answer::all_types::AllTypes;
 use crate::answer::both_sides::{SideFiles, compile_both};
+use crate::answer::causes::all_types;
 use crate::answer::compile::Compiled;
 use crate::answer::explaining::explained;
 use crate::answer::gate::gate_with;
@@ -20,7 +23,7 @@ use crate::answer::stepping::steps;
 use crate::answer::type_names::type_names;
 use crate::answer::verifying::verify;
 use crate::call::error::CallError;
-use crate::call::{Call, Sides};
+use crate::call::{AllSides, Call, Sides};
 use crate::error::{GateError, Side};
 use crate::print::refusal::refusal_for;
 use crate::print::reply::{Finding, Reply};
@@ -210,6 +213,45 @@ fn find<S: Sources, T: Sources>(
     )
 }
 
+/// What is found of all message types of the two sides.
+fn find_all<S: Sources, T: Sources>(
+    alloc: Global,
+    sides: &AllSides<'_>,
+    explain: bool,
+    view: ViewName,
+    old: &mut S,
+    new: &mut T,
+) -> Result<AllTypes, GateError>
+    ensures found { IfOk result (λ all. Between
+        (world (S.may_give old.old) (S.may_lack old.old)
+        sides.now.old_dir.now (paths_of sides.now.old.items))
+        (world (T.may_give new.old) (T.may_lack new.old)
+        sides.now.new_dir.now (paths_of sides.now.new.items))
+        (λ a b. IsAllTypes view a b explain all)) }
+    ensures refused { IfErr result (IsSidesError
+        (world (S.may_give old.old) (S.may_lack old.old)
+        sides.now.old_dir.now (paths_of sides.now.old.items))
+        (world (T.may_give new.old) (T.may_lack new.old)
+        sides.now.new_dir.now (paths_of sides.now.new.items))) }
+    ensures old_counted { S.failures old.new ≡ S.failures old.old + side_failures Side.Old result }
+    ensures new_counted { T.failures new.new ≡ T.failures new.old + side_failures Side.New result }
+    ensures old_given { S.may_give old.new ≡ S.may_give old.old }
+    ensures old_lacked { S.may_lack old.new ≡ S.may_lack old.old }
+    ensures new_given { T.may_give new.new ≡ T.may_give new.old }
+    ensures new_lacked { T.may_lack new.new ≡ T.may_lack new.old }
+{
+    let old_files = SideFiles {
+        folder: sides.old_dir,
+        paths: &sides.old,
+    };
+    let new_files = SideFiles {
+        folder: sides.new_dir,
+        paths: &sides.new,
+    };
+    let both = compile_both(alloc, &old_files, &new_files, true, old, new)?;
+    Ok(all_types(alloc, &both.old, &both.new, view, explain)?)
+}
+
 /// What is answered to a call, where nothing is refused.
 fn reply_to<S: Sources, T: Sources>(
     alloc: Global,
@@ -248,6 +290,11 @@ fn reply_to<S: Sources, T: Sources>(
             };
             Ok(find(alloc, &asked, old, new)?)
         }
+        Call::GateAll {
+            sides,
+            explain,
+            view,
+        } => Ok(Reply::All(find_all(alloc, sides, *explain, *view, old, new)?)),
         Call::Show {
             dir,
             file,

@@ -20,9 +20,9 @@ use std::alloc::{AllocError, Global};
 
 /// A schema, and where its fields are declared: those of a descriptor set are nowhere.
 #[derive(Clone, Copy)]
-struct Side<'a> {
-    schema: &'a Schema,
-    places: Option<&'a Places<'a>>,
+pub(crate) struct Side<'a> {
+    pub schema: &'a Schema,
+    pub places: Option<&'a Places<'a>>,
 }
 
 /// The full name of the type's field of that number.
@@ -68,7 +68,7 @@ fn named_field(
 }
 
 /// The step of that number between the types of the pair.
-fn step_of(
+pub(crate) fn step_of(
     alloc: Global,
     old: Side<'_>,
     new: Side<'_>,
@@ -122,7 +122,7 @@ fn steps_by(
 }
 
 /// Which types of the old schema, or of the new one, are on the path.
-fn types_on(
+pub(crate) fn types_on(
     alloc: Global,
     types: usize,
     path: &[pg_least::Step],
@@ -143,7 +143,7 @@ fn types_on(
 }
 
 /// Where the fields of some of the side's types are declared: nowhere where it is a descriptor set.
-fn places_in<'a>(
+pub(crate) fn places_in<'a>(
     alloc: Global,
     side: &'a Compiled,
     wanted: &'a [bool],

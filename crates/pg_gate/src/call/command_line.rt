@@ -6,7 +6,7 @@ ghost use Rattle.pg_gate.specs.CommandLine.{HasApp};
 ghost use Rattle.pg_gate.specs.Call as spec;
 ghost use Rattle.pg_gate.specs.CommandLine as command_line;
 
-use crate::call::{Call, Sides};
+use crate::call::{AllSides, Call, Sides};
 use clap::error::ErrorKind;
 use clap::{Arg, ArgAction, ArgMatches, Command, Error};
 use pg_dyn::ViewName;
@@ -16,7 +16,7 @@ use std::alloc::{AllocError, Global};
 const STATUSES: &str = "Statuses:
   0  compatible: the new reader sees all that the old writer writes; or a set is written, a message shown, or types named
   1  breaks: it doesn't see all of some message; with --both, in one direction at least
-  2  refused: a fault in a file, a certificate or bytes, or the message type is missing
+  2  refused: a fault in a file, a certificate or bytes, or the message type is missing; or gate-all finds one removed
   3  out of memory, or a file or the output failed
   4  help, the version, or a bad command line
   5  bound: a certificate says only how long a message is at least that breaks";
@@ -55,6 +55,38 @@ Statuses:
   3  out of memory, or a file or the output failed
   4  help, the version, or a bad command line
   5  never of gate: only verify ends so, where a certificate says a bound alone";
+
+/// What help says of the answers on all types: what is printed, and the statuses.
+const GATE_ALL_ANSWERS: &str = "Prints lines, in this order:
+  cause CASE LENGTH HEX NUMBER OLDFIELD OLDPLACE NEWFIELD NEWPLACE
+                        each way to break that needs no message inside, told once, wherever the types lead to it:
+                        HEX is a shortest message of the old field's type that breaks so, and has LENGTH bytes;
+                        of two fields that meet in a oneof, both fields and places behind the smaller NUMBER
+  old, new              with --explain, behind a cause: each stands before the lines of `show`
+                        for HEX by the type of that side, or before a refusal of it
+  compatible NAME       no message of this type breaks
+  breaks NAME LENGTH    some message does; the shortest have that many bytes
+  removed NAME          a message type that only the old side has
+  added NAME            a message type that only the new side has
+  refused SIDE CODE PLACE
+                        no answer, for a fault of the old or the new side; `man protogate` has each code
+
+CASE says what breaks:
+  unlike                another kind of element, or a map and no map
+  value                 a value is read as another, or not at all
+  name                  with --view names, a number has another name
+  list-to-one           a list where the new type has one item
+  map                   keys or values of another kind
+  map-key, map-value    a key or a value is read as another, or not at all
+  oneof                 two fields that a new oneof holds only one of
+
+Statuses:
+  0  each message type of both sides is compatible, and none is removed
+  1  breaks: there is a cause
+  2  removed: a message type that only the old side has; or refused: a fault in a file
+  3  out of memory, or a file or the output failed
+  4  help, the version, or a bad command line
+  5  never of gate-all";
 
 /// What help says of a message that is shown: what is printed, and the statuses.
 const SHOW_ANSWERS: &str = "Prints lines, those of a message inside two spaces further in:
@@ -112,6 +144,11 @@ const OLD_FILE: &str = "The old proto3 file, or a descriptor set where F doesn't
 
 const NEW_FILE: &str = "The new proto3 file, or a descriptor set where F doesn't end in .proto";
 
+/// What help says of a side's files.
+const OLD_FILES: &str = "Each old proto3 file, or one descriptor set where F doesn't end in .proto";
+
+const NEW_FILES: &str = "Each new proto3 file, or one descriptor set where F doesn't end in .proto";
+
 /// What help says of the file by which a message is shown.
 const SHOWN_FILE: &str = "The proto3 file, or a descriptor set where F doesn't end in .proto";
 
@@ -167,6 +204,14 @@ fn named<'a>(alloc: Global, name: &'a str, value: &'a str, help: &'a str) -> Arg
         .value_name(value)
         .required(true)
         .help(help)
+}
+
+/// An option that has to be there, once or more.
+fn named_each<'a>(alloc: Global, name: &'a str, value: &'a str, help: &'a str) -> Arg<'a>
+    ensures rule { rule_of result ≡ command_line.named_each name.entry.now }
+    ensures local { result.global ≡ false }
+{
+    named(alloc, name, value, help).action(ArgAction::Append)
 }
 
 /// A word without a name that has to be there.
@@ -242,6 +287,27 @@ fn gate_command<'a>(alloc: Global, views: &'a [&'a str]) -> Result<Command<'a>, 
         ))
 }
 
+fn gate_all_command<'a>(alloc: Global, views: &'a [&'a str]) -> Result<Command<'a>, AllocError>
+    ensures { IfOk result (HasApp (command_line.gate_all_app views.entry)) }
+{
+    Command::new(alloc, "gate-all")
+        .about("Find all that breaks between the message types of two sides")
+        .after_help(GATE_ALL_ANSWERS)
+        .arg(folder(alloc, "old-dir", "The folder of the old files"))?
+        .arg(folder(alloc, "new-dir", "The folder of the new files"))?
+        .arg(named_each(alloc, "old", "F", OLD_FILES))?
+        .arg(named_each(alloc, "new", "F", NEW_FILES))?
+        .arg(flag(alloc, "explain", "Show each cause as both sides read it"))?
+        .arg(among(
+            alloc,
+            "view",
+            "VIEW",
+            views,
+            "numbers",
+            "Compare enums by their numbers alone, or by the names of the numbers too",
+        ))
+}
+
 fn verify_command<'a>(alloc: Global) -> Result<Command<'a>, AllocError>
     ensures { IfOk result (HasApp command_line.verify_app) }
 {
@@ -306,6 +372,7 @@ fn whole_command<'a>(alloc: Global, views: &'a [&'a str]) -> Result<Command<'a>,
         .subcommand_required(true)
         .subcommand(compile_command(alloc)?)?
         .subcommand(gate_command(alloc, views)?)?
+        .subcommand(gate_all_command(alloc, views)?)?
         .subcommand(verify_command(alloc)?)?
         .subcommand(show_command(alloc)?)?
         .subcommand(types_command(alloc)?)
@@ -368,6 +435,18 @@ fn sides<'a>(found: &ArgMatches<'a>) -> Sides<'a>
     }
 }
 
+fn all_sides<'a>(alloc: Global, found: &ArgMatches<'a>) -> Result<AllSides<'a>, AllocError>
+    ensures { IfOk result (λ sides.
+        spec.all_sides_of sides ≡ spec.all_sides_in (rows_of (found_of found.now))) }
+{
+    Ok(AllSides {
+        old_dir: text(found, "old-dir"),
+        new_dir: text(found, "new-dir"),
+        old: texts(alloc, found, "old")?,
+        new: texts(alloc, found, "new")?,
+    })
+}
+
 fn compile_call<'a>(alloc: Global, found: &ArgMatches<'a>) -> Result<Call<'a>, AllocError>
     ensures { IfOk result (λ call.
         spec.request_of call ≡ spec.compile_in (rows_of (found_of found.now))) }
@@ -389,6 +468,17 @@ fn gate_call<'a>(found: &ArgMatches<'a>) -> Call<'a>
         explain: is_set(found, "explain"),
         view: view(found, "view"),
     }
+}
+
+fn gate_all_call<'a>(alloc: Global, found: &ArgMatches<'a>) -> Result<Call<'a>, AllocError>
+    ensures { IfOk result (λ call.
+        spec.request_of call ≡ spec.gate_all_in (rows_of (found_of found.now))) }
+{
+    Ok(Call::GateAll {
+        sides: all_sides(alloc, found)?,
+        explain: is_set(found, "explain"),
+        view: view(found, "view"),
+    })
 }
 
 fn verify_call<'a>(found: &ArgMatches<'a>) -> Call<'a>
@@ -429,6 +519,7 @@ fn call_in<'a>(alloc: Global, name: &str, found: &ArgMatches<'a>) -> Result<Call
     match name {
         "compile" => compile_call(alloc, found),
         "gate" => Ok(gate_call(found)),
+        "gate-all" => gate_all_call(alloc, found),
         "verify" => Ok(verify_call(found)),
         "types" => types_call(alloc, found),
         _ => Ok(show_call(found)),

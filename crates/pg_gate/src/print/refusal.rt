@@ -100,7 +100,7 @@ pub(crate) fn refusal_for(call: &Call<'_>, error: CallError) -> Option<Refusal>
         Call::Compile { .. } | Call::Show { .. } | Call::Types { .. } => {
             Some(refusal.without_side())
         }
-        Call::Gate { .. } | Call::Verify { .. } => Some(refusal),
+        Call::Gate { .. } | Call::GateAll { .. } | Call::Verify { .. } => Some(refusal),
     }
 }
 

@@ -3,6 +3,7 @@ ghost use Rattle.std.specs.Prelude.{◌≡◌, Some, IfOk};
 ghost use Rattle.pg_gate.specs.Text as spec;
 ghost use Rattle.pg_gate.specs.Printed.{either_status, finding_status, status_of, text_of};
 
+use crate::answer::all_types::AllTypes;
 use crate::answer::step::{Step, Steps};
 use crate::answer::verified::Verified;
 use crate::print::hex::Hex;
@@ -21,6 +22,8 @@ pub enum Reply {
     Found(Finding),
     /// What is found forward, and with the sides exchanged.
     Both { forward: Finding, backward: Finding },
+    /// What is found of all message types of both sides.
+    All(AllTypes),
     Refused(Refusal),
 }
 
@@ -54,7 +57,7 @@ pub struct Readings {
 
 /// The lines of readings, where there are some.
 #[derive(Clone, Copy)]
-struct ReadingLines<'a>(&'a Option<Readings>);
+pub(crate) struct ReadingLines<'a>(pub &'a Option<Readings>);
 
 /// What is found of the types of this name. A certificate names its own.
 #[derive(Clone, Copy)]
@@ -79,6 +82,7 @@ impl Reply {
             Reply::Set(_) | Reply::Shown(_) => 0,
             Reply::Found(finding) => finding.status(),
             Reply::Both { forward, backward } => either(forward.status(), backward.status()),
+            Reply::All(all) => all.status(),
             Reply::Refused(refusal) => refusal.status(),
         }
     }
@@ -108,6 +112,7 @@ impl Reply {
                 };
                 format!(in alloc; "forward\n{forward}backward\n{backward}")?
             }
+            Reply::All(all) => format!(in alloc; "{all}")?,
             Reply::Refused(refusal) => format!(in alloc; "{refusal}")?,
         };
         Ok(text.into_bytes())

@@ -15,6 +15,9 @@ returns-in_ok-shown-in-Show-clause-answered g c = rw c.in-Show.is c.in_ok-shown-
 pub returns-in_ok-find-in-Gate-clause-answered : goal.returns-in_ok-find-in-Gate-clause-answered
 returns-in_ok-find-in-Gate-clause-answered g c = rw c.in-Gate.is c.in_ok-find-in-Gate.ensures.found
 
+pub returns-in_ok-find_all-in-GateAll-clause-answered : goal.returns-in_ok-find_all-in-GateAll-clause-answered
+returns-in_ok-find_all-in-GateAll-clause-answered g c = rw c.in-GateAll.is c.in_ok-find_all-in-GateAll.ensures.found
+
 pub returns-in_ok-type_names-in-Types-clause-answered : goal.returns-in_ok-type_names-in-Types-clause-answered
 returns-in_ok-type_names-in-Types-clause-answered g c =
     let over = world (g.S.Sources.may_give c.args.old.now) (g.S.Sources.may_lack c.args.old.now) c.in-Types.dir.now in

@@ -22,6 +22,7 @@ returns c =
     } in
     let with_1 = with_sub c.in_ok-subcommand.field-0 start c.in_ok-compile_command.ensures refl (c.in_ok-subcommand.ensures.shape c.in_ok-compile_command.ensures.local) c.in_ok-subcommand.ensures.globals in
     let with_2 = with_sub c.in_ok-subcommand-2.field-0 with_1 c.in_ok-gate_command.ensures refl (c.in_ok-subcommand-2.ensures.shape c.in_ok-gate_command.ensures.local) c.in_ok-subcommand-2.ensures.globals in
-    let with_3 = with_sub c.in_ok-subcommand-3.field-0 with_2 c.in_ok-verify_command.ensures refl (c.in_ok-subcommand-3.ensures.shape c.in_ok-verify_command.ensures.local) c.in_ok-subcommand-3.ensures.globals in
-    let with_4 = with_sub c.in_ok-subcommand-4.field-0 with_3 c.in_ok-show_command.ensures refl (c.in_ok-subcommand-4.ensures.shape c.in_ok-show_command.ensures.local) c.in_ok-subcommand-4.ensures.globals in
-    IfOk-weaker c.subcommand-5.result _ _ (λ r adds. with_sub r with_4 c.in_ok-types_command.ensures refl (adds.shape c.in_ok-types_command.ensures.local) adds.globals) c.subcommand-5.ensures
+    let with_3 = with_sub c.in_ok-subcommand-3.field-0 with_2 c.in_ok-gate_all_command.ensures refl (c.in_ok-subcommand-3.ensures.shape c.in_ok-gate_all_command.ensures.local) c.in_ok-subcommand-3.ensures.globals in
+    let with_4 = with_sub c.in_ok-subcommand-4.field-0 with_3 c.in_ok-verify_command.ensures refl (c.in_ok-subcommand-4.ensures.shape c.in_ok-verify_command.ensures.local) c.in_ok-subcommand-4.ensures.globals in
+    let with_5 = with_sub c.in_ok-subcommand-5.field-0 with_4 c.in_ok-show_command.ensures refl (c.in_ok-subcommand-5.ensures.shape c.in_ok-show_command.ensures.local) c.in_ok-subcommand-5.ensures.globals in
+    IfOk-weaker c.subcommand-6.result _ _ (λ r adds. with_sub r with_5 c.in_ok-types_command.ensures refl (adds.shape c.in_ok-types_command.ensures.local) adds.globals) c.subcommand-6.ensures

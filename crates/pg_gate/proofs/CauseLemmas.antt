@@ -1,0 +1,57 @@
+-- The pairs of causes are pairs of the schemas' types.
+use Rattle.std.proofs.Common.{◌≡◌, List, [], ◌∷◌, map, flat_map, length, true, refl, sym, subst, lt-ltb, ⊎_elim}
+use Rattle.std.specs.List.{AllByRecursion}
+use Rattle.clap.specs.Words.{Text}
+use Rattle.pg_schema.specs.declared.parts.Parts.{Parts}
+use Rattle.pg_schema.specs.Parts.{shape_of}
+use Rattle.pg_schema.specs.Shape.{IsShape}
+use Rattle.pg_dyn.proofs.Lists.{each-flat_map, each_of_all, each_weaker, each-map}
+use Rattle.pg_dyn.specs.declared.view_name.ViewName.{ViewName}
+use Rattle.pg_pairs.specs.declared.choice.Choice.{Choice}
+use Rattle.pg_pairs.specs.declared.choice.Pair.{Pair}
+use Rattle.pg_pairs.specs.Among.{IsAmong}
+use Rattle.pg_pairs.specs.Covering.{children}
+use Rattle.pg_pairs.specs.Edges.{is_pair}
+use Rattle.pg_pairs.specs.Causes.{causes}
+use Rattle.pg_pairs.specs.NamedView.{seen_under}
+use Rattle.pg_pairs.specs.Reached.{IsLedTo}
+use Rattle.pg_pairs.proofs.PublicLaws.{pairs_lead_to_pairs}
+use Rattle.pg_cert.specs.Text.{IsPairOf}
+use Rattle.pg_least.specs.declared.witness.Step.{Step}
+use Rattle.pg_causes.specs.Causes.{causes_at, step_at}
+use Rattle.pg_causes.specs.Overview.{IsOverview}
+use Rattle.pg_least.specs.Roots.{AreRoots}
+use Rattle.pg_causes.specs.declared.overview.Cause.{Cause}
+use Rattle.pg_causes.specs.declared.overview.Overview.{Overview}
+use Rattle.pg_gate.proofs.Ranges.{as_types, each_unmapped}
+use Rattle.pg_gate.proofs.Roots.{named_there}
+
+among_each : {A : Type 0} (P : A → Type 0) (x : A) (xs : List A) → IsAmong x xs → AllByRecursion P xs → P x
+among_each P x [] among each = absurd among
+among_each P x (y ∷ ys) among each = ⊎_elim (λ same. subst P (sym same) each.0) (λ later. among_each P x ys later each.1) among
+
+module _ (view : ViewName) (old new : Parts) (is_old : IsShape (shape_of old)) (is_new : IsShape (shape_of new)) where
+  root_there : (pair : Pair) → (name : Text) × AreRoots old new name pair → is_pair (shape_of old) (shape_of new) pair ≡ true
+  root_there pair named =
+      let old_there = named_there old named.0 pair.old named.1.old_named in
+      let new_there = named_there new named.0 pair.new named.1.new_named in
+      rw (lt-ltb pair.old.index (length (shape_of old)) old_there, lt-ltb pair.new.index (length (shape_of new)) new_there) refl
+
+  led_there : (roots : List Pair) → AllByRecursion (λ p. is_pair (shape_of old) (shape_of new) p ≡ true) roots → (pair : Pair) → IsLedTo (children (shape_of old) (shape_of new)) roots pair → IsPairOf old new pair
+  led_there roots known pair led =
+      as_types old new pair
+      (pairs_lead_to_pairs (shape_of old) (shape_of new) is_old is_new led.root pair (among_each (λ p. is_pair (shape_of old) (shape_of new) p ≡ true) led.root roots led.among known) led.leads)
+
+  steps_there : (pair : Pair) → IsPairOf old new pair → AllByRecursion (λ (at : Step). IsPairOf old new at.pair) (causes_at (seen_under view old new) (shape_of old) (shape_of new) pair)
+  steps_there pair there =
+      let cs = causes (seen_under view old new) (shape_of old) (shape_of new) pair in
+      each-map (λ (at : Step). IsPairOf old new at.pair) (step_at pair) cs (each_of_all (λ (c : Choice). IsPairOf old new (step_at pair c).pair) (λ c. there) cs)
+
+  pub causes_there : (overview : Overview) → IsOverview view old new overview → AllByRecursion (λ (c : Cause). IsPairOf old new c.at.pair) overview.causes.items
+  causes_there overview is =
+      let roots = each_weaker (λ (p : Pair). (name : Text) × AreRoots old new name p) (λ p. is_pair (shape_of old) (shape_of new) p ≡ true) root_there is.roots is.roots_alike in
+      let pairs = each_weaker (IsLedTo (children (shape_of old) (shape_of new)) is.roots) (IsPairOf old new) (led_there is.roots roots) is.causes.pairs is.causes.reached.led_to in
+      let each = each_weaker (IsPairOf old new) (λ (p : Pair). AllByRecursion (λ (at : Step). IsPairOf old new at.pair) (causes_at (seen_under view old new) (shape_of old) (shape_of new) p)) steps_there is.causes.pairs pairs in
+      let steps = each-flat_map (λ (at : Step). IsPairOf old new at.pair) (causes_at (seen_under view old new) (shape_of old) (shape_of new)) is.causes.pairs each in
+      each_unmapped (λ (at : Step). IsPairOf old new at.pair) (λ (c : Cause). c.at) overview.causes.items
+      (subst (AllByRecursion (λ (at : Step). IsPairOf old new at.pair)) (sym is.causes.are) steps)

@@ -1,0 +1,18 @@
+use Rattle.std.proofs.Common.{refl, codes}
+use Rattle.std.proofs.lemmas.Result.{IfOk-weaker}
+use Rattle.clap.specs.Words.{new_app}
+use Rattle.pg_gate.specs.CommandLine.{HasApp}
+use Rattle.pg_gate.proofs.CommandLineLemmas.{with_arg, with_text}
+use Rattle.pg_gate.proofs.call.command_line.gate_all_command.Goals as goal
+
+pub returns : goal.returns
+returns c =
+    let bare : HasApp (new_app (codes "gate-all")) c.new.result = record { shape = c.new.ensures.app; local = c.new.ensures.local } in
+    let told = with_text c.about.result bare c.about.ensures refl refl in
+    let start = with_text c.after_help.result told c.after_help.ensures refl refl in
+    let with_1 = with_arg c.in_ok-arg.field-0 start c.folder.ensures.rule c.folder.ensures.local (c.in_ok-arg.ensures.shape c.folder.ensures.local) c.in_ok-arg.ensures.globals in
+    let with_2 = with_arg c.in_ok-arg-2.field-0 with_1 c.folder-2.ensures.rule c.folder-2.ensures.local (c.in_ok-arg-2.ensures.shape c.folder-2.ensures.local) c.in_ok-arg-2.ensures.globals in
+    let with_3 = with_arg c.in_ok-arg-3.field-0 with_2 c.named_each.ensures.rule c.named_each.ensures.local (c.in_ok-arg-3.ensures.shape c.named_each.ensures.local) c.in_ok-arg-3.ensures.globals in
+    let with_4 = with_arg c.in_ok-arg-4.field-0 with_3 c.named_each-2.ensures.rule c.named_each-2.ensures.local (c.in_ok-arg-4.ensures.shape c.named_each-2.ensures.local) c.in_ok-arg-4.ensures.globals in
+    let with_5 = with_arg c.in_ok-arg-5.field-0 with_4 c.flag.ensures.rule c.flag.ensures.local (c.in_ok-arg-5.ensures.shape c.flag.ensures.local) c.in_ok-arg-5.ensures.globals in
+    IfOk-weaker c.arg-6.result _ _ (λ r adds. with_arg r with_5 c.among.ensures.rule c.among.ensures.local (adds.shape c.among.ensures.local) adds.globals) c.arg-6.ensures
