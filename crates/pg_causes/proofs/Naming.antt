@@ -1,6 +1,6 @@
 -- Names that a schema declares, and what a filter keeps as a list goes on.
-use Rattle.std.proofs.Common.{◌≡◌, ◌∙◌, ℕ, zero, suc, ◌+◌, ◌<◌, List, [], ◌∷◌, ◌++◌, map, filter, take, length, get_or, Bool, true, false, not, ◌||◌, cond, Option, Some, None, is_some, option_map, slice_get, string_bytes, refl, ap, sym, subst, ◌↔◌, add-one, arith}
-use Rattle.std.specs.List.{AllByRecursion, list_any}
+use Rattle.std.proofs.Common.{◌≡◌, ◌∙◌, ℕ, zero, suc, ◌+◌, ◌<◌, List, [], ◌∷◌, ◌++◌, map, filter, take, length, get_or, Bool, true, false, not, ◌||◌, cond, Option, Some, None, is_some, option_map, slice_get, refl, ap, sym, subst, ◌↔◌}
+use Rattle.std.specs.List.{list_any}
 use Rattle.std.specs.Str.{bytes_eq}
 use Rattle.std.proofs.lemmas.Slice.Eq.{bytes_eq-Decides}
 use Rattle.std.proofs.lemmas.Option.{slice_get_read}

@@ -8,10 +8,9 @@ use Rattle.pg_dyn.proofs.Lists.{each_weaker}
 use Rattle.pg_pairs.specs.declared.choice.Pair.{Pair}
 use Rattle.pg_pairs.specs.Among.{IsAmong}
 use Rattle.pg_pairs.specs.Causes.{HasNoCause, causes}
-use Rattle.pg_pairs.specs.Covering.{children}
 use Rattle.pg_pairs.specs.Edges.{is_pair}
 use Rattle.pg_pairs.specs.EnumView.{EnumView, IsEnumView}
-use Rattle.pg_pairs.specs.Reached.{IsReachedFrom, LeadsTo, itself}
+use Rattle.pg_pairs.specs.Reached.{itself}
 use Rattle.pg_cert.specs.declared.bounds.PairBound.{PairBound}
 use Rattle.pg_cert.specs.Bounds.{bound_in}
 use Rattle.pg_least.specs.Exact.{BoundSays, pairs_of}

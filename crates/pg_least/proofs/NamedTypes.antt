@@ -1,5 +1,5 @@
 -- The types that have names.
-use Rattle.std.proofs.Common.{◌≡◌, ◌<◌, length, map, Option, Some, None, string_bytes}
+use Rattle.std.proofs.Common.{◌≡◌, map, Option, Some, None, string_bytes}
 use Rattle.std.specs.Option.{option_map}
 use Rattle.std.proofs.lemmas.List.{length-map}
 use Rattle.std.proofs.lemmas.Option.{slice_get_within}

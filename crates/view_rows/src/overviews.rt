@@ -24,7 +24,10 @@ pub(crate) fn shown(alloc: Global, overview: &Overview) -> Result<String, AllocE
     let mut list = String::new(alloc);
     for cause in &overview.causes {
         let digits = hex::encode(alloc, &cause.message)?;
-        add(&mut list, &format!(in alloc; "{:?} {digits}", cause.reason)?)?;
+        add(
+            &mut list,
+            &format!(in alloc; "{:?} {digits}", cause.reason)?,
+        )?;
     }
     for line in &overview.types {
         add_type(alloc, &mut list, line)?;

@@ -1,7 +1,6 @@
 -- The choices before the index are causes.
 use Rattle.std.proofs.Common.{◌≡◌, map, take}
 use Rattle.std.specs.List.{AllByRecursion}
-use Rattle.pg_pairs.specs.declared.choice.Choice.{Choice}
 use Rattle.pg_pairs.specs.SeenBy.{seen_by}
 use Rattle.pg_causes.specs.Causes.{IsCause, step_at}
 use Rattle.pg_causes.specs.declared.overview.Cause.{Cause}

@@ -1,4 +1,4 @@
-use Rattle.std.proofs.Common.{◌≡◌, ◌∙◌, map, string_bytes, not, ap, sym, String}
+use Rattle.std.proofs.Common.{◌∙◌, map, string_bytes, not, ap, sym}
 use Rattle.pg_causes.proofs.Going.{pushed}
 use Rattle.pg_causes.proofs.Naming.{only_more, only_same}
 use Rattle.pg_causes.proofs.names.names_only.Goals.{then-is_none+in_ok-from_str+in_ok-push, else-is_none}

@@ -1,5 +1,5 @@
 -- The names before the index that the other schema lacks are kept.
-use Rattle.std.proofs.Common.{◌≡◌, ℕ, List, map, filter, not, take, string_bytes}
+use Rattle.std.proofs.Common.{◌≡◌, map, filter, not, take, string_bytes}
 use Rattle.pg_causes.specs.Names.{is_declared, name_of}
 use Rattle.pg_causes.proofs.names.names_only.Given as goal
 
