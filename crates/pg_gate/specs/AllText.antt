@@ -21,7 +21,7 @@ reason_word reasons.MapKey = codes "map-key"
 reason_word reasons.MapValue = codes "map-value"
 reason_word reasons.Oneof = codes "oneof"
 
--- of two fields that meet the one of the larger number, behind the other
+-- of two fields that meet the one of the larger number, after the other
 abbrev pub other_of : Option Step → Text
 other_of (Some step) = codes " " ++ (field_of step.old ++ (codes " " ++ field_of step.new))
 other_of None = []
@@ -45,7 +45,7 @@ type_of name (Some bytes) = codes "breaks " ++ (name ++ (codes " " ++ (decimal b
 abbrev pub types_of : List TypeLine → Text
 types_of lines = flat_map (λ (line : TypeLine). type_of (string_bytes line.name) line.bound) lines
 
--- a line for each name, behind the word
+-- a line for each name, after the word
 abbrev pub names_of : Text → List (String Global) → Text
 names_of word names = flat_map (λ (name : String Global). word ++ (codes " " ++ (string_bytes name ++ line_end))) names
 

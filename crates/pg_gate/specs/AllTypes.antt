@@ -17,15 +17,15 @@ pub record IsPlaced (old new : Parts) (explain : Bool) (placed : PlacedCause) : 
   pub fields : map named (placed.field ∷ option_to_list placed.other) ≡ steps_by old new placed.cause.at
   pub explained : IsExplained explain old new placed.cause.at.pair placed.cause.message.items placed.readings
 
-abbrev pub cause_of : PlacedCause → Cause
-cause_of placed = placed.cause
+abbrev pub without_place : PlacedCause → Cause
+without_place placed = placed.cause
 
 -- There are just the causes, the types and the names of an overview of the two schemas under the view, in its order; each cause with its
 -- fields.
 pub record IsAllTypes (view : ViewName) (old new : Parts) (explain : Bool) (all : AllTypes) : Type 0 where
   pub overview : Overview
   pub is_overview : IsOverview view old new overview
-  pub causes : map cause_of all.causes.items ≡ overview.causes.items
+  pub causes : map without_place all.causes.items ≡ overview.causes.items
   pub types : all.types ≡ overview.types
   pub removed : all.removed ≡ overview.removed
   pub added : all.added ≡ overview.added

@@ -21,7 +21,7 @@ pub record SideTexts : Type 0 where
   pub old : Text
   pub new : Text
 
--- the texts of two sides of more files than one each
+-- the same of all files of each side
 pub record AllSideTexts : Type 0 where
   pub old_dir : Text
   pub new_dir : Text

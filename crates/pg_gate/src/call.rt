@@ -2,6 +2,7 @@
 
 pub(crate) mod command_line;
 pub(crate) mod error;
+pub(crate) mod help;
 
 use pg_dyn::ViewName;
 
@@ -64,7 +65,7 @@ pub(crate) struct Sides<'a> {
     pub new: &'a str,
 }
 
-/// The folders and all files of the old and the new side: texts, or one descriptor set.
+/// The folders and all files of the old and the new side: source files, or one descriptor set each.
 #[derive(Debug, Drop)]
 pub(crate) struct AllSides<'a> {
     pub old_dir: &'a str,

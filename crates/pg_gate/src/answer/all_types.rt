@@ -46,7 +46,7 @@ impl AllTypes {
 #[derive(Clone, Copy)]
 struct Word(Reason);
 
-/// The field that another one meets, behind that one.
+/// The field that another one meets, after that one.
 #[derive(Clone, Copy)]
 struct Other<'a>(&'a Option<Step>);
 
@@ -58,7 +58,7 @@ struct CauseLines<'a>(&'a [PlacedCause]);
 #[derive(Clone, Copy)]
 struct TypeLines<'a>(&'a [TypeLine]);
 
-/// A line for each name, behind this word.
+/// A line for each name, after this word.
 #[derive(Clone, Copy)]
 struct NameLines<'a> {
     word: &'a str,

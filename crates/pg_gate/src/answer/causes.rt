@@ -3,7 +3,7 @@ ghost use Rattle.std.specs.Prelude.{◌≡◌, ◌∷◌, IfOk, map, option_to_l
 ghost use Rattle.std.specs.List.{AllByRecursion};
 ghost use Rattle.pg_causes.specs.declared.overview.Cause.{Cause};
 ghost use Rattle.pg_cert.specs.Text.{IsPairOf};
-ghost use Rattle.pg_gate.specs.AllTypes.{IsAllTypes, IsPlaced, cause_of};
+ghost use Rattle.pg_gate.specs.AllTypes.{IsAllTypes, IsPlaced, without_place};
 ghost use Rattle.pg_gate.specs.Steps.{named, named_at, steps_by};
 
 use crate::answer::all_types::{AllTypes, PlacedCause};
@@ -69,7 +69,7 @@ fn placed_each(
 ) -> Result<Vec<PlacedCause>, AllocError>
     requires { AllByRecursion (λ (c : Cause). IsPairOf old.schema.now new.schema.now
         c.at.pair) causes.items }
-    ensures same { IfOk result (λ placed. map cause_of placed.items ≡ causes.items) }
+    ensures same { IfOk result (λ placed. map without_place placed.items ≡ causes.items) }
     ensures placed { IfOk result (λ placed. AllByRecursion
         (IsPlaced old.entry.schema.now new.entry.schema.now explain) placed.items) }
 {
@@ -95,7 +95,7 @@ fn all_placed(
 ) -> Result<Vec<PlacedCause>, AllocError>
     requires { AllByRecursion (λ (c : Cause). IsPairOf old.now.schema new.now.schema c.at.pair)
         causes.items }
-    ensures same { IfOk result (λ placed. map cause_of placed.items ≡ causes.items) }
+    ensures same { IfOk result (λ placed. map without_place placed.items ≡ causes.items) }
     ensures placed { IfOk result (λ placed. AllByRecursion
         (IsPlaced old.now.schema new.now.schema explain) placed.items) }
 {

@@ -6,151 +6,21 @@ ghost use Rattle.pg_gate.specs.CommandLine.{HasApp};
 ghost use Rattle.pg_gate.specs.Call as spec;
 ghost use Rattle.pg_gate.specs.CommandLine as command_line;
 
+use crate::call::help::{
+    COMPILE_ANSWERS, GATE_ALL_ANSWERS, GATE_ANSWERS, NEW_FILE, NEW_FILES, OLD_FILE, OLD_FILES,
+    SHOW_ANSWERS, SHOWN_FILE, STATUSES, TYPES_ANSWERS, VERIFY_ANSWERS,
+};
 use crate::call::{AllSides, Call, Sides};
 use clap::error::ErrorKind;
 use clap::{Arg, ArgAction, ArgMatches, Command, Error};
 use pg_dyn::ViewName;
 use std::alloc::{AllocError, Global};
 
-/// What help says of the statuses.
-const STATUSES: &str = "Statuses:
-  0  compatible: the new reader sees all that the old writer writes; or a set is written, a message shown, or types named
-  1  breaks: it doesn't see all of some message; with --both, in one direction at least
-  2  refused: a fault in a file, a certificate or bytes, or the message type is missing; or gate-all finds one removed
-  3  out of memory, or a file or the output failed
-  4  help, the version, or a bad command line
-  5  bound: a certificate says only how long a message is at least that breaks";
-
-/// What help says of a set that is written: what is printed, and the statuses.
-const COMPILE_ANSWERS: &str = "Prints the bytes of a google.protobuf.FileDescriptorSet, or a line
-  refused CODE PLACE   no set, for a fault at the place; `man protogate` has each code
-
-Statuses:
-  0  the set is written to standard output, and nothing else
-  2  refused: a fault in a file
-  3  out of memory, or a file or the output failed
-  4  help, the version, or a bad command line";
-
-/// What help says of the gate's answers: what is printed, and the statuses.
-const GATE_ANSWERS: &str = "Prints lines:
-  compatible NAME       no message breaks
-  breaks NAME LENGTH    some message does; the shortest have that many bytes
-  witness HEX           one of these, behind breaks
-  step NUMBER OLDFIELD OLDPLACE NEWFIELD NEWPLACE
-                        each field on the way to what breaks in it
-  old, new              with --explain, behind the steps: each stands before the lines of `show`
-                        for HEX by the type of that side, or before a refusal of it
-  forward, backward     with --both, before the lines of either direction
-  refused SIDE CODE PLACE
-                        no answer, for a fault of the old or the new side; `man protogate` has each code
-  refused E901          no answer, since the old side has no message type of that name
-  refused E902          no answer, since only the old side has it
-With --cert it prints the lines of the certificate, or those of a refusal.
-With --view names a number that both sides' enums have is another value if it has other names.
-
-Statuses:
-  0  compatible: the new reader sees all that the old writer writes
-  1  breaks: it doesn't see all of some message; with --both, in one direction at least
-  2  refused: a fault in a file, or the message type is missing
-  3  out of memory, or a file or the output failed
-  4  help, the version, or a bad command line
-  5  never of gate: only verify ends so, where a certificate says a bound alone";
-
-/// What help says of the answers on all types: what is printed, and the statuses.
-const GATE_ALL_ANSWERS: &str = "Prints lines, in this order:
-  cause CASE LENGTH HEX NUMBER OLDFIELD OLDPLACE NEWFIELD NEWPLACE
-                        each way to break that needs no message inside, told once, wherever the types lead to it:
-                        HEX is a shortest message of the old field's type that breaks so, and has LENGTH bytes;
-                        of two fields that meet in a oneof, both fields and places behind the smaller NUMBER
-  old, new              with --explain, behind a cause: each stands before the lines of `show`
-                        for HEX by the type of that side, or before a refusal of it
-  compatible NAME       no message of this type breaks
-  breaks NAME LENGTH    some message does; the shortest have that many bytes
-  removed NAME          a message type that only the old side has
-  added NAME            a message type that only the new side has
-  refused SIDE CODE PLACE
-                        no answer, for a fault of the old or the new side; `man protogate` has each code
-
-CASE says what breaks:
-  unlike                another kind of element, or a map and no map
-  value                 a value is read as another, or not at all
-  name                  with --view names, a number has another name
-  list-to-one           a list where the new type has one item
-  map                   keys or values of another kind
-  map-key, map-value    a key or a value is read as another, or not at all
-  oneof                 two fields that a new oneof holds only one of
-
-Statuses:
-  0  each message type of both sides is compatible, and none is removed
-  1  breaks: there is a cause
-  2  removed: a message type that only the old side has; or refused: a fault in a file
-  3  out of memory, or a file or the output failed
-  4  help, the version, or a bad command line
-  5  never of gate-all";
-
-/// What help says of a message that is shown: what is printed, and the statuses.
-const SHOW_ANSWERS: &str = "Prints lines, those of a message inside two spaces further in:
-  NUMBER NAME ITEM      an item of a field
-  NUMBER NAME key ITEM value ITEM
-                        an entry of a map
-  unknown HEX           a record that no field takes
-  again HEX             at the end, what is written of the message
-  refused CODE PLACE    no message, for a fault of the file; `man protogate` has each code
-  refused CODE at BYTE  no message, for a fault of its bytes at that one
-An ITEM is int N, f32 HEX and f64 HEX with the bits, text HEX, bytes HEX, or msg, with the lines of that message behind it.
-For no bytes HEX is -.
-
-Statuses:
-  0  the message is shown
-  2  refused: a fault in a file, the message type is missing, or HEX is none or no message of it
-  3  out of memory, or a file or the output failed
-  4  help, the version, or a bad command line";
-
-/// What help says of a checked certificate: what is printed, and the statuses.
-const VERIFY_ANSWERS: &str = "Prints one line:
-  compatible NAME       the certificate holds: no message breaks
-  breaks NAME LENGTH    it holds: its witness breaks, and no shorter message does
-  bound NAME LENGTH     it holds: a message that breaks has at least that many bytes
-  refused REASON        it doesn't hold, or a side has a fault; `man protogate` has each code
-Enums are compared by the view that the certificate names; version 1 means numbers.
-
-Statuses:
-  0  compatible: the certificate holds, and no message breaks
-  1  breaks: it holds, and its witness is a shortest message that breaks
-  2  refused: a fault in a file, or the certificate doesn't hold
-  3  out of memory, or a file or the output failed
-  4  help, the version, or a bad command line
-  5  bound: it holds, and says only how long a message is at least that breaks";
-
-/// What help says of the names of types: what is printed, and the statuses.
-const TYPES_ANSWERS: &str = "Prints lines:
-  NAME                  each message type by its full name, in order of declaration, those of imports too
-  refused CODE PLACE    no names, for a fault at the place; `man protogate` has each code
-
-Statuses:
-  0  each type is named
-  2  refused: a fault in a file
-  3  out of memory, or a file or the output failed
-  4  help, the version, or a bad command line";
-
 /// What follows the program's name with `--version`.
 const VERSION: &str = "unreleased";
 
 /// The names of the views by which enums are compared.
 static VIEW_NAMES: [&str; 2] = ["numbers", "names"];
-
-/// What help says of a side's file.
-const OLD_FILE: &str = "The old proto3 file, or a descriptor set where F doesn't end in .proto";
-
-const NEW_FILE: &str = "The new proto3 file, or a descriptor set where F doesn't end in .proto";
-
-/// What help says of a side's files.
-const OLD_FILES: &str = "Each old proto3 file, or one descriptor set where F doesn't end in .proto";
-
-const NEW_FILES: &str = "Each new proto3 file, or one descriptor set where F doesn't end in .proto";
-
-/// What help says of the file by which a message is shown.
-const SHOWN_FILE: &str = "The proto3 file, or a descriptor set where F doesn't end in .proto";
 
 /// An option that may be left out, and then has that value.
 fn defaulted<'a>(

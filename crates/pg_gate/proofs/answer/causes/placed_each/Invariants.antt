@@ -3,13 +3,13 @@ use Rattle.std.specs.List.{AllByRecursion}
 use Rattle.std.specs.Vec.Iter.{into_iter_items, into_iter_len}
 use Rattle.pg_causes.specs.declared.overview.Cause.{Cause}
 use Rattle.pg_cert.specs.Text.{IsPairOf}
-use Rattle.pg_gate.specs.AllTypes.{IsPlaced, cause_of}
+use Rattle.pg_gate.specs.AllTypes.{IsPlaced, without_place}
 use Rattle.pg_gate.proofs.answer.causes.placed_each.Given as goal
 
 -- the causes so far have their fields, and those that are left are the others of all
 abbrev pub invariant-loop-cause : goal.invariant-loop-cause
 invariant-loop-cause l =
-    (map cause_of l.each.items ++ into_iter_items l.cause-iterator ≡ l.fn.causes.items)
+    (map without_place l.each.items ++ into_iter_items l.cause-iterator ≡ l.fn.causes.items)
     × (into_iter_len l.cause-iterator ≡ length (into_iter_items l.cause-iterator))
     × AllByRecursion (λ (c : Cause). IsPairOf l.old.schema.now l.new.schema.now c.at.pair) (into_iter_items l.cause-iterator)
     × AllByRecursion (IsPlaced l.old.schema.now l.new.schema.now l.explain) l.each.items
