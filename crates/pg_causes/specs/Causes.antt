@@ -22,12 +22,15 @@ use Rattle.pg_causes.specs.declared.overview.Cause.{Cause}
 abbrev pub shown_by : EnumView → Shape → Shape → Step → Message
 shown_by enum_view old new at = carried enum_view old new at.pair at.choice None
 
--- A field of a pair of types, or two that meet in a oneof, and the encoding of that message, which the new reader misreads.
+-- A field of a pair of types, or two that meet in a oneof, and the encoding of that message, which the new reader
+-- misreads.
 pub record IsCause (enum_view : EnumView) (old new : Parts) (cause : Cause) : Type 0 where
   pub reason : cause.reason ≡ reason_of (shape_of old) (shape_of new) cause.at.pair cause.at.choice
-  pub bytes : cause.message.items ≡ enc (shape_of old) cause.at.pair.old (shown_by enum_view (shape_of old) (shape_of new) cause.at)
+  pub bytes : cause.message.items
+      ≡ enc (shape_of old) cause.at.pair.old (shown_by enum_view (shape_of old) (shape_of new) cause.at)
   pub long : length cause.message.items ≡ cause.at.choice.cost
-  pub breaks : Breaks enum_view.alike (shape_of old) (shape_of new) cause.at.pair.old cause.at.pair.new (shown_by enum_view (shape_of old) (shape_of new) cause.at)
+  pub breaks : Breaks enum_view.alike (shape_of old) (shape_of new) cause.at.pair.old cause.at.pair.new
+      (shown_by enum_view (shape_of old) (shape_of new) cause.at)
 
 abbrev pub step_at : Pair → Choice → Step
 step_at pair choice = record { pair = pair; choice = choice }

@@ -14,8 +14,8 @@ use Rattle.pg_causes.specs.TypeLines.{IsTypeLine}
 use Rattle.pg_causes.specs.declared.overview.Overview.{Overview}
 use Rattle.pg_causes.specs.declared.overview.TypeLine.{TypeLine}
 
--- The roots are the message types that both schemas declare, in the old order of declaration. There are all causes that they lead to, a line
--- for each of these types, and the full names of the types that just one schema declares.
+-- The roots are the message types that both schemas declare, in the old order of declaration. There are all causes that
+-- they lead to, a line for each of these types, and the full names of the types that just one schema declares.
 pub record IsOverviewBy (enum_view : EnumView) (old new : Parts) (overview : Overview) : Type 0 where
   pub roots : List Pair
   pub roots_in_order : map (λ (p : Pair). name_at old.types.items p.old) roots ≡ map Some (shared old new)

@@ -35,8 +35,8 @@ entry_reason part =
     else if nat_eq part 2 then reasons.MapValue
     else reasons.Map
 
--- Unlike types; an item that is read as another; a list where the new type has one item; an entry of a map; two fields of one new oneof. A
--- message inside is no cause of its own.
+-- Unlike types; an item that is read as another; a list where the new type has one item; an entry of a map; two fields
+-- of one new oneof. A message inside is no cause of its own.
 abbrev pub reason_by : (enums : Bool) → Case → (part : ℕ) → Reason
 reason_by enums cases.Unlike part = reasons.Unlike
 reason_by enums cases.Gap part = item_reason enums

@@ -18,12 +18,14 @@ pub record IsSeen (enum_view : EnumView) (old new : Shape) (pair : Pair) : Type 
   pub each_is_seen : (message : Message) → OldWrites old pair message → NewSees enum_view.alike old new pair message
   pub compatible : Compatible enum_view.alike old new pair.old pair.new
 
--- a message of that many bytes is lost: the old writer encodes it, and the new reader doesn't see it whole; and none of fewer bytes is lost
+-- a message of that many bytes is lost: the old writer encodes it, and the new reader doesn't see it whole; and none of
+-- fewer bytes is lost
 pub record IsLostAt (enum_view : EnumView) (old new : Shape) (pair : Pair) (bytes : ℕ) : Type 0 where
   pub message : Message
   pub lost : IsLost enum_view.alike old new pair message
   pub long : length (enc old pair.old message) ≡ bytes
-  pub none_shorter : (other : Message) → IsLost enum_view.alike old new pair other → bytes ≤ length (enc old pair.old other)
+  pub none_shorter : (other : Message) → IsLost enum_view.alike old new pair other
+      → bytes ≤ length (enc old pair.old other)
   pub least : Least enum_view.alike old new pair.old pair.new bytes
 
 -- What `gate` says of two types, but for its certificate: no message breaks, or the bytes of a shortest one that does.
@@ -31,8 +33,8 @@ abbrev pub GateSays : EnumView → Shape → Shape → Pair → Option ℕ → T
 GateSays enum_view old new pair None = IsSeen enum_view old new pair
 GateSays enum_view old new pair (Some bytes) = IsLostAt enum_view old new pair bytes
 
--- The line names a message type of both schemas, and says of it what `gate` says. It is compatible just where neither this pair of types nor
--- one that it leads to has a cause.
+-- The line names a message type of both schemas, and says of it what `gate` says. It is compatible just where neither
+-- this pair of types nor one that it leads to has a cause.
 pub record IsTypeLine (enum_view : EnumView) (old new : Parts) (line : TypeLine) : Type 0 where
   pub pair : Pair
   pub roots : AreRoots old new (string_bytes line.name) pair

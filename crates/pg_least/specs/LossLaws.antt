@@ -25,4 +25,5 @@ CompatibleIsSeen =
 
 -- A message type that has a name is one of the schema.
 abbrev pub NamedTypesAreThere : Type 0
-NamedTypesAreThere = (parts : Parts) (name : List ℕ) (id : TypeId) → IsNamed parts name id → id.index < length (shape_of parts)
+NamedTypesAreThere =
+    (parts : Parts) (name : List ℕ) (id : TypeId) → IsNamed parts name id → id.index < length (shape_of parts)

@@ -8,6 +8,9 @@ use Rattle.pg_least.specs.Exact.{pairs_of}
 
 -- A table has a bound for each pair in its lines and for no other, and the bound of a line is that of its pair.
 pub record TablesByLines : Type 0 where
-  pub among : (bounds : List PairBound) (pair : Pair) (bound : Option ℕ) → bound_in bounds pair ≡ Some bound → IsAmong pair (pairs_of bounds)
-  pub there : (bounds : List PairBound) (pair : Pair) → IsAmong pair (pairs_of bounds) → is_some (bound_in bounds pair) ≡ true
-  pub by_line : (bounds : List PairBound) (index : ℕ) (line : PairBound) → are_bounds bounds ≡ true → slice_get bounds index ≡ Some line → bound_in bounds line.pair ≡ Some line.bound
+  pub among : (bounds : List PairBound) (pair : Pair) (bound : Option ℕ) → bound_in bounds pair ≡ Some bound
+      → IsAmong pair (pairs_of bounds)
+  pub there : (bounds : List PairBound) (pair : Pair) → IsAmong pair (pairs_of bounds)
+      → is_some (bound_in bounds pair) ≡ true
+  pub by_line : (bounds : List PairBound) (index : ℕ) (line : PairBound) → are_bounds bounds ≡ true
+      → slice_get bounds index ≡ Some line → bound_in bounds line.pair ≡ Some line.bound
