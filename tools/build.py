@@ -221,7 +221,7 @@ def main():
         return 2
     ending.on_signals()
     with alone(), tempfile.TemporaryDirectory(prefix="protogate-build-") as room:
-        begun, build = stamp.read_at(TOP), Build(room)
+        begun, build = stamp.read_now(TOP), Build(room)
         say(f"proving and building: {times.in_words(build.progress.left())} on {processors()} processors, where nothing is kept from earlier runs")
         keeps = "--keep" in sys.argv[1:]
         if not build.run(keeps):

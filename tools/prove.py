@@ -298,7 +298,7 @@ def prove_all(flags):
         return 1, {}
     before, passed, over = resource.getrusage(resource.RUSAGE_CHILDREN), [], []
     with tempfile.TemporaryDirectory(prefix="protogate-gate-") as room, ending.all_ended():
-        begun = stamp.read_at(".")
+        begun = stamp.read_now(".")
         copy_all(room)
         copied, plans = sums(room), take_edits(room)
         progress = progress_of(room, plans, (*TESTERS, *(it[0] for it in ALONE)))

@@ -1,30 +1,55 @@
-"""What stands beside the built program: when its sources were read, and the kit that proved it. The script `protogate` compares both.
+"""What stands beside the built program: when its sources were read and what they were, and the kit that proved it. The script `protogate` compares
+these.
 
 The file protogate.begun has as its time when the build or the gate read the sources, and as its only line what `rt version` printed.
-protogate.kit is another name of the kit's script, or a link to it where it can't have one.
+protogate.sum has a checksum of these sources, as that script makes it. protogate.kit is another name of the kit's script, or a link to it where it
+can't have one.
 """
 
+import collections
 import contextlib
+import hashlib
 import os
 import tempfile
 
 import kit
 
 PROGRAM = "protogate"
+# What of a crate the program is made of, and what is promised of it.
+PARTS = ("src", "specs")
+# When sources were read, in nanoseconds, and their checksum.
+Read = collections.namedtuple("Read", "at sum")
 
 
 def out_of(top):
     return f"{top}/crates/{PROGRAM}/out"
 
 
-def read_at(top):
-    """Returns the time now, by the clock of the file system that has the sources, in nanoseconds."""
-    os.makedirs(out_of(top), exist_ok=True)
-    number, path = tempfile.mkstemp(prefix=".new-", dir=out_of(top))
+def now_in(folder):
+    """Returns the time now, by the clock of the folder's file system, in nanoseconds."""
+    number, path = tempfile.mkstemp(prefix=".new-", dir=folder)
     os.close(number)
     found = os.stat(path).st_mtime_ns
     os.remove(path)
     return found
+
+
+def sum_of(top):
+    """Returns the checksum of the sources: of a line for each file, as sha256sum prints it, in the order of their bytes."""
+    crates = [it for it in os.listdir(f"{top}/crates") if it.startswith("pg_") or it == PROGRAM]
+    folders = [f"{top}/crates/{it}/{part}" for it in crates for part in PARTS]
+    files = [f"{at}/{name}" for folder in folders for at, _, names in os.walk(folder, followlinks=True) for name in names]
+    lines = []
+    for path in filter(os.path.isfile, (*files, f"{top}/crates.txt")):
+        with open(path, "rb") as file:
+            lines.append(f"{hashlib.sha256(file.read()).hexdigest()}  {os.path.relpath(path, top)}\n".encode())
+    return hashlib.sha256(b"".join(sorted(lines))).hexdigest()
+
+
+def read_now(top):
+    """Returns when the sources are read that are there now, and their checksum."""
+    os.makedirs(out_of(top), exist_ok=True)
+    return Read(now_in(out_of(top)), sum_of(top))
 
 
 @contextlib.contextmanager
@@ -42,13 +67,15 @@ def replaced(path):
 
 
 def write(top, begun):
-    """Notes that the program that is there was proved by this kit, of the sources as they were at this time."""
+    """Notes that the program that is there was proved by this kit, of the sources as they were read."""
     with replaced(f"{out_of(top)}/{PROGRAM}.kit") as path:
         try:
             os.link(kit.script(), path)
         except OSError:
             os.symlink(kit.script(), path)
+    with replaced(f"{out_of(top)}/{PROGRAM}.sum") as path, open(path, "w", encoding="utf-8") as file:
+        file.write(f"{begun.sum}  -\n")
     with replaced(f"{out_of(top)}/{PROGRAM}.begun") as path:
         with open(path, "w", encoding="utf-8") as file:
             file.write(f"{kit.version()}\n")
-        os.utime(path, ns=(begun, begun))
+        os.utime(path, ns=(begun.at, begun.at))

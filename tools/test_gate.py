@@ -297,7 +297,7 @@ class PutBack(Room):
         self.proved = f"{self.room}/proved"
         shutil.copytree(self.top, self.proved)
         write(f"{self.proved}/crates/protogate/out/protogate", "proved\n")
-        self.copied, self.read = prove.sums(self.proved), stamp.read_at(".")
+        self.copied, self.read = prove.sums(self.proved), stamp.read_now(".")
         kit.version.cache_clear()
         self.addCleanup(kit.version.cache_clear)
 
@@ -308,8 +308,8 @@ class PutBack(Room):
     def test_what_was_proved_of_these_sources(self):
         self.assertEqual(self.put_back(), (True, ""))
         self.assertEqual((text_of(f"{self.out}/protogate"), text_of(f"{self.out}/protogate.begun")), ("proved\n", f"{LINE}\n"))
-        self.assertEqual(os.stat(f"{self.out}/protogate.begun").st_mtime_ns, self.read)
-        self.assertEqual(sorted(os.listdir(self.out)), ["protogate", "protogate.begun", "protogate.kit"])
+        self.assertEqual(os.stat(f"{self.out}/protogate.begun").st_mtime_ns, self.read.at)
+        self.assertEqual(sorted(os.listdir(self.out)), ["protogate", "protogate.begun", "protogate.kit", "protogate.sum"])
 
     def test_nothing_where_a_source_was_changed_added_or_removed(self):
         path = f"{self.top}/crates/low/src/lib.rt"
@@ -321,10 +321,10 @@ class PutBack(Room):
 
     def test_two_runs_put_back_at_once(self):
         words = f"import os, prove, stamp; os.chdir({self.top!r}); copied = prove.sums('.'); "
-        words += f"[prove.put_back({self.proved!r}, copied, stamp.read_at('.')) or exit(1) for _ in range(20)]"
+        words += f"[prove.put_back({self.proved!r}, copied, stamp.read_now('.')) or exit(1) for _ in range(20)]"
         runs = [subprocess.Popen([sys.executable, "-Bc", words], cwd=f"{TOP}/tools") for _ in range(2)]
         self.assertEqual([it.wait(timeout=PATIENCE) for it in runs], [0, 0])
-        self.assertEqual(sorted(os.listdir(self.out)), ["protogate", "protogate.begun", "protogate.kit"])
+        self.assertEqual(sorted(os.listdir(self.out)), ["protogate", "protogate.begun", "protogate.kit", "protogate.sum"])
 
     def test_a_link_stands_for_the_kit_where_it_can_have_no_other_name(self):
         with mock.patch("os.link", side_effect=PermissionError):

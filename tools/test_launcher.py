@@ -12,11 +12,13 @@ import time
 import unittest
 
 sys.dont_write_bytecode = True
+import stamp  # noqa: E402
 from trial_checkout import Checkout, write  # noqa: E402
 
 
 class Built(Checkout):
-    """The built program is started, and nothing else, unless what it was built of has changed since."""
+    """The built program is started, and nothing else, unless what it was built of has changed since. To the system each source is as new as the test, as
+    in a checkout that was copied with its times, so the texts decide where no time does."""
 
     def setUp(self):
         super().setUp()
@@ -24,6 +26,7 @@ class Built(Checkout):
         write(f"{self.out}/protogate", "#!/bin/sh\necho built; exit 7\n", 0o755)
         os.symlink(f"{self.kit}/rt", f"{self.out}/protogate.kit")
         write(f"{self.out}/protogate.begun", "stand-in\n")
+        write(f"{self.out}/protogate.sum", f"{stamp.sum_of(self.top)}  -\n")
         self.age(self.top, self.kit)
         os.utime(f"{self.out}/protogate.begun", (time.time() - 50, time.time() - 50))
         self.env["PROTOGATE_PROVED_ONLY"] = "1"
@@ -99,6 +102,30 @@ class Built(Checkout):
         self.changes("mv pg_low/src/lib.rt ..; ln -s ../../../lib.rt pg_low/src/lib.rt; touch -h -d @1 pg_low/src/lib.rt pg_low/src; "
                      "touch -d @1 pg_low/src; touch ../lib.rt")
 
+    def test_a_file_that_another_was_copied_over(self):
+        """The times of both are older than the program."""
+        self.changes("echo other >../other; touch -d @1 ../other; cp -p ../other pg_low/src/lib.rt")
+
+    def test_a_new_file_in_a_folder_with_its_old_time(self):
+        self.changes("touch -r pg_low/src ../time; : >pg_low/src/more.rt; touch -d @1 pg_low/src/more.rt; touch -r ../time pg_low/src")
+
+    def test_a_file_that_was_touched(self):
+        """Its text may have been another while the program was built."""
+        self.changes("touch pg_low/src/lib.rt")
+
+    def test_no_checksum(self):
+        self.changes("rm protogate/out/protogate.sum")
+
+    def test_a_copied_checkout(self):
+        os.symlink("../../elsewhere", f"{self.top}/crates/pg_low/src/broken")
+        self.age(f"{self.top}/crates/pg_low")
+        shutil.move(self.top, f"{self.room}/moved")
+        shutil.copytree(f"{self.room}/moved", self.top, symlinks=True)
+        for folder in (".", f"{self.top}/crates", self.room):
+            self.is_built(at=folder)
+            done = subprocess.run([os.path.relpath(f"{self.top}/protogate", folder)], cwd=folder, env=self.env, stdout=subprocess.PIPE, check=False)
+            self.assertEqual((done.returncode, done.stdout), (7, b"built\n"))
+
     def test_no_program(self):
         self.changes("rm protogate/out/protogate")
 
@@ -137,6 +164,9 @@ class Built(Checkout):
         os.mkdir(f"{self.room}/bin")
         for it in ("sh", "find"):
             os.symlink(shutil.which(it), f"{self.room}/bin/{it}")
+        self.is_stale(PATH=f"{self.room}/bin")
+        # Where nothing was changed since, no text is read.
+        os.utime(f"{self.out}/protogate.begun")
         self.is_built(PATH=f"{self.room}/bin")
         os.utime(f"{self.top}/crates.txt")
         self.is_stale(PATH=f"{self.room}/bin")
