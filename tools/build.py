@@ -199,9 +199,10 @@ def shrink(names, most):
 
 @contextlib.contextmanager
 def alone():
-    """Waits until no other build of this checkout runs, since they share lanes. This script is what is locked: rt locks the folders of crates."""
-    path = os.path.realpath(__file__)
-    with open(path, "r+b" if os.access(path, os.W_OK) else "rb") as file:
+    """Waits until no other build of this checkout runs, since they share lanes. A file of the program's folder is what is locked: rt locks the folders of
+    crates, and what git has of a checkout, as this script, is another file once git has changed it."""
+    os.makedirs(stamp.out_of(TOP), exist_ok=True)
+    with open(f"{stamp.out_of(TOP)}/build.lock", "ab") as file:
         try:
             fcntl.flock(file, fcntl.LOCK_EX | fcntl.LOCK_NB)
         except BlockingIOError:
