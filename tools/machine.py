@@ -65,11 +65,21 @@ def free_in(folder, version):
     return limit - used + (number_in(f"{folder}/memory.stat", rf"^{cached} (\d+)") or 0)
 
 
+def free_amounts(root):
+    """Returns the free memory in bytes, that of the system first, and then what each limit of a container leaves."""
+    limits = [free_in(*it) for it in groups(root)]
+    return [1024 * (number_in(f"{root}/proc/meminfo", r"^MemAvailable:\s+(\d+)") or 0), *(it for it in limits if it is not None)]
+
+
 def free_memory(root=""):
     """Returns the free memory in bytes, within the limits of a container."""
-    whole = 1024 * (number_in(f"{root}/proc/meminfo", r"^MemAvailable:\s+(\d+)") or 0)
-    limits = [free_in(*it) for it in groups(root)]
-    return max(0, min([whole, *(it for it in limits if it is not None)]))
+    return max(0, min(free_amounts(root)))
+
+
+def is_confined(root=""):
+    """Returns whether a container leaves less memory than the system has free."""
+    whole, *limits = free_amounts(root)
+    return any(it < whole for it in limits)
 
 
 def lanes(running=0):

@@ -35,7 +35,7 @@ import stamp  # noqa: E402
 import times  # noqa: E402
 from costs import KINDS, Costs, print_costs  # noqa: E402
 from crates import crates_of  # noqa: E402
-from machine import lanes, missing, processors  # noqa: E402
+from machine import is_confined, lanes, missing, processors  # noqa: E402
 from try_edits import plan, try_all  # noqa: E402
 
 # What compares the documents, pictures and edits with what they are of: it takes seconds.
@@ -142,10 +142,12 @@ def progress_of(room, plans, testers):
 
 
 def environment():
-    """Returns what rt is told of its jobs: what the user set, else one check a processor where there is memory for each by what checks were measured to
-    take. Where there isn't, rt itself keeps checks apart by the memory that it expects, which is two to five times as much."""
-    is_set = "RT_JOBS" in os.environ or lanes() < processors()
-    return {**os.environ} if is_set else {**os.environ, "RT_JOBS": str(processors())}
+    """Returns what rt is told of its jobs: what the user set, else as many checks as there are processors, and memory for each by what checks were
+    measured to take. Where the system itself is short of memory, rt keeps checks apart by the memory that it expects, which is two to five times as
+    much. But of the limits of containers it reads fewer."""
+    if "RT_JOBS" in os.environ or lanes() < processors() and not is_confined():
+        return {**os.environ}
+    return {**os.environ, "RT_JOBS": str(lanes())}
 
 
 class Proofs:

@@ -16,6 +16,7 @@ sys.dont_write_bytecode = True
 import held_edits  # noqa: E402
 import kit  # noqa: E402
 import machine  # noqa: E402
+import prove  # noqa: E402
 import times  # noqa: E402
 from crates import crates_of  # noqa: E402
 from test_gate import TOP, Room, text_of, write  # noqa: E402
@@ -45,12 +46,14 @@ class Containers(unittest.TestCase):
         write(f"{self.root}/proc/self/cgroup", "0::/a\n")
         self.group("a", cpu__max="max 100000\n", memory__max="max\n", memory__current="5\n")
         self.assertEqual(self.found(), (8, 8_192_000_000))
+        self.assertFalse(machine.is_confined(self.root))
 
     def test_the_second_version(self):
         write(f"{self.root}/proc/self/cgroup", "0::/a/b\n")
         self.group("a", cpu__max="250000 100000\n")
         self.group("a/b", memory__max="2000000\n", memory__current="1500000\n", memory__stat="anon 5\ninactive_file 400000\n")
         self.assertEqual(self.found(), (2, 900_000))
+        self.assertTrue(machine.is_confined(self.root))
 
     def test_the_first_version(self):
         write(f"{self.root}/proc/self/cgroup", "4:cpu,cpuacct:/box\n3:memory:/box\n0::/\n")
@@ -69,6 +72,28 @@ class Containers(unittest.TestCase):
             for jobs, wanted in (("", 2), ("5", 5), ("none", 2)):
                 with mock.patch.dict(os.environ, RT_JOBS=jobs):
                     self.assertEqual(machine.lanes(), wanted)
+
+
+class Jobs(unittest.TestCase):
+    """What rt is told of its jobs."""
+
+    def told(self, lanes, is_confined, **asked):
+        env = {name: it for name, it in os.environ.items() if name != "RT_JOBS"}
+        found = {"lanes": lambda: lanes, "processors": lambda: 4, "is_confined": lambda: is_confined}
+        with mock.patch.dict(os.environ, {**env, **asked}, clear=True), mock.patch.multiple(prove, **found):
+            return prove.environment().get("RT_JOBS")
+
+    def test_as_many_checks_as_processors_where_memory_suffices(self):
+        self.assertEqual([self.told(4, it) for it in (False, True)], ["4", "4"])
+
+    def test_a_system_that_is_short_of_memory_is_left_to_rt(self):
+        self.assertIsNone(self.told(2, False))
+
+    def test_a_container_that_is_short_of_memory_is_told(self):
+        self.assertEqual(self.told(2, True), "2")
+
+    def test_what_the_user_asks_for(self):
+        self.assertEqual([self.told(2, it, RT_JOBS="3") for it in (False, True)], ["3", "3"])
 
 
 class Times(unittest.TestCase):
