@@ -10,6 +10,7 @@ mod texts;
 
 pub use files::{File, borrowed, files_of};
 pub use repeats::{number_of, unrolled};
+pub use retry::say;
 pub use spelled::{bytes_of, spelling};
 pub use texts::{text_of, with_word};
 

@@ -1,4 +1,10 @@
 //! Calls that are made again where memory is refused.
+use std::io;
+
+/// Prints a line of one word.
+pub fn say<P: Print>(to: &P, word: &str) -> io::Result<()> {
+    println!(to; "{word}")
+}
 
 /// Makes a call, and where it lacks memory, as the pattern says, makes it again over the same
 /// arguments.
@@ -9,15 +15,15 @@
 #[macro_export]
 macro_rules! retry {
     ($rt:expr, $lacking:pat, $call:expr) => {{
-        println!($rt; "ready")?;
+        $crate::say($rt, "ready")?;
         let found = match $call {
             $lacking => {
-                println!($rt; "Memory")?;
+                $crate::say($rt, "Memory")?;
                 $call
             }
             found => found,
         };
-        println!($rt; "done")?;
+        $crate::say($rt, "done")?;
         found
     }};
 }
