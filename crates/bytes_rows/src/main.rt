@@ -24,23 +24,26 @@ mod types;
 use rows::cut;
 use std::alloc::AllocError;
 use std::io;
+use types::Types;
+
+fn print_answer(rt: &HostRuntime, types: &mut Types, row: &str) -> io::Result<()> {
+    let (what, input) = cut(row);
+    if let Some(input) = input.strip_prefix("retry ") {
+        let answer = retries::answer(rt, types, input)?;
+        return println!(rt; "{what} | {answer}");
+    }
+    match row::answer(rt.alloc(), types, row) {
+        Ok(found) => println!(rt; "{what} | {found}"),
+        Err(AllocError) => println!(rt; "{what} | Memory"),
+    }
+}
 
 fn main(rt: HostRuntime) -> io::Result<()> {
-    let Some(mut types) = types::Types::empty(rt.alloc())? else {
+    let Some(mut types) = Types::empty(rt.alloc())? else {
         return Ok(());
     };
     for row in rt.lines(rt.alloc()) {
-        let row = row?;
-        let (what, input) = cut(row.as_str());
-        if let Some(input) = input.strip_prefix("retry ") {
-            let answer = retries::answer(&rt, &types, input)?;
-            println!(rt; "{what} | {answer}")?;
-            continue;
-        }
-        match row::answer(rt.alloc(), &mut types, row.as_str()) {
-            Ok(found) => println!(rt; "{what} | {found}")?,
-            Err(AllocError) => println!(rt; "{what} | Memory")?,
-        }
+        print_answer(&rt, &mut types, &row?)?;
     }
     Ok(())
 }
