@@ -11,19 +11,21 @@ use rows::cut;
 use std::alloc::AllocError;
 use std::io;
 
+fn print_answer(rt: &HostRuntime, line: &str) -> io::Result<()> {
+    let (what, input) = cut(line);
+    if let Some(input) = input.strip_prefix("retry ") {
+        let answer = retries::answer(rt, input)?;
+        return println!(rt; "{what} | {answer}");
+    }
+    match row::answer(rt.alloc(), line) {
+        Ok(text) => println!(rt; "{what} | {text}"),
+        Err(AllocError) => println!(rt; "{what} | Memory"),
+    }
+}
+
 fn main(rt: HostRuntime) -> io::Result<()> {
     for line in rt.lines(rt.alloc()) {
-        let line = line?;
-        let (what, input) = cut(line.as_str());
-        if let Some(input) = input.strip_prefix("retry ") {
-            let answer = retries::answer(&rt, input)?;
-            println!(rt; "{what} | {answer}")?;
-            continue;
-        }
-        match row::answer(rt.alloc(), line.as_str()) {
-            Ok(text) => println!(rt; "{what} | {text}")?,
-            Err(AllocError) => println!(rt; "{what} | Memory")?,
-        }
+        print_answer(&rt, &line?)?;
     }
     Ok(())
 }
