@@ -39,19 +39,21 @@ use rows::cut;
 use std::alloc::AllocError;
 use std::io;
 
+fn print_answer(rt: &HostRuntime, row: &str) -> io::Result<()> {
+    let (what, input) = cut(row);
+    if let Some(input) = input.strip_prefix("retry ") {
+        let answer = retries::answer(rt, input)?;
+        return println!(rt; "{what} | {answer}");
+    }
+    match answer::answer(rt.alloc(), &mut Folder::new(rt), row) {
+        Ok(answer) => println!(rt; "{what} | {answer}"),
+        Err(AllocError) => println!(rt; "{what} | Memory"),
+    }
+}
+
 fn main(rt: HostRuntime) -> io::Result<()> {
     for row in rt.lines(rt.alloc()) {
-        let row = row?;
-        let (what, input) = cut(row.as_str());
-        if let Some(input) = input.strip_prefix("retry ") {
-            let answer = retries::answer(&rt, input)?;
-            println!(rt; "{what} | {answer}")?;
-            continue;
-        }
-        match answer::answer(rt.alloc(), &mut Folder::new(&rt), row.as_str()) {
-            Ok(answer) => println!(rt; "{what} | {answer}")?,
-            Err(AllocError) => println!(rt; "{what} | Memory")?,
-        }
+        print_answer(&rt, &row?)?;
     }
     Ok(())
 }
