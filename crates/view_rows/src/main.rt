@@ -20,19 +20,21 @@ use rows::cut;
 use std::alloc::AllocError;
 use std::io;
 
+fn print_answer(rt: &HostRuntime, line: &str) -> io::Result<()> {
+    let (shows, input) = cut(line);
+    if let Some(input) = input.strip_prefix("retry ") {
+        let answer = retries::answer(rt, input)?;
+        return println!(rt; "{shows} | {answer}");
+    }
+    match row::answer(rt.alloc(), line) {
+        Ok(text) => println!(rt; "{shows} | {text}"),
+        Err(AllocError) => println!(rt; "{shows} | Memory"),
+    }
+}
+
 fn main(rt: HostRuntime) -> io::Result<()> {
     for line in rt.lines(rt.alloc()) {
-        let line = line?;
-        let (shows, input) = cut(line.as_str());
-        if let Some(input) = input.strip_prefix("retry ") {
-            let answer = retries::answer(&rt, input)?;
-            println!(rt; "{shows} | {answer}")?;
-            continue;
-        }
-        match row::answer(rt.alloc(), line.as_str()) {
-            Ok(text) => println!(rt; "{shows} | {text}")?,
-            Err(AllocError) => println!(rt; "{shows} | Memory")?,
-        }
+        print_answer(&rt, &line?)?;
     }
     Ok(())
 }
