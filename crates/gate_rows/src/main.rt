@@ -11,14 +11,17 @@ use rows::cut;
 use std::alloc::AllocError;
 use std::io;
 
+fn print_answer(rt: &HostRuntime, line: &str) -> io::Result<()> {
+    let (what, _) = cut(line);
+    match row::answer(rt.alloc(), line) {
+        Ok(text) => println!(rt; "{what} | {text}"),
+        Err(AllocError) => println!(rt; "{what} | Memory"),
+    }
+}
+
 fn main(rt: HostRuntime) -> io::Result<()> {
     for line in rt.lines(rt.alloc()) {
-        let line = line?;
-        let (what, _) = cut(line.as_str());
-        match row::answer(rt.alloc(), line.as_str()) {
-            Ok(text) => println!(rt; "{what} | {text}")?,
-            Err(AllocError) => println!(rt; "{what} | Memory")?,
-        }
+        print_answer(&rt, &line?)?;
     }
     Ok(())
 }
