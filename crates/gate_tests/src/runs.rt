@@ -1,5 +1,6 @@
 //! Runs of the program over files in memory, one of each subcommand at least, and what they print.
-//! `run` is called at one place: each call of it takes the prover long, for its contract.
+//! `run` is called at one place, and how it ended is a value that nothing has to drop: else each
+//! test takes the prover long, for the contract and for what may have to be dropped at its ends.
 use pg_gate::{Buffer, GateError, Sink, Sources, run};
 use pg_link::Listed;
 use std::alloc::{AllocError, Global};
@@ -219,6 +220,15 @@ pub(crate) static CALLS: [(&[&str], &str, u8); 18] = [
     ),
 ];
 
+/// How a run ended.
+#[derive(Clone, Copy)]
+pub(crate) enum Ended {
+    With(u8),
+    Memory,
+    WriteFailed,
+    Another,
+}
+
 /// A sink that needs no more memory for an answer.
 pub(crate) fn buffer(alloc: Global) -> Result<Buffer, AllocError> {
     Ok(Buffer::from_vec(Vec::with_capacity(alloc, 4096)?))
@@ -231,17 +241,30 @@ pub(crate) fn run_over<S: Sources, T: Sources, W: Sink>(
     old: &mut S,
     new: &mut T,
     sink: &mut W,
-) -> Result<u8, GateError> {
-    run(alloc, words, old, new, sink)
+) -> Ended {
+    match run(alloc, words, old, new, sink) {
+        Ok(status) => Ended::With(status),
+        Err(GateError::Memory) => Ended::Memory,
+        Err(GateError::WriteFailed) => Ended::WriteFailed,
+        Err(_) => Ended::Another,
+    }
 }
 
 /// Runs the program with these words, over the files on both sides.
-pub(crate) fn run_files<W: Sink>(
-    alloc: Global,
-    words: &[&str],
-    sink: &mut W,
-) -> Result<u8, GateError> {
+pub(crate) fn run_files<W: Sink>(alloc: Global, words: &[&str], sink: &mut W) -> Ended {
     let mut old = Listed { files: &FILES };
     let mut new = old;
     run_over(alloc, words, &mut old, &mut new, sink)
+}
+
+/// What is wrong with a run that has to print this and to end with this status, or nothing.
+pub(crate) fn fault(ended: Ended, taken: &[u8], status: u8, printed: &str) -> &'static str {
+    match ended {
+        Ended::With(found) if found != status => "status",
+        Ended::With(_) if taken != printed.as_bytes() => "text",
+        Ended::With(_) => "",
+        Ended::Memory => "memory",
+        Ended::WriteFailed => "write",
+        Ended::Another => "error",
+    }
 }

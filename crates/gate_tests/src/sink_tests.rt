@@ -1,88 +1,84 @@
 //! Sinks that take little, or fail, and memory that is refused: of each subcommand, of refusals and
 //! of usage.
-use crate::runs::{CALLS, FILES, buffer, run_files, run_over};
+use crate::runs::{CALLS, Ended, FILES, buffer, fault, run_files, run_over};
 use crate::{FailingSink, OneByte};
-use pg_gate::GateError;
 use pg_link::Listed;
+use rows::say;
+use std::alloc::{AllocError, Global};
+use std::io;
 use std::process::Abort;
 use std::test::Fail;
 
-/// A sink that takes one byte a call is given the whole text.
-fn fills<R: Abort + AllocGlobal>(
-    rt: &R,
+/// What is wrong where a sink takes one byte a call, or nothing: it is given the whole text.
+fn fault_of_slow(
+    alloc: Global,
     words: &[&str],
     printed: &str,
     status: u8,
-) -> Result<(), Fail> {
+) -> Result<&'static str, AllocError> {
     let mut sink = OneByte {
-        sink: buffer(rt.alloc())?,
+        sink: buffer(alloc)?,
     };
-    let ended = run_files(rt.alloc(), words, &mut sink)?;
-    assert_eq!(rt; ended, status, "status of {printed}");
-    assert!(rt;
-        sink.sink.bytes.as_slice() == printed.as_bytes(),
-        "text {printed}"
-    );
-    Ok(())
+    let ended = run_files(alloc, words, &mut sink);
+    Ok(fault(ended, &sink.sink.bytes, status, printed))
 }
 
 #[test]
 fn fills_a_slow_sink(rt: HostRuntime) -> Result<(), Fail> {
     for (words, printed, status) in CALLS {
-        fills(&rt, words, printed, status)?;
+        let fault = fault_of_slow(rt.alloc(), words, printed, status)?;
+        assert_eq!(rt; fault, "", "{printed}");
     }
     Ok(())
 }
 
-/// The run fails where its sink fails at that write of one byte, and the sink has the bytes before.
-fn stops_at<R: Abort + AllocGlobal>(rt: &R, words: &[&str], taken: &[u8]) -> Result<(), Fail> {
+/// Whether the run fails where its sink fails at that write of one byte, and the sink has the bytes
+/// before.
+fn stops_at(alloc: Global, words: &[&str], taken: &[u8]) -> Result<bool, AllocError> {
     let slow = OneByte {
-        sink: buffer(rt.alloc())?,
+        sink: buffer(alloc)?,
     };
     let mut sink = FailingSink::new(slow, taken.len() as u64 + 1);
-    let ended = run_files(rt.alloc(), words, &mut sink);
-    assert!(rt; ended == Err(GateError::WriteFailed));
-    assert!(rt; sink.sink.sink.bytes.as_slice() == taken);
-    Ok(())
+    let ended = run_files(alloc, words, &mut sink);
+    Ok(matches!(ended, Ended::WriteFailed) && sink.sink.sink.bytes.as_slice() == taken)
 }
 
-/// The same at each write of what the call prints.
-fn stops_anywhere<R: Abort + AllocGlobal>(
-    rt: &R,
-    words: &[&str],
-    printed: &[u8],
-) -> Result<(), Fail> {
+/// Whether it does so at each write of what the call prints.
+fn stops_anywhere(alloc: Global, words: &[&str], printed: &[u8]) -> Result<bool, AllocError> {
     for taken in 0..printed.len() {
-        stops_at(rt, words, &printed[..taken])?;
+        if !stops_at(alloc, words, &printed[..taken])? {
+            return Ok(false);
+        }
     }
-    Ok(())
+    Ok(true)
 }
 
 /// A sink that fails at its write of any number has taken the bytes before.
 #[test]
 fn stops_where_a_sink_fails(rt: HostRuntime) -> Result<(), Fail> {
     for (words, printed, _status) in CALLS {
-        stops_anywhere(&rt, words, printed.as_bytes())?;
+        let stops = stops_anywhere(rt.alloc(), words, printed.as_bytes())?;
+        assert!(rt; stops, "{printed}");
     }
     Ok(())
 }
 
 /// Whether the run prints this. One that lacks memory has to leave its sink alone, and is made
 /// again over the same sources and the same sink.
-fn runs_again(rt: &HostRuntime, words: &[&str], printed: &str, status: u8) -> Result<bool, Fail> {
+fn runs_again(rt: &HostRuntime, words: &[&str], printed: &str, status: u8) -> io::Result<bool> {
     let mut old = Listed { files: &FILES };
-    let mut new = Listed { files: &FILES };
+    let mut new = old;
     let mut sink = buffer(rt.alloc())?;
-    println!(rt; "ready")?;
-    let mut ended = run_over(rt.alloc(), words, &mut old, &mut new, &mut sink);
     let mut is_left_alone = true;
-    if ended == Err(GateError::Memory) {
-        println!(rt; "Memory")?;
+    say(rt, "ready")?;
+    let mut ended = run_over(rt.alloc(), words, &mut old, &mut new, &mut sink);
+    if matches!(ended, Ended::Memory) {
+        say(rt, "Memory")?;
         is_left_alone = sink.bytes.is_empty();
         ended = run_over(rt.alloc(), words, &mut old, &mut new, &mut sink);
     }
-    println!(rt; "done")?;
-    Ok(is_left_alone && ended == Ok(status) && sink.bytes.as_slice() == printed.as_bytes())
+    say(rt, "done")?;
+    Ok(is_left_alone && fault(ended, &sink.bytes, status, printed).is_empty())
 }
 
 #[test]
@@ -127,6 +123,18 @@ fn gates_all_types_again(rt: HostRuntime) -> Result<(), Fail> {
     Ok(())
 }
 
+/// Whether the sink has the whole help, or nothing where memory is reported.
+fn is_help(ended: Ended, taken: &[u8]) -> bool {
+    match ended {
+        Ended::With(4) => {
+            taken.starts_with(b"Compare proto3 message types ")
+                && taken.ends_with(b" how long a message is at least that breaks\n")
+        }
+        Ended::Memory => taken.is_empty(),
+        _ => false,
+    }
+}
+
 /// Help is said whole, or memory is reported and the sink left alone, where any one request may be
 /// refused.
 #[test]
@@ -135,16 +143,5 @@ fn keeps_to_memory_in_help(rt: HostRuntime) {
         return;
     };
     let ended = run_files(rt.alloc(), &["--help"], &mut sink);
-    let (wanted, begin, end) = match ended {
-        Ok(_) => (
-            Ok(4),
-            "Compare proto3 message types ",
-            " how long a message is at least that breaks\n",
-        ),
-        Err(_) => (Err(GateError::Memory), "", ""),
-    };
-    assert!(rt; ended == wanted);
-    assert!(rt; sink.bytes.is_empty() == begin.is_empty());
-    assert!(rt; sink.bytes.starts_with(begin.as_bytes()));
-    assert!(rt; sink.bytes.ends_with(end.as_bytes()));
+    assert!(rt; is_help(ended, &sink.bytes));
 }

@@ -1,7 +1,8 @@
 //! Sources that fail, at each read of each subcommand.
-use crate::runs::{FILES, buffer, run_over};
+use crate::runs::{FILES, buffer, fault, run_over};
 use failing_source::FailingSource;
 use pg_link::Listed;
+use std::alloc::{AllocError, Global};
 use std::process::Abort;
 use std::test::Fail;
 
@@ -107,29 +108,25 @@ static FAILING: [(&[&str], u32, u32, &str); 16] = [
     ),
 ];
 
-/// Expects this to be printed where those reads fail.
-fn tells<R: Abort + AllocGlobal>(
-    rt: &R,
+/// What is wrong where those reads fail and this has to be printed, or nothing.
+fn fault_of(
+    alloc: Global,
     words: &[&str],
     fails_at: (u32, u32),
     printed: &str,
-) -> Result<(), Fail> {
+) -> Result<&'static str, AllocError> {
     let mut old = FailingSource::new(Listed { files: &FILES }, fails_at.0);
     let mut new = FailingSource::new(Listed { files: &FILES }, fails_at.1);
-    let mut sink = buffer(rt.alloc())?;
-    let ended = run_over(rt.alloc(), words, &mut old, &mut new, &mut sink)?;
-    assert_eq!(rt; ended, 3, "status of {printed}");
-    assert!(rt;
-        sink.bytes.as_slice() == printed.as_bytes(),
-        "text {printed}"
-    );
-    Ok(())
+    let mut sink = buffer(alloc)?;
+    let ended = run_over(alloc, words, &mut old, &mut new, &mut sink);
+    Ok(fault(ended, &sink.bytes, 3, printed))
 }
 
 #[test]
 fn tells_a_source_that_fails(rt: HostRuntime) -> Result<(), Fail> {
     for (words, old, new, printed) in FAILING {
-        tells(&rt, words, (old, new), printed)?;
+        let fault = fault_of(rt.alloc(), words, (old, new), printed)?;
+        assert_eq!(rt; fault, "", "{printed}");
     }
     Ok(())
 }
