@@ -3,8 +3,9 @@
 
 usage: tools/try_other_kit.py    a minute or two of one processor
 
-The gate runs over two small crates with edits, each of which has to pass. The build is of a repository of two small crates, whose program
-has to be there afterwards, with its stamp: of the time before the first check, and with the line and the script of this kit.
+Both are of a repository of three small crates. The gate runs over a library and its promises, with edits that each
+have to be refused. The program that is built has to be there afterwards, with its stamp: of the time before the first check, and with the
+line and the script of this kit.
 """
 
 import os
@@ -15,11 +16,10 @@ import tempfile
 
 sys.dont_write_bytecode = True
 import ending  # noqa: E402
-from crates import crates_of, files_of_edits  # noqa: E402
 
 TOP = os.path.dirname(os.path.dirname(os.path.realpath(__file__)))
-# The crates that the gate is tried on, with those below.
-TRIED = "wire_promises"
+# The crates that the gate is tried on: these, with as many edits.
+TRIED, EDITS = ("low", "low_promises"), 3
 LOW = """//! Half a number.
 #![tactic(auto)]
 
@@ -32,6 +32,27 @@ pub fn half(number: u8) -> u8
     number / 2
 }
 """
+PROMISES = """//! The promise of `low`.
+#![tactic(auto)]
+
+ghost use Rattle.std.specs.Prelude.{◌≡◌, ◌/◌};
+
+/// Half the number.
+pub fn half(number: u8) -> u8
+    ensures { result ≡ number / 2 }
+{
+    low::half(number)
+}
+"""
+FILES = {
+    "crates.txt": "low:\nlow_promises: low\nprotogate: low\n",
+    "HANDLES": "Handles allowed: none.\n",
+    "crates/low/src/lib.rt": LOW,
+    "crates/low/must-fail/a_third.edit": "file: src/lib.rt\nold:     number / 2\nnew:     number / 3\n",
+    "crates/low_promises/src/lib.rt": PROMISES,
+    "crates/low_promises/must-fail/a_quarter.edit": "file: src/lib.rt\nold: low::half(number)\nnew: low::half(number / 2)\n",
+    "crates/low_promises/must-fail/no_half.edit": "file: src/lib.rt\nold: low::half(number)\nnew: number\n",
+}
 MAIN = """//! A program whose status is half of eight.
 #![tactic(auto)]
 
@@ -57,22 +78,19 @@ def run(words, env):
     return ending.wait(started)[0], said
 
 
-def gate_passes(env):
-    """Returns what is wrong with the gate of the small crates, or nothing."""
-    crates = crates_of(TOP)
-    tried = [*crates[TRIED].below(), crates[TRIED]]
-    wanted = f"{len(tried) + sum(len(files_of_edits(it.folder)[0]) for it in tried)} passed, 0 failed"
-    status, said = run([f"{TOP}/tools/prove.py", TRIED], env)
-    last = said.rstrip("\n").rpartition("\n")[2]
-    return "" if (status, last) == (0, wanted) else f"the gate ended with status {status}, and not with '{wanted}':\n{said[-3000:]}"
-
-
 def make_repository(top):
-    write(f"{top}/crates/low/src/lib.rt", LOW)
-    write(f"{top}/crates/protogate/src/main.rt", MAIN)
-    write(f"{top}/crates.txt", "low:\nprotogate: low\n")
+    for path, text in {**FILES, "crates/protogate/src/main.rt": MAIN}.items():
+        write(f"{top}/{path}", text)
     shutil.copytree(f"{TOP}/tools", f"{top}/tools", symlinks=True)
     subprocess.run(["git", "init", "-q", top], check=True)
+
+
+def faults_of_gate(top, env):
+    """Returns what is wrong with the gate of the small crates, one line each."""
+    wanted = f"{len(TRIED) + EDITS} passed, 0 failed"
+    status, said = run([f"{top}/tools/prove.py", *TRIED], env)
+    last = said.rstrip("\n").rpartition("\n")[2]
+    return [] if (status, last) == (0, wanted) else [f"the gate ended with status {status}, and not with '{wanted}':\n{said[-3000:]}"]
 
 
 def faults_of_build(top, env):
@@ -101,10 +119,9 @@ def main():
     with tempfile.TemporaryDirectory(prefix="protogate-kit-") as top:
         # (what is kept of edits is kept here, so that each run tries them)
         env = {**os.environ, "PATH": f"{TOP}/tools/other_kit:{os.environ['PATH']}", "XDG_CACHE_HOME": f"{top}/cache"}
-        faults = [it for it in [gate_passes(env)] if it]
         make_repository(f"{top}/repository")
-        faults += faults_of_build(f"{top}/repository", env)
-    print("\n".join([*faults, f"another kit: the gate of {TRIED} and a build, {len(faults)} faults"]))
+        faults = [*faults_of_gate(f"{top}/repository", env), *faults_of_build(f"{top}/repository", env)]
+    print("\n".join([*faults, f"another kit: the gate of {len(TRIED)} crates and a build, {len(faults)} faults"]))
     return 1 if faults else 0
 
 
