@@ -59,8 +59,8 @@ fn said_of_fault(side: Side, fault: &Fault) -> Said {
     }
 }
 
-fn said_of(answer: Result<Answer, GateError>) -> Said {
-    match &answer {
+fn said_of(answer: &Result<Answer, GateError>) -> Said {
+    match answer {
         Ok(answer) => said_of_answer(answer),
         Err(GateError::Compile(side, fault)) => said_of_fault(*side, fault),
         Err(GateError::RootMissingOld) => Said::RootMissingOld,
@@ -69,10 +69,15 @@ fn said_of(answer: Result<Answer, GateError>) -> Said {
     }
 }
 
+/// What an answer is, which is dropped here alone: that takes the prover long at each way out.
+fn told(answer: Result<Answer, GateError>) -> Said {
+    said_of(&answer)
+}
+
 /// The answer on the schemas that these lines say.
 fn answer_of(alloc: Global, old: &str, new: &str, root: &str) -> Result<Said, AllocError> {
     match schemas(alloc, old, new)? {
-        Some((old, new)) => Ok(said_of(gate(alloc, &old, &new, root))),
+        Some((old, new)) => Ok(told(gate(alloc, &old, &new, root))),
         None => Ok(Said::Another),
     }
 }
@@ -105,7 +110,7 @@ fn over_sources<S: Sources, T: Sources>(
     new: &mut T,
     root: &str,
 ) -> Said {
-    said_of(gate_files(alloc, old, new, &["m.proto"], &["m.proto"], root))
+    told(gate_files(alloc, old, new, &["m.proto"], &["m.proto"], root))
 }
 
 /// The answer over files that hold the message `M` of these fields. Where memory runs out the call

@@ -234,6 +234,15 @@ pub(crate) fn buffer(alloc: Global) -> Result<Buffer, AllocError> {
     Ok(Buffer::from_vec(Vec::with_capacity(alloc, 4096)?))
 }
 
+fn ended_of(ended: &Result<u8, GateError>) -> Ended {
+    match ended {
+        Ok(status) => Ended::With(*status),
+        Err(GateError::Memory) => Ended::Memory,
+        Err(GateError::WriteFailed) => Ended::WriteFailed,
+        Err(_) => Ended::Another,
+    }
+}
+
 /// Runs the program with these words, over these sources.
 pub(crate) fn run_over<S: Sources, T: Sources, W: Sink>(
     alloc: Global,
@@ -242,12 +251,7 @@ pub(crate) fn run_over<S: Sources, T: Sources, W: Sink>(
     new: &mut T,
     sink: &mut W,
 ) -> Ended {
-    match run(alloc, words, old, new, sink) {
-        Ok(status) => Ended::With(status),
-        Err(GateError::Memory) => Ended::Memory,
-        Err(GateError::WriteFailed) => Ended::WriteFailed,
-        Err(_) => Ended::Another,
-    }
+    ended_of(&run(alloc, words, old, new, sink))
 }
 
 /// Runs the program with these words, over the files on both sides.
