@@ -1,6 +1,6 @@
 #!/usr/bin/env python3
-"""Writes one page of what examples/ci/gate.sh found: each type with its answer, the witness as each side reads it, the fields on the
-way to what breaks, what was refused and how to mend it, and warnings.
+"""Writes one page of what examples/ci/gate.sh found: each cause, with a message that shows it as each side reads it, the fields, and how to
+mend it; the types that break; what was refused and how to mend it; and warnings.
 
 usage: gate.sh --record run.json REVISION FOLDER; tools/report.py run.json > report.html
 
@@ -25,19 +25,17 @@ HERE = os.path.dirname(os.path.realpath(__file__))
 # What it shares with gate.py is beside it where it is installed, where nothing is to be written.
 sys.dont_write_bytecode = True
 sys.path += [HERE, f"{HERE}/../examples/ci"]
+from causes import mend, why  # noqa: E402
 from refusals import code_in, meaning_of, rule_of  # noqa: E402
 from wording import last_fields  # noqa: E402
 
 NAME = os.environ.get("PROTOGATE_REPORT_NAME") or "report.py"
 # The version of the records that it reads.
-VERSION = 1
+VERSION = 2
 # As many bytes of a witness, and lines of a reading, are printed.
 SHOWN = 2000
 SAYS = {"breaks": "breaks", "refused": "refused", "removed": "removed", "added": "new", "compatible": "compatible"}
 HEADS = {"forward": "breaks old messages", "backward": "writes messages that old programs misread"}
-MEND = "Give the changed field a new number, and keep the old one beside it until no old message is left, or reserve it."
-MEND_NAMES = ("Give what is meant now a number of its own, and leave the old number its name, or reserve both. Where the two names mean the "
-              "same, compare by numbers alone.")
 MEND_READING = "Leave the field's type as it was, or give the new one a number of its own."
 BACKWARD = "This matters where an old program reads what a new one writes: where messages go back, or both run side by side."
 # What `show` alone refuses: it prints no message that is nested deeper than it goes, or that would be too long.
@@ -183,19 +181,64 @@ def readings(answer):
     return tag("div", "".join(boxes), "sides")
 
 
-# Answers.
+# Fields.
 
 
-def step_of(step, record, link):
-    """A field on the way, as either side declares it."""
-    name = f"field {text(step['number'])}, {code(step['old'])}"
-    if step["new"] != step["old"]:
-        name += tag("div", f"now {code(step['new'])}")
+def field_of(field, record, link):
+    """A field, as either side declares it."""
+    name = code(field["old"])
+    if "number" in field:
+        name = f"field {text(field['number'])}, {name}"
+    if field["new"] != field["old"]:
+        name += tag("div", f"now {code(field['new'])}")
     sides = []
     for side in ("old", "new"):
-        declared = tag("pre", text(step[f"{side}_text"])) if step[f"{side}_text"] else ""
-        sides.append(tag("div", tag("h4", f"{side}: {place_of(step[side + '_place'], record, link[side])}") + declared, "side"))
+        declared = tag("pre", text(field[f"{side}_text"])) if field[f"{side}_text"] else ""
+        sides.append(tag("div", tag("h4", f"{side}: {place_of(field[side + '_place'], record, link[side])}") + declared, "side"))
     return tag("li", f"{name}{tag('div', ''.join(sides), 'sides')}")
+
+
+def listed(fields, record, link):
+    return tag("ol", "".join(field_of(it, record, link) for it in fields))
+
+
+def message_of(found):
+    """The bytes of a witness, as far as they are printed."""
+    witness = found["witness"] or "-"
+    return tag("pre", text(witness if len(witness) <= 2 * SHOWN else f"{witness[:2 * SHOWN]}.."))
+
+
+# Causes.
+
+
+def sides_of(found):
+    """The side that writes, and the one that reads."""
+    return ("old", "new") if found["direction"] == "forward" else ("new", "old")
+
+
+def cause_of(cause, record, link):
+    """A cause: why it breaks, a message that shows it, both readings, the fields, what to do, and the types that break by it."""
+    writer, _ = sides_of(cause)
+    fields = [{**cause["fields"][0], "number": cause["number"]}, *cause["fields"][1:]]
+    names = " and ".join(code(it["old"]) for it in fields)
+    way = tag("span", cause["direction"], "dim") if record["both"] else ""
+    owner = code(fields[0][writer].rpartition(".")[0])
+    types = tag("p", f"What breaks by it: {', '.join(map(code, cause['types']))}", "dim") if cause["types"] else ""
+    backward = f" {BACKWARD}" if writer == "new" else ""
+    parts = [
+        tag("div", f"{tag('span', text(cause['case']), 'verdict breaks')} {tag('h3', names)} {way}", "head"),
+        tag("p", text(why(cause))),
+        tag("p", f"The {writer} side can write this message of {owner}, of {cause['length']} bytes:"),
+        message_of(cause),
+        readings(cause),
+        listed(fields, record, link),
+        tag("p", f"{tag('b', 'What to do:')} {text(mend(cause))}{backward}"),
+        types,
+    ]
+    return tag("article", "".join(parts))
+
+
+# Answers.
 
 
 def way_of(answer, record):
@@ -212,30 +255,34 @@ def head_of(answer, record):
 def way_to(answer, record, link):
     """The fields on the way to what breaks; of two that meet in a oneof it is said that they do."""
     fields = last_fields(answer)
-    reader = "new" if answer["direction"] == "forward" else "old"
+    reader = sides_of(answer)[1]
     meet = f"{code(fields[0][reader])} and {code(fields[-1][reader])} are in one oneof on the {reader} side, which keeps the last of them alone."
-    return [tag("p", "The way to what breaks in it:"), tag("ol", "".join(step_of(it, record, link) for it in answer["steps"])),
-            tag("p", meet) if len(fields) == 2 else ""]
+    return [tag("p", "The way to what breaks in it:"), listed(answer["steps"], record, link), tag("p", meet) if len(fields) == 2 else ""]
 
 
 def breaking(answer, record, link):
-    writer, reader = ("old", "new") if answer["direction"] == "forward" else ("new", "old")
-    witness = answer["witness"] or "-"
-    shown = witness if len(witness) <= 2 * SHOWN else f"{witness[:2 * SHOWN]}.."
+    """A type that was named, and breaks, with its own shortest message."""
+    writer, reader = sides_of(answer)
     breaks = f"The {writer} side can write this message of {answer['length']} bytes"
     if answer["is_by_names"]:
         breaks += ". Both sides read the same numbers in it, but their enums give one of them other names."
     else:
         breaks += f", and the {reader} side doesn't read it whole."
-    parts = [
-        head_of(answer, record),
-        tag("p", f"{breaks} None that breaks is shorter."),
-        tag("pre", text(shown)),
-        readings(answer),
-        *way_to(answer, record, link),
-        tag("p", BACKWARD if writer == "new" else MEND_NAMES if answer["is_by_names"] else MEND),
-    ]
+    parts = [head_of(answer, record), tag("p", f"{breaks} None that breaks is shorter."), message_of(answer), readings(answer),
+             *way_to(answer, record, link)]
     return tag("article", "".join(parts))
+
+
+def breaks_of(answers, record, link):
+    """The types that break: those that were named with their own shortest messages, each other one with the call that prints that."""
+    others = [it for it in answers if "witness" not in it]
+    lines = []
+    for it in others:
+        call = tag("pre", text(shlex.join([*record["call"], it["type"]])))
+        lines.append(tag("li", f"{code(it['type'])} {tag('span', way_of(it, record), 'dim')}: {it['length']} bytes. {call}"))
+    words = "The length is that of the shortest message that breaks. The call below a type prints this message, and the way to what breaks in it."
+    shown = [tag("p", words, "dim"), tag("ul", "".join(lines))] if others else []
+    return [tag("h2", "Types that break"), *(breaking(it, record, link) for it in answers if "witness" in it), *shown]
 
 
 def missing(answer, record):
@@ -318,20 +365,24 @@ def summary(record):
     counts = Counter((it["verdict"], way_of(it, record)) for it in record["answers"])
     counts["refused", ""] += len(record["refusals"])
     ways = [(it, way) for it in SAYS for way in ("", "forward", "backward")]
-    listed = "".join(tag("li", f"{counts[it, way]} {SAYS[it]} {way}".strip(), it) for it, way in ways if counts[it, way])
-    listed += tag("li", f"{len(record['warnings'])} warning{'s' * (len(record['warnings']) > 1)}", "refused") if record["warnings"] else ""
+    shown = "".join(tag("li", f"{counts[it, way]} {SAYS[it]} {way}".strip(), it) for it, way in ways if counts[it, way])
+    causes = len(record["causes"])
+    shown = (tag("li", f"{causes} cause{'s' * (causes > 1)}", "breaks") if causes else "") + shown
+    shown += tag("li", f"{len(record['warnings'])} warning{'s' * (len(record['warnings']) > 1)}", "refused") if record["warnings"] else ""
     what = f"{code(record['folder'])} against {code(record['revision'])} ({code(record['commit'][:12])})"
     by = "numbers and names" if record["view"] == "names" else "numbers"
     return (tag("h1", f"{text(record['folder'])} {headline(record)}")
-            + tag("p", f"{what}. Enums are compared by {by}. The run's status is {record['status']}.", "dim") + tag("ul", listed, "counts"))
+            + tag("p", f"{what}. Enums are compared by {by}. The run's status is {record['status']}.", "dim") + tag("ul", shown, "counts"))
 
 
 def part_of(record, link):
     """What the page says of one release."""
     answers = {it: [a for a in record["answers"] if a["verdict"] == it] for it in SAYS}
     parts = [summary(record)]
+    if record["causes"]:
+        parts += [tag("h2", "What breaks, and why"), *(cause_of(it, record, link) for it in record["causes"])]
     if answers["breaks"]:
-        parts += [tag("h2", "What breaks"), *(breaking(it, record, link) for it in answers["breaks"])]
+        parts += breaks_of(answers["breaks"], record, link)
     if record["refusals"] or answers["refused"] or answers["removed"]:
         parts += [tag("h2", "What has no answer"), *(refused(it, record, link) for it in record["refusals"])]
         parts += [missing(it, record) for it in answers["refused"] + answers["removed"]]
@@ -339,8 +390,8 @@ def part_of(record, link):
         parts += [tag("h2", "Warnings"), tag("ul", "".join(caution_of(it, record, link) for it in record["warnings"]))]
     for verdict, head in (("compatible", "Compatible"), ("added", "New types, with nothing to break")):
         if answers[verdict]:
-            listed = "".join(tag("li", f"{code(it['type'])} {tag('span', way_of(it, record), 'dim')}") for it in answers[verdict])
-            parts += [tag("h2", head), tag("ul", listed, "types")]
+            names = "".join(tag("li", f"{code(it['type'])} {tag('span', way_of(it, record), 'dim')}") for it in answers[verdict])
+            parts += [tag("h2", head), tag("ul", names, "types")]
     return "\n".join(parts)
 
 

@@ -72,6 +72,11 @@ class Repository(unittest.TestCase):
         self.advice = done.stderr.decode("utf-8", "replace")
         return done.returncode, done.stdout.decode("utf-8", "surrogateescape").splitlines()
 
+    def types(self, *words, **more):
+        """The status and the lines, but for those of causes: a line for each type."""
+        status, said = self.call("--types", *words, **more)
+        return status, [it for it in said if not it.startswith(("cause ", "forward cause ", "backward cause ", "  "))]
+
     def record(self, *words, **more):
         self.call(*words, "--record", "run.json", **more)
         with open(f"{self.top}/run.json", encoding="utf-8") as file:
@@ -82,23 +87,44 @@ class Answers(Repository):
     def release_orders(self, folder="proto"):
         self.release({"order.proto": read("examples/old/order.proto")}, {"order.proto": read("examples/new/order.proto")}, folder)
 
+    # -1 of the quantity is no uint32, and byte 80 of the note no UTF-8.
+    causes = ["cause value 11 10ffffffffffffffffff01 2 Order.quantity order.proto:5:9 Order.quantity order.proto:5:10",
+              "  The new program reads this value as another one, or refuses it.",
+              "cause value 3 220180 4 Order.note order.proto:7:9 Order.note order.proto:7:10",
+              "  The new program reads this value as another one, or refuses it."]
     breaks = "breaks Order 3 witness 220180 at Order.note order.proto:7:9 Order.note order.proto:7:10"
+    both = ["breaks Order 3", "compatible Customer"]
 
     def test_all_types(self):
         self.release_orders()
-        self.assertEqual(self.call("v1", "proto"), (1, [self.breaks, "compatible Customer"]))
-        self.assertRegex(self.advice, r"\Agate: warning: Customer\.email, .*\n\Z")
+        self.assertEqual(self.call("v1", "proto"), (1, [*self.causes, "breaks Order 3", "compatible 1 type"]))
+        self.assertRegex(self.advice, r"\Agate: value: What to do: .*\ngate: warning: Customer\.email, .*\n\Z")
+        self.assertEqual(self.call("v1", "proto", "--types"), (1, [*self.causes, *self.both]))
 
     def test_named_types(self):
+        """A type that is named has its own shortest message, and the causes that it leads to."""
         self.release_orders()
         self.assertEqual(self.call("v1", "proto", "Customer"), (0, ["compatible Customer"]))
-        self.assertEqual(self.call("v1", "./proto/", "Customer", "Order"), (1, ["compatible Customer", self.breaks]))
+        self.assertEqual(self.call("v1", "./proto/", "Customer", "Order"), (1, [*self.causes, self.breaks, "compatible Customer"]))
+
+    def test_causes_of_named_types(self):
+        """Those of other types aren't told, also where a type that holds them is compatible, or is skipped."""
+        old = "message L { %s a = 1; } message M { map<int32, L> l = 1; } message N { %s b = 1; M m = 2; } message O { %s c = 1; }"
+        self.release({"a.proto": HEAD + old % (("int64",) * 3)}, {"a.proto": HEAD + old % (("int32",) * 3)})
+        wanted = {"L": "L.a", "M": "L.a", "N": "L.a N.b", "O": "O.c"}
+        for name, fields in wanted.items():
+            status, said = self.call("v1", "proto", name)
+            self.assertEqual((status, [it.split()[5] for it in said if it.startswith("cause ")]), (1, fields.split()), name)
+        skipped = [word for it in "LMN" for word in ("--skip", it)]
+        self.assertEqual([it.split()[5] for it in self.call("v1", "proto", *skipped)[1] if it.startswith("cause ")], ["O.c"])
+        self.assertEqual(self.call("v1", "proto", *skipped, "--skip", "O"), (0, []))
 
     def test_named_types_behind_options(self):
         self.release_orders()
         self.assertEqual(self.call("v1", "proto", "--skip", "Draft", "Customer"), (0, ["compatible Customer"]))
         self.assertEqual(self.call("--view", "numbers", "v1", "--both", "proto", "--skip", "Order", "Customer", "Order")[1],
                          ["forward compatible Customer", "backward compatible Customer"])
+        self.assertEqual(self.call("v1", "--both", "proto", "--skip", "Order")[1], ["forward compatible 1 type", "backward compatible 1 type"])
 
     def test_the_name_that_was_called(self):
         self.release_orders()
@@ -111,7 +137,7 @@ class Answers(Repository):
 
     def test_a_type_that_is_skipped(self):
         self.release_orders()
-        self.assertEqual(self.call("v1", "proto", "--skip", "Order"), (0, ["compatible Customer"]))
+        self.assertEqual(self.call("v1", "proto", "--skip", "Order"), (0, ["compatible 1 type"]))
         self.assertEqual(self.call("v1", "proto", "--skip", "order.proto"), (0, []))
         self.assertEqual(self.advice, "")
         self.assertEqual(self.call("v1", "proto", "--skip", "Custmer")[0], 1)
@@ -138,24 +164,24 @@ class Answers(Repository):
         self.git("clone", "-q", "--depth", "1", f"file://{self.top}", clone)
         self.assertEqual(self.call("v1", "my protos/of a shop", at=clone), (4, []))
         self.git("fetch", "-q", "--depth", "1", "origin", "tag", "v1", at=clone)
-        self.assertEqual(self.call("v1", "my protos/of a shop", at=clone), (1, [self.breaks, "compatible Customer"]))
+        self.assertEqual(self.types("v1", "my protos/of a shop", at=clone), (1, self.both))
         self.write({"my protos/of a shop/an order.proto": HEAD + "message A { int32 a = 1; }"})
         self.git("add", ".")
         self.git("commit", "-q", "-m", "v3")
         self.write({"my protos/of a shop/an order.proto": HEAD + "message A { uint32 a = 1; }"})
         status, said = self.call("HEAD", "my protos/of a shop", "A", "--github")
-        self.assertEqual(said[0], "breaks A 11 witness 08ffffffffffffffffff01 at A.a an order.proto:1:13 A.a an order.proto:1:14"
-                         .replace(":1:", ":2:").replace(":13", ":19").replace(":14", ":20"))
-        self.assertIn("::error file=my protos/of a shop/an order.proto,", said[1])
+        self.assertEqual(said[0], "cause value 11 08ffffffffffffffffff01 1 A.a an order.proto:2:19 A.a an order.proto:2:20")
+        self.assertEqual(said[2], "breaks A 11 witness 08ffffffffffffffffff01 at A.a an order.proto:2:19 A.a an order.proto:2:20")
+        self.assertIn("::error file=my protos/of a shop/an order.proto,", said[3])
 
     def test_from_a_folder_below(self):
         self.release_orders("shop/proto")
         below = f"{self.top}/shop/proto"
         self.assertEqual(self.call("v1", ".", at=below)[0], 1)
         status, said = self.call("v1", "proto", "--github", at=f"{self.top}/shop")
-        self.assertIn("::error file=shop/proto/order.proto,", said[2])
+        self.assertIn("::error file=shop/proto/order.proto,", said[6])
         status, said = self.call("v1", ".", "--github", at=self.top)
-        self.assertIn("::error file=shop/proto/order.proto,", said[2])
+        self.assertIn("::error file=shop/proto/order.proto,", said[6])
 
     def test_from_a_hook(self):
         """Git gives its hooks an index of its own."""
@@ -170,13 +196,13 @@ class Answers(Repository):
     def test_what_is_hidden_is_left_out(self):
         self.release_orders("proto")
         self.write({"proto/.cache/a.proto": "no text"})
-        self.assertEqual(self.call("v1", "proto"), (1, [self.breaks, "compatible Customer"]))
+        self.assertEqual(self.types("v1", "proto"), (1, self.both))
 
     def test_types_that_came_and_went(self):
         old = HEAD + "message A { message B { map<string, B> b = 1; } int32 a = 1; }\nmessage Draft { }"
         new = HEAD + "message A { int32 a = 1; message C { } }\nmessage Drafts { }"
         self.release({"a.proto": old}, {"a.proto": new})
-        said = ["compatible A", "removed A.B", "removed Draft", "added A.C", "added Drafts"]
+        said = ["removed A.B", "removed Draft", "added A.C", "added Drafts", "compatible 1 type"]
         self.assertEqual(self.call("v1", "proto"), (2, said))
         self.assertIn("Draft was removed; was it renamed to Drafts? If that is meant: --skip Draft\n", self.advice)
         self.assertIn("A.B was removed; was it renamed to A.C? If that is meant: --skip A.B\n", self.advice)
@@ -186,42 +212,48 @@ class Answers(Repository):
     def test_a_type_that_moved(self):
         self.release({"a.proto": HEAD + "package p.q; message A { }"},
                      {"a.proto": HEAD + 'import public "b.proto";', "b.proto": HEAD + "package p.q; message A { }"})
-        self.assertEqual(self.call("v1", "proto"), (0, ["compatible p.q.A"]))
+        self.assertEqual(self.types("v1", "proto"), (0, ["compatible p.q.A"]))
 
     def test_one_name_in_two_texts(self):
         """Texts that nothing joins may declare one name."""
         self.release({"a.proto": HEAD + "message A { int32 a = 1; }", "b.proto": HEAD + "message A { bytes a = 1; }"},
                      {"a.proto": HEAD + "message A { int64 a = 1; }", "b.proto": HEAD + "message A { string a = 1; }"})
-        status, said = self.call("v1", "proto")
-        self.assertEqual((status, [it.partition(" witness")[0] for it in said]), (1, ["compatible A", "breaks A 3"]))
+        self.assertEqual(self.types("v1", "proto"), (1, ["breaks A 3", "compatible A"]))
 
     def test_both_directions(self):
         self.release({"a.proto": HEAD + "message A { int32 a = 1; }"}, {"a.proto": HEAD + "message A {\n int64 a = 1;\n}"})
-        says = ["forward compatible A", "backward breaks A 6 witness 088080808008 at A.a a.proto:2:19 A.a a.proto:3:8"]
+        fields = "A.a a.proto:2:19 A.a a.proto:3:8"
+        says = [f"backward cause value 6 088080808008 1 {fields}", "  The old program reads this value as another one, or refuses it.",
+                "backward breaks A 6", "forward compatible 1 type"]
         status, said = self.call("v1", "proto", "--both", "--github")
-        self.assertEqual((status, said[:2]), (1, says))
-        self.assertIn("file=proto/a.proto,title=protogate%3A breaks A,line=3,col=8::", said[2])
-        self.assertIn("The old side reads:%0A1 a int -2147483648", said[2])
+        self.assertEqual((status, said[:4]), (1, says))
+        self.assertIn("file=proto/a.proto,title=protogate%3A value A.a,line=3,col=8::", said[4])
+        self.assertIn("The old side reads:%0A1 a int -2147483648", said[4])
+        says[2:] = [f"backward breaks A 6 witness 088080808008 at {fields}", "forward compatible A"]
+        self.assertEqual(self.call("v1", "proto", "--both", "A"), (1, says))
 
     def test_names_of_enums(self):
         if b"--view" not in subprocess.run([PROGRAM, "gate", "--help"], stdout=subprocess.PIPE).stdout:
             self.skipTest("the program compares enums by numbers alone")
         sides = [{"a.proto": read(f"examples/changes/number_reused/{side}.proto")} for side in ("old", "new")]
         self.release(*sides)
-        self.assertEqual(self.call("v1", "proto"), (0, ["compatible Invoice"]))
+        self.assertEqual(self.types("v1", "proto"), (0, ["compatible Invoice"]))
         status, said = self.call("v1", "proto", "--view", "names", "--github")
-        self.assertEqual(status, 1)
-        self.assertIn("0801%0ABoth sides read the same numbers in it; the enums give one of them other names.", said[1])
-        self.assertNotIn("misreads", said[1])
+        self.assertEqual((status, said[:3]), (1, [
+            "cause name 2 0801 1 Invoice.state a.proto:9:9 Invoice.state a.proto:9:9",
+            "  The number is the same on both sides, and the enums give it other names.", "breaks Invoice 2"]))
+        self.assertIn("title=protogate%3A name Invoice.state,line=9,col=9::The number is the same on both sides", said[3])
+        self.assertNotIn("as another one", said[3])
 
     def test_annotations(self):
         self.release_orders()
         status, said = self.call("v1", "proto", "--github")
-        self.assertEqual((status, len(said)), (1, 4))
-        self.assertTrue(said[3].startswith("::warning file=proto/order.proto,title=protogate%3A Customer.email,"), said[3])
-        self.assertIn("::error file=proto/order.proto,title=protogate%3A breaks Order,line=7,col=10::", said[2])
-        self.assertIn("220180%0AThe old side reads:%0A4 note bytes 80%0A", said[2])
-        self.assertIn("%0AThe new side refuses it: E604 at 0 (a text that isn't UTF-8)", said[2])
+        self.assertEqual((status, len(said)), (1, 9))
+        self.assertTrue(said[8].startswith("::warning file=proto/order.proto,title=protogate%3A Customer.email,"), said[8])
+        self.assertIn("::error file=proto/order.proto,title=protogate%3A value Order.quantity,line=5,col=10::", said[6])
+        self.assertIn("::error file=proto/order.proto,title=protogate%3A value Order.note,line=7,col=10::", said[7])
+        self.assertIn("220180%0AThe old side reads:%0A4 note bytes 80%0A", said[7])
+        self.assertIn("%0AThe new side refuses it: E604 at 0 (a text that isn't UTF-8)%0AWhat to do: Give the field its old type back", said[7])
         self.assertEqual(wording.reading("old", "refused E608 at 200\n"), "The old side's reading isn't shown: E608 at 200")
         self.assertEqual(wording.annotation("a, b", "50%\n", "c:d.proto", "c:d.proto:1:2"),
                          "::error file=c%3Ad.proto,title=a%2C b,line=1,col=2::50%25%0A")
@@ -250,7 +282,7 @@ class Faults(Repository):
     def test_a_fault_is_told_once(self):
         texts = {"a.proto": HEAD + 'import "b.proto"; message A { }', "b.proto": HEAD + "message B { }", "c.proto": HEAD + "message C { }"}
         self.release(texts, {**texts, "b.proto": HEAD + "message B { int32 a = 0; }"})
-        self.assertEqual(self.call("v1", "proto"), (2, ["refused new E401 b.proto:2:19", "compatible C"]))
+        self.assertEqual(self.types("v1", "proto"), (2, ["refused new E401 b.proto:2:19", "compatible C"]))
         self.assertEqual(self.call("v1", "proto", "C"), (0, ["compatible C"]))
         self.assertEqual(self.call("v1", "proto", "A"), (2, ["refused new E401 b.proto:2:19"]))
         self.assertEqual(self.call("v1", "proto", "C", "A"), (2, ["refused new E401 b.proto:2:19", "compatible C"]))
@@ -284,7 +316,7 @@ class Faults(Repository):
         self.assertEqual(self.call("v1", "proto"), (2, ["refused old E301 a.proto:2:8", "refused new E301 a.proto:2:8"]))
         self.assertIn("a.proto:2:8 imports a file of the library that isn't below the folder, ", self.advice)
         self.assertIn(" protoc may bring it: use --with-protoc\n", self.advice)
-        self.assertEqual(self.call("v1", "proto", "--with-protoc"), (0, ["compatible A"]))
+        self.assertEqual(self.types("v1", "proto", "--with-protoc"), (0, ["compatible A"]))
 
     def test_a_protoc_without_the_library(self):
         """Debian has the library's files in another package than protoc."""
@@ -300,7 +332,7 @@ class Faults(Repository):
     def test_one_side_by_protoc(self):
         self.release({"a.proto": HEAD + "message A { bytes a = 1 [ctype = CORD]; }"}, {"a.proto": HEAD + "message A { string a = 1; }"})
         status, said = self.call("v1", "proto", "--with-protoc")
-        self.assertEqual((status, said), (1, ["breaks A 3 witness 0a0180 at A.a - A.a a.proto:2:20"]))
+        self.assertEqual((status, said[0], said[2:]), (1, "cause value 3 0a0180 1 A.a - A.a a.proto:2:20", ["breaks A 3"]))
 
     @NO_PROTOC
     def test_a_set_that_is_refused(self):
@@ -314,10 +346,12 @@ class Faults(Repository):
     @NO_PROTOC
     def test_options_by_protoc(self):
         self.release_options()
-        said = ["breaks shop.Order 6 witness 088080808008 at shop.Order.weight - shop.Order.weight -"]
-        self.assertEqual(self.call("v1", "proto", "--with-protoc"), (1, said))
         status, said = self.call("v1", "proto", "--with-protoc", "--github")
-        self.assertIn("::error file=proto/shop.proto,title=protogate%3A breaks shop.Order::", said[1])
+        cause = "cause value 6 088080808008 1 shop.Order.weight - shop.Order.weight -"
+        self.assertEqual((status, said[0], said[2]), (1, cause, "breaks shop.Order 6"))
+        self.assertIn("::error file=proto/shop.proto,title=protogate%3A value shop.Order.weight::", said[3])
+        named = "breaks shop.Order 6 witness 088080808008 at shop.Order.weight - shop.Order.weight -"
+        self.assertEqual(self.call("v1", "proto", "--with-protoc", "shop.Order")[1][2:], [named])
 
     @NO_PROTOC
     def test_what_protoc_refuses_too(self):
@@ -347,25 +381,48 @@ class Faults(Repository):
         self.assertEqual(self.call("v1", "proto", at=self.room.name)[0], 4)
         self.assertEqual(self.call("v1", "proto", PATH=self.room.name)[0], 127)
 
-    def test_a_program_that_says_something_else(self):
-        """A status and lines that don't agree are no answer."""
-        text = {"a.proto": HEAD + "message A { }"}
+    def answering(self, command, says, status):
+        """Calls with a program that answers a command so."""
+        self.write({"program": f"#!/bin/sh\ncase $1 in {command}) printf '{says}'; exit {status} ;; esac\nexec '{PROGRAM}' \"$@\"\n"})
+        os.chmod(f"{self.top}/program", 0o755)
+        return {"PROTOGATE": f"{self.top}/program"}
+
+    def release_one(self):
+        text = {"a.proto": HEAD + "message A { int32 a = 1; }"}
         self.release(text, text)
-        for says, status in (("compatible A", 1), ("breaks A 2\nwitness 0801\nstep 1 A.a - A.a -", 0), ("", 0), ("compatible A", 2), ("breaks A 2", 1)):
-            gates = f"#!/bin/sh\ncase $1 in gate) printf '{says}\\n'; exit {status} ;; esac\nexec '{PROGRAM}' \"$@\"\n"
-            self.write({"program": gates})
-            os.chmod(f"{self.top}/program", 0o755)
-            self.assertEqual(self.call("v1", "proto", PROTOGATE=f"{self.top}/program"), (3, []), says)
+
+    cause = "cause value 2 0801 1 A.a a.proto:2:19 A.a a.proto:2:19\\nold\\n1 a int 1\\nnew\\n1 a int 1\\n"
+
+    def test_a_program_that_says_something_else(self):
+        """A status and lines that don't agree are no answer, nor are lines that aren't whole."""
+        self.release_one()
+        self.assertEqual(self.call("v1", "proto", **self.answering("gate-all", self.cause + "breaks A 2\\n", 1))[0], 1)
+        for says, status in (
+                ("compatible A\\n", 1), ("breaks A 2\\n", 1), ("breaks A 2\\n", 0), ("", 0), ("compatible A\\n", 2), ("compatible A", 0),
+                (self.cause + "breaks A 2\\n", 0), (self.cause + "breaks A 2\\n", 2), (self.cause + "compatible A\\n", 1), (self.cause, 1),
+                (self.cause.partition("new")[0] + "breaks A 2\\n", 1), ("breaks A 2\\n" + self.cause, 1), ("nothing\\ncompatible A\\n", 0),
+                (self.cause.replace("0801", "080100") + "breaks A 2\\n", 1), (self.cause.replace(" A.a a", " A.a") + "breaks A 2\\n", 1),
+                (self.cause.replace(" 1 A.a", " A.a") + "breaks A 2\\n", 1), (self.cause + "breaks A\\n", 1), ("compatible A 2\\n", 0),
+                ("refused old E205 a.proto:1:1\\n", 0), ("refused old E205 a.proto:1:1\\ncompatible A\\n", 2)):
+            self.assertEqual(self.call("v1", "proto", **self.answering("gate-all", says, status)), (3, []), says)
 
     def test_a_program_that_answers_something_else(self):
-        """An answer is of the type that was asked for, and of each direction."""
-        text = {"a.proto": HEAD + "message A { }"}
-        self.release(text, text)
-        for says, words in (("compatible B", ()), ("compatible A\\ncompatible A", ()), ("forward\\ncompatible A", ("--both",)),
-                            ("compatible A", ("--both",)), ("forward\\ncompatible A\\nbackward", ("--both",))):
-            self.write({"program": f"#!/bin/sh\ncase $1 in gate) printf '{says}\\n'; exit 0 ;; esac\nexec '{PROGRAM}' \"$@\"\n"})
-            os.chmod(f"{self.top}/program", 0o755)
-            self.assertEqual(self.call("v1", "proto", *words, PROTOGATE=f"{self.top}/program"), (3, []), says)
+        """An answer is of all types of both sides, and of these alone."""
+        self.release_one()
+        for says, status in (("compatible B", 0), ("compatible A\\ncompatible A", 0), ("compatible A\\ncompatible B", 0), ("removed A", 2),
+                             ("added A", 0), ("compatible A\\nadded B", 0), ("compatible A\\nremoved B", 2)):
+            for words in ((), ("--both",), ("A",)):
+                self.assertEqual(self.call("v1", "proto", *words, **self.answering("gate-all", f"{says}\\n", status)), (3, []), says)
+
+    def test_a_program_that_answers_something_else_of_a_named_type(self):
+        """What is said of a type alone is what was said of it among all."""
+        self.release({"a.proto": HEAD + "message A { int64 a = 1; }"}, {"a.proto": HEAD + "message A { int32 a = 1; }"})
+        self.assertEqual(self.call("v1", "proto", "A")[0], 1)
+        own = "witness 088080808008\\nstep 1 A.a - A.a -\\nold\\nnew\\n"
+        self.assertEqual(self.call("v1", "proto", "A", **self.answering("gate", f"breaks A 6\\n{own}", 1))[0], 1)
+        for says, status in (("compatible A\\n", 0), (f"breaks A 5\\n{own}", 1), (f"breaks B 6\\n{own}", 1), ("breaks A 6\\n", 1),
+                             (f"breaks A 6\\n{own}", 0), ("", 0), ("refused E901\\n", 2)):
+            self.assertEqual(self.call("v1", "proto", "A", **self.answering("gate", says, status)), (3, []), says)
 
     def test_a_program_that_says_nothing(self):
         """A source file of which the program says nothing isn't one without types."""

@@ -26,27 +26,38 @@ class Roots(Trees):
         self.write({"proto/a.proto": self.IMPORT, "third/m/m.proto": WIDE % "M", "third/other.proto": "no text"})
         self.commit()
         self.assertEqual(self.call("v1", "proto")[0], 2)
-        self.assertEqual(self.call("v1", "proto", "--include", "third"), (0, ["compatible A"]))
+        self.assertEqual(self.types("v1", "proto", "--include", "third"), (0, ["compatible A"]))
         self.write({"third/m/m.proto": "\n" + NARROW % "M"})
-        said = ["breaks A 8 witness 0a06088080808008 at p.M.a third/m/m.proto:2:30 p.M.a third/m/m.proto:3:30"]
-        self.assertEqual(self.call("v1", "proto", "--include=./third/"), (1, said))
+        cause = "cause value 6 088080808008 1 p.M.a third/m/m.proto:2:30 p.M.a third/m/m.proto:3:30"
+        status, said = self.call("v1", "proto", "--include=./third/")
+        self.assertEqual((status, said[0], said[2:]), (1, cause, ["breaks A 8"]))
+        status, said = self.call("v1", "proto", "--include=./third/", "A")
+        named = "breaks A 8 witness 0a06088080808008 at p.M.a third/m/m.proto:2:30 p.M.a third/m/m.proto:3:30"
+        self.assertEqual((status, said[2:]), (1, [named]))
         status, said = self.call("v1", "../../proto", "--include", "..", "--github", at=f"{self.top}/third/m")
-        self.assertIn("::error file=third/m/m.proto,title=protogate%3A breaks A,line=3,col=30::", said[1])
+        self.assertIn("::error file=third/m/m.proto,title=protogate%3A value p.M.a,line=3,col=30::", said[3])
         record = self.record("v1", "proto", "--include", "third")
         self.assertEqual(record["call"][-4:], ["--include", "third", "v1", "proto"])
+
+    def test_what_only_an_include_has(self):
+        """Its types aren't gated, so what breaks in one that no gated type holds isn't told."""
+        self.write({"proto/a.proto": self.IMPORT, "third/m/m.proto": WIDE % "M" + " message N { int64 n = 1; }"})
+        self.commit()
+        self.write({"third/m/m.proto": WIDE % "M" + " message N { int32 n = 1; }"})
+        self.assertEqual(self.call("v1", "proto", "--include", "third"), (0, ["compatible 1 type"]))
 
     def test_several_includes(self):
         self.write({"proto/a.proto": HEAD + 'import "m/m.proto"; import "m/n.proto"; message A { p.M a = 1; p.N b = 2; }'})
         self.write({"one/m/m.proto": WIDE % "M", "two/m/n.proto": WIDE % "N", "one/README": "one", "two/README": "two", "proto/m/o.proto": HEAD})
         self.commit()
         words = ("v1", "proto", "--include", "one", "--include", "two")
-        self.assertEqual(self.call(*words), (0, ["compatible A"]))
+        self.assertEqual(self.types(*words), (0, ["compatible A"]))
         self.write({"two/m/n.proto": NARROW % "N"})
         self.assertEqual(self.broken(*words), ["two/m/n.proto"])
         self.write({"two/m/m.proto": WIDE % "M", "two/m/n.proto": WIDE % "N"})
-        self.assertEqual(self.call(*words), (0, ["compatible A"]))
+        self.assertEqual(self.types(*words), (0, ["compatible A"]))
         self.write({"two/m/m.proto": NARROW % "M"})
-        self.assertEqual(self.call(*words), (2, ["refused new twice m/m.proto", "compatible A"]))
+        self.assertEqual(self.types(*words), (2, ["refused new twice m/m.proto", "compatible A"]))
         self.assertIn("one/m/m.proto and two/m/m.proto go by one name, and differ: ", self.advice)
 
     def test_an_include_that_is_a_submodule(self):
@@ -71,7 +82,7 @@ class Roots(Trees):
         self.git("submodule", "--quiet", "deinit", "--force", "third/m")
         words = ("v1", "proto", "--include", "third")
         self.assertEqual(self.call(*words)[1], ["refused new E301 a.proto:2:8"])
-        self.assertEqual(self.call(*words, "--include", "two"), (2, ["refused new submodule m", "compatible A"]))
+        self.assertEqual(self.types(*words, "--include", "two"), (2, ["refused new submodule m", "compatible A"]))
         self.assertEqual(self.call(*words, "--include", "two", "--skip", "m")[0], 0)
 
     def test_an_include_of_one_side(self):
@@ -80,7 +91,7 @@ class Roots(Trees):
         self.assertEqual(self.call("v1", "proto", "--include", "third"), (4, []))
         self.assertEqual(self.call("v1", "proto", "--include", self.room.name), (4, []))
         self.write({"third/m/m.proto": WIDE % "M", "proto/b.proto": HEAD + 'import "m/m.proto"; message B { p.M a = 1; }'})
-        self.assertEqual(self.call("v1", "proto", "--include", "third"), (0, ["compatible A", "added B"]))
+        self.assertEqual(self.types("v1", "proto", "--include", "third"), (0, ["added B", "compatible A"]))
 
     def test_what_an_include_may_not_reach(self):
         """An absolute link of an include isn't read on either side."""
@@ -106,6 +117,7 @@ class Library(Trees):
 
     IMPORT = HEAD + 'import "google/protobuf/%s.proto"; message A { google.protobuf.L a = 1; int64 b = 2; }'
     TEXT = HEAD + "package google.protobuf; message L { }"
+    VALUE = "  The new program reads this value as another one, or refuses it."
 
     def protoc_of(self, texts):
         """Puts a protoc on the path, with a library beside it that has these texts."""
@@ -122,7 +134,7 @@ class Library(Trees):
         self.protoc_of({"here": self.TEXT})
         self.release_import("here")
         place = f"a.proto:2:{(self.IMPORT % 'here').split(chr(10))[1].index('b = 2') + 1}"
-        self.assertEqual(self.call("v1", "proto"), (1, [f"breaks A 6 witness 108080808008 at A.b {place} A.b {place}"]))
+        self.assertEqual(self.call("v1", "proto"), (1, [f"cause value 6 108080808008 2 A.b {place} A.b {place}", self.VALUE, "breaks A 6"]))
 
     def test_below_an_include(self):
         """What the repository has goes before what the machine has."""
@@ -136,7 +148,7 @@ class Library(Trees):
         self.write({"none": ""}, f"{self.room.name}/bin")
         text = HEAD + 'import "google/protobuf/timestamp.proto"; message A {\n google.protobuf.Timestamp a = 1;\n int64 b = 2; }'
         self.release({"a.proto": text}, {"a.proto": text.replace("int64", "int32")})
-        self.assertEqual(self.call("v1", "proto"), (1, ["breaks A 6 witness 108080808008 at A.b a.proto:4:8 A.b a.proto:4:8"]))
+        self.assertEqual(self.call("v1", "proto"), (1, ["cause value 6 108080808008 2 A.b a.proto:4:8 A.b a.proto:4:8", self.VALUE, "breaks A 6"]))
 
     def test_a_fault_in_the_library(self):
         """Its place is where the file is."""

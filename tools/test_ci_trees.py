@@ -32,14 +32,9 @@ class Trees(test_ci.Repository):
         os.makedirs(os.path.dirname(path), exist_ok=True)
         os.symlink(target, path)
 
-    def verdicts(self, *words, **more):
-        """The status, and each line without its witness."""
-        status, said = self.call(*words, **more)
-        return status, [it.partition(" witness")[0] for it in said]
-
     def broken(self, *words, **more):
-        """The new files of what breaks."""
-        return [it.split()[-1].partition(":")[0] for it in self.call(*words, **more)[1] if it.startswith("breaks ")]
+        """The new files of what breaks, of each cause one."""
+        return [it.split()[-1].partition(":")[0] for it in self.call(*words, **more)[1] if it.startswith("cause ")]
 
 
 class Submodules(Trees):
@@ -61,7 +56,7 @@ class Submodules(Trees):
         self.narrow()
         self.git("commit", "-q", "-a", "-m", "narrowed", at=f"{self.top}/proto/lib")
         self.git("commit", "-q", "-a", "-m", "v2")
-        self.assertEqual(self.verdicts("v1", "proto"), (1, ["compatible A", "breaks p.L 6"]))
+        self.assertEqual(self.types("v1", "proto"), (1, ["breaks p.L 6", "compatible A"]))
         self.assertEqual(self.broken("v1", "../proto", at=f"{self.top}/proto"), ["lib/l.proto"])
 
     def test_from_a_hook(self):
@@ -78,20 +73,20 @@ class Submodules(Trees):
         self.write({"proto/lib/deep/in/i.proto": NARROW % "I"})
         self.assertEqual(self.broken("v1", "proto"), ["lib/deep/in/i.proto"])
         self.git("submodule", "--quiet", "deinit", "--force", "deep/in", at=f"{self.top}/proto/lib")
-        self.assertEqual(self.verdicts("v1", "proto"), (2, ["refused new submodule lib/deep/in", "compatible A", "compatible p.L"]))
+        self.assertEqual(self.types("v1", "proto"), (2, ["refused new submodule lib/deep/in", "compatible A", "compatible p.L"]))
 
     def test_one_that_is_not_checked_out(self):
         self.git("submodule", "--quiet", "deinit", "--force", "proto/lib")
-        self.assertEqual(self.call("v1", "proto"), (2, ["refused new submodule lib", "compatible A"]))
+        self.assertEqual(self.types("v1", "proto"), (2, ["refused new submodule lib", "compatible A"]))
         self.assertIn("proto/lib is a submodule that isn't checked out: git submodule update --init proto/lib, or ", self.advice)
-        self.assertEqual(self.call("v1", "proto", "A"), (2, ["refused new submodule lib", "compatible A"]))
-        self.assertEqual(self.call("v1", "proto", "--skip", "lib"), (0, ["compatible A"]))
+        self.assertEqual(self.types("v1", "proto", "A"), (2, ["refused new submodule lib", "compatible A"]))
+        self.assertEqual(self.types("v1", "proto", "--skip", "lib"), (0, ["compatible A"]))
         self.assertNotIn("names nothing", self.advice)
 
     def test_a_clone_without_submodules(self):
         clone = f"{self.room.name}/clone"
         self.git("clone", "-q", self.top, clone)
-        self.assertEqual(self.call("v1", "proto", at=clone), (2, ["refused old submodule lib", "refused new submodule lib", "compatible A"]))
+        self.assertEqual(self.types("v1", "proto", at=clone), (2, ["refused old submodule lib", "refused new submodule lib", "compatible A"]))
 
     def test_one_without_its_old_commit(self):
         clone, old = f"{self.room.name}/clone", self.git("rev-parse", "HEAD", at=self.library)
@@ -102,14 +97,14 @@ class Submodules(Trees):
         self.git("clone", "-q", self.top, clone)
         self.git("config", "submodule.proto/lib.url", f"file://{self.library}", at=clone)
         self.git("submodule", "--quiet", "update", "--init", "--depth", "1", at=clone)
-        self.assertEqual(self.call("v1", "proto", at=clone), (2, ["refused old submodule lib", "compatible A"]))
+        self.assertEqual(self.types("v1", "proto", at=clone), (2, ["refused old submodule lib", "compatible A"]))
         self.assertIn(f"git -C proto/lib fetch --depth 1 origin {old}", self.advice)
         self.git("fetch", "-q", "--depth", "1", "origin", old, at=f"{clone}/proto/lib")
         self.assertEqual(self.broken("v1", "proto", at=clone), ["lib/l.proto"])
 
     def test_one_that_was_removed(self):
         self.git("rm", "-q", "proto/lib")
-        self.assertEqual(self.call("v1", "proto"), (2, ["compatible A", "removed p.L"]))
+        self.assertEqual(self.types("v1", "proto"), (2, ["removed p.L", "compatible A"]))
 
 
 class Links(Trees):
@@ -133,9 +128,9 @@ class Links(Trees):
         self.write({"proto/keep.proto": WIDE % "Keep"})
         self.commit()
         said = [f"refused {side} link {it}" for side in ("old", "new") for it in paths]
-        self.assertEqual(self.call("v1", "proto"), (2, [*said, "compatible p.Keep"]))
+        self.assertEqual(self.types("v1", "proto"), (2, [*said, "compatible p.Keep"]))
         skipped = [word for it in paths for word in ("--skip", it)]
-        self.assertEqual(self.call("v1", "proto", *skipped), (0, ["compatible p.Keep"]))
+        self.assertEqual(self.types("v1", "proto", *skipped), (0, ["compatible p.Keep"]))
 
     def test_absolute(self):
         self.write({"today/a.proto": NARROW % "A", "proto/in/b.proto": WIDE % "B"}, self.room.name)
@@ -159,7 +154,7 @@ class Links(Trees):
         self.link("../../LICENSE", "proto/real/LICENSE")
         self.link("real", "proto/v1")
         self.commit()
-        self.assertEqual(self.call("v1", "proto"), (0, ["compatible p.A", "compatible p.A"]))
+        self.assertEqual(self.types("v1", "proto"), (0, ["compatible p.A", "compatible p.A"]))
 
     def test_an_import_by_one_that_leads_out(self):
         """What an old text imports is what it was, and not today's file."""
@@ -209,8 +204,8 @@ class Namesakes(Trees):
     def test_one_whose_text_is_refused(self):
         self.release({"a.proto": WIDE % "T", "b.proto": WIDE % "T"}, {"a.proto": WIDE % "T", "b.proto": "no text"})
         refused = "refused new E201 b.proto:1:1"
-        self.assertEqual(self.call("v1", "proto"), (2, [refused, "compatible p.T"]))
-        self.assertEqual(self.call("v1", "proto", "p.T"), (2, [refused, "compatible p.T"]))
+        self.assertEqual(self.types("v1", "proto"), (2, [refused, "compatible p.T"]))
+        self.assertEqual(self.types("v1", "proto", "p.T"), (2, [refused, "compatible p.T"]))
 
 
     def test_a_named_one_in_a_text_that_is_refused(self):
@@ -219,12 +214,12 @@ class Namesakes(Trees):
         hidden = WIDE.replace("message", "message /* here */\n") % "T"
         self.release({"a.proto": WIDE % "T", "c.proto": WIDE % "C"},
                      {"a.proto": WIDE % "T", "b.proto": NARROW % "T" + fault, "c.proto": WIDE % "C"})
-        self.assertEqual(self.call("v1", "proto", "p.T"), (2, ["refused new E205 b.proto:2:46", "compatible p.T"]))
-        self.assertEqual(self.call("v1", "proto", "p.C"), (0, ["compatible p.C"]))
+        self.assertEqual(self.types("v1", "proto", "p.T"), (2, ["refused new E205 b.proto:2:46", "compatible p.T"]))
+        self.assertEqual(self.types("v1", "proto", "p.C"), (0, ["compatible p.C"]))
         self.write({"proto/b.proto": hidden + fault})
         self.commit()
         os.remove(f"{self.top}/proto/b.proto")
-        self.assertEqual(self.call("v1", "proto", "p.T"), (2, ["refused old E205 b.proto:3:28", "compatible p.T"]))
+        self.assertEqual(self.types("v1", "proto", "p.T"), (2, ["refused old E205 b.proto:3:28", "compatible p.T"]))
 
 
 class Names(Trees):
@@ -234,7 +229,7 @@ class Names(Trees):
         self.write({f"proto/{it}": WIDE % f"T{number}" for number, it in enumerate(self.strange)})
         self.commit()
         self.write({f"proto/{it}": NARROW % f"T{number}" for number, it in enumerate(self.strange)})
-        status, said = self.verdicts("v1", "proto")
+        status, said = self.types("v1", "proto")
         self.assertEqual((status, sorted(said)), (1, [f"breaks p.T{number} 6" for number in range(len(self.strange))]))
 
     def test_a_strange_folder(self):
@@ -252,12 +247,12 @@ class Names(Trees):
         self.commit()
         shown = [r"\x1b\x0a.proto", r"a\x0a::error::b.proto", r"\xff.proto"]
         said = [f"refused {side} name {it}" for side in ("old", "new") for it in shown]
-        self.assertEqual(self.call("v1", "proto"), (2, [*said, "compatible p.Keep"]))
+        self.assertEqual(self.types("v1", "proto"), (2, [*said, "compatible p.Keep"]))
         self.assertIn(r"proto/\xff.proto has a line feed in its name, or what isn't UTF-8: rename it", self.advice)
         status, said = self.call("v1", "proto", "--github")
         self.assertEqual([it.partition(" ")[0] for it in said[7:]], ["::error"] * 6)
         skipped = [word for it in shown for word in ("--skip", it)]
-        self.assertEqual(self.call("v1", "proto", *skipped), (0, ["compatible p.Keep"]))
+        self.assertEqual(self.types("v1", "proto", *skipped), (0, ["compatible p.Keep"]))
 
     def test_no_regular_files(self):
         """They aren't opened, by an import either."""
@@ -267,12 +262,12 @@ class Names(Trees):
             os.mkfifo(f"{self.top}/{name}")
         self.write({"proto/b.proto": HEAD + 'import "u.proto";', "proto/c.proto": HEAD + 'import "pipe";'})
         refused = ["refused new E301 b.proto:2:8", "refused new E301 c.proto:2:8", "refused new file u.proto"]
-        self.assertEqual(self.call("v1", "proto"), (2, [*refused, "compatible p.Keep"]))
+        self.assertEqual(self.types("v1", "proto"), (2, [*refused, "compatible p.Keep"]))
 
     def test_what_a_name_leaves_out_is_said_once(self):
         self.write({"proto/keep.proto": WIDE % "Keep", "proto/x.PROTO": "", "proto/.h/a.proto": "", ".github/w.yml": ""})
         self.commit()
-        self.assertEqual(self.call("v1", "."), (0, ["compatible p.Keep"]))
+        self.assertEqual(self.types("v1", "."), (0, ["compatible p.Keep"]))
         self.assertEqual(self.advice, "gate: what is in a hidden folder isn't gated: proto/.h/a.proto\n"
                                       "gate: a file is only gated if its name ends in .proto, in small letters: proto/x.PROTO\n")
 
@@ -311,7 +306,7 @@ class Clones(Trees):
     def test_a_sparse_one(self):
         self.git("sparse-checkout", "set", "--no-cone", "/proto/*", "!/proto/b")
         self.assertFalse(os.path.exists(f"{self.top}/proto/b"))
-        status, said = self.verdicts("v1", "proto")
+        status, said = self.types("v1", "proto")
         self.assertEqual((status, said), (2, ["refused new unseen b/b.proto", "breaks p.A 6"]))
         self.assertIn("proto/b/b.proto isn't in this sparse checkout", self.advice)
         self.git("sparse-checkout", "disable")
@@ -323,13 +318,13 @@ class Clones(Trees):
         self.commit()
         self.git("sparse-checkout", "set", "--no-cone", "*.proto")
         self.assertFalse(os.path.exists(f"{self.top}/proto/README"))
-        self.assertEqual(self.call("v1", "proto"), (0, ["compatible p.A", "compatible p.B"]))
+        self.assertEqual(self.types("v1", "proto"), (0, ["compatible p.A", "compatible p.B"]))
 
     def test_a_folder_below_with_the_environment_of_a_hook(self):
         """With GIT_DIR git takes the current folder for the top, and another folder for the old side."""
         self.write({"below/proto/a.proto": NARROW % "A"})
         for at, said in ((self.top, (1, ["breaks p.A 6", "breaks p.B 6"])), (f"{self.top}/below", (4, []))):
-            self.assertEqual(self.verdicts("v1", "proto", at=at, GIT_DIR=f"{self.top}/.git"), said)
+            self.assertEqual(self.types("v1", "proto", at=at, GIT_DIR=f"{self.top}/.git"), said)
         self.assertIn("unset GIT_DIR", self.advice)
 
     def test_a_second_work_tree(self):
@@ -352,7 +347,7 @@ class Clones(Trees):
         self.write({"proto/n.proto": WIDE % "N"})
         self.commit()
         self.git("checkout", "-q", "mine")
-        self.assertEqual(self.verdicts("main", "proto"), (2, ["compatible p.A", "compatible p.B", "removed p.N"]))
+        self.assertEqual(self.types("main", "proto"), (2, ["removed p.N", "compatible p.A", "compatible p.B"]))
         self.assertIn("gate against $(git merge-base main HEAD)\n", self.advice)
         self.assertNotIn("--skip", self.advice)
         self.assertEqual(self.call(self.git("merge-base", "main", "HEAD"), "proto")[0], 0)
@@ -363,7 +358,7 @@ class Clones(Trees):
     def test_from_a_folder_below(self):
         self.write({"tools/run": ""})
         status, said = self.call("v1", "../proto", "--github", at=f"{self.top}/tools")
-        self.assertEqual([it.partition(",")[0] for it in said[2:]], ["::error file=proto/a.proto", "::error file=proto/b/b.proto"])
+        self.assertEqual([it.partition(",")[0] for it in said[6:]], ["::error file=proto/a.proto", "::error file=proto/b/b.proto"])
         self.assertEqual(self.call("v1", "../../elsewhere", at=f"{self.top}/tools")[0], 4)
 
 
@@ -380,7 +375,7 @@ class Unseen(Trees):
         script = f"#!/bin/sh\n'{real}' \"$@\" || exit\ncase \" $* \" in *' {command} '*) {does} ;; esac\n"
         self.write({"git": script}, f"{self.room.name}/tools")
         os.chmod(f"{self.room.name}/tools/git", 0o755)
-        return self.call("v1", "proto", PATH=f"{self.room.name}/tools:{os.environ['PATH']}")
+        return self.types("v1", "proto", PATH=f"{self.room.name}/tools:{os.environ['PATH']}")
 
     def test_what_git_lists_of_the_old_side(self):
         for mode in ("100644 blob", "120000 blob"):
@@ -399,7 +394,7 @@ class Unseen(Trees):
 
     def patched(self, patch):
         """Calls a script of which a part is lost."""
-        words = [sys.executable, "-B", "-c", f"import sys; sys.path.insert(0, '{TOP}/examples/ci'); import answers, gate, sides, walks\n"
+        words = [sys.executable, "-B", "-c", f"import sys; sys.path.insert(0, '{TOP}/examples/ci'); import answers, gate, reading, runs, sides, walks\n"
                  f"{patch}\nsys.exit(gate.main(['v1', 'proto']))"]
         done = subprocess.run(words, cwd=self.top, env=self.env, stdout=subprocess.PIPE, stderr=subprocess.PIPE)
         return done.returncode, done.stdout.decode().splitlines()
@@ -412,6 +407,86 @@ class Unseen(Trees):
     def test_a_type_that_is_not_gated(self):
         refused = [f"refused {side} unseen a.proto" for side in ("old", "new")]
         self.assertEqual(self.patched("answers.pairs_of = lambda *_: []"), (2, refused))
+
+    def test_a_run_that_is_not_made(self):
+        self.assertEqual(self.patched("answers.overviews_of = lambda *_: []"), (3, []))
+        self.assertEqual(self.patched("runs.Run.ask = lambda *_: runs.Overview('', 0)"), (3, []))
+        self.assertEqual(self.patched("answers.WAYS = ()"), (2, [f"refused {side} unseen a.proto" for side in ("old", "new")]))
+
+
+class Together(Trees):
+    """Which files are compiled and gated in one call."""
+
+    def calls(self, *words):
+        """Calls with a program that notes its calls. Returns what was said, and the words of each call but for folders, those of `--version`
+        left out."""
+        log = f"{self.room.name}/log"
+        self.write({"program": f"#!/bin/sh\nprintf '%s\\n' \"$*\" >>'{log}'\nexec '{test_ci.PROGRAM}' \"$@\"\n"}, self.room.name)
+        os.chmod(f"{self.room.name}/program", 0o755)
+        said = self.types("v1", "proto", *words, PROTOGATE=f"{self.room.name}/program")
+        with open(log, encoding="utf-8") as file:
+            found = [[it for it in line.split() if "dir=" not in it and it not in ("--", "--explain")] for line in file if not line.startswith("--")]
+        os.remove(log)
+        return said, sorted(found)
+
+    def release_three(self):
+        imports = HEAD + 'import "a.proto"; package p; '
+        old = {"a.proto": WIDE % "A", "b.proto": imports + "message B { A a = 1; }", "c.proto": imports + "message C { A a = 1; int64 c = 2; }"}
+        self.release(old, {**old, "a.proto": NARROW % "A"})
+
+    def gated(self, files):
+        return ["gate-all", *(f"--{side}={it}" for side in ("old", "new") for it in files)]
+
+    def test_one_call(self):
+        """Three files are compiled once a side, and gated once; a cause that three types lead to is told once."""
+        self.release_three()
+        files = ["a.proto", "b.proto", "c.proto"]
+        breaks = ["breaks p.A 6", "breaks p.B 8", "breaks p.C 8"]
+        self.assertEqual(self.calls(), ((1, breaks), [["compile", *files]] * 2 + [self.gated(files)]))
+        self.assertEqual(self.broken("v1", "proto"), ["a.proto"])
+        self.assertEqual(self.calls("--both")[1][2:], [self.gated(files)] * 2)
+        self.assertEqual(self.calls("p.C")[1][2:][-1], self.gated(["c.proto"]))
+
+    def test_namesakes(self):
+        """A name that stands twice on a side makes two runs, and each file is in one of them."""
+        self.release_three()
+        self.write({"proto/d.proto": WIDE % "B", "proto/e.proto": HEAD + "message E { }"})
+        self.commit()
+        self.write({"proto/d.proto": NARROW % "B"})
+        said, calls = self.calls()
+        self.assertEqual(said, (1, ["breaks p.B 6", "compatible p.A", "compatible p.B", "compatible p.C", "compatible E"]))
+        runs = [it for it in calls if it[0] == "gate-all"]
+        self.assertEqual(runs, [self.gated(["a.proto", "b.proto", "c.proto", "e.proto"]), self.gated(["d.proto"])])
+
+    def test_a_file_that_is_refused(self):
+        """It goes out with those that import it, whose own faults are told too; all others are gated in one run."""
+        self.release_three()
+        texts = {"d.proto": HEAD + 'import "f.proto";', "e.proto": HEAD + 'import /* it */ public "d." "proto";\noption (x) = 1;',
+                 "f.proto": HEAD + "message F { } message F { }", "g.proto": HEAD + "message G { }"}
+        self.write({f"proto/{name}": text for name, text in texts.items()})
+        said, calls = self.calls()
+        files = [f"refused new {it}" for it in ("E304 f.proto:2:23", "E205 e.proto:3:8")]
+        self.assertEqual((said[0], sorted(said[1])), (2, sorted([*files, "added G", "breaks p.A 6", "breaks p.B 8", "breaks p.C 8"])))
+        self.assertEqual([it for it in calls if it[0] == "gate-all"], [self.gated(["a.proto", "b.proto", "c.proto"])])
+        self.assertEqual([it for it in self.record("v1", "proto")["refusals"] if it["code"] == "E304"][0]["texts"], ["d.proto", "f.proto"])
+
+    def test_many_files_and_types(self):
+        """Where a side has more than one run takes, there are several, and none is passed over."""
+        self.release({f"{it}.proto": WIDE % it for it in "ABCDE"}, {f"{it}.proto": NARROW % it for it in "ABCDE"})
+        wanted = [f"breaks p.{it} 6" for it in "ABCDE"]
+        for patch in ("runs.MOST_FILES = reading.MOST_FILES = 2", "runs.MOST_TYPES = 2", "reading.MOST_FILES = 1"):
+            status, said = Unseen.patched(self, patch)
+            self.assertEqual((status, [it for it in said if it.startswith("breaks ")]), (1, wanted), patch)
+            self.assertEqual(len([it for it in said if it.startswith("cause ")]), 5, patch)
+
+    def test_what_only_some_runs_refuse(self):
+        """A run that is refused is divided, so that no other file's types go unanswered."""
+        self.release({f"{it}.proto": WIDE % it for it in "ABC"}, {f"{it}.proto": NARROW % it for it in "ABC"})
+        does = "case \"$*\" in *gate-all*=B.proto*) echo refused old E001; exit 3 ;; esac"
+        self.write({"program": f"#!/bin/sh\n{does}\nexec '{test_ci.PROGRAM}' \"$@\"\n"}, self.room.name)
+        os.chmod(f"{self.room.name}/program", 0o755)
+        said = self.types("v1", "proto", PROTOGATE=f"{self.room.name}/program")
+        self.assertEqual(said, (3, ["refused old E001 p.B", "breaks p.A 6", "breaks p.C 6"]))
 
 
 if __name__ == "__main__":

@@ -18,10 +18,13 @@ sys.dont_write_bytecode = True
 import report  # noqa: E402
 import test_ci  # noqa: E402
 from test_ci import GATE, HEAD, TOP, read  # noqa: E402
+import fuzz_grammar  # noqa: E402
+import causes  # noqa: E402
 import codes  # noqa: E402
 import declarations  # noqa: E402
 import places  # noqa: E402
 import refusals  # noqa: E402
+import runs  # noqa: E402
 import settings  # noqa: E402
 import wording  # noqa: E402
 
@@ -73,6 +76,38 @@ class Codes(unittest.TestCase):
             self.assertNotRegex(words, r"\bAt |\(see|see below|\]\(", code)
 
 
+class Causes(unittest.TestCase):
+    def test_each_case_of_the_page(self):
+        """Each word of the page has its sentences in both directions, and no other has."""
+        rows = read("docs/USAGE.md").partition("`CASE` is one of these words:")[2].partition("\n```")[0]
+        listed = re.findall(r"^\| `([a-z-]+)` \|", rows, re.M)
+        self.assertEqual(listed, ["unlike", "value", "name", "list-to-one", "map", "map-key", "map-value", "oneof"])
+        self.assertEqual([listed, listed], [list(causes.WHY), list(causes.MEND)])
+        for case in listed:
+            self.assertRegex(case.encode(), rb"\A(?:%s|oneof)\Z" % fuzz_grammar.CASE)
+            for direction in ("forward", "backward"):
+                cause = {"case": case, "direction": direction, "is_by_names": False}
+                for words in (causes.why(cause), causes.mend(cause)):
+                    self.assertRegex(words, r"\A[A-Z][^{}]*\.\Z")
+
+    def test_who_misreads(self):
+        for case in ("unlike", "value", "list-to-one", "map", "map-key", "map-value", "oneof"):
+            for direction, reader in (("forward", "new"), ("backward", "old")):
+                said = causes.why({"case": case, "direction": direction, "is_by_names": False})
+                self.assertIn(f"he {reader} program", said)
+                self.assertNotIn(f"he {dict(new='old', old='new')[reader]} ", said)
+        self.assertEqual(causes.why({"case": "map-value", "direction": "forward", "is_by_names": True}), causes.NAMED)
+
+    def test_a_place_with_spaces(self):
+        """A path may hold what looks like a place, or like other words of the line."""
+        fields = "M.a a b:1:2 c.proto:3:4 M.a x.proto:5:6"
+        overview = runs.Overview(f"cause value 2 0801 1 {fields}\nold\n1 a int 1\nnew\n1 a int 1\nbreaks M 2\n", 1)
+        self.assertTrue(overview.is_whole())
+        self.assertEqual(overview.causes[0]["fields"], [{"old": "M.a", "old_place": "a b:1:2 c.proto:3:4", "new": "M.a", "new_place": "x.proto:5:6"}])
+        two = runs.Overview(f"cause oneof 4 08011001 1 {fields} {fields.replace('M.a', 'M.b')}\nold\nnew\nbreaks M 4\n", 1)
+        self.assertEqual([it["old"] for it in two.causes[0]["fields"]], ["M.a", "M.b"])
+
+
 class Words(Repository):
     fault = "E401: A number is out of range."
 
@@ -118,18 +153,25 @@ class Oneofs(Repository):
 
     def test_a_line(self):
         self.release_prices()
-        self.assertEqual(self.call("v1", "proto"), (1, [f"breaks Price 4 witness 08011001 at {' and '.join(self.fields)}"]))
+        said = [f"cause oneof 4 08011001 1 {' '.join(self.fields)}",
+                "  The new side has both fields in one oneof: the new program keeps the last of them alone.", "breaks Price 4"]
+        self.assertEqual(self.call("v1", "proto"), (1, said))
+        said[2] = f"breaks Price 4 witness 08011001 at {' and '.join(self.fields)}"
+        self.assertEqual(self.call("v1", "proto", "Price"), (1, said))
 
     def test_an_annotation(self):
         self.release_prices()
         found = [it for it in self.call("v1", "proto", "--github")[1] if it.startswith("::error ")]
         self.assertEqual(len(found), 1)
         named = " and ".join(f"{name} ({place})" for name, place in zip(self.names, self.places))
-        self.assertIn(f"%0A{named} are in one oneof on the new side, which keeps the last of them alone.%0A", found[0])
+        self.assertIn("::The new side has both fields in one oneof: the new program keeps the last of them alone.%0A", found[0])
+        self.assertIn(f"%0AThe fields are {named}.%0A", found[0])
 
     def test_the_page(self):
         self.release_prices()
-        self.assertIn(f"{' and '.join(self.names)} are in one oneof on the new side", self.page("v1", "proto"))
+        page = self.page("v1", "proto")
+        self.assertIn(f"{' and '.join(self.names)}", page)
+        self.assertIn("The new side has both fields in one oneof", page)
 
     def test_a_way_through_messages(self):
         """Two steps of which the second is inside the first are no oneof, also where both types have one name but for their scope."""
@@ -255,7 +297,7 @@ class Settings(Repository):
     def test_releases(self):
         self.release_two()
         self.settle("[gate]\nfolder = proto\nreleases = v2\n    v1\n")
-        said = ["== v2 ==", "compatible A", "== v1 ==", "compatible A", "removed Draft"]
+        said = ["== v2 ==", "compatible 1 type", "== v1 ==", "removed Draft", "compatible 1 type"]
         self.assertEqual(self.call(), (2, said))
         os.mkdir(f"{self.top}/below")
         self.assertEqual(self.call(at=f"{self.top}/below"), (2, said))
@@ -263,12 +305,12 @@ class Settings(Repository):
     def test_words_go_first(self):
         self.release_two()
         self.settle("[gate]\nfolder = none\nreleases = v1\nboth = yes\nview = names\n")
-        self.assertEqual(self.call("v2", "proto"), (0, ["forward compatible A", "backward compatible A"]))
-        self.assertEqual(self.call("v2", "proto", "--no-both"), (0, ["compatible A"]))
+        self.assertEqual(self.call("v2", "proto"), (0, ["forward compatible 1 type", "backward compatible 1 type"]))
+        self.assertEqual(self.call("v2", "proto", "--no-both"), (0, ["compatible 1 type"]))
         self.assertEqual(self.record("v2", "proto")["view"], "names")
         self.assertEqual(self.record("v2", "proto", "--view", "numbers")["view"], "numbers")
         self.settle("[gate]\nfolder = proto\nreleases = none\n")
-        self.assertEqual(self.call("v2"), (0, ["compatible A"]))
+        self.assertEqual(self.call("v2"), (0, ["compatible 1 type"]))
 
     def test_empty_words(self):
         """A word that is there and empty isn't left out: `$(git merge-base main HEAD)` prints nothing where it fails."""
@@ -292,7 +334,7 @@ class Settings(Repository):
     def test_a_skip(self):
         self.release_two()
         self.settle(self.skip("Draft", FAR))
-        self.assertEqual(self.call(), (0, ["compatible A"]))
+        self.assertEqual(self.call(), (0, ["compatible 1 type"]))
         self.assertEqual(self.advice, "")
 
     def test_a_skip_that_is_over(self):
@@ -304,7 +346,7 @@ class Settings(Repository):
         self.assertIn("gate: protogate.ini:4: the skip of Draft ended on 2020-02-29. Its reason was: Nobody stores drafts.", self.advice)
         self.assertIn("::error file=protogate.ini,title=protogate%3A refused skip Draft,line=4,col=1::", "\n".join(said))
         self.settle(self.skip("A", "2020-02-29"))
-        self.assertEqual(self.call("v2"), (2, ["refused skip A 2020-02-29", "compatible A"]))
+        self.assertEqual(self.call("v2"), (2, ["refused skip A 2020-02-29", "compatible 1 type"]))
 
     def test_names_that_are_not_printable(self):
         """They are printed by numbers, in each line."""
@@ -314,7 +356,7 @@ class Settings(Repository):
         self.assertEqual((status, said[0]), (2, "refused skip A\\x1b[2J 2020-02-29"))
         self.assertNotIn("\x1b", "".join(said) + self.advice)
         self.settle("[gate]\nfolder = proto\nreleases = v2\n v\x1b[2J\n")
-        self.assertEqual(self.call(), (4, ["== v2 ==", "compatible A", "== v\\x1b[2J =="]))
+        self.assertEqual(self.call(), (4, ["== v2 ==", "compatible 1 type", "== v\\x1b[2J =="]))
 
     def test_the_last_day(self):
         day = datetime.date(2024, 2, 29)
@@ -402,7 +444,7 @@ class Records(Repository):
             self.assertIn("report: run.json is no record of protogate-ci", self.report(text))
 
     def test_another_version(self):
-        self.assertIn("is a record of version 2, and this reads version 1", self.report({"format": "protogate-ci", "version": 2}))
+        self.assertIn("is a record of version 1, and this reads version 2", self.report({"format": "protogate-ci", "version": 1}))
 
     def test_what_is_not_whole(self):
         self.release({"a.proto": HEAD + "message A { }"}, {"a.proto": HEAD + "message A { }"})
@@ -411,7 +453,7 @@ class Records(Repository):
             whole = json.load(file)
         for key in set(whole) - {"status"}:
             self.report({name: it for name, it in whole.items() if name != key})
-        for key in ("folder", "answers", "warnings", "refusals", "view"):
+        for key in ("folder", "causes", "answers", "warnings", "refusals", "view"):
             run = {name: it for name, it in whole["runs"][0].items() if name != key}
             self.assertIn("is no whole record", self.report({**whole, "runs": [run]}))
 
@@ -428,16 +470,21 @@ class Records(Repository):
         self.release({"a.proto": HEAD + old, "b.proto": HEAD}, new)
         os.symlink("gone.proto", f"{self.top}/proto/c.proto")
         self.settle(f"[skip Draft]\nreason = None is stored.\nuntil = {FAR}\n")
-        self.call("v1", "proto", "--record", "run.json")
-        with open(f"{self.top}/run.json", encoding="utf-8") as file:
-            record = json.load(file)
-        run = record["runs"][0]
-        keys = self.keys_of_page()
-        for heading, found in (("The record", record), ("A skip", record["skips"][0]), ("A run", run), ("A refusal", set().union(*run["refusals"])),
-                               ("A warning", run["warnings"][0]), ("A step", run["answers"][0]["steps"][0])):
-            self.assertEqual(set(found), keys[heading], heading)
-        self.assertEqual({it["verdict"] for it in run["answers"]}, {"breaks", "removed"})
-        self.assertEqual(set().union(*run["answers"]), keys["An answer"])
+        keys, found = self.keys_of_page(), []
+        for names in ((), ("A", "Gone")):
+            self.call("v1", "proto", *names, "--record", "run.json")
+            with open(f"{self.top}/run.json", encoding="utf-8") as file:
+                record = json.load(file)
+            run = record["runs"][0]
+            found.append(set().union(*run["answers"]))
+            self.assertEqual({it["verdict"] for it in run["answers"]}, {"breaks", "removed"})
+            for heading, told in (("The record", record), ("A skip", record["skips"][0]), ("A run", run), ("A cause", run["causes"][0]),
+                                  ("A field", run["causes"][0]["fields"][0]), ("A refusal", set().union(*run["refusals"])),
+                                  ("A warning", run["warnings"][0])):
+                self.assertEqual(set(told), keys[heading], heading)
+        self.assertEqual(found[0] | {"witness", "readings", "is_by_names"}, keys["An answer"])
+        self.assertEqual(found[1], keys["An answer"])
+        self.assertEqual(set(run["answers"][0]["steps"][0]), keys["A field"] | {"number"})
         self.assertEqual(record["version"], report.VERSION)
 
     def test_several_releases(self):

@@ -70,9 +70,10 @@ class Reports(test_ci.Repository):
         there = {"GITHUB_SERVER_URL": "https://github.com", "GITHUB_REPOSITORY": "o/r", "GITHUB_SHA": "abc"}
         old = f"https://github.com/o/r/blob/{commit}/proto/order.proto"
         # The last is that of a warning: line 14 has a field that was removed.
-        self.assertEqual(self.page("v1", "proto", **there).targets, [f"{old}#L7", "https://github.com/o/r/blob/abc/proto/order.proto#L7", f"{old}#L14"])
+        new = "https://github.com/o/r/blob/abc/proto/order.proto"
+        self.assertEqual(self.page("v1", "proto", **there).targets, [f"{old}#L5", f"{new}#L5", f"{old}#L7", f"{new}#L7", f"{old}#L14"])
         there = {"CI_PROJECT_URL": "https://gitlab.com/o/r", "CI_COMMIT_SHA": "abc"}
-        self.assertEqual(self.page("v1", "proto", **there).targets[1], "https://gitlab.com/o/r/-/blob/abc/proto/order.proto#L7")
+        self.assertEqual(self.page("v1", "proto", **there).targets[3], "https://gitlab.com/o/r/-/blob/abc/proto/order.proto#L7")
 
     def test_what_is_released(self):
         self.release_orders()
@@ -96,10 +97,26 @@ class Reports(test_ci.Repository):
         sides = [{"a.proto": read(f"examples/changes/number_reused/{side}.proto")} for side in ("old", "new")]
         self.release(*sides)
         page = self.page("v1", "proto", "--view", "names")
-        for words in ("Both sides read the same numbers in it", "Give what is meant now a number of its own"):
+        for words in ("The number is the same on both sides", "give what is meant now a number of its own"):
             self.assertIn(words, page.words)
-        for words in ("doesn't read it whole", "Give the changed field a new number"):
+        for words in ("doesn't read it whole", "as another one", "Give the field its old type back"):
             self.assertNotIn(words, page.words)
+        self.assertIn("Both sides read the same numbers in it", self.page("v1", "proto", "--view", "names", "Invoice").words)
+
+    def test_causes(self):
+        """Each cause is told once, with what breaks by it; a type's line has the call that prints its own shortest message."""
+        sides = ("message L { %s a = 1; repeated int32 b = 2; } message M { L l = 1; } message N { M m = 1; } message O { }", )
+        old, new = sides[0] % "int64", (sides[0] % "int32").replace("repeated ", "")
+        self.release({"a.proto": HEAD + old}, {"a.proto": HEAD + new})
+        page = self.page("v1", "proto", "--view", "numbers")
+        for words in ("2 causes", "3 breaks", "1 compatible", "The new program reads this value as another one", "Of two items the new program",
+                      "What to do: Keep the list", "gate.sh --view numbers v1 proto L", "gate.sh --view numbers v1 proto N"):
+            self.assertEqual(page.words.count(words), 1, words)
+        self.assertEqual(page.words.count("What breaks by it: L, M, N"), 2)
+        named = self.page("v1", "proto", "N").words
+        for words in ("The way to what breaks in it:", "field 1, N.m", "field 1, M.l", "What breaks by it: N"):
+            self.assertIn(words, named)
+        self.assertNotIn("gate.sh v1 proto N", named)
 
     def test_a_field_that_was_renamed_too(self):
         """A name says nothing on the wire, so it marks no line of a reading."""
@@ -122,7 +139,7 @@ class Reports(test_ci.Repository):
     def test_both_directions(self):
         self.release({"a.proto": HEAD + "message A { int32 a = 1; }"}, {"a.proto": HEAD + "message A { int64 a = 1; }"})
         page = self.page("v1", "proto", "--both")
-        for words in ("The new side can write this message of 6 bytes", "proto writes messages that old programs misread",
+        for words in ("The new side can write this message of A, of 6 bytes", "proto writes messages that old programs misread",
                       "1 breaks backward", "1 compatible forward"):
             self.assertIn(words, page.words)
         self.assertNotIn("breaks old messages", page.words)
@@ -176,7 +193,7 @@ class Templates(test_ci.Repository):
         _, gates, reports = self.blocks("examples/ci/github.yml", "run")
         status, said = self.shell(gates, RELEASE="v1.4", FOLDER="proto")
         self.assertEqual(status, 1)
-        self.assertIn("::error file=proto/order.proto,title=protogate%3A breaks Order,line=7,col=10::", said)
+        self.assertIn("::error file=proto/order.proto,title=protogate%3A value Order.note,line=7,col=10::", said)
         self.assertEqual(self.shell(reports)[0], 0)
         with open(f"{self.clone}/protogate.html", encoding="utf-8") as page:
             self.assertIn("proto breaks old messages", page.read())
@@ -295,7 +312,7 @@ class Templates(test_ci.Repository):
         rule = f"make -s -f '{TOP}/examples/ci/protogate.mk' protogate"
         self.assertEqual(self.shell(rule)[0], 2)
         self.git("checkout", "-q", "v1.4", at=self.clone)
-        self.assertEqual(self.shell(rule), (0, "compatible Order\ncompatible Customer\n"))
+        self.assertEqual(self.shell(rule), (0, "compatible 2 types\n"))
 
 
 class Completions(unittest.TestCase):
@@ -393,10 +410,10 @@ class Scripts(unittest.TestCase):
     def test_versions(self):
         said = subprocess.run([f"{TOP}/examples/ci/gate.sh", "--version"], env={**os.environ, "PROTOGATE": test_ci.PROGRAM}, stdout=subprocess.PIPE)
         program = subprocess.run([test_ci.PROGRAM, "--version"], stdout=subprocess.PIPE).stdout.decode()
-        self.assertEqual((said.returncode, said.stdout.decode()), (0, f"gate.sh, which writes records of version 1\n{program}"))
+        self.assertEqual((said.returncode, said.stdout.decode()), (0, f"gate.sh, which writes records of version 2\n{program}"))
         self.assertTrue(program.startswith("protogate "))
         said = subprocess.run([f"{TOP}/tools/report.py", "--version"], stdout=subprocess.PIPE)
-        self.assertEqual((said.returncode, said.stdout.decode()), (0, "report.py, which reads records of version 1\n"))
+        self.assertEqual((said.returncode, said.stdout.decode()), (0, "report.py, which reads records of version 2\n"))
 
 
 class Packages(test_ci.Repository):
@@ -455,14 +472,14 @@ class Packages(test_ci.Repository):
         env = {name: it for name, it in self.env.items() if name != "PROTOGATE"}
         words = [f"{self.room.name}/gate-it", "HEAD", "proto", "--record", "run.json"]
         done = subprocess.run(words, cwd=self.top, env=env, stdout=subprocess.PIPE, check=True)
-        self.assertEqual(done.stdout.decode(), "compatible A\n")
+        self.assertEqual(done.stdout.decode(), "compatible 1 type\n")
         copied = os.listdir(f"{os.path.dirname(os.path.dirname(tool))}/share/doc/protogate/examples")
         self.assertEqual(sorted(copied), ["github.yml", "gitlab.yml", "pre-commit.yaml", "protogate.mk"])
         self.assertIn(b'"call": [\n    "protogate-ci",', open_bytes(f"{self.top}/run.json"))
         self.shares(f"{os.path.dirname(os.path.dirname(tool))}/share")
         for name in ("ci", "report"):
             said = subprocess.run([f"{tool}-{name}", "--version"], env=env, stdout=subprocess.PIPE, check=True).stdout.decode()
-            self.assertRegex(said, rf"\Aprotogate-{name}, which (reads|writes) records of version 1\nprotogate .*\n\Z")
+            self.assertRegex(said, rf"\Aprotogate-{name}, which (reads|writes) records of version 2\nprotogate .*\n\Z")
         page = subprocess.run([f"{tool}-report", "run.json"], cwd=self.top, env=env, stdout=subprocess.PIPE, check=True)
         self.assertIn("proto may be released", page.stdout.decode())
 

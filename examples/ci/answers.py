@@ -1,66 +1,16 @@
-"""What protogate answers for each type of both sides, and what is refused."""
+"""What protogate answers for each type of both sides, the causes of what breaks, and what is refused."""
 
 import os
 import re
 import shlex
 
-from calls import Stop, nearest, plain, protogate, side_by_side
+from calls import Stop, nearest, plain, side_by_side
+from runs import overviews_of
 from sides import MENDED_BY_PROTOC, is_skipped
+from ways import Ways, pair_of
+from witnesses import add_witness, settle_field, settle_readings
 
-PLACE = r"(-|.+:\d+:\d+)"
-STEP = re.compile(rf"step (\d+) (\S+) {PLACE} (\S+) {PLACE}")
-
-
-def answers_in(said, status):
-    """Returns what the gate says: of each direction its verdict, or the line of a refusal. Lines that aren't whole are no answer."""
-    answers, direction, reading = [], "forward", None
-    statuses = {"compatible": 0, "breaks": 1, "refused": status}
-    for line in said.split("\n"):
-        first, _, rest = line.partition(" ")
-        step = STEP.fullmatch(line)
-        if line in ("forward", "backward"):
-            direction, reading = line, None
-        elif line in ("old", "new") and answers:
-            reading = answers[-1].setdefault("readings", {}).setdefault(line, [])
-        elif reading is not None:
-            reading.append(line)
-        elif first in ("compatible", "breaks", "refused"):
-            answers.append({"direction": direction, "verdict": first, "said": rest, "steps": [], "status": statuses[first]})
-        elif first == "witness":
-            answers[-1]["witness"] = "" if rest == "-" else rest
-        elif step:
-            names = ("number", "old", "old_place", "new", "new_place")
-            answers[-1]["steps"].append(dict(zip(names, step.groups())))
-    is_whole = all(it["verdict"] != "breaks" or it["steps"] and "witness" in it and len(it.get("readings", "")) == 2 for it in answers)
-    if not is_whole or max([it["status"] for it in answers], default=None) != status:
-        raise Stop(3, f"protogate ended with {status}, and it isn't clear what its lines say: {said[:500]}")
-    return answers
-
-
-def gate_type(name, old, new, files, options):
-    """Returns the answers for a type: one, or with --both one a direction, with the witness as each side reads it."""
-    old_file, new_file = files
-    sides = old.words(old_file, "--old-dir", "--old") + new.words(new_file, "--new-dir", "--new")
-    status, said = protogate("gate", *sides, f"--type={name}", "--explain", *options)
-    answers = answers_in(os.fsdecode(said), status)
-    ways = ["forward", "backward"] if "--both" in options else ["forward"]
-    is_refused = [it["verdict"] for it in answers] == ["refused"]
-    if not is_refused and [(it["direction"], it["said"].split()[:1]) for it in answers] != [(it, [name]) for it in ways]:
-        raise Stop(3, f"protogate ended with {status}, and its lines don't answer for {name}: {os.fsdecode(said)[:500]}")
-    for answer in answers:
-        answer.update({"type": name, "old_file": old_file, "new_file": new_file})
-        if answer["verdict"] == "breaks":
-            answer["length"] = int(answer["said"].split()[-1])
-            answer["readings"] = {side: "".join(f"{it}\n" for it in lines if it) for side, lines in answer["readings"].items()}
-        # Backward the sides are exchanged: here 'old' is always the old side's reading and field.
-        if answer["verdict"] == "breaks" and answer["direction"] == "backward":
-            answer["readings"] = dict(old=answer["readings"]["new"], new=answer["readings"]["old"])
-        for step in answer["steps"]:
-            if answer["direction"] == "backward":
-                step.update(old=step["new"], new=step["old"], old_place=step["new_place"], new_place=step["old_place"])
-            step.update(old_text=old.line_at(step["old_place"]), new_text=new.line_at(step["new_place"]))
-            step.update(old_place=old.shown(step["old_place"]), new_place=new.shown(step["new_place"]))
-    return answers
+WAYS = ("forward", "backward")
 
 
 def pairs_of(name, old, new):
@@ -75,8 +25,9 @@ def pairs_of(name, old, new):
         yield from ((file, it) for it in found)
 
 
-def judge(name, old, new, options):
-    """Yields the answers for a type that either side has, or that is named. There is none where the other side's text is refused."""
+def judge(name, old, new, ways):
+    """Yields the answers for a type that either side has, or that is named; those of two source files have no verdict yet. There is none
+    where the other side's text is refused."""
     base = {"type": name, "direction": "forward", "steps": [], "old_file": None, "new_file": None}
     if name not in old.declared and name not in new.declared:
         known = sorted({*old.declared, *new.declared})
@@ -86,12 +37,102 @@ def judge(name, old, new, options):
         if known:
             yield {**base, "verdict": "added", "status": 0, "new_file": known[0]}
     else:
-        for files in pairs_of(name, old, new):
-            if files[1]:
-                yield from gate_type(name, old, new, files, options)
+        for old_file, new_file in pairs_of(name, old, new):
+            if new_file:
+                yield from ({**base, "direction": way, "old_file": old_file, "new_file": new_file, "verdict": None} for way in ways)
             else:
                 added = sorted(set(new.declared) - set(old.declared))
-                yield {**base, "verdict": "removed", "status": 2, "old_file": files[0], "nearest": nearest(name, added)}
+                yield {**base, "verdict": "removed", "status": 2, "old_file": old_file, "nearest": nearest(name, added)}
+
+
+class Findings:
+    """What the runs say: the length of each type's shortest message that breaks, or None, by direction, type and both source files; what is
+    refused, by both source files; and the causes that the wanted types lead to, each once."""
+
+    def __init__(self, old, new, wanted, is_recorded):
+        self.old, self.new, self.wanted, self.is_recorded = old, new, wanted, is_recorded
+        self.lengths, self.refused, self.causes = {}, {}, {}
+
+    def gate(self, way, options):
+        """Gates the source files of the wanted types in one direction."""
+        pairs = dict.fromkeys((it["old_file"], it["new_file"]) for it in self.wanted)
+        pairs = [it for it in pairs if it not in self.refused]
+        for run, overview in overviews_of(pairs, self.old, self.new, way, options):
+            if overview.refused:
+                for pair in run.pairs:
+                    self.refused.setdefault(pair, (overview.refused, overview.status))
+            else:
+                self.take(run, overview, way)
+
+    def take(self, run, overview, way):
+        wanted = {(it["type"], it["old_file"], it["new_file"]) for it in self.wanted}
+        breaking, is_all = [], True
+        for name, length in overview.types.items():
+            key = (name, run.old.names[name], run.new.names[name])
+            if self.lengths.setdefault((way, *key), length) != length:
+                raise Stop(3, f"protogate has two answers for {name}: {length} and {self.lengths[(way, *key)]}")
+            if length is not None and key in wanted:
+                breaking.append(name)
+            is_all = is_all and (length is None or key in wanted)
+        if breaking:
+            self.take_causes(run, overview, way, breaking, is_all)
+
+    def take_causes(self, run, overview, way, breaking, is_all):
+        """Takes the causes that the breaking types lead to. Where these are all that break, they lead to all causes."""
+        halves = (run.old, run.new) if way == "forward" else (run.new, run.old)
+        ways = None
+        if self.is_recorded or not is_all:
+            ways = Ways(*(half.files.values() for half in halves), breaking)
+        for cause in overview.causes:
+            pair = pair_of(cause)
+            cause["types"] = ways.types_of(pair) if ways else []
+            if is_all or cause["types"]:
+                self.note(cause, run, way, pair if way == "forward" else pair[::-1])
+
+    def note(self, cause, run, way, pair):
+        files = (run.old.names.get(pair[0]), run.new.names.get(pair[1]))
+        names = (it[side] for it in cause["fields"] for side in ("old", "new"))
+        key = (way, cause["case"], cause["number"], cause["witness"], *files, *names)
+        if key in self.causes:
+            return
+        for field in cause["fields"]:
+            settle_field(field, self.old, self.new, way)
+        cause.update(direction=way, readings=settle_readings(cause["readings"], way), old_file=files[0], new_file=files[1])
+        cause["is_by_names"] = differs_by_names(cause)
+        self.causes[key] = cause
+
+    def settle(self, answer):
+        """Completes an answer for two source files, and returns whether there is one: a refusal is told once."""
+        pair = (answer["old_file"], answer["new_file"])
+        key = (answer["direction"], answer["type"], *pair)
+        if pair in self.refused:
+            said, status = self.refused[pair]
+            answer.update(verdict="refused", said=said, status=status)
+            return answer["direction"] == "forward"
+        if key not in self.lengths:
+            raise Stop(3, f"protogate wasn't asked for {answer['type']} of {plain(answer['old_file'])}")
+        length = self.lengths[key]
+        if length is None:
+            answer.update(verdict="compatible", said=answer["type"], status=0)
+        else:
+            answer.update(verdict="breaks", said=f"{answer['type']} {length}", status=1, length=length)
+        return True
+
+
+def gated(judged, old, new, call):
+    """Gates what was judged and has no verdict, and returns the answers for each type, and the causes of what breaks."""
+    wanted = [it for of_one in judged for it in of_one if it["verdict"] is None]
+    findings = Findings(old, new, wanted, bool(call.record))
+    options = ["--view", call.view] if call.view else []
+    for way in WAYS[: 1 + call.both] if wanted else ():
+        findings.gate(way, options)
+    answers = [[it for it in of_one if it["verdict"] or findings.settle(it)] for of_one in judged]
+    # A type that is named has its own shortest message too.
+    breaking = [it for of_one in answers for it in of_one if call.types and it["verdict"] == "breaks"]
+    side_by_side(lambda it: add_witness(it, old, new, options), breaking)
+    for it in breaking:
+        it["is_by_names"] = differs_by_names(it)
+    return answers, list(findings.causes.values())
 
 
 def refusals_of(side):
@@ -110,19 +151,20 @@ def refusals_of(side):
                "protoc_says": says[0] if says else None, "advice": None}
 
 
-def gate_all(old, new, names, skipped, options):
-    """Returns the answers, by old text and order of declaration, and the refusals: with names, those that may hide a named type."""
-    wanted = names or [*old.declared, *(it for it in new.declared if it not in old.declared)]
-    wanted = [it for it in wanted if it not in skipped]
-    found = side_by_side(lambda it: list(judge(it, old, new, options)), wanted)
+def gate_all(old, new, call):
+    """Returns the answers, by old text and order of declaration, the causes of what breaks, and the refusals: with names, those that may hide
+    a named type."""
+    wanted = call.types or [*old.declared, *(it for it in new.declared if it not in old.declared)]
+    wanted = [it for it in wanted if it not in call.skip]
+    found, causes = gated([list(judge(it, old, new, WAYS[: 1 + call.both])) for it in wanted], old, new, call)
     answers = [it for of_one in found for it in of_one]
     is_hidden = not all(found) or any(it["verdict"] in ("removed", "refused", "added") for it in answers)
     is_hidden = is_hidden or any(new.hides(file) for it in wanted for file in old.declared.get(it, []))
     is_hidden = is_hidden or any(old.hides(file) for it in wanted for file in new.declared.get(it, []))
-    is_hidden = is_hidden or names and any(side.may_declare(it) for side in (old, new) for it in wanted)
-    refusals = [*refusals_of(old), *refusals_of(new)] if not names or is_hidden else []
-    unread = [it for side in (old, new) for it in unread_of(side, skipped)]
-    return answers, refusals + unread + list(passed_by(old, new, answers, wanted, skipped))
+    is_hidden = is_hidden or call.types and any(side.may_declare(it) for side in (old, new) for it in wanted)
+    refusals = [*refusals_of(old), *refusals_of(new)] if not call.types or is_hidden else []
+    unread = [it for side in (old, new) for it in unread_of(side, call.skip)]
+    return answers, causes, refusals + unread + list(passed_by(old, new, answers, wanted, call.skip))
 
 
 def unread_refusal(side, path, kind, why):

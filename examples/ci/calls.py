@@ -16,7 +16,7 @@ class Stop(Exception):
 
 def plain(words):
     """Returns words as one line may hold them: what isn't printed, and what isn't UTF-8, by its number."""
-    return "".join(it if it.isprintable() else escape(it) for it in words)
+    return words if words.isprintable() else "".join(it if it.isprintable() else escape(it) for it in words)
 
 
 def escape(letter):

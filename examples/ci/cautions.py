@@ -4,31 +4,35 @@ They never change an answer or a status. A caution has a subject (a field, an en
 declared, its place there, words, and the place on the new side at which it is shown: the file alone where its lines aren't surely known.
 """
 
-from calls import protogate, side_by_side
+import functools
+
 from declarations import declared_in
 from places import places_of
-from sides import is_skipped
 
 STREAMS = {(0, 0): "no stream", (1, 0): "a stream of requests", (0, 1): "a stream of responses", (1, 1): "streams both ways"}
 
 
 class Declarations:
-    """What the source files of a side declare, and where."""
+    """What the source files of a side declare, and where. A file is read where it is asked for."""
 
-    def __init__(self, side, files):
-        self.side, self.known = side, {}
-        self.of_file = dict(zip(files, side_by_side(self.read, files)))
-        self.files_of = {}
-        for file, declared in self.of_file.items():
-            for name in declared:
-                self.files_of.setdefault(name, []).append(file)
+    def __init__(self, side):
+        self.side, self.known, self.read = side, {}, {}
+        self.files = dict.fromkeys(it for it in side.files if it in side.was_read and it not in side.refused)
 
-    def read(self, file):
-        if file in self.side.sets:
-            with open(self.side.sets[file], "rb") as made:
-                return declared_in(made.read(), file)
-        status, said = protogate("compile", f"--dir={self.side.folder}", "--", file)
-        return declared_in(said, file) if status == 0 else {}
+    def of(self, file):
+        """Returns what a file declares, by full name."""
+        if file not in self.read:
+            self.read[file] = declared_in(self.side.file_of(file).descriptor) if file in self.files else {}
+        return self.read[file]
+
+    @functools.cached_property
+    def files_of(self):
+        """The files that declare each name: all of them are read."""
+        found = {}
+        for file in self.files:
+            for name in self.of(file):
+                found.setdefault(name, []).append(file)
+        return found
 
     def place(self, file, kind, name, number=None):
         """Returns a name's place in a source file, or the file alone."""
@@ -41,12 +45,14 @@ class Declarations:
         if file in self.side.sets:
             return {}
         with open(f"{self.side.folder}/{file}", "rb") as opened:
-            return places_of(opened.read(), self.of_file[file])
+            return places_of(opened.read(), self.of(file))
 
     def like(self, name, file):
         """Returns the file that declares a name: the same one, or the only one."""
+        if name in self.of(file):
+            return file
         found = self.files_of.get(name, [])
-        return file if file in found else found[0] if len(found) == 1 else None
+        return found[0] if len(found) == 1 else None
 
 
 class Pair:
@@ -54,7 +60,7 @@ class Pair:
 
     def __init__(self, name, old, new, old_file, new_file):
         self.name, self.sides, self.files = name, {"old": old, "new": new}, {"old": old_file, "new": new_file}
-        self.old, self.new = old.of_file[old_file][name], new.of_file[new_file][name]
+        self.old, self.new = old.of(old_file)[name], new.of(new_file)[name]
 
     def caution(self, side, kind, part, number, words):
         """A caution on a part. What only the old side has is shown on the new one where the whole is declared."""
@@ -112,15 +118,15 @@ def service_removed(name, old, new, file):
     """A caution on a service that the new side hasn't, shown in the file where it was, if that is still there."""
     place = old.place(file, "service", name)
     words = "the service was removed: calls of old clients fail."
-    return {"subject": name, "side": "old", "place": place, "words": words, "new_place": file if file in new.of_file else None}
+    return {"subject": name, "side": "old", "place": place, "words": words, "new_place": file if file in new.files else None}
 
 
-def of_other_names(old, new, is_whole, enums):
+def of_other_names(old, new, files, is_whole, enums):
     """Yields cautions on enums (those named, or all) and, where all is asked for, on services."""
-    for file, declared in old.of_file.items():
-        for name, it in declared.items():
+    for file in files:
+        for name, it in old.of(file).items():
             there = new.like(name, file)
-            is_same = there and new.of_file[there][name].kind == it.kind
+            is_same = there and new.of(there)[name].kind == it.kind
             if it.kind == "enum" and is_same and (enums is None or name in enums):
                 yield from of_enums(Pair(name, old, new, file, there))
             elif it.kind == "service" and enums is None:
@@ -130,17 +136,18 @@ def of_other_names(old, new, is_whole, enums):
                     yield service_removed(name, old, new, file)
 
 
-def cautions_of(old_side, new_side, answers, names, skipped):
-    """Returns the cautions on the types that were gated; without names of types, on enums and services of the files too."""
-    sides = []
-    for side in (old_side, new_side):
-        sides.append(Declarations(side, [it for it in side.files if not is_skipped(it, skipped) and it not in side.refused]))
-    old, new = sides
+def cautions_of(old_side, new_side, answers, names):
+    """Returns the cautions on the types that were gated; without names of types, on enums and services of the files too. A file that is the
+    same on both sides needs none, unless what it declares is gated against another one."""
+    old, new = Declarations(old_side), Declarations(new_side)
+    changed = dict.fromkeys(
+        it for it in old.files if it not in new.files or old_side.file_of(it).descriptor != new_side.file_of(it).descriptor)
     gated = dict.fromkeys((it["type"], it["old_file"], it["new_file"]) for it in answers if it["verdict"] in ("compatible", "breaks"))
-    pairs = [Pair(name, old, new, *files) for name, *files in gated
-             if name in old.of_file.get(files[0], ()) and name in new.of_file.get(files[1], ())]
+    if not names:
+        gated = [it for it in gated if it[1] != it[2] or it[1] in changed]
+    pairs = [Pair(name, old, new, *files) for name, *files in gated if name in old.of(files[0]) and name in new.of(files[1])]
     found = [it for pair in pairs for it in of_messages(pair)]
     enums = {it.enum for pair in pairs for it in pair.old.parts.values() if it.enum} if names else None
     # A service may be in a file that wasn't read.
-    is_whole = len(new.of_file) == len(new_side.files)
-    return found + list(of_other_names(old, new, is_whole, enums))
+    is_whole = len(new.files) == len(new_side.files)
+    return found + list(of_other_names(old, new, changed, is_whole, enums))

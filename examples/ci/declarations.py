@@ -1,10 +1,6 @@
 """What a file of a descriptor set declares: fields, values of enums and methods, as far as a change of them is worth a warning."""
 
-import os
-
-from sets import last, records
-
-REPEATED, MESSAGE, ENUM = 3, 11, 14
+from sets import ENUM, MESSAGE, REPEATED, last, records
 
 
 class Declared:
@@ -78,13 +74,10 @@ def service_of(message, scope):
     return made
 
 
-def declared_in(descriptor_set, file):
-    """Returns what a file of a FileDescriptorSet declares, by full name."""
-    for _, descriptor in records(descriptor_set):
-        if last(descriptor, 1) == os.fsencode(file):
-            package = last(descriptor, 2).decode()
-            scope = f"{package}." if package else ""
-            found = [it for message in values_of(descriptor, 4) for it in messages_of(message, scope)]
-            found += [enum_of(it, scope) for it in values_of(descriptor, 5)] + [service_of(it, scope) for it in values_of(descriptor, 6)]
-            return {it.name: it for it in found}
-    return {}
+def declared_in(descriptor):
+    """Returns what a file of a descriptor set declares, by full name."""
+    package = last(descriptor, 2).decode()
+    scope = f"{package}." if package else ""
+    found = [it for message in values_of(descriptor, 4) for it in messages_of(message, scope)]
+    found += [enum_of(it, scope) for it in values_of(descriptor, 5)] + [service_of(it, scope) for it in values_of(descriptor, 6)]
+    return {it.name: it for it in found}

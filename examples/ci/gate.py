@@ -2,20 +2,23 @@
 """Gates the message types of a folder against a revision of git, with protogate: may the folder be released as it stands?
 
 The old side is FOLDER as it was at REVISION, the new side is FOLDER in the work tree. Each message type of the old side is gated,
-or each that is named, and a line is printed of each:
+or each that is named. All that breaks is told in one run, each cause once:
 
-  compatible TYPE
-  breaks TYPE LENGTH witness HEX at OLDFIELD OLDPLACE NEWFIELD NEWPLACE
-                                   two fields that meet in a oneof are divided by 'and'
-  removed TYPE                     the new side has no such type
-  added TYPE                       only the new side has it: nothing can break
+  cause CASE LENGTH HEX NUMBER OLDFIELD OLDPLACE NEWFIELD NEWPLACE
+                                   why something breaks, with a message of the field's type that shows it; of two fields that meet in
+                                   a oneof the last four words come twice. A sentence follows, on a line of its own, after two spaces
   refused SIDE CODE PLACE          a file of that side has a fault; what is in it isn't gated
   refused SIDE KIND PATH           what is there can't be gated: a submodule, link, file, folder or name; or it is unseen, or there twice
   refused E901 TYPE                neither side has the type that is named
+  breaks TYPE LENGTH               the length of the shortest message of this type that breaks. Of a type that is named the message follows,
+                                   as 'witness HEX at OLDFIELD OLDPLACE NEWFIELD NEWPLACE'
+  removed TYPE                     the new side has no such type
+  added TYPE                       only the new side has it: nothing can break
+  compatible COUNT types           with --types, and of types that are named, a line 'compatible TYPE' each
   no message types                 both sides were read, and neither declares one
   refused skip NAME DAY            a skip of the settings had that last day
 
-With --both a line of a type that is gated begins with 'forward', or with 'backward' for what old programs read of new messages.
+With --both a line of what is gated begins with 'forward', or with 'backward' for what old programs read of new messages.
 
 Each file whose name ends in .proto is read, links that stay in FOLDER and submodules that are checked out too. What isn't looked at is a
 line and status 2, unless --skip names it. Imports are found below FOLDER, below each --include, and where the library is installed.
@@ -32,20 +35,20 @@ import os
 import sys
 import tempfile
 
-from answers import differs_by_names, gate_all
-from calls import Stop, called, did_you_mean, look_for_program, plain
+from answers import gate_all
+from calls import Stop, called, did_you_mean, look_for_program, plain, side_by_side
 from cautions import cautions_of
-from roots import Root, Roots, library
+from roots import Root, Roots, library, may_import_library
 from settings import FILE, Settings, completed
 from sides import Side
-from trees import Laid, Place, advice_on_branch, commit_of, lay_out, lines_of, no_folder, of_work_tree, top_of_work_tree
+from trees import Place, advice_on_branch, commit_of, lay_out, lines_of, no_folder, of_work_tree, top_of_work_tree
 from walks import Walk
 from wording import advise, print_all, print_skips, say
 
 # As users call this.
 NAME = os.environ.get("PROTOGATE_CI_NAME") or "gate.sh"
 # Of the record. A change of what a key means makes it another one.
-VERSION = 1
+VERSION = 2
 
 
 class Parser(argparse.ArgumentParser):
@@ -73,6 +76,7 @@ def parser_of():
     made.add_argument("--include", metavar="FOLDER", action="append", default=[],
                       help="look for imports in this folder of the repository too, on the old side as it was at REVISION")
     made.add_argument("--skip", metavar="NAME", action="append", default=[], help="leave out a type, or a file or a folder below FOLDER")
+    made.add_argument("--types", dest="names_types", action="store_true", help="name each compatible type, in the place of a count")
     made.add_argument("--both", action=argparse.BooleanOptionalAction, help="ask for both directions, or forward alone")
     made.add_argument("--view", choices=["numbers", "names"], help="compare enums by numbers alone, or by names too")
     made.add_argument("--with-protoc", action=argparse.BooleanOptionalAction, help="where a text is refused, gate the set that protoc makes of it")
@@ -110,24 +114,43 @@ def side_of(name, places, laid, library_root, room):
     there = [(place, it) for place, it in zip(places, laid) if it]
     walks = [Walk(it.folder, place.folder, it.files_outside) for place, it in there]
     roots = [Root(it.folder, walk, place.top, it.unread) for (place, it), walk in zip(there, walks)]
-    return Side(name, laid[0], Roots(roots + [library_root] * bool(library_root), room))
+    if library_root and may_import_library(roots):
+        roots.append(library_root)
+    return Side(name, laid[0], Roots(roots, room))
+
+
+def laid_out(call, commit, places, is_here, room):
+    """Lays out the old side of a call. A folder for imports may be missing on one side: `is_here` says which folders are there now."""
+    laid = [lay_out(commit, it, room) for it in places]
+    if not laid[0]:
+        raise no_folder(call.revision, commit, places[0].folder)
+    for place, old_one, is_now in list(zip(places, laid, is_here))[1:]:
+        if not old_one and not is_now:
+            raise Stop(4, f"--include: there is no folder {plain(place.folder)}, at {plain(call.revision)} or now")
+    return laid
+
+
+def here(places, is_here):
+    """Returns the new side of a call, the folders of the work tree."""
+    folder = places[0].folder
+    if not is_here[0]:
+        folders = [it for it in os.listdir(".") if os.path.isdir(it)]
+        raise Stop(4, f"there is no folder {plain(folder)}{did_you_mean(folder, folders)}")
+    return [of_work_tree(place) if it else None for place, it in zip(places, is_here)]
 
 
 def sides_of(call, commit, places, room):
-    """Returns both sides of a call. A folder for imports may be missing on one of them."""
-    old = [lay_out(commit, it, room) for it in places]
-    if not old[0]:
-        raise no_folder(call.revision, commit, places[0].folder)
-    new = [Laid(it.folder) if os.path.isdir(it.folder) else None for it in places]
-    if not new[0]:
-        folder = places[0].folder
-        raise Stop(4, f"there is no folder {plain(folder)}{did_you_mean(folder, [it for it in os.listdir('.') if os.path.isdir(it)])}")
-    for place, old_one, new_one in zip(places, old, new):
-        if not old_one and not new_one:
-            raise Stop(4, f"--include: there is no folder {plain(place.folder)}, at {plain(call.revision)} or now")
-    new = [of_work_tree(place) if it else None for place, it in zip(places, new)]
+    """Returns both sides of a call, once their source files are read. While git lays out the old side, the new one is read."""
+    is_here = [os.path.isdir(it.folder) for it in places]
     library_root = library(room)
-    return side_of("old", places, old, library_root, room), side_of("new", places, new, library_root, room)
+
+    def made(name):
+        laid = laid_out(call, commit, places, is_here, room) if name == "old" else here(places, is_here)
+        side = side_of(name, places, laid, library_root, room)
+        side.read(call.skip, room if call.with_protoc else None)
+        return side
+
+    return side_by_side(made, ["old", "new"])
 
 
 def say_what_is_passed_over(sides, said):
@@ -151,28 +174,23 @@ def recorded(call, room):
     """Gates what the call names, and returns the record of it."""
     commit = commit_of(call.revision)
     places = [Place(it) for it in (call.folder, *call.include)]
+    look_for_program()
     old, new = sides = sides_of(call, commit, places, room)
     folder = places[0].folder
     if not any(it.files or it.unread for it in sides):
         raise Stop(4, f"{plain(folder)} has no file whose name ends in .proto, at {plain(call.revision)} or now")
-    look_for_program()
-    for side in sides:
-        side.read(call.skip, room if call.with_protoc else None)
     say_what_is_passed_over(sides, call.said)
     call.known.update(names_of(sides))
-    options = ["--both"] * call.both + (["--view", call.view] if call.view else [])
-    answers, refusals = gate_all(old, new, call.types, call.skip, options)
-    for it in answers:
-        it["is_by_names"] = differs_by_names(it)
+    answers, causes, refusals = gate_all(old, new, call)
     status = max([it["status"] for it in answers + refusals], default=0)
     if any(it["verdict"] in ("breaks", "removed") for it in answers):
         advice = advice_on_branch(call.revision, commit)
         for it in answers:
             it.update({"advice": advice} if advice and it["verdict"] in ("breaks", "removed") else {})
-    cautions = cautions_of(old, new, answers, call.types, call.skip)
+    cautions = cautions_of(old, new, answers, call.types)
     is_empty = not (old.declared or new.declared or refusals or call.skip or call.types)
     return {"call": words_of(call), "revision": call.revision, "commit": commit, "folder": folder, "prefix": places[0].top, "both": call.both,
-            "view": call.view or "numbers", "status": status, "answers": answers, "refusals": refusals, "is_empty": is_empty,
+            "view": call.view or "numbers", "status": status, "causes": causes, "answers": answers, "refusals": refusals, "is_empty": is_empty,
             "warnings": cautions, "outside": {**old.outside, **new.outside}}
 
 
@@ -195,7 +213,7 @@ def gate_releases(call):
             say(f"== {call.revision} ==")
         with tempfile.TemporaryDirectory(prefix="protogate-ci-") as room:
             record["runs"].append(recorded(call, room))
-        print_all(record["runs"][-1], call.github)
+        print_all(record["runs"][-1], call.github, call.names_types or bool(call.types))
         sys.stdout.flush()
     advise_on_skips(call)
     record["status"] = max([record["status"], *(it["status"] for it in record["runs"])])

@@ -45,6 +45,18 @@ def library(room):
     return Root(folder, None, None)
 
 
+def may_import_library(roots):
+    """Returns whether a source file below some roots may import one of the library. An import with an escape, or in parts, may be any."""
+    for root in roots:
+        for path in root.walk.texts:
+            with open(os.path.join(root.folder, path), "rb") as opened:
+                text = opened.read()
+            odd = (it for it in re.findall(rb"import\b[^;]*", text) if b"\\" in it or it.count(b'"') + it.count(b"'") > 2)
+            if b"google/protobuf/" in text or any(odd):
+                return True
+    return False
+
+
 def is_proto3(path):
     with open(path, "rb") as text:
         return re.search(rb"""^\s*syntax\s*=\s*["']proto3["']""", text.read(), re.M) is not None

@@ -4,8 +4,8 @@ import os
 import re
 import subprocess
 
-from calls import Stop, plain, protogate, run, side_by_side
-from sets import types_in
+from calls import Stop, plain, run
+from reading import Reading, files_of_set
 from trees import LINK, SUBMODULE
 from walks import is_below, is_text
 
@@ -21,25 +21,6 @@ def is_skipped(path, skipped):
     return is_below(path, skipped) or plain(path) in skipped
 
 
-def types_of(folder, file):
-    """Returns the message types that a text declares, and the line of its refusal where it has none, with the status."""
-    status, said = protogate("compile", f"--dir={folder}", "--", file)
-    if status == 0:
-        return types_of_set(said, file, "protogate"), None, 0
-    said = os.fsdecode(said).strip()
-    if status == 1 or not re.fullmatch(r"refused E\d{3}(?: .+)?", said, re.S):
-        raise Stop(3, f"protogate ended with {status} on {plain(file)}, and it isn't clear what it says: {said[:500]}")
-    return [], said, status
-
-
-def types_of_set(made, file, maker):
-    """Returns the message types that a file of a set declares. A set that is cut off, or that lacks the file, is no answer."""
-    try:
-        return types_in(made, file)
-    except (LookupError, ValueError):
-        raise Stop(3, f"the set that {maker} made of {plain(file)} isn't whole") from None
-
-
 class Side:
     """One side: its source files, which of them declares each type, the set that each is gated as, each refusal with its files, and what
     can't be gated, with the reason. `laid` is the gated folder, as git lists it. `roots` has the folders of its imports too."""
@@ -50,25 +31,36 @@ class Side:
         self.files = self.walk.texts
         self.unread = {**self.walk.unread, **laid.unread, **roots.twice}
         self.declared, self.sets, self.refusals, self.protoc_says = {}, {}, {}, {}
+        # What a set says of each source file that was compiled and of what it imports, and the files of each set that protoc made.
+        self.known, self.in_sets = {}, {}
         # The source files that were read and that are refused. What is shown of files outside the gated folder, with their paths from the
         # top of the repository.
         self.was_read, self.refused, self.outside = set(), set(), {}
 
     def read(self, skipped, room):
-        """Reads each text. With a folder for sets, what is refused is tried by protoc."""
+        """Reads the source files. With a folder for sets, what is refused is tried by protoc."""
         files = [it for it in self.files if not is_skipped(it, skipped)]
         self.was_read.update(files)
-        for file, (types, refusal, status) in zip(files, side_by_side(lambda it: types_of(self.folder, it), files)):
+        reading = Reading(self.folder)
+        reading.read(files)
+        self.known = reading.known
+        for file in files:
+            refusal, status = reading.refused.get(file, (None, 0))
             if refusal and room and refusal.split()[1] in MENDED_BY_PROTOC:
-                types, refusal = self.read_by_protoc(file, refusal, room)
-            for it in types:
-                self.declared.setdefault(it, []).append(file)
+                refusal = self.read_by_protoc(file, refusal, room)
             if refusal:
                 self.refusals.setdefault((refusal.partition(" ")[2], status), []).append(file)
                 self.refused.add(file)
+                continue
+            for it in self.file_of(file).types:
+                self.declared.setdefault(it, []).append(file)
+
+    def file_of(self, file):
+        """Returns what a set says of a source file that isn't refused."""
+        return self.in_sets[file][file] if file in self.sets else self.known[file]
 
     def read_by_protoc(self, file, refusal, room):
-        """Returns the types of a text by the set that protoc makes of it. Where it makes none, the refusal stands."""
+        """Has protoc make a set of a source file, with all that it imports. Where it makes none, the refusal is returned."""
         made = f"{room}/{self.name}.{len(self.sets)}.pb"
         words = ["protoc", "-I.", "--include_imports", f"--descriptor_set_out={made}", f"./{file}"]
         try:
@@ -77,10 +69,11 @@ class Side:
             raise Stop(3, "--with-protoc: there is no protoc on the path") from None
         if status != 0:
             self.protoc_says[file] = faults.strip()
-            return [], refusal
+            return refusal
         self.sets[file] = made
         with open(made, "rb") as opened:
-            return types_of_set(opened.read(), file, "protoc"), None
+            self.in_sets[file] = files_of_set(opened.read(), [file], "protoc")
+        return None
 
     def hides(self, file):
         """Returns whether a file may declare what isn't known, since it is refused or can't be read."""

@@ -106,5 +106,7 @@ def is_hidden(path, is_file):
 
 def is_below(path, paths):
     """Returns whether a path is one of others, or below one."""
+    if not paths:
+        return False
     parts = path.split("/")
     return any("/".join(parts[:count]) in paths for count in range(1, len(parts) + 1))

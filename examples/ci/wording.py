@@ -4,6 +4,7 @@ import re
 import sys
 
 from calls import plain
+from causes import mend, why
 from refusals import code_in, rule_of, sentences_on
 from settings import FILE
 
@@ -26,16 +27,36 @@ def last_fields(answer):
     return answer["steps"][-2:] if owners[-2:-1] == owners[-1:] else answer["steps"][-1:]
 
 
+def words_of(field):
+    return " ".join(field[it] for it in ("old", "old_place", "new", "new_place"))
+
+
+def line_of_cause(cause, both):
+    """The line of a cause, as the program prints it, but for a long message."""
+    words = ["cause", cause["case"], str(cause["length"]), shortened(cause["witness"]), cause["number"], *map(words_of, cause["fields"])]
+    return " ".join([cause["direction"]] * both + words)
+
+
 def line_of(answer, both):
+    """The line of an answer. A type that is named has its own shortest message in it."""
     verdict, name = answer["verdict"], answer["type"]
     words = [verdict, name]
     if verdict == "breaks":
-        fields = [" ".join(step[it] for it in ("old", "old_place", "new", "new_place")) for step in last_fields(answer)]
-        words += [str(answer["length"]), "witness", shortened(answer["witness"]) or "-", "at", " and ".join(fields)]
+        words.append(str(answer["length"]))
+        if answer["steps"]:
+            words += ["witness", shortened(answer["witness"]) or "-", "at", " and ".join(map(words_of, last_fields(answer)))]
     elif verdict == "refused":
         words = [verdict, answer["said"], name]
     is_gated = both and answer["new_file"] and answer["old_file"]
     return " ".join([answer["direction"]] * bool(is_gated) + words)
+
+
+def counts_of(run):
+    """Yields a line of each direction that has compatible types: how many there are."""
+    for way in ("forward", "backward"):
+        count = sum(it["verdict"] == "compatible" and it["direction"] == way for it in run["answers"])
+        if count:
+            yield f"{way} " * run["both"] + f"compatible {count} type" + "s" * (count > 1)
 
 
 def explanation_of(it, name):
@@ -92,20 +113,14 @@ def reading(side, lines):
     return f"The {side} side refuses it: {why}" + " (a text that isn't UTF-8)" * why.startswith("E604 ")
 
 
-def what_breaks(answer):
-    """What is said of a witness, for an annotation."""
-    who = "an old" if answer["direction"] == "forward" else "a new"
-    what = f"The shortest message that {who} program writes and the other"
-    witness = shortened(answer["witness"])
-    if answer["is_by_names"]:
-        message = f"{what} takes for something else: {witness}\nBoth sides read the same numbers in it; the enums give one of them other names."
-    else:
-        message = f"{what} misreads: {witness}"
-    fields = last_fields(answer)
-    if len(fields) == 2:
-        reader = "new" if answer["direction"] == "forward" else "old"
-        named = " and ".join(f"{it[reader]} ({it[reader + '_place']})" for it in fields)
-        message += f"\n{named} are in one oneof on the {reader} side, which keeps the last of them alone."
+def what_breaks(cause):
+    """What is said of a cause, for an annotation: why, the message that shows it, and what to do."""
+    writer = "an old" if cause["direction"] == "forward" else "a new"
+    message = f"{why(cause)}\nA message of {cause['fields'][0]['old'].rpartition('.')[0]} that {writer} program writes: {shortened(cause['witness'])}"
+    if len(cause["fields"]) == 2:
+        reader = "new" if cause["direction"] == "forward" else "old"
+        named = " and ".join(f"{it[reader]} ({it[reader + '_place']})" for it in cause["fields"])
+        message += f"\nThe fields are {named}."
     return message
 
 
@@ -119,16 +134,21 @@ def told(it, run):
     return " ".join(filter(None, (explanation_of(it, run["call"][0]), advice_on(it))))
 
 
+def annotation_of_cause(cause, run):
+    """The annotation of a cause, at the new side's field where that has a place, of two at the later one."""
+    field = cause["fields"][-1]
+    place = field["new_place"]
+    file = cause["new_file"] if place == "-" else place.rpartition(":")[0].rpartition(":")[0]
+    reads = "\n".join(reading(side, lines) for side, lines in cause["readings"].items())
+    message = f"{what_breaks(cause)}\n{reads}\nWhat to do: {mend(cause)}"
+    return annotation(f"protogate: {cause['case']} {field['new']}", message, file and path_of(file, run), place)
+
+
 def annotation_of(answer, run):
-    """The annotation of an answer that is no release, at the new side's last step where it has a place."""
-    verdict, path = answer["verdict"], answer["new_file"] or answer["old_file"]
-    title = f"protogate: {verdict} {answer['type']}"
-    if verdict != "breaks":
-        return annotation(title, told(answer, run) or title, path and path_of(path, run))
-    place = answer["steps"][-1]["new_place"]
-    file = path if place == "-" else place.rpartition(":")[0].rpartition(":")[0]
-    reads = "\n".join(reading(side, lines) for side, lines in answer["readings"].items())
-    return annotation(title, f"{what_breaks(answer)}\n{reads}", path_of(file, run), place)
+    """The annotation of a type that has no answer."""
+    path = answer["new_file"] or answer["old_file"]
+    title = f"protogate: {answer['verdict']} {answer['type']}"
+    return annotation(title, told(answer, run) or title, path and path_of(path, run))
 
 
 def annotation_of_refusal(refusal, run):
@@ -145,15 +165,20 @@ def annotation_of_caution(caution, run):
 
 
 def hints_of(run):
-    """Returns what goes to standard error beside the lines: what each code means, what may help, and warnings, each once."""
+    """Returns what goes to standard error beside the lines: what each code means, how to mend a cause, what may help, and warnings, each
+    once."""
     name, lines = run["call"][0], [*run["refusals"], *run["answers"]]
+    mends = [f"{it['case']}: What to do: {mend(it)}" for it in run["causes"]]
     warnings = [f"warning: {it['subject']}, {it['side']} {it['place']}: {it['words']}" for it in run["warnings"]]
-    return list(dict.fromkeys(filter(None, [explanation_of(it, name) for it in lines] + [advice_on(it) for it in lines] + warnings)))
+    hints = mends + [explanation_of(it, name) for it in lines] + [advice_on(it) for it in lines] + warnings
+    return list(dict.fromkeys(filter(None, hints)))
 
 
 def annotations_of(run):
-    return [*(annotation_of_refusal(it, run) for it in run["refusals"]), *(annotation_of(it, run) for it in run["answers"] if it["status"]),
-            *(annotation_of_caution(it, run) for it in run["warnings"])]
+    """Returns the annotations of a run: each cause and refusal, each type without an answer, and warnings."""
+    missing = [it for it in run["answers"] if it["verdict"] in ("removed", "refused")]
+    return [*(annotation_of_cause(it, run) for it in run["causes"]), *(annotation_of_refusal(it, run) for it in run["refusals"]),
+            *(annotation_of(it, run) for it in missing), *(annotation_of_caution(it, run) for it in run["warnings"])]
 
 
 def print_skips(skips, github):
@@ -169,20 +194,30 @@ def print_skips(skips, github):
                 say(annotation(f"protogate: refused skip {it['name']}", why, FILE, f"{place}:1"))
 
 
-def say(line):
-    """Prints one line, whatever is in a file's name."""
-    print(plain(line), flush=True)
+def say(*lines):
+    """Prints lines, whatever is in a file's name."""
+    print("".join(f"{plain(it)}\n" for it in lines), end="", flush=True)
 
 
-def print_all(run, github):
-    for refusal in run["refusals"]:
-        say(f"refused {refusal['side']} {refusal['code']} {refusal['place']}")
-    for answer in run["answers"]:
-        say(line_of(answer, run["both"]))
+def lines_of(run, names_types):
+    """Yields the lines of a run: the causes, each with why it breaks, then what is refused, the types that break, were removed or came, and
+    how many are compatible, or which."""
+    for cause in run["causes"]:
+        yield line_of_cause(cause, run["both"])
+        yield f"  {why(cause)}"
+    for it in run["refusals"]:
+        yield f"refused {it['side']} {it['code']} {it['place']}"
+    for verdict in ("refused", "breaks", "removed", "added", *["compatible"] * names_types):
+        yield from (line_of(it, run["both"]) for it in run["answers"] if it["verdict"] == verdict)
+    if not names_types:
+        yield from counts_of(run)
     if run["is_empty"]:
-        say("no message types")
-    sys.stdout.flush()
+        yield "no message types"
+
+
+def print_all(run, github, names_types):
+    say(*lines_of(run, names_types))
     for hint in hints_of(run):
         advise(hint)
-    for line in annotations_of(run) if github else ():
-        say(line)
+    if github:
+        say(*annotations_of(run))

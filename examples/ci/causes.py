@@ -1,0 +1,44 @@
+"""What a cause is, in sentences: why a change breaks, and how to mend it, by the word that the program has for the case."""
+
+CHANGE = "Give the field its old type back, or give what it holds now a field with a new number, and reserve the old number."
+NAMES = ("Give the number its old name back, or give what is meant now a number of its own. Where both names mean the same, compare by "
+         "numbers alone.")
+NAMED = "The number is the same on both sides, and the enums give it other names."
+
+# By the word of a case: why it breaks. `reader` is the program that misreads.
+WHY = {
+    "unlike": "The field holds another kind of value on the {reader} side: the {reader} program doesn't read this one.",
+    "value": "The {reader} program reads this value as another one, or refuses it.",
+    "name": NAMED,
+    "list-to-one": "Of two items the {reader} program keeps the last, or it merges them if they are messages; an empty one may be lost.",
+    "map": "The map's keys or values are of another kind on the {reader} side: the {reader} program doesn't read this entry.",
+    "map-key": "The {reader} program reads this key of the map as another one, or refuses it.",
+    "map-value": "The {reader} program reads this value of the map as another one, or refuses it.",
+    "oneof": "The {reader} side has both fields in one oneof: the {reader} program keeps the last of them alone.",
+}
+
+# What to do, where the new program misreads and where the old one does.
+MEND = {
+    "unlike": (CHANGE, CHANGE),
+    "value": (CHANGE, CHANGE),
+    "name": (NAMES, NAMES),
+    "list-to-one": ("Keep the list, or give the single field a new number, and reserve the old one.",
+                    "Keep the single field, or give the list a new number, and reserve the old one."),
+    "map": (CHANGE, CHANGE),
+    "map-key": (CHANGE, CHANGE),
+    "map-value": (CHANGE, CHANGE),
+    "oneof": ("Leave fields that the old side has out of a new oneof.", "Keep both fields in their oneof."),
+}
+
+
+def why(cause):
+    """Returns why a cause breaks. A word that isn't known is told as it is."""
+    words = NAMED if cause["is_by_names"] else WHY.get(cause["case"], f"The {{reader}} program misreads it ({cause['case']}).")
+    return words.format(reader="new" if cause["direction"] == "forward" else "old")
+
+
+def mend(cause):
+    """Returns what to do about a cause."""
+    if cause["is_by_names"]:
+        return NAMES
+    return MEND.get(cause["case"], (CHANGE, CHANGE))[cause["direction"] == "backward"]

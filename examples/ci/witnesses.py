@@ -1,0 +1,72 @@
+"""What `protogate gate` says of one type: the shortest message of it that breaks, the way to what breaks in it, and both readings."""
+
+import os
+import re
+
+from calls import Stop, protogate
+
+PLACE = r"(-|.+:\d+:\d+)"
+STEP = re.compile(rf"step (\d+) (\S+) {PLACE} (\S+) {PLACE}")
+# What an answer has more of a type that is named.
+OWN = ("witness", "steps", "readings")
+
+
+def answers_in(said, status):
+    """Returns what the gate says: of each direction its verdict, or the line of a refusal. Lines that aren't whole are no answer."""
+    answers, direction, reading = [], "forward", None
+    statuses = {"compatible": 0, "breaks": 1, "refused": status}
+    for line in said.split("\n"):
+        first, _, rest = line.partition(" ")
+        step = STEP.fullmatch(line)
+        if line in ("forward", "backward"):
+            direction, reading = line, None
+        elif line in ("old", "new") and answers:
+            reading = answers[-1].setdefault("readings", {}).setdefault(line, [])
+        elif reading is not None:
+            reading.append(line)
+        elif first in ("compatible", "breaks", "refused"):
+            answers.append({"direction": direction, "verdict": first, "said": rest, "steps": [], "status": statuses[first]})
+        elif first == "witness":
+            answers[-1]["witness"] = "" if rest == "-" else rest
+        elif step:
+            names = ("number", "old", "old_place", "new", "new_place")
+            answers[-1]["steps"].append(dict(zip(names, step.groups())))
+    is_whole = all(it["verdict"] != "breaks" or it["steps"] and "witness" in it and len(it.get("readings", "")) == 2 for it in answers)
+    if not is_whole or max([it["status"] for it in answers], default=None) != status:
+        raise Stop(3, f"protogate ended with {status}, and it isn't clear what its lines say: {said[:500]}")
+    return answers
+
+
+def shown(lines):
+    """Returns a reading as the record has it."""
+    return "".join(f"{it}\n" for it in lines if it)
+
+
+def settle_field(field, old, new, way):
+    """Makes 'old' the old side's field, also backward, where the sides are exchanged, and adds what is at both places."""
+    if way == "backward":
+        field.update(old=field["new"], new=field["old"], old_place=field["new_place"], new_place=field["old_place"])
+    field.update(old_text=old.line_at(field["old_place"]), new_text=new.line_at(field["new_place"]))
+    field.update(old_place=old.shown(field["old_place"]), new_place=new.shown(field["new_place"]))
+
+
+def settle_readings(readings, way):
+    """Returns both readings: 'old' is always the old side's."""
+    there = {side: shown(lines) for side, lines in readings.items()}
+    return dict(old=there["new"], new=there["old"]) if way == "backward" else there
+
+
+def add_witness(answer, old, new, options):
+    """Adds to an answer that breaks what the gate says of its type. Another answer than this one stops the run."""
+    name, way = answer["type"], answer["direction"]
+    both = [(old, answer["old_file"]), (new, answer["new_file"])]
+    (writer, written), (reader, read) = both if way == "forward" else both[::-1]
+    sides = writer.words(written, "--old-dir", "--old") + reader.words(read, "--new-dir", "--new")
+    status, said = protogate("gate", *sides, f"--type={name}", "--explain", *options)
+    found = answers_in(os.fsdecode(said), status)
+    if [(it["verdict"], it["said"]) for it in found] != [("breaks", f"{name} {answer['length']}")]:
+        raise Stop(3, f"protogate ended with {status}, and its lines don't answer for {name}: {os.fsdecode(said)[:500]}")
+    answer.update({it: found[0][it] for it in OWN})
+    answer["readings"] = settle_readings(answer["readings"], way)
+    for step in answer["steps"]:
+        settle_field(step, old, new, way)
