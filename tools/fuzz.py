@@ -14,7 +14,8 @@ just what docs/USAGE.md and docs/REFUSALS.md say of that subcommand and status. 
 - text, set: the certificate of `gate --cert` passes `verify`, with the same status and the length of its root, and names the view that was
   asked for, by numbers or by names. Of one in eight `gate` without `--cert` says the same; of one in sixteen `--both` begins with that, the
   witness has its length, the old side reads it and writes it again, and `--explain` says what `show` says of it. Of one in eight `types` names the types of the changed side, each
-  by its full name and the one that was asked for among them where the gate answers; it refuses what `gate` refuses of that side
+  by its full name and the one that was asked for among them where the gate answers; it refuses what `gate` refuses of that side. Of one in
+  sixteen `gate-all` says of all types what `gate` says of one and `types` names, and `show` reads the message of a cause as it says
 - text: what `compile` refuses, `gate` refuses alike; the set that `compile` writes is one for protoc, where it is there, and, of one in
   four, for `show`
 - certificate: `gate` answers what `verify` says has been proved
@@ -42,6 +43,7 @@ import tempfile
 import time
 
 sys.dont_write_bytecode = True
+import fuzz_all  # noqa: E402
 from fuzz_changes import changed_certificate, changed_message, changed_text  # noqa: E402
 from fuzz_grammar import ANSWERS, PROTOC_ALONE  # noqa: E402
 from fuzz_seeds import ROOT, Seed, all_seeds  # noqa: E402
@@ -56,7 +58,7 @@ MOST_FAILURES = 10
 # How the view is asked for by which enums are compared; without words it is that by numbers.
 VIEWS = ([], ["--view", "numbers"], ["--view", "names"])
 # Of so many inputs one is asked further things of: a start of the program takes longer than all else that is done with an input.
-SHOW_SHARE, TYPES_SHARE, PLAIN_SHARE, BOTH_SHARE = 4, 8, 8, 16
+SHOW_SHARE, TYPES_SHARE, PLAIN_SHARE, BOTH_SHARE, ALL_SHARE = 4, 8, 8, 16, 16
 PROTOC = shutil.which("protoc")
 ACCEPTED = {"compile": (0,), "gate": (0, 1), "verify": (0, 1, 5), "show": (0,), "types": (0,)}
 
@@ -304,12 +306,36 @@ def judge_compile(room, random_, side, name, type_, answer):
         expect(shown in ((0, b"again -\n"), (2, b"refused E901\n")), f"show of the set: {quoted(shown[1])}")
 
 
+def judge_all(room, random_, sides, type_):
+    """Asks for all types of two sides, and compares that with the answer for one of them, the types of each, and what is shown of a cause."""
+    view = random_.choice(VIEWS)
+    status, said = room.run(["gate", *sides, "--type", type_, *view])
+    status_of_all, whole = room.run(["gate-all", *sides, *view, "--explain"], "causes")
+    plain = room.run(["gate-all", *sides, *view])
+    if status_of_all in (2, 3) and whole.startswith(b"refused "):
+        expect(plain == (status, said) == (status_of_all, whole), f"gate: {quoted(said)}, gate-all: {quoted(whole)} {quoted(plain[1])}")
+        return
+    answer = fuzz_all.Answer(whole)
+    expect(plain == (status_of_all, answer.plain), f"gate-all: {quoted(plain[1])}, with --explain: {quoted(whole)}")
+    types = [room.run(["types", "--dir", it, sides[sides.index("--" + it) + 1]])[1].split() for it in ("old", "new")]
+    for fault in (*fuzz_all.faults(answer, status_of_all, *types), *fuzz_all.faults_beside_gate(answer, said, type_.encode())):
+        raise Failure(f"gate-all, {fault}: {quoted(whole)}, gate: {quoted(said)}")
+    if answer.causes:
+        _, _, witness, old, new, _, *readings = random_.choice(answer.causes)
+        shown = [shown_by(room, sides, side, owner.decode(), witness) for side, owner in (("old", old), ("new", new))]
+        is_deep = shown[0].startswith(b"refused E608")
+        expect(shown == readings and (is_deep or shown[0].endswith(b"again %s\n" % witness) and b"unknown" not in shown[0]),
+               f"gate-all: {quoted(whole)}, shown: {quoted(shown[0])} {quoted(shown[1])}")
+
+
 def judge_sides(room, random_, seed, side, type_):
     """Asks the gate of two sides of which one was changed, of a share also which types that has, and returns its status and text."""
     sides = sides_of(seed)
     status, said = judge_gate(room, random_, sides, type_)
     if random_.randrange(TYPES_SHARE) == 0:
         judge_types(room, side, sides, type_, (status, said))
+    if random_.randrange(ALL_SHARE) == 0:
+        judge_all(room, random_, sides, type_)
     return status, said
 
 

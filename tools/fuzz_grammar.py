@@ -23,6 +23,12 @@ STEP = rb"step %s %s %s %s %s\n" % (NUMBER, NAME, STEP_PLACE, NAME, STEP_PLACE)
 COMPATIBLE = rb"compatible %s\n" % NAME
 BREAKS = rb"breaks %s %s\nwitness %s\n(?:%s)+" % (NAME, NUMBER, HEX, STEP)
 
+FIELDS = rb"%s %s %s %s" % (NAME, STEP_PLACE, NAME, STEP_PLACE)
+CASE = rb"(?:unlike|value|name|list-to-one|map|map-key|map-value)"
+CAUSE = rb"cause (?:%s %s %s %s|oneof %s %s %s %s) %s\n" % (CASE, NUMBER, HEX, NUMBER, NUMBER, HEX, NUMBER, FIELDS, FIELDS)
+TYPE = rb"(?:%s|breaks %s %s\n)" % (COMPATIBLE, NAME, NUMBER)
+REMOVED, ADDED = rb"removed %s\n" % NAME, rb"added %s\n" % NAME
+
 ITEM = rb"(?:int -?\d+|f32 [0-9a-f]{8}|f64 [0-9a-f]{16}|(?:text|bytes) %s|msg)" % BYTES
 SHOWN = rb"(?:  )*(?:%s %s (?:key %s value )?%s|unknown %s)\n" % (NUMBER, WORD, ITEM, ITEM, HEX)
 
@@ -43,6 +49,14 @@ FAILED_OF_A_SIDE = rb"(?:old|new) %s" % FAILED
 NO_ROOT = rb"E90[12]"
 NOT_PROVED = rb"E80[12567]|E803 %s %s|E804 %s %s %s [1-6]|E301 [^\n]*" % (NAME, NAME, NAME, NAME, NUMBER)
 
+
+
+def all_of(cause):
+    """What `gate-all` prints, where a cause is of this form."""
+    return {0: rb"(?:%s)*(?:%s)*" % (COMPATIBLE, ADDED), 1: rb"(?:%s)+(?:%s)+(?:%s)*" % (cause, TYPE, ADDED),
+            2: rb"(?:%s)*(?:%s)*(?:%s)+(?:%s)*|%s" % (cause, TYPE, REMOVED, ADDED, refused(OF_A_SIDE)), 3: refused(FAILED_OF_A_SIDE)}
+
+
 FORMS = {
     "compile": {0: rb"\n[\0-\xff]+", 2: refused(TEXT_FAULT), 3: refused(FAILED)},
     "gate": {0: COMPATIBLE, 1: BREAKS, 2: refused(OF_A_SIDE, NO_ROOT), 3: refused(FAILED_OF_A_SIDE)},
@@ -51,6 +65,8 @@ FORMS = {
     "both": {0: rb"forward\n%sbackward\n%s" % (COMPATIBLE, COMPATIBLE),
              1: rb"forward\n(?:%s|%s)backward\n(?:%s|%s)" % (COMPATIBLE, BREAKS, COMPATIBLE, BREAKS)},
     "explained": {1: BREAKS + rb"old\n%snew\n%s" % (READING, READING)},
+    "gate-all": all_of(CAUSE),
+    "causes": all_of(CAUSE + rb"old\n%snew\n%s" % (READING, READING)),
     "verify": {0: COMPATIBLE, 1: rb"breaks %s %s\n" % (NAME, NUMBER), 2: refused(OF_A_SIDE, NOT_PROVED),
                3: refused(FAILED_OF_A_SIDE), 5: rb"bound %s %s\n" % (NAME, NUMBER)},
     "show": {0: rb"(?:%s)*again %s\n" % (SHOWN, BYTES), 2: refused(FAULT, rb"E90[15]"), 3: refused(FAILED)},

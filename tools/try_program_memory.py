@@ -4,7 +4,7 @@
     tools/try_program_memory.py [--jobs N] [PROGRAM]
 
 Each run either prints `refused E001` and ends with 3, or prints its answer and ends with its status. The calls are one of each
-subcommand, `gate` in both directions over a number of another sign inside a message, a oneof and a map, and `verify` of a certificate
+subcommand, `gate` in both directions over a number of another sign inside a message, a oneof and a map, `gate-all` over the same, and `verify` of a certificate
 that holds and of two that don't. Their answers stand here; they follow from the rules of docs/MODEL.md and docs/CERTIFICATES.md.
 
 A line is printed for each call: how many requests were refused, how often the program said so, how often it gave its answer all the
@@ -56,6 +56,14 @@ MAP = (
     "forward\nbreaks M 10\nwitness 0a080880808080081200\n" + step(1, "M.a", "2:33", "2:32")
     + f"backward\nbreaks M 15\nwitness 0a0d{MINUS_ONE}1200\n" + step(1, "M.a", "2:32", "2:33"))
 
+# As `gate-all` names the causes of the same changes, and what only one side has.
+ALL = f"gate-all {SIDES}"
+ALL_INSIDE = "cause value 6 088080808008 1 M.a m.proto:2:20 M.a m.proto:2:19\nbreaks M 6\nbreaks N 8\n"
+ALL_ONEOF = (
+    "cause oneof 4 08011001 1 M.a m.proto:2:19 M.a m.proto:2:29 M.b m.proto:2:32 M.b m.proto:2:42\n"
+    "old\n1 a int 1\n2 b int 1\nagain 08011001\nnew\n2 b int 1\nagain 1001\nbreaks M 4\nremoved X\nadded Y\n")
+ALL_MAP = "cause map-key 10 0a080880808080081200 1 M.a m.proto:2:33 M.a m.proto:2:32\nbreaks M 10\n"
+
 UNSIGNED = message("uint32 a = 1;")
 CALLS = [
     Call("compile", "compile --dir old m.proto", ONE, "", "", 0, bytes.fromhex(SET)),
@@ -64,6 +72,10 @@ CALLS = [
     Call("gate, a map", BOTH + "M", message("map<uint32, string> a = 1;"), message("map<int32, string> a = 1;"), "", 1, MAP),
     Call("gate, explained", f"gate {SIDES} --explain --type M", message("bytes a = 1;"), message("string a = 1;"), "", 1,
          "breaks M 3\nwitness 0a0180\n" + step(1, "M.a", "2:19", "2:20") + "old\n1 a bytes 80\nagain 0a0180\nnew\nrefused E604 at 0\n"),
+    Call("gate-all, a sign inside a message", ALL, nested("uint32 a = 1;"), nested("int32 a = 1;"), "", 1, ALL_INSIDE),
+    Call("gate-all, a oneof, explained", f"{ALL} --explain", message("int32 a = 1; int32 b = 2;") + "message X { }",
+         message("oneof k { int32 a = 1; int32 b = 2; }") + "message Y { }", "", 2, ALL_ONEOF),
+    Call("gate-all, a map", f"{ALL} --view names", message("map<uint32, string> a = 1;"), message("map<int32, string> a = 1;"), "", 1, ALL_MAP),
     Call("verify, it holds", f"verify {SIDES} c", ONE, UNSIGNED, certificate(11, MINUS_ONE), 1, "breaks M 11\n"),
     Call("verify, a bound too high", f"verify {SIDES} c", ONE, UNSIGNED, certificate(12, MINUS_ONE), 2, "refused E804 M M 1 2\n"),
     Call("verify, a witness not written", f"verify {SIDES} c", ONE, UNSIGNED, certificate(11, "0800" + MINUS_ONE), 2, "refused E805\n"),

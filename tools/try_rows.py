@@ -121,21 +121,25 @@ def try_failing_files(program):
 
 
 def try_slow_outputs(program):
-    """Runs the gate with an output that takes one byte at a time, and with one that fails at each byte, and returns what is wrong."""
+    """Runs the gate, for one type and for all, with an output that takes one byte at a time, and with one that fails at each byte, and returns
+    what is wrong."""
     if not shutil.which("cc"):
         print("passed over, without cc: slow outputs")
         return
-    text = b"breaks M 11\nwitness 08ffffffffffffffffff01\nstep 1 M.a m.proto:2:19 M.a m.proto:2:20\n"
+    fields = b"1 M.a m.proto:2:19 M.a m.proto:2:20\n"
+    answers = {"gate --type M": b"breaks M 11\nwitness 08ffffffffffffffffff01\nstep " + fields,
+               "gate-all": b"cause value 11 08ffffffffffffffffff01 " + fields + b"breaks M 11\n"}
     with tempfile.TemporaryDirectory(prefix="protogate-rows-") as folder:
         library = os.path.join(folder, "slow.so")
         subprocess.run(["cc", "-O2", "-shared", "-fPIC", "-o", library, os.path.join(ROOT, "tools/slow_output.c"), "-ldl"], check=True)
         for side, scalar in (("old", "int32"), ("new", "uint32")):
             put(folder, {f"{side}/m.proto": f'syntax = "proto3";\nmessage M {{ {scalar} a = 1; }}\n'.encode()})
-        words = "gate --old-dir old --new-dir new --old m.proto --new m.proto --type M".split()
-        yield fault_of("a slow output", (1, text), run(program, words, folder, LD_PRELOAD=library))
-        for at in range(1, len(text) + 1):
-            seen = run(program, words, folder, LD_PRELOAD=library, FAIL_AT=at)
-            yield fault_of(f"an output that fails at byte {at}", (3, text[:at - 1]), seen)
+        for call, text in answers.items():
+            words = f"{call} --old-dir old --new-dir new --old m.proto --new m.proto".split()
+            yield fault_of(f"{call}: a slow output", (1, text), run(program, words, folder, LD_PRELOAD=library))
+            for at in range(1, len(text) + 1):
+                seen = run(program, words, folder, LD_PRELOAD=library, FAIL_AT=at)
+                yield fault_of(f"{call}: an output that fails at byte {at}", (3, text[:at - 1]), seen)
 
 
 def main():
