@@ -15,14 +15,17 @@ import re
 OPTIONS = {
     "compile": ("dir",),
     "gate": ("old-dir", "new-dir", "old", "new", "type", "view"),
+    "gate-all": ("old-dir", "new-dir", "old", "new", "view"),
     "show": ("dir", "file", "type"),
     "types": ("dir",),
     "verify": ("old-dir", "new-dir", "old", "new"),
 }
-REQUIRED = {"compile": (), "gate": ("old", "new", "type"), "show": ("file", "type"), "types": (), "verify": ("old", "new")}
-FLAGS = {"gate": ("cert", "both", "explain")}
+REQUIRED = {"compile": (), "gate": ("old", "new", "type"), "gate-all": (), "show": ("file", "type"), "types": (), "verify": ("old", "new")}
+# The options that may come several times, and have to come once.
+SEVERAL = {"gate-all": ("old", "new")}
+FLAGS = {"gate": ("cert", "both", "explain"), "gate-all": ("explain",)}
 # How many words without a name a subcommand takes, at least and at most.
-PLAIN = {"compile": (1, None), "gate": (0, 0), "show": (1, 1), "types": (1, None), "verify": (1, 1)}
+PLAIN = {"compile": (1, None), "gate": (0, 0), "gate-all": (0, 0), "show": (1, 1), "types": (1, None), "verify": (1, 1)}
 VIEWS = ("numbers", "names")
 # What reading a path comes to, where it isn't bytes.
 MISSING, FAILED = "missing", "failed"
@@ -44,13 +47,16 @@ class Unanswerable(Exception):
 
 
 class Call:
-    """A command line that the program takes: its subcommand, the values of its options, its flags and its other words."""
+    """A command line that the program takes: its subcommand, the values of its options, and of those that may come several times, its flags
+    and its other words."""
 
-    def __init__(self, name, values, flags, plain):
-        self.name, self.values, self.flags, self.plain = name, values, flags, plain
+    def __init__(self, name, values, several, flags, plain):
+        self.name, self.values, self.several, self.flags, self.plain = name, values, several, flags, plain
 
     def sides(self):
         """Returns for each folder of the call its option, and the paths that are asked for below it."""
+        if self.name == "gate-all":
+            return [("old-dir", self.several["old"]), ("new-dir", self.several["new"])]
         if self.name in ("gate", "verify"):
             return [("old-dir", [self.values["old"]]), ("new-dir", [self.values["new"]])]
         file = [self.values["file"]] if "file" in self.values else []
@@ -65,6 +71,7 @@ class Call:
         return [
             self.name,
             *[f"--{option}={value}" for option, value in self.values.items()],
+            *[f"--{option}={value}" for option, values in self.several.items() for value in values],
             *[f"--{flag}" for flag in self.flags],
             *(["--", *self.plain] if self.plain else []),
         ]
@@ -103,16 +110,19 @@ def call_of(words):
     found = sorted_out(name, words[1:]) if name in OPTIONS else None
     if not found:
         return None
-    values, flags, plain = dict(found[0]), found[1], found[2]
+    values = {option: value for option, value in found[0] if option not in SEVERAL.get(name, ())}
+    several = {it: [value for option, value in found[0] if option == it] for it in SEVERAL.get(name, ())}
+    flags, plain = found[1], found[2]
     least, most = PLAIN[name]
     is_whole = (
-        len(values) == len(found[0])
+        len(values) + sum(map(len, several.values())) == len(found[0])
+        and all(several.values())
         and len(set(flags)) == len(flags)
         and all(it in values for it in REQUIRED[name])
         and values.get("view", VIEWS[0]) in VIEWS
         and least <= len(plain) <= (len(plain) if most is None else most)
     )
-    return Call(name, values, flags, plain) if is_whole else None
+    return Call(name, values, several, flags, plain) if is_whole else None
 
 
 def read(path):

@@ -44,7 +44,9 @@ class Answers(Compared):
                       ["gate", "--old", "a", "--old", "b", "--new", "a", "--type", "M"], ["types", "--dir", "."], ["compile", "--dir"],
                       ["gate", "--old", "a", "--new", "a", "--type", "M", "--view", "x"], ["verify", "--old", "a", "--new", "b", "c", "d"],
                       ["gate", "--old", "a", "--new", "a", "--type", "M", "--cert=x"], ["compile", "a", "--dir", "--", "b"],
-                      ["types", "--file", "a"], ["types", "--dir", "a=b", "--file=a", "a=b"]):
+                      ["types", "--file", "a"], ["types", "--dir", "a=b", "--file=a", "a=b"], ["gate-all"], ["gate-all", "--old", "a"],
+                      ["gate-all", "--old", "a", "--new", "b", "--type", "M"], ["gate-all", "--old", "a", "b", "--new", "c"],
+                      ["gate-all", "--old=a", "--new=b", "--view=names", "--view=names"], ["gate-all", "--old=a", "--new=b", "--both"]):
             self.same(*words, status=4)
 
     def test_each_subcommand(self):
@@ -52,6 +54,10 @@ class Answers(Compared):
         sides = ["--old-dir", "old", "--new-dir=new", "--old=m.proto", "--new", "m.proto"]
         for more in ([], ["--both"], ["--explain"], ["--both", "--explain", "--view", "names"]):
             self.same("gate", *sides, "--type", "M", *more, status=1)
+        self.write({"old/n.proto": HEAD + 'import "m.proto"; message N { M m = 1; }', "new/n.proto": HEAD})
+        self.same("gate-all", *sides, "--view", "names", status=1)
+        self.same("gate-all", *sides, "--old=n.proto", "--explain", "--new", "n.proto", "--old=m.proto", status=2)
+        self.same("gate-all", *sides, "--old=none.proto", status=2)
         self.write({"M.cert": self.same("gate", *sides, "--type", "M", "--cert", status=1), "wrong": "no certificate\n"})
         self.same("verify", *sides, "M.cert", status=1)
         self.same("verify", *sides, "--", f"{self.folder}/M.cert", status=1)
@@ -354,6 +360,7 @@ class Kit(unittest.TestCase):
             "show": (["show", "--dir", "examples/new", "--file", "order.proto", "--type", "Order", "220161"], 0),
             "verify": (["verify", *sides, "Order.cert"], 1),
             "refused": (["gate", *sets, "--type", "shop.Order"], 2),
+            "all": (["gate-all", *sides, "--explain", "--old", "order.proto"], 1),
             "missing": (["types", "--dir", "examples/new", "none.proto"], 2),
             "wrong": (["gate", "--old", "order.proto", "--what"], 4),
             "help": (["gate", "--help"], 4),
