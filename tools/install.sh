@@ -53,7 +53,7 @@ say_at_work() {
 }
 if [ -t 2 ]; then
     case ${1-} in
-        compile | gate | show | types | verify) { say_at_work "$1"; } </dev/null >/dev/null 3>&- 4>&- 5>&- 6>&- 7>&- 8>&- 9>&- & ;;
+        compile | gate | gate-all | show | types | verify) { say_at_work "$1"; } </dev/null >/dev/null 3>&- 4>&- 5>&- 6>&- 7>&- 8>&- 9>&- & ;;
     esac
 fi
 exec "$here/../libexec/protogate" "$@"

@@ -131,6 +131,11 @@ status 1
 status 1
 breaks shop.Order 3
 status 1
+cause value 11 10ffffffffffffffffff01 2 shop.Order.quantity order.proto:5:9 shop.Order.quantity order.proto:5:10
+cause value 3 220180 4 shop.Order.note order.proto:7:9 shop.Order.note order.proto:7:10
+breaks shop.Order 3
+compatible shop.Customer
+status 1
 status 0
 compatible shop.Order
 status 0
@@ -266,6 +271,9 @@ try_memory() {
     try_refused_memory gate $sides --type Order --both --explain
     try_refused_memory gate $sides --type Order --cert
     try_refused_memory gate $sides --type Nothing
+    try_refused_memory gate-all $sides
+    try_refused_memory gate-all $sides --view names --explain
+    try_refused_memory gate-all --old Order.cert --new Order.cert
     try_refused_memory verify $sides Order.cert
     try_refused_memory show --dir examples/new --file order.proto --type Customer 08071a0161
     try_refused_memory show --help

@@ -6,7 +6,7 @@ _protogate_revisions() {
 
 _protogate_ci() {
     local word=${COMP_WORDS[COMP_CWORD]} before=${COMP_WORDS[COMP_CWORD - 1]} at words=0
-    local options='--help --version --include --skip --both --no-both --view --with-protoc --no-with-protoc --github --record'
+    local options='--help --version --include --skip --types --both --no-both --view --with-protoc --no-with-protoc --github --record'
     COMPREPLY=()
     for ((at = 1; at < COMP_CWORD; at++)); do
         case ${COMP_WORDS[at]}:${COMP_WORDS[at - 1]} in

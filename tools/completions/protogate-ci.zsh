@@ -10,7 +10,7 @@ case $service in
     protogate-ci)
         _arguments '--help[print help]' '--version[print versions]' '*--include[look for imports there too]:folder:_files -/' \
             '*--skip[leave out a type or a file]:name: ' \
-            '--both[ask for both directions]' '--no-both[ask for old messages alone]' \
+            '--types[name each compatible type]' '--both[ask for both directions]' '--no-both[ask for old messages alone]' \
             '--view[how enums are compared]:view:(numbers names)' \
             '--with-protoc[gate what protoc makes of files that are refused]' '--no-with-protoc[gate source files alone]' \
             '--github[print annotations for GitHub]' '--record[write all that was found as JSON]:file:_files' \

@@ -25,12 +25,13 @@ _protogate() {
     local word=${COMP_WORDS[COMP_CWORD]} before=${COMP_WORDS[COMP_CWORD - 1]} command=${COMP_WORDS[1]} options=--help
     COMPREPLY=()
     if ((COMP_CWORD == 1)); then
-        COMPREPLY=($(compgen -W 'compile gate verify show types --help --version' -- "$word"))
+        COMPREPLY=($(compgen -W 'compile gate gate-all verify show types --help --version' -- "$word"))
         return
     fi
     case $command in
         compile | types) options+=' --dir' ;;
         gate) options+=' --old-dir --new-dir --old --new --type --view --both --cert --explain' ;;
+        gate-all) options+=' --old-dir --new-dir --old --new --view --explain' ;;
         verify) options+=' --old-dir --new-dir --old --new' ;;
         show) options+=' --dir --file --type' ;;
         *) return ;;

@@ -11,9 +11,12 @@ _protogate_files() {
 _protogate() {
     local -A opt_args
     local state line context
+    local -a folders=(
+        '--old-dir[the folder of the old files]:folder:_files -/'
+        '--new-dir[the folder of the new files]:folder:_files -/'
+    )
     local -a old_and_new=(
-        '--old-dir[the folder of the old file]:folder:_files -/'
-        '--new-dir[the folder of the new file]:folder:_files -/'
+        $folders
         '--old[the old text, or a descriptor set]:file:_protogate_files --old-dir'
         '--new[the new text, or a descriptor set]:file:_protogate_files --new-dir'
     )
@@ -21,6 +24,7 @@ _protogate() {
         local -a commands=(
             'compile:write the descriptor set of texts'
             'gate:find whether a changed message type may be released'
+            'gate-all:find what breaks in all message types, and why'
             'verify:check a certificate'
             'show:show what bytes are read as'
             'types:name the message types of files'
@@ -38,6 +42,11 @@ _protogate() {
             _arguments '--help[print help]' $old_and_new '--type[the full name of the message type]:type: ' \
                 '--view[how enums are compared]:view:(numbers names)' '--both[ask for both directions]' '--cert[print the certificate]' \
                 '--explain[show what breaks as both sides read it]'
+            ;;
+        gate-all)
+            _arguments '--help[print help]' $folders '*--old[an old text, or the descriptor set]:file:_protogate_files --old-dir' \
+                '*--new[a new text, or the descriptor set]:file:_protogate_files --new-dir' \
+                '--view[how enums are compared]:view:(numbers names)' '--explain[show what breaks as both sides read it]'
             ;;
         verify) _arguments '--help[print help]' $old_and_new ':certificate:_files' ;;
         show)
