@@ -1,10 +1,10 @@
 //! Calls that are made again where memory is refused.
 use crate::overviews;
 use crate::relaying::{FIRST, shown};
-use crate::row::answered_with;
+use crate::row::{asked, gated};
 use pg_causes::gate_all;
 use pg_dyn::DynError;
-use pg_gate::{GateError, ViewName, gate, gate_with, relay};
+use pg_gate::{ViewName, relay};
 use pg_schema::Schema;
 use rows::{cut, retry};
 use std::alloc::AllocError;
@@ -26,18 +26,16 @@ fn relayed(rt: &HostRuntime, old: &Schema, new: &Schema, digits: &str) -> io::Re
     Ok(shown(rt.alloc(), found)?)
 }
 
-fn gated(rt: &HostRuntime, old: &Schema, new: &Schema) -> io::Result<String> {
-    let found = retry!(rt, Err(GateError::Memory), gate(rt.alloc(), old, new, "M"));
-    Ok(answered_with(rt.alloc(), found)?)
+fn gated_again(rt: &HostRuntime, old: &Schema, new: &Schema) -> io::Result<String> {
+    Ok(retry!(rt, Err(AllocError), gated(rt.alloc(), old, new))?)
 }
 
 fn gated_by_names(rt: &HostRuntime, old: &Schema, new: &Schema) -> io::Result<String> {
-    let found = retry!(
+    Ok(retry!(
         rt,
-        Err(GateError::Memory),
-        gate_with(rt.alloc(), old, new, "M", ViewName::Names)
-    );
-    Ok(answered_with(rt.alloc(), found)?)
+        Err(AllocError),
+        asked(rt.alloc(), old, new, ViewName::Names)
+    )?)
 }
 
 fn overviewed(rt: &HostRuntime, old: &Schema, new: &Schema) -> io::Result<String> {
@@ -57,7 +55,7 @@ pub(crate) fn answer(rt: &HostRuntime, input: &str) -> io::Result<String> {
     let (new, digits) = cut(words);
     match schemas(rt.alloc(), old, new)? {
         Some((old, new)) => match call {
-            "gate" => gated(rt, &old, &new),
+            "gate" => gated_again(rt, &old, &new),
             "gate_with" => gated_by_names(rt, &old, &new),
             "gate_all" => overviewed(rt, &old, &new),
             _ => relayed(rt, &old, &new, digits),

@@ -1,6 +1,6 @@
 //! One row.
 use crate::relaying::handed_on;
-use pg_gate::{Answer, GateError, ViewName, gate_with};
+use pg_gate::{Answer, GateError, ViewName, gate, gate_with};
 use pg_schema::Schema;
 use rows::cut;
 use std::alloc::{AllocError, Global};
@@ -15,20 +15,29 @@ fn shown(alloc: Global, answer: &Answer) -> Result<String, AllocError> {
     }
 }
 
-/// What is shown of an answer, or of its refusal.
-pub(crate) fn answered_with(
-    alloc: Global,
-    found: Result<Answer, GateError>,
-) -> Result<String, AllocError> {
+/// What is shown of an answer, or of its refusal. It is lent, so that it is dropped at one place: to
+/// drop it takes the prover long at each way out.
+fn answered_with(alloc: Global, found: &Result<Answer, GateError>) -> Result<String, AllocError> {
     match found {
-        Ok(answer) => shown(alloc, &answer),
+        Ok(answer) => shown(alloc, answer),
         Err(GateError::Memory) => Err(AllocError),
         Err(_) => String::from_str(alloc, "no such type"),
     }
 }
 
-fn asked(alloc: Global, old: &Schema, new: &Schema, view: ViewName) -> Result<String, AllocError> {
-    answered_with(alloc, gate_with(alloc, old, new, "M", view))
+/// What is shown of `gate`'s answer.
+pub(crate) fn gated(alloc: Global, old: &Schema, new: &Schema) -> Result<String, AllocError> {
+    answered_with(alloc, &gate(alloc, old, new, "M"))
+}
+
+/// What is shown of the answer under that view.
+pub(crate) fn asked(
+    alloc: Global,
+    old: &Schema,
+    new: &Schema,
+    view: ViewName,
+) -> Result<String, AllocError> {
+    answered_with(alloc, &gate_with(alloc, old, new, "M", view))
 }
 
 fn both(alloc: Global, old: &Schema, new: &Schema) -> Result<String, AllocError> {
