@@ -24,6 +24,16 @@ fn words_of(alloc: Global, text: &str) -> Result<Vec<&str>, AllocError> {
     text.split(' ').collect(alloc)
 }
 
+/// How a run ended. It is lent, so that it is dropped at one place.
+fn status_of(ended: &Result<u8, GateError>) -> Result<u8, AllocError> {
+    match ended {
+        Ok(status) => Ok(*status),
+        Err(GateError::Memory) => Err(AllocError),
+        // A sink that refuses the text: its room was too small.
+        Err(_) => Ok(u8::MAX),
+    }
+}
+
 fn printed(
     alloc: Global,
     words: &[&str],
@@ -33,12 +43,8 @@ fn printed(
     let mut sink = Buffer::from_vec(Vec::with_capacity(alloc, ROOM)?);
     let mut old = Listed { files: old };
     let mut new = Listed { files: new };
-    match run(alloc, words, &mut old, &mut new, &mut sink) {
-        Ok(status) => Ok((status, sink.bytes)),
-        Err(GateError::Memory) => Err(AllocError),
-        // A sink that refuses the text: its room was too small.
-        Err(_) => Ok((u8::MAX, sink.bytes)),
-    }
+    let status = status_of(&run(alloc, words, &mut old, &mut new, &mut sink))?;
+    Ok((status, sink.bytes))
 }
 
 fn printed_over(alloc: Global, words: &str, sides: &Sides) -> Result<Printed, AllocError> {
