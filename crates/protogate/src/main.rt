@@ -3,6 +3,7 @@
 
 use pg_gate::{GateError, StandardOutput, run};
 use pg_link::Folder;
+use std::alloc::AllocError;
 use std::io::ErrorKind;
 use std::process::ExitCode;
 use std::{env, io};
@@ -19,16 +20,27 @@ fn words(rt: &HostRuntime) -> io::Result<Vec<String>> {
     Ok(words)
 }
 
+/// The status of a run; none where memory was refused. How it ended is lent, so that it is dropped
+/// at one place.
+fn status_of(ended: &Result<u8, GateError>) -> Option<u8> {
+    match ended {
+        Ok(status) => Some(*status),
+        Err(GateError::Memory) => None,
+        Err(_) => Some(DEVICE),
+    }
+}
+
 /// Runs on the words, over the system's files and its standard output.
-fn run_on(rt: &HostRuntime, words: &[String]) -> Result<u8, GateError> {
+fn run_on(rt: &HostRuntime, words: &[String]) -> Result<Option<u8>, AllocError> {
     let words: Vec<&str> = words.iter().map(|word| word.as_str()).collect(rt.alloc())?;
-    run(
+    let ended = run(
         rt.alloc(),
         &words,
         &mut Folder::new(rt),
         &mut Folder::new(rt),
         &mut StandardOutput::new(rt),
-    )
+    );
+    Ok(status_of(&ended))
 }
 
 /// The status of a whole run.
@@ -42,9 +54,8 @@ fn status(rt: &HostRuntime) -> io::Result<u8> {
         }
     };
     match run_on(rt, &words) {
-        Ok(status) => Ok(status),
-        Err(GateError::Memory) => refused(rt),
-        Err(_) => Ok(DEVICE),
+        Ok(Some(status)) => Ok(status),
+        Ok(None) | Err(AllocError) => refused(rt),
     }
 }
 
