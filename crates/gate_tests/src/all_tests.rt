@@ -1,5 +1,6 @@
 //! The text of what is found of all types, by itself.
 use pg_gate::{AllTypes, Reply, TypeLine};
+use rows::retry;
 use std::alloc::{AllocError, Global};
 use std::process::Abort;
 use std::test::Fail;
@@ -28,21 +29,22 @@ fn reply_of(alloc: Global) -> Result<Reply, AllocError> {
 
 const TEXT: &[u8] = b"breaks p.M 4\ncompatible p.N\nremoved p.V\nadded p.W\n";
 
+fn text_of_reply(alloc: Global) -> Result<Vec<u8>, AllocError> {
+    reply_of(alloc)?.into_text(alloc, "")
+}
+
+/// The status is that of a type that was removed.
+#[test]
+fn all_types_have_a_status(rt: HostRuntime) -> Result<(), Fail> {
+    let status = reply_of(rt.alloc())?.status();
+    assert_eq!(rt; status, 2);
+    Ok(())
+}
+
 /// A reply whose text lacks memory is dropped, so that the text is made of such a reply again.
 #[test]
 fn a_reply_of_all_types_is_a_text(rt: HostRuntime) -> Result<(), Fail> {
-    let alloc = rt.alloc();
-    let (first, second) = (reply_of(alloc)?, reply_of(alloc)?);
-    assert_eq!(rt; first.status(), 2, "status");
-    println!(rt; "ready")?;
-    let text = match first.into_text(alloc, "") {
-        Ok(text) => text,
-        Err(AllocError) => {
-            println!(rt; "Memory")?;
-            second.into_text(alloc, "")?
-        }
-    };
-    println!(rt; "done")?;
+    let text = retry!(&rt, Err(AllocError), text_of_reply(rt.alloc()))?;
     assert!(rt; text.as_slice() == TEXT);
     Ok(())
 }

@@ -95,13 +95,23 @@ static FAILING: [(&[&str], u32, u32, &str); 16] = [
         "refused E309 b.proto\n",
     ),
     (
-        &["gate-all", "--old=m.proto", "--old=k.proto", "--new=u.proto"],
+        &[
+            "gate-all",
+            "--old=m.proto",
+            "--old=k.proto",
+            "--new=u.proto",
+        ],
         2,
         0,
         "refused old E309 k.proto\n",
     ),
     (
-        &["gate-all", "--old=m.proto", "--old=k.proto", "--new=u.proto"],
+        &[
+            "gate-all",
+            "--old=m.proto",
+            "--old=k.proto",
+            "--new=u.proto",
+        ],
         0,
         1,
         "refused new E309 u.proto\n",
