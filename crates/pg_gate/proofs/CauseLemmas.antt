@@ -24,7 +24,7 @@ use Rattle.pg_least.specs.Roots.{AreRoots}
 use Rattle.pg_causes.specs.declared.overview.Cause.{Cause}
 use Rattle.pg_causes.specs.declared.overview.Overview.{Overview}
 use Rattle.pg_gate.proofs.Ranges.{as_types, each_unmapped}
-use Rattle.pg_gate.proofs.Roots.{named_there}
+use Rattle.pg_least.proofs.PublicLaws.{named_types_are_there}
 
 among_each : {A : Type 0} (P : A → Type 0) (x : A) (xs : List A) → IsAmong x xs → AllByRecursion P xs → P x
 among_each P x [] among each = absurd among
@@ -33,8 +33,8 @@ among_each P x (y ∷ ys) among each = ⊎_elim (λ same. subst P (sym same) eac
 module _ (view : ViewName) (old new : Parts) (is_old : IsShape (shape_of old)) (is_new : IsShape (shape_of new)) where
   root_there : (pair : Pair) → (name : Text) × AreRoots old new name pair → is_pair (shape_of old) (shape_of new) pair ≡ true
   root_there pair named =
-      let old_there = named_there old named.0 pair.old named.1.old_named in
-      let new_there = named_there new named.0 pair.new named.1.new_named in
+      let old_there = named_types_are_there old named.0 pair.old named.1.old_named in
+      let new_there = named_types_are_there new named.0 pair.new named.1.new_named in
       rw (lt-ltb pair.old.index (length (shape_of old)) old_there, lt-ltb pair.new.index (length (shape_of new)) new_there) refl
 
   led_there : (roots : List Pair) → AllByRecursion (λ p. is_pair (shape_of old) (shape_of new) p ≡ true) roots → (pair : Pair) → IsLedTo (children (shape_of old) (shape_of new)) roots pair → IsPairOf old new pair
