@@ -147,7 +147,7 @@ found_by view old new root (answers.Breaks message certificate) false explain (f
 found_by view old new root answer false explain (findings.Certified text breaks) is carries tells = absurd tells
 found_by view old new root answer true explain findings.Compatible is carries tells = absurd tells
 found_by view old new root answer true explain (findings.Breaks bytes steps readings) is carries tells = absurd tells
-found_by view old new root answer true explain (findings.Certified text breaks) is carries tells = record { answer = answer; is_answer = is; certifies = tells.0; is_second = tells.1; breaks_is = tells.2 }
+found_by view old new root answer true explain (findings.Certified text breaks) is carries tells = record { answer = answer; is_answer = is; carried = carries; certifies = tells.0; is_second = tells.1; breaks_is = tells.2 }
 found_by view old new root answer false explain (findings.Verified verified) is carries tells = absurd tells
 found_by view old new root answer true explain (findings.Verified verified) is carries tells = absurd tells
 

@@ -96,10 +96,12 @@ pub record IsLeastWitness (view : ViewName) (old new : Parts) (root : Text) (exp
       (carried_along (seen_under view old new) (shape_of old) (shape_of new) are_steps.path) ≡ Some bytes
   pub explained : IsExplained explain old new certificate.root bytes readings
 
--- the text is that of the certificate of an answer under the view, in version 2, and this is whether a message breaks
+-- The text is that of the certificate of an answer under the view, in version 2, and this is whether a message breaks. A witness in it is
+-- the message that the path of cheapest choices carries.
 pub record IsCertificateText (view : ViewName) (old new : Parts) (root text : Text) (breaks : Bool) : Type 0 where
   pub answer : Answer
   pub is_answer : IsAnswerUnder view old new root answer
+  pub carried : CarriesWitness (seen_under view old new) (shape_of old) (shape_of new) (certificate_of answer)
   pub certifies : Certifies old new text (certificate_of answer)
   pub is_second : IsSecondText old new text (certificate_of answer)
   pub breaks_is : breaks ≡ is_some (certificate_of answer).witness
