@@ -8,16 +8,15 @@ import os
 import re
 
 from calls import Stop, protogate
+from cuts import fields_in
 from reading import MOST_FILES
+from ways import pair_of
 
 # As many message types the program links at most.
 MOST_TYPES = 4096
-# The name of a field, and its place: the name holds no `:`, so a path with a space is no other word.
-FIELD = r"([^\s:]+) (-|.+?:\d+:\d+)"
-PAIR = rf"{FIELD} {FIELD}"
-CAUSE = re.compile(rf"cause (\S+) (\d+) ([0-9a-f]+) (\d+) {PAIR}")
-# Two fields that meet in a oneof.
-TWO = re.compile(rf"cause (oneof) (\d+) ([0-9a-f]+) (\d+) {PAIR} {PAIR}")
+# What a cause says before the fields.
+CAUSE = re.compile(r"cause (\S+) (\d+) ([0-9a-f]+) (\d+) (.+)", re.S)
+REFUSAL = re.compile(r"(old |new )?E\d{3}( .+)?", re.S)
 # A file of protoc's sets that the program passes over.
 LANGUAGE = "google/protobuf/descriptor.proto"
 
@@ -59,9 +58,10 @@ class Half:
 
 class Overview:
     """What a run says: its causes, of each type of both sides the length of a shortest message that breaks, or None, and what only one side
-    has; or the line of a refusal."""
+    has; or the line of a refusal. Its places are of the paths of the two sides."""
 
-    def __init__(self, said, status):
+    def __init__(self, said, status, old_paths, new_paths):
+        self.paths = old_paths, new_paths
         self.causes, self.types, self.removed, self.added, self.refused, self.status = [], {}, [], [], None, status
         self.reading, self.is_clear = None, True
         lines = said.split("\n")
@@ -81,20 +81,19 @@ class Overview:
             self.is_clear &= self.take_type(first, rest)
         elif self.reading is not None:
             self.reading.append(line)
-        elif first == "refused" and not self.refused:
+        elif first == "refused" and self.refused is None:
             self.refused = rest
         else:
             self.is_clear = False
 
     def take_cause(self, line):
         """Takes the line of a cause, and returns whether it is one."""
-        found = (TWO if line.startswith("cause oneof ") else CAUSE).fullmatch(line)
-        if found:
-            case, length, witness, number, *words = found.groups()
-            names = ("old", "old_place", "new", "new_place")
-            fields = [dict(zip(names, words[at : at + 4])) for at in range(0, len(words), 4)]
+        found = CAUSE.fullmatch(line)
+        fields = fields_in(found[5], *self.paths, 1 + (found[1] == "oneof")) if found else None
+        if fields:
+            case, length, witness, number, _ = found.groups()
             self.causes.append({"case": case, "number": number, "length": int(length), "witness": witness, "fields": fields, "readings": {}})
-        return found is not None and not self.types
+        return bool(fields) and not self.types
 
     def take_type(self, word, rest):
         """Takes the line of a type, and returns whether it is one that wasn't there before."""
@@ -107,13 +106,17 @@ class Overview:
         return is_new and (length == "" if word == "compatible" else length.isdigit())
 
     def is_whole(self):
-        """Returns whether the lines are of one answer, and agree with its status. What breaks has a cause, and a cause breaks something."""
-        if self.refused:
-            return not (self.causes or self.types or self.removed or self.added) and self.status in (2, 3)
+        """Returns whether the lines are of one answer, and agree with its status. What breaks has a cause, a cause breaks something, and no
+        type with a cause of its own is compatible."""
+        if self.refused is not None:
+            is_alone = self.is_clear and not (self.causes or self.types or self.removed or self.added)
+            return is_alone and bool(REFUSAL.fullmatch(self.refused)) and self.status in (2, 3)
         breaks = any(length is not None for length in self.types.values())
         are_read = all(len(it["readings"]) == 2 and 2 * it["length"] == len(it["witness"]) for it in self.causes)
+        pairs = {pair_of(it) for it in self.causes}
+        breaks_as_told = all(length is not None or (name, name) not in pairs for name, length in self.types.items())
         wanted = 2 if self.removed else 1 if self.causes else 0
-        return self.is_clear and are_read and breaks == bool(self.causes) and self.status == wanted
+        return self.is_clear and are_read and breaks_as_told and breaks == bool(self.causes) and self.status == wanted
 
 
 class Run:
@@ -138,7 +141,7 @@ class Run:
         first, second = (self.old, self.new) if way == "forward" else (self.new, self.old)
         status, said = protogate("gate-all", *first.words("old"), *second.words("new"), "--explain", *options)
         said = os.fsdecode(said)
-        overview = Overview(said, status)
+        overview = Overview(said, status, first.files, second.files)
         if not overview.is_whole():
             raise Stop(3, f"protogate ended with {status}, and it isn't clear what its lines say: {said[:500]}")
         wanted = [set(first.names) & set(second.names), set(first.names) - set(second.names), set(second.names) - set(first.names)]

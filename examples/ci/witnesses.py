@@ -4,15 +4,17 @@ import os
 import re
 
 from calls import Stop, protogate
+from cuts import fields_in
 
-PLACE = r"(-|.+:\d+:\d+)"
-STEP = re.compile(rf"step (\d+) (\S+) {PLACE} (\S+) {PLACE}")
+# What a step says before its field.
+STEP = re.compile(r"step (\d+) (.+)", re.S)
 # What an answer has more of a type that is named.
 OWN = ("witness", "steps", "readings")
 
 
-def answers_in(said, status):
-    """Returns what the gate says: of each direction its verdict, or the line of a refusal. Lines that aren't whole are no answer."""
+def answers_in(said, status, old_paths, new_paths):
+    """Returns what the gate says: of each direction its verdict, or the line of a refusal. Lines that aren't whole are no answer. Its places
+    are of the paths of the two sides."""
     answers, direction, reading = [], "forward", None
     statuses = {"compatible": 0, "breaks": 1, "refused": status}
     for line in said.split("\n"):
@@ -29,9 +31,9 @@ def answers_in(said, status):
         elif first == "witness":
             answers[-1]["witness"] = "" if rest == "-" else rest
         elif step:
-            names = ("number", "old", "old_place", "new", "new_place")
-            answers[-1]["steps"].append(dict(zip(names, step.groups())))
+            answers[-1]["steps"] += [{"number": step[1], **it} for it in fields_in(step[2], old_paths, new_paths, 1) or [{}]]
     is_whole = all(it["verdict"] != "breaks" or it["steps"] and "witness" in it and len(it.get("readings", "")) == 2 for it in answers)
+    is_whole = is_whole and all("old" in step for it in answers for step in it["steps"])
     if not is_whole or max([it["status"] for it in answers], default=None) != status:
         raise Stop(3, f"protogate ended with {status}, and it isn't clear what its lines say: {said[:500]}")
     return answers
@@ -63,7 +65,7 @@ def add_witness(answer, old, new, options):
     (writer, written), (reader, read) = both if way == "forward" else both[::-1]
     sides = writer.words(written, "--old-dir", "--old") + reader.words(read, "--new-dir", "--new")
     status, said = protogate("gate", *sides, f"--type={name}", "--explain", *options)
-    found = answers_in(os.fsdecode(said), status)
+    found = answers_in(os.fsdecode(said), status, writer.known, reader.known)
     if [(it["verdict"], it["said"]) for it in found] != [("breaks", f"{name} {answer['length']}")]:
         raise Stop(3, f"protogate ended with {status}, and its lines don't answer for {name}: {os.fsdecode(said)[:500]}")
     answer.update({it: found[0][it] for it in OWN})
