@@ -3,14 +3,36 @@
 import os
 import re
 import shlex
+from bisect import bisect_left
 
 from calls import Stop, nearest, plain, side_by_side
 from runs import overviews_of
 from sides import MENDED_BY_PROTOC, is_skipped
-from ways import Ways, pair_of
+from ways import MOST_TYPES, Ways, pair_of
 from witnesses import add_witness, settle_field, settle_readings
 
 WAYS = ("forward", "backward")
+# With as many names the name of a removed type is compared.
+MOST_NEAR = 64
+
+
+def last_part(name):
+    return name.rpartition(".")[2]
+
+
+class Added:
+    """The types that only the new side has, by their last parts, to guess how a removed one is called now."""
+
+    def __init__(self, old, new):
+        self.names = sorted((last_part(it), it) for it in new.declared if it not in old.declared)
+
+    def nearest(self, name):
+        """Returns the type that a removed one probably is, or nothing: one with the same last part, or one that is spelled much like it. Of
+        many types those are looked at that stand beside it in order."""
+        last = last_part(name)
+        at = bisect_left(self.names, (last,))
+        beside = self.names[max(0, at - MOST_NEAR // 2) : at + MOST_NEAR // 2]
+        return nearest(name, [it for part, it in beside if part == last]) or nearest(name, [it for _, it in beside])
 
 
 def pairs_of(name, old, new):
@@ -25,7 +47,7 @@ def pairs_of(name, old, new):
         yield from ((file, it) for it in found)
 
 
-def judge(name, old, new, ways):
+def judge(name, old, new, ways, added):
     """Yields the answers for a type that either side has, or that is named; those of two source files have no verdict yet. There is none
     where the other side's text is refused."""
     base = {"type": name, "direction": "forward", "steps": [], "old_file": None, "new_file": None}
@@ -41,8 +63,7 @@ def judge(name, old, new, ways):
             if new_file:
                 yield from ({**base, "direction": way, "old_file": old_file, "new_file": new_file, "verdict": None} for way in ways)
             else:
-                added = sorted(set(new.declared) - set(old.declared))
-                yield {**base, "verdict": "removed", "status": 2, "old_file": old_file, "nearest": nearest(name, added)}
+                yield {**base, "verdict": "removed", "status": 2, "old_file": old_file, "nearest": added.nearest(name)}
 
 
 class Findings:
@@ -156,7 +177,8 @@ def gate_all(old, new, call):
     a named type."""
     wanted = call.types or [*old.declared, *(it for it in new.declared if it not in old.declared)]
     wanted = [it for it in wanted if it not in call.skip]
-    found, causes = gated([list(judge(it, old, new, WAYS[: 1 + call.both])) for it in wanted], old, new, call)
+    added = Added(old, new)
+    found, causes = gated([list(judge(it, old, new, WAYS[: 1 + call.both], added)) for it in wanted], old, new, call)
     answers = [it for of_one in found for it in of_one]
     is_hidden = not all(found) or any(it["verdict"] in ("removed", "refused", "added") for it in answers)
     is_hidden = is_hidden or any(new.hides(file) for it in wanted for file in old.declared.get(it, []))

@@ -31,15 +31,22 @@ class Half:
         """Returns what a source file brings with it, or nothing where it doesn't go together with what is here."""
         if file in self.side.sets or self.is_set:
             return None if self.named else {path: it for path, it in self.side.in_sets[file].items() if path != LANGUAGE}
+        if not self.may_take(file):
+            return None
         found, pending = {}, [file]
         for path in pending:
             if path not in found and path not in self.files:
                 found[path] = self.side.known[path]
                 pending += found[path].imports
         names = [name for it in found.values() for name in it.types]
-        is_free = len(set(names)) == len(names) and not any(name in self.names for name in names)
+        is_free = len(set(names)) == len(names) and self.names.keys().isdisjoint(names)
         fits = len(self.files) + len(found) <= MOST_FILES and len(self.names) + len(names) <= MOST_TYPES
         return found if is_free and fits or not self.named else None
+
+    def may_take(self, file):
+        """Returns whether a source file goes together with what is here, as far as it shows without what it imports."""
+        is_new = self.named and file not in self.files
+        return not is_new or len(self.files) < MOST_FILES and self.names.keys().isdisjoint(self.side.known[file].types)
 
     def add(self, file, more):
         if file not in self.named:

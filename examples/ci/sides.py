@@ -1,5 +1,6 @@
 """What a side is: its texts, the types that they declare, what is refused, and the sets that protoc makes."""
 
+import functools
 import os
 import re
 import subprocess
@@ -19,6 +20,13 @@ PLACE = re.compile(r"(.+?)((?::\d+:\d+)?)", re.S)
 def is_skipped(path, skipped):
     """Returns whether a call leaves out a path or a folder around it. A path may be given as it is printed."""
     return is_below(path, skipped) or plain(path) in skipped
+
+
+@functools.lru_cache(maxsize=256)
+def lines_of(path):
+    """Returns the lines of a source file. Those of one file are looked at together."""
+    with open(path, encoding="utf-8", errors="replace") as text:
+        return text.read().split("\n")
 
 
 class Side:
@@ -118,7 +126,6 @@ class Side:
         """Returns the text of the line of a place, or nothing."""
         file, _, line = place.rpartition(":")[0].rpartition(":")
         try:
-            with open(f"{self.folder}/{file}", encoding="utf-8", errors="replace") as text:
-                return text.read().split("\n")[int(line) - 1].strip()
+            return lines_of(f"{self.folder}/{file}")[int(line) - 1].strip()
         except (OSError, ValueError, IndexError):
             return ""
