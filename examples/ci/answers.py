@@ -71,12 +71,13 @@ class Findings:
     refused, by both source files; and the causes that the wanted types lead to, each once."""
 
     def __init__(self, old, new, wanted, is_recorded):
-        self.old, self.new, self.wanted, self.is_recorded = old, new, wanted, is_recorded
+        self.old, self.new, self.is_recorded = old, new, is_recorded
+        self.wanted = dict.fromkeys((it["type"], it["old_file"], it["new_file"]) for it in wanted)
         self.lengths, self.refused, self.causes = {}, {}, {}
 
     def gate(self, way, options):
         """Gates the source files of the wanted types in one direction."""
-        pairs = dict.fromkeys((it["old_file"], it["new_file"]) for it in self.wanted)
+        pairs = dict.fromkeys(it[1:] for it in self.wanted)
         pairs = [it for it in pairs if it not in self.refused]
         for run, overview in overviews_of(pairs, self.old, self.new, way, options):
             if overview.refused:
@@ -86,28 +87,30 @@ class Findings:
                 self.take(run, overview, way)
 
     def take(self, run, overview, way):
-        wanted = {(it["type"], it["old_file"], it["new_file"]) for it in self.wanted}
         breaking, is_all = [], True
         for name, length in overview.types.items():
             key = (name, run.old.names[name], run.new.names[name])
             if self.lengths.setdefault((way, *key), length) != length:
                 raise Stop(3, f"protogate has two answers for {name}: {length} and {self.lengths[(way, *key)]}")
-            if length is not None and key in wanted:
+            if length is not None and key in self.wanted:
                 breaking.append(name)
-            is_all = is_all and (length is None or key in wanted)
+            is_all = is_all and (length is None or key in self.wanted)
         if breaking:
             self.take_causes(run, overview, way, breaking, is_all)
 
     def take_causes(self, run, overview, way, breaking, is_all):
-        """Takes the causes that the breaking types lead to. Where these are all that break, they lead to all causes."""
+        """Takes the causes that the breaking types lead to. Where these are all that break, they lead to all causes. A type that breaks and
+        leads to none stops the run."""
         halves = (run.old, run.new) if way == "forward" else (run.new, run.old)
-        ways = None
-        if self.is_recorded or not is_all:
-            ways = Ways(*(half.files.values() for half in halves), breaking)
-        for cause in overview.causes:
-            pair = pair_of(cause)
-            cause["types"] = ways.types_of(pair) if ways else []
-            if is_all or cause["types"]:
+        pairs = [pair_of(it) for it in overview.causes]
+        ways = Ways(*(half.files.values() for half in halves), breaking)
+        leading = ways.leading_to(pairs)
+        for name in breaking:
+            if (name, name) not in leading:
+                raise Stop(3, f"protogate says that {name} breaks, and no cause of it")
+        for cause, pair in zip(overview.causes, pairs):
+            if is_all or pair in ways.held:
+                cause["types"] = list(ways.types_of(pair)) if self.is_recorded else []
                 self.note(cause, run, way, pair if way == "forward" else pair[::-1])
 
     def note(self, cause, run, way, pair):
@@ -115,11 +118,14 @@ class Findings:
         names = (it[side] for it in cause["fields"] for side in ("old", "new"))
         key = (way, cause["case"], cause["number"], cause["witness"], *files, *names)
         if key in self.causes:
+            types = self.causes[key]["types"]
+            types += [it for it in cause["types"] if it not in types][: MOST_TYPES - len(types)]
             return
         for field in cause["fields"]:
             settle_field(field, self.old, self.new, way)
-        cause.update(direction=way, readings=settle_readings(cause["readings"], way), old_file=files[0], new_file=files[1])
-        cause["is_by_names"] = differs_by_names(cause)
+        shown = [file and side.shown(file) for side, file in zip((self.old, self.new), files)]
+        cause.update(direction=way, readings=settle_readings(cause["readings"], way), old_file=shown[0], new_file=shown[1])
+        cause["is_by_names"] = cause["case"] == "name" or differs_by_names(cause)
         self.causes[key] = cause
 
     def settle(self, answer):

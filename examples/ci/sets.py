@@ -92,14 +92,16 @@ def types_in(descriptor_set, file):
 
 @functools.lru_cache(maxsize=None)
 def fields_of(message):
-    """Returns the name of the message type that each field of a message type holds, by the fields' numbers, and whether it is the entry type
-    of a map."""
-    held, options = {}, b""
+    """Returns the name of the message type that each field of a message type holds, by the fields' numbers, and the type of the key where it
+    is the entry type of a map."""
+    held, key, options = {}, None, b""
     for number, value in records(message):
         if number == 2:
             field = dict(records(value))
             if field.get(5) == MESSAGE:
                 held[field[3]] = field[6].decode().lstrip(".")
+            if field.get(3) == 1:
+                key = field.get(5)
         elif number == 7:
             options = value
-    return held, bool(options and last(options, 7, 0))
+    return held, key if options and last(options, 7, 0) else None

@@ -1,9 +1,15 @@
 """Which types lead to a cause: by the fields that both sides have by one number, and that hold messages."""
 
+import functools
+
 from sets import fields_of
 
 # As many types are named of a cause.
 MOST_TYPES = 20
+# The types of a map's key, as a set numbers them, by how they are written: as varints, in 32 or 64 bits, as texts. Keys that are written in
+# two ways are unlike, and what such maps hold is compared with nothing.
+KEYS = ((3, 4, 5, 8, 13, 17, 18), (7, 15), (6, 16), (9,))
+WRITTEN = {key: keys for keys in KEYS for key in keys}
 
 
 class Fields:
@@ -13,50 +19,63 @@ class Fields:
         self.messages = {name: it for file in files for name, it in file.messages.items()}
 
     def of(self, name):
-        """Returns the type that each field of a message type holds, by its number, with whether the field is a map."""
+        """Returns the type that each field of a message type holds, by its number, with how the key is written where the field is a map."""
         found = {}
         for number, held in fields_of(self.messages[name])[0].items():
-            values, is_map = fields_of(self.messages.get(held, b""))
-            target = values.get(2) if is_map else held
+            values, key = fields_of(self.messages.get(held, b""))
+            target = values.get(2) if key else held
             if target in self.messages:
-                found[number] = (target, is_map)
+                found[number] = (target, WRITTEN.get(key))
         return found
 
 
 class Ways:
-    """The pairs of types that some types lead to, each with those that hold it. A pair is two names."""
+    """The pairs of types that some types lead to, each with those that it holds. A pair is two names."""
 
     def __init__(self, old_files, new_files, names):
-        self.old, self.new, self.roots = Fields(old_files), Fields(new_files), {(it, it) for it in names}
-        self.holders = {it: [] for it in self.roots}
-        pending = list(self.holders)
+        self.old, self.new, self.roots = Fields(old_files), Fields(new_files), [(it, it) for it in names]
+        self.held = dict.fromkeys(self.roots, ())
+        pending = list(self.held)
         for pair in pending:
-            for child in self.children(pair):
-                if child not in self.holders:
-                    self.holders[child] = []
-                    pending.append(child)
-                self.holders[child].append(pair)
+            self.held[pair] = list(dict.fromkeys(self.children(pair)))
+            following = [it for it in self.held[pair] if it not in self.held]
+            self.held.update(dict.fromkeys(following, ()))
+            pending += following
 
     def children(self, pair):
         old, new = self.old.of(pair[0]), self.new.of(pair[1])
-        for number, (target, is_map) in old.items():
-            other, is_map_too = new.get(number, (None, is_map))
-            if other and is_map == is_map_too:
+        for number, (target, key) in old.items():
+            other, other_key = new.get(number, (None, None))
+            if other and key == other_key:
                 yield target, other
 
-    def types_of(self, pair):
-        """Returns the types that lead to a pair, the nearest ones first, as far as they are named."""
-        found, pending = [], [pair] * (pair in self.holders)
+    def leading_to(self, pairs):
+        """Returns the pairs that lead to any of these."""
+        holders = {}
+        for pair, children in self.held.items():
+            for child in children:
+                holders.setdefault(child, []).append(pair)
+        pending = [it for it in dict.fromkeys(pairs) if it in self.held]
         seen = set(pending)
-        for it in pending:
-            if it in self.roots:
-                found.append(it[0])
-            if len(found) == MOST_TYPES:
-                break
-            following = [holder for holder in self.holders[it] if holder not in seen]
+        for pair in pending:
+            following = [it for it in holders.get(pair, ()) if it not in seen]
             seen.update(following)
             pending += following
+        return seen
+
+    @functools.cached_property
+    def types(self):
+        """The types that lead to each pair, the nearest ones first, as far as they are named."""
+        found = {it: [] for it in self.held}
+        pending = [(it, it[0]) for it in self.roots]
+        for pair, name in pending:
+            if len(found[pair]) < MOST_TYPES and name not in found[pair]:
+                found[pair].append(name)
+                pending += [(child, name) for child in self.held[pair]]
         return found
+
+    def types_of(self, pair):
+        return self.types.get(pair, [])
 
 
 def pair_of(cause):
