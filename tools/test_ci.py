@@ -89,9 +89,9 @@ class Answers(Repository):
 
     # -1 of the quantity is no uint32, and byte 80 of the note no UTF-8.
     causes = ["cause value 11 10ffffffffffffffffff01 2 Order.quantity order.proto:5:9 Order.quantity order.proto:5:10",
-              "  The new program reads this value as another one, or refuses it.",
+              "  The new program reads this value as another one, refuses it, or doesn't read it.",
               "cause value 3 220180 4 Order.note order.proto:7:9 Order.note order.proto:7:10",
-              "  The new program reads this value as another one, or refuses it."]
+              "  The new program reads this value as another one, refuses it, or doesn't read it."]
     breaks = "breaks Order 3 witness 220180 at Order.note order.proto:7:9 Order.note order.proto:7:10"
     both = ["breaks Order 3", "compatible Customer"]
 
@@ -223,7 +223,7 @@ class Answers(Repository):
     def test_both_directions(self):
         self.release({"a.proto": HEAD + "message A { int32 a = 1; }"}, {"a.proto": HEAD + "message A {\n int64 a = 1;\n}"})
         fields = "A.a a.proto:2:19 A.a a.proto:3:8"
-        says = [f"backward cause value 6 088080808008 1 {fields}", "  The old program reads this value as another one, or refuses it.",
+        says = [f"backward cause value 6 088080808008 1 {fields}", "  The old program reads this value as another one, refuses it, or doesn't read it.",
                 "backward breaks A 6", "forward compatible 1 type"]
         status, said = self.call("v1", "proto", "--both", "--github")
         self.assertEqual((status, said[:4]), (1, says))

@@ -117,7 +117,7 @@ class Library(Trees):
 
     IMPORT = HEAD + 'import "google/protobuf/%s.proto"; message A { google.protobuf.L a = 1; int64 b = 2; }'
     TEXT = HEAD + "package google.protobuf; message L { }"
-    VALUE = "  The new program reads this value as another one, or refuses it."
+    VALUE = "  The new program reads this value as another one, refuses it, or doesn't read it."
 
     def protoc_of(self, texts):
         """Puts a protoc on the path, with a library beside it that has these texts."""

@@ -7,11 +7,13 @@ NAMED = "The number is the same on both sides, and the enums give it other names
 
 # By the word of a case: why it breaks. `reader` is the program that misreads.
 WHY = {
-    "unlike": "The field holds another kind of value on the {reader} side: the {reader} program doesn't read this one.",
-    "value": "The {reader} program reads this value as another one, or refuses it.",
+    "unlike": "The field holds another kind of value on the {reader} side: the {reader} program loses it, misreads it or refuses the message.",
+    "value": "The {reader} program reads this value as another one, refuses it, or doesn't read it.",
     "name": NAMED,
-    "list-to-one": "Of two items the {reader} program keeps the last, or it merges them if they are messages; an empty one may be lost.",
-    "map": "The map's keys or values are of another kind on the {reader} side: the {reader} program doesn't read this entry.",
+    "list-to-one": "Of two items the {reader} program keeps the last, or it merges them if they are messages; an empty one may be lost, and a "
+                   "packed list isn't read at all.",
+    "map": "The map's keys or values are of another kind on the {reader} side: the {reader} program reads the entry with a default key or "
+           "value, or loses it.",
     "map-key": "The {reader} program reads this key of the map as another one, or refuses it.",
     "map-value": "The {reader} program reads this value of the map as another one, or refuses it.",
     "oneof": "The {reader} side has both fields in one oneof: the {reader} program keeps the last of them alone.",

@@ -5,8 +5,8 @@ The old side is FOLDER as it was at REVISION, the new side is FOLDER in the work
 or each that is named. All that breaks is told in one run, each cause once:
 
   cause CASE LENGTH HEX NUMBER OLDFIELD OLDPLACE NEWFIELD NEWPLACE
-                                   why something breaks, with a message of the field's type that shows it; of two fields that meet in
-                                   a oneof the last four words come twice. A sentence follows, on a line of its own, after two spaces
+                                   why something breaks, with a message that shows it, of the type that has the field; of two fields that
+                                   meet in a oneof the last four words come twice. A sentence follows, on a line of its own, after two spaces
   refused SIDE CODE PLACE          a file of that side has a fault; what is in it isn't gated
   refused SIDE KIND PATH           what is there can't be gated: a submodule, link, file, folder or name; or it is unseen, or there twice
   refused E901 TYPE                neither side has the type that is named

@@ -115,8 +115,9 @@ def reading(side, lines):
 
 def what_breaks(cause):
     """What is said of a cause, for an annotation: why, the message that shows it, and what to do."""
-    writer = "an old" if cause["direction"] == "forward" else "a new"
-    message = f"{why(cause)}\nA message of {cause['fields'][0]['old'].rpartition('.')[0]} that {writer} program writes: {shortened(cause['witness'])}"
+    writer, article = ("old", "an") if cause["direction"] == "forward" else ("new", "a")
+    owner = cause["fields"][0][writer].rpartition(".")[0]
+    message = f"{why(cause)}\nA message of {owner} that {article} {writer} program writes: {shortened(cause['witness'])}"
     if len(cause["fields"]) == 2:
         reader = "new" if cause["direction"] == "forward" else "old"
         named = " and ".join(f"{it[reader]} ({it[reader + '_place']})" for it in cause["fields"])
