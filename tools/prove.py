@@ -50,6 +50,7 @@ TESTERS = (
     "test_ci_trees.py",
     "test_ci_roots.py",
     "test_ci_words.py",
+    "test_ci_causes.py",
     "test_packages.py",
     "test_try_edits.py",
     "test_launcher.py",

@@ -18,13 +18,10 @@ sys.dont_write_bytecode = True
 import report  # noqa: E402
 import test_ci  # noqa: E402
 from test_ci import GATE, HEAD, TOP, read  # noqa: E402
-import fuzz_grammar  # noqa: E402
-import causes  # noqa: E402
 import codes  # noqa: E402
 import declarations  # noqa: E402
 import places  # noqa: E402
 import refusals  # noqa: E402
-import runs  # noqa: E402
 import settings  # noqa: E402
 import wording  # noqa: E402
 
@@ -74,38 +71,6 @@ class Codes(unittest.TestCase):
             words = refusals.sentences_on(code)
             self.assertRegex(words, r"^[A-Z`].*\. What to do: .*\.$", code)
             self.assertNotRegex(words, r"\bAt |\(see|see below|\]\(", code)
-
-
-class Causes(unittest.TestCase):
-    def test_each_case_of_the_page(self):
-        """Each word of the page has its sentences in both directions, and no other has."""
-        rows = read("docs/USAGE.md").partition("`CASE` is one of these words:")[2].partition("\n```")[0]
-        listed = re.findall(r"^\| `([a-z-]+)` \|", rows, re.M)
-        self.assertEqual(listed, ["unlike", "value", "name", "list-to-one", "map", "map-key", "map-value", "oneof"])
-        self.assertEqual([listed, listed], [list(causes.WHY), list(causes.MEND)])
-        for case in listed:
-            self.assertRegex(case.encode(), rb"\A(?:%s|oneof)\Z" % fuzz_grammar.CASE)
-            for direction in ("forward", "backward"):
-                cause = {"case": case, "direction": direction, "is_by_names": False}
-                for words in (causes.why(cause), causes.mend(cause)):
-                    self.assertRegex(words, r"\A[A-Z][^{}]*\.\Z")
-
-    def test_who_misreads(self):
-        for case in ("unlike", "value", "list-to-one", "map", "map-key", "map-value", "oneof"):
-            for direction, reader in (("forward", "new"), ("backward", "old")):
-                said = causes.why({"case": case, "direction": direction, "is_by_names": False})
-                self.assertIn(f"he {reader} program", said)
-                self.assertNotIn(f"he {dict(new='old', old='new')[reader]} ", said)
-        self.assertEqual(causes.why({"case": "map-value", "direction": "forward", "is_by_names": True}), causes.NAMED)
-
-    def test_a_place_with_spaces(self):
-        """A path may hold what looks like a place, or like other words of the line."""
-        fields = "M.a a b:1:2 c.proto:3:4 M.a x.proto:5:6"
-        overview = runs.Overview(f"cause value 2 0801 1 {fields}\nold\n1 a int 1\nnew\n1 a int 1\nbreaks M 2\n", 1)
-        self.assertTrue(overview.is_whole())
-        self.assertEqual(overview.causes[0]["fields"], [{"old": "M.a", "old_place": "a b:1:2 c.proto:3:4", "new": "M.a", "new_place": "x.proto:5:6"}])
-        two = runs.Overview(f"cause oneof 4 08011001 1 {fields} {fields.replace('M.a', 'M.b')}\nold\nnew\nbreaks M 4\n", 1)
-        self.assertEqual([it["old"] for it in two.causes[0]["fields"]], ["M.a", "M.b"])
 
 
 class Words(Repository):
