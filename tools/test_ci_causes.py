@@ -136,13 +136,12 @@ class Ways(test_ci.Repository):
             self.assertEqual(self.told("v1", "proto", *words), (1, ["A.a", "B.b"]), words)
 
     def test_a_program_that_contradicts_itself(self):
-        """A type with a cause isn't compatible, and one that breaks leads to a cause, whichever types are gated."""
-        self.narrow({"a.proto": "message A { int64 a = 1; } message B { A a = 1; int64 b = 2; } message C { int32 c = 1; }"})
-        for edit, words in (("sed 's/^breaks A .*/compatible A/'", ((), ("A",), ("B",), ("--skip", "B"))),
-                            ("sed 's/^compatible C/breaks C 2/'", ((), ("C",), ("--skip", "A")))):
+        """A type breaks just where it leads to a cause, whichever types are gated."""
+        self.narrow({"a.proto": "message A { int64 a = 1; } message B { A a = 1; int64 b = 2; } message C { int32 c = 1; } message D { B b = 1; }"})
+        for edit, words in (("s/^breaks A .*/compatible A/", ((), ("A",), ("--skip", "B"))), ("s/^breaks D .*/compatible D/", ((), ("D",), ("C",))),
+                            ("s/^compatible C/breaks C 2/", ((), ("C",), ("--skip", "C"))), ("s/ A[.]a / Z.a /g", ((), ("D",)))):
             for more in words:
-                self.assertEqual(self.call("v1", "proto", *more, **self.program(edit)), (3, []), (edit, more))
-        self.assertIn("protogate says that C breaks, and no cause of it", self.advice)
+                self.assertEqual(self.call("v1", "proto", *more, **self.program(f"sed '{edit}'")), (3, []), (edit, more))
         self.assertEqual(self.told("v1", "proto", **self.program("cat")), (1, ["A.a", "B.b"]))
 
     def test_what_is_held_twice(self):
@@ -166,10 +165,10 @@ class Ways(test_ci.Repository):
         pairs = [(one, other) for one in keys for other in keys]
         sides_of = zip(*[[f"message T{at} {{ map<{key}, M> m = 1; }}" for key, _ in pair] for at, pair in enumerate(pairs)])
         old, new = ["\n".join(it) for it in sides_of]
-        with mock.patch.object(ways, "MOST_TYPES", 1000):
-            made = [sets_of(text) for text in (f"message M {{ int64 a = 1; }}\n{old}", f"message M {{ int32 a = 1; }}\n{new}")]
-            found = ways.Ways(*made, [f"T{at}" for at in range(len(pairs))]).types_of(("M", "M"))
-        self.assertEqual(found, [f"T{at}" for at, ((_, one), (_, other)) in enumerate(pairs) if one == other])
+        made = [sets_of(text) for text in (f"message M {{ int64 a = 1; }}\n{old}", f"message M {{ int32 a = 1; }}\n{new}")]
+        names = [f"T{at}" for at in range(len(pairs))]
+        found = ways.Ways(*made, names).types_of(names, 1000)
+        self.assertEqual(found["M", "M"], [f"T{at}" for at, ((_, one), (_, other)) in enumerate(pairs) if one == other])
 
     def test_types_of_several_runs(self):
         """Where a name stands twice there are several runs, and each may lead to the cause."""
@@ -256,7 +255,7 @@ class Steps(unittest.TestCase):
             self.assertLessEqual(max(len(it.args[1]) for it in compared.call_args_list), answers.MOST_NEAR)
 
     def test_types_are_sought_for_a_record_alone(self):
-        """Else it is enough that a cause is reached."""
+        """Else it is enough that one leads to a cause."""
         text = "message S { int64 a = 1; } message A { S s = 1; }"
         made = sets_of(text)
         run = mock.Mock(old=mock.Mock(files={"a": made[0]}), new=mock.Mock(files={"a": made[0]}))
@@ -264,9 +263,10 @@ class Steps(unittest.TestCase):
             findings = answers.Findings(None, None, [], is_recorded)
             findings.note = mock.Mock()
             cause = {"fields": [{"old": "S.a", "new": "S.a"}]}
-            with mock.patch.object(ways.Ways, "types_of", return_value=["A"]) as sought:
-                findings.take_causes(run, mock.Mock(causes=[cause]), "forward", ["A"], False)
-            self.assertEqual((sought.call_count, cause["types"], findings.note.call_count), (is_recorded, ["A"] * is_recorded, 1))
+            with mock.patch.object(ways.Ways, "types_of", autospec=True, side_effect=ways.Ways.types_of) as sought:
+                findings.take_causes(run, mock.Mock(causes=[cause], types={"S": 6, "A": 8}), "forward", ["A"])
+            self.assertEqual(sought.call_args.args[2], ways.MOST_TYPES if is_recorded else 1)
+            self.assertEqual((cause["types"], findings.note.call_count), (["A"] * is_recorded, 1))
 
     def test_files_that_clash_are_not_walked(self):
         """What a file imports isn't looked at where its own types are there already, or a run is full."""

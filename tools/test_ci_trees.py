@@ -410,7 +410,7 @@ class Unseen(Trees):
 
     def test_a_run_that_is_not_made(self):
         self.assertEqual(self.patched("answers.overviews_of = lambda *_: []"), (3, []))
-        self.assertEqual(self.patched("runs.Run.ask = lambda *_: runs.Overview('', 0)"), (3, []))
+        self.assertEqual(self.patched("runs.Run.ask = lambda *_: runs.Overview('', 0, [], [])"), (3, []))
         self.assertEqual(self.patched("answers.WAYS = ()"), (2, [f"refused {side} unseen a.proto" for side in ("old", "new")]))
 
 

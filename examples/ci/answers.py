@@ -87,30 +87,31 @@ class Findings:
                 self.take(run, overview, way)
 
     def take(self, run, overview, way):
-        breaking, is_all = [], True
+        breaking = []
         for name, length in overview.types.items():
             key = (name, run.old.names[name], run.new.names[name])
             if self.lengths.setdefault((way, *key), length) != length:
                 raise Stop(3, f"protogate has two answers for {name}: {length} and {self.lengths[(way, *key)]}")
             if length is not None and key in self.wanted:
                 breaking.append(name)
-            is_all = is_all and (length is None or key in self.wanted)
-        if breaking:
-            self.take_causes(run, overview, way, breaking, is_all)
+        if overview.causes:
+            self.take_causes(run, overview, way, breaking)
 
-    def take_causes(self, run, overview, way, breaking, is_all):
-        """Takes the causes that the breaking types lead to. Where these are all that break, they lead to all causes. A type that breaks and
-        leads to none stops the run."""
+    def take_causes(self, run, overview, way, breaking):
+        """Takes the causes that the breaking types lead to. Where another type breaks than those that lead to a cause, or a cause is one that
+        none leads to, it isn't an answer, and the run stops."""
         halves = (run.old, run.new) if way == "forward" else (run.new, run.old)
         pairs = [pair_of(it) for it in overview.causes]
-        ways = Ways(*(half.files.values() for half in halves), breaking)
+        ways = Ways(*(half.files.values() for half in halves), overview.types)
         leading = ways.leading_to(pairs)
-        for name in breaking:
-            if (name, name) not in leading:
-                raise Stop(3, f"protogate says that {name} breaks, and no cause of it")
+        odd = [name for name, length in overview.types.items() if (length is not None) != ((name, name) in leading)]
+        odd += [it["fields"][0]["old"] for it, pair in zip(overview.causes, pairs) if pair not in ways.held]
+        if odd:
+            raise Stop(3, f"what protogate says of {odd[0]} and of the causes doesn't agree")
+        types = ways.types_of(breaking, MOST_TYPES if self.is_recorded else 1)
         for cause, pair in zip(overview.causes, pairs):
-            if is_all or pair in ways.held:
-                cause["types"] = list(ways.types_of(pair)) if self.is_recorded else []
+            if pair in types:
+                cause["types"] = [*types[pair]] * self.is_recorded
                 self.note(cause, run, way, pair if way == "forward" else pair[::-1])
 
     def note(self, cause, run, way, pair):

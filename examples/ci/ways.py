@@ -1,7 +1,5 @@
 """Which types lead to a cause: by the fields that both sides have by one number, and that hold messages."""
 
-import functools
-
 from sets import fields_of
 
 # As many types are named of a cause.
@@ -33,8 +31,8 @@ class Ways:
     """The pairs of types that some types lead to, each with those that it holds. A pair is two names."""
 
     def __init__(self, old_files, new_files, names):
-        self.old, self.new, self.roots = Fields(old_files), Fields(new_files), [(it, it) for it in names]
-        self.held = dict.fromkeys(self.roots, ())
+        self.old, self.new = Fields(old_files), Fields(new_files)
+        self.held = {(it, it): () for it in names}
         pending = list(self.held)
         for pair in pending:
             self.held[pair] = list(dict.fromkeys(self.children(pair)))
@@ -63,19 +61,15 @@ class Ways:
             pending += following
         return seen
 
-    @functools.cached_property
-    def types(self):
-        """The types that lead to each pair, the nearest ones first, as far as they are named."""
+    def types_of(self, names, most):
+        """Returns the pairs that some of the types lead to, each with at most so many of these types, the nearest ones first."""
         found = {it: [] for it in self.held}
-        pending = [(it, it[0]) for it in self.roots]
+        pending = [((it, it), it) for it in names]
         for pair, name in pending:
-            if len(found[pair]) < MOST_TYPES and name not in found[pair]:
+            if len(found[pair]) < most and name not in found[pair]:
                 found[pair].append(name)
                 pending += [(child, name) for child in self.held[pair]]
-        return found
-
-    def types_of(self, pair):
-        return self.types.get(pair, [])
+        return {pair: types for pair, types in found.items() if types}
 
 
 def pair_of(cause):
