@@ -139,7 +139,7 @@ class Ways(test_ci.Repository):
         """A type breaks just where it leads to a cause, whichever types are gated."""
         self.narrow({"a.proto": "message A { int64 a = 1; } message B { A a = 1; int64 b = 2; } message C { int32 c = 1; } message D { B b = 1; }"})
         for edit, words in (("s/^breaks A .*/compatible A/", ((), ("A",), ("--skip", "B"))), ("s/^breaks D .*/compatible D/", ((), ("D",), ("C",))),
-                            ("s/^compatible C/breaks C 2/", ((), ("C",), ("--skip", "C"))), ("s/ A[.]a / Z.a /g", ((), ("D",)))):
+                            ("s/^compatible C/breaks C 2/", ((), ("C",), ("--skip", "C"))), ("s/ B[.]b / Z.b /g", ((), ("D",)))):
             for more in words:
                 self.assertEqual(self.call("v1", "proto", *more, **self.program(f"sed '{edit}'")), (3, []), (edit, more))
         self.assertEqual(self.told("v1", "proto", **self.program("cat")), (1, ["A.a", "B.b"]))
@@ -176,6 +176,13 @@ class Ways(test_ci.Repository):
                      "b.proto": 'import "c.proto"; message D { int32 y = 1; } message Y { S s = 1; }'})
         self.assertEqual({name: set(it) for name, it in self.named("v1", "proto").items()}, {"S.a": {"S", "X", "Y"}})
         self.assertEqual(self.named("v1", "proto", "--skip", "c.proto", "--skip", "D"), {"S.a": ["X", "Y"]})
+
+    def test_most_types_of_several_runs(self):
+        both = [" ".join(f"message {it}{at} {{ S s = 1; }}" for at in range(15)) for it in "XY"]
+        self.narrow({"c.proto": "message S { int64 a = 1; }", "a.proto": f'import "c.proto"; message D {{ int32 z = 1; }} {both[0]}',
+                     "b.proto": f'import "c.proto"; message D {{ int32 y = 1; }} {both[1]}'})
+        (found,) = self.named("v1", "proto").values()
+        self.assertEqual((len(found), len(set(found))), (20, 20))
 
     def test_most_types(self):
         """At most 20 are named, the nearest ones first."""
