@@ -3,8 +3,12 @@ protoc write."""
 
 import functools
 import os
+import re
 
 REPEATED, MESSAGE, ENUM = 3, 11, 14
+# How the field of a message type begins that holds a message, as protoc and protogate write it: its name, number, label and type, and the
+# length of that type's name, which begins with a dot.
+HOLDS = re.compile(rb"\n[\x00-\x7f]\w+\x18([\x80-\xff]*[\x00-\x7f]) [\x01-\x03]\(\x0b2([\x02-\x7f])\.", re.S)
 
 
 def varint(data, at):
@@ -90,18 +94,28 @@ def types_in(descriptor_set, file):
     return files_in(descriptor_set)[file].types
 
 
+def held_by(field):
+    """Returns the number of a field, the name of the message type that it holds, or nothing, and its type."""
+    found = HOLDS.match(field)
+    if found:
+        name = field[found.end() : found.end() + found[2][0] - 1]
+        return varint(found[1], 0)[0], name.decode(), MESSAGE
+    parts = dict(records(field))
+    return parts.get(3), parts[6].decode().lstrip(".") if parts.get(5) == MESSAGE else None, parts.get(5)
+
+
 @functools.lru_cache(maxsize=None)
 def fields_of(message):
     """Returns the name of the message type that each field of a message type holds, by the fields' numbers, and the type of the key where it
     is the entry type of a map."""
     held, key, options = {}, None, b""
-    for number, value in records(message):
-        if number == 2:
-            field = dict(records(value))
-            if field.get(5) == MESSAGE:
-                held[field[3]] = field[6].decode().lstrip(".")
-            if field.get(3) == 1:
-                key = field.get(5)
-        elif number == 7:
+    for kind, value in records(message):
+        if kind == 2:
+            number, name, type_of_field = held_by(value)
+            if name is not None:
+                held[number] = name
+            if number == 1:
+                key = type_of_field
+        elif kind == 7:
             options = value
     return held, key if options and last(options, 7, 0) else None

@@ -41,11 +41,16 @@ class Ways:
             pending += following
 
     def children(self, pair):
-        old, new = self.old.of(pair[0]), self.new.of(pair[1])
+        old = self.old.of(pair[0])
+        new = old if self.is_same(pair) else self.new.of(pair[1])
         for number, (target, key) in old.items():
             other, other_key = new.get(number, (None, None))
             if other and key == other_key:
                 yield target, other
+
+    def is_same(self, pair):
+        """Returns whether both sides have a type with the same fields, and all that these hold."""
+        return pair[0] == pair[1] and self.old.messages[pair[0]] is self.new.messages[pair[1]]
 
     def leading_to(self, pairs):
         """Returns the pairs that lead to any of these."""
