@@ -265,13 +265,14 @@ class Steps(unittest.TestCase):
         """Else it is enough that one leads to a cause."""
         text = "message S { int64 a = 1; } message A { S s = 1; }"
         made = sets_of(text)
-        run = mock.Mock(old=mock.Mock(files={"a": made[0]}), new=mock.Mock(files={"a": made[0]}))
+        run = mock.Mock()
         for is_recorded in (False, True):
             findings = answers.Findings(None, None, [], is_recorded)
             findings.note = mock.Mock()
             cause = {"fields": [{"old": "S.a", "new": "S.a"}]}
+            overview = mock.Mock(causes=[cause], types={"S": 6, "A": 8}, ways=ways.Ways([made[0]], [made[0]], ["S", "A"]))
             with mock.patch.object(ways.Ways, "types_of", autospec=True, side_effect=ways.Ways.types_of) as sought:
-                findings.take_causes(run, mock.Mock(causes=[cause], types={"S": 6, "A": 8}), "forward", ["A"])
+                findings.take_causes(run, overview, "forward", ["A"])
             self.assertEqual(sought.call_args.args[2], ways.MOST_TYPES if is_recorded else 1)
             self.assertEqual((cause["types"], findings.note.call_count), (["A"] * is_recorded, 1))
 

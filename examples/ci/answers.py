@@ -8,7 +8,7 @@ from bisect import bisect_left
 from calls import Stop, nearest, plain, side_by_side
 from runs import overviews_of
 from sides import MENDED_BY_PROTOC, is_skipped
-from ways import MOST_TYPES, Ways, pair_of
+from ways import MOST_TYPES, pair_of
 from witnesses import add_witness, settle_field, settle_readings
 
 WAYS = ("forward", "backward")
@@ -100,15 +100,13 @@ class Findings:
     def take_causes(self, run, overview, way, breaking):
         """Takes the causes that the breaking types lead to. Where another type breaks than those that lead to a cause, or a cause is one that
         none leads to, it isn't an answer, and the run stops."""
-        halves = (run.old, run.new) if way == "forward" else (run.new, run.old)
         pairs = [pair_of(it) for it in overview.causes]
-        ways = Ways(*(half.files.values() for half in halves), overview.types)
-        leading = ways.leading_to(pairs)
+        leading = overview.ways.leading_to(pairs)
         odd = [name for name, length in overview.types.items() if (length is not None) != ((name, name) in leading)]
-        odd += [it["fields"][0]["old"] for it, pair in zip(overview.causes, pairs) if pair not in ways.held]
+        odd += [it["fields"][0]["old"] for it, pair in zip(overview.causes, pairs) if pair not in overview.ways.held]
         if odd:
             raise Stop(3, f"what protogate says of {odd[0]} and of the causes doesn't agree")
-        types = ways.types_of(breaking, MOST_TYPES if self.is_recorded else 1)
+        types = overview.ways.types_of(breaking, MOST_TYPES if self.is_recorded else 1)
         for cause, pair in zip(overview.causes, pairs):
             if pair in types:
                 cause["types"] = [*types[pair]] * self.is_recorded

@@ -6,11 +6,12 @@ are several runs; each has what its files import. What protoc made of a file is 
 
 import os
 import re
+from concurrent.futures import ThreadPoolExecutor
 
 from calls import Stop, protogate
 from cuts import fields_in
 from reading import MOST_FILES
-from ways import pair_of
+from ways import Ways, pair_of
 
 # As many message types the program links at most.
 MOST_TYPES = 4096
@@ -70,7 +71,7 @@ class Overview:
     def __init__(self, said, status, old_paths, new_paths):
         self.paths = old_paths, new_paths
         self.causes, self.types, self.removed, self.added, self.refused, self.status = [], {}, [], [], None, status
-        self.reading, self.is_clear = None, True
+        self.reading, self.is_clear, self.ways = None, True, None
         lines = said.split("\n")
         self.is_clear = lines.pop() == ""
         for line in lines:
@@ -146,9 +147,14 @@ class Run:
     def ask(self, way, options):
         """Returns what the program says of one direction. What isn't an answer for just the types of both sides stops the run."""
         first, second = (self.old, self.new) if way == "forward" else (self.new, self.old)
-        status, said = protogate("gate-all", *first.words("old"), *second.words("new"), "--explain", *options)
+        # While the program goes, its answer's check is prepared.
+        with ThreadPoolExecutor(1) as pool:
+            asked = pool.submit(protogate, "gate-all", *first.words("old"), *second.words("new"), "--explain", *options)
+            ways = Ways(first.files.values(), second.files.values(), [it for it in first.names if it in second.names])
+            status, said = asked.result()
         said = os.fsdecode(said)
         overview = Overview(said, status, first.files, second.files)
+        overview.ways = ways
         if not overview.is_whole():
             raise Stop(3, f"protogate ended with {status}, and it isn't clear what its lines say: {said[:500]}")
         wanted = [set(first.names) & set(second.names), set(first.names) - set(second.names), set(second.names) - set(first.names)]
