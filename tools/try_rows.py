@@ -67,7 +67,7 @@ def all_rows():
 
 def words_from_outside(row):
     """Returns the words with the folder of the new side in them. A command line that is bad stays as it is."""
-    if row.status == 4 or row.words[:1] not in (["gate"], ["verify"]):
+    if row.status == 4 or row.words[:1] not in (["gate"], ["gate-all"], ["verify"]):
         return row.words
     words, is_named = list(row.words), False
     for at, word in enumerate(words):
