@@ -6,12 +6,16 @@ usage: tools/model_files.py            the files and lines: of a breaking messag
        tools/model_files.py --compare  status 1 where docs/MODEL.md lists other files, where it or README.md says other counts, or where
                                        a document names a file of code or definitions, or docs/PROOFS.md a word, that isn't there
 
-A promise rests on the files that have its words, and on all that these import, onwards. Whole files count, so it may rest on less. The
-kit's own words are left out.
+A promise rests on the files that have its words, and on all that these import, onwards. Whole files count, so it may rest on less. Of the kit
+the models of a command line (`clap`) and of hexadecimal digits (`hex`) are counted apart, where the kit has them as files; its words for numbers,
+lists and strings are left out. Kits differ, so these counts are compared only where the kit on the path is the one that docs/MODEL.md names.
 """
 
+import functools
 import os
 import re
+import shutil
+import subprocess
 import sys
 
 TOP = os.path.dirname(os.path.dirname(os.path.realpath(__file__)))
@@ -36,15 +40,63 @@ COUNTED = {
 }
 # A path of code or definitions that a document names: from the top, below `crates`, or below a crate's folder.
 NAMED = re.compile(r"`([\w/+-]+/[\w+-]+\.(?:rt|antt))`")
-IMPORT = re.compile(r"^\s*(?:pub\s+)?use\s+Rattle\.(pg_\w+)\.specs\.(\w+(?:\.\w+)*)", re.M)
+IMPORT = re.compile(r"^\s*(?:pub\s+)?use\s+Rattle\.(\w+)\.specs\.(\w+(?:\.\w+)*)", re.M)
+# The crates of the kit whose definitions are counted.
+MODELS = ("clap", "hex")
+# The promise of which docs/MODEL.md says what it takes of these.
+WHOLE = "what `run` promises"
+
+
+@functools.lru_cache(maxsize=None)
+def kit_folder():
+    """Returns the folder of the kit with its crates, or nothing where there is none."""
+    if not shutil.which("rt"):
+        return None
+    said = subprocess.run(["rt", "doc"], stdin=subprocess.DEVNULL, stdout=subprocess.PIPE, stderr=subprocess.DEVNULL, text=True, check=False)
+    folder = f"{os.path.dirname(said.stdout.strip())}/rattle"
+    return folder if os.path.isdir(f"{folder}/{MODELS[0]}/specs") else None
+
+
+def kit_name():
+    """Returns the name of the kit."""
+    said = subprocess.run(["rt", "version"], stdin=subprocess.DEVNULL, stdout=subprocess.PIPE, stderr=subprocess.DEVNULL, text=True, check=False)
+    return said.stdout.split(" ")[0].strip()
+
+
+def modules_of(path):
+    """Returns the crates and modules that a file of definitions imports."""
+    with open(path, encoding="utf-8") as file:
+        return IMPORT.findall(file.read())
 
 
 def imported(path):
-    """Returns the files of definitions that one imports."""
-    with open(f"{TOP}/{path}", encoding="utf-8") as file:
-        found = IMPORT.findall(file.read())
+    """Returns the files of definitions of the repository that one imports."""
+    found = [(crate, module) for crate, module in modules_of(f"{TOP}/{path}") if crate.startswith("pg_")]
     named = [f"crates/{crate}/specs/{module.replace('.', '/')}.antt" for crate, module in found]
     return [it for it in dict.fromkeys(named) if os.path.isfile(f"{TOP}/{it}")]
+
+
+def model_of(crate, paths):
+    """Returns the files of a crate of the kit that these files of the repository rest on."""
+    found = []
+
+    def visit(path):
+        for other, module in modules_of(path):
+            it = f"{kit_folder()}/{crate}/specs/{module.replace('.', '/')}.antt"
+            if other == crate and it not in found and os.path.isfile(it):
+                found.append(it)
+                visit(it)
+
+    for path in paths:
+        visit(f"{TOP}/{path}")
+    return found
+
+
+def models():
+    """Yields each crate of the kit that `run` rests on, with the counts of its files and lines."""
+    for crate in MODELS if kit_folder() else ():
+        paths = model_of(crate, files_of(WHOLE))
+        yield crate, f"{len(paths)} {'file' if len(paths) == 1 else 'files'} with {lines_of(paths):,} lines"
 
 
 def rests_on(*paths):
@@ -70,7 +122,7 @@ def files_of(what):
 def lines_of(paths):
     count = 0
     for path in paths:
-        with open(f"{TOP}/{path}", encoding="utf-8") as file:
+        with open(os.path.join(TOP, path), encoding="utf-8") as file:
             count += sum(1 for _ in file)
     return count
 
@@ -87,6 +139,9 @@ def differences():
             files = files_of(what)
             counts = f"{len(files)} files with {lines_of(files):,} lines"
             found += [] if counts in said[document] else [f"{document} doesn't say of {what}: {counts}"]
+    page = said["docs/MODEL.md"]
+    if f"`{kit_name()}`" in page:
+        found += [f"docs/MODEL.md doesn't say of {crate}: {counts}" for crate, counts in models() if f"`{crate}`: {counts}" not in page]
     return found
 
 
@@ -128,6 +183,8 @@ def main(words):
         print(f"{what}: {len(files)} files, {lines_of(files):,} lines")
         for it in files:
             print(f"  {it} {lines_of([it])}")
+    for crate, counts in models():
+        print(f"of the kit's {crate}: {counts}")
     return 0
 
 
