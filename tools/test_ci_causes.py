@@ -6,6 +6,7 @@ usage: tools/test_ci_causes.py [PROGRAM]    by default the program that was buil
 What is wanted of a change follows from the rules of the language.
 """
 
+import io
 import os
 import re
 import subprocess
@@ -22,6 +23,7 @@ import answers  # noqa: E402
 import causes  # noqa: E402
 import cuts  # noqa: E402
 import fuzz_grammar  # noqa: E402
+import gate  # noqa: E402
 import runs  # noqa: E402
 import sets  # noqa: E402
 import sides  # noqa: E402
@@ -288,6 +290,13 @@ class Steps(unittest.TestCase):
             self.assertIsNone(half.more_for("1.proto"))
         known["1.proto"].imports = ["0.proto"]
         self.assertEqual(list(half.more_for("1.proto")), ["1.proto"])
+
+    def test_a_fault_of_the_script(self):
+        """What the script didn't foresee ends with 3, not with Python's own 1, which says that a type breaks."""
+        with mock.patch.object(gate, "parsed", side_effect=KeyError("x")), mock.patch("sys.stderr", io.TextIOWrapper(io.BytesIO())) as said:
+            self.assertEqual(gate.main([]), 3)
+            said.flush()
+            self.assertIn(b"KeyError: 'x'\ngate: a fault of this script", said.buffer.getvalue())
 
 
 def sets_of(text):

@@ -23,7 +23,7 @@ With --both a line of what is gated begins with 'forward', or with 'backward' fo
 Each file whose name ends in .proto is read, links that stay in FOLDER and submodules that are checked out too. What isn't looked at is a
 line and status 2, unless --skip names it. Imports are found below FOLDER, below each --include, and where the library is installed.
 
-The status is the highest: 0 compatible or added, 1 breaks, 2 removed or refused, 3 out of memory, or a file or the program failed,
+The status is the highest: 0 compatible or added, 1 breaks, 2 removed or refused, 3 out of memory, or a file, the program or this script failed,
 4 a wrong call, 127 no protogate that is proved. Advice and warnings go to standard error. protogate is taken from the path, or from PROTOGATE.
 
 What a call leaves out is taken from protogate.ini at the top of the repository. Several releases there are gated one after another.
@@ -34,6 +34,7 @@ import json
 import os
 import sys
 import tempfile
+import traceback
 
 from answers import gate_all
 from calls import Stop, called, did_you_mean, look_for_program, plain, side_by_side
@@ -234,6 +235,11 @@ def main(words):
         return stop.status
     except OSError as fault:
         advise(fault)
+        return 3
+    except Exception:  # pylint: disable=broad-except
+        # (Python itself would end with 1, which says that a type breaks)
+        traceback.print_exc()
+        advise("a fault of this script: nothing is said of what wasn't printed")
         return 3
     return record["status"]
 
