@@ -10,6 +10,7 @@ pub mod OuterLaws
 pub mod PathLaws
 pub mod PlaceLaws
 pub mod PlacedLaws
+pub mod PostOrderLaws
 pub mod ReadLaws
 pub mod ResolvesLaws
 pub mod SeesLaws

@@ -21,7 +21,8 @@ use Rattle.pg_link.specs.Imports.{line_of}
 use Rattle.pg_link.specs.Index.{texts}
 use Rattle.pg_link.specs.Names.{Text}
 use Rattle.pg_link.specs.Outline.{file_imports}
-use Rattle.pg_link.specs.Walk.{World, world, Gives, MayBe, ImportsAt, Comes, Reached, MayLead, Stays, Onwards, Entry, IsEntry, outline, outlines, entries, open_paths, IsSound, Follows, Asks, IsAsked, IsAskedAt, IsPlace, IsReadFault, IsTextFault, IsImportFault, IsLinked, ComesTo, Refuses}
+use Rattle.pg_link.specs.PostOrder.{IsPostOrder}
+use Rattle.pg_link.specs.Walk.{World, world, Gives, MayBe, ImportsAt, Comes, Reached, MayLead, Stays, Onwards, Entry, IsEntry, outline, outlines, entries, files_in_order, open_paths, IsSound, Follows, Asks, IsAsked, IsAskedAt, IsPlace, IsReadFault, IsTextFault, IsImportFault, IsLinked, ComesTo, Refuses}
 use Rattle.pg_link.proofs.OrderLaws.{no_cycle}
 
 -- ---- who asks
@@ -349,10 +350,11 @@ follows_root w walk root opened sound is_root = record {
   asks = subst (λ (xs : List Text). Asks w xs None root) (sym opened) is_root;
 }
 
-pub linked : (w : World) (es : List Entry) → IsSound w [] es → All (λ root. is_path_of (paths_of (outlines es)) root ≡ true) w.roots
+pub linked : (w : World) (es : List Entry) → IsSound w [] es → IsPostOrder w.roots (files_in_order es) → All (λ root. is_path_of (paths_of (outlines es)) root ≡ true) w.roots
     → ((path : Text) → is_path_of (paths_of (outlines es)) path ≡ true → (root : Text) × Contains w.roots root × ComesTo (outlines es) root path) → IsLinked w es
-linked w es sound has from = record {
+linked w es sound listed has from = record {
   each = sound.each;
+  in_post_order = listed;
   in_order = sound.in_order;
   apart = sound.apart;
   few = omega (arith, sound.few);

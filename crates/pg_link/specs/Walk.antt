@@ -20,6 +20,7 @@ use Rattle.pg_link.specs.Below.{path_below}
 use Rattle.pg_link.specs.Names.{Text}
 use Rattle.pg_link.specs.Files.{Import, File, Differ, InOrder, HasNoCycle, Leads, is_path_of, import_paths, paths_of}
 use Rattle.pg_link.specs.Outline.{file_imports, file_names}
+use Rattle.pg_link.specs.PostOrder.{AreListed, IsPostOrder}
 use Rattle.pg_link.specs.declared.error.Place as places
 use Rattle.pg_link.specs.declared.error.LinkError as errors
 use Rattle.pg_link.specs.declared.error.LinkError.TheVariants as error
@@ -99,6 +100,10 @@ path_of e = string_bytes e.0
 abbrev pub outline : Entry → File
 outline e = record { path = path_of e; imports = file_imports e.1.tree; declared = file_names e.1.tree }
 
+-- in the order in which they were read to the end
+abbrev pub files_in_order : List Entry → List File
+files_in_order = map outline
+
 -- the last first
 abbrev pub outlines : List Entry → List File
 outlines entries = reverse (map outline entries)
@@ -118,10 +123,11 @@ abbrev pub ComesTo : List File → Text → Text → Type 0
 ComesTo files path other = (path ≡ other) ⊎ Leads files path other
 
 -- The files of the roots and of all that they import, and no others, each path once, at most 1,024. Each text is one that
--- the source may give for its path, each tree is that of its text, and each file stands behind those that it imports, none
--- of them twice.
+-- the source may give for its path, and each tree is that of its text. The files are in post-order of imports, begun at the
+-- roots in their order, and so each comes after those that it imports, none of them twice.
 pub record IsLinked (w : World) (entries : List Entry) : Type 0 where
   pub each : All (IsEntry w) entries
+  pub in_post_order : IsPostOrder w.roots (files_in_order entries)
   pub in_order : InOrder (outlines entries)
   pub apart : Differ (paths_of (outlines entries))
   pub few : length entries ≤ 1024
@@ -149,6 +155,14 @@ Extends old new = (front : List File) × (outlines (entries new) ≡ front ++ ou
 -- the path comes to each file that has come, by what was read
 abbrev pub ComeBy : walks.Walk → walks.Walk → Text → Type 0
 ComeBy old new path = (other : Text) → has_path new other ≡ true → (has_path old other ≡ true) ⊎ ComesTo (outlines (entries new)) path other
+
+-- a visit of these paths, after those in front, lists all that was read
+abbrev pub VisitLists : (front visited : List Text) → walks.Walk → Type 0
+VisitLists front visited walk = AreListed front visited (files_in_order (entries walk))
+
+-- the paths that were read, in order
+abbrev pub listed_paths : walks.Walk → List Text
+listed_paths walk = paths_of (files_in_order (entries walk))
 
 -- ---- places
 

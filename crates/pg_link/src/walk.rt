@@ -128,6 +128,9 @@ fn visit<S: Sources>(
     // What has come is the path, or what it leads to by the texts that are kept.
     ensures extends { OnOk result (spec.Extends walk.old walk.new) }
     ensures come { OnOk result (spec.ComeBy walk.old walk.new path.now) }
+    // They come in post-order of imports.
+    ensures lists { OnOk result
+        (spec.VisitLists (spec.listed_paths walk.old) (path.now ∷ []) walk.new) }
     ensures grows { OnOk result (length (spec.entries walk.old) ≤ length (spec.entries walk.new)) }
     // Whatever is answered, the source was asked for no path twice, and for none that was begun.
     ensures reads_new { ReadsNew folder.now (S.reads source.old) (S.reads source.new) walk.old }
@@ -179,8 +182,8 @@ pub(crate) fn follow_imports<S: Sources>(
     roots: &[&str],
 ) -> Result<Walk, LinkError>
     // Each text that is kept is one that the source may give for its path, each tree is that of its
-    // text, each root and import is among the files, each path once, and no other is; no file
-    // imports one twice, none is on a circle, and 1,024 is the most.
+    // text, each root and import is among the files, each path once, and no other is; they are in
+    // post-order of imports, no file imports one twice, none is on a circle, and 1,024 is the most.
     ensures linked { IfOk result (λ walk.
         spec.IsLinked (spec.world (S.may_give source.old) (S.may_lack source.old) folder.now
         (texts roots.now)) (spec.entries walk)) }

@@ -1,21 +1,13 @@
 -- The order of a set's files: depth first, each behind those that it imports (this profile's choice).
-use Rattle.std.specs.Prelude.{◌≡◌, ℕ, Bool, true, false, not, ◌&&◌, ◌⊎◌, List, [], ◌∷◌, ◌++◌, map, filter, find, Option, Some, option_map}
-use Rattle.std.specs.List.{list_all, list_any}
+use Rattle.std.specs.Prelude.{◌≡◌, ℕ, Bool, false, not, ◌&&◌, ◌⊎◌, List, [], map, filter, find, Option, option_map}
+use Rattle.std.specs.List.{list_all}
 use Rattle.std.specs.Str.{bytes_eq}
+use Rattle.pg_link.specs.PostOrder.{Visits}
 use Rattle.pg_schema.specs.rules.Pairs.{are_distinct}
 use Rattle.pg_dyn.specs.Message.{Message}
 use Rattle.pg_fds.specs.declared.descriptor.proto.TheConstants as proto
 use Rattle.pg_fds.specs.stated.Said.{text_at, texts_at}
 use Rattle.pg_fds.specs.stated.SaidFiles.{is_descriptor}
-
--- What is listed once these were visited in order, where those in front are listed already: one that is listed is passed over; any other
--- leads to some that are visited first, and is listed behind them.
-pub data Visits {A : Type 0} (same : A → A → Bool) (leads : A → Option (List A)) : (front visited listed : List A) → Type 0 where
-  all_visited : (front : List A) → Visits same leads front [] front
-  passed_over : (front later listed : List A) (x : A) → list_any (same x) front ≡ true → Visits same leads front later listed →
-      Visits same leads front (x ∷ later) listed
-  listed_last : (front own inside later listed : List A) (x : A) → list_any (same x) front ≡ false → leads x ≡ Some own →
-      Visits same leads front own inside → Visits same leads (inside ++ x ∷ []) later listed → Visits same leads front (x ∷ later) listed
 
 -- a file by its path, with the paths that it imports
 pub record Importer : Type 0 where

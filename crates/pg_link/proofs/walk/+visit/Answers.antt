@@ -6,10 +6,11 @@ use Rattle.pg_link.specs.declared.imports.ImportLine as lines
 use Rattle.pg_link.specs.declared.walk.Asking as askings
 use Rattle.pg_link.specs.declared.walk.SourceFile as kept
 use Rattle.pg_link.specs.Files.{Differ, is_path_of, paths_of}
-use Rattle.pg_link.specs.Walk.{World, world, Entry, IsSound, Follows, IsTextFault, IsParsed, IsImportFault, Refuses, entries, open_paths, outlines, has_path}
+use Rattle.pg_link.specs.Walk.{World, world, Entry, IsSound, Follows, IsTextFault, IsParsed, IsImportFault, Refuses, VisitLists, entries, listed_paths, open_paths, outlines, has_path}
 use Rattle.pg_link.proofs.LeadLaws.{ComeByThese, both_extend, come_done, come_first, come_next, one_extends, same_extends}
 use Rattle.pg_link.proofs.OrderLaws.{apart_more}
 use Rattle.pg_link.proofs.PathLaws.{has_found}
+use Rattle.pg_link.proofs.PostOrderLaws.{file_listed, listed_before, next_listed, none_listed}
 use Rattle.pg_link.proofs.ReadLaws.{at_most_new, first_way, next_way, none_new, none_read, not_begun, one_new, way_done, way_refused}
 use Rattle.pg_link.proofs.WalkLaws.{beyond, comes_of, follows_next, import_refused, line_path, next_import, none_yet, not_read, one_more, open_count, open_one, reached_of, read_refused, same_world, take_none, text_refused}
 use Rattle.pg_link.proofs.walk.+visit.Goals as goal
@@ -72,6 +73,7 @@ lines-init g t c =
       kept = λ p has. subst (λ (es : List Entry). is_path_of (paths_of (outlines es)) p ≡ true) (sym same) has;
       extends = same_extends walk new same;
       come = come_first walk new (map line_path (take 0 ls)) same;
+      lists = none_listed walk new (map line_path (take 0 ls)) same (ap (map line_path) (take_none ls));
       asked = first_way c.args.folder.now _ _ walk new path c.requires.1.1.1 none c.in_ok-bytes.ensures.asked same;
       counted = omega (arith, c.in_ok-bytes.ensures.counted);
       same_given = c.in_ok-bytes.ensures.same_given;
@@ -167,6 +169,8 @@ lines-preserved g t c =
       kept = λ q has. after.kept q (inv.kept q has);
       extends = both_extend walk c.lines.walk new inv.extends after.extends;
       come = subst (λ (qs : List (List ℕ)). ComeByThese walk new qs) (sym more) (come_next walk c.lines.walk new (map line_path (take c.lines.index ls)) next inv.come after.extends after.come);
+      lists = subst (λ (qs : List (List ℕ)). VisitLists (listed_paths walk) qs new) (sym more)
+          (next_listed (listed_paths walk) (map line_path (take c.lines.index ls)) next c.lines.walk new inv.lists after.extends after.lists);
       asked = next_way c.args.folder.now _ _ _ walk c.lines.walk new path inv.asked inv.opened after.reads_all;
       counted = omega (arith, after.counted, inv.counted);
       same_given = after.same_given ∙ inv.same_given;
@@ -249,6 +253,25 @@ returns-clause-come g t c =
     let whole : take c.lines.index ls ≡ ls = take_all c.lines.index ls (omega arith) in
     come_done walk c.lines.walk c.end.new.self c.args.path.now last.0 file ls
     (subst (λ (xs : List lines.ImportLine). ComeByThese walk c.lines.walk (map line_path xs)) whole inv.come) c.in_ok-lines.ensures last.1 last.2
+
+pub returns-clause-lists : goal.returns-clause-lists
+returns-clause-lists g t c =
+    let walk = c.args.walk.now in
+    let mid = c.lines.walk in
+    let new = c.end.new.self in
+    let path : List ℕ = c.args.path.now in
+    let inv = c.lines.invariant in
+    let ls : List lines.ImportLine = c.in_ok-lines.lines.items in
+    let last = c.in_ok-end.ensures.comes.is_last inv.asked.is_unread in
+    let file : kept.SourceFile = record { bytes = c.in_ok-bytes.bytes; tree = c.in_ok-tree.tree } in
+    let whole : take c.lines.index ls ≡ ls = take_all c.lines.index ls (omega arith) in
+    let none : has_path walk path ≡ false = has_found walk path ∙ (sym c.contains_key.ensures ∙ c.if-contains_key.false) in
+    file_listed walk mid new path last.0 file ls (subst (λ (xs : List lines.ImportLine). VisitLists (listed_paths walk) (map line_path xs) mid) whole inv.lists)
+    c.in_ok-lines.ensures last.1 last.2 (one_extends mid new (last.0, file) last.2) none inv.asked.is_unread
+
+pub returns-then-contains_key-clause-lists : goal.returns-then-contains_key-clause-lists
+returns-then-contains_key-clause-lists g t c =
+    listed_before c.args.walk.now c.args.path.now (has_found c.args.walk.now c.args.path.now ∙ (sym c.contains_key.ensures ∙ c.if-contains_key.true))
 
 pub returns-then-contains_key-clause-extends : goal.returns-then-contains_key-clause-extends
 returns-then-contains_key-clause-extends g t c = same_extends c.args.walk.now c.args.walk.now refl

@@ -1,7 +1,7 @@
 use Rattle.std.proofs.Common.{◌≡◌, ◌-◌, ◌+◌, ◌<◌, ℕ, List, ◌∷◌, All, take, true, length, map, string_bytes}
 use Rattle.pg_link.specs.declared.imports.ImportLine as lines
 use Rattle.pg_link.specs.Files.{Differ}
-use Rattle.pg_link.specs.Walk.{world, IsSound, Extends, Follows, Keeps, entries, open_paths, has_path}
+use Rattle.pg_link.specs.Walk.{world, IsSound, Extends, Follows, Keeps, VisitLists, entries, listed_paths, open_paths, has_path}
 use Rattle.pg_link.proofs.LeadLaws.{ComeByThese}
 use Rattle.pg_link.proofs.ReadLaws.{IsUnderWay}
 use Rattle.pg_link.proofs.WalkLaws.{line_path}
@@ -22,6 +22,7 @@ invariant-lines g l = record {
   kept : Keeps l.fn.walk l.walk;
   extends : Extends l.fn.walk l.walk;
   come : ComeByThese l.fn.walk l.walk (map line_path (take l.index l.lines.items));
+  lists : VisitLists (listed_paths l.fn.walk) (map line_path (take l.index l.lines.items)) l.walk;
   asked : IsUnderWay l.folder (g.S.Sources.reads l.fn.source) (g.S.Sources.reads l.source) l.fn.walk l.walk l.path;
   counted : g.S.Sources.failures l.source ≡ g.S.Sources.failures l.fn.source;
   same_given : g.S.Sources.may_give l.source ≡ g.S.Sources.may_give l.fn.source;

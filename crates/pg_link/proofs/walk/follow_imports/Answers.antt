@@ -1,5 +1,5 @@
 use Rattle.std.proofs.Common.{◌≡◌, ◌∙◌, ℕ, List, [], None, String, string_bytes, All, ap, map, refl, reverse, take, true, sym, subst, slice_index_or, arith}
-use Rattle.std.proofs.lemmas.List.{take_all}
+use Rattle.std.proofs.lemmas.List.{map_more, take_all}
 use Rattle.std.proofs.lemmas.List.Elements.{All-more, All-map}
 use Rattle.std.proofs.lemmas.Result.{err_from_is_err_and}
 use Rattle.std.specs.Borrow.{Bor}
@@ -7,10 +7,11 @@ use Rattle.std.specs.Global.{Global}
 use Rattle.pg_link.specs.declared.walk.Walk as walks
 use Rattle.pg_link.specs.Files.{is_path_of, paths_of}
 use Rattle.pg_link.specs.Index.{texts}
-use Rattle.pg_link.specs.Walk.{World, world, IsSound, Follows, Refuses, entries, outlines, has_path}
+use Rattle.pg_link.specs.Walk.{World, world, IsSound, Follows, Refuses, VisitLists, entries, outlines, has_path}
 use Rattle.pg_link.proofs.LeadLaws.{none_come, root_next}
+use Rattle.pg_link.proofs.PostOrderLaws.{first_listed, next_listed}
 use Rattle.pg_link.proofs.ReadLaws.{all_far, far_apart, far_refused, first_far, next_far}
-use Rattle.pg_link.proofs.WalkLaws.{contains_root, first_sound, follows_root, linked, same_world}
+use Rattle.pg_link.proofs.WalkLaws.{contains_root, first_sound, follows_root, linked, same_world, take_none}
 use Rattle.pg_link.proofs.walk.follow_imports.Goals as goal
 
 pub returns-in_err-visit-clause-refused : goal.returns-in_err-visit-clause-refused
@@ -50,6 +51,8 @@ loop-root-preserved g c =
       opened = after.opened ∙ inv.opened;
       has_roots = All-more has roots c.loop-root.root-index none c.loop-root-test.true those after.has;
       from_roots = root_next (texts roots) c.loop-root.walk new root (contains_root roots c.loop-root.root-index none c.loop-root-test.true) inv.from_roots after.extends after.come;
+      lists = subst (λ (ps : List (List ℕ)). VisitLists [] ps new) (sym (map_more (λ (r : Bor (List ℕ)). r.now) roots c.loop-root.root-index none c.loop-root-test.true))
+          (next_listed [] (texts (take c.loop-root.root-index roots)) root c.loop-root.walk new inv.lists after.extends after.lists);
       asked = next_far c.args.folder.now _ _ _ c.loop-root.walk new inv.asked inv.opened after.reads_all;
       counted = omega (arith, after.counted, inv.counted);
       same_given = after.same_given ∙ inv.same_given;
@@ -62,9 +65,10 @@ returns-clause-linked g c =
     let roots = c.args.roots.now in
     let w = world (g.S.Sources.may_give c.args.source.now) (g.S.Sources.may_lack c.args.source.now) c.args.folder.now (texts roots) in
     let has = λ (root : Bor (List ℕ)). has_path c.loop-root.walk root.now ≡ true in
-    let all : All has roots =
-    subst (λ (xs : List (Bor (List ℕ))). All has xs) (take_all c.loop-root.root-index roots (omega (arith, c.loop-root-test.false))) inv.has_roots in
+    let whole : take c.loop-root.root-index roots ≡ roots = take_all c.loop-root.root-index roots (omega (arith, c.loop-root-test.false)) in
+    let all : All has roots = subst (λ (xs : List (Bor (List ℕ))). All has xs) whole inv.has_roots in
     linked w (entries c.loop-root.walk) inv.sound
+    (subst (λ (rs : List (Bor (List ℕ))). VisitLists [] (texts rs) c.loop-root.walk) whole inv.lists)
     (All-map (λ (root : List ℕ). is_path_of (paths_of (outlines (entries c.loop-root.walk))) root ≡ true) (λ (root : Bor (List ℕ)). root.now) roots all)
     inv.from_roots
 
@@ -88,6 +92,7 @@ loop-root-init g c =
       opened = ap (λ (keys : List (String Global)). reverse (map string_bytes keys)) c.new-2.ensures.empty;
       has_roots = λ k d within. absurd (omega (arith, within));
       from_roots = none_come (texts c.args.roots.now) walk none;
+      lists = first_listed walk (texts (take 0 c.args.roots.now)) none (ap texts (take_none c.args.roots.now));
       asked = first_far c.args.folder.now _ _ walk refl none;
       counted = refl;
       same_given = refl;
