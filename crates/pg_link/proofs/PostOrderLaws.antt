@@ -2,7 +2,7 @@
 use Rattle.std.proofs.Common.{◌≡◌, ◌∙◌, Bool, true, false, ◌||◌, cond, List, [], ◌∷◌, ◌++◌, Option, Some, None, map, reverse, refl, sym, ap, subst, String, string_bytes, true≢false}
 use Rattle.std.proofs.lemmas.List.{map-append, reverse-append, reverse-reverse}
 use Rattle.std.proofs.lemmas.List.Folds.{find-append}
-use Rattle.std.proofs.lemmas.Option.{none-some}
+use Rattle.std.proofs.lemmas.Option.{none-some, same_Some}
 use Rattle.std.proofs.lemmas.Slice.Eq.{bytes_eq-Decides}
 use Rattle.std.specs.Global.{Global}
 use Rattle.std.specs.List.{find}
@@ -31,6 +31,19 @@ module _ (leads : Text → Option (List Text)) where
       passed_over f (more ++ later) listed y found (visits_on f more l later listed visits rest)
   visits_on front (x ∷ first) between later listed (listed_last f own inside more l y missing is inner visits) rest =
       listed_last f own inside (more ++ later) listed y missing is inner (visits_on (inside ++ y ∷ []) more l later listed visits rest)
+
+  -- there is one list
+  pub visits_once : (front visited listed other : List Text) → Visits bytes_eq leads front visited listed → Visits bytes_eq leads front visited other → listed ≡ other
+  visits_once front [] listed other (all_visited f) (all_visited g) = refl
+  visits_once front (x ∷ later) listed other (passed_over f m l y found rest) (passed_over g n k z there more) = visits_once f later listed other rest more
+  visits_once front (x ∷ later) listed other (passed_over f m l y found rest) (listed_last g own inside n k z missing is inner more) =
+      absurd (true≢false (sym found ∙ missing))
+  visits_once front (x ∷ later) listed other (listed_last f own inside m l y missing is inner rest) (passed_over g n k z found more) =
+      absurd (true≢false (sym found ∙ missing))
+  visits_once front (x ∷ later) listed other (listed_last f own inside m l y missing is inner rest) (listed_last g own' inside' n k z missing' is' inner' more) =
+      let same : own ≡ own' = same_Some own own' (sym is ∙ is') in
+      let alike : inside ≡ inside' = visits_once f own inside inside' inner (subst (λ (o : List Text). Visits bytes_eq leads f o inside') (sym same) inner') in
+      visits_once (inside ++ x ∷ []) later listed other rest (subst (λ (i : List Text). Visits bytes_eq leads (i ++ x ∷ []) later other) (sym alike) more)
 
   -- where more is known of what leads on
   module _ (wider : Text → Option (List Text)) (widens : (x : Text) (own : List Text) → leads x ≡ Some own → wider x ≡ Some own) where

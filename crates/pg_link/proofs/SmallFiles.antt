@@ -1,14 +1,17 @@
 -- Each by computing it, but for what is never linked.
-use Rattle.std.proofs.Common.{◌≡◌, ◌∙◌, false, inl, inr, zero, suc, true, List, [], ◌∷◌, codes, drop, refl, sym, subst, true≢false, arith}
+use Rattle.std.proofs.Common.{◌≡◌, ◌∙◌, ap, false, inl, inr, zero, suc, true, List, [], ◌∷◌, Option, Some, codes, drop, refl, sym, subst, take, true≢false, arith}
 use Rattle.std.proofs.lemmas.List.Elements.{All-nil}
 use Rattle.std.specs.List.{All, IsAmong}
+use Rattle.std.specs.Str.{bytes_eq}
 use Rattle.pg_link.specs.Files.{File, Import, Imports, Next, Further, HasNoCycle, InOrder, Differ, import_paths, is_path_of, paths_of}
 use Rattle.pg_link.specs.Names.{Text}
-use Rattle.pg_link.specs.SmallFiles.{SmallFiles, IsImporting, chain, declared, line}
+use Rattle.pg_link.specs.PostOrder.{Visits, all_visited, imports_at, listed_last, passed_over}
+use Rattle.pg_link.specs.SmallFiles.{SmallFiles, IsImporting, chain, declared, file_a, file_b, file_c, file_d, line}
 use Rattle.pg_link.specs.Standing.{Standing, NoneTwice, may_share, standing}
 use Rattle.pg_link.specs.declared.names.Kind.TheVariants.{Message, Package}
 use Rattle.pg_link.specs.Walk.{outlines}
 use Rattle.pg_link.proofs.OnceLaws.{none_twice_is_once}
+use Rattle.pg_link.proofs.PostOrderLaws.{visits_once}
 use Rattle.pg_link.proofs.SeesLaws.{among_map}
 use Rattle.pg_link.proofs.VisibleLaws.{first_among}
 
@@ -38,6 +41,47 @@ imports_differ (f ∷ files) order file (suc i, (within, is)) = imports_differ f
 -- the first two have one name, and may not share it
 clash : (s t : Standing) (more : List Standing) → NoneTwice (s ∷ (t ∷ more)) → s.declared.name ≡ t.declared.name → may_share s.declared.kind t.declared.kind ≡ false → ⊥
 clash s t more none name not = true≢false (sym ((none_twice_is_once (s ∷ (t ∷ more))).0 none 0 1 s t (omega arith) refl refl name) ∙ not)
+
+-- ---- the order of files
+
+abbrev a : Text
+a = codes "a.proto"
+
+abbrev b : Text
+b = codes "b.proto"
+
+abbrev c : Text
+c = codes "c.proto"
+
+abbrev d : Text
+d = codes "d.proto"
+
+-- where b.proto imports d.proto alone
+module _ (leads : Text → Option (List Text)) (of_b : leads b ≡ Some (d ∷ [])) (of_d : leads d ≡ Some []) where
+  d_listed : Visits bytes_eq leads [] (d ∷ []) (d ∷ [])
+  d_listed = listed_last [] [] [] [] (d ∷ []) d refl of_d (all_visited []) (all_visited (d ∷ []))
+
+  b_listed : (later listed : List Text) → Visits bytes_eq leads (d ∷ b ∷ []) later listed → Visits bytes_eq leads [] (b ∷ later) listed
+  b_listed later listed rest = listed_last [] (d ∷ []) (d ∷ []) later listed b refl of_b d_listed rest
+
+  both_listed : leads c ≡ Some (d ∷ []) → Visits bytes_eq leads [] (b ∷ c ∷ []) (d ∷ b ∷ c ∷ [])
+  both_listed of_c = b_listed (c ∷ []) (d ∷ b ∷ c ∷ []) (listed_last (d ∷ b ∷ []) (d ∷ []) (d ∷ b ∷ []) [] (d ∷ b ∷ c ∷ []) c refl of_c
+      (passed_over (d ∷ b ∷ []) [] (d ∷ b ∷ []) d refl (all_visited (d ∷ b ∷ []))) (all_visited (d ∷ b ∷ c ∷ [])))
+
+  a_listed : leads a ≡ Some (b ∷ c ∷ []) → leads c ≡ Some (d ∷ []) → Visits bytes_eq leads [] (a ∷ []) (d ∷ b ∷ c ∷ a ∷ [])
+  a_listed of_a of_c = listed_last [] (b ∷ c ∷ []) (d ∷ b ∷ c ∷ []) [] (d ∷ b ∷ c ∷ a ∷ []) a refl of_a (both_listed of_c) (all_visited (d ∷ b ∷ c ∷ a ∷ []))
+
+-- of two lists of one visit the second path is one
+not_second : (leads : Text → Option (List Text)) (visited first second : List Text) → Visits bytes_eq leads [] visited first → Visits bytes_eq leads [] visited second
+    → is_path_of (take 1 (drop 1 first)) b ≡ true → is_path_of (take 1 (drop 1 second)) b ≡ false → ⊥
+not_second leads visited first second one other has has_not =
+    true≢false (sym has ∙ (ap (λ (ps : List Text). is_path_of (take 1 (drop 1 ps)) b) (visits_once leads [] visited first second one other) ∙ has_not))
+
+abbrev backwards : Text → Option (List Text)
+backwards = imports_at (file_d ∷ file_c ∷ file_b ∷ file_a ∷ [])
+
+abbrev two_backwards : Text → Option (List Text)
+two_backwards = imports_at (file_d ∷ file_c ∷ file_b ∷ [])
 
 pub small_files : SmallFiles
 small_files = record {
@@ -75,6 +119,14 @@ small_files = record {
       true≢false (subst (λ (paths : List Text). Differ paths) importing.are_imports (imports_differ (outlines entries) linked.in_order f there)).0;
   import_twice_apart = λ w entries f there importing linked.
       true≢false (subst (λ (paths : List Text). Differ paths) importing.are_imports (imports_differ (outlines entries) linked.in_order f there)).0;
+  from_the_first_import = a_listed (imports_at (file_d ∷ file_b ∷ file_c ∷ file_a ∷ [])) refl refl refl refl;
+  not_from_the_last_import = λ last. not_second backwards (a ∷ []) (d ∷ b ∷ c ∷ a ∷ []) (d ∷ c ∷ b ∷ a ∷ [])
+      (a_listed backwards refl refl refl refl) last refl refl;
+  from_the_first_root = both_listed (imports_at (file_d ∷ file_b ∷ file_c ∷ [])) refl refl refl;
+  not_from_the_last_root = λ last. not_second two_backwards (b ∷ c ∷ []) (d ∷ b ∷ c ∷ []) (d ∷ c ∷ b ∷ [])
+      (both_listed two_backwards refl refl refl) last refl refl;
+  not_before_its_imports = λ before. not_second (imports_at (file_b ∷ file_d ∷ [])) (b ∷ []) (d ∷ b ∷ []) (b ∷ d ∷ [])
+      (b_listed (imports_at (file_b ∷ file_d ∷ [])) refl refl [] (d ∷ b ∷ []) (all_visited (d ∷ b ∷ []))) before refl refl;
   field_is_passed_over = refl;
   service_is_passed_over = refl;
   full_name_of_a_service = refl;

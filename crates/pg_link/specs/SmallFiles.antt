@@ -7,6 +7,7 @@ use Rattle.pg_link.specs.Names.{Text, Names}
 use Rattle.pg_link.specs.Resolves.{Reference, found}
 use Rattle.pg_link.specs.Files.{File, Import, Declared, InOrder, Differ, visible_names, all_names, seen_paths, import_paths, paths_of}
 use Rattle.pg_link.specs.Declares.{Word, Declarations, Done, Alone, MapField, Within, Beside, names_of_file}
+use Rattle.pg_link.specs.PostOrder.{IsPostOrder}
 use Rattle.pg_link.specs.Standing.{Standing, NoneTwice, standing}
 use Rattle.pg_link.specs.Walk.{World, Entry as Read, IsLinked, outlines}
 
@@ -87,6 +88,19 @@ chain last = file (codes "a.proto") (line (codes "b.proto") ∷ []) (declared Me
 abbrev pub seen_by : Text → Import → Names
 seen_by path last = visible_names (chain last) path
 
+-- a.proto imports b.proto and then c.proto, and both of these import d.proto
+abbrev pub file_a : File
+file_a = file (codes "a.proto") (line (codes "b.proto") ∷ line (codes "c.proto") ∷ []) []
+
+abbrev pub file_b : File
+file_b = file (codes "b.proto") (line (codes "d.proto") ∷ []) []
+
+abbrev pub file_c : File
+file_c = file (codes "c.proto") (line (codes "d.proto") ∷ []) []
+
+abbrev pub file_d : File
+file_d = file (codes "d.proto") [] []
+
 abbrev pub in_m : List Text
 in_m = codes "M" ∷ []
 
@@ -138,6 +152,12 @@ pub record SmallFiles : Type 0 where
   -- a file that imports one path twice, also with another between
   pub import_twice : IsNeverLinked (codes "m.proto") (codes "b.proto" ∷ codes "b.proto" ∷ [])
   pub import_twice_apart : IsNeverLinked (codes "m.proto") (codes "b.proto" ∷ codes "c.proto" ∷ codes "b.proto" ∷ [])
+  -- imports are followed from the first, and so are roots; each file comes after what it imports
+  pub from_the_first_import : IsPostOrder (codes "a.proto" ∷ []) (file_d ∷ file_b ∷ file_c ∷ file_a ∷ [])
+  pub not_from_the_last_import : IsPostOrder (codes "a.proto" ∷ []) (file_d ∷ file_c ∷ file_b ∷ file_a ∷ []) → ⊥
+  pub from_the_first_root : IsPostOrder (codes "b.proto" ∷ codes "c.proto" ∷ []) (file_d ∷ file_b ∷ file_c ∷ [])
+  pub not_from_the_last_root : IsPostOrder (codes "b.proto" ∷ codes "c.proto" ∷ []) (file_d ∷ file_c ∷ file_b ∷ []) → ⊥
+  pub not_before_its_imports : IsPostOrder (codes "b.proto" ∷ []) (file_b ∷ file_d ∷ []) → ⊥
   -- a name without a dot passes over fields and services, which a full name finds
   pub field_is_passed_over : found mixed in_m (part (codes "E") []) ≡ Some (codes ".E", Enum)
   pub service_is_passed_over : found mixed in_m (part (codes "S") []) ≡ None
