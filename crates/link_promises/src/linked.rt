@@ -1,21 +1,18 @@
 //! What a caller may ask of linked files.
 
 ghost use Rattle.std.specs.Prelude.{◌≡◌, ◌<◌, ◌∷◌, IfErr, IfNone, IfOk, IfSome, Some, length, map, slice_get, ℕ};
-ghost use Rattle.std.specs.BTreeMap.{get};
-ghost use Rattle.std.specs.Ordering.{nat_cmp};
 ghost use Rattle.pg_link.specs.Files.{all_names, visible_names};
 ghost use Rattle.pg_link.specs.Index.{texts};
 ghost use Rattle.pg_link.specs.Linked.{IsDeclaredAt, IsDeclaredNowhere, IsLinkedUp};
 ghost use Rattle.pg_link.specs.Resolves.{Resolves, reference};
-ghost use Rattle.pg_link.specs.Targets.{file_places, file_targets, target_at};
+ghost use Rattle.pg_link.specs.Targets.{file_places, file_targets};
 ghost use Rattle.pg_link.specs.UseFaults.{IsNoName};
 ghost use Rattle.pg_link.specs.Walk.{Entry, outlines, path_of};
 
 use indexmap::IndexMap;
 use pg_link::{LinkError, Linked, SourceFile, Target};
 use pg_syntax::tree::TypeName;
-use std::alloc::{AllocError, Global};
-use std::collections::BTreeMap;
+use std::alloc::Global;
 
 /// What `Linked::files` answers. Only an edit reads the other files.
 pub fn files<'a>(linked: &'a Linked, _other: &'a Linked) -> &'a IndexMap<String, SourceFile>
@@ -41,19 +38,6 @@ pub fn places(linked: &Linked, file: usize) -> &[usize]
     ensures { (e : Entry) → slice_get linked.now.files file ≡ Some e → result.now ≡ file_places e }
 {
     linked.places(file)
-}
-
-/// What `Linked::targets_by_place` answers.
-pub fn targets_by_place(
-    linked: &Linked,
-    alloc: Global,
-    file: usize,
-) -> Result<BTreeMap<usize, Target>, AllocError>
-    requires { file < length linked.now.files }
-    ensures { IfOk result (λ found. (e : Entry) → slice_get linked.now.files file ≡ Some e
-        → (at : ℕ) → get nat_cmp found at ≡ target_at linked.now.files e at) }
-{
-    linked.targets_by_place(alloc, file)
 }
 
 /// What `Linked::resolve` answers.

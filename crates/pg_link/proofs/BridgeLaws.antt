@@ -19,7 +19,8 @@ use Rattle.pg_link.specs.Standing.{Standing, Bearer, bearers, first_of, Holds, N
 use Rattle.pg_link.specs.Walk.{Entry, outline, outlines}
 use Rattle.pg_link.proofs.MaskLaws.{none_some}
 use Rattle.pg_link.proofs.SeesLaws.{among_map, map_among}
-use Rattle.pg_link.proofs.VisibleLaws.{any_at, any_found, first_among, later_among, same_text, text_same}
+use Rattle.pg_link.proofs.TextLaws.{same_text, text_same}
+use Rattle.pg_link.proofs.VisibleLaws.{any_at, any_found, first_among, later_among}
 use Rattle.pg_link.proofs.VisibleFilesLaws.{among_outlines}
 
 -- ---- lists

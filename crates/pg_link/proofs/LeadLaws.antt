@@ -1,5 +1,6 @@
 -- Which files have come by imports of those that are kept.
 use Rattle.std.proofs.Common.{◌≡◌, ◌∙◌, inl, inr, ◌⊎◌, suc, Bool, true, false, ◌||◌, List, [], ◌∷◌, ◌++◌, String, string_bytes, ap, refl, sym, subst, map, append_assoc, true≢false, arith}
+use Rattle.std.proofs.lemmas.Bool.{or_left, or_right}
 use Rattle.std.proofs.lemmas.List.Folds.{list_any-append}
 use Rattle.std.proofs.lemmas.Slice.Eq.{bytes_eq-Decides}
 use Rattle.std.specs.Global.{Global}
@@ -13,10 +14,8 @@ use Rattle.pg_link.specs.Imports.{line_of}
 use Rattle.pg_link.specs.Names.{Text}
 use Rattle.pg_link.specs.Outline.{file_imports}
 use Rattle.pg_link.specs.Walk.{Entry, ComesTo, ComeBy, Extends, entries, outline, outlines, has_path, path_of}
+use Rattle.pg_link.proofs.TextLaws.{same_text}
 use Rattle.pg_link.proofs.WalkLaws.{line_path, outlines-push, paths_of_lines}
-
-same_path : (a b : Text) → bytes_eq a b ≡ true → a ≡ b
-same_path a b is = (bytes_eq-Decides a b).0 is
 
 itself : (a : Text) → bytes_eq a a ≡ true
 itself a = (bytes_eq-Decides a a).1 refl
@@ -68,14 +67,6 @@ ComeByThese old now paths = (other : Text) → has_path now other ≡ true
 pub come_first : (old now : walks.Walk) (paths : List Text) → entries now ≡ entries old → ComeByThese old now paths
 come_first old now paths same = λ other has. inl (subst (λ (es : List Entry). is_path_of (paths_of (outlines es)) other ≡ true) same has)
 
-left_true : (a b : Bool) → a ≡ true → (a || b) ≡ true
-left_true true b is = refl
-left_true false b is = absurd (true≢false (sym is))
-
-right_true : (a b : Bool) → b ≡ true → (a || b) ≡ true
-right_true true b is = refl
-right_true false b is = is
-
 pub come_next : (old mid new : walks.Walk) (paths : List Text) (next : Text) → ComeByThese old mid paths → Extends mid new → ComeBy mid new next
     → ComeByThese old new (paths ++ next ∷ [])
 come_next old mid new paths next before more by = λ other has. last other (by other has)
@@ -85,7 +76,7 @@ come_next old mid new paths next before more by = λ other has. last other (by o
     earlier other (inl had) = inl had
     earlier other (inr (n, among, to)) = inr (
       n,
-      list_any-append (bytes_eq n) paths (next ∷ []) ∙ left_true (is_path_of paths n) (is_path_of (next ∷ []) n) among,
+      list_any-append (bytes_eq n) paths (next ∷ []) ∙ or_left (is_path_of paths n) (is_path_of (next ∷ []) n) among,
       to_later mid new n other more to,
     )
 
@@ -94,14 +85,14 @@ come_next old mid new paths next before more by = λ other has. last other (by o
     last other (inl had) = earlier other (before other had)
     last other (inr to) = inr (
       next,
-      list_any-append (bytes_eq next) paths (next ∷ []) ∙ right_true (is_path_of paths next) (is_path_of (next ∷ []) next) (left_true (bytes_eq next next) false (itself next)),
+      list_any-append (bytes_eq next) paths (next ∷ []) ∙ or_right (is_path_of paths next) (is_path_of (next ∷ []) next) (or_left (bytes_eq next next) false (itself next)),
       to,
     )
 
 -- a path of imports is that of one
 line_by : (b : Bool) (p : Text) (l : Import) (ls : List Import) → bytes_eq p l.path ≡ b → (b || is_path_of (import_paths ls) p) ≡ true
     → (is_path_of (import_paths ls) p ≡ true → (line : Import) × IsAmong ls line × (line.path ≡ p)) → (line : Import) × IsAmong (l ∷ ls) line × (line.path ≡ p)
-line_by true p l ls is among more = (l, (0, (omega arith, refl)), sym (same_path p l.path is))
+line_by true p l ls is among more = (l, (0, (omega arith, refl)), sym (same_text p l.path is))
 line_by false p l ls is among more = let m = more among in (m.0, (suc m.1.0, (omega (arith, m.1.1.0), m.1.1.1)), m.2)
 
 line_with : (p : Text) (ls : List Import) → is_path_of (import_paths ls) p ≡ true → (line : Import) × IsAmong ls line × (line.path ≡ p)
@@ -143,7 +134,7 @@ come_done old mid new path name file ls before its same is = λ other has.
 
     here : (other : Text) (b : Bool) → bytes_eq other (string_bytes name) ≡ b → (b || has_path mid other) ≡ true
         → (has_path old other ≡ true) ⊎ ComesTo (outlines (entries new)) path other
-    here other true own has = inr (inl (sym same ∙ sym (same_path other (string_bytes name) own)))
+    here other true own has = inr (inl (sym same ∙ sym (same_text other (string_bytes name) own)))
     here other false own has = there other (before other has)
 
 -- ---- all roots

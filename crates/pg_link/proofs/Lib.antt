@@ -9,7 +9,6 @@ pub mod OrderLaws
 pub mod OuterLaws
 pub mod PathLaws
 pub mod PlaceLaws
-pub mod PlacedLaws
 pub mod PostOrderLaws
 pub mod ReadLaws
 pub mod ResolvesLaws
@@ -19,6 +18,7 @@ pub mod VisibleFilesLaws
 pub mod SmallFiles
 pub mod StandingLaws
 pub mod TargetLaws
+pub mod TextLaws
 pub mod UseFaultLaws
 pub mod UseLaws
 pub mod WalkLaws

@@ -1,7 +1,7 @@
 -- Masks of files: which places they mark, and what one import adds.
 use Rattle.std.proofs.Common.{◌≡◌, ◌∙◌, ◌⊎◌, inl, inr, ℕ, zero, suc, ◌<◌, ◌≤◌, ◌+◌, Bool, true, false, ◌||◌, cond, List, [], ◌∷◌, ◌++◌, map, flat_map, take, reverse, length, get_or, slice_index_or, append_assoc, slice_get, refl, sym, ap, subst, true≢false, nat_eq, arith, Some, None, is_some, String, string_bytes, position}
 use Rattle.std.proofs.Math.ListN.{set}
-use Rattle.std.proofs.lemmas.Bool.{lt-ltb, eq-eqb, ne_eqb, cases_lt}
+use Rattle.std.proofs.lemmas.Bool.{lt-ltb, eq-eqb, ne_eqb, cases_lt, or_parts, or_right}
 use Rattle.std.proofs.lemmas.Bool.Decides.{Decides-eqb}
 use Rattle.std.proofs.lemmas.Grind.{flat_map-append, get_or-set_at}
 use Rattle.std.proofs.lemmas.List.{get_or-set_other, take_more, map-append, map_more, append-nil, reverse-append}
@@ -19,7 +19,7 @@ use Rattle.pg_link.specs.Names.{Text}
 use Rattle.pg_link.specs.VisibleFiles.{Marks, IsMask, AreHanded, AreNumbers, is_numbered, taken}
 use Rattle.pg_link.specs.Walk.{Entry, outline, outlines, path_of}
 use Rattle.pg_link.proofs.PathLaws.{among_entries, any-reverse}
-use Rattle.pg_link.proofs.VisibleLaws.{same_text, text_same}
+use Rattle.pg_link.proofs.TextLaws.{same_text, text_same, differ_turned}
 
 pub none_some : {X : Type 0} (x : X) → None ≡ Some x → ⊥
 none_some x is = true≢false (sym (ap is_some is))
@@ -118,10 +118,6 @@ or_last true b is = refl
 or_last false true is = refl
 or_last false false is = is
 
-or_true : (a b : Bool) → b ≡ true → (a || b) ≡ true
-or_true true b is = refl
-or_true false b is = is
-
 -- the marks of the numbers so far, and of one more
 pub one_more_mark : (old mid : List Bool) (numbers : List ℕ) (i n : ℕ) → i < length numbers → n ≡ get_or numbers i 0 → n < length mid
     → ((k : ℕ) → get_or mid k false ≡ (get_or old k false || is_numbered (take i numbers) k))
@@ -136,7 +132,7 @@ one_more_mark old mid numbers i n inside is within so_far k = by (nat_eq k n) re
     by true same =
         let at : k ≡ n = (Decides-eqb k n).0 same in
         get_or-set_at mid n k true false at within
-        ∙ sym (or_true (get_or old k false) (is_numbered (take (i + 1) numbers) k) (whole ∙ or_last (is_numbered (take i numbers) k) (nat_eq k n) same))
+        ∙ sym (or_right (get_or old k false) (is_numbered (take (i + 1) numbers) k) (whole ∙ or_last (is_numbered (take i numbers) k) (nat_eq k n) same))
     by false other =
         get_or-set_other mid n k true false (λ (same : k ≡ n). true≢false (sym (eq-eqb k n same) ∙ other))
         ∙ (so_far k ∙ sym (ap (λ b. get_or old k false || b) (whole ∙ or_none (is_numbered (take i numbers) k) (nat_eq k n) other)))
@@ -233,20 +229,12 @@ one_more_line h all ps lines i x inside is =
 
 -- ---- a file's own mark
 
-both_false : (a b : Bool) → (a || b) ≡ false → (a ≡ false) × (b ≡ false)
-both_false true b is = absurd (true≢false is)
-both_false false b is = (refl, is)
-
-turned_by : (b : Bool) (p q : Text) → bytes_eq q p ≡ b → bytes_eq p q ≡ false → bytes_eq q p ≡ false
-turned_by true p q is none = absurd (true≢false (sym (text_same p q (sym (same_text q p is))) ∙ none))
-turned_by false p q is none = is
-
 apart_split : (ys : List Text) (x : Text) → Differ (ys ++ x ∷ []) → Differ ys × (is_path_of ys x ≡ false)
 apart_split [] x d = (tt, refl)
 apart_split (y ∷ ys) x d =
     let h = apart_split ys x d.1 in
-    let f = both_false (is_path_of ys y) (bytes_eq y x || false) (sym (list_any-append (bytes_eq y) ys (x ∷ [])) ∙ d.0) in
-    let other : bytes_eq x y ≡ false = turned_by (bytes_eq x y) y x refl (both_false (bytes_eq y x) false f.1).0 in
+    let f = or_parts (is_path_of ys y) (bytes_eq y x || false) (sym (list_any-append (bytes_eq y) ys (x ∷ [])) ∙ d.0) in
+    let other : bytes_eq x y ≡ false = differ_turned y x (or_parts (bytes_eq y x) false f.1).0 in
     ((f.0, h.0), rw other h.1)
 
 pub apart_reverse : (xs : List Text) → Differ (reverse xs) → Differ xs
@@ -265,10 +253,6 @@ there_at : (ps : List Text) (i : ℕ) (p : Text) → slice_get ps i ≡ Some p �
 there_at [] i p at = absurd (none_some p at)
 there_at (q ∷ ps) zero p at = rw (text_same p q (sym (same_Some q p at))) refl
 there_at (q ∷ ps) (suc i) p at = or_right (bytes_eq p q) (is_path_of ps p) (there_at ps i p at)
-  where
-    or_right : (a b : Bool) → b ≡ true → (a || b) ≡ true
-    or_right true b is = refl
-    or_right false b is = is
 
 distinct_at : (ps : List Text) → Differ ps → (i j : ℕ) (p : Text) → slice_get ps i ≡ Some p → slice_get ps j ≡ Some p → i ≡ j
 distinct_at [] d i j p at there = absurd (none_some p at)

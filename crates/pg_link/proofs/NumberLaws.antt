@@ -1,6 +1,6 @@
 -- The numbers of message types and enums, one more behind the others.
-use Rattle.std.proofs.Common.{◌≡◌, ◌∙◌, ◌⊎◌, inl, inr, ℕ, suc, ◌<◌, ◌≤◌, ◌+◌, Bool, true, false, ◌||◌, cond, List, [], ◌∷◌, ◌++◌, map, filter, length, refl, sym, ap, subst, true≢false, nat_lt, arith, Option, Some, None, position}
-use Rattle.std.proofs.lemmas.Bool.{lt-ltb, le-ltb, cases_lt}
+use Rattle.std.proofs.Common.{◌≡◌, ◌∙◌, ◌⊎◌, inl, inr, ℕ, suc, ◌<◌, ◌≤◌, ◌+◌, Bool, true, false, cond, List, [], ◌∷◌, ◌++◌, map, filter, length, refl, sym, ap, subst, true≢false, nat_lt, arith, Option, Some, None, position}
+use Rattle.std.proofs.lemmas.Bool.{lt-ltb, le-ltb, cases_lt, or_parts}
 use Rattle.std.proofs.lemmas.List.{length-append, map-append}
 use Rattle.std.proofs.lemmas.List.Elements.{filter-append}
 use Rattle.std.proofs.lemmas.Option.{same_Some}
@@ -21,7 +21,8 @@ use Rattle.pg_link.specs.Targets.{enum_names, is_enum, is_message, message_names
 use Rattle.pg_link.proofs.BridgeLaws.{among_filter, both_true, filter_among, none_bears, package_is}
 use Rattle.pg_link.proofs.MaskLaws.{none_some, step_false, step_true}
 use Rattle.pg_link.proofs.SeesLaws.{among_map}
-use Rattle.pg_link.proofs.VisibleLaws.{any_found, same_text, text_same}
+use Rattle.pg_link.proofs.TextLaws.{same_text, text_same}
+use Rattle.pg_link.proofs.VisibleLaws.{any_found}
 
 -- ---- places
 
@@ -55,15 +56,11 @@ position_stays p xs ys k at =
     let same = in_front p xs ys h.1 in
     position_is p (xs ++ ys) (omega (arith, same, h.1, length-append xs ys)) ∙ ap (λ (n : ℕ). Some n) (same ∙ h.0)
 
-fails_first : (a b : Bool) → (a || b) ≡ false → (a ≡ false) × (b ≡ false)
-fails_first true b is = absurd (true≢false is)
-fails_first false b is = (refl, is)
-
 -- what is new stands last
 at_end : {X : Type 0} (p : X → Bool) (xs : List X) (x : X) → list_any p xs ≡ false → p x ≡ true → position_or_len p (xs ++ x ∷ []) ≡ length xs
 at_end p [] x none pass = step_true p x [] pass
 at_end p (y ∷ ys) x none pass =
-    let h = fails_first (p y) (list_any p ys) none in
+    let h = or_parts (p y) (list_any p ys) none in
     step_false p y (ys ++ x ∷ []) h.0 ∙ ap (λ (n : ℕ). suc n) (at_end p ys x h.1 pass)
 
 pub position_last : {X : Type 0} (p : X → Bool) (xs : List X) (x : X) → list_any p xs ≡ false → p x ≡ true → position p (xs ++ x ∷ []) ≡ Some (length xs)

@@ -1,44 +1,27 @@
 -- Files of which each stands before those that it imports: none is on a circle.
 use Rattle.std.proofs.Common.{◌≡◌, ◌∙◌, ℕ, zero, suc, ◌<◌, ◌+◌, Bool, true, false, ◌||◌, cond, List, [], ◌∷◌, ◌++◌, refl, sym, ap, subst, true≢false, arith}
+use Rattle.std.proofs.lemmas.Bool.{or_left, or_parts, or_right}
 use Rattle.std.proofs.lemmas.List.Folds.{list_any-append}
 use Rattle.std.proofs.lemmas.Slice.Eq.{bytes_eq-Decides}
 use Rattle.std.specs.List.{list_any, All, IsAmong}
 use Rattle.std.specs.Str.{bytes_eq}
 use Rattle.pg_link.specs.Files.{File, Import, Imports, Leads, Next, Further, HasNoCycle, InOrder, Differ, is_path_of, paths_of, import_paths}
 use Rattle.pg_link.specs.Names.{Text}
-
-true_or : (a b : Bool) → a ≡ true → (a || b) ≡ true
-true_or true b is = refl
-true_or false b is = absurd (true≢false (sym is))
-
-or_true : (a b : Bool) → b ≡ true → (a || b) ≡ true
-or_true true b is = refl
-or_true false b is = is
-
-left_none : (a b : Bool) → (a || b) ≡ false → a ≡ false
-left_none true b is = absurd (true≢false is)
-left_none false b is = refl
-
-right_none : (a b : Bool) → (a || b) ≡ false → b ≡ false
-right_none true b is = absurd (true≢false is)
-right_none false b is = is
+use Rattle.pg_link.proofs.TextLaws.{text_same, differ_turned}
 
 -- one of the elements makes the test pass
 pub passes_at : {X : Type 0} (test : X → Bool) (xs : List X) (x : X) → IsAmong xs x → test x ≡ true → list_any test xs ≡ true
 passes_at test [] x (i, (within, is)) pass = absurd (omega (arith, within))
-passes_at test (y ∷ ys) x (zero, (within, is)) pass = true_or (test y) (list_any test ys) (subst (λ z. test z ≡ true) is pass)
-passes_at test (y ∷ ys) x (suc i, (within, is)) pass = or_true (test y) (list_any test ys) (passes_at test ys x (i, (omega (arith, within), is)) pass)
+passes_at test (y ∷ ys) x (zero, (within, is)) pass = or_left (test y) (list_any test ys) (subst (λ z. test z ≡ true) is pass)
+passes_at test (y ∷ ys) x (suc i, (within, is)) pass = or_right (test y) (list_any test ys) (passes_at test ys x (i, (omega (arith, within), is)) pass)
 
 any_paths : (test : Text → Bool) (files : List File) → list_any test (paths_of files) ≡ list_any (λ f. test f.path) files
 any_paths test [] = refl
 any_paths test (f ∷ files) = ap (λ b. test f.path || b) (any_paths test files)
 
-same_text : (a b : Text) → a ≡ b → bytes_eq a b ≡ true
-same_text a b is = (bytes_eq-Decides a b).1 is
-
 is_there : (files : List File) (file : File) (path : Text) → IsAmong files file → file.path ≡ path → is_path_of (paths_of files) path ≡ true
 is_there files file path among is =
-    any_paths (bytes_eq path) files ∙ passes_at (λ (f : File). bytes_eq path f.path) files file among (same_text path file.path (sym is))
+    any_paths (bytes_eq path) files ∙ passes_at (λ (f : File). bytes_eq path f.path) files file among (text_same path file.path (sym is))
 
 -- what holds of the paths of imports holds of the path of a line
 line_in : (P : Text → Type 0) (lines : List Import) (line : Import) → All P (import_paths lines) → IsAmong lines line → P line.path
@@ -51,10 +34,10 @@ imported : (files : List File) → InOrder files → (file : File) (line : Impor
     → is_path_of (paths_of files) line.path ≡ true
 imported [] order file line (i, (within, is)) has = absurd (omega (arith, within))
 imported (f ∷ files) order file line (zero, (within, is)) has =
-    or_true (bytes_eq line.path f.path) (is_path_of (paths_of files) line.path)
+    or_right (bytes_eq line.path f.path) (is_path_of (paths_of files) line.path)
     (line_in (λ p. is_path_of (paths_of files) p ≡ true) f.imports line order.0 (subst (λ (x : File). IsAmong x.imports line) is has))
 imported (f ∷ files) order file line (suc i, (within, is)) has =
-    or_true (bytes_eq line.path f.path) (is_path_of (paths_of files) line.path)
+    or_right (bytes_eq line.path f.path) (is_path_of (paths_of files) line.path)
     (imported files order.2 file line (i, (omega (arith, within), is)) has)
 
 -- how far behind the first file a path stands
@@ -90,7 +73,7 @@ goes_back (f ∷ files) order apart path next file line (zero, (within, is)) has
     let there : is_path_of (paths_of files) next ≡ true =
     subst (λ (p : Text). is_path_of (paths_of files) p ≡ true) to (line_in (λ p. is_path_of (paths_of files) p ≡ true) f.imports line order.0 here) in
     first_before (bytes_eq path f.path) (bytes_eq next f.path) (behind files path) (behind files next)
-    (same_text path f.path (sym from ∙ ap (λ (x : File). x.path) is)) (other files next f.path there apart.0)
+    (text_same path f.path (sym from ∙ ap (λ (x : File). x.path) is)) (other files next f.path there apart.0)
 goes_back (f ∷ files) order apart path next file line (suc i, (within, is)) has from to =
     let among : IsAmong files file = (i, (omega (arith, within), is)) in
     let there : is_path_of (paths_of files) next ≡ true =
@@ -115,18 +98,11 @@ no_cycle files order apart = λ path leads. absurd (omega (arith, leads_back fil
 pub apart_more : (xs : List Text) (x : Text) → Differ xs → is_path_of xs x ≡ false → Differ (xs ++ x ∷ [])
 apart_more [] x apart none = (refl, tt)
 apart_more (y ∷ ys) x apart none = (
-  list_any-append (bytes_eq y) ys (x ∷ []) ∙ both_none (list_any (bytes_eq y) ys) (bytes_eq y x) apart.0 (turned_none x y (left_none (bytes_eq x y) (is_path_of ys x) none)),
-  apart_more ys x apart.1 (right_none (bytes_eq x y) (is_path_of ys x) none),
+  list_any-append (bytes_eq y) ys (x ∷ []) ∙ both_none (list_any (bytes_eq y) ys) (bytes_eq y x) apart.0 (differ_turned x y (or_parts (bytes_eq x y) (is_path_of ys x) none).0),
+  apart_more ys x apart.1 (or_parts (bytes_eq x y) (is_path_of ys x) none).1,
 )
   where
     both_none : (a b : Bool) → a ≡ false → b ≡ false → (a || (b || false)) ≡ false
     both_none true b none other = absurd (true≢false none)
     both_none false true none other = absurd (true≢false other)
     both_none false false none other = refl
-
-    turned_by : (b : Bool) (p q : Text) → bytes_eq q p ≡ b → bytes_eq p q ≡ false → bytes_eq q p ≡ false
-    turned_by true p q is none = absurd (true≢false (sym (same_text p q (sym ((bytes_eq-Decides q p).0 is))) ∙ none))
-    turned_by false p q is none = is
-
-    turned_none : (p q : Text) → bytes_eq p q ≡ false → bytes_eq q p ≡ false
-    turned_none p q none = turned_by (bytes_eq q p) p q refl none

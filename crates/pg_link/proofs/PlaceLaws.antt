@@ -16,8 +16,9 @@ use Rattle.pg_link.specs.Standing.{Bearer, Lists, Standing, all_standings, beare
 use Rattle.pg_link.specs.Walk.{Entry, path_of}
 use Rattle.pg_link.proofs.BridgeLaws.{among_filter, filter_among, none_bears, standing_there, stands_of}
 use Rattle.pg_link.proofs.MaskLaws.{none_some}
-use Rattle.pg_link.proofs.VisibleLaws.{first_among, same_text, text_same}
+use Rattle.pg_link.proofs.VisibleLaws.{first_among}
 use Rattle.pg_link.proofs.StandingLaws.{none_held, one_held}
+use Rattle.pg_link.proofs.TextLaws.{same_text, text_same}
 use Rattle.pg_link.proofs.UseFaultLaws.{among_at}
 
 pub if_some : {X : Type 0} (P Q : X → Type 0) (o : Option X) → ((x : X) → P x → Q x) → IfSome o P → IfSome o Q

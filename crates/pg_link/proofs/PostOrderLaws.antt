@@ -1,9 +1,9 @@
 -- Files that are read depth first are in post-order of imports.
-use Rattle.std.proofs.Common.{◌≡◌, ◌∙◌, Bool, true, false, ◌||◌, cond, List, [], ◌∷◌, ◌++◌, Option, Some, None, map, reverse, refl, sym, ap, subst, String, string_bytes, true≢false}
+use Rattle.std.proofs.Common.{◌≡◌, ◌∙◌, true, false, cond, List, [], ◌∷◌, ◌++◌, Option, Some, None, map, reverse, refl, sym, ap, subst, String, string_bytes, true≢false}
+use Rattle.std.proofs.lemmas.Bool.{or_parts}
 use Rattle.std.proofs.lemmas.List.{map-append, reverse-append, reverse-reverse}
 use Rattle.std.proofs.lemmas.List.Folds.{find-append}
 use Rattle.std.proofs.lemmas.Option.{none-some, same_Some}
-use Rattle.std.proofs.lemmas.Slice.Eq.{bytes_eq-Decides}
 use Rattle.std.specs.Global.{Global}
 use Rattle.std.specs.List.{find}
 use Rattle.std.specs.Option.{option_map, option_or}
@@ -18,6 +18,7 @@ use Rattle.pg_link.specs.Outline.{file_imports}
 use Rattle.pg_link.specs.PostOrder.{AreListed, Visits, all_visited, imports_at, listed_last, passed_over}
 use Rattle.pg_link.specs.Walk.{Entry, Extends, VisitLists, entries, files_in_order, has_path, listed_paths, outline, outlines}
 use Rattle.pg_link.proofs.PathLaws.{any-map, any-reverse}
+use Rattle.pg_link.proofs.TextLaws.{text_same, differ_turned}
 use Rattle.pg_link.proofs.WalkLaws.{line_path, paths_of_lines}
 
 -- ---- visits
@@ -64,21 +65,13 @@ imports_more files more path own is =
     of None none = absurd (none-some own none)
     of (Some f) found = found
 
-turned : (p q : Text) (b : Bool) → bytes_eq p q ≡ b → bytes_eq q p ≡ false → bytes_eq p q ≡ false
-turned p q true is none = absurd (true≢false (sym ((bytes_eq-Decides q p).1 (sym ((bytes_eq-Decides p q).0 is))) ∙ none))
-turned p q false is none = is
-
-either_none : (a b : Bool) → (a || b) ≡ false → (a ≡ false) × (b ≡ false)
-either_none true b is = absurd (true≢false is)
-either_none false b is = (refl, is)
-
 imports_last : (files : List File) (f : File) → is_path_of (paths_of files) f.path ≡ false → imports_at (files ++ f ∷ []) f.path ≡ Some (import_paths f.imports)
 imports_last [] f none =
-    ap (λ b. option_map (λ (g : File). import_paths g.imports) (cond b (Some f) None)) ((bytes_eq-Decides f.path f.path).1 refl)
+    ap (λ b. option_map (λ (g : File). import_paths g.imports) (cond b (Some f) None)) (text_same f.path f.path refl)
 imports_last (g ∷ files) f none =
-    let both = either_none (bytes_eq f.path g.path) (is_path_of (paths_of files) f.path) none in
+    let both = or_parts (bytes_eq f.path g.path) (is_path_of (paths_of files) f.path) none in
     ap (λ b. option_map (λ (h : File). import_paths h.imports) (cond b (Some g) (find (λ (h : File). bytes_eq h.path f.path) (files ++ f ∷ []))))
-    (turned g.path f.path (bytes_eq g.path f.path) refl both.0)
+    (differ_turned f.path g.path both.0)
     ∙ imports_last files f both.1
 
 -- ---- a walk

@@ -1,5 +1,6 @@
 -- Which paths a source is asked for, step by step.
 use Rattle.std.proofs.Common.{◌≡◌, ◌∙◌, inl, inr, ◌+◌, Bool, true, false, ◌||◌, List, [], ◌∷◌, ◌++◌, Option, Some, None, All, String, string_bytes, ap, refl, sym, subst, length, length-append, map, append-nil, append_assoc, true≢false, codes, if◌then◌else◌, slice_index_or, arith}
+use Rattle.std.proofs.lemmas.Bool.{or_from, or_parts}
 use Rattle.std.proofs.lemmas.List.{append_cancel_left, map-append, length-map}
 use Rattle.std.proofs.lemmas.List.Folds.{list_any-append, list_any_at}
 use Rattle.std.proofs.lemmas.Slice.Eq.{bytes_eq-Decides}
@@ -14,17 +15,10 @@ use Rattle.pg_link.specs.Reads.{ReadsApart, ReadsEach, ReadsNew, ReadsAll, is_be
 use Rattle.pg_link.specs.Sources.{also, AtMostOne}
 use Rattle.pg_link.specs.Walk.{Entry, entries, open_paths, outlines, has_path, path_of}
 use Rattle.pg_link.proofs.PathLaws.{any-map, among_entries}
+use Rattle.pg_link.proofs.TextLaws.{same_text}
 use Rattle.pg_link.proofs.WalkLaws.{outlines-push}
 
 -- ---- tests
-
-none_both : (a b : Bool) → a ≡ false → b ≡ false → (a || b) ≡ false
-none_both true b none other = absurd (true≢false none)
-none_both false b none other = other
-
-right_none : (a b : Bool) → (a || b) ≡ false → b ≡ false
-right_none true b is = absurd (true≢false is)
-right_none false b is = is
 
 not_both : (a b : Bool) → (a ≡ true → b ≡ false) → b ≡ true → a ≡ false
 not_both true b not is = absurd (true≢false (sym is ∙ not refl))
@@ -54,9 +48,6 @@ passed true true c = refl
 passed true false c = refl
 passed false b c = refl
 
-same_path : (a b : Text) → bytes_eq a b ≡ true → a ≡ b
-same_path a b is = (bytes_eq-Decides a b).0 is
-
 itself : (a : Text) → bytes_eq a a ≡ true
 itself a = (bytes_eq-Decides a a).1 refl
 
@@ -76,9 +67,9 @@ among_both p ps qs = list_any-append (bytes_eq p) ps qs
 apart_both : (ps qs : List Text) → Differ ps → Differ qs → ((p : Text) → is_path_of qs p ≡ true → is_path_of ps p ≡ false) → Differ (ps ++ qs)
 apart_both [] qs first next out = next
 apart_both (p ∷ ps) qs first next out = (
-  among_both p ps qs ∙ none_both (is_path_of ps p) (is_path_of qs p) first.0
+  among_both p ps qs ∙ or_from (is_path_of ps p) (is_path_of qs p) first.0
       (not_both (is_path_of qs p) (bytes_eq p p || is_path_of ps p) (out p) (ap (λ b. b || is_path_of ps p) (itself p))),
-  apart_both ps qs first.1 next (λ q has. right_none (bytes_eq q p) (is_path_of ps q) (out q has)),
+  apart_both ps qs first.1 next (λ q has. (or_parts (bytes_eq q p) (is_path_of ps q) (out q has)).1),
 )
 
 -- ---- below a folder two paths stay two
@@ -91,8 +82,8 @@ below_equal false folder p q is = append_cancel_left (codes "/") p q (append_can
 pub below_differs : (folder p q : Text) → bytes_eq (path_below folder p) (path_below folder q) ≡ bytes_eq p q
 below_differs folder p q =
     equal (bytes_eq (path_below folder p) (path_below folder q)) (bytes_eq p q)
-    (λ is. (bytes_eq-Decides p q).1 (below_equal (bytes_eq folder (codes ".")) folder p q (same_path (path_below folder p) (path_below folder q) is)))
-    (λ is. (bytes_eq-Decides (path_below folder p) (path_below folder q)).1 (ap (path_below folder) (same_path p q is)))
+    (λ is. (bytes_eq-Decides p q).1 (below_equal (bytes_eq folder (codes ".")) folder p q (same_text (path_below folder p) (path_below folder q) is)))
+    (λ is. (bytes_eq-Decides (path_below folder p) (path_below folder q)).1 (ap (path_below folder) (same_text p q is)))
 
 among_below : (folder p : Text) (ps : List Text) → is_path_of (map (path_below folder) ps) (path_below folder p) ≡ is_path_of ps p
 among_below folder p [] = refl
@@ -107,7 +98,7 @@ apart_below folder (p ∷ ps) apart = (among_below folder p ps ∙ apart.0, apar
 -- ---- one visit
 
 pub not_begun : (walk : walks.Walk) (path : Text) → is_path_of (open_paths walk) path ≡ false → has_path walk path ≡ false → is_begun walk path ≡ false
-not_begun walk path none other = none_both (is_path_of (open_paths walk) path) (has_path walk path) none other
+not_begun walk path none other = or_from (is_path_of (open_paths walk) path) (has_path walk path) none other
 
 pub none_new : (folder : Text) (x y : Option (List Text)) (walk : walks.Walk) → y ≡ x → ReadsNew folder x y walk
 none_new folder x y walk same = record { added = []; adds = same ∙ none_more x; apart = tt; is_new = λ p has. absurd (true≢false (sym has)) }
@@ -118,7 +109,7 @@ one_new folder x y walk path none adds = record {
   added = path ∷ [];
   adds = adds;
   apart = (refl, tt);
-  is_new = λ p has. subst (λ (q : Text). is_begun walk q ≡ false) (sym (same_path p path (or_none (bytes_eq p path) ∙ has))) none;
+  is_new = λ p has. subst (λ (q : Text). is_begun walk q ≡ false) (sym (same_text p path (or_none (bytes_eq p path) ∙ has))) none;
 }
 
 pub at_most_new : (folder : Text) (x y : Option (List Text)) (walk : walks.Walk) (path : Text) → is_begun walk path ≡ false
@@ -142,17 +133,13 @@ then_new folder x y z old mid first next begun = record {
   adds = next.adds ∙ (ap (also (map (path_below folder) next.added)) first.adds
       ∙ (also_both (map (path_below folder) first.added) (map (path_below folder) next.added) x
       ∙ ap (λ ps. also ps x) (sym (map-append (path_below folder) first.added next.added))));
-  apart = apart_both first.added next.added first.apart next.apart (λ p has. right_none (is_begun old p) (is_path_of first.added p) (sym (begun p) ∙ next.is_new p has));
+  apart = apart_both first.added next.added first.apart next.apart (λ p has. (or_parts (is_begun old p) (is_path_of first.added p) (sym (begun p) ∙ next.is_new p has)).1);
   is_new = λ p has. new_in p (is_path_of first.added p) (is_path_of next.added p) refl refl (sym (among_both p first.added next.added) ∙ has);
 }
   where
-    left_none : (a b : Bool) → (a || b) ≡ false → a ≡ false
-    left_none true b is = absurd (true≢false is)
-    left_none false b is = refl
-
     new_in : (p : Text) (a b : Bool) → is_path_of first.added p ≡ a → is_path_of next.added p ≡ b → (a || b) ≡ true → is_begun old p ≡ false
     new_in p true b in_first in_next has = first.is_new p in_first
-    new_in p false true in_first in_next has = left_none (is_begun old p) (is_path_of first.added p) (sym (begun p) ∙ next.is_new p in_next)
+    new_in p false true in_first in_next has = (or_parts (is_begun old p) (is_path_of first.added p) (sym (begun p) ∙ next.is_new p in_next)).0
     new_in p false false in_first in_next has = absurd (true≢false (sym has))
 
 -- while the imports of a path are followed
@@ -202,7 +189,7 @@ next_way folder x y z old mid now path w opened after =
           ∙ (sym (grouped (has_path old p) (is_path_of w.reads.added p) (is_path_of after.reads.added p))
           ∙ ap (λ b. has_path old p || b) (sym (among_both p w.reads.added after.reads.added)))));
       is_unread = after.each path
-          ∙ none_both (has_path mid path) (is_path_of after.reads.added path) w.is_unread
+          ∙ or_from (has_path mid path) (is_path_of after.reads.added path) w.is_unread
           (not_both (is_path_of after.reads.added path) (is_begun mid path) (after.reads.is_new path) is_open);
     }
 
@@ -244,7 +231,7 @@ far_new folder x y z mid far opened next = (
       ∙ (also_both (map (path_below folder) far.added) (map (path_below folder) next.added) x
       ∙ ap (λ ps. also ps x) (sym (map-append (path_below folder) far.added next.added)))),
   apart_both far.added next.added far.apart next.apart
-      (λ p has. sym (far.each p) ∙ right_none (is_path_of (open_paths mid) p) (has_path mid p) (next.is_new p has)),
+      (λ p has. sym (far.each p) ∙ (or_parts (is_path_of (open_paths mid) p) (has_path mid p) (next.is_new p has)).1),
 )
 
 pub far_refused : (folder : Text) (x y z : Option (List Text)) (mid : walks.Walk) → IsSoFar folder x y mid → open_paths mid ≡ [] → ReadsNew folder y z mid → ReadsApart x z

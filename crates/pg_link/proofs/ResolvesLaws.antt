@@ -2,8 +2,6 @@
 use Rattle.std.proofs.Common.{◌≡◌, ◌∙◌, ℕ, Bool, true, false, List, [], ◌∷◌, ◌++◌, map, Option, Some, None, refl, ap, string_bytes, append_assoc}
 use Rattle.std.proofs.Common.{zero, suc, ◌+◌, ◌-◌, ◌<◌, ◌≤◌, ◌≢◌, String, length, take, slice_index_or, subst, sym, add-one, arith}
 use Rattle.std.proofs.lemmas.List.{map_more}
-use Rattle.std.proofs.lemmas.Slice.Eq.{bytes_eq-Decides}
-use Rattle.std.specs.Str.{bytes_eq}
 use Rattle.std.specs.Borrow.{Bor}
 use Rattle.std.specs.Global.{Global}
 use Rattle.std.specs.HashMap.{HashMap, get_by_text}
@@ -73,9 +71,6 @@ last_word scope len text within some is =
 pub is_borne : {S : Type 0} (index : HashMap (String Global) nameds.Named S) (visible : Option (List Bool)) (full name : Text) (named : nameds.Named)
     → get_by_text index full ≡ Some named → is_seen visible (files_of named) ≡ true → full ≡ name → Some (name, named.kind) ≡ borne (names_seen index visible) full
 is_borne index visible full name named held seen same = rw (held, seen, same) refl
-
-pub same_bytes : (a b : Text) → bytes_eq a b ≡ true → a ≡ b
-same_bytes a b same = (bytes_eq-Decides a b).0 same
 
 -- one more word behind a first one
 pub called-behind : {X : Type 0} (first : Text) (f : X → Text) (xs : List X) (i : ℕ) (d : X) → i < length xs

@@ -1,18 +1,12 @@
 -- The paths that are computed are those that a file sees, and no others.
 use Rattle.std.proofs.Common.{◌≡◌, ◌∙◌, inl, inr, zero, suc, Bool, true, false, ◌||◌, cond, List, [], ◌∷◌, map, flat_map, refl, sym, ap, subst, true≢false, arith}
+use Rattle.std.proofs.lemmas.Bool.{or_left, or_right}
 use Rattle.std.specs.List.{list_any, IsAmong}
 use Rattle.std.specs.Str.{bytes_eq}
 use Rattle.pg_link.specs.Files.{File, Import, Imports, HandsOn, Itself, Onwards, Sees, InOrder, Differ, is_path_of, paths_of, import_paths, public_paths, handed_on, seen_paths, SeenPathsAreSeen}
 use Rattle.pg_link.specs.Names.{Text}
-use Rattle.pg_link.proofs.VisibleLaws.{each_at, first_among, later_among, any_found, any_at, any_flat, same_text, text_same, imports_there, handed_on_is, seen_paths_is}
-
-or_right : (a b : Bool) → b ≡ true → (a || b) ≡ true
-or_right true b is = refl
-or_right false b is = is
-
-or_left : (a b : Bool) → a ≡ true → (a || b) ≡ true
-or_left true b is = refl
-or_left false b is = absurd (true≢false (sym is))
+use Rattle.pg_link.proofs.TextLaws.{same_text, text_same}
+use Rattle.pg_link.proofs.VisibleLaws.{each_at, first_among, later_among, any_found, any_at, any_flat, imports_there, handed_on_is, seen_paths_is}
 
 -- ---- lists
 

@@ -18,6 +18,7 @@ use Rattle.pg_link.specs.declared.error.LinkError.TheVariants as error
 use Rattle.pg_link.specs.Walk.{Entry, IsPlace, path_of}
 use Rattle.std.proofs.lemmas.Option.{same_Some}
 use Rattle.pg_link.specs.Standing.{Standing, Bearer, bearers, bearer, first_of, added, MayStand, Adds, AddsAll, NoneTwice, AllMayStand, StandsTwice, Holds, Lists, standing, standings, standings_from, all_standings, IsTwice, IsTwiceIn, view}
+use Rattle.pg_link.proofs.TextLaws.{same_text, differ_turned}
 
 bearers-push : (all : List Standing) (s : Standing) (full : Text) → bearers (all ++ s ∷ []) full ≡ bearers all full ++ bearers (s ∷ []) full
 bearers-push all s full = filter-append (λ (t : Standing). bytes_eq full t.declared.name) all (s ∷ [])
@@ -43,13 +44,6 @@ own_by all s full false is = absurd (true≢false (sym is))
 own_name : (all : List Standing) (s : Standing) (full : Text) → bytes_eq full s.declared.name ≡ true → bearer (all ++ s ∷ []) full ≡ Some (added s (bearer all full))
 own_name all s full is = ap first_of (bearers-push all s full) ∙ own_by all s full (bytes_eq full s.declared.name) is
 
-same_text : (a b : Text) → bytes_eq a b ≡ true → a ≡ b
-same_text a b is = (bytes_eq-Decides a b).0 is
-
-turned_by : (b : Bool) (p q : Text) → bytes_eq q p ≡ b → bytes_eq p q ≡ false → bytes_eq q p ≡ false
-turned_by true p q is none = absurd (true≢false (sym ((bytes_eq-Decides p q).1 (sym (same_text q p is))) ∙ none))
-turned_by false p q is none = is
-
 holds_by : {S : Type 0} (old new : HashMap (String Global) nameds.Named S) (all : List Standing) (s : Standing) (n : nameds.Named) (full : Text) (b : Bool)
     → bytes_eq s.declared.name full ≡ b → Holds old all → view n ≡ added s (bearer all s.declared.name)
     → get_by_text new full ≡ cond b (Some n) (get_by_text old full) → option_map view (get_by_text new full) ≡ bearer (all ++ s ∷ []) full
@@ -58,7 +52,7 @@ holds_by old new all s n full true same holds made now =
     ap (option_map view) now ∙ (ap (λ (b : Bearer). Some b) (made ∙ ap (λ (t : Text). added s (bearer all t)) is)
     ∙ sym (own_name all s full ((bytes_eq-Decides full s.declared.name).1 (sym is))))
 holds_by old new all s n full false same holds made now =
-    ap (option_map view) now ∙ (holds full ∙ sym (other_name all s full (turned_by (bytes_eq full s.declared.name) s.declared.name full refl same)))
+    ap (option_map view) now ∙ (holds full ∙ sym (other_name all s full (differ_turned s.declared.name full same)))
 
 pub holds_more : {S : Type 0} (old new : HashMap (String Global) nameds.Named S) (all : List Standing) (s : Standing) (n : nameds.Named) (name : Text)
     → name ≡ s.declared.name → ((cs : Text) → get_by_text new cs ≡ update bytes_eq (get_by_text old) name (Some n) cs)
@@ -155,16 +149,6 @@ pub twice_in : (index : indexes.Index) (es : List Entry) (i : ℕ) (e : Entry) (
     → slice_get es i ≡ Some e → path ≡ path_of e → Lists index (all_standings (take i es)) → NoneTwice (all_standings (take i es))
     → IsTwice index i path e.1.bytes.items (standings i e.1.tree) err → IsTwiceIn es err
 twice_in index es i e path error.Memory at same holds once twice = tt
-twice_in index es i e path (error.MissingFile place) at same holds once twice = absurd twice
-twice_in index es i e path (error.ImportCycle place) at same holds once twice = absurd twice
-twice_in index es i e path (error.DuplicateImport place) at same holds once twice = absurd twice
-twice_in index es i e path (error.UnknownName place) at same holds once twice = absurd twice
-twice_in index es i e path (error.NotAType place) at same holds once twice = absurd twice
-twice_in index es i e path (error.NotImported place) at same holds once twice = absurd twice
-twice_in index es i e path (error.TooManyFiles place) at same holds once twice = absurd twice
-twice_in index es i e path (error.SourceFailed place) at same holds once twice = absurd twice
-twice_in index es i e path (error.Lex f place) at same holds once twice = absurd twice
-twice_in index es i e path (error.Syntax f place) at same holds once twice = absurd twice
 twice_in index es i e path (error.DuplicateName place) at same holds once (front, back, d, splits, is_place, stands) =
     let before = all_standings (take i es) in
     let s = standing i d in
@@ -177,3 +161,4 @@ twice_in index es i e path (error.DuplicateName place) at same holds once (front
       record { front = before ++ front; back = back ++ rest.0; splits = whole; none_before = (stands before holds).1 once; twice = (stands before holds).0 },
       (e, at, subst (λ (p : Text). IsPlace place p e.1.bytes.items d.at) same is_place),
     )
+twice_in index es i e path _ at same holds once twice = absurd twice

@@ -37,14 +37,7 @@ use_refused resolve visible all u w path text file (error.NotAType place) front 
 use_refused resolve visible all u w path text file (error.NotImported place) front back splits before refuses says =
     record { front = front; u = u; back = back; splits = splits; before = before; is_place = says.1; holds = subst (RefusesUse visible all u) says.0 refuses }
 use_refused resolve visible all u w path text file error.Memory front back splits before refuses says = tt
-use_refused resolve visible all u w path text file (error.MissingFile place) front back splits before refuses says = absurd says
-use_refused resolve visible all u w path text file (error.ImportCycle place) front back splits before refuses says = absurd says
-use_refused resolve visible all u w path text file (error.DuplicateImport place) front back splits before refuses says = absurd says
-use_refused resolve visible all u w path text file (error.DuplicateName place) front back splits before refuses says = absurd says
-use_refused resolve visible all u w path text file (error.TooManyFiles place) front back splits before refuses says = absurd says
-use_refused resolve visible all u w path text file (error.SourceFailed place) front back splits before refuses says = absurd says
-use_refused resolve visible all u w path text file (error.Lex f place) front back splits before refuses says = absurd says
-use_refused resolve visible all u w path text file (error.Syntax f place) front back splits before refuses says = absurd says
+use_refused resolve visible all u w path text file _ front back splits before refuses says = absurd says
 
 -- ---- one file
 

@@ -1,11 +1,12 @@
 -- What files hand on and see: computed on files of which each stands before those that it imports, it is what they do.
 use Rattle.std.proofs.Common.{◌≡◌, ◌∙◌, zero, suc, Bool, true, false, ◌||◌, cond, List, [], ◌∷◌, ◌++◌, flat_map, refl, sym, ap, subst, true≢false, arith}
+use Rattle.std.proofs.lemmas.Bool.{or_left, or_right}
 use Rattle.std.proofs.lemmas.List.Folds.{list_any-append, flat_map-map}
-use Rattle.std.proofs.lemmas.Slice.Eq.{bytes_eq-Decides}
 use Rattle.std.specs.List.{list_any, All, IsAmong}
 use Rattle.std.specs.Str.{bytes_eq}
 use Rattle.pg_link.specs.Files.{File, Import, InOrder, Differ, is_path_of, paths_of, import_paths, public_paths, handed_on, seen_paths}
 use Rattle.pg_link.specs.Names.{Text}
+use Rattle.pg_link.proofs.TextLaws.{same_text, text_same}
 
 -- ---- lists
 
@@ -46,14 +47,6 @@ pub any_found : {X : Type 0} (test : X → Bool) (xs : List X) → list_any test
 any_found test [] is = absurd (true≢false (sym is))
 any_found test (x ∷ xs) is = found_by test x xs (test x) refl (any_found test xs) is
 
-or_right : (a b : Bool) → b ≡ true → (a || b) ≡ true
-or_right true b is = refl
-or_right false b is = is
-
-or_left : (a b : Bool) → a ≡ true → (a || b) ≡ true
-or_left true b is = refl
-or_left false b is = absurd (true≢false (sym is))
-
 pub any_at : {X : Type 0} (test : X → Bool) (xs : List X) (x : X) → IsAmong xs x → test x ≡ true → list_any test xs ≡ true
 any_at test [] x (i, (within, is)) pass = absurd (omega (arith, within))
 any_at test (y ∷ ys) x (zero, (within, is)) pass = or_left (test y) (list_any test ys) (subst (λ z. test z ≡ true) is pass)
@@ -68,12 +61,6 @@ flat_same f g [] each = refl
 flat_same f g (x ∷ xs) each = ap (λ l. l ++ flat_map f xs) each.0 ∙ ap (λ l. g x ++ l) (flat_same f g xs each.1)
 
 -- ---- texts
-
-pub same_text : (a b : Text) → bytes_eq a b ≡ true → a ≡ b
-same_text a b is = (bytes_eq-Decides a b).0 is
-
-pub text_same : (a b : Text) → a ≡ b → bytes_eq a b ≡ true
-text_same a b is = (bytes_eq-Decides a b).1 is
 
 apart_by : (files : List File) (path first : Text) (b : Bool) → bytes_eq first path ≡ b → is_path_of (paths_of files) path ≡ true
     → is_path_of (paths_of files) first ≡ false → bytes_eq first path ≡ false

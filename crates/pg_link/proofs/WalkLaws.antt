@@ -1,9 +1,9 @@
 -- A walk over imports, step by step.
 use Rattle.std.proofs.Common.{◌≡◌, ◌∙◌, inl, inr, ℕ, ◌≤◌, ◌<◌, ◌+◌, Bool, true, false, ◌||◌, List, [], ◌∷◌, ◌++◌, Some, None, Option, length, map, reverse, take, drop, refl, sym, ap, subst, String, string_bytes, slice_index_or, All, length-append, arith, drop-cons, add-one, true≢false}
+use Rattle.std.proofs.lemmas.Bool.{or_from, or_parts}
 use Rattle.std.proofs.lemmas.List.{map-append, reverse-append, take-append-drop, length-reverse, length-map, get_or-map}
 use Rattle.std.proofs.lemmas.List.Elements.{All-push, All-append, All-map, All-cons, All-head, All-tail}
 use Rattle.std.proofs.lemmas.List.Folds.{list_any-append}
-use Rattle.std.proofs.lemmas.Slice.Eq.{bytes_eq-Decides}
 use Rattle.std.specs.Borrow.{Bor}
 use Rattle.std.specs.Global.{Global}
 use Rattle.std.specs.List.{Contains}
@@ -24,6 +24,7 @@ use Rattle.pg_link.specs.Outline.{file_imports}
 use Rattle.pg_link.specs.PostOrder.{IsPostOrder}
 use Rattle.pg_link.specs.Walk.{World, world, Gives, MayBe, ImportsAt, Comes, Reached, MayLead, Stays, Onwards, Entry, IsEntry, outline, outlines, entries, files_in_order, open_paths, IsSound, Follows, Asks, IsAsked, IsAskedAt, IsPlace, IsReadFault, IsTextFault, IsImportFault, IsLinked, ComesTo, Refuses}
 use Rattle.pg_link.proofs.OrderLaws.{no_cycle}
+use Rattle.pg_link.proofs.TextLaws.{same_text, differ_turned}
 
 -- ---- who asks
 
@@ -50,15 +51,7 @@ pub read_refused : (w : World) (ps : List Text) (a : Option askings.Asking) (pat
 read_refused w ps a path (error.MissingFile place) asks fault = (path, asked_of w ps a path place asks fault.0, fault.1)
 read_refused w ps a path (error.SourceFailed place) asks fault = (path, reached_of w ps a path asks, fault)
 read_refused w ps a path error.Memory asks fault = tt
-read_refused w ps a path (error.Lex e place) asks fault = absurd fault
-read_refused w ps a path (error.Syntax e place) asks fault = absurd fault
-read_refused w ps a path (error.ImportCycle place) asks fault = absurd fault
-read_refused w ps a path (error.DuplicateImport place) asks fault = absurd fault
-read_refused w ps a path (error.TooManyFiles place) asks fault = absurd fault
-read_refused w ps a path (error.DuplicateName place) asks fault = absurd fault
-read_refused w ps a path (error.UnknownName place) asks fault = absurd fault
-read_refused w ps a path (error.NotAType place) asks fault = absurd fault
-read_refused w ps a path (error.NotImported place) asks fault = absurd fault
+read_refused w ps a path _ asks fault = absurd fault
 
 pub text_refused : (w : World) (path text : Text) (e : errors.LinkError) → Gives w path text → Reached w path → IsTextFault path text e → Refuses w e
 text_refused w path text (error.Lex e place) given reached fault =
@@ -66,23 +59,12 @@ text_refused w path text (error.Lex e place) given reached fault =
 text_refused w path text (error.Syntax e place) given reached fault =
     record { path = path; text = text; is_given = given; reached = reached; is_place = fault.0; holds = fault.1 }
 text_refused w path text error.Memory given reached fault = tt
-text_refused w path text (error.MissingFile place) given reached fault = absurd fault
-text_refused w path text (error.SourceFailed place) given reached fault = absurd fault
-text_refused w path text (error.ImportCycle place) given reached fault = absurd fault
-text_refused w path text (error.DuplicateImport place) given reached fault = absurd fault
-text_refused w path text (error.TooManyFiles place) given reached fault = absurd fault
-text_refused w path text (error.DuplicateName place) given reached fault = absurd fault
-text_refused w path text (error.UnknownName place) given reached fault = absurd fault
-text_refused w path text (error.NotAType place) given reached fault = absurd fault
-text_refused w path text (error.NotImported place) given reached fault = absurd fault
-
-same_path : (a b : Text) → bytes_eq a b ≡ true → a ≡ b
-same_path a b is = (bytes_eq-Decides a b).0 is
+text_refused w path text _ given reached fault = absurd fault
 
 -- the paths that come to a path lead to it
 leads_by : (w : World) (b : Bool) (p : Text) (ps : List Text) (from path : Text) → bytes_eq from p ≡ b → (b || is_path_of ps from) ≡ true
     → Comes w (p ∷ ps) path → (is_path_of ps from ≡ true → MayLead w from p) → MayLead w from path
-leads_by w true p ps from path is among comes before = Onwards (subst (λ (t : Text). MayLead w from t) (same_path from p is) Stays) comes.0
+leads_by w true p ps from path is among comes before = Onwards (subst (λ (t : Text). MayLead w from t) (same_text from p is) Stays) comes.0
 leads_by w false p ps from path is among comes before = Onwards (before among) comes.0
 
 pub leads : (w : World) (ps : List Text) (from path : Text) → Comes w ps path → is_path_of ps from ≡ true → MayLead w from path
@@ -93,7 +75,7 @@ leads w (p ∷ ps) from path comes among =
 -- a path that is open leads to the last of those
 leads_last : (w : World) (b : Bool) (p : Text) (ps : List Text) (from : Text) → bytes_eq from p ≡ b → (b || is_path_of ps from) ≡ true
     → Comes w ps p → MayLead w from p
-leads_last w true p ps from is among comes = subst (λ (t : Text). MayLead w from t) (same_path from p is) Stays
+leads_last w true p ps from is among comes = subst (λ (t : Text). MayLead w from t) (same_text from p is) Stays
 leads_last w false p ps from is among comes = leads w ps from p comes among
 
 pub import_refused : (w : World) (ps : List Text) (path : Text) (here : askings.Asking) (next : Text) (before : List Text) (e : errors.LinkError)
@@ -120,15 +102,7 @@ import_refused w ps path here next before (error.DuplicateImport place) file i c
   holds = subst (λ (xs : List Text). is_path_of xs next ≡ true) (sym fronts) fault.1;
 }
 import_refused w ps path here next before error.Memory file i comes fronts fault = tt
-import_refused w ps path here next before (error.MissingFile place) file i comes fronts fault = absurd fault
-import_refused w ps path here next before (error.SourceFailed place) file i comes fronts fault = absurd fault
-import_refused w ps path here next before (error.Lex e place) file i comes fronts fault = absurd fault
-import_refused w ps path here next before (error.Syntax e place) file i comes fronts fault = absurd fault
-import_refused w ps path here next before (error.TooManyFiles place) file i comes fronts fault = absurd fault
-import_refused w ps path here next before (error.DuplicateName place) file i comes fronts fault = absurd fault
-import_refused w ps path here next before (error.UnknownName place) file i comes fronts fault = absurd fault
-import_refused w ps path here next before (error.NotAType place) file i comes fronts fault = absurd fault
-import_refused w ps path here next before (error.NotImported place) file i comes fronts fault = absurd fault
+import_refused w ps path here next before _ file i comes fronts fault = absurd fault
 
 -- ---- more than 1,024 files
 
@@ -170,14 +144,10 @@ path_count es =
     length-map (outlines es) (λ (f : File). f.path) ∙ (length-reverse (map outline es)
     ∙ length-map es outline)
 
-none_both : (a b : Bool) → a ≡ false → b ≡ false → (a || b) ≡ false
-none_both true b none other = absurd (true≢false none)
-none_both false b none other = other
-
 pub apart_from : (w : World) (ps : List Text) (es : List Entry) (path : Text) → IsSound w ps es → is_path_of ps path ≡ false
     → is_path_of (paths_of (outlines es)) path ≡ false → Differ (path ∷ (ps ++ paths_of (outlines es)))
 apart_from w ps es path sound open_none none =
-    (list_any-append (bytes_eq path) ps (paths_of (outlines es)) ∙ none_both (is_path_of ps path) (is_path_of (paths_of (outlines es)) path) open_none none, sound.apart)
+    (list_any-append (bytes_eq path) ps (paths_of (outlines es)) ∙ or_from (is_path_of ps path) (is_path_of (paths_of (outlines es)) path) open_none none, sound.apart)
 
 pub beyond : (w : World) (ps : List Text) (es : List Entry) (a : Option askings.Asking) (path text : Text) (place : places.Place) → IsSound w ps es → Asks w ps a path
     → is_path_of ps path ≡ false → is_path_of (paths_of (outlines es)) path ≡ false → Gives w path text
@@ -258,43 +228,20 @@ open_one w path ps es new sound same open_none none room =
 moved : (ps fs : List Text) (path : Text) → is_path_of (ps ++ fs) path ≡ false → Differ (ps ++ fs) → Differ (ps ++ path ∷ fs)
 moved [] fs path none apart = (none, apart)
 moved (p ∷ ps) fs path none apart = (
-  kept_out p ps fs path (turned p path (left_out (bytes_eq path p) (is_path_of (ps ++ fs) path) none)) apart.0,
-  moved ps fs path (right_out (bytes_eq path p) (is_path_of (ps ++ fs) path) none) apart.1,
+  kept_out p ps fs path (differ_turned path p (or_parts (bytes_eq path p) (is_path_of (ps ++ fs) path) none).0) apart.0,
+  moved ps fs path (or_parts (bytes_eq path p) (is_path_of (ps ++ fs) path) none).1 apart.1,
 )
   where
-    left_out : (a b : Bool) → (a || b) ≡ false → a ≡ false
-    left_out true b is = absurd (true≢false is)
-    left_out false b is = refl
-
-    right_out : (a b : Bool) → (a || b) ≡ false → b ≡ false
-    right_out true b is = absurd (true≢false is)
-    right_out false b is = is
-
-    turned_by : (b : Bool) (p q : Text) → bytes_eq p q ≡ b → bytes_eq q p ≡ false → bytes_eq p q ≡ false
-    turned_by true p q is none = absurd (true≢false (sym ((bytes_eq-Decides q p).1 (sym ((bytes_eq-Decides p q).0 is))) ∙ none))
-    turned_by false p q is none = is
-
-    turned : (p q : Text) → bytes_eq q p ≡ false → bytes_eq p q ≡ false
-    turned p q none = turned_by (bytes_eq p q) p q refl none
-
-    three : (a b c : Bool) → b ≡ false → (a || c) ≡ false → (a || (b || c)) ≡ false
-    three true b c none rest = absurd (true≢false rest)
-    three false true c none rest = absurd (true≢false none)
-    three false false c none rest = rest
-
     kept_out : (p : Text) (ps fs : List Text) (path : Text) → bytes_eq p path ≡ false → is_path_of (ps ++ fs) p ≡ false → is_path_of (ps ++ path ∷ fs) p ≡ false
     kept_out p ps fs path other none =
-        list_any-append (bytes_eq p) ps (path ∷ fs) ∙ three (is_path_of ps p) (bytes_eq p path) (is_path_of fs p) other (sym (list_any-append (bytes_eq p) ps fs) ∙ none)
+        list_any-append (bytes_eq p) ps (path ∷ fs) ∙ (let apart = or_parts (is_path_of ps p) (is_path_of fs p) (sym (list_any-append (bytes_eq p) ps fs) ∙ none) in
+        or_from (is_path_of ps p) (bytes_eq p path || is_path_of fs p) apart.0 (or_from (bytes_eq p path) (is_path_of fs p) other apart.1))
 
 pub outlines-push : (es : List Entry) (e : Entry) → outlines (es ++ e ∷ []) ≡ outline e ∷ outlines es
 outlines-push es e = ap reverse (map-append outline es (e ∷ [])) ∙ reverse-append (map outline es) (outline e ∷ [])
 
 pub not_read : (w : World) (path : Text) (ps : List Text) (es : List Entry) → IsSound w (path ∷ ps) es → is_path_of (paths_of (outlines es)) path ≡ false
-not_read w path ps es sound = out (is_path_of ps path) (is_path_of (paths_of (outlines es)) path) (sym (list_any-append (bytes_eq path) ps (paths_of (outlines es))) ∙ sound.apart.0)
-  where
-    out : (a b : Bool) → (a || b) ≡ false → b ≡ false
-    out true b is = absurd (true≢false is)
-    out false b is = is
+not_read w path ps es sound = (or_parts (is_path_of ps path) (is_path_of (paths_of (outlines es)) path) (sym (list_any-append (bytes_eq path) ps (paths_of (outlines es))) ∙ sound.apart.0)).1
 
 pub one_more : (w : World) (path : Text) (ps : List Text) (es new : List Entry) (name : String Global) (file : kept.SourceFile) (ls : List lines.ImportLine)
     → IsSound w (path ∷ ps) es → string_bytes name ≡ path → new ≡ es ++ (name, file) ∷ [] → MayBe w path file.bytes.items file.tree → Reached w path

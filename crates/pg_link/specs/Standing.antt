@@ -8,7 +8,7 @@ use Rattle.std.specs.Global.{Global}
 use Rattle.std.specs.Prelude.{String}
 use Rattle.pg_link.specs.declared.index.Index as indexes
 use Rattle.pg_link.specs.declared.names.Kind.{Kind}
-use Rattle.pg_link.specs.declared.names.Kind.TheVariants.{Package, Message, Enum, Entry as MapEntry, Value, Field, Oneof, Service, Method}
+use Rattle.pg_link.specs.declared.names.Kind.TheVariants.{Message, Enum}
 use Rattle.pg_link.specs.declared.target.Target.{Target}
 use Rattle.pg_link.specs.declared.target.Target.TheVariants as targets
 use Rattle.pg_link.specs.declared.names.Named as nameds
@@ -105,37 +105,18 @@ one_if false = 0
 abbrev pub next_number : indexes.Index → Kind → ℕ
 next_number index Message = length index.messages.items
 next_number index Enum = length index.enums.items
-next_number index Package = 0
-next_number index MapEntry = 0
-next_number index Value = 0
-next_number index Field = 0
-next_number index Oneof = 0
-next_number index Service = 0
-next_number index Method = 0
+next_number index _ = 0
 
 abbrev pub target_by : Kind → ℕ → Option Target
 target_by Message number = Some (targets.Message number)
 target_by Enum number = Some (targets.Enum number)
-target_by Package number = None
-target_by MapEntry number = None
-target_by Value number = None
-target_by Field number = None
-target_by Oneof number = None
-target_by Service number = None
-target_by Method number = None
+target_by _ number = None
 
 -- the same, where an enum may stand or may not
 abbrev pub taken_by : Bool → Kind → ℕ → Option Target
 taken_by takes_enums Message number = Some (targets.Message number)
 taken_by true Enum number = Some (targets.Enum number)
-taken_by false Enum number = None
-taken_by takes_enums Package number = None
-taken_by takes_enums MapEntry number = None
-taken_by takes_enums Value number = None
-taken_by takes_enums Field number = None
-taken_by takes_enums Oneof number = None
-taken_by takes_enums Service number = None
-taken_by takes_enums Method number = None
+taken_by _ _ number = None
 
 -- what bears a name, as a target
 abbrev pub target_of : nameds.Named → Option Target
@@ -183,16 +164,7 @@ abbrev pub IsTwice : indexes.Index → ℕ → Text → Text → List Standing �
 IsTwice old number path text more (error.DuplicateName place) = (front back : List Standing) × (d : Declared) × (more ≡ front ++ standing number d ∷ back)
     × IsPlace place path text d.at × ((all : List Standing) → Lists old all → StandsTwice (all ++ front) (standing number d) × (NoneTwice all → NoneTwice (all ++ front)))
 IsTwice old number path text more error.Memory = Unit {0}
-IsTwice old number path text more (error.MissingFile place) = ⊥
-IsTwice old number path text more (error.ImportCycle place) = ⊥
-IsTwice old number path text more (error.DuplicateImport place) = ⊥
-IsTwice old number path text more (error.UnknownName place) = ⊥
-IsTwice old number path text more (error.NotAType place) = ⊥
-IsTwice old number path text more (error.NotImported place) = ⊥
-IsTwice old number path text more (error.TooManyFiles place) = ⊥
-IsTwice old number path text more (error.SourceFailed place) = ⊥
-IsTwice old number path text more (error.Lex e place) = ⊥
-IsTwice old number path text more (error.Syntax e place) = ⊥
+IsTwice old number path text more _ = ⊥
 
 -- the names of these files, numbered from this on
 abbrev pub standings_from : ℕ → List Entry → List Standing
@@ -206,13 +178,4 @@ all_standings = standings_from 0
 abbrev pub IsTwiceIn : List Entry → errors.LinkError → Type 0
 IsTwiceIn entries (error.DuplicateName place) = (s : Standing) × IsFirstTwice (all_standings entries) s × ((e : Entry) × (slice_get entries s.file ≡ Some e) × IsPlace place (path_of e) e.1.bytes.items s.declared.at)
 IsTwiceIn entries error.Memory = Unit {0}
-IsTwiceIn entries (error.MissingFile place) = ⊥
-IsTwiceIn entries (error.ImportCycle place) = ⊥
-IsTwiceIn entries (error.DuplicateImport place) = ⊥
-IsTwiceIn entries (error.UnknownName place) = ⊥
-IsTwiceIn entries (error.NotAType place) = ⊥
-IsTwiceIn entries (error.NotImported place) = ⊥
-IsTwiceIn entries (error.TooManyFiles place) = ⊥
-IsTwiceIn entries (error.SourceFailed place) = ⊥
-IsTwiceIn entries (error.Lex e place) = ⊥
-IsTwiceIn entries (error.Syntax e place) = ⊥
+IsTwiceIn entries _ = ⊥

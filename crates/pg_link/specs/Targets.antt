@@ -4,7 +4,7 @@ use Rattle.std.specs.List.{filter, find}
 use Rattle.std.specs.Option.{option_map, option_and_then}
 use Rattle.std.specs.Str.{bytes_eq}
 use Rattle.pg_link.specs.declared.names.Kind.{Kind}
-use Rattle.pg_link.specs.declared.names.Kind.TheVariants.{Package, Message, Enum, Entry, Value, Field, Oneof, Service, Method}
+use Rattle.pg_link.specs.declared.names.Kind.TheVariants.{Message, Enum}
 use Rattle.pg_link.specs.declared.target.Target.{Target}
 use Rattle.pg_link.specs.declared.target.Target.TheVariants as targets
 use Rattle.pg_link.specs.Files.{Declared, visible_names}
@@ -16,25 +16,11 @@ use Rattle.pg_link.specs.Walk.{Entry as FileEntry, outlines, path_of}
 
 abbrev pub is_message : Kind → Bool
 is_message Message = true
-is_message Enum = false
-is_message Entry = false
-is_message Package = false
-is_message Value = false
-is_message Field = false
-is_message Oneof = false
-is_message Service = false
-is_message Method = false
+is_message _ = false
 
 abbrev pub is_enum : Kind → Bool
 is_enum Enum = true
-is_enum Message = false
-is_enum Entry = false
-is_enum Package = false
-is_enum Value = false
-is_enum Field = false
-is_enum Oneof = false
-is_enum Service = false
-is_enum Method = false
+is_enum _ = false
 
 -- the names of all files, in order of declaration
 abbrev pub all_declared : List FileEntry → List Declared
@@ -58,14 +44,7 @@ number_in names full = position (bytes_eq full) names
 abbrev pub numbered : List Declared → Bool → Text → Kind → Option Target
 numbered all takes_enums full Message = option_map targets.Message (number_in (message_names all) full)
 numbered all true full Enum = option_map targets.Enum (number_in (enum_names all) full)
-numbered all false full Enum = None
-numbered all takes_enums full Entry = None
-numbered all takes_enums full Package = None
-numbered all takes_enums full Value = None
-numbered all takes_enums full Field = None
-numbered all takes_enums full Oneof = None
-numbered all takes_enums full Service = None
-numbered all takes_enums full Method = None
+numbered all _ full _ = None
 
 -- what a use resolves to, of all names and those that its file sees
 abbrev pub target_in : List Declared → Names → Use → Option Target

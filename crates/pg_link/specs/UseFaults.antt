@@ -33,14 +33,7 @@ IsUseFault resolve visible all path text file (error.UnknownName place) = IsAtUs
 IsUseFault resolve visible all path text file (error.NotAType place) = IsAtUse resolve path text file place (NamesNoTarget visible)
 IsUseFault resolve visible all path text file (error.NotImported place) = IsAtUse resolve path text file place (λ u. IsHidden visible all u.scope u.name)
 IsUseFault resolve visible all path text file error.Memory = Unit {0}
-IsUseFault resolve visible all path text file (error.MissingFile place) = ⊥
-IsUseFault resolve visible all path text file (error.ImportCycle place) = ⊥
-IsUseFault resolve visible all path text file (error.DuplicateImport place) = ⊥
-IsUseFault resolve visible all path text file (error.DuplicateName place) = ⊥
-IsUseFault resolve visible all path text file (error.TooManyFiles place) = ⊥
-IsUseFault resolve visible all path text file (error.SourceFailed place) = ⊥
-IsUseFault resolve visible all path text file (error.Lex e place) = ⊥
-IsUseFault resolve visible all path text file (error.Syntax e place) = ⊥
+IsUseFault resolve visible all path text file _ = ⊥
 
 -- the fault that says why, at this byte
 abbrev pub Says : Unresolved → Text → Text → ℕ → errors.LinkError → Type 0
@@ -48,14 +41,7 @@ Says w path text at (error.UnknownName place) = (w ≡ why.UnknownName) × IsPla
 Says w path text at (error.NotAType place) = (w ≡ why.NotAType) × IsPlace place path text at
 Says w path text at (error.NotImported place) = (w ≡ why.NotImported) × IsPlace place path text at
 Says w path text at error.Memory = Unit {0}
-Says w path text at (error.MissingFile place) = ⊥
-Says w path text at (error.ImportCycle place) = ⊥
-Says w path text at (error.DuplicateImport place) = ⊥
-Says w path text at (error.DuplicateName place) = ⊥
-Says w path text at (error.TooManyFiles place) = ⊥
-Says w path text at (error.SourceFailed place) = ⊥
-Says w path text at (error.Lex e place) = ⊥
-Says w path text at (error.Syntax e place) = ⊥
+Says w path text at _ = ⊥
 
 -- A use in one of the files is at fault: the first that doesn't resolve, in their order.
 pub record IsUseFaultIn (files : List Entry) (e : errors.LinkError) : Type 0 where
@@ -81,14 +67,7 @@ IsNoName visible all scope name path (error.UnknownName place) = IsWhole place p
 IsNoName visible all scope name path (error.NotAType place) = IsWhole place path × NamesNoType visible scope name
 IsNoName visible all scope name path (error.NotImported place) = IsWhole place path × IsHidden visible all scope name
 IsNoName visible all scope name path error.Memory = Unit {0}
-IsNoName visible all scope name path (error.MissingFile place) = ⊥
-IsNoName visible all scope name path (error.ImportCycle place) = ⊥
-IsNoName visible all scope name path (error.DuplicateImport place) = ⊥
-IsNoName visible all scope name path (error.DuplicateName place) = ⊥
-IsNoName visible all scope name path (error.TooManyFiles place) = ⊥
-IsNoName visible all scope name path (error.SourceFailed place) = ⊥
-IsNoName visible all scope name path (error.Lex e place) = ⊥
-IsNoName visible all scope name path (error.Syntax e place) = ⊥
+IsNoName visible all scope name path _ = ⊥
 
 -- the fault that says why, of the file as a whole
 abbrev pub SaysOf : Unresolved → Text → errors.LinkError → Type 0
@@ -96,11 +75,4 @@ SaysOf w path (error.UnknownName place) = (w ≡ why.UnknownName) × IsWhole pla
 SaysOf w path (error.NotAType place) = (w ≡ why.NotAType) × IsWhole place path
 SaysOf w path (error.NotImported place) = (w ≡ why.NotImported) × IsWhole place path
 SaysOf w path error.Memory = Unit {0}
-SaysOf w path (error.MissingFile place) = ⊥
-SaysOf w path (error.ImportCycle place) = ⊥
-SaysOf w path (error.DuplicateImport place) = ⊥
-SaysOf w path (error.DuplicateName place) = ⊥
-SaysOf w path (error.TooManyFiles place) = ⊥
-SaysOf w path (error.SourceFailed place) = ⊥
-SaysOf w path (error.Lex e place) = ⊥
-SaysOf w path (error.Syntax e place) = ⊥
+SaysOf w path _ = ⊥

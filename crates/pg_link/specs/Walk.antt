@@ -1,5 +1,5 @@
 -- What is read when imports are followed, and why it may be refused (proto3 language guide, "Importing Definitions").
-use Rattle.std.specs.Prelude.{ℕ, ◌≡◌, ◌≤◌, ◌+◌, ◌⊎◌, Bool, true, false, List, [], ◌∷◌, ◌++◌, map, reverse, length, take, Result, Ok, Err, Option, Some, None, IsTrue, String, string_bytes}
+use Rattle.std.specs.Prelude.{ℕ, ◌≡◌, ◌≤◌, ◌+◌, ◌⊎◌, Bool, true, false, List, [], ◌∷◌, ◌++◌, map, reverse, length, take, Result, Err, Option, Some, None, IsTrue, String, string_bytes}
 use Rattle.std.specs.List.{All, Contains}
 use Rattle.std.specs.Global.{Global}
 use Rattle.pg_lex.specs.Lexes.{lexes, max_len, Refuses as LexRefuses}
@@ -246,45 +246,21 @@ abbrev pub IsTextFault : Text → Text → errors.LinkError → Type 0
 IsTextFault path text (error.Lex e place) = IsPlace place path text (lex_place e) × HasNoTokens e text
 IsTextFault path text (error.Syntax e place) = IsPlace place path text (syntax_place e) × HasNoTree e text
 IsTextFault path text error.Memory = Unit {0}
-IsTextFault path text (error.MissingFile place) = ⊥
-IsTextFault path text (error.ImportCycle place) = ⊥
-IsTextFault path text (error.DuplicateImport place) = ⊥
-IsTextFault path text (error.TooManyFiles place) = ⊥
-IsTextFault path text (error.SourceFailed place) = ⊥
-IsTextFault path text (error.DuplicateName place) = ⊥
-IsTextFault path text (error.UnknownName place) = ⊥
-IsTextFault path text (error.NotAType place) = ⊥
-IsTextFault path text (error.NotImported place) = ⊥
+IsTextFault path text _ = ⊥
 
 -- a fault of reading a path
 abbrev pub IsReadFault : (Text → Bool) → Text → Option askings.Asking → Text → errors.LinkError → Type 0
 IsReadFault lack folder asking path (error.MissingFile place) = IsAsked place asking path × IsTrue (lack (path_below folder path))
 IsReadFault lack folder asking path (error.SourceFailed place) = IsWhole place path
 IsReadFault lack folder asking path error.Memory = Unit {0}
-IsReadFault lack folder asking path (error.Lex e place) = ⊥
-IsReadFault lack folder asking path (error.Syntax e place) = ⊥
-IsReadFault lack folder asking path (error.ImportCycle place) = ⊥
-IsReadFault lack folder asking path (error.DuplicateImport place) = ⊥
-IsReadFault lack folder asking path (error.TooManyFiles place) = ⊥
-IsReadFault lack folder asking path (error.DuplicateName place) = ⊥
-IsReadFault lack folder asking path (error.UnknownName place) = ⊥
-IsReadFault lack folder asking path (error.NotAType place) = ⊥
-IsReadFault lack folder asking path (error.NotImported place) = ⊥
+IsReadFault lack folder asking path _ = ⊥
 
 -- a fault of an import of this path, behind imports of these
 abbrev pub IsImportFault : List Text → List Text → askings.Asking → Text → errors.LinkError → Type 0
 IsImportFault opened before a path (error.ImportCycle place) = IsPlace place a.file.now a.text.now a.at × (is_path_of opened path ≡ true)
 IsImportFault opened before a path (error.DuplicateImport place) = IsPlace place a.file.now a.text.now a.at × (is_path_of before path ≡ true)
 IsImportFault opened before a path error.Memory = Unit {0}
-IsImportFault opened before a path (error.MissingFile place) = ⊥
-IsImportFault opened before a path (error.SourceFailed place) = ⊥
-IsImportFault opened before a path (error.Lex e place) = ⊥
-IsImportFault opened before a path (error.Syntax e place) = ⊥
-IsImportFault opened before a path (error.TooManyFiles place) = ⊥
-IsImportFault opened before a path (error.DuplicateName place) = ⊥
-IsImportFault opened before a path (error.UnknownName place) = ⊥
-IsImportFault opened before a path (error.NotAType place) = ⊥
-IsImportFault opened before a path (error.NotImported place) = ⊥
+IsImportFault opened before a path _ = ⊥
 
 -- Each refusal comes only where what it names is there, at its place.
 abbrev pub Refuses : World → errors.LinkError → Type 0
@@ -299,26 +275,12 @@ Refuses w (error.SourceFailed place) = (path : Text) × Reached w path × IsWhol
 Refuses w (error.Lex e place) = StandsIn w place (lex_place e) (HasNoTokens e)
 Refuses w (error.Syntax e place) = StandsIn w place (syntax_place e) (HasNoTree e)
 Refuses w error.Memory = Unit {0}
-Refuses w (error.DuplicateName place) = ⊥
-Refuses w (error.UnknownName place) = ⊥
-Refuses w (error.NotAType place) = ⊥
-Refuses w (error.NotImported place) = ⊥
+Refuses w _ = ⊥
 
 -- the source's failures in an answer
 abbrev pub failures_of : {X : Type 0} → Result X errors.LinkError → ℕ
-failures_of (Ok x) = 0
 failures_of (Err (error.SourceFailed place)) = 1
-failures_of (Err (error.MissingFile place)) = 0
-failures_of (Err (error.ImportCycle place)) = 0
-failures_of (Err (error.DuplicateImport place)) = 0
-failures_of (Err (error.TooManyFiles place)) = 0
-failures_of (Err (error.Lex e place)) = 0
-failures_of (Err (error.Syntax e place)) = 0
-failures_of (Err (error.DuplicateName place)) = 0
-failures_of (Err (error.UnknownName place)) = 0
-failures_of (Err (error.NotAType place)) = 0
-failures_of (Err (error.NotImported place)) = 0
-failures_of (Err error.Memory) = 0
+failures_of _ = 0
 
 -- the file was appended where it wasn't there; what was there still is
 pub record ComesLast (old new : walks.Walk) (path : Text) (file : kept.SourceFile) : Type 0 where

@@ -1,13 +1,9 @@
 //! What a caller may ask of linked files.
-ghost use Rattle.std.specs.Prelude.{◌≡◌, ◌<◌, ◌∷◌, IfErr, IfNone, IfOk, IfSome, List, Some, length, map, slice_get, true, ℕ};
-ghost use Rattle.std.specs.BTreeMap.{get};
-ghost use Rattle.std.specs.Ordering.{nat_cmp};
+ghost use Rattle.std.specs.Prelude.{◌≡◌, ◌<◌, ◌∷◌, IfErr, IfNone, IfOk, IfSome, List, Some, length, slice_get, true, ℕ};
 ghost use Rattle.pg_link.specs.Files.{all_names, visible_names};
 ghost use Rattle.pg_link.specs.Index.{files_of, texts};
 ghost use Rattle.pg_link.specs.Linked.{HasFirst, IsDeclaredAt, IsDeclaredNowhere, IsFirstPlace};
 ghost use Rattle.pg_link.specs.Resolves.{Resolves, reference};
-ghost use Rattle.pg_link.specs.Sites.{use_of};
-ghost use Rattle.pg_link.specs.Targets.{Resolution, resolved_at, target_at};
 ghost use Rattle.pg_link.specs.UseFaults.{IsNoName, SaysOf};
 ghost use Rattle.pg_link.specs.Walk.{Entry, outlines, path_of};
 
@@ -15,14 +11,11 @@ use crate::error::{LinkError, Place};
 use crate::linked::Linked;
 use crate::names::Named;
 use crate::resolve::Unresolved;
-use crate::target::Target;
-use crate::uses::{Site, uses_of};
 use crate::walk::SourceFile;
 use indexmap::IndexMap;
 use pg_lex::place;
 use pg_syntax::tree::TypeName;
-use std::alloc::{AllocError, Global};
-use std::collections::BTreeMap;
+use std::alloc::Global;
 
 /// A full name without the dot in front.
 fn behind_dot(full: &str) -> &str
@@ -76,46 +69,7 @@ fn name_fault(alloc: Global, path: &str, why: Unresolved) -> LinkError
     }
 }
 
-/// What these uses resolve to, by the byte at which each begins; the first of those that begin at
-/// one.
-fn by_place(
-    alloc: Global,
-    sites: &[Site<'_>],
-    targets: &[Target],
-) -> Result<BTreeMap<usize, Target>, AllocError>
-    requires { length sites.now ≡ length targets.now }
-    ensures { IfOk result (λ found. (resolve : Resolution)
-        → map Some targets.now ≡ map resolve (map use_of sites.now)
-        → (at : ℕ) → get nat_cmp found at ≡ resolved_at resolve (map use_of sites.now) at) }
-{
-    let mut found = BTreeMap::new(alloc);
-    let mut index = sites.len();
-    'uses: while 0 < index {
-        index -= 1;
-        found.insert(sites[index].name.span.from, targets[index])?;
-    }
-    Ok(found)
-}
-
 impl Linked {
-    /// What the uses of type names in a file resolve to, by the byte at which each name begins. The
-    /// file is given by its number. Fails only where memory is refused.
-    pub fn targets_by_place(
-        &self,
-        alloc: Global,
-        file: usize,
-    ) -> Result<BTreeMap<usize, Target>, AllocError>
-        requires { file < length self.now.files }
-        ensures { IfOk result (λ found. (e : Entry) → slice_get self.now.files file ≡ Some e
-            → (at : ℕ) → get nat_cmp found at ≡ target_at self.now.files e at) }
-    {
-        let Some((_, kept)) = self.files().get_index(file) else {
-            return Ok(BTreeMap::new(alloc));
-        };
-        let sites = uses_of(alloc, &kept.tree)?;
-        by_place(alloc, &sites, self.targets(file))
-    }
-
     /// The full name, without a dot in front, of the message type or enum that a name names in a
     /// scope of a file. The file is given by its number, the scope by its words.
     ///

@@ -4,7 +4,7 @@ mod options;
 mod shown;
 
 use asked::answer_of;
-pub use asked::{first_type, shown_name, shown_targets};
+pub use asked::{first_type, shown_name, shown_targets, targets_by_offset};
 use failing_source::FailingSource;
 pub use options::{Options, options_of};
 use pg_link::{LinkError, Linked, Listed, Place, link_below, place_in, read_file};

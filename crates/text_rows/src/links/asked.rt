@@ -1,4 +1,6 @@
 //! What linked files are asked beside their links.
+ghost use Rattle.std.specs.Prelude.{◌<◌, length};
+
 use super::shown::refusal;
 use pg_link::{LinkError, Linked, Target};
 use pg_syntax::tree::{FileTree, Part, Statement, TypeName};
@@ -10,7 +12,21 @@ fn targets(alloc: Global, linked: &Linked) -> Result<String, AllocError> {
     if linked.files().is_empty() {
         return String::from_str(alloc, "no file");
     }
-    shown_targets(alloc, &linked.targets_by_place(alloc, 0)?)
+    shown_targets(alloc, &targets_by_offset(alloc, linked)?)
+}
+
+/// What the uses in the first file resolve to, by their first bytes.
+pub fn targets_by_offset(
+    alloc: Global,
+    linked: &Linked,
+) -> Result<BTreeMap<usize, Target>, AllocError>
+    requires { 0 < length linked.now.files }
+{
+    let mut found = BTreeMap::new(alloc);
+    for (at, target) in linked.places(0).iter().zip(linked.targets(0).iter()) {
+        found.insert(*at, *target)?;
+    }
+    Ok(found)
 }
 
 /// What uses resolve to, by their first bytes.

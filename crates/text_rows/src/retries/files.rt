@@ -1,7 +1,7 @@
 //! The calls of files.
 use crate::links::{
     Options, Source, first_type, options_of, refusal, shown_links, shown_name, shown_place,
-    shown_read, shown_targets,
+    shown_read, shown_targets, targets_by_offset,
 };
 use failing_source::FailingSource;
 use pg_link::{LinkError, Linked, Listed, link, link_below, place_in, read_file};
@@ -46,7 +46,7 @@ fn targets_of(rt: &HostRuntime, linked: &Linked) -> io::Result<String> {
     if linked.files().is_empty() {
         return Ok(String::from_str(rt.alloc(), "no file")?);
     }
-    let found = retry!(rt, Err(AllocError), linked.targets_by_place(rt.alloc(), 0))?;
+    let found = retry!(rt, Err(AllocError), targets_by_offset(rt.alloc(), linked))?;
     Ok(shown_targets(rt.alloc(), &found)?)
 }
 
@@ -104,7 +104,7 @@ fn of_files(rt: &HostRuntime, files: &[(&str, &[u8])], options: Options) -> io::
 }
 
 /// `links | FILES [| OPTIONS]`: `link`, below a folder `link_below`, of one read `read_file`, and
-/// of what is asked `place_in`, `targets_by_place` and `resolve`.
+/// of what is asked `place_in`, `targets`, `places` and `resolve`.
 /// The source is the same both times.
 pub fn linked(rt: &HostRuntime, input: &str) -> io::Result<String> {
     let (files, options) = cut(input);

@@ -1,5 +1,5 @@
 use Rattle.std.proofs.Common.{◌≡◌, ◌∙◌, ◌<◌, ℕ, List, Some, length, map, slice_get, refl, sym, ap, arith}
-use Rattle.std.proofs.lemmas.Option.{slice_get-map, slice_get_read}
+use Rattle.std.proofs.lemmas.Option.{same_Some, slice_get-map, slice_get_read}
 use Rattle.std.proofs.lemmas.List.{length-map}
 use Rattle.std.specs.Option.{option_map}
 use Rattle.pg_link.specs.declared.target.Target.{Target}
@@ -7,8 +7,13 @@ use Rattle.pg_link.specs.declared.targets.FileTargets.{FileTargets}
 use Rattle.pg_link.specs.Linked.{LinkedFiles}
 use Rattle.pg_link.specs.Targets.{file_targets}
 use Rattle.pg_link.specs.Walk.{Entry}
-use Rattle.pg_link.proofs.PlacedLaws.{one_place}
 use Rattle.pg_link.proofs.linked.Linked.targets.Goals as goal
+
+-- what is at one index of equal lists
+one_index : {X Y Z : Type 0} (f : X → Z) (g : Y → Z) (xs : List X) (ys : List Y) (i : ℕ) (x : X) (y : Y) → map f xs ≡ map g ys → slice_get xs i ≡ Some x
+    → slice_get ys i ≡ Some y → f x ≡ g y
+one_index f g xs ys i x y same here there =
+    same_Some (f x) (g y) (sym (slice_get-map f xs i ∙ ap (option_map f) here) ∙ (ap (λ l. slice_get l i) same ∙ (slice_get-map g ys i ∙ ap (option_map g) there)))
 
 within_targets : {X Y Z : Type 0} (f : X → Z) (g : Y → Z) (xs : List X) (ys : List Y) (i : ℕ) → map f xs ≡ map g ys → i < length ys → i < length xs
 within_targets f g xs ys i same within = omega (arith, within, sym (length-map xs f) ∙ (ap length same ∙ length-map ys g))
@@ -26,5 +31,5 @@ returns-clause-resolved c = λ e at.
     let here : slice_get (map items ts) c.args.file ≡ Some c.deref.result.now =
     slice_get-map items ts c.args.file ∙ (ap (option_map items) (slice_get_read ts (length ts) c.args.file c.index.result.now refl (omega (arith, within, length-map ts items)) c.index.ensures)
     ∙ ap (λ (l : List Target). Some l) (sym c.deref.ensures.value)) in
-    one_place (map (λ (t : Target). Some t)) (file_targets fs) (map items ts) fs c.args.file c.deref.result.now e resolved here there
+    one_index (map (λ (t : Target). Some t)) (file_targets fs) (map items ts) fs c.args.file c.deref.result.now e resolved here there
     ∙ ap (λ (l : List Entry). file_targets l e) same

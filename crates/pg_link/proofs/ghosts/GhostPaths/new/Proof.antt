@@ -21,12 +21,12 @@ use denote.Triple.Entry.{on_entry}
 use denote.Triple.Spec.{Meets, triple_of}
 use denote.Triple.Table.{entered}
 use denote.Triple.Walked.{says, ends_at, walked, walk_Meets}
-use Rattle.pg_link.specs.declared.ghost_paths.GhostPaths.{GhostPaths}
-use Rattle.pg_link.specs.contracts.ghost_paths.GhostPaths as T
-use Rattle.pg_link.specs.contracts.ghost_paths.GhostPaths.new.Key.{name as #it}
-use Rattle.pg_link.specs.contracts.ghost_paths.GhostPaths.new as it
-use Rattle.pg_link.proofs.ghost_paths.GhostPaths.new.Statement as stated
-use Rattle.pg_link.proofs.ghost_paths.GhostPaths.new.Code as code
+use Rattle.pg_link.specs.declared.ghosts.GhostPaths.{GhostPaths}
+use Rattle.pg_link.specs.contracts.ghosts.GhostPaths as T
+use Rattle.pg_link.specs.contracts.ghosts.GhostPaths.new.Key.{name as #it}
+use Rattle.pg_link.specs.contracts.ghosts.GhostPaths.new as it
+use Rattle.pg_link.proofs.ghosts.GhostPaths.new.Statement as stated
+use Rattle.pg_link.proofs.ghosts.GhostPaths.new.Code as code
 
 abbrev v : Val
 v = vstruct (vcons (vstruct vnil) vnil)

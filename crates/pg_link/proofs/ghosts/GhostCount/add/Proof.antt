@@ -12,11 +12,11 @@ use denote.Ref.{MutRef, mut_vals, mut_Tells}
 use denote.Signature.{plain}
 use denote.Steps.{nothing, opens, closes}
 use denote.Triple.Walked.{says, Stays, stay_ref, Goes-ref, ends_at}
-use Rattle.pg_link.specs.declared.ghost_count.GhostCount.{GhostCount}
-use Rattle.pg_link.specs.contracts.ghost_count.GhostCount as T
-use Rattle.pg_link.specs.contracts.ghost_count.GhostCount.add as f
-use Rattle.pg_link.proofs.ghost_count.GhostCount.add.Statement.{statement}
-use Rattle.pg_link.proofs.ghost_count.GhostCount.add.Code as code
+use Rattle.pg_link.specs.declared.ghosts.GhostCount.{GhostCount}
+use Rattle.pg_link.specs.contracts.ghosts.GhostCount as T
+use Rattle.pg_link.specs.contracts.ghosts.GhostCount.add as f
+use Rattle.pg_link.proofs.ghosts.GhostCount.add.Statement.{statement}
+use Rattle.pg_link.proofs.ghosts.GhostCount.add.Code as code
 
 abbrev stayed : Stays f.ended.signature.params f.ended.kept
 stayed = (stay_ref (0 ∷ []) tt (plain (λ _. T.the_row)), tt)

@@ -21,18 +21,18 @@ use denote.Triple.Entry.{on_entry}
 use denote.Triple.Spec.{Meets, triple_of}
 use denote.Triple.Table.{entered}
 use denote.Triple.Walked.{says, ends_at, walked, walk_Meets}
-use Rattle.pg_link.specs.declared.ghost_count.GhostCount.{GhostCount}
-use Rattle.pg_link.specs.contracts.ghost_count.GhostCount as T
-use Rattle.pg_link.specs.contracts.ghost_count.GhostCount.new.Key.{name as #it}
-use Rattle.pg_link.specs.contracts.ghost_count.GhostCount.new as it
-use Rattle.pg_link.proofs.ghost_count.GhostCount.new.Statement as stated
-use Rattle.pg_link.proofs.ghost_count.GhostCount.new.Code as code
+use Rattle.pg_link.specs.declared.ghosts.GhostBytes.{GhostBytes}
+use Rattle.pg_link.specs.contracts.ghosts.GhostBytes as T
+use Rattle.pg_link.specs.contracts.ghosts.GhostBytes.new.Key.{name as #it}
+use Rattle.pg_link.specs.contracts.ghosts.GhostBytes.new as it
+use Rattle.pg_link.proofs.ghosts.GhostBytes.new.Statement as stated
+use Rattle.pg_link.proofs.ghosts.GhostBytes.new.Code as code
 
 abbrev v : Val
 v = vstruct (vcons (vstruct vnil) vnil)
 
-abbrev r : GhostCount
-r = record { marker = record {}; count = 0 }
+abbrev r : GhostBytes
+r = record { marker = record {}; bytes = [] }
 
 meets : {M : Type 1} {𝓤 : Ura M} (𝓛 : Logic 𝓤) → (at_mem : Memory → SProp 𝓤) (run : Routine → Fun 𝓤) (𝓣 : Tables 𝓤 𝓛.H)
     → Meets 𝓛 it.signature (WpFn 𝓤 𝓛.H 𝓣.C 𝓣.Λ code.function) (it.spec 𝓛 at_mem run)
