@@ -2,20 +2,18 @@
 //! answer, and every one must be refused.
 #![tactic(auto)]
 
-ghost use Rattle.std.specs.Prelude.{◌≡◌, ◌⊎◌, IfErr, IfOk, OnOk};
+ghost use Rattle.std.specs.Prelude.{◌≡◌, IfErr, IfOk, OnOk};
 ghost use Rattle.pg_schema.specs.rules.Sound.{IsSound};
-ghost use Rattle.pg_check.specs.admitting.BrokenParts.{IsFirstBrokenPart};
-ghost use Rattle.pg_check.specs.rules.BrokenRules.{IsFirstBroken};
 ghost use Rattle.pg_check.specs.Codes as codes;
 ghost use Rattle.pg_check.specs.Declares.{Declares};
 ghost use Rattle.pg_check.specs.Errors as spec;
 ghost use Rattle.pg_check.specs.admitting.PartErrors.{IsRefusedOf};
 ghost use Rattle.pg_check.specs.parts.Sources.{linked_sources};
+ghost use Rattle.pg_check.specs.rules.KeepsRules.{KeepsRules};
 ghost use Rattle.pg_check.specs.standing.StandingParts.{StandingParts};
 ghost use Rattle.pg_check.specs.declared.error.CheckError.TheVariants.{Memory};
 
 use pg_check::CheckError;
-use pg_check::laws::{reported_part_rules, reported_rules};
 use pg_link::{Linked, Place};
 use pg_schema::{Parts, Schema};
 use std::alloc::{AllocError, Global};
@@ -41,13 +39,11 @@ pub fn build_refused(alloc: Global, bad: &Linked) -> Result<Schema, CheckError>
     pg_check::build(alloc, bad)
 }
 
-/// Which rule `build` reports, in the words of the law.
-pub fn build_breaks(alloc: Global, broken: &Linked) -> Result<Schema, CheckError>
-    ensures { IfErr result (λ error. (error ≡ Memory)
-        ⊎ IsFirstBroken (linked_sources broken.now.files) error) }
+/// What the files keep to of which `build` answers a schema. Only an edit uses the other parts.
+pub fn build_keeps(alloc: Global, kept: &Linked, _others: Parts) -> Result<Schema, CheckError>
+    ensures { IfOk result (λ _schema. KeepsRules (linked_sources kept.now.files)) }
 {
-    reported_rules();
-    pg_check::build(alloc, broken)
+    pg_check::build(alloc, kept)
 }
 
 /// What `admit` answers.
@@ -63,16 +59,6 @@ pub fn admit_refused(alloc: Global, bad: Parts) -> Result<Schema, CheckError>
     ensures { IfErr result (IsRefusedOf bad) }
 {
     pg_check::admit(alloc, bad)
-}
-
-/// Which rule `admit` reports, in the words of the law. E415 aside, of parts that break none.
-#[tactic(auto, using(crate::proofs::Reported::breaks))]
-pub fn admit_breaks(alloc: Global, broken: Parts) -> Result<Schema, CheckError>
-    ensures { IfErr result (λ error. (error ≡ Memory) ⊎ (codes.code_of error ≡ 415)
-        ⊎ IsFirstBrokenPart broken error) }
-{
-    reported_part_rules();
-    pg_check::admit(alloc, broken)
 }
 
 /// What `CheckError::code` answers.

@@ -12,6 +12,7 @@ pub mod Members
 pub mod Messages
 pub mod Outline
 pub mod Files
+pub mod FirstBroken
 pub mod KeepsRules
 pub mod Firsts
 pub mod Rows

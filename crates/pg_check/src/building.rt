@@ -4,10 +4,12 @@ ghost use Rattle.std.specs.Prelude.{◌≡◌, ◌<◌, IfErr, IfOk, OnOk, Some,
 ghost use Rattle.pg_link.specs.Linked.{IsLinkedUp};
 ghost use Rattle.pg_schema.specs.rules.Sound.{IsSound};
 ghost use Rattle.pg_schema.specs.declared.parts.Parts.{Parts};
-ghost use Rattle.pg_check.specs.Declares.{Declares, first_broken};
+ghost use Rattle.pg_check.specs.Declares.{Declares};
 ghost use Rattle.pg_check.specs.parts.EnumPlaces as enums;
 ghost use Rattle.pg_check.specs.Errors as spec;
 ghost use Rattle.pg_check.specs.parts.Sources.{linked_sources, source};
+ghost use Rattle.pg_check.specs.rules.BrokenRules.{IsFirstBroken};
+ghost use Rattle.pg_check.specs.rules.FirstBroken.{first_broken};
 ghost use Rattle.pg_check.specs.standing.StandingParts.{StandingParts};
 
 use crate::declare::{FileFault, Refusal, declare};
@@ -59,7 +61,7 @@ fn first_error(
 ) -> Result<CheckError, AllocError>
     requires first { first_broken (map source files.now) ≡ Some found }
     requires within { found.file < length files.now }
-    ensures { IfOk result (spec.IsReported (map source files.now)) }
+    ensures { IfOk result (IsFirstBroken (map source files.now)) }
 {
     let file = &files[found.file];
     let place = place_in(alloc, file.path, file.text, found.fault.at)?;

@@ -1,9 +1,10 @@
 //! From files to the parts that they declare.
 
 ghost use Rattle.std.specs.Prelude.{◌≡◌, ◌-◌, IfErr, IfOk, length, map};
-ghost use Rattle.pg_check.specs.Declares as spec;
+ghost use Rattle.pg_check.specs.Declares.{Declares};
 ghost use Rattle.pg_check.specs.parts.EnumPlaces.{target_in};
 ghost use Rattle.pg_check.specs.rules.Files as files;
+ghost use Rattle.pg_check.specs.rules.FirstBroken as spec;
 ghost use Rattle.pg_check.specs.rules.Outline.{file_messages};
 ghost use Rattle.pg_check.specs.parts.Sources.{source};
 
@@ -78,7 +79,7 @@ fn first_broken(alloc: Global, files: &[Source<'_>]) -> Result<Option<FileFault>
 /// The parts that the files declare. Refused where memory is, or where a file breaks a rule: then
 /// with the first rule that the first of such files breaks.
 pub(crate) fn declare(alloc: Global, files: &[Source<'_>]) -> Result<Parts, Refusal>
-    ensures declared { IfOk result (spec.Declares (map source files.now)) }
+    ensures declared { IfOk result (Declares (map source files.now)) }
     ensures refused { IfErr result (spec.IsBroken (map source files.now)) }
 {
     if let Some(fault) = first_broken(alloc, files)? {

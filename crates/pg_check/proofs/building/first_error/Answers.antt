@@ -1,10 +1,11 @@
 use Rattle.std.proofs.Common.{Some, sym, ◌∙◌, ap, option_map}
 use Rattle.std.proofs.lemmas.Option.{slice_get-get_or, slice_get-map}
 use Rattle.pg_check.specs.parts.Sources.{source}
+use Rattle.pg_check.proofs.lemmas.rules.BrokenFiles.{reported}
 use Rattle.pg_check.proofs.building.first_error.Goals as goal
 
 pub returns : goal.returns
-returns c = record {
+returns c = reported _ c.error_of.result (record {
   fault = c.args.found;
   is_first = c.requires.first;
   file = source c.index-files-found.result;
@@ -13,4 +14,4 @@ returns c = record {
   place = c.in_ok-place.place;
   is_place = c.in_ok-place.ensures;
   is = c.error_of.ensures;
-}
+})

@@ -1,5 +1,5 @@
 use Rattle.std.proofs.Common.{◌≡◌, map, drop}
-use Rattle.pg_check.specs.Declares.{files_fault, first_broken}
+use Rattle.pg_check.specs.rules.FirstBroken.{files_fault, first_broken}
 use Rattle.pg_check.specs.parts.Sources.{source}
 use Rattle.pg_check.proofs.declare.first_broken.Given as goal
 

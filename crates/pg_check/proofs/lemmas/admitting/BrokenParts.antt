@@ -12,12 +12,11 @@ use Rattle.pg_check.specs.declared.error.CheckError.{CheckError}
 use Rattle.pg_check.specs.declared.rules.fault.Fault.{Fault}
 use Rattle.pg_check.specs.declared.rules.fault.Rule.{Rule}
 use Rattle.pg_check.specs.declared.rules.fault.Rule.TheVariants as rules
-use Rattle.pg_check.specs.admitting.BrokenParts.{BreaksFilePart, BreaksFirst, IsFirstBrokenPart, KeepsAll, KeepsEnumType, KeepsFilePart, KeepsType, bad_option, in_enum, in_file, in_type, option_again, too_many_types}
+use Rattle.pg_check.specs.admitting.BrokenParts.{BreaksFilePart, BreaksFirst, IsFirstBrokenPart, IsNowhere, KeepsAll, KeepsEnumType, KeepsFilePart, KeepsType, bad_option, in_enum, in_file, in_type, option_again, too_many_types}
 use Rattle.pg_check.specs.Errors.{error_of}
 use Rattle.pg_check.specs.rules.Faults.{broken_at, first_fault, or_else, order}
 use Rattle.pg_check.specs.rules.Firsts.{IsNotAfter}
 use Rattle.pg_check.specs.rules.Numbers as numbers
-use Rattle.pg_check.specs.admitting.PartErrors.{IsFirstOf}
 use Rattle.pg_check.specs.admitting.PartFaults as faults
 use Rattle.pg_check.proofs.lemmas.rules.FirstFaults.{IsFound, Meets, earlier_meets, first_meets, found_left, found_right}
 use Rattle.pg_check.proofs.lemmas.rules.NoneLaws.{first_fault_none}
@@ -113,12 +112,9 @@ parts_meet parts place = by (not (nat_le (length parts.types.items) 4096)) refl
         let enumerations = all_keep _ KeepsEnumType enum_type_keeps parts.enums.items ((first_fault_none faults.enum_fault parts.enums.items).0 no_enum) in
         files_meet parts place small types enumerations))
 
-pub reported_part : (parts : Parts) (e : CheckError) → IsFirstOf parts e → IsFirstBrokenPart parts e
-reported_part parts e h = record {
-  place = h.place;
-  is_nowhere = h.is_nowhere;
-  breaks = subst (BreaksFirst parts h.place) (sym h.is) (parts_meet parts h.place h.fault h.is_first);
-}
+pub reported_part : (parts : Parts) (f : Fault) (place : Place) → faults.parts_fault parts ≡ Some f → IsNowhere place
+    → IsFirstBrokenPart parts (error_of f.rule place)
+reported_part parts f place is_first nowhere = record { place = place; is_nowhere = nowhere; breaks = parts_meet parts place f is_first }
 
 -- ---- parts of which no rule is reported
 

@@ -16,7 +16,6 @@ use Rattle.pg_check.specs.parts.MadeEnums.{enumeration, made_enum}
 use Rattle.pg_check.specs.parts.MadeParts.{Declared, EachIs, FileShape, IsFileOf, IsTypeOf, Source, TypeTree, file_shape, nothing, placed_enums, placed_messages, type_tree, type_trees, with_file, with_files}
 use Rattle.pg_check.specs.rules.Outline.{Enum, Message, file_messages, scoped_enums}
 use Rattle.pg_check.proofs.lemmas.parts.Eachs.{each-length, joined_all}
-use Rattle.pg_check.proofs.lemmas.rules.KeepingFiles.{none_broken}
 use Rattle.pg_check.proofs.lemmas.parts.KeptEnums.{kept_enum}
 use Rattle.pg_check.proofs.lemmas.parts.KeptMessages.{kept_message}
 use Rattle.pg_check.proofs.lemmas.parts.KeptOptions.{kept_options}
@@ -105,7 +104,7 @@ kept_files (w ∷ ws) (f ∷ fs) is h =
 
 pub kept_parts : (files : List Source) (parts : Parts) → Declares files parts → KeptParts parts
 kept_parts files parts h =
-    let keep : KeepsRules files = (none_broken files).0 h.keeps_rules in
+    let keep : KeepsRules files = h.keeps_rules in
     let counted : length (with_files nothing files).types ≡ 0 + length (flat_map source_messages files) = tree_count nothing files in
     let count : length (with_files nothing files).types ≡ length (flat_map source_messages files) = omega (arith, counted) in
     let same : length (with_files nothing files).types ≡ length parts.types.items = each-length IsTypeOf (with_files nothing files).types parts.types.items h.has_parts.types in

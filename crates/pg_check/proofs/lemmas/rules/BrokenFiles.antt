@@ -1,17 +1,18 @@
 -- What is reported of files is a rule that the first of them breaks which breaks one, and each rule that it breaks comes no earlier.
 use Rattle.std.proofs.Common.{◌≡◌, ◌∙◌, ◌+◌, ◌-◌, ℕ, zero, suc, List, [], ◌∷◌, ◌++◌, length, flat_map, Option, Some, None, slice_get, sym, ap, subst, refl, arith, length-append}
 use Rattle.pg_link.specs.declared.error.Place.{Place}
+use Rattle.pg_link.specs.Walk.{IsPlace}
 use Rattle.pg_check.specs.declared.declare.FileFault.{FileFault}
 use Rattle.pg_check.specs.declared.error.CheckError.{CheckError}
 use Rattle.pg_check.specs.declared.rules.fault.Fault.{Fault}
 use Rattle.pg_check.specs.declared.rules.fault.Rule.TheVariants as rules
 use Rattle.pg_check.specs.rules.BrokenRules.{BreaksFile, IsFirstBroken, bad_file_option, in_enum, in_message, in_packaged_service, in_service, left_behind, too_many_types}
-use Rattle.pg_check.specs.Declares.{files_fault, in_file}
-use Rattle.pg_check.specs.Errors.{IsReported, error_of}
+use Rattle.pg_check.specs.rules.FirstBroken.{files_fault, first_broken, in_file}
+use Rattle.pg_check.specs.Errors.{error_of}
 use Rattle.pg_check.specs.rules.Faults.{broken, broken_at, earliest, first_fault, order}
 use Rattle.pg_check.specs.rules.Files as files
 use Rattle.pg_check.specs.rules.Firsts.{IsBehind}
-use Rattle.pg_check.specs.rules.KeepsRules.{StatementKeeps, source_messages}
+use Rattle.pg_check.specs.rules.KeepsRules.{KeepsRules, StatementKeeps, source_messages}
 use Rattle.pg_check.specs.parts.MadeParts.{Source}
 use Rattle.pg_check.specs.rules.Options.{first_bad}
 use Rattle.pg_check.specs.rules.Outline.{Message, file_enums, file_messages, statements_behind}
@@ -186,6 +187,16 @@ is_the_file ss before after n s file is at there =
     let two = at_length before after s in
     let both : Some s ≡ Some file = sym two ∙ one in cc (both)
 
+-- the error of the first fault, where it is
+pub record IsReported (files : List Source) (e : CheckError) : Type 0 where
+  pub fault : FileFault
+  pub is_first : first_broken files ≡ Some fault
+  pub file : Source
+  pub is_there : slice_get files fault.file ≡ Some file
+  pub place : Place
+  pub is_place : IsPlace place file.path file.text fault.fault.at
+  pub is : e ≡ error_of fault.fault.rule place
+
 pub reported : (ss : List Source) (e : CheckError) → IsReported ss e → IsFirstBroken ss e
 reported ss e h =
     let r = has_first 4096 0 ss h.fault h.is_first in
@@ -206,3 +217,25 @@ reported ss e h =
       breaks = subst (λ x. BreaksFile h.file left h.place x (order f.rule) f.declared f.at) (sym h.is) (file_meets h.file left h.place f fault);
       is_first = λ p other c d a b. subst (λ o. IsFound o d c) fault (file_found h.file left p other c d a b);
     }
+
+-- ---- files that keep to the rules
+
+none_at : (left place : ℕ) (before after : List Source) (s : Source) → files_fault left place (before ++ s ∷ after) ≡ None
+    → files.file_fault s.targets (left - length (flat_map source_messages before)) s.tree ≡ None
+none_at left place [] after s none =
+    let whole : left - 0 ≡ left = omega arith in
+    let mine = (in_file_none place (files.file_fault s.targets left s.tree) (files_fault (left - length (file_messages s.tree)) (place + 1) after)).0 none in
+    ap (λ n. files.file_fault s.targets n s.tree) whole ∙ mine.0
+none_at left place (b ∷ bs) after s none =
+    let mine = file_messages b.tree in
+    let theirs = flat_map source_messages bs in
+    let (own, others) = (in_file_none place (files.file_fault b.targets left b.tree) (files_fault (left - length mine) (place + 1) (bs ++ s ∷ after))).0 none in
+    let sum : length (mine ++ theirs) ≡ length mine + length theirs = length-append mine theirs in
+    let less : left - length (mine ++ theirs) ≡ left - length mine - length theirs = omega (arith, sum) in
+    ap (λ n. files.file_fault s.targets n s.tree) less ∙ none_at (left - length mine) (place + 1) bs after s others
+
+-- they break none
+pub kept_unbroken : (ss : List Source) (e : CheckError) → KeepsRules ss → IsFirstBroken ss e → ⊥
+kept_unbroken ss e keep h =
+    let none = none_at 4096 0 h.before h.after h.file (subst (λ xs. first_broken xs ≡ None) h.is ((none_broken ss).1 keep)) in
+    subst (λ o. IsFound o h.declared h.code) none (file_found h.file (left_behind h.before) h.place e h.code h.declared h.at h.breaks)

@@ -3,7 +3,7 @@ use Rattle.std.proofs.Common.{◌≡◌, ◌∙◌, ℕ, suc, arith, ◌+◌, �
 use Rattle.pg_check.specs.declared.declare.FileFault.{FileFault}
 use Rattle.pg_check.specs.declared.rules.fault.Fault.{Fault}
 use Rattle.pg_check.specs.declared.parts.made_parts.Source as code
-use Rattle.pg_check.specs.Declares.{files_fault, in_file}
+use Rattle.pg_check.specs.rules.FirstBroken.{files_fault, in_file}
 use Rattle.pg_check.specs.rules.Files.{file_fault}
 use Rattle.pg_check.specs.parts.MadeParts.{Source}
 use Rattle.pg_check.specs.rules.Outline.{file_messages}

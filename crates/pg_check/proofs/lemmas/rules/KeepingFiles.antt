@@ -7,7 +7,7 @@ use Rattle.pg_check.specs.declared.rules.fault.Fault.{Fault}
 use Rattle.pg_check.specs.declared.rules.fault.Rule.TheVariants as rules
 use Rattle.pg_check.specs.declared.rules.numbers.Keyed.{Keyed}
 use Rattle.pg_check.specs.declared.rules.options.Owner.TheVariants as owners
-use Rattle.pg_check.specs.Declares.{files_fault, first_broken, in_file}
+use Rattle.pg_check.specs.rules.FirstBroken.{files_fault, first_broken, in_file}
 use Rattle.pg_check.specs.rules.Enums as enums
 use Rattle.pg_check.specs.rules.Faults.{broken, earlier, earliest, first_fault}
 use Rattle.pg_check.specs.rules.Files as files
