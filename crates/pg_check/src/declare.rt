@@ -82,7 +82,8 @@ pub(crate) fn declare(alloc: Global, files: &[Source<'_>]) -> Result<Parts, Refu
     ensures declared { IfOk result (Declares (map source files.now)) }
     ensures refused { IfErr result (spec.IsBroken (map source files.now)) }
 {
-    if let Some(fault) = first_broken(alloc, files)? {
+    let found = first_broken(alloc, files)?;
+    if let Some(fault) = found {
         return Err(Refusal::Broken(fault));
     }
     let parts = parts_of(alloc, files)?;
