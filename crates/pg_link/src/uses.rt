@@ -14,11 +14,14 @@ use pg_syntax::tree::{
 use std::alloc::{AllocError, Global};
 use std::rc::Rc;
 
+/// The words of a scope, which the uses in it share.
+type Scope<'a> = Rc<Vec<&'a str>>;
+
 /// A type name that is used, with the words of its scope, which the uses in one scope share, and
 /// whether an enum may stand there.
 #[derive(Drop)]
 pub(crate) struct Site<'a> {
-    pub scope: Rc<Vec<&'a str>>,
+    pub scope: Scope<'a>,
     pub name: &'a TypeName,
     pub takes_enums: bool,
 }
@@ -35,127 +38,8 @@ pub(crate) fn is_scalar(name: &TypeName) -> bool
     Scalar::named(name.path.first.text.as_str()).is_some()
 }
 
-/// Appends a use.
-fn add_use<'a>(
-    alloc: Global,
-    uses: &mut Vec<Site<'a>>,
-    scope: &Rc<Vec<&'a str>>,
-    name: &'a TypeName,
-    takes_enums: bool,
-) -> Result<(), AllocError>
-    ensures { OnOk result (AddsUses uses.old.items uses.new.items
-        (spec.use_in (texts scope.now.value.items) takes_enums name.now ∷ [])) }
-{
-    let scope = scope.clone()?;
-    uses.push(Site {
-        scope,
-        name,
-        takes_enums,
-    })?;
-    Ok(())
-}
-
-/// Appends the type of a field, where it is a name.
-fn add_field<'a>(
-    alloc: Global,
-    uses: &mut Vec<Site<'a>>,
-    scope: &Rc<Vec<&'a str>>,
-    name: &'a TypeName,
-) -> Result<(), AllocError>
-    ensures { OnOk result (AddsUses uses.old.items uses.new.items
-        (spec.field_uses (texts scope.now.value.items) name.now)) }
-{
-    if is_scalar(name) {
-        return Ok(());
-    }
-    add_use(alloc, uses, scope, name, true)
-}
-
-/// Appends the key and the value of a map, where they are names.
-fn add_map<'a>(
-    alloc: Global,
-    uses: &mut Vec<Site<'a>>,
-    scope: &Rc<Vec<&'a str>>,
-    field: &'a MapField,
-) -> Result<(), AllocError>
-    ensures { OnOk result (AddsUses uses.old.items uses.new.items
-        (spec.map_uses (texts scope.now.value.items) field.now)) }
-{
-    add_field(alloc, uses, scope, &*field.key)?;
-    add_field(alloc, uses, scope, &field.value)
-}
-
-/// Appends the uses of a part of a oneof.
-fn add_oneof_part<'a>(
-    alloc: Global,
-    uses: &mut Vec<Site<'a>>,
-    scope: &Rc<Vec<&'a str>>,
-    part: &'a OneofPart,
-) -> Result<(), AllocError>
-    ensures { OnOk result (AddsUses uses.old.items uses.new.items
-        (spec.oneof_part_uses (texts scope.now.value.items) part.now)) }
-{
-    match part {
-        OneofPart::Field(field) => add_field(alloc, uses, scope, &field.type_name),
-        OneofPart::Map(map) => add_map(alloc, uses, scope, map),
-        OneofPart::Empty(_) => Ok(()),
-        OneofPart::Option(_) => Ok(()),
-    }
-}
-
-/// Appends the uses of a oneof. Its members are used in the scope of the message.
-fn add_oneof<'a>(
-    alloc: Global,
-    uses: &mut Vec<Site<'a>>,
-    scope: &Rc<Vec<&'a str>>,
-    oneof: &'a Oneof,
-) -> Result<(), AllocError>
-    ensures { OnOk result (AddsUses uses.old.items uses.new.items
-        (spec.oneof_uses (texts scope.now.value.items) oneof.now)) }
-{
-    for part in &oneof.parts {
-        add_oneof_part(alloc, uses, scope, part)?;
-    }
-    Ok(())
-}
-
-/// Appends what an rpc takes and returns.
-fn add_rpc<'a>(
-    alloc: Global,
-    uses: &mut Vec<Site<'a>>,
-    scope: &Rc<Vec<&'a str>>,
-    rpc: &'a Rpc,
-) -> Result<(), AllocError>
-    ensures { OnOk result (AddsUses uses.old.items uses.new.items
-        (spec.rpc_uses (texts scope.now.value.items) rpc.now)) }
-{
-    add_use(alloc, uses, scope, &rpc.input.type_name, false)?;
-    add_use(alloc, uses, scope, &rpc.output.type_name, false)
-}
-
-/// Appends the uses of a part of a service.
-fn add_service_part<'a>(
-    alloc: Global,
-    uses: &mut Vec<Site<'a>>,
-    scope: &Rc<Vec<&'a str>>,
-    part: &'a ServicePart,
-) -> Result<(), AllocError>
-    ensures { OnOk result (AddsUses uses.old.items uses.new.items
-        (spec.service_part_uses (texts scope.now.value.items) part.now)) }
-{
-    match part {
-        ServicePart::Rpc(rpc) => add_rpc(alloc, uses, scope, rpc),
-        ServicePart::Empty(_) => Ok(()),
-        ServicePart::Option(_) => Ok(()),
-    }
-}
-
 /// The scope in this one that a word names.
-fn inner<'a>(
-    alloc: Global,
-    scope: &Rc<Vec<&'a str>>,
-    word: &'a str,
-) -> Result<Rc<Vec<&'a str>>, AllocError>
+fn inner<'a>(alloc: Global, scope: &Scope<'a>, word: &'a str) -> Result<Scope<'a>, AllocError>
     ensures { IfOk result (λ inner. texts inner.value.items ≡ texts scope.now.value.items
         ++ word.now ∷ []) }
 {
@@ -164,128 +48,197 @@ fn inner<'a>(
     Ok(Rc::new(alloc, words)?)
 }
 
-/// Appends the uses of the parts of a service.
-fn add_service_parts<'a>(
+/// The uses that are gathered, in the order of the text.
+#[derive(Drop)]
+struct UseList<'a> {
     alloc: Global,
-    uses: &mut Vec<Site<'a>>,
-    scope: &Rc<Vec<&'a str>>,
-    parts: &'a [ServicePart],
-) -> Result<(), AllocError>
-    ensures { OnOk result (AddsUses uses.old.items uses.new.items
-        (flat_map (spec.service_part_uses (texts scope.now.value.items)) parts.now)) }
-{
-    for part in parts {
-        add_service_part(alloc, uses, scope, part)?;
+    uses: Vec<Site<'a>>,
+}
+
+impl<'a> UseList<'a> {
+    /// Appends a use.
+    fn add_use(
+        &mut self,
+        scope: &Scope<'a>,
+        name: &'a TypeName,
+        takes_enums: bool,
+    ) -> Result<(), AllocError>
+        ensures { OnOk result (AddsUses self.old.uses.items self.new.uses.items
+            (spec.use_in (texts scope.now.value.items) takes_enums name.now ∷ [])) }
+    {
+        let scope = scope.clone()?;
+        self.uses.push(Site {
+            scope,
+            name,
+            takes_enums,
+        })?;
+        Ok(())
     }
-    Ok(())
-}
 
-/// Appends the uses of a service.
-fn add_service<'a>(
-    alloc: Global,
-    uses: &mut Vec<Site<'a>>,
-    scope: &Rc<Vec<&'a str>>,
-    service: &'a Service,
-) -> Result<(), AllocError>
-    ensures { OnOk result (AddsUses uses.old.items uses.new.items
-        (spec.service_uses (texts scope.now.value.items) service.now)) }
-{
-    let words = inner(alloc, scope, service.name.text.as_str())?;
-    add_service_parts(alloc, uses, &words, &service.parts)
-}
-
-/// Appends the uses of a part of a message.
-#[cycle(uses)]
-fn add_part<'a>(
-    alloc: Global,
-    uses: &mut Vec<Site<'a>>,
-    scope: &Rc<Vec<&'a str>>,
-    part: &'a Part,
-) -> Result<(), AllocError>
-    ensures { OnOk result (AddsUses uses.old.items uses.new.items
-        (spec.part_uses (texts scope.now.value.items) part.now)) }
-{
-    match part {
-        Part::Message(message) => {
-            add_message(alloc, uses, scope, message)?;
-            Ok(())
+    /// Appends the type of a field, where it is a name.
+    fn add_field(&mut self, scope: &Scope<'a>, name: &'a TypeName) -> Result<(), AllocError>
+        ensures { OnOk result (AddsUses self.old.uses.items self.new.uses.items
+            (spec.field_uses (texts scope.now.value.items) name.now)) }
+    {
+        if is_scalar(name) {
+            return Ok(());
         }
-        Part::Oneof(oneof) => add_oneof(alloc, uses, scope, oneof),
-        Part::Map(map) => add_map(alloc, uses, scope, map),
-        Part::Field(field) => add_field(alloc, uses, scope, &field.type_name),
-        Part::Enum(_) => Ok(()),
-        Part::Empty(_) => Ok(()),
-        Part::Option(_) => Ok(()),
-        Part::Reserved(_) => Ok(()),
+        self.add_use(scope, name, true)
     }
-}
 
-/// Appends the uses of the parts of a message.
-#[cycle(uses)]
-fn add_parts<'a>(
-    alloc: Global,
-    uses: &mut Vec<Site<'a>>,
-    scope: &Rc<Vec<&'a str>>,
-    parts: &'a [Part],
-) -> Result<(), AllocError>
-    ensures { OnOk result (AddsUses uses.old.items uses.new.items
-        (flat_map (spec.part_uses (texts scope.now.value.items)) parts.now)) }
-{
-    for part in parts {
-        add_part(alloc, uses, scope, part)?;
+    /// Appends the key and the value of a map, where they are names.
+    fn add_map(&mut self, scope: &Scope<'a>, field: &'a MapField) -> Result<(), AllocError>
+        ensures { OnOk result (AddsUses self.old.uses.items self.new.uses.items
+            (spec.map_uses (texts scope.now.value.items) field.now)) }
+    {
+        self.add_field(scope, &*field.key)?;
+        self.add_field(scope, &field.value)
     }
-    Ok(())
-}
 
-/// Appends the uses of a message.
-#[cycle(uses)]
-fn add_message<'a>(
-    alloc: Global,
-    uses: &mut Vec<Site<'a>>,
-    scope: &Rc<Vec<&'a str>>,
-    message: &'a Message,
-) -> Result<(), AllocError>
-    ensures { OnOk result (AddsUses uses.old.items uses.new.items
-        (spec.message_uses (texts scope.now.value.items) message.now)) }
-{
-    let words = inner(alloc, scope, message.name.text.as_str())?;
-    add_parts(alloc, uses, &words, &message.parts)
-}
-
-/// Appends the uses of a statement.
-fn add_statement<'a>(
-    alloc: Global,
-    uses: &mut Vec<Site<'a>>,
-    scope: &Rc<Vec<&'a str>>,
-    statement: &'a Statement,
-) -> Result<(), AllocError>
-    ensures { OnOk result (AddsUses uses.old.items uses.new.items
-        (spec.statement_uses (texts scope.now.value.items) statement.now)) }
-{
-    match statement {
-        Statement::Message(message) => add_message(alloc, uses, scope, message),
-        Statement::Service(service) => add_service(alloc, uses, scope, service),
-        Statement::Enum(_) => Ok(()),
-        Statement::Empty(_) => Ok(()),
-        Statement::Import(_) => Ok(()),
-        Statement::Option(_) => Ok(()),
+    /// Appends the uses of a part of a oneof.
+    fn add_oneof_part(&mut self, scope: &Scope<'a>, part: &'a OneofPart) -> Result<(), AllocError>
+        ensures { OnOk result (AddsUses self.old.uses.items self.new.uses.items
+            (spec.oneof_part_uses (texts scope.now.value.items) part.now)) }
+    {
+        match part {
+            OneofPart::Field(field) => self.add_field(scope, &field.type_name),
+            OneofPart::Map(map) => self.add_map(scope, map),
+            OneofPart::Empty(_) | OneofPart::Option(_) => Ok(()),
+        }
     }
-}
 
-/// Appends the uses of statements.
-fn add_statements<'a>(
-    alloc: Global,
-    uses: &mut Vec<Site<'a>>,
-    scope: &Rc<Vec<&'a str>>,
-    statements: &'a [Statement],
-) -> Result<(), AllocError>
-    ensures { OnOk result (AddsUses uses.old.items uses.new.items
-        (flat_map (spec.statement_uses (texts scope.now.value.items)) statements.now)) }
-{
-    for statement in statements {
-        add_statement(alloc, uses, scope, statement)?;
+    /// Appends the uses of a oneof. Its members are used in the scope of the message.
+    fn add_oneof(&mut self, scope: &Scope<'a>, oneof: &'a Oneof) -> Result<(), AllocError>
+        ensures { OnOk result (AddsUses self.old.uses.items self.new.uses.items
+            (spec.oneof_uses (texts scope.now.value.items) oneof.now)) }
+    {
+        for part in &oneof.parts {
+            self.add_oneof_part(scope, part)?;
+        }
+        Ok(())
     }
-    Ok(())
+
+    /// Appends what an rpc takes and returns.
+    fn add_rpc(&mut self, scope: &Scope<'a>, rpc: &'a Rpc) -> Result<(), AllocError>
+        ensures { OnOk result (AddsUses self.old.uses.items self.new.uses.items
+            (spec.rpc_uses (texts scope.now.value.items) rpc.now)) }
+    {
+        self.add_use(scope, &rpc.input.type_name, false)?;
+        self.add_use(scope, &rpc.output.type_name, false)
+    }
+
+    /// Appends the uses of a part of a service.
+    fn add_service_part(
+        &mut self,
+        scope: &Scope<'a>,
+        part: &'a ServicePart,
+    ) -> Result<(), AllocError>
+        ensures { OnOk result (AddsUses self.old.uses.items self.new.uses.items
+            (spec.service_part_uses (texts scope.now.value.items) part.now)) }
+    {
+        match part {
+            ServicePart::Rpc(rpc) => self.add_rpc(scope, rpc),
+            ServicePart::Empty(_) | ServicePart::Option(_) => Ok(()),
+        }
+    }
+
+    /// Appends the uses of the parts of a service.
+    fn add_service_parts(
+        &mut self,
+        scope: &Scope<'a>,
+        parts: &'a [ServicePart],
+    ) -> Result<(), AllocError>
+        ensures { OnOk result (AddsUses self.old.uses.items self.new.uses.items
+            (flat_map (spec.service_part_uses (texts scope.now.value.items)) parts.now)) }
+    {
+        for part in parts {
+            self.add_service_part(scope, part)?;
+        }
+        Ok(())
+    }
+
+    /// Appends the uses of a service.
+    fn add_service(&mut self, scope: &Scope<'a>, service: &'a Service) -> Result<(), AllocError>
+        ensures { OnOk result (AddsUses self.old.uses.items self.new.uses.items
+            (spec.service_uses (texts scope.now.value.items) service.now)) }
+    {
+        let words = inner(self.alloc, scope, service.name.text.as_str())?;
+        self.add_service_parts(&words, &service.parts)
+    }
+
+    /// Appends the uses of a part of a message.
+    #[cycle(uses)]
+    fn add_part(&mut self, scope: &Scope<'a>, part: &'a Part) -> Result<(), AllocError>
+        ensures { OnOk result (AddsUses self.old.uses.items self.new.uses.items
+            (spec.part_uses (texts scope.now.value.items) part.now)) }
+    {
+        match part {
+            Part::Message(message) => {
+                self.add_message(scope, message)?;
+                Ok(())
+            }
+            Part::Oneof(oneof) => self.add_oneof(scope, oneof),
+            Part::Map(map) => self.add_map(scope, map),
+            Part::Field(field) => self.add_field(scope, &field.type_name),
+            Part::Enum(_) | Part::Empty(_) | Part::Option(_) | Part::Reserved(_) => Ok(()),
+        }
+    }
+
+    /// Appends the uses of the parts of a message.
+    #[cycle(uses)]
+    fn add_parts(&mut self, scope: &Scope<'a>, parts: &'a [Part]) -> Result<(), AllocError>
+        ensures { OnOk result (AddsUses self.old.uses.items self.new.uses.items
+            (flat_map (spec.part_uses (texts scope.now.value.items)) parts.now)) }
+    {
+        for part in parts {
+            self.add_part(scope, part)?;
+        }
+        Ok(())
+    }
+
+    /// Appends the uses of a message.
+    #[cycle(uses)]
+    fn add_message(&mut self, scope: &Scope<'a>, message: &'a Message) -> Result<(), AllocError>
+        ensures { OnOk result (AddsUses self.old.uses.items self.new.uses.items
+            (spec.message_uses (texts scope.now.value.items) message.now)) }
+    {
+        let words = inner(self.alloc, scope, message.name.text.as_str())?;
+        self.add_parts(&words, &message.parts)
+    }
+
+    /// Appends the uses of a statement.
+    fn add_statement(
+        &mut self,
+        scope: &Scope<'a>,
+        statement: &'a Statement,
+    ) -> Result<(), AllocError>
+        ensures { OnOk result (AddsUses self.old.uses.items self.new.uses.items
+            (spec.statement_uses (texts scope.now.value.items) statement.now)) }
+    {
+        match statement {
+            Statement::Message(message) => self.add_message(scope, message),
+            Statement::Service(service) => self.add_service(scope, service),
+            Statement::Enum(_)
+            | Statement::Empty(_)
+            | Statement::Import(_)
+            | Statement::Option(_) => Ok(()),
+        }
+    }
+
+    /// Appends the uses of statements.
+    fn add_statements(
+        &mut self,
+        scope: &Scope<'a>,
+        statements: &'a [Statement],
+    ) -> Result<(), AllocError>
+        ensures { OnOk result (AddsUses self.old.uses.items self.new.uses.items
+            (flat_map (spec.statement_uses (texts scope.now.value.items)) statements.now)) }
+    {
+        for statement in statements {
+            self.add_statement(scope, statement)?;
+        }
+        Ok(())
+    }
 }
 
 /// The words of a package.
@@ -305,14 +258,17 @@ fn words_of(alloc: Global, dotted: &Dotted) -> Result<Vec<&str>, AllocError>
 pub(crate) fn uses_of(alloc: Global, file: &FileTree) -> Result<Vec<Site<'_>>, AllocError>
     ensures { IfOk result (λ uses. map use_of uses.items ≡ spec.file_uses file.now) }
 {
-    let mut uses = Vec::new(alloc);
+    let mut list = UseList {
+        alloc,
+        uses: Vec::new(alloc),
+    };
     let Some(packaged) = &file.packaged else {
         let scope = Rc::new(alloc, Vec::new(alloc))?;
-        add_statements(alloc, &mut uses, &scope, &file.statements)?;
-        return Ok(uses);
+        list.add_statements(&scope, &file.statements)?;
+        return Ok(list.uses);
     };
     let scope = Rc::new(alloc, words_of(alloc, &packaged.package.name)?)?;
-    add_statements(alloc, &mut uses, &scope, &file.statements)?;
-    add_statements(alloc, &mut uses, &scope, &packaged.statements)?;
-    Ok(uses)
+    list.add_statements(&scope, &file.statements)?;
+    list.add_statements(&scope, &packaged.statements)?;
+    Ok(list.uses)
 }

@@ -1,6 +1,6 @@
 use Rattle.std.proofs.Common.{string_bytes}
 use Rattle.pg_link.proofs.DeclareLaws.{package_more}
-use Rattle.pg_link.proofs.declares.add_package.Goals as goal
+use Rattle.pg_link.proofs.declares.NameList.add_package.Goals as goal
 
 pub loop-word-preserved : goal.loop-word-preserved
 loop-word-preserved c =

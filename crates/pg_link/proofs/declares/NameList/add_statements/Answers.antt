@@ -1,6 +1,6 @@
 use Rattle.pg_link.specs.Outline.{of_statement}
 use Rattle.pg_link.proofs.DeclareLaws.{one_more, statement_rest}
-use Rattle.pg_link.proofs.declares.add_statements.Goals as goal
+use Rattle.pg_link.proofs.declares.NameList.add_statements.Goals as goal
 
 pub loop-statement-preserved : goal.loop-statement-preserved
 loop-statement-preserved c =

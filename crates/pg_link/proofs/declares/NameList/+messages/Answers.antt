@@ -3,7 +3,7 @@ use Rattle.pg_syntax.specs.declared.tree.Part.{Part}
 use Rattle.pg_link.specs.Declares.{Declarations, Done, names_in}
 use Rattle.pg_link.specs.Outline.{declared_of, of_part}
 use Rattle.pg_link.proofs.DeclareLaws.{one_more, part_message, part_rest}
-use Rattle.pg_link.proofs.declares.+messages.Goals as goal
+use Rattle.pg_link.proofs.declares.NameList.+messages.Goals as goal
 
 pub add_parts-loop-part-preserved : goal.add_parts-loop-part-preserved
 add_parts-loop-part-preserved t c =
@@ -12,5 +12,5 @@ add_parts-loop-part-preserved t c =
 
 pub add_part-returns-in_ok-add_message-in-Message : goal.add_part-returns-in_ok-add_message-in-Message
 add_part-returns-in_ok-add_message-in-Message t c =
-    c.in_ok-add_message-in-Message.ensures ∙ ap (λ (d : Declarations). map declared_of c.args.names.now.items ++ names_in c.args.scope.now d)
+    c.in_ok-add_message-in-Message.ensures ∙ ap (λ (d : Declarations). map declared_of c.args.self.now.names.items ++ names_in c.args.scope.now d)
     (sym (part_message c.in-Message.message) ∙ ap (λ (p : Part). of_part p Done) (sym c.in-Message.is))

@@ -1,6 +1,6 @@
 use Rattle.pg_link.specs.Outline.{of_service_part}
 use Rattle.pg_link.proofs.DeclareLaws.{one_more, service_part_rest}
-use Rattle.pg_link.proofs.declares.add_service_parts.Goals as goal
+use Rattle.pg_link.proofs.declares.NameList.add_service_parts.Goals as goal
 
 pub loop-part-preserved : goal.loop-part-preserved
 loop-part-preserved c =

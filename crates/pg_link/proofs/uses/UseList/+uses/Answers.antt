@@ -4,9 +4,9 @@ use Rattle.pg_link.specs.Index.{texts}
 use Rattle.pg_link.specs.Sites.{use_of}
 use Rattle.pg_link.specs.Uses.{Use, part_uses}
 use Rattle.pg_link.proofs.UseLaws.{part_message}
-use Rattle.pg_link.proofs.uses.+uses.Goals as goal
+use Rattle.pg_link.proofs.uses.UseList.+uses.Goals as goal
 
 pub add_part-returns-in_ok-add_message-in-Message : goal.add_part-returns-in_ok-add_message-in-Message
 add_part-returns-in_ok-add_message-in-Message t c =
-    c.in_ok-add_message-in-Message.ensures ∙ ap (λ (us : List Use). map use_of c.args.uses.now.items ++ us)
+    c.in_ok-add_message-in-Message.ensures ∙ ap (λ (us : List Use). map use_of c.args.self.now.uses.items ++ us)
     (sym (part_message (texts c.args.scope.now.value.items) c.in-Message.message) ∙ ap (λ (p : Part). part_uses (texts c.args.scope.now.value.items) p) (sym c.in-Message.is))
