@@ -13,9 +13,12 @@ ghost use Rattle.pg_check.specs.rules.KeepsRules.{KeepsRules};
 ghost use Rattle.pg_check.specs.standing.StandingParts.{StandingParts};
 ghost use Rattle.pg_check.specs.declared.error.CheckError.TheVariants.{Memory};
 
+mod resolved;
+
 use pg_check::CheckError;
 use pg_link::{Linked, Place};
 use pg_schema::{Parts, Schema};
+pub use resolved::build_resolved;
 use std::alloc::{AllocError, Global};
 
 /// What `build` answers.

@@ -9,5 +9,4 @@ pub mod MadeFiles
 pub mod MadeParts
 pub mod EnumPlaces
 pub mod Sources
-pub mod KeptParts
-pub mod NamedParts
+pub mod ResolvedTypes

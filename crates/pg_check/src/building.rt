@@ -7,6 +7,7 @@ ghost use Rattle.pg_schema.specs.declared.parts.Parts.{Parts};
 ghost use Rattle.pg_check.specs.Declares.{Declares};
 ghost use Rattle.pg_check.specs.parts.EnumPlaces as enums;
 ghost use Rattle.pg_check.specs.Errors as spec;
+ghost use Rattle.pg_check.specs.parts.ResolvedTypes.{AreResolved};
 ghost use Rattle.pg_check.specs.parts.Sources.{linked_sources, source};
 ghost use Rattle.pg_check.specs.rules.BrokenRules.{IsFirstBroken};
 ghost use Rattle.pg_check.specs.rules.FirstBroken.{first_broken};
@@ -39,7 +40,10 @@ fn sources_of<'a>(
         let Some((path, file)) = files.get_index(number) else {
             continue;
         };
-        let found = ByPlace::of(alloc, linked.places(number), linked.targets(number))?;
+        let found = ByPlace {
+            places: linked.places(number),
+            targets: linked.targets(number),
+        };
         sources.push(Source {
             path,
             text: &file.bytes,
@@ -99,6 +103,9 @@ pub fn build(alloc: Global, linked: &Linked) -> Result<Schema, CheckError>
     // Files stand behind those that they import, messages nest at most 64 deep, and all is numbered
     // in the order of a set.
     ensures stands { IfOk result StandingParts }
+    // A field's element, and what an rpc takes and returns, has the full name that its type name
+    // resolves to.
+    ensures resolved { IfOk result (AreResolved linked.now.files) }
     // Memory aside, a refusal names a rule that is broken in the files, the first, at its place.
     ensures refused { IfErr result (spec.IsRefused (linked_sources linked.now.files)) }
 {

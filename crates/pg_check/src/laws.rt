@@ -1,18 +1,20 @@
 //! Laws over the definitions alone.
 
-ghost use Rattle.std.specs.Prelude.{List};
+ghost use Rattle.std.specs.Prelude.{◌≡◌, List, ℕ};
 ghost use Rattle.pg_schema.specs.rules.Sound.{IsSound};
+ghost use Rattle.pg_schema.specs.declared.parts.field.Element.{Element};
 ghost use Rattle.pg_schema.specs.declared.parts.Parts.{Parts};
+ghost use Rattle.pg_syntax.specs.declared.tree.TypeName.{TypeName};
 ghost use Rattle.pg_link.specs.Linked.{IsLinkedUp, LinkedFiles};
+ghost use Rattle.pg_link.specs.Walk.{Entry};
 ghost use Rattle.pg_check.specs.rules.BrokenRules.{IsFirstBroken};
 ghost use Rattle.pg_check.specs.Declares.{Declares};
 ghost use Rattle.pg_check.specs.parts.EnumPlaces.{AreNumbered};
 ghost use Rattle.pg_check.specs.Examples.{WorkedRules};
 ghost use Rattle.pg_check.specs.rules.KeepsRules.{KeepsRules};
-ghost use Rattle.pg_check.specs.parts.KeptParts.{KeptParts};
 ghost use Rattle.pg_check.specs.parts.MadeParts.{Source};
-ghost use Rattle.pg_check.specs.parts.NamedParts.{NamedParts};
 ghost use Rattle.pg_check.specs.RuleCodes.{AreRuleCodes};
+ghost use Rattle.pg_check.specs.parts.ResolvedTypes.{AreResolved, ResolvesTo, full_name_of};
 ghost use Rattle.pg_check.specs.parts.Sources.{linked_sources};
 ghost use Rattle.pg_check.specs.standing.StandingParts.{StandingParts};
 ghost use Rattle.pg_check.specs.declared.error.CheckError.{CheckError};
@@ -30,21 +32,6 @@ pub fn kept_rules()
         → IsFirstBroken files e → ⊥ }
 {}
 
-/// The parts of files that keep to the rules keep to them too, as far as these go: numbers,
-/// reserved items, presence, oneofs, map keys, packed lists, JSON names, enums, options of files
-/// and the count of message types.
-pub fn kept_parts()
-    ensures { (files : List Source) (parts : Parts) → Declares files parts → KeptParts parts }
-{}
-
-/// The parts of files that keep to the rules are those of a schema where their names stand: where
-/// they are words, what is named is there, each type stands once and in its scope, and full names
-/// differ.
-pub fn named_parts()
-    ensures { (files : List Source) (parts : Parts) → Declares files parts → NamedParts parts
-        → IsSound parts }
-{}
-
 /// The parts of linked files that keep to the rules are those of a schema: their names are words,
 /// what is named is there, each type stands once and in its scope, and full names differ.
 pub fn linked_parts()
@@ -58,6 +45,19 @@ pub fn linked_parts()
 pub fn linked_parts_stand()
     ensures { (linked : LinkedFiles) (parts : Parts) → IsLinkedUp linked
         → Declares (linked_sources linked.files) parts → StandingParts parts }
+{}
+
+/// The type names of linked files name in the parts what they resolve to: of each field, map and
+/// rpc the type name that is no scalar word resolves to a full name, and the message type or enum
+/// that the parts name there has that full name. What one type name names has one full name, so
+/// that no field has the type of another one's name.
+pub fn resolved_types()
+    ensures resolved { (linked : LinkedFiles) (parts : Parts) → IsLinkedUp linked
+        → Declares (linked_sources linked.files) parts → AreResolved linked.files parts }
+    ensures alone { (files : List Entry) (parts : Parts) (file : Entry) (scope : List ℕ)
+        (name : TypeName) (one other : Element) → ResolvesTo files parts file scope name one
+        → ResolvesTo files parts file scope name other
+        → full_name_of parts one ≡ full_name_of parts other }
 {}
 
 /// The code in the fact that a rule is broken is the code of its error, of files and of parts

@@ -5,6 +5,8 @@ pub mod Linking
 pub mod EnumPlaces
 pub mod Moved
 pub mod UsesApart
+pub mod KeptParts
+pub mod NamedParts
 pub mod KeptEnums
 pub mod KeptFields
 pub mod KeptMessages
@@ -14,11 +16,16 @@ pub mod KeptOneofs
 pub mod KeptOptions
 pub mod Wholes
 pub mod WordTrees
+pub mod UsesRise
 pub mod WordedFiles
 pub mod ScopedEnums
 pub mod NamedTypes
 pub mod PlacedParts
 pub mod LinkedParts
+pub mod ScopeWords
+pub mod ResolvedUses
+pub mod NamedUses
+pub mod ResolvedTypes
 pub mod Totals
 pub mod Regrouped
 pub mod NamedOnce

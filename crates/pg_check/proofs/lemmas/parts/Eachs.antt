@@ -9,6 +9,14 @@ pub joined_all : {X : Type 0} (P : X → Type 0) (xs ys : List X) → AllByRecur
 joined_all P [] ys h k = k
 joined_all P (x ∷ xs) ys h k = (h.0, joined_all P xs ys h.1 k)
 
+pub front_of : {X : Type 0} (P : X → Type 0) (xs ys : List X) → AllByRecursion P (xs ++ ys) → AllByRecursion P xs
+front_of P [] ys h = tt
+front_of P (x ∷ xs) ys h = (h.0, front_of P xs ys h.1)
+
+pub back_of : {X : Type 0} (P : X → Type 0) (xs ys : List X) → AllByRecursion P (xs ++ ys) → AllByRecursion P ys
+back_of P [] ys h = h
+back_of P (x ∷ xs) ys h = back_of P xs ys h.1
+
 pub each-append : {A B : Type 0} (is : A → B → Type 0) (xs : List A) (ys : List B) (vs : List A) (ws : List B) → EachIs is xs ys → EachIs is vs ws → EachIs is (xs ++ vs) (ys ++ ws)
 each-append is [] [] vs ws h k = k
 each-append is [] (y ∷ ys) vs ws h k = absurd h

@@ -20,7 +20,7 @@ use Rattle.pg_check.specs.declared.rules.numbers.Keyed.{Keyed}
 use Rattle.pg_check.specs.declared.rules.numbers.Numbers.{Numbers}
 use Rattle.pg_check.specs.rules.Enums as enums
 use Rattle.pg_check.specs.rules.KeepsRules.{EnumKeeps, are_apart, begins_with_zero, has_some, lies_within, rises}
-use Rattle.pg_check.specs.parts.KeptParts.{KeptEnum}
+use Rattle.pg_check.proofs.lemmas.parts.KeptParts.{KeptEnum}
 use Rattle.pg_check.specs.parts.MadeEnums.{MadeEnum, MadeValue, body_flag, enumeration, made_body, made_value, made_values, value}
 use Rattle.pg_check.specs.parts.MadeNumbers.{of_rank, value_number, value_range}
 use Rattle.pg_check.specs.parts.MadeOptions.{flag_value, or_flag}

@@ -11,7 +11,7 @@ use Rattle.pg_check.specs.Declares.{Declares}
 use Rattle.pg_check.specs.rules.Files.{file_lines}
 use Rattle.pg_check.specs.parts.ByScope.{Placed}
 use Rattle.pg_check.specs.rules.KeepsRules.{EnumKeeps, FileKeeps, KeepsRules, MessageKeeps, OptionsKeep, source_messages}
-use Rattle.pg_check.specs.parts.KeptParts.{KeptEnum, KeptFile, KeptMessage, KeptParts}
+use Rattle.pg_check.proofs.lemmas.parts.KeptParts.{KeptEnum, KeptFile, KeptMessage, KeptParts}
 use Rattle.pg_check.specs.parts.MadeEnums.{enumeration, made_enum}
 use Rattle.pg_check.specs.parts.MadeParts.{Declared, EachIs, FileShape, IsFileOf, IsTypeOf, Source, TypeTree, file_shape, nothing, placed_enums, placed_messages, type_tree, type_trees, with_file, with_files}
 use Rattle.pg_check.specs.rules.Outline.{Enum, Message, file_messages, scoped_enums}

@@ -21,7 +21,7 @@ use Rattle.pg_link.specs.declared.target.Target.{Target}
 use Rattle.pg_check.specs.declared.rules.numbers.Keyed.{Keyed}
 use Rattle.pg_check.specs.declared.rules.numbers.Numbers.{Numbers}
 use Rattle.pg_check.specs.rules.KeepsRules.{MessageKeeps, has_field_number, lies_within, rises}
-use Rattle.pg_check.specs.parts.KeptParts.{KeptMessage, is_kept_field}
+use Rattle.pg_check.proofs.lemmas.parts.KeptParts.{KeptMessage, is_kept_field}
 use Rattle.pg_check.specs.parts.MadeFields.{MadeField, field, made_field, made_number}
 use Rattle.pg_check.specs.parts.MadeMessages.{AreFields, IsMessage, made_fields, oneofs}
 use Rattle.pg_check.specs.parts.MadeNumbers.{field_number, field_range}

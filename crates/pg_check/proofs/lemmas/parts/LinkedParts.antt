@@ -40,12 +40,12 @@ use Rattle.pg_check.specs.parts.MadeNumbers.{index_of}
 use Rattle.pg_check.specs.parts.MadeParts.{Declared, EachIs, FileShape, IsFileOf, IsTypeOf, Source, TypeTree, file_services, file_shape, nothing, placed_enums, placed_messages, type_tree, type_trees, with_file, with_files}
 use Rattle.pg_check.specs.parts.MadeServices.{MadeMethod, MadeService, made_method, made_methods, made_service, made_services, message_at, method, service}
 use Rattle.pg_check.specs.rules.Members.{DeclaredField, Mapped, Plain, members}
-use Rattle.pg_check.specs.parts.NamedParts.{NamedEnum, NamedMessage, NamedParts, has_package, is_named_field}
+use Rattle.pg_check.proofs.lemmas.parts.NamedParts.{NamedEnum, NamedMessage, NamedParts, has_package, is_named_field}
 use Rattle.pg_check.specs.rules.Outline.{Enum, Message, scoped_enums, file_messages, package_of, statements_behind}
 use Rattle.pg_check.proofs.lemmas.parts.PlacedParts.{HasValuesOnce, PlacedParts}
 use Rattle.pg_check.specs.parts.Sources.{linked_source, linked_sources}
 use Rattle.pg_check.specs.rules.Types.{scalar_named}
-use Rattle.pg_check.proofs.lemmas.parts.Eachs.{each-length, joined_all}
+use Rattle.pg_check.proofs.lemmas.parts.Eachs.{back_of, each-length, front_of, joined_all}
 use Rattle.pg_check.proofs.lemmas.parts.KeptFiles.{enums_are, source_enums, tree_count}
 use Rattle.pg_check.proofs.lemmas.parts.Moved.{all_moved, all_weaker, pairs_weaker, pairs_of_map}
 use Rattle.pg_check.proofs.lemmas.parts.NamedTypes.{IfFits, enum_count, message_count, scoped_fits, some_message}
@@ -157,7 +157,7 @@ module _ (types enums : ℕ) (targets : ℕ → Option Target) (fit : AllFit typ
 
 -- ---- uses that are resolved
 
-abbrev Resolves : (Use → Option Target) → Use → Type 0
+abbrev pub Resolves : (Use → Option Target) → Use → Type 0
 Resolves resolve u = (t : Target) × (resolve u ≡ Some t)
 
 uses_resolve : (resolve : Use → Option Target) (ts : List Target) (us : List Use) → map (λ (t : Target). Some t) ts ≡ map resolve us → AllByRecursion (Resolves resolve) us
@@ -168,10 +168,10 @@ uses_resolve resolve (t ∷ ts) (u ∷ us) is =
     let others : map (λ (x : Target). Some x) ts ≡ map resolve us = cc (is) in
     ((t, sym one), uses_resolve resolve ts us others)
 
-abbrev resolve_in : List Entry → Entry → Use → Option Target
+abbrev pub resolve_in : List Entry → Entry → Use → Option Target
 resolve_in files e = target_in (all_declared files) (linked.visible_names (outlines files) (path_of e))
 
-files_resolve : (all files : List Entry) (ts : List (List Target)) → map (map (λ (t : Target). Some t)) ts ≡ map (file_targets all) files
+pub files_resolve : (all files : List Entry) (ts : List (List Target)) → map (map (λ (t : Target). Some t)) ts ≡ map (file_targets all) files
     → AllByRecursion (λ e. AllByRecursion (Resolves (resolve_in all e)) (file_uses e.1.tree)) files
 files_resolve all [] ts is = tt
 files_resolve all (e ∷ es) [] is = absurd (cc (is))
@@ -179,14 +179,6 @@ files_resolve all (e ∷ es) (t ∷ ts) is =
     let one : map (λ (x : Target). Some x) t ≡ file_targets all e = cc (is) in
     let others : map (map (λ (x : Target). Some x)) ts ≡ map (file_targets all) es = cc (is) in
     (uses_resolve (resolve_in all e) t (file_uses e.1.tree) one, files_resolve all es ts others)
-
-front_of : {X : Type 0} (P : X → Type 0) (xs ys : List X) → AllByRecursion P (xs ++ ys) → AllByRecursion P xs
-front_of P [] ys h = tt
-front_of P (x ∷ xs) ys h = (h.0, front_of P xs ys h.1)
-
-back_of : {X : Type 0} (P : X → Type 0) (xs ys : List X) → AllByRecursion P (xs ++ ys) → AllByRecursion P ys
-back_of P [] ys h = h
-back_of P (x ∷ xs) ys h = back_of P xs ys h.1
 
 module _ (files : List Entry) (e : Entry) where
   abbrev Here : Use → Type 0

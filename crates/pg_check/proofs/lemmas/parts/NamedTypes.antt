@@ -342,12 +342,12 @@ first_within p i (x ∷ xs) some = by (p x) (first_within p (i + 1) xs (omega ar
     by true rest = omega arith
     by false rest = omega (arith, rest)
 
-place_within : (names : List (List ℕ)) (these : List (List ℕ)) (n : ℕ) → 0 < length names → get_or (map (place_among names) these) n 0 < length names
+pub place_within : (names : List (List ℕ)) (these : List (List ℕ)) (n : ℕ) → 0 < length names → get_or (map (place_among names) these) n 0 < length names
 place_within names [] n some = some
 place_within names (x ∷ these) zero some = let there : place_among names x < 0 + length names = first_within (bytes_eq x) 0 names (omega (arith, some)) in omega (arith, there)
 place_within names (x ∷ these) (suc n) some = place_within names these n some
 
-scoped_count : (all files : List Entry) → length (scoped_names files) ≡ length (flat_map source_enums (map (linked_source all) files))
+pub scoped_count : (all files : List Entry) → length (scoped_names files) ≡ length (flat_map source_enums (map (linked_source all) files))
 scoped_count all [] = refl
 scoped_count all (e ∷ es) =
     let front = map enum_full (scoped_enums e.1.tree) in

@@ -4,7 +4,7 @@ use Rattle.pg_schema.specs.declared.parts.Parts.{Parts}
 use Rattle.pg_schema.specs.rules.Sound.{IsSound}
 use Rattle.pg_link.specs.Linked.{IsLinkedUp, LinkedFiles}
 use Rattle.pg_check.specs.Declares.{Declares}
-use Rattle.pg_check.specs.parts.KeptParts.{KeptParts}
+use Rattle.pg_check.proofs.lemmas.parts.KeptParts.{KeptParts}
 use Rattle.pg_check.proofs.lemmas.parts.PlacedParts.{IsCountable}
 use Rattle.pg_check.specs.parts.Sources.{linked_sources}
 use Rattle.pg_check.proofs.lemmas.parts.CountableParts.{countable}

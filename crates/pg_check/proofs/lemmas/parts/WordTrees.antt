@@ -7,6 +7,7 @@ use Rattle.pg_lex.specs.Lexes.{Spells, byte_order_mark, lexes, IsLexeme}
 use Rattle.pg_lex.specs.Symbol.{Placed, Symbol, Word, Whole, Text, Mark}
 use Rattle.pg_schema.specs.rules.Words.{is_digit, is_letter, is_word, is_word_byte}
 use Rattle.pg_link.specs.Walk.{IsParsed}
+use Rattle.pg_check.proofs.lemmas.parts.Eachs.{back_of, front_of}
 use Rattle.pg_check.proofs.lemmas.parts.Moved.{all_weaker}
 use Rattle.pg_check.proofs.lemmas.rules.NoneLaws.{and_both}
 use Rattle.pg_syntax.specs.declared.tree as tree
@@ -78,14 +79,6 @@ IsGood Empty = Unit {0}
 IsGood (Leaf s) = IsGoodSymbol s
 IsGood (Both t u) = IsGood t × IsGood u
 IsGood (At span t) = IsGood t
-
-front_of : {X : Type 0} (P : X → Type 0) (xs ys : List X) → AllByRecursion P (xs ++ ys) → AllByRecursion P xs
-front_of P [] ys h = tt
-front_of P (x ∷ xs) ys h = (h.0, front_of P xs ys h.1)
-
-back_of : {X : Type 0} (P : X → Type 0) (xs ys : List X) → AllByRecursion P (xs ++ ys) → AllByRecursion P ys
-back_of P [] ys h = h
-back_of P (x ∷ xs) ys h = back_of P xs ys h.1
 
 standing_good : (t : Tree) (ts : List Placed) → AllByRecursion IsGoodToken ts → Stands t ts → IsGood t
 standing_good Empty ts h s = tt

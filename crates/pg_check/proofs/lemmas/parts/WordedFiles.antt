@@ -198,7 +198,7 @@ before_joined b ps qs h =
     ap (λ rs. before_first b (rs ++ qs)) h.is ∙ sym (ap (λ rs. before_first b rs ++ qs) h.is)
 
 -- a dot parts what stands before it from what stands behind
-parted : (a b : List ℕ) → parts_at_dots (a ++ 46 ∷ b) ≡ parts_at_dots a ++ parts_at_dots b
+pub parted : (a b : List ℕ) → parts_at_dots (a ++ 46 ∷ b) ≡ parts_at_dots a ++ parts_at_dots b
 parted [] b = refl
 parted (x ∷ xs) b = by (x == 46) (parted xs b)
   where
@@ -210,7 +210,7 @@ parted (x ∷ xs) b = by (x == 46) (parted xs b)
 no_dot : (x : ℕ) → is_word_byte x ≡ true → (x == 46) ≡ false
 no_dot x h = grind (arith, nat_tests)
 
-bytes_alone : (xs : List ℕ) → list_all is_word_byte xs ≡ true → parts_at_dots xs ≡ xs ∷ []
+pub bytes_alone : (xs : List ℕ) → list_all is_word_byte xs ≡ true → parts_at_dots xs ≡ xs ∷ []
 bytes_alone [] h = refl
 bytes_alone (x ∷ xs) h =
     ap (λ c. cond c ([] ∷ parts_at_dots xs) (before_first x (parts_at_dots xs))) (no_dot x (and_left (is_word_byte x) (list_all is_word_byte xs) h))

@@ -39,10 +39,6 @@ pub resolved_places : (resolve : Resolution) (us : List Use) (places : List ℕ)
     → places ≡ map (λ (u : Use). u.at) us → (at : ℕ) → named_at places targets at ≡ resolved_at resolve us at
 resolved_places resolve us places targets same are at = ap (λ (ps : List ℕ). named_at ps targets at) are ∙ resolved_uses resolve us targets same at
 
--- one more in front
-pub one_named : (place at : ℕ) (t : Target) (b : Bool) (old others : Option Target) → b ≡ (place == at) → old ≡ others → cond b (Some t) old ≡ cond (place == at) (Some t) others
-one_named place at t b old others same before = ap (λ (c : Bool). cond c (Some t) old) same ∙ ap (cond (place == at) (Some t)) before
-
 -- ---- where places rise
 
 above : (p : ℕ) (ps : List ℕ) (i : ℕ) → list_all (nat_lt p) ps ≡ true → i < length ps → p < get_or ps i 0

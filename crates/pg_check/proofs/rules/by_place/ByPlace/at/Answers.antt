@@ -1,45 +1,29 @@
-use Rattle.std.proofs.Common.{◌≡◌, ◌∙◌, ◌<◌, ◌≤◌, ℕ, List, Option, Result, Equal, length, get_or, nat_cmp, true, sym, subst, arith}
-use Rattle.std.proofs.Math.Logic.{∥∥₁_elim}
+use Rattle.std.proofs.Common.{◌≡◌, ◌∙◌, ◌<◌, ◌≤◌, ℕ, List, Result, Equal, length, get_or, nat_cmp, true, sym, subst, arith}
 use Rattle.std.proofs.Math.Nat.{lt_of_not-le}
-use Rattle.std.proofs.Props.{props}
 use Rattle.std.proofs.lemmas.Bool.Decides.{nat_tests}
 use Rattle.std.proofs.lemmas.List.Sorted.{searched}
-use Rattle.std.specs.BTreeMap.{BTreeMap}
 use Rattle.std.specs.Result.{MatchResult}
 use Rattle.pg_link.specs.declared.target.Target.{Target}
-use Rattle.pg_schema.specs.rules.Pairs.{is_rising}
-use Rattle.pg_check.specs.rules.ByPlace.{Finds}
 use Rattle.pg_check.proofs.lemmas.rules.PlaceLaws.{copied_is, found_there, found_nowhere, in_order}
 use Rattle.pg_check.proofs.rules.by_place.ByPlace.at.Goals as goal
 
 same_number : (a b : ℕ) → nat_cmp a b ≡ Equal → a ≡ b
 same_number a b is = grind (arith, nat_tests)
 
-pub returns-in-Some : goal.returns-in-Some
-returns-in-Some c =
-    let places : List ℕ = c.args.self.now.places.now in
-    let targets : List Target = c.args.self.now.targets.now in
-    c.copied.ensures ∙ (c.get.ensures.value
-    ∙ ∥∥₁_elim (subst (λ (t : Option (BTreeMap ℕ Target)). ∥ Finds places targets t ∥₁) c.in-Some.is c.args.self.now.finds) (Prim.hlevel props) (λ finds. finds c.args.at))
-
 pub returns-in-Ok : goal.returns-in-Ok
 returns-in-Ok c =
     let places : List ℕ = c.args.self.now.places.now in
     let targets : List Target = c.args.self.now.targets.now in
-    let rising : is_rising places ≡ true =
-    ∥∥₁_elim (subst (λ (t : Option (BTreeMap ℕ Target)). ∥ Finds places targets t ∥₁) c.in_default.is c.args.self.now.finds) (Prim.hlevel props) (λ finds. finds) in
-    c.copied-in-Ok.ensures ∙ (copied_is targets c.in-Ok.index c.get-in-Ok.result _ c.get-in-Ok.ensures.lookup.1 c.get-in-Ok.ensures.lookup.3
-    ∙ sym (found_there places targets c.in-Ok.index c.args.at rising c.in-Ok.ensures.bound (same_number (get_or places c.in-Ok.index 0) c.args.at (c.in-Ok.ensures.ok 0))))
+    c.copied.ensures ∙ (copied_is targets c.in-Ok.index c.get.result _ c.get.ensures.lookup.1 c.get.ensures.lookup.3
+    ∙ sym (found_there places targets c.in-Ok.index c.args.at c.args.self.now.rising c.in-Ok.ensures.bound (same_number (get_or places c.in-Ok.index 0) c.args.at (c.in-Ok.ensures.ok 0))))
 
 pub returns-in-Err : goal.returns-in-Err
 returns-in-Err c =
     let places : List ℕ = c.args.self.now.places.now in
     let targets : List Target = c.args.self.now.targets.now in
-    let rising : is_rising places ≡ true =
-    ∥∥₁_elim (subst (λ (t : Option (BTreeMap ℕ Target)). ∥ Finds places targets t ∥₁) c.in_default.is c.args.self.now.finds) (Prim.hlevel props) (λ finds. finds) in
     let around = subst (λ (r : Result ℕ ℕ). MatchResult r (λ i. (i < length places) × (get_or places i 0 ≡ c.args.at))
     (λ i. (i ≤ length places) × ((k : ℕ) → k < i → get_or places k 0 < c.args.at) × ((k : ℕ) → i ≤ k → k < length places → c.args.at < get_or places k 0)))
-    c.in-Err.is (searched places c.args.at c.binary_search.result c.binary_search.ensures.position (in_order places rising)) in
+    c.in-Err.is (searched places c.args.at c.binary_search.result c.binary_search.ensures.position (in_order places c.args.self.now.rising)) in
     sym (found_nowhere places targets c.args.at (λ k within is.
     let early : k < c.in-Err.field-0 = lt_of_not-le (λ behind. omega (arith, around.2 k behind within, is)) in
     omega (arith, around.1 k early, is)))

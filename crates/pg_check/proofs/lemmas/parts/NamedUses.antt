@@ -1,0 +1,217 @@
+-- What a type name of linked files resolves to is what the parts name at its place.
+use Rattle.std.proofs.Common.{◌≡◌, ◌∙◌, ℕ, ◌+◌, ◌^◌, ◌<◌, ◌≤◌, Bool, true, false, cond, not, ◌&&◌, is_some, List, [], ◌∷◌, length, map, flat_map, get_or, slice_get, Option, Some, None, option_map, string_bytes, sym, ap, subst, refl, arith}
+use Rattle.std.specs.List.{AllByRecursion}
+use Rattle.std.specs.Option.{option_and_then}
+use Rattle.std.specs.Str.{bytes_eq}
+use Rattle.std.proofs.lemmas.List.{length-map}
+use Rattle.std.proofs.lemmas.List.Quantifiers.{position-Some}
+use Rattle.std.proofs.lemmas.Option.{get_or_from_slice_get, slice_get-get_or, slice_get-map, slice_get_within}
+use Rattle.std.proofs.lemmas.Slice.Eq.{bytes_eq-Decides}
+use Rattle.pg_schema.specs.declared.parts.enum_type.EnumType.{EnumType}
+use Rattle.pg_schema.specs.declared.parts.field.Element.{Element}
+use Rattle.pg_schema.specs.declared.parts.field.Scalar.{Scalar}
+use Rattle.pg_schema.specs.declared.parts.message_type.MessageType.{MessageType}
+use Rattle.pg_schema.specs.declared.parts.Parts.{Parts}
+use Rattle.pg_schema.specs.ScalarWords.{scalar_of}
+use Rattle.pg_link.specs.declared.names.Kind.{Kind}
+use Rattle.pg_link.specs.declared.names.Kind.TheVariants as kinds
+use Rattle.pg_link.specs.declared.target.Target.{Target}
+use Rattle.pg_link.specs.declared.target.Target.TheVariants as targets
+use Rattle.pg_link.specs.Files.{Declared, visible_names}
+use Rattle.pg_link.specs.Names.{Names, Text, is_type}
+use Rattle.pg_link.specs.Resolves.{Resolves, found, part_words, reference}
+use Rattle.pg_link.specs.Targets.{all_declared, enum_names, message_names, number_in, numbered, target_at, target_in, use_at}
+use Rattle.pg_link.specs.Uses.{Use, field_uses, file_uses, in_field, in_rpc, is_scalar, is_scalar_alone}
+use Rattle.pg_link.specs.Walk.{Entry, outlines, path_of}
+use Rattle.pg_check.specs.parts.EnumPlaces.{AreNumbered, by_scope, declared_messages, declared_names, enum_places, place_among, scoped_names}
+use Rattle.pg_check.specs.parts.MadeFields.{element_of}
+use Rattle.pg_check.specs.parts.MadeNumbers.{index_of}
+use Rattle.pg_check.specs.parts.MadeServices.{message_at}
+use Rattle.pg_check.specs.parts.ResolvedTypes.{IsScalarOr, ResolvesTo, full_name_of, words_of}
+use Rattle.pg_check.specs.parts.Sources.{linked_source}
+use Rattle.pg_check.specs.rules.Options.{is_alone}
+use Rattle.pg_check.specs.rules.Types.{scalar_named}
+use Rattle.pg_check.proofs.lemmas.parts.NamedTypes.{place_within}
+use Rattle.pg_check.proofs.lemmas.standing.TreePlaces.{index_is}
+use Rattle.pg_schema.specs.declared.parts.field.Element.TheVariants as elements
+use Rattle.pg_syntax.specs.declared.tree as tree
+
+abbrev dot : List ℕ → Text
+dot full = 46 ∷ full
+
+-- ---- numbers of names
+
+-- the name has this number among these names, each of which has a dot in front there
+pub record HasNumber (names : List (List ℕ)) (full : Text) (number : ℕ) : Type 0 where
+  pub name : List ℕ
+  pub is_dotted : full ≡ 46 ∷ name
+  pub is_there : slice_get names number ≡ Some name
+
+has_number : (dotted : List Text) (names : List (List ℕ)) (full : Text) (number : ℕ) → dotted ≡ map dot names → number_in dotted full ≡ Some number → HasNumber names full number
+has_number dotted names full number are at =
+    let place = position-Some (bytes_eq full) dotted number [] at in
+    let same : full ≡ get_or dotted number [] = (bytes_eq-Decides full (get_or dotted number [])).0 place.1 in
+    let there : slice_get dotted number ≡ Some full = slice_get-get_or dotted number [] place.0 ∙ ap (λ t. Some t) (sym same) in
+    by (slice_get names number) refl (sym there ∙ (ap (λ xs. slice_get xs number) are ∙ slice_get-map dot names number))
+  where
+    by : (o : Option (List ℕ)) → slice_get names number ≡ o → Some full ≡ option_map dot o → HasNumber names full number
+    by None is none = absurd (cc (none))
+    by (Some name) is some = let dotted_is : full ≡ 46 ∷ name = cc (some) in record { name = name; is_dotted = dotted_is; is_there = is }
+
+-- ---- what a use resolves to
+
+module _ (files : List Entry) (numbers : AreNumbered files) where
+  abbrev all : List Declared
+  all = all_declared files
+
+  -- the number is that of the full name; where no enum may stand it is a message type's
+  abbrev pub HasName : Bool → Text → Target → Type 0
+  HasName takes full (targets.Message n) = HasNumber (declared_messages files) full n
+  HasName true full (targets.Enum n) = HasNumber (declared_names files) full n
+  HasName false full (targets.Enum n) = ⊥
+
+  kind_named : (takes : Bool) (full : Text) (k : Kind) (t : Target) → numbered all takes full k ≡ Some t → (is_type k ≡ true) × HasName takes full t
+  kind_named takes full kinds.Message t is = (refl, by (number_in (message_names all) full) refl is)
+    where
+      by : (o : Option ℕ) → number_in (message_names all) full ≡ o → option_map targets.Message o ≡ Some t → HasName takes full t
+      by None at none = absurd (cc (none))
+      by (Some n) at some =
+          let same : targets.Message n ≡ t = cc (some) in
+          subst (HasName takes full) same (has_number (message_names all) (declared_messages files) full n numbers.types at)
+  kind_named true full kinds.Enum t is = (refl, by (number_in (enum_names all) full) refl is)
+    where
+      by : (o : Option ℕ) → number_in (enum_names all) full ≡ o → option_map targets.Enum o ≡ Some t → HasName true full t
+      by None at none = absurd (cc (none))
+      by (Some n) at some =
+          let same : targets.Enum n ≡ t = cc (some) in
+          subst (HasName true full) same (has_number (enum_names all) (declared_names files) full n numbers.enums at)
+  kind_named false full kinds.Enum t is = absurd (cc (is))
+  kind_named takes full kinds.Entry t is = absurd (cc (is))
+  kind_named takes full kinds.Package t is = absurd (cc (is))
+  kind_named takes full kinds.Value t is = absurd (cc (is))
+  kind_named takes full kinds.Field t is = absurd (cc (is))
+  kind_named takes full kinds.Oneof t is = absurd (cc (is))
+  kind_named takes full kinds.Service t is = absurd (cc (is))
+  kind_named takes full kinds.Method t is = absurd (cc (is))
+
+  -- a use resolves to a full name, and at its byte stands the number of that
+  pub record IsFound (visible : Names) (e : Entry) (u : Use) : Type 0 where
+    pub target : Target
+    pub at : target_at files e u.at ≡ Some target
+    pub full : Text
+    pub resolves : Resolves visible u.scope u.name full
+    pub has_name : HasName u.takes_enums full target
+
+  is_found : (e : Entry) (u : Use) (t : Target) → target_in all (visible_names (outlines files) (path_of e)) u ≡ Some t → use_at (file_uses e.1.tree) u.at ≡ Some u → IsFound (visible_names (outlines files) (path_of e)) e u
+  is_found e u t is first = by (found visible u.scope u.name) refl is
+    where
+      visible : Names
+      visible = visible_names (outlines files) (path_of e)
+
+      by : (o : Option (Text × Kind)) → found (visible_names (outlines files) (path_of e)) u.scope u.name ≡ o → option_and_then (λ (f : Text × Kind). numbered all u.takes_enums f.0 f.1) o ≡ Some t
+          → IsFound (visible_names (outlines files) (path_of e)) e u
+      by None at none = absurd (cc (none))
+      by (Some f) at some =
+          let named = kind_named u.takes_enums f.0 f.1 t some in
+          record {
+            target = t;
+            at = ap (option_and_then (target_in all (visible_names (outlines files) (path_of e)))) first ∙ is;
+            full = f.0;
+            resolves = record { kind = f.1; is_found = at; is_type_name = named.0 };
+            has_name = named.1;
+          }
+
+  abbrev pub Here : Entry → Use → Type 0
+  Here e u = IsFound (visible_names (outlines files) (path_of e)) e u
+
+  pub all_found : (e : Entry) (us : List Use) → AllByRecursion (λ (u : Use). (t : Target) × (target_in all (visible_names (outlines files) (path_of e)) u ≡ Some t)) us
+      → AllByRecursion (λ u. use_at (file_uses e.1.tree) u.at ≡ Some u) us → AllByRecursion (Here e) us
+  all_found e [] h k = tt
+  all_found e (u ∷ us) h k = (is_found e u h.0.0 h.0.1 k.0, all_found e us h.1 k.1)
+
+  -- ---- what the parts have there
+
+  module _ (parts : Parts) (few_types : length parts.types.items ≤ 2 ^ 32) (few_enums : length parts.enums.items ≤ 2 ^ 32)
+      (types_are : map (λ (t : MessageType). string_bytes t.name) parts.types.items ≡ declared_messages files)
+      (enums_are : map (λ (e : EnumType). string_bytes e.name) parts.enums.items ≡ scoped_names files)
+      (as_many : length (scoped_names files) ≡ length (declared_names files)) where
+    abbrev type_name : MessageType → List ℕ
+    type_name t = string_bytes t.name
+
+    abbrev enum_name : EnumType → List ℕ
+    enum_name e = string_bytes e.name
+
+    type_there : (n : ℕ) (name : List ℕ) → slice_get (declared_messages files) n ≡ Some name → option_map type_name (slice_get parts.types.items (index_of n)) ≡ Some name
+    type_there n name is =
+        let within : n < length (declared_messages files) = slice_get_within (declared_messages files) n name is in
+        let long : length parts.types.items ≡ length (declared_messages files) = sym (length-map parts.types.items type_name) ∙ ap length types_are in
+        ap (λ i. option_map type_name (slice_get parts.types.items i)) (index_is n (omega (arith, within, long, few_types)))
+        ∙ (sym (slice_get-map type_name parts.types.items n) ∙ (ap (λ xs. slice_get xs n) types_are ∙ is))
+
+    enum_there : (n : ℕ) (name : List ℕ) → slice_get (declared_names files) n ≡ Some name → option_map enum_name (slice_get parts.enums.items (index_of (get_or (enum_places files) n 0))) ≡ Some name
+    enum_there n name is =
+        let j = get_or (enum_places files) n 0 in
+        let scoped = scoped_names files in
+        let within : n < length (declared_names files) = slice_get_within (declared_names files) n name is in
+        let inside : j < length scoped = place_within scoped (declared_names files) n (omega (arith, within, as_many)) in
+        let long : length parts.enums.items ≡ length scoped = sym (length-map parts.enums.items enum_name) ∙ ap length enums_are in
+        let same : get_or scoped j [] ≡ name = numbers.placed n within ∙ get_or_from_slice_get (declared_names files) n name [] is in
+        ap (λ i. option_map enum_name (slice_get parts.enums.items i)) (index_is j (omega (arith, inside, long, few_enums)))
+        ∙ (sym (slice_get-map enum_name parts.enums.items j) ∙ (ap (λ xs. slice_get xs j) enums_are ∙ (slice_get-get_or scoped j [] inside ∙ ap (λ x. Some x) same)))
+
+    abbrev of_target : Target → Element
+    of_target t = element_of None (Some (by_scope (enum_places files) t))
+
+    -- what is made of a target has the full name
+    pub record HasFull (full : Text) (element : Element) : Type 0 where
+      pub name : List ℕ
+      pub is_dotted : full ≡ 46 ∷ name
+      pub has_name : full_name_of parts element ≡ Some name
+
+    target_full : (takes : Bool) (full : Text) (t : Target) → HasName takes full t → HasFull full (of_target t)
+    target_full takes full (targets.Message n) h = record { name = h.name; is_dotted = h.is_dotted; has_name = type_there n h.name h.is_there }
+    target_full true full (targets.Enum n) h = record { name = h.name; is_dotted = h.is_dotted; has_name = enum_there n h.name h.is_there }
+    target_full false full (targets.Enum n) h = absurd h
+
+    -- an rpc's type
+    method_full : (full : Text) (t : Target) → HasName false full t → HasFull full (elements.Message (message_at (Some (by_scope (enum_places files) t))))
+    method_full full (targets.Message n) h = record { name = h.name; is_dotted = h.is_dotted; has_name = type_there n h.name h.is_there }
+    method_full full (targets.Enum n) h = absurd h
+
+    resolves_to : (e : Entry) (scope : List ℕ) (name : tree.TypeName.TypeName) (full : Text) (element : Element) → Resolves (visible_names (outlines files) (path_of e)) (words_of scope) (reference name) full
+        → HasFull full element → ResolvesTo files parts e scope name element
+    resolves_to e scope name full element h k = record {
+      full = k.name;
+      resolves = subst (Resolves (visible_names (outlines files) (path_of e)) (words_of scope) (reference name)) k.is_dotted h;
+      has_name = k.has_name;
+    }
+
+    abbrev targets_of : Entry → ℕ → Option Target
+    targets_of e at = option_map (by_scope (enum_places files)) (target_at files e at)
+
+    field_resolves : (e : Entry) (scope : List ℕ) (name : tree.TypeName.TypeName) → Here e (in_field (words_of scope) name) → ResolvesTo files parts e scope name (element_of None (targets_of e name.span.from))
+    field_resolves e scope name h =
+        subst (λ (o : Option Target). ResolvesTo files parts e scope name (element_of None (option_map (by_scope (enum_places files)) o))) (sym h.at)
+        (resolves_to e scope name h.full (of_target h.target) h.resolves (target_full true h.full h.target h.has_name))
+
+    pub method_resolves : (e : Entry) (scope : List ℕ) (name : tree.TypeName.TypeName) → Here e (in_rpc (words_of scope) name) → ResolvesTo files parts e scope name (elements.Message (message_at (targets_of e name.span.from)))
+    method_resolves e scope name h =
+        subst (λ (o : Option Target). ResolvesTo files parts e scope name (elements.Message (message_at (option_map (by_scope (enum_places files)) o)))) (sym h.at)
+        (resolves_to e scope name h.full (elements.Message (message_at (Some (by_scope (enum_places files) h.target)))) h.resolves (method_full h.full h.target h.has_name))
+
+    -- what is no scalar type here is no scalar word there
+    not_scalar : (b : Bool) (w : Text) (more : List tree.Name.Name) → cond (not b && is_alone more) (scalar_of w) None ≡ None → cond b false (is_scalar_alone w (part_words more)) ≡ false
+    not_scalar true w more h = refl
+    not_scalar false w [] h = ap is_some h
+    not_scalar false w (x ∷ xs) h = refl
+
+    -- the element that is made for a type name
+    pub element_named : (e : Entry) (scope : List ℕ) (name : tree.TypeName.TypeName) → AllByRecursion (Here e) (field_uses (words_of scope) name)
+        → IsScalarOr (ResolvesTo files parts e scope name (element_of (scalar_named name) (targets_of e name.span.from))) (scalar_named name) (element_of (scalar_named name) (targets_of e name.span.from))
+    element_named e scope name h = by (scalar_named name) refl
+      where
+        by : (o : Option Scalar) → scalar_named name ≡ o → IsScalarOr (ResolvesTo files parts e scope name (element_of o (targets_of e name.span.from))) o (element_of o (targets_of e name.span.from))
+        by (Some s) is = refl
+        by None is =
+            let none : is_scalar (reference name) ≡ false = not_scalar name.is_full (string_bytes name.path.first.text) name.path.more.items is in
+            field_resolves e scope name (subst (λ b. AllByRecursion (Here e) (cond b [] (in_field (words_of scope) name ∷ []))) none h).0
