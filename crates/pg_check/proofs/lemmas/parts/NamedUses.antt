@@ -1,4 +1,4 @@
--- What a type name of linked files resolves to is what the parts name at its place.
+-- What a type name of linked files resolves to is what the parts have under its number.
 use Rattle.std.proofs.Common.{◌≡◌, ◌∙◌, ℕ, ◌+◌, ◌^◌, ◌<◌, ◌≤◌, Bool, true, false, cond, not, ◌&&◌, is_some, List, [], ◌∷◌, length, map, flat_map, get_or, slice_get, Option, Some, None, option_map, string_bytes, sym, ap, subst, refl, arith}
 use Rattle.std.specs.List.{AllByRecursion}
 use Rattle.std.specs.Option.{option_and_then}
@@ -94,7 +94,7 @@ module _ (files : List Entry) (numbers : AreNumbered files) where
   kind_named takes full kinds.Service t is = absurd (cc (is))
   kind_named takes full kinds.Method t is = absurd (cc (is))
 
-  -- a use resolves to a full name, and at its byte stands the number of that
+  -- a use resolves to a full name, and the number that is found at its byte is that of the name
   pub record IsFound (visible : Names) (e : Entry) (u : Use) : Type 0 where
     pub target : Target
     pub at : target_at files e u.at ≡ Some target

@@ -1,4 +1,4 @@
--- The type names that a text uses begin one after the other, so that no two of them begin at one byte.
+-- The type names that a source file uses begin one after the other, so that no two of them begin at one byte.
 use Rattle.std.proofs.Common.{◌≡◌, ◌∙◌, ℕ, suc, ◌+◌, ◌<◌, ◌≤◌, Bool, true, false, cond, ◌==◌, List, [], ◌∷◌, ◌++◌, flat_map, map, nat_lt, slice_get, codes, Option, Some, None, string_bytes, sym, ap, subst, refl, arith, append_assoc}
 use Rattle.std.specs.List.{AllByRecursion, list_all}
 use Rattle.std.proofs.lemmas.Bool.Decides.{nat_tests}
@@ -67,7 +67,7 @@ end_joined at (t ∷ ts) us = end_joined t.to ts us
 
 -- ---- trees and the uses in them
 
--- wherever the tree stands, the uses lie between its first token and its last
+-- in whatever row of tokens the tree has, the uses lie between the first and the last
 abbrev pub Carries : Tree → List Use → Type 0
 Carries t us = (at : ℕ) (ts : List Placed) → Rises at ts → Stands t ts → Lie at (end_of at ts) us
 
@@ -108,7 +108,7 @@ carries_name n u is at (t ∷ ts) rises stands =
     let rest : t.to ≤ end_of t.to ts = end_after t.to ts rises.2 in
     (omega (arith, is, here, first), omega (arith, is, here, second, rest))
 
--- the nodes of a tree in front of others stand where the tree itself does
+-- the nodes of a tree, before others, have the tokens of the tree
 regrouped : (t : Tree) (more : List Tree) (ts : List Placed) → Stands (view.row (view.nodes t ++ more)) ts → Stands (Both t (view.row more)) ts
 regrouped Empty more ts h = h
 regrouped (Leaf s) more ts h = h
@@ -171,7 +171,7 @@ oneof_part_carries scope (oneof_parts.Option o) = carries_none (view.option o)
 oneof_part_carries scope (oneof_parts.Map m) = map_carries scope m
 oneof_part_carries scope (oneof_parts.Field f) = field_carries scope f
 
--- what stands after a word and a name in a node
+-- what follows a word and a name in a node
 headed : (span : _) (w : List ℕ) (n : tree.Name.Name) (t : Tree) (us : List Use) → Carries t us → Carries (At span (Both (view.word w) (Both (view.name n) t))) us
 headed span w n t us h =
     carries_at span (Both (view.word w) (Both (view.name n) t)) us
@@ -266,7 +266,7 @@ file_carries file =
     (carries_both (view.runs view.statement file.statements.items) (view.perhaps view.packaged file.packaged) front behind
     (carries_runs view.statement (statement_uses scope) (statement_carries scope) file.statements.items) (behind_carries scope file.packaged))))
 
--- the uses of a text begin one after the other
+-- the uses of a source file begin one after the other
 pub uses_lie : (text : List ℕ) (file : tree.FileTree.FileTree) (h : IsParsed text file) → Lie 0 (end_of 0 h.tokens) (file_uses file)
 uses_lie text file h = file_carries file 0 h.tokens (text-rises text h.tokens h.has_tokens.1) h.stands
 
