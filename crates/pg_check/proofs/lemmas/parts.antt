@@ -19,7 +19,6 @@ pub mod WordTrees
 pub mod UsesRise
 pub mod WordedFiles
 pub mod ScopedEnums
-pub mod NamedTypes
 pub mod PlacedParts
 pub mod LinkedParts
 pub mod ScopeWords

@@ -1,7 +1,7 @@
 -- What a type name of linked files resolves to is what the parts have under its number.
-use Rattle.std.proofs.Common.{◌≡◌, ◌∙◌, ℕ, ◌+◌, ◌^◌, ◌<◌, ◌≤◌, Bool, true, false, cond, not, ◌&&◌, is_some, List, [], ◌∷◌, length, map, flat_map, get_or, slice_get, Option, Some, None, option_map, string_bytes, sym, ap, subst, refl, arith}
-use Rattle.std.specs.List.{AllByRecursion}
-use Rattle.std.specs.Option.{option_and_then}
+use Rattle.std.proofs.Common.{◌≡◌, ◌∙◌, ℕ, zero, suc, ◌+◌, ◌^◌, ◌<◌, ◌≤◌, Bool, true, false, cond, not, ◌&&◌, is_some, List, [], ◌∷◌, ◌++◌, length, map, flat_map, get_or, slice_get, Option, Some, None, option_map, string_bytes, sym, ap, subst, refl, arith, length-append}
+use Rattle.std.specs.List.{AllByRecursion, position_from}
+use Rattle.std.specs.Option.{option_and_then, unwrap_or}
 use Rattle.std.specs.Str.{bytes_eq}
 use Rattle.std.proofs.lemmas.List.{length-map}
 use Rattle.std.proofs.lemmas.List.Quantifiers.{position-Some}
@@ -23,15 +23,16 @@ use Rattle.pg_link.specs.Resolves.{Resolves, found, part_words, reference}
 use Rattle.pg_link.specs.Targets.{all_declared, enum_names, message_names, number_in, numbered, target_at, target_in, use_at}
 use Rattle.pg_link.specs.Uses.{Use, field_uses, file_uses, in_field, in_rpc, is_scalar, is_scalar_alone}
 use Rattle.pg_link.specs.Walk.{Entry, outlines, path_of}
-use Rattle.pg_check.specs.parts.EnumPlaces.{AreNumbered, by_scope, declared_messages, declared_names, enum_places, place_among, scoped_names}
+use Rattle.pg_check.specs.parts.EnumPlaces.{AreNumbered, by_scope, declared_messages, declared_names, enum_full, enum_places, place_among, scoped_names}
 use Rattle.pg_check.specs.parts.MadeFields.{element_of}
 use Rattle.pg_check.specs.parts.MadeNumbers.{index_of}
 use Rattle.pg_check.specs.parts.MadeServices.{message_at}
 use Rattle.pg_check.specs.parts.ResolvedTypes.{IsScalarOr, ResolvesTo, full_name_of, words_of}
 use Rattle.pg_check.specs.parts.Sources.{linked_source}
 use Rattle.pg_check.specs.rules.Options.{is_alone}
+use Rattle.pg_check.specs.rules.Outline.{file_enums, scoped_enums}
 use Rattle.pg_check.specs.rules.Types.{scalar_named}
-use Rattle.pg_check.proofs.lemmas.parts.NamedTypes.{place_within}
+use Rattle.pg_check.proofs.lemmas.parts.ScopedEnums.{scoped_long}
 use Rattle.pg_check.proofs.lemmas.standing.TreePlaces.{index_is}
 use Rattle.pg_schema.specs.declared.parts.field.Element.TheVariants as elements
 use Rattle.pg_syntax.specs.declared.tree as tree
@@ -58,9 +59,46 @@ has_number dotted names full number are at =
     by None is none = absurd (cc (none))
     by (Some name) is some = let dotted_is : full ≡ 46 ∷ name = cc (some) in record { name = name; is_dotted = dotted_is; is_there = is }
 
+-- ---- enums scope by scope
+
+first_within : (p : List ℕ → Bool) (i : ℕ) (xs : List (List ℕ)) → 0 < i + length xs → unwrap_or (position_from p i xs) 0 < i + length xs
+first_within p i [] some = some
+first_within p i (x ∷ xs) some = by (p x) (first_within p (i + 1) xs (omega arith))
+  where
+    by : (b : Bool) → unwrap_or (position_from p (i + 1) xs) 0 < (i + 1) + length xs → unwrap_or (cond b (Some i) (position_from p (i + 1) xs)) 0 < i + length (x ∷ xs)
+    by true rest = omega arith
+    by false rest = omega (arith, rest)
+
+place_within : (names : List (List ℕ)) (these : List (List ℕ)) (n : ℕ) → 0 < length names → get_or (map (place_among names) these) n 0 < length names
+place_within names [] n some = some
+place_within names (x ∷ these) zero some = let there : place_among names x < 0 + length names = first_within (bytes_eq x) 0 names (omega (arith, some)) in omega (arith, there)
+place_within names (x ∷ these) (suc n) some = place_within names these n some
+
+-- as many of them as in order of declaration
+as_many : (files : List Entry) → length (scoped_names files) ≡ length (declared_names files)
+as_many [] = refl
+as_many (e ∷ es) =
+    let scoped = map enum_full (scoped_enums e.1.tree) in
+    let declared = map enum_full (file_enums e.1.tree) in
+    let here : length scoped ≡ length declared = length-map (scoped_enums e.1.tree) enum_full ∙ (scoped_long e.1.tree ∙ sym (length-map (file_enums e.1.tree) enum_full)) in
+    let left : length (scoped ++ scoped_names es) ≡ length scoped + length (scoped_names es) = length-append scoped (scoped_names es) in
+    let right : length (declared ++ declared_names es) ≡ length declared + length (declared_names es) = length-append declared (declared_names es) in
+    let rest = as_many es in
+    omega (arith, here, left, right, rest)
+
+-- ---- files and parts that meet
+
+-- the names that linking numbers are those of the parts, and there are few of them
+pub record IsMet (files : List Entry) (parts : Parts) : Type 0 where
+  pub numbers : AreNumbered files
+  pub few_types : length parts.types.items ≤ 2 ^ 32
+  pub few_enums : length parts.enums.items ≤ 2 ^ 32
+  pub types_are : map (λ (t : MessageType). string_bytes t.name) parts.types.items ≡ declared_messages files
+  pub enums_are : map (λ (e : EnumType). string_bytes e.name) parts.enums.items ≡ scoped_names files
+
 -- ---- what a use resolves to
 
-module _ (files : List Entry) (numbers : AreNumbered files) where
+module _ (files : List Entry) (parts : Parts) (met : IsMet files parts) where
   abbrev all : List Declared
   all = all_declared files
 
@@ -77,14 +115,14 @@ module _ (files : List Entry) (numbers : AreNumbered files) where
       by None at none = absurd (cc (none))
       by (Some n) at some =
           let same : targets.Message n ≡ t = cc (some) in
-          subst (HasName takes full) same (has_number (message_names all) (declared_messages files) full n numbers.types at)
+          subst (HasName takes full) same (has_number (message_names all) (declared_messages files) full n met.numbers.types at)
   kind_named true full kinds.Enum t is = (refl, by (number_in (enum_names all) full) refl is)
     where
       by : (o : Option ℕ) → number_in (enum_names all) full ≡ o → option_map targets.Enum o ≡ Some t → HasName true full t
       by None at none = absurd (cc (none))
       by (Some n) at some =
           let same : targets.Enum n ≡ t = cc (some) in
-          subst (HasName true full) same (has_number (enum_names all) (declared_names files) full n numbers.enums at)
+          subst (HasName true full) same (has_number (enum_names all) (declared_names files) full n met.numbers.enums at)
   kind_named false full kinds.Enum t is = absurd (cc (is))
   kind_named takes full kinds.Entry t is = absurd (cc (is))
   kind_named takes full kinds.Package t is = absurd (cc (is))
@@ -131,87 +169,86 @@ module _ (files : List Entry) (numbers : AreNumbered files) where
 
   -- ---- what the parts have there
 
-  module _ (parts : Parts) (few_types : length parts.types.items ≤ 2 ^ 32) (few_enums : length parts.enums.items ≤ 2 ^ 32)
-      (types_are : map (λ (t : MessageType). string_bytes t.name) parts.types.items ≡ declared_messages files)
-      (enums_are : map (λ (e : EnumType). string_bytes e.name) parts.enums.items ≡ scoped_names files)
-      (as_many : length (scoped_names files) ≡ length (declared_names files)) where
-    abbrev type_name : MessageType → List ℕ
-    type_name t = string_bytes t.name
+  abbrev type_name : MessageType → List ℕ
+  type_name t = string_bytes t.name
 
-    abbrev enum_name : EnumType → List ℕ
-    enum_name e = string_bytes e.name
+  abbrev enum_name : EnumType → List ℕ
+  enum_name e = string_bytes e.name
 
-    type_there : (n : ℕ) (name : List ℕ) → slice_get (declared_messages files) n ≡ Some name → option_map type_name (slice_get parts.types.items (index_of n)) ≡ Some name
-    type_there n name is =
-        let within : n < length (declared_messages files) = slice_get_within (declared_messages files) n name is in
-        let long : length parts.types.items ≡ length (declared_messages files) = sym (length-map parts.types.items type_name) ∙ ap length types_are in
-        ap (λ i. option_map type_name (slice_get parts.types.items i)) (index_is n (omega (arith, within, long, few_types)))
-        ∙ (sym (slice_get-map type_name parts.types.items n) ∙ (ap (λ xs. slice_get xs n) types_are ∙ is))
+  type_there : (n : ℕ) (name : List ℕ) → slice_get (declared_messages files) n ≡ Some name → option_map type_name (slice_get parts.types.items (index_of n)) ≡ Some name
+  type_there n name is =
+      let few = met.few_types in
+      let within : n < length (declared_messages files) = slice_get_within (declared_messages files) n name is in
+      let long : length parts.types.items ≡ length (declared_messages files) = sym (length-map parts.types.items type_name) ∙ ap length met.types_are in
+      ap (λ i. option_map type_name (slice_get parts.types.items i)) (index_is n (omega (arith, within, long, few)))
+      ∙ (sym (slice_get-map type_name parts.types.items n) ∙ (ap (λ xs. slice_get xs n) met.types_are ∙ is))
 
-    enum_there : (n : ℕ) (name : List ℕ) → slice_get (declared_names files) n ≡ Some name → option_map enum_name (slice_get parts.enums.items (index_of (get_or (enum_places files) n 0))) ≡ Some name
-    enum_there n name is =
-        let j = get_or (enum_places files) n 0 in
-        let scoped = scoped_names files in
-        let within : n < length (declared_names files) = slice_get_within (declared_names files) n name is in
-        let inside : j < length scoped = place_within scoped (declared_names files) n (omega (arith, within, as_many)) in
-        let long : length parts.enums.items ≡ length scoped = sym (length-map parts.enums.items enum_name) ∙ ap length enums_are in
-        let same : get_or scoped j [] ≡ name = numbers.placed n within ∙ get_or_from_slice_get (declared_names files) n name [] is in
-        ap (λ i. option_map enum_name (slice_get parts.enums.items i)) (index_is j (omega (arith, inside, long, few_enums)))
-        ∙ (sym (slice_get-map enum_name parts.enums.items j) ∙ (ap (λ xs. slice_get xs j) enums_are ∙ (slice_get-get_or scoped j [] inside ∙ ap (λ x. Some x) same)))
+  enum_there : (n : ℕ) (name : List ℕ) → slice_get (declared_names files) n ≡ Some name → option_map enum_name (slice_get parts.enums.items (index_of (get_or (enum_places files) n 0))) ≡ Some name
+  enum_there n name is =
+      let j = get_or (enum_places files) n 0 in
+      let few = met.few_enums in
+      let scoped = scoped_names files in
+      let same_long = as_many files in
+      let within : n < length (declared_names files) = slice_get_within (declared_names files) n name is in
+      let inside : j < length scoped = place_within scoped (declared_names files) n (omega (arith, within, same_long)) in
+      let long : length parts.enums.items ≡ length scoped = sym (length-map parts.enums.items enum_name) ∙ ap length met.enums_are in
+      let same : get_or scoped j [] ≡ name = met.numbers.placed n within ∙ get_or_from_slice_get (declared_names files) n name [] is in
+      ap (λ i. option_map enum_name (slice_get parts.enums.items i)) (index_is j (omega (arith, inside, long, few)))
+      ∙ (sym (slice_get-map enum_name parts.enums.items j) ∙ (ap (λ xs. slice_get xs j) met.enums_are ∙ (slice_get-get_or scoped j [] inside ∙ ap (λ x. Some x) same)))
 
-    abbrev of_target : Target → Element
-    of_target t = element_of None (Some (by_scope (enum_places files) t))
+  abbrev of_target : Target → Element
+  of_target t = element_of None (Some (by_scope (enum_places files) t))
 
-    -- what is made of a target has the full name
-    pub record HasFull (full : Text) (element : Element) : Type 0 where
-      pub name : List ℕ
-      pub is_dotted : full ≡ 46 ∷ name
-      pub has_name : full_name_of parts element ≡ Some name
+  -- what is made of a target has the full name
+  pub record HasFull (full : Text) (element : Element) : Type 0 where
+    pub name : List ℕ
+    pub is_dotted : full ≡ 46 ∷ name
+    pub has_name : full_name_of parts element ≡ Some name
 
-    target_full : (takes : Bool) (full : Text) (t : Target) → HasName takes full t → HasFull full (of_target t)
-    target_full takes full (targets.Message n) h = record { name = h.name; is_dotted = h.is_dotted; has_name = type_there n h.name h.is_there }
-    target_full true full (targets.Enum n) h = record { name = h.name; is_dotted = h.is_dotted; has_name = enum_there n h.name h.is_there }
-    target_full false full (targets.Enum n) h = absurd h
+  target_full : (takes : Bool) (full : Text) (t : Target) → HasName takes full t → HasFull full (of_target t)
+  target_full takes full (targets.Message n) h = record { name = h.name; is_dotted = h.is_dotted; has_name = type_there n h.name h.is_there }
+  target_full true full (targets.Enum n) h = record { name = h.name; is_dotted = h.is_dotted; has_name = enum_there n h.name h.is_there }
+  target_full false full (targets.Enum n) h = absurd h
 
-    -- an rpc's type
-    method_full : (full : Text) (t : Target) → HasName false full t → HasFull full (elements.Message (message_at (Some (by_scope (enum_places files) t))))
-    method_full full (targets.Message n) h = record { name = h.name; is_dotted = h.is_dotted; has_name = type_there n h.name h.is_there }
-    method_full full (targets.Enum n) h = absurd h
+  -- an rpc's type
+  method_full : (full : Text) (t : Target) → HasName false full t → HasFull full (elements.Message (message_at (Some (by_scope (enum_places files) t))))
+  method_full full (targets.Message n) h = record { name = h.name; is_dotted = h.is_dotted; has_name = type_there n h.name h.is_there }
+  method_full full (targets.Enum n) h = absurd h
 
-    resolves_to : (e : Entry) (scope : List ℕ) (name : tree.TypeName.TypeName) (full : Text) (element : Element) → Resolves (visible_names (outlines files) (path_of e)) (words_of scope) (reference name) full
-        → HasFull full element → ResolvesTo files parts e scope name element
-    resolves_to e scope name full element h k = record {
-      full = k.name;
-      resolves = subst (Resolves (visible_names (outlines files) (path_of e)) (words_of scope) (reference name)) k.is_dotted h;
-      has_name = k.has_name;
-    }
+  resolves_to : (e : Entry) (scope : List ℕ) (name : tree.TypeName.TypeName) (full : Text) (element : Element) → Resolves (visible_names (outlines files) (path_of e)) (words_of scope) (reference name) full
+      → HasFull full element → ResolvesTo files parts e scope name element
+  resolves_to e scope name full element h k = record {
+    full = k.name;
+    resolves = subst (Resolves (visible_names (outlines files) (path_of e)) (words_of scope) (reference name)) k.is_dotted h;
+    has_name = k.has_name;
+  }
 
-    abbrev targets_of : Entry → ℕ → Option Target
-    targets_of e at = option_map (by_scope (enum_places files)) (target_at files e at)
+  abbrev targets_of : Entry → ℕ → Option Target
+  targets_of e at = option_map (by_scope (enum_places files)) (target_at files e at)
 
-    field_resolves : (e : Entry) (scope : List ℕ) (name : tree.TypeName.TypeName) → Here e (in_field (words_of scope) name) → ResolvesTo files parts e scope name (element_of None (targets_of e name.span.from))
-    field_resolves e scope name h =
-        subst (λ (o : Option Target). ResolvesTo files parts e scope name (element_of None (option_map (by_scope (enum_places files)) o))) (sym h.at)
-        (resolves_to e scope name h.full (of_target h.target) h.resolves (target_full true h.full h.target h.has_name))
+  field_resolves : (e : Entry) (scope : List ℕ) (name : tree.TypeName.TypeName) → Here e (in_field (words_of scope) name) → ResolvesTo files parts e scope name (element_of None (targets_of e name.span.from))
+  field_resolves e scope name h =
+      subst (λ (o : Option Target). ResolvesTo files parts e scope name (element_of None (option_map (by_scope (enum_places files)) o))) (sym h.at)
+      (resolves_to e scope name h.full (of_target h.target) h.resolves (target_full true h.full h.target h.has_name))
 
-    pub method_resolves : (e : Entry) (scope : List ℕ) (name : tree.TypeName.TypeName) → Here e (in_rpc (words_of scope) name) → ResolvesTo files parts e scope name (elements.Message (message_at (targets_of e name.span.from)))
-    method_resolves e scope name h =
-        subst (λ (o : Option Target). ResolvesTo files parts e scope name (elements.Message (message_at (option_map (by_scope (enum_places files)) o)))) (sym h.at)
-        (resolves_to e scope name h.full (elements.Message (message_at (Some (by_scope (enum_places files) h.target)))) h.resolves (method_full h.full h.target h.has_name))
+  pub method_resolves : (e : Entry) (scope : List ℕ) (name : tree.TypeName.TypeName) → Here e (in_rpc (words_of scope) name) → ResolvesTo files parts e scope name (elements.Message (message_at (targets_of e name.span.from)))
+  method_resolves e scope name h =
+      subst (λ (o : Option Target). ResolvesTo files parts e scope name (elements.Message (message_at (option_map (by_scope (enum_places files)) o)))) (sym h.at)
+      (resolves_to e scope name h.full (elements.Message (message_at (Some (by_scope (enum_places files) h.target)))) h.resolves (method_full h.full h.target h.has_name))
 
-    -- what is no scalar type here is no scalar word there
-    not_scalar : (b : Bool) (w : Text) (more : List tree.Name.Name) → cond (not b && is_alone more) (scalar_of w) None ≡ None → cond b false (is_scalar_alone w (part_words more)) ≡ false
-    not_scalar true w more h = refl
-    not_scalar false w [] h = ap is_some h
-    not_scalar false w (x ∷ xs) h = refl
+  -- what is no scalar type here is no scalar word there
+  not_scalar : (b : Bool) (w : Text) (more : List tree.Name.Name) → cond (not b && is_alone more) (scalar_of w) None ≡ None → cond b false (is_scalar_alone w (part_words more)) ≡ false
+  not_scalar true w more h = refl
+  not_scalar false w [] h = ap is_some h
+  not_scalar false w (x ∷ xs) h = refl
 
-    -- the element that is made for a type name
-    pub element_named : (e : Entry) (scope : List ℕ) (name : tree.TypeName.TypeName) → AllByRecursion (Here e) (field_uses (words_of scope) name)
-        → IsScalarOr (ResolvesTo files parts e scope name (element_of (scalar_named name) (targets_of e name.span.from))) (scalar_named name) (element_of (scalar_named name) (targets_of e name.span.from))
-    element_named e scope name h = by (scalar_named name) refl
-      where
-        by : (o : Option Scalar) → scalar_named name ≡ o → IsScalarOr (ResolvesTo files parts e scope name (element_of o (targets_of e name.span.from))) o (element_of o (targets_of e name.span.from))
-        by (Some s) is = refl
-        by None is =
-            let none : is_scalar (reference name) ≡ false = not_scalar name.is_full (string_bytes name.path.first.text) name.path.more.items is in
-            field_resolves e scope name (subst (λ b. AllByRecursion (Here e) (cond b [] (in_field (words_of scope) name ∷ []))) none h).0
+  -- the element that is made for a type name
+  pub element_named : (e : Entry) (scope : List ℕ) (name : tree.TypeName.TypeName) → AllByRecursion (Here e) (field_uses (words_of scope) name)
+      → IsScalarOr (ResolvesTo files parts e scope name (element_of (scalar_named name) (targets_of e name.span.from))) (scalar_named name) (element_of (scalar_named name) (targets_of e name.span.from))
+  element_named e scope name h = by (scalar_named name) refl
+    where
+      by : (o : Option Scalar) → scalar_named name ≡ o → IsScalarOr (ResolvesTo files parts e scope name (element_of o (targets_of e name.span.from))) o (element_of o (targets_of e name.span.from))
+      by (Some s) is = refl
+      by None is =
+          let none : is_scalar (reference name) ≡ false = not_scalar name.is_full (string_bytes name.path.first.text) name.path.more.items is in
+          field_resolves e scope name (subst (λ b. AllByRecursion (Here e) (cond b [] (in_field (words_of scope) name ∷ []))) none h).0

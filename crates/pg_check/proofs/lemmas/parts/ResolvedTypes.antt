@@ -17,7 +17,7 @@ use Rattle.pg_schema.specs.declared.parts.service.Service.{Service}
 use Rattle.pg_link.specs.declared.target.Target.{Target}
 use Rattle.pg_link.specs.Files.{visible_names}
 use Rattle.pg_link.specs.Linked.{IsLinkedUp, LinkedFiles}
-use Rattle.pg_link.specs.Targets.{all_declared, enum_names, target_in, use_at}
+use Rattle.pg_link.specs.Targets.{all_declared, file_targets, target_in}
 use Rattle.pg_link.specs.Uses.{Use, file_uses}
 use Rattle.pg_link.specs.Walk.{Entry, IsParsed, outlines, path_of}
 use Rattle.pg_link.proofs.VisibleLaws.{first_among, later_among}
@@ -35,11 +35,9 @@ use Rattle.pg_check.specs.rules.KeepsRules.{source_messages}
 use Rattle.pg_check.specs.rules.Members.{DeclaredField, Mapped, Plain, members}
 use Rattle.pg_check.specs.rules.Outline.{Enum, Message, file_messages, full_name, package_of, scoped_enums, statements_behind}
 use Rattle.pg_check.proofs.lemmas.parts.CountableParts.{countable}
-use Rattle.pg_check.proofs.lemmas.parts.Eachs.{each-append}
+use Rattle.pg_check.proofs.lemmas.parts.Eachs.{each-append, joined_all}
 use Rattle.pg_check.proofs.lemmas.parts.KeptFiles.{enums_are, kept_parts, source_enums}
-use Rattle.pg_check.proofs.lemmas.parts.LinkedParts.{files_resolve}
-use Rattle.pg_check.proofs.lemmas.parts.NamedTypes.{enum_count, scoped_count}
-use Rattle.pg_check.proofs.lemmas.parts.NamedUses.{Here, all_found, element_named, method_resolves}
+use Rattle.pg_check.proofs.lemmas.parts.NamedUses.{Here, IsMet, all_found, element_named, method_resolves}
 use Rattle.pg_check.proofs.lemmas.parts.NumberedNames.{are_numbered}
 use Rattle.pg_check.proofs.lemmas.parts.ResolvedUses.{MemberHolds, MessageHolds, RpcHolds, ServiceHolds, messages_resolved, services_resolved}
 use Rattle.pg_check.proofs.lemmas.parts.UsesRise.{uses_found}
@@ -59,18 +57,39 @@ each_weaker : {A : Type 0} (P Q : A → Type 0) → ((x : A) → P x → Q x) �
 each_weaker P Q f [] h = tt
 each_weaker P Q f (x ∷ xs) h = (f x h.0, each_weaker P Q f xs h.1)
 
-each_joined : {A : Type 0} (P : A → Type 0) (xs ys : List A) → AllByRecursion P xs → AllByRecursion P ys → AllByRecursion P (xs ++ ys)
-each_joined P [] ys h k = k
-each_joined P (x ∷ xs) ys h k = (h.0, each_joined P xs ys h.1 k)
-
 each_among : {A : Type 0} (xs : List A) → AllByRecursion (IsAmong xs) xs
 each_among [] = tt
 each_among (x ∷ xs) = (first_among x xs, each_weaker (IsAmong xs) (IsAmong (x ∷ xs)) (λ y. later_among x xs y) xs (each_among xs))
 
+-- ---- uses that are resolved
+
+abbrev HasTarget : (Use → Option Target) → Use → Type 0
+HasTarget resolve u = (t : Target) × (resolve u ≡ Some t)
+
+uses_resolve : (resolve : Use → Option Target) (ts : List Target) (us : List Use) → map (λ (t : Target). Some t) ts ≡ map resolve us → AllByRecursion (HasTarget resolve) us
+uses_resolve resolve ts [] is = tt
+uses_resolve resolve [] (u ∷ us) is = absurd (cc (is))
+uses_resolve resolve (t ∷ ts) (u ∷ us) is =
+    let one : Some t ≡ resolve u = cc (is) in
+    let others : map (λ (x : Target). Some x) ts ≡ map resolve us = cc (is) in
+    ((t, sym one), uses_resolve resolve ts us others)
+
+abbrev resolve_in : List Entry → Entry → Use → Option Target
+resolve_in files e = target_in (all_declared files) (visible_names (outlines files) (path_of e))
+
+files_resolve : (all files : List Entry) (ts : List (List Target)) → map (map (λ (t : Target). Some t)) ts ≡ map (file_targets all) files
+    → AllByRecursion (λ e. AllByRecursion (HasTarget (resolve_in all e)) (file_uses e.1.tree)) files
+files_resolve all [] ts is = tt
+files_resolve all (e ∷ es) [] is = absurd (cc (is))
+files_resolve all (e ∷ es) (t ∷ ts) is =
+    let one : map (λ (x : Target). Some x) t ≡ file_targets all e = cc (is) in
+    let others : map (map (λ (x : Target). Some x)) ts ≡ map (file_targets all) es = cc (is) in
+    (uses_resolve (resolve_in all e) t (file_uses e.1.tree) one, files_resolve all es ts others)
+
 -- ---- the message types that files declare, as trees
 
 module _ (files : List Entry) where
-  abbrev targets_of : Entry → ℕ → Option Target
+  abbrev pub targets_of : Entry → ℕ → Option Target
   targets_of e = (linked_source files e).targets
 
   -- the tree is made of this message of this file
@@ -129,190 +148,194 @@ module _ (files : List Entry) where
 
   -- ---- what holds of the uses of each file
 
-  module _ (numbers : AreNumbered files) where
-    abbrev IsResolvedFile : Entry → Type 0
-    IsResolvedFile e = IsGoodFile e.1.tree × AllByRecursion (Here files numbers e) (file_uses e.1.tree)
+  module _ (parts : Parts) (met : IsMet files parts) where
+    abbrev pub IsResolvedFile : Entry → Type 0
+    IsResolvedFile e = IsGoodFile e.1.tree × AllByRecursion (Here files parts met e) (file_uses e.1.tree)
 
     files_found : (es : List Entry) → AllByRecursion (λ (e : Entry). IsParsed e.1.bytes.items e.1.tree) es
         → AllByRecursion (λ (e : Entry). AllByRecursion (λ (u : Use). (t : Target) × (target_in (all_declared files) (visible_names (outlines files) (path_of e)) u ≡ Some t)) (file_uses e.1.tree)) es
         → AllByRecursion IsResolvedFile es
     files_found [] parsed resolved = tt
     files_found (e ∷ es) parsed resolved =
-        ((good_file e.1.tree (file_good e.1.bytes.items e.1.tree parsed.0), all_found files numbers e (file_uses e.1.tree) resolved.0 (uses_found e.1.bytes.items e.1.tree parsed.0)), files_found es parsed.1 resolved.1)
+        ((good_file e.1.tree (file_good e.1.bytes.items e.1.tree parsed.0), all_found files parts met e (file_uses e.1.tree) resolved.0 (uses_found e.1.bytes.items e.1.tree parsed.0)), files_found es parsed.1 resolved.1)
 
-    abbrev IsHeld : Entry × Message → Type 0
-    IsHeld x = MessageHolds (Here files numbers x.0) x.1
+    abbrev pub IsHeld : Entry × Message → Type 0
+    IsHeld x = MessageHolds (Here files parts met x.0) x.1
 
-    messages_held : (es : List Entry) → AllByRecursion IsResolvedFile es → AllByRecursion IsHeld (messages_of es)
+    pub messages_held : (es : List Entry) → AllByRecursion IsResolvedFile es → AllByRecursion IsHeld (messages_of es)
     messages_held [] h = tt
     messages_held (e ∷ es) h =
-        each_joined IsHeld (map (λ (m : Message). (e, m)) (file_messages e.1.tree)) (messages_of es)
-        (each_mapped IsHeld (λ (m : Message). (e, m)) (file_messages e.1.tree) (messages_resolved (Here files numbers e) e.1.tree h.0.0 h.0.1)) (messages_held es h.1)
+        joined_all IsHeld (map (λ (m : Message). (e, m)) (file_messages e.1.tree)) (messages_of es)
+        (each_mapped IsHeld (λ (m : Message). (e, m)) (file_messages e.1.tree) (messages_resolved (Here files parts met e) e.1.tree h.0.0 h.0.1)) (messages_held es h.1)
 
     abbrev IsHeldService : Entry × tree.Service.Service → Type 0
-    IsHeldService x = ServiceHolds (Here files numbers x.0) (package_of x.0.1.tree) x.1
+    IsHeldService x = ServiceHolds (Here files parts met x.0) (package_of x.0.1.tree) x.1
 
     services_held : (es : List Entry) → AllByRecursion IsResolvedFile es → AllByRecursion IsHeldService (services_of es)
     services_held [] h = tt
     services_held (e ∷ es) h =
-        each_joined IsHeldService (map (λ (s : tree.Service.Service). (e, s)) (file_services e.1.tree)) (services_of es)
-        (each_mapped IsHeldService (λ (s : tree.Service.Service). (e, s)) (file_services e.1.tree) (services_resolved (Here files numbers e) e.1.tree h.0.0 h.0.1)) (services_held es h.1)
+        joined_all IsHeldService (map (λ (s : tree.Service.Service). (e, s)) (file_services e.1.tree)) (services_of es)
+        (each_mapped IsHeldService (λ (s : tree.Service.Service). (e, s)) (file_services e.1.tree) (services_resolved (Here files parts met e) e.1.tree h.0.0 h.0.1)) (services_held es h.1)
 
     -- ---- what the parts have
 
-    module _ (parts : Parts) (few_types : length parts.types.items ≤ 2 ^ 32) (few_enums : length parts.enums.items ≤ 2 ^ 32)
-        (types_are : map (λ (t : MessageType). string_bytes t.name) parts.types.items ≡ declared_messages files)
-        (enums_are : map (λ (e : EnumType). string_bytes e.name) parts.enums.items ≡ scoped_names files)
-        (as_many : length (scoped_names files) ≡ length (declared_names files)) where
-      member_named : (e : Entry) (full : List ℕ) (m : DeclaredField) → MemberHolds (Here files numbers e) (words_of full) m → IsNamed files parts e full (type_name_of m) (element_in (targets_of e) m)
-      member_named e full (Plain f oneof) h = element_named files numbers parts few_types few_enums types_are enums_are as_many e full f.type_name h
-      member_named e full (Mapped f oneof) h = element_named files numbers parts few_types few_enums types_are enums_are as_many e full f.value h
+    pub member_named : (e : Entry) (full : List ℕ) (m : DeclaredField) → MemberHolds (Here files parts met e) (words_of full) m → IsNamed files parts e full (type_name_of m) (element_in (targets_of e) m)
+    member_named e full (Plain f oneof) h = element_named files parts met e full f.type_name h
+    member_named e full (Mapped f oneof) h = element_named files parts met e full f.value h
 
-      -- one of the fields is made so
-      abbrev IsMade : List Field → MadeField → Type 0
-      IsMade fields made = (f : Field) × IsAmong fields f × (field f ≡ made)
+    -- one of the fields is made so
+    abbrev IsMade : List Field → MadeField → Type 0
+    IsMade fields made = (f : Field) × IsAmong fields f × (field f ≡ made)
 
-      fields_made : (fields : List Field) (made : List MadeField) → IsPermutation made (map field fields) → AllByRecursion (IsMade fields) made
-      fields_made fields made moved =
-          recursion_from_All (IsMade fields) made
-          (All-permutation (IsMade fields) (map field fields) made (IsPermutation-sym made (map field fields) moved)
-          (All-from_recursion (IsMade fields) (map field fields)
-          (each_mapped (IsMade fields) field fields (each_weaker (IsAmong fields) (λ f. IsMade fields (field f)) (λ f there. (f, there, refl)) fields (each_among fields)))))
+    fields_made : (fields : List Field) (made : List MadeField) → IsPermutation made (map field fields) → AllByRecursion (IsMade fields) made
+    fields_made fields made moved =
+        recursion_from_All (IsMade fields) made
+        (All-permutation (IsMade fields) (map field fields) made (IsPermutation-sym made (map field fields) moved)
+        (All-from_recursion (IsMade fields) (map field fields)
+        (each_mapped (IsMade fields) field fields (each_weaker (IsAmong fields) (λ f. IsMade fields (field f)) (λ f there. (f, there, refl)) fields (each_among fields)))))
 
-      members_have : (e : Entry) (full : List ℕ) (fields : List Field) (ms : List DeclaredField) → AllByRecursion (IsMade fields) (map (made_field (targets_of e)) ms)
-          → AllByRecursion (MemberHolds (Here files numbers e) (words_of full)) ms → AllByRecursion (HasField files parts e full fields) ms
-      members_have e full fields [] h k = tt
-      members_have e full fields (m ∷ ms) h k =
-          let same : field h.0.0 ≡ made_field (targets_of e) m = h.0.2 in (
-            record {
-              field = h.0.0;
-              is_there = h.0.1;
-              number = ap (λ (x : MadeField). x.number) same;
-              element = subst (IsNamed files parts e full (type_name_of m)) (sym (ap (λ (x : MadeField). x.element) same)) (member_named e full m k.0);
-            },
-            members_have e full fields ms h.1 k.1,
-          )
-
-      type_resolved : (x : Entry × Message) (w : TypeTree) (t : MessageType) → IsTreeOf x w → IsTypeOf w t → IsHeld x → IsResolvedType files parts x t
-      type_resolved x w t tied typed held =
-          let is : IsTypeOf (type_tree (targets_of x.0) tied.types tied.enums x.1) t = subst (λ v. IsTypeOf v t) tied.is typed in
+    members_have : (e : Entry) (full : List ℕ) (fields : List Field) (ms : List DeclaredField) → AllByRecursion (IsMade fields) (map (made_field (targets_of e)) ms)
+        → AllByRecursion (MemberHolds (Here files parts met e) (words_of full)) ms → AllByRecursion (HasField files parts e full fields) ms
+    members_have e full fields [] h k = tt
+    members_have e full fields (m ∷ ms) h k =
+        let same : field h.0.0 ≡ made_field (targets_of e) m = h.0.2 in (
           record {
-            name = is.name;
-            fields = members_have x.0 x.1.full t.fields.items (members x.1.body) (fields_made t.fields.items (made_fields (targets_of x.0) x.1.body) is.fields.same) held;
-          }
+            field = h.0.0;
+            is_there = h.0.1;
+            number = ap (λ (x : MadeField). x.number) same;
+            element = subst (IsNamed files parts e full (type_name_of m)) (sym (ap (λ (x : MadeField). x.element) same)) (member_named e full m k.0);
+          },
+          members_have e full fields ms h.1 k.1,
+        )
 
-      types_resolved : (xs : List (Entry × Message)) (ws : List TypeTree) (ts : List MessageType) → EachIs IsTreeOf xs ws → EachIs IsTypeOf ws ts → AllByRecursion IsHeld xs → EachIs (IsResolvedType files parts) xs ts
-      types_resolved [] [] [] tied typed held = tt
-      types_resolved [] [] (t ∷ ts) tied typed held = absurd typed
-      types_resolved [] (w ∷ ws) ts tied typed held = absurd tied
-      types_resolved (x ∷ xs) [] ts tied typed held = absurd tied
-      types_resolved (x ∷ xs) (w ∷ ws) [] tied typed held = absurd typed
-      types_resolved (x ∷ xs) (w ∷ ws) (t ∷ ts) tied typed held = (type_resolved x w t tied.0 typed.0 held.0, types_resolved xs ws ts tied.1 typed.1 held.1)
+    type_resolved : (x : Entry × Message) (w : TypeTree) (t : MessageType) → IsTreeOf x w → IsTypeOf w t → IsHeld x → IsResolvedType files parts x t
+    type_resolved x w t tied typed held =
+        let is : IsTypeOf (type_tree (targets_of x.0) tied.types tied.enums x.1) t = subst (λ v. IsTypeOf v t) tied.is typed in
+        record {
+          name = is.name;
+          fields = members_have x.0 x.1.full t.fields.items (members x.1.body) (fields_made t.fields.items (made_fields (targets_of x.0) x.1.body) is.fields.same) held;
+        }
 
-      -- services
+    types_resolved : (xs : List (Entry × Message)) (ws : List TypeTree) (ts : List MessageType) → EachIs IsTreeOf xs ws → EachIs IsTypeOf ws ts → AllByRecursion IsHeld xs → EachIs (IsResolvedType files parts) xs ts
+    types_resolved [] [] [] tied typed held = tt
+    types_resolved [] [] (t ∷ ts) tied typed held = absurd typed
+    types_resolved [] (w ∷ ws) ts tied typed held = absurd tied
+    types_resolved (x ∷ xs) [] ts tied typed held = absurd tied
+    types_resolved (x ∷ xs) (w ∷ ws) [] tied typed held = absurd typed
+    types_resolved (x ∷ xs) (w ∷ ws) (t ∷ ts) tied typed held = (type_resolved x w t tied.0 typed.0 held.0, types_resolved xs ws ts tied.1 typed.1 held.1)
 
-      methods_resolved : (e : Entry) (full : List ℕ) (rs : List tree.Rpc.Rpc) (ms : List Method) → map method ms ≡ map (made_method (targets_of e)) rs
-          → AllByRecursion (RpcHolds (Here files numbers e) (words_of full)) rs → EachIs (IsResolvedMethod files parts e full) rs ms
-      methods_resolved e full [] [] is held = tt
-      methods_resolved e full [] (m ∷ ms) is held = absurd (cc (is))
-      methods_resolved e full (r ∷ rs) [] is held = absurd (cc (is))
-      methods_resolved e full (r ∷ rs) (m ∷ ms) is held =
-          let one : method m ≡ made_method (targets_of e) r = cc (is) in
-          let others : map method ms ≡ map (made_method (targets_of e)) rs = cc (is) in (
-            record {
-              name = ap (λ (x : MadeMethod). x.name) one;
-              input = subst (λ (id : TypeId). ResolvesTo files parts e full r.input.type_name (elements.Message id)) (sym (ap (λ (x : MadeMethod). x.input) one))
-                  (method_resolves files numbers parts few_types few_enums types_are enums_are as_many e full r.input.type_name held.0.0);
-              output = subst (λ (id : TypeId). ResolvesTo files parts e full r.output.type_name (elements.Message id)) (sym (ap (λ (x : MadeMethod). x.output) one))
-                  (method_resolves files numbers parts few_types few_enums types_are enums_are as_many e full r.output.type_name held.0.1);
-            },
-            methods_resolved e full rs ms others held.1,
-          )
+    -- services
 
-      rpcs_are : (targets : ℕ → Option Target) (ps : List tree.ServicePart.ServicePart) → made_methods targets ps ≡ map (made_method targets) (flat_map rpc_in ps)
-      rpcs_are targets [] = refl
-      rpcs_are targets (service_parts.Empty span ∷ ps) = rpcs_are targets ps
-      rpcs_are targets (service_parts.Option o ∷ ps) = rpcs_are targets ps
-      rpcs_are targets (service_parts.Rpc r ∷ ps) = ap (λ ms. made_method targets r ∷ ms) (rpcs_are targets ps)
-
-      -- the service is made of this one of this file
-      abbrev IsMadeOf : Entry × tree.Service.Service → MadeService → Type 0
-      IsMadeOf x made = made ≡ made_service (targets_of x.0) (package_of x.0.1.tree) x.1
-
-      service_resolved : (x : Entry × tree.Service.Service) (made : MadeService) (s : Service) → IsMadeOf x made → service s ≡ made → IsHeldService x → IsResolvedService files parts x s
-      service_resolved x made s tied is held =
-          let same : service s ≡ made_service (targets_of x.0) (package_of x.0.1.tree) x.1 = is ∙ tied in
-          let name : string_bytes s.name ≡ full_name (package_of x.0.1.tree) x.1.name = ap (λ (y : MadeService). y.name) same in
-          let full = full_name (package_of x.0.1.tree) x.1.name in
-          let methods : map method s.methods.items ≡ map (made_method (targets_of x.0)) (flat_map rpc_in x.1.parts.items) = ap (λ (y : MadeService). y.methods) same ∙ rpcs_are (targets_of x.0) x.1.parts.items in
+    methods_resolved : (e : Entry) (full : List ℕ) (rs : List tree.Rpc.Rpc) (ms : List Method) → map method ms ≡ map (made_method (targets_of e)) rs
+        → AllByRecursion (RpcHolds (Here files parts met e) (words_of full)) rs → EachIs (IsResolvedMethod files parts e full) rs ms
+    methods_resolved e full [] [] is held = tt
+    methods_resolved e full [] (m ∷ ms) is held = absurd (cc (is))
+    methods_resolved e full (r ∷ rs) [] is held = absurd (cc (is))
+    methods_resolved e full (r ∷ rs) (m ∷ ms) is held =
+        let one : method m ≡ made_method (targets_of e) r = cc (is) in
+        let others : map method ms ≡ map (made_method (targets_of e)) rs = cc (is) in (
           record {
-            name = name;
-            methods = subst (λ (n : List ℕ). EachIs (IsResolvedMethod files parts x.0 n) (flat_map rpc_in x.1.parts.items) s.methods.items) (sym name)
-                (methods_resolved x.0 full (flat_map rpc_in x.1.parts.items) s.methods.items methods held);
-          }
+            name = ap (λ (x : MadeMethod). x.name) one;
+            input = subst (λ (id : TypeId). ResolvesTo files parts e full r.input.type_name (elements.Message id)) (sym (ap (λ (x : MadeMethod). x.input) one))
+                (method_resolves files parts met e full r.input.type_name held.0.0);
+            output = subst (λ (id : TypeId). ResolvesTo files parts e full r.output.type_name (elements.Message id)) (sym (ap (λ (x : MadeMethod). x.output) one))
+                (method_resolves files parts met e full r.output.type_name held.0.1);
+          },
+          methods_resolved e full rs ms others held.1,
+        )
 
-      services_resolved_all : (xs : List (Entry × tree.Service.Service)) (made : List MadeService) (ss : List Service) → EachIs IsMadeOf xs made → map service ss ≡ made → AllByRecursion IsHeldService xs
-          → EachIs (IsResolvedService files parts) xs ss
-      services_resolved_all [] [] [] tied is held = tt
-      services_resolved_all [] [] (s ∷ ss) tied is held = absurd (cc (is))
-      services_resolved_all [] (m ∷ ms) ss tied is held = absurd tied
-      services_resolved_all (x ∷ xs) [] ss tied is held = absurd tied
-      services_resolved_all (x ∷ xs) (m ∷ ms) [] tied is held = absurd (cc (is))
-      services_resolved_all (x ∷ xs) (m ∷ ms) (s ∷ ss) tied is held =
-          let one : service s ≡ m = cc (is) in
-          let others : map service ss ≡ ms = cc (is) in
-          (service_resolved x m s tied.0 one held.0, services_resolved_all xs ms ss tied.1 others held.1)
+    rpcs_are : (targets : ℕ → Option Target) (ps : List tree.ServicePart.ServicePart) → made_methods targets ps ≡ map (made_method targets) (flat_map rpc_in ps)
+    rpcs_are targets [] = refl
+    rpcs_are targets (service_parts.Empty span ∷ ps) = rpcs_are targets ps
+    rpcs_are targets (service_parts.Option o ∷ ps) = rpcs_are targets ps
+    rpcs_are targets (service_parts.Rpc r ∷ ps) = ap (λ ms. made_method targets r ∷ ms) (rpcs_are targets ps)
 
-      own_services : (e : Entry) (ss : List tree.Statement.Statement)
-          → EachIs IsMadeOf (map (λ (s : tree.Service.Service). (e, s)) (flat_map service_in ss)) (made_services (targets_of e) (package_of e.1.tree) ss)
-      own_services e [] = tt
-      own_services e (statements.Empty span ∷ ss) = own_services e ss
-      own_services e (statements.Import i ∷ ss) = own_services e ss
-      own_services e (statements.Option o ∷ ss) = own_services e ss
-      own_services e (statements.Message m ∷ ss) = own_services e ss
-      own_services e (statements.Enum d ∷ ss) = own_services e ss
-      own_services e (statements.Service s ∷ ss) = (refl, own_services e ss)
+    -- the service is made of this one of this file
+    abbrev IsMadeOf : Entry × tree.Service.Service → MadeService → Type 0
+    IsMadeOf x made = made ≡ made_service (targets_of x.0) (package_of x.0.1.tree) x.1
 
-      services_are : (d : Declared) (front : List (Entry × tree.Service.Service)) (es : List Entry) → EachIs IsMadeOf front d.services → EachIs IsMadeOf (front ++ services_of es) (with_files d (map (linked_source files) es)).services
-      services_are d front [] h = subst (λ xs. EachIs IsMadeOf xs d.services) (sym (append-nil front)) h
-      services_are d front (e ∷ es) h =
-          let s : Source = linked_source files e in
-          let pair : tree.Service.Service → Entry × tree.Service.Service = λ (x : tree.Service.Service). (e, x) in
-          let first = flat_map service_in e.1.tree.statements.items in
-          let last = flat_map service_in (statements_behind e.1.tree.packaged) in
-          let own : List (Entry × tree.Service.Service) = map pair (file_services e.1.tree) in
-          let both : EachIs IsMadeOf (map pair first ++ map pair last) (made_file_services s) =
-          each-append IsMadeOf (map pair first) (made_services (targets_of e) (package_of e.1.tree) e.1.tree.statements.items) (map pair last) (made_services (targets_of e) (package_of e.1.tree) (statements_behind e.1.tree.packaged))
-          (own_services e e.1.tree.statements.items) (own_services e (statements_behind e.1.tree.packaged)) in
-          let here : EachIs IsMadeOf own (made_file_services s) = subst (λ xs. EachIs IsMadeOf xs (made_file_services s)) (sym (map-append pair first last)) both in
-          let next : EachIs IsMadeOf (front ++ own) (with_file d s).services = each-append IsMadeOf front d.services own (made_file_services s) h here in
-          subst (λ xs. EachIs IsMadeOf xs (with_files (with_file d s) (map (linked_source files) es)).services) (append_assoc front own (services_of es)) (services_are (with_file d s) (front ++ own) es next)
+    service_resolved : (x : Entry × tree.Service.Service) (made : MadeService) (s : Service) → IsMadeOf x made → service s ≡ made → IsHeldService x → IsResolvedService files parts x s
+    service_resolved x made s tied is held =
+        let same : service s ≡ made_service (targets_of x.0) (package_of x.0.1.tree) x.1 = is ∙ tied in
+        let name : string_bytes s.name ≡ full_name (package_of x.0.1.tree) x.1.name = ap (λ (y : MadeService). y.name) same in
+        let full = full_name (package_of x.0.1.tree) x.1.name in
+        let methods : map method s.methods.items ≡ map (made_method (targets_of x.0)) (flat_map rpc_in x.1.parts.items) = ap (λ (y : MadeService). y.methods) same ∙ rpcs_are (targets_of x.0) x.1.parts.items in
+        record {
+          name = name;
+          methods = subst (λ (n : List ℕ). EachIs (IsResolvedMethod files parts x.0 n) (flat_map rpc_in x.1.parts.items) s.methods.items) (sym name)
+              (methods_resolved x.0 full (flat_map rpc_in x.1.parts.items) s.methods.items methods held);
+        }
+
+    services_resolved_all : (xs : List (Entry × tree.Service.Service)) (made : List MadeService) (ss : List Service) → EachIs IsMadeOf xs made → map service ss ≡ made → AllByRecursion IsHeldService xs
+        → EachIs (IsResolvedService files parts) xs ss
+    services_resolved_all [] [] [] tied is held = tt
+    services_resolved_all [] [] (s ∷ ss) tied is held = absurd (cc (is))
+    services_resolved_all [] (m ∷ ms) ss tied is held = absurd tied
+    services_resolved_all (x ∷ xs) [] ss tied is held = absurd tied
+    services_resolved_all (x ∷ xs) (m ∷ ms) [] tied is held = absurd (cc (is))
+    services_resolved_all (x ∷ xs) (m ∷ ms) (s ∷ ss) tied is held =
+        let one : service s ≡ m = cc (is) in
+        let others : map service ss ≡ ms = cc (is) in
+        (service_resolved x m s tied.0 one held.0, services_resolved_all xs ms ss tied.1 others held.1)
+
+    own_services : (e : Entry) (ss : List tree.Statement.Statement)
+        → EachIs IsMadeOf (map (λ (s : tree.Service.Service). (e, s)) (flat_map service_in ss)) (made_services (targets_of e) (package_of e.1.tree) ss)
+    own_services e [] = tt
+    own_services e (statements.Empty span ∷ ss) = own_services e ss
+    own_services e (statements.Import i ∷ ss) = own_services e ss
+    own_services e (statements.Option o ∷ ss) = own_services e ss
+    own_services e (statements.Message m ∷ ss) = own_services e ss
+    own_services e (statements.Enum d ∷ ss) = own_services e ss
+    own_services e (statements.Service s ∷ ss) = (refl, own_services e ss)
+
+    services_are : (d : Declared) (front : List (Entry × tree.Service.Service)) (es : List Entry) → EachIs IsMadeOf front d.services → EachIs IsMadeOf (front ++ services_of es) (with_files d (map (linked_source files) es)).services
+    services_are d front [] h = subst (λ xs. EachIs IsMadeOf xs d.services) (sym (append-nil front)) h
+    services_are d front (e ∷ es) h =
+        let s : Source = linked_source files e in
+        let pair : tree.Service.Service → Entry × tree.Service.Service = λ (x : tree.Service.Service). (e, x) in
+        let first = flat_map service_in e.1.tree.statements.items in
+        let last = flat_map service_in (statements_behind e.1.tree.packaged) in
+        let own : List (Entry × tree.Service.Service) = map pair (file_services e.1.tree) in
+        let both : EachIs IsMadeOf (map pair first ++ map pair last) (made_file_services s) =
+        each-append IsMadeOf (map pair first) (made_services (targets_of e) (package_of e.1.tree) e.1.tree.statements.items) (map pair last) (made_services (targets_of e) (package_of e.1.tree) (statements_behind e.1.tree.packaged))
+        (own_services e e.1.tree.statements.items) (own_services e (statements_behind e.1.tree.packaged)) in
+        let here : EachIs IsMadeOf own (made_file_services s) = subst (λ xs. EachIs IsMadeOf xs (made_file_services s)) (sym (map-append pair first last)) both in
+        let next : EachIs IsMadeOf (front ++ own) (with_file d s).services = each-append IsMadeOf front d.services own (made_file_services s) h here in
+        subst (λ xs. EachIs IsMadeOf xs (with_files (with_file d s) (map (linked_source files) es)).services) (append_assoc front own (services_of es)) (services_are (with_file d s) (front ++ own) es next)
 
 -- ---- the law
+
+-- linked files, and the trees of their message types
+pub linked_trees : (l : LinkedFiles) → EachIs (IsTreeOf l.files) (messages_of l.files) (with_files nothing (linked_sources l.files)).types
+linked_trees l = trees_are l.files nothing [] l.files tt
+
+pub linked_meet : (l : LinkedFiles) (parts : Parts) → IsLinkedUp l → Declares (linked_sources l.files) parts → IsMet l.files parts
+linked_meet l parts up h =
+    let files = l.files in
+    let sources = linked_sources files in
+    let few = countable l parts up h.has_parts in
+    let at_most = (kept_parts sources parts h).few_types in
+    record {
+      numbers = are_numbered l up;
+      few_types = omega (arith, at_most);
+      few_enums = few.enums;
+      types_are = types_named files (messages_of files) (with_files nothing sources).types parts.types.items (linked_trees l) h.has_parts.types ∙ fulls_are files files;
+      enums_are = enums_named files parts.enums.items (flat_map source_enums sources) (h.has_parts.enums ∙ enums_are nothing sources) ∙ scoped_are files files;
+    }
+
+pub linked_found : (l : LinkedFiles) (parts : Parts) (met : IsMet l.files parts) → IsLinkedUp l → AllByRecursion (IsResolvedFile l.files parts met) l.files
+linked_found l parts met up =
+    files_found l.files parts met l.files (recursion_from_All (λ (e : Entry). IsParsed e.1.bytes.items e.1.tree) l.files up.parsed) (files_resolve l.files l.files l.targets up.resolved)
 
 pub resolved_types : (l : LinkedFiles) (parts : Parts) → IsLinkedUp l → Declares (linked_sources l.files) parts → AreResolved l.files parts
 resolved_types l parts up h =
     let files = l.files in
-    let sources = linked_sources files in
-    let d = with_files nothing sources in
-    let numbers : AreNumbered files = are_numbered l up in
-    let parsed : AllByRecursion (λ (e : Entry). IsParsed e.1.bytes.items e.1.tree) files = recursion_from_All (λ (e : Entry). IsParsed e.1.bytes.items e.1.tree) files up.parsed in
-    let found = files_found files numbers files parsed (files_resolve files files l.targets up.resolved) in
-    let few = countable l parts up h.has_parts in
-    let few_enums = few.enums in
-    let at_most = (kept_parts sources parts h).few_types in
-    let few_types : length parts.types.items ≤ 2 ^ 32 = omega (arith, at_most) in
-    let trees : EachIs (IsTreeOf files) (messages_of files) d.types = trees_are files nothing [] files tt in
-    let names : map (λ (t : MessageType). string_bytes t.name) parts.types.items ≡ declared_messages files =
-    types_named files (messages_of files) d.types parts.types.items trees h.has_parts.types ∙ fulls_are files files in
-    let enum_names_are : map (λ (e : EnumType). string_bytes e.name) parts.enums.items ≡ scoped_names files =
-    enums_named files parts.enums.items (flat_map source_enums sources) (h.has_parts.enums ∙ enums_are nothing sources) ∙ scoped_are files files in
-    let stated : length (enum_names (all_declared files)) ≡ length (declared_names files) = ap length numbers.enums ∙ length-map (declared_names files) (λ (name : List ℕ). 46 ∷ name) in
-    let as_many : length (scoped_names files) ≡ length (declared_names files) = scoped_count files files ∙ (sym (enum_count files) ∙ stated) in
+    let d = with_files nothing (linked_sources files) in
+    let met : IsMet files parts = linked_meet l parts up h in
+    let found = linked_found l parts met up in
     record {
-      types = types_resolved files numbers parts few_types few_enums names enum_names_are as_many (messages_of files) d.types parts.types.items trees h.has_parts.types (messages_held files numbers files found);
-      services = services_resolved_all files numbers parts few_types few_enums names enum_names_are as_many (services_of files) d.services parts.services.items
-          (services_are files numbers parts few_types few_enums names enum_names_are as_many nothing [] files tt) h.has_parts.services (services_held files numbers files found);
+      types = types_resolved files parts met (messages_of files) d.types parts.types.items (linked_trees l) h.has_parts.types (messages_held files parts met files found);
+      services = services_resolved_all files parts met (services_of files) d.services parts.services.items (services_are files parts met nothing [] files tt) h.has_parts.services (services_held files parts met files found);
     }
 
 -- what a type name resolves to in a scope of a file is one full name
