@@ -15,8 +15,10 @@ use Rattle.pg_schema.specs.declared.parts.Parts.{Parts}
 use Rattle.pg_schema.specs.declared.parts.service.Method.{Method}
 use Rattle.pg_schema.specs.declared.parts.service.Service.{Service}
 use Rattle.pg_link.specs.declared.target.Target.{Target}
+use Rattle.pg_link.specs.declared.names.Kind.{Kind}
 use Rattle.pg_link.specs.Files.{visible_names}
 use Rattle.pg_link.specs.Linked.{IsLinkedUp, LinkedFiles}
+use Rattle.pg_link.specs.Names.{Text}
 use Rattle.pg_link.specs.Targets.{all_declared, file_targets, target_in}
 use Rattle.pg_link.specs.Uses.{Use, file_uses}
 use Rattle.pg_link.specs.Walk.{Entry, IsParsed, outlines, path_of}
@@ -338,11 +340,18 @@ resolved_types l parts up h =
       services = services_resolved_all files parts met (services_of files) d.services parts.services.items (services_are files parts met nothing [] files tt) h.has_parts.services (services_held files parts met files found);
     }
 
+abbrev after_dot : List ℕ → List ℕ
+after_dot [] = []
+after_dot (byte ∷ bytes) = bytes
+
+-- the full name that is found, without its dot
+abbrev name_found : Option (Text × Kind) → List ℕ
+name_found None = []
+name_found (Some f) = after_dot f.0
+
 -- what a type name resolves to in a scope of a file is one full name
 pub resolved_alone : (files : List Entry) (parts : Parts) (file : Entry) (scope : List ℕ) (name : tree.TypeName.TypeName) (one other : Element)
     → ResolvesTo files parts file scope name one → ResolvesTo files parts file scope name other → full_name_of parts one ≡ full_name_of parts other
 resolved_alone files parts file scope name one other h k =
-    let first = h.resolves.is_found in
-    let second = k.resolves.is_found in
-    let same : h.full ≡ k.full = cc (first, second) in
+    let same : h.full ≡ k.full = ap name_found (sym h.resolves.is_found ∙ k.resolves.is_found) in
     h.has_name ∙ (ap (λ n. Some n) same ∙ sym k.has_name)
