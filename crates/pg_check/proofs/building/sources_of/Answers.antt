@@ -1,8 +1,7 @@
 use Rattle.std.proofs.Common.{◌≡◌, ◌∙◌, ℕ, List, Some, slice_get, option_map, sym, ap, refl}
-use Rattle.pg_link.specs.declared.target.Target.{Target}
 use Rattle.pg_link.specs.Files.{visible_names}
-use Rattle.pg_link.specs.Targets.{Resolution, all_declared, target_at, target_in}
-use Rattle.pg_link.specs.Uses.{Use, file_uses}
+use Rattle.pg_link.specs.Targets.{Resolution, all_declared, target_in}
+use Rattle.pg_link.specs.Uses.{file_uses}
 use Rattle.pg_link.specs.Walk.{Entry, outlines, path_of}
 use Rattle.pg_check.specs.parts.EnumPlaces.{by_scope, enum_places}
 use Rattle.pg_schema.specs.rules.Pairs.{is_rising}

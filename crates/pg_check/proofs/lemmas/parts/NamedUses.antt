@@ -1,5 +1,5 @@
 -- What a type name of linked files resolves to is what the parts have under its number.
-use Rattle.std.proofs.Common.{◌≡◌, ◌∙◌, ℕ, zero, suc, ◌+◌, ◌^◌, ◌<◌, ◌≤◌, Bool, true, false, cond, not, ◌&&◌, is_some, List, [], ◌∷◌, ◌++◌, length, map, flat_map, get_or, slice_get, Option, Some, None, option_map, string_bytes, sym, ap, subst, refl, arith, length-append}
+use Rattle.std.proofs.Common.{◌≡◌, ◌∙◌, ℕ, zero, suc, ◌+◌, ◌^◌, ◌<◌, ◌≤◌, Bool, true, false, cond, not, ◌&&◌, is_some, List, [], ◌∷◌, ◌++◌, length, map, get_or, slice_get, Option, Some, None, option_map, string_bytes, sym, ap, subst, refl, arith, length-append}
 use Rattle.std.specs.List.{AllByRecursion, position_from}
 use Rattle.std.specs.Option.{option_and_then, unwrap_or}
 use Rattle.std.specs.Str.{bytes_eq}
@@ -28,7 +28,6 @@ use Rattle.pg_check.specs.parts.MadeFields.{element_of}
 use Rattle.pg_check.specs.parts.MadeNumbers.{index_of}
 use Rattle.pg_check.specs.parts.MadeServices.{message_at}
 use Rattle.pg_check.specs.parts.ResolvedTypes.{IsScalarOr, ResolvesTo, full_name_of, words_of}
-use Rattle.pg_check.specs.parts.Sources.{linked_source}
 use Rattle.pg_check.specs.rules.Options.{is_alone}
 use Rattle.pg_check.specs.rules.Outline.{file_enums, scoped_enums}
 use Rattle.pg_check.specs.rules.Types.{scalar_named}

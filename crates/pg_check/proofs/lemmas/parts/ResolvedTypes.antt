@@ -1,8 +1,8 @@
 -- In the parts of linked files each type name names what it resolves to.
-use Rattle.std.proofs.Common.{◌≡◌, ◌∙◌, ℕ, ◌+◌, ◌^◌, ◌≤◌, List, [], ◌∷◌, ◌++◌, length, map, flat_map, Option, Some, None, string_bytes, sym, ap, ap₂, subst, refl, arith, append_assoc}
+use Rattle.std.proofs.Common.{◌≡◌, ◌∙◌, ℕ, List, [], ◌∷◌, ◌++◌, length, map, flat_map, Option, Some, None, string_bytes, sym, ap, ap₂, subst, refl, arith, append_assoc}
 use Rattle.std.specs.List.{AllByRecursion, IsAmong}
 use Rattle.std.specs.List.Sorted.{IsPermutation}
-use Rattle.std.proofs.lemmas.List.{append-nil, length-map, map-append}
+use Rattle.std.proofs.lemmas.List.{append-nil, map-append}
 use Rattle.std.proofs.lemmas.List.Elements.{All-from_recursion, recursion_from_All}
 use Rattle.std.proofs.lemmas.List.Sorted.{All-permutation, IsPermutation-sym}
 use Rattle.pg_schema.specs.declared.parts.enum_type.EnumType.{EnumType}
@@ -25,15 +25,14 @@ use Rattle.pg_link.specs.Walk.{Entry, IsParsed, outlines, path_of}
 use Rattle.pg_link.proofs.VisibleLaws.{first_among, later_among}
 use Rattle.pg_check.specs.Declares.{Declares}
 use Rattle.pg_check.specs.parts.ByScope.{Placed}
-use Rattle.pg_check.specs.parts.EnumPlaces.{AreNumbered, declared_messages, declared_names, enum_full, message_full, scoped_names}
+use Rattle.pg_check.specs.parts.EnumPlaces.{declared_messages, enum_full, message_full, scoped_names}
 use Rattle.pg_check.specs.parts.MadeEnums.{MadeEnum, enumeration, made_enum}
-use Rattle.pg_check.specs.parts.MadeFields.{MadeField, element_in, field, made_field, made_number}
+use Rattle.pg_check.specs.parts.MadeFields.{MadeField, element_in, field, made_field}
 use Rattle.pg_check.specs.parts.MadeMessages.{made_fields}
 use Rattle.pg_check.specs.parts.MadeParts.{Declared, EachIs, IsTypeOf, Source, TypeTree, file_services as made_file_services, nothing, placed_enums, placed_messages, type_tree, type_trees, with_file, with_files}
-use Rattle.pg_check.specs.parts.MadeServices.{MadeMethod, MadeService, made_method, made_methods, made_service, made_services, method, method_in, service}
+use Rattle.pg_check.specs.parts.MadeServices.{MadeMethod, MadeService, made_method, made_methods, made_service, made_services, method, service}
 use Rattle.pg_check.specs.parts.ResolvedTypes.{AreResolved, HasField, IsNamed, IsResolvedMethod, IsResolvedService, IsResolvedType, ResolvesTo, file_services, full_name_of, messages_of, rpc_in, service_in, services_of, type_name_of, words_of}
 use Rattle.pg_check.specs.parts.Sources.{linked_source, linked_sources}
-use Rattle.pg_check.specs.rules.KeepsRules.{source_messages}
 use Rattle.pg_check.specs.rules.Members.{DeclaredField, Mapped, Plain, members}
 use Rattle.pg_check.specs.rules.Outline.{Enum, Message, file_messages, full_name, package_of, scoped_enums, statements_behind}
 use Rattle.pg_check.proofs.lemmas.parts.CountableParts.{countable}

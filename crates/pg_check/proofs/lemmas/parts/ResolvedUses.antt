@@ -1,5 +1,5 @@
 -- What holds of each type name that a file uses holds of the type names of its messages and services.
-use Rattle.std.proofs.Common.{◌≡◌, ◌∙◌, ℕ, ◌+◌, List, [], ◌∷◌, ◌++◌, flat_map, string_bytes, sym, ap, subst, refl}
+use Rattle.std.proofs.Common.{◌≡◌, ℕ, ◌+◌, List, [], ◌∷◌, ◌++◌, flat_map, string_bytes, sym, ap, subst, refl}
 use Rattle.std.specs.List.{AllByRecursion}
 use Rattle.pg_link.specs.Names.{Text}
 use Rattle.pg_link.specs.Uses.{Use, field_uses, file_scope, file_uses, in_rpc, map_uses, oneof_part_uses, part_uses, row_uses, service_part_uses, statement_uses}
