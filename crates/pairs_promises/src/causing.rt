@@ -8,45 +8,36 @@ ghost use Rattle.pg_pairs.specs.Among.{IsAmong};
 ghost use Rattle.pg_pairs.specs.Carried.{carried};
 ghost use Rattle.pg_pairs.specs.Causes as own;
 ghost use Rattle.pg_pairs.specs.Laws.{ReachedBy};
-ghost use Rattle.pg_pairs.specs.SeenBy.{seen_by};
+ghost use Rattle.pg_pairs.specs.GraphView.{seen};
 
 use pg_dyn::Message;
-use pg_pairs::{Choice, Pair, View};
-use pg_schema::Schema;
+use pg_pairs::{Choice, Pair, Priced};
 use std::alloc::{AllocError, Global};
 
 /// What `causes` answers.
-pub fn causes<V: View>(
-    alloc: Global,
-    view: &V,
-    old: &Schema,
-    new: &Schema,
-    pair: Pair,
-) -> Result<Vec<Choice>, AllocError>
-    ensures { IfOk result (λ cs. cs.items ≡ own.causes (seen_by V.View view.now old.now new.now)
-        (shape_of old.now) (shape_of new.now) pair) }
+pub fn causes(alloc: Global, graph: &Priced<'_>, pair: Pair) -> Result<Vec<Choice>, AllocError>
+    ensures { IfOk result (λ cs. cs.items ≡ own.causes (seen graph.now)
+        (shape_of graph.now.old.now) (shape_of graph.now.new.now) pair) }
 {
-    pg_pairs::causes(alloc, view, old, new, pair)
+    pg_pairs::causes(alloc, graph, pair)
 }
 
 /// What `carry_cause` answers.
-pub fn carry_cause<V: View>(
+pub fn carry_cause(
     alloc: Global,
-    view: &V,
-    old: &Schema,
-    new: &Schema,
+    graph: &Priced<'_>,
     pair: Pair,
     cause: &Choice,
 ) -> Result<Message, AllocError>
-    requires { IsAmong cause.now (own.causes (seen_by V.View view.now old.now new.now)
-        (shape_of old.now) (shape_of new.now) pair) }
-    ensures fits { IfOk result (λ m. Fits (shape_of old.now) m) }
+    requires { IsAmong cause.now (own.causes (seen graph.now)
+        (shape_of graph.now.old.now) (shape_of graph.now.new.now) pair) }
+    ensures fits { IfOk result (λ m. Fits (shape_of graph.now.old.now) m) }
     ensures type_is { IfOk result (λ m. type_of m ≡ pair.old) }
     ensures made { IfOk result (λ m. message_of m
-        ≡ carried (seen_by V.View view.now old.now new.now) (shape_of old.now)
-        (shape_of new.now) pair cause.now None) }
-    ensures reached { IfOk result (λ m. ReachedBy (seen_by V.View view.now old.now new.now)
-        (shape_of old.now) (shape_of new.now) pair (message_of m) cause.now.cost) }
+        ≡ carried (seen graph.now) (shape_of graph.now.old.now)
+        (shape_of graph.now.new.now) pair cause.now None) }
+    ensures reached { IfOk result (λ m. ReachedBy (seen graph.now) (shape_of graph.now.old.now)
+        (shape_of graph.now.new.now) pair (message_of m) cause.now.cost) }
 {
-    pg_pairs::carry_cause(alloc, view, old, new, pair, cause)
+    pg_pairs::carry_cause(alloc, graph, pair, cause)
 }

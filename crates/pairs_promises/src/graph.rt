@@ -6,10 +6,10 @@ ghost use Rattle.pg_schema.specs.Parts.{shape_of};
 ghost use Rattle.pg_pairs.specs.Among.{IsAmong};
 ghost use Rattle.pg_pairs.specs.Covering as covering;
 ghost use Rattle.pg_pairs.specs.Edges as prices;
+ghost use Rattle.pg_pairs.specs.GraphView.{seen};
 ghost use Rattle.pg_pairs.specs.LeastCosts.{least_cost};
 ghost use Rattle.pg_pairs.specs.Reached.{IsReachedFrom, IsReachedInOrder};
 ghost use Rattle.pg_pairs.specs.Seen.{AreClosed};
-ghost use Rattle.pg_pairs.specs.SeenBy.{seen_by};
 ghost use Rattle.pg_pairs.specs.Works.{opened_more, relaxed_more};
 
 use pg_pairs::{Edge, Pair, Priced, Prices, View, Work};
@@ -17,8 +17,8 @@ use pg_schema::Schema;
 use std::alloc::{AllocError, Global};
 
 /// The graph of two schemas under a view.
-pub fn priced<'a, V: View>(view: &'a V, old: &'a Schema, new: &'a Schema) -> Priced<'a, V>
-    ensures view { result.view.now ≡ view.now }
+pub fn priced<'a, V: View>(view: &V, old: &'a Schema, new: &'a Schema) -> Priced<'a>
+    ensures view { result.view ≡ V.name_of view.now }
     ensures old { result.old.now ≡ old.now }
     ensures new { result.new.now ≡ new.now }
 {
@@ -26,7 +26,7 @@ pub fn priced<'a, V: View>(view: &'a V, old: &'a Schema, new: &'a Schema) -> Pri
 }
 
 /// Whether it knows the pair.
-pub fn knows<V: View>(graph: &Priced<'_, V>, pair: Pair) -> bool
+pub fn knows(graph: &Priced<'_>, pair: Pair) -> bool
     ensures { result ≡ prices.is_pair (shape_of graph.now.old.now)
         (shape_of graph.now.new.now) pair }
 {
@@ -34,11 +34,7 @@ pub fn knows<V: View>(graph: &Priced<'_, V>, pair: Pair) -> bool
 }
 
 /// The children of the pair.
-pub fn children<V: View>(
-    alloc: Global,
-    graph: &Priced<'_, V>,
-    pair: Pair,
-) -> Result<Vec<Pair>, AllocError>
+pub fn children(alloc: Global, graph: &Priced<'_>, pair: Pair) -> Result<Vec<Pair>, AllocError>
     requires { prices.is_pair (shape_of graph.now.old.now) (shape_of graph.now.new.now) pair
         ≡ true }
     ensures { IfOk result (λ pairs. pairs.items
@@ -48,11 +44,7 @@ pub fn children<V: View>(
 }
 
 /// The edges of the pair.
-pub fn edges<V: View>(
-    alloc: Global,
-    graph: &Priced<'_, V>,
-    pair: Pair,
-) -> Result<Vec<Edge>, AllocError>
+pub fn edges(alloc: Global, graph: &Priced<'_>, pair: Pair) -> Result<Vec<Edge>, AllocError>
     requires { prices.is_pair (shape_of graph.now.old.now) (shape_of graph.now.new.now) pair
         ≡ true }
     ensures { IfOk result (λ edges. edges.items
@@ -62,9 +54,9 @@ pub fn edges<V: View>(
 }
 
 /// What the pair costs without a child.
-pub fn base<V: View>(
+pub fn base(
     alloc: Global,
-    graph: &Priced<'_, V>,
+    graph: &Priced<'_>,
     pair: Pair,
     work: &mut Work,
 ) -> Result<Option<u32>, AllocError>
@@ -72,7 +64,7 @@ pub fn base<V: View>(
         ≡ true }
     requires room { work.old.opened + 1 < 2 ^ 64 }
     ensures cost { IfOk result (λ cost. cost
-        ≡ least_cost (seen_by V.View graph.now.view.now graph.now.old.now graph.now.new.now)
+        ≡ least_cost (seen graph.now)
         prices.no_bounds (shape_of graph.now.old.now) (shape_of graph.now.new.now) pair) }
     ensures counted { OnOk result (work.new ≡ opened_more work.old) }
     ensures unchanged { OnErr result (work.new ≡ work.old) }
@@ -81,12 +73,7 @@ pub fn base<V: View>(
 }
 
 /// What the edge costs at that bound of its child.
-pub fn edge_cost<V: View>(
-    graph: &Priced<'_, V>,
-    edge: &Edge,
-    bound: u32,
-    work: &mut Work,
-) -> Option<u32>
+pub fn edge_cost(graph: &Priced<'_>, edge: &Edge, bound: u32, work: &mut Work) -> Option<u32>
     requires known { prices.is_pair (shape_of graph.now.old.now)
         (shape_of graph.now.new.now) edge.now.from ≡ true }
     requires edge { IsAmong edge.now

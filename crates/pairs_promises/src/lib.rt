@@ -21,13 +21,15 @@ ghost use Rattle.pg_pairs.specs.Choices.{Table, case_number, choices};
 ghost use Rattle.pg_pairs.specs.Covering as covering;
 ghost use Rattle.pg_pairs.specs.Gaps as gaps;
 ghost use Rattle.pg_pairs.specs.Laws.{ReachedBy};
-ghost use Rattle.pg_pairs.specs.SeenBy.{seen_by};
+ghost use Rattle.pg_pairs.specs.GraphView.{seen};
 
 pub use causing::{carry_cause, causes};
 pub use graph::{base, edge_cost, edges, knows, priced, reached_from, reached_pairs};
-pub use names::{alike_as_named, alike_by_name, least_by_name, name_of_names};
+pub use names::{
+    alike_as_named, alike_by_name, least_as_named, least_by_name, name, name_of_names,
+};
 use pg_dyn::{DynError, Message, MessageRef};
-use pg_pairs::{Case, Choice, Gap, Numbers, Pair, Table, View};
+use pg_pairs::{Case, Choice, Gap, Numbers, Pair, Priced, Table, View};
 use pg_schema::{EnumType, Scalar, Schema};
 pub use returning::returns;
 use std::alloc::{AllocError, Global};
@@ -40,82 +42,75 @@ pub fn number(case: Case) -> u8
 }
 
 /// What `breaks` answers.
-pub fn breaks<V: View>(
+pub fn breaks(
     alloc: Global,
-    view: &V,
-    old: &Schema,
-    new: &Schema,
+    graph: &Priced<'_>,
     pair: Pair,
     message: &Message,
 ) -> Result<bool, DynError>
-    requires { Fits (shape_of old.now) message.now }
+    requires { Fits (shape_of graph.now.old.now) message.now }
     ensures exact { IfOk result (λ b. IsTrue b
         ↔ ((type_of message.now ≡ pair.old)
-        × Breaks (seen_by V.View view.now old.now new.now).alike
-        (shape_of old.now) (shape_of new.now) pair.old pair.new (message_of message.now))) }
+        × Breaks (seen graph.now).alike (shape_of graph.now.old.now)
+        (shape_of graph.now.new.now) pair.old pair.new (message_of message.now))) }
     ensures encoded { OnOk result (length
-        (enc (shape_of old.now) (type_of message.now) (message_of message.now)) ≤ cap) }
+        (enc (shape_of graph.now.old.now) (type_of message.now) (message_of message.now)) ≤ cap) }
     ensures refused { IfErr result (λ e. (e ≡ errors.Memory)
-        ⊎ ((e ≡ errors.TooLong) × (cap
-        < length (enc (shape_of old.now) (type_of message.now) (message_of message.now))))) }
+        ⊎ ((e ≡ errors.TooLong) × (cap < length
+        (enc (shape_of graph.now.old.now) (type_of message.now) (message_of message.now))))) }
 {
-    pg_pairs::breaks(alloc, view, old, new, pair, message)
+    pg_pairs::breaks(alloc, graph, pair, message)
 }
 
 /// What `breaks_as_written` answers.
-pub fn breaks_as_written<V: View>(
+pub fn breaks_as_written(
     alloc: Global,
-    view: &V,
-    old: &Schema,
-    new: &Schema,
+    graph: &Priced<'_>,
     pair: Pair,
     message: &MessageRef<'_>,
     bytes: &[u8],
 ) -> Result<bool, AllocError>
-    requires fits { Fits (shape_of old.now) message.now }
-    requires written { enc (shape_of old.now) (type_of message.now) (message_of message.now)
-        ≡ bytes.now }
-    requires within { length (enc (shape_of old.now) (type_of message.now)
+    requires fits { Fits (shape_of graph.now.old.now) message.now }
+    requires written { enc (shape_of graph.now.old.now) (type_of message.now)
+        (message_of message.now) ≡ bytes.now }
+    requires within { length (enc (shape_of graph.now.old.now) (type_of message.now)
         (message_of message.now)) ≤ cap }
     ensures { IfOk result (λ b. IsTrue b
         ↔ ((type_of message.now ≡ pair.old)
-        × Breaks (seen_by V.View view.now old.now new.now).alike
-        (shape_of old.now) (shape_of new.now) pair.old pair.new (message_of message.now))) }
+        × Breaks (seen graph.now).alike (shape_of graph.now.old.now)
+        (shape_of graph.now.new.now) pair.old pair.new (message_of message.now))) }
 {
-    pg_pairs::breaks_as_written(alloc, view, old, new, pair, message, bytes)
+    pg_pairs::breaks_as_written(alloc, graph, pair, message, bytes)
 }
 
 /// What `carry` answers.
-pub fn carry<V: View>(
+pub fn carry(
     alloc: Global,
-    view: &V,
-    old: &Schema,
-    new: &Schema,
+    graph: &Priced<'_>,
     pair: Pair,
     choice: &Choice,
     child: Option<Message>,
 ) -> Result<Message, AllocError>
     requires choice { carried.IsChoiceOf
-        (seen_by V.View view.now old.now new.now)
-        (shape_of old.now) (shape_of new.now) pair choice.now }
-    requires child { carried.ChildGiven (shape_of old.now)
-        (carried.choice_child (shape_of old.now) (shape_of new.now) pair choice.now) child }
-    ensures fits { IfOk result (λ m. Fits (shape_of old.now) m) }
+        (seen graph.now)
+        (shape_of graph.now.old.now) (shape_of graph.now.new.now) pair choice.now }
+    requires child { carried.ChildGiven (shape_of graph.now.old.now) (carried.choice_child
+        (shape_of graph.now.old.now) (shape_of graph.now.new.now) pair choice.now) child }
+    ensures fits { IfOk result (λ m. Fits (shape_of graph.now.old.now) m) }
     ensures type_is { IfOk result (λ m. type_of m ≡ pair.old) }
     ensures made { IfOk result (λ m. message_of m
-        ≡ carried.carried (seen_by V.View view.now old.now new.now) (shape_of old.now)
-        (shape_of new.now) pair choice.now (option_map message_of child)) }
+        ≡ carried.carried (seen graph.now) (shape_of graph.now.old.now)
+        (shape_of graph.now.new.now) pair choice.now (option_map message_of child)) }
     ensures reached { IfOk result (λ m. (table : Table) →
-        IsAmong choice.now (choices (seen_by V.View view.now old.now new.now) table
-        (shape_of old.now) (shape_of new.now) pair)
-        → carried.ChildReached (seen_by V.View view.now old.now new.now) (shape_of old.now)
-        (shape_of new.now) table
-        (carried.choice_child (shape_of old.now) (shape_of new.now) pair choice.now)
-        (option_map message_of child)
-        → ReachedBy (seen_by V.View view.now old.now new.now)
-        (shape_of old.now) (shape_of new.now) pair (message_of m) choice.now.cost) }
+        IsAmong choice.now (choices (seen graph.now) table
+        (shape_of graph.now.old.now) (shape_of graph.now.new.now) pair)
+        → carried.ChildReached (seen graph.now) (shape_of graph.now.old.now)
+        (shape_of graph.now.new.now) table (carried.choice_child (shape_of graph.now.old.now)
+        (shape_of graph.now.new.now) pair choice.now) (option_map message_of child)
+        → ReachedBy (seen graph.now) (shape_of graph.now.old.now)
+        (shape_of graph.now.new.now) pair (message_of m) choice.now.cost) }
 {
-    pg_pairs::carry(alloc, view, old, new, pair, choice, child)
+    pg_pairs::carry(alloc, graph, pair, choice, child)
 }
 
 /// What `children` answers.
@@ -139,35 +134,31 @@ pub fn choice_child(old: &Schema, new: &Schema, pair: Pair, choice: &Choice) -> 
 }
 
 /// What `cheapest` answers.
-pub fn cheapest<V: View, T: Table>(
+pub fn cheapest<T: Table>(
     alloc: Global,
-    view: &V,
-    old: &Schema,
-    new: &Schema,
+    graph: &Priced<'_>,
     pair: Pair,
     table: &T,
 ) -> Result<Option<Choice>, AllocError>
     ensures { IfOk result (λ found. found
-        ≡ least.cheapest (choices (seen_by V.View view.now old.now new.now)
-        (T.bounds table.now) (shape_of old.now) (shape_of new.now) pair)) }
+        ≡ least.cheapest (choices (seen graph.now)
+        (T.bounds table.now) (shape_of graph.now.old.now) (shape_of graph.now.new.now) pair)) }
 {
-    pg_pairs::cheapest(alloc, view, old, new, pair, table)
+    pg_pairs::cheapest(alloc, graph, pair, table)
 }
 
 /// What `options` answers.
-pub fn options<V: View, T: Table>(
+pub fn options<T: Table>(
     alloc: Global,
-    view: &V,
-    old: &Schema,
-    new: &Schema,
+    graph: &Priced<'_>,
     pair: Pair,
     table: &T,
 ) -> Result<Vec<Choice>, AllocError>
     ensures { IfOk result (λ cs. cs.items
-        ≡ choices (seen_by V.View view.now old.now new.now)
-        (T.bounds table.now) (shape_of old.now) (shape_of new.now) pair) }
+        ≡ choices (seen graph.now)
+        (T.bounds table.now) (shape_of graph.now.old.now) (shape_of graph.now.new.now) pair) }
 {
-    pg_pairs::options(alloc, view, old, new, pair, table)
+    pg_pairs::options(alloc, graph, pair, table)
 }
 
 /// What `gap` answers.

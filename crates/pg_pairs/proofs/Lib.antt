@@ -44,7 +44,6 @@ pub mod CarryMapChild
 pub mod CarryTwo
 pub mod Reached
 pub mod CarrySteps
-pub mod EnumViews
 pub mod FirstSeen
 pub mod ChildSteps
 pub mod Linking

@@ -1,30 +1,40 @@
--- A view sees between two schemas what the view of its name does: there is only one least number that differs.
-use Rattle.std.proofs.Common.{◌≡◌, ℤ, Bool, Option, Some, None, refl}
+-- What the view of a name sees between two schemas is an enum view, for enums that aren't there too.
+use Rattle.std.proofs.Common.{◌≡◌, ℤ, Bool, true, Option, Some, None, refl}
 use Rattle.pg_schema.specs.declared.parts.enum_type.EnumType.{EnumType}
 use Rattle.pg_schema.specs.declared.parts.Parts.{Parts}
 use Rattle.pg_schema.specs.Parts.{enum_at}
 use Rattle.pg_dyn.specs.declared.view_name.ViewName.{ViewName}
 use Rattle.pg_dyn.specs.declared.view_name.ViewName.TheVariants as views
-use Rattle.pg_dyn.specs.ViewNames.{alike_under, view_named}
-use Rattle.pg_pairs.specs.LeastNumberLaws.{one_least}
-use Rattle.pg_pairs.specs.NamedView.{least_under, seen_under}
+use Rattle.pg_dyn.specs.ViewNames.{alike_there}
+use Rattle.pg_pairs.specs.EnumView.{IsEnumView, IsLeastOf, none_differs}
+use Rattle.pg_pairs.specs.NamedView.{LeastIsShortest, NumbersAreAlike, least_there, seen_under}
 use Rattle.pg_pairs.specs.NameLaws.{least_by_name_is}
-use Rattle.pg_pairs.specs.EnumView.{IsLeastOf, none_differs}
-use Rattle.pg_pairs.specs.Views.{least_at, enum_view_of}
 
-least_under_is : (view : ViewName) (old new : EnumType) (zero : Bool) → IsLeastOf (alike_under view old new) zero (least_under view old new zero)
-least_under_is views.Numbers old new zero = none_differs zero
-least_under_is views.Names old new zero = least_by_name_is old new zero
+pub least_is_shortest : LeastIsShortest
+least_is_shortest views.Numbers old new zero = none_differs zero
+least_is_shortest views.Names old new zero = least_by_name_is old new zero
 
-module _ (view : ViewName) (least : EnumType → EnumType → Bool → Option ℤ) (law : (old new : EnumType) (zero : Bool) → IsLeastOf (alike_under view old new) zero (least old new zero)) where
-  least_is : (old new : EnumType) (zero : Bool) → least old new zero ≡ least_under view old new zero
-  least_is old new zero =
-      one_least (alike_under view old new) zero (least old new zero) (least_under view old new zero) (law old new zero) (least_under_is view old new zero)
+of_enums : (view : ViewName) (a b : Option EnumType) (zero : Bool) → IsLeastOf (λ n. alike_there view a b n) zero (least_there view a b zero)
+of_enums view (Some old) (Some new) zero = least_is_shortest view old new zero
+of_enums view (Some old) None zero = none_differs zero
+of_enums view None b zero = none_differs zero
 
-  same_least : (a b : Option EnumType) (zero : Bool) → least_at least a b zero ≡ least_at (least_under view) a b zero
-  same_least (Some old) (Some new) zero = least_is old new zero
-  same_least (Some old) None zero = refl
-  same_least None b zero = refl
+pub seen_under_is : (view : ViewName) (old new : Parts) → IsEnumView (seen_under view old new)
+seen_under_is view old new a b zero = of_enums view (enum_at old a) (enum_at new b) zero
 
-  pub seen_by_name : (old new : Parts) → enum_view_of view least old new ≡ seen_under view old new
-  seen_by_name old new = λ j. record { alike = view_named view old new; least = λ a b zero. same_least (enum_at old a) (enum_at new b) zero j }
+all_alike : (old new : Option EnumType) (n : ℤ) → alike_there views.Numbers old new n ≡ true
+all_alike (Some a) (Some b) n = refl
+all_alike (Some a) None n = refl
+all_alike None new n = refl
+
+none_differ : (old new : Option EnumType) (zero : Bool) → least_there views.Numbers old new zero ≡ None
+none_differ (Some a) (Some b) zero = refl
+none_differ (Some a) None zero = refl
+none_differ None new zero = refl
+
+pub numbers_are_alike : NumbersAreAlike
+numbers_are_alike old new =
+    λ j. record {
+      alike = λ a b n. all_alike (enum_at old a) (enum_at new b) n j;
+      least = λ a b zero. none_differ (enum_at old a) (enum_at new b) zero j;
+    }

@@ -6,8 +6,7 @@ pub mod LeastByName
 pub mod MissingNames
 pub mod NameLaws
 pub mod NamedView
-pub mod Views
-pub mod SeenBy
+pub mod GraphView
 pub mod Likeness
 pub mod Gaps
 pub mod Costs

@@ -7,15 +7,13 @@ ghost use Rattle.pg_dyn.specs.Breaking.{Breaks};
 ghost use Rattle.pg_dyn.specs.encoding.Encoding.{cap, enc};
 ghost use Rattle.pg_dyn.specs.Fits.{Fits};
 ghost use Rattle.pg_dyn.specs.Kept.{message_of, type_of};
-ghost use Rattle.pg_pairs.specs.SeenBy.{seen_by};
+ghost use Rattle.pg_pairs.specs.GraphView.{seen};
 
 use crate::choice::Pair;
 use crate::comparing::is_same_message;
-use crate::item::Sides;
-use crate::view::View;
+use crate::priced::Priced;
 use pg_dyn::laws::reads_again;
 use pg_dyn::{DynError, Message, MessageRef, decode_ref_unlimited, encode};
-use pg_schema::Schema;
 use std::alloc::{AllocError, Global};
 
 /// Whether the message breaks of which those bytes are the encoding: it is one of the pair's old
@@ -24,36 +22,31 @@ use std::alloc::{AllocError, Global};
 /// type it doesn't break, nor where the new schema hasn't the pair's new type.
 ///
 /// Refused only where memory is.
-pub fn breaks_as_written<V: View>(
+pub fn breaks_as_written(
     alloc: Global,
-    view: &V,
-    old: &Schema,
-    new: &Schema,
+    graph: &Priced<'_>,
     pair: Pair,
     message: &MessageRef<'_>,
     bytes: &[u8],
 ) -> Result<bool, AllocError>
-    requires fits { Fits (shape_of old.now) message.now }
-    requires written { enc (shape_of old.now) (type_of message.now) (message_of message.now)
-        ≡ bytes.now }
-    requires within { length (enc (shape_of old.now) (type_of message.now)
+    requires fits { Fits (shape_of graph.now.old.now) message.now }
+    requires written { enc (shape_of graph.now.old.now) (type_of message.now)
+        (message_of message.now) ≡ bytes.now }
+    requires within { length (enc (shape_of graph.now.old.now) (type_of message.now)
         (message_of message.now)) ≤ cap }
     ensures { IfOk result (λ b. IsTrue b
         ↔ ((type_of message.now ≡ pair.old)
-        × Breaks (seen_by V.View view.now old.now new.now).alike (shape_of old.now)
-        (shape_of new.now) pair.old pair.new (message_of message.now))) }
+        × Breaks (seen graph.now).alike (shape_of graph.now.old.now)
+        (shape_of graph.now.new.now) pair.old pair.new (message_of message.now))) }
 {
     // What holds of every schema.
-    old.parts();
-    new.parts();
-    if message.type_id() != pair.old || !message.is_plain() || !new.has(pair.new) {
+    graph.old.parts();
+    graph.new.parts();
+    if message.type_id() != pair.old || !message.is_plain() || !graph.new.has(pair.new) {
         return Ok(false);
     }
-    match decode_ref_unlimited(alloc, new, pair.new, bytes) {
-        Ok(read) => {
-            let sides = Sides { view, old, new };
-            Ok(!is_same_message(alloc, &sides, message, &read)?)
-        }
+    match decode_ref_unlimited(alloc, graph.new, pair.new, bytes) {
+        Ok(read) => Ok(!is_same_message(alloc, graph, message, &read)?),
         Err(error) => match error {
             DynError::Memory => Err(AllocError),
             _ => Ok(true),
@@ -67,32 +60,30 @@ pub fn breaks_as_written<V: View>(
 ///
 /// The errors are `TooLong`, just where the message's encoding has more than 2,147,483,647 bytes,
 /// and `Memory`.
-pub fn breaks<V: View>(
+pub fn breaks(
     alloc: Global,
-    view: &V,
-    old: &Schema,
-    new: &Schema,
+    graph: &Priced<'_>,
     pair: Pair,
     message: &Message,
 ) -> Result<bool, DynError>
-    requires { Fits (shape_of old.now) message.now }
+    requires { Fits (shape_of graph.now.old.now) message.now }
     ensures exact { IfOk result (λ b. IsTrue b
         ↔ ((type_of message.now ≡ pair.old)
-        × Breaks (seen_by V.View view.now old.now new.now).alike (shape_of old.now)
-        (shape_of new.now) pair.old pair.new (message_of message.now))) }
+        × Breaks (seen graph.now).alike (shape_of graph.now.old.now)
+        (shape_of graph.now.new.now) pair.old pair.new (message_of message.now))) }
     ensures encoded { OnOk result (length
-        (enc (shape_of old.now) (type_of message.now) (message_of message.now)) ≤ cap) }
+        (enc (shape_of graph.now.old.now) (type_of message.now) (message_of message.now)) ≤ cap) }
     ensures refused { IfErr result (λ e. (e ≡ errors.Memory)
-        ⊎ ((e ≡ errors.TooLong) × (cap
-        < length (enc (shape_of old.now) (type_of message.now) (message_of message.now))))) }
+        ⊎ ((e ≡ errors.TooLong) × (cap < length
+        (enc (shape_of graph.now.old.now) (type_of message.now) (message_of message.now))))) }
 {
     // What holds of every schema, and of what a type writes.
-    old.parts();
+    graph.old.parts();
     reads_again();
-    let bytes = encode(alloc, old, message)?;
+    let bytes = encode(alloc, graph.old, message)?;
     let written = bytes.as_slice();
-    match decode_ref_unlimited(alloc, old, message.type_id(), written) {
-        Ok(lent) => Ok(breaks_as_written(alloc, view, old, new, pair, &lent, written)?),
+    match decode_ref_unlimited(alloc, graph.old, message.type_id(), written) {
+        Ok(lent) => Ok(breaks_as_written(alloc, graph, pair, &lent, written)?),
         Err(error) => match error {
             DynError::Memory => Err(error),
             // An encoding is read again.

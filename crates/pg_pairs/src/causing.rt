@@ -8,61 +8,52 @@ ghost use Rattle.pg_pairs.specs.Among.{IsAmong};
 ghost use Rattle.pg_pairs.specs.Carried.{carried};
 ghost use Rattle.pg_pairs.specs.Causes.{causes};
 ghost use Rattle.pg_pairs.specs.Laws.{ReachedBy};
-ghost use Rattle.pg_pairs.specs.SeenBy.{seen_by};
+ghost use Rattle.pg_pairs.specs.GraphView.{seen};
 
 use crate::choice::{Choice, Pair};
 use crate::laws::{causes_are_own, sees};
 use crate::option_list::options;
+use crate::priced::Priced;
 use crate::table::NoBounds;
-use crate::view::View;
 use crate::witness_message::carry;
 use pg_dyn::Message;
-use pg_schema::Schema;
 use std::alloc::{AllocError, Global};
 
 /// The ways in which a message of the pair's old type can break beside its new one without a child,
 /// each with the bytes of the shortest message that breaks so, by number, case and part.
 ///
 /// Refused only where memory is.
-pub fn causes<V: View>(
-    alloc: Global,
-    view: &V,
-    old: &Schema,
-    new: &Schema,
-    pair: Pair,
-) -> Result<Vec<Choice>, AllocError>
-    ensures { IfOk result (λ cs. cs.items ≡ causes (seen_by V.View view.now old.now new.now)
-        (shape_of old.now) (shape_of new.now) pair) }
+pub fn causes(alloc: Global, graph: &Priced<'_>, pair: Pair) -> Result<Vec<Choice>, AllocError>
+    ensures { IfOk result (λ cs. cs.items ≡ causes (seen graph.now)
+        (shape_of graph.now.old.now) (shape_of graph.now.new.now) pair) }
 {
-    options(alloc, view, old, new, pair, &NoBounds)
+    options(alloc, graph, pair, &NoBounds)
 }
 
 /// The message by which the cause is reached, a message of the pair's old type. It breaks and has
 /// just the cause's cost. The cause has to be one that `causes` gives for the pair under this view.
 ///
 /// Refused only where memory is.
-pub fn carry_cause<V: View>(
+pub fn carry_cause(
     alloc: Global,
-    view: &V,
-    old: &Schema,
-    new: &Schema,
+    graph: &Priced<'_>,
     pair: Pair,
     cause: &Choice,
 ) -> Result<Message, AllocError>
-    requires { IsAmong cause.now (causes (seen_by V.View view.now old.now new.now)
-        (shape_of old.now) (shape_of new.now) pair) }
-    ensures fits { IfOk result (λ m. Fits (shape_of old.now) m) }
+    requires { IsAmong cause.now (causes (seen graph.now)
+        (shape_of graph.now.old.now) (shape_of graph.now.new.now) pair) }
+    ensures fits { IfOk result (λ m. Fits (shape_of graph.now.old.now) m) }
     ensures type_is { IfOk result (λ m. type_of m ≡ pair.old) }
     ensures made { IfOk result (λ m. message_of m
-        ≡ carried (seen_by V.View view.now old.now new.now) (shape_of old.now)
-        (shape_of new.now) pair cause.now None) }
-    ensures reached { IfOk result (λ m. ReachedBy (seen_by V.View view.now old.now new.now)
-        (shape_of old.now) (shape_of new.now) pair (message_of m) cause.now.cost) }
+        ≡ carried (seen graph.now) (shape_of graph.now.old.now)
+        (shape_of graph.now.new.now) pair cause.now None) }
+    ensures reached { IfOk result (λ m. ReachedBy (seen graph.now) (shape_of graph.now.old.now)
+        (shape_of graph.now.new.now) pair (message_of m) cause.now.cost) }
 {
     // What holds of every schema, every view and every cause.
-    old.parts();
-    new.parts();
-    sees(view, old, new);
+    graph.old.parts();
+    graph.new.parts();
+    sees(graph);
     causes_are_own();
-    carry(alloc, view, old, new, pair, cause, None)
+    carry(alloc, graph, pair, cause, None)
 }

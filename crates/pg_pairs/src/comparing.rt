@@ -15,30 +15,29 @@ ghost use Rattle.pg_dyn.specs.Kept.{message_of, of_number, type_of, unknown_of};
 ghost use Rattle.pg_dyn.specs.encoding.Writing.{bytes_of};
 ghost use Rattle.pg_pairs.specs.Comparing.{all_match, HasEncoding, HeldFits, is_alike_leaf, is_same, is_same_beside, is_same_if, ItemHasEncoding, items_match, keyed, keyed_if, outside_record};
 
-use crate::item::Sides;
+use crate::beside::Beside;
+use crate::priced::Priced;
 use crate::shown::{count, held_at, is_same_key, is_same_leaf, shown};
-use crate::view::View;
-use crate::witness_content::Beside;
 use pg_dyn::{ContentRef, DynError, MessageRef, ValueRef, encode_unshared_ref};
 use pg_schema::{Element, Field, Schema, TypeId};
 use pg_wire::Record;
 use std::alloc::{AllocError, Global};
 
 /// Whether the view finds the number alike in the two enums; one that isn't there has no say.
-fn is_alike<V: View>(sides: &Sides<'_, V>, fields: &Beside<'_>, value: &ValueRef<'_>) -> bool
+fn is_alike(graph: &Priced<'_>, fields: &Beside<'_>, value: &ValueRef<'_>) -> bool
     requires key { IsKey value.now }
-    requires fits { ItemFits (shape_of sides.now.old.now) fields.now.old.now.element value.now }
-    ensures { result ≡ is_alike_leaf V.NAME sides.now.old.now sides.now.new.now
+    requires fits { ItemFits (shape_of graph.now.old.now) fields.now.old.now.element value.now }
+    ensures { result ≡ is_alike_leaf graph.now.view graph.now.old.now graph.now.new.now
         fields.now.old.now.element fields.now.new.now.element (leaf_of value.now) }
 {
     let (Element::Enum(old), Element::Enum(new)) = (fields.old.element, fields.new.element) else {
         return true;
     };
-    let (Some(from), Some(to)) = (sides.old.enum_type(old), sides.new.enum_type(new)) else {
+    let (Some(from), Some(to)) = (graph.old.enum_type(old), graph.new.enum_type(new)) else {
         return true;
     };
     match value {
-        ValueRef::Int(number) => sides.view.alike(from, to, number.get() as i32),
+        ValueRef::Int(number) => graph.view.alike(from, to, number.get() as i32),
         _ => true,
     }
 }
@@ -80,21 +79,21 @@ fn outside_bytes(
 
 /// Whether the reader keeps just what was written of the fields that its type hasn't.
 #[tactic(auto, using(crate::proofs::SameLengths::unshared_within))]
-fn is_same_outside<V: View>(
+fn is_same_outside(
     alloc: Global,
-    sides: &Sides<'_, V>,
+    graph: &Priced<'_>,
     message: &MessageRef<'_>,
     read: &MessageRef<'_>,
 ) -> Result<bool, AllocError>
-    requires fits { Fits (shape_of sides.now.old.now) message.now }
-    requires encoded { HasEncoding (shape_of sides.now.old.now) message.now }
+    requires fits { Fits (shape_of graph.now.old.now) message.now }
+    requires encoded { HasEncoding (shape_of graph.now.old.now) message.now }
     ensures { IfOk result (λ is. is ≡ bytes_eq
-        (bytes_of (records_outside (fields (shape_of sides.now.new.now) (type_of read.now))
-        (unknown_of read.now))) (unshared_bytes (shape_of sides.now.old.now) (type_of message.now)
-        (fields (shape_of sides.now.new.now) (type_of read.now)) (message_of message.now))) }
+        (bytes_of (records_outside (fields (shape_of graph.now.new.now) (type_of read.now))
+        (unknown_of read.now))) (unshared_bytes (shape_of graph.now.old.now) (type_of message.now)
+        (fields (shape_of graph.now.new.now) (type_of read.now)) (message_of message.now))) }
 {
-    let kept = outside_bytes(alloc, sides.new, read)?;
-    match encode_unshared_ref(alloc, sides.old, message, sides.new, read.type_id()) {
+    let kept = outside_bytes(alloc, graph.new, read)?;
+    match encode_unshared_ref(alloc, graph.old, message, graph.new, read.type_id()) {
         Ok(written) => Ok(kept.as_slice() == written.as_slice()),
         Err(DynError::Memory) => Err(AllocError),
         // A part of an encoding isn't too long.
@@ -104,46 +103,46 @@ fn is_same_outside<V: View>(
 
 /// Whether the new field's item is what the old one's means.
 #[cycle(same)]
-fn is_same_item<V: View>(
+fn is_same_item(
     alloc: Global,
-    sides: &Sides<'_, V>,
+    graph: &Priced<'_>,
     fields: &Beside<'_>,
     value: &ValueRef<'_>,
     read: &ValueRef<'_>,
 ) -> Result<bool, AllocError>
-    requires old_schema { IsSchema sides.now.old.now }
-    requires new_schema { IsSchema sides.now.new.now }
-    requires fits { ItemFits (shape_of sides.now.old.now) fields.now.old.now.element value.now }
-    requires encoded { ItemHasEncoding (shape_of sides.now.old.now) value.now }
-    requires read_fits { ItemFits (shape_of sides.now.new.now) fields.now.new.now.element read.now }
-    ensures { IfOk result (λ is. is ≡ items_match V.NAME sides.now.old.now sides.now.new.now
+    requires old_schema { IsSchema graph.now.old.now }
+    requires new_schema { IsSchema graph.now.new.now }
+    requires fits { ItemFits (shape_of graph.now.old.now) fields.now.old.now.element value.now }
+    requires encoded { ItemHasEncoding (shape_of graph.now.old.now) value.now }
+    requires read_fits { ItemFits (shape_of graph.now.new.now) fields.now.new.now.element read.now }
+    ensures { IfOk result (λ is. is ≡ items_match graph.now.view graph.now.old.now graph.now.new.now
         (field_shape fields.now.old.now) (field_shape fields.now.new.now) value.now read.now) }
 {
     match (value, read) {
-        (ValueRef::Msg(child), ValueRef::Msg(other)) => is_same_message(alloc, sides, child, other),
+        (ValueRef::Msg(child), ValueRef::Msg(other)) => is_same_message(alloc, graph, child, other),
         (ValueRef::Msg(_), _) | (_, ValueRef::Msg(_)) => Ok(false),
-        _ => Ok(is_same_leaf(value, read) && is_alike(sides, fields, value)),
+        _ => Ok(is_same_leaf(value, read) && is_alike(graph, fields, value)),
     }
 }
 
 /// Whether the new field's content shows what the old one's means.
 #[cycle(same)]
-fn is_same_content<V: View>(
+fn is_same_content(
     alloc: Global,
-    sides: &Sides<'_, V>,
+    graph: &Priced<'_>,
     fields: &Beside<'_>,
     content: &ContentRef<'_>,
     read: &ContentRef<'_>,
 ) -> Result<bool, AllocError>
-    requires old_schema { IsSchema sides.now.old.now }
-    requires new_schema { IsSchema sides.now.new.now }
-    requires fits { AllByRecursion (HeldFits (shape_of sides.now.old.now)
+    requires old_schema { IsSchema graph.now.old.now }
+    requires new_schema { IsSchema graph.now.new.now }
+    requires fits { AllByRecursion (HeldFits (shape_of graph.now.old.now)
         fields.now.old.now.element) (keyed content.now) }
-    requires encoded { AllByRecursion (λ x. ItemHasEncoding (shape_of sides.now.old.now) x.1)
+    requires encoded { AllByRecursion (λ x. ItemHasEncoding (shape_of graph.now.old.now) x.1)
         (keyed content.now) }
-    requires read_fits { AllByRecursion (HeldFits (shape_of sides.now.new.now)
+    requires read_fits { AllByRecursion (HeldFits (shape_of graph.now.new.now)
         fields.now.new.now.element) (keyed read.now) }
-    ensures { IfOk result (λ is. is ≡ all_match V.NAME sides.now.old.now sides.now.new.now
+    ensures { IfOk result (λ is. is ≡ all_match graph.now.view graph.now.old.now graph.now.new.now
         (field_shape fields.now.old.now) (field_shape fields.now.new.now) (keyed content.now)
         (keyed read.now)) }
 {
@@ -159,7 +158,7 @@ fn is_same_content<V: View>(
         }
         let item = first.item.value();
         let other = second.item.value();
-        if !is_same_item(alloc, sides, fields, item, other)? {
+        if !is_same_item(alloc, graph, fields, item, other)? {
             return Ok(false);
         }
     }
@@ -169,26 +168,25 @@ fn is_same_content<V: View>(
 /// Whether the new type's field of the number shows what the old field means; where there is none,
 /// nothing is shown.
 #[cycle(same)]
-fn is_same_field<V: View>(
+fn is_same_field(
     alloc: Global,
-    sides: &Sides<'_, V>,
+    graph: &Priced<'_>,
     field: &Field,
     message: &MessageRef<'_>,
     read: &MessageRef<'_>,
 ) -> Result<bool, AllocError>
-    requires old_schema { IsSchema sides.now.old.now }
-    requires new_schema { IsSchema sides.now.new.now }
-    requires fits { Fits (shape_of sides.now.old.now) message.now }
-    requires encoded { HasEncoding (shape_of sides.now.old.now) message.now }
-    requires read_fits { Fits (shape_of sides.now.new.now) read.now }
-    requires found { field_at (fields (shape_of sides.now.old.now) (type_of message.now))
+    requires old_schema { IsSchema graph.now.old.now }
+    requires new_schema { IsSchema graph.now.new.now }
+    requires fits { Fits (shape_of graph.now.old.now) message.now }
+    requires encoded { HasEncoding (shape_of graph.now.old.now) message.now }
+    requires read_fits { Fits (shape_of graph.now.new.now) read.now }
+    requires found { field_at (fields (shape_of graph.now.old.now) (type_of message.now))
         field.now.number ≡ Some (field_shape field.now) }
-    ensures { IfOk result (λ is. is ≡ is_same_beside V.NAME sides.now.old.now
-        sides.now.new.now message.now read.now
-        (field_shape field.now) (field_at (fields (shape_of sides.now.new.now) (type_of read.now))
-        field.now.number)) }
+    ensures { IfOk result (λ is. is ≡ is_same_beside graph.now.view graph.now.old.now
+        graph.now.new.now message.now read.now (field_shape field.now)
+        (field_at (fields (shape_of graph.now.new.now) (type_of read.now)) field.now.number)) }
 {
-    let Some(beside) = sides.new.field(read.type_id(), field.number) else {
+    let Some(beside) = graph.new.field(read.type_id(), field.number) else {
         return Ok(true);
     };
     let fields = Beside {
@@ -198,7 +196,7 @@ fn is_same_field<V: View>(
     let content = shown(&fields, message.get(field.number));
     let other = shown(&fields, read.get(field.number));
     match (content, other) {
-        (Some(content), Some(other)) => is_same_content(alloc, sides, &fields, content, other),
+        (Some(content), Some(other)) => is_same_content(alloc, graph, &fields, content, other),
         (None, None) => Ok(true),
         _ => Ok(false),
     }
@@ -207,75 +205,75 @@ fn is_same_field<V: View>(
 /// Whether the new type shows what the old type's field of the number means; where the old type has
 /// none, nothing is asked.
 #[cycle(same)]
-fn is_same_at<V: View>(
+fn is_same_at(
     alloc: Global,
-    sides: &Sides<'_, V>,
+    graph: &Priced<'_>,
     number: u32,
     message: &MessageRef<'_>,
     read: &MessageRef<'_>,
 ) -> Result<bool, AllocError>
-    requires old_schema { IsSchema sides.now.old.now }
-    requires new_schema { IsSchema sides.now.new.now }
-    requires fits { Fits (shape_of sides.now.old.now) message.now }
-    requires encoded { HasEncoding (shape_of sides.now.old.now) message.now }
-    requires read_fits { Fits (shape_of sides.now.new.now) read.now }
-    ensures { IfOk result (λ is. is ≡ is_same_if V.NAME sides.now.old.now sides.now.new.now
+    requires old_schema { IsSchema graph.now.old.now }
+    requires new_schema { IsSchema graph.now.new.now }
+    requires fits { Fits (shape_of graph.now.old.now) message.now }
+    requires encoded { HasEncoding (shape_of graph.now.old.now) message.now }
+    requires read_fits { Fits (shape_of graph.now.new.now) read.now }
+    ensures { IfOk result (λ is. is ≡ is_same_if graph.now.view graph.now.old.now graph.now.new.now
         message.now read.now
-        (field_at (fields (shape_of sides.now.old.now) (type_of message.now)) number)) }
+        (field_at (fields (shape_of graph.now.old.now) (type_of message.now)) number)) }
 {
-    match sides.old.field(message.type_id(), number) {
-        Some(field) => is_same_field(alloc, sides, field, message, read),
+    match graph.old.field(message.type_id(), number) {
+        Some(field) => is_same_field(alloc, graph, field, message, read),
         None => Ok(true),
     }
 }
 
 /// The same, where the field is known to be shown if the old message has a content of it.
 #[cycle(same)]
-fn is_same_other<V: View>(
+fn is_same_other(
     alloc: Global,
-    sides: &Sides<'_, V>,
+    graph: &Priced<'_>,
     number: u32,
     message: &MessageRef<'_>,
     read: &MessageRef<'_>,
 ) -> Result<bool, AllocError>
-    requires old_schema { IsSchema sides.now.old.now }
-    requires new_schema { IsSchema sides.now.new.now }
-    requires fits { Fits (shape_of sides.now.old.now) message.now }
-    requires encoded { HasEncoding (shape_of sides.now.old.now) message.now }
-    requires read_fits { Fits (shape_of sides.now.new.now) read.now }
-    requires held { is_same_if V.NAME sides.now.old.now sides.now.new.now message.now read.now
-        (field_at (fields (shape_of sides.now.old.now) (type_of message.now)) number) ≡ false
-        → of_number number message.now ≡ [] }
-    ensures { IfOk result (λ is. is ≡ is_same_if V.NAME sides.now.old.now sides.now.new.now
+    requires old_schema { IsSchema graph.now.old.now }
+    requires new_schema { IsSchema graph.now.new.now }
+    requires fits { Fits (shape_of graph.now.old.now) message.now }
+    requires encoded { HasEncoding (shape_of graph.now.old.now) message.now }
+    requires read_fits { Fits (shape_of graph.now.new.now) read.now }
+    requires held { is_same_if graph.now.view graph.now.old.now graph.now.new.now message.now
+        read.now (field_at (fields (shape_of graph.now.old.now) (type_of message.now)) number)
+        ≡ false → of_number number message.now ≡ [] }
+    ensures { IfOk result (λ is. is ≡ is_same_if graph.now.view graph.now.old.now graph.now.new.now
         message.now read.now
-        (field_at (fields (shape_of sides.now.old.now) (type_of message.now)) number)) }
+        (field_at (fields (shape_of graph.now.old.now) (type_of message.now)) number)) }
 {
     match message.get(number) {
         Some(_) => Ok(true),
-        None => is_same_at(alloc, sides, number, message, read),
+        None => is_same_at(alloc, graph, number, message, read),
     }
 }
 
 /// Whether each old field whose number these contents have is shown as it is meant.
 #[cycle(same)]
-fn are_same_contents<V: View>(
+fn are_same_contents(
     alloc: Global,
-    sides: &Sides<'_, V>,
+    graph: &Priced<'_>,
     contents: &[(u32, ContentRef<'_>)],
     message: &MessageRef<'_>,
     read: &MessageRef<'_>,
 ) -> Result<bool, AllocError>
-    requires old_schema { IsSchema sides.now.old.now }
-    requires new_schema { IsSchema sides.now.new.now }
-    requires fits { Fits (shape_of sides.now.old.now) message.now }
-    requires encoded { HasEncoding (shape_of sides.now.old.now) message.now }
-    requires read_fits { Fits (shape_of sides.now.new.now) read.now }
+    requires old_schema { IsSchema graph.now.old.now }
+    requires new_schema { IsSchema graph.now.new.now }
+    requires fits { Fits (shape_of graph.now.old.now) message.now }
+    requires encoded { HasEncoding (shape_of graph.now.old.now) message.now }
+    requires read_fits { Fits (shape_of graph.now.new.now) read.now }
     ensures { IfOk result (λ is. is ≡ list_all
-        (λ c. is_same_if V.NAME sides.now.old.now sides.now.new.now message.now read.now
-        (field_at (fields (shape_of sides.now.old.now) (type_of message.now)) c.0)) contents.now) }
+        (λ c. is_same_if graph.now.view graph.now.old.now graph.now.new.now message.now read.now
+        (field_at (fields (shape_of graph.now.old.now) (type_of message.now)) c.0)) contents.now) }
 {
     for (number, _) in contents {
-        if !is_same_at(alloc, sides, *number, message, read)? {
+        if !is_same_at(alloc, graph, *number, message, read)? {
             return Ok(false);
         }
     }
@@ -284,28 +282,28 @@ fn are_same_contents<V: View>(
 
 /// The same, where each field that the old message has a content of is known to be shown.
 #[cycle(same)]
-fn are_same_others<V: View>(
+fn are_same_others(
     alloc: Global,
-    sides: &Sides<'_, V>,
+    graph: &Priced<'_>,
     others: &[(u32, ContentRef<'_>)],
     message: &MessageRef<'_>,
     read: &MessageRef<'_>,
 ) -> Result<bool, AllocError>
-    requires old_schema { IsSchema sides.now.old.now }
-    requires new_schema { IsSchema sides.now.new.now }
-    requires fits { Fits (shape_of sides.now.old.now) message.now }
-    requires encoded { HasEncoding (shape_of sides.now.old.now) message.now }
-    requires read_fits { Fits (shape_of sides.now.new.now) read.now }
-    requires held { (n : ℕ) → is_same_if V.NAME sides.now.old.now sides.now.new.now
+    requires old_schema { IsSchema graph.now.old.now }
+    requires new_schema { IsSchema graph.now.new.now }
+    requires fits { Fits (shape_of graph.now.old.now) message.now }
+    requires encoded { HasEncoding (shape_of graph.now.old.now) message.now }
+    requires read_fits { Fits (shape_of graph.now.new.now) read.now }
+    requires held { (n : ℕ) → is_same_if graph.now.view graph.now.old.now graph.now.new.now
         message.now read.now
-        (field_at (fields (shape_of sides.now.old.now) (type_of message.now)) n) ≡ false
+        (field_at (fields (shape_of graph.now.old.now) (type_of message.now)) n) ≡ false
         → of_number n message.now ≡ [] }
     ensures { IfOk result (λ is. is ≡ list_all
-        (λ c. is_same_if V.NAME sides.now.old.now sides.now.new.now message.now read.now
-        (field_at (fields (shape_of sides.now.old.now) (type_of message.now)) c.0)) others.now) }
+        (λ c. is_same_if graph.now.view graph.now.old.now graph.now.new.now message.now read.now
+        (field_at (fields (shape_of graph.now.old.now) (type_of message.now)) c.0)) others.now) }
 {
     for (number, _) in others {
-        if !is_same_other(alloc, sides, *number, message, read)? {
+        if !is_same_other(alloc, graph, *number, message, read)? {
             return Ok(false);
         }
     }
@@ -317,26 +315,26 @@ fn are_same_others<V: View>(
 ///
 /// Refused only where memory is.
 #[cycle(same)]
-pub(crate) fn is_same_message<V: View>(
+pub(crate) fn is_same_message(
     alloc: Global,
-    sides: &Sides<'_, V>,
+    graph: &Priced<'_>,
     message: &MessageRef<'_>,
     read: &MessageRef<'_>,
 ) -> Result<bool, AllocError>
-    requires old_schema { IsSchema sides.now.old.now }
-    requires new_schema { IsSchema sides.now.new.now }
-    requires fits { Fits (shape_of sides.now.old.now) message.now }
-    requires encoded { HasEncoding (shape_of sides.now.old.now) message.now }
-    requires read_fits { Fits (shape_of sides.now.new.now) read.now }
-    ensures { IfOk result (λ is. is ≡ is_same V.NAME sides.now.old.now sides.now.new.now
+    requires old_schema { IsSchema graph.now.old.now }
+    requires new_schema { IsSchema graph.now.new.now }
+    requires fits { Fits (shape_of graph.now.old.now) message.now }
+    requires encoded { HasEncoding (shape_of graph.now.old.now) message.now }
+    requires read_fits { Fits (shape_of graph.now.new.now) read.now }
+    ensures { IfOk result (λ is. is ≡ is_same graph.now.view graph.now.old.now graph.now.new.now
         message.now read.now) }
 {
     // A type may have many more fields than a message has contents, so only these are gone through.
-    if !are_same_contents(alloc, sides, message.contents(), message, read)? {
+    if !are_same_contents(alloc, graph, message.contents(), message, read)? {
         return Ok(false);
     }
-    if !are_same_others(alloc, sides, read.contents(), message, read)? {
+    if !are_same_others(alloc, graph, read.contents(), message, read)? {
         return Ok(false);
     }
-    is_same_outside(alloc, sides, message, read)
+    is_same_outside(alloc, graph, message, read)
 }

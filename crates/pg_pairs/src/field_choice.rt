@@ -5,17 +5,18 @@ ghost use Rattle.pg_schema.specs.Parts.{field_shape, shape_of};
 ghost use Rattle.pg_schema.specs.Shape.{field_at, fields};
 ghost use Rattle.pg_pairs.specs.Choices.{affordable, choice_of, choices_beside, field_choices, map_choices, plain_choices, singular_cost, unlike_cost, zero_counts};
 ghost use Rattle.pg_pairs.specs.Costs.{entry_cost, least_body, one_item};
-ghost use Rattle.pg_pairs.specs.SeenBy.{seen_by};
+ghost use Rattle.pg_pairs.specs.GraphView.{seen};
 
+use crate::beside::Beside;
 use crate::case::Case;
 use crate::choice::Choice;
 use crate::cost::{entry_cost, least_body, least_content, nonzero_body, one_item};
 use crate::element::are_like;
 use crate::gap_cost::{child_body, gap_body};
+use crate::priced::Priced;
 use crate::table::Table;
-use crate::view::View;
 use pg_dyn::MAX_ENCODING_LEN;
-use pg_schema::{Element, Field, Presence, Scalar, Schema, TypeId};
+use pg_schema::{Element, Field, Presence, Scalar, TypeId};
 use std::alloc::AllocError;
 
 /// Whether zero counts as an item of the old field beside the new one.
@@ -103,29 +104,20 @@ pub(crate) fn offer(
     Ok(())
 }
 
-/// Two schemas with the view and the table that their types are compared by.
-#[derive(Drop)]
-pub(crate) struct Between<'a, V, T> {
-    pub view: &'a V,
-    pub table: &'a T,
-    pub old: &'a Schema,
-    pub new: &'a Schema,
-}
-
 /// The choices of a field that is no map in either type.
-fn offer_plain<V: View, T: Table>(
-    between: &Between<'_, V, T>,
+fn offer_plain<T: Table>(
+    graph: &Priced<'_>,
+    table: &T,
     choices: &mut Vec<Choice>,
-    old: &Field,
-    new: &Field,
+    fields: &Beside<'_>,
 ) -> Result<(), AllocError>
-    requires { old.now.number < 2 ^ 29 }
+    requires { fields.now.old.now.number < 2 ^ 29 }
     ensures { OnOk result (choices.new.items
         ≡ choices.old.items ++ affordable
-        (plain_choices (seen_by V.View between.now.view.now between.now.old.now
-        between.now.new.now) (T.bounds between.now.table.now) (field_shape old.now)
-        (field_shape new.now))) }
+        (plain_choices (seen graph.now) (T.bounds table.now) (field_shape fields.now.old.now)
+        (field_shape fields.now.new.now))) }
 {
+    let (old, new) = (fields.old, fields.new);
     let number = old.number;
     let elements = (old.element, new.element);
     if !are_like(old.element, new.element) {
@@ -138,59 +130,60 @@ fn offer_plain<V: View, T: Table>(
         );
     }
     let zero = zero_counts(old, new);
-    let gap = gap_body(between.view, between.old, between.new, zero, elements);
-    let child = child_body(between.table, elements);
+    let gap = gap_body(graph, zero, elements);
+    let child = child_body(table, elements);
     offer(choices, number, Case::Gap, 0, item_cost(old, gap))?;
     offer(choices, number, Case::Child, 0, item_cost(old, child))?;
     offer(choices, number, Case::List, 0, singular_cost(old, new))
 }
 
 /// The choices of a field that is a map in both types, with those keys.
-fn offer_map<V: View, T: Table>(
-    between: &Between<'_, V, T>,
+fn offer_map<T: Table>(
+    graph: &Priced<'_>,
+    table: &T,
     choices: &mut Vec<Choice>,
-    old: &Field,
-    new: &Field,
+    fields: &Beside<'_>,
     keys: (Scalar, Scalar),
 ) -> Result<(), AllocError>
-    requires { old.now.number < 2 ^ 29 }
+    requires { fields.now.old.now.number < 2 ^ 29 }
     ensures { OnOk result (choices.new.items
         ≡ choices.old.items ++ affordable
-        (map_choices (seen_by V.View between.now.view.now between.now.old.now between.now.new.now)
-        (T.bounds between.now.table.now) (field_shape old.now)
-        (field_shape new.now) keys.0 keys.1)) }
+        (map_choices (seen graph.now)
+        (T.bounds table.now) (field_shape fields.now.old.now)
+        (field_shape fields.now.new.now) keys.0 keys.1)) }
 {
+    let (old, new) = (fields.old, fields.new);
     let number = old.number;
     let keys = (Element::Scalar(keys.0), Element::Scalar(keys.1));
     let values = (old.element, new.element);
     if !are_like(keys.0, keys.1) || !are_like(values.0, values.1) {
         return offer(choices, number, Case::Map, 0, Some(least_content(old)));
     }
-    let key_gap = gap_body(between.view, between.old, between.new, true, keys);
-    let value_gap = gap_body(between.view, between.old, between.new, true, values);
-    let child = child_body(between.table, values);
+    let key_gap = gap_body(graph, true, keys);
+    let value_gap = gap_body(graph, true, values);
+    let child = child_body(table, values);
     offer(choices, number, Case::Map, 1, key_cost(old, key_gap))?;
     offer(choices, number, Case::Map, 2, item_cost(old, value_gap))?;
     offer(choices, number, Case::Map, 2, item_cost(old, child))
 }
 
 /// Appends the choices of the field with one number, by case and part.
-pub(crate) fn offer_field<V: View, T: Table>(
-    between: &Between<'_, V, T>,
+pub(crate) fn offer_field<T: Table>(
+    graph: &Priced<'_>,
+    table: &T,
     choices: &mut Vec<Choice>,
-    old: &Field,
-    new: &Field,
+    fields: &Beside<'_>,
 ) -> Result<(), AllocError>
-    requires { old.now.number < 2 ^ 29 }
+    requires { fields.now.old.now.number < 2 ^ 29 }
     ensures { OnOk result (choices.new.items
         ≡ choices.old.items ++ affordable
-        (field_choices (seen_by V.View between.now.view.now between.now.old.now
-        between.now.new.now) (T.bounds between.now.table.now) (field_shape old.now)
-        (field_shape new.now))) }
+        (field_choices (seen graph.now) (T.bounds table.now) (field_shape fields.now.old.now)
+        (field_shape fields.now.new.now))) }
 {
+    let (old, new) = (fields.old, fields.new);
     match (old.presence, new.presence) {
         (Presence::Map { key: old_key }, Presence::Map { key: new_key }) => {
-            offer_map(between, choices, old, new, (old_key, new_key))
+            offer_map(graph, table, choices, fields, (old_key, new_key))
         }
         (Presence::Map { .. }, _) | (_, Presence::Map { .. }) => {
             offer(
@@ -201,13 +194,14 @@ pub(crate) fn offer_field<V: View, T: Table>(
                 Some(unlike_cost(old, new)),
             )
         }
-        _ => offer_plain(between, choices, old, new),
+        _ => offer_plain(graph, table, choices, fields),
     }
 }
 
 /// Appends the choices of a field with the new type's field of its number.
-pub(crate) fn offer_beside<V: View, T: Table>(
-    between: &Between<'_, V, T>,
+pub(crate) fn offer_beside<T: Table>(
+    graph: &Priced<'_>,
+    table: &T,
     choices: &mut Vec<Choice>,
     type_id: TypeId,
     field: &Field,
@@ -215,12 +209,15 @@ pub(crate) fn offer_beside<V: View, T: Table>(
     requires { field.now.number < 2 ^ 29 }
     ensures { OnOk result (choices.new.items
         ≡ choices.old.items ++ affordable
-        (choices_beside (seen_by V.View between.now.view.now between.now.old.now
-        between.now.new.now) (T.bounds between.now.table.now) (field_shape field.now)
-        (field_at (fields (shape_of between.now.new.now) type_id) field.now.number))) }
+        (choices_beside (seen graph.now) (T.bounds table.now) (field_shape field.now)
+        (field_at (fields (shape_of graph.now.new.now) type_id) field.now.number))) }
 {
-    match between.new.field(type_id, field.number) {
-        Some(beside) => offer_field(between, choices, field, beside),
-        None => Ok(()),
-    }
+    let Some(beside) = graph.new.field(type_id, field.number) else {
+        return Ok(());
+    };
+    let fields = Beside {
+        old: field,
+        new: beside,
+    };
+    offer_field(graph, table, choices, &fields)
 }

@@ -7,16 +7,17 @@ ghost use Rattle.pg_schema.specs.declared.parts.enum_type.EnumType.{EnumType};
 ghost use Rattle.pg_dyn.specs.Coding.{scalar_form};
 ghost use Rattle.pg_pairs.specs.Choices.{child_body, gap_body};
 ghost use Rattle.pg_pairs.specs.Gaps.{body_length, gap, item_of};
-ghost use Rattle.pg_pairs.specs.SeenBy.{seen_by};
+ghost use Rattle.pg_pairs.specs.GraphView.{seen};
 
 use crate::cost::{varint_bytes, with_length};
 use crate::descent::child_pair;
 use crate::gap_kind::Gap;
+use crate::priced::Priced;
 use crate::scalar_gap::gap;
 use crate::table::Table;
 use crate::view::View;
 use pg_dyn::complement_64;
-use pg_schema::{Element, EnumId, Scalar, Schema};
+use pg_schema::{Element, EnumId, Scalar};
 
 /// The body of the gap's item between two scalar types.
 fn scalar_gap_body(old: Scalar, new: Scalar) -> Option<u64>
@@ -40,43 +41,29 @@ fn number_bytes(number: i32) -> u64
 
 /// The body of the least number that isn't alike in two enums.
 #[tactic(auto, unfolding(pg_dyn::specs::Coding::word_bytes))]
-fn enum_gap_body<V: View>(
-    view: &V,
-    old: &Schema,
-    new: &Schema,
-    zero: bool,
-    pair: (EnumId, EnumId),
-) -> Option<u64>
-    ensures body { result ≡ gap_body (seen_by V.View view.now old.now new.now) zero
+fn enum_gap_body(graph: &Priced<'_>, zero: bool, pair: (EnumId, EnumId)) -> Option<u64>
+    ensures body { result ≡ gap_body (seen graph.now) zero
         (Element.Enum pair.0) (Element.Enum pair.1) }
     ensures few { IfSome result (λ body. body < 2 ^ 33) }
 {
-    let (Some(from), Some(to)) = (old.enum_type(pair.0), new.enum_type(pair.1)) else {
+    let (Some(from), Some(to)) = (graph.old.enum_type(pair.0), graph.new.enum_type(pair.1)) else {
         return None;
     };
-    let number = view.least(from, to, zero)?;
+    let number = graph.view.least(from, to, zero)?;
     Some(number_bytes(number))
 }
 
 /// The least body of an item that counts and that the new element's reader doesn't read as the same
 /// item; `None` where each is. A scalar beside an enum goes by int32.
-pub(crate) fn gap_body<V: View>(
-    view: &V,
-    old: &Schema,
-    new: &Schema,
-    zero: bool,
-    pair: (Element, Element),
-) -> Option<u64>
-    ensures body { result ≡ gap_body (seen_by V.View view.now old.now new.now) zero pair.0 pair.1 }
+pub(crate) fn gap_body(graph: &Priced<'_>, zero: bool, pair: (Element, Element)) -> Option<u64>
+    ensures body { result ≡ gap_body (seen graph.now) zero pair.0 pair.1 }
     ensures few { IfSome result (λ body. body < 2 ^ 33) }
 {
     match pair {
         (Element::Scalar(from), Element::Scalar(to)) => scalar_gap_body(from, to),
         (Element::Scalar(from), Element::Enum(_)) => scalar_gap_body(from, Scalar::Int32),
         (Element::Enum(_), Element::Scalar(to)) => scalar_gap_body(Scalar::Int32, to),
-        (Element::Enum(from), Element::Enum(to)) => {
-            enum_gap_body(view, old, new, zero, (from, to))
-        }
+        (Element::Enum(from), Element::Enum(to)) => enum_gap_body(graph, zero, (from, to)),
         _ => None,
     }
 }

@@ -8,17 +8,18 @@ ghost use Rattle.pg_dyn.specs.Seen.{leaf_of, IsKey};
 ghost use Rattle.pg_dyn.specs.Coding.{scalar_form, Raw};
 ghost use Rattle.pg_dyn.specs.Message.{Bytes, Msg};
 ghost use Rattle.pg_pairs.specs.Gaps.{gap, gap_item, item_of};
-ghost use Rattle.pg_pairs.specs.SeenBy.{seen_by};
+ghost use Rattle.pg_pairs.specs.GraphView.{seen};
 ghost use Rattle.pg_pairs.specs.Carried.{item_by};
 ghost use Rattle.pg_pairs.specs.CarriedItems.{is_child_of, leaf_by, value_item};
 ghost use Rattle.pg_dyn.specs.Fits.{Fits};
 ghost use Rattle.pg_dyn.specs.Kept.{message_of};
 
 use crate::gap_kind::Gap;
+use crate::priced::Priced;
 use crate::scalar_gap::gap;
 use crate::view::View;
 use pg_dyn::{Integer, Message, Value};
-use pg_schema::{Element, EnumId, Scalar, Schema};
+use pg_schema::{Element, EnumId, Scalar};
 use std::alloc::{AllocError, Global};
 
 /// An item with a short body: zero; one that isn't zero; or zero but for integers, of which it is
@@ -28,14 +29,6 @@ pub(crate) enum Small {
     Zero,
     NotZero,
     Far,
-}
-
-/// Two schemas and the view that their enums are compared by.
-#[derive(Drop)]
-pub(crate) struct Sides<'a, V> {
-    pub view: &'a V,
-    pub old: &'a Schema,
-    pub new: &'a Schema,
 }
 
 /// Such an item of bytes, or of a text.
@@ -127,37 +120,31 @@ fn scalar_gap_item(alloc: Global, old: Scalar, new: Scalar) -> Result<Option<Val
 }
 
 /// The least number of an old enum that isn't alike in the new one.
-fn enum_gap_item<V: View>(
-    view: &V,
-    old: &Schema,
-    new: &Schema,
-    zero: bool,
-    pair: (EnumId, EnumId),
-) -> Option<Value>
+fn enum_gap_item(graph: &Priced<'_>, zero: bool, pair: (EnumId, EnumId)) -> Option<Value>
     ensures item { option_map leaf_of result
-        ≡ gap_item (seen_by V.View view.now old.now new.now) zero (Element.Enum pair.0)
+        ≡ gap_item (seen graph.now) zero (Element.Enum pair.0)
         (Element.Enum pair.1) }
     ensures key { IfSome result IsKey }
     ensures fits { IfSome result (IsItemOf Scalar.Int32) }
 {
-    let (Some(from), Some(to)) = (old.enum_type(pair.0), new.enum_type(pair.1)) else {
+    let (Some(from), Some(to)) = (graph.old.enum_type(pair.0), graph.new.enum_type(pair.1)) else {
         return None;
     };
-    let number = view.least(from, to, zero)?;
+    let number = graph.view.least(from, to, zero)?;
     Some(Value::Int(Integer::new(i128::from(number))))
 }
 
 /// The item of the gap between two elements, where there is one: one that counts, with the least
 /// body of those that the new element's reader doesn't read as the same item. A scalar beside an
 /// enum goes by int32.
-pub(crate) fn gap_item<V: View>(
+pub(crate) fn gap_item(
     alloc: Global,
-    sides: &Sides<'_, V>,
+    graph: &Priced<'_>,
     zero: bool,
     pair: (Element, Element),
 ) -> Result<Option<Value>, AllocError>
     ensures item { IfOk result (λ item. option_map leaf_of item
-        ≡ gap_item (seen_by V.View sides.now.view.now sides.now.old.now sides.now.new.now) zero
+        ≡ gap_item (seen graph.now) zero
         pair.0 pair.1) }
     ensures key { IfOk result (λ item. IfSome item IsKey) }
     ensures fits { IfOk result (λ item. (shape : Shape) → IfSome item (ItemFits shape pair.0)) }
@@ -166,9 +153,7 @@ pub(crate) fn gap_item<V: View>(
         (Element::Scalar(from), Element::Scalar(to)) => scalar_gap_item(alloc, from, to),
         (Element::Scalar(from), Element::Enum(_)) => scalar_gap_item(alloc, from, Scalar::Int32),
         (Element::Enum(_), Element::Scalar(to)) => scalar_gap_item(alloc, Scalar::Int32, to),
-        (Element::Enum(from), Element::Enum(to)) => {
-            Ok(enum_gap_item(sides.view, sides.old, sides.new, zero, (from, to)))
-        }
+        (Element::Enum(from), Element::Enum(to)) => Ok(enum_gap_item(graph, zero, (from, to))),
         _ => Ok(None),
     }
 }

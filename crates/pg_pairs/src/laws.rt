@@ -1,6 +1,5 @@
 //! Laws about the definitions. Each is the contract of a function that does nothing.
 
-ghost use Rattle.std.specs.Prelude.{◌≡◌};
 ghost use Rattle.pg_pairs.specs.Carried.{EachChildCostsLess, EachChoiceIsCarried};
 ghost use Rattle.pg_pairs.specs.Causes.{CausesAreOwn, NamesAlone, PricesAreNear};
 ghost use Rattle.pg_pairs.specs.Cheapest.{CheapestIsLeast};
@@ -14,17 +13,15 @@ ghost use Rattle.pg_pairs.specs.Gaps.{GapTable};
 ghost use Rattle.pg_pairs.specs.HomeExamples.{HomeExamples};
 ghost use Rattle.pg_pairs.specs.Laws.{CoveringBounds, ExactIsLeast, NoneIsCompatible};
 ghost use Rattle.pg_pairs.specs.LeastCosts.{LeastCostsAreExact};
-ghost use Rattle.pg_pairs.specs.NamedView.{seen_under};
+ghost use Rattle.pg_pairs.specs.NamedView.{LeastIsShortest, NumbersAreAlike};
 ghost use Rattle.pg_pairs.specs.ReadBack.{SeenItemsHaveOneBody};
 ghost use Rattle.pg_pairs.specs.Reached.{FromOneRoot};
 ghost use Rattle.pg_pairs.specs.SmallPairs.{SmallPairs};
 ghost use Rattle.pg_pairs.specs.EnumView.{IsEnumView};
-ghost use Rattle.pg_pairs.specs.SeenBy.{seen_by};
-ghost use Rattle.pg_pairs.specs.Views.{NumbersAreAlike};
+ghost use Rattle.pg_pairs.specs.GraphView.{seen};
 
-use crate::view::View;
+use crate::priced::Priced;
 use pg_dyn::laws::{kept_by_number, reads_again};
-use pg_schema::Schema;
 
 /// Small pairs of types with all their choices.
 pub fn small_pairs()
@@ -65,14 +62,17 @@ pub fn numbers_are_alike()
     ensures { NumbersAreAlike }
 {}
 
-/// What a view sees between two schemas keeps the view's law, for enums that aren't there too.
-pub fn sees<V: View>(_view: &V, _old: &Schema, _new: &Schema)
-    ensures { IsEnumView (seen_by V.View _view.now _old.now _new.now) }
+/// The least number that the view of a name gives is, of the numbers from -2,147,483,648 to
+/// 2,147,483,647 that aren't alike, without 0 where this doesn't count, one with the shortest body,
+/// and of these the least; it gives none only where there is no such number.
+pub fn least_is_shortest()
+    ensures { LeastIsShortest }
 {}
 
-/// A view sees between two schemas what the view of its name does.
-pub fn sees_by_name<V: View>(_view: &V, _old: &Schema, _new: &Schema)
-    ensures { seen_by V.View _view.now _old.now _new.now ≡ seen_under V.NAME _old.now _new.now }
+/// What the view of a graph sees between its schemas keeps that law, for enums that aren't there
+/// too.
+pub fn sees(_graph: &Priced<'_>)
+    ensures { IsEnumView (seen _graph.now) }
 {}
 
 /// A content that breaks alone has at least the bytes of one of its field's choices: of scalars,

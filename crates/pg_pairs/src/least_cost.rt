@@ -7,15 +7,15 @@ ghost use Rattle.pg_schema.specs.Parts.{field_shape, shape_of};
 ghost use Rattle.pg_schema.specs.Shape.{fields};
 ghost use Rattle.pg_pairs.specs.Cheapest.{cheapest, first_of};
 ghost use Rattle.pg_pairs.specs.Choices.{affordable, all_choices, choices};
-ghost use Rattle.pg_pairs.specs.SeenBy.{seen_by};
+ghost use Rattle.pg_pairs.specs.GraphView.{seen};
 
 use crate::choice::{Choice, Pair};
-use crate::field_choice::{Between, offer_beside};
+use crate::field_choice::offer_beside;
 use crate::least_member::meet;
 use crate::member::new_oneof;
+use crate::priced::Priced;
 use crate::table::Table;
-use crate::view::View;
-use pg_schema::{Field, Schema, TypeId};
+use pg_schema::{Field, TypeId};
 use std::alloc::{AllocError, Global};
 use std::collections::HashMap;
 
@@ -48,17 +48,18 @@ fn first_of(former: Option<Choice>, later: Option<Choice>) -> Option<Choice>
 
 /// The cheapest choice of those fields. They are gone through from the last on: of all choices of a
 /// field with later ones of its new oneof the cheapest is enough.
-fn cheapest_of<V: View, T: Table>(
+fn cheapest_of<T: Table>(
     alloc: Global,
-    between: &Between<'_, V, T>,
+    graph: &Priced<'_>,
+    table: &T,
     type_id: TypeId,
     list: &[Field],
 ) -> Result<Option<Choice>, AllocError>
     requires { AllByRecursion (λ (f : Field). f.number < 2 ^ 29) list.now }
     ensures { IfOk result (λ found. found
         ≡ cheapest (affordable (all_choices
-        (seen_by V.View between.now.view.now between.now.old.now between.now.new.now)
-        (T.bounds between.now.table.now) (fields (shape_of between.now.new.now) type_id)
+        (seen graph.now)
+        (T.bounds table.now) (fields (shape_of graph.now.new.now) type_id)
         (map field_shape list.now)))) }
 {
     let mut kept = HashMap::new(alloc);
@@ -69,12 +70,12 @@ fn cheapest_of<V: View, T: Table>(
         at -= 1;
         let field = &list[at];
         choices.clear();
-        offer_beside(between, &mut choices, type_id, field)?;
+        offer_beside(graph, table, &mut choices, type_id, field)?;
         meet(
             &mut choices,
             &mut kept,
             field,
-            new_oneof(between.new, type_id, field),
+            new_oneof(graph.new, type_id, field),
         )?;
         found = first_of(first_cheapest(&choices), found);
     }
@@ -85,28 +86,20 @@ fn cheapest_of<V: View, T: Table>(
 /// `None` where it has no choice. Children cost what the table says of them.
 ///
 /// Refused only where memory is.
-pub fn cheapest<V: View, T: Table>(
+pub fn cheapest<T: Table>(
     alloc: Global,
-    view: &V,
-    old: &Schema,
-    new: &Schema,
+    graph: &Priced<'_>,
     pair: Pair,
     table: &T,
 ) -> Result<Option<Choice>, AllocError>
     ensures { IfOk result (λ found. found
-        ≡ cheapest (choices (seen_by V.View view.now old.now new.now) (T.bounds table.now)
-        (shape_of old.now) (shape_of new.now) pair)) }
+        ≡ cheapest (choices (seen graph.now) (T.bounds table.now)
+        (shape_of graph.now.old.now) (shape_of graph.now.new.now) pair)) }
 {
     // What holds of every schema.
-    old.parts();
-    let between = Between {
-        view,
-        table,
-        old,
-        new,
-    };
-    match old.message_type(pair.old) {
-        Some(message_type) => cheapest_of(alloc, &between, pair.new, &message_type.fields),
+    graph.old.parts();
+    match graph.old.message_type(pair.old) {
+        Some(message_type) => cheapest_of(alloc, graph, table, pair.new, &message_type.fields),
         None => Ok(None),
     }
 }

@@ -2,6 +2,7 @@
 //! message is that shows it.
 #![tactic(auto)]
 
+mod beside;
 mod breaking;
 mod case;
 mod causing;
@@ -29,6 +30,7 @@ mod scalar_gap;
 mod shown;
 mod table;
 mod view;
+mod view_name;
 mod walking;
 mod witness_content;
 mod witness_message;

@@ -219,16 +219,12 @@ fn least_missing(values: &[EnumValue], others: &[EnumValue], zero: bool) -> Opti
 
 impl View for Names {
     ghost use Rattle.pg_dyn.specs.declared.view_name.ViewName.TheVariants as views;
-    ghost use Rattle.pg_pairs.specs.LeastByName.{least_by_name};
-    ghost use Rattle.pg_pairs.specs.NameLaws.{least_by_name_is};
 
-    const NAME: ViewName = ViewName::Names;
+    ghost name_of = { λ _. views.Names };
 
-    ghost NAME = { views.Names };
-
-    ghost least_differing = { λ _. least_by_name };
-
-    ghost least_is = { λ _. least_by_name_is };
+    fn name(&self) -> ViewName {
+        ViewName::Names
+    }
 
     fn alike(&self, old: &EnumType, new: &EnumType, number: i32) -> bool {
         !(has_number(&old.values, number) && has_number(&new.values, number))

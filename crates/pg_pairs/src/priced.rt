@@ -6,7 +6,6 @@ ghost use Rattle.pg_schema.specs.Shape.{field_at, fields};
 ghost use Rattle.pg_pairs.specs.Covering.{children, children_beside};
 ghost use Rattle.pg_pairs.specs.Edges.{ArePriced, edge_price, edge_to, edges, is_pair, no_bounds, part_of};
 ghost use Rattle.pg_pairs.specs.LeastCosts.{least_cost};
-ghost use Rattle.pg_pairs.specs.SeenBy.{seen_by};
 
 use crate::choice::{Choice, Pair};
 use crate::cost::{one_item, with_length};
@@ -17,7 +16,7 @@ use crate::prices::Prices;
 use crate::table::NoBounds;
 use crate::view::View;
 use crate::work::Work;
-use pg_dyn::MAX_ENCODING_LEN;
+use pg_dyn::{MAX_ENCODING_LEN, ViewName};
 use pg_schema::{Field, Presence, Schema};
 use std::alloc::{AllocError, Global};
 
@@ -25,24 +24,28 @@ use std::alloc::{AllocError, Global};
 /// costs the least that its choices do; it has an edge for each field that holds messages in both
 /// types, in maps as values under like keys, which costs what the choice of such a child does.
 #[derive(Drop)]
-pub struct Priced<'a, V> {
-    pub view: &'a V,
+pub struct Priced<'a> {
+    pub view: ViewName,
     pub old: &'a Schema,
     pub new: &'a Schema,
     ghost priced: { ∥ ArePriced (shape_of old.now) (shape_of new.now) ∥₁ },
 }
 
-impl<'a, V> Priced<'a, V> {
+impl<'a> Priced<'a> {
     /// The graph of these schemas under the view.
-    pub fn new(view: &'a V, old: &'a Schema, new: &'a Schema) -> Self
-        ensures view { result.view.now ≡ view.now }
+    pub fn new<V: View>(view: &V, old: &'a Schema, new: &'a Schema) -> Self
+        ensures view { result.view ≡ V.name_of view.now }
         ensures old { result.old.now ≡ old.now }
         ensures new { result.new.now ≡ new.now }
     {
         // What holds of every schema.
         old.parts();
         new.parts();
-        Priced { view, old, new }
+        Priced {
+            view: view.name(),
+            old,
+            new,
+        }
     }
 }
 
@@ -103,10 +106,11 @@ fn cost_of(choice: Option<Choice>) -> Option<u32>
     choice.map(|choice| choice.cost)
 }
 
-impl<'a, V: View> Prices for Priced<'a, V> {
+impl<'a> Prices for Priced<'a> {
     ghost use Rattle.std.proofs.Math.Logic.{∥∥₁_elim};
     ghost use Rattle.std.proofs.Props.{props};
     ghost use Rattle.pg_pairs.specs.EdgeChildren.{edge_leads};
+    ghost use Rattle.pg_pairs.specs.NamedView.{seen_under};
 
     ghost is_known = { λ it pair. is_pair (shape_of it.old.now) (shape_of it.new.now) pair };
 
@@ -115,7 +119,7 @@ impl<'a, V: View> Prices for Priced<'a, V> {
     ghost edges_of = { λ it pair. edges (shape_of it.old.now) (shape_of it.new.now) pair };
 
     ghost base_of = { λ it pair. least_cost
-        (seen_by V.View it.view.now it.old.now it.new.now)
+        (seen_under it.view it.old.now it.new.now)
         no_bounds (shape_of it.old.now) (shape_of it.new.now) pair };
 
     ghost price_of = { λ it edge bound. edge_price (shape_of it.old.now) edge bound };
@@ -134,7 +138,7 @@ impl<'a, V: View> Prices for Priced<'a, V> {
 
     ghost bases_are_lengths = { λ it pair known. ∥∥₁_elim it.priced (Prim.hlevel props)
         (λ priced. priced.bases_are_lengths
-        (seen_by V.View it.view.now it.old.now it.new.now)
+        (seen_under it.view it.old.now it.new.now)
         pair) };
 
     ghost edges_cost_more = { λ it pair edge bound some known among. ∥∥₁_elim it.priced
@@ -156,7 +160,7 @@ impl<'a, V: View> Prices for Priced<'a, V> {
     }
 
     fn base(&self, alloc: Global, pair: Pair, work: &mut Work) -> Result<Option<u32>, AllocError> {
-        let choice = cheapest(alloc, self.view, self.old, self.new, pair, &NoBounds)?;
+        let choice = cheapest(alloc, self, pair, &NoBounds)?;
         work.opened += 1;
         Ok(cost_of(choice))
     }

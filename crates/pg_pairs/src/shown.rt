@@ -13,7 +13,7 @@ ghost use Rattle.pg_dyn.specs.Message.{leaf_eq};
 ghost use Rattle.pg_pairs.specs.Comparing.{IsSingle, keyed, keyed_if, keyed_shown};
 ghost use Rattle.pg_pairs.specs.HeldItems.{item_value};
 
-use crate::witness_content::Beside;
+use crate::beside::Beside;
 use pg_dyn::{ContentRef, ValueRef};
 use pg_schema::{Field, Presence};
 

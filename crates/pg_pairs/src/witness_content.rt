@@ -13,24 +13,18 @@ ghost use Rattle.pg_dyn.specs.Seen.{leaf_of, IsKey};
 ghost use Rattle.pg_pairs.specs.Carried.{alone, apart_item, apart_leaf, carried_field, child_alone, entry_message, item_by, key_alone, key_of, leaf_alone, least_key, least_part, lost_onto, unlike_message, value_alone};
 ghost use Rattle.pg_pairs.specs.CarriedItems.{apart_small, content_alone, has_content, has_entry, has_value, is_child_of, IsTakenBy, leaf_by, Puts, value_item};
 ghost use Rattle.pg_pairs.specs.Gaps.{gap_item};
-ghost use Rattle.pg_pairs.specs.SeenBy.{seen_by};
+ghost use Rattle.pg_pairs.specs.GraphView.{seen};
 
+use crate::beside::Beside;
 use crate::case::Case;
 use crate::choice::Choice;
 use crate::element::are_like;
 use crate::field_choice::zero_counts;
-use crate::item::{Sides, Small, child_item, gap_item, small_item, small_leaf};
-use crate::view::View;
+use crate::item::{Small, child_item, gap_item, small_item, small_leaf};
+use crate::priced::Priced;
 use pg_dyn::{Content, Message, Value};
 use pg_schema::{Element, Field, Presence, Scalar};
 use std::alloc::{AllocError, Global};
-
-/// A field of the old type and the new type's field of its number.
-#[derive(Drop)]
-pub(crate) struct Beside<'a> {
-    pub old: &'a Field,
-    pub new: &'a Field,
-}
 
 /// A content of one item, of a field that is no map.
 fn plain_content(alloc: Global, field: &Field, value: Value) -> Result<Content, AllocError>
@@ -208,26 +202,26 @@ fn key_of(presence: Presence) -> Scalar
 }
 
 /// An entry whose key is the gap's item, where there is one.
-fn key_gap_content<V: View>(
+fn key_gap_content(
     alloc: Global,
-    sides: &Sides<'_, V>,
+    graph: &Priced<'_>,
     field: &Field,
     keys: (Scalar, Scalar),
 ) -> Result<Option<Content>, AllocError>
     ensures some { IfOk result (λ found. is_some found
-        ≡ is_some (gap_item (seen_by V.View sides.now.view.now sides.now.old.now sides.now.new.now)
+        ≡ is_some (gap_item (seen graph.now)
         true (Element.Scalar keys.0) (Element.Scalar keys.1))) }
     ensures seen { IfOk result (λ found. IfSome found
         (λ content. content_alone field.now.number content
         ≡ key_alone field.now.number field.now.element
-        (gap_item (seen_by V.View sides.now.view.now sides.now.old.now sides.now.new.now) true
+        (gap_item (seen graph.now) true
         (Element.Scalar keys.0) (Element.Scalar keys.1)))) }
     ensures taken { IfOk result (λ found. (shape : Shape)
         → ElementFits (length shape) field.now.element
         → IfSome found (IsTakenBy shape (Presence.Map keys.0) field.now.element)) }
 {
     let keys = (Element::Scalar(keys.0), Element::Scalar(keys.1));
-    match gap_item(alloc, sides, true, keys)? {
+    match gap_item(alloc, graph, true, keys)? {
         Some(key) => {
             let value = small_item(alloc, field.element, Small::Zero)?;
             Ok(Some(entry_content(alloc, key, value)?))
@@ -262,25 +256,25 @@ fn child_entry(
 }
 
 /// An entry whose value is the gap's item, where there is one.
-fn value_gap_content<V: View>(
+fn value_gap_content(
     alloc: Global,
-    sides: &Sides<'_, V>,
+    graph: &Priced<'_>,
     fields: &Beside<'_>,
     key: Scalar,
 ) -> Result<Option<Content>, AllocError>
     ensures some { IfOk result (λ found. is_some found
-        ≡ is_some (gap_item (seen_by V.View sides.now.view.now sides.now.old.now sides.now.new.now)
+        ≡ is_some (gap_item (seen graph.now)
         true fields.now.old.now.element fields.now.new.now.element)) }
     ensures seen { IfOk result (λ found. IfSome found
         (λ content. content_alone fields.now.old.now.number content
         ≡ value_alone fields.now.old.now.number (zero_leaf (scalar_form key)) None
-        (gap_item (seen_by V.View sides.now.view.now sides.now.old.now sides.now.new.now) true
+        (gap_item (seen graph.now) true
         fields.now.old.now.element fields.now.new.now.element))) }
     ensures taken { IfOk result (λ found. (shape : Shape)
         → IfSome found (IsTakenBy shape (Presence.Map key) fields.now.old.now.element)) }
 {
     let (old, new) = (fields.old, fields.new);
-    match gap_item(alloc, sides, true, (old.element, new.element))? {
+    match gap_item(alloc, graph, true, (old.element, new.element))? {
         Some(value) => {
             let key = small_leaf(alloc, key, Small::Zero)?;
             Ok(Some(entry_content(alloc, key, value)?))
@@ -290,29 +284,29 @@ fn value_gap_content<V: View>(
 }
 
 /// An entry whose value is the child, or else the gap's item, where there is one.
-fn value_content<V: View>(
+fn value_content(
     alloc: Global,
-    sides: &Sides<'_, V>,
+    graph: &Priced<'_>,
     fields: &Beside<'_>,
     key: Scalar,
     child: Option<Message>,
 ) -> Result<Option<Content>, AllocError>
     ensures some { IfOk result (λ found. is_some found
         ≡ has_value fields.now.old.now.element child
-        (gap_item (seen_by V.View sides.now.view.now sides.now.old.now sides.now.new.now) true
+        (gap_item (seen graph.now) true
         fields.now.old.now.element fields.now.new.now.element)) }
     ensures seen { IfOk result (λ found. IfSome found
         (λ content. content_alone fields.now.old.now.number content
         ≡ value_alone fields.now.old.now.number (zero_leaf (scalar_form key))
         (option_map message_of child)
-        (gap_item (seen_by V.View sides.now.view.now sides.now.old.now sides.now.new.now) true
+        (gap_item (seen graph.now) true
         fields.now.old.now.element fields.now.new.now.element))) }
     ensures taken { IfOk result (λ found. (shape : Shape) → IfSome child (Fits shape)
         → IfSome found (IsTakenBy shape (Presence.Map key) fields.now.old.now.element)) }
 {
     match child {
         Some(child) => child_entry(alloc, fields.old, key, child),
-        None => value_gap_content(alloc, sides, fields, key),
+        None => value_gap_content(alloc, graph, fields, key),
     }
 }
 
@@ -350,21 +344,21 @@ fn apart_content(
 }
 
 /// The entry of a choice of a map.
-fn broken_entry<V: View>(
+fn broken_entry(
     alloc: Global,
-    sides: &Sides<'_, V>,
+    graph: &Priced<'_>,
     fields: &Beside<'_>,
     part: u32,
     child: Option<Message>,
 ) -> Result<Option<Content>, AllocError>
     ensures some { IfOk result (λ found. is_some found
         ≡ (is_map fields.now.old.now.presence && has_entry
-        (seen_by V.View sides.now.view.now sides.now.old.now sides.now.new.now)
+        (seen graph.now)
         (field_shape fields.now.old.now) (key_of fields.now.old.now.presence)
         (key_of fields.now.new.now.presence) fields.now.new.now.element part child)) }
     ensures seen { IfOk result (λ found. IfSome found
         (λ content. content_alone fields.now.old.now.number content
-        ≡ entry_message (seen_by V.View sides.now.view.now sides.now.old.now sides.now.new.now)
+        ≡ entry_message (seen graph.now)
         fields.now.old.now.number (key_of fields.now.old.now.presence)
         (key_of fields.now.new.now.presence) fields.now.old.now.element fields.now.new.now.element
         part (option_map message_of child))) }
@@ -377,28 +371,28 @@ fn broken_entry<V: View>(
     };
     let keys = (key, key_of(fields.new.presence));
     match part {
-        1 => key_gap_content(alloc, sides, fields.old, keys),
-        2 => value_content(alloc, sides, fields, key, child),
+        1 => key_gap_content(alloc, graph, fields.old, keys),
+        2 => value_content(alloc, graph, fields, key, child),
         _ => Ok(Some(apart_content(alloc, fields, keys)?)),
     }
 }
 
 /// The content of the old field that breaks in the message of a choice of that case and part, round
 /// the child where it has one. `None` where the field takes no such content.
-pub(crate) fn broken_content<V: View>(
+pub(crate) fn broken_content(
     alloc: Global,
-    sides: &Sides<'_, V>,
+    graph: &Priced<'_>,
     fields: &Beside<'_>,
     choice: &Choice,
     child: Option<Message>,
 ) -> Result<Option<Content>, AllocError>
     ensures some { IfOk result (λ found. is_some found
-        ≡ has_content (seen_by V.View sides.now.view.now sides.now.old.now sides.now.new.now)
+        ≡ has_content (seen graph.now)
         (field_shape fields.now.old.now)
         (field_shape fields.now.new.now) choice.now.case choice.now.part child) }
     ensures seen { IfOk result (λ found. IfSome found
         (λ content. content_alone fields.now.old.now.number content
-        ≡ carried_field (seen_by V.View sides.now.view.now sides.now.old.now sides.now.new.now)
+        ≡ carried_field (seen graph.now)
         (field_shape fields.now.old.now)
         (field_shape fields.now.new.now) choice.now.case choice.now.part
         (option_map message_of child))) }
@@ -411,12 +405,12 @@ pub(crate) fn broken_content<V: View>(
         Case::Unlike => Ok(Some(unlike_content(alloc, old, new)?)),
         Case::Gap => {
             let zero = zero_counts(old, new);
-            let item = gap_item(alloc, sides, zero, (old.element, new.element))?;
+            let item = gap_item(alloc, graph, zero, (old.element, new.element))?;
             some_content(alloc, old, item)
         }
         Case::Child => child_content(alloc, old, child),
         Case::List => lost_content(alloc, old, new),
-        Case::Map => broken_entry(alloc, sides, fields, choice.part, child),
+        Case::Map => broken_entry(alloc, graph, fields, choice.part, child),
         Case::Oneof => Ok(None),
     }
 }

@@ -11,13 +11,13 @@ ghost use Rattle.pg_pairs.specs.CarriedItems.{IsTakenBy};
 ghost use Rattle.pg_pairs.specs.Choices.{Table, choices};
 ghost use Rattle.pg_pairs.specs.Laws.{ReachedBy};
 ghost use Rattle.pg_pairs.specs.Among.{IsAmong};
-ghost use Rattle.pg_pairs.specs.SeenBy.{seen_by};
+ghost use Rattle.pg_pairs.specs.GraphView.{seen};
 
+use crate::beside::Beside;
 use crate::case::Case;
 use crate::choice::{Choice, Pair};
-use crate::item::Sides;
-use crate::view::View;
-use crate::witness_content::{Beside, broken_content, least_content};
+use crate::priced::Priced;
+use crate::witness_content::{broken_content, least_content};
 use pg_dyn::{Content, Message};
 use pg_schema::{Field, Schema, TypeId};
 use std::alloc::{AllocError, Global};
@@ -66,37 +66,36 @@ fn field_there(schema: &Schema, type_id: TypeId, number: u32) -> &Field
 /// type of that pair.
 ///
 /// Refused only where memory is; then the child is dropped.
-pub fn carry<V: View>(
+pub fn carry(
     alloc: Global,
-    view: &V,
-    old: &Schema,
-    new: &Schema,
+    graph: &Priced<'_>,
     pair: Pair,
     choice: &Choice,
     child: Option<Message>,
 ) -> Result<Message, AllocError>
-    requires choice { IsChoiceOf (seen_by V.View view.now old.now new.now) (shape_of old.now)
-        (shape_of new.now) pair choice.now }
-    requires child { ChildGiven (shape_of old.now)
-        (choice_child (shape_of old.now) (shape_of new.now) pair choice.now) child }
-    ensures fits { IfOk result (λ m. Fits (shape_of old.now) m) }
+    requires choice { IsChoiceOf (seen graph.now) (shape_of graph.now.old.now)
+        (shape_of graph.now.new.now) pair choice.now }
+    requires child { ChildGiven (shape_of graph.now.old.now)
+        (choice_child (shape_of graph.now.old.now) (shape_of graph.now.new.now) pair choice.now)
+        child }
+    ensures fits { IfOk result (λ m. Fits (shape_of graph.now.old.now) m) }
     ensures type_is { IfOk result (λ m. type_of m ≡ pair.old) }
     ensures made { IfOk result (λ m. message_of m
-        ≡ carried (seen_by V.View view.now old.now new.now) (shape_of old.now)
-        (shape_of new.now) pair choice.now (option_map message_of child)) }
+        ≡ carried (seen graph.now) (shape_of graph.now.old.now)
+        (shape_of graph.now.new.now) pair choice.now (option_map message_of child)) }
     ensures reached { IfOk result (λ m. (table : Table) →
-        IsAmong choice.now (choices (seen_by V.View view.now old.now new.now) table
-        (shape_of old.now) (shape_of new.now) pair)
-        → ChildReached (seen_by V.View view.now old.now new.now) (shape_of old.now)
-        (shape_of new.now) table (choice_child (shape_of old.now)
-        (shape_of new.now) pair choice.now) (option_map message_of child)
-        → ReachedBy (seen_by V.View view.now old.now new.now) (shape_of old.now)
-        (shape_of new.now) pair (message_of m) choice.now.cost) }
+        IsAmong choice.now (choices (seen graph.now) table
+        (shape_of graph.now.old.now) (shape_of graph.now.new.now) pair)
+        → ChildReached (seen graph.now) (shape_of graph.now.old.now)
+        (shape_of graph.now.new.now) table (choice_child (shape_of graph.now.old.now)
+        (shape_of graph.now.new.now) pair choice.now) (option_map message_of child)
+        → ReachedBy (seen graph.now) (shape_of graph.now.old.now)
+        (shape_of graph.now.new.now) pair (message_of m) choice.now.cost) }
 {
+    let (old, new) = (graph.old, graph.new);
     // What holds of every schema.
     old.parts();
     new.parts();
-    let sides = Sides { view, old, new };
     let field = field_there(old, pair.old, choice.number);
     let mut message = Message::empty(alloc, pair.old);
     if choice.case == Case::Oneof {
@@ -109,7 +108,7 @@ pub fn carry<V: View>(
         old: field,
         new: field_there(new, pair.new, choice.number),
     };
-    match broken_content(alloc, &sides, &fields, choice, child)? {
+    match broken_content(alloc, graph, &fields, choice, child)? {
         Some(content) => add(&mut message, old, field, content)?,
         // The field takes the content of each of its choices.
         None => unreachable!(),

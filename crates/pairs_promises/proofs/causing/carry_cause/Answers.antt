@@ -2,13 +2,13 @@ use Rattle.std.proofs.Common.{rules}
 use Rattle.pairs_promises.proofs.causing.carry_cause.Goals as goal
 
 pub returns-clause-fits : goal.returns-clause-fits
-returns-clause-fits g c = search rules
+returns-clause-fits c = search rules
 
 pub returns-clause-type_is : goal.returns-clause-type_is
-returns-clause-type_is g c = search rules
+returns-clause-type_is c = search rules
 
 pub returns-clause-made : goal.returns-clause-made
-returns-clause-made g c = search rules
+returns-clause-made c = search rules
 
 pub returns-clause-reached : goal.returns-clause-reached
-returns-clause-reached g c = search rules
+returns-clause-reached c = search rules

@@ -2,10 +2,10 @@ use Rattle.std.proofs.Common.{rules}
 use Rattle.pairs_promises.proofs.graph.base.Goals as goal
 
 pub returns-clause-cost : goal.returns-clause-cost
-returns-clause-cost g c = search rules
+returns-clause-cost c = search rules
 
 pub returns-clause-counted : goal.returns-clause-counted
-returns-clause-counted g c = search rules
+returns-clause-counted c = search rules
 
 pub returns-clause-unchanged : goal.returns-clause-unchanged
-returns-clause-unchanged g c = search rules
+returns-clause-unchanged c = search rules

@@ -2,7 +2,7 @@ use Rattle.std.proofs.Common.{rules}
 use Rattle.pairs_promises.proofs.graph.edge_cost.Goals as goal
 
 pub returns-clause-cost : goal.returns-clause-cost
-returns-clause-cost g c = search rules
+returns-clause-cost c = search rules
 
 pub returns-clause-counted : goal.returns-clause-counted
-returns-clause-counted g c = search rules
+returns-clause-counted c = search rules

@@ -2,4 +2,4 @@ use Rattle.pg_pairs.specs.Edges.{no_bounds}
 use Rattle.pg_pairs.proofs.causing.carry_cause.Goals as goal
 
 pub carry-requires-clause-choice : goal.carry-requires-clause-choice
-carry-requires-clause-choice g c = (no_bounds, c.requires)
+carry-requires-clause-choice c = (no_bounds, c.requires)

@@ -10,38 +10,38 @@ use Rattle.pg_pairs.proofs.SameSteps.{held_weight, total}
 use Rattle.pg_pairs.proofs.comparing.+same.Given as goal
 
 abbrev pub decreases-is_same_item : goal.decreases-is_same_item
-decreases-is_same_item g l = 8 * held_weight l.value.now
+decreases-is_same_item l = 8 * held_weight l.value.now
 
 abbrev pub decreases-is_same_content : goal.decreases-is_same_content
-decreases-is_same_content g l = 8 * total (keyed l.content.now) + 1
+decreases-is_same_content l = 8 * total (keyed l.content.now) + 1
 
 abbrev pub decreases-is_same_field : goal.decreases-is_same_field
-decreases-is_same_field g l = 8 * weight l.message.now - 6
+decreases-is_same_field l = 8 * weight l.message.now - 6
 
 abbrev pub decreases-is_same_at : goal.decreases-is_same_at
-decreases-is_same_at g l = 8 * weight l.message.now - 5
+decreases-is_same_at l = 8 * weight l.message.now - 5
 
 abbrev pub decreases-is_same_other : goal.decreases-is_same_other
-decreases-is_same_other g l = 8 * weight l.message.now - 4
+decreases-is_same_other l = 8 * weight l.message.now - 4
 
 abbrev pub decreases-are_same_contents : goal.decreases-are_same_contents
-decreases-are_same_contents g l = 8 * weight l.message.now - 4
+decreases-are_same_contents l = 8 * weight l.message.now - 4
 
 abbrev pub decreases-are_same_others : goal.decreases-are_same_others
-decreases-are_same_others g l = 8 * weight l.message.now - 3
+decreases-are_same_others l = 8 * weight l.message.now - 3
 
 abbrev pub decreases-is_same_message : goal.decreases-is_same_message
-decreases-is_same_message g l = 8 * weight l.message.now - 2
+decreases-is_same_message l = 8 * weight l.message.now - 2
 
 abbrev pub invariant-are_same_contents-loop-number : goal.invariant-are_same_contents-loop-number
-invariant-are_same_contents-loop-number g l =
-    AllByRecursion (λ (c : ℕ × ContentRef). is_same_if g.V.View.NAME l.sides.old.now l.sides.new.now l.message l.read (field_at (fields (shape_of l.sides.old.now) (type_of l.message)) c.0) ≡ true) (take l.number-index l.contents)
+invariant-are_same_contents-loop-number l =
+    AllByRecursion (λ (c : ℕ × ContentRef). is_same_if l.graph.view l.graph.old.now l.graph.new.now l.message l.read (field_at (fields (shape_of l.graph.old.now) (type_of l.message)) c.0) ≡ true) (take l.number-index l.contents)
 
 abbrev pub invariant-are_same_others-loop-number : goal.invariant-are_same_others-loop-number
-invariant-are_same_others-loop-number g l =
-    AllByRecursion (λ (c : ℕ × ContentRef). is_same_if g.V.View.NAME l.sides.old.now l.sides.new.now l.message l.read (field_at (fields (shape_of l.sides.old.now) (type_of l.message)) c.0) ≡ true) (take l.number-index l.others)
+invariant-are_same_others-loop-number l =
+    AllByRecursion (λ (c : ℕ × ContentRef). is_same_if l.graph.view l.graph.old.now l.graph.new.now l.message l.read (field_at (fields (shape_of l.graph.old.now) (type_of l.message)) c.0) ≡ true) (take l.number-index l.others)
 
 abbrev pub invariant-is_same_content-loop-at : goal.invariant-is_same_content-loop-at
-invariant-is_same_content-loop-at g l =
-    all_match g.V.View.NAME l.sides.old.now l.sides.new.now (field_shape l.fields.old.now) (field_shape l.fields.new.now) (drop l.at (keyed l.content)) (drop l.at (keyed l.read))
-    ≡ all_match g.V.View.NAME l.sides.old.now l.sides.new.now (field_shape l.fields.old.now) (field_shape l.fields.new.now) (keyed l.content) (keyed l.read)
+invariant-is_same_content-loop-at l =
+    all_match l.graph.view l.graph.old.now l.graph.new.now (field_shape l.fields.old.now) (field_shape l.fields.new.now) (drop l.at (keyed l.content)) (drop l.at (keyed l.read))
+    ≡ all_match l.graph.view l.graph.old.now l.graph.new.now (field_shape l.fields.old.now) (field_shape l.fields.new.now) (keyed l.content) (keyed l.read)

@@ -1,5 +1,5 @@
-use Rattle.pg_pairs.proofs.EnumViews as EnumViews
+use Rattle.pg_pairs.proofs.NamedViews as NamedViews
 use Rattle.pg_pairs.proofs.laws.numbers_are_alike.Goals as goal
 
 pub returns : goal.returns
-returns c = EnumViews.numbers_are_alike
+returns c = NamedViews.numbers_are_alike

@@ -1,15 +1,15 @@
 use Rattle.std.proofs.Common.{map, drop, arith}
 use Rattle.pg_schema.specs.Parts.{field_shape, shape_of}
 use Rattle.pg_schema.specs.Shape.{fields}
-use Rattle.pg_pairs.specs.SeenBy.{seen_by}
+use Rattle.pg_pairs.specs.GraphView.{seen}
 use Rattle.pg_pairs.proofs.CheapestSteps.{none_at_end, kept_at_end, found_before, kept_before}
 use Rattle.pg_pairs.proofs.least_cost.cheapest_of.Goals as goal
 
 pub loop-at-init : goal.loop-at-init
 loop-at-init g c = record {
   place = omega arith;
-  found = none_at_end (seen_by g.V.View c.args.between.now.view.now c.args.between.now.old.now c.args.between.now.new.now) (g.T.Table.bounds c.args.between.now.table.now) (fields (shape_of c.args.between.now.new.now) c.args.type_id) c.args.list.now;
-  kept = kept_at_end (fields (shape_of c.args.between.now.new.now) c.args.type_id) c.args.list.now c.new-kept.result c.new-kept.ensures.empty;
+  found = none_at_end (seen c.args.graph.now) (g.T.Table.bounds c.args.table.now) (fields (shape_of c.args.graph.now.new.now) c.args.type_id) c.args.list.now;
+  kept = kept_at_end (fields (shape_of c.args.graph.now.new.now) c.args.type_id) c.args.list.now c.new-kept.result c.new-kept.ensures.empty;
 }
 
 pub loop-at-preserved : goal.loop-at-preserved
@@ -17,13 +17,13 @@ loop-at-preserved g c =
     let positive = c.loop-at-test.true in
     let small = c.loop-at.invariant.place in
     let f = c.index-list-at.result in
-    let gs = fields (shape_of c.args.between.now.new.now) c.args.type_id in
+    let gs = fields (shape_of c.args.graph.now.new.now) c.args.type_id in
     let met = c.in_ok-meet.ensures gs (map field_shape (drop c.loop-at.at c.args.list.now)) c.new_oneof.ensures c.loop-at.invariant.kept in
     record {
       place = omega arith;
       found =
-          found_before c.args.list.now c.loop-at.at f positive small c.index-list-at.is (seen_by g.V.View c.args.between.now.view.now c.args.between.now.old.now c.args.between.now.new.now)
-          (g.T.Table.bounds c.args.between.now.table.now) gs c.new_oneof.result c.clear.new.self.items c.offer_beside.new.choices.items c.meet.new.choices.items c.deref.result.now c.first_cheapest.result c.loop-at.found c.first_of-found.result
+          found_before c.args.list.now c.loop-at.at f positive small c.index-list-at.is (seen c.args.graph.now)
+          (g.T.Table.bounds c.args.table.now) gs c.new_oneof.result c.clear.new.self.items c.offer_beside.new.choices.items c.meet.new.choices.items c.deref.result.now c.first_cheapest.result c.loop-at.found c.first_of-found.result
           c.loop-at.invariant.found c.clear.ensures.items c.in_ok-offer_beside.ensures c.new_oneof.ensures met.0 c.deref.ensures.value c.first_cheapest.ensures c.first_of-found.ensures;
       kept = kept_before c.args.list.now c.loop-at.at f positive small c.index-list-at.is gs c.meet.new.kept met.1;
     }

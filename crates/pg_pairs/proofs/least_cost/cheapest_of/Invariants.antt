@@ -4,7 +4,7 @@ use Rattle.pg_schema.specs.Shape.{fields}
 use Rattle.pg_pairs.specs.Cheapest.{cheapest}
 use Rattle.pg_pairs.specs.Choices.{affordable, all_choices}
 use Rattle.pg_pairs.specs.LeastMembers.{KeepsLeast}
-use Rattle.pg_pairs.specs.SeenBy.{seen_by}
+use Rattle.pg_pairs.specs.GraphView.{seen}
 use Rattle.pg_pairs.proofs.least_cost.cheapest_of.Given as goal
 
 abbrev pub decreases-loop-at : goal.decreases-loop-at
@@ -16,6 +16,6 @@ invariant-loop-at g l =
       place : l.at ≤ length l.list;
       found :
           l.found
-          ≡ cheapest (affordable (all_choices (seen_by g.V.View l.between.view.now l.between.old.now l.between.new.now) (g.T.Table.bounds l.between.table.now) (fields (shape_of l.between.new.now) l.type_id) (map field_shape (drop l.at l.list))));
-      kept : KeepsLeast (fields (shape_of l.between.new.now) l.type_id) (map field_shape (drop l.at l.list)) l.kept;
+          ≡ cheapest (affordable (all_choices (seen l.graph) (g.T.Table.bounds l.table) (fields (shape_of l.graph.new.now) l.type_id) (map field_shape (drop l.at l.list))));
+      kept : KeepsLeast (fields (shape_of l.graph.new.now) l.type_id) (map field_shape (drop l.at l.list)) l.kept;
     }
