@@ -23,25 +23,32 @@ causes enum_view old new pair = choices enum_view no_bounds old new pair
 
 -- neither the pair nor one that it leads to has a cause
 abbrev pub HasNoCause : EnumView → Shape → Shape → Pair → Type 0
-HasNoCause enum_view old new root = (pair : Pair) → LeadsTo (children old new) root pair → causes enum_view old new pair ≡ []
+HasNoCause enum_view old new root =
+    (pair : Pair) → LeadsTo (children old new) root pair → causes enum_view old new pair ≡ []
 
 -- A cause has no child, and costs what an encoding may have.
 abbrev pub CausesAreOwn : Type 0
 CausesAreOwn =
-    (enum_view : EnumView) (old new : Shape) → IsEnumView enum_view → IsShape old → IsShape new → (pair : Pair) (c : Choice) → IsAmong c (causes enum_view old new pair) →
+    (enum_view : EnumView) (old new : Shape) → IsEnumView enum_view → IsShape old → IsShape new →
+    (pair : Pair) (c : Choice) → IsAmong c (causes enum_view old new pair) →
     (choice_child old new pair c ≡ None) × (1 ≤ c.cost) × (c.cost ≤ cap)
 
--- Costs stay far below what an encoding may have: an edge costs at most 40 more than its child's bound, and a cause at most 100. For each
--- child there is an edge.
+-- Costs stay far below what an encoding may have: an edge costs at most 40 more than its child's bound, and a cause
+-- at most 100. For each child there is an edge.
 abbrev pub PricesAreNear : Type 0
 PricesAreNear =
     (enum_view : EnumView) (old new : Shape) → IsShape old → (pair : Pair) →
-    ((child : Pair) → IsAmong child (children old new pair) → (edge : Edge) × IsAmong edge (edges old new pair) × (edge.child ≡ child))
-    × ((edge : Edge) (bound : ℕ) → IsAmong edge (edges old new pair) → bound + 40 ≤ cap → (cost : ℕ) × (edge_price old edge bound ≡ Some cost) × (cost ≤ bound + 40))
+    ((child : Pair) → IsAmong child (children old new pair) →
+    (edge : Edge) × IsAmong edge (edges old new pair) × (edge.child ≡ child))
+    × ((edge : Edge) (bound : ℕ) → IsAmong edge (edges old new pair) → bound + 40 ≤ cap →
+    (cost : ℕ) × (edge_price old edge bound ≡ Some cost) × (cost ≤ bound + 40))
     × ((c : Choice) → IsAmong c (causes enum_view old new pair) → c.cost ≤ 100)
 
 -- A view bears on gaps between two enums alone, and by numbers there are none of these.
 abbrev pub NamesAlone : Type 0
 NamesAlone =
-    (enum_view : EnumView) (zero : Bool) → ((s t : EnumId) → gap_item by_numbers zero (elements.Enum s) (elements.Enum t) ≡ None)
-    × ((old new : Element) → (gap_item enum_view zero old new ≡ gap_item by_numbers zero old new) ⊎ ((s : EnumId) × (t : EnumId) × (old ≡ elements.Enum s) × (new ≡ elements.Enum t)))
+    (enum_view : EnumView) (zero : Bool) →
+    ((s t : EnumId) → gap_item by_numbers zero (elements.Enum s) (elements.Enum t) ≡ None)
+    × ((old new : Element) →
+    (gap_item enum_view zero old new ≡ gap_item by_numbers zero old new)
+    ⊎ ((s : EnumId) × (t : EnumId) × (old ≡ elements.Enum s) × (new ≡ elements.Enum t)))

@@ -11,11 +11,14 @@ use Rattle.pg_pairs.specs.declared.choice.Pair.{Pair}
 use Rattle.pg_pairs.specs.Returns.{Returns}
 use Rattle.pg_pairs.specs.Home.{comes_home}
 
--- Where two types are compatible under a view and the pair returns, each plain message of the old type comes home: of its bytes, where the
--- new type reads them as a message that has an encoding, the old type's reader sees, after they have been relayed, what is home.
+-- Where two types are compatible under a view and the pair returns, each plain message of the old type comes home: of
+-- its bytes, where the new type reads them as a message that has an encoding, the old type's reader sees, after they
+-- have been relayed, what is home.
 abbrev pub MessagesComeHome : Type 0
 MessagesComeHome =
-    (view : View) (old new : Shape) (pair : Pair) → IsShape old → IsShape new → Compatible view old new pair.old pair.new → Returns old new pair →
+    (view : View) (old new : Shape) (pair : Pair) → IsShape old → IsShape new →
+    Compatible view old new pair.old pair.new → Returns old new pair →
     (v : Message) → IsMessage old pair.old v → IsPlain v → length (enc old pair.old v) ≤ cap →
-    (w : Message) → dec new pair.new (enc old pair.old v) ≡ Some w → IsMessage new pair.new w → length (enc new pair.new w) ≤ cap →
+    (w : Message) → dec new pair.new (enc old pair.old v) ≡ Some w → IsMessage new pair.new w →
+    length (enc new pair.new w) ≤ cap →
     comes_home old new pair.old pair.new v ≡ true

@@ -32,11 +32,15 @@ item_lent value = Plain (leaf_of value)
 module _ (view : ViewName) (old new : Parts) where
   -- the new message shows what the old one means
   abbrev pub is_same : Kept → Kept → Bool
-  is_same v w = same (view_named view old new) (shape_of old) (shape_of new) (type_of v) (type_of w) (message_of v) (message_of w)
+  is_same v w =
+      same (view_named view old new) (shape_of old) (shape_of new) (type_of v) (type_of w) (message_of v) (message_of w)
 
   -- it does so in one field of the old type, beside the new type's field of its number
   abbrev pub is_same_beside : Kept → Kept → FieldShape → Option FieldShape → Bool
-  is_same_beside v w f (Some g) = same_content (view_named view old new) f g (expected (view_named view old new) (shape_of old) (shape_of new) (type_of v) (type_of w) (message_of v)) (parts (message_of w))
+  is_same_beside v w f (Some g) =
+      same_content (view_named view old new) f g
+      (expected (view_named view old new) (shape_of old) (shape_of new) (type_of v) (type_of w) (message_of v))
+      (parts (message_of w))
   is_same_beside v w f None = true
 
   -- it does so in a field of the old type, where there is one
@@ -46,7 +50,9 @@ module _ (view : ViewName) (old new : Parts) where
 
   -- what an item of a field whose messages are read as that type has to be met by
   abbrev pub value_expected : TypeId → ValueRef → Expected
-  value_expected b (values.Msg child) = comparison.Kept (same (view_named view old new) (shape_of old) (shape_of new) (type_of child.value) b (message_of child.value))
+  value_expected b (values.Msg child) =
+      comparison.Kept (same (view_named view old new) (shape_of old) (shape_of new) (type_of child.value) b
+      (message_of child.value))
   value_expected b value = Alike (leaf_of value)
 
   -- a leaf of an enum is alike by the view, any other by itself
@@ -103,7 +109,8 @@ IsSingle None = ⊤
 
 module _ (view : ViewName) (old new : Parts) where
   abbrev pub keyed_match : FieldShape → FieldShape → Keyed → Keyed → Bool
-  keyed_match f g x y = same_key (option_map leaf_of x.0) (option_map leaf_of y.0) && items_match view old new f g x.1 y.1
+  keyed_match f g x y =
+      same_key (option_map leaf_of x.0) (option_map leaf_of y.0) && items_match view old new f g x.1 y.1
 
   -- as many items on both sides, with equal keys, and each is met
   abbrev pub all_match : FieldShape → FieldShape → List Keyed → List Keyed → Bool

@@ -1,4 +1,5 @@
--- By number a pair has no other choices than under any view: a table that covers a pair under a view covers it by number.
+-- By number a pair has no other choices than under any view: a table that covers a pair under a view covers it by
+-- number.
 use Rattle.pg_schema.specs.Shape.{Shape}
 use Rattle.pg_pairs.specs.declared.choice.Pair.{Pair}
 use Rattle.pg_pairs.specs.EnumView.{EnumView, by_numbers}
@@ -6,4 +7,6 @@ use Rattle.pg_pairs.specs.Choices.{Table}
 use Rattle.pg_pairs.specs.Covering.{Covers}
 
 abbrev pub CoversByNumber : Type 0
-CoversByNumber = (enum_view : EnumView) (old new : Shape) (table : Table) (root : Pair) → Covers enum_view old new table root → Covers by_numbers old new table root
+CoversByNumber =
+    (enum_view : EnumView) (old new : Shape) (table : Table) (root : Pair) → Covers enum_view old new table root →
+    Covers by_numbers old new table root

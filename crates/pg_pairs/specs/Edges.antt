@@ -1,5 +1,5 @@
--- Two schemas as a graph: the edges of a pair of types are its fields that hold messages in both, and an edge costs what the choice
--- of its child does.
+-- Two schemas as a graph: the edges of a pair of types are its fields that hold messages in both, and an edge costs
+-- what the choice of its child does.
 use Rattle.std.specs.Prelude.{◌≡◌, ℕ, ◌^◌, ◌<◌, ◌≤◌, nat_le, nat_lt, Bool, true, ◌&&◌, List, ◌∷◌, map, flat_map, length, if◌then◌else◌, Option, Some, None, option_and_then, IfSome}
 use Rattle.std.specs.List.{AllByRecursion}
 use Rattle.pg_schema.specs.declared.parts.field.Presence.{Presence}
@@ -26,7 +26,8 @@ is_pair old new pair = nat_lt pair.old.index (length old) && nat_lt pair.new.ind
 -- What a pair of the schemas' types leads to are such pairs, its children among them.
 abbrev pub PairsLeadToPairs : Type 0
 PairsLeadToPairs =
-    (old new : Shape) → IsShape old → IsShape new → (root pair : Pair) → is_pair old new root ≡ true → LeadsTo (children old new) root pair →
+    (old new : Shape) → IsShape old → IsShape new → (root pair : Pair) → is_pair old new root ≡ true →
+    LeadsTo (children old new) root pair →
     is_pair old new pair ≡ true
 
 -- of a map the value is the message
@@ -41,7 +42,9 @@ edge_to pair f child = record { from = pair; child = child; number = f.number; p
 
 -- an edge for each field with a child, by rising number
 abbrev pub edges : Shape → Shape → Pair → List Edge
-edges old new pair = flat_map (λ (f : FieldShape). map (edge_to pair f) (children_beside f (field_at (fields new pair.new) f.number))) (fields old pair.old)
+edges old new pair =
+    flat_map (λ (f : FieldShape). map (edge_to pair f) (children_beside f (field_at (fields new pair.new) f.number)))
+    (fields old pair.old)
 
 -- what costs more than an encoding may have is no cost
 abbrev pub within_cap : ℕ → Option ℕ
@@ -58,20 +61,26 @@ edge_price old edge bound = option_and_then (λ f. child_cost f bound) (field_at
 abbrev pub no_bounds : Table
 no_bounds pair = None
 
--- There are at most 2^24 pairs of types, children are such pairs, and a pair has at most 2^30 edges; without bounds a pair costs a length
--- that an encoding may have, and an edge costs such a length above its child's bound, or nothing.
+-- There are at most 2^24 pairs of types, children are such pairs, and a pair has at most 2^30 edges; without bounds a
+-- pair costs a length that an encoding may have, and an edge costs such a length above its child's bound, or nothing.
 pub record ArePriced (old new : Shape) : Type 0 where
-  pub pairs_few : (pairs : List Pair) → distinct pairs ≡ pairs → AllByRecursion (λ p. is_pair old new p ≡ true) pairs → length pairs ≤ 2 ^ 24
+  pub pairs_few : (pairs : List Pair) → distinct pairs ≡ pairs →
+      AllByRecursion (λ p. is_pair old new p ≡ true) pairs → length pairs ≤ 2 ^ 24
   pub children_there : (pair child : Pair) → IsAmong child (children old new pair) → is_pair old new child ≡ true
   pub edges_few : (pair : Pair) → length (edges old new pair) ≤ 2 ^ 30
-  pub bases_are_lengths : (enum_view : EnumView) (pair : Pair) → IfSome (least_cost enum_view no_bounds old new pair) (λ cost. (1 ≤ cost) × (cost ≤ cap))
-  pub costs_more : (edge : Edge) (bound : ℕ) → IfSome (edge_price old edge bound) (λ cost. (bound < cost) × (cost ≤ cap))
+  pub bases_are_lengths : (enum_view : EnumView) (pair : Pair) →
+      IfSome (least_cost enum_view no_bounds old new pair) (λ cost. (1 ≤ cost) × (cost ≤ cap))
+  pub costs_more : (edge : Edge) (bound : ℕ) →
+      IfSome (edge_price old edge bound) (λ cost. (bound < cost) × (cost ≤ cap))
 
 abbrev pub SchemasArePriced : Type 0
 SchemasArePriced = (old new : Shape) → IsShape old → IsShape new → ArePriced old new
 
--- A pair's least cost under a table is the least of its least cost without bounds and of what its edges cost under the table.
+-- A pair's least cost under a table is the least of its least cost without bounds and of what its edges cost under
+-- the table.
 abbrev pub LeastCostsByEdges : Type 0
 LeastCostsByEdges =
     (enum_view : EnumView) (old new : Shape) (table : Table) → IsShape old → (pair : Pair) →
-    least_cost enum_view table old new pair ≡ least_of (least_cost enum_view no_bounds old new pair ∷ map (cost_under (edge_price old) table) (edges old new pair))
+    least_cost enum_view table old new pair
+    ≡ least_of (least_cost enum_view no_bounds old new pair ∷ map (cost_under (edge_price old) table)
+    (edges old new pair))

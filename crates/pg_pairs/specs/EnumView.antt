@@ -8,8 +8,8 @@ use Rattle.pg_wire.specs.Varint.{varint}
 use Rattle.pg_wire.specs.Words.{IsBetween, twos_complement}
 use Rattle.pg_dyn.specs.Comparison.{View, numbers}
 
--- which numbers of an old enum are the same item in a new one; and of those that aren't, without 0 where this doesn't count, the
--- least of the shortest
+-- which numbers of an old enum are the same item in a new one; and of those that aren't, without 0 where this doesn't
+-- count, the least of the shortest
 pub record EnumView : Type 0 where
   pub alike : View
   pub least : EnumId → EnumId → Bool → Option ℤ
@@ -40,7 +40,8 @@ IsLeastOf alike zero None = (n : ℤ) → Differs alike zero n → ⊥
 
 -- the law of an enum view
 abbrev pub IsEnumView : EnumView → Type 0
-IsEnumView enum_view = (old new : EnumId) (zero : Bool) → IsLeastOf (enum_view.alike old new) zero (enum_view.least old new zero)
+IsEnumView enum_view =
+    (old new : EnumId) (zero : Bool) → IsLeastOf (enum_view.alike old new) zero (enum_view.least old new zero)
 
 -- every number is alike
 abbrev pub by_numbers : EnumView

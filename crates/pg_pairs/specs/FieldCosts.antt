@@ -1,5 +1,5 @@
--- A message that breaks with the content of one field alone has at least the bytes of the field's cheapest choice: a law for each kind
--- of field.
+-- A message that breaks with the content of one field alone has at least the bytes of the field's cheapest choice: a
+-- law for each kind of field.
 use Rattle.std.specs.Prelude.{◌≡◌, ℕ, ◌≤◌, List, [], ◌∷◌, length, true, Option, Some, None}
 use Rattle.pg_schema.specs.Shape.{Shape, FieldShape, IsShape, fields, field_at, is_singular, is_repeated, is_map}
 use Rattle.pg_dyn.specs.Message.{Leaf, Item, Plain, Msg, Message, ends, with_part}
@@ -43,20 +43,26 @@ SingleScalarsCost =
 -- The items of a list, scalars or children, under a table that covers the pair.
 abbrev pub ListsCost : Type 0
 ListsCost =
-    (enum_view : EnumView) (old new : Shape) (table : Table) (root : Pair) → IsEnumView enum_view → IsShape old → IsShape new → Covers enum_view old new table root →
-    (pair : Pair) (bound : Option ℕ) → table pair ≡ Some bound → (f g : FieldShape) → IsShared old new pair f g → is_repeated f.presence ≡ true →
+    (enum_view : EnumView) (old new : Shape) (table : Table) (root : Pair) → IsEnumView enum_view → IsShape old →
+    IsShape new → Covers enum_view old new table root →
+    (pair : Pair) (bound : Option ℕ) → table pair ≡ Some bound → (f g : FieldShape) → IsShared old new pair f g →
+    is_repeated f.presence ≡ true →
     (items : List Item) → CostsCheapest enum_view old new table pair f g (list_alone f.number items)
 
 -- The entries of a map, likewise.
 abbrev pub MapsCost : Type 0
 MapsCost =
-    (enum_view : EnumView) (old new : Shape) (table : Table) (root : Pair) → IsEnumView enum_view → IsShape old → IsShape new → Covers enum_view old new table root →
-    (pair : Pair) (bound : Option ℕ) → table pair ≡ Some bound → (f g : FieldShape) → IsShared old new pair f g → is_map f.presence ≡ true →
+    (enum_view : EnumView) (old new : Shape) (table : Table) (root : Pair) → IsEnumView enum_view → IsShape old →
+    IsShape new → Covers enum_view old new table root →
+    (pair : Pair) (bound : Option ℕ) → table pair ≡ Some bound → (f g : FieldShape) → IsShared old new pair f g →
+    is_map f.presence ≡ true →
     (entries : List (Leaf × Item)) → CostsCheapest enum_view old new table pair f g (map_alone f.number entries)
 
 -- One child in a singular field, likewise.
 abbrev pub ChildrenCost : Type 0
 ChildrenCost =
-    (enum_view : EnumView) (old new : Shape) (table : Table) (root : Pair) → IsEnumView enum_view → IsShape old → IsShape new → Covers enum_view old new table root →
-    (pair : Pair) (bound : Option ℕ) → table pair ≡ Some bound → (f g : FieldShape) → IsShared old new pair f g → is_singular f.presence ≡ true →
+    (enum_view : EnumView) (old new : Shape) (table : Table) (root : Pair) → IsEnumView enum_view → IsShape old →
+    IsShape new → Covers enum_view old new table root →
+    (pair : Pair) (bound : Option ℕ) → table pair ≡ Some bound → (f g : FieldShape) → IsShared old new pair f g →
+    is_singular f.presence ≡ true →
     (child : Message) → CostsCheapest enum_view old new table pair f g (alone f.number None (Msg child))

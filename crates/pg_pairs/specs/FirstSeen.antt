@@ -8,4 +8,5 @@ use Rattle.pg_pairs.specs.Covering.{same_pair, distinct}
 abbrev pub OnePairMore : Type 0
 OnePairMore =
     (pairs : List Pair) (pair : Pair) →
-    distinct (pairs ++ pair ∷ []) ≡ (if list_any (λ q. same_pair q pair) (distinct pairs) then distinct pairs else distinct pairs ++ pair ∷ [])
+    distinct (pairs ++ pair ∷ [])
+    ≡ (if list_any (λ q. same_pair q pair) (distinct pairs) then distinct pairs else distinct pairs ++ pair ∷ [])

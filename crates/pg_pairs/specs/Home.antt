@@ -19,7 +19,8 @@ relayed shape type bytes = option_map (enc shape type) (dec shape type bytes)
 abbrev pub message_eq : Message → Message → Bool
 message_eq (ends unknown) (ends others) = bytes_eq (bytes_of unknown) (bytes_of others)
 message_eq (holds m k a later) (holds n l b rest) = nat_eq m n && same_key k l && leaf_eq a b && message_eq later rest
-message_eq (nests m k v later) (nests n l w rest) = nat_eq m n && same_key k l && message_eq v w && message_eq later rest
+message_eq (nests m k v later) (nests n l w rest) =
+    nat_eq m n && same_key k l && message_eq v w && message_eq later rest
 message_eq v w = false
 
 -- Zero items of a singular field aren't shown where the new type has that field with implicit presence.
@@ -37,17 +38,21 @@ home_content f beside old come =
 abbrev pub home_message : List FieldShape → List FieldShape → List (Part Expected) → Message → Bool
 home_message fs gs old x = list_all (λ f. home_content f (field_at gs f.number) old (parts x)) fs
 
--- The parts of an old message as they must come home: children by their pair's types where the new type has the field, and equal where
--- it hasn't.
+-- The parts of an old message as they must come home: children by their pair's types where the new type has the
+-- field, and equal where it hasn't.
 abbrev pub homeward : Shape → Shape → TypeId → TypeId → Message → List (Part Expected)
 homeward old new a b (ends unknown) = []
-homeward old new a b (holds number key leaf later) = record { number = number; key = key; item = Alike leaf } ∷ homeward old new a b later
+homeward old new a b (holds number key leaf later) =
+    record { number = number; key = key; item = Alike leaf } ∷ homeward old new a b later
 homeward old new a b (nests number key child later) =
     let of_old = child_type (fields old a) number in
     let of_new = child_type (fields new b) number in
     let is_home = home_message (fields old of_old) (fields new of_new) (homeward old new of_old of_new child) in
-    record { number = number; key = key; item = Kept (λ x. if is_some (field_at (fields new b) number) then is_home x else message_eq child x) }
-    ∷ homeward old new a b later
+    record {
+      number = number;
+      key = key;
+      item = Kept (λ x. if is_some (field_at (fields new b) number) then is_home x else message_eq child x);
+    } ∷ homeward old new a b later
 
 -- x is what the old type should have home of v
 unfoldable pub home : Shape → Shape → TypeId → TypeId → Message → Message → Bool

@@ -10,7 +10,8 @@ alike_by_name = alike_under views.Names
 
 -- the numbers of the old values that count and aren't alike
 abbrev pub differing : Bool → List NamedNumber → List NamedNumber → List ℤ
-differing zero old new = filter (λ n. number_counts zero n && not (same_names old new n)) (map (λ (v : NamedNumber). v.number) old)
+differing zero old new =
+    filter (λ n. number_counts zero n && not (same_names old new n)) (map (λ (v : NamedNumber). v.number) old)
 
 -- the least number that isn't alike
 abbrev pub least_by_name : EnumType → EnumType → Bool → Option ℤ

@@ -12,7 +12,8 @@ use Rattle.pg_pairs.specs.Laws.{IsExact}
 
 -- what a cheapest choice of the pair costs; none where it has no choice
 abbrev pub least_cost : EnumView → Table → Shape → Shape → Pair → Option ℕ
-least_cost enum_view table old new pair = option_map (λ (c : Choice). c.cost) (cheapest (choices enum_view table old new pair))
+least_cost enum_view table old new pair =
+    option_map (λ (c : Choice). c.cost) (cheapest (choices enum_view table old new pair))
 
 -- Of two bounds the former is no more. Every bound is no more than 'none', and 'none' is more than every number.
 abbrev pub IsNoMore : Option ℕ → Option ℕ → Type 0
@@ -23,5 +24,6 @@ IsNoMore (Some m) (Some n) = m ≤ n
 -- Where a pair's children are there, its least cost is exact as its bound.
 abbrev pub LeastCostsAreExact : Type 0
 LeastCostsAreExact =
-    (enum_view : EnumView) (old new : Shape) (table : Table) (pair : Pair) → AllByRecursion (IsThere table) (children old new pair) →
+    (enum_view : EnumView) (old new : Shape) (table : Table) (pair : Pair) →
+    AllByRecursion (IsThere table) (children old new pair) →
     IsExact enum_view old new table pair (least_cost enum_view table old new pair)

@@ -20,7 +20,8 @@ long : length (varint 18446744071562067968) ≡ 10
 unfolding varint
 long = refl
 
-lower : (n m : ℤ) → IsBetween (2 ^ 31) (2 ^ 31) n → IsBetween (2 ^ 31) (2 ^ 31) m → number_word n ≤ number_word m → word_length m ≡ word_length n → n ≤ℤ m
+lower : (n m : ℤ) → IsBetween (2 ^ 31) (2 ^ 31) n → IsBetween (2 ^ 31) (2 ^ 31) m → number_word n ≤ number_word m →
+    word_length m ≡ word_length n → n ≤ℤ m
 lower (pos a) (pos b) i j h e = omega (arith, ints)
 lower (pos a) (negsuc b) i j h e =
     let few = lengths_grow.0 a 2147483647 (omega arith) in
@@ -36,12 +37,17 @@ IsLeastIn ns (Some n) = IsAmong n ns × ((m : ℤ) → IsAmong m ns → number_w
 IsLeastIn ns None = (m : ℤ) → IsAmong m ns → ⊥
 
 of_more : (n : ℤ) (ns : List ℤ) (o : Option ℤ) → IsLeastIn ns o → IsLeastIn (n ∷ ns) (Some (lesser n o))
-of_more n ns None none = (inl refl, λ m. ⊎_elim (λ same. let e = ap number_word same in omega arith) (λ later. absurd (none m later)))
+of_more n ns None none =
+    (inl refl, λ m. ⊎_elim (λ same. let e = ap number_word same in omega arith) (λ later. absurd (none m later)))
 of_more n ns (Some k) (among, least) =
-    elim (nat_le (number_word n) (number_word k)) as (λ b. nat_le (number_word n) (number_word k) ≡ b → IsLeastIn (n ∷ ns) (Some (cond b n k))) [
+    elim (nat_le (number_word n) (number_word k)) as
+    (λ b. nat_le (number_word n) (number_word k) ≡ b → IsLeastIn (n ∷ ns) (Some (cond b n k))) [
       | true ↦ λ e.
-          let below = leb-true (number_word n) (number_word k) e in
-          (inl refl, λ m. ⊎_elim (λ same. let w = ap number_word same in omega arith) (λ later. let above = least m later in omega arith))
+          let below = leb-true (number_word n) (number_word k) e in (
+            inl refl,
+            λ m. ⊎_elim (λ same. let w = ap number_word same in omega arith)
+                (λ later. let above = least m later in omega arith),
+          )
       | false ↦ λ e.
           let above = leb-false (number_word n) (number_word k) e in
           (inr among, λ m. ⊎_elim (λ same. let w = ap number_word same in omega arith) (λ later. least m later))
@@ -54,7 +60,8 @@ is_least (n ∷ ns) = of_more n ns (least_number ns) (is_least ns)
 -- Where a list has just the numbers that differ, its least is the shortest and least of them.
 
 module _ (alike : ℤ → Bool) (zero : Bool) where
-  of_list : (ns : List ℤ) (o : Option ℤ) → IsLeastIn ns o → ((n : ℤ) → IsAmong n ns → Differs alike zero n) → ((n : ℤ) → Differs alike zero n → IsAmong n ns) → IsLeastOf alike zero o
+  of_list : (ns : List ℤ) (o : Option ℤ) → IsLeastIn ns o → ((n : ℤ) → IsAmong n ns → Differs alike zero n) →
+      ((n : ℤ) → Differs alike zero n → IsAmong n ns) → IsLeastOf alike zero o
   of_list ns None none sound complete = λ n d. none n (complete n d)
   of_list ns (Some n) (among, least) sound complete =
       let differs = sound n among in
@@ -64,7 +71,8 @@ module _ (alike : ℤ → Bool) (zero : Bool) where
         lowest = λ m d same. lower n m differs.in_range d.in_range (least m (complete m d)) same;
       }
 
-  pub least_of_those : (ns : List ℤ) → ((n : ℤ) → IsAmong n ns → Differs alike zero n) → ((n : ℤ) → Differs alike zero n → IsAmong n ns) → IsLeastOf alike zero (least_number ns)
+  pub least_of_those : (ns : List ℤ) → ((n : ℤ) → IsAmong n ns → Differs alike zero n) →
+      ((n : ℤ) → Differs alike zero n → IsAmong n ns) → IsLeastOf alike zero (least_number ns)
   least_of_those ns sound complete = of_list ns (least_number ns) (is_least ns) sound complete
 
   -- There is only one.
@@ -83,14 +91,19 @@ module _ (alike : ℤ → Bool) (zero : Bool) where
 
 -- The least of two lists is the lesser of their least.
 
-pub lesser_of-some : (n : ℤ) (o later : Option ℤ) → lesser_of (Some (lesser n o)) later ≡ Some (lesser n (lesser_of o later))
+pub lesser_of-some : (n : ℤ) (o later : Option ℤ) →
+    lesser_of (Some (lesser n o)) later ≡ Some (lesser n (lesser_of o later))
 lesser_of-some n None later = refl
 lesser_of-some n (Some k) None = refl
 lesser_of-some n (Some k) (Some m) =
-    elim (nat_le (number_word n) (number_word k)) as (λ b. nat_le (number_word n) (number_word k) ≡ b → Some (lesser (cond b n k) (Some m)) ≡ Some (lesser n (Some (lesser k (Some m))))) [
+    elim (nat_le (number_word n) (number_word k)) as
+    (λ b. nat_le (number_word n) (number_word k) ≡ b →
+    Some (lesser (cond b n k) (Some m)) ≡ Some (lesser n (Some (lesser k (Some m))))) [
       | true ↦ λ e.
           let first = leb-true (number_word n) (number_word k) e in
-          elim (nat_le (number_word k) (number_word m)) as (λ b. nat_le (number_word k) (number_word m) ≡ b → Some (lesser n (Some m)) ≡ Some (lesser n (Some (cond b k m)))) [
+          elim (nat_le (number_word k) (number_word m)) as
+          (λ b. nat_le (number_word k) (number_word m) ≡ b →
+          Some (lesser n (Some m)) ≡ Some (lesser n (Some (cond b k m)))) [
             | true ↦ λ f.
                 let second = leb-true (number_word k) (number_word m) f in
                 rw (le-leb (number_word n) (number_word m) (omega arith), e) refl
@@ -98,7 +111,8 @@ lesser_of-some n (Some k) (Some m) =
           ] refl
       | false ↦ λ e.
           let first = leb-false (number_word n) (number_word k) e in
-          elim (nat_le (number_word k) (number_word m)) as (λ b. nat_le (number_word k) (number_word m) ≡ b → Some (cond b k m) ≡ Some (lesser n (Some (cond b k m)))) [
+          elim (nat_le (number_word k) (number_word m)) as
+          (λ b. nat_le (number_word k) (number_word m) ≡ b → Some (cond b k m) ≡ Some (lesser n (Some (cond b k m)))) [
             | true ↦ λ f. rw e refl
             | false ↦ λ f.
                 let second = leb-false (number_word k) (number_word m) f in
@@ -108,4 +122,5 @@ lesser_of-some n (Some k) (Some m) =
 
 pub least_of_both : (ns ms : List ℤ) → lesser_of (least_number ns) (least_number ms) ≡ least_number (ns ++ ms)
 least_of_both [] ms = refl
-least_of_both (n ∷ ns) ms = lesser_of-some n (least_number ns) (least_number ms) ∙ ap (λ o. Some (lesser n o)) (least_of_both ns ms)
+least_of_both (n ∷ ns) ms =
+    lesser_of-some n (least_number ns) (least_number ms) ∙ ap (λ o. Some (lesser n o)) (least_of_both ns ms)

@@ -1,9 +1,11 @@
--- The least of some numbers by their word: of the numbers of an enum the one with the shortest varint, of equally short ones the lesser.
+-- The least of some numbers by their word: of the numbers of an enum the one with the shortest varint, of equally
+-- short ones the lesser.
 use Rattle.std.specs.Prelude.{ℕ, ◌^◌, ℤ, nat_le, nat_lt, List, [], ◌∷◌, Bool, ◌&&◌, ◌||◌, not, if◌then◌else◌, Option, Some, None, pos, negsuc}
 use Rattle.std.specs.Ordering.{int_eq}
 use Rattle.pg_wire.specs.Words.{twos_complement}
 
--- the word of 64 bits that stands in a message for a number of an enum (Protocol Buffers Encoding guide, "Signed Integers")
+-- the word of 64 bits that stands in a message for a number of an enum (Protocol Buffers Encoding guide, "Signed
+-- Integers")
 abbrev pub number_word : ℤ → ℕ
 number_word n = twos_complement (2 ^ 64) n
 

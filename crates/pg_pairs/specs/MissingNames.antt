@@ -11,7 +11,8 @@ is_missing others v = declares others v.number && not (has_name others v.number 
 
 -- the numbers of values that count and whose name is missing among the others
 abbrev pub missing_numbers : Bool → List NamedNumber → List NamedNumber → List ℤ
-missing_numbers zero values others = map (λ (v : NamedNumber). v.number) (filter (λ v. number_counts zero v.number && is_missing others v) values)
+missing_numbers zero values others =
+    map (λ (v : NamedNumber). v.number) (filter (λ v. number_counts zero v.number && is_missing others v) values)
 
 -- the words of the numbers rise, none below one before
 abbrev pub RiseByWord : List EnumValue → Type 0

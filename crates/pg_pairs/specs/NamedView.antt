@@ -23,7 +23,10 @@ least_there view None new zero = None
 -- what the view of that name finds alike, with the least number that isn't
 abbrev pub seen_under : ViewName → Parts → Parts → EnumView
 seen_under view old new =
-    record { alike = view_named view old new; least = λ a b zero. least_there view (enum_at old a) (enum_at new b) zero }
+    record {
+      alike = view_named view old new;
+      least = λ a b zero. least_there view (enum_at old a) (enum_at new b) zero;
+    }
 
 -- Under every name it is the least of the shortest.
 abbrev pub LeastIsShortest : Type 0

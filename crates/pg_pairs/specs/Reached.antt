@@ -8,10 +8,11 @@ use Rattle.pg_pairs.specs.Covering.{distinct}
 -- the root itself, and each child of a pair that it leads to
 pub data LeadsTo (children : Pair → List Pair) (root : Pair) : Pair → Type 0 where
   itself : LeadsTo children root root
-  onwards : (pair child : Pair) → LeadsTo children root pair → IsAmong child (children pair) → LeadsTo children root child
+  onwards : (pair child : Pair) → LeadsTo children root pair → IsAmong child (children pair) →
+      LeadsTo children root child
 
--- Breadth first: the root, then the children of each pair in turn, each pair once, where it first stands; just the pairs that the
--- root leads to, no other and all of them.
+-- Breadth first: the root, then the children of each pair in turn, each pair once, where it first stands; just the
+-- pairs that the root leads to, no other and all of them.
 pub record IsReachedInOrder (children : Pair → List Pair) (root : Pair) (pairs : List Pair) : Type 0 where
   pub in_order : pairs ≡ distinct (root ∷ flat_map children pairs)
   pub led_to : AllByRecursion (LeadsTo children root) pairs
@@ -31,4 +32,6 @@ pub record IsReachedFrom (children : Pair → List Pair) (roots pairs : List Pai
 
 -- From one root alone these are just the pairs that it leads to.
 abbrev pub FromOneRoot : Type 0
-FromOneRoot = (children : Pair → List Pair) (root : Pair) (pairs : List Pair) → IsReachedFrom children (root ∷ []) pairs → IsReachedInOrder children root pairs
+FromOneRoot =
+    (children : Pair → List Pair) (root : Pair) (pairs : List Pair) → IsReachedFrom children (root ∷ []) pairs →
+    IsReachedInOrder children root pairs

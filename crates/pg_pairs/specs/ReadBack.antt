@@ -18,8 +18,10 @@ abbrev pub is_bool_of_zigzag : Element → Element → Bool
 is_bool_of_zigzag (elements.Scalar s) (elements.Scalar scalars.Bool) = is_zigzag s
 is_bool_of_zigzag e d = false
 
--- An item that the new element's reader reads as itself has the same body in both, but for a zigzag number that is read as a bool.
+-- An item that the new element's reader reads as itself has the same body in both, but for a zigzag number that is
+-- read as a bool.
 abbrev pub SeenItemsHaveOneBody : Type 0
 SeenItemsHaveOneBody =
-    (old new : Element) (item : Leaf) → like old new ≡ true → is_bool_of_zigzag old new ≡ false → InRange (form old) item →
+    (old new : Element) (item : Leaf) → like old new ≡ true → is_bool_of_zigzag old new ≡ false →
+    InRange (form old) item →
     leaf_in (form new) (body (form old) item) ≡ Some item → body (form new) item ≡ body (form old) item

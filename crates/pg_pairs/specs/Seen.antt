@@ -16,4 +16,5 @@ AreSeen pairs seen = (p : Pair) → contains by_indices seen (p.old.index, p.new
 
 -- each pair's children stand in the list too
 abbrev pub AreClosed : (Pair → List Pair) → List Pair → Type 0
-AreClosed children pairs = AllByRecursion (λ (p : Pair). AllByRecursion (λ (c : Pair). IsAmong c pairs) (children p)) pairs
+AreClosed children pairs =
+    AllByRecursion (λ (p : Pair). AllByRecursion (λ (c : Pair). IsAmong c pairs) (children p)) pairs
