@@ -65,7 +65,7 @@ pub fn base(
     requires room { work.old.opened + 1 < 2 ^ 64 }
     ensures cost { IfOk result (λ cost. cost
         ≡ least_cost (seen graph.now)
-        prices.no_bounds (shape_of graph.now.old.now) (shape_of graph.now.new.now) pair) }
+        no_bounds (shape_of graph.now.old.now) (shape_of graph.now.new.now) pair) }
     ensures counted { OnOk result (work.new ≡ opened_more work.old) }
     ensures unchanged { OnErr result (work.new ≡ work.old) }
 {

@@ -19,13 +19,15 @@ use Rattle.pg_pairs.specs.declared.case.Case.{Case}
 use Rattle.pg_pairs.specs.declared.case.Case.TheVariants as cases
 use Rattle.pg_pairs.specs.declared.choice.Choice.{Choice}
 use Rattle.pg_pairs.specs.declared.choice.Pair.{Pair}
-use Rattle.pg_pairs.specs.EnumView.{EnumView, IsEnumView}
+use Rattle.pg_pairs.specs.EnumView.{EnumView}
+use Rattle.pg_pairs.specs.ViewLaws.{IsEnumView}
 use Rattle.pg_pairs.specs.Likeness.{like}
 use Rattle.pg_pairs.specs.Gaps.{body_length, gap_item}
 use Rattle.pg_pairs.specs.Costs.{with_length, least_body, nonzero_body, entry_cost, one_item, least_content}
 use Rattle.pg_pairs.specs.Choices.{is_oneof, Table, choice, choice_of, zero_counts, unlike_cost, gap_body, child_body, singular_cost, plain_choices, map_choices, field_choices}
 use Rattle.pg_pairs.specs.Laws.{ReachedBy}
-use Rattle.pg_pairs.specs.Carried.{nonzero_leaf, far_leaf, apart_leaf, apart_item, item_by, least_part, alone, leaf_alone, child_alone, lost_onto, key_alone, value_alone, carried_field, field_child, ChildReached, ChildThere}
+use Rattle.pg_pairs.specs.Carried.{nonzero_leaf, far_leaf, apart_leaf, apart_item, item_by, least_part, alone, leaf_alone, child_alone, lost_onto, key_alone, value_alone, carried_field, field_child}
+use Rattle.pg_pairs.specs.CarriedChoices.{ChildReached, ChildThere}
 use Rattle.pg_pairs.proofs.GapItems.{IsLeafy, implicit_leafy, leafy_like}
 use Rattle.pg_pairs.proofs.Likeness.{like_wire}
 use Rattle.pg_pairs.proofs.AcrossPlain.{IsNoMap, IsUnpacked}

@@ -6,9 +6,11 @@ use Rattle.pg_schema.specs.declared.parts.field.Element.TheVariants as elements
 use Rattle.pg_schema.specs.declared.parts.field.Presence.TheVariants as presences
 use Rattle.pg_dyn.specs.Message.{Leaf, Message, holds, with_part}
 use Rattle.pg_dyn.specs.Coding.{Form, form}
-use Rattle.pg_pairs.specs.EnumView.{EnumView, IsEnumView}
+use Rattle.pg_pairs.specs.EnumView.{EnumView}
+use Rattle.pg_pairs.specs.ViewLaws.{IsEnumView}
 use Rattle.pg_pairs.specs.Likeness.{like}
-use Rattle.pg_pairs.specs.Gaps.{body_length, IsLeastUnseen, IsGapItem, gap_item}
+use Rattle.pg_pairs.specs.Gaps.{body_length, gap_item}
+use Rattle.pg_pairs.specs.TrueGaps.{IsLeastUnseen, IsGapItem}
 use Rattle.pg_pairs.specs.Costs.{with_length}
 use Rattle.pg_pairs.specs.Choices.{child_pair, Table, number_for, gap_body, child_body}
 use Rattle.pg_pairs.specs.Carried.{nonzero_leaf, item_by, least_part_of}

@@ -17,12 +17,14 @@ use Rattle.pg_pairs.specs.declared.case.Case.{Case}
 use Rattle.pg_pairs.specs.declared.case.Case.TheVariants as cases
 use Rattle.pg_pairs.specs.declared.choice.Choice.{Choice}
 use Rattle.pg_pairs.specs.declared.choice.Pair.{Pair}
-use Rattle.pg_pairs.specs.EnumView.{EnumView, IsEnumView}
+use Rattle.pg_pairs.specs.EnumView.{EnumView}
+use Rattle.pg_pairs.specs.ViewLaws.{IsEnumView}
 use Rattle.pg_pairs.specs.Gaps.{gap_item}
 use Rattle.pg_pairs.specs.Choices.{is_oneof, child_pair, Table, zero_counts, choices}
 use Rattle.pg_pairs.specs.Laws.{ReachedBy}
 use Rattle.pg_pairs.specs.Among.{IsAmong}
-use Rattle.pg_pairs.specs.Carried.{apart_leaf, apart_item, item_by, alone, leaf_alone, child_alone, lost_onto, key_of, key_alone, value_alone, entry_message, carried_field, carried_two, carried_of, carried, has_child, field_child, child_of, choice_child, ChildGiven, ChildReached}
+use Rattle.pg_pairs.specs.Carried.{apart_leaf, apart_item, item_by, alone, leaf_alone, child_alone, lost_onto, key_of, key_alone, value_alone, entry_message, carried_field, carried_two, carried_of, carried, has_child, field_child, child_of, choice_child}
+use Rattle.pg_pairs.specs.CarriedChoices.{ChildGiven, ChildReached}
 use Rattle.pg_pairs.specs.CarriedItems.{is_child_of, has_value, has_entry, has_content}
 use Rattle.pg_pairs.proofs.LeastCosts.{choice_some}
 use Rattle.pg_pairs.proofs.Messages.{one_found}

@@ -28,12 +28,14 @@ use Rattle.pg_pairs.specs.declared.case.Case.{Case}
 use Rattle.pg_pairs.specs.declared.case.Case.TheVariants as cases
 use Rattle.pg_pairs.specs.declared.choice.Choice.{Choice}
 use Rattle.pg_pairs.specs.declared.choice.Pair.{Pair}
-use Rattle.pg_pairs.specs.EnumView.{EnumView, IsEnumView}
+use Rattle.pg_pairs.specs.EnumView.{EnumView}
+use Rattle.pg_pairs.specs.ViewLaws.{IsEnumView}
 use Rattle.pg_pairs.specs.Gaps.{gap_item}
 use Rattle.pg_pairs.specs.Choices.{is_oneof, Table, zero_counts, choices}
 use Rattle.pg_pairs.specs.Among.{IsAmong}
 use Rattle.pg_pairs.specs.Laws.{ReachedBy}
-use Rattle.pg_pairs.specs.Carried.{nonzero_leaf, apart_leaf, apart_item, item_by, least_leaf, least_key, least_part_of, least_part, alone, leaf_alone, child_alone, lost_onto, key_of, key_alone, value_alone, carried_field, carried_two, carried_of, carried, field_child, child_of, choice_child, ChildGiven, ChildReached}
+use Rattle.pg_pairs.specs.Carried.{nonzero_leaf, apart_leaf, apart_item, item_by, least_leaf, least_key, least_part_of, least_part, alone, leaf_alone, child_alone, lost_onto, key_of, key_alone, value_alone, carried_field, carried_two, carried_of, carried, field_child, child_of, choice_child}
+use Rattle.pg_pairs.specs.CarriedChoices.{ChildGiven, ChildReached}
 use Rattle.pg_pairs.specs.CarriedItems.{items_before, entries_before, content_before, content_alone, Puts, value_item}
 use Rattle.pg_pairs.proofs.CarryContents.{child_there_is}
 use Rattle.pg_pairs.proofs.LeastContents.{nonzero_is}

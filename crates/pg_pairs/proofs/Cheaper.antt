@@ -5,7 +5,8 @@ use Rattle.std.specs.List.{AllByRecursion}
 use Rattle.std.proofs.lemmas.Bool.{leb-true, leb-false, le-leb, lt-leb}
 use Rattle.pg_dyn.proofs.Lists.{each_weaker}
 use Rattle.pg_pairs.specs.declared.choice.Choice.{Choice}
-use Rattle.pg_pairs.specs.Cheapest.{cheaper, cheapest, first_of, IsCheapest, CheapestIsLeast}
+use Rattle.pg_pairs.specs.Cheapest.{cheaper, cheapest}
+use Rattle.pg_pairs.specs.CheapestLaws.{first_of, IsCheapest, CheapestIsLeast}
 
 among_least : (c : Choice) (cs : List Choice) (o : Option Choice) → IsCheapest o cs → IsCheapest (Some (cheaper c o)) (c ∷ cs)
 among_least c cs None none = (inl refl, (omega arith, subst (AllByRecursion (λ (d : Choice). c.cost ≤ d.cost)) (sym none) tt))

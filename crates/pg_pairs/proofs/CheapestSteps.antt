@@ -11,7 +11,8 @@ use Rattle.pg_pairs.specs.declared.choice.Choice.{Choice}
 use Rattle.pg_pairs.specs.declared.least_member.Two.{Two}
 use Rattle.pg_pairs.specs.EnumView.{EnumView}
 use Rattle.pg_pairs.specs.Choices.{Table, choices_beside, joined_choices, all_choices, affordable}
-use Rattle.pg_pairs.specs.Cheapest.{cheapest, first_of}
+use Rattle.pg_pairs.specs.Cheapest.{cheapest}
+use Rattle.pg_pairs.specs.CheapestLaws.{first_of}
 use Rattle.pg_pairs.specs.Members.{new_oneof}
 use Rattle.pg_pairs.specs.LeastMembers.{member_of, least_member, met_choices, beside, IsOrdered, KeepsLeast}
 use Rattle.pg_pairs.proofs.Cheaper.{same-below, cheapest-within}

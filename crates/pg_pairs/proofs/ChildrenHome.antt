@@ -18,12 +18,11 @@ use Rattle.pg_dyn.specs.Comparison.{Alike, Expected, numbers, Comparand, compara
 use Rattle.pg_dyn.proofs.Lists.{each_weaker, each_both, each-filter, each_at, none_list_any}
 use Rattle.pg_pairs.specs.declared.choice.Pair.{Pair}
 use Rattle.pg_pairs.specs.Among.{IsAmong}
-use Rattle.pg_pairs.specs.Choices.{child_pair}
+use Rattle.pg_pairs.specs.Choices.{child_pair, no_bounds}
 use Rattle.pg_pairs.specs.Covering.{children}
 use Rattle.pg_pairs.specs.Reached.{LeadsTo, itself, onwards}
 use Rattle.pg_pairs.specs.Returns.{Returns, becomes_packed}
 use Rattle.pg_pairs.specs.Home.{home, home_message, homeward, message_eq}
-use Rattle.pg_pairs.specs.Edges.{no_bounds}
 use Rattle.pg_pairs.specs.Contents.{ChildBound, has_children, is_child_kept}
 use Rattle.pg_pairs.proofs.Dearer.{CompatibleTo}
 use Rattle.pg_pairs.proofs.HomeComparands.{home_comparands}

@@ -23,7 +23,8 @@ use Rattle.pg_dyn.specs.Bodies.{BodyShape}
 use Rattle.pg_dyn.proofs.Lists.{each_weaker, each_both, flat_map-map, map_map, each_within}
 use Rattle.pg_dyn.specs.Bodies.{IsNestedLeaf}
 use Rattle.pg_pairs.specs.Likeness.{like}
-use Rattle.pg_pairs.specs.Gaps.{body_length, is_seen}
+use Rattle.pg_pairs.specs.Gaps.{body_length}
+use Rattle.pg_pairs.specs.TrueGaps.{is_seen}
 use Rattle.pg_pairs.specs.Costs.{least_body, nonzero_body, entry_cost, one_item, least_content}
 use Rattle.pg_dyn.specs.Comparison.{Comparand, writes}
 use Rattle.pg_dyn.specs.ByComparands.{is_field_kept}

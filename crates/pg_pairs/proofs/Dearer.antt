@@ -7,7 +7,9 @@ use Rattle.pg_dyn.specs.encoding.Encoding.{cap, enc}
 use Rattle.pg_dyn.proofs.Lists.{each_unfiltered}
 use Rattle.pg_pairs.specs.declared.choice.Choice.{Choice}
 use Rattle.pg_pairs.specs.declared.choice.Pair.{Pair}
-use Rattle.pg_pairs.specs.EnumView.{IsEnumView, by_numbers, none_differs}
+use Rattle.pg_pairs.specs.EnumView.{by_numbers}
+use Rattle.pg_pairs.specs.ViewLaws.{IsEnumView}
+use Rattle.pg_pairs.proofs.NamedViews.{none_differs}
 use Rattle.pg_pairs.specs.Choices.{Table, all_choices, choices, field_choices}
 use Rattle.pg_pairs.specs.Covering.{same_pair}
 use Rattle.pg_pairs.specs.Among.{IsAmong}

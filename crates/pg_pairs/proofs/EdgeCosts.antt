@@ -23,12 +23,13 @@ use Rattle.pg_pairs.specs.EnumView.{EnumView}
 use Rattle.pg_pairs.specs.Among.{IsAmong}
 use Rattle.pg_pairs.specs.Likeness.{like}
 use Rattle.pg_pairs.specs.Costs.{with_length, one_item, least_content}
-use Rattle.pg_pairs.specs.Choices.{child_pair, Table, number_for, choice, choice_of, unlike_cost, child_body, plain_choices, map_choices, field_choices, joined_choices, choices_beside, all_choices, affordable, choices}
-use Rattle.pg_pairs.specs.Cheapest.{cheapest, first_of}
+use Rattle.pg_pairs.specs.Choices.{child_pair, Table, number_for, choice, choice_of, unlike_cost, child_body, plain_choices, map_choices, field_choices, joined_choices, choices_beside, all_choices, affordable, choices, no_bounds}
+use Rattle.pg_pairs.specs.Cheapest.{cheapest}
+use Rattle.pg_pairs.specs.CheapestLaws.{first_of}
 use Rattle.pg_pairs.specs.Covering.{field_children, children_beside}
 use Rattle.pg_pairs.specs.LeastCosts.{IsNoMore}
 use Rattle.pg_pairs.specs.LeastOf.{cost_under, least_of, lesser_cost}
-use Rattle.pg_pairs.specs.Edges.{LeastCostsByEdges, child_cost, edge_price, edge_to, edges, no_bounds, part_of}
+use Rattle.pg_pairs.specs.Edges.{LeastCostsByEdges, child_cost, edge_price, edge_to, edges, part_of}
 use Rattle.pg_pairs.specs.EdgeChildren.{among_append, append_left, append_right}
 use Rattle.pg_pairs.proofs.Among.{among_each}
 use Rattle.pg_pairs.proofs.Cheaper.{cheapest-append}

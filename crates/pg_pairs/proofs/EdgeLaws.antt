@@ -19,9 +19,9 @@ use Rattle.pg_pairs.specs.declared.edge.Edge.{Edge}
 use Rattle.pg_pairs.specs.Among.{IsAmong}
 use Rattle.pg_pairs.specs.Likeness.{like}
 use Rattle.pg_pairs.specs.Costs.{least_body, one_item, with_length}
-use Rattle.pg_pairs.specs.Choices.{child_pair}
+use Rattle.pg_pairs.specs.Choices.{child_pair, no_bounds}
 use Rattle.pg_pairs.specs.Covering.{all_children, children, children_beside, distinct, field_children, same_pair}
-use Rattle.pg_pairs.specs.Edges.{ArePriced, PairsLeadToPairs, child_cost, edge_price, edge_to, edges, is_pair, no_bounds}
+use Rattle.pg_pairs.specs.Edges.{ArePriced, PairsLeadToPairs, child_cost, edge_price, edge_to, edges, is_pair}
 use Rattle.pg_pairs.specs.Reached.{itself, onwards}
 use Rattle.pg_pairs.proofs.Among.{among_each}
 use Rattle.pg_pairs.proofs.LeastCosts.{least_costs_are_lengths}

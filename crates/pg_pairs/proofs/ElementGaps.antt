@@ -6,7 +6,7 @@ use Rattle.pg_dyn.specs.Message.{Leaf, Int, is_zero}
 use Rattle.pg_dyn.specs.Coding.{Form, Integer, Single, Double, Text, Raw, form, zero_leaf, InRange}
 use Rattle.pg_dyn.specs.Comparison.{View, alike_leaves}
 use Rattle.pg_pairs.specs.Likeness.{like_forms, like}
-use Rattle.pg_pairs.specs.Gaps.{is_seen}
+use Rattle.pg_pairs.specs.TrueGaps.{is_seen}
 use Rattle.pg_pairs.specs.ElementGaps.{IsNoMessage, FindsZeroAlike, ElementGaps, UnseenAreNotZero}
 use Rattle.pg_pairs.proofs.GapItems.{IsLeafy, gap_item_is}
 use Rattle.pg_pairs.proofs.Leaves.{seen_from}

@@ -23,10 +23,12 @@ use Rattle.pg_dyn.proofs.Lists.{each_weaker, each_both, each_of_all, each_before
 use Rattle.pg_pairs.specs.declared.case.Case.{Case}
 use Rattle.pg_pairs.specs.declared.case.Case.TheVariants as cases
 use Rattle.pg_pairs.specs.declared.choice.Choice.{Choice}
-use Rattle.pg_pairs.specs.EnumView.{EnumView, IsEnumView}
+use Rattle.pg_pairs.specs.EnumView.{EnumView}
+use Rattle.pg_pairs.specs.ViewLaws.{IsEnumView}
 use Rattle.pg_pairs.specs.Likeness.{like}
 use Rattle.pg_pairs.specs.ReadBack.{is_bool_of_zigzag, is_zigzag}
-use Rattle.pg_pairs.specs.Gaps.{body_length, is_seen, ItemCounts}
+use Rattle.pg_pairs.specs.Gaps.{body_length}
+use Rattle.pg_pairs.specs.TrueGaps.{is_seen, ItemCounts}
 use Rattle.pg_pairs.specs.Costs.{least_body, nonzero_body, entry_cost, one_item, least_content}
 use Rattle.pg_pairs.specs.Choices.{Table, choice_of, zero_counts, unlike_cost, gap_body, child_body, singular_cost, plain_choices, map_choices, field_choices}
 use Rattle.pg_pairs.specs.Contents.{total, Holds, IsInOrder, has_children, ChildBound, IsContent}

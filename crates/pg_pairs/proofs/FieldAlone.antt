@@ -13,10 +13,12 @@ use Rattle.pg_dyn.specs.Comparison.{View, Comparand, comparands}
 use Rattle.pg_dyn.proofs.Lists.{each_of_all}
 use Rattle.pg_pairs.specs.declared.choice.Choice.{Choice}
 use Rattle.pg_pairs.specs.declared.choice.Pair.{Pair}
-use Rattle.pg_pairs.specs.EnumView.{EnumView, IsEnumView}
+use Rattle.pg_pairs.specs.EnumView.{EnumView}
+use Rattle.pg_pairs.specs.ViewLaws.{IsEnumView}
 use Rattle.pg_pairs.specs.Choices.{Table, field_choices, choices}
 use Rattle.pg_pairs.specs.Covering.{IsThere, IsWithin, IsCovered, Covers, children}
-use Rattle.pg_pairs.specs.Cheapest.{cheapest, IsCheapest}
+use Rattle.pg_pairs.specs.Cheapest.{cheapest}
+use Rattle.pg_pairs.specs.CheapestLaws.{IsCheapest}
 use Rattle.pg_pairs.specs.Contents.{ChildBound, IsContent, total}
 use Rattle.pg_dyn.specs.ByComparands.{comparands_at, is_field_kept}
 use Rattle.pg_pairs.specs.Carried.{alone}

@@ -20,7 +20,7 @@ use Rattle.pg_dyn.specs.ByComparands.{comparands_at, field_read, all_field_reada
 use Rattle.pg_dyn.specs.Laws.{of_number}
 use Rattle.pg_dyn.proofs.Lists.{each_weaker, each_both, map_map, each-filter, each_filtered, filter_none, filter-map, list_all_each, list_any_at, each_of_all}
 use Rattle.pg_pairs.specs.Likeness.{like}
-use Rattle.pg_pairs.specs.Edges.{no_bounds}
+use Rattle.pg_pairs.specs.Choices.{no_bounds}
 use Rattle.pg_pairs.specs.Home.{home, home_content, home_message, homeward}
 use Rattle.pg_pairs.specs.Contents.{total, ChildBound, has_children, Holds}
 use Rattle.pg_pairs.proofs.AcrossPlain.{IsNoMap}

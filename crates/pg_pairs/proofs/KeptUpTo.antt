@@ -13,8 +13,7 @@ use Rattle.pg_dyn.specs.ByComparands.{NoComparandsMeet}
 use Rattle.pg_pairs.specs.declared.choice.Choice.{Choice}
 use Rattle.pg_pairs.specs.declared.choice.Pair.{Pair}
 use Rattle.pg_pairs.specs.EnumView.{by_numbers}
-use Rattle.pg_pairs.specs.Choices.{all_choices, field_choices}
-use Rattle.pg_pairs.specs.Edges.{no_bounds}
+use Rattle.pg_pairs.specs.Choices.{all_choices, field_choices, no_bounds}
 use Rattle.pg_pairs.specs.Laws.{IsReached}
 use Rattle.pg_pairs.proofs.Choosing.{joined_allowed}
 use Rattle.pg_dyn.proofs.PublicLaws.{fields_are_found}

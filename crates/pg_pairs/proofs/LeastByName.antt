@@ -9,12 +9,12 @@ use mir.Val.{SFits}
 use Rattle.pg_schema.specs.declared.parts.enum_type.EnumValue.{EnumValue}
 use Rattle.pg_dyn.specs.ViewNames.{NamedNumber, named, declares, has_name, names_within, same_names}
 use Rattle.pg_pairs.specs.Among.{IsAmong}
-use Rattle.pg_pairs.specs.EnumView.{Differs}
+use Rattle.pg_pairs.specs.ViewLaws.{Differs}
 use Rattle.pg_pairs.specs.LeastNumbers.{least_number, lesser, lesser_of, has_32_bits, number_counts}
-use Rattle.pg_pairs.specs.LeastNumberLaws.{least_of_those, one_least, least_of_both, lesser_of-some}
+use Rattle.pg_pairs.proofs.LeastNumberLaws.{least_of_those, one_least, least_of_both, lesser_of-some}
 use Rattle.pg_pairs.specs.LeastByName.{differing}
 use Rattle.pg_pairs.specs.MissingNames.{is_missing, missing_numbers}
-use Rattle.pg_pairs.specs.NameLaws.{among_filter, filter_among, among_map, map_among, among_left, among_right, among_cases, counting, counted_so, unlike_parts, least_differing_is}
+use Rattle.pg_pairs.proofs.NameLaws.{among_filter, filter_among, among_map, map_among, among_left, among_right, among_cases, counting, counted_so, unlike_parts, least_differing_is}
 
 -- A value of the former with a number that is missing among the latter shows that the number differs.
 

@@ -22,7 +22,8 @@ use Rattle.pg_pairs.specs.EnumView.{EnumView}
 use Rattle.pg_pairs.specs.Likeness.{like}
 use Rattle.pg_pairs.specs.Costs.{least_body, nonzero_body, entry_cost, one_item, least_content}
 use Rattle.pg_pairs.specs.Choices.{Table, choice, choice_of, zero_counts, unlike_cost, gap_body, child_body, singular_cost, plain_choices, map_choices, field_choices, joins, joined_choices, choices_beside, all_choices, affordable, choices}
-use Rattle.pg_pairs.specs.Cheapest.{cheaper, cheapest, IsCheapest}
+use Rattle.pg_pairs.specs.Cheapest.{cheaper, cheapest}
+use Rattle.pg_pairs.specs.CheapestLaws.{IsCheapest}
 use Rattle.pg_pairs.specs.Covering.{IsWithin}
 use Rattle.pg_pairs.specs.Among.{IsAmong}
 use Rattle.pg_pairs.specs.LeastCosts.{least_cost, IsNoMore, LeastCostsAreExact}

@@ -69,6 +69,8 @@ pub mod PublicLaws
 pub mod ChoicePlaces
 pub mod SameLengths
 pub mod LeastByName
+pub mod LeastNumberLaws
+pub mod NameLaws
 pub mod FoundValues
 pub mod NamedViews
 pub mod Grown

@@ -27,9 +27,8 @@ use Rattle.pg_pairs.specs.Among.{IsAmong}
 use Rattle.pg_pairs.specs.Likeness.{like}
 use Rattle.pg_pairs.specs.Gaps.{body_length, gap, item_named, item_of}
 use Rattle.pg_pairs.specs.Costs.{with_length, least_of_wire, least_body, least_nonzero, nonzero_body, entry_cost, one_item, least_content}
-use Rattle.pg_pairs.specs.Choices.{choice, choice_of, zero_counts, unlike_cost, gap_body, child_body, singular_cost, plain_choices, map_choices, field_choices, joins, joined_choices, choices_beside, all_choices}
+use Rattle.pg_pairs.specs.Choices.{choice, choice_of, zero_counts, unlike_cost, gap_body, child_body, singular_cost, plain_choices, map_choices, field_choices, joins, joined_choices, choices_beside, all_choices, no_bounds}
 use Rattle.pg_pairs.specs.Causes.{causes}
-use Rattle.pg_pairs.specs.Edges.{no_bounds}
 use Rattle.pg_pairs.proofs.Among.{among_each}
 use Rattle.pg_pairs.proofs.LeastCosts.{gap_choice, child_choice, list_choice, like_choices, key_choice, value_choice, map_child_choice, like_map_choices}
 

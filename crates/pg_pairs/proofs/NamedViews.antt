@@ -1,14 +1,18 @@
 -- What the view of a name sees between two schemas is an enum view, for enums that aren't there too.
-use Rattle.std.proofs.Common.{◌≡◌, ℤ, Bool, true, Option, Some, None, refl}
+use Rattle.std.proofs.Common.{◌≡◌, ℤ, Bool, true, Option, Some, None, refl, true≢false}
 use Rattle.pg_schema.specs.declared.parts.enum_type.EnumType.{EnumType}
 use Rattle.pg_schema.specs.declared.parts.Parts.{Parts}
 use Rattle.pg_schema.specs.Parts.{enum_at}
 use Rattle.pg_dyn.specs.declared.view_name.ViewName.{ViewName}
 use Rattle.pg_dyn.specs.declared.view_name.ViewName.TheVariants as views
 use Rattle.pg_dyn.specs.ViewNames.{alike_there}
-use Rattle.pg_pairs.specs.EnumView.{IsEnumView, IsLeastOf, none_differs}
-use Rattle.pg_pairs.specs.NamedView.{LeastIsShortest, NumbersAreAlike, least_there, seen_under}
-use Rattle.pg_pairs.specs.NameLaws.{least_by_name_is}
+use Rattle.pg_pairs.specs.ViewLaws.{IsEnumView, IsLeastOf, LeastIsShortest, NumbersAreAlike}
+use Rattle.pg_pairs.specs.NamedView.{least_there, seen_under}
+use Rattle.pg_pairs.proofs.NameLaws.{least_by_name_is}
+
+-- where every number is alike none differs
+pub none_differs : (zero : Bool) → IsLeastOf (λ n. true) zero None
+none_differs zero n d = true≢false d.not_alike
 
 pub least_is_shortest : LeastIsShortest
 least_is_shortest views.Numbers old new zero = none_differs zero

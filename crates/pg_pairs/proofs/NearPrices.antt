@@ -9,12 +9,15 @@ use Rattle.pg_pairs.specs.declared.choice.Choice.{Choice}
 use Rattle.pg_pairs.specs.declared.choice.Pair.{Pair}
 use Rattle.pg_pairs.specs.declared.edge.Edge.{Edge}
 use Rattle.pg_pairs.specs.Among.{IsAmong}
-use Rattle.pg_pairs.specs.Carried.{ChildThere, choice_child}
-use Rattle.pg_pairs.specs.Causes.{CausesAreOwn, PricesAreNear, causes}
+use Rattle.pg_pairs.specs.Carried.{choice_child}
+use Rattle.pg_pairs.specs.CarriedChoices.{ChildThere}
+use Rattle.pg_pairs.specs.Causes.{causes}
+use Rattle.pg_pairs.specs.CauseLaws.{CausesAreOwn, PricesAreNear}
 use Rattle.pg_pairs.specs.Costs.{one_item, with_length}
 use Rattle.pg_pairs.specs.Covering.{all_children, children, children_beside}
 use Rattle.pg_pairs.specs.EdgeChildren.{among_append, append_left, append_right}
-use Rattle.pg_pairs.specs.Edges.{child_cost, edge_price, edge_to, edges, no_bounds, within_cap}
+use Rattle.pg_pairs.specs.Edges.{child_cost, edge_price, edge_to, edges, within_cap}
+use Rattle.pg_pairs.specs.Choices.{no_bounds}
 use Rattle.pg_pairs.proofs.Among.{among_each}
 use Rattle.pg_pairs.proofs.Grown.{each_distinct}
 use Rattle.pg_pairs.proofs.LeastCosts.{each_length}

@@ -10,12 +10,14 @@ use Rattle.pg_dyn.proofs.Lists.{each-append, each_both, each_weaker, each_at}
 use Rattle.pg_pairs.specs.declared.case.Case.TheVariants as cases
 use Rattle.pg_pairs.specs.declared.choice.Choice.{Choice}
 use Rattle.pg_pairs.specs.declared.choice.Pair.{Pair}
-use Rattle.pg_pairs.specs.EnumView.{EnumView, IsEnumView}
+use Rattle.pg_pairs.specs.EnumView.{EnumView}
+use Rattle.pg_pairs.specs.ViewLaws.{IsEnumView}
 use Rattle.pg_pairs.specs.Costs.{least_content}
 use Rattle.pg_pairs.specs.Choices.{is_oneof, Table, choice, field_choices, in_one_oneof, joins, joined_choices, choices_beside, all_choices, choices}
 use Rattle.pg_pairs.specs.Among.{IsAmong}
 use Rattle.pg_pairs.specs.Laws.{ReachedBy, IsReached, ChoicesReached}
-use Rattle.pg_pairs.specs.Carried.{carried_field, carried_two, carried_of, carried, field_child, child_of, choice_child, ChildReached, ChildThere, EachChildCostsLess, EachChoiceIsCarried}
+use Rattle.pg_pairs.specs.Carried.{carried_field, carried_two, carried_of, carried, field_child, child_of, choice_child}
+use Rattle.pg_pairs.specs.CarriedChoices.{ChildReached, ChildThere, EachChildCostsLess, EachChoiceIsCarried}
 use Rattle.pg_pairs.proofs.Among.{among_each}
 use Rattle.pg_pairs.proofs.ChoicePlaces.{IsPlaced, placed}
 use Rattle.pg_pairs.proofs.CarriedFields.{IsCarried, CarriesOwn, presences_carried}

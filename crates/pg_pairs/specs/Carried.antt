@@ -1,26 +1,22 @@
 -- The message that a choice is reached by.
-use Rattle.std.specs.Prelude.{◌≡◌, ℕ, ◌<◌, nat_eq, pos, ⊤, [], ◌∷◌, Bool, true, false, if◌then◌else◌, Option, Some, None, option_map}
+use Rattle.std.specs.Prelude.{ℕ, nat_eq, pos, [], ◌∷◌, Bool, true, false, if◌then◌else◌, Option, Some, None}
 use Rattle.pg_schema.specs.declared.parts.field.Scalar.{Scalar}
 use Rattle.pg_schema.specs.declared.parts.field.Scalar.TheVariants.{Int32}
 use Rattle.pg_schema.specs.declared.parts.field.Element.{Element}
 use Rattle.pg_schema.specs.declared.parts.field.Element.TheVariants as elements
 use Rattle.pg_schema.specs.declared.parts.field.Presence.{Presence}
 use Rattle.pg_schema.specs.declared.parts.field.Presence.TheVariants as presences
-use Rattle.pg_schema.specs.Shape.{Shape, FieldShape, IsShape, fields, field_at}
+use Rattle.pg_schema.specs.Shape.{Shape, FieldShape, fields, field_at}
 use Rattle.pg_dyn.specs.Message.{Leaf, Int, F32, F64, Bytes, Item, Plain, Msg, Message, ends, holds, nests, with_part}
 use Rattle.pg_dyn.specs.Coding.{Form, Integer, Single, Double, Text, Raw, form, zero_leaf}
-use Rattle.pg_dyn.specs.Fits.{Fits}
-use Rattle.pg_dyn.specs.Kept.{Kept, message_of, type_of}
 use Rattle.pg_pairs.specs.declared.case.Case.{Case}
 use Rattle.pg_pairs.specs.declared.case.Case.TheVariants as cases
 use Rattle.pg_pairs.specs.declared.choice.Choice.{Choice}
 use Rattle.pg_pairs.specs.declared.choice.Pair.{Pair}
-use Rattle.pg_pairs.specs.EnumView.{EnumView, IsEnumView}
+use Rattle.pg_pairs.specs.EnumView.{EnumView}
 use Rattle.pg_pairs.specs.Likeness.{like}
 use Rattle.pg_pairs.specs.Gaps.{gap_item}
-use Rattle.pg_pairs.specs.Choices.{is_oneof, Table, child_pair, zero_counts, choices}
-use Rattle.pg_pairs.specs.Among.{IsAmong}
-use Rattle.pg_pairs.specs.Laws.{ReachedBy}
+use Rattle.pg_pairs.specs.Choices.{is_oneof, child_pair, zero_counts, choices}
 
 -- Items with the least bodies: zero; one that isn't zero; and one that isn't an integer's default.
 
@@ -172,56 +168,3 @@ child_of None g c = None
 abbrev pub choice_child : Shape → Shape → Pair → Choice → Option Pair
 choice_child old new pair c =
     child_of (field_at (fields old pair.old) c.number) (field_at (fields new pair.new) c.number) c
-
--- the choice is one of the pair's, under some table of bounds
-abbrev pub IsChoiceOf : EnumView → Shape → Shape → Pair → Choice → Type 0
-IsChoiceOf enum_view old new pair c = (table : Table) × IsAmong c (choices enum_view table old new pair)
-
--- A child is given just where the choice has one, and is a message of that pair's old type.
-abbrev pub ChildGiven : Shape → Option Pair → Option Kept → Type 0
-ChildGiven old None None = ⊤
-ChildGiven old None (Some m) = ⊥
-ChildGiven old (Some p) None = ⊥
-ChildGiven old (Some p) (Some m) = Fits old m × (type_of m ≡ p.old)
-
--- The child comes just where there is one, and has the length of its pair's bound.
-abbrev pub ChildReached : EnumView → Shape → Shape → Table → Option Pair → Option Message → Type 0
-ChildReached enum_view old new table None None = ⊤
-ChildReached enum_view old new table None (Some m) = ⊥
-ChildReached enum_view old new table (Some p) None = ⊥
-ChildReached enum_view old new table (Some p) (Some m) =
-    (x : ℕ) × (table p ≡ Some (Some x)) × ReachedBy enum_view old new p m x
-
--- The child, where a choice has one, is of that pair's old type.
-abbrev pub IsOfPair : Option Pair → Option Kept → Type 0
-IsOfPair (Some pair) (Some child) = type_of child ≡ pair.old
-IsOfPair (Some pair) None = ⊤
-IsOfPair None child = ⊤
-
--- The choice is one of the pair's under some table of bounds, and its child, where it has one, is a message of the
--- child's old type that breaks and has the length of its bound.
-pub record IsChoiceRound (enum_view : EnumView) (old new : Shape) (pair : Pair) (choice : Choice) (child : Option Kept) : Type 0 where
-  pub table : Table
-  pub among : IsAmong choice (choices enum_view table old new pair)
-  pub reached : ChildReached enum_view old new table (choice_child old new pair choice) (option_map message_of child)
-  pub of_pair : IsOfPair (choice_child old new pair choice) child
-
--- What a table has for the child of a choice of that cost, where the choice has one: a smaller number.
-abbrev pub ChildThere : Table → Option Pair → ℕ → Type 0
-ChildThere table None cost = ⊤
-ChildThere table (Some p) cost = (x : ℕ) × (table p ≡ Some (Some x)) × (x < cost)
-
--- Each choice through a child costs more than the child's bound.
-abbrev pub EachChildCostsLess : Type 0
-EachChildCostsLess =
-    (enum_view : EnumView) (old new : Shape) (table : Table) → IsEnumView enum_view → IsShape old → IsShape new →
-    (pair : Pair) (c : Choice) → IsAmong c (choices enum_view table old new pair) →
-    ChildThere table (choice_child old new pair c) c.cost
-
--- The message of each choice breaks and has the choice's cost.
-abbrev pub EachChoiceIsCarried : Type 0
-EachChoiceIsCarried =
-    (enum_view : EnumView) (old new : Shape) (table : Table) → IsEnumView enum_view → IsShape old → IsShape new →
-    (pair : Pair) (c : Choice) → IsAmong c (choices enum_view table old new pair) →
-    (child : Option Message) → ChildReached enum_view old new table (choice_child old new pair c) child →
-    ReachedBy enum_view old new pair (carried enum_view old new pair c child) c.cost

@@ -1,20 +1,11 @@
 -- Causes: the ways in which a pair breaks by itself, without a child.
-use Rattle.std.specs.Prelude.{◌≡◌, ℕ, ◌+◌, ◌≤◌, Bool, ◌⊎◌, List, [], Some, None}
-use Rattle.pg_schema.specs.declared.parts.field.EnumId.{EnumId}
-use Rattle.pg_schema.specs.declared.parts.field.Element.{Element}
-use Rattle.pg_schema.specs.declared.parts.field.Element.TheVariants as elements
-use Rattle.pg_schema.specs.Shape.{Shape, IsShape}
-use Rattle.pg_dyn.specs.encoding.Encoding.{cap}
+use Rattle.std.specs.Prelude.{◌≡◌, List, []}
+use Rattle.pg_schema.specs.Shape.{Shape}
 use Rattle.pg_pairs.specs.declared.choice.Choice.{Choice}
 use Rattle.pg_pairs.specs.declared.choice.Pair.{Pair}
-use Rattle.pg_pairs.specs.declared.edge.Edge.{Edge}
-use Rattle.pg_pairs.specs.EnumView.{EnumView, IsEnumView, by_numbers}
-use Rattle.pg_pairs.specs.Among.{IsAmong}
-use Rattle.pg_pairs.specs.Carried.{choice_child}
-use Rattle.pg_pairs.specs.Choices.{choices}
+use Rattle.pg_pairs.specs.EnumView.{EnumView}
+use Rattle.pg_pairs.specs.Choices.{choices, no_bounds}
 use Rattle.pg_pairs.specs.Covering.{children}
-use Rattle.pg_pairs.specs.Edges.{edge_price, edges, no_bounds}
-use Rattle.pg_pairs.specs.Gaps.{gap_item}
 use Rattle.pg_pairs.specs.Reached.{LeadsTo}
 
 -- the pair's choices under the table in which no pair is
@@ -25,30 +16,3 @@ causes enum_view old new pair = choices enum_view no_bounds old new pair
 abbrev pub HasNoCause : EnumView → Shape → Shape → Pair → Type 0
 HasNoCause enum_view old new root =
     (pair : Pair) → LeadsTo (children old new) root pair → causes enum_view old new pair ≡ []
-
--- A cause has no child, and costs what an encoding may have.
-abbrev pub CausesAreOwn : Type 0
-CausesAreOwn =
-    (enum_view : EnumView) (old new : Shape) → IsEnumView enum_view → IsShape old → IsShape new →
-    (pair : Pair) (c : Choice) → IsAmong c (causes enum_view old new pair) →
-    (choice_child old new pair c ≡ None) × (1 ≤ c.cost) × (c.cost ≤ cap)
-
--- Costs stay far below what an encoding may have: an edge costs at most 40 more than its child's bound, and a cause
--- at most 100. For each child there is an edge.
-abbrev pub PricesAreNear : Type 0
-PricesAreNear =
-    (enum_view : EnumView) (old new : Shape) → IsShape old → (pair : Pair) →
-    ((child : Pair) → IsAmong child (children old new pair) →
-    (edge : Edge) × IsAmong edge (edges old new pair) × (edge.child ≡ child))
-    × ((edge : Edge) (bound : ℕ) → IsAmong edge (edges old new pair) → bound + 40 ≤ cap →
-    (cost : ℕ) × (edge_price old edge bound ≡ Some cost) × (cost ≤ bound + 40))
-    × ((c : Choice) → IsAmong c (causes enum_view old new pair) → c.cost ≤ 100)
-
--- A view bears on gaps between two enums alone, and by numbers there are none of these.
-abbrev pub NamesAlone : Type 0
-NamesAlone =
-    (enum_view : EnumView) (zero : Bool) →
-    ((s t : EnumId) → gap_item by_numbers zero (elements.Enum s) (elements.Enum t) ≡ None)
-    × ((old new : Element) →
-    (gap_item enum_view zero old new ≡ gap_item by_numbers zero old new)
-    ⊎ ((s : EnumId) × (t : EnumId) × (old ≡ elements.Enum s) × (new ≡ elements.Enum t)))

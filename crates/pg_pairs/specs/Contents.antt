@@ -17,7 +17,8 @@ use Rattle.pg_dyn.specs.reading.Decoding.{Reader}
 use Rattle.pg_dyn.specs.Belonging.{KeyFits, MayBeZero}
 use Rattle.pg_dyn.specs.Comparison.{Alike, Kept}
 use Rattle.pg_pairs.specs.declared.choice.Choice.{Choice}
-use Rattle.pg_pairs.specs.EnumView.{EnumView, IsEnumView}
+use Rattle.pg_pairs.specs.EnumView.{EnumView}
+use Rattle.pg_pairs.specs.ViewLaws.{IsEnumView}
 use Rattle.pg_pairs.specs.Likeness.{like}
 use Rattle.pg_pairs.specs.Choices.{Table, number_for, field_choices}
 use Rattle.pg_dyn.specs.Comparison.{Comparand, writes}

@@ -57,10 +57,6 @@ child_cost f bound = within_cap (one_item f (with_length bound))
 abbrev pub edge_price : Shape → Edge → ℕ → Option ℕ
 edge_price old edge bound = option_and_then (λ f. child_cost f bound) (field_at (fields old edge.from.old) edge.number)
 
--- no pair is there
-abbrev pub no_bounds : Table
-no_bounds pair = None
-
 -- There are at most 2^24 pairs of types, children are such pairs, and a pair has at most 2^30 edges; without bounds a
 -- pair costs a length that an encoding may have, and an edge costs such a length above its child's bound, or nothing.
 pub record ArePriced (old new : Shape) : Type 0 where

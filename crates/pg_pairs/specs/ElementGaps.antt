@@ -6,9 +6,11 @@ use Rattle.pg_schema.specs.declared.parts.field.Element.TheVariants as elements
 use Rattle.pg_dyn.specs.Message.{Leaf, is_zero}
 use Rattle.pg_dyn.specs.Coding.{form, InRange}
 use Rattle.pg_dyn.specs.Comparison.{View}
-use Rattle.pg_pairs.specs.EnumView.{EnumView, IsEnumView}
+use Rattle.pg_pairs.specs.EnumView.{EnumView}
+use Rattle.pg_pairs.specs.ViewLaws.{IsEnumView}
 use Rattle.pg_pairs.specs.Likeness.{like}
-use Rattle.pg_pairs.specs.Gaps.{is_seen, IsGapItem, gap_item}
+use Rattle.pg_pairs.specs.Gaps.{gap_item}
+use Rattle.pg_pairs.specs.TrueGaps.{is_seen, IsGapItem}
 
 abbrev pub IsNoMessage : Element → Type 0
 IsNoMessage (elements.Message t) = ⊥

@@ -7,8 +7,7 @@ use Rattle.pg_pairs.specs.declared.choice.Pair.{Pair}
 use Rattle.pg_pairs.specs.EnumView.{EnumView}
 use Rattle.pg_pairs.specs.Choices.{Table, choices}
 use Rattle.pg_pairs.specs.Cheapest.{cheapest}
-use Rattle.pg_pairs.specs.Covering.{children, IsThere}
-use Rattle.pg_pairs.specs.Laws.{IsExact}
+use Rattle.pg_pairs.specs.Covering.{children, IsThere, IsExact}
 
 -- what a cheapest choice of the pair costs; none where it has no choice
 abbrev pub least_cost : EnumView → Table → Shape → Shape → Pair → Option ℕ

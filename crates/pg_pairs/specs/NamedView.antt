@@ -1,13 +1,13 @@
 -- What the view of a name sees between two schemas.
-use Rattle.std.specs.Prelude.{◌≡◌, ℤ, Bool, Option, Some, None}
+use Rattle.std.specs.Prelude.{ℤ, Bool, Option, Some, None}
 use Rattle.pg_schema.specs.declared.parts.enum_type.EnumType.{EnumType}
 use Rattle.pg_schema.specs.declared.parts.Parts.{Parts}
 use Rattle.pg_schema.specs.Parts.{enum_at}
 use Rattle.pg_dyn.specs.declared.view_name.ViewName.{ViewName}
 use Rattle.pg_dyn.specs.declared.view_name.ViewName.TheVariants as views
-use Rattle.pg_dyn.specs.ViewNames.{alike_under, view_named}
+use Rattle.pg_dyn.specs.ViewNames.{view_named}
 use Rattle.pg_pairs.specs.LeastByName.{least_by_name}
-use Rattle.pg_pairs.specs.EnumView.{EnumView, IsLeastOf, by_numbers}
+use Rattle.pg_pairs.specs.EnumView.{EnumView}
 
 -- the least number that isn't alike in two enums
 abbrev pub least_under : ViewName → EnumType → EnumType → Bool → Option ℤ
@@ -27,13 +27,3 @@ seen_under view old new =
       alike = view_named view old new;
       least = λ a b zero. least_there view (enum_at old a) (enum_at new b) zero;
     }
-
--- Under every name it is the least of the shortest.
-abbrev pub LeastIsShortest : Type 0
-LeastIsShortest =
-    (view : ViewName) (old new : EnumType) (zero : Bool) →
-    IsLeastOf (alike_under view old new) zero (least_under view old new zero)
-
--- The view by numbers sees enums by their numbers, between any two schemas.
-abbrev pub NumbersAreAlike : Type 0
-NumbersAreAlike = (old new : Parts) → seen_under views.Numbers old new ≡ by_numbers

@@ -12,9 +12,8 @@ use Rattle.pg_pairs.specs.declared.case.Case.TheVariants as cases
 use Rattle.pg_pairs.specs.declared.choice.Choice.{Choice}
 use Rattle.pg_pairs.specs.declared.choice.Pair.{Pair}
 use Rattle.pg_pairs.specs.EnumView.{by_numbers}
-use Rattle.pg_pairs.specs.Choices.{Table, choices, choice}
+use Rattle.pg_pairs.specs.Choices.{Table, choices, choice, no_bounds}
 use Rattle.pg_pairs.specs.Covering.{children}
-use Rattle.pg_pairs.specs.Edges.{no_bounds}
 
 abbrev pub both : TypeId → Pair
 both type = record { old = type; new = type }

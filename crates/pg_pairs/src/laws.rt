@@ -1,23 +1,22 @@
 //! Laws about the definitions. Each is the contract of a function that does nothing.
 
-ghost use Rattle.pg_pairs.specs.Carried.{EachChildCostsLess, EachChoiceIsCarried};
-ghost use Rattle.pg_pairs.specs.Causes.{CausesAreOwn, NamesAlone, PricesAreNear};
-ghost use Rattle.pg_pairs.specs.Cheapest.{CheapestIsLeast};
+ghost use Rattle.pg_pairs.specs.CarriedChoices.{EachChildCostsLess, EachChoiceIsCarried};
+ghost use Rattle.pg_pairs.specs.CauseLaws.{CausesAreOwn, NamesAlone, PricesAreNear};
+ghost use Rattle.pg_pairs.specs.CheapestLaws.{CheapestIsLeast};
 ghost use Rattle.pg_pairs.specs.ComesHome.{MessagesComeHome};
 ghost use Rattle.pg_pairs.specs.Contents.{ContentsCost};
 ghost use Rattle.pg_pairs.specs.CoversByNumber.{CoversByNumber};
 ghost use Rattle.pg_pairs.specs.Edges.{LeastCostsByEdges, PairsLeadToPairs, SchemasArePriced};
 ghost use Rattle.pg_pairs.specs.ElementGaps.{ElementGaps, UnseenAreNotZero};
 ghost use Rattle.pg_pairs.specs.FieldCosts.{ChildrenCost, ListsCost, MapsCost, SingleScalarsCost};
-ghost use Rattle.pg_pairs.specs.Gaps.{GapTable};
+ghost use Rattle.pg_pairs.specs.TrueGaps.{GapTable};
 ghost use Rattle.pg_pairs.specs.HomeExamples.{HomeExamples};
 ghost use Rattle.pg_pairs.specs.Laws.{CoveringBounds, ExactIsLeast, NoneIsCompatible};
 ghost use Rattle.pg_pairs.specs.LeastCosts.{LeastCostsAreExact};
-ghost use Rattle.pg_pairs.specs.NamedView.{LeastIsShortest, NumbersAreAlike};
+ghost use Rattle.pg_pairs.specs.ViewLaws.{LeastIsShortest, NumbersAreAlike, IsEnumView};
 ghost use Rattle.pg_pairs.specs.ReadBack.{SeenItemsHaveOneBody};
 ghost use Rattle.pg_pairs.specs.Reached.{FromOneRoot};
 ghost use Rattle.pg_pairs.specs.SmallPairs.{SmallPairs};
-ghost use Rattle.pg_pairs.specs.EnumView.{IsEnumView};
 ghost use Rattle.pg_pairs.specs.GraphView.{seen};
 
 use crate::priced::Priced;

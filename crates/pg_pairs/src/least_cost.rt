@@ -5,7 +5,8 @@ ghost use Rattle.std.specs.List.{AllByRecursion};
 ghost use Rattle.pg_schema.specs.declared.parts.field.Field.{Field};
 ghost use Rattle.pg_schema.specs.Parts.{field_shape, shape_of};
 ghost use Rattle.pg_schema.specs.Shape.{fields};
-ghost use Rattle.pg_pairs.specs.Cheapest.{cheapest, first_of};
+ghost use Rattle.pg_pairs.specs.Cheapest.{cheapest};
+ghost use Rattle.pg_pairs.specs.CheapestLaws.{first_of};
 ghost use Rattle.pg_pairs.specs.Choices.{affordable, all_choices, choices};
 ghost use Rattle.pg_pairs.specs.GraphView.{seen};
 

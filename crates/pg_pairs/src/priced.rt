@@ -4,7 +4,8 @@ ghost use Rattle.std.specs.Prelude.{◌≡◌, ◌<◌, ◌^◌, map, flat_map, 
 ghost use Rattle.pg_schema.specs.Parts.{field_shape, shape_of};
 ghost use Rattle.pg_schema.specs.Shape.{field_at, fields};
 ghost use Rattle.pg_pairs.specs.Covering.{children, children_beside};
-ghost use Rattle.pg_pairs.specs.Edges.{ArePriced, edge_price, edge_to, edges, is_pair, no_bounds, part_of};
+ghost use Rattle.pg_pairs.specs.Edges.{ArePriced, edge_price, edge_to, edges, is_pair, part_of};
+ghost use Rattle.pg_pairs.specs.Choices.{no_bounds};
 ghost use Rattle.pg_pairs.specs.LeastCosts.{least_cost};
 
 use crate::choice::{Choice, Pair};

@@ -1,7 +1,8 @@
 //! The table of gaps between scalar types.
 
 ghost use Rattle.std.specs.Prelude.{◌≡◌};
-ghost use Rattle.pg_pairs.specs.Gaps.{IsTrueOf, gap};
+ghost use Rattle.pg_pairs.specs.Gaps.{gap};
+ghost use Rattle.pg_pairs.specs.TrueGaps.{IsTrueOf};
 
 use crate::gap_kind::Gap;
 use pg_schema::Scalar;

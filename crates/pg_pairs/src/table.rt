@@ -1,8 +1,7 @@
 //! Tables of bounds.
 
 ghost use Rattle.std.specs.Prelude.{◌≡◌};
-ghost use Rattle.pg_pairs.specs.Choices.{Table};
-ghost use Rattle.pg_pairs.specs.Edges.{no_bounds};
+ghost use Rattle.pg_pairs.specs.Choices.{Table, no_bounds};
 
 use crate::choice::Pair;
 

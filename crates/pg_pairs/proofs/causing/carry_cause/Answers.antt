@@ -1,4 +1,4 @@
-use Rattle.pg_pairs.specs.Edges.{no_bounds}
+use Rattle.pg_pairs.specs.Choices.{no_bounds}
 use Rattle.pg_pairs.proofs.causing.carry_cause.Goals as goal
 
 pub carry-requires-clause-choice : goal.carry-requires-clause-choice

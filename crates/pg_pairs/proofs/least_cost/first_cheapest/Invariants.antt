@@ -1,5 +1,6 @@
 use Rattle.std.proofs.Common.{◌≡◌, drop}
-use Rattle.pg_pairs.specs.Cheapest.{cheapest, first_of}
+use Rattle.pg_pairs.specs.Cheapest.{cheapest}
+use Rattle.pg_pairs.specs.CheapestLaws.{first_of}
 use Rattle.pg_pairs.proofs.least_cost.first_cheapest.Given as goal
 
 abbrev pub invariant-loop-choice : goal.invariant-loop-choice

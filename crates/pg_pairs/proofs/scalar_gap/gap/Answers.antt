@@ -1,5 +1,5 @@
 use Rattle.std.proofs.Common.{sym, subst}
-use Rattle.pg_pairs.specs.Gaps.{IsTrueOf}
+use Rattle.pg_pairs.specs.TrueGaps.{IsTrueOf}
 use Rattle.pg_pairs.proofs.Gaps.{gap_table}
 use Rattle.pg_pairs.proofs.scalar_gap.gap.Goals as goal
 

@@ -7,9 +7,9 @@ use Rattle.pg_schema.specs.declared.parts.enum_type.EnumType.{EnumType}
 use Rattle.pg_wire.specs.Words.{IsBetween}
 use Rattle.pg_dyn.specs.ViewNames.{NamedNumber, named_numbers, declares, names_within, same_names}
 use Rattle.pg_pairs.specs.Among.{IsAmong}
-use Rattle.pg_pairs.specs.EnumView.{Counts, Differs, IsLeastOf}
+use Rattle.pg_pairs.specs.ViewLaws.{Counts, Differs, IsLeastOf}
 use Rattle.pg_pairs.specs.LeastNumbers.{least_number, has_32_bits, number_counts}
-use Rattle.pg_pairs.specs.LeastNumberLaws.{least_of_those}
+use Rattle.pg_pairs.proofs.LeastNumberLaws.{least_of_those}
 use Rattle.pg_pairs.specs.LeastByName.{alike_by_name, differing, least_by_name}
 
 -- What stands in a list that is made of another.

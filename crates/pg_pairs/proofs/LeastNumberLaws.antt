@@ -7,7 +7,7 @@ use Rattle.pg_wire.specs.Varint.{varint}
 use Rattle.pg_wire.specs.Words.{IsBetween}
 use Rattle.pg_wire.proofs.PublicLaws.{lengths_grow}
 use Rattle.pg_pairs.specs.Among.{IsAmong}
-use Rattle.pg_pairs.specs.EnumView.{Differs, IsLeastOf, word_length}
+use Rattle.pg_pairs.specs.ViewLaws.{Differs, IsLeastOf, word_length}
 use Rattle.pg_pairs.specs.LeastNumbers.{number_word, lesser, least_number, lesser_of}
 
 -- Words rise with the lengths of their varints, and of one length with the numbers.
