@@ -5,6 +5,7 @@ ghost use Rattle.pg_dyn.specs.declared.view_name.ViewName.TheVariants as views;
 ghost use Rattle.pg_dyn.specs.ViewNames.{alike_under, named_numbers, same_names};
 ghost use Rattle.pg_pairs.specs.LeastByName as by_name;
 ghost use Rattle.pg_pairs.specs.NamedView.{least_under};
+ghost use Rattle.pg_pairs.specs.ViewLaws.{IsLeastOf};
 
 use pg_dyn::ViewName;
 use pg_pairs::{Names, View};
@@ -33,7 +34,8 @@ pub fn alike_as_named<V: View>(view: &V, old: &EnumType, new: &EnumType, number:
 
 /// The least of the shortest numbers that aren't alike by any view: as under its name.
 pub fn least_as_named<V: View>(view: &V, old: &EnumType, new: &EnumType, zero: bool) -> Option<i32>
-    ensures { result ≡ least_under (V.name_of view.now) old.now new.now zero }
+    ensures equal { result ≡ least_under (V.name_of view.now) old.now new.now zero }
+    ensures shortest { IsLeastOf (alike_under (V.name_of view.now) old.now new.now) zero result }
 {
     view.least(old, new, zero)
 }

@@ -5,16 +5,16 @@ use Rattle.pg_schema.specs.declared.parts.Parts.{Parts}
 use Rattle.pg_schema.specs.Parts.{enum_at}
 use Rattle.pg_dyn.specs.declared.view_name.ViewName.{ViewName}
 use Rattle.pg_dyn.specs.declared.view_name.ViewName.TheVariants as views
-use Rattle.pg_dyn.specs.ViewNames.{alike_there}
-use Rattle.pg_pairs.specs.ViewLaws.{IsEnumView, IsLeastOf, LeastIsShortest, NumbersAreAlike}
-use Rattle.pg_pairs.specs.NamedView.{least_there, seen_under}
+use Rattle.pg_dyn.specs.ViewNames.{alike_there, alike_under}
+use Rattle.pg_pairs.specs.ViewLaws.{IsEnumView, IsLeastOf, NumbersAreAlike}
+use Rattle.pg_pairs.specs.NamedView.{least_there, least_under, seen_under}
 use Rattle.pg_pairs.proofs.NameLaws.{least_by_name_is}
 
 -- where every number is alike none differs
 pub none_differs : (zero : Bool) → IsLeastOf (λ n. true) zero None
 none_differs zero n d = true≢false d.not_alike
 
-pub least_is_shortest : LeastIsShortest
+pub least_is_shortest : (view : ViewName) (old new : EnumType) (zero : Bool) → IsLeastOf (alike_under view old new) zero (least_under view old new zero)
 least_is_shortest views.Numbers old new zero = none_differs zero
 least_is_shortest views.Names old new zero = least_by_name_is old new zero
 

@@ -13,7 +13,7 @@ use Rattle.pg_pairs.specs.declared.edge.Part.TheVariants.{Whole, Value}
 use Rattle.pg_pairs.specs.EnumView.{EnumView}
 use Rattle.pg_pairs.specs.Among.{IsAmong}
 use Rattle.pg_pairs.specs.Costs.{one_item, with_length}
-use Rattle.pg_pairs.specs.Choices.{Table}
+use Rattle.pg_pairs.specs.Choices.{Table, no_bounds}
 use Rattle.pg_pairs.specs.Covering.{children, children_beside, distinct}
 use Rattle.pg_pairs.specs.LeastCosts.{least_cost}
 use Rattle.pg_pairs.specs.LeastOf.{cost_under, least_of}

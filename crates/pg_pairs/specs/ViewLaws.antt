@@ -2,16 +2,13 @@
 use Rattle.std.specs.Prelude.{◌≡◌, ℕ, ℤ, pos, ◌^◌, ◌≤◌, ⊤, Bool, true, false, length, Option, Some, None}
 use Rattle.std.specs.Int.Signed.{◌≤ℤ◌}
 use Rattle.std.specs.Ordering.{int_eq}
-use Rattle.pg_schema.specs.declared.parts.enum_type.EnumType.{EnumType}
 use Rattle.pg_schema.specs.declared.parts.field.EnumId.{EnumId}
 use Rattle.pg_schema.specs.declared.parts.Parts.{Parts}
 use Rattle.pg_wire.specs.Varint.{varint}
 use Rattle.pg_wire.specs.Words.{IsBetween, twos_complement}
-use Rattle.pg_dyn.specs.declared.view_name.ViewName.{ViewName}
 use Rattle.pg_dyn.specs.declared.view_name.ViewName.TheVariants as views
-use Rattle.pg_dyn.specs.ViewNames.{alike_under}
 use Rattle.pg_pairs.specs.EnumView.{EnumView, by_numbers}
-use Rattle.pg_pairs.specs.NamedView.{least_under, seen_under}
+use Rattle.pg_pairs.specs.NamedView.{seen_under}
 
 -- 0 counts, or the number isn't 0
 abbrev pub Counts : Bool → ℤ → Type 0
@@ -41,12 +38,6 @@ IsLeastOf alike zero None = (n : ℤ) → Differs alike zero n → ⊥
 abbrev pub IsEnumView : EnumView → Type 0
 IsEnumView enum_view =
     (old new : EnumId) (zero : Bool) → IsLeastOf (enum_view.alike old new) zero (enum_view.least old new zero)
-
--- The view of every name keeps it.
-abbrev pub LeastIsShortest : Type 0
-LeastIsShortest =
-    (view : ViewName) (old new : EnumType) (zero : Bool) →
-    IsLeastOf (alike_under view old new) zero (least_under view old new zero)
 
 -- The view by numbers sees enums by their numbers, between any two schemas.
 abbrev pub NumbersAreAlike : Type 0

@@ -18,6 +18,7 @@ ghost use Rattle.pg_pairs.specs.Comparing.{all_match, HasEncoding, HeldFits, is_
 use crate::beside::Beside;
 use crate::priced::Priced;
 use crate::shown::{count, held_at, is_same_key, is_same_leaf, shown};
+use crate::view::View;
 use pg_dyn::{ContentRef, DynError, MessageRef, ValueRef, encode_unshared_ref};
 use pg_schema::{Element, Field, Schema, TypeId};
 use pg_wire::Record;

@@ -13,7 +13,7 @@ ghost use Rattle.pg_pairs.specs.TrueGaps.{GapTable};
 ghost use Rattle.pg_pairs.specs.HomeExamples.{HomeExamples};
 ghost use Rattle.pg_pairs.specs.Laws.{CoveringBounds, ExactIsLeast, NoneIsCompatible};
 ghost use Rattle.pg_pairs.specs.LeastCosts.{LeastCostsAreExact};
-ghost use Rattle.pg_pairs.specs.ViewLaws.{LeastIsShortest, NumbersAreAlike, IsEnumView};
+ghost use Rattle.pg_pairs.specs.ViewLaws.{IsEnumView, NumbersAreAlike};
 ghost use Rattle.pg_pairs.specs.ReadBack.{SeenItemsHaveOneBody};
 ghost use Rattle.pg_pairs.specs.Reached.{FromOneRoot};
 ghost use Rattle.pg_pairs.specs.SmallPairs.{SmallPairs};
@@ -61,15 +61,8 @@ pub fn numbers_are_alike()
     ensures { NumbersAreAlike }
 {}
 
-/// The least number that the view of a name gives is, of the numbers from -2,147,483,648 to
-/// 2,147,483,647 that aren't alike, without 0 where this doesn't count, one with the shortest body,
-/// and of these the least; it gives none only where there is no such number.
-pub fn least_is_shortest()
-    ensures { LeastIsShortest }
-{}
-
-/// What the view of a graph sees between its schemas keeps that law, for enums that aren't there
-/// too.
+/// What the view of a graph sees between its schemas keeps the law of views, for enums that aren't
+/// there too.
 pub fn sees(_graph: &Priced<'_>)
     ensures { IsEnumView (seen _graph.now) }
 {}

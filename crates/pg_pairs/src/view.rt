@@ -4,6 +4,7 @@ ghost use Rattle.std.specs.Prelude.{◌≡◌};
 ghost use Rattle.pg_dyn.specs.declared.view_name.ViewName.{ViewName};
 ghost use Rattle.pg_dyn.specs.ViewNames.{alike_under};
 ghost use Rattle.pg_pairs.specs.NamedView.{least_under};
+ghost use Rattle.pg_pairs.specs.ViewLaws.{IsLeastOf};
 
 use pg_dyn::ViewName;
 use pg_schema::EnumType;
@@ -20,10 +21,12 @@ pub trait View {
     fn alike(&self, old: &EnumType, new: &EnumType, number: i32) -> bool
         ensures { result ≡ alike_under (name_of self.now) old.now new.now number };
 
-    /// Of the numbers that aren't alike the least of the shortest; 0 only where `zero` says that it
-    /// counts.
+    /// Of the numbers from -2,147,483,648 to 2,147,483,647 that aren't alike, without 0 where
+    /// `zero` is false, one with the shortest body, and of these the least number; `None` only
+    /// where there is no such number.
     fn least(&self, old: &EnumType, new: &EnumType, zero: bool) -> Option<i32>
-        ensures { result ≡ least_under (name_of self.now) old.now new.now zero };
+        ensures equal { result ≡ least_under (name_of self.now) old.now new.now zero }
+        ensures shortest { IsLeastOf (alike_under (name_of self.now) old.now new.now) zero result };
 }
 
 /// The view that finds every number alike.
