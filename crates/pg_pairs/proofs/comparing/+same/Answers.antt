@@ -20,8 +20,8 @@ use Rattle.pg_pairs.proofs.SameMessages.{each_more, none_held, one_not, same_at,
 use Rattle.pg_pairs.proofs.comparing.+same.Goals as goal
 
 pub are_same_contents-is_same_at-requires : goal.are_same_contents-is_same_at-requires
-are_same_contents-is_same_at-requires t c κs within =
-    (omega (arith, c.decreases, weight_is c.args.message.now), (within, (c.requires.old_schema, (c.requires.new_schema, (c.requires.fits, (c.requires.encoded, c.requires.read_fits))))))
+are_same_contents-is_same_at-requires t c =
+    (omega (arith, c.decreases, weight_is c.args.message.now), (c.requires.old_schema, (c.requires.new_schema, (c.requires.fits, (c.requires.encoded, c.requires.read_fits)))))
 
 pub are_same_contents-returns-then-not-branch : goal.are_same_contents-returns-then-not-branch
 are_same_contents-returns-then-not-branch t c =
@@ -36,8 +36,8 @@ are_same_contents-returns t c =
     sym (list_all_each (same_held c.args.graph.now.view c.args.graph.now.old.now c.args.graph.now.new.now c.args.message.now c.args.read.now) c.args.contents.now (each_from_take (λ x. same_held c.args.graph.now.view c.args.graph.now.old.now c.args.graph.now.new.now c.args.message.now c.args.read.now x ≡ true) c.args.contents.now c.args.contents.now c.loop-number.number-index refl c.loop-number-test.false c.loop-number.invariant))
 
 pub are_same_others-is_same_other-requires : goal.are_same_others-is_same_other-requires
-are_same_others-is_same_other-requires t c κs within =
-    (omega (arith, c.decreases, weight_is c.args.message.now), (within, (c.requires.old_schema, (c.requires.new_schema, (c.requires.fits, (c.requires.encoded, (c.requires.read_fits, c.requires.held c.loop-number-item.result.0)))))))
+are_same_others-is_same_other-requires t c =
+    (omega (arith, c.decreases, weight_is c.args.message.now), (c.requires.old_schema, (c.requires.new_schema, (c.requires.fits, (c.requires.encoded, (c.requires.read_fits, c.requires.held c.loop-number-item.result.0))))))
 
 pub are_same_others-returns-then-not-branch : goal.are_same_others-returns-then-not-branch
 are_same_others-returns-then-not-branch t c =
@@ -52,12 +52,12 @@ are_same_others-returns t c =
     sym (list_all_each (same_held c.args.graph.now.view c.args.graph.now.old.now c.args.graph.now.new.now c.args.message.now c.args.read.now) c.args.others.now (each_from_take (λ x. same_held c.args.graph.now.view c.args.graph.now.old.now c.args.graph.now.new.now c.args.message.now c.args.read.now x ≡ true) c.args.others.now c.args.others.now c.loop-number.number-index refl c.loop-number-test.false c.loop-number.invariant))
 
 pub is_same_at-is_same_field-requires : goal.is_same_at-is_same_field-requires
-is_same_at-is_same_field-requires t c κs within =
+is_same_at-is_same_field-requires t c =
     let its = fields (shape_of c.args.graph.now.old.now) (type_of c.args.message.now) in
     let by_number : field_at (fields (shape_of c.args.graph.now.old.now) (type_of c.args.message.now)) c.args.number ≡ Some (field_shape c.in-Some.field.now) =
     ap (λ type. field_at (fields (shape_of c.args.graph.now.old.now) type) c.args.number) (sym c.type_id.ensures) ∙ sym c.in-Some.ensures.shape in
     let found = ap (field_at its) (fields_are_found.1 its c.args.number (field_shape c.in-Some.field.now) by_number) ∙ by_number in
-    (omega (arith, c.decreases, weight_is c.args.message.now), (within, (c.requires.old_schema, (c.requires.new_schema, (c.requires.fits, (c.requires.encoded, (c.requires.read_fits, found)))))))
+    (omega (arith, c.decreases, weight_is c.args.message.now), (c.requires.old_schema, (c.requires.new_schema, (c.requires.fits, (c.requires.encoded, (c.requires.read_fits, found))))))
 
 pub is_same_content-is_same_key-requires-clause-first : goal.is_same_content-is_same_key-requires-clause-first
 is_same_content-is_same_key-requires-clause-first t c =
@@ -81,7 +81,7 @@ is_same_content-returns-then-not-is_same_key t c =
     ∙ ap (λ b. (b && matches) && rest) (sym c.is_same_key.ensures ∙ c.if-not-is_same_key.true))
 
 pub is_same_content-is_same_item-requires : goal.is_same_content-is_same_item-requires
-is_same_content-is_same_item-requires t c κs within =
+is_same_content-is_same_item-requires t c =
     let one = c.held_at-first.ensures ∙ ap (λ v. Some (option_copied c.held_at-first.result.key, v)) (sym c.value-item.ensures) in
     let two = c.held_at-second.ensures ∙ ap (λ v. Some (option_copied c.held_at-second.result.key, v)) (sym c.value-other.ensures) in
     let old = shape_of c.args.graph.now.old.now in
@@ -92,7 +92,7 @@ is_same_content-is_same_item-requires t c κs within =
     c.requires.read_fits two in
     let encoded = each_got (λ (x : Keyed). ItemHasEncoding (shape_of c.args.graph.now.old.now) x.1) (keyed c.args.content.now) c.loop-at.at (option_copied c.held_at-first.result.key, c.value-item.result.now) c.requires.encoded one in
     let less = total_got (keyed c.args.content.now) c.loop-at.at (option_copied c.held_at-first.result.key, c.value-item.result.now) one in
-    (omega (arith, c.decreases, less), (within, (c.requires.old_schema, (c.requires.new_schema, (first.1, (encoded, second.1))))))
+    (omega (arith, c.decreases, less), (c.requires.old_schema, (c.requires.new_schema, (first.1, (encoded, second.1)))))
 
 pub is_same_content-returns-then-not-branch : goal.is_same_content-returns-then-not-branch
 is_same_content-returns-then-not-branch t c =
@@ -125,7 +125,7 @@ is_same_field-shown-other-requires t c hidden =
     single_found (shape_of c.args.graph.now.new.now) c.args.read.now c.args.field.now.number (field_shape c.in-Some.beside.now) c.requires.new_schema.shape c.requires.read_fits found c.get-2.result c.get-2.ensures.filled c.get-2.ensures.fits (hides_second (field_shape c.args.field.now) (field_shape c.in-Some.beside.now) hidden)
 
 pub is_same_field-is_same_content-requires : goal.is_same_field-is_same_content-requires
-is_same_field-is_same_content-requires t c κs within =
+is_same_field-is_same_content-requires t c =
     let f = field_shape c.args.field.now in
     let beside = field_shape c.in-Some.beside.now in
     let found : field_at (fields (shape_of c.args.graph.now.new.now) (type_of c.args.read.now)) c.args.field.now.number ≡ Some (field_shape c.in-Some.beside.now) =
@@ -135,17 +135,14 @@ is_same_field-is_same_content-requires t c κs within =
     let less = shown_weight c.args.field.now.number c.args.message.now (option_copied c.get.result) (hides_zero (field_shape c.args.field.now) (field_shape c.in-Some.beside.now)) (of_number_seen c.args.field.now.number c.args.message.now c.get.result c.get.ensures.content) in (
       omega (arith, c.decreases, ap total same, less),
       (
-        within,
+        c.requires.old_schema,
         (
-          c.requires.old_schema,
+          c.requires.new_schema,
           (
-            c.requires.new_schema,
+            shown_fits (shape_of c.args.graph.now.old.now) c.args.message.now c.args.field.now.number (field_shape c.args.field.now) c.requires.old_schema.shape c.requires.fits c.requires.found c.get.result c.shown-content.result c.in-Some-Some.content c.get.ensures.keys c.get.ensures.fits c.shown-content.ensures.same c.in-Some-Some.is-0,
             (
-              shown_fits (shape_of c.args.graph.now.old.now) c.args.message.now c.args.field.now.number (field_shape c.args.field.now) c.requires.old_schema.shape c.requires.fits c.requires.found c.get.result c.shown-content.result c.in-Some-Some.content c.get.ensures.keys c.get.ensures.fits c.shown-content.ensures.same c.in-Some-Some.is-0,
-              (
-                shown_encoded (shape_of c.args.graph.now.old.now) c.requires.old_schema.shape c.args.message.now c.requires.fits c.requires.encoded c.args.field.now.number c.get.result c.shown-content.result c.in-Some-Some.content c.get.ensures.content c.shown-content.ensures.same c.in-Some-Some.is-0,
-                shown_fits (shape_of c.args.graph.now.new.now) c.args.read.now c.args.field.now.number (field_shape c.in-Some.beside.now) c.requires.new_schema.shape c.requires.read_fits found c.get-2.result c.shown-other.result c.in-Some-Some.other c.get-2.ensures.keys c.get-2.ensures.fits c.shown-other.ensures.same c.in-Some-Some.is-1,
-              ),
+              shown_encoded (shape_of c.args.graph.now.old.now) c.requires.old_schema.shape c.args.message.now c.requires.fits c.requires.encoded c.args.field.now.number c.get.result c.shown-content.result c.in-Some-Some.content c.get.ensures.content c.shown-content.ensures.same c.in-Some-Some.is-0,
+              shown_fits (shape_of c.args.graph.now.new.now) c.args.read.now c.args.field.now.number (field_shape c.in-Some.beside.now) c.requires.new_schema.shape c.requires.read_fits found c.get-2.result c.shown-other.result c.in-Some-Some.other c.get-2.ensures.keys c.get-2.ensures.fits c.shown-other.ensures.same c.in-Some-Some.is-1,
             ),
           ),
         ),
@@ -184,22 +181,19 @@ is_same_field-returns-in_default-2-2 t c =
     ∙ beside_with c.args.graph.now.view c.args.graph.now.old.now c.args.graph.now.new.now (field_shape c.args.field.now) (field_shape c.in-Some.beside.now) c.args.message.now c.args.read.now c.requires.old_schema.shape c.requires.fits c.requires.found found c.get.result c.get-2.result c.shown-content.result c.shown-other.result None (Some c.in_default-2.field-0-1) c.get.ensures.content c.get-2.ensures.content c.get.ensures.keys c.get.ensures.fits c.shown-content.ensures.items c.shown-other.ensures.items c.in_default-2.is-0 c.in_default-2.is-1
 
 pub is_same_item-is_same_message-requires : goal.is_same_item-is_same_message-requires
-is_same_item-is_same_message-requires t c κs within =
+is_same_item-is_same_message-requires t c =
     let child = ap (item_seen false) c.in-Msg-Msg.is-0 ∙ ap (kept.Msg false) (sym c.deref.ensures) in
     let other = ap (item_seen false) c.in-Msg-Msg.is-1 ∙ ap (kept.Msg false) (sym c.deref-in-Msg-Msg.ensures) in (
       omega (arith, c.decreases, ap held_weight c.in-Msg-Msg.is-0, ap weight c.deref.ensures, weight_is c.deref.result.now),
       (
-        within,
+        c.requires.old_schema,
         (
-          c.requires.old_schema,
+          c.requires.new_schema,
           (
-            c.requires.new_schema,
+            message_fits (shape_of c.args.graph.now.old.now) c.args.fields.now.old.now.element c.args.value.now c.deref.result.now child c.requires.fits,
             (
-              message_fits (shape_of c.args.graph.now.old.now) c.args.fields.now.old.now.element c.args.value.now c.deref.result.now child c.requires.fits,
-              (
-                child_encoded (shape_of c.args.graph.now.old.now) c.args.value.now c.deref.result.now child c.requires.encoded,
-                message_fits (shape_of c.args.graph.now.new.now) c.args.fields.now.new.now.element c.args.read.now c.deref-in-Msg-Msg.result.now other c.requires.read_fits,
-              ),
+              child_encoded (shape_of c.args.graph.now.old.now) c.args.value.now c.deref.result.now child c.requires.encoded,
+              message_fits (shape_of c.args.graph.now.new.now) c.args.fields.now.new.now.element c.args.read.now c.deref-in-Msg-Msg.result.now other c.requires.read_fits,
             ),
           ),
         ),
@@ -207,17 +201,17 @@ is_same_item-is_same_message-requires t c κs within =
     )
 
 pub is_same_message-are_same_contents-requires : goal.is_same_message-are_same_contents-requires
-is_same_message-are_same_contents-requires t c κs within =
-    (omega (arith, c.decreases, weight_is c.args.message.now), (within, (c.requires.old_schema, (c.requires.new_schema, (c.requires.fits, (c.requires.encoded, c.requires.read_fits))))))
+is_same_message-are_same_contents-requires t c =
+    (omega (arith, c.decreases, weight_is c.args.message.now), (c.requires.old_schema, (c.requires.new_schema, (c.requires.fits, (c.requires.encoded, c.requires.read_fits)))))
 
 pub is_same_message-returns-then-not-branch : goal.is_same_message-returns-then-not-branch
 is_same_message-returns-then-not-branch t c =
     same_of_none c.args.graph.now.view c.args.graph.now.old.now c.args.graph.now.new.now c.args.message.now c.args.read.now c.contents.result.now (sym c.if-not-branch.true ∙ c.in_ok-are_same_contents.ensures)
 
 pub is_same_message-are_same_others-requires : goal.is_same_message-are_same_others-requires
-is_same_message-are_same_others-requires t c κs within =
+is_same_message-are_same_others-requires t c =
     let held = none_held (same_at c.args.graph.now.view c.args.graph.now.old.now c.args.graph.now.new.now c.args.message.now c.args.read.now) c.contents.result.now c.args.message.now (type_of c.args.message.now) (unknown_of c.args.message.now) c.contents.ensures.whole (sym c.if-not-branch.false ∙ c.in_ok-are_same_contents.ensures) in
-    (omega (arith, c.decreases, weight_is c.args.message.now), (within, (c.requires.old_schema, (c.requires.new_schema, (c.requires.fits, (c.requires.encoded, (c.requires.read_fits, held)))))))
+    (omega (arith, c.decreases, weight_is c.args.message.now), (c.requires.old_schema, (c.requires.new_schema, (c.requires.fits, (c.requires.encoded, (c.requires.read_fits, held))))))
 
 pub is_same_message-returns-then-not-branch-2 : goal.is_same_message-returns-then-not-branch-2
 is_same_message-returns-then-not-branch-2 t c =
@@ -230,8 +224,8 @@ is_same_message-returns t c =
     IfOk-weaker c.is_same_outside.result _ _ (λ so h. h ∙ same_of_all c.args.graph.now.view c.args.graph.now.old.now c.args.graph.now.new.now c.args.message.now c.args.read.now c.requires.old_schema.shape c.requires.fits held read) c.is_same_outside.ensures
 
 pub is_same_other-is_same_at-requires : goal.is_same_other-is_same_at-requires
-is_same_other-is_same_at-requires t c κs within =
-    (omega (arith, c.decreases, weight_is c.args.message.now), (within, (c.requires.old_schema, (c.requires.new_schema, (c.requires.fits, (c.requires.encoded, c.requires.read_fits))))))
+is_same_other-is_same_at-requires t c =
+    (omega (arith, c.decreases, weight_is c.args.message.now), (c.requires.old_schema, (c.requires.new_schema, (c.requires.fits, (c.requires.encoded, c.requires.read_fits)))))
 
 pub is_same_other-returns-in-Some : goal.is_same_other-returns-in-Some
 is_same_other-returns-in-Some t c =

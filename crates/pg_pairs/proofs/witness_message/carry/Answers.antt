@@ -77,7 +77,7 @@ pub returns-then-eq-clause-reached : goal.returns-then-eq-clause-reached
 returns-then-eq-clause-reached c = λ table among reached.
     let enum_view = seen c.args.graph.now in
     let law = seen_under_is c.args.graph.now.view c.args.graph.now.old.now c.args.graph.now.new.now in
-    subst (λ v. ReachedBy enum_view (shape_of c.args.graph.now.old.now) (shape_of c.args.graph.now.new.now) c.args.pair v c.args.choice.now.cost) (sym (returns-then-eq-clause-made g c))
+    subst (λ v. ReachedBy enum_view (shape_of c.args.graph.now.old.now) (shape_of c.args.graph.now.new.now) c.args.pair v c.args.choice.now.cost) (sym (returns-then-eq-clause-made c))
     (choices_carried enum_view (shape_of c.args.graph.now.old.now) (shape_of c.args.graph.now.new.now) table law c.parts.ensures.checked.shape c.parts-2.ensures.checked.shape c.args.pair c.args.choice.now among (option_map message_of c.args.child) reached)
 
 pub add-requires-in-Some-clause-found : goal.add-requires-in-Some-clause-found
@@ -122,5 +122,5 @@ pub returns-clause-reached : goal.returns-clause-reached
 returns-clause-reached c = λ table among reached.
     let enum_view = seen c.args.graph.now in
     let law = seen_under_is c.args.graph.now.view c.args.graph.now.old.now c.args.graph.now.new.now in
-    subst (λ v. ReachedBy enum_view (shape_of c.args.graph.now.old.now) (shape_of c.args.graph.now.new.now) c.args.pair v c.args.choice.now.cost) (sym (returns-clause-made g c))
+    subst (λ v. ReachedBy enum_view (shape_of c.args.graph.now.old.now) (shape_of c.args.graph.now.new.now) c.args.pair v c.args.choice.now.cost) (sym (returns-clause-made c))
     (choices_carried enum_view (shape_of c.args.graph.now.old.now) (shape_of c.args.graph.now.new.now) table law c.parts.ensures.checked.shape c.parts-2.ensures.checked.shape c.args.pair c.args.choice.now among (option_map message_of c.args.child) reached)
