@@ -16,11 +16,13 @@ ghost use Rattle.pg_dyn.specs.Fits.{Fits};
 ghost use Rattle.pg_dyn.specs.Kept.{message_of, type_of};
 ghost use Rattle.pg_pairs.specs.Among.{IsAmong};
 ghost use Rattle.pg_pairs.specs.Carried as carried;
+ghost use Rattle.pg_pairs.specs.CarriedChoices.{ChildGiven, ChildReached, IsChoiceOf};
 ghost use Rattle.pg_pairs.specs.Cheapest as least;
 ghost use Rattle.pg_pairs.specs.Choices.{Table, case_number, choices};
 ghost use Rattle.pg_pairs.specs.Covering as covering;
 ghost use Rattle.pg_pairs.specs.Gaps as gaps;
 ghost use Rattle.pg_pairs.specs.Laws.{ReachedBy};
+ghost use Rattle.pg_pairs.specs.TrueGaps.{IsTrueOf};
 ghost use Rattle.pg_pairs.specs.GraphView.{seen};
 
 pub use causing::{carry_cause, causes};
@@ -91,10 +93,10 @@ pub fn carry(
     choice: &Choice,
     child: Option<Message>,
 ) -> Result<Message, AllocError>
-    requires choice { carried.IsChoiceOf
+    requires choice { IsChoiceOf
         (seen graph.now)
         (shape_of graph.now.old.now) (shape_of graph.now.new.now) pair choice.now }
-    requires child { carried.ChildGiven (shape_of graph.now.old.now) (carried.choice_child
+    requires child { ChildGiven (shape_of graph.now.old.now) (carried.choice_child
         (shape_of graph.now.old.now) (shape_of graph.now.new.now) pair choice.now) child }
     ensures fits { IfOk result (λ m. Fits (shape_of graph.now.old.now) m) }
     ensures type_is { IfOk result (λ m. type_of m ≡ pair.old) }
@@ -104,7 +106,7 @@ pub fn carry(
     ensures reached { IfOk result (λ m. (table : Table) →
         IsAmong choice.now (choices (seen graph.now) table
         (shape_of graph.now.old.now) (shape_of graph.now.new.now) pair)
-        → carried.ChildReached (seen graph.now) (shape_of graph.now.old.now)
+        → ChildReached (seen graph.now) (shape_of graph.now.old.now)
         (shape_of graph.now.new.now) table (carried.choice_child (shape_of graph.now.old.now)
         (shape_of graph.now.new.now) pair choice.now) (option_map message_of child)
         → ReachedBy (seen graph.now) (shape_of graph.now.old.now)
@@ -164,7 +166,7 @@ pub fn options<T: Table>(
 /// What `gap` answers.
 pub fn gap(old: Scalar, new: Scalar) -> Gap
     ensures table { result ≡ gaps.gap old new }
-    ensures exact { gaps.IsTrueOf old new result }
+    ensures exact { IsTrueOf old new result }
 {
     pg_pairs::gap(old, new)
 }
