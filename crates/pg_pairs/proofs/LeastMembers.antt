@@ -1,22 +1,37 @@
 -- The cheapest choice of a field with later ones is the one with the least of them; two of each new oneof are enough to find it.
-use Rattle.std.proofs.Common.{◌≡◌, ℕ, ◌+◌, List, [], ◌∷◌, ◌++◌, Bool, true, false, not, ◌&&◌, cond, if◌then◌else◌, nat_eq, nat_le, Option, Some, None, refl, ap, sym, ◌∙◌, subst, arith, append-nil, eqb-true}
+use Rattle.std.proofs.Common.{◌≡◌, ℕ, ◌+◌, List, [], ◌∷◌, ◌++◌, Bool, true, false, not, ◌&&◌, cond, if◌then◌else◌, nat_eq, nat_le, Option, Some, None, refl, ap, sym, ◌∙◌, subst, arith, option_and_then, eqb-true, eq-eqb}
 use Rattle.std.specs.HashMap.{HashMap, get, Updates}
 use Rattle.std.proofs.lemmas.Bool.{leb-true, leb-false, le-leb, lt-leb}
-use Rattle.pg_schema.specs.Shape.{FieldShape}
+use Rattle.pg_schema.specs.Shape.{FieldShape, field_at}
 use Rattle.pg_dyn.specs.reading.Content.{same_oneof}
 use Rattle.pg_pairs.specs.declared.case.Case.TheVariants as cases
 use Rattle.pg_pairs.specs.declared.choice.Choice.{Choice}
 use Rattle.pg_pairs.specs.declared.least_member.Member.{Member}
 use Rattle.pg_pairs.specs.declared.least_member.Two.{Two}
 use Rattle.pg_pairs.specs.Costs.{least_content}
-use Rattle.pg_pairs.specs.Choices.{choice, joins, joined_choices, affordable}
+use Rattle.pg_pairs.specs.Choices.{choice, in_one_oneof, joins, joined_choices}
 use Rattle.pg_pairs.specs.Cheapest.{cheaper, cheapest}
 use Rattle.pg_pairs.specs.Members.{new_oneof}
 use Rattle.pg_pairs.specs.LeastMembers.{member_of, lesser, least_member, joined_with, met_choices, beside, IsOrdered, KeepsLeast}
-use Rattle.pg_pairs.proofs.Linking.{turned}
-use Rattle.pg_pairs.proofs.Joined.{in_oneof_is}
+
+-- a test of two numbers, the other way round
+turned : (j k : ℕ) (b : Bool) → nat_eq j k ≡ b → nat_eq k j ≡ b
+turned j k true h = eq-eqb k j (sym (eqb-true j k h))
+turned j k false h = elim (nat_eq k j) as (λ b. nat_eq k j ≡ b → b ≡ false) [ true ↦ λ e. absurd (let same : nat_eq j k ≡ true = eq-eqb j k (sym (eqb-true k j e)) in cc) | false ↦ λ e. refl ] refl
 
 -- the choice with the least
+
+in_oneof_is : (gs : List FieldShape) (a b : FieldShape) → in_one_oneof (field_at gs a.number) (field_at gs b.number) ≡ same_oneof (new_oneof gs a) (new_oneof gs b)
+in_oneof_is gs a b = of (field_at gs a.number) (field_at gs b.number)
+  where
+    no_second : (o : Option ℕ) → false ≡ same_oneof o None
+    no_second (Some k) = refl
+    no_second None = refl
+
+    of : (x y : Option FieldShape) → in_one_oneof x y ≡ same_oneof (option_and_then (λ g. g.oneof) x) (option_and_then (λ g. g.oneof) y)
+    of (Some g) (Some h) = refl
+    of (Some g) None = no_second g.oneof
+    of None y = refl
 
 and_swap : (a b : Bool) → (a && b) ≡ (b && a)
 and_swap true true = refl
@@ -35,7 +50,7 @@ lesser-joined : (a m : Member) (o : Option Member) → Some (cheaper (joined_wit
 lesser-joined a m None = refl
 lesser-joined a m (Some n) = rw (le-shift a.cost m.cost n.cost) (elim (nat_le m.cost n.cost) as (λ b. Some (cond b (joined_with a m) (joined_with a n)) ≡ Some (joined_with a (cond b m n))) [ true ↦ refl | false ↦ refl ])
 
-joins_is : (gs : List FieldShape) (a b : FieldShape) → joins gs a b ≡ (same_oneof (new_oneof gs a) (new_oneof gs b) && not (same_oneof a.oneof b.oneof))
+pub joins_is : (gs : List FieldShape) (a b : FieldShape) → joins gs a b ≡ (same_oneof (new_oneof gs a) (new_oneof gs b) && not (same_oneof a.oneof b.oneof))
 joins_is gs a b = ap (λ one. not (same_oneof a.oneof b.oneof) && one) (in_oneof_is gs a b) ∙ and_swap (not (same_oneof a.oneof b.oneof)) (same_oneof (new_oneof gs a) (new_oneof gs b))
 
 pub cheapest-joined : (gs : List FieldShape) (a : FieldShape) (later : List FieldShape) → cheapest (joined_choices gs a later) ≡ cheapest (met_choices (member_of a) (least_member gs (new_oneof gs a) a.oneof later))
@@ -92,5 +107,10 @@ module _ {S : Type 0} (gs : List FieldShape) (f : FieldShape) (fs : List FieldSh
       ∙ ap (λ o. if not (same_oneof old f.oneof) then Some (lesser (member_of f) (beside o old)) else beside o old) later_is)
       (ordered now_ordered)
 
-pub none_met : (gs : List FieldShape) (new : Option ℕ) (m : Member) (fs : List FieldShape) (choices : List Choice) → new ≡ None → choices ≡ choices ++ affordable (met_choices m (least_member gs new m.oneof fs))
-none_met gs new m fs choices none = rw (none, in_none gs m.oneof fs, append-nil) refl
+-- a field that meets no later one joins none
+pub joins_none : (gs : List FieldShape) (a : FieldShape) (later : List FieldShape) → least_member gs (new_oneof gs a) a.oneof later ≡ None → joined_choices gs a later ≡ []
+joins_none gs a later none = of (joined_choices gs a later) (cheapest-joined gs a later ∙ ap (λ o. cheapest (met_choices (member_of a) o)) none)
+  where
+    of : (cs : List Choice) → cheapest cs ≡ None → cs ≡ []
+    of [] h = refl
+    of (c ∷ cs) h = absurd (cc)

@@ -12,7 +12,7 @@ ghost use Rattle.pg_pairs.specs.GraphView.{seen};
 
 use crate::choice::{Choice, Pair};
 use crate::field_choice::offer_beside;
-use crate::least_member::meet;
+use crate::least_member::{met_by, offer_with};
 use crate::member::new_oneof;
 use crate::priced::Priced;
 use crate::table::Table;
@@ -72,12 +72,8 @@ fn cheapest_of<T: Table>(
         let field = &list[at];
         choices.clear();
         offer_beside(graph, table, &mut choices, type_id, field)?;
-        meet(
-            &mut choices,
-            &mut kept,
-            field,
-            new_oneof(graph.new, type_id, field),
-        )?;
+        let met = met_by(&mut kept, field, new_oneof(graph.new, type_id, field))?;
+        offer_with(&mut choices, field, met)?;
         found = first_of(first_cheapest(&choices), found);
     }
     Ok(found)

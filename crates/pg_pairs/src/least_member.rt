@@ -1,6 +1,6 @@
 //! The cheapest fields of each new oneof, of which a field before them meets one.
 
-ghost use Rattle.std.specs.Prelude.{◌≡◌, ◌++◌, ◌<◌, ◌^◌, ℕ, List, ◌∷◌, Option, Some, if◌then◌else◌, not, OnOk};
+ghost use Rattle.std.specs.Prelude.{◌≡◌, ◌++◌, ◌<◌, ◌^◌, ℕ, List, ◌∷◌, Option, Some, if◌then◌else◌, not, IfOk, OnOk};
 ghost use Rattle.pg_schema.specs.Parts.{field_shape};
 ghost use Rattle.pg_schema.specs.Shape.{FieldShape};
 ghost use Rattle.pg_dyn.specs.reading.Content.{same_oneof};
@@ -97,48 +97,44 @@ fn with_member(two: Option<Two>, member: Member) -> Two
 }
 
 /// Appends the choice of a field with the one that it meets, where it meets one.
-fn offer_with(
+pub(crate) fn offer_with(
     choices: &mut Vec<Choice>,
-    member: &Member,
+    field: &Field,
     met: Option<Member>,
 ) -> Result<(), AllocError>
+    requires { field.now.number < 2 ^ 29 }
     ensures { OnOk result (choices.new.items
-        ≡ choices.old.items ++ affordable (met_choices member.now met)) }
+        ≡ choices.old.items ++ affordable (met_choices (member_of (field_shape field.now)) met)) }
 {
     let Some(met) = met else {
         return Ok(());
     };
     offer(
         choices,
-        member.number,
+        field.number,
         Case::Oneof,
         met.number,
-        member.cost.checked_add(met.cost),
+        least_content(field).checked_add(met.cost),
     )
 }
 
-/// Appends the cheapest choice of a field with a later one of that new oneof, where there is one.
-/// The field is then one of those that fields before it meet.
-pub(crate) fn meet(
-    choices: &mut Vec<Choice>,
+/// The cheapest later field of that new oneof that the field meets, where it meets one. The field
+/// is then one of those that fields before it meet.
+pub(crate) fn met_by(
     kept: &mut HashMap<u32, Two>,
     field: &Field,
     oneof: Option<u32>,
-) -> Result<(), AllocError>
+) -> Result<Option<Member>, AllocError>
     requires { field.now.number < 2 ^ 29 }
-    ensures { OnOk result ((gs fs : List FieldShape) → oneof ≡ new_oneof gs (field_shape field.now)
-        → KeepsLeast gs fs kept.old → (choices.new.items
-        ≡ choices.old.items ++ affordable
-        (met_choices (member_of (field_shape field.now))
-        (least_member gs oneof field.now.oneof fs)))
+    ensures { IfOk result (λ met. (gs fs : List FieldShape)
+        → oneof ≡ new_oneof gs (field_shape field.now) → KeepsLeast gs fs kept.old
+        → (met ≡ least_member gs oneof field.now.oneof fs)
         × KeepsLeast gs (field_shape field.now ∷ fs) kept.new) }
 {
     let Some(oneof) = oneof else {
-        return Ok(());
+        return Ok(None);
     };
-    let member = member_of(field);
     let later = kept.get(&oneof).copied();
-    offer_with(choices, &member, beside(later, field.oneof))?;
-    kept.insert(oneof, with_member(later, member))?;
-    Ok(())
+    kept.insert(oneof, with_member(later, member_of(field)))?;
+    Ok(beside(later, field.oneof))
 }

@@ -1,6 +1,8 @@
-use Rattle.std.proofs.Common.{map, drop, arith}
+use Rattle.std.proofs.Common.{◌++◌, map, drop, ap, ◌∙◌, arith}
 use Rattle.pg_schema.specs.Parts.{field_shape, shape_of}
 use Rattle.pg_schema.specs.Shape.{fields}
+use Rattle.pg_pairs.specs.Choices.{affordable}
+use Rattle.pg_pairs.specs.LeastMembers.{member_of, met_choices}
 use Rattle.pg_pairs.specs.GraphView.{seen}
 use Rattle.pg_pairs.proofs.CheapestSteps.{none_at_end, kept_at_end, found_before, kept_before}
 use Rattle.pg_pairs.proofs.least_cost.cheapest_of.Goals as goal
@@ -18,12 +20,13 @@ loop-at-preserved g c =
     let small = c.loop-at.invariant.place in
     let f = c.index-list-at.result in
     let gs = fields (shape_of c.args.graph.now.new.now) c.args.type_id in
-    let met = c.in_ok-meet.ensures gs (map field_shape (drop c.loop-at.at c.args.list.now)) c.new_oneof.ensures c.loop-at.invariant.kept in
+    let met = c.in_ok-met.ensures gs (map field_shape (drop c.loop-at.at c.args.list.now)) c.new_oneof.ensures c.loop-at.invariant.kept in
     record {
       place = omega arith;
       found =
           found_before c.args.list.now c.loop-at.at f positive small c.index-list-at.is (seen c.args.graph.now)
-          (g.T.Table.bounds c.args.table.now) gs c.new_oneof.result c.clear.new.self.items c.offer_beside.new.choices.items c.meet.new.choices.items c.deref.result.now c.first_cheapest.result c.loop-at.found c.first_of-found.result
-          c.loop-at.invariant.found c.clear.ensures.items c.in_ok-offer_beside.ensures c.new_oneof.ensures met.0 c.deref.ensures.value c.first_cheapest.ensures c.first_of-found.ensures;
-      kept = kept_before c.args.list.now c.loop-at.at f positive small c.index-list-at.is gs c.meet.new.kept met.1;
+          (g.T.Table.bounds c.args.table.now) gs c.new_oneof.result c.clear.new.self.items c.offer_beside.new.choices.items c.offer_with.new.choices.items c.deref.result.now c.first_cheapest.result c.loop-at.found c.first_of-found.result
+          c.loop-at.invariant.found c.clear.ensures.items c.in_ok-offer_beside.ensures c.new_oneof.ensures
+          (c.in_ok-offer_with.ensures ∙ ap (λ o. c.offer_beside.new.choices.items ++ affordable (met_choices (member_of (field_shape f)) o)) met.0) c.deref.ensures.value c.first_cheapest.ensures c.first_of-found.ensures;
+      kept = kept_before c.args.list.now c.loop-at.at f positive small c.index-list-at.is gs c.met_by.new.kept met.1;
     }
