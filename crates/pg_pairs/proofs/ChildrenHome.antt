@@ -19,11 +19,11 @@ use Rattle.pg_dyn.proofs.Lists.{each_weaker, each_both, each-filter, each_at, no
 use Rattle.pg_pairs.specs.declared.choice.Pair.{Pair}
 use Rattle.pg_pairs.specs.Among.{IsAmong}
 use Rattle.pg_pairs.specs.Choices.{child_pair, no_bounds}
-use Rattle.pg_pairs.specs.Covering.{children}
+use Rattle.pg_pairs.specs.Covering.{children, has_children}
 use Rattle.pg_pairs.specs.Reached.{LeadsTo, itself, onwards}
 use Rattle.pg_pairs.specs.Returns.{Returns, becomes_packed}
 use Rattle.pg_pairs.specs.Home.{home, home_message, homeward, message_eq}
-use Rattle.pg_pairs.specs.Contents.{ChildBound, has_children, is_child_kept}
+use Rattle.pg_pairs.specs.Contents.{ChildBound, is_child_kept}
 use Rattle.pg_pairs.proofs.Dearer.{CompatibleTo}
 use Rattle.pg_pairs.proofs.HomeComparands.{home_comparands}
 use Rattle.pg_pairs.proofs.Returned.{ComesBack}

@@ -4,8 +4,6 @@ use Rattle.std.specs.List.{AllByRecursion}
 use Rattle.pg_schema.specs.declared.parts.field.Scalar.{Scalar}
 use Rattle.pg_schema.specs.declared.parts.field.Element.{Element}
 use Rattle.pg_schema.specs.declared.parts.field.Element.TheVariants as elements
-use Rattle.pg_schema.specs.declared.parts.field.Presence.{Presence}
-use Rattle.pg_schema.specs.declared.parts.field.Presence.TheVariants as presences
 use Rattle.pg_schema.specs.Shape.{Shape, FieldShape, fields, field_at}
 use Rattle.pg_dyn.specs.encoding.Encoding.{cap}
 use Rattle.pg_pairs.specs.declared.case.Case.{Case}
@@ -15,7 +13,7 @@ use Rattle.pg_pairs.specs.declared.choice.Pair.{Pair}
 use Rattle.pg_pairs.specs.EnumView.{EnumView, by_numbers}
 use Rattle.pg_pairs.specs.Likeness.{like}
 use Rattle.pg_pairs.specs.Costs.{least_body, entry_cost, one_item, least_content}
-use Rattle.pg_pairs.specs.Choices.{Table, choice, choice_of, zero_counts, unlike_cost, gap_body, child_body, singular_cost, plain_choices, map_choices, field_choices, joined_choices, choices_beside, all_choices, affordable, choices}
+use Rattle.pg_pairs.specs.Choices.{Table, choice, choice_of, zero_counts, unlike_cost, gap_body, child_body, singular_cost, plain_choices, map_choices, joined_choices, choices_beside, all_choices, affordable, choices, choices_by, map_key}
 use Rattle.pg_pairs.specs.Covering.{IsWithin}
 use Rattle.pg_pairs.specs.CoversByNumber.{CoversByNumber}
 use Rattle.pg_dyn.proofs.Lists.{each-append, each_before, each_after, each-filter, each_unfiltered, each_weaker}
@@ -79,34 +77,15 @@ module _ (P : Choice → Type 0) (enum_view : EnumView) (table : Table) where
         (in_front (key k l ++ value_under enum_view) (key k l ++ value_under by_numbers) value_child
         (behind (key k l) (value_under enum_view) (value_under by_numbers) (gap_over true f.element g.element f.number cases.Map 2 (one_item f))))
 
-  module _ (number : ℕ) (e d : Element) (o r : Option ℕ) where
-    abbrev at_old : Presence → FieldShape
-    at_old p = record { number = number; presence = p; element = e; oneof = o }
-
-    abbrev at_new : Presence → ℕ → FieldShape
-    at_new q n = record { number = n; presence = q; element = d; oneof = r }
-
-    field_over : (p q : Presence) (n : ℕ) → each (field_choices enum_view table (at_old p) (at_new q n)) → each (field_choices by_numbers table (at_old p) (at_new q n))
-    field_over (presences.Map k) (presences.Map l) n = map_over (at_old (presences.Map k)) (at_new (presences.Map l) n) k l
-    field_over (presences.Map k) presences.Implicit n = λ all. all
-    field_over (presences.Map k) presences.Explicit n = λ all. all
-    field_over (presences.Map k) (presences.Repeated w) n = λ all. all
-    field_over presences.Implicit (presences.Map l) n = λ all. all
-    field_over presences.Explicit (presences.Map l) n = λ all. all
-    field_over (presences.Repeated v) (presences.Map l) n = λ all. all
-    field_over presences.Implicit presences.Implicit n = plain_over (at_old presences.Implicit) (at_new presences.Implicit n)
-    field_over presences.Implicit presences.Explicit n = plain_over (at_old presences.Implicit) (at_new presences.Explicit n)
-    field_over presences.Implicit (presences.Repeated w) n = plain_over (at_old presences.Implicit) (at_new (presences.Repeated w) n)
-    field_over presences.Explicit presences.Implicit n = plain_over (at_old presences.Explicit) (at_new presences.Implicit n)
-    field_over presences.Explicit presences.Explicit n = plain_over (at_old presences.Explicit) (at_new presences.Explicit n)
-    field_over presences.Explicit (presences.Repeated w) n = plain_over (at_old presences.Explicit) (at_new (presences.Repeated w) n)
-    field_over (presences.Repeated v) presences.Implicit n = plain_over (at_old (presences.Repeated v)) (at_new presences.Implicit n)
-    field_over (presences.Repeated v) presences.Explicit n = plain_over (at_old (presences.Repeated v)) (at_new presences.Explicit n)
-    field_over (presences.Repeated v) (presences.Repeated w) n = plain_over (at_old (presences.Repeated v)) (at_new (presences.Repeated w) n)
+    keys_over : (k l : Option Scalar) → each (choices_by enum_view table f g k l) → each (choices_by by_numbers table f g k l)
+    keys_over (Some k) (Some l) = map_over k l
+    keys_over None None = plain_over
+    keys_over (Some k) None = λ all. all
+    keys_over None (Some l) = λ all. all
 
   beside_over : (f : FieldShape) (o : Option FieldShape) → each (choices_beside enum_view table f o) → each (choices_beside by_numbers table f o)
   beside_over f None = λ all. all
-  beside_over f (Some g) = field_over f.number f.element g.element f.oneof g.oneof f.presence g.presence g.number
+  beside_over f (Some g) = keys_over f g (map_key f.presence) (map_key g.presence)
 
   all_over : (gs fs : List FieldShape) → each (all_choices enum_view table gs fs) → each (all_choices by_numbers table gs fs)
   all_over gs [] all = tt

@@ -6,8 +6,6 @@ use Rattle.std.proofs.lemmas.List.{append-nil, map-append}
 use Rattle.pg_schema.specs.declared.parts.field.Scalar.{Scalar}
 use Rattle.pg_schema.specs.declared.parts.field.Element.{Element}
 use Rattle.pg_schema.specs.declared.parts.field.Element.TheVariants as elements
-use Rattle.pg_schema.specs.declared.parts.field.Presence.{Presence}
-use Rattle.pg_schema.specs.declared.parts.field.Presence.TheVariants as presences
 use Rattle.pg_schema.specs.Shape.{Shape, FieldShape, fields, field_at}
 use Rattle.pg_dyn.specs.encoding.Encoding.{cap}
 use Rattle.pg_dyn.proofs.Lists.{filter-append'}
@@ -20,14 +18,15 @@ use Rattle.pg_pairs.specs.declared.edge.Edge.{Edge}
 use Rattle.pg_pairs.specs.EnumView.{EnumView}
 use Rattle.pg_pairs.specs.Likeness.{like}
 use Rattle.pg_pairs.specs.Costs.{with_length, one_item, least_content}
-use Rattle.pg_pairs.specs.Choices.{child_pair, Table, number_for, choice, choice_of, unlike_cost, child_body, plain_choices, map_choices, field_choices, joined_choices, choices_beside, all_choices, affordable, choices, no_bounds}
+use Rattle.pg_pairs.specs.Choices.{child_pair, Table, number_for, choice, choice_of, unlike_cost, child_body, plain_choices, map_choices, joined_choices, choices_beside, all_choices, affordable, choices, no_bounds, choices_by, map_key}
 use Rattle.pg_pairs.specs.Cheapest.{cheapest}
 use Rattle.pg_pairs.specs.CheapestLaws.{first_of}
-use Rattle.pg_pairs.specs.Covering.{field_children, children_beside}
+use Rattle.pg_pairs.specs.Covering.{children_beside, children_by}
 use Rattle.pg_pairs.specs.LeastOf.{cost_under, least_of, lesser_cost}
 use Rattle.pg_pairs.specs.Edges.{LeastCostsByEdges, child_cost, edge_price, edge_to, edges}
 use Rattle.pg_pairs.proofs.Cheaper.{cheapest-append}
-use Rattle.pg_pairs.proofs.LeastCosts.{cost_of, gap_choice, child_choice, list_choice, like_choices, key_choice, value_choice, map_child_choice, like_map_choices}
+use Rattle.pg_pairs.proofs.LeastCosts.{cost_of}
+use Rattle.pg_pairs.proofs.Offers.{gap_choice, child_choice, list_choice, like_choices, key_choice, value_choice, map_child_choice, like_map_choices}
 
 -- What choices cost, of several lists together.
 
@@ -163,55 +162,29 @@ module _ (enum_view : EnumView) (table : Table) where
       of true is = like_split f g
       of false is = rw (child_pair_unlike f.element g.element is) (with_none f unlike)
 
-  module _ (number : ℕ) (e d : Element) (o r : Option ℕ) where
-    abbrev at_old : Presence → FieldShape
-    at_old p = record { number = number; presence = p; element = e; oneof = o }
+  abbrev children_as : FieldShape → FieldShape → Option Scalar → Option Scalar → List Pair
+  children_as f g k l = if children_by k l then option_to_list (child_pair f.element g.element) else []
 
-    abbrev at_new : Presence → ℕ → FieldShape
-    at_new q n = record { number = n; presence = q; element = d; oneof = r }
+  maps_split : (f g : FieldShape) (k l : Scalar) → Splits f (map_choices enum_view table f g k l) (map_choices enum_view no_bounds f g k l) (children_as f g (Some k) (Some l))
+  maps_split f g k l = of (like (elements.Scalar k) (elements.Scalar l)) (like f.element g.element) refl refl
+    where
+      whole : List Choice
+      whole = choice f.number cases.Map 0 (least_content f) ∷ []
 
-    maps_split : (k l : Scalar) (n : ℕ) → Splits (at_old (presences.Map k)) (map_choices enum_view table (at_old (presences.Map k)) (at_new (presences.Map l) n) k l) (map_choices enum_view no_bounds (at_old (presences.Map k)) (at_new (presences.Map l) n) k l)
-        (field_children (at_old (presences.Map k)) (at_new (presences.Map l) n))
-    maps_split k l n = of (like (elements.Scalar k) (elements.Scalar l)) (like e d) refl refl
-      where
-        f : FieldShape
-        f = at_old (presences.Map k)
+      of : (a b : Bool) → like (elements.Scalar k) (elements.Scalar l) ≡ a → like f.element g.element ≡ b → Splits f (map_choices enum_view table f g k l) (map_choices enum_view no_bounds f g k l) (children_as f g (Some k) (Some l))
+      of false b keys values = rw keys (with_none f whole)
+      of true false keys values = rw (keys, values, child_pair_unlike f.element g.element values) (with_none f whole)
+      of true true keys values = rw (keys, values) (like_maps_split f g k l)
 
-        g : FieldShape
-        g = at_new (presences.Map l) n
-
-        whole : List Choice
-        whole = choice number cases.Map 0 (least_content f) ∷ []
-
-        of : (a b : Bool) → like (elements.Scalar k) (elements.Scalar l) ≡ a → like e d ≡ b → Splits f (map_choices enum_view table f g k l) (map_choices enum_view no_bounds f g k l) (field_children f g)
-        of false b keys values = rw keys (with_none f whole)
-        of true false keys values = rw (keys, values, child_pair_unlike e d values) (with_none f whole)
-        of true true keys values = rw (keys, values) (like_maps_split f g k l)
-
-    unlike_split : (p q : Presence) (n : ℕ) → Splits (at_old p) (choice number cases.Unlike 0 (unlike_cost (at_old p) (at_new q n)) ∷ []) (choice number cases.Unlike 0 (unlike_cost (at_old p) (at_new q n)) ∷ []) []
-    unlike_split p q n = with_none (at_old p) (choice number cases.Unlike 0 (unlike_cost (at_old p) (at_new q n)) ∷ [])
-
-    presences_split : (p q : Presence) (n : ℕ) → Splits (at_old p) (field_choices enum_view table (at_old p) (at_new q n)) (field_choices enum_view no_bounds (at_old p) (at_new q n)) (field_children (at_old p) (at_new q n))
-    presences_split (presences.Map k) (presences.Map l) n = maps_split k l n
-    presences_split (presences.Map k) presences.Implicit n = unlike_split (presences.Map k) presences.Implicit n
-    presences_split (presences.Map k) presences.Explicit n = unlike_split (presences.Map k) presences.Explicit n
-    presences_split (presences.Map k) (presences.Repeated w) n = unlike_split (presences.Map k) (presences.Repeated w) n
-    presences_split presences.Implicit (presences.Map l) n = unlike_split presences.Implicit (presences.Map l) n
-    presences_split presences.Explicit (presences.Map l) n = unlike_split presences.Explicit (presences.Map l) n
-    presences_split (presences.Repeated v) (presences.Map l) n = unlike_split (presences.Repeated v) (presences.Map l) n
-    presences_split presences.Implicit presences.Implicit n = plain_split (at_old presences.Implicit) (at_new presences.Implicit n)
-    presences_split presences.Implicit presences.Explicit n = plain_split (at_old presences.Implicit) (at_new presences.Explicit n)
-    presences_split presences.Implicit (presences.Repeated w) n = plain_split (at_old presences.Implicit) (at_new (presences.Repeated w) n)
-    presences_split presences.Explicit presences.Implicit n = plain_split (at_old presences.Explicit) (at_new presences.Implicit n)
-    presences_split presences.Explicit presences.Explicit n = plain_split (at_old presences.Explicit) (at_new presences.Explicit n)
-    presences_split presences.Explicit (presences.Repeated w) n = plain_split (at_old presences.Explicit) (at_new (presences.Repeated w) n)
-    presences_split (presences.Repeated v) presences.Implicit n = plain_split (at_old (presences.Repeated v)) (at_new presences.Implicit n)
-    presences_split (presences.Repeated v) presences.Explicit n = plain_split (at_old (presences.Repeated v)) (at_new presences.Explicit n)
-    presences_split (presences.Repeated v) (presences.Repeated w) n = plain_split (at_old (presences.Repeated v)) (at_new (presences.Repeated w) n)
+  keys_split : (f g : FieldShape) (k l : Option Scalar) → Splits f (choices_by enum_view table f g k l) (choices_by enum_view no_bounds f g k l) (children_as f g k l)
+  keys_split f g (Some k) (Some l) = maps_split f g k l
+  keys_split f g None None = plain_split f g
+  keys_split f g (Some k) None = with_none f (choice f.number cases.Unlike 0 (unlike_cost f g) ∷ [])
+  keys_split f g None (Some l) = with_none f (choice f.number cases.Unlike 0 (unlike_cost f g) ∷ [])
 
   beside_split : (f : FieldShape) (o : Option FieldShape) → Splits f (choices_beside enum_view table f o) (choices_beside enum_view no_bounds f o) (children_beside f o)
   beside_split f None = refl
-  beside_split f (Some g) = presences_split f.number f.element g.element f.oneof g.oneof f.presence g.presence g.number
+  beside_split f (Some g) = keys_split f g (map_key f.presence) (map_key g.presence)
 
   -- what a child of a field costs at least
   abbrev by_fields : List FieldShape → List FieldShape → Option ℕ

@@ -12,18 +12,18 @@ use Rattle.pg_schema.specs.declared.parts.field.Presence.TheVariants as presence
 use Rattle.pg_schema.specs.Shape.{Shape, FieldShape, ElementFits, IsField, IsShape, Rising, field_at, fields}
 use Rattle.pg_wire.proofs.PublicLaws.{lengths_grow}
 use Rattle.pg_dyn.specs.encoding.Encoding.{cap}
-use Rattle.pg_dyn.proofs.Lists.{each_at, each_filtered, each-flat_map, each_weaker}
+use Rattle.pg_dyn.proofs.Lists.{each_at, each-flat_map, each_weaker}
 use Rattle.pg_dyn.proofs.PublicLaws.{fields_are_found}
 use Rattle.pg_pairs.specs.declared.choice.Pair.{Pair}
 use Rattle.pg_pairs.specs.declared.edge.Edge.{Edge}
 use Rattle.pg_pairs.specs.Among.{IsAmong}
-use Rattle.pg_pairs.specs.Likeness.{like}
 use Rattle.pg_pairs.specs.Costs.{least_body, one_item, with_length}
 use Rattle.pg_pairs.specs.Choices.{child_pair, no_bounds}
-use Rattle.pg_pairs.specs.Covering.{all_children, children, children_beside, distinct, field_children, same_pair}
+use Rattle.pg_pairs.specs.Covering.{all_children, children, children_beside, distinct, field_children, has_children, same_pair}
 use Rattle.pg_pairs.specs.Edges.{ArePriced, PairsLeadToPairs, child_cost, edge_price, edge_to, edges, is_pair}
 use Rattle.pg_pairs.specs.Reached.{itself, onwards}
 use Rattle.pg_pairs.proofs.Among.{among_each}
+use Rattle.pg_pairs.proofs.Grown.{each_distinct}
 use Rattle.pg_pairs.proofs.LeastCosts.{least_costs_are_lengths}
 
 -- Pairs.
@@ -82,14 +82,10 @@ kept_distinct test (q ∷ qs) h = of (test q) (kept_distinct test qs h.1)
     of true rest = (kept_apart (key q) test qs h.0, rest)
     of false rest = rest
 
-each_in_distinct : (P : Pair → Type 0) (ps : List Pair) → AllByRecursion P ps → AllByRecursion P (distinct ps)
-each_in_distinct P [] h = tt
-each_in_distinct P (p ∷ ps) h = (h.0, each_filtered P (λ q. not (same_pair p q)) (distinct ps) (each_in_distinct P ps h.1))
-
 keys_distinct : (ps : List Pair) → AllByRecursion AreSmall ps → IsDistinct eqb (map key (distinct ps))
 unfolding IsDistinct
 keys_distinct [] each = tt
-keys_distinct (p ∷ ps) each = (each_apart p (distinct ps) each.0 (each_in_distinct AreSmall ps each.1), kept_distinct (λ q. not (same_pair p q)) (distinct ps) (keys_distinct ps each.1))
+keys_distinct (p ∷ ps) each = (each_apart p (distinct ps) each.0 (each_distinct AreSmall ps each.1), kept_distinct (λ q. not (same_pair p q)) (distinct ps) (keys_distinct ps each.1))
 
 keys_below : (ps : List Pair) → AllByRecursion AreSmall ps → (k : ℕ) → list_any (eqb k) (map key ps) ≡ true → k < 16777216
 unfolding key AreSmall
@@ -115,25 +111,9 @@ few_pairs old new few_old few_new ps once known =
 
 -- the children of two fields are the pair of their messages, or none
 children_cases : (f g : FieldShape) → (field_children f g ≡ []) ⊎ (field_children f g ≡ option_to_list (child_pair f.element g.element))
-children_cases f g = of f.number f.presence f.element f.oneof g.number g.presence g.element g.oneof
-  where
-    of : (m : ℕ) (p : Presence) (e : Element) (o : Option ℕ) (n : ℕ) (q : Presence) (d : Element) (r : Option ℕ)
-        → (field_children (record { number = m; presence = p; element = e; oneof = o }) (record { number = n; presence = q; element = d; oneof = r }) ≡ [])
-        ⊎ (field_children (record { number = m; presence = p; element = e; oneof = o }) (record { number = n; presence = q; element = d; oneof = r }) ≡ option_to_list (child_pair e d))
-    of m (presences.Map k) e o n (presences.Map l) d r = under (like (elements.Scalar k) (elements.Scalar l)) refl
-      where
-        under : (b : Bool) → like (elements.Scalar k) (elements.Scalar l) ≡ b
-            → (field_children (record { number = m; presence = presences.Map k; element = e; oneof = o }) (record { number = n; presence = presences.Map l; element = d; oneof = r }) ≡ [])
-            ⊎ (field_children (record { number = m; presence = presences.Map k; element = e; oneof = o }) (record { number = n; presence = presences.Map l; element = d; oneof = r }) ≡ option_to_list (child_pair e d))
-        under true is = inr (rw is refl)
-        under false is = inl (rw is refl)
-    of m (presences.Map k) e o n q d r = inl refl
-    of m presences.Implicit e o n (presences.Map l) d r = inl refl
-    of m presences.Explicit e o n (presences.Map l) d r = inl refl
-    of m (presences.Repeated w) e o n (presences.Map l) d r = inl refl
-    of m presences.Implicit e o n q d r = inr refl
-    of m presences.Explicit e o n q d r = inr refl
-    of m (presences.Repeated w) e o n q d r = inr refl
+children_cases f g =
+    let here = option_to_list (child_pair f.element g.element) in
+    elim (has_children f.presence g.presence) as (λ b. ((if b then here else []) ≡ []) ⊎ ((if b then here else []) ≡ here)) [ true ↦ inr refl | false ↦ inl refl ]
 
 one_message : (e d : Element) → length (option_to_list (child_pair e d)) ≤ 1
 one_message (elements.Message s) (elements.Message t) = omega arith
@@ -166,7 +146,7 @@ module _ (old new : Shape) (is_old : IsShape old) (is_new : IsShape new) where
       let gs = fields new pair.new in
       let fs = fields old pair.old in
       among_each (λ p. is_pair old new p ≡ true) child (children old new pair) among
-      (each_in_distinct (λ p. is_pair old new p ≡ true) (all_children gs fs)
+      (each_distinct (λ p. is_pair old new p ≡ true) (all_children gs fs)
       (each-flat_map (λ p. is_pair old new p ≡ true) (λ (f : FieldShape). children_beside f (field_at gs f.number)) fs
       (each_weaker (IsField (length old)) (λ (f : FieldShape). AllByRecursion (λ p. is_pair old new p ≡ true) (children_beside f (field_at gs f.number))) (λ f is_f. beside_there gs (fields_are_found.0 new pair.new is_new).each f is_f (field_at gs f.number) refl) fs
       (fields_are_found.0 old pair.old is_old).each)))

@@ -31,7 +31,8 @@ use Rattle.pg_pairs.specs.Gaps.{body_length}
 use Rattle.pg_pairs.specs.TrueGaps.{is_seen, ItemCounts}
 use Rattle.pg_pairs.specs.Costs.{least_body, nonzero_body, entry_cost, one_item, least_content}
 use Rattle.pg_pairs.specs.Choices.{Table, choice_of, zero_counts, unlike_cost, gap_body, child_body, singular_cost, plain_choices, map_choices, field_choices}
-use Rattle.pg_pairs.specs.Contents.{total, Holds, IsInOrder, has_children, ChildBound, IsContent}
+use Rattle.pg_pairs.specs.Contents.{total, Holds, IsInOrder, ChildBound, IsContent}
+use Rattle.pg_pairs.specs.Covering.{has_children}
 use Rattle.pg_pairs.proofs.GapItems.{IsLeafy, implicit_leafy, leafy_like}
 use Rattle.pg_pairs.proofs.Leaves.{seen_read}
 use Rattle.pg_pairs.proofs.Likeness.{like_wire, same_wire-true}

@@ -22,7 +22,8 @@ use Rattle.pg_dyn.proofs.Lists.{each_weaker, each_both, map_map, each-filter, ea
 use Rattle.pg_pairs.specs.Likeness.{like}
 use Rattle.pg_pairs.specs.Choices.{no_bounds}
 use Rattle.pg_pairs.specs.Home.{home, home_content, home_message, homeward}
-use Rattle.pg_pairs.specs.Contents.{total, ChildBound, has_children, Holds}
+use Rattle.pg_pairs.specs.Contents.{total, ChildBound, Holds}
+use Rattle.pg_pairs.specs.Covering.{has_children}
 use Rattle.pg_pairs.proofs.AcrossPlain.{IsNoMap}
 use Rattle.pg_pairs.proofs.Across.{reads, item_read}
 use Rattle.pg_pairs.proofs.Costs.{Costs}

@@ -22,7 +22,6 @@ pub mod Choosing
 pub mod OneMessage
 pub mod ChildTests
 pub mod LowerBound
-pub mod FieldAlone
 pub mod Single
 pub mod Broken
 pub mod CarryAlone
@@ -46,14 +45,14 @@ pub mod Reached
 pub mod CarrySteps
 pub mod FirstSeen
 pub mod ChildSteps
-pub mod Linking
-pub mod Joined
 pub mod OptionSteps
 pub mod CheapestSteps
 pub mod EntryRecords
 pub mod Cheaper
 pub mod LeastMembers
+pub mod Joining
 pub mod SetTypes
+pub mod Offers
 pub mod LeastCosts
 pub mod LowCosts
 pub mod SameSteps

@@ -1,5 +1,5 @@
 -- How far costs go: a cause's, and what an edge's is more than its child's bound.
-use Rattle.std.proofs.Common.{◌≡◌, ℕ, zero, suc, ◌+◌, ◌/◌, ◌%◌, ◌≤◌, ℤ, pos, negsuc, List, [], ◌∷◌, ◌++◌, length, Bool, true, false, ◌&&◌, nat_le, nat_lt, if◌then◌else◌, Option, Some, None, option_map, IfSome, refl, arith, length-append}
+use Rattle.std.proofs.Common.{◌≡◌, ℕ, zero, suc, ◌+◌, ◌/◌, ◌%◌, ◌≤◌, ℤ, pos, negsuc, List, [], ◌∷◌, length, Bool, true, false, nat_le, nat_lt, if◌then◌else◌, Option, Some, None, option_map, IfSome, refl, arith, length-append}
 use Rattle.std.specs.List.{AllByRecursion}
 use Rattle.pg_schema.specs.declared.parts.field.Scalar.{Scalar}
 use Rattle.pg_schema.specs.declared.parts.field.Scalar.TheVariants.{Int32}
@@ -7,7 +7,7 @@ use Rattle.pg_schema.specs.declared.parts.field.Element.{Element}
 use Rattle.pg_schema.specs.declared.parts.field.Element.TheVariants as elements
 use Rattle.pg_schema.specs.declared.parts.field.Presence.{Presence}
 use Rattle.pg_schema.specs.declared.parts.field.Presence.TheVariants as presences
-use Rattle.pg_schema.specs.Shape.{Shape, FieldShape, fields, field_at}
+use Rattle.pg_schema.specs.Shape.{Shape, FieldShape, fields}
 use Rattle.pg_wire.specs.declared.record.WireType.{WireType}
 use Rattle.pg_wire.specs.declared.record.WireType.TheVariants.{Varint, I64, Len, I32}
 use Rattle.pg_wire.specs.Varint.{shortest_within, varint}
@@ -15,7 +15,7 @@ use Rattle.pg_wire.specs.Records.{length_before, tag}
 use Rattle.pg_dyn.specs.Message.{Leaf, Int, Bytes}
 use Rattle.pg_dyn.specs.Coding.{Form, Integer, Single, Double, Text, Raw, body, form, form_wire, int32, scalar_form, word_bytes}
 use Rattle.pg_dyn.specs.encoding.Encoding.{cap}
-use Rattle.pg_dyn.proofs.Lists.{each-append, each_filtered}
+use Rattle.pg_dyn.proofs.Lists.{each_filtered}
 use Rattle.pg_pairs.specs.declared.case.Case.{Case}
 use Rattle.pg_pairs.specs.declared.case.Case.TheVariants as cases
 use Rattle.pg_pairs.specs.declared.choice.Choice.{Choice}
@@ -24,13 +24,12 @@ use Rattle.pg_pairs.specs.declared.gap_kind.Gap.{Gap}
 use Rattle.pg_pairs.specs.declared.gap_kind.Gap.TheVariants as gaps
 use Rattle.pg_pairs.specs.EnumView.{EnumView}
 use Rattle.pg_pairs.specs.Among.{IsAmong}
-use Rattle.pg_pairs.specs.Likeness.{like}
 use Rattle.pg_pairs.specs.Gaps.{body_length, gap, item_named, item_of}
 use Rattle.pg_pairs.specs.Costs.{with_length, least_of_wire, least_body, least_nonzero, nonzero_body, entry_cost, one_item, least_content}
-use Rattle.pg_pairs.specs.Choices.{choice, choice_of, zero_counts, unlike_cost, gap_body, child_body, singular_cost, plain_choices, map_choices, field_choices, joins, joined_choices, choices_beside, all_choices, no_bounds}
+use Rattle.pg_pairs.specs.Choices.{choice_of, zero_counts, unlike_cost, gap_body, child_body, singular_cost, all_choices, no_bounds}
 use Rattle.pg_pairs.specs.Causes.{causes}
 use Rattle.pg_pairs.proofs.Among.{among_each}
-use Rattle.pg_pairs.proofs.LeastCosts.{gap_choice, child_choice, list_choice, like_choices, key_choice, value_choice, map_child_choice, like_map_choices}
+use Rattle.pg_pairs.proofs.Offers.{HoldsOfEach, each_choice}
 
 -- Lengths.
 
@@ -171,9 +170,6 @@ gap_low enum_view counts (elements.Enum s) (elements.Enum t) = of (enum_view.lea
 abbrev AreLow : List Choice → Type 0
 AreLow cs = AllByRecursion (λ (c : Choice). c.cost ≤ 100) cs
 
-low-append : (cs ds : List Choice) → AreLow cs → AreLow ds → AreLow (cs ++ ds)
-low-append = each-append (λ (c : Choice). c.cost ≤ 100)
-
 low-offered : (number : ℕ) (case : Case) (part : ℕ) (o : Option ℕ) → IsUpTo 100 o → AreLow (choice_of number case part o)
 low-offered number case part None up = tt
 low-offered number case part (Some n) up = (up, tt)
@@ -186,86 +182,30 @@ low-child f case part (elements.Message s) (elements.Enum t) = tt
 low-child f case part (elements.Scalar s) d = tt
 low-child f case part (elements.Enum s) d = tt
 
-low-unlike : (f g : FieldShape) → AreLow (choice f.number cases.Unlike 0 (unlike_cost f g) ∷ [])
-low-unlike f g = let low = unlike_low f g in (omega arith, tt)
-
 module _ (enum_view : EnumView) where
-  low-gap : (f g : FieldShape) (counts : Bool) (case : Case) (part : ℕ) → AreLow (choice_of f.number case part (option_map (one_item f) (gap_body enum_view counts f.element g.element)))
-  low-gap f g counts case part =
-      low-offered f.number case part (option_map (one_item f) (gap_body enum_view counts f.element g.element))
-      (mapped_low (one_item f) 20 100 (λ n up. let near = item_near f n in omega arith) (gap_body enum_view counts f.element g.element) (gap_low enum_view counts f.element g.element))
-
-  low-like : (f g : FieldShape) → AreLow (like_choices enum_view no_bounds f g)
-  low-like f g =
-      low-append (gap_choice enum_view f g ++ child_choice no_bounds f g) (list_choice f g)
-      (low-append (gap_choice enum_view f g) (child_choice no_bounds f g) (low-gap f g (zero_counts f g) cases.Gap 0) (low-child f cases.Child 0 f.element g.element))
-      (low-offered f.number cases.List 0 (singular_cost f g) (singular_low f.number f.presence g.presence f.element g.element f.oneof g.oneof))
-
-  low-plain : (f g : FieldShape) → AreLow (plain_choices enum_view no_bounds f g)
-  low-plain f g =
-      elim (like f.element g.element) as (λ b. AreLow (if b then like_choices enum_view no_bounds f g else choice f.number cases.Unlike 0 (unlike_cost f g) ∷ [])) [ true ↦ low-like f g | false ↦ low-unlike f g ]
-
-  low-like_maps : (f g : FieldShape) (k l : Scalar) → AreLow (like_map_choices enum_view no_bounds f g k l)
-  low-like_maps f g k l =
-      let low = least_low f.element in
-      low-append (key_choice enum_view f k l ++ value_choice enum_view f g) (map_child_choice no_bounds f g)
-      (low-append (key_choice enum_view f k l) (value_choice enum_view f g)
-      (low-offered f.number cases.Map 1 (option_map (λ body. entry_cost f.number body (least_body f.element)) (gap_body enum_view true (elements.Scalar k) (elements.Scalar l)))
-      (mapped_low (λ body. entry_cost f.number body (least_body f.element)) 20 100 (λ n up. let near = entry_near f.number n (least_body f.element) in omega arith)
-      (gap_body enum_view true (elements.Scalar k) (elements.Scalar l)) (gap_low enum_view true (elements.Scalar k) (elements.Scalar l))))
-      (low-gap f g true cases.Map 2))
-      (low-child f cases.Map 2 f.element g.element)
-
-  low-maps : (f g : FieldShape) (k l : Scalar) → AreLow (map_choices enum_view no_bounds f g k l)
-  low-maps f g k l =
-      let low = content_low f in
-      elim (like (elements.Scalar k) (elements.Scalar l) && like f.element g.element) as (λ b. AreLow (if b then like_map_choices enum_view no_bounds f g k l else choice f.number cases.Map 0 (least_content f) ∷ []))
-      [ true ↦ low-like_maps f g k l | false ↦ (omega arith, tt) ]
-
-  module _ (number : ℕ) (e d : Element) (o r : Option ℕ) where
-    abbrev at_old : Presence → FieldShape
-    at_old p = record { number = number; presence = p; element = e; oneof = o }
-
-    abbrev at_new : Presence → ℕ → FieldShape
-    at_new q n = record { number = n; presence = q; element = d; oneof = r }
-
-    low-presences : (p q : Presence) (n : ℕ) → AreLow (field_choices enum_view no_bounds (at_old p) (at_new q n))
-    low-presences (presences.Map k) (presences.Map l) n = low-maps (at_old (presences.Map k)) (at_new (presences.Map l) n) k l
-    low-presences (presences.Map k) presences.Implicit n = low-unlike (at_old (presences.Map k)) (at_new presences.Implicit n)
-    low-presences (presences.Map k) presences.Explicit n = low-unlike (at_old (presences.Map k)) (at_new presences.Explicit n)
-    low-presences (presences.Map k) (presences.Repeated w) n = low-unlike (at_old (presences.Map k)) (at_new (presences.Repeated w) n)
-    low-presences presences.Implicit (presences.Map l) n = low-unlike (at_old presences.Implicit) (at_new (presences.Map l) n)
-    low-presences presences.Implicit presences.Implicit n = low-plain (at_old presences.Implicit) (at_new presences.Implicit n)
-    low-presences presences.Implicit presences.Explicit n = low-plain (at_old presences.Implicit) (at_new presences.Explicit n)
-    low-presences presences.Implicit (presences.Repeated w) n = low-plain (at_old presences.Implicit) (at_new (presences.Repeated w) n)
-    low-presences presences.Explicit (presences.Map l) n = low-unlike (at_old presences.Explicit) (at_new (presences.Map l) n)
-    low-presences presences.Explicit presences.Implicit n = low-plain (at_old presences.Explicit) (at_new presences.Implicit n)
-    low-presences presences.Explicit presences.Explicit n = low-plain (at_old presences.Explicit) (at_new presences.Explicit n)
-    low-presences presences.Explicit (presences.Repeated w) n = low-plain (at_old presences.Explicit) (at_new (presences.Repeated w) n)
-    low-presences (presences.Repeated v) (presences.Map l) n = low-unlike (at_old (presences.Repeated v)) (at_new (presences.Map l) n)
-    low-presences (presences.Repeated v) presences.Implicit n = low-plain (at_old (presences.Repeated v)) (at_new presences.Implicit n)
-    low-presences (presences.Repeated v) presences.Explicit n = low-plain (at_old (presences.Repeated v)) (at_new presences.Explicit n)
-    low-presences (presences.Repeated v) (presences.Repeated w) n = low-plain (at_old (presences.Repeated v)) (at_new (presences.Repeated w) n)
-
-  low-beside : (f : FieldShape) (o : Option FieldShape) → AreLow (choices_beside enum_view no_bounds f o)
-  low-beside f None = tt
-  low-beside f (Some g) = low-presences f.number f.element g.element f.oneof g.oneof f.presence g.presence g.number
-
-  low-joined : (gs : List FieldShape) (a : FieldShape) (later : List FieldShape) → AreLow (joined_choices gs a later)
-  low-joined gs a [] = tt
-  low-joined gs a (b ∷ later) =
-      let one = content_low a in
-      let other = content_low b in
-      low-append (if joins gs a b then choice a.number cases.Oneof b.number (least_content a + least_content b) ∷ [] else []) (joined_choices gs a later)
-      (elim (joins gs a b) as (λ c. AreLow (if c then choice a.number cases.Oneof b.number (least_content a + least_content b) ∷ [] else [])) [ true ↦ (omega arith, tt) | false ↦ tt ])
-      (low-joined gs a later)
+  low-each : (f g : FieldShape) → HoldsOfEach (λ (c : Choice). c.cost ≤ 100) enum_view no_bounds f g
+  low-each f g = record {
+    unlike = let low = unlike_low f g in omega arith;
+    gap = λ no_map. low-gap (zero_counts f g) cases.Gap 0;
+    child = λ no_map. low-child f cases.Child 0 f.element g.element;
+    list = λ no_map. low-offered f.number cases.List 0 (singular_cost f g) (singular_low f.number f.presence g.presence f.element g.element f.oneof g.oneof);
+    apart = λ k is_map. let low = content_low f in omega arith;
+    key = λ k l is_map.
+        let low = least_low f.element in
+        let keys = gap_body enum_view true (elements.Scalar k) (elements.Scalar l) in
+        low-offered f.number cases.Map 1 (option_map (λ body. entry_cost f.number body (least_body f.element)) keys)
+        (mapped_low (λ body. entry_cost f.number body (least_body f.element)) 20 100 (λ n up. let near = entry_near f.number n (least_body f.element) in omega arith) keys (gap_low enum_view true (elements.Scalar k) (elements.Scalar l)));
+    value = λ k is_map. low-gap true cases.Map 2;
+    value_child = λ k is_map. low-child f cases.Map 2 f.element g.element;
+  }
+    where
+      low-gap : (counts : Bool) (case : Case) (part : ℕ) → AreLow (choice_of f.number case part (option_map (one_item f) (gap_body enum_view counts f.element g.element)))
+      low-gap counts case part =
+          low-offered f.number case part (option_map (one_item f) (gap_body enum_view counts f.element g.element))
+          (mapped_low (one_item f) 20 100 (λ n up. let near = item_near f n in omega arith) (gap_body enum_view counts f.element g.element) (gap_low enum_view counts f.element g.element))
 
   low-all : (gs fs : List FieldShape) → AreLow (all_choices enum_view no_bounds gs fs)
-  low-all gs [] = tt
-  low-all gs (f ∷ later) =
-      low-append (choices_beside enum_view no_bounds f (field_at gs f.number) ++ joined_choices gs f later) (all_choices enum_view no_bounds gs later)
-      (low-append (choices_beside enum_view no_bounds f (field_at gs f.number)) (joined_choices gs f later) (low-beside f (field_at gs f.number)) (low-joined gs f later))
-      (low-all gs later)
+  low-all = each_choice (λ (c : Choice). c.cost ≤ 100) enum_view no_bounds low-each (λ a b. let one = content_low a in let other = content_low b in omega arith)
 
   pub causes_are_low : (old new : Shape) (pair : Pair) (c : Choice) → IsAmong c (causes enum_view old new pair) → c.cost ≤ 100
   causes_are_low old new pair c among =

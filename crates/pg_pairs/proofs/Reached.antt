@@ -83,7 +83,7 @@ module _ (enum_view : EnumView) (law : IsEnumView enum_view) (old new : Shape) (
   own_each : (f g : FieldShape) → field_at (fields old pair.old) f.number ≡ Some f → field_at (fields new pair.new) f.number ≡ Some g → AllByRecursion (IsOwn f g) (field_choices enum_view table f g)
   own_each f g found at =
       each_both (CarriesOwn enum_view law old new shape_old shape_new table pair f g) (IsPlaced f.presence) (field_choices enum_view table f g) (field_carried f g found at)
-      (placed enum_view table f.number g.number f.element g.element f.oneof g.oneof f.presence g.presence)
+      (placed enum_view table f g)
 
   beside_carried : (f : FieldShape) → field_at (fields old pair.old) f.number ≡ Some f → AllByRecursion CarriesChoice (choices_beside enum_view table f (field_at (fields new pair.new) f.number))
   beside_carried f found = of (field_at (fields new pair.new) f.number) refl

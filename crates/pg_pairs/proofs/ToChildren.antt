@@ -1,12 +1,11 @@
 -- What a message's type keeps up to its length, a child's type keeps up to the child's.
-use Rattle.std.proofs.Common.{◌≡◌, ℕ, ◌<◌, ◌≤◌, List, [], ◌++◌, length, true, Option, Some, option_map, ⊎_elim, refl, ap, ◌∙◌, subst, arith, length-append}
+use Rattle.std.proofs.Common.{◌≡◌, ℕ, ◌<◌, ◌≤◌, List, [], ◌++◌, length, true, Option, Some, None, option_map, ⊎_elim, refl, ap, ◌∙◌, subst, arith, length-append}
 use Rattle.std.specs.List.{AllByRecursion}
 use Rattle.std.proofs.lemmas.Bool.{cases_lt}
 use Rattle.pg_schema.specs.declared.parts.field.TypeId.{TypeId}
 use Rattle.pg_schema.specs.declared.parts.field.Scalar.{Scalar}
 use Rattle.pg_schema.specs.declared.parts.field.Element.TheVariants as elements
 use Rattle.pg_schema.specs.declared.parts.field.Presence.{Presence}
-use Rattle.pg_schema.specs.declared.parts.field.Presence.TheVariants as presences
 use Rattle.pg_schema.specs.Shape.{Shape, FieldShape, IsShape, fields, field_at}
 use Rattle.pg_wire.specs.Varint.{varint}
 use Rattle.pg_dyn.specs.Message.{Bytes}
@@ -22,8 +21,8 @@ use Rattle.pg_pairs.specs.EnumView.{EnumView, by_numbers}
 use Rattle.pg_pairs.specs.Likeness.{like}
 use Rattle.pg_pairs.specs.Gaps.{body_length}
 use Rattle.pg_pairs.specs.Costs.{with_length, one_item, least_body, entry_cost}
-use Rattle.pg_pairs.specs.Choices.{Table, choice_of, gap_body, child_body, singular_cost, plain_choices, map_choices, field_choices}
-use Rattle.pg_pairs.specs.Contents.{has_children}
+use Rattle.pg_pairs.specs.Choices.{Table, choice_of, gap_body, child_body, singular_cost, plain_choices, map_choices, field_choices, choices_by, map_key}
+use Rattle.pg_pairs.specs.Covering.{children_by, has_children}
 use Rattle.pg_pairs.specs.Laws.{IsReached}
 use Rattle.pg_pairs.proofs.Costs.{Costs}
 use Rattle.pg_pairs.proofs.Lengths.{with_length_rises}
@@ -37,38 +36,26 @@ module _ (P : Choice → Type 0) (enum_view : EnumView) (table : Table) (s t : T
   abbrev of_new : Presence → FieldShape
   of_new q = record { number = n; presence = q; element = elements.Message t; oneof = r }
 
-  abbrev Costing : ℕ → Type 0
-  Costing k = (number : ℕ) (case : Case) (part : ℕ) → P (record { number = number; case = case; part = part; cost = k }) → ⊥
-
   in_plain : (p q : Presence) → AllByRecursion P (plain_choices enum_view table (of_old p) (of_new q)) → P (record { number = m; case = cases.Child; part = 0; cost = one_item (of_old p) (with_length x) })
   in_plain p q all = (rw bound at (each_before P (choice_of m cases.Child 0 (option_map (one_item (of_old p)) (child_body table (elements.Message s) (elements.Message t)))) (choice_of m cases.List 0 (singular_cost (of_old p) (of_new q))) all)).0
 
-  in_map : (k l : Scalar) → like (elements.Scalar k) (elements.Scalar l) ≡ true → AllByRecursion P (map_choices enum_view table (of_old (presences.Map k)) (of_new (presences.Map l)) k l) → P (record { number = m; case = cases.Map; part = 2; cost = one_item (of_old (presences.Map k)) (with_length x) })
-  in_map k l alike all =
+  in_map : (p q : Presence) (k l : Scalar) → like (elements.Scalar k) (elements.Scalar l) ≡ true → AllByRecursion P (map_choices enum_view table (of_old p) (of_new q) k l) → P (record { number = m; case = cases.Map; part = 2; cost = one_item (of_old p) (with_length x) })
+  in_map p q k l alike all =
       let open_all = rw alike at all in
       (rw bound at (each_after P (choice_of m cases.Map 1 (option_map (λ body. entry_cost m body (least_body (elements.Message s))) (gap_body enum_view true (elements.Scalar k) (elements.Scalar l))) ++ [])
-      (choice_of m cases.Map 2 (option_map (one_item (of_old (presences.Map k))) (child_body table (elements.Message s) (elements.Message t)))) open_all)).0
+      (choice_of m cases.Map 2 (option_map (one_item (of_old p)) (child_body table (elements.Message s) (elements.Message t)))) open_all)).0
 
   abbrev Priced : Presence → Type 0
   Priced p = (case : Case) × (part : ℕ) × P (record { number = m; case = case; part = part; cost = one_item (of_old p) (with_length x) })
 
   in_field : (p q : Presence) → has_children p q ≡ true → AllByRecursion P (field_choices enum_view table (of_old p) (of_new q)) → Priced p
-  in_field (presences.Map k) (presences.Map l) has all = (cases.Map, 2, in_map k l has all)
-  in_field (presences.Map k) presences.Implicit has all = absurd (cc)
-  in_field (presences.Map k) presences.Explicit has all = absurd (cc)
-  in_field (presences.Map k) (presences.Repeated w) has all = absurd (cc)
-  in_field presences.Implicit (presences.Map l) has all = absurd (cc)
-  in_field presences.Explicit (presences.Map l) has all = absurd (cc)
-  in_field (presences.Repeated w) (presences.Map l) has all = absurd (cc)
-  in_field presences.Implicit presences.Implicit has all = (cases.Child, 0, in_plain presences.Implicit presences.Implicit all)
-  in_field presences.Implicit presences.Explicit has all = (cases.Child, 0, in_plain presences.Implicit presences.Explicit all)
-  in_field presences.Implicit (presences.Repeated w) has all = (cases.Child, 0, in_plain presences.Implicit (presences.Repeated w) all)
-  in_field presences.Explicit presences.Implicit has all = (cases.Child, 0, in_plain presences.Explicit presences.Implicit all)
-  in_field presences.Explicit presences.Explicit has all = (cases.Child, 0, in_plain presences.Explicit presences.Explicit all)
-  in_field presences.Explicit (presences.Repeated w) has all = (cases.Child, 0, in_plain presences.Explicit (presences.Repeated w) all)
-  in_field (presences.Repeated p) presences.Implicit has all = (cases.Child, 0, in_plain (presences.Repeated p) presences.Implicit all)
-  in_field (presences.Repeated p) presences.Explicit has all = (cases.Child, 0, in_plain (presences.Repeated p) presences.Explicit all)
-  in_field (presences.Repeated p) (presences.Repeated w) has all = (cases.Child, 0, in_plain (presences.Repeated p) (presences.Repeated w) all)
+  in_field p q = of (map_key p) (map_key q)
+    where
+      of : (k l : Option Scalar) → children_by k l ≡ true → AllByRecursion P (choices_by enum_view table (of_old p) (of_new q) k l) → Priced p
+      of (Some k) (Some l) has all = (cases.Map, 2, in_map p q k l has all)
+      of None None has all = (cases.Child, 0, in_plain p q all)
+      of (Some k) None has all = absurd (cc)
+      of None (Some l) has all = absurd (cc)
 
 -- Down to a child, whose bytes a comparand of the field holds.
 module _ (old new : Shape) (shape_old : IsShape old) (shape_new : IsShape new) (a b : TypeId) (n : ℕ) (small : n ≤ cap) (fine : CompatibleTo n old new a b) where

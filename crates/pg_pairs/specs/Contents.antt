@@ -19,11 +19,11 @@ use Rattle.pg_dyn.specs.Comparison.{Alike, Kept}
 use Rattle.pg_pairs.specs.declared.choice.Choice.{Choice}
 use Rattle.pg_pairs.specs.EnumView.{EnumView}
 use Rattle.pg_pairs.specs.ViewLaws.{IsEnumView}
-use Rattle.pg_pairs.specs.Likeness.{like}
 use Rattle.pg_pairs.specs.Choices.{Table, number_for, field_choices}
 use Rattle.pg_dyn.specs.Comparison.{Comparand, writes}
 use Rattle.pg_dyn.specs.ByComparands.{is_field_kept}
 use Rattle.pg_pairs.specs.Among.{IsAmong}
+use Rattle.pg_pairs.specs.Covering.{has_children}
 
 -- the bytes of the content's records
 abbrev pub total : FieldShape → List Comparand → ℕ
@@ -60,25 +60,6 @@ IsInOrder presences.Implicit cs = IsAtMostOne cs
 IsInOrder presences.Explicit cs = IsAtMostOne cs
 IsInOrder (presences.Repeated packed) cs = ⊤
 IsInOrder (presences.Map k) cs = RisingKeys k cs
-
--- whether messages in both fields are children of the pair
-abbrev pub has_children : Presence → Presence → Bool
-has_children (presences.Map k) (presences.Map l) = like (elements.Scalar k) (elements.Scalar l)
-has_children (presences.Map k) presences.Implicit = false
-has_children (presences.Map k) presences.Explicit = false
-has_children (presences.Map k) (presences.Repeated w) = false
-has_children presences.Implicit (presences.Map l) = false
-has_children presences.Implicit presences.Implicit = true
-has_children presences.Implicit presences.Explicit = true
-has_children presences.Implicit (presences.Repeated w) = true
-has_children presences.Explicit (presences.Map l) = false
-has_children presences.Explicit presences.Implicit = true
-has_children presences.Explicit presences.Explicit = true
-has_children presences.Explicit (presences.Repeated w) = true
-has_children (presences.Repeated p) (presences.Map l) = false
-has_children (presences.Repeated p) presences.Implicit = true
-has_children (presences.Repeated p) presences.Explicit = true
-has_children (presences.Repeated p) (presences.Repeated w) = true
 
 abbrev pub passes : (Message → Bool) → Option Message → Bool
 passes test (Some m) = test m

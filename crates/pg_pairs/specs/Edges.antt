@@ -3,7 +3,7 @@
 use Rattle.std.specs.Prelude.{◌≡◌, ℕ, ◌^◌, ◌<◌, ◌≤◌, nat_le, nat_lt, Bool, true, ◌&&◌, List, ◌∷◌, map, flat_map, length, if◌then◌else◌, Option, Some, None, option_and_then, IfSome}
 use Rattle.std.specs.List.{AllByRecursion}
 use Rattle.pg_schema.specs.declared.parts.field.Presence.{Presence}
-use Rattle.pg_schema.specs.declared.parts.field.Presence.TheVariants as presences
+use Rattle.pg_schema.specs.declared.parts.field.Scalar.{Scalar}
 use Rattle.pg_schema.specs.Shape.{Shape, FieldShape, IsShape, fields, field_at}
 use Rattle.pg_dyn.specs.encoding.Encoding.{cap}
 use Rattle.pg_pairs.specs.declared.choice.Pair.{Pair}
@@ -13,7 +13,7 @@ use Rattle.pg_pairs.specs.declared.edge.Part.TheVariants.{Whole, Value}
 use Rattle.pg_pairs.specs.EnumView.{EnumView}
 use Rattle.pg_pairs.specs.Among.{IsAmong}
 use Rattle.pg_pairs.specs.Costs.{one_item, with_length}
-use Rattle.pg_pairs.specs.Choices.{Table, no_bounds}
+use Rattle.pg_pairs.specs.Choices.{Table, map_key, no_bounds}
 use Rattle.pg_pairs.specs.Covering.{children, children_beside, distinct}
 use Rattle.pg_pairs.specs.LeastCosts.{least_cost}
 use Rattle.pg_pairs.specs.LeastOf.{cost_under, least_of}
@@ -31,11 +31,12 @@ PairsLeadToPairs =
     is_pair old new pair ≡ true
 
 -- of a map the value is the message
+abbrev pub part_by : Option Scalar → Part
+part_by (Some key) = Value
+part_by None = Whole
+
 abbrev pub part_of : Presence → Part
-part_of (presences.Map key) = Value
-part_of presences.Implicit = Whole
-part_of presences.Explicit = Whole
-part_of (presences.Repeated packed) = Whole
+part_of p = part_by (map_key p)
 
 abbrev pub edge_to : Pair → FieldShape → Pair → Edge
 edge_to pair f child = record { from = pair; child = child; number = f.number; part = part_of f.presence }
