@@ -10,7 +10,7 @@ use Rattle.pg_schema.specs.declared.parts.field.Presence.{Presence}
 use Rattle.pg_schema.specs.declared.parts.field.Presence.TheVariants as presences
 use Rattle.pg_schema.specs.Shape.{Shape, FieldShape, PresenceFits, IsShape, fields, field_at, is_packable, is_singular}
 use Rattle.pg_wire.specs.Records.{tag}
-use Rattle.pg_dyn.specs.Message.{Leaf, Message, ends, holds, nests, with_part}
+use Rattle.pg_dyn.specs.Message.{Leaf, Plain, Msg, Message, ends, holds, nests, with_part}
 use Rattle.pg_dyn.specs.Coding.{form, form_wire, zero_leaf, InRange}
 use Rattle.pg_dyn.specs.encoding.Encoding.{cap}
 use Rattle.pg_dyn.specs.Belonging.{KeyFits}
@@ -26,7 +26,7 @@ use Rattle.pg_pairs.specs.Gaps.{body_length, gap_item}
 use Rattle.pg_pairs.specs.Costs.{with_length, least_body, nonzero_body, entry_cost, one_item, least_content}
 use Rattle.pg_pairs.specs.Choices.{is_oneof, Table, choice, choice_of, zero_counts, unlike_cost, gap_body, child_body, singular_cost, plain_choices, map_choices, field_choices}
 use Rattle.pg_pairs.specs.Laws.{ReachedBy}
-use Rattle.pg_pairs.specs.Carried.{nonzero_leaf, far_leaf, apart_leaf, apart_item, item_by, least_part, alone, leaf_alone, child_alone, lost_onto, key_alone, value_alone, carried_field, field_child}
+use Rattle.pg_pairs.specs.Carried.{nonzero_leaf, far_leaf, apart_leaf, apart_item, item_by, least_part, alone, item_alone, lost_onto, key_alone, broken_value, carried_field, field_child}
 use Rattle.pg_pairs.specs.CarriedChoices.{ChildReached, ChildThere}
 use Rattle.pg_pairs.proofs.GapItems.{IsLeafy, implicit_leafy, leafy_like}
 use Rattle.pg_pairs.proofs.Likeness.{like_wire}
@@ -68,7 +68,7 @@ module _ (enum_view : EnumView) (law : IsEnumView enum_view) (old new : Shape) (
     abbrev child_new : FieldShape
     child_new = record { number = number; presence = q; element = elements.Message t; oneof = r }
 
-    child_made : KeyFits p None → IsNoMap q → IsUnpacked child_old → ((b : ℕ) → one_item child_old b ≡ length (tag number (form_wire (form (elements.Message s)))) + b) → field_at (fields old pair.old) number ≡ Some child_old → field_at (fields new pair.new) number ≡ Some child_new → (x : ℕ) → table (record { old = s; new = t }) ≡ Some (Some x) → one_item child_old (with_length x) ≤ cap → (child : Option Message) → ChildReached enum_view old new table (Some (record { old = s; new = t })) child → ReachedBy enum_view old new pair (child_alone number None child) (one_item child_old (with_length x))
+    child_made : KeyFits p None → IsNoMap q → IsUnpacked child_old → ((b : ℕ) → one_item child_old b ≡ length (tag number (form_wire (form (elements.Message s)))) + b) → field_at (fields old pair.old) number ≡ Some child_old → field_at (fields new pair.new) number ≡ Some child_new → (x : ℕ) → table (record { old = s; new = t }) ≡ Some (Some x) → one_item child_old (with_length x) ≤ cap → (child : Option Message) → ChildReached enum_view old new table (Some (record { old = s; new = t })) child → ReachedBy enum_view old new pair (item_alone number None (option_map Msg child)) (one_item child_old (with_length x))
     child_made no_key no_map unpacked cost_is found at x there small None h = absurd h
     child_made no_key no_map unpacked cost_is found at x there small (Some m) (y, there_y, reached) =
         let same = same_bound (table (record { old = s; new = t })) y x there_y there in
@@ -83,7 +83,7 @@ module _ (enum_view : EnumView) (law : IsEnumView enum_view) (old new : Shape) (
       let less : x < cost = (let long = longer x in let is_cost = cost_is (elements.Message s) (with_length x) in omega (arith, is)) in (
         (x, at_x, less),
         λ child reached.
-            subst (ReachedBy enum_view old new pair (child_alone number None child)) is
+            subst (ReachedBy enum_view old new pair (item_alone number None (option_map Msg child))) is
             (child_made number o r s t p q no_key no_map (unpacked (elements.Message s)) (cost_is (elements.Message s)) found at x at_x (subst (λ n. n ≤ cap) (sym is) small) child reached),
       )
   child_carried number o r (elements.Message s) (elements.Scalar t) p q no_key no_map unpacked cost_is found at cost h small = absurd (cc)
@@ -95,7 +95,7 @@ module _ (enum_view : EnumView) (law : IsEnumView enum_view) (old new : Shape) (
   abbrev map_field : ℕ → Option ℕ → Element → Scalar → FieldShape
   map_field number o e k = record { number = number; presence = presences.Map k; element = e; oneof = o }
 
-  map_child_made : (number : ℕ) (o r : Option ℕ) (s t : TypeId) (k l : Scalar) (gap : Option Leaf) → field_at (fields old pair.old) number ≡ Some (map_field number o (elements.Message s) k) → field_at (fields new pair.new) number ≡ Some (map_field number r (elements.Message t) l) → (x : ℕ) → table (record { old = s; new = t }) ≡ Some (Some x) → one_item (map_field number o (elements.Message s) k) (with_length x) ≤ cap → (child : Option Message) → ChildReached enum_view old new table (Some (record { old = s; new = t })) child → ReachedBy enum_view old new pair (value_alone number (zero_leaf (form (elements.Scalar k))) child gap) (one_item (map_field number o (elements.Message s) k) (with_length x))
+  map_child_made : (number : ℕ) (o r : Option ℕ) (s t : TypeId) (k l : Scalar) (gap : Option Leaf) → field_at (fields old pair.old) number ≡ Some (map_field number o (elements.Message s) k) → field_at (fields new pair.new) number ≡ Some (map_field number r (elements.Message t) l) → (x : ℕ) → table (record { old = s; new = t }) ≡ Some (Some x) → one_item (map_field number o (elements.Message s) k) (with_length x) ≤ cap → (child : Option Message) → ChildReached enum_view old new table (Some (record { old = s; new = t })) child → ReachedBy enum_view old new pair (item_alone number (Some (zero_leaf (form (elements.Scalar k)))) (broken_value child gap)) (one_item (map_field number o (elements.Message s) k) (with_length x))
   map_child_made number o r s t k l gap found at x there small None h = absurd h
   map_child_made number o r s t k l gap found at x there small (Some m) (y, there_y, reached) =
       let same = same_bound (table (record { old = s; new = t })) y x there_y there in
@@ -109,7 +109,7 @@ module _ (enum_view : EnumView) (law : IsEnumView enum_view) (old new : Shape) (
       let less : x < cost = (let long = longer x in omega (arith, is)) in (
         (x, at_x, less),
         λ child reached.
-            subst (ReachedBy enum_view old new pair (value_alone number (zero_leaf (form (elements.Scalar k))) child (gap_item enum_view true (elements.Message s) (elements.Message t)))) is
+            subst (ReachedBy enum_view old new pair (item_alone number (Some (zero_leaf (form (elements.Scalar k)))) (broken_value child (gap_item enum_view true (elements.Message s) (elements.Message t))))) is
             (map_child_made number o r s t k l (gap_item enum_view true (elements.Message s) (elements.Message t)) found at x at_x (subst (λ n. n ≤ cap) (sym is) small) child reached),
       )
   map_child_carried number o r (elements.Message s) (elements.Scalar t) k l found at cost h small = absurd (cc)
@@ -130,9 +130,9 @@ module _ (enum_view : EnumView) (law : IsEnumView enum_view) (old new : Shape) (
     -- A gap: the message of its item.
     gap_carried_by : (p q : Presence) (body : ℕ) → (gap : Gapped enum_view (zero_counts (at_old p) (at_new q)) e d body) → (one_item (at_old p) (body_length (form e) gap.item) ≤ cap → ReachedBy enum_view old new pair (holds number None gap.item (ends [])) (one_item (at_old p) (body_length (form e) gap.item))) → Carries p q cases.Gap 0 (one_item (at_old p) body)
     gap_carried_by p q body gap h =
-        childless (leaf_alone number None (gap_item enum_view (zero_counts (at_old p) (at_new q)) e d)) (one_item (at_old p) body)
+        childless (item_alone number None (option_map Plain (gap_item enum_view (zero_counts (at_old p) (at_new q)) e d))) (one_item (at_old p) body)
         (λ small.
-        subst (λ x. ReachedBy enum_view old new pair (leaf_alone number None x) (one_item (at_old p) body)) (sym gap.item_is)
+        subst (λ x. ReachedBy enum_view old new pair (item_alone number None (option_map Plain x)) (one_item (at_old p) body)) (sym gap.item_is)
         (subst (λ b. ReachedBy enum_view old new pair (holds number None gap.item (ends [])) (one_item (at_old p) b)) gap.body_is
         (h (subst (λ b. one_item (at_old p) b ≤ cap) (sym gap.body_is) small))))
 
@@ -319,13 +319,13 @@ module _ (enum_view : EnumView) (law : IsEnumView enum_view) (old new : Shape) (
 
       value_gap_carried : like e d ≡ true → field_at (fields old pair.old) number ≡ Some old_map → field_at (fields new pair.new) number ≡ Some new_map → (body : ℕ) → Gapped enum_view true e d body → Carries (presences.Map k) (presences.Map l) cases.Map 2 (one_item old_map body)
       value_gap_carried like_values found at body gap =
-          subst (λ w. IsCarried w (λ child. value_alone number (zero_leaf (form (elements.Scalar k))) child (gap_item enum_view true e d)) (one_item old_map body)) (sym (leafy_childless e d gap.old_leafy))
+          subst (λ w. IsCarried w (λ child. item_alone number (Some (zero_leaf (form (elements.Scalar k)))) (broken_value child (gap_item enum_view true e d))) (one_item old_map body)) (sym (leafy_childless e d gap.old_leafy))
           (λ small. (tt, of small))
         where
-          of : one_item old_map body ≤ cap → (child : Option Message) → ChildReached enum_view old new table None child → ReachedBy enum_view old new pair (value_alone number (zero_leaf (form (elements.Scalar k))) child (gap_item enum_view true e d)) (one_item old_map body)
+          of : one_item old_map body ≤ cap → (child : Option Message) → ChildReached enum_view old new table None child → ReachedBy enum_view old new pair (item_alone number (Some (zero_leaf (form (elements.Scalar k)))) (broken_value child (gap_item enum_view true e d))) (one_item old_map body)
           of small (Some m) h = absurd h
           of small None h =
-              subst (λ x. ReachedBy enum_view old new pair (leaf_alone number (Some (zero_leaf (form (elements.Scalar k)))) x) (one_item old_map body)) (sym gap.item_is)
+              subst (λ x. ReachedBy enum_view old new pair (item_alone number (Some (zero_leaf (form (elements.Scalar k)))) (option_map Plain x)) (one_item old_map body)) (sym gap.item_is)
               (subst (λ b. ReachedBy enum_view old new pair (holds number (Some (zero_leaf (form (elements.Scalar k)))) gap.item (ends [])) (one_item old_map b)) gap.body_is
               (reach_value_gap enum_view old new shape_old shape_new pair number e d o r k l gap.old_leafy gap.new_leafy like_values found at gap.item gap.least.unseen.in_range gap.least.unseen.not_seen
               (subst (λ b. one_item old_map b ≤ cap) (sym gap.body_is) small)))

@@ -34,7 +34,7 @@ use Rattle.pg_pairs.specs.Gaps.{gap_item}
 use Rattle.pg_pairs.specs.Choices.{is_oneof, Table, zero_counts, choices}
 use Rattle.pg_pairs.specs.Among.{IsAmong}
 use Rattle.pg_pairs.specs.Laws.{ReachedBy}
-use Rattle.pg_pairs.specs.Carried.{nonzero_leaf, apart_leaf, apart_item, item_by, least_leaf, least_key, least_part_of, least_part, alone, leaf_alone, child_alone, lost_onto, key_of, key_alone, value_alone, carried_field, carried_two, carried_of, carried, field_child, child_of, choice_child}
+use Rattle.pg_pairs.specs.Carried.{nonzero_leaf, apart_leaf, apart_item, item_by, least_leaf, least_key, least_part_of, least_part, alone, item_alone, lost_onto, key_of, key_alone, broken_value, carried_field, carried_two, carried_of, carried, field_child, child_of, choice_child}
 use Rattle.pg_pairs.specs.CarriedChoices.{ChildGiven, ChildReached}
 use Rattle.pg_pairs.specs.CarriedItems.{items_before, entries_before, content_before, content_alone, Puts, value_item}
 use Rattle.pg_pairs.proofs.CarryContents.{child_there_is}
@@ -108,21 +108,13 @@ least_short number p (elements.Message t) = tt
 least_short number p (elements.Scalar s) = tt
 least_short number p (elements.Enum s) = tt
 
-leaf_short : (number : ℕ) (key leaf : Option Leaf) → IsShort (places (leaf_alone number key leaf))
-leaf_short number key (Some leaf) = tt
-leaf_short number key None = tt
-
-child_short : (number : ℕ) (key : Option Leaf) (child : Option Message) → IsShort (places (child_alone number key child))
-child_short number key (Some child) = tt
-child_short number key None = tt
+item_short : (number : ℕ) (key : Option Leaf) (item : Option Item) → IsShort (places (item_alone number key item))
+item_short number key (Some item) = alone_short number key item
+item_short number key None = tt
 
 key_short : (number : ℕ) (e : Element) (key : Option Leaf) → IsShort (places (key_alone number e key))
 key_short number e (Some key) = alone_short number (Some key) (item_by (λ x. zero_leaf x) e)
 key_short number e None = tt
-
-value_short : (number : ℕ) (key : Leaf) (child : Option Message) (leaf : Option Leaf) → IsShort (places (value_alone number key child leaf))
-value_short number key (Some child) leaf = tt
-value_short number key None leaf = leaf_short number (Some key) leaf
 
 lost_normalized : (number : ℕ) (p q : Presence) (zero : Item) → IsSettled p (lost_onto number p q zero)
 lost_normalized number presences.Implicit q zero = inr (alone_short number None zero)
@@ -133,12 +125,12 @@ lost_normalized number (presences.Repeated w) q zero = inl refl
 carried_normalized : (enum_view : EnumView) (f g : FieldShape) (case : Case) (part : ℕ) (child : Option Message) → IsSettled f.presence (carried_field enum_view f g case part child)
 carried_normalized enum_view f g cases.Unlike part child =
     either f.presence (zero_counts f g) _ _ (inr (least_short f.number f.presence f.element)) (inr (alone_short f.number (least_key f.presence) (item_by (λ x. nonzero_leaf x) f.element)))
-carried_normalized enum_view f g cases.Gap part child = inr (leaf_short f.number None (gap_item enum_view (zero_counts f g) f.element g.element))
-carried_normalized enum_view f g cases.Child part child = inr (child_short f.number None child)
+carried_normalized enum_view f g cases.Gap part child = inr (item_short f.number None (option_map model.Plain (gap_item enum_view (zero_counts f g) f.element g.element)))
+carried_normalized enum_view f g cases.Child part child = inr (item_short f.number None (option_map model.Msg child))
 carried_normalized enum_view f g cases.List part child = lost_normalized f.number f.presence g.presence (item_by (λ x. zero_leaf x) f.element)
 carried_normalized enum_view f g cases.Map part child =
     either f.presence (nat_eq part 1) _ _ (inr (key_short f.number f.element (gap_item enum_view true (elements.Scalar (key_of f.presence)) (elements.Scalar (key_of g.presence)))))
-    (either f.presence (nat_eq part 2) _ _ (inr (value_short f.number (zero_leaf (form (elements.Scalar (key_of f.presence)))) child (gap_item enum_view true f.element g.element)))
+    (either f.presence (nat_eq part 2) _ _ (inr (item_short f.number (Some (zero_leaf (form (elements.Scalar (key_of f.presence))))) (broken_value child (gap_item enum_view true f.element g.element))))
     (inr (alone_short f.number (Some (apart_leaf (elements.Scalar (key_of f.presence)) (elements.Scalar (key_of g.presence)))) (apart_item f.element g.element))))
 carried_normalized enum_view f g cases.Oneof part child = inr tt
 
@@ -209,7 +201,7 @@ module _ (shape : Shape) (type : TypeId) where
 module _ (enum_view : EnumView) (old new : Shape) (table : Table) (law : IsEnumView enum_view) (shape_old : IsShape old) (shape_new : IsShape new) (pair : Pair) (c : Choice) (among : IsAmong c (choices enum_view table old new pair)) where
   -- A choice of one field: its content stays as it is where it is set, and makes the choice's message.
   module _ (single : is_oneof c.case ≡ false) (f g : FieldShape) (found : field_at (fields old pair.old) c.number ≡ Some f) (at : field_at (fields new pair.new) c.number ≡ Some g) (own : f.number ≡ c.number) where
-    carried_is : (child : Option Message) → carried enum_view old new pair c child ≡ carried_field enum_view f g c.case c.part child
+    pub carried_is : (child : Option Message) → carried enum_view old new pair c child ≡ carried_field enum_view f g c.case c.part child
     carried_is child =
         ap₂ (λ x y. carried_of enum_view x y (field_at (fields old pair.old) c.part) c child) found at
         ∙ ap (λ (b : Bool). if b then carried_two f (field_at (fields old pair.old) c.part) else carried_field enum_view f g c.case c.part child) single
@@ -235,7 +227,7 @@ module _ (enum_view : EnumView) (old new : Shape) (table : Table) (law : IsEnumV
             (choices_carried enum_view old new table law shape_old shape_new pair c among None (subst (λ o. ChildReached enum_view old new table o None) (sym (child_is ∙ none)) tt))).0.is_message implicit
         of None (Some m) none is given = absurd given
         of (Some p) None some is given = absurd given
-        of (Some p) (Some m) some is given = absurd (not_implicit p.old (child_there_is f g c.case c.part p some).1 implicit)
+        of (Some p) (Some m) some is given = absurd (not_implicit p.old (child_there_is f g c.case c.part p some) implicit)
 
     pub carried_single : (content : Content) (child : Option Kept) → content_alone c.number content ≡ carried_field enum_view f g c.case c.part (option_map message_of child) → (m : Kept) → IsSetTo old c.number content (ends pair.old []) m → ChildGiven old (choice_child old new pair c) child → message_of m ≡ carried enum_view old new pair c (option_map message_of child)
     carried_single content child is m (f', found', m_is) given =

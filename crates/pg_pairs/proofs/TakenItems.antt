@@ -1,5 +1,5 @@
 -- The items of carried messages are ones of their elements.
-use Rattle.std.proofs.Common.{◌≡◌, false, Result, Ok, Err, IfOk, refl, sym, ◌∙◌, subst}
+use Rattle.std.proofs.Common.{◌≡◌, false, Option, Some, None, option_map, IfSome, Result, Ok, Err, IfOk, refl, ap, sym, ◌∙◌, subst}
 use Rattle.pg_schema.specs.declared.parts.field.Element.{Element}
 use Rattle.pg_schema.specs.declared.parts.field.Element.TheVariants as elements
 use Rattle.pg_schema.specs.declared.parts.field.Presence.{Presence}
@@ -7,11 +7,14 @@ use Rattle.pg_schema.specs.declared.parts.field.Presence.TheVariants as presence
 use Rattle.pg_schema.specs.declared.parts.field.Scalar.{Scalar}
 use Rattle.pg_schema.specs.declared.parts.field.Scalar.TheVariants as scalars
 use Rattle.pg_schema.specs.Shape.{is_map}
-use Rattle.pg_dyn.specs.Message.{Leaf}
+use Rattle.pg_dyn.specs.declared.message.Value.{Value}
+use Rattle.pg_dyn.specs.declared.message.Value.TheVariants as values
+use Rattle.pg_dyn.specs.Message.{Leaf, Plain}
 use Rattle.pg_dyn.specs.Coding.{Text, Raw, form, InRange}
+use Rattle.pg_dyn.specs.Seen.{leaf_of, IsKey}
 use Rattle.pg_pairs.specs.declared.item.Small.{Small}
 use Rattle.pg_pairs.specs.declared.item.Small.TheVariants.{Zero, NotZero, Far}
-use Rattle.pg_pairs.specs.CarriedItems.{leaf_by}
+use Rattle.pg_pairs.specs.CarriedItems.{leaf_by, value_item}
 use Rattle.pg_pairs.proofs.CarryLists.{zero_in_range}
 use Rattle.pg_pairs.proofs.CarryUnlikeMaps.{far_in_range}
 use Rattle.pg_pairs.proofs.GapItems.{IsLeafy}
@@ -42,3 +45,17 @@ no_map presences.Implicit other = refl
 no_map presences.Explicit other = refl
 no_map (presences.Repeated packed) other = refl
 no_map (presences.Map k) other = absurd (other k refl)
+
+-- an item that is no message is its leaf
+pub plain_item : (item : Option Value) → IfSome item IsKey → option_map value_item item ≡ option_map Plain (option_map leaf_of item)
+plain_item None key = refl
+plain_item (Some (values.Int n)) key = refl
+plain_item (Some (values.F32 bits)) key = refl
+plain_item (Some (values.F64 bits)) key = refl
+plain_item (Some (values.Text text)) key = refl
+plain_item (Some (values.Bytes bytes)) key = refl
+plain_item (Some (values.Msg child)) key = absurd key
+
+pub plain_items : {E : Type 0} (r : Result (Option Value) E) (gap : Option Leaf) → IfOk r (λ item. option_map leaf_of item ≡ gap) → IfOk r (λ item. IfSome item IsKey) → IfOk r (λ item. option_map value_item item ≡ option_map Plain gap)
+plain_items (Ok item) gap is key = plain_item item key ∙ ap (option_map Plain) is
+plain_items (Err e) gap is key = tt

@@ -1,5 +1,5 @@
 -- The message that a choice is reached by.
-use Rattle.std.specs.Prelude.{ℕ, nat_eq, pos, [], ◌∷◌, Bool, true, false, if◌then◌else◌, Option, Some, None}
+use Rattle.std.specs.Prelude.{ℕ, nat_eq, pos, [], ◌∷◌, Bool, true, false, if◌then◌else◌, Option, Some, None, option_map}
 use Rattle.pg_schema.specs.declared.parts.field.Scalar.{Scalar}
 use Rattle.pg_schema.specs.declared.parts.field.Scalar.TheVariants.{Int32}
 use Rattle.pg_schema.specs.declared.parts.field.Element.{Element}
@@ -79,14 +79,10 @@ unlike_message f g =
     if zero_counts f g then least_part f (ends [])
     else alone f.number (least_key f.presence) (item_by nonzero_leaf f.element)
 
--- a message of the item of a gap, and of a child, where there is one
-abbrev pub leaf_alone : ℕ → Option Leaf → Option Leaf → Message
-leaf_alone number key (Some leaf) = holds number key leaf (ends [])
-leaf_alone number key None = ends []
-
-abbrev pub child_alone : ℕ → Option Leaf → Option Message → Message
-child_alone number key (Some child) = nests number key child (ends [])
-child_alone number key None = ends []
+-- a message of the item, where there is one
+abbrev pub item_alone : ℕ → Option Leaf → Option Item → Message
+item_alone number key (Some item) = alone number key item
+item_alone number key None = ends []
 
 -- a list that the new field doesn't keep: two zeros beside an explicit field, of which one is read, else one
 abbrev pub lost_onto : ℕ → Presence → Presence → Item → Message
@@ -105,24 +101,24 @@ abbrev pub key_alone : ℕ → Element → Option Leaf → Message
 key_alone number e (Some key) = alone number (Some key) (item_by zero_leaf e)
 key_alone number e None = ends []
 
--- an entry whose value is a child, or has a gap
-abbrev pub value_alone : ℕ → Leaf → Option Message → Option Leaf → Message
-value_alone number key (Some child) leaf = nests number (Some key) child (ends [])
-value_alone number key None leaf = leaf_alone number (Some key) leaf
+-- the value of an entry that breaks: the child, else the item of the gap
+abbrev pub broken_value : Option Message → Option Leaf → Option Item
+broken_value (Some child) leaf = Some (Msg child)
+broken_value None leaf = option_map Plain leaf
 
 abbrev pub entry_message : EnumView → ℕ → Scalar → Scalar → Element → Element → ℕ → Option Message → Message
 entry_message enum_view number k l e d part child =
     if nat_eq part 1 then key_alone number e (gap_item enum_view true (elements.Scalar k) (elements.Scalar l))
     else if nat_eq part 2
-    then value_alone number (zero_leaf (form (elements.Scalar k))) child (gap_item enum_view true e d)
+    then item_alone number (Some (zero_leaf (form (elements.Scalar k)))) (broken_value child (gap_item enum_view true e d))
     else alone number (Some (apart_leaf (elements.Scalar k) (elements.Scalar l))) (apart_item e d)
 
 -- the message of a field's choice, of that case and part, round that child
 abbrev pub carried_field : EnumView → FieldShape → FieldShape → Case → ℕ → Option Message → Message
 carried_field enum_view f g cases.Unlike part child = unlike_message f g
 carried_field enum_view f g cases.Gap part child =
-    leaf_alone f.number None (gap_item enum_view (zero_counts f g) f.element g.element)
-carried_field enum_view f g cases.Child part child = child_alone f.number None child
+    item_alone f.number None (option_map Plain (gap_item enum_view (zero_counts f g) f.element g.element))
+carried_field enum_view f g cases.Child part child = item_alone f.number None (option_map Msg child)
 carried_field enum_view f g cases.List part child =
     lost_onto f.number f.presence g.presence (item_by zero_leaf f.element)
 carried_field enum_view f g cases.Map part child =

@@ -1,9 +1,9 @@
 -- A choice with its child, and what the message that it is reached by keeps to.
-use Rattle.std.specs.Prelude.{◌≡◌, ℕ, ◌<◌, ⊤, Option, Some, None, option_map}
+use Rattle.std.specs.Prelude.{◌≡◌, ℕ, ◌<◌, ⊤, Option, Some, None}
 use Rattle.pg_schema.specs.Shape.{Shape, IsShape}
 use Rattle.pg_dyn.specs.Message.{Message}
 use Rattle.pg_dyn.specs.Fits.{Fits}
-use Rattle.pg_dyn.specs.Kept.{Kept, message_of, type_of}
+use Rattle.pg_dyn.specs.Kept.{Kept, type_of}
 use Rattle.pg_pairs.specs.declared.choice.Choice.{Choice}
 use Rattle.pg_pairs.specs.declared.choice.Pair.{Pair}
 use Rattle.pg_pairs.specs.EnumView.{EnumView}
@@ -31,20 +31,6 @@ ChildReached enum_view old new table None (Some m) = ⊥
 ChildReached enum_view old new table (Some p) None = ⊥
 ChildReached enum_view old new table (Some p) (Some m) =
     (x : ℕ) × (table p ≡ Some (Some x)) × ReachedBy enum_view old new p m x
-
--- The child, where a choice has one, is of that pair's old type.
-abbrev pub IsOfPair : Option Pair → Option Kept → Type 0
-IsOfPair (Some pair) (Some child) = type_of child ≡ pair.old
-IsOfPair (Some pair) None = ⊤
-IsOfPair None child = ⊤
-
--- The choice is one of the pair's under some table of bounds, and its child, where it has one, is a message of the
--- child's old type that breaks and has the length of its bound.
-pub record IsChoiceRound (enum_view : EnumView) (old new : Shape) (pair : Pair) (choice : Choice) (child : Option Kept) : Type 0 where
-  pub table : Table
-  pub among : IsAmong choice (choices enum_view table old new pair)
-  pub reached : ChildReached enum_view old new table (choice_child old new pair choice) (option_map message_of child)
-  pub of_pair : IsOfPair (choice_child old new pair choice) child
 
 -- What a table has for the child of a choice of that cost, where the choice has one: a smaller number.
 abbrev pub ChildThere : Table → Option Pair → ℕ → Type 0

@@ -1,6 +1,6 @@
 //! Items that the messages of choices hold.
 
-ghost use Rattle.std.specs.Prelude.{◌≡◌, Some, is_some, length, option_map, IfOk, IfSome};
+ghost use Rattle.std.specs.Prelude.{◌≡◌, length, option_map, IfOk, IfSome};
 ghost use Rattle.pg_schema.specs.Shape.{ElementFits, Shape};
 ghost use Rattle.pg_dyn.specs.ContentFits.{ItemFits};
 ghost use Rattle.pg_dyn.specs.ScalarItems.{IsItemOf};
@@ -10,8 +10,7 @@ ghost use Rattle.pg_dyn.specs.Message.{Bytes, Msg};
 ghost use Rattle.pg_pairs.specs.Gaps.{gap, gap_item, item_of};
 ghost use Rattle.pg_pairs.specs.GraphView.{seen};
 ghost use Rattle.pg_pairs.specs.Carried.{item_by};
-ghost use Rattle.pg_pairs.specs.CarriedItems.{is_child_of, leaf_by, value_item};
-ghost use Rattle.pg_dyn.specs.Fits.{Fits};
+ghost use Rattle.pg_pairs.specs.CarriedItems.{IsChildOf, leaf_by, value_item};
 ghost use Rattle.pg_dyn.specs.Kept.{message_of};
 
 use crate::gap_kind::Gap;
@@ -79,25 +78,17 @@ pub(crate) fn small_item(alloc: Global, element: Element, small: Small) -> Resul
     }
 }
 
-/// The child as an item of the element, where it is a message of its type.
-pub(crate) fn child_item(
-    alloc: Global,
-    element: Element,
-    child: Message,
-) -> Result<Option<Value>, AllocError>
-    ensures some { IfOk result (λ found. is_some found ≡ is_child_of element (Some child)) }
-    ensures seen { IfOk result (λ found. IfSome found
-        (λ value. value_item value ≡ Msg (message_of child))) }
-    ensures fits { IfOk result (λ found. (shape : Shape) → Fits shape child
-        → IfSome found (ItemFits shape element)) }
+/// The child as an item, where there is one.
+pub(crate) fn child_item(alloc: Global, child: Option<Message>) -> Result<Option<Value>, AllocError>
+    ensures seen { IfOk result (λ found. option_map value_item found
+        ≡ option_map Msg (option_map message_of child)) }
+    ensures fits { IfOk result (λ found. (shape : Shape) (element : Element)
+        → IfSome child (IsChildOf shape element) → IfSome found (ItemFits shape element)) }
 {
-    let Element::Message(type_id) = element else {
-        return Ok(None);
-    };
-    if child.type_id() != type_id {
-        return Ok(None);
+    match child {
+        Some(child) => Ok(Some(Value::Msg(Box::new(alloc, child)?))),
+        None => Ok(None),
     }
-    Ok(Some(Value::Msg(Box::new(alloc, child)?)))
 }
 
 /// The item of the gap between two scalar types, where there is one.

@@ -1,17 +1,16 @@
 //! The contents that break in the messages of choices.
 
-ghost use Rattle.std.specs.Prelude.{◌≡◌, ◌&&◌, ℕ, length, not, true, false, is_some, option_map, Some, None, IfOk, IfSome};
+ghost use Rattle.std.specs.Prelude.{◌≡◌, ℕ, length, true, false, option_map, Some, None, IfOk, IfSome};
 ghost use Rattle.pg_schema.specs.Parts.{field_shape};
 ghost use Rattle.pg_schema.specs.Shape.{ElementFits, Shape, is_map};
 ghost use Rattle.pg_dyn.specs.Coding.{scalar_form, zero_leaf};
 ghost use Rattle.pg_dyn.specs.ContentFits.{ItemFits};
-ghost use Rattle.pg_dyn.specs.Fits.{Fits};
 ghost use Rattle.pg_dyn.specs.Kept.{message_of};
 ghost use Rattle.pg_dyn.specs.Message.{with_part};
 ghost use Rattle.pg_dyn.specs.ScalarItems.{IsItemOf};
 ghost use Rattle.pg_dyn.specs.Seen.{leaf_of, IsKey};
-ghost use Rattle.pg_pairs.specs.Carried.{alone, apart_item, apart_leaf, carried_field, child_alone, entry_message, item_by, key_alone, key_of, leaf_alone, least_key, least_part, lost_onto, unlike_message, value_alone};
-ghost use Rattle.pg_pairs.specs.CarriedItems.{apart_small, content_alone, has_content, has_entry, has_value, is_child_of, IsTakenBy, leaf_by, Puts, value_item};
+ghost use Rattle.pg_pairs.specs.Carried.{alone, apart_item, apart_leaf, broken_value, carried_field, entry_message, item_alone, item_by, key_alone, key_of, least_key, least_part, lost_onto, unlike_message};
+ghost use Rattle.pg_pairs.specs.CarriedItems.{apart_small, content_alone, found_alone, IsChildOf, IsPlacedBy, IsTakenBy, leaf_by, Puts, value_item};
 ghost use Rattle.pg_pairs.specs.Gaps.{gap_item};
 ghost use Rattle.pg_pairs.specs.GraphView.{seen};
 
@@ -102,51 +101,18 @@ fn unlike_content(alloc: Global, old: &Field, new: &Field) -> Result<Content, Al
 }
 
 /// A content of that item, where there is one, of a field that is no map.
-fn some_content(
+fn item_content(
     alloc: Global,
     field: &Field,
     item: Option<Value>,
 ) -> Result<Option<Content>, AllocError>
-    requires { IfSome item IsKey }
-    ensures some { IfOk result (λ found. is_some found
-        ≡ (not (is_map field.now.presence) && is_some item)) }
-    ensures seen { IfOk result (λ found. IfSome found
-        (λ content. content_alone field.now.number content
-        ≡ leaf_alone field.now.number None (option_map leaf_of item))) }
-    ensures taken { IfOk result (λ found. (shape : Shape)
+    ensures seen { IfOk result (λ found. found_alone field.now.number found
+        ≡ item_alone field.now.number None (option_map value_item item)) }
+    ensures taken { IfOk result (λ found. (shape : Shape) → is_map field.now.presence ≡ false
         → IfSome item (ItemFits shape field.now.element)
         → IfSome found (IsTakenBy shape field.now.presence field.now.element)) }
 {
-    if field.presence.is_map() {
-        return Ok(None);
-    }
     match item {
-        Some(value) => Ok(Some(plain_content(alloc, field, value)?)),
-        None => Ok(None),
-    }
-}
-
-/// A content of that child, where it is one of the field's type, of a field that is no map.
-fn child_content(
-    alloc: Global,
-    field: &Field,
-    child: Option<Message>,
-) -> Result<Option<Content>, AllocError>
-    ensures some { IfOk result (λ found. is_some found
-        ≡ (not (is_map field.now.presence) && is_child_of field.now.element child)) }
-    ensures seen { IfOk result (λ found. IfSome found
-        (λ content. content_alone field.now.number content
-        ≡ child_alone field.now.number None (option_map message_of child))) }
-    ensures taken { IfOk result (λ found. (shape : Shape) → IfSome child (Fits shape)
-        → IfSome found (IsTakenBy shape field.now.presence field.now.element)) }
-{
-    if field.presence.is_map() {
-        return Ok(None);
-    }
-    let Some(child) = child else {
-        return Ok(None);
-    };
-    match child_item(alloc, field.element, child)? {
         Some(value) => Ok(Some(plain_content(alloc, field, value)?)),
         None => Ok(None),
     }
@@ -174,23 +140,6 @@ fn lost_items(alloc: Global, old: &Field, new: &Field) -> Result<Content, AllocE
     }
 }
 
-/// The same, of a field that is no map.
-fn lost_content(alloc: Global, old: &Field, new: &Field) -> Result<Option<Content>, AllocError>
-    ensures some { IfOk result (λ found. is_some found ≡ not (is_map old.now.presence)) }
-    ensures seen { IfOk result (λ found. IfSome found
-        (λ content. content_alone old.now.number content
-        ≡ lost_onto old.now.number old.now.presence new.now.presence
-        (item_by zero_leaf old.now.element))) }
-    ensures taken { IfOk result (λ found. (shape : Shape)
-        → ElementFits (length shape) old.now.element
-        → IfSome found (IsTakenBy shape old.now.presence old.now.element)) }
-{
-    if old.presence.is_map() {
-        return Ok(None);
-    }
-    Ok(Some(lost_items(alloc, old, new)?))
-}
-
 /// The key of a map; of another field any scalar.
 fn key_of(presence: Presence) -> Scalar
     ensures { result ≡ key_of presence }
@@ -201,112 +150,65 @@ fn key_of(presence: Presence) -> Scalar
     }
 }
 
-/// An entry whose key is the gap's item, where there is one.
-fn key_gap_content(
+/// An entry with that key, where there is one.
+fn key_content(
     alloc: Global,
-    graph: &Priced<'_>,
-    field: &Field,
-    keys: (Scalar, Scalar),
+    element: Element,
+    key: Option<Value>,
 ) -> Result<Option<Content>, AllocError>
-    ensures some { IfOk result (λ found. is_some found
-        ≡ is_some (gap_item (seen graph.now)
-        true (Element.Scalar keys.0) (Element.Scalar keys.1))) }
-    ensures seen { IfOk result (λ found. IfSome found
-        (λ content. content_alone field.now.number content
-        ≡ key_alone field.now.number field.now.element
-        (gap_item (seen graph.now) true
-        (Element.Scalar keys.0) (Element.Scalar keys.1)))) }
-    ensures taken { IfOk result (λ found. (shape : Shape)
-        → ElementFits (length shape) field.now.element
-        → IfSome found (IsTakenBy shape (Presence.Map keys.0) field.now.element)) }
+    ensures seen { IfOk result (λ found. (number : ℕ) → found_alone number found
+        ≡ key_alone number element (option_map leaf_of key)) }
+    ensures taken { IfOk result (λ found. (shape : Shape) (scalar : Scalar)
+        → ElementFits (length shape) element → IfSome key (IsItemOf scalar)
+        → IfSome found (IsTakenBy shape (Presence.Map scalar) element)) }
 {
-    let keys = (Element::Scalar(keys.0), Element::Scalar(keys.1));
-    match gap_item(alloc, graph, true, keys)? {
+    match key {
         Some(key) => {
-            let value = small_item(alloc, field.element, Small::Zero)?;
+            let value = small_item(alloc, element, Small::Zero)?;
             Ok(Some(entry_content(alloc, key, value)?))
         }
         None => Ok(None),
     }
 }
 
-/// An entry whose value is the child, where it is one of the field's type.
-fn child_entry(
-    alloc: Global,
-    field: &Field,
-    key: Scalar,
-    child: Message,
-) -> Result<Option<Content>, AllocError>
-    ensures some { IfOk result (λ found. is_some found
-        ≡ is_child_of field.now.element (Some child)) }
-    ensures seen { IfOk result (λ found. IfSome found
-        (λ content. content_alone field.now.number content
-        ≡ value_alone field.now.number (zero_leaf (scalar_form key))
-        (Some (message_of child)) None)) }
-    ensures taken { IfOk result (λ found. (shape : Shape) → Fits shape child
-        → IfSome found (IsTakenBy shape (Presence.Map key) field.now.element)) }
-{
-    match child_item(alloc, field.element, child)? {
-        Some(value) => {
-            let key = small_leaf(alloc, key, Small::Zero)?;
-            Ok(Some(entry_content(alloc, key, value)?))
-        }
-        None => Ok(None),
-    }
-}
-
-/// An entry whose value is the gap's item, where there is one.
-fn value_gap_content(
-    alloc: Global,
-    graph: &Priced<'_>,
-    fields: &Beside<'_>,
-    key: Scalar,
-) -> Result<Option<Content>, AllocError>
-    ensures some { IfOk result (λ found. is_some found
-        ≡ is_some (gap_item (seen graph.now)
-        true fields.now.old.now.element fields.now.new.now.element)) }
-    ensures seen { IfOk result (λ found. IfSome found
-        (λ content. content_alone fields.now.old.now.number content
-        ≡ value_alone fields.now.old.now.number (zero_leaf (scalar_form key)) None
-        (gap_item (seen graph.now) true
-        fields.now.old.now.element fields.now.new.now.element))) }
-    ensures taken { IfOk result (λ found. (shape : Shape)
-        → IfSome found (IsTakenBy shape (Presence.Map key) fields.now.old.now.element)) }
-{
-    let (old, new) = (fields.old, fields.new);
-    match gap_item(alloc, graph, true, (old.element, new.element))? {
-        Some(value) => {
-            let key = small_leaf(alloc, key, Small::Zero)?;
-            Ok(Some(entry_content(alloc, key, value)?))
-        }
-        None => Ok(None),
-    }
-}
-
-/// An entry whose value is the child, or else the gap's item, where there is one.
+/// An entry with that value under zero, where there is one.
 fn value_content(
     alloc: Global,
-    graph: &Priced<'_>,
-    fields: &Beside<'_>,
     key: Scalar,
-    child: Option<Message>,
+    value: Option<Value>,
 ) -> Result<Option<Content>, AllocError>
-    ensures some { IfOk result (λ found. is_some found
-        ≡ has_value fields.now.old.now.element child
+    ensures seen { IfOk result (λ found. (number : ℕ) → found_alone number found
+        ≡ item_alone number (Some (zero_leaf (scalar_form key))) (option_map value_item value)) }
+    ensures taken { IfOk result (λ found. (shape : Shape) (element : Element)
+        → IfSome value (ItemFits shape element)
+        → IfSome found (IsTakenBy shape (Presence.Map key) element)) }
+{
+    match value {
+        Some(value) => {
+            let key = small_leaf(alloc, key, Small::Zero)?;
+            Ok(Some(entry_content(alloc, key, value)?))
+        }
+        None => Ok(None),
+    }
+}
+
+/// The value of an entry that breaks: the child, or else the gap's item, where there is one.
+fn broken_value(
+    alloc: Global,
+    graph: &Priced<'_>,
+    elements: (Element, Element),
+    child: Option<Message>,
+) -> Result<Option<Value>, AllocError>
+    ensures seen { IfOk result (λ value. option_map value_item value
+        ≡ broken_value (option_map message_of child)
         (gap_item (seen graph.now) true
-        fields.now.old.now.element fields.now.new.now.element)) }
-    ensures seen { IfOk result (λ found. IfSome found
-        (λ content. content_alone fields.now.old.now.number content
-        ≡ value_alone fields.now.old.now.number (zero_leaf (scalar_form key))
-        (option_map message_of child)
-        (gap_item (seen graph.now) true
-        fields.now.old.now.element fields.now.new.now.element))) }
-    ensures taken { IfOk result (λ found. (shape : Shape) → IfSome child (Fits shape)
-        → IfSome found (IsTakenBy shape (Presence.Map key) fields.now.old.now.element)) }
+        elements.0 elements.1)) }
+    ensures fits { IfOk result (λ value. (shape : Shape)
+        → IfSome child (IsChildOf shape elements.0) → IfSome value (ItemFits shape elements.0)) }
 {
     match child {
-        Some(child) => child_entry(alloc, fields.old, key, child),
-        None => value_gap_content(alloc, graph, fields, key),
+        Some(_) => child_item(alloc, child),
+        None => gap_item(alloc, graph, true, elements),
     }
 }
 
@@ -343,7 +245,7 @@ fn apart_content(
     entry_content(alloc, key, value)
 }
 
-/// The entry of a choice of a map.
+/// The entry of a choice of a map, where there is what breaks in it.
 fn broken_entry(
     alloc: Global,
     graph: &Priced<'_>,
@@ -351,34 +253,34 @@ fn broken_entry(
     part: u32,
     child: Option<Message>,
 ) -> Result<Option<Content>, AllocError>
-    ensures some { IfOk result (λ found. is_some found
-        ≡ (is_map fields.now.old.now.presence && has_entry
-        (seen graph.now)
-        (field_shape fields.now.old.now) (key_of fields.now.old.now.presence)
-        (key_of fields.now.new.now.presence) fields.now.new.now.element part child)) }
-    ensures seen { IfOk result (λ found. IfSome found
-        (λ content. content_alone fields.now.old.now.number content
+    ensures seen { IfOk result (λ found. found_alone fields.now.old.now.number found
         ≡ entry_message (seen graph.now)
         fields.now.old.now.number (key_of fields.now.old.now.presence)
         (key_of fields.now.new.now.presence) fields.now.old.now.element fields.now.new.now.element
-        part (option_map message_of child))) }
+        part (option_map message_of child)) }
     ensures taken { IfOk result (λ found. (shape : Shape)
-        → ElementFits (length shape) fields.now.old.now.element → IfSome child (Fits shape)
-        → IfSome found (IsTakenBy shape fields.now.old.now.presence fields.now.old.now.element)) }
+        → ElementFits (length shape) fields.now.old.now.element
+        → IfSome child (IsChildOf shape fields.now.old.now.element)
+        → IfSome found (IsTakenBy shape (Presence.Map (key_of fields.now.old.now.presence))
+        fields.now.old.now.element)) }
 {
-    let Presence::Map { key } = fields.old.presence else {
-        return Ok(None);
-    };
-    let keys = (key, key_of(fields.new.presence));
+    let (old, new) = (fields.old, fields.new);
+    let keys = (key_of(old.presence), key_of(new.presence));
     match part {
-        1 => key_gap_content(alloc, graph, fields.old, keys),
-        2 => value_content(alloc, graph, fields, key, child),
+        1 => {
+            let keys = (Element::Scalar(keys.0), Element::Scalar(keys.1));
+            key_content(alloc, old.element, gap_item(alloc, graph, true, keys)?)
+        }
+        2 => {
+            let value = broken_value(alloc, graph, (old.element, new.element), child)?;
+            value_content(alloc, keys.0, value)
+        }
         _ => Ok(Some(apart_content(alloc, fields, keys)?)),
     }
 }
 
 /// The content of the old field that breaks in the message of a choice of that case and part, round
-/// the child where it has one. `None` where the field takes no such content.
+/// the child where it has one; `None` where the choice has no gap and no child.
 pub(crate) fn broken_content(
     alloc: Global,
     graph: &Priced<'_>,
@@ -386,18 +288,15 @@ pub(crate) fn broken_content(
     choice: &Choice,
     child: Option<Message>,
 ) -> Result<Option<Content>, AllocError>
-    ensures some { IfOk result (λ found. is_some found
-        ≡ has_content (seen graph.now)
-        (field_shape fields.now.old.now)
-        (field_shape fields.now.new.now) choice.now.case choice.now.part child) }
-    ensures seen { IfOk result (λ found. IfSome found
-        (λ content. content_alone fields.now.old.now.number content
+    ensures seen { IfOk result (λ found. found_alone fields.now.old.now.number found
         ≡ carried_field (seen graph.now)
         (field_shape fields.now.old.now)
         (field_shape fields.now.new.now) choice.now.case choice.now.part
-        (option_map message_of child))) }
+        (option_map message_of child)) }
     ensures taken { IfOk result (λ found. (shape : Shape)
-        → ElementFits (length shape) fields.now.old.now.element → IfSome child (Fits shape)
+        → ElementFits (length shape) fields.now.old.now.element
+        → IsPlacedBy fields.now.old.now.presence choice.now.case
+        → IfSome child (IsChildOf shape fields.now.old.now.element)
         → IfSome found (IsTakenBy shape fields.now.old.now.presence fields.now.old.now.element)) }
 {
     let (old, new) = (fields.old, fields.new);
@@ -406,10 +305,10 @@ pub(crate) fn broken_content(
         Case::Gap => {
             let zero = zero_counts(old, new);
             let item = gap_item(alloc, graph, zero, (old.element, new.element))?;
-            some_content(alloc, old, item)
+            item_content(alloc, old, item)
         }
-        Case::Child => child_content(alloc, old, child),
-        Case::List => lost_content(alloc, old, new),
+        Case::Child => item_content(alloc, old, child_item(alloc, child)?),
+        Case::List => Ok(Some(lost_items(alloc, old, new)?)),
         Case::Map => broken_entry(alloc, graph, fields, choice.part, child),
         Case::Oneof => Ok(None),
     }

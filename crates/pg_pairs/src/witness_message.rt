@@ -1,8 +1,8 @@
 //! The messages that reach choices.
 
-ghost use Rattle.std.specs.Prelude.{◌≡◌, true, is_some, option_map, Some, IfOk, OnOk};
+ghost use Rattle.std.specs.Prelude.{◌≡◌, length, true, is_some, option_map, Some, IfOk, OnOk};
 ghost use Rattle.pg_schema.specs.Parts.{field_shape, shape_of};
-ghost use Rattle.pg_schema.specs.Shape.{field_at, fields};
+ghost use Rattle.pg_schema.specs.Shape.{ElementFits, field_at, fields};
 ghost use Rattle.pg_dyn.specs.Fits.{Fits};
 ghost use Rattle.pg_dyn.specs.Kept.{message_of, type_of};
 ghost use Rattle.pg_dyn.specs.setting.Setting.{IsSetTo};
@@ -49,9 +49,13 @@ fn add(
 /// The field of a number that the type has.
 fn field_there(schema: &Schema, type_id: TypeId, number: u32) -> &Field
     requires { is_some (field_at (fields (shape_of schema.now) type_id) number) ≡ true }
-    ensures { field_at (fields (shape_of schema.now) type_id) number
+    ensures found { field_at (fields (shape_of schema.now) type_id) number
         ≡ Some (field_shape result.now) }
+    ensures own { result.now.number ≡ number }
+    ensures element { ElementFits (length (shape_of schema.now)) result.now.element }
 {
+    // What holds of every schema.
+    schema.parts();
     match schema.field(type_id, number) {
         Some(field) => field,
         None => unreachable!(),
@@ -109,10 +113,9 @@ pub fn carry(
         old: field,
         new: field_there(new, pair.new, choice.number),
     };
-    match broken_content(alloc, graph, &fields, choice, child)? {
-        Some(content) => add(&mut message, old, field, content)?,
-        // The field takes the content of each of its choices.
-        None => unreachable!(),
-    }
+    let Some(content) = broken_content(alloc, graph, &fields, choice, child)? else {
+        return Ok(message);
+    };
+    add(&mut message, old, field, content)?;
     Ok(message)
 }
