@@ -28,7 +28,8 @@ use Rattle.pg_pairs.proofs.AcrossPlain.{IsNoMap}
 use Rattle.pg_pairs.proofs.AcrossMap.{SeenEntry}
 use Rattle.pg_pairs.proofs.Comparands.{length-entry_bytes, EntryCosts, entry_costs}
 use Rattle.pg_pairs.proofs.Returned.{leaf_again, returned, IsGood, ComesBack, IsRead, back_read, back_seen}
-use Rattle.pg_pairs.proofs.Likes.{like_back, leafy_beside}
+use Rattle.pg_pairs.proofs.CarriedItems.{like_leafy}
+use Rattle.pg_pairs.proofs.Likes.{like_back}
 use Rattle.pg_pairs.proofs.Ways.{plain_across, map_across, PlainWay, Crosses}
 
 -- what holds of an image's elements
@@ -125,7 +126,7 @@ module _ (old new : Shape) (number : ℕ) (e d : Element) (o r : Option ℕ) (cs
     not_zero_again leafy not_zero =
         each-map (λ (c : Comparand). is_zero c.written ≡ false) (returned new d) hs
         (each_weaker (λ (h : Comparand). is_zero h.written ≡ false) (λ h. is_zero (returned new d h).written ≡ false)
-        (λ h k. ap is_zero (leaf_kept new d h.written (leafy_beside e d is_like leafy)) ∙ k) hs
+        (λ h k. ap is_zero (leaf_kept new d h.written (like_leafy e d is_like leafy)) ∙ k) hs
         (transferred (λ p. is_zero p.item ≡ false) cs hs same not_zero))
 
     may_be_zero : (p' : Presence) → p' ≡ p → (is_implicit p ≡ true → AllByRecursion (λ (c : Comparand). is_zero c.written ≡ false) cs) → AllByRecursion (λ (c : Comparand). MayBeZero p' c.written) again

@@ -9,6 +9,7 @@ use Rattle.pg_pairs.specs.FirstSeen.{OnePairMore}
 use Rattle.pg_pairs.specs.Among.{IsAmong}
 use Rattle.pg_pairs.specs.ByIndices.{by_indices, equal_same}
 use Rattle.pg_pairs.specs.Seen.{has_pair, AreSeen}
+use Rattle.pg_dyn.proofs.Lists.{each_filtered}
 use Rattle.pg_pairs.proofs.Choosing.{same_pair-true}
 
 -- a list with one pair more, if it isn't there
@@ -81,11 +82,7 @@ module _ (law : OnePairMore) where
 
 pub each_distinct : (P : Pair → Type 0) (ps : List Pair) → AllByRecursion P ps → AllByRecursion P (distinct ps)
 each_distinct P [] h = tt
-each_distinct P (p ∷ ps) h = (h.0, kept (distinct ps) (each_distinct P ps h.1))
-  where
-    kept : (qs : List Pair) → AllByRecursion P qs → AllByRecursion P (filter (λ q. not (same_pair p q)) qs)
-    kept [] k = tt
-    kept (q ∷ qs) k = elim (not (same_pair p q)) as (λ b. AllByRecursion P (cond b (q ∷ filter (λ q. not (same_pair p q)) qs) (filter (λ q. not (same_pair p q)) qs))) [ true ↦ (k.0, kept qs k.1) | false ↦ kept qs k.1 ]
+each_distinct P (p ∷ ps) h = (h.0, each_filtered P (λ q. not (same_pair p q)) (distinct ps) (each_distinct P ps h.1))
 
 -- a pair of a list is among its distinct pairs
 pub among_distinct : (x : Pair) (ps : List Pair) → IsAmong x ps → IsAmong x (distinct ps)

@@ -8,7 +8,6 @@ use Rattle.pg_dyn.specs.Coding.{Form, Integer, Single, Double, Text, Raw, form}
 use Rattle.pg_dyn.specs.reading.Content.{same_wire}
 use Rattle.pg_pairs.specs.Likeness.{like, like_forms}
 use Rattle.pg_pairs.proofs.Likeness.{same_wire-true}
-use Rattle.pg_pairs.proofs.GapItems.{IsLeafy}
 
 same_wire_self : (wire : WireType) → same_wire wire wire ≡ true
 same_wire_self wire = eq-eqb (wire_code wire) (wire_code wire) refl
@@ -45,12 +44,3 @@ like_back (elements.Scalar s) (elements.Scalar t) h = forms_back (form (elements
 like_back (elements.Scalar s) (elements.Enum t) h = forms_back (form (elements.Scalar s)) (form (elements.Enum t)) h
 like_back (elements.Enum s) (elements.Scalar t) h = forms_back (form (elements.Enum s)) (form (elements.Scalar t)) h
 like_back (elements.Enum s) (elements.Enum t) h = forms_back (form (elements.Enum s)) (form (elements.Enum t)) h
-
-pub leafy_beside : (e d : Element) → like e d ≡ true → IsLeafy e → IsLeafy d
-leafy_beside (elements.Scalar s) (elements.Scalar t) h leafy = tt
-leafy_beside (elements.Scalar s) (elements.Enum t) h leafy = tt
-leafy_beside (elements.Enum s) (elements.Scalar t) h leafy = tt
-leafy_beside (elements.Enum s) (elements.Enum t) h leafy = tt
-leafy_beside (elements.Scalar s) (elements.Message t) h leafy = absurd (cc)
-leafy_beside (elements.Enum s) (elements.Message t) h leafy = absurd (cc)
-leafy_beside (elements.Message s) d h leafy = absurd leafy

@@ -3,13 +3,15 @@ use Rattle.std.proofs.Common.{◌≡◌, ℕ, zero, suc, ◌+◌, ◌<◌, List,
 use Rattle.std.specs.List.{AllByRecursion}
 use Rattle.std.proofs.lemmas.List.{take-append-le}
 use Rattle.std.proofs.lemmas.Option.{slice_get-get_or, slice_get_cases}
-use Rattle.pg_dyn.proofs.Lists.{each_weaker}
+use Rattle.pg_dyn.proofs.Lists.{each-append, each_weaker}
+use Rattle.pg_pairs.specs.EdgeChildren.{append_left, append_right}
 use Rattle.pg_pairs.specs.declared.choice.Pair.{Pair}
 use Rattle.pg_pairs.specs.Covering.{distinct}
 use Rattle.pg_pairs.specs.FirstSeen.{OnePairMore}
 use Rattle.pg_pairs.specs.Among.{IsAmong}
 use Rattle.pg_pairs.specs.Seen.{AreClosed}
 use Rattle.pg_pairs.specs.Reached.{FromOneRoot, IsLedTo, IsReachedFrom, LeadsTo, itself, onwards}
+use Rattle.pg_pairs.proofs.Among.{among_each}
 use Rattle.pg_pairs.proofs.Grown.{distinct-again, distinct-front, grown_behind, each_distinct, among_distinct}
 
 -- Places in lists.
@@ -46,36 +48,20 @@ each_at P [] i x h each = absurd (cc)
 each_at P (y ∷ xs) zero x h each = let same : y ≡ x = cc in subst P same each.0
 each_at P (y ∷ xs) (suc i) x h each = each_at P xs i x h each.1
 
-among_each : {A : Type 0} (P : A → Type 0) (x : A) (xs : List A) → IsAmong x xs → AllByRecursion P xs → P x
-among_each P x [] h each = absurd h
-among_each P x (y ∷ ys) h each = ⊎_elim (λ same. subst P (sym same) each.0) (λ later. among_each P x ys later each.1) h
-
 pub every_is_among : {A : Type 0} (P : A → Type 0) (xs : List A) → ((x : A) → IsAmong x xs → P x) → AllByRecursion P xs
 every_is_among P [] h = tt
 every_is_among P (x ∷ xs) h = (h x (inl refl), every_is_among P xs (λ y among. h y (inr among)))
-
-each-append : {A : Type 0} (P : A → Type 0) (xs ys : List A) → AllByRecursion P xs → AllByRecursion P ys → AllByRecursion P (xs ++ ys)
-each-append P [] ys e f = f
-each-append P (x ∷ xs) ys e f = (e.0, each-append P xs ys e.1 f)
 
 flat_map-end : {A B : Type 0} (h : A → List B) (xs : List A) (x : A) → flat_map h (xs ++ x ∷ []) ≡ flat_map h xs ++ h x
 flat_map-end h [] x = append-nil (h x)
 flat_map-end h (y ∷ xs) x = ap (λ zs. h y ++ zs) (flat_map-end h xs x) ∙ sym (append_assoc (h y) (flat_map h xs) (h x))
 
-among_left : {A : Type 0} (x : A) (xs ys : List A) → IsAmong x xs → IsAmong x (xs ++ ys)
-among_left x [] ys h = absurd h
-among_left x (y ∷ xs) ys h = ⊎_elim (λ same. inl same) (λ later. inr (among_left x xs ys later)) h
-
-among_right : {A : Type 0} (x : A) (xs ys : List A) → IsAmong x ys → IsAmong x (xs ++ ys)
-among_right x [] ys h = h
-among_right x (y ∷ xs) ys h = inr (among_right x xs ys h)
-
 -- each child of each pair is among all children
 each_flat : {A B : Type 0} (h : A → List B) (xs : List A) (all : List B) → ((y : B) → IsAmong y (flat_map h xs) → IsAmong y all) → AllByRecursion (λ x. AllByRecursion (λ y. IsAmong y all) (h x)) xs
 each_flat h [] all within = tt
 each_flat h (x ∷ xs) all within = (
-  every_is_among (λ y. IsAmong y all) (h x) (λ y among. within y (among_left y (h x) (flat_map h xs) among)),
-  each_flat h xs all (λ y among. within y (among_right y (h x) (flat_map h xs) among)),
+  every_is_among (λ y. IsAmong y all) (h x) (λ y among. within y (append_left y (h x) (flat_map h xs) among)),
+  each_flat h xs all (λ y among. within y (append_right y (h x) (flat_map h xs) among)),
 )
 
 module _ (law : OnePairMore) (kids : Pair → List Pair) (roots : List Pair) where
@@ -119,10 +105,10 @@ module _ (law : OnePairMore) (kids : Pair → List Pair) (roots : List Pair) whe
     among_found y among = subst (IsAmong y) (sym in_order) (among_distinct y (roots ++ flat_map kids ps) among)
 
     pub all_closed : AreClosed kids ps
-    all_closed = each_flat kids ps ps (λ y among. among_found y (among_right y roots (flat_map kids ps) among))
+    all_closed = each_flat kids ps ps (λ y among. among_found y (append_right y roots (flat_map kids ps) among))
 
     led_among : (root : Pair) → IsAmong root roots → (p : Pair) → LeadsTo kids root p → IsAmong p ps
-    led_among root first p itself = among_found root (among_left root roots (flat_map kids ps) first)
+    led_among root first p itself = among_found root (append_left root roots (flat_map kids ps) first)
     led_among root first p (onwards above child leads among) =
         among_each (λ y. IsAmong y ps) child (kids above) among
         (among_each (λ q. AllByRecursion (λ y. IsAmong y ps) (kids q)) above ps (led_among root first above leads) all_closed)
