@@ -4,18 +4,21 @@ use Rattle.std.specs.List.{AllByRecursion}
 use Rattle.std.specs.Option.{option_or}
 use Rattle.std.proofs.lemmas.Bool.{and_parts, leb-true, le-leb}
 use Rattle.pg_schema.specs.Shape.{Shape}
+use Rattle.pg_dyn.proofs.Lists.{each_weaker}
+use Rattle.pg_pairs.proofs.Choosing.{same_pair-true}
 use Rattle.pg_pairs.specs.declared.choice.Choice.{Choice}
 use Rattle.pg_pairs.specs.declared.choice.Pair.{Pair}
 use Rattle.pg_pairs.specs.EnumView.{EnumView}
 use Rattle.pg_pairs.specs.Choices.{Table, choices}
-use Rattle.pg_pairs.specs.Cheapest.{cheapest, IsCheapest, CheapestIsLeast}
+use Rattle.pg_pairs.specs.Cheapest.{cheapest}
+use Rattle.pg_pairs.specs.CheapestLaws.{IsCheapest, CheapestIsLeast}
 use Rattle.pg_pairs.specs.Covering.{same_pair, children, IsThere, IsWithin, IsCovered}
 use Rattle.pg_cert.specs.declared.bounds.PairBound.{PairBound}
 use Rattle.pg_cert.specs.declared.error.CertError.TheVariants.{RootMissing, PairMissing}
 use Rattle.pg_cert.specs.Bounds.{is_bound, bound_in, are_bounds}
 use Rattle.pg_cert.specs.Faults.{is_within, missing_child, cheaper_choice, too_high, pair_fault, first_pair_fault, root_fault}
 use Rattle.pg_cert.specs.Laws.{CoversWithoutFault}
-use Rattle.pg_cert.proofs.Tables.{same_pair-true, same_pair-refl, same_pair-sym}
+use Rattle.pg_cert.proofs.Tables.{same_pair-refl, same_pair-sym}
 
 -- two answers of which the first counts
 none_of_both : {A : Type 0} (a b : Option A) → option_or a b ≡ None → (a ≡ None) × (b ≡ None)
@@ -42,10 +45,6 @@ none_found : {A : Type 0} (test : A → Bool) (xs : List A) → AllByRecursion (
 none_found test [] h = refl
 none_found test (x ∷ xs) h = rw h.0 (none_found test xs h.1)
 
-each_so : {A : Type 0} (P Q : A → Type 0) → ((x : A) → P x → Q x) → (xs : List A) → AllByRecursion P xs → AllByRecursion Q xs
-each_so P Q so [] h = tt
-each_so P Q so (x ∷ xs) h = (so x h.0, each_so P Q so xs h.1)
-
 true_from : (b : Bool) → not b ≡ false → b ≡ true
 true_from true h = refl
 true_from false h = absurd (cc)
@@ -67,9 +66,9 @@ module _ (enum_view : EnumView) (old new : Shape) (table : Table) where
   covered b h =
       let parts = none_of_both (option_map (λ child. PairMissing child) (missing_child old new table b.pair)) (option_map (too_high b.pair) (cheaper_choice enum_view old new table b)) h in
       record {
-        children_there = each_so (λ child. not (is_some (table child)) ≡ false) (IsThere table) (λ child k. true_from (is_some (table child)) k) (children old new b.pair)
+        children_there = each_weaker (λ child. not (is_some (table child)) ≡ false) (IsThere table) (λ child k. true_from (is_some (table child)) k) (children old new b.pair)
             (find_none (λ child. not (is_some (table child))) (children old new b.pair) (map_none (λ child. PairMissing child) (missing_child old new table b.pair) parts.0));
-        bound_below = each_so (λ (c : Choice). not (is_within b.bound c.cost) ≡ false) (λ (c : Choice). IsWithin b.bound c.cost) (λ c k. within b.bound c.cost k) (choices enum_view table old new b.pair)
+        bound_below = each_weaker (λ (c : Choice). not (is_within b.bound c.cost) ≡ false) (λ (c : Choice). IsWithin b.bound c.cost) (λ c k. within b.bound c.cost k) (choices enum_view table old new b.pair)
             (find_none (λ (c : Choice). not (is_within b.bound c.cost)) (choices enum_view table old new b.pair) (map_none (too_high b.pair) (cheaper_choice enum_view old new table b) parts.1));
       }
 
@@ -77,10 +76,10 @@ module _ (enum_view : EnumView) (old new : Shape) (table : Table) where
   faultless b is =
       both_none (option_map (λ child. PairMissing child) (missing_child old new table b.pair)) (option_map (too_high b.pair) (cheaper_choice enum_view old new table b))
       (ap (option_map (λ child. PairMissing child))
-      (none_found (λ child. not (is_some (table child))) (children old new b.pair) (each_so (IsThere table) (λ child. not (is_some (table child)) ≡ false) (λ child k. false_from (is_some (table child)) k) (children old new b.pair) is.children_there)))
+      (none_found (λ child. not (is_some (table child))) (children old new b.pair) (each_weaker (IsThere table) (λ child. not (is_some (table child)) ≡ false) (λ child k. false_from (is_some (table child)) k) (children old new b.pair) is.children_there)))
       (ap (option_map (too_high b.pair))
       (none_found (λ (c : Choice). not (is_within b.bound c.cost)) (choices enum_view table old new b.pair)
-      (each_so (λ (c : Choice). IsWithin b.bound c.cost) (λ (c : Choice). not (is_within b.bound c.cost) ≡ false) (λ c k. not_below b.bound c.cost k) (choices enum_view table old new b.pair) is.bound_below)))
+      (each_weaker (λ (c : Choice). IsWithin b.bound c.cost) (λ (c : Choice). not (is_within b.bound c.cost) ≡ false) (λ c k. not_below b.bound c.cost k) (choices enum_view table old new b.pair) is.bound_below)))
 
   -- the bounds of a list without a fault
   each_covered : (bounds : List PairBound) → first_pair_fault enum_view old new table bounds ≡ None → (pair : Pair) (bound : Option ℕ) → bound_in bounds pair ≡ Some bound → IsCovered enum_view old new table pair bound
@@ -160,4 +159,4 @@ pub none_cheaper : (bound : Option ℕ) (cs : List Choice) (c : Choice) → Chea
 none_cheaper bound cs c least is inside =
     let all = subst (λ found. IsCheapest found cs) is (least cs) in
     none_found (λ (d : Choice). not (is_within bound d.cost)) cs
-    (each_so (λ (d : Choice). c.cost ≤ d.cost) (λ (d : Choice). not (is_within bound d.cost) ≡ false) (λ d more. false_from (is_within bound d.cost) (within_more bound c.cost d.cost inside more)) cs all.1)
+    (each_weaker (λ (d : Choice). c.cost ≤ d.cost) (λ (d : Choice). not (is_within bound d.cost) ≡ false) (λ d more. false_from (is_within bound d.cost) (within_more bound c.cost d.cost inside more)) cs all.1)

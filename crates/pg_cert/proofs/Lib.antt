@@ -1,5 +1,6 @@
 pub mod Tables
 pub mod Coverings
+pub mod Graphs
 pub mod Verdicts
 pub mod Checks
 pub mod Spelling

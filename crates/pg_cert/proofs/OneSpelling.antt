@@ -11,7 +11,7 @@ use Rattle.pg_schema.specs.Invariant.{IsSchema}
 use Rattle.pg_pairs.specs.declared.choice.Pair.{Pair}
 use Rattle.pg_cert.specs.declared.bounds.PairBound.{PairBound}
 use Rattle.pg_cert.specs.Bounds.{is_bound, are_bounds}
-use Rattle.pg_cert.specs.Certificate.{AreBytes}
+use Rattle.pg_cert.specs.Witness.{AreBytes}
 use Rattle.pg_cert.specs.Reading.{lacks, IsBlank}
 use Rattle.pg_cert.specs.Text.{IsPairOf, names_of, lines_text, last_text, bound_word, view_of, witness_word}
 use Rattle.pg_cert.specs.Laws.{OneSpelling}

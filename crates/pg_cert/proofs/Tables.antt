@@ -1,9 +1,10 @@
 -- Look-ups in a list of bounds, and lists in which each pair stands once.
 use Rattle.std.proofs.Common.{◌≡◌, ℕ, ◌+◌, ◌<◌, List, [], ◌∷◌, ◌++◌, map, take, drop, length, get_or, Bool, true, false, not, ◌&&◌, nat_eq, cond, Option, Some, None, option_map, is_some, find, refl, ap, sym, ◌∙◌, subst, suc, add-one, drop-cons}
 use Rattle.std.specs.Map.{lookup}
-use Rattle.std.proofs.lemmas.Bool.{and_parts, eqb-true, eq-eqb}
+use Rattle.std.proofs.lemmas.Bool.{and_parts, eq-eqb}
 use Rattle.std.proofs.lemmas.List.{take-append-drop}
 use Rattle.std.proofs.Math.Seq.{take-suc}
+use Rattle.pg_pairs.proofs.Choosing.{same_pair-true}
 use Rattle.pg_pairs.specs.declared.choice.Pair.{Pair}
 use Rattle.pg_pairs.specs.Covering.{same_pair}
 use Rattle.pg_cert.specs.declared.bounds.PairBound.{PairBound}
@@ -17,12 +18,6 @@ lookup-bound (e ∷ es) pair =
     elim (nat_eq pair.old.index e.0.0 && nat_eq pair.new.index e.0.1)
     as (λ b. cond b (Some e.1) (lookup (λ (key : ℕ × ℕ). nat_eq pair.old.index key.0 && nat_eq pair.new.index key.1) es) ≡ option_map (λ (x : PairBound). x.bound) (cond b (Some (bound_of e)) (find (λ (x : PairBound). same_pair pair x.pair) (map bound_of es))))
     [ true ↦ refl | false ↦ lookup-bound es pair ]
-
-pub same_pair-true : (p q : Pair) → same_pair p q ≡ true → p ≡ q
-same_pair-true p q h =
-    let parts = and_parts (nat_eq p.old.index q.old.index) (nat_eq p.new.index q.new.index) h in
-    let old = eqb-true p.old.index q.old.index parts.0 in
-    let new = eqb-true p.new.index q.new.index parts.1 in
     λ j. record { old = record { index = old j }; new = record { index = new j } }
 
 pub same_pair-refl : (p : Pair) → same_pair p p ≡ true

@@ -3,7 +3,8 @@ use Rattle.std.proofs.Common.{◌≡◌, ◌⊎◌, inl, inr, ℕ, List, length,
 use Rattle.pg_schema.specs.Shape.{Shape, IsShape}
 use Rattle.pg_dyn.specs.declared.view_name.ViewName.{ViewName}
 use Rattle.pg_pairs.specs.declared.choice.Pair.{Pair}
-use Rattle.pg_pairs.specs.EnumView.{EnumView, IsEnumView}
+use Rattle.pg_pairs.specs.EnumView.{EnumView}
+use Rattle.pg_pairs.specs.ViewLaws.{IsEnumView}
 use Rattle.pg_pairs.specs.Covering.{Covers}
 use Rattle.pg_pairs.specs.Laws.{CoveringBounds, NoneIsCompatible}
 use Rattle.pg_cert.specs.declared.bounds.PairBound.{PairBound}
@@ -12,10 +13,11 @@ use Rattle.pg_cert.specs.declared.verdict.Verdict.TheVariants as verdicts
 use Rattle.pg_cert.specs.declared.error.CertError.{CertError}
 use Rattle.pg_cert.specs.declared.error.CertError.TheVariants as errors
 use Rattle.pg_cert.specs.Bounds.{are_bounds, bound_in}
-use Rattle.pg_cert.specs.Certificate.{Claim, Holds, IsWitnessed, IsWitnessedIfThere, bound_verdict, verdict_of}
+use Rattle.pg_cert.specs.Certificate.{Claim, Holds, IsWitnessed, IsWitnessedIfThere}
+use Rattle.pg_cert.specs.Verdict.{bound_verdict, verdict_of, Says}
 use Rattle.pg_cert.specs.Checked.{IsChecked}
 use Rattle.pg_cert.specs.Faults.{WitnessFault, WitnessFaultIfThere, first_fault}
-use Rattle.pg_cert.specs.Laws.{CoversWithoutFault, Says, VerdictsAreTrue, WitnessFaultsAreReal}
+use Rattle.pg_cert.specs.Laws.{CoversWithoutFault, VerdictsAreTrue, WitnessFaultsAreReal}
 
 module _ (covering : CoveringBounds) (compatible : NoneIsCompatible) (enum_view : EnumView) (old new : Shape) (view : ViewName) (root : Pair) (bounds : List PairBound) (is_enum_view : IsEnumView enum_view) (is_old : IsShape old) (is_new : IsShape new) where
   of_bound : (bound : Option (Option ℕ)) → bound_in bounds root ≡ bound → Covers enum_view old new (bound_in bounds) root → Says enum_view old new (record { view = view; root = root; bounds = bounds; witness = None }) (bound_verdict bound)

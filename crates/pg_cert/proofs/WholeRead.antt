@@ -9,7 +9,8 @@ use Rattle.pg_cert.specs.declared.bounds.PairBound.{PairBound}
 use Rattle.pg_cert.specs.declared.error.CertError.{CertError}
 use Rattle.pg_cert.specs.declared.error.CertError.TheVariants.{Memory}
 use Rattle.pg_cert.specs.declared.heading.Heading.{Heading}
-use Rattle.pg_cert.specs.Certificate.{Claim, is_witness}
+use Rattle.pg_cert.specs.Certificate.{Claim}
+use Rattle.pg_cert.specs.Witness.{is_witness}
 use Rattle.pg_cert.specs.Reading.{IsRest, behind, front}
 use Rattle.pg_cert.specs.Text.{Names, IsPairOf, IsClaimOf, HasTexts, heading_text, names_of, lines_text, last_text, text_of}
 use Rattle.pg_cert.proofs.Spelling.{text-row}

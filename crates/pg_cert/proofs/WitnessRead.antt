@@ -6,7 +6,7 @@ use Rattle.std.proofs.lemmas.Bool.{and_parts}
 use Rattle.hex.specs.Hex.{IsBytes, decode_of, encode_lower, encode_with, lower_digits}
 use Rattle.hex.proofs.HexLemmas.{decode_of-encode_lower}
 use Rattle.hex.proofs.OnLiterals.{hex_on_literals}
-use Rattle.pg_cert.specs.Certificate.{AreBytes}
+use Rattle.pg_cert.specs.Witness.{AreBytes}
 use Rattle.pg_cert.specs.Reading.{lacks}
 use Rattle.pg_cert.specs.Text.{witness_word, last_text}
 

@@ -14,7 +14,8 @@ use Rattle.pg_dyn.specs.Laws.{ReadsAgain, SelfCompatible}
 use Rattle.pg_dyn.specs.Message.{Int}
 use Rattle.pg_pairs.specs.EnumView.{by_numbers}
 use Rattle.pg_cert.specs.declared.error.CertError.TheVariants.{Memory, BadText, RootMissing, PairMissing, BoundTooHigh, WitnessNotWritten, WitnessLength, WitnessKeeps}
-use Rattle.pg_cert.specs.Certificate.{IsWritten, IsWitnessed}
+use Rattle.pg_cert.specs.Certificate.{IsWitnessed}
+use Rattle.pg_cert.specs.Witness.{IsWritten}
 use Rattle.pg_cert.specs.Laws.{WitnessFaultsAreReal}
 use Rattle.pg_cert.specs.Worked as worked
 

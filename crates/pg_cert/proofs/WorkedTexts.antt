@@ -13,7 +13,8 @@ use Rattle.pg_dyn.specs.declared.view_name.ViewName.TheVariants as views
 use Rattle.pg_cert.specs.declared.heading.Heading.{Heading}
 use Rattle.pg_cert.specs.declared.heading.Heading.TheVariants as headings
 use Rattle.pg_cert.specs.Bounds.{are_bounds}
-use Rattle.pg_cert.specs.Certificate.{AreBytes, Claim, is_witness}
+use Rattle.pg_cert.specs.Certificate.{Claim}
+use Rattle.pg_cert.specs.Witness.{AreBytes, is_witness}
 use Rattle.pg_cert.specs.Reading.{behind, front}
 use Rattle.pg_cert.specs.Text.{IsClaimOf, Names, last_text, lines_text, names_of, text_of, view_of, witness_word}
 use Rattle.pg_cert.specs.Worked.{by_names, child_witness, in_child, inner, minus_one, one_renamed, outer, to_unsigned, unchanged}

@@ -1,5 +1,6 @@
 -- Tables of bounds as lists (this profile's choice: what a certificate holds).
-use Rattle.std.specs.Prelude.{ℕ, nat_le, List, [], ◌∷◌, find, Bool, true, not, ◌&&◌, Option, Some, None, option_map, is_some}
+use Rattle.std.specs.Prelude.{ℕ, nat_le, List, [], ◌∷◌, find, Bool, true, not, ◌&&◌, Option, Some, None, option_map}
+use Rattle.std.specs.Prelude.{is_some}
 use Rattle.pg_dyn.specs.encoding.Encoding.{cap}
 use Rattle.pg_pairs.specs.Choices.{Table}
 use Rattle.pg_pairs.specs.Covering.{same_pair}
@@ -12,7 +13,8 @@ is_bound None = true
 
 -- the bound of a pair, where the list has one
 abbrev pub bound_in : List PairBound → Table
-bound_in bounds pair = option_map (λ (b : PairBound). b.bound) (find (λ (b : PairBound). same_pair pair b.pair) bounds)
+bound_in bounds pair =
+    option_map (λ (b : PairBound). b.bound) (find (λ (b : PairBound). same_pair pair b.pair) bounds)
 
 -- each bound is one, and each pair stands once
 abbrev pub are_bounds : List PairBound → Bool

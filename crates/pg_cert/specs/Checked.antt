@@ -5,11 +5,12 @@ use Rattle.pg_pairs.specs.EnumView.{EnumView}
 use Rattle.pg_cert.specs.declared.error.CertError.{CertError}
 use Rattle.pg_cert.specs.declared.error.CertError.TheVariants as errors
 use Rattle.pg_cert.specs.declared.verdict.Verdict.{Verdict}
-use Rattle.pg_cert.specs.Certificate.{Claim, Holds, verdict_of}
+use Rattle.pg_cert.specs.Certificate.{Claim, Holds}
 use Rattle.pg_cert.specs.Faults.{IsFirstFault}
-use Rattle.pg_cert.specs.Laws.{Says}
+use Rattle.pg_cert.specs.Verdict.{Says, verdict_of}
 
-pub record IsChecked (enum_view : EnumView) (old new : Shape) (claim : Claim) (answer : Result Verdict CertError) : Type 0 where
+pub record IsChecked (enum_view : EnumView) (old new : Shape) (claim : Claim)
+    (answer : Result Verdict CertError) : Type 0 where
   pub holds : OnOk answer (Holds enum_view old new claim)
   pub verdict : IfOk answer (λ verdict. verdict ≡ verdict_of claim)
   pub says : IfOk answer (λ verdict. Says enum_view old new claim verdict)

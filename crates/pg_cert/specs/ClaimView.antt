@@ -7,7 +7,7 @@ use Rattle.pg_cert.specs.declared.error.CertError.{CertError}
 use Rattle.pg_cert.specs.declared.verdict.Verdict.{Verdict}
 use Rattle.pg_cert.specs.Certificate.{Claim, Holds}
 use Rattle.pg_cert.specs.Faults.{IsFirstFault}
-use Rattle.pg_cert.specs.Laws.{Says}
+use Rattle.pg_cert.specs.Verdict.{Says}
 
 abbrev pub view_in : Parts → Parts → Claim → EnumView
 view_in old new claim = seen_under claim.view old new

@@ -1,6 +1,8 @@
 pub mod Bounds
 pub mod Entries
 pub mod Certificate
+pub mod Witness
+pub mod Verdict
 pub mod ClaimView
 pub mod Faults
 pub mod Laws

@@ -21,7 +21,8 @@ abbrev pub front : Heading → List ℕ
 front heading = heading_text heading ++ codes "root "
 
 abbrev pub behind : Names → Names → Claim → List ℕ
-behind old new claim = old claim.root.old ++ 32 ∷ (new claim.root.new ++ 10 ∷ (lines_text old new claim.bounds ++ last_text claim.witness))
+behind old new claim =
+    old claim.root.old ++ 32 ∷ (new claim.root.new ++ 10 ∷ (lines_text old new claim.bounds ++ last_text claim.witness))
 
 -- the lines of these bounds of the schemas' pairs stand in front of what is left
 pub record IsRest (old new : Parts) (text : List ℕ) (bounds : List PairBound) (later : List ℕ) : Type 0 where
@@ -31,7 +32,8 @@ pub record IsRest (old new : Parts) (text : List ℕ) (bounds : List PairBound) 
   pub ends : slice_index later 0 ≡ 119
 
 -- of those bounds these are read, and these are left
-pub record IsLeft (old new : Parts) (bounds : List PairBound) (later : List ℕ) (read : List PairBound) (text : List ℕ) : Type 0 where
+pub record IsLeft (old new : Parts) (bounds : List PairBound) (later : List ℕ) (read : List PairBound)
+    (text : List ℕ) : Type 0 where
   pub left : List PairBound
   pub bounds_are : bounds ≡ read ++ left
   pub spelled : text ≡ lines_text (names_of old) (names_of new) left ++ later

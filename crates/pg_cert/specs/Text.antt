@@ -1,5 +1,6 @@
 -- The text of a certificate, by lines (this profile's choice). Texts are lists of bytes.
-use Rattle.std.specs.Prelude.{◌≡◌, ℕ, ◌<◌, true, List, [], ◌∷◌, ◌++◌, map, flat_map, length, codes, decimal, Option, Some, None, unwrap_or}
+use Rattle.std.specs.Prelude.{◌≡◌, ℕ, ◌<◌, true, List, [], ◌∷◌, ◌++◌, map, flat_map, length, codes, decimal, Option}
+use Rattle.std.specs.Prelude.{Some, None, unwrap_or}
 use Rattle.std.specs.List.{AllByRecursion}
 use Rattle.hex.specs.Hex.{encode_lower}
 use Rattle.pg_schema.specs.declared.parts.field.TypeId.{TypeId}
@@ -12,7 +13,8 @@ use Rattle.pg_cert.specs.declared.bounds.PairBound.{PairBound}
 use Rattle.pg_cert.specs.declared.heading.Heading.{Heading}
 use Rattle.pg_cert.specs.declared.heading.Heading.TheVariants as headings
 use Rattle.pg_cert.specs.Bounds.{are_bounds}
-use Rattle.pg_cert.specs.Certificate.{Claim, AreBytes, is_witness}
+use Rattle.pg_cert.specs.Certificate.{Claim}
+use Rattle.pg_cert.specs.Witness.{AreBytes, is_witness}
 
 -- a word with one space before it
 abbrev pub spaced_word : List ℕ → List ℕ
@@ -76,7 +78,8 @@ last_text witness = flat_map line_of (last_words witness)
 
 -- the lines of a certificate behind its heading
 abbrev pub claim_lines : Names → Names → Claim → List (List (List ℕ))
-claim_lines old new claim = root_words old new claim.root ∷ map (bound_words old new) claim.bounds ++ last_words claim.witness
+claim_lines old new claim =
+    root_words old new claim.root ∷ map (bound_words old new) claim.bounds ++ last_words claim.witness
 
 -- its text under a heading
 abbrev pub text_of : Heading → Names → Names → Claim → List ℕ
@@ -106,7 +109,8 @@ pub record HasTexts (old new : Parts) (claim : Claim) : Type 0 where
   pub witness : is_witness claim.witness ≡ true
   pub bytes : AreBytes claim.witness
 
--- The text is the one spelling of the claim in its version: in version 1 only where the claim's view is that by numbers.
+-- The text is the one spelling of the claim in its version: in version 1 only where the claim's view is that by
+-- numbers.
 pub record Certifies (old new : Parts) (text : List ℕ) (claim : Claim) : Type 0 where
   pub has_texts : HasTexts old new claim
   pub heading : Heading

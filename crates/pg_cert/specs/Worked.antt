@@ -11,11 +11,13 @@ use Rattle.pg_pairs.specs.EnumView.{by_numbers}
 use Rattle.pg_pairs.specs.SmallPairs.{both}
 use Rattle.pg_cert.specs.declared.bounds.PairBound.{PairBound}
 use Rattle.pg_cert.specs.declared.error.CertError.{CertError}
-use Rattle.pg_cert.specs.declared.error.CertError.TheVariants.{RootMissing, PairMissing, BoundTooHigh, WitnessNotWritten, WitnessLength, WitnessKeeps}
+use Rattle.pg_cert.specs.declared.error.CertError.TheVariants.{RootMissing, PairMissing, BoundTooHigh}
+use Rattle.pg_cert.specs.declared.error.CertError.TheVariants.{WitnessNotWritten, WitnessLength, WitnessKeeps}
 use Rattle.pg_cert.specs.declared.verdict.Verdict.TheVariants as verdicts
 use Rattle.pg_cert.specs.Bounds.{are_bounds}
-use Rattle.pg_cert.specs.Certificate.{Claim, Holds, verdict_of}
+use Rattle.pg_cert.specs.Certificate.{Claim, Holds}
 use Rattle.pg_cert.specs.Faults.{first_fault, WitnessFault}
+use Rattle.pg_cert.specs.Verdict.{verdict_of}
 
 abbrev pub pair_bound : Pair → Option ℕ → PairBound
 pair_bound pair bound = record { pair = pair; bound = bound }
@@ -32,7 +34,9 @@ root = both first
 
 -- a certificate that holds, and what it shows
 abbrev pub Shows : Shape → Shape → Claim → Type 0
-Shows old new c = Holds by_numbers old new c × (are_bounds c.bounds ≡ true) × (first_fault by_numbers old new c.bounds c.root ≡ None)
+Shows old new c =
+    Holds by_numbers old new c × (are_bounds c.bounds ≡ true)
+    × (first_fault by_numbers old new c.bounds c.root ≡ None)
 
 abbrev pub FaultIs : Shape → Shape → Claim → CertError → Type 0
 FaultIs old new c fault = first_fault by_numbers old new c.bounds c.root ≡ Some fault
@@ -73,7 +77,8 @@ in_child bounds witness = claim (both second) bounds witness
 
 -- a type that holds itself, once and many times
 abbrev pub tree : Shape
-tree = of_fields (field 1 Explicit (elements.Message first) ∷ field 2 (Repeated false) (elements.Message first) ∷ [])
+tree =
+    of_fields (field 1 Explicit (elements.Message first) ∷ field 2 (Repeated false) (elements.Message first) ∷ [])
 
 -- a zero before it, which the old writer doesn't write
 abbrev pub after_zero : List ℕ
@@ -90,13 +95,17 @@ pub record WorkedCertificates : Type 0 where
   pub tree_unchanged : Shows tree tree unchanged
   -- what is refused: no table, a child that is missing, a bound too high by one, and of several faults the first
   pub no_table : FaultIs signed signed (claim root [] None) RootMissing
-  pub child_missing : FaultIs (linked Uint32) (linked Int32) (in_child (outer ∷ []) (Some child_witness)) (PairMissing root)
+  pub child_missing : FaultIs (linked Uint32) (linked Int32)
+      (in_child (outer ∷ []) (Some child_witness)) (PairMissing root)
   pub bound_too_high : FaultIs signed unsigned (to_unsigned (Some 12)) (BoundTooHigh root 1 2)
   pub none_too_high : FaultIs signed unsigned (to_unsigned None) (BoundTooHigh root 1 2)
-  pub child_too_high : FaultIs (linked Uint32) (linked Int32) (in_child (outer ∷ pair_bound root (Some 7) ∷ []) None) (BoundTooHigh root 1 2)
-  pub first_of_two : FaultIs (linked Uint32) (linked Int32) (in_child (pair_bound root None ∷ pair_bound (both second) None ∷ []) None) (BoundTooHigh root 1 2)
+  pub child_too_high : FaultIs (linked Uint32) (linked Int32)
+      (in_child (outer ∷ pair_bound root (Some 7) ∷ []) None) (BoundTooHigh root 1 2)
+  pub first_of_two : FaultIs (linked Uint32) (linked Int32)
+      (in_child (pair_bound root None ∷ pair_bound (both second) None ∷ []) None) (BoundTooHigh root 1 2)
   pub zero_before : WitnessFault by_numbers signed unsigned root (Some (Some 11)) after_zero WitnessNotWritten
-  pub wrong_length : WitnessFault by_numbers (linked Uint32) (linked Int32) (both second) (Some (Some 7)) child_witness WitnessLength
+  pub wrong_length : WitnessFault by_numbers (linked Uint32) (linked Int32) (both second) (Some (Some 7)) child_witness
+      WitnessLength
   pub witness_kept : WitnessFault by_numbers signed signed root (Some (Some 11)) minus_one WitnessKeeps
   -- a pair stands once, and a number is from 1 to 2,147,483,647
   pub pair_twice : are_bounds (inner ∷ inner ∷ []) ≡ false

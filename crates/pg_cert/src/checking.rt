@@ -2,12 +2,10 @@
 
 ghost use Rattle.std.specs.Prelude.{◌≡◌, ◌⊎◌, None, Some, MatchResult, IfErr, IfOk, OnOk, true};
 ghost use Rattle.pg_schema.specs.Parts.{shape_of};
-ghost use Rattle.pg_pairs.specs.Choices.{choices};
-ghost use Rattle.pg_pairs.specs.NamedView.{seen_under};
-ghost use Rattle.pg_pairs.specs.SeenBy.{seen_by};
+ghost use Rattle.pg_pairs.specs.GraphView.{seen};
 ghost use Rattle.pg_cert.specs.declared.error.CertError.TheVariants as errors;
 ghost use Rattle.pg_cert.specs.Bounds.{bound_in};
-ghost use Rattle.pg_cert.specs.Certificate.{bound_verdict, verdict_of};
+ghost use Rattle.pg_cert.specs.Verdict.{bound_verdict, verdict_of};
 ghost use Rattle.pg_cert.specs.ClaimView.{HoldsOf, IsFirstFaultOf, SaysOf};
 ghost use Rattle.pg_cert.specs.Checked.{IsChecked};
 ghost use Rattle.pg_cert.specs.Faults.{cheaper_choice, first_fault, first_pair_fault, is_within, missing_child, pair_fault};
@@ -18,24 +16,22 @@ use crate::error::CertError;
 use crate::laws::{covers_without_fault, verdicts_are_true, witness_faults_are_real};
 use crate::verdict::Verdict;
 use crate::witness::check_witness;
-use pg_dyn::ViewName;
-use pg_pairs::laws::{cheapest_is_least, sees, sees_by_name};
-use pg_pairs::{Choice, Names, Numbers, Pair, Table, View, cheapest, children, options};
+use pg_pairs::laws::{cheapest_is_least, sees};
+use pg_pairs::{Choice, Pair, Priced, Table, cheapest, children, options};
 use pg_schema::Schema;
 use std::alloc::{AllocError, Global};
 
 /// The first child of the pair that the table lacks.
 fn missing_child(
     alloc: Global,
-    old: &Schema,
-    new: &Schema,
+    graph: &Priced<'_>,
     bounds: &Bounds,
     pair: Pair,
 ) -> Result<Option<Pair>, AllocError>
-    ensures { IfOk result (λ found. found
-        ≡ missing_child (shape_of old.now) (shape_of new.now) (bound_in bounds.now) pair) }
+    ensures { IfOk result (λ found. found ≡ missing_child (shape_of graph.now.old.now)
+        (shape_of graph.now.new.now) (bound_in bounds.now) pair) }
 {
-    let children = children(alloc, old, new, pair)?;
+    let children = children(alloc, graph.old, graph.new, pair)?;
     Ok(
         children
             .iter()
@@ -54,56 +50,35 @@ fn is_within(bound: Option<u32>, cost: u32) -> bool
     }
 }
 
-/// The choices of the pair under the view.
-fn choices<V: View>(
-    alloc: Global,
-    view: &V,
-    old: &Schema,
-    new: &Schema,
-    bounds: &Bounds,
-    pair: Pair,
-) -> Result<Vec<Choice>, AllocError>
-    ensures { IfOk result (λ found. found.items
-        ≡ choices (seen_by V.View view.now old.now new.now) (bound_in bounds.now)
-        (shape_of old.now) (shape_of new.now) pair) }
-{
-    options(alloc, view, old, new, pair, bounds)
-}
-
 /// Whether no choice of the pair costs less than its bound, by the cheapest of them.
-fn is_cheapest_within<V: View>(
+fn is_cheapest_within(
     alloc: Global,
-    view: &V,
-    old: &Schema,
-    new: &Schema,
+    graph: &Priced<'_>,
     bounds: &Bounds,
     line: PairBound,
 ) -> Result<bool, AllocError>
     ensures { IfOk result (λ within. within ≡ true
-        → cheaper_choice (seen_by V.View view.now old.now new.now) (shape_of old.now)
-        (shape_of new.now) (bound_in bounds.now) line ≡ None) }
+        → cheaper_choice (seen graph.now) (shape_of graph.now.old.now)
+        (shape_of graph.now.new.now) (bound_in bounds.now) line ≡ None) }
 {
     cheapest_is_least();
-    match cheapest(alloc, view, old, new, line.pair, bounds)? {
+    match cheapest(alloc, graph, line.pair, bounds)? {
         Some(choice) => Ok(is_within(line.bound, choice.cost)),
         None => Ok(true),
     }
 }
 
 /// The first choice of the pair that costs less than its bound, of all of them.
-fn first_cheaper<V: View>(
+fn first_cheaper(
     alloc: Global,
-    view: &V,
-    old: &Schema,
-    new: &Schema,
+    graph: &Priced<'_>,
     bounds: &Bounds,
     line: PairBound,
 ) -> Result<Option<Choice>, AllocError>
-    ensures { IfOk result (λ found. found
-        ≡ cheaper_choice (seen_by V.View view.now old.now new.now) (shape_of old.now)
-        (shape_of new.now) (bound_in bounds.now) line) }
+    ensures { IfOk result (λ found. found ≡ cheaper_choice (seen graph.now)
+        (shape_of graph.now.old.now) (shape_of graph.now.new.now) (bound_in bounds.now) line) }
 {
-    let choices = choices(alloc, view, old, new, bounds, line.pair)?;
+    let choices = options(alloc, graph, line.pair, bounds)?;
     Ok(
         choices
             .iter()
@@ -114,43 +89,38 @@ fn first_cheaper<V: View>(
 
 /// The first choice of the pair that costs less than its bound. All are listed only where there is
 /// one: of fields that meet in one oneof there are as many as pairs of them.
-fn cheaper_choice<V: View>(
+fn cheaper_choice(
     alloc: Global,
-    view: &V,
-    old: &Schema,
-    new: &Schema,
+    graph: &Priced<'_>,
     bounds: &Bounds,
     line: PairBound,
 ) -> Result<Option<Choice>, AllocError>
-    ensures { IfOk result (λ found. found
-        ≡ cheaper_choice (seen_by V.View view.now old.now new.now) (shape_of old.now)
-        (shape_of new.now) (bound_in bounds.now) line) }
+    ensures { IfOk result (λ found. found ≡ cheaper_choice (seen graph.now)
+        (shape_of graph.now.old.now) (shape_of graph.now.new.now) (bound_in bounds.now) line) }
 {
-    if is_cheapest_within(alloc, view, old, new, bounds, line)? {
+    if is_cheapest_within(alloc, graph, bounds, line)? {
         return Ok(None);
     }
-    first_cheaper(alloc, view, old, new, bounds, line)
+    first_cheaper(alloc, graph, bounds, line)
 }
 
 /// Whether the pair is as a table that covers has it; the fault that it has else.
-fn check_pair<V: View>(
+fn check_pair(
     alloc: Global,
-    view: &V,
-    old: &Schema,
-    new: &Schema,
+    graph: &Priced<'_>,
     bounds: &Bounds,
     line: PairBound,
 ) -> Result<(), CertError>
     ensures { MatchResult result
-        (λ _. pair_fault (seen_by V.View view.now old.now new.now) (shape_of old.now)
-        (shape_of new.now) (bound_in bounds.now) line ≡ None)
-        (λ e. (e ≡ errors.Memory) ⊎ (pair_fault (seen_by V.View view.now old.now new.now)
-        (shape_of old.now) (shape_of new.now) (bound_in bounds.now) line ≡ Some e)) }
+        (λ _. pair_fault (seen graph.now) (shape_of graph.now.old.now)
+        (shape_of graph.now.new.now) (bound_in bounds.now) line ≡ None)
+        (λ e. (e ≡ errors.Memory) ⊎ (pair_fault (seen graph.now) (shape_of graph.now.old.now)
+        (shape_of graph.now.new.now) (bound_in bounds.now) line ≡ Some e)) }
 {
-    if let Some(pair) = missing_child(alloc, old, new, bounds, line.pair)? {
+    if let Some(pair) = missing_child(alloc, graph, bounds, line.pair)? {
         return Err(CertError::PairMissing { pair });
     }
-    match cheaper_choice(alloc, view, old, new, bounds, line)? {
+    match cheaper_choice(alloc, graph, bounds, line)? {
         Some(choice) => Err(CertError::BoundTooHigh {
             pair: line.pair,
             number: choice.number,
@@ -161,46 +131,39 @@ fn check_pair<V: View>(
 }
 
 /// Whether each pair is as a table that covers has it; the first fault else.
-fn check_pairs<V: View>(
-    alloc: Global,
-    view: &V,
-    old: &Schema,
-    new: &Schema,
-    bounds: &Bounds,
-) -> Result<(), CertError>
+fn check_pairs(alloc: Global, graph: &Priced<'_>, bounds: &Bounds) -> Result<(), CertError>
     ensures { MatchResult result
-        (λ _. first_pair_fault (seen_by V.View view.now old.now new.now) (shape_of old.now)
-        (shape_of new.now) (bound_in bounds.now) bounds.now ≡ None)
-        (λ e. (e ≡ errors.Memory) ⊎ (first_pair_fault (seen_by V.View view.now old.now new.now)
-        (shape_of old.now) (shape_of new.now) (bound_in bounds.now) bounds.now ≡ Some e)) }
+        (λ _. first_pair_fault (seen graph.now) (shape_of graph.now.old.now)
+        (shape_of graph.now.new.now) (bound_in bounds.now) bounds.now ≡ None)
+        (λ e. (e ≡ errors.Memory) ⊎ (first_pair_fault (seen graph.now)
+        (shape_of graph.now.old.now) (shape_of graph.now.new.now) (bound_in bounds.now)
+        bounds.now ≡ Some e)) }
 {
     for at in 0..bounds.len() {
         if let Some(line) = bounds.get(at) {
-            check_pair(alloc, view, old, new, bounds, line)?;
+            check_pair(alloc, graph, bounds, line)?;
         }
     }
     Ok(())
 }
 
 /// Whether the table covers the root; its first fault else.
-fn check_table<V: View>(
+fn check_table(
     alloc: Global,
-    view: &V,
-    old: &Schema,
-    new: &Schema,
+    graph: &Priced<'_>,
     bounds: &Bounds,
     root: Pair,
 ) -> Result<(), CertError>
     ensures { MatchResult result
-        (λ _. first_fault (seen_by V.View view.now old.now new.now) (shape_of old.now)
-        (shape_of new.now) bounds.now root ≡ None)
-        (λ e. (e ≡ errors.Memory) ⊎ (first_fault (seen_by V.View view.now old.now new.now)
-        (shape_of old.now) (shape_of new.now) bounds.now root ≡ Some e)) }
+        (λ _. first_fault (seen graph.now) (shape_of graph.now.old.now)
+        (shape_of graph.now.new.now) bounds.now root ≡ None)
+        (λ e. (e ≡ errors.Memory) ⊎ (first_fault (seen graph.now) (shape_of graph.now.old.now)
+        (shape_of graph.now.new.now) bounds.now root ≡ Some e)) }
 {
     if bounds.bound(root).is_none() {
         return Err(CertError::RootMissing);
     }
-    check_pairs(alloc, view, old, new, bounds)
+    check_pairs(alloc, graph, bounds)
 }
 
 /// What the root's bound shows.
@@ -213,66 +176,32 @@ fn bound_verdict(bound: Option<Option<u32>>) -> Verdict
     }
 }
 
-/// Whether what the certificate claims holds under the view, which need not be its own.
-fn check_with<V: View>(
+/// Whether what the certificate claims holds under the graph's view, which need not be its own.
+fn check_claim(
     alloc: Global,
-    view: &V,
-    old: &Schema,
-    new: &Schema,
+    graph: &Priced<'_>,
     certificate: &Certificate,
 ) -> Result<Verdict, CertError>
-    ensures { IsChecked (seen_by V.View view.now old.now new.now) (shape_of old.now)
-        (shape_of new.now) certificate.now result }
+    ensures { IsChecked (seen graph.now) (shape_of graph.now.old.now)
+        (shape_of graph.now.new.now) certificate.now result }
 {
     // What holds of every schema and every view, and what a table without fault shows.
-    old.parts();
-    new.parts();
-    sees(view, old, new);
+    graph.old.parts();
+    graph.new.parts();
+    sees(graph);
     covers_without_fault();
     verdicts_are_true();
     witness_faults_are_real();
     let root = certificate.root();
     let bounds = certificate.bounds();
-    check_table(alloc, view, old, new, bounds, root)?;
+    check_table(alloc, graph, bounds, root)?;
     let bound = bounds.bound(root);
     match certificate.witness() {
         Some(bytes) => {
-            check_witness(alloc, view, old, new, root, bound, bytes)?;
+            check_witness(alloc, graph, root, bound, bytes)?;
             Ok(Verdict::Breaks)
         }
         None => Ok(bound_verdict(bound)),
-    }
-}
-
-/// The same by the name of the view.
-fn check_by_name<V: View>(
-    alloc: Global,
-    view: &V,
-    old: &Schema,
-    new: &Schema,
-    certificate: &Certificate,
-) -> Result<Verdict, CertError>
-    ensures { IsChecked (seen_under V.NAME old.now new.now) (shape_of old.now) (shape_of new.now)
-        certificate.now result }
-{
-    sees_by_name(view, old, new);
-    check_with(alloc, view, old, new, certificate)
-}
-
-/// Whether what the certificate claims holds under the view of that name.
-fn check_under(
-    alloc: Global,
-    old: &Schema,
-    new: &Schema,
-    certificate: &Certificate,
-    view: ViewName,
-) -> Result<Verdict, CertError>
-    ensures { IsChecked (seen_under view old.now new.now) (shape_of old.now) (shape_of new.now)
-        certificate.now result }
-{
-    match view {
-        ViewName::Numbers => check_by_name(alloc, &Numbers, old, new, certificate),
-        ViewName::Names => check_by_name(alloc, &Names, old, new, certificate),
     }
 }
 
@@ -300,5 +229,6 @@ pub fn check(
     ensures refused { IfErr result
         (λ e. (e ≡ errors.Memory) ⊎ ¬ (HoldsOf old.now new.now certificate.now)) }
 {
-    check_under(alloc, old, new, certificate, certificate.view())
+    let graph = Priced::new(&certificate.view(), old, new);
+    check_claim(alloc, &graph, certificate)
 }

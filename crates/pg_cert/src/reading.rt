@@ -13,7 +13,8 @@ ghost use Rattle.pg_cert.specs.declared.error.CertError.TheVariants as errors;
 ghost use Rattle.pg_cert.specs.declared.heading.Heading.{Heading};
 ghost use Rattle.pg_cert.specs.declared.heading.Heading.TheVariants as headings;
 ghost use Rattle.pg_cert.specs.Bounds.{are_bounds, is_bound};
-ghost use Rattle.pg_cert.specs.Certificate.{AreBytes, Claim, is_witness};
+ghost use Rattle.pg_cert.specs.Certificate.{Claim};
+ghost use Rattle.pg_cert.specs.Witness.{AreBytes, is_witness};
 ghost use Rattle.pg_cert.specs.Reading.{IsBlank, IsRest, behind, front, lacks};
 ghost use Rattle.pg_cert.specs.Text as spec;
 

@@ -5,15 +5,16 @@ ghost use Rattle.pg_schema.specs.Parts.{shape_of};
 ghost use Rattle.pg_dyn.specs.encoding.Encoding.{cap, enc};
 ghost use Rattle.pg_dyn.specs.Fits.{Fits};
 ghost use Rattle.pg_dyn.specs.Kept.{message_of, type_of};
-ghost use Rattle.pg_pairs.specs.SeenBy.{seen_by};
+ghost use Rattle.pg_pairs.specs.GraphView.{seen};
 ghost use Rattle.pg_cert.specs.declared.error.CertError.TheVariants as errors;
-ghost use Rattle.pg_cert.specs.Certificate.{HasLength, IsWitnessed, is_witness};
-ghost use Rattle.pg_cert.specs.Faults.{IsReadBack, WitnessFault};
+ghost use Rattle.pg_cert.specs.Certificate.{HasLength, IsWitnessed};
+ghost use Rattle.pg_cert.specs.Witness.{IsReadBack, is_witness};
+ghost use Rattle.pg_cert.specs.Faults.{WitnessFault};
 
 use crate::error::CertError;
 use pg_dyn::laws::reads_again;
 use pg_dyn::{DynError, MessageRef, decode_ref_unlimited, encode_ref};
-use pg_pairs::{Pair, View, breaks_as_written};
+use pg_pairs::{Pair, Priced, breaks_as_written};
 use pg_schema::Schema;
 use std::alloc::{AllocError, Global};
 
@@ -88,33 +89,31 @@ fn has_length(bound: Option<Option<u32>>, bytes: &[u8]) -> bool
 /// writes them of a message without unknown records, which breaks, and the bound is their number.
 /// The error is the first of `WitnessNotWritten`, `WitnessLength` and `WitnessKeeps` that is there,
 /// or `Memory`.
-pub(crate) fn check_witness<V: View>(
+pub(crate) fn check_witness(
     alloc: Global,
-    view: &V,
-    old: &Schema,
-    new: &Schema,
+    graph: &Priced<'_>,
     root: Pair,
     bound: Option<Option<u32>>,
     bytes: &[u8],
 ) -> Result<(), CertError>
     requires { is_witness (Some bytes.now) ≡ true }
     ensures { MatchResult result
-        (λ _. IsWitnessed (seen_by V.View view.now old.now new.now) (shape_of old.now)
-        (shape_of new.now) root bound bytes.now)
-        (λ e. (e ≡ errors.Memory) ⊎ WitnessFault (seen_by V.View view.now old.now new.now)
-        (shape_of old.now) (shape_of new.now) root bound bytes.now e) }
+        (λ _. IsWitnessed (seen graph.now) (shape_of graph.now.old.now)
+        (shape_of graph.now.new.now) root bound bytes.now)
+        (λ e. (e ≡ errors.Memory) ⊎ WitnessFault (seen graph.now) (shape_of graph.now.old.now)
+        (shape_of graph.now.new.now) root bound bytes.now e) }
 {
     // What holds of every schema, and of what a type writes.
-    old.parts();
+    graph.old.parts();
     reads_again();
-    let Some(message) = read_back(alloc, old, root, bytes)? else {
+    let Some(message) = read_back(alloc, graph.old, root, bytes)? else {
         return Err(CertError::WitnessNotWritten);
     };
     if !has_length(bound, bytes) {
         return Err(CertError::WitnessLength);
     }
     // Its encoding is these bytes.
-    if !breaks_as_written(alloc, view, old, new, root, &message, bytes)? {
+    if !breaks_as_written(alloc, graph, root, &message, bytes)? {
         return Err(CertError::WitnessKeeps);
     }
     Ok(())
