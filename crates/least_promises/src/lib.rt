@@ -9,78 +9,48 @@ ghost use Rattle.pg_schema.specs.Parts.{shape_of};
 ghost use Rattle.pg_dyn.specs.declared.view_name.ViewName.TheVariants as views;
 ghost use Rattle.pg_pairs.specs.Edges.{edges};
 ghost use Rattle.pg_pairs.specs.EnumView.{by_numbers};
-ghost use Rattle.pg_pairs.specs.SeenBy.{seen_by};
+ghost use Rattle.pg_pairs.specs.GraphView.{seen};
 ghost use Rattle.pg_cert.specs.Bounds.{bound_in};
 ghost use Rattle.pg_cert.specs.ClaimView.{view_in};
+ghost use Rattle.pg_least.specs.Beside.{IsBesideClaim};
 ghost use Rattle.pg_least.specs.Path.{CarriesWitness, IsPath};
-ghost use Rattle.pg_least.specs.Exact.{IsBesideClaim, IsSearched};
+ghost use Rattle.pg_least.specs.Exact.{IsSearched};
 ghost use Rattle.pg_least.specs.Least.{IsCounted, IsSettled};
 
 use pg_cert::{Bounds, Certificate};
-use pg_least::{Found, Step};
-use pg_pairs::{Pair, Prices, View, Work};
+use pg_least::{Found, PairChoice};
+use pg_pairs::{Pair, Priced, Prices, Work};
 use pg_schema::Schema;
 pub use several::{bounds_from, settle_from};
 use std::alloc::{AllocError, Global};
 
-/// What `find` answers.
-pub fn find(alloc: Global, old: &Schema, new: &Schema, root: Pair) -> Result<Found, AllocError>
-    requires old_type { root.old.index < length (shape_of old.now) }
-    requires new_type { root.new.index < length (shape_of new.now) }
-    ensures searched { IfOk result (λ found. IsSearched by_numbers (shape_of old.now)
-        (shape_of new.now) root found.certificate) }
-    ensures carried { IfOk result (λ found. CarriesWitness by_numbers (shape_of old.now)
-        (shape_of new.now) found.certificate) }
-    ensures witness { IfOk result (λ found. IsBesideClaim by_numbers (shape_of old.now)
-        (shape_of new.now) found.certificate found.witness) }
-    ensures named { IfOk result (λ found. found.certificate.view ≡ views.Numbers) }
-{
-    pg_least::find(alloc, old, new, root)
-}
-
 /// What `find_with` answers.
-pub fn find_with<V: View>(
-    alloc: Global,
-    view: &V,
-    old: &Schema,
-    new: &Schema,
-    root: Pair,
-) -> Result<Found, AllocError>
-    requires old_type { root.old.index < length (shape_of old.now) }
-    requires new_type { root.new.index < length (shape_of new.now) }
-    ensures searched { IfOk result (λ found.
-        IsSearched (seen_by V.View view.now old.now new.now)
-        (shape_of old.now) (shape_of new.now) root found.certificate) }
-    ensures carried { IfOk result (λ found.
-        CarriesWitness (seen_by V.View view.now old.now new.now)
-        (shape_of old.now) (shape_of new.now) found.certificate) }
-    ensures witness { IfOk result (λ found.
-        IsBesideClaim (seen_by V.View view.now old.now new.now)
-        (shape_of old.now) (shape_of new.now) found.certificate found.witness) }
-    ensures named { IfOk result (λ found. found.certificate.view ≡ V.NAME) }
+pub fn find_with(alloc: Global, graph: &Priced<'_>, root: Pair) -> Result<Found, AllocError>
+    requires old_type { root.old.index < length (shape_of graph.now.old.now) }
+    requires new_type { root.new.index < length (shape_of graph.now.new.now) }
+    ensures searched { IfOk result (λ found. IsSearched (seen graph.now)
+        (shape_of graph.now.old.now) (shape_of graph.now.new.now) root found.certificate) }
+    ensures carried { IfOk result (λ found. CarriesWitness (seen graph.now)
+        (shape_of graph.now.old.now) (shape_of graph.now.new.now) found.certificate) }
+    ensures witness { IfOk result (λ found. IsBesideClaim (seen graph.now)
+        (shape_of graph.now.old.now) (shape_of graph.now.new.now) found.certificate
+        found.witness) }
+    ensures named { IfOk result (λ found. found.certificate.view ≡ graph.now.view) }
 {
-    pg_least::find_with(alloc, view, old, new, root)
+    pg_least::find_with(alloc, graph, root)
 }
 
 /// What `search_with` answers.
-pub fn search_with<V: View>(
-    alloc: Global,
-    view: &V,
-    old: &Schema,
-    new: &Schema,
-    root: Pair,
-) -> Result<Certificate, AllocError>
-    requires old_type { root.old.index < length (shape_of old.now) }
-    requires new_type { root.new.index < length (shape_of new.now) }
-    ensures searched { IfOk result (λ certificate.
-        IsSearched (seen_by V.View view.now old.now new.now)
-        (shape_of old.now) (shape_of new.now) root certificate) }
-    ensures carried { IfOk result (λ certificate.
-        CarriesWitness (seen_by V.View view.now old.now new.now)
-        (shape_of old.now) (shape_of new.now) certificate) }
-    ensures named { IfOk result (λ certificate. certificate.view ≡ V.NAME) }
+pub fn search_with(alloc: Global, graph: &Priced<'_>, root: Pair) -> Result<Certificate, AllocError>
+    requires old_type { root.old.index < length (shape_of graph.now.old.now) }
+    requires new_type { root.new.index < length (shape_of graph.now.new.now) }
+    ensures searched { IfOk result (λ certificate. IsSearched (seen graph.now)
+        (shape_of graph.now.old.now) (shape_of graph.now.new.now) root certificate) }
+    ensures carried { IfOk result (λ certificate. CarriesWitness (seen graph.now)
+        (shape_of graph.now.old.now) (shape_of graph.now.new.now) certificate) }
+    ensures named { IfOk result (λ certificate. certificate.view ≡ graph.now.view) }
 {
-    pg_least::search_with(alloc, view, old, new, root)
+    pg_least::search_with(alloc, graph, root)
 }
 
 /// What `search` answers.
@@ -128,7 +98,7 @@ pub fn path(
     old: &Schema,
     new: &Schema,
     certificate: &Certificate,
-) -> Result<Vec<Step>, AllocError>
+) -> Result<Vec<PairChoice>, AllocError>
     requires searched { IsSearched (view_in old.now new.now certificate.now) (shape_of old.now)
         (shape_of new.now) certificate.now.root certificate.now }
     requires breaks { is_some certificate.now.witness ≡ true }

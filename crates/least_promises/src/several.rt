@@ -4,13 +4,12 @@ ghost use Rattle.std.specs.Prelude.{◌≡◌, true, IfOk};
 ghost use Rattle.std.specs.List.{AllByRecursion};
 ghost use Rattle.pg_schema.specs.Parts.{shape_of};
 ghost use Rattle.pg_pairs.specs.Edges.{edges, is_pair};
-ghost use Rattle.pg_pairs.specs.SeenBy.{seen_by};
+ghost use Rattle.pg_pairs.specs.GraphView.{seen};
 ghost use Rattle.pg_least.specs.From.{AreBoundsFrom, IsSettledFrom};
 ghost use Rattle.pg_least.specs.Least.{IsCounted};
 
 use pg_cert::Bounds;
-use pg_pairs::{Pair, Prices, View, Work};
-use pg_schema::Schema;
+use pg_pairs::{Pair, Priced, Prices, Work};
 use std::alloc::{AllocError, Global};
 
 /// What `settle_from` answers.
@@ -28,20 +27,17 @@ pub fn settle_from<G: Prices>(
 }
 
 /// What `bounds_from` answers.
-pub fn bounds_from<V: View>(
+pub fn bounds_from(
     alloc: Global,
-    view: &V,
-    old: &Schema,
-    new: &Schema,
+    graph: &Priced<'_>,
     roots: &[Pair],
 ) -> Result<(Bounds, Work), AllocError>
-    requires { AllByRecursion (λ r. is_pair (shape_of old.now) (shape_of new.now) r ≡ true)
-        roots.now }
-    ensures bounds { IfOk result (λ found. AreBoundsFrom
-        (seen_by V.View view.now old.now new.now) (shape_of old.now) (shape_of new.now)
-        roots.now found.0) }
+    requires { AllByRecursion (λ r. is_pair (shape_of graph.now.old.now)
+        (shape_of graph.now.new.now) r ≡ true) roots.now }
+    ensures bounds { IfOk result (λ found. AreBoundsFrom (seen graph.now)
+        (shape_of graph.now.old.now) (shape_of graph.now.new.now) roots.now found.0) }
     ensures counted { IfOk result (λ found. IsCounted
-        (edges (shape_of old.now) (shape_of new.now)) found.0 found.1) }
+        (edges (shape_of graph.now.old.now) (shape_of graph.now.new.now)) found.0 found.1) }
 {
-    pg_least::bounds_from(alloc, view, old, new, roots)
+    pg_least::bounds_from(alloc, graph, roots)
 }

@@ -4,6 +4,8 @@ use Rattle.std.specs.List.{AllByRecursion}
 use Rattle.std.specs.List.Sorted.{IsPermutation}
 use Rattle.std.proofs.lemmas.Bool.{and_parts}
 use Rattle.pg_dyn.specs.encoding.Encoding.{cap}
+use Rattle.pg_pairs.proofs.Among.{among_each}
+use Rattle.pg_pairs.proofs.Reaching.{every_is_among}
 use Rattle.pg_pairs.specs.declared.choice.Pair.{Pair}
 use Rattle.pg_pairs.specs.declared.edge.Edge.{Edge}
 use Rattle.pg_pairs.specs.Among.{IsAmong}
@@ -19,9 +21,9 @@ use Rattle.pg_pairs.specs.LeastOf.{cost_under, least_of, lesser_cost}
 use Rattle.pg_least.specs.Least.{IsLeastBound, edges_to_numbers, lines}
 use Rattle.pg_least.specs.Places.{IsPlaced}
 use Rattle.pg_least.specs.Relaxing.{IsBalanced, cost_at, offer}
+use Rattle.pg_least.proofs.Lists.{among_left, among_right}
 use Rattle.pg_least.proofs.Listed.{found_at, place_of}
 use Rattle.pg_least.proofs.Moved.{among_back, among_moved, as_many}
-use Rattle.pg_least.proofs.Placing.{among_each}
 use Rattle.pg_least.proofs.Unbounded.{once_bounds, unbounded}
 
 -- The least of some costs.
@@ -121,14 +123,6 @@ among_map f y (x ∷ xs) h = ⊎_elim (λ same. (x, inl refl, sym same)) (λ lat
 pub map_among : {A B : Type 0} (f : A → B) (x : A) (xs : List A) → IsAmong x xs → IsAmong (f x) (map f xs)
 map_among f x [] h = absurd h
 map_among f x (y ∷ xs) h = ⊎_elim (λ same. inl (ap f same)) (λ later. inr (map_among f x xs later)) h
-
-among_left : {A : Type 0} (x : A) (xs ys : List A) → IsAmong x xs → IsAmong x (xs ++ ys)
-among_left x [] ys h = absurd h
-among_left x (y ∷ xs) ys h = ⊎_elim (λ same. inl same) (λ later. inr (among_left x xs ys later)) h
-
-among_right : {A : Type 0} (x : A) (xs ys : List A) → IsAmong x ys → IsAmong x (xs ++ ys)
-among_right x [] ys h = h
-among_right x (y ∷ xs) ys h = inr (among_right x xs ys h)
 
 among_split : {A : Type 0} (x : A) (xs ys : List A) → IsAmong x (xs ++ ys) → IsAmong x xs ⊎ IsAmong x ys
 among_split x [] ys h = inr h
@@ -256,15 +250,11 @@ inside_at [] i x h = absurd (cc)
 inside_at (y ∷ xs) zero x h = omega arith
 inside_at (y ∷ xs) (suc i) x h = let later = inside_at xs i x h in omega arith
 
-pub each_arc : {A : Type 0} (P : A → Type 0) (xs : List A) → ((x : A) → IsAmong x xs → P x) → AllByRecursion P xs
-each_arc P [] h = tt
-each_arc P (x ∷ xs) h = (h x (inl refl), each_arc P xs (λ y among. h y (inr among)))
-
 -- The arcs are edges of known pairs.
 pub arcs_are : (known : Pair → Bool) (edges : Pair → List Edge) (ps : List Pair) (arcs : List Arc) → ((p : Pair) (e : Edge) → IsAmong p ps → IsAmong e (edges p) → e.from ≡ p) → AllByRecursion (λ (p : Pair). known p ≡ true) ps
     → IsPermutation (flat_map edges ps) (map (λ (a : Arc). a.edge) arcs) → AllByRecursion (IsPlaced ps) arcs → AllByRecursion (IsArc known edges (length ps)) arcs
 arcs_are known edges ps arcs from_own each moved placed =
-    each_arc (IsArc known edges (length ps)) arcs (λ a among.
+    every_is_among (IsArc known edges (length ps)) arcs (λ a among.
     let at = among_each (IsPlaced ps) a arcs among placed in
     let (p, there, of_p) = among_flat edges a.edge ps (among_back a.edge (flat_map edges ps) (map (λ (x : Arc). x.edge) arcs) moved (map_among (λ (x : Arc). x.edge) a arcs among)) in
     let own = from_own p a.edge there of_p in

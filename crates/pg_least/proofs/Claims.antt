@@ -1,24 +1,24 @@
 -- What a search claims of its table and its witness.
 use Rattle.std.proofs.Common.{◌≡◌, ℕ, ◌≤◌, ◌&&◌, List, [], ◌∷◌, flat_map, filter, find, length, Bool, true, false, not, nat_le, cond, is_some, option_map, Option, Some, None, refl, ap, sym, ◌∙◌, subst, arith}
-use Rattle.std.proofs.lemmas.Bool.{and_parts, leb-true, eq-eqb}
+use Rattle.std.proofs.lemmas.Bool.{and_parts, leb-true}
 use Rattle.pg_schema.specs.Shape.{Shape, IsShape}
 use Rattle.pg_dyn.specs.declared.view_name.ViewName.{ViewName}
 use Rattle.pg_dyn.specs.encoding.Encoding.{cap, enc}
 use Rattle.pg_dyn.specs.Kept.{Kept, message_of, type_of}
 use Rattle.pg_pairs.specs.declared.choice.Pair.{Pair}
-use Rattle.pg_pairs.specs.EnumView.{EnumView, IsEnumView}
+use Rattle.pg_pairs.specs.EnumView.{EnumView}
+use Rattle.pg_pairs.specs.ViewLaws.{IsEnumView}
 use Rattle.pg_pairs.specs.Choices.{number_for}
 use Rattle.pg_pairs.specs.Covering.{children, distinct, same_pair, Covers}
 use Rattle.pg_pairs.specs.Laws.{ExactIsLeast, NoneIsCompatible, ReachedBy}
+use Rattle.pg_cert.proofs.Tables.{same_pair-refl}
 use Rattle.pg_cert.specs.declared.bounds.PairBound.{PairBound}
 use Rattle.pg_cert.specs.Bounds.{are_bounds, bound_in, is_bound}
-use Rattle.pg_cert.specs.Certificate.{Claim, IsWitnessedIfThere, is_witness}
-use Rattle.pg_least.specs.Descent.{IsTableOf}
+use Rattle.pg_cert.specs.Certificate.{Claim, IsWitnessedIfThere}
+use Rattle.pg_cert.specs.Witness.{is_witness}
+use Rattle.pg_least.specs.Descent.{IsCarriedFrom, IsTableOf}
 use Rattle.pg_least.specs.Exact.{BoundSays, IsSearched, pairs_of}
-use Rattle.pg_least.specs.Path.{CarriesWitness, IsCarriedFrom}
-
-same_pair-refl : (p : Pair) → same_pair p p ≡ true
-same_pair-refl p = rw (eq-eqb p.old.index p.old.index refl, eq-eqb p.new.index p.new.index refl) refl
+use Rattle.pg_least.specs.Path.{CarriesWitness}
 
 -- the first of the pairs is there
 first_there : (bounds : List PairBound) (p : Pair) (ps : List Pair) → pairs_of bounds ≡ p ∷ ps → is_some (bound_in bounds p) ≡ true

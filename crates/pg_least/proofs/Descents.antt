@@ -1,28 +1,24 @@
 -- The path down of a witness, by the cheapest choices.
-use Rattle.std.proofs.Common.{◌≡◌, ℕ, ◌<◌, ◌≤◌, List, [], ◌∷◌, ◌++◌, length, true, is_some, option_and_then, Option, Some, None, ⊎_elim, refl, ap, ap₂, sym, ◌∙◌, subst, subst₂, arith, append_assoc}
-use Rattle.std.specs.List.{AllByRecursion}
-use Rattle.std.proofs.lemmas.Bool.{cases_lt}
-use Rattle.std.proofs.lemmas.List.{get_or_past}
-use Rattle.pg_schema.specs.Shape.{Shape, fields}
+use Rattle.std.proofs.Common.{◌≡◌, ℕ, ◌<◌, ◌≤◌, List, [], ◌∷◌, ◌++◌, length, true, is_some, option_and_then, option_map, Option, Some, None, refl, ap, ap₂, sym, ◌∙◌, subst, subst₂, arith, append_assoc}
+use Rattle.pg_schema.specs.Shape.{Shape}
 use Rattle.pg_dyn.specs.Message.{Message}
 use Rattle.pg_dyn.specs.Fits.{Fits}
 use Rattle.pg_dyn.specs.Kept.{Kept, message_of, type_of}
+use Rattle.pg_pairs.proofs.Among.{among_each}
 use Rattle.pg_pairs.specs.declared.choice.Choice.{Choice}
 use Rattle.pg_pairs.specs.declared.choice.Pair.{Pair}
 use Rattle.pg_pairs.specs.EnumView.{EnumView}
-use Rattle.pg_pairs.specs.Carried.{ChildReached, ChildThere, carried, choice_child, IsChoiceRound, IsOfPair}
-use Rattle.pg_pairs.specs.Cheapest.{cheapest, IsCheapest, CheapestIsLeast}
-use Rattle.pg_pairs.specs.Choices.{Table, number_for, all_choices, affordable, choices}
+use Rattle.pg_pairs.specs.Carried.{carried, choice_child}
+use Rattle.pg_pairs.specs.CarriedChoices.{ChildGiven, ChildReached, ChildThere}
+use Rattle.pg_pairs.specs.Cheapest.{cheapest}
+use Rattle.pg_pairs.specs.CheapestLaws.{IsCheapest, CheapestIsLeast}
+use Rattle.pg_pairs.specs.Choices.{Table, number_for, choices}
 use Rattle.pg_pairs.specs.Covering.{IsWithin}
 use Rattle.pg_pairs.specs.Laws.{ReachedBy}
 use Rattle.pg_pairs.specs.Among.{IsAmong}
-use Rattle.pg_least.specs.declared.witness.Step.{Step}
-use Rattle.pg_least.specs.Descent.{IsExactTable, IsStep, IsPathDown, IsWholePath, first_step}
-use Rattle.pg_least.specs.Path.{IsCarriedFrom, IsPath, carried_along}
-
-among_each : {A : Type 0} (P : A → Type 0) (x : A) (xs : List A) → IsAmong x xs → AllByRecursion P xs → P x
-among_each P x [] among h = absurd among
-among_each P x (y ∷ ys) among h = ⊎_elim (λ same. subst P (sym same) h.0) (λ later. among_each P x ys later h.1) among
+use Rattle.pg_least.specs.declared.witness.PairChoice.{PairChoice}
+use Rattle.pg_least.specs.Descent.{IsCarriedFrom, IsExactTable, IsStep, IsPathDown, IsWholePath, first_step}
+use Rattle.pg_least.specs.Path.{IsPath, carried_along}
 
 -- the number of a pair's bound
 pub number_there : (table : Table) (pair : Pair) → is_some (number_for table pair) ≡ true → (n : ℕ) × (table pair ≡ Some (Some n))
@@ -39,18 +35,11 @@ number_of table pair n is = rw is refl
 same_number : {n m : ℕ} {o : Option (Option ℕ)} → o ≡ Some (Some n) → o ≡ Some (Some m) → n ≡ m
 same_number h k = cc
 
-pub first_on : (steps : List Step) (last next : Step) → first_step (steps ++ last ∷ []) next ≡ first_step steps last
+pub first_on : (steps : List PairChoice) (last next : PairChoice) → first_step (steps ++ last ∷ []) next ≡ first_step steps last
 first_on [] last next = refl
 first_on (s ∷ steps) last next = refl
 
 module _ (enum_view : EnumView) (old new : Shape) (table : Table) where
-  -- a type with a choice is there
-  pub type_there : (pair : Pair) (c : Choice) → IsAmong c (choices enum_view table old new pair) → pair.old.index < length old
-  type_there pair c among =
-      ⊎_elim (λ h. h) (λ past.
-      let none : fields old pair.old ≡ [] = get_or_past old pair.old.index [] past in
-      absurd (subst (λ fs. IsAmong c (affordable (all_choices enum_view table (fields new pair.new) fs))) none among)) (cases_lt pair.old.index (length old))
-
   module _ (exact : IsExactTable enum_view old new table) (least : CheapestIsLeast) (pair : Pair) (number : is_some (number_for table pair) ≡ true) where
     is_cheapest : (o : Option Choice) → cheapest (choices enum_view table old new pair) ≡ o → IsCheapest o (choices enum_view table old new pair)
     is_cheapest o is = subst (λ x. IsCheapest x (choices enum_view table old new pair)) is (least (choices enum_view table old new pair))
@@ -73,24 +62,24 @@ module _ (enum_view : EnumView) (old new : Shape) (table : Table) where
         subst (IsAmong d) (is_cheapest None is) chosen
 
   -- One step more at the end.
-  pub path_on : (steps : List Step) (last next : Step) → IsPathDown enum_view old new table steps last → choice_child old new last.pair last.choice ≡ Some next.pair → IsStep enum_view old new table next → IsPathDown enum_view old new table (steps ++ last ∷ []) next
+  pub path_on : (steps : List PairChoice) (last next : PairChoice) → IsPathDown enum_view old new table steps last → choice_child old new last.pair last.choice ≡ Some next.pair → IsStep enum_view old new table next → IsPathDown enum_view old new table (steps ++ last ∷ []) next
   path_on [] last next path child step = (path, child, step)
   path_on (s ∷ steps) last next (here, down, later) child step =
-      (here, down ∙ ap (λ (x : Step). Some x.pair) (sym (first_on steps last next)), path_on steps last next later child step)
+      (here, down ∙ ap (λ (x : PairChoice). Some x.pair) (sym (first_on steps last next)), path_on steps last next later child step)
 
   -- the last step of a path, and the path without it
-  pub last_step : (steps : List Step) (last : Step) → IsPathDown enum_view old new table steps last → IsStep enum_view old new table last
+  pub last_step : (steps : List PairChoice) (last : PairChoice) → IsPathDown enum_view old new table steps last → IsStep enum_view old new table last
   last_step [] last path = path
   last_step (s ∷ steps) last path = last_step steps last path.2
 
-  pub path_off : (steps : List Step) (s last : Step) → IsPathDown enum_view old new table (steps ++ s ∷ []) last → IsPathDown enum_view old new table steps s × (choice_child old new s.pair s.choice ≡ Some last.pair)
+  pub path_off : (steps : List PairChoice) (s last : PairChoice) → IsPathDown enum_view old new table (steps ++ s ∷ []) last → IsPathDown enum_view old new table steps s × (choice_child old new s.pair s.choice ≡ Some last.pair)
   path_off [] s last (here, down, later) = (here, down)
   path_off (x ∷ steps) s last (here, down, later) =
       let (path, child) = path_off steps s last later in
-      ((here, down ∙ ap (λ (y : Step). Some y.pair) (first_on steps s last), path), child)
+      ((here, down ∙ ap (λ (y : PairChoice). Some y.pair) (first_on steps s last), path), child)
 
   -- The steps to a last one without a child, and this one, are the path from the first one's pair.
-  pub whole_is_path : (steps : List Step) (last : Step) → IsPathDown enum_view old new table steps last → choice_child old new last.pair last.choice ≡ None
+  pub whole_is_path : (steps : List PairChoice) (last : PairChoice) → IsPathDown enum_view old new table steps last → choice_child old new last.pair last.choice ≡ None
       → IsPath enum_view old new table (first_step steps last).pair (steps ++ last ∷ [])
   whole_is_path [] last step ends = (refl, step.is_first, ends)
   whole_is_path (s ∷ []) last (here, down, later) ends = (refl, here.is_first, down, whole_is_path [] last later ends)
@@ -100,7 +89,7 @@ module _ (enum_view : EnumView) (old new : Shape) (table : Table) where
   pub child_number : (child : Pair) (c : Choice) (o : Option Pair) → o ≡ Some child → ChildThere table o c.cost → (n : ℕ) × (table child ≡ Some (Some n)) × (n < c.cost)
   child_number child c o is there = subst (λ x. ChildThere table x c.cost) is there
 
-  pub costs_less : (child : Pair) (c : Choice) (o : Option Pair) (next : Step) → o ≡ Some child → ChildThere table o c.cost → next.pair ≡ child → IsStep enum_view old new table next → next.choice.cost < c.cost
+  pub costs_less : (child : Pair) (c : Choice) (o : Option Pair) (next : PairChoice) → o ≡ Some child → ChildThere table o c.cost → next.pair ≡ child → IsStep enum_view old new table next → next.choice.cost < c.cost
   costs_less child c o next is there at step =
       let (n, bound, less) = child_number child c o is there in
       let same : next.choice.cost ≡ n = same_number (sym (ap table at) ∙ step.costs) bound in
@@ -110,11 +99,11 @@ module _ (enum_view : EnumView) (old new : Shape) (table : Table) where
   pub no_child : (o : Option Pair) → o ≡ None → ChildReached enum_view old new table o None
   no_child o is = subst (λ x. ChildReached enum_view old new table x None) (sym is) tt
 
-  pub child_given : (o : Option Pair) (last : Step) (m : Message) → o ≡ Some last.pair → IsStep enum_view old new table last → ReachedBy enum_view old new last.pair m last.choice.cost → ChildReached enum_view old new table o (Some m)
+  pub child_given : (o : Option Pair) (last : PairChoice) (m : Message) → o ≡ Some last.pair → IsStep enum_view old new table last → ReachedBy enum_view old new last.pair m last.choice.cost → ChildReached enum_view old new table o (Some m)
   child_given o last m is step reached = subst (λ x. ChildReached enum_view old new table x (Some m)) (sym is) (last.choice.cost, step.costs, reached)
 
 -- two steps of one pair by one choice are one step
-same_step : (s t : Step) → s.pair ≡ t.pair → s.choice ≡ t.choice → s ≡ t
+same_step : (s t : PairChoice) → s.pair ≡ t.pair → s.choice ≡ t.choice → s ≡ t
 same_step s t pair choice = λ j. record { pair = pair j; choice = choice j }
 
 same_choice : {c d : Choice} {o : Option Choice} → o ≡ Some c → o ≡ Some d → c ≡ d
@@ -127,12 +116,12 @@ never_both : {p : Pair} {o : Option Pair} → o ≡ None → o ≡ Some p → �
 never_both h k = cc
 
 -- A table has one path from a pair.
-pub one_path : (enum_view : EnumView) (old new : Shape) (table : Table) (pair : Pair) (ss ts : List Step)
+pub one_path : (enum_view : EnumView) (old new : Shape) (table : Table) (pair : Pair) (ss ts : List PairChoice)
     → IsPath enum_view old new table pair ss → IsPath enum_view old new table pair ts → ss ≡ ts
 one_path enum_view old new table pair [] ts h k = absurd h
 one_path enum_view old new table pair (s ∷ []) [] h k = absurd k
 one_path enum_view old new table pair (s ∷ []) (t ∷ []) h k =
-    ap (λ (x : Step). x ∷ []) (same_step s t (h.0 ∙ sym k.0) (same_choice h.1 k.1))
+    ap (λ (x : PairChoice). x ∷ []) (same_step s t (h.0 ∙ sym k.0) (same_choice h.1 k.1))
 one_path enum_view old new table pair (s ∷ []) (t ∷ u ∷ ts) h k =
     absurd (never_both h.2 (ap (choice_child old new pair) (same_choice h.1 k.1) ∙ k.2))
 one_path enum_view old new table pair (s ∷ r ∷ ss) [] h k = absurd k
@@ -143,13 +132,13 @@ one_path enum_view old new table pair (s ∷ r ∷ ss) (t ∷ u ∷ ts) h k =
     let later : r ∷ ss ≡ u ∷ ts =
     one_path enum_view old new table r.pair (r ∷ ss) (u ∷ ts) h.3
     (subst (λ (p : Pair). IsPath enum_view old new table p (u ∷ ts)) below k.3) in
-    ap₂ (λ (x : Step) (xs : List Step). x ∷ xs) (same_step s t (h.0 ∙ sym k.0) (same_choice h.1 k.1)) later
+    ap₂ (λ (x : PairChoice) (xs : List PairChoice). x ∷ xs) (same_step s t (h.0 ∙ sym k.0) (same_choice h.1 k.1)) later
 
 -- The message of the last of these steps, on the path to which stands that first one. It is what the path carries from there on.
-pub record IsInside (enum_view : EnumView) (old new : Shape) (first : Step) (on steps : List Step) (m : Kept) : Type 0 where
+pub record IsInside (enum_view : EnumView) (old new : Shape) (first : PairChoice) (on steps : List PairChoice) (m : Kept) : Type 0 where
   pub table : Table
-  pub last : Step
-  pub later : List Step
+  pub last : PairChoice
+  pub later : List PairChoice
   pub along : carried_along enum_view old new (last ∷ later) ≡ Some (message_of m)
   pub whole : steps ++ last ∷ later ≡ on
   pub path : IsPathDown enum_view old new table steps last
@@ -158,17 +147,24 @@ pub record IsInside (enum_view : EnumView) (old new : Shape) (first : Step) (on 
   pub type_is : type_of m ≡ last.pair.old
   pub reached : ReachedBy enum_view old new last.pair (message_of m) last.choice.cost
 
+-- The step's choice is one of its pair's under some table of bounds. Its child, where it has one, is a message of the child's old type that breaks and has the length of its bound.
+pub record IsRound (enum_view : EnumView) (old new : Shape) (step : PairChoice) (child : Option Kept) : Type 0 where
+  pub table : Table
+  pub among : IsAmong step.choice (choices enum_view table old new step.pair)
+  pub given : ChildGiven old (choice_child old new step.pair step.choice) child
+  pub reached : ChildReached enum_view old new table (choice_child old new step.pair step.choice) (option_map message_of child)
+
 module _ (enum_view : EnumView) (old new : Shape) where
   -- the last step's choice has no child
-  pub last_round : (table : Table) (steps : List Step) (last : Step) → IsWholePath enum_view old new table steps last → IsChoiceRound enum_view old new last.pair last.choice None
+  pub last_round : (table : Table) (steps : List PairChoice) (last : PairChoice) → IsWholePath enum_view old new table steps last → IsRound enum_view old new last None
   last_round table steps last whole = record {
     table = table;
     among = (last_step enum_view old new table steps last whole.path).among;
     reached = no_child enum_view old new table (choice_child old new last.pair last.choice) whole.ends;
-    of_pair = subst (λ o. IsOfPair o None) (sym whole.ends) tt;
+    given = subst (λ o. ChildGiven old o None) (sym whole.ends) tt;
   }
 
-  pub innermost : (table : Table) (steps : List Step) (last : Step) (m : Kept) → IsWholePath enum_view old new table steps last → Fits old m → type_of m ≡ last.pair.old → ReachedBy enum_view old new last.pair (message_of m) last.choice.cost
+  pub innermost : (table : Table) (steps : List PairChoice) (last : PairChoice) (m : Kept) → IsWholePath enum_view old new table steps last → Fits old m → type_of m ≡ last.pair.old → ReachedBy enum_view old new last.pair (message_of m) last.choice.cost
       → message_of m ≡ carried enum_view old new last.pair last.choice None → IsInside enum_view old new (first_step steps last) (steps ++ last ∷ []) steps m
   innermost table steps last m whole fits type_is reached made = record {
     table = table;
@@ -184,7 +180,7 @@ module _ (enum_view : EnumView) (old new : Shape) where
   }
 
   -- the message inside is that of the next step's child
-  pub next_round : (first step : Step) (on steps all : List Step) (inner : Kept) → IsInside enum_view old new first on all inner → all ≡ steps ++ step ∷ [] → IsChoiceRound enum_view old new step.pair step.choice (Some inner)
+  pub next_round : (first step : PairChoice) (on steps all : List PairChoice) (inner : Kept) → IsInside enum_view old new first on all inner → all ≡ steps ++ step ∷ [] → IsRound enum_view old new step (Some inner)
   next_round first step on steps all inner inside is =
       let whole : IsPathDown enum_view old new inside.table (steps ++ step ∷ []) inside.last = subst (λ ss. IsPathDown enum_view old new inside.table ss inside.last) is inside.path in
       let (path, child) = path_off enum_view old new inside.table steps step inside.last whole in
@@ -192,11 +188,11 @@ module _ (enum_view : EnumView) (old new : Shape) where
         table = inside.table;
         among = (last_step enum_view old new inside.table steps step path).among;
         reached = child_given enum_view old new inside.table (choice_child old new step.pair step.choice) inside.last (message_of inner) child (last_step enum_view old new inside.table all inside.last inside.path) inside.reached;
-        of_pair = subst (λ o. IsOfPair o (Some inner)) (sym child) inside.type_is;
+        given = subst (λ o. ChildGiven old o (Some inner)) (sym child) (inside.fits, inside.type_is);
       }
 
   -- one step out
-  pub round : (first step : Step) (on steps all : List Step) (inner m : Kept) → IsInside enum_view old new first on all inner → all ≡ steps ++ step ∷ [] → Fits old m → type_of m ≡ step.pair.old → ReachedBy enum_view old new step.pair (message_of m) step.choice.cost
+  pub round : (first step : PairChoice) (on steps all : List PairChoice) (inner m : Kept) → IsInside enum_view old new first on all inner → all ≡ steps ++ step ∷ [] → Fits old m → type_of m ≡ step.pair.old → ReachedBy enum_view old new step.pair (message_of m) step.choice.cost
       → message_of m ≡ carried enum_view old new step.pair step.choice (Some (message_of inner)) → IsInside enum_view old new first on steps m
   round first step on steps all inner m inside is fits type_is reached made =
       let whole : IsPathDown enum_view old new inside.table (steps ++ step ∷ []) inside.last = subst (λ ss. IsPathDown enum_view old new inside.table ss inside.last) is inside.path in
@@ -206,7 +202,7 @@ module _ (enum_view : EnumView) (old new : Shape) where
         last = step;
         later = inside.last ∷ inside.later;
         along = ap (λ (o : Option Message). Some (carried enum_view old new step.pair step.choice o)) inside.along ∙ ap Some (sym made);
-        whole = sym (append_assoc steps (step ∷ []) (inside.last ∷ inside.later)) ∙ ap (λ (ss : List Step). ss ++ inside.last ∷ inside.later) (sym is) ∙ inside.whole;
+        whole = sym (append_assoc steps (step ∷ []) (inside.last ∷ inside.later)) ∙ ap (λ (ss : List PairChoice). ss ++ inside.last ∷ inside.later) (sym is) ∙ inside.whole;
         path = path;
         first_is = sym (first_on steps step inside.last) ∙ ap (λ ss. first_step ss inside.last) (sym is) ∙ inside.first_is;
         fits = fits;
@@ -214,19 +210,13 @@ module _ (enum_view : EnumView) (old new : Shape) where
         reached = reached;
       }
 
-  -- the type of a step that stands next is there
-  pub next_there : (first step : Step) (on steps all : List Step) (inner : Kept) → IsInside enum_view old new first on all inner → all ≡ steps ++ step ∷ [] → step.pair.old.index < length old
-  next_there first step on steps all inner inside is =
-      let whole : IsPathDown enum_view old new inside.table (steps ++ step ∷ []) inside.last = subst (λ ss. IsPathDown enum_view old new inside.table ss inside.last) is inside.path in
-      type_there enum_view old new inside.table step.pair step.choice (last_step enum_view old new inside.table steps step (path_off enum_view old new inside.table steps step inside.last whole).0).among
-
   -- With no step left the message is what the whole path carries.
-  pub outermost : (first : Step) (on steps : List Step) (m : Kept) → length steps ≡ 0 → IsInside enum_view old new first on steps m → carried_along enum_view old new on ≡ Some (message_of m)
-  outermost first on [] m none inside = subst (λ (ss : List Step). carried_along enum_view old new ss ≡ Some (message_of m)) inside.whole inside.along
+  pub outermost : (first : PairChoice) (on steps : List PairChoice) (m : Kept) → length steps ≡ 0 → IsInside enum_view old new first on steps m → carried_along enum_view old new on ≡ Some (message_of m)
+  outermost first on [] m none inside = subst (λ (ss : List PairChoice). carried_along enum_view old new ss ≡ Some (message_of m)) inside.whole inside.along
   outermost first on (s ∷ steps) m none inside = absurd (omega arith)
 
   -- The message that one path from a pair carries is the one that each does.
-  pub carried_from : (table : Table) (pair : Pair) (steps : List Step) (last : Step) (m : Message) → IsWholePath enum_view old new table steps last → (first_step steps last).pair ≡ pair
+  pub carried_from : (table : Table) (pair : Pair) (steps : List PairChoice) (last : PairChoice) (m : Message) → IsWholePath enum_view old new table steps last → (first_step steps last).pair ≡ pair
       → carried_along enum_view old new (steps ++ last ∷ []) ≡ Some m → IsCarriedFrom enum_view old new table pair m
   carried_from table pair steps last m whole first along path is =
       let own : IsPath enum_view old new table pair (steps ++ last ∷ []) =
@@ -234,10 +224,10 @@ module _ (enum_view : EnumView) (old new : Shape) where
       ap (carried_along enum_view old new) (one_path enum_view old new table pair path (steps ++ last ∷ []) is own) ∙ along
 
   -- The message of the first step's choice has as many bytes as the table says of its pair.
-  pub reached_there : (table : Table) (pair : Pair) (steps : List Step) (last : Step) (m : Message) → IsPathDown enum_view old new table steps last → (first_step steps last).pair ≡ pair
+  pub reached_there : (table : Table) (pair : Pair) (steps : List PairChoice) (last : PairChoice) (m : Message) → IsPathDown enum_view old new table steps last → (first_step steps last).pair ≡ pair
       → ReachedBy enum_view old new (first_step steps last).pair m (first_step steps last).choice.cost → (n : ℕ) → table pair ≡ Some (Some n) → ReachedBy enum_view old new pair m n
   reached_there table pair steps last m path first reached n is = of steps path first reached
     where
-      of : (ss : List Step) → IsPathDown enum_view old new table ss last → (first_step ss last).pair ≡ pair → ReachedBy enum_view old new (first_step ss last).pair m (first_step ss last).choice.cost → ReachedBy enum_view old new pair m n
+      of : (ss : List PairChoice) → IsPathDown enum_view old new table ss last → (first_step ss last).pair ≡ pair → ReachedBy enum_view old new (first_step ss last).pair m (first_step ss last).choice.cost → ReachedBy enum_view old new pair m n
       of [] step first reached = subst₂ (λ (p : Pair) k. ReachedBy enum_view old new p m k) first (same_number step.costs (ap table first ∙ is)) reached
       of (s ∷ ss) down first reached = subst₂ (λ (p : Pair) k. ReachedBy enum_view old new p m k) first (same_number down.0.costs (ap table first ∙ is)) reached

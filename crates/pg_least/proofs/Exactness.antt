@@ -1,14 +1,16 @@
 -- Over two schemas settled bounds are exact.
 use Rattle.std.proofs.Common.{◌≡◌, ℕ, List, is_some, Option, Some, None, ap, sym, ◌∙◌, subst}
-use Rattle.pg_schema.specs.declared.parts.Parts.{Parts}
-use Rattle.pg_schema.specs.Parts.{shape_of}
 use Rattle.pg_schema.specs.Shape.{Shape, IsShape}
+use Rattle.pg_pairs.proofs.Among.{among_each}
+use Rattle.pg_pairs.proofs.Reaching.{every_is_among}
 use Rattle.pg_pairs.specs.declared.choice.Pair.{Pair}
 use Rattle.pg_pairs.specs.Among.{IsAmong}
-use Rattle.pg_pairs.specs.EnumView.{EnumView, IsEnumView}
-use Rattle.pg_pairs.specs.Covering.{IsThere, children}
-use Rattle.pg_pairs.specs.Edges.{LeastCostsByEdges, edge_price, edges, no_bounds}
-use Rattle.pg_pairs.specs.Laws.{ExactIsLeast, IsExact, NoneIsCompatible}
+use Rattle.pg_pairs.specs.EnumView.{EnumView}
+use Rattle.pg_pairs.specs.ViewLaws.{IsEnumView}
+use Rattle.pg_pairs.specs.Covering.{IsThere, children, IsExact}
+use Rattle.pg_pairs.specs.Edges.{LeastCostsByEdges, edge_price, edges}
+use Rattle.pg_pairs.specs.Choices.{no_bounds}
+use Rattle.pg_pairs.specs.Laws.{ExactIsLeast, NoneIsCompatible}
 use Rattle.pg_pairs.specs.LeastCosts.{LeastCostsAreExact, least_cost}
 use Rattle.pg_pairs.specs.Reached.{IsLedTo, LeadsTo, onwards}
 use Rattle.pg_cert.specs.declared.bounds.PairBound.{PairBound}
@@ -18,7 +20,6 @@ use Rattle.pg_least.specs.Exact.{BoundSays, pairs_of}
 use Rattle.pg_least.specs.From.{AreBoundsFrom, IsSettledFrom}
 use Rattle.pg_least.specs.Least.{AllLeast, IsSettled}
 use Rattle.pg_least.proofs.Listed.{among_found, there_among}
-use Rattle.pg_least.proofs.Tables.{among_in, each_from}
 
 -- Where the children of a table's pairs are there, least bounds are exact.
 exact_bounds : (enum_view : EnumView) (old new : Shape) (bounds : List PairBound) → LeastCostsAreExact → LeastCostsByEdges → IsShape old
@@ -28,14 +29,14 @@ exact_bounds enum_view old new bounds exact by_edges shape closed least pair bou
     let is : bound ≡ least_cost enum_view (bound_in bounds) old new pair = least pair bound found ∙ sym (by_edges enum_view old new (bound_in bounds) shape pair) in
     subst (IsExact enum_view old new (bound_in bounds) pair) (sym is)
     (exact enum_view old new (bound_in bounds) pair
-    (each_from (IsThere (bound_in bounds)) (children old new pair) (λ child among. there_among bounds child (closed pair child (among_found bounds pair bound found) among))))
+    (every_is_among (IsThere (bound_in bounds)) (children old new pair) (λ child among. there_among bounds child (closed pair child (among_found bounds pair bound found) among))))
 
 pub settled_is_exact : (enum_view : EnumView) (old new : Shape) (root : Pair) (bounds : List PairBound) → LeastCostsAreExact → LeastCostsByEdges → IsShape old
     → IsSettled (children old new) (edges old new) (least_cost enum_view no_bounds old new) (edge_price old) root bounds → IsTableOf enum_view old new root bounds
 settled_is_exact enum_view old new root bounds exact by_edges shape settled = record {
   reached = settled.reached;
   exact = exact_bounds enum_view old new bounds exact by_edges shape
-      (λ pair child there among. settled.reached.all child (onwards pair child (among_in (LeadsTo (children old new) root) pair (pairs_of bounds) there settled.reached.led_to) among)) settled.least;
+      (λ pair child there among. settled.reached.all child (onwards pair child (among_each (LeadsTo (children old new) root) pair (pairs_of bounds) there settled.reached.led_to) among)) settled.least;
 }
 
 -- what a bound of an exact table says of its pair is so
@@ -57,18 +58,5 @@ bounds_are enum_view old new roots bounds exact by_edges least none law shape_ol
   where
     each : IsExactTable enum_view old new (bound_in bounds)
     each = exact_bounds enum_view old new bounds exact by_edges shape_old
-        (λ pair child there among. settled.reached.all child (child_led (children old new) roots pair child (among_in (IsLedTo (children old new) roots) pair (pairs_of bounds) there settled.reached.led_to) among))
+        (λ pair child there among. settled.reached.all child (child_led (children old new) roots pair child (among_each (IsLedTo (children old new) roots) pair (pairs_of bounds) there settled.reached.led_to) among))
         settled.least
-
--- what holds of a graph's view and schemas holds of those that it was made of
-pub of_same : {W : Type 0} (P : W → Parts → Parts → Type 0) (v view : W) (o old n new : Parts) → v ≡ view → o ≡ old → n ≡ new → P v o n → P view old new
-of_same P v view o old n new view_is old_is new_is h = subst (λ x. P x old new) view_is (subst (λ x. P v x new) old_is (subst (λ x. P v o x) new_is h))
-
--- What is settled over a graph of the same schemas, under the same view, is so between these.
-pub settled_between : {W : Type 0} (enum_view : W → Parts → Parts → EnumView) (v view : W) (o old n new : Parts) → v ≡ view → o ≡ old → n ≡ new → LeastCostsAreExact → LeastCostsByEdges → IsShape (shape_of old) → (root : Pair) (bounds : List PairBound)
-    → IsSettled (children (shape_of o) (shape_of n)) (edges (shape_of o) (shape_of n)) (least_cost (enum_view v o n) no_bounds (shape_of o) (shape_of n)) (edge_price (shape_of o)) root bounds
-    → IsTableOf (enum_view view old new) (shape_of old) (shape_of new) root bounds
-settled_between {W = W} enum_view v view o old n new view_is old_is new_is exact by_edges shape root bounds settled =
-    settled_is_exact (enum_view view old new) (shape_of old) (shape_of new) root bounds exact by_edges shape
-    (of_same (λ (x : W) (a b : Parts). IsSettled (children (shape_of a) (shape_of b)) (edges (shape_of a) (shape_of b)) (least_cost (enum_view x a b) no_bounds (shape_of a) (shape_of b)) (edge_price (shape_of a)) root bounds)
-    v view o old n new view_is old_is new_is settled)

@@ -1,20 +1,14 @@
 -- Tables as lists: what stands at a place is found, and what is found stands at one.
-use Rattle.std.proofs.Common.{◌≡◌, ℕ, zero, suc, List, [], ◌∷◌, slice_get, Bool, true, false, not, ◌&&◌, cond, find, nat_eq, is_some, option_map, Option, Some, None, inl, inr, ⊎_elim, refl, sym, subst, eq-eqb, eqb-true}
+use Rattle.std.proofs.Common.{◌≡◌, ℕ, zero, suc, List, [], ◌∷◌, slice_get, Bool, true, false, not, ◌&&◌, cond, find, is_some, option_map, Option, Some, None, inl, inr, ⊎_elim, refl, sym, subst}
 use Rattle.std.proofs.lemmas.Bool.{and_parts}
+use Rattle.pg_pairs.proofs.Choosing.{same_pair-true}
 use Rattle.pg_pairs.specs.declared.choice.Pair.{Pair}
 use Rattle.pg_pairs.specs.Among.{IsAmong}
 use Rattle.pg_pairs.specs.Covering.{same_pair}
+use Rattle.pg_cert.proofs.Tables.{same_pair-refl}
 use Rattle.pg_cert.specs.declared.bounds.PairBound.{PairBound}
 use Rattle.pg_cert.specs.Bounds.{are_bounds, bound_in, is_bound}
 use Rattle.pg_least.specs.Exact.{pairs_of}
-
-same_pair-refl : (p : Pair) → same_pair p p ≡ true
-same_pair-refl p = rw (eq-eqb p.old.index p.old.index refl, eq-eqb p.new.index p.new.index refl) refl
-
-pub same_pair-true : (p q : Pair) → same_pair p q ≡ true → p ≡ q
-same_pair-true p q h =
-    let both = and_parts (nat_eq p.old.index q.old.index) (nat_eq p.new.index q.new.index) h in
-    λ i. record { old = record { index = eqb-true p.old.index q.old.index both.0 i }; new = record { index = eqb-true p.new.index q.new.index both.1 i } }
 
 not_some : {A : Type 0} (o : Option A) → not (is_some o) ≡ true → o ≡ None
 not_some None h = refl

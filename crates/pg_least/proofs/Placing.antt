@@ -2,12 +2,14 @@
 use Rattle.std.proofs.Common.{◌≡◌, ℕ, zero, suc, ◌+◌, ◌<◌, ◌≤◌, ◌⊎◌, nat_eq, eqb-true, eq-eqb, ne_eqb, List, [], ◌∷◌, ◌++◌, length, set, replicate, filter, Bool, true, false, cond, ◌||◌, is_some, Option, Some, None, inl, inr, ⊎_elim, refl, ap, ap₂, sym, ◌∙◌, subst, arith, get_or-set_same, get_or-set_other}
 use Rattle.std.specs.declared.cmp.Reverse.{Reverse}
 use Rattle.std.specs.List.{AllByRecursion}
+use Rattle.pg_pairs.proofs.Among.{among_each}
 use Rattle.pg_pairs.specs.declared.edge.Edge.{Edge}
 use Rattle.pg_least.specs.declared.arcs.Arc.{Arc}
 use Rattle.pg_pairs.specs.Among.{IsAmong}
 use Rattle.pg_pairs.specs.LeastCosts.{IsNoMore}
 use Rattle.pg_least.specs.Relaxing.{AreNumbers, IsBalanced, Stands, cost_at, is_set, offer, waits}
 use Rattle.pg_least.specs.Graphs.{arcs_by, arcs_to, arcs_to_settled, arcs_to_numbers, left}
+use Rattle.pg_least.proofs.Lists.{among_left, among_right}
 use Rattle.pg_least.proofs.Steps.{no_more-same, place_cases, not_both}
 
 -- Parts of lists.
@@ -23,14 +25,6 @@ among_kept test x (y ∷ ys) among h =
     of true m = inr m
     of false m = m
 
-among_left : {A : Type 0} (x : A) (xs ys : List A) → IsAmong x xs → IsAmong x (xs ++ ys)
-among_left x [] ys h = absurd h
-among_left x (y ∷ xs) ys h = ⊎_elim (λ same. inl same) (λ later. inr (among_left x xs ys later)) h
-
-among_right : {A : Type 0} (x : A) (xs ys : List A) → IsAmong x ys → IsAmong x (xs ++ ys)
-among_right x [] ys h = h
-among_right x (y ∷ xs) ys h = inr (among_right x xs ys h)
-
 -- each that is kept, with its test
 each_kept : {A : Type 0} (test : A → Bool) (P : A → Type 0) (xs : List A) → ((x : A) → IsAmong x xs → test x ≡ true → P x) → AllByRecursion P (filter test xs)
 each_kept test P [] h = tt
@@ -39,10 +33,6 @@ each_kept {A} test P (x ∷ xs) h = of (test x) refl (each_kept test P xs (λ y 
     of : (b : Bool) → test x ≡ b → AllByRecursion P (filter test xs) → AllByRecursion P (cond b (x ∷ filter test xs) (filter test xs))
     of true is rest = (h x (inl refl) is, rest)
     of false is rest = rest
-
-pub among_each : {A : Type 0} (P : A → Type 0) (x : A) (xs : List A) → IsAmong x xs → AllByRecursion P xs → P x
-among_each P x [] among h = absurd among
-among_each P x (y ∷ ys) among h = ⊎_elim (λ same. subst P (sym same) h.0) (λ later. among_each P x ys later h.1) among
 
 few_kept : {A : Type 0} (test : A → Bool) (xs : List A) → length (filter test xs) ≤ length xs
 few_kept test [] = omega arith

@@ -1,17 +1,14 @@
 -- Places of pairs.
-use Rattle.std.proofs.Common.{◌≡◌, ℕ, suc, ◌+◌, ◌<◌, ◌⊎◌, eq-eqb, List, [], ◌∷◌, ◌++◌, length, slice_get, map, flat_map, Bool, true, false, cond, is_some, Some, inl, inr, ⊎_elim, refl, ap, sym, ◌∙◌, subst, arith, append-nil, append_assoc}
+use Rattle.std.proofs.Common.{◌≡◌, ℕ, suc, ◌+◌, ◌<◌, ◌⊎◌, List, [], ◌∷◌, ◌++◌, length, slice_get, map, flat_map, Bool, true, false, cond, is_some, Some, inl, inr, ⊎_elim, refl, ap, sym, ◌∙◌, subst, arith, append-nil, append_assoc}
 use Rattle.std.specs.BTreeMap.{BTreeMap, get, Updates}
-use Rattle.std.specs.List.{AllByRecursion}
 use Rattle.pg_pairs.specs.declared.choice.Pair.{Pair}
 use Rattle.pg_pairs.specs.Among.{IsAmong}
 use Rattle.pg_pairs.specs.ByIndices.{by_indices, equal_same}
 use Rattle.pg_pairs.specs.Covering.{same_pair}
+use Rattle.pg_cert.proofs.Tables.{same_pair-refl}
 use Rattle.pg_least.specs.Places.{ArePlaces}
-use Rattle.pg_least.proofs.Listed.{same_pair-true}
+use Rattle.pg_pairs.proofs.Choosing.{same_pair-true}
 use Rattle.pg_least.proofs.Steps.{place_cases}
-
-same_pair-refl : (p : Pair) → same_pair p p ≡ true
-same_pair-refl p = rw (eq-eqb p.old.index p.old.index refl, eq-eqb p.new.index p.new.index refl) refl
 
 -- One pair more has a place.
 pub placed_more : (pairs : List Pair) (at : ℕ) (q : Pair) (before after : BTreeMap (ℕ × ℕ) ℕ) → slice_get pairs at ≡ Some q → Updates by_indices before after (q.old.index, q.new.index) (Some at) → ArePlaces pairs at before → ArePlaces pairs (at + 1) after
@@ -47,13 +44,5 @@ place_in : (p : Pair) (pairs : List Pair) → IsAmong p pairs → (at : ℕ) × 
 place_in p [] h = absurd h
 place_in p (q ∷ pairs) h = ⊎_elim (λ same. (0, omega arith, ap Some (sym same))) (λ later. let (at, within, is) = place_in p pairs later in (suc at, omega arith, is)) h
 
-pub each_from : {A : Type 0} (P : A → Type 0) (xs : List A) → ((x : A) → IsAmong x xs → P x) → AllByRecursion P xs
-each_from P [] h = tt
-each_from P (x ∷ xs) h = (h x (inl refl), each_from P xs (λ y among. h y (inr among)))
-
 pub place_there : (pairs : List Pair) (places : BTreeMap (ℕ × ℕ) ℕ) → ArePlaces pairs (length pairs) places → (p : Pair) → IsAmong p pairs → is_some (get by_indices places (p.old.index, p.new.index)) ≡ true
 place_there pairs places are p among = let (at, within, is) = place_in p pairs among in are.complete p at within is
-
-pub among_in : {A : Type 0} (P : A → Type 0) (x : A) (xs : List A) → IsAmong x xs → AllByRecursion P xs → P x
-among_in P x [] among h = absurd among
-among_in P x (y ∷ ys) among h = ⊎_elim (λ same. subst P (sym same) h.0) (λ later. among_in P x ys later h.1) among

@@ -11,7 +11,7 @@ use Rattle.pg_pairs.specs.LeastOf.{cost_under, least_of, lesser_cost}
 use Rattle.pg_pairs.specs.Reached.{LeadsTo, itself, onwards}
 use Rattle.pg_least.specs.Least.{AllLeast}
 use Rattle.pg_least.proofs.Bounding.{among_map, map_among}
-use Rattle.pg_least.proofs.Listed.{same_pair-true}
+use Rattle.pg_pairs.proofs.Choosing.{same_pair-true}
 use Rattle.pg_least.proofs.OneSolution.{least_among, number_is}
 
 both_none : (a b : Option ℕ) → lesser_cost a b ≡ None → (a ≡ None) × (b ≡ None)

@@ -5,27 +5,28 @@ use Rattle.pg_schema.specs.Shape.{Shape, IsShape}
 use Rattle.pg_dyn.specs.Breaking.{Compatible}
 use Rattle.pg_dyn.specs.encoding.Encoding.{cap}
 use Rattle.pg_dyn.proofs.Lists.{each_weaker}
+use Rattle.pg_pairs.proofs.Among.{among_each}
 use Rattle.pg_pairs.specs.declared.choice.Choice.{Choice}
 use Rattle.pg_pairs.specs.declared.choice.Pair.{Pair}
 use Rattle.pg_pairs.specs.declared.edge.Edge.{Edge}
 use Rattle.pg_pairs.specs.EnumView.{EnumView}
 use Rattle.pg_pairs.specs.Among.{IsAmong}
-use Rattle.pg_pairs.specs.Causes.{HasNoCause, PricesAreNear, causes}
-use Rattle.pg_pairs.specs.Cheapest.{CheapestIsLeast, IsCheapest, cheapest}
-use Rattle.pg_pairs.specs.Choices.{Table, choices}
-use Rattle.pg_pairs.specs.Covering.{IsWithin, children, distinct}
+use Rattle.pg_pairs.specs.Causes.{HasNoCause, causes}
+use Rattle.pg_pairs.specs.CauseLaws.{PricesAreNear}
+use Rattle.pg_pairs.specs.Cheapest.{cheapest}
+use Rattle.pg_pairs.specs.CheapestLaws.{CheapestIsLeast, IsCheapest}
+use Rattle.pg_pairs.specs.Choices.{Table, choices, no_bounds}
+use Rattle.pg_pairs.specs.Covering.{IsWithin, children, distinct, IsExact}
 use Rattle.pg_pairs.specs.EdgeChildren.{edge_leads}
-use Rattle.pg_pairs.specs.Edges.{ArePriced, LeastCostsByEdges, PairsLeadToPairs, SchemasArePriced, edge_price, edges, is_pair, no_bounds}
-use Rattle.pg_pairs.specs.Laws.{IsExact}
+use Rattle.pg_pairs.specs.Edges.{LeastCostsByEdges, PairsLeadToPairs, SchemasArePriced, edge_price, edges, is_pair}
 use Rattle.pg_pairs.specs.LeastCosts.{least_cost}
 use Rattle.pg_pairs.specs.Reached.{IsLedTo, LeadsTo, itself, onwards}
 use Rattle.pg_cert.specs.declared.bounds.PairBound.{PairBound}
 use Rattle.pg_cert.specs.Bounds.{bound_in}
-use Rattle.pg_least.specs.Exact.{BoundSays, pairs_of}
+use Rattle.pg_least.specs.Exact.{pairs_of}
 use Rattle.pg_least.specs.From.{AreBoundsFrom, CompatibleWithoutCauses}
 use Rattle.pg_least.specs.Least.{AllLeast}
 use Rattle.pg_least.proofs.Listed.{among_found, there_among}
-use Rattle.pg_least.proofs.Tables.{among_in}
 use Rattle.pg_least.proofs.WithoutBases as without
 
 -- what a pair leads to its own root leads to
@@ -53,8 +54,8 @@ exact_bound enum_view old new table pair (Some x) least exact = of (cheapest (ch
     of None is = absurd (let (c, among, cost) = exact.chosen x refl in subst (IsAmong c) is among)
     of (Some d) is =
         let (c, among, cost) = exact.chosen x refl in
-        let below : x ≤ d.cost = among_in (λ (e : Choice). x ≤ e.cost) d (choices enum_view table old new pair) is.0 exact.covered.bound_below in
-        let above : d.cost ≤ c.cost = among_in (λ (e : Choice). d.cost ≤ e.cost) c (choices enum_view table old new pair) among is.1 in
+        let below : x ≤ d.cost = among_each (λ (e : Choice). x ≤ e.cost) d (choices enum_view table old new pair) is.0 exact.covered.bound_below in
+        let above : d.cost ≤ c.cost = among_each (λ (e : Choice). d.cost ≤ e.cost) c (choices enum_view table old new pair) among is.1 in
         let same : x ≡ d.cost = omega arith in
         ap Some same
 
@@ -81,12 +82,12 @@ module _ (cheap : CheapestIsLeast) (by_edges : LeastCostsByEdges) (lead : PairsL
 
   module _ (roots : List Pair) (bounds : List PairBound) (known : AllByRecursion (λ root. is_pair old new root ≡ true) roots) (are : AreBoundsFrom enum_view old new roots bounds) where
     led : (pair : Pair) → IsAmong pair (pairs_of bounds) → IsLedTo (children old new) roots pair
-    led pair among = among_in (IsLedTo (children old new) roots) pair (pairs_of bounds) among are.reached.led_to
+    led pair among = among_each (IsLedTo (children old new) roots) pair (pairs_of bounds) among are.reached.led_to
 
     there_known : (pair : Pair) → is_some (bound_in bounds pair) ≡ true → is_pair old new pair ≡ true
     there_known pair some =
         let from = led pair (at (bound_in bounds pair) refl some) in
-        lead old new shape_old shape_new from.root pair (among_in (λ root. is_pair old new root ≡ true) from.root roots from.among known) from.leads
+        lead old new shape_old shape_new from.root pair (among_each (λ root. is_pair old new root ≡ true) from.root roots from.among known) from.leads
       where
         at : (o : Option (Option ℕ)) → bound_in bounds pair ≡ o → is_some o ≡ true → IsAmong pair (pairs_of bounds)
         at None is h = absurd (cc)

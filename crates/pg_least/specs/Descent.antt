@@ -1,23 +1,25 @@
 -- How a witness goes down: from a pair by a choice to the choice's child, as long as there is one.
 use Rattle.std.specs.Prelude.{◌≡◌, ℕ, List, [], ◌∷◌, Option, Some, None}
 use Rattle.pg_schema.specs.Shape.{Shape}
+use Rattle.pg_dyn.specs.Message.{Message}
 use Rattle.pg_pairs.specs.declared.choice.Pair.{Pair}
 use Rattle.pg_pairs.specs.EnumView.{EnumView}
 use Rattle.pg_pairs.specs.Carried.{choice_child}
 use Rattle.pg_pairs.specs.Cheapest.{cheapest}
 use Rattle.pg_pairs.specs.Choices.{Table, choices}
-use Rattle.pg_pairs.specs.Covering.{children}
-use Rattle.pg_pairs.specs.Laws.{IsExact}
+use Rattle.pg_pairs.specs.Covering.{children, IsExact}
 use Rattle.pg_pairs.specs.Among.{IsAmong}
 use Rattle.pg_cert.specs.declared.bounds.PairBound.{PairBound}
 use Rattle.pg_cert.specs.Bounds.{bound_in}
 use Rattle.pg_least.specs.Exact.{pairs_of}
+use Rattle.pg_least.specs.Path.{IsPath, carried_along}
 use Rattle.pg_pairs.specs.Reached.{IsReachedInOrder}
-use Rattle.pg_least.specs.declared.witness.Step.{Step}
+use Rattle.pg_least.specs.declared.witness.PairChoice.{PairChoice}
 
 -- each bound of the table is the least cost of its pair's choices
 abbrev pub IsExactTable : EnumView → Shape → Shape → Table → Type 0
-IsExactTable enum_view old new table = (pair : Pair) (bound : Option ℕ) → table pair ≡ Some bound → IsExact enum_view old new table pair bound
+IsExactTable enum_view old new table =
+    (pair : Pair) (bound : Option ℕ) → table pair ≡ Some bound → IsExact enum_view old new table pair bound
 
 -- Just the pairs that the root leads to, in order, each with the least cost of its choices.
 pub record IsTableOf (enum_view : EnumView) (old new : Shape) (root : Pair) (bounds : List PairBound) : Type 0 where
@@ -25,22 +27,30 @@ pub record IsTableOf (enum_view : EnumView) (old new : Shape) (root : Pair) (bou
   pub exact : IsExactTable enum_view old new (bound_in bounds)
 
 -- the cheapest choice of the pair, which costs what the table says
-pub record IsStep (enum_view : EnumView) (old new : Shape) (table : Table) (step : Step) : Type 0 where
+pub record IsStep (enum_view : EnumView) (old new : Shape) (table : Table) (step : PairChoice) : Type 0 where
   pub is_first : cheapest (choices enum_view table old new step.pair) ≡ Some step.choice
   pub among : IsAmong step.choice (choices enum_view table old new step.pair)
   pub costs : table step.pair ≡ Some (Some step.choice.cost)
 
-abbrev pub first_step : List Step → Step → Step
+abbrev pub first_step : List PairChoice → PairChoice → PairChoice
 first_step [] last = last
 first_step (s ∷ ss) last = s
 
 -- Steps to a last one, each with the pair of the next for its child.
-abbrev pub IsPathDown : EnumView → Shape → Shape → Table → List Step → Step → Type 0
+abbrev pub IsPathDown : EnumView → Shape → Shape → Table → List PairChoice → PairChoice → Type 0
 IsPathDown enum_view old new table [] last = IsStep enum_view old new table last
 IsPathDown enum_view old new table (s ∷ ss) last =
-    IsStep enum_view old new table s × (choice_child old new s.pair s.choice ≡ Some (first_step ss last).pair) × IsPathDown enum_view old new table ss last
+    IsStep enum_view old new table s × (choice_child old new s.pair s.choice ≡ Some (first_step ss last).pair)
+    × IsPathDown enum_view old new table ss last
 
 -- the last of them has no child
-pub record IsWholePath (enum_view : EnumView) (old new : Shape) (table : Table) (steps : List Step) (last : Step) : Type 0 where
+pub record IsWholePath (enum_view : EnumView) (old new : Shape) (table : Table) (steps : List PairChoice)
+    (last : PairChoice) : Type 0 where
   pub path : IsPathDown enum_view old new table steps last
   pub ends : choice_child old new last.pair last.choice ≡ None
+
+-- the message is the one that the path from the pair carries
+abbrev pub IsCarriedFrom : EnumView → Shape → Shape → Table → Pair → Message → Type 0
+IsCarriedFrom enum_view old new table pair message =
+    (path : List PairChoice) → IsPath enum_view old new table pair path
+    → carried_along enum_view old new path ≡ Some message

@@ -5,7 +5,8 @@ use Rattle.pg_schema.specs.Shape.{Shape, IsShape}
 use Rattle.pg_dyn.specs.Breaking.{Compatible}
 use Rattle.pg_pairs.specs.declared.choice.Pair.{Pair}
 use Rattle.pg_pairs.specs.declared.edge.Edge.{Edge}
-use Rattle.pg_pairs.specs.EnumView.{EnumView, IsEnumView}
+use Rattle.pg_pairs.specs.EnumView.{EnumView}
+use Rattle.pg_pairs.specs.ViewLaws.{IsEnumView}
 use Rattle.pg_pairs.specs.Among.{IsAmong}
 use Rattle.pg_pairs.specs.Causes.{HasNoCause}
 use Rattle.pg_pairs.specs.Covering.{children}
@@ -18,20 +19,27 @@ use Rattle.pg_least.specs.Exact.{BoundSays, pairs_of}
 use Rattle.pg_least.specs.Least.{AllLeast}
 
 -- just the roots and the pairs that they lead to, breadth first, each with its least bound
-pub record IsSettledFrom (children : Pair → List Pair) (edges : Pair → List Edge) (base : Pair → Option ℕ) (price : Edge → ℕ → Option ℕ) (roots : List Pair) (bounds : List PairBound) : Type 0 where
+pub record IsSettledFrom (children : Pair → List Pair) (edges : Pair → List Edge) (base : Pair → Option ℕ)
+    (price : Edge → ℕ → Option ℕ) (roots : List Pair) (bounds : List PairBound) : Type 0 where
   pub reached : IsReachedFrom children roots (pairs_of bounds)
   pub least : AllLeast edges base price (bound_in bounds)
 
--- just the pairs that the roots lead to, in order, each with the least cost of its choices, which says the least length of the pair's
--- breaking messages, or that there are none
-pub record AreBoundsFrom (enum_view : EnumView) (old new : Shape) (roots : List Pair) (bounds : List PairBound) : Type 0 where
+-- just the pairs that the roots lead to, in order, each with the least cost of its choices, which says the least length
+-- of the pair's breaking messages, or that there are none
+pub record AreBoundsFrom (enum_view : EnumView) (old new : Shape) (roots : List Pair)
+    (bounds : List PairBound) : Type 0 where
   pub reached : IsReachedFrom (children old new) roots (pairs_of bounds)
   pub exact : IsExactTable enum_view old new (bound_in bounds)
-  pub says : (pair : Pair) (bound : Option ℕ) → bound_in bounds pair ≡ Some bound → BoundSays enum_view old new pair bound
+  pub says : (pair : Pair) (bound : Option ℕ) → bound_in bounds pair ≡ Some bound
+      → BoundSays enum_view old new pair bound
 
--- In such a table a pair is compatible, and its bound is 'none', just where neither it nor a pair that it leads to has a cause.
+-- In such a table a pair is compatible, and its bound is 'none', just where neither it nor a pair that it leads to
+-- has a cause.
 abbrev pub CompatibleWithoutCauses : Type 0
 CompatibleWithoutCauses =
-    (enum_view : EnumView) (old new : Shape) (roots : List Pair) (bounds : List PairBound) → IsEnumView enum_view → IsShape old → IsShape new →
-    AllByRecursion (λ root. is_pair old new root ≡ true) roots → AreBoundsFrom enum_view old new roots bounds → (pair : Pair) → IsAmong pair (pairs_of bounds) →
-    (Compatible enum_view.alike old new pair.old pair.new ↔ HasNoCause enum_view old new pair) × ((bound_in bounds pair ≡ Some None) ↔ HasNoCause enum_view old new pair)
+    (enum_view : EnumView) (old new : Shape) (roots : List Pair) (bounds : List PairBound)
+    → IsEnumView enum_view → IsShape old → IsShape new
+    → AllByRecursion (λ root. is_pair old new root ≡ true) roots → AreBoundsFrom enum_view old new roots bounds
+    → (pair : Pair) → IsAmong pair (pairs_of bounds)
+    → (Compatible enum_view.alike old new pair.old pair.new ↔ HasNoCause enum_view old new pair)
+    × ((bound_in bounds pair ≡ Some None) ↔ HasNoCause enum_view old new pair)

@@ -1,5 +1,6 @@
 pub mod Path
 pub mod Exact
+pub mod Beside
 pub mod Descent
 pub mod Queues
 pub mod Relaxing

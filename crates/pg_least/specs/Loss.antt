@@ -9,19 +9,22 @@ use Rattle.pg_dyn.specs.Message.{IsPlain, Message, unknown_of}
 use Rattle.pg_dyn.specs.encoding.Writing.{bytes_of}
 use Rattle.pg_pairs.specs.declared.choice.Pair.{Pair}
 
--- a message that the old writer encodes: one of the type, without unknown records, of no more bytes than an encoding may have
+-- a message that the old writer encodes: one of the type, without unknown records, of no more bytes than an encoding
+-- may have
 pub record OldWrites (old : Shape) (pair : Pair) (message : Message) : Type 0 where
   pub is_message : IsMessage old pair.old message
   pub is_plain : IsPlain message
   pub has_encoding : length (enc old pair.old message) ≤ cap
 
--- The new reader reads the old writer's bytes. It sees the same values in the fields of both types, at every depth, and gives back
--- all others: among the records that it doesn't know, those of numbers that its type hasn't are the bytes that the writer wrote for them.
+-- The new reader reads the old writer's bytes. It sees the same values in the fields of both types, at every depth,
+-- and gives back all others: among the records that it doesn't know, those of numbers that its type hasn't are the
+-- bytes that the writer wrote for them.
 pub record NewSees (view : View) (old new : Shape) (pair : Pair) (message : Message) : Type 0 where
   pub read : Message
   pub reads : dec new pair.new (enc old pair.old message) ≡ Some read
   pub same : same view old new pair.old pair.new message read ≡ true
-  pub gives_back : bytes_of (records_outside (fields new pair.new) (unknown_of read)) ≡ unshared_bytes old pair.old (fields new pair.new) message
+  pub gives_back : bytes_of (records_outside (fields new pair.new) (unknown_of read))
+      ≡ unshared_bytes old pair.old (fields new pair.new) message
 
 -- The old writer encodes the message, and the new reader doesn't see it so.
 pub record IsLost (view : View) (old new : Shape) (pair : Pair) (message : Message) : Type 0 where

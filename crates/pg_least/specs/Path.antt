@@ -10,12 +10,11 @@ use Rattle.pg_pairs.specs.Cheapest.{cheapest}
 use Rattle.pg_pairs.specs.Choices.{Table, choices}
 use Rattle.pg_cert.specs.Bounds.{bound_in}
 use Rattle.pg_cert.specs.Certificate.{Claim}
-use Rattle.pg_least.specs.declared.witness.Step.{Step}
+use Rattle.pg_least.specs.declared.witness.PairChoice.{PairChoice}
 
--- The path of a witness: from the pair by its cheapest choice, of several the first, to the
--- choice's child, and so on from there, as long as there is a child. A table has one path from a
--- pair.
-abbrev pub IsPath : EnumView → Shape → Shape → Table → Pair → List Step → Type 0
+-- The path of a witness: from the pair by its cheapest choice, of several the first, to the choice's child, and so on
+-- from there, as long as there is a child. A table has one path from a pair.
+abbrev pub IsPath : EnumView → Shape → Shape → Table → Pair → List PairChoice → Type 0
 IsPath enum_view old new table pair [] = ⊥
 IsPath enum_view old new table pair (s ∷ []) =
     (s.pair ≡ pair) × (cheapest (choices enum_view table old new pair) ≡ Some s.choice)
@@ -25,26 +24,18 @@ IsPath enum_view old new table pair (s ∷ t ∷ steps) =
     × (choice_child old new pair s.choice ≡ Some t.pair)
     × IsPath enum_view old new table t.pair (t ∷ steps)
 
--- The message that a path carries: that of its first choice, around the one that the rest of the
--- path carries.
-abbrev pub carried_along : EnumView → Shape → Shape → List Step → Option Message
+-- The message that a path carries: that of its first choice, around the one that the rest of the path carries.
+abbrev pub carried_along : EnumView → Shape → Shape → List PairChoice → Option Message
 carried_along enum_view old new [] = None
 carried_along enum_view old new (s ∷ steps) =
     Some (carried enum_view old new s.pair s.choice (carried_along enum_view old new steps))
 
--- the message is the one that the path from the pair carries
-abbrev pub IsCarriedFrom : EnumView → Shape → Shape → Table → Pair → Message → Type 0
-IsCarriedFrom enum_view old new table pair message =
-    (path : List Step) → IsPath enum_view old new table pair path
-    → carried_along enum_view old new path ≡ Some message
-
 -- the bytes are those of the message that the path from the claim's root carries
 abbrev pub AreCarried : EnumView → Shape → Shape → Claim → List ℕ → Type 0
 AreCarried enum_view old new claim bytes =
-    (path : List Step) → IsPath enum_view old new (bound_in claim.bounds) claim.root path
+    (path : List PairChoice) → IsPath enum_view old new (bound_in claim.bounds) claim.root path
     → option_map (enc old claim.root.old) (carried_along enum_view old new path) ≡ Some bytes
 
--- The claim's witness, where it has one, is the encoding of the message that the path from its root
--- carries.
+-- The claim's witness, where it has one, is the encoding of the message that the path from its root carries.
 abbrev pub CarriesWitness : EnumView → Shape → Shape → Claim → Type 0
 CarriesWitness enum_view old new claim = IfSome claim.witness (AreCarried enum_view old new claim)

@@ -7,8 +7,10 @@ use Rattle.pg_least.specs.declared.arcs.Arc.{Arc}
 
 -- a place for each of the first pairs, and only where the pair stands
 pub record ArePlaces (pairs : List Pair) (first : ℕ) (places : BTreeMap (ℕ × ℕ) ℕ) : Type 0 where
-  pub sound : (p : Pair) (at : ℕ) → get by_indices places (p.old.index, p.new.index) ≡ Some at → slice_get pairs at ≡ Some p
-  pub complete : (p : Pair) (at : ℕ) → at < first → slice_get pairs at ≡ Some p → is_some (get by_indices places (p.old.index, p.new.index)) ≡ true
+  pub sound : (p : Pair) (at : ℕ) → get by_indices places (p.old.index, p.new.index) ≡ Some at
+      → slice_get pairs at ≡ Some p
+  pub complete : (p : Pair) (at : ℕ) → at < first → slice_get pairs at ≡ Some p
+      → is_some (get by_indices places (p.old.index, p.new.index)) ≡ true
 
 -- the arc's places are those of its edge's pairs
 pub record IsPlaced (pairs : List Pair) (arc : Arc) : Type 0 where

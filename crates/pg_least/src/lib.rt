@@ -12,6 +12,6 @@ mod several;
 mod witness;
 
 pub use least_bounds::{settle, settle_from};
-pub use searching::{Found, find, find_with, search, search_counted, search_with};
+pub use searching::{Found, find_with, search, search_counted, search_with};
 pub use several::bounds_from;
-pub use witness::{Step, path};
+pub use witness::{PairChoice, path};

@@ -15,6 +15,13 @@ use crate::queue::Queue;
 use pg_pairs::{Prices, Work};
 use std::alloc::{AllocError, Global};
 
+/// How far settling has got: the places that wait, and the work so far.
+#[derive(Drop)]
+struct Progress {
+    queue: Queue,
+    work: Work,
+}
+
 /// Whether there is a number that is no more.
 fn is_no_more(bound: Option<u32>, cost: u32) -> bool
     ensures no_more { result ≡ true → IsNoMore bound (Some cost) }
@@ -32,17 +39,16 @@ fn relax<G: Prices>(
     arc: &Arc,
     bound: u32,
     costs: &mut [Option<u32>],
-    queue: &mut Queue,
-    work: &mut Work,
+    progress: &mut Progress,
 ) -> Result<(), AllocError>
     requires arc { IsArc (G.is_known graph.now) (G.edges_of graph.now) (length costs.old) arc.now }
-    requires room { work.old.relaxed + 1 < 2 ^ 64 }
+    requires room { progress.old.work.relaxed + 1 < 2 ^ 64 }
     ensures relaxed { OnOk result (IsRelaxed arc.now.from
-        (G.price_of graph.now arc.now.edge bound) costs.old (heap_items queue.old.heap) costs.new
-        (heap_items queue.new.heap)) }
-    ensures counted { OnOk result (work.new ≡ relaxed_more work.old) }
+        (G.price_of graph.now arc.now.edge bound) costs.old (heap_items progress.old.queue.heap)
+        costs.new (heap_items progress.new.queue.heap)) }
+    ensures counted { OnOk result (progress.new.work ≡ relaxed_more progress.old.work) }
 {
-    let Some(cost) = graph.edge_cost(&arc.edge, bound, work) else {
+    let Some(cost) = graph.edge_cost(&arc.edge, bound, &mut progress.work) else {
         return Ok(());
     };
     let former = costs[arc.from];
@@ -50,7 +56,7 @@ fn relax<G: Prices>(
         return Ok(());
     }
     costs[arc.from] = Some(cost);
-    queue.push(cost, arc.from)
+    progress.queue.push(cost, arc.from)
 }
 
 /// The same for each of those arcs.
@@ -59,24 +65,24 @@ fn relax_all<G: Prices>(
     arcs: &[Arc],
     bound: u32,
     costs: &mut [Option<u32>],
-    queue: &mut Queue,
-    work: &mut Work,
+    progress: &mut Progress,
 ) -> Result<(), AllocError>
     requires arcs { AllByRecursion (IsArc (G.is_known graph.now) (G.edges_of graph.now)
         (length costs.old)) arcs.now }
-    requires room { work.old.relaxed + length arcs.now < 2 ^ 64 }
+    requires room { progress.old.work.relaxed + length arcs.now < 2 ^ 64 }
     ensures stands { OnOk result ((all done : List Arc) (bases : List (Option ℕ))
         (settled : List Bool) → AllByRecursion
         (λ a. IsAmong a all × (is_set settled a.child ≡ true)
         × (cost_at costs.old a.child ≡ Some bound)) arcs.now
         → Stands (arcs_by (G.price_of graph.now)) all bases done costs.old settled
-        (heap_items queue.old.heap) bound
+        (heap_items progress.old.queue.heap) bound
         → Stands (arcs_by (G.price_of graph.now)) all bases (done ++ arcs.now) costs.new settled
-        (heap_items queue.new.heap) bound) }
-    ensures counted { OnOk result (work.new ≡ relaxed_by (length arcs.now) work.old) }
+        (heap_items progress.new.queue.heap) bound) }
+    ensures counted { OnOk result (progress.new.work
+        ≡ relaxed_by (length arcs.now) progress.old.work) }
 {
     for arc in arcs {
-        relax(graph, arc, bound, costs, queue, work)?;
+        relax(graph, arc, bound, costs, progress)?;
     }
     Ok(())
 }
@@ -154,10 +160,12 @@ pub(crate) fn settle_all<G: Prices>(
         ≡ relaxed_by (length (arcs_to_numbers arcs.now costs.new)) work.old) }
 {
     let mut settled = vec![in alloc; false; costs.len()]?;
-    let mut queue = waiting(alloc, costs)?;
-    while let Some((bound, at)) = next_live(&mut queue, costs, &settled) {
+    let queue = waiting(alloc, costs)?;
+    let mut progress = Progress { queue, work: *work };
+    while let Some((bound, at)) = next_live(&mut progress.queue, costs, &settled) {
         settled[at] = true;
-        relax_all(graph, arcs_to(arcs, at), bound, costs, &mut queue, work)?;
+        relax_all(graph, arcs_to(arcs, at), bound, costs, &mut progress)?;
     }
+    *work = progress.work;
     Ok(())
 }

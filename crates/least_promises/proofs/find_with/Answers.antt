@@ -2,10 +2,10 @@ use Rattle.std.proofs.Common.{rules}
 use Rattle.least_promises.proofs.find_with.Goals as goal
 
 pub returns-clause-searched : goal.returns-clause-searched
-returns-clause-searched g c = search rules
+returns-clause-searched c = search rules
 
 pub returns-clause-witness : goal.returns-clause-witness
-returns-clause-witness g c = search rules
+returns-clause-witness c = search rules
 
 pub returns-clause-named : goal.returns-clause-named
-returns-clause-named g c = search rules
+returns-clause-named c = search rules

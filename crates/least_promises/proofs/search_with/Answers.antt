@@ -2,7 +2,7 @@ use Rattle.std.proofs.Common.{rules}
 use Rattle.least_promises.proofs.search_with.Goals as goal
 
 pub returns-clause-searched : goal.returns-clause-searched
-returns-clause-searched g c = search rules
+returns-clause-searched c = search rules
 
 pub returns-clause-named : goal.returns-clause-named
-returns-clause-named g c = search rules
+returns-clause-named c = search rules

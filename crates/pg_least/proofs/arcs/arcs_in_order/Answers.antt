@@ -2,12 +2,15 @@ use Rattle.std.proofs.Common.{◌≡◌, ◌++◌, List, flat_map, slice_get, ta
 use Rattle.std.specs.BTreeMap.{get}
 use Rattle.std.specs.List.{AllByRecursion}
 use Rattle.std.proofs.lemmas.Option.{slice_get-get_or}
+use Rattle.pg_pairs.proofs.Among.{among_each}
+use Rattle.pg_pairs.proofs.Reaching.{every_is_among}
+use Rattle.pg_pairs.proofs.Grown.{take_more}
 use Rattle.pg_pairs.specs.declared.choice.Pair.{Pair}
 use Rattle.pg_pairs.specs.declared.edge.Edge.{Edge}
 use Rattle.pg_pairs.specs.Among.{IsAmong}
 use Rattle.pg_pairs.specs.ByIndices.{by_indices}
-use Rattle.pg_least.proofs.Lists.{take_more, each_at}
-use Rattle.pg_least.proofs.Tables.{each_from, place_there, flat_map-end, among_in}
+use Rattle.pg_least.proofs.Lists.{each_at}
+use Rattle.pg_least.proofs.Tables.{place_there, flat_map-end}
 use Rattle.pg_least.proofs.arcs.arcs_in_order.Goals as goal
 
 unset : Pair
@@ -22,8 +25,8 @@ add_arcs-requires g c =
     let known : g.G.Prices.is_known graph pair ≡ true = each_at (λ (p : Pair). g.G.Prices.is_known graph p ≡ true) pairs c.loop-at.at unset c.loop-at-test.true c.requires.known in
     let closed = each_at (λ (p : Pair). AllByRecursion (λ (x : Pair). IsAmong x pairs) (g.G.Prices.children_of graph p)) pairs c.loop-at.at unset c.loop-at-test.true c.requires.closed in
     subst (λ (es : List Edge). AllByRecursion (λ (e : Edge). is_some (get by_indices c.in_ok-places.places (e.child.old.index, e.child.new.index)) ≡ true) es) (sym (c.deref.ensures.value ∙ c.in_ok-edges.ensures))
-    (each_from (λ (e : Edge). is_some (get by_indices c.in_ok-places.places (e.child.old.index, e.child.new.index)) ≡ true) (g.G.Prices.edges_of graph pair)
-    (λ e among. place_there pairs c.in_ok-places.places c.in_ok-places.ensures e.child (among_in (λ (x : Pair). IsAmong x pairs) e.child (g.G.Prices.children_of graph pair) (g.G.Prices.edges_lead_to_children graph pair e known among).1 closed)))
+    (every_is_among (λ (e : Edge). is_some (get by_indices c.in_ok-places.places (e.child.old.index, e.child.new.index)) ≡ true) (g.G.Prices.edges_of graph pair)
+    (λ e among. place_there pairs c.in_ok-places.places c.in_ok-places.ensures e.child (among_each (λ (x : Pair). IsAmong x pairs) e.child (g.G.Prices.children_of graph pair) (g.G.Prices.edges_lead_to_children graph pair e known among).1 closed)))
 
 pub loop-at-preserved : goal.loop-at-preserved
 unfolding unset
@@ -36,7 +39,7 @@ loop-at-preserved g c =
     let is = c.deref.ensures.value ∙ c.in_ok-edges.ensures in
     let each : AllByRecursion (λ (e : Edge). slice_get pairs at ≡ Some e.from) c.deref.result.now =
     subst (λ (es : List Edge). AllByRecursion (λ (e : Edge). slice_get pairs at ≡ Some e.from) es) (sym is)
-    (each_from (λ (e : Edge). slice_get pairs at ≡ Some e.from) (g.G.Prices.edges_of graph pair)
+    (every_is_among (λ (e : Edge). slice_get pairs at ≡ Some e.from) (g.G.Prices.edges_of graph pair)
     (λ e among. slice_get-get_or pairs at unset c.loop-at-test.true ∙ ap Some (sym (g.G.Prices.edges_lead_to_children graph pair e known among).0))) in
     record {
       edges =

@@ -3,7 +3,7 @@ use Rattle.pg_pairs.specs.declared.choice.Pair.{Pair}
 use Rattle.pg_pairs.specs.declared.work.Work.{Work}
 use Rattle.pg_pairs.specs.Works.{opened_more}
 use Rattle.pg_least.specs.Least.{opened_by}
-use Rattle.pg_least.proofs.Lists.{take_more}
+use Rattle.pg_pairs.proofs.Grown.{take_more}
 use Rattle.pg_least.proofs.Tables.{map-end}
 use Rattle.pg_least.proofs.least_bounds.bases_of.Goals as goal
 

@@ -3,6 +3,7 @@ use Rattle.std.specs.List.{AllByRecursion}
 use Rattle.std.specs.List.Sorted.{IsPermutation}
 use Rattle.std.proofs.lemmas.List.{length-map}
 use Rattle.pg_dyn.specs.encoding.Encoding.{cap}
+use Rattle.pg_pairs.proofs.Among.{among_each}
 use Rattle.pg_pairs.specs.declared.choice.Pair.{Pair}
 use Rattle.pg_pairs.specs.declared.edge.Edge.{Edge}
 use Rattle.pg_pairs.specs.declared.work.Work.{Work}
@@ -18,7 +19,6 @@ use Rattle.pg_least.specs.Least.{IsCounted, edges_to_numbers, lines}
 use Rattle.pg_least.specs.Places.{IsPlaced}
 use Rattle.pg_least.specs.Relaxing.{IsBalanced, cost_at}
 use Rattle.pg_least.proofs.Bounding.{arcs_are, bases_are_small, costs_are_bounds, least_bound, lines_long, numbers_of_lines, once_lines, pairs_of_lines, relaxed_count}
-use Rattle.pg_least.proofs.Placing.{among_each}
 use Rattle.pg_least.proofs.least_bounds.settle_from.Goals as goal
 
 -- What holds of a graph's pairs, edges and costs.

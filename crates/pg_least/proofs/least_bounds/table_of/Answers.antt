@@ -5,7 +5,7 @@ use Rattle.pg_cert.specs.declared.bounds.PairBound.{PairBound}
 use Rattle.pg_cert.specs.Bounds.{are_bounds}
 use Rattle.pg_least.specs.Least.{lines}
 use Rattle.pg_least.proofs.Bounding.{lines_more, once_lines, takes_long}
-use Rattle.pg_least.proofs.Lists.{take_more}
+use Rattle.pg_pairs.proofs.Grown.{take_more}
 use Rattle.pg_least.proofs.least_bounds.table_of.Goals as goal
 
 unset : Pair

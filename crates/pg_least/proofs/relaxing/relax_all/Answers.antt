@@ -1,5 +1,6 @@
 use Rattle.std.proofs.Common.{◌≡◌, ◌+◌, ◌++◌, ◌<◌, ◌≤◌, ◌∷◌, [], take, List, length, Option, true, Some, ℕ, get_or, ap, sym, ◌∙◌, subst, append_assoc, IfSome, heap_items, arith}
 use Rattle.std.proofs.lemmas.List.{take_all}
+use Rattle.pg_pairs.proofs.Grown.{take_more}
 use Rattle.pg_pairs.specs.declared.edge.Part.TheVariants.{Whole}
 use Rattle.pg_pairs.specs.declared.work.Work.{Work}
 use Rattle.pg_pairs.specs.Works.{relaxed_more}
@@ -7,7 +8,7 @@ use Rattle.pg_least.specs.declared.arcs.Arc.{Arc}
 use Rattle.pg_pairs.specs.Among.{IsAmong}
 use Rattle.pg_least.specs.Relaxing.{Stands, cost_at, is_set}
 use Rattle.pg_least.specs.Graphs.{IsArc, arcs_by, relaxed_by}
-use Rattle.pg_least.proofs.Lists.{take_more, each_at}
+use Rattle.pg_least.proofs.Lists.{each_at}
 use Rattle.pg_least.proofs.Steps.{relaxes}
 use Rattle.pg_least.proofs.relaxing.relax_all.Goals as goal
 
@@ -32,18 +33,18 @@ loop-arc-preserved g c =
       stands = λ all done bases settled each s.
           let (so_far, kept) = c.loop-arc.invariant.stands all done bases settled each s in
           let (among, child, child_is) = each_at (λ a. IsAmong a all × (is_set settled a.child ≡ true) × (cost_at c.args.costs.now a.child ≡ Some c.args.bound)) xs k unset c.loop-arc-test.true each in
-          let (after, stays, long) = relaxes (arcs_by price) all bases (done ++ take k xs) c.loop-arc.costs settled (heap_items c.loop-arc.queue.heap) c.args.bound so_far x among child (kept x.child child ∙ child_is)
+          let (after, stays, long) = relaxes (arcs_by price) all bases (done ++ take k xs) c.loop-arc.costs settled (heap_items c.loop-arc.progress.queue.heap) c.args.bound so_far x among child (kept x.child child ∙ child_is)
           (cost_more (price x.edge c.args.bound) c.args.bound 2147483647 (g.G.Prices.edges_cost_more c.args.graph.now x.edge.from x.edge c.args.bound (s.numbers x.child c.args.bound child_is) arc.known arc.edge))
           (subst (λ n. x.from < n) (sym c.loop-arc.auto.costs) arc.from)
-          c.relax.new.costs (heap_items c.relax.new.queue.heap) c.in_ok-relax.ensures.relaxed in (
-            subst (λ (ds : List Arc). Stands (arcs_by price) all bases ds c.relax.new.costs settled (heap_items c.relax.new.queue.heap) c.args.bound)
+          c.relax.new.costs (heap_items c.relax.new.progress.queue.heap) c.in_ok-relax.ensures.relaxed in (
+            subst (λ (ds : List Arc). Stands (arcs_by price) all bases ds c.relax.new.costs settled (heap_items c.relax.new.progress.queue.heap) c.args.bound)
                 (append_assoc done (take k xs) (x ∷ []) ∙ ap (λ ys. done ++ ys) (sym (take_more xs k unset c.loop-arc-test.true))) after,
             λ i h. stays i h ∙ kept i h,
           );
-      counted = c.in_ok-relax.ensures.counted ∙ ap relaxed_more c.loop-arc.invariant.counted ∙ one_more k c.args.work.now;
+      counted = c.in_ok-relax.ensures.counted ∙ ap relaxed_more c.loop-arc.invariant.counted ∙ one_more k c.args.progress.now.work;
     }
 
 pub returns-clause-stands : goal.returns-clause-stands
 returns-clause-stands g c all done bases settled each s =
-    subst (λ (ds : List Arc). Stands (arcs_by (g.G.Prices.price_of c.args.graph.now)) all bases (done ++ ds) c.loop-arc.costs settled (heap_items c.loop-arc.queue.heap) c.args.bound)
+    subst (λ (ds : List Arc). Stands (arcs_by (g.G.Prices.price_of c.args.graph.now)) all bases (done ++ ds) c.loop-arc.costs settled (heap_items c.loop-arc.progress.queue.heap) c.args.bound)
     (take_all c.loop-arc.arc-index c.args.arcs.now (let end = c.loop-arc-test.false in omega arith)) (c.loop-arc.invariant.stands all done bases settled each s).0

@@ -71,7 +71,7 @@ loop-bound-preserved g c =
     let (level, done, s, all_done) = c.loop-bound.invariant.stands in
     let s_now : Stands (arcs_by price) arcs c.args.costs.now done c.loop-bound.costs after (heap_items c.next_live.new.queue.heap) c.in-Some.bound =
     subst (λ x. Stands (arcs_by price) arcs c.args.costs.now done c.loop-bound.costs (set x at true) (heap_items c.next_live.new.queue.heap) c.in-Some.bound) c.deref.ensures.value
-    (c.in-Some.ensures.settles (arcs_by price) arcs done c.args.costs.now level (subst (λ x. Stands (arcs_by price) arcs c.args.costs.now done c.loop-bound.costs x (heap_items c.loop-bound.queue.heap) level) (sym c.deref.ensures.value) s)) in
+    (c.in-Some.ensures.settles (arcs_by price) arcs done c.args.costs.now level (subst (λ x. Stands (arcs_by price) arcs c.args.costs.now done c.loop-bound.costs x (heap_items c.loop-bound.progress.queue.heap) level) (sym c.deref.ensures.value) s)) in
     let each : AllByRecursion (λ (a : Arc). IsAmong a arcs × (is_set after a.child ≡ true) × (cost_at c.loop-bound.costs a.child ≡ Some c.in-Some.bound)) c.arcs_to.result.now =
     subst (λ (xs : List Arc). AllByRecursion (λ (a : Arc). IsAmong a arcs × (is_set after a.child ≡ true) × (cost_at c.loop-bound.costs a.child ≡ Some c.in-Some.bound)) xs) (sym now)
     (each_to_new arcs c.loop-bound.costs before at c.in-Some.bound inside_settled c.in-Some.ensures.costs) in
@@ -92,15 +92,15 @@ pub returns-clause-balanced : goal.returns-clause-balanced
 returns-clause-balanced g c =
     let price = g.G.Prices.price_of c.args.graph.now in
     let (level, done, s, all_done) = c.loop-bound.invariant.stands in
-    let all_settled = c.in_default.ensures.none (arcs_by price) c.args.arcs.now done c.args.costs.now level (subst (λ x. Stands (arcs_by price) c.args.arcs.now c.args.costs.now done c.loop-bound.costs x (heap_items c.loop-bound.queue.heap) level) (sym c.deref.ensures.value) s) in
-    balanced price c.args.arcs.now done c.args.costs.now c.loop-bound.costs c.loop-bound.settled.items (heap_items c.loop-bound.queue.heap) level s all_done
+    let all_settled = c.in_default.ensures.none (arcs_by price) c.args.arcs.now done c.args.costs.now level (subst (λ x. Stands (arcs_by price) c.args.arcs.now c.args.costs.now done c.loop-bound.costs x (heap_items c.loop-bound.progress.queue.heap) level) (sym c.deref.ensures.value) s) in
+    balanced price c.args.arcs.now done c.args.costs.now c.loop-bound.costs c.loop-bound.settled.items (heap_items c.loop-bound.progress.queue.heap) level s all_done
     (λ i cost is. ap (λ x. is_set x i) (sym c.deref.ensures.value) ∙ all_settled i cost is)
 
 pub returns-clause-counted : goal.returns-clause-counted
 returns-clause-counted g c =
     let price = g.G.Prices.price_of c.args.graph.now in
     let (level, done, s, all_done) = c.loop-bound.invariant.stands in
-    let all_settled = c.in_default.ensures.none (arcs_by price) c.args.arcs.now done c.args.costs.now level (subst (λ x. Stands (arcs_by price) c.args.arcs.now c.args.costs.now done c.loop-bound.costs x (heap_items c.loop-bound.queue.heap) level) (sym c.deref.ensures.value) s) in
+    let all_settled = c.in_default.ensures.none (arcs_by price) c.args.arcs.now done c.args.costs.now level (subst (λ x. Stands (arcs_by price) c.args.arcs.now c.args.costs.now done c.loop-bound.costs x (heap_items c.loop-bound.progress.queue.heap) level) (sym c.deref.ensures.value) s) in
     c.loop-bound.invariant.counted
     ∙ ap (λ (xs : List Arc). relaxed_by (length xs) c.args.work.now)
-    (counted price c.args.arcs.now done c.args.costs.now c.loop-bound.costs c.loop-bound.settled.items (heap_items c.loop-bound.queue.heap) level s all_done (λ i cost is. ap (λ x. is_set x i) (sym c.deref.ensures.value) ∙ all_settled i cost is))
+    (counted price c.args.arcs.now done c.args.costs.now c.loop-bound.costs c.loop-bound.settled.items (heap_items c.loop-bound.progress.queue.heap) level s all_done (λ i cost is. ap (λ x. is_set x i) (sym c.deref.ensures.value) ∙ all_settled i cost is))

@@ -1,12 +1,12 @@
 use Rattle.std.proofs.Common.{[], ◌∷◌, ◌++◌, vec_len}
 use Rattle.pg_schema.specs.Parts.{shape_of}
-use Rattle.pg_pairs.specs.SeenBy.{seen_by}
+use Rattle.pg_pairs.specs.GraphView.{seen}
 use Rattle.pg_least.specs.Descent.{first_step}
 use Rattle.pg_least.proofs.Descents.{IsInside}
 use Rattle.pg_least.proofs.witness.built.Given as goal
 
 abbrev pub invariant-loop-step : goal.invariant-loop-step
-invariant-loop-step g l = IsInside (seen_by g.V.View l.view l.old l.new) (shape_of l.old) (shape_of l.new) (first_step l.fn.steps.items l.fn.last) (l.fn.steps.items ++ l.fn.last ∷ []) l.steps.items l.message
+invariant-loop-step l = IsInside (seen l.graph) (shape_of l.graph.old.now) (shape_of l.graph.new.now) (first_step l.fn.steps.items l.fn.last) (l.fn.steps.items ++ l.fn.last ∷ []) l.steps.items l.message
 
 abbrev pub decreases-loop-step : goal.decreases-loop-step
-decreases-loop-step g l = vec_len l.steps
+decreases-loop-step l = vec_len l.steps

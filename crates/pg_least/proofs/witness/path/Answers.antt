@@ -1,18 +1,18 @@
--- The certificate's view is the one of its name.
-use Rattle.std.proofs.Common.{IfOk, subst, sym}
+-- The graph is of the certificate's view and of the two schemas.
+use Rattle.std.proofs.Common.{◌∙◌, IfOk}
 use Rattle.pg_schema.specs.Parts.{shape_of}
-use Rattle.pg_dyn.specs.declared.view_name.ViewName.{ViewName}
-use Rattle.pg_pairs.specs.NamedView.{seen_under}
 use Rattle.pg_cert.specs.Bounds.{bound_in}
-use Rattle.pg_least.specs.Path.{IsPath}
+use Rattle.pg_cert.proofs.Graphs.{of_graph, to_graph}
 use Rattle.pg_least.specs.Exact.{IsSearched}
+use Rattle.pg_least.specs.Path.{IsPath}
 use Rattle.pg_least.proofs.witness.path.Goals as goal
 
-pub path_under-requires-clause-searched : goal.path_under-requires-clause-searched
-path_under-requires-clause-searched c =
-    subst (λ (view : ViewName). IsSearched (seen_under view c.args.old.now c.args.new.now) (shape_of c.args.old.now) (shape_of c.args.new.now) c.args.certificate.now.root c.args.certificate.now) (sym c.view.ensures) c.requires.searched
+pub path_with-requires-clause-searched : goal.path_with-requires-clause-searched
+path_with-requires-clause-searched c =
+    to_graph (λ view old new. IsSearched view (shape_of old) (shape_of new) c.args.certificate.now.root c.args.certificate.now) c.new-graph.result
+    _ _ _ (c.new-graph.ensures.view ∙ c.view.ensures) c.new-graph.ensures.old c.new-graph.ensures.new c.requires.searched
 
 pub returns : goal.returns
 returns c =
-    subst (λ (view : ViewName). IfOk c.path_under.result (λ steps. IsPath (seen_under view c.args.old.now c.args.new.now) (shape_of c.args.old.now) (shape_of c.args.new.now) (bound_in c.args.certificate.now.bounds) c.args.certificate.now.root steps.items))
-    c.view.ensures c.path_under.ensures
+    of_graph (λ view old new. IfOk c.path_with.result (λ steps. IsPath view (shape_of old) (shape_of new) (bound_in c.args.certificate.now.bounds) c.args.certificate.now.root steps.items)) c.new-graph.result
+    _ _ _ (c.new-graph.ensures.view ∙ c.view.ensures) c.new-graph.ensures.old c.new-graph.ensures.new c.path_with.ensures

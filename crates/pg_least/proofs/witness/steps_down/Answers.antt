@@ -1,17 +1,17 @@
 use Rattle.std.proofs.Common.{◌≡◌, Some, ap, sym, ◌∙◌, subst}
 use Rattle.pg_schema.specs.Parts.{shape_of}
 use Rattle.pg_pairs.specs.Carried.{choice_child}
-use Rattle.pg_pairs.specs.SeenBy.{seen_by}
+use Rattle.pg_pairs.specs.GraphView.{seen}
 use Rattle.pg_cert.specs.Bounds.{bound_in}
 use Rattle.pg_least.specs.Descent.{IsPathDown, first_step}
 use Rattle.pg_least.proofs.Descents.{child_number, costs_less, first_on, last_step, number_of, path_on}
 use Rattle.pg_least.proofs.witness.steps_down.Goals as goal
 
 pub step_at-requires-in-Some-clause-number : goal.step_at-requires-in-Some-clause-number
-step_at-requires-in-Some-clause-number g c =
-    let enum_view = seen_by g.V.View c.args.view.now c.args.old.now c.args.new.now in
-    let old = shape_of c.args.old.now in
-    let new = shape_of c.args.new.now in
+step_at-requires-in-Some-clause-number c =
+    let enum_view = seen c.args.graph.now in
+    let old = shape_of c.args.graph.now.old.now in
+    let new = shape_of c.args.graph.now.new.now in
     let table = bound_in c.args.bounds.now in
     let last = c.loop-child.last in
     let step = last_step enum_view old new table c.loop-child.steps.items last c.loop-child.invariant.0 in
@@ -20,10 +20,10 @@ step_at-requires-in-Some-clause-number g c =
     number_of table c.in-Some.child n bound
 
 pub loop-child-smaller : goal.loop-child-smaller
-loop-child-smaller g c =
-    let enum_view = seen_by g.V.View c.args.view.now c.args.old.now c.args.new.now in
-    let old = shape_of c.args.old.now in
-    let new = shape_of c.args.new.now in
+loop-child-smaller c =
+    let enum_view = seen c.args.graph.now in
+    let old = shape_of c.args.graph.now.old.now in
+    let new = shape_of c.args.graph.now.new.now in
     let table = bound_in c.args.bounds.now in
     let last = c.loop-child.last in
     let step = last_step enum_view old new table c.loop-child.steps.items last c.loop-child.invariant.0 in
@@ -31,10 +31,10 @@ loop-child-smaller g c =
     costs_less enum_view old new table c.in-Some.child last.choice (choice_child old new last.pair last.choice) c.in_ok-last-2.last (sym c.in-Some.ensures) there c.in_ok-last-2.ensures.pair c.in_ok-last-2.ensures.step
 
 pub loop-child-preserved : goal.loop-child-preserved
-loop-child-preserved g c =
-    let enum_view = seen_by g.V.View c.args.view.now c.args.old.now c.args.new.now in
-    let old = shape_of c.args.old.now in
-    let new = shape_of c.args.new.now in
+loop-child-preserved c =
+    let enum_view = seen c.args.graph.now in
+    let old = shape_of c.args.graph.now.old.now in
+    let new = shape_of c.args.graph.now.new.now in
     let table = bound_in c.args.bounds.now in
     let last = c.loop-child.last in
     let next = c.in_ok-last-2.last in
