@@ -1,15 +1,17 @@
 -- What a table of bounds says of the roots.
-use Rattle.std.proofs.Common.{◌≡◌, ◌∙◌, ℕ, ◌<◌, List, [], ◌∷◌, map, length, true, Option, Some, None, is_some, string_bytes, inl, inr, refl, ap, ap₂, sym, subst, ◌↔◌, lt-ltb}
+use Rattle.std.proofs.Common.{◌≡◌, ◌∙◌, ℕ, ◌<◌, List, [], ◌∷◌, map, length, true, Option, Some, None, is_some, string_bytes, refl, ap, ap₂, sym, subst, ◌↔◌, lt-ltb}
 use Rattle.std.specs.List.{AllByRecursion}
 use Rattle.pg_schema.specs.declared.parts.Parts.{Parts}
 use Rattle.pg_schema.specs.Parts.{name_at, shape_of}
 use Rattle.pg_schema.specs.Shape.{IsShape, Shape}
 use Rattle.pg_dyn.proofs.Lists.{each_weaker}
+use Rattle.pg_pairs.proofs.Reaching.{every_is_among}
 use Rattle.pg_pairs.specs.declared.choice.Pair.{Pair}
 use Rattle.pg_pairs.specs.Among.{IsAmong}
 use Rattle.pg_pairs.specs.Causes.{HasNoCause, causes}
 use Rattle.pg_pairs.specs.Edges.{is_pair}
-use Rattle.pg_pairs.specs.EnumView.{EnumView, IsEnumView}
+use Rattle.pg_pairs.specs.EnumView.{EnumView}
+use Rattle.pg_pairs.specs.ViewLaws.{IsEnumView}
 use Rattle.pg_pairs.specs.Reached.{itself}
 use Rattle.pg_cert.specs.declared.bounds.PairBound.{PairBound}
 use Rattle.pg_cert.specs.Bounds.{bound_in}
@@ -31,11 +33,6 @@ gate_says enum_view old new pair (Some bytes) least = record {
   least = least;
 }
 
--- each of a list is among it
-each_among : {A : Type 0} (P : A → Type 0) (xs : List A) → ((x : A) → IsAmong x xs → P x) → AllByRecursion P xs
-each_among P [] h = tt
-each_among P (x ∷ xs) h = (h x (inl refl), each_among P xs (λ y among. h y (inr among)))
-
 -- both types of a name are there
 there : (old new : Parts) (pair : Pair) → (name : List ℕ) × AreRoots old new name pair → (pair.old.index < length (shape_of old)) × (pair.new.index < length (shape_of new))
 there old new pair (name, roots) = (named_types_are_there old name pair.old roots.old_named, named_types_are_there new name pair.new roots.new_named)
@@ -51,7 +48,7 @@ module _ (old new : Parts) (roots : List Pair) (alike : AllByRecursion (λ (p : 
 
   module _ (enum_view : EnumView) (bounds : List PairBound) (law : IsEnumView enum_view) (is_old : IsShape (shape_of old)) (is_new : IsShape (shape_of new)) (without : CompatibleWithoutCauses) (from : AreBoundsFrom enum_view (shape_of old) (shape_of new) roots bounds) where
     roots_among : AllByRecursion (λ p. IsAmong p (pairs_of bounds)) roots
-    roots_among = each_among (λ p. IsAmong p (pairs_of bounds)) roots (λ p among. from.reached.all p (record { root = p; among = among; leads = itself }))
+    roots_among = every_is_among (λ p. IsAmong p (pairs_of bounds)) roots (λ p among. from.reached.all p (record { root = p; among = among; leads = itself }))
 
     pub bounds_there : AllByRecursion (λ p. is_some (bound_in bounds p) ≡ true) roots
     bounds_there = each_weaker (λ p. IsAmong p (pairs_of bounds)) (λ p. is_some (bound_in bounds p) ≡ true) (λ p among. tables_by_lines.there bounds p among) roots roots_among

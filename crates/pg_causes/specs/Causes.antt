@@ -14,12 +14,12 @@ use Rattle.pg_pairs.specs.Causes.{causes}
 use Rattle.pg_pairs.specs.Covering.{children}
 use Rattle.pg_pairs.specs.EnumView.{EnumView}
 use Rattle.pg_pairs.specs.Reached.{IsReachedFrom}
-use Rattle.pg_least.specs.declared.witness.Step.{Step}
+use Rattle.pg_least.specs.declared.witness.PairChoice.{PairChoice}
 use Rattle.pg_causes.specs.Reasons.{reason_of}
 use Rattle.pg_causes.specs.declared.overview.Cause.{Cause}
 
 -- the message of the pair's old type that breaks so, with no other field set
-abbrev pub shown_by : EnumView → Shape → Shape → Step → Message
+abbrev pub shown_by : EnumView → Shape → Shape → PairChoice → Message
 shown_by enum_view old new at = carried enum_view old new at.pair at.choice None
 
 -- A field of a pair of types, or two that meet in a oneof, and the encoding of that message, which the new reader
@@ -32,12 +32,12 @@ pub record IsCause (enum_view : EnumView) (old new : Parts) (cause : Cause) : Ty
   pub breaks : Breaks enum_view.alike (shape_of old) (shape_of new) cause.at.pair.old cause.at.pair.new
       (shown_by enum_view (shape_of old) (shape_of new) cause.at)
 
-abbrev pub step_at : Pair → Choice → Step
-step_at pair choice = record { pair = pair; choice = choice }
+abbrev pub choice_at : Pair → Choice → PairChoice
+choice_at pair choice = record { pair = pair; choice = choice }
 
 -- the causes of a pair of types, by number, case and part
-abbrev pub causes_at : EnumView → Shape → Shape → Pair → List Step
-causes_at enum_view old new pair = map (step_at pair) (causes enum_view old new pair)
+abbrev pub causes_at : EnumView → Shape → Shape → Pair → List PairChoice
+causes_at enum_view old new pair = map (choice_at pair) (causes enum_view old new pair)
 
 -- All causes of the root types and of all pairs of types that they lead to, pair by pair, and no others.
 pub record AreCauses (enum_view : EnumView) (old new : Parts) (roots : List Pair) (told : List Cause) : Type 0 where

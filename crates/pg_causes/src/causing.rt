@@ -8,7 +8,7 @@ ghost use Rattle.pg_dyn.specs.Fits.{Fits};
 ghost use Rattle.pg_dyn.specs.Kept.{message_of, type_of};
 ghost use Rattle.pg_pairs.specs.Among.{IsAmong};
 ghost use Rattle.pg_pairs.specs.Causes.{causes};
-ghost use Rattle.pg_pairs.specs.SeenBy.{seen_by};
+ghost use Rattle.pg_pairs.specs.GraphView.{seen};
 ghost use Rattle.pg_cert.specs.Bounds.{bound_in};
 ghost use Rattle.pg_least.specs.Exact.{pairs_of};
 ghost use Rattle.pg_causes.specs.Causes.{IsCause, causes_at};
@@ -19,8 +19,8 @@ use crate::overview::Cause;
 use crate::reason::reason_of;
 use pg_cert::{Bounds, PairBound};
 use pg_dyn::{DynError, Message, encode};
-use pg_least::Step;
-use pg_pairs::{Pair, View, carry_cause, causes};
+use pg_least::PairChoice;
+use pg_pairs::{Pair, Priced, carry_cause, causes};
 use pg_schema::Schema;
 use std::alloc::{AllocError, Global};
 
@@ -40,96 +40,79 @@ fn written(alloc: Global, schema: &Schema, message: &Message) -> Result<Vec<u8>,
 }
 
 /// The cause that is this choice of the pair.
-fn cause_at<V: View>(
-    alloc: Global,
-    view: &V,
-    old: &Schema,
-    new: &Schema,
-    at: Step,
-) -> Result<Cause, AllocError>
-    requires { IsAmong at.choice (causes (seen_by V.View view.now old.now new.now)
-        (shape_of old.now) (shape_of new.now) at.pair) }
+fn cause_at(alloc: Global, graph: &Priced<'_>, at: PairChoice) -> Result<Cause, AllocError>
+    requires { IsAmong at.choice (causes (seen graph.now) (shape_of graph.now.old.now)
+        (shape_of graph.now.new.now) at.pair) }
     ensures at { IfOk result (λ cause. cause.at ≡ at) }
-    ensures cause { IfOk result (IsCause (seen_by V.View view.now old.now new.now)
-        old.now new.now) }
+    ensures cause { IfOk result (IsCause (seen graph.now) graph.now.old.now graph.now.new.now) }
 {
-    let message = carry_cause(alloc, view, old, new, at.pair, &at.choice)?;
+    let message = carry_cause(alloc, graph, at.pair, &at.choice)?;
     Ok(Cause {
         at,
-        reason: reason_of(old, new, &at),
-        message: written(alloc, old, &message)?,
+        reason: reason_of(graph.old, graph.new, &at),
+        message: written(alloc, graph.old, &message)?,
     })
 }
 
 /// The causes of the pair.
-fn causes_of<V: View>(
-    alloc: Global,
-    view: &V,
-    old: &Schema,
-    new: &Schema,
-    pair: Pair,
-) -> Result<Vec<Cause>, AllocError>
+fn causes_of(alloc: Global, graph: &Priced<'_>, pair: Pair) -> Result<Vec<Cause>, AllocError>
     ensures are { IfOk result (λ told. map (λ (c : Cause). c.at) told.items
-        ≡ causes_at (seen_by V.View view.now old.now new.now) (shape_of old.now)
-        (shape_of new.now) pair) }
+        ≡ causes_at (seen graph.now) (shape_of graph.now.old.now) (shape_of graph.now.new.now)
+        pair) }
     ensures each { IfOk result (λ told. AllByRecursion
-        (IsCause (seen_by V.View view.now old.now new.now) old.now new.now) told.items) }
+        (IsCause (seen graph.now) graph.now.old.now graph.now.new.now) told.items) }
 {
-    let choices = causes(alloc, view, old, new, pair)?;
+    let choices = causes(alloc, graph, pair)?;
     let mut told = Vec::with_capacity(alloc, choices.len())?;
     for choice in &choices {
-        let at = Step {
+        let at = PairChoice {
             pair,
             choice: *choice,
         };
-        told.push(cause_at(alloc, view, old, new, at)?)?;
+        told.push(cause_at(alloc, graph, at)?)?;
     }
     Ok(told)
 }
 
 /// The causes of the line's pair, which has none where its bound is 'none'.
-fn causes_of_line<V: View>(
+fn causes_of_line(
     alloc: Global,
-    view: &V,
-    old: &Schema,
-    new: &Schema,
+    graph: &Priced<'_>,
     line: PairBound,
 ) -> Result<Vec<Cause>, AllocError>
-    requires { line.bound ≡ None → causes (seen_by V.View view.now old.now new.now)
-        (shape_of old.now) (shape_of new.now) line.pair ≡ [] }
+    requires { line.bound ≡ None → causes (seen graph.now) (shape_of graph.now.old.now)
+        (shape_of graph.now.new.now) line.pair ≡ [] }
     ensures are { IfOk result (λ told. map (λ (c : Cause). c.at) told.items
-        ≡ causes_at (seen_by V.View view.now old.now new.now) (shape_of old.now)
-        (shape_of new.now) line.pair) }
+        ≡ causes_at (seen graph.now) (shape_of graph.now.old.now) (shape_of graph.now.new.now)
+        line.pair) }
     ensures each { IfOk result (λ told. AllByRecursion
-        (IsCause (seen_by V.View view.now old.now new.now) old.now new.now) told.items) }
+        (IsCause (seen graph.now) graph.now.old.now graph.now.new.now) told.items) }
 {
     match line.bound {
-        Some(_) => causes_of(alloc, view, old, new, line.pair),
+        Some(_) => causes_of(alloc, graph, line.pair),
         None => Ok(Vec::new(alloc)),
     }
 }
 
 /// The causes of the pairs in the table, line by line.
-pub(crate) fn causes_in<V: View>(
+pub(crate) fn causes_in(
     alloc: Global,
-    view: &V,
-    old: &Schema,
-    new: &Schema,
+    graph: &Priced<'_>,
     bounds: &Bounds,
 ) -> Result<Vec<Cause>, AllocError>
     requires { (pair : Pair) → bound_in bounds.now pair ≡ Some None
-        → causes (seen_by V.View view.now old.now new.now) (shape_of old.now) (shape_of new.now)
+        → causes (seen graph.now) (shape_of graph.now.old.now) (shape_of graph.now.new.now)
         pair ≡ [] }
     ensures are { IfOk result (λ told. map (λ (c : Cause). c.at) told.items
-        ≡ flat_map (causes_at (seen_by V.View view.now old.now new.now) (shape_of old.now)
-        (shape_of new.now)) (pairs_of bounds.now)) }
+        ≡ flat_map (causes_at (seen graph.now) (shape_of graph.now.old.now)
+        (shape_of graph.now.new.now)) (pairs_of bounds.now)) }
     ensures each { IfOk result (λ told. AllByRecursion
-        (IsCause (seen_by V.View view.now old.now new.now) old.now new.now) told.items) }
+        (IsCause (seen graph.now) graph.now.old.now graph.now.new.now) told.items) }
 {
     let mut told = Vec::new(alloc);
     for index in 0..bounds.len() {
         if let Some(line) = bounds.get(index) {
-            let mut more = causes_of_line(alloc, view, old, new, line)?;
+            let mut more = causes_of_line(alloc, graph, line)?;
             told.append(&mut more)?;
         }
     }

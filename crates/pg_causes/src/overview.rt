@@ -1,16 +1,17 @@
 //! What is answered of two schemas.
 
 ghost use Rattle.std.specs.Prelude.{IfOk};
-ghost use Rattle.pg_causes.specs.Overview.{IsOverview};
+ghost use Rattle.pg_pairs.specs.GraphView.{seen};
+ghost use Rattle.pg_causes.specs.Overview.{IsOverview, IsOverviewBy};
 
 use crate::causing::causes_in;
 use crate::names::{names_only, roots_of};
 use crate::type_lines::type_lines;
 use pg_dyn::ViewName;
 use pg_least::laws::compatible_without_causes;
-use pg_least::{Step, bounds_from};
-use pg_pairs::laws::{sees, sees_by_name};
-use pg_pairs::{Names, Numbers, View};
+use pg_least::{PairChoice, bounds_from};
+use pg_pairs::Priced;
+use pg_pairs::laws::sees;
 use pg_schema::Schema;
 use std::alloc::{AllocError, Global};
 
@@ -39,7 +40,7 @@ pub enum Reason {
 #[derive(Debug, PartialEq, Eq, Drop)]
 pub struct Cause {
     /// The pair of types, and how a message of the old one breaks.
-    pub at: Step,
+    pub at: PairChoice,
     /// Why it breaks.
     pub reason: Reason,
     /// The encoding of a shortest message of the pair's old type that breaks so.
@@ -68,28 +69,22 @@ pub struct Overview {
     pub added: Vec<String>,
 }
 
-/// What breaks between two schemas under the view.
-fn overview_by<V: View>(
-    alloc: Global,
-    view: &V,
-    old: &Schema,
-    new: &Schema,
-) -> Result<Overview, AllocError>
-    ensures { IfOk result (IsOverview V.NAME old.now new.now) }
+/// What breaks between the two schemas of a graph, under its view.
+fn overview_of(alloc: Global, graph: &Priced<'_>) -> Result<Overview, AllocError>
+    ensures { IfOk result (IsOverviewBy (seen graph.now) graph.now.old.now graph.now.new.now) }
 {
     // What holds of every schema, every view and every table.
-    old.parts();
-    new.parts();
-    sees(view, old, new);
-    sees_by_name(view, old, new);
+    graph.old.parts();
+    graph.new.parts();
+    sees(graph);
     compatible_without_causes();
-    let roots = roots_of(alloc, old, new)?;
-    let (bounds, _) = bounds_from(alloc, view, old, new, &roots)?;
+    let roots = roots_of(alloc, graph.old, graph.new)?;
+    let (bounds, _) = bounds_from(alloc, graph, &roots)?;
     Ok(Overview {
-        causes: causes_in(alloc, view, old, new, &bounds)?,
-        types: type_lines(alloc, old, &roots, &bounds)?,
-        removed: names_only(alloc, old, new)?,
-        added: names_only(alloc, new, old)?,
+        causes: causes_in(alloc, graph, &bounds)?,
+        types: type_lines(alloc, graph.old, &roots, &bounds)?,
+        removed: names_only(alloc, graph.old, graph.new)?,
+        added: names_only(alloc, graph.new, graph.old)?,
     })
 }
 
@@ -107,8 +102,6 @@ pub fn gate_all(
 ) -> Result<Overview, AllocError>
     ensures { IfOk result (IsOverview view old.now new.now) }
 {
-    match view {
-        ViewName::Numbers => overview_by(alloc, &Numbers, old, new),
-        ViewName::Names => overview_by(alloc, &Names, old, new),
-    }
+    let graph = Priced::new(&view, old, new);
+    overview_of(alloc, &graph)
 }

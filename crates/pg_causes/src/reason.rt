@@ -6,7 +6,7 @@ ghost use Rattle.pg_schema.specs.Shape.{field_at, fields};
 ghost use Rattle.pg_causes.specs.Reasons.{are_of_enums, entry_reason, item_reason, reason_of};
 
 use crate::overview::Reason;
-use pg_least::Step;
+use pg_least::PairChoice;
 use pg_pairs::{Case, Pair};
 use pg_schema::{Element, Schema};
 
@@ -46,7 +46,7 @@ fn entry_reason(part: u32) -> Reason
 }
 
 /// Why a message breaks by that choice, which needs no message inside.
-pub(crate) fn reason_of(old: &Schema, new: &Schema, at: &Step) -> Reason
+pub(crate) fn reason_of(old: &Schema, new: &Schema, at: &PairChoice) -> Reason
     ensures { result ≡ reason_of (shape_of old.now) (shape_of new.now) at.now.pair at.now.choice }
 {
     match at.choice.case {

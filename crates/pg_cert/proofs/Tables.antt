@@ -18,7 +18,6 @@ lookup-bound (e ∷ es) pair =
     elim (nat_eq pair.old.index e.0.0 && nat_eq pair.new.index e.0.1)
     as (λ b. cond b (Some e.1) (lookup (λ (key : ℕ × ℕ). nat_eq pair.old.index key.0 && nat_eq pair.new.index key.1) es) ≡ option_map (λ (x : PairBound). x.bound) (cond b (Some (bound_of e)) (find (λ (x : PairBound). same_pair pair x.pair) (map bound_of es))))
     [ true ↦ refl | false ↦ lookup-bound es pair ]
-    λ j. record { old = record { index = old j }; new = record { index = new j } }
 
 pub same_pair-refl : (p : Pair) → same_pair p p ≡ true
 same_pair-refl p = rw (eq-eqb p.old.index p.old.index refl, eq-eqb p.new.index p.new.index refl) refl

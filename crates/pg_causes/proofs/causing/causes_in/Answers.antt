@@ -3,7 +3,7 @@ use Rattle.std.proofs.lemmas.List.{map-append}
 use Rattle.std.specs.List.{AllByRecursion}
 use Rattle.pg_schema.specs.Parts.{shape_of}
 use Rattle.pg_dyn.proofs.Lists.{each-append}
-use Rattle.pg_pairs.specs.SeenBy.{seen_by}
+use Rattle.pg_pairs.specs.GraphView.{seen}
 use Rattle.pg_cert.specs.declared.bounds.PairBound.{PairBound}
 use Rattle.pg_least.proofs.PublicLaws.{tables_by_lines}
 use Rattle.pg_causes.specs.Causes.{IsCause, causes_at}
@@ -13,17 +13,17 @@ use Rattle.pg_causes.proofs.causing.causes_in.Goals.{in-Some+in_ok-more+in_ok-ap
 use Rattle.pg_causes.proofs.causing.causes_in.Goals as goal
 
 pub causes_of_line-requires : goal.causes_of_line-requires
-causes_of_line-requires g c none =
+causes_of_line-requires c none =
     let line = c.in-Some.line in
     let found = tables_by_lines.by_line c.args.bounds.now c.loop-index.index line c.len-index-end.ensures.checked (sym c.get.ensures ∙ c.in-Some.is) in
     c.requires line.pair (found ∙ ap Some none)
 
 pub loop-index-preserved : goal.loop-index-preserved
-loop-index-preserved g c =
+loop-index-preserved c =
     elim c.match-get.branch [
       | in-Some+in_ok-more+in_ok-append w ↦
-          let causes = causes_at (seen_by g.V.View c.args.view.now c.args.old.now c.args.new.now) (shape_of c.args.old.now) (shape_of c.args.new.now) in
-          let holds = IsCause (seen_by g.V.View c.args.view.now c.args.old.now c.args.new.now) c.args.old.now c.args.new.now in
+          let causes = causes_at (seen c.args.graph.now) (shape_of c.args.graph.now.old.now) (shape_of c.args.graph.now.new.now) in
+          let holds = IsCause (seen c.args.graph.now) c.args.graph.now.old.now c.args.graph.now.new.now in
           let before = c.loop-index.told.items in
           let more = w.in_ok-more.more.items in
           let all : c.match-get.told.items ≡ before ++ more = ap (λ (v : _). v.items) w.told-is ∙ w.in_ok-append.ensures.items in

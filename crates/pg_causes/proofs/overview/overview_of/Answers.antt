@@ -3,56 +3,53 @@ use Rattle.std.specs.List.{AllByRecursion}
 use Rattle.pg_schema.specs.Parts.{name_at, shape_of}
 use Rattle.pg_pairs.specs.declared.choice.Pair.{Pair}
 use Rattle.pg_pairs.specs.Edges.{is_pair}
-use Rattle.pg_pairs.specs.EnumView.{EnumView}
-use Rattle.pg_pairs.specs.SeenBy.{seen_by}
+use Rattle.pg_pairs.specs.GraphView.{seen}
 use Rattle.pg_cert.specs.Bounds.{bound_in}
 use Rattle.pg_least.specs.Exact.{pairs_of}
 use Rattle.pg_least.specs.From.{AreBoundsFrom}
 use Rattle.pg_causes.specs.Names.{shared}
-use Rattle.pg_causes.specs.Overview.{IsOverviewBy}
 use Rattle.pg_causes.specs.declared.overview.TypeLine.{TypeLine}
 use Rattle.pg_causes.proofs.Overviews.{all_there, are_pairs, bounds_there, lines_are, none_caused, old_there}
-use Rattle.pg_causes.proofs.overview.overview_by.Goals as goal
+use Rattle.pg_causes.proofs.overview.overview_of.Goals as goal
 
 pub bounds_from-requires : goal.bounds_from-requires
-bounds_from-requires g c =
-    subst (AllByRecursion (λ (p : Pair). is_pair (shape_of c.args.old.now) (shape_of c.args.new.now) p ≡ true)) (sym c.deref.ensures.value)
-    (are_pairs c.args.old.now c.args.new.now c.in_ok-roots.roots.items c.in_ok-roots.ensures.alike)
+bounds_from-requires c =
+    subst (AllByRecursion (λ (p : Pair). is_pair (shape_of c.args.graph.now.old.now) (shape_of c.args.graph.now.new.now) p ≡ true)) (sym c.deref.ensures.value)
+    (are_pairs c.args.graph.now.old.now c.args.graph.now.new.now c.in_ok-roots.roots.items c.in_ok-roots.ensures.alike)
 
 pub causes_in-requires : goal.causes_in-requires
-causes_in-requires g c =
-    let view = seen_by g.V.View c.args.view.now c.args.old.now c.args.new.now in
-    none_caused c.args.old.now c.args.new.now c.in_ok-roots.roots.items c.in_ok-roots.ensures.alike view c.in_ok-bounds.bounds
+causes_in-requires c =
+    let view = seen c.args.graph.now in
+    none_caused c.args.graph.now.old.now c.args.graph.now.new.now c.in_ok-roots.roots.items c.in_ok-roots.ensures.alike view c.in_ok-bounds.bounds
     c.sees.ensures c.parts.ensures.checked.shape c.parts-2.ensures.checked.shape c.compatible_without_causes.ensures
-    (subst (λ (rs : List Pair). AreBoundsFrom view (shape_of c.args.old.now) (shape_of c.args.new.now) rs c.in_ok-bounds.bounds) c.deref.ensures.value c.in_ok-bounds.ensures.bounds)
+    (subst (λ (rs : List Pair). AreBoundsFrom view (shape_of c.args.graph.now.old.now) (shape_of c.args.graph.now.new.now) rs c.in_ok-bounds.bounds) c.deref.ensures.value c.in_ok-bounds.ensures.bounds)
 
 pub type_lines-requires-clause-old_types : goal.type_lines-requires-clause-old_types
-type_lines-requires-clause-old_types g c =
-    subst (AllByRecursion (λ (p : Pair). p.old.index < length (shape_of c.args.old.now))) (sym c.deref-2.ensures.value)
-    (old_there c.args.old.now c.args.new.now c.in_ok-roots.roots.items c.in_ok-roots.ensures.alike)
+type_lines-requires-clause-old_types c =
+    subst (AllByRecursion (λ (p : Pair). p.old.index < length (shape_of c.args.graph.now.old.now))) (sym c.deref-2.ensures.value)
+    (old_there c.args.graph.now.old.now c.args.graph.now.new.now c.in_ok-roots.roots.items c.in_ok-roots.ensures.alike)
 
 pub type_lines-requires-clause-bounds : goal.type_lines-requires-clause-bounds
-type_lines-requires-clause-bounds g c =
-    let view = seen_by g.V.View c.args.view.now c.args.old.now c.args.new.now in
+type_lines-requires-clause-bounds c =
+    let view = seen c.args.graph.now in
     subst (AllByRecursion (λ (p : Pair). is_some (bound_in c.in_ok-bounds.bounds p) ≡ true)) (sym c.deref-2.ensures.value)
-    (bounds_there c.args.old.now c.args.new.now c.in_ok-roots.roots.items c.in_ok-roots.ensures.alike view c.in_ok-bounds.bounds
+    (bounds_there c.args.graph.now.old.now c.args.graph.now.new.now c.in_ok-roots.roots.items c.in_ok-roots.ensures.alike view c.in_ok-bounds.bounds
     c.sees.ensures c.parts.ensures.checked.shape c.parts-2.ensures.checked.shape c.compatible_without_causes.ensures
-    (subst (λ (rs : List Pair). AreBoundsFrom view (shape_of c.args.old.now) (shape_of c.args.new.now) rs c.in_ok-bounds.bounds) c.deref.ensures.value c.in_ok-bounds.ensures.bounds))
+    (subst (λ (rs : List Pair). AreBoundsFrom view (shape_of c.args.graph.now.old.now) (shape_of c.args.graph.now.new.now) rs c.in_ok-bounds.bounds) c.deref.ensures.value c.in_ok-bounds.ensures.bounds))
 
 pub returns : goal.returns
-returns g c =
-    let old = c.args.old.now in
-    let new = c.args.new.now in
+returns c =
+    let old = c.args.graph.now.old.now in
+    let new = c.args.graph.now.new.now in
     let roots = c.in_ok-roots.roots.items in
     let alike = c.in_ok-roots.ensures.alike in
     let bounds = c.in_ok-bounds.bounds in
     let lines = c.in_ok-type_lines.field-0.items in
-    let view = seen_by g.V.View c.args.view.now old new in
+    let view = seen c.args.graph.now in
     let from = subst (λ (rs : List Pair). AreBoundsFrom view (shape_of old) (shape_of new) rs bounds) c.deref.ensures.value c.in_ok-bounds.ensures.bounds in
     let names = c.in_ok-type_lines.ensures.names ∙ ap (map (λ (p : Pair). name_at old.types.items p.old)) c.deref-2.ensures.value in
     let told = c.in_ok-type_lines.ensures.bounds ∙ ap (map (bound_in bounds)) c.deref-2.ensures.value in
-    subst (λ (v : EnumView). IsOverviewBy v old new (record { causes = c.in_ok-causes_in.field-0; types = c.in_ok-type_lines.field-0; removed = c.in_ok-names_only.field-0; added = c.in_ok-names_only-2.field-0 })) c.sees_by_name.ensures
-    (record {
+    record {
       roots = roots;
       roots_in_order = c.in_ok-roots.ensures.in_order;
       roots_alike = alike;
@@ -61,4 +58,4 @@ returns g c =
       types = lines_are old new roots alike view bounds c.sees.ensures c.parts.ensures.checked.shape c.parts-2.ensures.checked.shape c.compatible_without_causes.ensures from lines names told;
       removed = c.in_ok-names_only.ensures;
       added = c.in_ok-names_only-2.ensures;
-    })
+    }
