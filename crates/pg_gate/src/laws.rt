@@ -1,5 +1,6 @@
-//! Laws about what words call for. Each is the contract of a function that does nothing.
+//! Laws about what words call for, and about answers. Each is the contract of a function that does nothing.
 
+ghost use Rattle.pg_gate.specs.Agreement.{AllSaysWhatGateSays};
 ghost use Rattle.pg_gate.specs.Call.{OneCall};
 ghost use Rattle.pg_gate.specs.WorkedCalls.{WorkedCalls};
 
@@ -11,4 +12,10 @@ pub fn one_call()
 /// What small command lines call for, with `--view` and without it.
 pub fn worked_calls()
     ensures { WorkedCalls }
+{}
+
+/// What `gate_all` says of a message type that both schemas declare is what `gate_with` says of it
+/// under the same view: that no message breaks, or how many bytes a shortest one has that does.
+pub fn all_says_what_gate_says()
+    ensures { AllSaysWhatGateSays }
 {}
