@@ -22,6 +22,7 @@ pub mod Choosing
 pub mod OneMessage
 pub mod ChildTests
 pub mod LowerBound
+pub mod FieldAlone
 pub mod Single
 pub mod Broken
 pub mod CarryAlone

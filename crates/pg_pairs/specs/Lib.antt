@@ -26,6 +26,7 @@ pub mod FirstSeen
 pub mod ByIndices
 pub mod Contents
 pub mod Laws
+pub mod FieldCosts
 pub mod ElementGaps
 pub mod LeastCosts
 pub mod SmallPairs

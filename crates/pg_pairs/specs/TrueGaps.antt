@@ -9,7 +9,7 @@ use Rattle.pg_dyn.specs.Comparison.{View, numbers, alike_leaves}
 use Rattle.pg_pairs.specs.declared.gap_kind.Gap.{Gap}
 use Rattle.pg_pairs.specs.declared.gap_kind.Gap.TheVariants as gaps
 use Rattle.pg_pairs.specs.Likeness.{like}
-use Rattle.pg_pairs.specs.Gaps.{body_length, item_named}
+use Rattle.pg_pairs.specs.Gaps.{body_length, gap, item_named}
 
 -- what was read is the old item
 abbrev pub is_alike_read : View → Element → Element → Leaf → Option Leaf → Bool
@@ -49,3 +49,6 @@ IsTrueOf s t gaps.None = (like (elements.Scalar s) (elements.Scalar t) ≡ true)
 IsTrueOf s t (gaps.Least length value) =
     (like (elements.Scalar s) (elements.Scalar t) ≡ true) × (body_length (scalar_form s) (item_named (scalar_form s) value) ≡ length)
     × ((zero : Bool) → IsGapItem numbers zero (elements.Scalar s) (elements.Scalar t) (Some (item_named (scalar_form s) value)))
+
+abbrev pub GapTable : Type 0
+GapTable = (s t : Scalar) → IsTrueOf s t (gap s t)

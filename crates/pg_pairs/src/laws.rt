@@ -8,6 +8,8 @@ ghost use Rattle.pg_pairs.specs.Contents.{ContentsCost};
 ghost use Rattle.pg_pairs.specs.CoversByNumber.{CoversByNumber};
 ghost use Rattle.pg_pairs.specs.Edges.{LeastCostsByEdges, PairsLeadToPairs, SchemasArePriced};
 ghost use Rattle.pg_pairs.specs.ElementGaps.{ElementGaps, UnseenAreNotZero};
+ghost use Rattle.pg_pairs.specs.FieldCosts.{ChildrenCost, ListsCost, MapsCost, SingleScalarsCost};
+ghost use Rattle.pg_pairs.specs.TrueGaps.{GapTable};
 ghost use Rattle.pg_pairs.specs.HomeExamples.{HomeExamples};
 ghost use Rattle.pg_pairs.specs.Laws.{CoveringBounds, ExactIsLeast, NoneIsCompatible};
 ghost use Rattle.pg_pairs.specs.LeastCosts.{LeastCostsAreExact};
@@ -28,6 +30,12 @@ pub fn small_pairs()
 /// Small types, what a program with the new one relays, and what of it comes home.
 pub fn home_examples()
     ensures { HomeExamples }
+{}
+
+/// The table of gaps is true: each value is a shortest item that isn't seen, and where there is
+/// none each item is seen.
+pub fn gap_table()
+    ensures { GapTable }
 {}
 
 /// The gap between any two like elements that are no messages, under any view of enum items, is a
@@ -63,6 +71,28 @@ pub fn sees(_graph: &Priced<'_>)
 /// lists and maps, and of children that are as long as the table says.
 pub fn contents_cost()
     ensures { ContentsCost }
+{}
+
+/// A message that breaks with one scalar or enum in a singular field alone has at least the bytes
+/// of the field's cheapest choice.
+pub fn single_scalars_cost()
+    ensures { SingleScalarsCost }
+{}
+
+/// So has one that breaks with a list alone, of scalars or of children, under a table that covers
+/// the pair.
+pub fn lists_cost()
+    ensures { ListsCost }
+{}
+
+/// And with a map alone.
+pub fn maps_cost()
+    ensures { MapsCost }
+{}
+
+/// And with a child in a singular field alone.
+pub fn children_cost()
+    ensures { ChildrenCost }
 {}
 
 /// A table that covers a pair bounds from below the messages that break, for each pair in it.
