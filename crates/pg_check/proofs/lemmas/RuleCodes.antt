@@ -8,7 +8,9 @@ use Rattle.pg_schema.specs.declared.parts.message_type.MessageType.{MessageType}
 use Rattle.pg_check.specs.admitting.BrokenParts as of_parts
 use Rattle.pg_check.specs.admitting.BrokenParts.{BreaksEnumType, BreaksFilePart, BreaksType}
 use Rattle.pg_check.specs.rules.BrokenRules as of_texts
-use Rattle.pg_check.specs.rules.BrokenRules.{BreaksEnum, BreaksFile, BreaksItems, BreaksMessage, BreaksService}
+use Rattle.pg_check.specs.rules.BrokenRules.{BreaksEnum, BreaksFields, BreaksFile, BreaksItems, BreaksMessage, BreaksService, BreaksValues}
+use Rattle.pg_check.specs.rules.Enums.{DeclaredEnum}
+use Rattle.pg_check.specs.rules.Messages.{DeclaredMessage}
 use Rattle.pg_check.specs.Codes.{code_of}
 use Rattle.pg_check.specs.parts.MadeParts.{Source}
 use Rattle.pg_check.specs.declared.error.CheckError.{CheckError}
@@ -24,14 +26,17 @@ item_code lowest highest items place e code at (of_texts.beyond r is) = refl
 item_code lowest highest items place e code at (of_texts.falling r is) = refl
 item_code lowest highest items place e code at (of_texts.overlapping r is) = refl
 
+fields_code : (d : DeclaredMessage) (place : Place) (e : CheckError) (code declared at : ℕ) → BreaksFields d place e code declared at → code_of e ≡ code
+fields_code d place e code declared at (of_texts.bad_field_number k is) = refl
+fields_code d place e code declared at (of_texts.duplicate_number k is) = refl
+fields_code d place e code declared at (of_texts.reserved_field_number k is) = refl
+fields_code d place e code declared at (of_texts.reserved_field_name n is) = refl
+fields_code d place e code declared at (of_texts.bad_field_item e1 c a is) = item_code _ _ _ place e code at is
+fields_code d place e code declared at (of_texts.json_name_clash n is) = refl
+
 message_code : (targets : ℕ → Option Target) (body : List Part) (place : Place) (e : CheckError) (code declared at : ℕ) →
     BreaksMessage targets body place e code declared at → code_of e ≡ code
-message_code targets body place e code declared at (of_texts.bad_field_number k is) = refl
-message_code targets body place e code declared at (of_texts.duplicate_number k is) = refl
-message_code targets body place e code declared at (of_texts.reserved_field_number k is) = refl
-message_code targets body place e code declared at (of_texts.reserved_field_name n is) = refl
-message_code targets body place e code declared at (of_texts.bad_field_item e1 c a is) = item_code _ _ _ place e code at is
-message_code targets body place e code declared at (of_texts.json_name_clash n is) = refl
+message_code targets body place e code declared at (of_texts.in_fields e1 c d a is) = fields_code _ place e code declared at is
 message_code targets body place e code declared at (of_texts.bad_map_key m is) = refl
 message_code targets body place e code declared at (of_texts.bad_oneof_member m is) = refl
 message_code targets body place e code declared at (of_texts.empty_oneof o behind is) = refl
@@ -40,16 +45,19 @@ message_code targets body place e code declared at (of_texts.bad_message_option 
 message_code targets body place e code declared at (of_texts.bad_field_option m a behind is) = refl
 message_code targets body place e code declared at (of_texts.packed_not_allowed m s behind is first) = refl
 
+values_code : (n : DeclaredEnum) (name_at : ℕ) (place : Place) (e : CheckError) (code declared at : ℕ) → BreaksValues n name_at place e code declared at → code_of e ≡ code
+values_code n name_at place e code declared at (of_texts.bad_value_number k is) = refl
+values_code n name_at place e code declared at (of_texts.reserved_value_number k is) = refl
+values_code n name_at place e code declared at (of_texts.reserved_value_name m is) = refl
+values_code n name_at place e code declared at (of_texts.bad_value_item e1 c a is) = item_code _ _ _ place e code at is
+values_code n name_at place e code declared at (of_texts.first_not_zero k more is not_zero) = refl
+values_code n name_at place e code declared at (of_texts.alias k none is) = refl
+values_code n name_at place e code declared at (of_texts.empty_enum is) = refl
+
 enum_code : (n : tree.Enum.Enum) (place : Place) (e : CheckError) (code declared at : ℕ) → BreaksEnum n place e code declared at → code_of e ≡ code
-enum_code n place e code declared at (of_texts.bad_value_number k is) = refl
-enum_code n place e code declared at (of_texts.reserved_value_number k is) = refl
-enum_code n place e code declared at (of_texts.reserved_value_name m is) = refl
-enum_code n place e code declared at (of_texts.bad_value_item e1 c a is) = item_code _ _ _ place e code at is
-enum_code n place e code declared at (of_texts.first_not_zero k more is not_zero) = refl
-enum_code n place e code declared at (of_texts.alias k none is) = refl
+enum_code n place e code declared at (of_texts.in_values e1 c d a is) = values_code _ _ place e code declared at is
 enum_code n place e code declared at (of_texts.bad_enum_option a is) = refl
 enum_code n place e code declared at (of_texts.bad_value_option v a behind is) = refl
-enum_code n place e code declared at (of_texts.empty_enum is) = refl
 
 service_code : (body : List tree.ServicePart.ServicePart) (place : Place) (e : CheckError) (code declared at : ℕ) →
     BreaksService body place e code declared at → code_of e ≡ code
@@ -68,29 +76,15 @@ file_code s left place e code declared at (of_texts.in_packaged_service v e1 c d
 -- ---- parts
 
 pub type_code : (t : MessageType) (place : Place) (e : CheckError) (code : ℕ) → BreaksType t place e code → code_of e ≡ code
-type_code t place e code (of_parts.bad_number is) = refl
-type_code t place e code (of_parts.duplicate_number is) = refl
-type_code t place e code (of_parts.reserved_number is) = refl
-type_code t place e code (of_parts.reserved_name is) = refl
-type_code t place e code (of_parts.item_beyond is) = refl
-type_code t place e code (of_parts.item_falling is) = refl
-type_code t place e code (of_parts.items_overlapping is) = refl
-type_code t place e code (of_parts.json_name_clash is) = refl
+type_code t place e code (of_parts.in_fields e1 c is) = fields_code _ place e code 0 0 is
 type_code t place e code (of_parts.bad_map_key f key one is bad) = refl
 type_code t place e code (of_parts.bad_oneof_member f one has why) = refl
 type_code t place e code (of_parts.empty_oneof is) = refl
 type_code t place e code (of_parts.packed_not_allowed f one packed why) = refl
 
 pub enum_type_code : (n : EnumType) (place : Place) (e : CheckError) (code : ℕ) → BreaksEnumType n place e code → code_of e ≡ code
-enum_type_code n place e code (of_parts.reserved_value_number is) = refl
-enum_type_code n place e code (of_parts.reserved_value_name is) = refl
-enum_type_code n place e code (of_parts.value_item_beyond is) = refl
-enum_type_code n place e code (of_parts.value_item_falling is) = refl
-enum_type_code n place e code (of_parts.value_items_overlapping is) = refl
-enum_type_code n place e code (of_parts.first_not_zero is) = refl
-enum_type_code n place e code (of_parts.alias is) = refl
-enum_type_code n place e code (of_parts.no_value is) = refl
+enum_type_code n place e code is = values_code _ _ place e code 0 0 is
 
 pub file_part_code : (f : File) (place : Place) (e : CheckError) (code : ℕ) → BreaksFilePart f place e code → code_of e ≡ code
 file_part_code f place e code (of_parts.bad_option o one is) = refl
-file_part_code f place e code (of_parts.option_again is) = refl
+file_part_code f place e code (of_parts.option_again k is) = refl

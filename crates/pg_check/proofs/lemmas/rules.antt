@@ -6,12 +6,14 @@ pub mod TextKeys
 pub mod Outlines
 pub mod FileFaults
 pub mod FirstFaults
-pub mod BrokenMessages
-pub mod BrokenEnums
 pub mod BrokenFiles
 pub mod Reach
 pub mod NoneLaws
-pub mod Keeping
+pub mod Judged
+pub mod JudgedItems
+pub mod JudgedEnums
+pub mod JudgedMessages
+pub mod JudgedFiles
 pub mod KeepingFiles
 pub mod Halves
 pub mod InARow

@@ -20,8 +20,9 @@ use Rattle.pg_check.specs.declared.error.CheckError.{CheckError}
 use Rattle.pg_check.specs.declared.error.CheckError.TheVariants as errors
 use Rattle.pg_check.specs.declared.rules.numbers.Keyed.{Keyed}
 use Rattle.pg_check.specs.declared.rules.numbers.Numbers.{Numbers}
-use Rattle.pg_check.specs.rules.Firsts.{IsBehind, IsOneOf}
-use Rattle.pg_check.specs.rules.KeepsRules.{are_apart, begins_with_zero, has_field_number, has_some, is_free, is_free_name, lies_within, rises}
+use Rattle.pg_check.specs.rules.BrokenRules.{BreaksFields, BreaksValues}
+use Rattle.pg_check.specs.rules.Firsts.{IsBehind, IsFirstAgain, IsOneOf}
+use Rattle.pg_check.specs.rules.KeepsRules.{ValuesKeep}
 use Rattle.pg_check.specs.rules.Names as names
 use Rattle.pg_check.specs.rules.Numbers as numbers
 use Rattle.pg_check.specs.admitting.PartFaults as faults
@@ -29,22 +30,9 @@ use Rattle.pg_check.specs.rules.ReservedItems.{overlap}
 
 -- ---- message types
 
-abbrev pub keys_of : MessageType → List Keyed
-keys_of t = map faults.key_of t.fields.items
-
-abbrev pub items_of : MessageType → List Numbers
-items_of t = map faults.item_of t.reserved_numbers.items
-
 pub data BreaksType (t : MessageType) (place : Place) : CheckError → (code : ℕ) → Type 0 where
-  bad_number : list_all has_field_number (keys_of t) ≡ false → BreaksType t place (errors.BadNumber place) 401
-  duplicate_number : are_apart numbers.is_same (keys_of t) ≡ false → BreaksType t place (errors.DuplicateNumber place) 402
-  reserved_number : list_all (is_free (items_of t)) (keys_of t) ≡ false → BreaksType t place (errors.ReservedNumber place) 403
-  reserved_name : list_all (is_free_name (map string_bytes t.reserved_names.items)) (map faults.name_of t.fields.items) ≡ false →
-      BreaksType t place (errors.ReservedName place) 404
-  item_beyond : list_all (lies_within numbers.lowest_field numbers.highest_field) (items_of t) ≡ false → BreaksType t place (errors.BadNumber place) 401
-  item_falling : list_all rises (items_of t) ≡ false → BreaksType t place (errors.RangeOverlap place) 405
-  items_overlapping : are_apart overlap (items_of t) ≡ false → BreaksType t place (errors.RangeOverlap place) 405
-  json_name_clash : are_apart names.is_same (map faults.json_name_of t.fields.items) ≡ false → BreaksType t place (errors.JsonNameClash place) 406
+  in_fields : (e : CheckError) (code : ℕ) → BreaksFields (faults.declared_message t) place e code faults.nowhere faults.nowhere →
+      BreaksType t place e code
   -- a map's key that is no whole number, bool or string
   bad_map_key : (f : Field) (key : Scalar) → IsOneOf t.fields.items f → f.presence ≡ presences.Map key → is_key key ≡ false →
       BreaksType t place (errors.BadMapKey place) 407
@@ -61,30 +49,17 @@ KeepsType t = (place : Place) (e : CheckError) (code : ℕ) → BreaksType t pla
 
 -- ---- enums and files
 
-abbrev pub value_keys : EnumType → List Keyed
-value_keys e = map faults.value_key e.values.items
-
-abbrev pub value_items : EnumType → List Numbers
-value_items e = map faults.value_item e.reserved_numbers.items
-
-pub data BreaksEnumType (e : EnumType) (place : Place) : CheckError → (code : ℕ) → Type 0 where
-  reserved_value_number : list_all (is_free (value_items e)) (value_keys e) ≡ false → BreaksEnumType e place (errors.ReservedNumber place) 403
-  reserved_value_name : list_all (is_free_name (map string_bytes e.reserved_names.items)) (map faults.value_name e.values.items) ≡ false →
-      BreaksEnumType e place (errors.ReservedName place) 404
-  value_item_beyond : list_all (lies_within numbers.lowest_value numbers.highest_value) (value_items e) ≡ false → BreaksEnumType e place (errors.BadNumber place) 401
-  value_item_falling : list_all rises (value_items e) ≡ false → BreaksEnumType e place (errors.RangeOverlap place) 405
-  value_items_overlapping : are_apart overlap (value_items e) ≡ false → BreaksEnumType e place (errors.RangeOverlap place) 405
-  first_not_zero : begins_with_zero (value_keys e) ≡ false → BreaksEnumType e place (errors.EnumFirstNotZero place) 409
-  alias : (stated_or e.options.allow_alias false || are_apart numbers.is_same (value_keys e)) ≡ false → BreaksEnumType e place (errors.EnumAlias place) 410
-  no_value : has_some (value_keys e) ≡ false → BreaksEnumType e place (errors.EnumEmpty place) 414
+abbrev pub BreaksEnumType : EnumType → Place → CheckError → (code : ℕ) → Type 0
+BreaksEnumType e place error code = BreaksValues (faults.declared_enum e) faults.nowhere place error code faults.nowhere faults.nowhere
 
 abbrev pub KeepsEnumType : EnumType → Type 0
-KeepsEnumType n = (place : Place) (e : CheckError) (code : ℕ) → BreaksEnumType n place e code → ⊥
+KeepsEnumType e = ValuesKeep (faults.declared_enum e)
 
 pub data BreaksFilePart (f : File) (place : Place) : CheckError → (code : ℕ) → Type 0 where
   -- an option that is unknown, or of another kind of value
   bad_option : (o : FileOption) → IsOneOf f.options.items o → is_file_option o ≡ false → BreaksFilePart f place (errors.BadOption place) 411
-  option_again : are_apart numbers.is_same (map faults.option_key f.options.items) ≡ false → BreaksFilePart f place (errors.BadOption place) 411
+  option_again : (k : Keyed) → IsFirstAgain numbers.is_same (map faults.option_key f.options.items) k →
+      BreaksFilePart f place (errors.BadOption place) 411
 
 abbrev pub KeepsFilePart : File → Type 0
 KeepsFilePart f = (place : Place) (e : CheckError) (code : ℕ) → BreaksFilePart f place e code → ⊥

@@ -34,9 +34,13 @@ use Rattle.pg_check.specs.rules.Numbers as numbers
 use Rattle.pg_check.specs.rules.Numbers.{rank}
 use Rattle.pg_check.specs.rules.ReservedItems.{items_fault}
 
+-- the one position of all that no source file declares
+abbrev pub nowhere : ℕ
+nowhere = 0
+
 -- the rule is broken, at no place
 abbrev pub where_broken : Bool → Option ℕ
-where_broken true = Some 0
+where_broken true = Some nowhere
 where_broken false = None
 
 abbrev pub fault_if : Rule → Bool → Option Fault
@@ -45,16 +49,16 @@ fault_if rule is_broken = broken rule (where_broken is_broken)
 -- ---- message types
 
 abbrev pub key_of : Field → Keyed
-key_of f = record { key = rank false f.number; at = 0 }
+key_of f = record { key = rank false f.number; at = nowhere }
 
 abbrev pub item_of : ReservedFields → Numbers
-item_of r = record { first = rank false r.first; last = rank false r.last; at = 0 }
+item_of r = record { first = rank false r.first; last = rank false r.last; at = nowhere }
 
 abbrev pub name_of : Field → names.Named
-name_of f = record { text = string_bytes f.name; at = 0 }
+name_of f = record { text = string_bytes f.name; at = nowhere }
 
 abbrev pub json_name_of : Field → names.Named
-json_name_of f = record { text = string_bytes f.json_name; at = 0 }
+json_name_of f = record { text = string_bytes f.json_name; at = nowhere }
 
 -- a key of no integral type, bool or string
 abbrev pub has_bad_key : Presence → Bool
@@ -80,13 +84,15 @@ is_badly_packed (presences.Repeated packed) element stated = (packed || stated_o
 abbrev pub field_badly_packed : Field → Bool
 field_badly_packed f = is_badly_packed f.presence f.element f.options.packed
 
-abbrev pub numbers_fault : MessageType → Option Fault
-numbers_fault t = messages.numbers_fault (map key_of t.fields.items) (map item_of t.reserved_numbers.items)
-
-abbrev pub names_fault : MessageType → Option Fault
-names_fault t =
-    earlier (broken rules.ReservedName (names.first_among (map string_bytes t.reserved_names.items) (map name_of t.fields.items)))
-    (broken rules.JsonNameClash (names.first_twice (map json_name_of t.fields.items)))
+-- the fields as the rules see them
+abbrev pub declared_message : MessageType → messages.DeclaredMessage
+declared_message t = record {
+  keys = map key_of t.fields.items;
+  items = map item_of t.reserved_numbers.items;
+  names = map name_of t.fields.items;
+  reserved_names = map string_bytes t.reserved_names.items;
+  json_names = map json_name_of t.fields.items;
+}
 
 -- the set has the places of just those oneofs that have a member
 abbrev pub IsPlaceSet : List Field → BTreeSet ℕ → Type 0
@@ -102,7 +108,7 @@ shapes_fault t =
     (earlier (fault_if rules.BadOneofMember (has_bad_oneof t)) (fault_if rules.PackedNotAllowed (list_any field_badly_packed t.fields.items)))
 
 abbrev pub message_fault : MessageType → Option Fault
-message_fault t = earlier (numbers_fault t) (earlier (names_fault t) (shapes_fault t))
+message_fault t = earlier (messages.fields_fault (declared_message t)) (shapes_fault t)
 
 -- ---- enums
 
@@ -112,30 +118,31 @@ value_rank (pos n) = rank false n
 value_rank (negsuc n) = rank true (suc n)
 
 abbrev pub value_key : EnumValue → Keyed
-value_key v = record { key = value_rank v.number; at = 0 }
+value_key v = record { key = value_rank v.number; at = nowhere }
 
 abbrev pub value_item : ReservedValues → Numbers
-value_item r = record { first = value_rank r.first; last = value_rank r.last; at = 0 }
+value_item r = record { first = value_rank r.first; last = value_rank r.last; at = nowhere }
 
 abbrev pub value_name : EnumValue → names.Named
-value_name v = record { text = string_bytes v.name; at = 0 }
+value_name v = record { text = string_bytes v.name; at = nowhere }
 
-abbrev pub values_fault : Bool → List Keyed → List Numbers → Option Fault
-values_fault aliases keys items =
-    earlier (broken rules.EnumEmpty (enums.empty_at 0 keys))
-    (earlier (broken rules.ReservedNumber (numbers.first_reserved items keys))
-    (earlier (broken rules.EnumFirstNotZero (enums.first_not_zero keys))
-    (earlier (broken rules.EnumAlias (enums.first_alias aliases keys)) (items_fault numbers.lowest_value numbers.highest_value items))))
+-- an enum as the rules see it
+abbrev pub declared_enum : EnumType → enums.DeclaredEnum
+declared_enum e = record {
+  keys = map value_key e.values.items;
+  names = map value_name e.values.items;
+  items = map value_item e.reserved_numbers.items;
+  reserved_names = map string_bytes e.reserved_names.items;
+  has_aliases = stated_or e.options.allow_alias false;
+}
 
 abbrev pub enum_fault : EnumType → Option Fault
-enum_fault e =
-    earlier (values_fault (stated_or e.options.allow_alias false) (map value_key e.values.items) (map value_item e.reserved_numbers.items))
-    (broken rules.ReservedName (names.first_among (map string_bytes e.reserved_names.items) (map value_name e.values.items)))
+enum_fault e = enums.values_fault nowhere (declared_enum e)
 
 -- ---- files
 
 abbrev pub option_key : FileOption → Keyed
-option_key o = record { key = o.number; at = 0 }
+option_key o = record { key = o.number; at = nowhere }
 
 abbrev pub is_bad_option : FileOption → Bool
 is_bad_option o = not (is_file_option o)

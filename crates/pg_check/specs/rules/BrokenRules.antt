@@ -14,7 +14,7 @@ use Rattle.pg_check.specs.rules.Files.{file_lines, rpc_body, rpc_lines, service_
 use Rattle.pg_check.specs.rules.Firsts.{IsBehind, IsFirst, IsFirstAgain, IsNotAfter, IsOneOf}
 use Rattle.pg_check.specs.rules.KeepsRules.{KeepsRules, OptionsKeep, StatementKeeps, has_field_number, has_key, has_some, has_value_number, is_free, is_free_name, is_no_option, is_packed_rightly, is_right, lies_within, may_be_member, member_options, method_options, oneof_keeps, rises, source_messages, value_options}
 use Rattle.pg_check.specs.parts.MadeParts.{Source}
-use Rattle.pg_check.specs.rules.Members.{DeclaredField, json_named, key_of, members, named, place_of, settings, settings_of}
+use Rattle.pg_check.specs.rules.Members.{DeclaredField, members, place_of, settings, settings_of}
 use Rattle.pg_check.specs.rules.Messages as messages
 use Rattle.pg_check.specs.rules.Names as names
 use Rattle.pg_check.specs.rules.Numbers as numbers
@@ -47,19 +47,24 @@ pub data BreaksItems (lowest highest : ℕ) (items : List Numbers) (place : Plac
 
 -- ---- message types
 
+-- numbers, names and reserved items
+pub data BreaksFields (d : messages.DeclaredMessage) (place : Place) : CheckError → (code declared at : ℕ) → Type 0 where
+  bad_field_number : (k : Keyed) → IsFirst has_field_number d.keys k →
+      BreaksFields d place (errors.BadNumber place) 401 k.at k.at
+  duplicate_number : (k : Keyed) → IsFirstAgain numbers.is_same d.keys k →
+      BreaksFields d place (errors.DuplicateNumber place) 402 k.at k.at
+  reserved_field_number : (k : Keyed) → IsFirst (is_free d.items) d.keys k →
+      BreaksFields d place (errors.ReservedNumber place) 403 k.at k.at
+  reserved_field_name : (n : names.Named) → IsFirst (is_free_name d.reserved_names) d.names n →
+      BreaksFields d place (errors.ReservedName place) 404 n.at n.at
+  bad_field_item : (e : CheckError) (code at : ℕ) → BreaksItems numbers.lowest_field numbers.highest_field d.items place e code at →
+      BreaksFields d place e code at at
+  json_name_clash : (n : names.Named) → IsFirstAgain names.is_same d.json_names n →
+      BreaksFields d place (errors.JsonNameClash place) 406 n.at n.at
+
 pub data BreaksMessage (targets : ℕ → Option Target) (body : List Part) (place : Place) : CheckError → (code declared at : ℕ) → Type 0 where
-  bad_field_number : (k : Keyed) → IsFirst has_field_number (map key_of (members body)) k →
-      BreaksMessage targets body place (errors.BadNumber place) 401 k.at k.at
-  duplicate_number : (k : Keyed) → IsFirstAgain numbers.is_same (map key_of (members body)) k →
-      BreaksMessage targets body place (errors.DuplicateNumber place) 402 k.at k.at
-  reserved_field_number : (k : Keyed) → IsFirst (is_free (messages.items body)) (map key_of (members body)) k →
-      BreaksMessage targets body place (errors.ReservedNumber place) 403 k.at k.at
-  reserved_field_name : (n : names.Named) → IsFirst (is_free_name (messages.reserved_names body)) (map named (members body)) n →
-      BreaksMessage targets body place (errors.ReservedName place) 404 n.at n.at
-  bad_field_item : (e : CheckError) (code at : ℕ) → BreaksItems numbers.lowest_field numbers.highest_field (messages.items body) place e code at →
-      BreaksMessage targets body place e code at at
-  json_name_clash : (n : names.Named) → IsFirstAgain names.is_same (map json_named (members body)) n →
-      BreaksMessage targets body place (errors.JsonNameClash place) 406 n.at n.at
+  in_fields : (e : CheckError) (code declared at : ℕ) → BreaksFields (messages.declared body) place e code declared at →
+      BreaksMessage targets body place e code declared at
   bad_map_key : (m : DeclaredField) → IsFirst has_key (members body) m →
       BreaksMessage targets body place (errors.BadMapKey place) 407 (place_of m) (place_of m)
   bad_oneof_member : (m : DeclaredField) → IsFirst may_be_member (members body) m →
@@ -80,26 +85,31 @@ pub data BreaksMessage (targets : ℕ → Option Target) (body : List Part) (pla
 
 -- ---- enums
 
+-- values and reserved items of an enum that is declared at that byte
+pub data BreaksValues (d : enums.DeclaredEnum) (name_at : ℕ) (place : Place) : CheckError → (code declared at : ℕ) → Type 0 where
+  bad_value_number : (k : Keyed) → IsFirst has_value_number d.keys k →
+      BreaksValues d name_at place (errors.BadNumber place) 401 k.at k.at
+  reserved_value_number : (k : Keyed) → IsFirst (is_free d.items) d.keys k →
+      BreaksValues d name_at place (errors.ReservedNumber place) 403 k.at k.at
+  reserved_value_name : (n : names.Named) → IsFirst (is_free_name d.reserved_names) d.names n →
+      BreaksValues d name_at place (errors.ReservedName place) 404 n.at n.at
+  bad_value_item : (error : CheckError) (code at : ℕ) → BreaksItems numbers.lowest_value numbers.highest_value d.items place error code at →
+      BreaksValues d name_at place error code at at
+  first_not_zero : (k : Keyed) (more : List Keyed) → d.keys ≡ k ∷ more → nat_eq k.key (numbers.rank false 0) ≡ false →
+      BreaksValues d name_at place (errors.EnumFirstNotZero place) 409 k.at k.at
+  alias : (k : Keyed) → d.has_aliases ≡ false → IsFirstAgain numbers.is_same d.keys k →
+      BreaksValues d name_at place (errors.EnumAlias place) 410 k.at k.at
+  empty_enum : has_some d.keys ≡ false →
+      BreaksValues d name_at place (errors.EnumEmpty place) 414 name_at name_at
+
 pub data BreaksEnum (e : tree.Enum.Enum) (place : Place) : CheckError → (code declared at : ℕ) → Type 0 where
-  bad_value_number : (k : Keyed) → IsFirst has_value_number (enums.keys e.parts.items) k →
-      BreaksEnum e place (errors.BadNumber place) 401 k.at k.at
-  reserved_value_number : (k : Keyed) → IsFirst (is_free (enums.items e.parts.items)) (enums.keys e.parts.items) k →
-      BreaksEnum e place (errors.ReservedNumber place) 403 k.at k.at
-  reserved_value_name : (n : names.Named) → IsFirst (is_free_name (enums.reserved_names e.parts.items)) (enums.value_names e.parts.items) n →
-      BreaksEnum e place (errors.ReservedName place) 404 n.at n.at
-  bad_value_item : (error : CheckError) (code at : ℕ) → BreaksItems numbers.lowest_value numbers.highest_value (enums.items e.parts.items) place error code at →
-      BreaksEnum e place error code at at
-  first_not_zero : (k : Keyed) (more : List Keyed) → enums.keys e.parts.items ≡ k ∷ more → nat_eq k.key (numbers.rank false 0) ≡ false →
-      BreaksEnum e place (errors.EnumFirstNotZero place) 409 k.at k.at
-  alias : (k : Keyed) → enums.has_aliases e.parts.items ≡ false → IsFirstAgain numbers.is_same (enums.keys e.parts.items) k →
-      BreaksEnum e place (errors.EnumAlias place) 410 k.at k.at
+  in_values : (error : CheckError) (code declared at : ℕ) → BreaksValues (enums.declared e.parts.items) e.name.span.from place error code declared at →
+      BreaksEnum e place error code declared at
   bad_enum_option : (at : ℕ) → IsFirstBadOption (enums.lines e.parts.items) at →
       BreaksEnum e place (errors.BadOption place) 411 at at
   bad_value_option : (v : tree.EnumValue.EnumValue) (at : ℕ) → IsBehind (λ p. OptionsKeep (value_options p)) e.parts.items (enum_parts.Value v) →
       IsFirstBadOption (value_options (enum_parts.Value v)) at →
       BreaksEnum e place (errors.BadOption place) 411 v.name.span.from at
-  empty_enum : has_some (enums.keys e.parts.items) ≡ false →
-      BreaksEnum e place (errors.EnumEmpty place) 414 e.name.span.from e.name.span.from
 
 -- ---- services and files
 

@@ -1,6 +1,7 @@
 -- Enums (proto3 language specification, "Enum definition"; proto3 language guide, "Enumerations", "Reserved Values").
 use Rattle.std.specs.Prelude.{ℕ, Bool, true, false, nat_eq, ◌&&◌, List, [], ◌∷◌, map, flat_map, codes, Option, Some, None, string_bytes, if◌then◌else◌}
 use Rattle.std.specs.List.{list_any}
+use Rattle.pg_check.specs.declared.rules.enumeration.DeclaredEnum as code
 use Rattle.pg_check.specs.declared.rules.fault.Fault.{Fault}
 use Rattle.pg_check.specs.declared.rules.fault.Rule.TheVariants as rules
 use Rattle.pg_check.specs.declared.rules.numbers.Keyed.{Keyed}
@@ -87,6 +88,33 @@ allows_alias (parts.Value v) = false
 abbrev pub has_aliases : List Part → Bool
 has_aliases body = list_any allows_alias body
 
+-- ---- what the rules see of an enum, whether a source file or a descriptor set declares it
+
+pub record DeclaredEnum : Type 0 where
+  pub keys : List Keyed
+  pub names : List names.Named
+  pub items : List Numbers
+  pub reserved_names : List (List ℕ)
+  pub has_aliases : Bool
+
+abbrev pub declared : List Part → DeclaredEnum
+declared body = record {
+  keys = keys body;
+  names = value_names body;
+  items = items body;
+  reserved_names = reserved_names body;
+  has_aliases = has_aliases body;
+}
+
+abbrev pub seen : code.DeclaredEnum → DeclaredEnum
+seen d = record {
+  keys = d.keys.now;
+  names = map names.called d.names.now;
+  items = d.items.now;
+  reserved_names = map string_bytes d.reserved_names.now;
+  has_aliases = d.has_aliases;
+}
+
 -- ---- rules
 
 -- the first value, where it isn't 0
@@ -113,26 +141,20 @@ part_option (parts.Option o) = None
 part_option (parts.Reserved r) = None
 part_option (parts.Value v) = value_option v
 
-abbrev pub numbers_fault : List Part → Option Fault
-numbers_fault body =
-    earlier (broken rules.BadNumber (numbers.first_outside numbers.lowest_value numbers.highest_value (keys body)))
-    (earlier (broken rules.ReservedNumber (numbers.first_reserved (items body) (keys body)))
-    (earlier (broken rules.EnumFirstNotZero (first_not_zero (keys body)))
-    (broken rules.EnumAlias (first_alias (has_aliases body) (keys body)))))
-
-abbrev pub names_fault : List Part → Option Fault
-names_fault body = broken rules.ReservedName (names.first_among (reserved_names body) (value_names body))
-
 abbrev pub options_fault : List Part → Option Fault
 options_fault body = earlier (broken rules.BadOption (first_bad (lines body))) (first_fault part_option body)
 
-abbrev pub body_fault : List Part → Option Fault
-body_fault body =
-    earlier (numbers_fault body)
-    (earlier (names_fault body)
-    (earlier (items_fault numbers.lowest_value numbers.highest_value (items body))
-    (options_fault body)))
+-- the first rule that the values and the reserved items of an enum break, which is declared at that byte
+abbrev pub values_fault : ℕ → DeclaredEnum → Option Fault
+values_fault at d =
+    earlier (broken rules.EnumEmpty (empty_at at d.keys))
+    (earlier (broken rules.BadNumber (numbers.first_outside numbers.lowest_value numbers.highest_value d.keys))
+    (earlier (broken rules.ReservedNumber (numbers.first_reserved d.items d.keys))
+    (earlier (broken rules.ReservedName (names.first_among d.reserved_names d.names))
+    (earlier (items_fault numbers.lowest_value numbers.highest_value d.items)
+    (earlier (broken rules.EnumFirstNotZero (first_not_zero d.keys))
+    (broken rules.EnumAlias (first_alias d.has_aliases d.keys)))))))
 
 -- the first rule that an enum breaks
 abbrev pub enum_fault : tree.Enum.Enum → Option Fault
-enum_fault e = earlier (broken rules.EnumEmpty (empty_at e.name.span.from (keys e.parts.items))) (body_fault e.parts.items)
+enum_fault e = earlier (values_fault e.name.span.from (declared e.parts.items)) (options_fault e.parts.items)

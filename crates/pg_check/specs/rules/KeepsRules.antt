@@ -12,7 +12,7 @@ use Rattle.pg_check.specs.declared.rules.options.Owner.TheVariants as owners
 use Rattle.pg_check.specs.rules.Enums as enums
 use Rattle.pg_check.specs.rules.Files.{file_lines, rpc_body, rpc_lines, service_lines}
 use Rattle.pg_check.specs.parts.MadeParts.{Source}
-use Rattle.pg_check.specs.rules.Members.{DeclaredField, json_named, key_of, members, named, settings, settings_of}
+use Rattle.pg_check.specs.rules.Members.{DeclaredField, members, settings, settings_of}
 use Rattle.pg_check.specs.rules.Messages as messages
 use Rattle.pg_check.specs.rules.Names as names
 use Rattle.pg_check.specs.rules.Numbers as numbers
@@ -95,13 +95,16 @@ is_packed_rightly targets m = messages.may_be_packed targets m || list_all (λ s
 abbrev pub member_options : DeclaredField → List OptionAt
 member_options m = in_settings owners.Field (settings_of m)
 
+pub record FieldsKeep (d : messages.DeclaredMessage) : Type 0 where
+  pub numbers_fit : list_all has_field_number d.keys ≡ true
+  pub numbers_once : are_apart numbers.is_same d.keys ≡ true
+  pub numbers_free : list_all (is_free d.items) d.keys ≡ true
+  pub names_free : list_all (is_free_name d.reserved_names) d.names ≡ true
+  pub reserved : ItemsKeep numbers.lowest_field numbers.highest_field d.items
+  pub json_names_once : are_apart names.is_same d.json_names ≡ true
+
 pub record MessageKeeps (targets : ℕ → Option Target) (body : List Part) : Type 0 where
-  pub numbers_fit : list_all has_field_number (map key_of (members body)) ≡ true
-  pub numbers_once : are_apart numbers.is_same (map key_of (members body)) ≡ true
-  pub numbers_free : list_all (is_free (messages.items body)) (map key_of (members body)) ≡ true
-  pub names_free : list_all (is_free_name (messages.reserved_names body)) (map named (members body)) ≡ true
-  pub reserved : ItemsKeep numbers.lowest_field numbers.highest_field (messages.items body)
-  pub json_names_once : are_apart names.is_same (map json_named (members body)) ≡ true
+  pub fields : FieldsKeep (messages.declared body)
   pub map_keys : list_all has_key (members body) ≡ true
   pub oneof_members : list_all may_be_member (members body) ≡ true
   pub oneofs : list_all oneof_keeps body ≡ true
@@ -129,14 +132,17 @@ value_options (enum_parts.Option o) = []
 value_options (enum_parts.Reserved r) = []
 value_options (enum_parts.Value v) = in_settings owners.EnumValue v.settings
 
+pub record ValuesKeep (d : enums.DeclaredEnum) : Type 0 where
+  pub has_values : has_some d.keys ≡ true
+  pub first_value : begins_with_zero d.keys ≡ true
+  pub numbers_fit : list_all has_value_number d.keys ≡ true
+  pub numbers_free : list_all (is_free d.items) d.keys ≡ true
+  pub names_free : list_all (is_free_name d.reserved_names) d.names ≡ true
+  pub reserved : ItemsKeep numbers.lowest_value numbers.highest_value d.items
+  pub aliases : (d.has_aliases || are_apart numbers.is_same d.keys) ≡ true
+
 pub record EnumKeeps (body : List enums.Part) : Type 0 where
-  pub has_values : has_some (enums.keys body) ≡ true
-  pub first_value : begins_with_zero (enums.keys body) ≡ true
-  pub numbers_fit : list_all has_value_number (enums.keys body) ≡ true
-  pub numbers_free : list_all (is_free (enums.items body)) (enums.keys body) ≡ true
-  pub names_free : list_all (is_free_name (enums.reserved_names body)) (enums.value_names body) ≡ true
-  pub reserved : ItemsKeep numbers.lowest_value numbers.highest_value (enums.items body)
-  pub aliases : (enums.has_aliases body || are_apart numbers.is_same (enums.keys body)) ≡ true
+  pub values : ValuesKeep (enums.declared body)
   pub options : OptionsKeep (enums.lines body)
   pub value_options : AllByRecursion (λ p. OptionsKeep (value_options p)) body
 

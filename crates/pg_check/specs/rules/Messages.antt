@@ -10,6 +10,7 @@ use Rattle.pg_link.specs.declared.target.Target.{Target}
 use Rattle.pg_check.specs.rules.Enums.{is_true}
 use Rattle.pg_check.specs.rules.Faults.{broken, declared_fault, earlier, or_else, first_fault}
 use Rattle.pg_check.specs.rules.Members.{DeclaredField, Plain, Mapped, members, key_of, named, json_named, place_of, settings, settings_of}
+use Rattle.pg_check.specs.rules.Names.{Named}
 use Rattle.pg_check.specs.rules.Names as names
 use Rattle.pg_check.specs.rules.Numbers as numbers
 use Rattle.pg_check.specs.rules.Options.{OptionAt, in_line, in_settings, is_word, first_bad}
@@ -63,6 +64,24 @@ lines_in (parts.Field f) = []
 -- the option statements of the message
 abbrev pub lines : List Part → List OptionAt
 lines body = flat_map lines_in body
+
+-- ---- what the rules see of the fields, whether a source file or a descriptor set declares them
+
+pub record DeclaredMessage : Type 0 where
+  pub keys : List Keyed
+  pub items : List Numbers
+  pub names : List Named
+  pub reserved_names : List (List ℕ)
+  pub json_names : List Named
+
+abbrev pub declared : List Part → DeclaredMessage
+declared body = record {
+  keys = map key_of (members body);
+  items = items body;
+  names = map named (members body);
+  reserved_names = reserved_names body;
+  json_names = map json_named (members body);
+}
 
 -- ---- oneofs
 
@@ -152,10 +171,13 @@ numbers_fault keys items =
     (earlier (broken rules.ReservedNumber (numbers.first_reserved items keys))
     (items_fault numbers.lowest_field numbers.highest_field items)))
 
-abbrev pub names_fault : List (List ℕ) → List DeclaredField → Option Fault
-names_fault reserved ms =
-    earlier (broken rules.ReservedName (names.first_among reserved (map named ms)))
-    (broken rules.JsonNameClash (names.first_twice (map json_named ms)))
+abbrev pub names_fault : List (List ℕ) → (called json_names : List Named) → Option Fault
+names_fault reserved called json_names =
+    earlier (broken rules.ReservedName (names.first_among reserved called)) (broken rules.JsonNameClash (names.first_twice json_names))
+
+-- the first rule that numbers, names and reserved items break
+abbrev pub fields_fault : DeclaredMessage → Option Fault
+fields_fault d = earlier (numbers_fault d.keys d.items) (names_fault d.reserved_names d.names d.json_names)
 
 abbrev pub shapes_fault : (ℕ → Option Target) → List DeclaredField → Option Fault
 shapes_fault targets ms =
@@ -169,7 +191,4 @@ parts_fault body = earlier (broken rules.BadOption (first_bad (lines body))) (fi
 -- The first rule that a message's own body breaks, without the messages and enums in it. `targets` says what the type name
 -- that begins at a byte of the file names.
 abbrev pub body_fault : (ℕ → Option Target) → List Part → Option Fault
-body_fault targets body =
-    earlier (numbers_fault (map key_of (members body)) (items body))
-    (earlier (names_fault (reserved_names body) (members body))
-    (earlier (shapes_fault targets (members body)) (parts_fault body)))
+body_fault targets body = earlier (fields_fault (declared body)) (earlier (shapes_fault targets (members body)) (parts_fault body))

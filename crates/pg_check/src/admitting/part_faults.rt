@@ -4,6 +4,7 @@ ghost use Rattle.std.specs.Prelude.{◌≡◌, IfOk, map, string_bytes};
 ghost use Rattle.std.specs.List.{list_any};
 ghost use Rattle.pg_schema.specs.rules.Files.{is_file_option};
 ghost use Rattle.pg_check.specs.rules.Faults.{first_fault};
+ghost use Rattle.pg_check.specs.rules.Messages as messages;
 ghost use Rattle.pg_check.specs.rules.Names as names;
 ghost use Rattle.pg_check.specs.admitting.PartFaults as spec;
 
@@ -19,12 +20,15 @@ use pg_schema::{
 };
 use std::alloc::{AllocError, Global};
 
+/// The one position of all that no source file declares.
+pub(crate) const NOWHERE: usize = 0;
+
 /// The fault of a rule that is broken at no place.
 fn fault_if(rule: Rule, is_broken: bool) -> Option<Fault>
     ensures { result ≡ spec.fault_if rule is_broken }
 {
     if is_broken {
-        broken(rule, Some(0))
+        broken(rule, Some(NOWHERE))
     } else {
         None
     }
@@ -38,7 +42,7 @@ fn keys_of(alloc: Global, fields: &[Field]) -> Result<Vec<Keyed>, AllocError>
     for field in fields {
         keys.push(Keyed {
             key: rank(false, u64::from(field.number)),
-            at: 0,
+            at: NOWHERE,
         })?;
     }
     Ok(keys)
@@ -53,7 +57,7 @@ fn items_of(alloc: Global, ranges: &[ReservedFields]) -> Result<Vec<Numbers>, Al
         items.push(Numbers {
             first: rank(false, u64::from(range.first)),
             last: rank(false, u64::from(range.last)),
-            at: 0,
+            at: NOWHERE,
         })?;
     }
     Ok(items)
@@ -67,7 +71,7 @@ fn names_of<'a>(alloc: Global, fields: &'a [Field]) -> Result<Vec<Called<'a>>, A
     for field in fields {
         list.push(Called {
             text: &field.name,
-            at: 0,
+            at: NOWHERE,
         })?;
     }
     Ok(list)
@@ -81,7 +85,7 @@ fn json_names_of(alloc: Global, fields: &[Field]) -> Result<Vec<Titled>, AllocEr
     for field in fields {
         list.push(Titled {
             text: field.json_name.clone()?,
-            at: 0,
+            at: NOWHERE,
         })?;
     }
     Ok(list)
@@ -119,41 +123,28 @@ fn is_badly_packed(field: &Field) -> bool
 fn have_bad_key(fields: &[Field]) -> bool
     ensures { result ≡ list_any spec.field_has_bad_key fields.now }
 {
-    for field in fields {
-        if has_bad_key(field) {
-            return true;
-        }
-    }
-    false
+    fields.iter().any(|field| has_bad_key(field))
 }
 
 /// A field is a member of a oneof and may not be one.
 fn have_bad_member(fields: &[Field]) -> bool
     ensures { result ≡ list_any spec.is_bad_member fields.now }
 {
-    for field in fields {
-        if is_bad_member(field) {
-            return true;
-        }
-    }
-    false
+    fields.iter().any(|field| is_bad_member(field))
 }
 
 /// A field is packed, or stated to be, and may not.
 fn have_badly_packed(fields: &[Field]) -> bool
     ensures { result ≡ list_any spec.field_badly_packed fields.now }
 {
-    for field in fields {
-        if is_badly_packed(field) {
-            return true;
-        }
-    }
-    false
+    fields.iter().any(|field| is_badly_packed(field))
 }
 
 /// The first rule that the names break.
 fn names_fault(alloc: Global, one: &MessageType) -> Result<Option<Fault>, AllocError>
-    ensures { IfOk result (λ fault. fault ≡ spec.names_fault one.now) }
+    ensures { IfOk result (λ fault. fault
+        ≡ messages.names_fault (map string_bytes one.now.reserved_names.items)
+        (map spec.name_of one.now.fields.items) (map spec.json_name_of one.now.fields.items)) }
 {
     let called = names_of(alloc, &one.fields)?;
     let among = first_among(alloc, &one.reserved_names, &called)?;
@@ -186,7 +177,7 @@ fn message_fault(alloc: Global, one: &MessageType) -> Result<Option<Fault>, Allo
     let of_numbers = numbers_fault(alloc, &keys, &items)?;
     let of_names = names_fault(alloc, one)?;
     let of_shapes = shapes_fault(alloc, one)?;
-    Ok(earlier(of_numbers, earlier(of_names, of_shapes)))
+    Ok(earlier(earlier(of_numbers, of_names), of_shapes))
 }
 
 /// The first rule that the message types break.
@@ -232,12 +223,7 @@ fn is_right(option: &FileOption) -> bool
 fn have_bad_option(options: &[FileOption]) -> bool
     ensures { result ≡ list_any spec.is_bad_option options.now }
 {
-    for option in options {
-        if !is_right(option) {
-            return true;
-        }
-    }
-    false
+    options.iter().any(|option| !is_right(option))
 }
 
 /// The options' numbers.
@@ -248,7 +234,7 @@ fn option_keys(alloc: Global, options: &[FileOption]) -> Result<Vec<Keyed>, Allo
     for option in options {
         keys.push(Keyed {
             key: u128::from(option.number),
-            at: 0,
+            at: NOWHERE,
         })?;
     }
     Ok(keys)
@@ -282,7 +268,7 @@ pub(crate) fn parts_fault(alloc: Global, parts: &Parts) -> Result<Option<Fault>,
     ensures { IfOk result (λ fault. fault ≡ spec.parts_fault parts.now) }
 {
     if parts.types.as_slice().len() > MAX_MESSAGE_TYPES {
-        return Ok(broken(Rule::TooManyTypes, Some(0)));
+        return Ok(broken(Rule::TooManyTypes, Some(NOWHERE)));
     }
     let of_types = messages_fault(alloc, &parts.types)?;
     if of_types.is_some() {

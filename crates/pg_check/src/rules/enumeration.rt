@@ -117,16 +117,11 @@ fn allows_alias(part: &EnumPart) -> bool
 fn has_aliases(body: &[EnumPart]) -> bool
     ensures { result ≡ spec.has_aliases body.now }
 {
-    for part in body {
-        if allows_alias(part) {
-            return true;
-        }
-    }
-    false
+    body.iter().any(|part| allows_alias(part))
 }
 
 /// The place of the first value, where it isn't 0.
-pub(crate) fn first_not_zero(keys: &[Keyed]) -> Option<usize>
+fn first_not_zero(keys: &[Keyed]) -> Option<usize>
     ensures { result ≡ spec.first_not_zero keys.now }
 {
     match keys {
@@ -142,7 +137,7 @@ pub(crate) fn first_not_zero(keys: &[Keyed]) -> Option<usize>
 }
 
 /// The place of the first value with the number of one before it.
-pub(crate) fn first_alias(
+fn first_alias(
     alloc: Global,
     has_aliases: bool,
     keys: &[Keyed],
@@ -157,7 +152,7 @@ pub(crate) fn first_alias(
 }
 
 /// The place of the enum, where it has no value.
-pub(crate) fn empty_at(place: usize, keys: &[Keyed]) -> Option<usize>
+fn empty_at(place: usize, keys: &[Keyed]) -> Option<usize>
     ensures { result ≡ spec.empty_at place keys.now }
 {
     match keys {
@@ -190,37 +185,40 @@ fn value_options(alloc: Global, body: &[EnumPart]) -> Result<Option<Fault>, Allo
     Ok(None)
 }
 
-/// The first rule that the values' numbers break.
-fn numbers_fault(
-    alloc: Global,
-    body: &[EnumPart],
-    keys: &[Keyed],
-    items: &[Numbers],
-) -> Result<Option<Fault>, AllocError>
-    requires keys { keys.now ≡ spec.keys body.now }
-    requires items { items.now ≡ spec.items body.now }
-    ensures { IfOk result (λ fault. fault ≡ spec.numbers_fault body.now) }
-{
-    let outside = first_outside(LOWEST_VALUE, HIGHEST_VALUE, keys);
-    let reserved = first_reserved(alloc, items, keys)?;
-    let not_zero = first_not_zero(keys);
-    let alias = first_alias(alloc, has_aliases(body), keys)?;
-    let broken_last = earlier(
-        broken(Rule::EnumFirstNotZero, not_zero),
-        broken(Rule::EnumAlias, alias),
-    );
-    let broken_next = earlier(broken(Rule::ReservedNumber, reserved), broken_last);
-    Ok(earlier(broken(Rule::BadNumber, outside), broken_next))
+/// What the rules see of an enum, whether a source file or a descriptor set declares it.
+#[derive(Clone, Copy)]
+pub(crate) struct DeclaredEnum<'a> {
+    pub keys: &'a [Keyed],
+    pub names: &'a [Called<'a>],
+    pub items: &'a [Numbers],
+    pub reserved_names: &'a [String],
+    pub has_aliases: bool,
 }
 
-/// The first rule that the values' names break.
-fn names_fault(alloc: Global, body: &[EnumPart]) -> Result<Option<Fault>, AllocError>
-    ensures { IfOk result (λ fault. fault ≡ spec.names_fault body.now) }
+/// The first rule that the values and the reserved items of an enum break, which is declared at
+/// that byte.
+pub(crate) fn values_fault(
+    alloc: Global,
+    at: usize,
+    declared: &DeclaredEnum<'_>,
+) -> Result<Option<Fault>, AllocError>
+    ensures { IfOk result (λ fault. fault ≡ spec.values_fault at (spec.seen declared.now)) }
 {
-    let reserved = reserved_names(alloc, body)?;
-    let names = value_names(alloc, body)?;
-    let place = first_among(alloc, &reserved, &names)?;
-    Ok(broken(Rule::ReservedName, place))
+    let keys = declared.keys;
+    let outside = first_outside(LOWEST_VALUE, HIGHEST_VALUE, keys);
+    let reserved = first_reserved(alloc, declared.items, keys)?;
+    let taken = first_among(alloc, declared.reserved_names, declared.names)?;
+    let of_items = items_fault(alloc, LOWEST_VALUE, HIGHEST_VALUE, declared.items)?;
+    let alias = first_alias(alloc, declared.has_aliases, keys)?;
+    let not_zero = broken(Rule::EnumFirstNotZero, first_not_zero(keys));
+    let of_values = earlier(not_zero, broken(Rule::EnumAlias, alias));
+    let of_names = earlier(
+        broken(Rule::ReservedName, taken),
+        earlier(of_items, of_values),
+    );
+    let of_numbers = earlier(broken(Rule::ReservedNumber, reserved), of_names);
+    let of_all = earlier(broken(Rule::BadNumber, outside), of_numbers);
+    Ok(earlier(broken(Rule::EnumEmpty, empty_at(at, keys)), of_all))
 }
 
 /// The first rule that the options of the enum and of its values break.
@@ -233,18 +231,30 @@ fn options_fault(alloc: Global, body: &[EnumPart]) -> Result<Option<Fault>, Allo
     Ok(earlier(broken(Rule::BadOption, place), of_values))
 }
 
+/// The first rule that the values and the reserved items in a body break.
+fn body_fault(alloc: Global, at: usize, body: &[EnumPart]) -> Result<Option<Fault>, AllocError>
+    ensures { IfOk result (λ fault. fault ≡ spec.values_fault at (spec.declared body.now)) }
+{
+    let keys = keys(alloc, body)?;
+    let names = value_names(alloc, body)?;
+    let items = items(alloc, body)?;
+    let reserved_names = reserved_names(alloc, body)?;
+    let declared = DeclaredEnum {
+        keys: &keys,
+        names: &names,
+        items: &items,
+        reserved_names: &reserved_names,
+        has_aliases: has_aliases(body),
+    };
+    values_fault(alloc, at, &declared)
+}
+
 /// The first rule that an enum breaks.
 pub(crate) fn enum_fault(alloc: Global, enumeration: &Enum) -> Result<Option<Fault>, AllocError>
     ensures { IfOk result (λ fault. fault ≡ spec.enum_fault enumeration.now) }
 {
     let body = &enumeration.parts;
-    let keys = keys(alloc, body)?;
-    let items = items(alloc, body)?;
-    let numbers = numbers_fault(alloc, body, &keys, &items)?;
-    let names = names_fault(alloc, body)?;
-    let reserved = items_fault(alloc, LOWEST_VALUE, HIGHEST_VALUE, &items)?;
+    let values = body_fault(alloc, enumeration.name.span.from, body)?;
     let options = options_fault(alloc, body)?;
-    let empty = broken(Rule::EnumEmpty, empty_at(enumeration.name.span.from, &keys));
-    let in_body = earlier(numbers, earlier(names, earlier(reserved, options)));
-    Ok(earlier(empty, in_body))
+    Ok(earlier(values, options))
 }

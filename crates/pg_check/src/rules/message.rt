@@ -3,7 +3,7 @@
 ghost use Rattle.std.specs.Prelude.{◌≡◌, IfOk, map, string_bytes};
 ghost use Rattle.pg_check.specs.parts.EnumPlaces.{target_in};
 ghost use Rattle.pg_check.specs.rules.Faults.{first_fault};
-ghost use Rattle.pg_check.specs.rules.Members.{json_named, key_of, member};
+ghost use Rattle.pg_check.specs.rules.Members.{json_named, key_of, member, named};
 ghost use Rattle.pg_check.specs.rules.Members as members;
 ghost use Rattle.pg_check.specs.rules.Messages as spec;
 ghost use Rattle.pg_check.specs.rules.Names as names;
@@ -300,8 +300,8 @@ fn names_fault(
     reserved: &[String],
     list: &[DeclaredField<'_>],
 ) -> Result<Option<Fault>, AllocError>
-    ensures { IfOk result (λ fault. fault
-        ≡ spec.names_fault (map string_bytes reserved.now) (map member list.now)) }
+    ensures { IfOk result (λ fault. fault ≡ spec.names_fault (map string_bytes reserved.now)
+        (map named (map member list.now)) (map json_named (map member list.now))) }
 {
     let called = names_of(alloc, list)?;
     let among = names::first_among(alloc, reserved, &called)?;
@@ -346,5 +346,6 @@ pub(crate) fn body_fault(
     let of_shapes = shapes_fault(alloc, targets, &list)?;
     let of_lines = broken(Rule::BadOption, first_bad(alloc, &lines)?);
     let of_parts = earlier(of_lines, oneofs_fault(body));
-    Ok(earlier(of_numbers, earlier(of_names, earlier(of_shapes, of_parts))))
+    let of_fields = earlier(of_numbers, of_names);
+    Ok(earlier(of_fields, earlier(of_shapes, of_parts)))
 }

@@ -14,18 +14,24 @@ use Rattle.pg_check.specs.declared.rules.fault.Rule.{Rule}
 use Rattle.pg_check.specs.declared.rules.fault.Rule.TheVariants as rules
 use Rattle.pg_check.specs.admitting.BrokenParts.{BreaksFilePart, BreaksFirst, IsFirstBrokenPart, IsNowhere, KeepsAll, KeepsEnumType, KeepsFilePart, KeepsType, bad_option, in_enum, in_file, in_type, option_again, too_many_types}
 use Rattle.pg_check.specs.Errors.{error_of}
-use Rattle.pg_check.specs.rules.Faults.{broken_at, first_fault, or_else, order}
-use Rattle.pg_check.specs.rules.Firsts.{IsNotAfter}
+use Rattle.pg_check.specs.declared.rules.numbers.Keyed.{Keyed}
+use Rattle.pg_check.specs.rules.Faults.{broken, broken_at, first_fault, or_else, order}
+use Rattle.pg_check.specs.rules.Firsts.{IsFirstAgain, IsNotAfter}
 use Rattle.pg_check.specs.rules.Numbers as numbers
 use Rattle.pg_check.specs.admitting.PartFaults as faults
 use Rattle.pg_check.proofs.lemmas.rules.FirstFaults.{IsFound, Meets, earlier_meets, first_meets, found_left, found_right}
+use Rattle.pg_check.proofs.lemmas.rules.Judged.{again}
+use Rattle.pg_check.proofs.lemmas.rules.JudgedEnums.{values_judged}
 use Rattle.pg_check.proofs.lemmas.rules.NoneLaws.{first_fault_none}
-use Rattle.pg_check.proofs.lemmas.admitting.PartRules.{At, rule_meets, rule_found, test_meets, test_found, of_same}
+use Rattle.pg_check.proofs.lemmas.admitting.PartRules.{At, one_of, test_meets, test_found}
 use Rattle.pg_check.proofs.lemmas.admitting.PartShapes.{some_one, any_one, of_not}
 use Rattle.pg_check.proofs.lemmas.admitting.BrokenTypes.{type_meets, type_found}
 use Rattle.pg_check.proofs.lemmas.admitting.BrokenEnumTypes.{enum_type_meets, enum_type_found}
 
 -- ---- all parts
+
+option_at : (f : File) (k : Keyed) → IsFirstAgain numbers.is_same (map faults.option_key f.options.items) k → k.at ≡ 0
+option_at f k first = one_of faults.option_key numbers.at (λ o. refl) f.options.items first.before first.after k first.is
 
 file_part_meets : (f : File) (place : Place) → Meets (At (BreaksFilePart f place) place) (faults.file_fault f)
 file_part_meets f place =
@@ -34,15 +40,18 @@ file_part_meets f place =
     (test_meets B place rules.BadOption (list_any faults.is_bad_option f.options.items) (λ h.
     let (o, (one, is)) = some_one faults.is_bad_option f.options.items h in
     bad_option o one (of_not (is_file_option o) is)))
-    (rule_meets B place rules.BadOption (numbers.first_twice (map faults.option_key f.options.items)) _ (of_same faults.option_key (λ o. refl) f.options.items) option_again)
+    (λ g h. let (k, first, is) = (again rules.BadOption numbers.is_same numbers.at (map faults.option_key f.options.items)).meets g h in
+    subst (At B place) (sym is) (option_at f k first, option_again k first))
 
 file_part_found : (f : File) (place : Place) (error : CheckError) (c : ℕ) → BreaksFilePart f place error c → IsFound (faults.file_fault f) 0 c
 file_part_found f place error c (bad_option o one is) =
     found_left (faults.fault_if rules.BadOption (list_any faults.is_bad_option f.options.items)) _ 0 411
     (test_found rules.BadOption (list_any faults.is_bad_option f.options.items) (any_one faults.is_bad_option f.options.items o one (ap not is)))
-file_part_found f place error c (option_again h) =
-    found_right (faults.fault_if rules.BadOption (list_any faults.is_bad_option f.options.items)) _ 0 411
-    (rule_found rules.BadOption (numbers.first_twice (map faults.option_key f.options.items)) _ (of_same faults.option_key (λ o. refl) f.options.items) h)
+file_part_found f place error c (option_again k first) =
+    let keys = map faults.option_key f.options.items in
+    let twice = broken rules.BadOption (numbers.first_twice keys) in
+    found_right (faults.fault_if rules.BadOption (list_any faults.is_bad_option f.options.items)) twice 0 411
+    (subst (λ n. IsFound twice n 411) (option_at f k first) ((again rules.BadOption numbers.is_same numbers.at keys).found (broken_at rules.BadOption k.at) (k, first, refl)))
 
 code_low : (declared code other : ℕ) → declared ≡ 0 → IsNotAfter declared code 0 other → code ≤ other
 code_low declared code other zero (inl h) = absurd (omega (arith, h))
@@ -55,7 +64,7 @@ type_keeps : (t : MessageType) → faults.message_fault t ≡ None → KeepsType
 type_keeps t none place e c b = subst (λ o. IsFound o 0 c) none (type_found t place e c b)
 
 enum_type_keeps : (e : EnumType) → faults.enum_fault e ≡ None → KeepsEnumType e
-enum_type_keeps e none place error c b = subst (λ o. IsFound o 0 c) none (enum_type_found e place error c b)
+enum_type_keeps e = (values_judged 0 (faults.declared_enum e)).none.0
 
 file_part_keeps : (f : File) → faults.file_fault f ≡ None → KeepsFilePart f
 file_part_keeps f none place error c b = subst (λ o. IsFound o 0 c) none (file_part_found f place error c b)

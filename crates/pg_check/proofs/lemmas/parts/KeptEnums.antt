@@ -257,16 +257,16 @@ kept_enum e full body is keep =
     let free : list_all (λ n. list_all (is_outside n) (map span_of e.reserved_numbers.items)) (map counted_value vs) ≡ true =
     ap (λ ps. list_all (λ n. list_all (is_outside n) ps) (map counted_value vs)) spans
     ∙ (ap (list_all (λ n. list_all (is_outside n) (map (λ (r : Numbers). (counted r.first, counted r.last)) (enums.items body)))) counted_keys
-    ∙ keys_free lowest_value highest_value lowest_value counted counts keys (enums.items body) keep.numbers_fit keep.reserved.within keep.reserved.rising keep.numbers_free) in
+    ∙ keys_free lowest_value highest_value lowest_value counted counts keys (enums.items body) keep.values.numbers_fit keep.values.reserved.within keep.values.reserved.rising keep.values.numbers_free) in
     let apart : stated_or e.options.allow_alias false ≡ false → all_pairs two_apart (map counted_value vs) ≡ true = λ no.
-    ap (all_pairs two_apart) counted_keys ∙ keys_apart lowest_value highest_value lowest_value counted counts keys keep.numbers_fit
-    (or_true (enums.has_aliases body) (are_apart is_same keys) keep.aliases (λ yes. false≢true (sym no ∙ ap (λ f. stated_or f false) (of_flag ∙ alias_stated body keep.options.once yes)))) in
+    ap (all_pairs two_apart) counted_keys ∙ keys_apart lowest_value highest_value lowest_value counted counts keys keep.values.numbers_fit
+    (or_true (enums.has_aliases body) (are_apart is_same keys) keep.values.aliases (λ yes. false≢true (sym no ∙ ap (λ f. stated_or f false) (of_flag ∙ alias_stated body keep.options.once yes)))) in
     record {
-      first_value = zero_first vs keys of_numbers keep.has_values keep.first_value;
-      ranges = ap (list_all is_value_range) of_ranges ∙ value_ranges (enums.items body) keep.reserved.within keep.reserved.rising;
+      first_value = zero_first vs keys of_numbers keep.values.has_values keep.values.first_value;
+      ranges = ap (list_all is_value_range) of_ranges ∙ value_ranges (enums.items body) keep.values.reserved.within keep.values.reserved.rising;
       names_free = ap (list_all (λ name. not (is_among (rules.value_names vs) name))) of_reserved
           ∙ free_of_each_other (rules.value_names vs) (enums.reserved_names body)
-          (ap (list_all (λ n. not (is_among (enums.reserved_names body) n))) of_names ∙ (list_all-map (λ n. not (is_among (enums.reserved_names body) n)) (λ (n : Named). n.text) (enums.value_names body) ∙ keep.names_free));
+          (ap (list_all (λ n. not (is_among (enums.reserved_names body) n))) of_names ∙ (list_all-map (λ n. not (is_among (enums.reserved_names body) n)) (λ (n : Named). n.text) (enums.value_names body) ∙ keep.values.names_free));
       numbers_once = enum_once (stated_or e.options.allow_alias false) vs e.reserved_numbers.items apart
-          (ap (all_pairs ranges_apart) spans ∙ items_apart lowest_value highest_value lowest_value counted counts (enums.items body) keep.reserved.within keep.reserved.rising keep.reserved.apart) free;
+          (ap (all_pairs ranges_apart) spans ∙ items_apart lowest_value highest_value lowest_value counted counts (enums.items body) keep.values.reserved.within keep.values.reserved.rising keep.values.reserved.apart) free;
     }

@@ -149,7 +149,7 @@ module _ (targets : ℕ → Option Target) (body : List Part) (t : MessageType) 
   pub kept_fields : (n : ℕ) → oneof_count body ≤ n → list_all (is_kept_field n) t.fields.items ≡ true
   kept_fields n le =
       moved_test (is_kept n) list t.fields.items fields.same
-      (fields_kept targets n ms keep.numbers_fit keep.map_keys keep.oneof_members keep.packed (all_in_oneofs 0 n body (omega (arith, le))))
+      (fields_kept targets n ms keep.fields.numbers_fit keep.map_keys keep.oneof_members keep.packed (all_in_oneofs 0 n body (omega (arith, le))))
 
   abbrev number : MadeField → ℕ
   number f = f.number
@@ -160,7 +160,7 @@ module _ (targets : ℕ → Option Target) (body : List Part) (t : MessageType) 
   pub numbers_apart : all_pairs two_apart (map number_of_field t.fields.items) ≡ true
   numbers_apart =
       moved_pairs number two_apart two_symmetric list t.fields.items fields.same
-      (ap (all_pairs two_apart) numbers_are ∙ keys_apart lowest_field highest_field (2 ^ 64) field_number field_counts keys (in_bounds keys keep.numbers_fit) keep.numbers_once)
+      (ap (all_pairs two_apart) numbers_are ∙ keys_apart lowest_field highest_field (2 ^ 64) field_number field_counts keys (in_bounds keys keep.fields.numbers_fit) keep.fields.numbers_once)
 
   pub in_order : list_all (is_kept_field (oneof_count body)) t.fields.items ≡ true → is_rising (0 ∷ rules.numbers t.fields.items) ≡ true
   in_order all =
@@ -189,14 +189,14 @@ module _ (targets : ℕ → Option Target) (body : List Part) (t : MessageType) 
   pub used_once : (rs : List ReservedFields) → rs ≡ map field_range (messages.items body) → is_used_once false (message_uses t.fields.items rs) ≡ true
   used_once rs is =
       let ps = map (λ (r : Numbers). (field_number r.first, field_number r.last)) (messages.items body) in
-      let bounds = in_bounds keys keep.numbers_fit in
+      let bounds = in_bounds keys keep.fields.numbers_fit in
       let free : list_all (λ n. list_all (is_outside n) ps) (map number list) ≡ true =
       ap (list_all (λ n. list_all (is_outside n) ps)) numbers_are
-      ∙ keys_free lowest_field highest_field (2 ^ 64) field_number field_counts keys (messages.items body) bounds keep.reserved.within keep.reserved.rising keep.numbers_free in
+      ∙ keys_free lowest_field highest_field (2 ^ 64) field_number field_counts keys (messages.items body) bounds keep.fields.reserved.within keep.fields.reserved.rising keep.fields.numbers_free in
       let free_fields : list_all (λ f. list_all (is_outside (number_of_field f)) ps) t.fields.items ≡ true =
       moved_test (λ f. list_all (is_outside f.number) ps) list t.fields.items fields.same (sym (list_all-map (λ n. list_all (is_outside n) ps) number list) ∙ free) in
       message_once t.fields.items rs numbers_apart
-      (ap (all_pairs ranges_apart) (spans rs is) ∙ items_apart lowest_field highest_field (2 ^ 64) field_number field_counts (messages.items body) keep.reserved.within keep.reserved.rising keep.reserved.apart)
+      (ap (all_pairs ranges_apart) (spans rs is) ∙ items_apart lowest_field highest_field (2 ^ 64) field_number field_counts (messages.items body) keep.fields.reserved.within keep.fields.reserved.rising keep.fields.reserved.apart)
       (ap (λ qs. list_all (λ f. list_all (is_outside (number_of_field f)) qs) t.fields.items) (spans rs is) ∙ free_fields)
 
   pub names_free : (taken : List (List ℕ)) → taken ≡ messages.reserved_names body → list_all (λ name. not (is_among (rules.field_names t.fields.items) name)) taken ≡ true
@@ -206,7 +206,7 @@ module _ (targets : ℕ → Option Target) (body : List Part) (t : MessageType) 
       ∙ moved_test (λ f. not (is_among taken f.name)) list t.fields.items fields.same
       (list_all-map (λ f. not (is_among taken f.name)) (made_field targets) ms
       ∙ (sym (list_all-map (λ (n : names.Named). not (is_among taken n.text)) named ms)
-      ∙ (ap (λ ns. list_all (λ (n : names.Named). not (is_among ns n.text)) (map named ms)) is ∙ keep.names_free))))
+      ∙ (ap (λ ns. list_all (λ (n : names.Named). not (is_among ns n.text)) (map named ms)) is ∙ keep.fields.names_free))))
 
   pub oneofs_kept : list_all (is_kept_field (oneof_count body)) t.fields.items ≡ true → rules.have_members (oneof_count body) t.fields.items ≡ true
   oneofs_kept all =
@@ -224,7 +224,7 @@ module _ (targets : ℕ → Option Target) (body : List Part) (t : MessageType) 
       ap (all_pairs differ) (map-map (λ (f : MadeField). f.json_name) (made_field targets) ms)
       ∙ (pairs_of_map differ json_name ms
       ∙ pairs_weaker (λ m n. not (names.is_same (json_named n) (json_named m))) (λ m n. differ (json_name m) (json_name n)) (λ m n h. differ_symmetric (json_name n) (json_name m) h) ms
-      (sym (pairs_of_map (λ a b. not (names.is_same b a)) json_named ms) ∙ keep.json_names_once))
+      (sym (pairs_of_map (λ a b. not (names.is_same b a)) json_named ms) ∙ keep.fields.json_names_once))
 
   pub json_names_once : are_distinct (rules.json_names t.fields.items) ≡ true
   json_names_once = moved_pairs (λ (f : MadeField). f.json_name) differ differ_symmetric list t.fields.items fields.same json_apart
@@ -251,7 +251,7 @@ kept_message targets full body nested enums t is keep =
       in_order = in_order targets body t is.fields keep all;
       declared = ap (λ ns. rules.is_declared ns t.fields.items) is.declared ∙ is_declared_so targets body t is.fields keep;
       oneofs = ap (λ k. rules.have_members k t.fields.items) n ∙ oneofs_kept targets body t is.fields keep all;
-      ranges = ap (list_all is_reserved_range) is.reserved_numbers ∙ field_ranges (messages.items body) keep.reserved.within keep.reserved.rising;
+      ranges = ap (list_all is_reserved_range) is.reserved_numbers ∙ field_ranges (messages.items body) keep.fields.reserved.within keep.fields.reserved.rising;
       numbers_once = used_once targets body t is.fields keep t.reserved_numbers.items is.reserved_numbers;
       names_free = names_free targets body t is.fields keep (map string_bytes t.reserved_names.items) is.reserved_names;
       json_names_once = json_names_once targets body t is.fields keep;

@@ -33,10 +33,6 @@ pub broken_meets : (P : Fault → Type 0) (rule : Rule) (o : Option ℕ) → ((n
 broken_meets P rule None k f h = absurd (cc (h))
 broken_meets P rule (Some n) k f h = let same : broken_at rule n ≡ f = cc (h) in subst P same (k n refl)
 
-pub declared_meets : (P : Fault → Type 0) (rule : Rule) (declared : ℕ) (o : Option ℕ) → ((n : ℕ) → o ≡ Some n → P (option_fault rule declared n)) → Meets P (declared_fault rule declared o)
-declared_meets P rule declared None k f h = absurd (cc (h))
-declared_meets P rule declared (Some n) k f h = let same : option_fault rule declared n ≡ f = cc (h) in subst P same (k n refl)
-
 behind_more : {X : Type 0} (Keeps : X → Type 0) (x : X) (xs : List X) (y : X) → Keeps x → IsBehind Keeps xs y → IsBehind Keeps (x ∷ xs) y
 behind_more Keeps x xs y keeps h = record { before = x ∷ h.before; after = h.after; is = ap (λ ys. x ∷ ys) h.is; before_keep = (keeps, h.before_keep) }
 
@@ -98,9 +94,6 @@ found_right (Some f) (Some g) d c h = by (is_before f g) refl
 
 pub broken_found : (rule : Rule) (o : Option ℕ) (n : ℕ) → o ≡ Some n → IsFound (broken rule o) n (order rule)
 broken_found rule o n h = subst (λ p. IsFound (broken rule p) n (order rule)) (sym h) (inr (refl, omega arith))
-
-pub declared_found : (rule : Rule) (declared : ℕ) (o : Option ℕ) (n : ℕ) → o ≡ Some n → IsFound (declared_fault rule declared o) declared (order rule)
-declared_found rule declared o n h = subst (λ p. IsFound (declared_fault rule declared p) declared (order rule)) (sym h) (inr (refl, omega arith))
 
 or_else_found : (a b : Option Fault) (d c : ℕ) → IsFound a d c → IsFound (or_else a b) d c
 or_else_found None b d c h = absurd h

@@ -38,14 +38,6 @@ pub or_else_none : (a b : Option Fault) → (or_else a b ≡ None) ↔ ((a ≡ N
 or_else_none None b = ((λ h. (refl, h)), λ h. h.1)
 or_else_none (Some f) b = ((λ h. absurd (cc (h))), λ h. absurd (cc (h.0)))
 
-pub broken_none : (rule : Rule) (o : Option ℕ) → (broken rule o ≡ None) ↔ (o ≡ None)
-broken_none rule None = ((λ h. refl), λ h. refl)
-broken_none rule (Some n) = ((λ h. absurd (cc (h))), λ h. absurd (cc (h)))
-
-pub declared_none : (rule : Rule) (declared : ℕ) (o : Option ℕ) → (declared_fault rule declared o ≡ None) ↔ (o ≡ None)
-declared_none rule declared None = ((λ h. refl), λ h. refl)
-declared_none rule declared (Some n) = ((λ h. absurd (cc (h))), λ h. absurd (cc (h)))
-
 pub least_none : (a b : Option ℕ) → (least a b ≡ None) ↔ ((a ≡ None) × (b ≡ None))
 least_none None b = ((λ h. (refl, h)), λ h. h.1)
 least_none (Some m) None = ((λ h. absurd (cc (h))), λ h. absurd (cc (h.0)))
