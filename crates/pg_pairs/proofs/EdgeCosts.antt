@@ -134,7 +134,7 @@ module _ (enum_view : EnumView) (table : Table) where
       cost-append others child ∙ ap (lesser_cost (cost others)) is
       ∙ ap (λ cs. lesser_cost (cost cs) (by_children f ps)) (sym (append-nil others) ∙ ap (λ cs. others ++ cs) (sym empty))
 
-  -- behind choices that split come choices without a child
+  -- others without a child follow choices that split
   then_others : (f : FieldShape) (under without others : List Choice) (ps : List Pair) → Splits f under without ps → Splits f (under ++ others) (without ++ others) ps
   then_others f under without others ps split =
       cost-append under others ∙ ap (λ o. lesser_cost o (cost others)) split
