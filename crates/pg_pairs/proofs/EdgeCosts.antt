@@ -18,12 +18,12 @@ use Rattle.pg_pairs.specs.declared.edge.Edge.{Edge}
 use Rattle.pg_pairs.specs.EnumView.{EnumView}
 use Rattle.pg_pairs.specs.Likeness.{like}
 use Rattle.pg_pairs.specs.Costs.{with_length, one_item, least_content}
-use Rattle.pg_pairs.specs.Choices.{child_pair, Table, number_for, choice, choice_of, unlike_cost, child_body, plain_choices, map_choices, joined_choices, choices_beside, all_choices, affordable, choices, no_bounds, choices_by, map_key}
+use Rattle.pg_pairs.specs.Choices.{child_pair, Table, number_for, choice, choice_of, unlike_cost, child_body, plain_choices, map_choices, joined_choices, choices_beside, all_choices, affordable, no_bounds, choices_by, map_key}
 use Rattle.pg_pairs.specs.Cheapest.{cheapest}
 use Rattle.pg_pairs.specs.CheapestLaws.{first_of}
 use Rattle.pg_pairs.specs.Covering.{children_beside, children_by}
 use Rattle.pg_pairs.specs.LeastOf.{cost_under, least_of, lesser_cost}
-use Rattle.pg_pairs.specs.Edges.{LeastCostsByEdges, child_cost, edge_price, edge_to, edges}
+use Rattle.pg_pairs.specs.Edges.{LeastCostsByEdges, child_cost, edge_price, edge_to}
 use Rattle.pg_pairs.proofs.Cheaper.{cheapest-append}
 use Rattle.pg_pairs.proofs.LeastCosts.{cost_of}
 use Rattle.pg_pairs.proofs.Offers.{gap_choice, child_choice, list_choice, like_choices, key_choice, value_choice, map_child_choice, like_map_choices}

@@ -16,7 +16,7 @@ use Rattle.pg_pairs.specs.declared.choice.Pair.{Pair}
 use Rattle.pg_pairs.specs.EnumView.{EnumView}
 use Rattle.pg_pairs.specs.Likeness.{like}
 use Rattle.pg_pairs.specs.Gaps.{gap_item}
-use Rattle.pg_pairs.specs.Choices.{is_oneof, child_pair, zero_counts, choices}
+use Rattle.pg_pairs.specs.Choices.{is_oneof, child_pair, zero_counts}
 
 -- Items with the least bodies: zero; one that isn't zero; and one that isn't an integer's default.
 
@@ -110,7 +110,8 @@ abbrev pub entry_message : EnumView → ℕ → Scalar → Scalar → Element �
 entry_message enum_view number k l e d part child =
     if nat_eq part 1 then key_alone number e (gap_item enum_view true (elements.Scalar k) (elements.Scalar l))
     else if nat_eq part 2
-    then item_alone number (Some (zero_leaf (form (elements.Scalar k)))) (broken_value child (gap_item enum_view true e d))
+    then item_alone number (Some (zero_leaf (form (elements.Scalar k))))
+    (broken_value child (gap_item enum_view true e d))
     else alone number (Some (apart_leaf (elements.Scalar k) (elements.Scalar l))) (apart_item e d)
 
 -- the message of a field's choice, of that case and part, round that child

@@ -41,7 +41,8 @@ items_before number (value ∷ vs) later = with_part number None (value_item val
 
 abbrev pub entries_before : ℕ → List (Value × Value) → Message → Message
 entries_before number [] later = later
-entries_before number (e ∷ es) later = with_part number (Some (leaf_of e.0)) (value_item e.1) (entries_before number es later)
+entries_before number (e ∷ es) later =
+    with_part number (Some (leaf_of e.0)) (value_item e.1) (entries_before number es later)
 
 abbrev pub content_before : ℕ → Content → Message → Message
 content_before number (contents.One value) later = with_part number None (value_item value) later

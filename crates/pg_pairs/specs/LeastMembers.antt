@@ -25,7 +25,8 @@ lesser m (Some n) = if nat_le m.cost n.cost then m else n
 abbrev pub least_member : List FieldShape → Option ℕ → Option ℕ → List FieldShape → Option Member
 least_member gs new old [] = None
 least_member gs new old (f ∷ fs) =
-    if same_oneof new (new_oneof gs f) && not (same_oneof old f.oneof) then Some (lesser (member_of f) (least_member gs new old fs)) else least_member gs new old fs
+    if same_oneof new (new_oneof gs f) && not (same_oneof old f.oneof)
+    then Some (lesser (member_of f) (least_member gs new old fs)) else least_member gs new old fs
 
 -- what both contents cost
 abbrev pub joined_with : Member → Member → Choice

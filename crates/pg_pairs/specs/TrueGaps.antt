@@ -34,21 +34,27 @@ pub record IsUnseen (view : View) (zero : Bool) (old new : Element) (item : Leaf
 -- one with the least body
 pub record IsLeastUnseen (view : View) (zero : Bool) (old new : Element) (item : Leaf) : Type 0 where
   pub unseen : IsUnseen view zero old new item
-  pub least : (other : Leaf) → IsUnseen view zero old new other → body_length (form old) item ≤ body_length (form old) other
+  pub least : (other : Leaf) → IsUnseen view zero old new other →
+      body_length (form old) item ≤ body_length (form old) other
 
 -- the item is a least one that isn't seen; without one, each that counts is seen
 abbrev pub IsGapItem : View → Bool → Element → Element → Option Leaf → Type 0
 IsGapItem view zero old new (Some item) = IsLeastUnseen view zero old new item
-IsGapItem view zero old new None = (item : Leaf) → InRange (form old) item → ItemCounts zero item → is_seen view old new item ≡ true
+IsGapItem view zero old new None =
+    (item : Leaf) → InRange (form old) item → ItemCounts zero item → is_seen view old new item ≡ true
 
--- What the table says of two scalar types is so, whether zero counts or not: the item that it names is a least one of all that count and
--- aren't seen; where it names none, each that counts is seen.
+-- What the table says of two scalar types is so, whether zero counts or not: the item that it names is a least one of
+-- all that count and aren't seen; where it names none, each that counts is seen.
 abbrev pub IsTrueOf : Scalar → Scalar → Gap → Type 0
 IsTrueOf s t gaps.Unlike = like (elements.Scalar s) (elements.Scalar t) ≡ false
-IsTrueOf s t gaps.None = (like (elements.Scalar s) (elements.Scalar t) ≡ true) × ((zero : Bool) → IsGapItem numbers zero (elements.Scalar s) (elements.Scalar t) None)
+IsTrueOf s t gaps.None =
+    (like (elements.Scalar s) (elements.Scalar t) ≡ true)
+    × ((zero : Bool) → IsGapItem numbers zero (elements.Scalar s) (elements.Scalar t) None)
 IsTrueOf s t (gaps.Least length value) =
-    (like (elements.Scalar s) (elements.Scalar t) ≡ true) × (body_length (scalar_form s) (item_named (scalar_form s) value) ≡ length)
-    × ((zero : Bool) → IsGapItem numbers zero (elements.Scalar s) (elements.Scalar t) (Some (item_named (scalar_form s) value)))
+    (like (elements.Scalar s) (elements.Scalar t) ≡ true)
+    × (body_length (scalar_form s) (item_named (scalar_form s) value) ≡ length)
+    × ((zero : Bool) →
+    IsGapItem numbers zero (elements.Scalar s) (elements.Scalar t) (Some (item_named (scalar_form s) value)))
 
 abbrev pub GapTable : Type 0
 GapTable = (s t : Scalar) → IsTrueOf s t (gap s t)
