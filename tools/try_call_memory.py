@@ -3,10 +3,11 @@
 
     tools/try_call_memory.py [--jobs N] [CALL..]
 
-A call is made by a line of a program of rows (crates/*_rows), which `rt ci` built, or by a test (crates/*_tests). It prints `ready` in front
-of the call and `done` behind it, and only what is requested between the two is refused: what the line's own preparation asks for is not.
-Where the call reports that it lacks memory, `Memory` is printed, and the call is made again over the same arguments, those that came back
-where it gives them back. Then the answer is printed, which has to be the row's (crates/*_rows/stdout).
+A call is made by a line of a program of rows (crates/*_rows), which `rt ci` built, or by a test (crates/*_tests). It prints `ready` before
+the line is answered and `done` after it, and only what is requested between the two is refused: what the call asks for, and the line's own
+words and answer. Where the answer is that memory is lacking, `Memory` is printed, and the line is answered again over the same schemas. A
+call that gives back what it was given, or changes what it was lent, is made alone between the two, and again with what came back. Then the
+answer is printed, which has to be the row's (crates/*_rows/stdout).
 
 So each run either says `Memory`, once and between the two lines, and then gives the answer; or it gives the answer all the same. Of a
 call that hands back what it was given, or leaves what it was lent, that line also says what came back, which stands here.
@@ -40,13 +41,13 @@ MOST_PRINTED = 5
 NOT_TRIED = {"read_varint", "Records::next", "Certificate::new", "Sink::write", "write_all", "Message::put", "Schema::of_sound",
              "Sources::read"}
 
-# A call, the crate with its rows, the words in front of its input, and the rows' names. What stands behind `Memory` of each row is what
-# came back, and what was lent as it is then.
-Rows = collections.namedtuple("Rows", "call crate words rows lent", defaults=[()])
-# A call, the crate, the line that makes it, its answer, and what stands behind `Memory`.
-Line = collections.namedtuple("Line", "call crate line answer lent", defaults=[()])
+# Calls with blanks between, the crate with rows that make them, the rows' names, and the words before their input. What comes after `Memory`
+# of each row is what came back, and what was lent as it is then.
+Rows = collections.namedtuple("Rows", "calls crate rows words lent", defaults=["", ()])
+# Calls, the crate, the line that makes them, its answer, and what comes after `Memory`.
+Line = collections.namedtuple("Line", "calls crate line answer lent", defaults=[()])
 # Calls, the crate with their tests, and these tests' names.
-Tests = collections.namedtuple("Tests", "call crate rows")
+Tests = collections.namedtuple("Tests", "calls crate rows")
 
 
 def record(number, value):
@@ -66,6 +67,8 @@ TWO = "M: uint32 a=1; N: N next=1, M m=2 | M: int32 a=1; N: N next=1, M m=2"
 # A field of each kind of change, in a type that another has; a type that is removed, and one that is added.
 REPOSITORY = ("T: uint32 a=1, repeated string b=2, int32 c=3, int32 d=4, map<uint32,string> e=5; U: T t=1; V: int32 x=1 |"
               " T: int32 a=1, string b=2, string c=3, bool d=4, map<int32,string> e=5; U: T t=1; W: int32 x=1")
+# A message of texts, lists and a child that no change touches.
+KEPT = "M0: repeated string f1=1, string f2=2, M0 f3=3 | M0: repeated bytes f1=1, M0 f3=3 | 0 0 | 0 | 0a01611201621a03120163"
 # The message types that are written of descriptor.proto, in its order.
 DESCRIPTOR = ("FileDescriptorSet FileDescriptorProto DescriptorProto DescriptorProto.ReservedRange FieldDescriptorProto OneofDescriptorProto"
               " EnumDescriptorProto EnumDescriptorProto.EnumReservedRange EnumValueDescriptorProto ServiceDescriptorProto"
@@ -75,99 +78,93 @@ DESCRIPTOR = ("FileDescriptorSet FileDescriptorProto DescriptorProto DescriptorP
 SETS = ["protoc's set of %s.proto" % name for name in ("m", "maps", "oneofs", "enums", "services", "d")]
 
 CALLS = [
-    Rows("lex", "text_rows", "", ["the escapes of control characters", "a character over two literals", "a float on the second line"]),
-    Rows("parse", "text_rows", "", ["each part of a message, one token a word"]),
-    Rows("tree::Text::joined", "text_rows", "", ["an import's path of three literals"]),
-    Rows("link", "text_rows", "", ["a file that two files import", "a circle of three files", "two messages of one name"]),
-    Rows("link", "text_rows", "", ["an import of an import", "a missing import", "one path twice in a file"]),
-    Rows("link", "text_rows", "", ["a message with the name of a field", "a name that only a field bears", "the full name of a value"]),
-    Rows("link", "text_rows", "", ["uses of types in fields, maps and rpcs", "the first part of a dotted name decides", "a service as a type"]),
+    Rows("lex", "text_rows", ["the escapes of control characters", "a character over two literals", "a float on the second line"]),
+    Rows("parse", "text_rows", ["each part of a message, one token a word"]),
+    Rows("tree::Text::joined", "text_rows", ["an import's path of three literals"]),
+    Rows("link", "text_rows", ["a file that two files import", "a circle of three files", "two messages of one name"]),
+    Rows("link", "text_rows", ["an import of an import", "a missing import", "one path twice in a file"]),
+    Rows("link", "text_rows", ["a message with the name of a field", "a name that only a field bears", "the full name of a value"]),
+    Rows("link", "text_rows", ["uses of types in fields, maps and rpcs", "the first part of a dotted name decides", "a service as a type"]),
     Line("link_below", "text_rows", "links | d/a.proto=~import \"b.proto\"; ; d/b.proto=~ ; a.proto=a | below d | from a.proto",
          "b.proto ; a.proto"),
-    Rows("read_file", "text_rows", "", ["a file read below a folder"]),
-    Rows("place_in", "text_rows", "", ["the place of byte 3 of a file"]),
-    Rows("Linked::resolve", "text_rows", "", ["a name in the scope of its own message"]),
-    Rows("Linked::targets_by_place", "text_rows", "", ["what uses resolve to, by their first bytes"]),
-    Rows("build", "text_rows", "", ["the message types of two files", "the services of two files"]),
-    Rows("build", "text_rows", "", ["a number given twice", "a number in two reserved items"]),
-    Rows("admit", "text_rows", "", ["parts: two fields", "parts: an enum of two values", "parts: a reserved number"]),
-    Rows("default_json_name", "text_rows", "", ["the default JSON name of foo_bar, as protoc makes it"]),
+    Rows("read_file", "text_rows", ["a file read below a folder"]),
+    Rows("place_in", "text_rows", ["the place of byte 3 of a file"]),
+    Rows("Linked::resolve", "text_rows", ["a name in the scope of its own message"]),
+    Rows("build", "text_rows", ["the message types of two files", "the services of two files"]),
+    Rows("build", "text_rows", ["a number given twice", "a number in two reserved items"]),
+    Rows("admit", "text_rows", ["parts: two fields", "parts: an enum of two values", "parts: a reserved number"]),
+    Rows("default_json_name", "text_rows", ["the default JSON name of foo_bar, as protoc makes it"]),
     Line("entry_name", "text_rows", "parts | entry_name | foo_bar", "FooBarEntry"),
     Line("full_name", "text_rows", "parts | full_name | p.M inner", "p.M.inner"),
     # The parts come back, with both types.
-    Rows("Schema::from_parts", "text_rows", "", ["parts: two types"], ["2"]),
+    Rows("Schema::from_parts", "text_rows", ["parts: two types"], lent=["2"]),
     # A member of a oneof that would clear another one, and for which there is no room.
-    Line("Message::set", "bytes_rows", "set 1 =1 7 =2 1 =4 1 =5 1 =6 1 =7 8 =3", "080118082001280130013801", [back("8", *(record(*it) for it in MEMBERS))]),
-    Rows("Message::set", "bytes_rows", "set", ["a map's entries are kept by rising key"], [back("{2:1 1:0 -1:1}")]),
-    Rows("Message::set", "bytes_rows", "set", ["a key twice"], [back("{1:1 1:0}", record(2, 7))]),
-    Rows("Message::set", "bytes_rows", "set", ["equal keys among others come back in their order"], [back("{3:1 1:0 3:0 2:1}")]),
-    Rows("Message::set", "bytes_rows", "set", ["a map that is set by falling keys is written by rising ones"], [back("{3:1 1:0}", record(2, 7))]),
-    Rows("Message::set", "bytes_rows", "set", ["a text and bytes are one key"], [back("{'k:# #6b:#}", record(2, 7))]),
-    Rows("Message::set", "bytes_rows", "set", ["bytes are set as a text"], [back("#61")]),
+    Line("Message::set", "bytes_rows", "set 1 =1 7 =2 1 =4 1 =5 1 =6 1 =7 8 =3", "080118082001280130013801",
+         [back("8", *(record(*it) for it in MEMBERS))]),
+    Rows("Message::set", "bytes_rows", ["a map's entries are kept by rising key"], lent=[back("{2:1 1:0 -1:1}")]),
+    Rows("Message::set", "bytes_rows", ["a key twice"], lent=[back("{1:1 1:0}", record(2, 7))]),
+    Rows("Message::set", "bytes_rows", ["equal keys among others come back in their order"], lent=[back("{3:1 1:0 3:0 2:1}")]),
+    Rows("Message::set", "bytes_rows", ["a map that is set by falling keys is written by rising ones"],
+         lent=[back("{3:1 1:0}", record(2, 7))]),
+    Rows("Message::set", "bytes_rows", ["a text and bytes are one key"], lent=[back("{'k:# #6b:#}", record(2, 7))]),
+    Rows("Message::set", "bytes_rows", ["bytes are set as a text"], lent=[back("#61")]),
     # The numbers stay. A list of words begins with room for four.
     Line("NumberList::push", "bytes_rows", "push 1 2 3 4 =1+int32", "1 2 3 4 7", ["1 2 3 4"]),
-    Rows("Message::whole", "bytes_rows", "whole", ["messages in a list, a map and a field, and an explicit zero"]),
-    Rows("Message::whole", "bytes_rows", "whole", ["a map by falling keys is written by rising ones"]),
-    Rows("decode", "bytes_rows", "decode", ["a message in two parts, each with contents of all shapes"]),
-    Rows("decode_ref", "bytes_rows", "decode_ref", ["a message in two parts, each with contents of all shapes"]),
-    Rows("decode_ref_unlimited", "bytes_rows", "decode_ref_unlimited", ["a message of all shapes is read without a limit"]),
-    Rows("encode", "bytes_rows", "encode", ["a copy of all shapes and of unknown records"]),
-    Rows("encode_ref", "bytes_rows", "encode_ref", ["a copy of all shapes and of unknown records"]),
-    Rows("MessageRef::to_message", "bytes_rows", "to_message", ["a copy of all shapes and of unknown records"]),
-    Rows("encode_unshared_ref", "bytes_rows", "encode_unshared_ref", ["what a type with the fields 4 doesn't have"]),
-    Rows("show", "bytes_rows", "show", ["all of these and unknown records are shown"]),
+    Rows("Message::whole", "bytes_rows", ["messages in a list, a map and a field, and an explicit zero"]),
+    Rows("Message::whole", "bytes_rows", ["a map by falling keys is written by rising ones"]),
+    Rows("decode decode_ref encode encode_ref", "bytes_rows", ["a message in two parts, each with contents of all shapes"]),
+    Rows("decode_ref_unlimited", "bytes_rows", ["a message of all shapes is read without a limit"]),
+    Rows("encode MessageRef::to_message", "bytes_rows", ["a copy of all shapes and of unknown records"]),
+    Rows("encode_unshared_ref", "bytes_rows", ["what a type with the fields 4 doesn't have"]),
+    Rows("show", "bytes_rows", ["all of these and unknown records are shown"]),
     Line("bytes_of_hex", "bytes_rows", "hex 0805120178", "0805120178"),
-    Rows("options", "answer_rows", "choices", ["choices of two fields that meet beside a child"]),
-    Rows("children", "answer_rows", "children", ["children beside two fields that meet"]),
-    Rows("cheapest", "answer_rows", "cheapest", ["the cheapest of two choices", "the cheapest two members of different old oneofs"]),
+    Rows("options", "answer_rows", ["choices of two fields that meet beside a child"]),
+    Rows("children", "answer_rows", ["children beside two fields that meet"]),
+    Rows("cheapest", "answer_rows", ["the cheapest of two choices", "the cheapest two members of different old oneofs"]),
     Line("reached_pairs", "answer_rows", f"reached_pairs | {TWO} | 1 1", "1 1, 0 0"),
     Line("reached_from", "answer_rows", f"reached_from | {TWO} | 0 0 | 1 1", "0 0, 1 1"),
     Line("Prices::children", "answer_rows", f"Prices::children | {TWO} | 1 1", "1 1, 0 0"),
     Line("Prices::edges", "answer_rows", f"Prices::edges | {TWO} | 1 1", "1 1, 0 0"),
     # The work that it was lent is as it was.
     Line("Prices::base", "answer_rows", f"Prices::base | {TWO} | 0 0", "6 1", ["0"]),
-    Rows("carry", "answer_rows", "carry", ["message of an entry round a child that breaks"]),
+    Rows("carry", "answer_rows", ["message of an entry round a child that breaks"]),
     # A number that a signed reader takes for one below 0: a tag, and the five bytes of 2^31.
     Line("causes", "answer_rows", f"causes | {TWO} | 0 0", "1 2 0 6"),
     Line("carry_cause", "answer_rows", f"carry_cause | {TWO} | 0 0", "088080808008"),
-    Rows("breaks", "answer_rows", "breaks", ["lists, texts and a child are kept"]),
-    Rows("breaks_as_written", "answer_rows", "breaks_as_written", ["lists, texts and a child are kept"]),
-    Rows("returns", "answer_rows", "returns", ["in a child of a child that leads back"]),
-    Rows("search", "answer_rows", "search", ["search of four steps down to no change", "search of a bound that falls"]),
-    Rows("find", "answer_rows", "find", ["search of four steps down"]),
-    Rows("search_counted", "answer_rows", "counts", ["work of a type that holds itself and changes"]),
-    Rows("settle", "answer_rows", "drawn", ["bounds of a graph in which an edge costs three times the bound"]),
+    Rows("breaks", "answer_rows", ["lists, texts and a child are kept"]),
+    Line("breaks_as_written", "answer_rows", f"breaks_as_written | {KEPT}", "kept"),
+    Rows("returns", "answer_rows", ["in a child of a child that leads back"]),
+    Rows("search find_with", "answer_rows", ["search of four steps down to no change", "search of a bound that falls"]),
+    Rows("search find_with", "answer_rows", ["search of four steps down"]),
+    Rows("search_counted", "answer_rows", ["work of a type that holds itself and changes"]),
+    Rows("settle", "answer_rows", ["bounds of a graph in which an edge costs three times the bound"]),
     # The child's bound, and a tag and a length more; two numbers, two edges to a number, two pairs.
     Line("settle_from", "answer_rows", f"settle_from | {TWO} | 0 0 | 1 1", "0 0 6, 1 1 8 | 2 2 2"),
     Line("bounds_from", "answer_rows", f"bounds_from | {TWO} | 0 0 | 1 1", "0 0 6, 1 1 8 | 2 2 2"),
-    Rows("path", "answer_rows", "path", ["way of four steps down"]),
-    Rows("search_with", "answer_rows", "search_with", ["by names, a renamed number in a child, found"]),
-    Rows("find_with", "answer_rows", "find_with", ["by names, a renamed number in a child, found"]),
+    Rows("path", "answer_rows", ["way of four steps down"]),
+    Rows("search_with find_with", "answer_rows", ["by names, a renamed number in a child, found"]),
     # The bounds come back as the row spells them.
-    Rows("Bounds::new", "answer_rows", "table", ["bounds of two pairs make a table"], ["0 0 2147483647, 1 0 none"]),
-    Rows("Bounds::new", "answer_rows", "table", ["a pair twice makes no table"], ["0 0 none, 0 0 2"]),
-    Rows("check", "answer_rows", "check", ["a witness that is longer than the bound", "a child is missing"]),
-    Rows("to_text", "answer_rows", "to_text", ["a text of two pairs without a witness", "a renamed number in a text by names"]),
-    Rows("from_text", "answer_rows", "from_text", ["a text of a witness of all letters", "a renamed number in a text by names"]),
+    Rows("Bounds::new", "answer_rows", ["bounds of two pairs make a table"], lent=["0 0 2147483647, 1 0 none"]),
+    Rows("Bounds::new", "answer_rows", ["a pair twice makes no table"], lent=["0 0 none, 0 0 2"]),
+    Rows("check", "answer_rows", ["a witness that is longer than the bound", "a child is missing"]),
+    Rows("from_text to_text", "answer_rows", ["a text of two pairs without a witness", "a text of a witness of all letters"]),
+    Rows("from_text to_text", "answer_rows", ["a renamed number in a text by names"]),
     Line("descriptor_schema", "fds_rows", "descriptor_schema", "".join(f"google.protobuf.{it} " for it in DESCRIPTOR)),
-    Rows("read", "fds_rows", "read", ["changed: no JSON name in oneofs", "refused: an alias", *SETS]),
-    Rows("write", "fds_rows", "write", SETS),
-    Rows("read_again", "fds_rows", "read_again", SETS),
-    Rows("gate", "view_rows", "gate", ["a renamed number in a child"]),
-    Rows("gate_with", "view_rows", "gate_with", ["a renamed number in a child"]),
+    Rows("read", "fds_rows", ["changed: no JSON name in oneofs", "refused: an alias"]),
+    Rows("read write read_again", "fds_rows", SETS),
+    Rows("gate", "view_rows", ["a renamed number in a child"], "gate"),
+    Rows("gate_with", "view_rows", ["a renamed number in a child"], "gate_with"),
     Line("gate_all", "view_rows", f"gate_all {REPOSITORY}",
          "Value 088080808008, ListToOne 1200, Unlike 1801, Value 2002, MapKey 2a080880808080081200, breaks T 2, breaks U 4, removed V, added W"),
     Line("gate_all", "view_rows", "gate_all E: A=0, B=1; M: E e=1, map<int32,E> m=2 | E: A=0, C=1; M: E e=1, map<int32,E> m=2",
          "Name 0801, MapValue 120408001001, breaks M 2"),
-    Rows("relay", "view_rows", "relay", ["what the new type lacks is handed on"]),
+    Rows("relay", "view_rows", ["what the new type lacks is handed on"], "relay"),
     Tests("gate_files", "gate_tests", ["a_gate_over_files_answers_one_of_two", "a_gate_over_files_tells_the_old_side_first"]),
     Tests("Reply::into_text", "gate_tests", ["a_reply_is_a_text", "a_reply_of_all_types_is_a_text"]),
     # The sink is left alone where `run` lacks memory.
     Tests("run", "gate_tests", ["compiles_again", "shows_again", "verifies_again", "gates_in_both_directions_again", "gates_a_oneof_again",
                                 "gates_all_types_again"]),
 ]
-# In a row of these crates the words of a call stand in front of this; what stands before it is another call's, or nothing.
-ENDS = {"bytes_rows": " ", "answer_rows": " | "}
 
 
 def lines_of(crate, name):
@@ -201,15 +198,13 @@ def row_of(crate, row):
 def line_of_call(call, row):
     """Returns the lines that make a call, and what is printed of them in front of `ready` and behind `done`."""
     if isinstance(call, Line):
-        before, told = ([ONEOF], ["a oneof among others | taken"]) if call.call == "Message::set" else ([], [])
-        return [*before, f"{call.call} | retry {call.line}"], told, f"{call.call} | {call.answer}"
+        before, told = ([ONEOF], ["a oneof among others | taken"]) if call.calls == "Message::set" else ([], [])
+        return [*before, f"{call.calls} | retry {call.line}"], told, f"{call.calls} | {call.answer}"
     before, told, input_, answer = row_of(call.crate, row)
-    if call.crate in ENDS:
-        input_ = input_.partition(ENDS[call.crate])[2]
-    if call.crate == "view_rows" and call.call != "relay":
-        answer = answer.split(" | ")[call.call == "gate_with"]
-    words = call.words + (ENDS.get(call.crate, " ") if call.words else "")
-    return [*before, f"{row} | retry {words}{input_}"], told, f"{row} | {answer}"
+    if call.words.startswith("gate"):
+        # A row shows what the types answer by numbers, and by names.
+        answer = answer.split(" | ")[call.words == "gate_with"]
+    return [*before, f"{row} | retry {' '.join([call.words, input_]).strip()}"], told, f"{row} | {answer}"
 
 
 def kind_of(said, told, answer, lent):
@@ -259,11 +254,11 @@ def try_one(call, name, library):
         counts["refused"] += turn > 0
         counts[kind] += turn > 0 or kind == "wrong"
         if kind == "wrong" and counts[kind] <= MOST_PRINTED:
-            print(f"{call.call}, {name!r}, request {turn}: {seen}", flush=True)
+            print(f"{call.calls}, {name!r}, request {turn}: {seen}", flush=True)
         if counts["wrong"] > MOST_PRINTED:
             break
     if not counts["told"]:
-        print(f"{call.call}, {name!r}: none of its requests is reported", flush=True)
+        print(f"{call.calls}, {name!r}: none of its requests is reported", flush=True)
         counts["wrong"] += 1
     return counts
 
@@ -277,7 +272,7 @@ def options_of():
 
 def missing_calls():
     """Prints which calls of docs/CALLS.md are tried by no line, and which are tried and not there; returns how many."""
-    listed, tried = listed_calls(), {it.call for it in CALLS} | NOT_TRIED
+    listed, tried = listed_calls(), {name for it in CALLS for name in it.calls.split()} | NOT_TRIED
     for what, calls in (("is tried by no line", listed - tried), ("isn't in docs/CALLS.md", tried - listed)):
         for call in sorted(calls):
             print(f"{call} {what}")
@@ -288,18 +283,18 @@ def print_sums(tries, found, begun):
     """Prints a line for each call and the sums, and returns whether all is well."""
     sums = collections.defaultdict(collections.Counter)
     for (call, _), counts in zip(tries, found):
-        sums[call.call].update(counts)
-    for call, counts in sums.items():
-        print(f"{call}: {line_of(counts)}")
+        sums[call.calls].update(counts)
+    for calls, counts in sums.items():
+        print(f"{calls}: {line_of(counts)}")
     said, is_well = sums_of(sum(sums.values(), collections.Counter()), begun)
-    print(f"{len(sums)} calls by {len(tries)} rows and tests: {said}")
+    print(f"{len(set(' '.join(sums).split()))} calls by {len(tries)} rows and tests: {said}")
     return bool(found) and is_well
 
 
 def main():
     options, begun = options_of(), time.time()
-    calls = [it for it in CALLS if not options.calls or it.call in options.calls]
-    tries = [(it, row) for it in calls for row in getattr(it, "rows", [it.call])]
+    calls = [it for it in CALLS if not options.calls or set(it.calls.split()) & set(options.calls)]
+    tries = [(it, row) for it in calls for row in getattr(it, "rows", [it.calls])]
     missing = 0 if options.calls else missing_calls()
     ask_for_stack()
     with tempfile.TemporaryDirectory(prefix="protogate-memory-") as room:

@@ -1,86 +1,84 @@
-//! Choices, and the children of pairs.
-use crate::shown;
-use crate::shown::{add, or_none};
+//! Choices and causes.
+use crate::messages::spelled;
+use crate::shown::{Shown, list_or_none};
 use crate::spelled::{pair_of, table_of};
-use pg_pairs::{Choice, Pair, View, cheapest, children, choice_child, options};
-use pg_schema::Schema;
+use pg_pairs::{Choice, Pair, Priced, carry_cause, causes, cheapest, choice_child, options};
 use rows::cut;
 use std::alloc::{AllocError, Global};
 
-pub(crate) fn list_of(alloc: Global, choices: &[Choice]) -> Result<String, AllocError> {
-    let mut list = String::new(alloc);
-    for choice in choices {
-        let choice = shown::choice(alloc, choice)?;
-        add(&mut list, choice.as_str())?;
-    }
-    or_none(alloc, list)
-}
-
 /// `choices | OLD | NEW | PAIR | BOUNDS`: the choices of the pair.
-pub(crate) fn choices<V: View>(
+pub(crate) fn choices(
     alloc: Global,
-    view: &V,
-    old: &Schema,
-    new: &Schema,
+    graph: &Priced<'_>,
     words: &str,
 ) -> Result<String, AllocError> {
     let (pair, bounds) = cut(words);
-    let Some(table) = table_of(alloc, bounds)? else {
-        return String::from_str(alloc, "no table");
-    };
-    let choices = options(alloc, view, old, new, pair_of(pair), &table)?;
-    list_of(alloc, &choices)
+    match table_of(alloc, bounds)? {
+        Some(table) => list_or_none(alloc, &options(alloc, graph, pair_of(pair), &table)?),
+        None => String::from_str(alloc, "no table"),
+    }
 }
 
 /// The choice, and its child where it has one.
-pub(crate) fn with_child(
-    alloc: Global,
-    choice: &Choice,
-    child: Option<Pair>,
-) -> Result<String, AllocError> {
-    let text = shown::choice(alloc, choice)?;
+fn with_child(alloc: Global, choice: &Choice, child: Option<Pair>) -> Result<String, AllocError> {
+    let choice = choice.shown(alloc)?;
     match child {
-        Some(Pair { old, new }) => { format!(in alloc; "{text} child {} {}", old.index, new.index) }
-        None => Ok(text),
+        Some(Pair { old, new }) => {
+            format!(in alloc; "{choice} child {} {}", old.index, new.index)
+        }
+        None => Ok(choice),
+    }
+}
+
+fn cheapest_shown(
+    alloc: Global,
+    graph: &Priced<'_>,
+    pair: Pair,
+    found: Option<Choice>,
+) -> Result<String, AllocError> {
+    match found {
+        Some(choice) => {
+            let child = choice_child(graph.old, graph.new, pair, &choice);
+            with_child(alloc, &choice, child)
+        }
+        None => String::from_str(alloc, "none"),
     }
 }
 
 /// `cheapest | OLD | NEW | PAIR | BOUNDS`: the cheapest choice of the pair, and the child that its
 /// message holds.
-pub(crate) fn cheapest_choice<V: View>(
+pub(crate) fn cheapest_choice(
     alloc: Global,
-    view: &V,
-    old: &Schema,
-    new: &Schema,
+    graph: &Priced<'_>,
     words: &str,
 ) -> Result<String, AllocError> {
     let (pair, bounds) = cut(words);
     let pair = pair_of(pair);
-    let Some(table) = table_of(alloc, bounds)? else {
-        return String::from_str(alloc, "no table");
-    };
-    match cheapest(alloc, view, old, new, pair, &table)? {
-        Some(choice) => with_child(alloc, &choice, choice_child(old, new, pair, &choice)),
-        None => String::from_str(alloc, "none"),
+    match table_of(alloc, bounds)? {
+        Some(table) => cheapest_shown(alloc, graph, pair, cheapest(alloc, graph, pair, &table)?),
+        None => String::from_str(alloc, "no table"),
     }
 }
 
-pub(crate) fn list_of_pairs(alloc: Global, pairs: &[Pair]) -> Result<String, AllocError> {
-    let mut list = String::new(alloc);
-    for pair in pairs {
-        let pair = shown::pair(alloc, *pair)?;
-        add(&mut list, pair.as_str())?;
-    }
-    or_none(alloc, list)
-}
-
-/// `children | OLD | NEW | PAIR`: the children of the pair.
-pub(crate) fn child_pairs(
+/// `causes | OLD | NEW | PAIR`: the causes of the pair.
+pub(crate) fn causes_of(
     alloc: Global,
-    old: &Schema,
-    new: &Schema,
+    graph: &Priced<'_>,
     words: &str,
 ) -> Result<String, AllocError> {
-    let pairs = children(alloc, old, new, pair_of(words))?;
-    list_of_pairs(alloc, &pairs)
+    list_or_none(alloc, &causes(alloc, graph, pair_of(words))?)
+}
+
+/// `carry_cause | OLD | NEW | PAIR`: the message of the first cause of the pair.
+pub(crate) fn carry_first_cause(
+    alloc: Global,
+    graph: &Priced<'_>,
+    words: &str,
+) -> Result<String, AllocError> {
+    let pair = pair_of(words);
+    let causes = causes(alloc, graph, pair)?;
+    match causes.first() {
+        Some(cause) => spelled(alloc, graph.old, &carry_cause(alloc, graph, pair, cause)?),
+        None => String::from_str(alloc, "no cause"),
+    }
 }

@@ -3,16 +3,12 @@
 ghost use Rattle.std.specs.Prelude.{◌≡◌, ◌∷◌, [], map, IfOk};
 ghost use Rattle.answer_rows.specs.Drawn.{base_at, edges_from, pair, price, to};
 
-use crate::searches::list_of;
-use crate::shown;
+use crate::searches::shown_bounds;
 use crate::spelled::number_at;
-use pg_cert::Bounds;
 use pg_least::settle;
 use pg_pairs::{Edge, Pair, Part, Prices, Work};
 use pg_schema::TypeId;
-use rows::retry;
 use std::alloc::{AllocError, Global};
-use std::io;
 
 /// Nine pairs. Pair 0 costs 50, or three times what pair 1 does, which costs 7. Pairs 2 and 3 lead
 /// to each other and cost nothing else. Pair 4 costs 190, or 200 less what pair 5 or pair 6 costs,
@@ -169,26 +165,5 @@ pub(crate) fn drawn_bounds(alloc: Global, words: &str) -> Result<String, AllocEr
     if !Drawn.knows(root) {
         return String::from_str(alloc, "no such pair");
     }
-    let (bounds, work) = settle(alloc, &Drawn, root)?;
-    shown_bounds(alloc, &bounds, &work)
-}
-
-pub(crate) fn shown_bounds(
-    alloc: Global,
-    bounds: &Bounds,
-    work: &Work,
-) -> Result<String, AllocError> {
-    let list = list_of(alloc, bounds)?;
-    let work = shown::work(alloc, work)?;
-    format!(in alloc; "{list} | {work}")
-}
-
-/// `drawn | NUMBER`: the same by a call of `settle` that is made again where it lacks memory.
-pub(crate) fn retried(rt: &HostRuntime, words: &str) -> io::Result<String> {
-    let root = pair(number_at(words, 0));
-    if !Drawn.knows(root) {
-        return Ok(String::from_str(rt.alloc(), "no such pair")?);
-    }
-    let (bounds, work) = retry!(rt, Err(AllocError), settle(rt.alloc(), &Drawn, root))?;
-    Ok(shown_bounds(rt.alloc(), &bounds, &work)?)
+    shown_bounds(alloc, &settle(alloc, &Drawn, root)?)
 }

@@ -1,13 +1,18 @@
 //! The messages of choices, and messages that break.
 ghost use Rattle.std.specs.Prelude.{IfOk, IfSome};
 ghost use Rattle.pg_schema.specs.Parts.{shape_of};
-ghost use Rattle.pg_pairs.specs.Carried.{IsChoiceOf};
-ghost use Rattle.pg_pairs.specs.SeenBy.{seen_by};
+ghost use Rattle.pg_dyn.specs.Fits.{Fits};
+ghost use Rattle.pg_pairs.specs.CarriedChoices.{IsChoiceOf};
+ghost use Rattle.pg_pairs.specs.GraphView.{seen};
 
 use crate::spelled::{choice_of, hex_bytes, number_at, pair_of, table_of};
 use pg_cert::Bounds;
-use pg_dyn::{DynError, Message, decode, encode, fits};
-use pg_pairs::{Choice, Pair, View, breaks, carry, cheapest, choice_child, options};
+use pg_dyn::{
+    DynError, Message, MessageRef, decode, decode_ref_unlimited, encode, encode_ref, fits,
+};
+use pg_pairs::{
+    Choice, Pair, Priced, breaks, breaks_as_written, carry, cheapest, choice_child, options,
+};
 use pg_schema::{Schema, TypeId};
 use rows::cut;
 use std::alloc::{AllocError, Global};
@@ -29,22 +34,16 @@ pub(crate) fn spelled(
 }
 
 /// Whether the message breaks between the pair's types, in a word.
-fn verdict<V: View>(
+fn verdict(
     alloc: Global,
-    view: &V,
-    old: &Schema,
-    new: &Schema,
+    graph: &Priced<'_>,
     pair: Pair,
     message: &Message,
 ) -> Result<&'static str, AllocError> {
-    if !fits(old, message) {
+    if !fits(graph.old, message) {
         return Ok("misfit");
     }
-    shown_breaks(breaks(alloc, view, old, new, pair, message))
-}
-
-pub(crate) fn shown_breaks(found: Result<bool, DynError>) -> Result<&'static str, AllocError> {
-    match found {
+    match breaks(alloc, graph, pair, message) {
         Ok(true) => Ok("breaks"),
         Ok(false) => Ok("kept"),
         Err(DynError::Memory) => Err(AllocError),
@@ -52,50 +51,35 @@ pub(crate) fn shown_breaks(found: Result<bool, DynError>) -> Result<&'static str
     }
 }
 
-/// The message of that type that the bytes spell.
-fn read(
-    alloc: Global,
-    schema: &Schema,
-    type_id: TypeId,
-    bytes: &[u8],
-) -> Result<Option<Message>, AllocError> {
+/// The message of the type `M` that the bytes of `M | BYTES` spell.
+fn read_words(alloc: Global, schema: &Schema, words: &str) -> Result<Option<Message>, AllocError> {
+    let (index, digits) = cut(words);
+    let type_id = TypeId {
+        index: number_at(index, 0),
+    };
+    let bytes = hex_bytes(alloc, digits)?;
     if !schema.has(type_id) {
         return Ok(None);
     }
-    match decode(alloc, schema, type_id, bytes, 100) {
+    match decode(alloc, schema, type_id, &bytes, 100) {
         Ok(message) => Ok(Some(message)),
         Err(DynError::Memory) => Err(AllocError),
         Err(_) => Ok(None),
     }
 }
 
-/// The same of `TYPE | BYTES`.
-pub(crate) fn read_words(
-    alloc: Global,
-    schema: &Schema,
-    words: &str,
-) -> Result<Option<Message>, AllocError> {
-    let (index, bytes) = cut(words);
-    let index = number_at(index, 0);
-    let bytes = hex_bytes(alloc, bytes)?;
-    read(alloc, schema, TypeId { index }, &bytes)
-}
-
 /// The choice, if it is one of the pair's under the table.
-pub(crate) fn chosen<V: View>(
+fn chosen(
     alloc: Global,
-    view: &V,
-    old: &Schema,
-    new: &Schema,
+    graph: &Priced<'_>,
     pair: Pair,
     table: &Bounds,
     wanted: &Choice,
 ) -> Result<Option<Choice>, AllocError>
-    ensures { IfOk result (λ found. IfSome found
-        (IsChoiceOf (seen_by V.View view.now old.now new.now)
-        (shape_of old.now) (shape_of new.now) pair)) }
+    ensures { IfOk result (λ found. IfSome found (IsChoiceOf (seen graph.now)
+        (shape_of graph.now.old.now) (shape_of graph.now.new.now) pair)) }
 {
-    for choice in &options(alloc, view, old, new, pair, table)? {
+    for choice in &options(alloc, graph, pair, table)? {
         if choice == wanted {
             return Ok(Some(*choice));
         }
@@ -104,129 +88,208 @@ pub(crate) fn chosen<V: View>(
 }
 
 /// The choice's message round the child, where this is a child of the choice.
-fn carried<V: View>(
+fn carried(
     alloc: Global,
-    view: &V,
-    old: &Schema,
-    new: &Schema,
+    graph: &Priced<'_>,
     pair: Pair,
     choice: &Choice,
     child: Option<Message>,
 ) -> Result<Option<Message>, AllocError>
-    requires { IsChoiceOf (seen_by V.View view.now old.now new.now) (shape_of old.now)
-        (shape_of new.now) pair choice.now }
+    requires { IsChoiceOf (seen graph.now) (shape_of graph.now.old.now)
+        (shape_of graph.now.new.now) pair choice.now }
 {
-    match (choice_child(old, new, pair, choice), child) {
-        (None, None) => Ok(Some(carry(alloc, view, old, new, pair, choice, None)?)),
+    match (choice_child(graph.old, graph.new, pair, choice), child) {
+        (None, None) => Ok(Some(carry(alloc, graph, pair, choice, None)?)),
         (Some(wanted), Some(child)) => {
-            if child.type_id() != wanted.old || !fits(old, &child) {
+            if child.type_id() != wanted.old || !fits(graph.old, &child) {
                 return Ok(None);
             }
-            Ok(Some(carry(alloc, view, old, new, pair, choice, Some(child))?))
+            Ok(Some(carry(alloc, graph, pair, choice, Some(child))?))
         }
         _ => Ok(None),
     }
 }
 
-/// What is shown of the choice's message: its bytes, whether it breaks, and what it costs.
-fn with_verdict<V: View>(
+/// The message's bytes, whether it breaks, and what its choice costs.
+fn with_verdict(
     alloc: Global,
-    view: &V,
-    old: &Schema,
-    new: &Schema,
+    graph: &Priced<'_>,
+    pair: Pair,
+    message: &Message,
+    cost: u32,
+) -> Result<String, AllocError> {
+    let verdict = verdict(alloc, graph, pair, message)?;
+    let bytes = spelled(alloc, graph.old, message)?;
+    format!(in alloc; "{bytes} {verdict} at {cost}")
+}
+
+/// What is shown of the choice, which is the pair's under the table and has no child.
+fn childless(
+    alloc: Global,
+    graph: &Priced<'_>,
     pair: Pair,
     table: &Bounds,
     choice: &Choice,
 ) -> Result<String, AllocError> {
-    let Some(choice) = chosen(alloc, view, old, new, pair, table, choice)? else {
+    let Some(choice) = chosen(alloc, graph, pair, table, choice)? else {
         return String::from_str(alloc, "no choice");
     };
-    let Some(message) = carried(alloc, view, old, new, pair, &choice, None)? else {
-        return String::from_str(alloc, "no message");
-    };
-    let verdict = verdict(alloc, view, old, new, pair, &message)?;
-    let bytes = spelled(alloc, old, &message)?;
-    format!(in alloc; "{bytes} {verdict} at {}", choice.cost)
+    match carried(alloc, graph, pair, &choice, None)? {
+        Some(message) => with_verdict(alloc, graph, pair, &message, choice.cost),
+        None => String::from_str(alloc, "no message"),
+    }
 }
 
-/// `message | OLD | NEW | PAIR | BOUNDS`: the message of the pair's cheapest choice, which holds no
-/// child.
-pub(crate) fn message<V: View>(
+fn cheapest_message(
     alloc: Global,
-    view: &V,
-    old: &Schema,
-    new: &Schema,
-    words: &str,
+    graph: &Priced<'_>,
+    pair: Pair,
+    table: &Bounds,
 ) -> Result<String, AllocError> {
-    let (pair, bounds) = cut(words);
-    let pair = pair_of(pair);
-    let Some(table) = table_of(alloc, bounds)? else {
-        return String::from_str(alloc, "no table");
-    };
-    match cheapest(alloc, view, old, new, pair, &table)? {
-        Some(choice) => with_verdict(alloc, view, old, new, pair, &table, &choice),
+    match cheapest(alloc, graph, pair, table)? {
+        Some(choice) => childless(alloc, graph, pair, table, &choice),
         None => String::from_str(alloc, "none"),
     }
 }
 
-/// The same of `CHOICE [| TYPE | BYTES]`.
-fn carry_words<V: View>(
+/// `message | OLD | NEW | PAIR | BOUNDS`: the message of the pair's cheapest choice, which holds no
+/// child.
+pub(crate) fn message(
     alloc: Global,
-    view: &V,
-    old: &Schema,
-    new: &Schema,
+    graph: &Priced<'_>,
+    words: &str,
+) -> Result<String, AllocError> {
+    let (pair, bounds) = cut(words);
+    match table_of(alloc, bounds)? {
+        Some(table) => cheapest_message(alloc, graph, pair_of(pair), &table),
+        None => String::from_str(alloc, "no table"),
+    }
+}
+
+/// The message of the choice, if it is one of the pair's under the table, round the child that
+/// `TYPE | BYTES` spells; without these, round none.
+fn carried_round(
+    alloc: Global,
+    graph: &Priced<'_>,
+    pair: Pair,
+    choice: Option<Choice>,
+    child: &str,
+) -> Result<Option<Message>, AllocError>
+    requires { IfSome choice (IsChoiceOf (seen graph.now) (shape_of graph.now.old.now)
+        (shape_of graph.now.new.now) pair) }
+{
+    let Some(choice) = choice else {
+        return Ok(None);
+    };
+    if child.is_empty() {
+        return carried(alloc, graph, pair, &choice, None);
+    }
+    carried(
+        alloc,
+        graph,
+        pair,
+        &choice,
+        read_words(alloc, graph.old, child)?,
+    )
+}
+
+/// The same of `CHOICE [| TYPE | BYTES]`.
+fn carry_words(
+    alloc: Global,
+    graph: &Priced<'_>,
     pair: Pair,
     table: &Bounds,
     words: &str,
 ) -> Result<Option<Message>, AllocError> {
     let (choice, child) = cut(words);
-    let Some(choice) = choice_of(choice) else {
-        return Ok(None);
-    };
-    let Some(choice) = chosen(alloc, view, old, new, pair, table, &choice)? else {
-        return Ok(None);
-    };
-    let child = if child.is_empty() {
-        None
-    } else {
-        read_words(alloc, old, child)?
-    };
-    carried(alloc, view, old, new, pair, &choice, child)
+    match choice_of(choice) {
+        Some(wanted) => {
+            let choice = chosen(alloc, graph, pair, table, &wanted)?;
+            carried_round(alloc, graph, pair, choice, child)
+        }
+        None => Ok(None),
+    }
+}
+
+fn carried_message(
+    alloc: Global,
+    graph: &Priced<'_>,
+    pair: Pair,
+    table: &Bounds,
+    words: &str,
+) -> Result<String, AllocError> {
+    match carry_words(alloc, graph, pair, table, words)? {
+        Some(message) => spelled(alloc, graph.old, &message),
+        None => String::from_str(alloc, "none"),
+    }
 }
 
 /// `carry | OLD | NEW | PAIR | BOUNDS | CHOICE [| TYPE | BYTES]`: the message of a choice that the
 /// pair has under the bounds, round the child that the bytes spell, if one is given.
-pub(crate) fn carry_choice<V: View>(
+pub(crate) fn carry_choice(
     alloc: Global,
-    view: &V,
-    old: &Schema,
-    new: &Schema,
+    graph: &Priced<'_>,
     words: &str,
 ) -> Result<String, AllocError> {
     let (pair, words) = cut(words);
     let (bounds, words) = cut(words);
-    let Some(table) = table_of(alloc, bounds)? else {
-        return String::from_str(alloc, "no table");
-    };
-    match carry_words(alloc, view, old, new, pair_of(pair), &table, words)? {
-        Some(message) => spelled(alloc, old, &message),
-        None => String::from_str(alloc, "none"),
+    match table_of(alloc, bounds)? {
+        Some(table) => carried_message(alloc, graph, pair_of(pair), &table, words),
+        None => String::from_str(alloc, "no table"),
     }
 }
 
 /// `breaks | OLD | NEW | PAIR | TYPE | BYTES`: whether the old type's message that the bytes spell
 /// breaks between the pair's types.
-pub(crate) fn break_or_keep<V: View>(
+pub(crate) fn break_or_keep(
     alloc: Global,
-    view: &V,
-    old: &Schema,
-    new: &Schema,
+    graph: &Priced<'_>,
     words: &str,
 ) -> Result<String, AllocError> {
     let (pair, words) = cut(words);
-    let Some(message) = read_words(alloc, old, words)? else {
-        return String::from_str(alloc, "no message");
+    match read_words(alloc, graph.old, words)? {
+        Some(message) => String::from_str(alloc, verdict(alloc, graph, pair_of(pair), &message)?),
+        None => String::from_str(alloc, "no message"),
+    }
+}
+
+/// Whether a message that borrows breaks as it is written.
+fn verdict_as_written(
+    alloc: Global,
+    graph: &Priced<'_>,
+    pair: Pair,
+    message: &MessageRef<'_>,
+) -> Result<&'static str, AllocError>
+    requires { Fits (shape_of graph.now.old.now) message.now }
+{
+    match encode_ref(alloc, graph.old, message) {
+        Ok(bytes) if breaks_as_written(alloc, graph, pair, message, &bytes)? => Ok("breaks"),
+        Ok(_) => Ok("kept"),
+        Err(DynError::Memory) => Err(AllocError),
+        Err(_) => Ok("no encoding"),
+    }
+}
+
+/// `breaks_as_written | OLD | NEW | PAIR | TYPE | BYTES`: the same of a message that borrows from
+/// the bytes, and of what is written of it.
+pub(crate) fn break_as_written(
+    alloc: Global,
+    graph: &Priced<'_>,
+    words: &str,
+) -> Result<String, AllocError> {
+    let (pair, words) = cut(words);
+    let (index, digits) = cut(words);
+    let type_id = TypeId {
+        index: number_at(index, 0),
     };
-    let verdict = verdict(alloc, view, old, new, pair_of(pair), &message)?;
+    let bytes = hex_bytes(alloc, digits)?;
+    if !graph.old.has(type_id) {
+        return String::from_str(alloc, "no message");
+    }
+    let verdict = match decode_ref_unlimited(alloc, graph.old, type_id, &bytes) {
+        Ok(message) => verdict_as_written(alloc, graph, pair_of(pair), &message)?,
+        Err(DynError::Memory) => return Err(AllocError),
+        Err(_) => "no message",
+    };
     String::from_str(alloc, verdict)
 }

@@ -1,52 +1,72 @@
 //! Which call a row is of.
-use crate::{certificates, choices, drawn, enum_view, gaps, messages, returning, searches};
-use pg_pairs::{Names, Numbers, View};
+use crate::{certificates, choices, drawn, enum_view, gaps, graphs, messages, searches};
+use pg_pairs::{Names, Numbers, Priced};
 use pg_schema::Schema;
 use rows::{cut, unrolled};
 use std::alloc::{AllocError, Global};
 use tiny_schemas::schemas;
 
-/// The answers of calls that see enums by a view.
-fn seen<V: View>(
+/// What a call of choices or of messages answers.
+fn chosen(
     alloc: Global,
-    view: &V,
+    graph: &Priced<'_>,
     call: &str,
-    old: &Schema,
-    new: &Schema,
     words: &str,
 ) -> Result<String, AllocError> {
     match call {
-        "choices" => choices::choices(alloc, view, old, new, words),
-        "cheapest" => choices::cheapest_choice(alloc, view, old, new, words),
-        "message" => messages::message(alloc, view, old, new, words),
-        "carry" => messages::carry_choice(alloc, view, old, new, words),
-        "breaks" => messages::break_or_keep(alloc, view, old, new, words),
-        "enum_view" => enum_view::enum_view(alloc, view, old, new, words),
-        "check" => certificates::check_parts(alloc, V::NAME, old, new, words),
-        "search" => searches::search_by(alloc, view, old, new, words),
+        "choices" => choices::choices(alloc, graph, words),
+        "cheapest" => choices::cheapest_choice(alloc, graph, words),
+        "causes" => choices::causes_of(alloc, graph, words),
+        "carry_cause" => choices::carry_first_cause(alloc, graph, words),
+        "message" => messages::message(alloc, graph, words),
+        "carry" => messages::carry_choice(alloc, graph, words),
+        "breaks" => messages::break_or_keep(alloc, graph, words),
+        "breaks_as_written" => messages::break_as_written(alloc, graph, words),
+        "enum_view" => enum_view::enum_view(alloc, graph, words),
         _ => String::from_str(alloc, "no such call"),
     }
 }
 
-fn between(
+/// What a call answers over the graph.
+fn over(alloc: Global, graph: &Priced<'_>, call: &str, words: &str) -> Result<String, AllocError> {
+    match call {
+        "children" => graphs::child_pairs(alloc, graph, words),
+        "returns" => graphs::may_return(alloc, graph, words),
+        "Prices::edges" => graphs::edges_of(alloc, graph, words),
+        "Prices::children" | "reached_pairs" => graphs::pairs_from(alloc, graph, call, words),
+        "reached_from" | "settle_from" | "bounds_from" => {
+            graphs::from_two(alloc, graph, call, words)
+        }
+        "check" => certificates::check_parts(alloc, graph, words),
+        "text" => certificates::text(alloc, graph, words),
+        "fronts" => certificates::fronts(alloc, graph, words),
+        "search" => searches::search_pair(alloc, graph, words),
+        "path" => searches::path_down(alloc, graph, words),
+        "counts" => searches::counts(alloc, graph, words),
+        _ => chosen(alloc, graph, call, words),
+    }
+}
+
+/// What a call answers over the schemas: with `names ` in front of it by names, else by numbers.
+pub(crate) fn between(
     alloc: Global,
     call: &str,
     old: &Schema,
     new: &Schema,
     words: &str,
 ) -> Result<String, AllocError> {
+    match call.strip_prefix("names ") {
+        Some(call) => over(alloc, &Priced::new(&Names, old, new), call, words),
+        None => over(alloc, &Priced::new(&Numbers, old, new), call, words),
+    }
+}
+
+/// What a call without schemas answers.
+pub(crate) fn alone(alloc: Global, call: &str, words: &str) -> Result<String, AllocError> {
     match call {
-        "children" => choices::child_pairs(alloc, old, new, words),
-        "returns" => returning::may_return(alloc, old, new, words),
-        "text" => certificates::text(alloc, old, new, words),
-        "fronts" => certificates::fronts(alloc, old, new, words),
-        "search" => searches::search_pair(alloc, old, new, words),
-        "path" => searches::path_down(alloc, old, new, words),
-        "counts" => searches::counts(alloc, old, new, words),
-        _ => match call.strip_prefix("names ") {
-            Some(call) => seen(alloc, &Names, call, old, new, words),
-            None => seen(alloc, &Numbers, call, old, new, words),
-        },
+        "gaps" => gaps::gaps(alloc, words),
+        "drawn" => drawn::drawn_bounds(alloc, words),
+        _ => certificates::table(alloc, words),
     }
 }
 
@@ -55,14 +75,8 @@ pub(crate) fn answer(alloc: Global, row: &str) -> Result<String, AllocError> {
     let row = unrolled(alloc, row)?;
     let (_, row) = cut(&row);
     let (call, words) = cut(row);
-    if call == "gaps" {
-        return gaps::gaps(alloc, words);
-    }
-    if call == "drawn" {
-        return drawn::drawn_bounds(alloc, words);
-    }
-    if call == "table" {
-        return certificates::table(alloc, words);
+    if matches!(call, "gaps" | "drawn" | "table") {
+        return alone(alloc, call, words);
     }
     let (old, words) = cut(words);
     let (new, words) = cut(words);

@@ -1,50 +1,37 @@
 //! Searches, and the ways to their witnesses.
-use crate::certificates::{check_claim, checked};
+use crate::certificates::{check_claim, checked, list_of};
 use crate::messages::spelled;
 use crate::shown;
-use crate::shown::add;
+use crate::shown::{Shown, list};
 use crate::spelled::{pair_of, table_of};
 use pg_cert::{Bounds, Certificate};
-use pg_dyn::ViewName;
-use pg_least::{Found, Step, find, find_with, path, search, search_counted, search_with};
-use pg_pairs::laws::numbers_are_alike;
-use pg_pairs::{Pair, View};
-use pg_schema::Schema;
+use pg_dyn::{Message, ViewName};
+use pg_least::{find_with, path, search, search_counted, search_with};
+use pg_pairs::{Pair, Priced, Work};
 use std::alloc::{AllocError, Global};
-
-/// The bounds in the table's order.
-pub(crate) fn list_of(alloc: Global, bounds: &Bounds) -> Result<String, AllocError> {
-    let mut list = String::new(alloc);
-    for at in 0..bounds.len() {
-        if let Some(line) = bounds.get(at) {
-            let bound = shown::bound(alloc, &line)?;
-            add(&mut list, bound.as_str())?;
-        }
-    }
-    Ok(list)
-}
 
 /// What the checker says of these bounds alone.
 fn alone(
     alloc: Global,
-    old: &Schema,
-    new: &Schema,
+    graph: &Priced<'_>,
     root: Pair,
-    list: &str,
+    bounds: &str,
 ) -> Result<String, AllocError> {
-    match table_of(alloc, list)? {
-        Some(table) => check_claim(alloc, ViewName::Numbers, old, new, root, table, None),
+    match table_of(alloc, bounds)? {
+        Some(table) => check_claim(alloc, graph, root, table, None),
         None => String::from_str(alloc, "no table"),
     }
 }
 
-/// The certificate's witness, which has the bytes of the message beside it, and the message's type.
-pub(crate) fn witness_of(alloc: Global, old: &Schema, found: &Found) -> Result<String, AllocError> {
-    let (Some(message), Some(witness)) = (&found.witness, found.certificate.witness()) else {
-        let alike = found.witness.is_none() && found.certificate.witness().is_none();
-        return String::from_str(alloc, if alike { "none" } else { "one alone" });
-    };
-    let written = spelled(alloc, old, message)?;
+/// The witness in a certificate, which has the bytes of the message beside it, and the message's
+/// type.
+fn shown_witness(
+    alloc: Global,
+    graph: &Priced<'_>,
+    witness: &[u8],
+    message: &Message,
+) -> Result<String, AllocError> {
+    let written = spelled(alloc, graph.old, message)?;
     let bytes = hex::encode(alloc, witness)?;
     if written.as_str() != bytes.as_str() {
         return String::from_str(alloc, "other bytes");
@@ -52,141 +39,97 @@ pub(crate) fn witness_of(alloc: Global, old: &Schema, found: &Found) -> Result<S
     format!(in alloc; "{bytes} of {}", message.type_id().index)
 }
 
-/// What is found beside the certificate.
-pub(crate) fn beside(
-    alloc: Global,
-    old: &Schema,
-    new: &Schema,
-    root: Pair,
-) -> Result<String, AllocError> {
-    if !old.has(root.old) || !new.has(root.new) {
+/// The witness that is found beside a certificate.
+fn beside(alloc: Global, graph: &Priced<'_>, root: Pair) -> Result<String, AllocError> {
+    if !graph.old.has(root.old) || !graph.new.has(root.new) {
         return String::from_str(alloc, "no such type");
     }
-    let found = find(alloc, old, new, root)?;
-    witness_of(alloc, old, &found)
+    let found = find_with(alloc, graph, root)?;
+    match (found.certificate.witness(), &found.witness) {
+        (Some(witness), Some(message)) => shown_witness(alloc, graph, witness, message),
+        (None, None) => String::from_str(alloc, "none"),
+        _ => String::from_str(alloc, "one alone"),
+    }
+}
+
+/// What is shown of a certificate with its witness: by numbers its bounds are checked alone.
+fn shown_search(
+    alloc: Global,
+    graph: &Priced<'_>,
+    certificate: &Certificate,
+    witness: &str,
+) -> Result<String, AllocError> {
+    let root = certificate.root();
+    let bounds = list_of(alloc, certificate.bounds())?;
+    let verdict = match graph.view {
+        ViewName::Numbers => alone(alloc, graph, root, &bounds),
+        ViewName::Names => checked(alloc, graph, certificate),
+    }?;
+    let root = root.shown(alloc)?;
+    format!(in alloc; "{root} | {bounds} | {witness} | {verdict}")
+}
+
+/// What is shown of the certificate that a search gives, by numbers `search`.
+fn searched(
+    alloc: Global,
+    graph: &Priced<'_>,
+    root: Pair,
+    witness: &str,
+) -> Result<String, AllocError> {
+    if !graph.old.has(root.old) || !graph.new.has(root.new) {
+        return String::from_str(alloc, "no such type");
+    }
+    let certificate = match graph.view {
+        ViewName::Numbers => search(alloc, graph.old, graph.new, root),
+        ViewName::Names => search_with(alloc, graph, root),
+    }?;
+    shown_search(alloc, graph, &certificate, witness)
 }
 
 /// `search | OLD | NEW | ROOT`: the root of the certificate, its bounds, its witness with the type
-/// of the message beside it, and what the checker says of the bounds alone.
+/// of the message beside it, and what the checker says: by numbers of the bounds alone, by names of
+/// the certificate.
 pub(crate) fn search_pair(
     alloc: Global,
-    old: &Schema,
-    new: &Schema,
+    graph: &Priced<'_>,
     words: &str,
 ) -> Result<String, AllocError> {
     let root = pair_of(words);
-    if !old.has(root.old) || !new.has(root.new) {
-        return String::from_str(alloc, "no such type");
-    }
-    let certificate = search(alloc, old, new, root)?;
-    let witness = beside(alloc, old, new, root)?;
-    shown_search(alloc, old, new, &certificate, &witness)
+    let witness = beside(alloc, graph, root)?;
+    searched(alloc, graph, root, &witness)
 }
 
-/// What is shown of a certificate by numbers beside its witness.
-pub(crate) fn shown_search(
-    alloc: Global,
-    old: &Schema,
-    new: &Schema,
-    certificate: &Certificate,
-    witness: &str,
-) -> Result<String, AllocError> {
-    let list = list_of(alloc, certificate.bounds())?;
-    let pair = shown::pair(alloc, certificate.root())?;
-    let verdict = alone(alloc, old, new, certificate.root(), &list)?;
-    format!(in alloc; "{pair} | {list} | {witness} | {verdict}")
-}
-
-/// What is found beside the certificate under the view.
-pub(crate) fn beside_by<V: View>(
-    alloc: Global,
-    view: &V,
-    old: &Schema,
-    new: &Schema,
-    root: Pair,
-) -> Result<String, AllocError> {
-    if !old.has(root.old) || !new.has(root.new) {
-        return String::from_str(alloc, "no such type");
-    }
-    let found = find_with(alloc, view, old, new, root)?;
-    witness_of(alloc, old, &found)
-}
-
-/// `names search | OLD | NEW | ROOT`: under that view the root of the certificate, its bounds, its
-/// witness with the type of the message beside it, and what the checker says of it.
-pub(crate) fn search_by<V: View>(
-    alloc: Global,
-    view: &V,
-    old: &Schema,
-    new: &Schema,
-    words: &str,
-) -> Result<String, AllocError> {
-    let root = pair_of(words);
-    if !old.has(root.old) || !new.has(root.new) {
-        return String::from_str(alloc, "no such type");
-    }
-    let certificate = search_with(alloc, view, old, new, root)?;
-    let witness = beside_by(alloc, view, old, new, root)?;
-    shown_by(alloc, old, new, &certificate, &witness)
-}
-
-/// What is shown of a certificate by names beside its witness.
-pub(crate) fn shown_by(
-    alloc: Global,
-    old: &Schema,
-    new: &Schema,
-    certificate: &Certificate,
-    witness: &str,
-) -> Result<String, AllocError> {
-    let list = list_of(alloc, certificate.bounds())?;
-    let pair = shown::pair(alloc, certificate.root())?;
-    let verdict = checked(alloc, old, new, certificate)?;
-    format!(in alloc; "{pair} | {list} | {witness} | {verdict}")
-}
-
-/// Each step by its pair and its choice.
-pub(crate) fn steps_of(alloc: Global, steps: &[Step]) -> Result<String, AllocError> {
-    let mut list = String::new(alloc);
-    for step in steps {
-        let step = shown::step(alloc, step)?;
-        add(&mut list, step.as_str())?;
-    }
-    Ok(list)
-}
-
-/// `path | OLD | NEW | ROOT`: the steps of the path to the witness.
+/// `path | OLD | NEW | ROOT`: each step of the path to the witness, by its pair and its choice.
 pub(crate) fn path_down(
     alloc: Global,
-    old: &Schema,
-    new: &Schema,
+    graph: &Priced<'_>,
     words: &str,
 ) -> Result<String, AllocError> {
     let root = pair_of(words);
-    if !old.has(root.old) || !new.has(root.new) {
+    if !graph.old.has(root.old) || !graph.new.has(root.new) {
         return String::from_str(alloc, "no such type");
     }
-    // The certificate names the view by which it was searched.
-    numbers_are_alike();
-    let certificate = search(alloc, old, new, root)?;
+    let certificate = search_with(alloc, graph, root)?;
     if certificate.witness().is_none() {
         return String::from_str(alloc, "no witness");
     }
-    let steps = path(alloc, old, new, &certificate)?;
-    steps_of(alloc, &steps)
+    list(alloc, &path(alloc, graph.old, graph.new, &certificate)?)
 }
 
 /// `counts | OLD | NEW | ROOT`: the pairs whose bound is a number, the edges whose child's bound is
 /// one, and the pairs.
-pub(crate) fn counts(
-    alloc: Global,
-    old: &Schema,
-    new: &Schema,
-    words: &str,
-) -> Result<String, AllocError> {
+pub(crate) fn counts(alloc: Global, graph: &Priced<'_>, words: &str) -> Result<String, AllocError> {
     let root = pair_of(words);
-    if !old.has(root.old) || !new.has(root.new) {
+    if !graph.old.has(root.old) || !graph.new.has(root.new) {
         return String::from_str(alloc, "no such type");
     }
-    let (_, work) = search_counted(alloc, old, new, root)?;
+    let (_, work) = search_counted(alloc, graph.old, graph.new, root)?;
     shown::work(alloc, &work)
+}
+
+/// The bounds, and the work that they took.
+pub(crate) fn shown_bounds(alloc: Global, found: &(Bounds, Work)) -> Result<String, AllocError> {
+    let bounds = list_of(alloc, &found.0)?;
+    let work = shown::work(alloc, &found.1)?;
+    format!(in alloc; "{bounds} | {work}")
 }

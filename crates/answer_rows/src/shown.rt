@@ -1,8 +1,49 @@
 //! How answers are shown.
 use pg_cert::{CertError, PairBound, Verdict};
-use pg_least::Step;
+use pg_least::PairChoice;
 use pg_pairs::{Choice, Pair, Work};
 use std::alloc::{AllocError, Global};
+
+/// What is shown as one item of a list.
+pub(crate) trait Shown {
+    fn shown(&self, alloc: Global) -> Result<String, AllocError>;
+}
+
+impl Shown for Choice {
+    fn shown(&self, alloc: Global) -> Result<String, AllocError> {
+        let Choice {
+            number,
+            case,
+            part,
+            cost,
+        } = self;
+        format!(in alloc; "{number} {} {part} {cost}", case.number())
+    }
+}
+
+impl Shown for Pair {
+    fn shown(&self, alloc: Global) -> Result<String, AllocError> {
+        format!(in alloc; "{} {}", self.old.index, self.new.index)
+    }
+}
+
+impl Shown for PairBound {
+    fn shown(&self, alloc: Global) -> Result<String, AllocError> {
+        let Pair { old, new } = self.pair;
+        match self.bound {
+            Some(bytes) => format!(in alloc; "{} {} {bytes}", old.index, new.index),
+            None => format!(in alloc; "{} {} none", old.index, new.index),
+        }
+    }
+}
+
+impl Shown for PairChoice {
+    fn shown(&self, alloc: Global) -> Result<String, AllocError> {
+        let pair = self.pair.shown(alloc)?;
+        let choice = self.choice.shown(alloc)?;
+        format!(in alloc; "{pair} by {choice}")
+    }
+}
 
 /// Adds an item to the list.
 pub(crate) fn add(list: &mut String, item: &str) -> Result<(), AllocError> {
@@ -12,50 +53,21 @@ pub(crate) fn add(list: &mut String, item: &str) -> Result<(), AllocError> {
     list.push_str(item)
 }
 
-/// The list, or `none` where it has no item.
-pub(crate) fn or_none(alloc: Global, list: String) -> Result<String, AllocError> {
-    if list.is_empty() {
-        return String::from_str(alloc, "none");
+/// The items with `, ` between them.
+pub(crate) fn list<T: Shown>(alloc: Global, items: &[T]) -> Result<String, AllocError> {
+    let mut list = String::new(alloc);
+    for item in items {
+        add(&mut list, item.shown(alloc)?.as_str())?;
     }
     Ok(list)
 }
 
-pub(crate) fn choice(alloc: Global, choice: &Choice) -> Result<String, AllocError> {
-    let Choice {
-        number,
-        case,
-        part,
-        cost,
-    } = choice;
-    format!(in alloc; "{number} {} {part} {cost}", case.number())
-}
-
-pub(crate) fn pair(alloc: Global, pair: Pair) -> Result<String, AllocError> {
-    format!(in alloc; "{} {}", pair.old.index, pair.new.index)
-}
-
-pub(crate) fn bound(alloc: Global, bound: &PairBound) -> Result<String, AllocError> {
-    let Pair { old, new } = bound.pair;
-    match bound.bound {
-        Some(bytes) => format!(in alloc; "{} {} {bytes}", old.index, new.index),
-        None => format!(in alloc; "{} {} none", old.index, new.index),
+/// The same, or `none` where there is no item.
+pub(crate) fn list_or_none<T: Shown>(alloc: Global, items: &[T]) -> Result<String, AllocError> {
+    if items.is_empty() {
+        return String::from_str(alloc, "none");
     }
-}
-
-pub(crate) fn step(alloc: Global, step: &Step) -> Result<String, AllocError> {
-    let Choice {
-        number,
-        case,
-        part,
-        cost,
-    } = step.choice;
-    let Pair { old, new } = step.pair;
-    format!(in alloc;
-        "{} {} by {number} {} {part} {cost}",
-        old.index,
-        new.index,
-        case.number()
-    )
+    list(alloc, items)
 }
 
 /// The pairs that are settled, the edges that are relaxed and the pairs that are opened.

@@ -1,5 +1,6 @@
 //! How messages and their contents are spelled.
 use pg_dyn::{Content, DynError, Message, NumberList, UnknownRecord, Value, ValueRef};
+use rows::debug;
 use std::alloc::{AllocError, Global};
 
 /// Bytes in hexadecimal, and no bytes as `-`.
@@ -12,7 +13,7 @@ pub(crate) fn word(alloc: Global, bytes: &[u8]) -> Result<String, AllocError> {
 
 /// The name of an error, with its place.
 pub(crate) fn name_of(alloc: Global, error: DynError) -> Result<String, AllocError> {
-    format!(in alloc; "{error:?}")
+    debug(alloc, &error)
 }
 
 /// An integer, `f` or `d` and the bits of a float or a double, `'` and a text, `#` and bytes, or a

@@ -21,20 +21,15 @@ mod row;
 mod setting;
 mod types;
 
-use rows::cut;
-use std::alloc::AllocError;
+use rows::{cut, print_row};
 use std::io;
 use types::Types;
 
 fn print_answer(rt: &HostRuntime, types: &mut Types, row: &str) -> io::Result<()> {
-    let (what, input) = cut(row);
-    if let Some(input) = input.strip_prefix("retry ") {
-        let answer = retries::answer(rt, types, input)?;
-        return println!(rt; "{what} | {answer}");
-    }
-    match row::answer(rt.alloc(), types, row) {
-        Ok(found) => println!(rt; "{what} | {found}"),
-        Err(AllocError) => println!(rt; "{what} | Memory"),
+    let (shows, input) = cut(row);
+    match input.strip_prefix("retry ") {
+        Some(input) => print_row(rt, shows, &Ok(retries::answer(rt, types, input)?)),
+        None => print_row(rt, shows, &row::answer(rt.alloc(), types, row)),
     }
 }
 

@@ -1,7 +1,7 @@
 //! What is made of bytes by a type.
 use crate::beside::is_alike;
 use crate::contents::{spelled_message, word};
-use crate::types::FIRST;
+use crate::types::{FIRST, Types};
 use pg_dyn::{
     DynError, Message, MessageRef, decode, decode_ref, decode_ref_unlimited, encode, encode_ref,
     encode_unshared_ref, fits,
@@ -25,17 +25,31 @@ fn like(
     lent: &MessageRef<'_>,
     message: Message,
 ) -> Result<Message, DynError> {
-    if !is_alike(lent, &message) {
-        return Err(DynError::WrongKind);
-    }
-    let copy = lent.to_message(alloc)?;
-    if !is_alike(lent, &copy) {
-        return Err(DynError::WrongKind);
-    }
-    if written(alloc, schema, &copy)? != written(alloc, schema, &message)? {
+    if !is_alike(lent, &message) || !is_copied(alloc, schema, lent, &message)? {
         return Err(DynError::WrongKind);
     }
     Ok(message)
+}
+
+/// Whether the copy of a message that borrows is the other message.
+fn is_copied(
+    alloc: Global,
+    schema: &Schema,
+    lent: &MessageRef<'_>,
+    message: &Message,
+) -> Result<bool, DynError> {
+    let copy = lent.to_message(alloc)?;
+    Ok(is_alike(lent, &copy) && written(alloc, schema, &copy)? == written(alloc, schema, message)?)
+}
+
+/// Why neither of two readers reads bytes: `WrongKind` where they say other things, unless one of
+/// them lacks memory.
+fn common(lent: Option<DynError>, owned: Option<DynError>) -> DynError {
+    match (lent, owned) {
+        (Some(DynError::Memory), _) | (_, Some(DynError::Memory)) => DynError::Memory,
+        (Some(lent), Some(owned)) if lent == owned => owned,
+        _ => DynError::WrongKind,
+    }
 }
 
 /// The message of two readers, or why there is none: `WrongKind` where the one whose messages
@@ -46,15 +60,9 @@ fn agreed(
     lent: Result<MessageRef<'_>, DynError>,
     owned: Result<Message, DynError>,
 ) -> Result<Message, DynError> {
-    match lent {
-        Ok(lent) => match owned {
-            Ok(message) => like(alloc, schema, &lent, message),
-            Err(_) => Err(DynError::WrongKind),
-        },
-        Err(error) => match owned {
-            Err(other) if other == error => Err(error),
-            _ => Err(DynError::WrongKind),
-        },
+    match (lent, owned) {
+        (Ok(lent), Ok(message)) => like(alloc, schema, &lent, message),
+        (lent, owned) => Err(common(lent.err(), owned.err())),
     }
 }
 
@@ -238,12 +246,12 @@ fn shown(alloc: Global, schema: &Schema, bytes: &[u8]) -> Result<String, DynErro
 /// What a call makes of bytes, beside which it has another word or none.
 fn found(
     alloc: Global,
-    schema: &Schema,
-    other: &Schema,
+    types: &Types,
     call: &str,
     beside: &str,
     bytes: &[u8],
 ) -> Result<String, DynError> {
+    let (schema, other) = (&types.own, &types.other);
     match call {
         "again" => again(alloc, schema, bytes),
         "within" => within(alloc, schema, bytes, beside),
@@ -262,14 +270,13 @@ fn found(
 /// What a call makes of `[WORD] HEX`.
 pub(crate) fn answer_of_bytes(
     alloc: Global,
-    schema: &Schema,
-    other: &Schema,
+    types: &Types,
     call: &str,
     input: &str,
 ) -> Result<String, DynError> {
     let (beside, spelled) = input.split_once(' ').unwrap_or(("", input));
     match bytes_of_hex(alloc, spelled) {
-        Ok(bytes) => found(alloc, schema, other, call, beside, &bytes),
+        Ok(bytes) => found(alloc, types, call, beside, &bytes),
         Err(HexError::Memory) => Err(DynError::Memory),
         Err(HexError::BadHex) => text(alloc, "no hexadecimal"),
     }

@@ -5,13 +5,14 @@ use pg_show::{HexError, bytes_of_hex};
 use pg_wire::{
     Record, Records, WireError, read_varint, tag_len, unzigzag, varint_len, write_varint, zigzag,
 };
+use rows::debug;
 use std::alloc::{AllocError, Global};
 
 /// The value of a varint and how many bytes it takes.
 fn varint(alloc: Global, bytes: &[u8]) -> Result<String, AllocError> {
     match read_varint(bytes) {
         Ok((value, length)) => format!(in alloc; "{value} {length}"),
-        Err(error) => format!(in alloc; "{error:?}"),
+        Err(error) => debug(alloc, &error),
     }
 }
 
@@ -45,7 +46,7 @@ fn records(alloc: Global, bytes: &[u8]) -> Result<String, AllocError> {
 /// The fault of the first record, or none.
 fn fault(alloc: Global, bytes: &[u8]) -> Result<String, AllocError> {
     match Records::new(bytes).next() {
-        Some(Err(error)) => format!(in alloc; "{error:?}"),
+        Some(Err(error)) => debug(alloc, &error),
         _ => String::from_str(alloc, "none"),
     }
 }

@@ -1,22 +1,30 @@
 //! Calls that are made again where memory is refused.
-mod bytes;
-mod lent;
 mod numbers;
 mod setting;
 
+use crate::row::{by_type, spelled};
 use crate::types::Types;
-use rows::unrolled;
+use pg_dyn::DynError;
+use rows::{retry, unrolled};
 use std::io;
 
-/// What is printed of `CALL INPUT`, with what comes in front of the answer (`rows::retry`): of the
-/// calls that make a message of bytes, or bytes of one, what is written of the message.
+fn again(rt: &HostRuntime, types: &Types, call: &str, input: &str) -> io::Result<String> {
+    let found = retry!(
+        rt,
+        Err(DynError::Memory),
+        by_type(rt.alloc(), types, call, input)
+    );
+    Ok(spelled(rt.alloc(), found)?)
+}
+
+/// What is printed of `CALL INPUT`, with what comes in front of the answer (`rows::retry`): of
+/// `set` and `push` these calls alone are made again.
 pub(crate) fn answer(rt: &HostRuntime, types: &Types, input: &str) -> io::Result<String> {
     let input = unrolled(rt.alloc(), input)?;
     let (call, input) = input.split_once(' ').unwrap_or((&input, ""));
     match call {
-        "set" | "whole" => setting::answer(rt, &types.own, call, input),
-        "decode" | "encode" | "show" | "hex" => { bytes::answer(rt, &types.own, call, input) }
+        "set" => setting::answer(rt, &types.own, input),
         "push" => numbers::answer(rt, &types.own, input),
-        _ => lent::answer(rt, types, call, input),
+        _ => again(rt, types, call, input),
     }
 }

@@ -5,20 +5,18 @@ use crate::records::answer_of_wire;
 use crate::setting::answer_of_contents;
 use crate::types::{Types, put};
 use pg_dyn::DynError;
-use pg_schema::Schema;
 use rows::{cut, unrolled};
 use std::alloc::{AllocError, Global};
 
 /// What a call by the type of the rows answers; one that isn't of messages is one of `pg_wire`.
-fn by_type(
+pub(crate) fn by_type(
     alloc: Global,
-    schema: &Schema,
-    other: &Schema,
+    types: &Types,
     call: &str,
     input: &str,
 ) -> Result<String, DynError> {
     match call {
-        "set" | "hold" | "whole" | "copied" => answer_of_contents(alloc, schema, call, input),
+        "set" | "hold" | "whole" | "copied" => answer_of_contents(alloc, &types.own, call, input),
         "again"
         | "within"
         | "apart"
@@ -29,13 +27,16 @@ fn by_type(
         | "fits"
         | "across"
         | "outside"
-        | "show" => answer_of_bytes(alloc, schema, other, call, input),
+        | "show" => answer_of_bytes(alloc, types, call, input),
         _ => answer_of_wire(alloc, call, input),
     }
 }
 
 /// The answer, or the name of the error.
-fn spelled(alloc: Global, found: Result<String, DynError>) -> Result<String, AllocError> {
+pub(crate) fn spelled(
+    alloc: Global,
+    found: Result<String, DynError>,
+) -> Result<String, AllocError> {
     match found {
         Ok(text) => Ok(text),
         Err(error) => name_of(alloc, error),
@@ -52,7 +53,7 @@ fn answered(
     match call {
         "type" => put(alloc, &mut types.own, input),
         "other" => put(alloc, &mut types.other, input),
-        _ => spelled(alloc, by_type(alloc, &types.own, &types.other, call, input)),
+        _ => spelled(alloc, by_type(alloc, types, call, input)),
     }
 }
 

@@ -46,6 +46,19 @@ fn refused(
     Ok(format!(in alloc; "{name} {back} {written}")?)
 }
 
+/// The bytes of the message, or what is shown of a refusal.
+pub(crate) fn shown(
+    alloc: Global,
+    schema: &Schema,
+    message: &Message,
+    found: Result<(), (DynError, Content)>,
+) -> Result<String, DynError> {
+    match found {
+        Ok(()) => written(alloc, schema, message),
+        Err((error, back)) => refused(alloc, schema, message, error, &back),
+    }
+}
+
 /// The bytes of the message that comes of setting the contents in turn.
 fn written_of(
     alloc: Global,
@@ -53,10 +66,8 @@ fn written_of(
     contents: Vec<(u32, Content)>,
 ) -> Result<String, DynError> {
     let mut message = Message::empty(alloc, FIRST);
-    match set_each(schema, &mut message, contents) {
-        Ok(()) => written(alloc, schema, &message),
-        Err((error, back)) => refused(alloc, schema, &message, error, &back),
-    }
+    let found = set_each(schema, &mut message, contents);
+    shown(alloc, schema, &message, found)
 }
 
 /// What it holds.

@@ -1,25 +1,26 @@
 //! Reads the descriptor set that each line of standard input spells, and prints the set of what it
-//! states, or its refusal. With `retry CALL ` in front of the set it is that call's answer, made
-//! again where it lacks memory (`rows::retry`). Of another row that runs out of memory `Memory` is
+//! states, or its refusal. Of the word `descriptor_schema` in the place of a set it prints the names
+//! of the written schema's message types. With `retry ` in front of the set the line is answered
+//! again where it lacks memory (`rows::retry`). Of another line that runs out of memory `Memory` is
 //! printed.
 #![tactic(auto)]
 
-mod retries;
 mod row;
 
-use rows::cut;
+use row::answer;
+use rows::{cut, print_row, retry};
 use std::alloc::AllocError;
 use std::io;
 
+fn answer_again(rt: &HostRuntime, spelled: &str) -> io::Result<String> {
+    Ok(retry!(rt, Err(AllocError), answer(rt.alloc(), spelled))?)
+}
+
 fn print_answer(rt: &HostRuntime, line: &str) -> io::Result<()> {
-    let (what, input) = cut(line);
-    if let Some(input) = input.strip_prefix("retry ") {
-        let answer = retries::answer(rt, input)?;
-        return println!(rt; "{what} | {answer}");
-    }
-    match row::answer(rt.alloc(), line) {
-        Ok(text) => println!(rt; "{what} | {text}"),
-        Err(AllocError) => println!(rt; "{what} | Memory"),
+    let (shows, spelled) = cut(line);
+    match spelled.strip_prefix("retry ") {
+        Some(spelled) => print_row(rt, shows, &Ok(answer_again(rt, spelled)?)),
+        None => print_row(rt, shows, &answer(rt.alloc(), spelled)),
     }
 }
 

@@ -1,14 +1,14 @@
-//! One row: `WHAT | BYTES`.
-use pg_fds::{FdsError, read, read_again, write};
+//! One row.
+use pg_fds::{FdsError, descriptor_schema, read, read_again, write};
 use pg_schema::Schema;
-use rows::{bytes_of, cut};
+use rows::bytes_of;
 use std::alloc::{AllocError, Global};
 
 /// What is written of a schema, and whether the same schema is read and written of it again.
-pub(crate) type Written = (Vec<u8>, bool);
+type Written = (Vec<u8>, bool);
 
 /// Whether this is the schema again, and these bytes are written of it.
-pub(crate) fn is_made_again(
+fn is_made_again(
     alloc: Global,
     schema: &Schema,
     made: &Schema,
@@ -23,7 +23,7 @@ fn is_same(alloc: Global, schema: &Schema, bytes: &[u8]) -> Result<bool, FdsErro
     is_made_again(alloc, schema, &made, bytes)
 }
 
-pub(crate) fn written(alloc: Global, schema: &Schema) -> Result<Written, FdsError> {
+fn written(alloc: Global, schema: &Schema) -> Result<Written, FdsError> {
     let bytes = write(alloc, schema)?;
     let is_same = is_same(alloc, schema, &bytes)?;
     Ok((bytes, is_same))
@@ -35,7 +35,7 @@ fn read_and_written(alloc: Global, bytes: &[u8]) -> Result<Written, FdsError> {
 }
 
 /// The bytes that are written, or the whole error.
-pub(crate) fn told(alloc: Global, found: Result<Written, FdsError>) -> Result<String, AllocError> {
+fn told(alloc: Global, found: Result<Written, FdsError>) -> Result<String, AllocError> {
     match found {
         Ok((written, true)) => format!(in alloc; "\"{}\"", written.escape_ascii()),
         Ok((_, false)) => String::from_str(alloc, "not the same again"),
@@ -44,9 +44,22 @@ pub(crate) fn told(alloc: Global, found: Result<Written, FdsError>) -> Result<St
     }
 }
 
-/// What is reported of a row's set.
-pub(crate) fn answer(alloc: Global, row: &str) -> Result<String, AllocError> {
-    let (_, spelled) = cut(row);
+/// The names of the written schema's message types.
+fn names_of_types(alloc: Global) -> Result<String, AllocError> {
+    let schema = descriptor_schema(alloc)?;
+    let mut names = String::new(alloc);
+    for message_type in &schema.parts().types {
+        names.push_str(&message_type.name)?;
+        names.push(' ')?;
+    }
+    Ok(names)
+}
+
+/// What is reported of the set, or of the word `descriptor_schema`.
+pub(crate) fn answer(alloc: Global, spelled: &str) -> Result<String, AllocError> {
+    if spelled == "descriptor_schema" {
+        return names_of_types(alloc);
+    }
     let bytes = bytes_of(alloc, spelled)?;
     told(alloc, read_and_written(alloc, &bytes))
 }

@@ -7,16 +7,11 @@ mod files;
 mod parts;
 mod row;
 
-use rows::cut;
-use std::alloc::AllocError;
+use rows::{cut, print_row};
 use std::io;
 
 fn print_answer(rt: &HostRuntime, line: &str) -> io::Result<()> {
-    let (what, _) = cut(line);
-    match row::answer(rt.alloc(), line) {
-        Ok(text) => println!(rt; "{what} | {text}"),
-        Err(AllocError) => println!(rt; "{what} | Memory"),
-    }
+    print_row(rt, cut(line).0, &row::answer(rt.alloc(), line))
 }
 
 fn main(rt: HostRuntime) -> io::Result<()> {

@@ -3,12 +3,14 @@
 #![tactic(auto)]
 
 mod files;
+mod printing;
 mod repeats;
 mod retry;
 mod spelled;
 mod texts;
 
 pub use files::{File, borrowed, files_of};
+pub use printing::{debug, print_row};
 pub use repeats::{number_of, unrolled};
 pub use retry::say;
 pub use spelled::{bytes_of, spelling};

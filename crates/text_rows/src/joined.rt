@@ -6,7 +6,7 @@ use rows::text_of;
 use std::alloc::{AllocError, Global};
 
 /// The path of the first import.
-pub fn first_path(file: &FileTree) -> Option<&Text> {
+fn first_path(file: &FileTree) -> Option<&Text> {
     for statement in &file.statements {
         if let Statement::Import(import) = statement {
             return Some(&import.path);

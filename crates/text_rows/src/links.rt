@@ -4,24 +4,25 @@ mod options;
 mod shown;
 
 use asked::answer_of;
-pub use asked::{first_type, shown_name, shown_targets, targets_by_offset};
 use failing_source::FailingSource;
-pub use options::{Options, options_of};
-use pg_link::{LinkError, Linked, Listed, Place, link_below, place_in, read_file};
+use options::{Options, options_of};
+use pg_link::{LinkError, Linked, Listed, link, link_below, place_in, read_file};
 use rows::{borrowed, cut, files_of, number_of, spelling};
-use shown::linked_files;
-pub use shown::refusal;
+use shown::{linked_files, refusal};
 use std::alloc::{AllocError, Global};
 
-pub type Source<'a> = FailingSource<Listed<'a>>;
+type Source<'a> = FailingSource<Listed<'a>>;
 
 fn linked(alloc: Global, source: &mut Source, options: Options) -> Result<Linked, LinkError> {
     let roots: Vec<&str> = options.roots.split(' ').collect(alloc)?;
-    link_below(alloc, source, options.folder, &roots)
+    match options.folder {
+        "." => link(alloc, source, &roots),
+        folder => link_below(alloc, source, folder, &roots),
+    }
 }
 
 /// What is shown of linked files, or the refusal.
-pub fn shown_links(
+fn shown_links(
     alloc: Global,
     found: Result<Linked, LinkError>,
     options: Options,
@@ -34,7 +35,7 @@ pub fn shown_links(
 }
 
 /// What a read of a file gives, or the refusal.
-pub fn shown_read(alloc: Global, found: Result<Vec<u8>, LinkError>) -> Result<String, AllocError> {
+fn shown_read(alloc: Global, found: Result<Vec<u8>, LinkError>) -> Result<String, AllocError> {
     match found {
         Ok(bytes) => spelling(alloc, &bytes),
         Err(error) => refusal(alloc, error),
@@ -53,17 +54,13 @@ fn of_reads(alloc: Global, source: &mut Source, options: Options) -> Result<Stri
     Ok(out)
 }
 
-/// A place in a file.
-pub fn shown_place(alloc: Global, place: &Place) -> Result<String, AllocError> {
-    format!(in alloc; "{}:{}:{}", place.file, place.line, place.column)
-}
-
 /// The place of a byte of the first file.
 fn of_place(alloc: Global, files: &[(&str, &[u8])], at: u32) -> Result<String, AllocError> {
     let Some((path, text)) = files.first() else {
         return String::from_str(alloc, "no file");
     };
-    shown_place(alloc, &place_in(alloc, path, text, at as usize)?)
+    let place = place_in(alloc, path, text, at as usize)?;
+    format!(in alloc; "{}:{}:{}", place.file, place.line, place.column)
 }
 
 fn of_files(

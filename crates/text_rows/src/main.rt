@@ -34,20 +34,16 @@ mod schema;
 mod tokens;
 mod tree;
 
+use answer::answer;
 use pg_link::Folder;
-use rows::cut;
-use std::alloc::AllocError;
+use rows::{cut, print_row};
 use std::io;
 
 fn print_answer(rt: &HostRuntime, row: &str) -> io::Result<()> {
-    let (what, input) = cut(row);
-    if let Some(input) = input.strip_prefix("retry ") {
-        let answer = retries::answer(rt, input)?;
-        return println!(rt; "{what} | {answer}");
-    }
-    match answer::answer(rt.alloc(), &mut Folder::new(rt), row) {
-        Ok(answer) => println!(rt; "{what} | {answer}"),
-        Err(AllocError) => println!(rt; "{what} | Memory"),
+    let (shows, input) = cut(row);
+    match input.strip_prefix("retry ") {
+        Some(input) => print_row(rt, shows, &Ok(retries::answer(rt, input)?)),
+        None => print_row(rt, shows, &answer(rt.alloc(), &mut Folder::new(rt), row)),
     }
 }
 

@@ -6,17 +6,14 @@ mod types;
 
 use crate::schema::refusal;
 use pg_check::{CheckError, admit};
-use pg_schema::{Parts, PartsError, Schema, default_json_name};
+use pg_schema::{Parts, PartsError, Schema, default_json_name, entry_name, full_name};
 pub use pieces::parts_of;
-use rows::cut;
+use rows::{cut, debug};
 use std::alloc::{AllocError, Global};
 use types::element_of;
 
 /// How many message types the schema has, or the refusal.
-pub fn shown_admitted(
-    alloc: Global,
-    found: Result<Schema, CheckError>,
-) -> Result<String, AllocError> {
+fn shown_admitted(alloc: Global, found: Result<Schema, CheckError>) -> Result<String, AllocError> {
     match found {
         Ok(schema) => format!(in alloc; "taken {}", schema.parts().types.len()),
         Err(error) => refusal(alloc, error),
@@ -34,14 +31,22 @@ pub fn shown_made(
     }
 }
 
-/// What is printed of the row: `admit | PIECES`, `from_parts | PIECES`, `json_name | NAME` or
-/// `packable | TYPE`.
+/// The full name of what `SCOPE NAME` names.
+fn named(alloc: Global, words: &str) -> Result<String, AllocError> {
+    let (scope, name) = words.split_once(' ').unwrap_or(("", words));
+    full_name(alloc, scope, name)
+}
+
+/// What is printed of the row: `admit | PIECES`, `from_parts | PIECES`, `json_name | NAME`,
+/// `entry_name | NAME`, `full_name | SCOPE NAME` or `packable | TYPE`.
 pub fn answer(alloc: Global, input: &str) -> Result<String, AllocError> {
     let (call, spelled) = cut(input);
     match call {
         "admit" => shown_admitted(alloc, admit(alloc, parts_of(alloc, spelled)?)),
         "from_parts" => shown_made(alloc, Schema::from_parts(alloc, parts_of(alloc, spelled)?)),
         "json_name" => default_json_name(alloc, spelled),
-        _ => format!(in alloc; "{}", element_of(spelled).is_packable()),
+        "entry_name" => entry_name(alloc, spelled),
+        "full_name" => named(alloc, spelled),
+        _ => debug(alloc, &element_of(spelled).is_packable()),
     }
 }

@@ -1,22 +1,41 @@
-//! Calls that are made again where memory is refused, each by the row that shows its answer.
-mod files;
-mod schemas;
-mod texts;
-
-use rows::{cut, unrolled};
+//! Rows that are answered again where memory is refused.
+use crate::answer::answer_of;
+use crate::parts::{parts_of, shown_made};
+use pg_schema::{Parts, PartsError, Schema};
+use rows::{cut, retry, say, unrolled};
+use std::alloc::AllocError;
 use std::io;
+
+/// What `from_parts` makes of the parts; of those that came back where it lacks memory.
+fn made(rt: &HostRuntime, parts: Parts) -> io::Result<Result<Schema, (PartsError, Parts)>> {
+    match Schema::from_parts(rt.alloc(), parts) {
+        Err((PartsError::Memory, back)) => {
+            println!(rt; "Memory {}", back.types.len())?;
+            Ok(Schema::from_parts(rt.alloc(), back))
+        }
+        found => Ok(found),
+    }
+}
+
+/// `parts | from_parts | PIECES`: with the same parts both times.
+fn of_parts(rt: &HostRuntime, parts: Parts) -> io::Result<String> {
+    say(rt, "ready")?;
+    let found = made(rt, parts)?;
+    say(rt, "done")?;
+    Ok(shown_made(rt.alloc(), found)?)
+}
+
+fn again(rt: &HostRuntime, kind: &str, input: &str) -> io::Result<String> {
+    Ok(retry!(rt, Err(AllocError), answer_of(rt.alloc(), kind, input))?)
+}
 
 /// What is printed of the row behind its call, and of what comes in front of its answer
 /// (`rows::retry`).
 pub fn answer(rt: &HostRuntime, input: &str) -> io::Result<String> {
     let input = unrolled(rt.alloc(), input)?;
     let (kind, input) = cut(&input);
-    match kind {
-        "tokens" => texts::lexed(rt, input),
-        "tree" => texts::parsed(rt, input),
-        "joined" => texts::joined(rt, input),
-        "links" => files::linked(rt, input),
-        "schema" => schemas::built(rt, input),
-        _ => schemas::of_parts(rt, input),
+    match input.strip_prefix("from_parts | ") {
+        Some(spelled) if kind == "parts" => of_parts(rt, parts_of(rt.alloc(), spelled)?),
+        _ => again(rt, kind, input),
     }
 }

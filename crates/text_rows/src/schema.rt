@@ -5,16 +5,16 @@ pub use code::refusal;
 use pg_check::{CheckError, build};
 use pg_link::{LinkError, Listed, link};
 use pg_schema::{EnumId, EnumType, Field, MessageType, Parts, Schema, TypeId};
-use rows::{borrowed, cut, files_of, number_of};
+use rows::{borrowed, cut, debug, files_of, number_of};
 use std::alloc::{AllocError, Global};
 
 fn shown(alloc: Global, parts: &Parts, asked: &str) -> Result<String, AllocError> {
     match asked {
         "count" => format!(in alloc; "{} types", parts.types.len()),
-        "types" => format!(in alloc; "{:?}", parts.types),
-        "enums" => format!(in alloc; "{:?}", parts.enums),
-        "services" => format!(in alloc; "{:?}", parts.services),
-        "files" => format!(in alloc; "{:?}", parts.files),
+        "types" => debug(alloc, &parts.types),
+        "enums" => debug(alloc, &parts.enums),
+        "services" => debug(alloc, &parts.services),
+        "files" => debug(alloc, &parts.files),
         _ => String::from_str(alloc, "taken"),
     }
 }
@@ -51,8 +51,8 @@ fn field<'a>(schema: &'a Schema, words: &str) -> &'a str {
 fn answered(alloc: Global, schema: &Schema, call: &str, words: &str) -> Result<String, AllocError> {
     let index = number_of(words);
     match call {
-        "message" => format!(in alloc; "{:?}", schema.message(words)),
-        "has" => format!(in alloc; "{}", schema.has(TypeId { index })),
+        "message" => debug(alloc, &schema.message(words)),
+        "has" => debug(alloc, &schema.has(TypeId { index })),
         "type" => String::from_str(alloc, name_of_type(schema.message_type(TypeId { index }))),
         "enum" => String::from_str(alloc, name_of_enum(schema.enum_type(EnumId { index }))),
         _ => String::from_str(alloc, field(schema, words)),
@@ -67,7 +67,7 @@ fn of_schema(alloc: Global, schema: &Schema, asked: &str) -> Result<String, Allo
 }
 
 /// What is shown of a schema, or the refusal.
-pub fn shown_schema(
+fn shown_schema(
     alloc: Global,
     found: Result<Schema, CheckError>,
     asked: &str,

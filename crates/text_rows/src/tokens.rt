@@ -1,7 +1,7 @@
 //! The tokens of a text.
 use crate::placed::refusal;
 use pg_lex::{Kind, LexError, Token, lex, place};
-use rows::{cut, number_of, text_of};
+use rows::{cut, debug, number_of, text_of};
 use std::alloc::{AllocError, Global};
 
 /// The code, and the byte at which the fault stands.
@@ -21,9 +21,9 @@ fn fault(error: LexError) -> (u16, usize) {
 
 fn value(alloc: Global, kind: &Kind) -> Result<String, AllocError> {
     match kind {
-        Kind::Word(word) => format!(in alloc; "{word}"),
-        Kind::Whole(number) => format!(in alloc; "{number}"),
-        Kind::Text(text) => format!(in alloc; "{text:?}"),
+        Kind::Word(word) => String::from_str(alloc, word),
+        Kind::Whole(number) => debug(alloc, number),
+        Kind::Text(text) => debug(alloc, text),
         Kind::Mark(mark) => format!(in alloc; "{}", char::from(*mark)),
     }
 }
@@ -46,7 +46,7 @@ fn tokens(alloc: Global, tokens: &[Token]) -> Result<String, AllocError> {
 }
 
 /// What is shown of the tokens of a text, or of its fault.
-pub fn shown_tokens(
+fn shown_tokens(
     alloc: Global,
     text: &[u8],
     found: Result<Vec<Token<'_>>, LexError>,

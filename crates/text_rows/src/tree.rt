@@ -3,7 +3,6 @@ mod one;
 mod shown;
 
 use one::answer_of;
-pub use one::shown_file;
 use pg_lex::{LexError, Token, lex};
 use rows::{cut, text_of, with_word};
 use std::alloc::{AllocError, Global};

@@ -16,19 +16,14 @@ mod relaying;
 mod retries;
 mod row;
 
-use rows::cut;
-use std::alloc::AllocError;
+use rows::{cut, print_row};
 use std::io;
 
 fn print_answer(rt: &HostRuntime, line: &str) -> io::Result<()> {
     let (shows, input) = cut(line);
-    if let Some(input) = input.strip_prefix("retry ") {
-        let answer = retries::answer(rt, input)?;
-        return println!(rt; "{shows} | {answer}");
-    }
-    match row::answer(rt.alloc(), line) {
-        Ok(text) => println!(rt; "{shows} | {text}"),
-        Err(AllocError) => println!(rt; "{shows} | Memory"),
+    match input.strip_prefix("retry ") {
+        Some(input) => print_row(rt, shows, &Ok(retries::answer(rt, input)?)),
+        None => print_row(rt, shows, &row::answer(rt.alloc(), line)),
     }
 }
 

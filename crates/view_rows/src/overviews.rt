@@ -1,5 +1,7 @@
 //! How overviews are shown.
-use pg_causes::{Overview, TypeLine};
+use pg_causes::{Overview, TypeLine, gate_all};
+use pg_gate::ViewName;
+use pg_schema::Schema;
 use std::alloc::{AllocError, Global};
 
 /// Adds an item to the list.
@@ -20,7 +22,7 @@ fn add_type(alloc: Global, list: &mut String, line: &TypeLine) -> Result<(), All
 
 /// The causes, each with its reason and its message in hexadecimal digits, then the types that both
 /// schemas have, those that were removed and those that were added.
-pub(crate) fn shown(alloc: Global, overview: &Overview) -> Result<String, AllocError> {
+fn shown(alloc: Global, overview: &Overview) -> Result<String, AllocError> {
     let mut list = String::new(alloc);
     for cause in &overview.causes {
         let digits = hex::encode(alloc, &cause.message)?;
@@ -39,4 +41,10 @@ pub(crate) fn shown(alloc: Global, overview: &Overview) -> Result<String, AllocE
         add(&mut list, &format!(in alloc; "added {name}")?)?;
     }
     Ok(list)
+}
+
+/// What is shown of `gate_all` by names.
+pub(crate) fn overviewed(alloc: Global, old: &Schema, new: &Schema) -> Result<String, AllocError> {
+    let overview = gate_all(alloc, old, new, ViewName::Names)?;
+    shown(alloc, &overview)
 }

@@ -8,7 +8,7 @@ use std::alloc::{AllocError, Global};
 use tiny_schemas::schemas;
 
 /// The first types.
-pub(crate) const FIRST: Pair = Pair {
+const FIRST: Pair = Pair {
     old: TypeId { index: 0 },
     new: TypeId { index: 0 },
 };
@@ -22,7 +22,7 @@ fn refused(alloc: Global, error: DynError) -> Result<String, AllocError> {
 }
 
 /// What is handed on, or the refusal.
-pub(crate) fn shown(alloc: Global, found: Result<Vec<u8>, DynError>) -> Result<String, AllocError> {
+fn shown(alloc: Global, found: Result<Vec<u8>, DynError>) -> Result<String, AllocError> {
     match found {
         Ok(again) if again.is_empty() => String::from_str(alloc, "nothing"),
         Ok(again) => hex::encode(alloc, &again),
@@ -38,7 +38,7 @@ fn relayed(alloc: Global, old: &Schema, new: &Schema, bytes: &[u8]) -> Result<St
 }
 
 /// What a program of the new schema hands on of the bytes that the digits spell.
-fn handed_on_by(
+pub(crate) fn handed_on_by(
     alloc: Global,
     old: &Schema,
     new: &Schema,

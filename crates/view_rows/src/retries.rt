@@ -1,50 +1,42 @@
 //! Calls that are made again where memory is refused.
-use crate::overviews;
-use crate::relaying::{FIRST, shown};
+use crate::overviews::overviewed;
+use crate::relaying::handed_on_by;
 use crate::row::{asked, gated};
-use pg_causes::gate_all;
-use pg_dyn::DynError;
-use pg_gate::{ViewName, relay};
+use pg_gate::ViewName;
 use pg_schema::Schema;
 use rows::{cut, retry};
-use std::alloc::AllocError;
+use std::alloc::{AllocError, Global};
 use std::io;
 use tiny_schemas::schemas;
 
-fn relayed(rt: &HostRuntime, old: &Schema, new: &Schema, digits: &str) -> io::Result<String> {
-    let Ok(bytes) = hex::decode(rt.alloc(), digits) else {
-        return Ok(String::from_str(rt.alloc(), "no digits")?);
-    };
-    if !new.has(FIRST.new) {
-        return Ok(String::from_str(rt.alloc(), "no such type")?);
+/// What the call answers, of which `gate_with` and `gate_all` are by names.
+fn called(
+    alloc: Global,
+    call: &str,
+    old: &Schema,
+    new: &Schema,
+    digits: &str,
+) -> Result<String, AllocError> {
+    match call {
+        "gate" => gated(alloc, old, new),
+        "gate_with" => asked(alloc, old, new, ViewName::Names),
+        "gate_all" => overviewed(alloc, old, new),
+        _ => handed_on_by(alloc, old, new, digits),
     }
-    let found = retry!(
-        rt,
-        Err(DynError::Memory),
-        relay(rt.alloc(), old, new, FIRST, &bytes)
-    );
-    Ok(shown(rt.alloc(), found)?)
 }
 
-fn gated_again(rt: &HostRuntime, old: &Schema, new: &Schema) -> io::Result<String> {
-    Ok(retry!(rt, Err(AllocError), gated(rt.alloc(), old, new))?)
-}
-
-fn gated_by_names(rt: &HostRuntime, old: &Schema, new: &Schema) -> io::Result<String> {
+fn again(
+    rt: &HostRuntime,
+    call: &str,
+    old: &Schema,
+    new: &Schema,
+    digits: &str,
+) -> io::Result<String> {
     Ok(retry!(
         rt,
         Err(AllocError),
-        asked(rt.alloc(), old, new, ViewName::Names)
+        called(rt.alloc(), call, old, new, digits)
     )?)
-}
-
-fn overviewed(rt: &HostRuntime, old: &Schema, new: &Schema) -> io::Result<String> {
-    let found = retry!(
-        rt,
-        Err(AllocError),
-        gate_all(rt.alloc(), old, new, ViewName::Names)
-    )?;
-    Ok(overviews::shown(rt.alloc(), &found)?)
 }
 
 /// What is printed of `CALL OLD SCHEMA | NEW SCHEMA [| DIGITS]`, with what comes in front of the
@@ -54,12 +46,7 @@ pub(crate) fn answer(rt: &HostRuntime, input: &str) -> io::Result<String> {
     let (old, words) = cut(schemas_of);
     let (new, digits) = cut(words);
     match schemas(rt.alloc(), old, new)? {
-        Some((old, new)) => match call {
-            "gate" => gated_again(rt, &old, &new),
-            "gate_with" => gated_by_names(rt, &old, &new),
-            "gate_all" => overviewed(rt, &old, &new),
-            _ => relayed(rt, &old, &new, digits),
-        },
+        Some((old, new)) => again(rt, call, &old, &new, digits),
         None => Ok(String::from_str(rt.alloc(), "no schemas")?),
     }
 }

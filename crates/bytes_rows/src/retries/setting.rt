@@ -1,23 +1,24 @@
-//! The calls that make messages of contents.
-use super::bytes::told;
+//! The call that sets a content of a message.
 use crate::contents::spelled_content;
 use crate::draft::contents_of;
 use crate::reading::written;
-use crate::setting::{set, set_each};
+use crate::row::spelled;
+use crate::setting::{set, set_each, shown};
 use crate::types::FIRST;
 use pg_dyn::{Content, DynError, Message};
 use pg_schema::Schema;
+use rows::say;
 use std::io;
 
 /// The content that came back and the message as it is then, behind `Memory`.
-fn tell_back(
+fn say_back(
     rt: &HostRuntime,
     schema: &Schema,
     message: &Message,
     back: &Content,
 ) -> io::Result<()> {
     let back = spelled_content(rt.alloc(), back)?;
-    let bytes = told(rt, written(rt.alloc(), schema, message))?;
+    let bytes = spelled(rt.alloc(), written(rt.alloc(), schema, message))?;
     println!(rt; "Memory {back} {bytes}")
 }
 
@@ -29,94 +30,50 @@ fn set_last(
     number: u32,
     content: Content,
 ) -> io::Result<Result<(), (DynError, Content)>> {
-    println!(rt; "ready")?;
-    let found = match set(schema, message, number, content) {
+    match set(schema, message, number, content) {
         Err((DynError::Memory, back)) => {
-            tell_back(rt, schema, message, &back)?;
-            set(schema, message, number, back)
+            say_back(rt, schema, message, &back)?;
+            Ok(set(schema, message, number, back))
         }
-        found => found,
-    };
-    println!(rt; "done")?;
-    Ok(found)
-}
-
-/// The bytes of the message; of a refusal also its name and the content that came back.
-fn told_of(
-    rt: &HostRuntime,
-    schema: &Schema,
-    message: &Message,
-    found: Result<(), (DynError, Content)>,
-) -> io::Result<String> {
-    let bytes = told(rt, written(rt.alloc(), schema, message))?;
-    match found {
-        Ok(()) => Ok(bytes),
-        Err((error, back)) => {
-            let name = told(rt, Err(error))?;
-            let back = spelled_content(rt.alloc(), &back)?;
-            Ok(format!(in rt.alloc(); "{name} {back} {bytes}")?)
-        }
+        found => Ok(found),
     }
 }
 
-/// `set`: the contents but for the last are set before.
-fn set_all(
+/// What is shown of the message once the last content is set in it too.
+fn with_last(
+    rt: &HostRuntime,
+    schema: &Schema,
+    message: &mut Message,
+    number: u32,
+    content: Content,
+) -> io::Result<String> {
+    say(rt, "ready")?;
+    let found = set_last(rt, schema, message, number, content)?;
+    say(rt, "done")?;
+    let shown = shown(rt.alloc(), schema, message, found);
+    Ok(spelled(rt.alloc(), shown)?)
+}
+
+/// The contents but for the last are set before.
+fn with_all(
     rt: &HostRuntime,
     schema: &Schema,
     mut contents: Vec<(u32, Content)>,
 ) -> io::Result<String> {
-    let mut message = Message::empty(rt.alloc(), FIRST);
     let Some((number, last)) = contents.pop() else {
         return Ok(String::from_str(rt.alloc(), "no content")?);
     };
-    let found = match set_each(schema, &mut message, contents) {
-        Ok(()) => set_last(rt, schema, &mut message, number, last)?,
-        refused => refused,
-    };
-    told_of(rt, schema, &message, found)
-}
-
-/// `whole`: the contents of a refused call are dropped, so that the second one has others.
-fn whole_of(
-    rt: &HostRuntime,
-    schema: &Schema,
-    first: Vec<(u32, Content)>,
-    second: Vec<(u32, Content)>,
-) -> io::Result<String> {
-    if !schema.has(FIRST) {
-        return told(rt, Err(DynError::NoSuchField));
-    }
-    println!(rt; "ready")?;
-    let found = match Message::whole(rt.alloc(), schema, FIRST, first) {
-        Err(DynError::Memory) => {
-            println!(rt; "Memory")?;
-            Message::whole(rt.alloc(), schema, FIRST, second)
-        }
-        found => found,
-    };
-    println!(rt; "done")?;
-    match found {
-        Ok(message) => told(rt, written(rt.alloc(), schema, &message)),
-        Err(error) => told(rt, Err(error)),
+    let mut message = Message::empty(rt.alloc(), FIRST);
+    match set_each(schema, &mut message, contents) {
+        Ok(()) => with_last(rt, schema, &mut message, number, last),
+        refused => Ok(spelled(rt.alloc(), shown(rt.alloc(), schema, &message, refused))?),
     }
 }
 
-/// `set WORDS` and `whole WORDS`: these calls.
-pub(super) fn answer(
-    rt: &HostRuntime,
-    schema: &Schema,
-    call: &str,
-    words: &str,
-) -> io::Result<String> {
-    let contents = match contents_of(rt.alloc(), schema, words) {
-        Ok(contents) => contents,
-        Err(error) => return told(rt, Err(error)),
-    };
-    if call == "set" {
-        return set_all(rt, schema, contents);
-    }
+/// `set WORDS`: the last content is set by a call that is made again where it lacks memory.
+pub(super) fn answer(rt: &HostRuntime, schema: &Schema, words: &str) -> io::Result<String> {
     match contents_of(rt.alloc(), schema, words) {
-        Ok(others) => whole_of(rt, schema, contents, others),
-        Err(error) => told(rt, Err(error)),
+        Ok(contents) => with_all(rt, schema, contents),
+        Err(error) => Ok(spelled(rt.alloc(), Err(error))?),
     }
 }

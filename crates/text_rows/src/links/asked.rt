@@ -1,9 +1,8 @@
 //! What linked files are asked beside their links.
-ghost use Rattle.std.specs.Prelude.{◌<◌, length};
-
 use super::shown::refusal;
-use pg_link::{LinkError, Linked, Target};
+use pg_link::{LinkError, Linked};
 use pg_syntax::tree::{FileTree, Part, Statement, TypeName};
+use rows::debug;
 use std::alloc::{AllocError, Global};
 use std::collections::BTreeMap;
 
@@ -12,30 +11,15 @@ fn targets(alloc: Global, linked: &Linked) -> Result<String, AllocError> {
     if linked.files().is_empty() {
         return String::from_str(alloc, "no file");
     }
-    shown_targets(alloc, &targets_by_offset(alloc, linked)?)
-}
-
-/// What the uses in the first file resolve to, by their first bytes.
-pub fn targets_by_offset(
-    alloc: Global,
-    linked: &Linked,
-) -> Result<BTreeMap<usize, Target>, AllocError>
-    requires { 0 < length linked.now.files }
-{
     let mut found = BTreeMap::new(alloc);
-    for (at, target) in linked.places(0).iter().zip(linked.targets(0).iter()) {
+    for (at, target) in linked.places(0).iter().zip(linked.targets(0)) {
         found.insert(*at, *target)?;
     }
-    Ok(found)
-}
-
-/// What uses resolve to, by their first bytes.
-pub fn shown_targets(alloc: Global, found: &BTreeMap<usize, Target>) -> Result<String, AllocError> {
-    format!(in alloc; "{found:?}")
+    debug(alloc, &found)
 }
 
 /// The type of the first field of the only message of a file with a package.
-pub fn first_type(file: &FileTree) -> Option<&TypeName> {
+fn first_type(file: &FileTree) -> Option<&TypeName> {
     let [Statement::Message(message)] = file.packaged.as_ref()?.statements.as_slice() else {
         return None;
     };
@@ -43,14 +27,6 @@ pub fn first_type(file: &FileTree) -> Option<&TypeName> {
         return None;
     };
     Some(&field.type_name)
-}
-
-/// The full name, or the refusal.
-pub fn shown_name(alloc: Global, found: Result<&str, LinkError>) -> Result<String, AllocError> {
-    match found {
-        Ok(name) => String::from_str(alloc, name),
-        Err(error) => refusal(alloc, error),
-    }
 }
 
 /// The full name that it has in a scope of the first file.

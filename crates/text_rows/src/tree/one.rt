@@ -21,7 +21,7 @@ fn fault(error: SyntaxError) -> (u16, usize) {
 }
 
 /// What is shown of the file of a text, or of its fault.
-pub fn shown_file(
+fn shown_file(
     alloc: Global,
     text: &[u8],
     found: Result<FileTree, SyntaxError>,
