@@ -147,8 +147,10 @@ def seeds_of_sets():
     """Returns a seed for each descriptor set of crates/fds_rows that states a schema, with itself on the other side."""
     found = []
     for row, wanted in zip(lines_of("fds_rows", "stdin"), lines_of("fds_rows", "stdout")):
-        data, types = bytes_of(row.partition(" | ")[2]), []
-        if wanted.partition(" | ")[2].startswith('"') and len(data) <= LONGEST:
+        spelled, types = row.partition(" | ")[2], []
+        data = bytes_of(spelled)
+        is_set = not spelled.startswith(("source ", "decoded "))
+        if is_set and wanted.partition(" | ")[2].startswith('"') and len(data) <= LONGEST:
             types = types_of_set(data)
         if types:
             found.append(Seed({"s.pb": data}, "s.pb", {"s.pb": data}, "s.pb", types, b""))

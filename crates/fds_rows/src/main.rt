@@ -1,11 +1,17 @@
 //! Reads the descriptor set that each line of standard input spells, and prints the set of what it
-//! states, or its refusal. Of the word `descriptor_schema` in the place of a set it prints the names
-//! of the written schema's message types. With `retry ` in front of the set the line is answered
-//! again where it lacks memory (`rows::retry`). Of another line that runs out of memory `Memory` is
-//! printed.
+//! states, or its refusal. With `source ` in front of a file, as `rows` spells it, it prints the set
+//! of the file's schema; with `decoded ` in front of a set what the written schema reads of it, as
+//! bytes again. `field MESSAGE NUMBER` is answered with the name of that field of the written
+//! schema, and `descriptor_schema` with the names of its message types.
+//!
+//! With `retry ` in front of all that the line is answered again where it lacks memory
+//! (`rows::retry`). Of another line that runs out of memory `Memory` is printed.
 #![tactic(auto)]
 
+mod own;
 mod row;
+mod sets;
+mod sources;
 
 use row::answer;
 use rows::{cut, print_row, retry};

@@ -1,7 +1,7 @@
 //! Calls that are made again where memory is refused.
 use crate::overviews::overviewed;
 use crate::relaying::handed_on_by;
-use crate::row::{asked, gated};
+use crate::row::gated;
 use pg_gate::ViewName;
 use pg_schema::Schema;
 use rows::{cut, retry};
@@ -18,8 +18,8 @@ fn called(
     digits: &str,
 ) -> Result<String, AllocError> {
     match call {
-        "gate" => gated(alloc, old, new),
-        "gate_with" => asked(alloc, old, new, ViewName::Names),
+        "gate" => gated(alloc, old, new, None),
+        "gate_with" => gated(alloc, old, new, Some(ViewName::Names)),
         "gate_all" => overviewed(alloc, old, new),
         _ => handed_on_by(alloc, old, new, digits),
     }

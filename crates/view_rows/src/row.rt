@@ -25,24 +25,23 @@ fn answered_with(alloc: Global, found: &Result<Answer, GateError>) -> Result<Str
     }
 }
 
-/// What is shown of `gate`'s answer.
-pub(crate) fn gated(alloc: Global, old: &Schema, new: &Schema) -> Result<String, AllocError> {
-    answered_with(alloc, &gate(alloc, old, new, "M"))
-}
-
-/// What is shown of the answer under that view.
-pub(crate) fn asked(
+/// What is shown of the answer of `gate`, or under that view of `gate_with`.
+pub(crate) fn gated(
     alloc: Global,
     old: &Schema,
     new: &Schema,
-    view: ViewName,
+    view: Option<ViewName>,
 ) -> Result<String, AllocError> {
-    answered_with(alloc, &gate_with(alloc, old, new, "M", view))
+    let found = match view {
+        Some(view) => gate_with(alloc, old, new, "M", view),
+        None => gate(alloc, old, new, "M"),
+    };
+    answered_with(alloc, &found)
 }
 
 fn both(alloc: Global, old: &Schema, new: &Schema) -> Result<String, AllocError> {
-    let numbers = asked(alloc, old, new, ViewName::Numbers)?;
-    let names = asked(alloc, old, new, ViewName::Names)?;
+    let numbers = gated(alloc, old, new, Some(ViewName::Numbers))?;
+    let names = gated(alloc, old, new, Some(ViewName::Names))?;
     format!(in alloc; "{numbers} | {names}")
 }
 
