@@ -262,12 +262,13 @@ fn verdict_as_written(
 ) -> Result<&'static str, AllocError>
     requires { Fits (shape_of graph.now.old.now) message.now }
 {
-    match encode_ref(alloc, graph.old, message) {
-        Ok(bytes) if breaks_as_written(alloc, graph, pair, message, &bytes)? => Ok("breaks"),
-        Ok(_) => Ok("kept"),
-        Err(DynError::Memory) => Err(AllocError),
-        Err(_) => Ok("no encoding"),
-    }
+    let bytes = match encode_ref(alloc, graph.old, message) {
+        Ok(bytes) => bytes,
+        Err(DynError::Memory) => return Err(AllocError),
+        Err(_) => return Ok("no encoding"),
+    };
+    let answer = breaks_as_written(alloc, graph, pair, message, &bytes)?;
+    Ok(if answer { "breaks" } else { "kept" })
 }
 
 /// `breaks_as_written | OLD | NEW | PAIR | TYPE | BYTES`: the same of a message that borrows from
