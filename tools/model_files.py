@@ -43,8 +43,9 @@ NAMED = re.compile(r"`([\w/+-]+/[\w+-]+\.(?:rt|antt))`")
 IMPORT = re.compile(r"^\s*(?:pub\s+)?use\s+Rattle\.(\w+)\.specs\.(\w+(?:\.\w+)*)", re.M)
 # The crates of the kit whose definitions are counted.
 MODELS = ("clap", "hex")
-# The promise of which docs/MODEL.md says what it takes of these.
+# The promise of which these documents say what it takes of these.
 WHOLE = "what `run` promises"
+TRUSTING = ("README.md", "SECURITY.md", "docs/MODEL.md", "docs/GUARANTEES.md")
 
 
 @functools.lru_cache(maxsize=None)
@@ -139,9 +140,11 @@ def differences():
             files = files_of(what)
             counts = f"{len(files)} files with {lines_of(files):,} lines"
             found += [] if counts in said[document] else [f"{document} doesn't say of {what}: {counts}"]
-    page = said["docs/MODEL.md"]
-    if f"`{kit_name()}`" in page:
-        found += [f"docs/MODEL.md doesn't say of {crate}: {counts}" for crate, counts in models() if f"`{crate}`: {counts}" not in page]
+    for document in TRUSTING:
+        with open(f"{TOP}/{document}", encoding="utf-8") as file:
+            page = file.read()
+        if f"`{kit_name()}`" in page:
+            found += [f"{document} doesn't say of {crate}: {counts}" for crate, counts in models() if f"`{crate}`: {counts}" not in page]
     return found
 
 

@@ -5,11 +5,11 @@ ghost use Rattle.pg_check.specs.parts.ResolvedTypes.{AreResolved};
 
 use pg_check::CheckError;
 use pg_link::Linked;
-use pg_schema::{Parts, Schema};
+use pg_schema::Schema;
 use std::alloc::Global;
 
-/// What the type names of files name in what `build` answers. Only an edit uses the other parts.
-pub fn build_resolved(alloc: Global, named: &Linked, _others: Parts) -> Result<Schema, CheckError>
+/// What the type names of files name in what `build` answers. Only an edit uses the other files.
+pub fn build_resolved(alloc: Global, named: &Linked, _other: &Linked) -> Result<Schema, CheckError>
     ensures { IfOk result (AreResolved named.now.files) }
 {
     pg_check::build(alloc, named)
