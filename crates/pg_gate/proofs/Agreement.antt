@@ -51,4 +51,4 @@ line_is enum_view old new line (answers.Breaks witness certificate) old_is new_i
 pub all_says_what_gate_says : AllSaysWhatGateSays
 all_says_what_gate_says view old new old_is new_is overview is line among answer is_answer =
     line_is (seen_under view old new) old new line answer old_is new_is
-    (among_each (IsTypeLine (seen_under view old new) old new) line overview.types.items is.types among) is_answer.1
+    (among_each (IsTypeLine (seen_under view old new) old new) line overview.types.items among is.types) is_answer.1
