@@ -24,7 +24,9 @@ use Rattle.pg_least.proofs.PublicLaws.{compatible_is_seen, lost_messages_break, 
 use Rattle.pg_gate.specs.Answer.{IsAnswer, IsAnswerBy, IsBroken, IsCompatible, IsRefusedRoot, certificate_of}
 use Rattle.pg_gate.specs.ViewAnswer.{IsAnswerUnder}
 use Rattle.pg_gate.specs.Files.{IsFaultOfSide, IsSide, IsSideError}
-use Rattle.pg_gate.specs.Grants.{Between, IsAnswerOfFiles, IsFindingOf, IsGateError, IsGateReply, IsSidesError, IsSidesFault, Reports}
+use Rattle.pg_gate.specs.Grants.{Between, IsAnswerOfFiles, IsFindingOf, IsGateError, IsGateReply, IsSidesError, IsSidesFault}
+use Rattle.pg_gate.specs.Call.{GateRequest}
+use Rattle.pg_gate.specs.inner.Reports.{Reports}
 use Rattle.pg_gate.specs.declared.error.Side.TheVariants as sides
 use Rattle.pg_link.specs.Walk.{World}
 use Rattle.pg_gate.specs.declared.answer.gate.Answer.{Answer}
@@ -179,9 +181,8 @@ module _ (root : Text) (old new : World) (a b : Parts) (of_old : IsSide old a) (
   pub answer_of_files : (answer : Answer) → IsAnswer a b root answer → CarriesWitness by_numbers (shape_of a) (shape_of b) (certificate_of answer) → IsAnswerOfFiles root old new answer
   answer_of_files answer is carried = record { old_schema = a; new_schema = b; of_old = of_old; of_new = of_new; so = (is, carried) }
 
-  pub reply_of_files : (view : ViewName) (certificate_only both explain : Bool) (reply : Reply) → IsGateReply view a b root certificate_only both explain reply
-      → Between old new (λ a b. IsGateReply view a b root certificate_only both explain reply)
-  reply_of_files view certificate_only both explain reply is = record { old_schema = a; new_schema = b; of_old = of_old; of_new = of_new; so = is }
+  pub reply_of_files : (asked : GateRequest) (reply : Reply) → IsGateReply a b asked reply → Between old new (λ a b. IsGateReply a b asked reply)
+  reply_of_files asked reply is = record { old_schema = a; new_schema = b; of_old = of_old; of_new = of_new; so = is }
 
   pub refused_of_files : (error : GateError) → IsRefusedRoot a b root error → IsGateError root old new error
   refused_of_files error is =

@@ -1,5 +1,5 @@
 -- The pairs of causes are pairs of the schemas' types.
-use Rattle.std.proofs.Common.{◌≡◌, List, [], ◌∷◌, map, flat_map, length, true, refl, sym, subst, lt-ltb, ⊎_elim}
+use Rattle.std.proofs.Common.{◌≡◌, List, [], ◌∷◌, length, true, refl, sym, subst, lt-ltb, ⊎_elim}
 use Rattle.std.specs.List.{AllByRecursion}
 use Rattle.clap.specs.Words.{Text}
 use Rattle.pg_schema.specs.declared.parts.Parts.{Parts}

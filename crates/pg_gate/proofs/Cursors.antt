@@ -8,7 +8,7 @@ use Rattle.std.proofs.lemmas.List.{length-drop, length-reverse, length-take-le, 
 use Rattle.std.proofs.lemmas.List.Folds.{prefix_len-append}
 use Rattle.std.proofs.lemmas.List.Sums.{sum_by-append, suffix_len-le-length}
 use Rattle.pg_lex.specs.Place.{column, line}
-use Rattle.pg_gate.specs.Cursor.{StandsAt}
+use Rattle.pg_gate.specs.inner.Cursor.{StandsAt}
 use Rattle.pg_gate.specs.declared.answer.cursor.Stand.{Stand}
 
 suffix_len-append : {X : Type 0} (p : X → Bool) (xs ys : List X) → suffix_len p (xs ++ ys) ≡ cond (eqb (suffix_len p ys) (length ys)) (length ys + suffix_len p xs) (suffix_len p ys)

@@ -1,10 +1,9 @@
 -- What errors say, and which failures of sources they tell of.
-use Rattle.std.proofs.Common.{◌≡◌, ◌∙◌, ℕ, Result, Ok, Err, IfErr, refl, ap, sym, subst}
+use Rattle.std.proofs.Common.{◌≡◌, ℕ, Result, Ok, Err, IfErr, refl, ap, sym, subst}
 use Rattle.std.specs.Result.{IsErrAnd}
 use Rattle.pg_dyn.specs.declared.error.DynError.{DynError}
 use Rattle.pg_gate.specs.Errors.{IsCallError, IsError, IsMemory}
-use Rattle.pg_gate.specs.Failures.{call_failures_at, failures_at, failures_by, fault_failures, if_same, reported_failures}
-use Rattle.pg_gate.specs.Files.{IsErrorOf}
+use Rattle.pg_gate.specs.Failures.{call_failures_at, failures_at, failures_by, fault_failures, if_same}
 use Rattle.pg_gate.specs.declared.call.error.CallError.{CallError}
 use Rattle.pg_gate.specs.declared.call.error.CallError.TheVariants as calls
 use Rattle.pg_gate.specs.declared.call.error.CertificateFault.{CertificateFault}
@@ -42,26 +41,17 @@ passed_on (Err e) tells error is = ap tells is
 
 -- ---- failures
 
-if_same-same : (side : Side) (count : ℕ) → if_same side side count ≡ count
-if_same-same sides.Old count = refl
-if_same-same sides.New count = refl
+pub if_same_side : (side : Side) (count : ℕ) → if_same side side count ≡ count
+if_same_side sides.Old count = refl
+if_same_side sides.New count = refl
 
-if_same-zero : (side of : Side) → if_same side of 0 ≡ 0
-if_same-zero sides.Old sides.Old = refl
-if_same-zero sides.Old sides.New = refl
-if_same-zero sides.New sides.Old = refl
-if_same-zero sides.New sides.New = refl
+pub if_same_zero : (side of : Side) → if_same side of 0 ≡ 0
+if_same_zero sides.Old sides.Old = refl
+if_same_zero sides.Old sides.New = refl
+if_same_zero sides.New sides.Old = refl
+if_same_zero sides.New sides.New = refl
 
--- a side's own error tells of its source
-pub own : (F : Fault → Type 0) (side : Side) (error : GateError) → IsErrorOf F side error → failures_at side error ≡ reported_failures error
-own F side gates.Memory is = refl
-own F side gates.RootMissingOld is = refl
-own F side gates.RootMissingNew is = refl
-own F side (gates.Compile of fault) is = ap (λ s. if_same side s (fault_failures fault)) is.0 ∙ if_same-same side (fault_failures fault)
-own F side gates.WriteFailed is = refl
-own F side gates.BadHex is = refl
-
--- and of the other side's source it tells nothing
+-- a side's own error reports nothing of the other side's source
 pub new_alone : (A B C : Type 0) (F : Fault → Type 0) (error : GateError) → IsError A B C (λ of found. (of ≡ sides.Old) × F found) error → failures_at sides.New error ≡ 0
 new_alone A B C F gates.Memory is = refl
 new_alone A B C F gates.RootMissingOld is = refl
@@ -98,7 +88,7 @@ of_call G C B side g c (calls.Certificate fault) is = c fault is
 of_call G C B side g c (calls.Bytes error) is = refl
 
 pub of_refused : (side : Side) → if_same side sides.Old 0 ≡ 0
-of_refused side = if_same-zero side sides.Old
+of_refused side = if_same_zero side sides.Old
 
 -- an answer whose errors tell of no failure
 pub none_counted : {T E : Type 0} (r : Result T E) (P : E → Type 0) (tells : E → ℕ) → ((e : E) → P e → tells e ≡ 0) → IfErr r P → failures_by tells r ≡ 0

@@ -10,7 +10,8 @@ use Rattle.pg_gate.specs.Errors.{IsError, IsMemory}
 use Rattle.pg_gate.specs.Failures.{call_failures_at}
 use Rattle.pg_gate.specs.Files.{IsFaultOfSide, IsSide, IsSideError}
 use Rattle.pg_gate.specs.Grants.{IsShowError, OfSide}
-use Rattle.pg_gate.specs.Showing.{IsBadWord, IsReadAs, IsRefused, IsRefusedWord, IsShowFault, IsShown, IsUnread, IsUnspelled}
+use Rattle.pg_gate.specs.Showing.{IsBadWord, IsReadAs, IsRefused, IsRefusedWord, IsShown}
+use Rattle.pg_gate.specs.inner.Showing.{IsShowFault, IsUnread, IsUnspelled}
 use Rattle.pg_gate.specs.declared.call.error.CallError.{CallError}
 use Rattle.pg_gate.specs.declared.call.error.CallError.TheVariants as calls
 use Rattle.pg_gate.specs.declared.error.GateError.{GateError}

@@ -23,8 +23,9 @@ use Rattle.pg_schema.specs.declared.parts.Parts.{Parts}
 use Rattle.pg_least.specs.Roots.{IsNamed}
 use Rattle.pg_gate.specs.Failures.{call_failures_at}
 use Rattle.pg_gate.specs.Files.{IsSide}
-use Rattle.pg_gate.specs.Grants.{IsSidesFault, IsUngiven, IsVerified, IsVerifyError}
-use Rattle.pg_gate.specs.Verified.{HasFirstFault, IsClaimError, IsClaimFault, IsFaultOfClaim, IsHeldBy, IsPlaceOf, IsClaimRefusal}
+use Rattle.pg_gate.specs.Grants.{IsSidesFault, IsVerified, IsVerifyError}
+use Rattle.pg_gate.specs.Verified.{HasFirstFault, IsClaimFault, IsFaultOfClaim, IsHeldBy, IsPlaceOf}
+use Rattle.pg_gate.specs.inner.Claims.{IsClaimError, IsClaimRefusal, IsUngiven}
 use Rattle.pg_gate.specs.declared.call.error.CallError.{CallError}
 use Rattle.pg_gate.specs.declared.call.error.CallError.TheVariants as calls
 use Rattle.pg_gate.specs.declared.call.error.CertificateFault.TheVariants as certificates

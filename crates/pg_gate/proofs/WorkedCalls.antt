@@ -9,7 +9,7 @@ use Rattle.clap.specs.declared.error.ErrorKind.TheVariants as kind
 use Rattle.pg_dyn.specs.declared.view_name.ViewName.TheVariants as views
 use Rattle.pg_gate.specs.Call.{CallsFor, IsRefused, Request, request_in, types}
 use Rattle.pg_gate.specs.CommandLine.{whole_app}
-use Rattle.pg_gate.specs.WorkedCalls.{WorkedCalls, asked_all, asked_gate, gate_all_words, gate_by, gate_words}
+use Rattle.pg_gate.specs.WorkedCalls.{WorkedCalls, asked_all, asked_gate, gate_all_words, gate_by, gate_words, here}
 
 -- some reference to the names of the views
 abbrev names : Bor (List (Bor Text))
@@ -83,11 +83,11 @@ all_of_a_bare_word : fault_of (whole_app names) (gate_all_words (codes "c" ∷ [
 unfolding clap_on_literals
 all_of_a_bare_word = refl
 
-types_of_a_file : IsCalled (codes "types" ∷ codes "f" ∷ codes "--dir" ∷ codes "d" ∷ []) (types (codes "d") (codes "f" ∷ []))
+types_of_a_file : IsCalled (codes "types" ∷ codes "f" ∷ codes "--dir" ∷ codes "d" ∷ []) (types (record { folder = codes "d"; files = codes "f" ∷ [] }))
 unfolding clap_on_literals
 types_of_a_file = (refl, refl)
 
-types_of_files : IsCalled (codes "types" ∷ codes "f" ∷ codes "g" ∷ []) (types (codes ".") (codes "f" ∷ codes "g" ∷ []))
+types_of_files : IsCalled (codes "types" ∷ codes "f" ∷ codes "g" ∷ []) (types (here (codes "f" ∷ codes "g" ∷ [])))
 unfolding clap_on_literals
 types_of_files = (refl, refl)
 

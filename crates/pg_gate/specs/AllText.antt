@@ -2,7 +2,7 @@
 use Rattle.std.specs.Prelude.{ℕ, List, [], ◌++◌, Option, Some, None, String, codes, decimal, length, string_bytes}
 use Rattle.std.specs.List.{flat_map}
 use Rattle.std.specs.Global.{Global}
-use Rattle.clap.specs.Words.{Text}
+use Rattle.pg_link.specs.Names.{Text}
 use Rattle.pg_causes.specs.declared.overview.Reason.{Reason}
 use Rattle.pg_causes.specs.declared.overview.Reason.TheVariants as reasons
 use Rattle.pg_causes.specs.declared.overview.TypeLine.{TypeLine}
@@ -26,8 +26,8 @@ abbrev pub other_of : Option Step → Text
 other_of (Some step) = codes " " ++ (field_of step.old ++ (codes " " ++ field_of step.new))
 other_of None = []
 
--- `cause CASE LENGTH HEX NUMBER OLDFIELD OLDPLACE NEWFIELD NEWPLACE`, and of two fields that meet the four words of both; then the two
--- readings where they are asked for
+-- `cause CASE LENGTH HEX NUMBER OLDFIELD OLDPLACE NEWFIELD NEWPLACE`, and of two fields that meet the four words of
+-- both; then the two readings where they are asked for
 abbrev pub cause_of : PlacedCause → Text
 cause_of c =
     codes "cause " ++ (reason_word c.cause.reason ++ (codes " " ++ (decimal (length c.cause.message.items) ++ (codes " "
@@ -53,4 +53,5 @@ names_of word names = flat_map (λ (name : String Global). word ++ (codes " " ++
 abbrev pub all_of : AllTypes → Text
 all_of all =
     causes_of all.causes.items
-    ++ (types_of all.types.items ++ (names_of (codes "removed") all.removed.items ++ names_of (codes "added") all.added.items))
+    ++ (types_of all.types.items
+    ++ (names_of (codes "removed") all.removed.items ++ names_of (codes "added") all.added.items))

@@ -9,57 +9,74 @@ use Rattle.clap.specs.Words.{Row, Text, all_of, fault_of, first_of, subcommand_o
 use Rattle.pg_dyn.specs.declared.view_name.ViewName.{ViewName}
 use Rattle.pg_dyn.specs.declared.view_name.ViewName.TheVariants as views
 use Rattle.pg_gate.specs.CommandLine.{view_names, whole_app}
+use Rattle.pg_gate.specs.Files.{BothPaths, Paths, both_paths, paths_in}
 use Rattle.pg_gate.specs.declared.call.Call.{Call}
 use Rattle.pg_gate.specs.declared.call.Call.TheVariants as call
-use Rattle.pg_gate.specs.declared.call.AllSides.{AllSides}
-use Rattle.pg_gate.specs.declared.call.Sides.{Sides}
+use Rattle.pg_gate.specs.declared.call.GateAllCall.{GateAllCall}
+use Rattle.pg_gate.specs.declared.call.GateCall.{GateCall}
+use Rattle.pg_gate.specs.declared.call.ShowCall.{ShowCall}
 
--- the texts of the two sides
-pub record SideTexts : Type 0 where
-  pub old_dir : Text
-  pub new_dir : Text
-  pub old : Text
-  pub new : Text
+-- what a gate is asked
+pub record GateRequest : Type 0 where
+  pub files : BothPaths
+  pub root : Text
+  pub certificate_only : Bool
+  pub both : Bool
+  pub explain : Bool
+  pub view : ViewName
 
--- the same of all files of each side
-pub record AllSideTexts : Type 0 where
-  pub old_dir : Text
-  pub new_dir : Text
-  pub old : List Text
-  pub new : List Text
+-- what the gate of all message types is asked
+pub record GateAllRequest : Type 0 where
+  pub files : BothPaths
+  pub explain : Bool
+  pub view : ViewName
 
--- a call, as texts
+-- what is to be shown
+pub record ShowRequest : Type 0 where
+  pub files : Paths
+  pub root : Text
+  pub word : Text
+
+-- a call
 pub data Request : Type 0 where
-  compile : (dir : Text) (files : List Text) → Request
-  gate : (sides : SideTexts) (root : Text) (certificate_only both explain : Bool) (view : ViewName) → Request
-  gate_all : (sides : AllSideTexts) (explain : Bool) (view : ViewName) → Request
-  show : (dir file root word : Text) → Request
-  verify : (sides : SideTexts) (certificate : Text) → Request
-  types : (dir : Text) (files : List Text) → Request
+  compile : (files : Paths) → Request
+  gate : (asked : GateRequest) → Request
+  gate_all : (asked : GateAllRequest) → Request
+  show : (asked : ShowRequest) → Request
+  verify : (files : BothPaths) (certificate : Text) → Request
+  types : (files : Paths) → Request
 
-abbrev pub sides_of : Sides → SideTexts
-sides_of s = record {
-  old_dir = s.old_dir.now;
-  new_dir = s.new_dir.now;
-  old = s.old.now;
-  new = s.new.now;
+abbrev pub gate_request : GateCall → GateRequest
+gate_request asked = record {
+  files = both_paths asked.files;
+  root = asked.root.now;
+  certificate_only = asked.certificate_only;
+  both = asked.both;
+  explain = asked.explain;
+  view = asked.view;
 }
 
-abbrev pub all_sides_of : AllSides → AllSideTexts
-all_sides_of s = record {
-  old_dir = s.old_dir.now;
-  new_dir = s.new_dir.now;
-  old = texts s.old.items;
-  new = texts s.new.items;
+abbrev pub gate_all_request : GateAllCall → GateAllRequest
+gate_all_request asked = record {
+  files = both_paths asked.files;
+  explain = asked.explain;
+  view = asked.view;
+}
+
+abbrev pub show_request : ShowCall → ShowRequest
+show_request asked = record {
+  files = paths_in asked.files;
+  root = asked.root.now;
+  word = asked.word.now;
 }
 
 abbrev pub request_of : Call → Request
-request_of (call.Compile dir files) = compile dir.now (texts files.items)
-request_of (call.Gate sides root certificate_only both explain view) = gate (sides_of sides) root.now certificate_only both explain view
-request_of (call.GateAll sides explain view) = gate_all (all_sides_of sides) explain view
-request_of (call.Show dir file root word) = show dir.now file.now root.now word.now
-request_of (call.Verify sides certificate) = verify (sides_of sides) certificate.now
-request_of (call.Types dir files) = types dir.now (texts files.items)
+request_of (call.Compile files) = compile (paths_in files)
+request_of (call.Gate asked) = gate (gate_request asked)
+request_of (call.GateAll asked) = gate_all (gate_all_request asked)
+request_of (call.Show asked) = show (show_request asked)
+request_of (call.Verify files certificate) = verify (both_paths files) certificate.now
+request_of (call.Types files) = types (paths_in files)
 
 -- ---- from clap's matches
 
@@ -80,55 +97,58 @@ view_if false = views.Numbers
 abbrev pub view_at : Text → List Row → ViewName
 view_at id rows = view_if (bytes_eq (text_at id rows) (codes "names"))
 
-abbrev pub sides_in : List Row → SideTexts
-sides_in rows = record {
-  old_dir = text_at (codes "old-dir") rows;
-  new_dir = text_at (codes "new-dir") rows;
-  old = text_at (codes "old") rows;
-  new = text_at (codes "new") rows;
-}
+-- the files that one option names, below the folder that another does
+abbrev pub paths_at : (folder files : Text) → List Row → Paths
+paths_at folder files rows = record { folder = text_at folder rows; files = texts_at files rows }
 
-abbrev pub all_sides_in : List Row → AllSideTexts
-all_sides_in rows = record {
-  old_dir = text_at (codes "old-dir") rows;
-  new_dir = text_at (codes "new-dir") rows;
-  old = texts_at (codes "old") rows;
-  new = texts_at (codes "new") rows;
+abbrev pub both_in : List Row → BothPaths
+both_in rows = record {
+  old = paths_at (codes "old-dir") (codes "old") rows;
+  new = paths_at (codes "new-dir") (codes "new") rows;
 }
-
-abbrev pub compile_in : List Row → Request
-compile_in rows = compile (text_at (codes "dir") rows) (texts_at (codes "FILE") rows)
 
 abbrev pub gate_in : List Row → Request
-gate_in rows = gate (sides_in rows) (text_at (codes "type") rows) (flag_at (codes "cert") rows) (flag_at (codes "both") rows) (flag_at (codes "explain") rows)
-    (view_at (codes "view") rows)
+gate_in rows = gate (record {
+  files = both_in rows;
+  root = text_at (codes "type") rows;
+  certificate_only = flag_at (codes "cert") rows;
+  both = flag_at (codes "both") rows;
+  explain = flag_at (codes "explain") rows;
+  view = view_at (codes "view") rows;
+})
 
 abbrev pub gate_all_in : List Row → Request
-gate_all_in rows = gate_all (all_sides_in rows) (flag_at (codes "explain") rows) (view_at (codes "view") rows)
+gate_all_in rows = gate_all (record {
+  files = both_in rows;
+  explain = flag_at (codes "explain") rows;
+  view = view_at (codes "view") rows;
+})
 
 abbrev pub verify_in : List Row → Request
-verify_in rows = verify (sides_in rows) (text_at (codes "CERT") rows)
+verify_in rows = verify (both_in rows) (text_at (codes "CERT") rows)
 
 abbrev pub show_in : List Row → Request
-show_in rows = show (text_at (codes "dir") rows) (text_at (codes "file") rows) (text_at (codes "type") rows) (text_at (codes "HEX") rows)
-
-abbrev pub types_in : List Row → Request
-types_in rows = types (text_at (codes "dir") rows) (texts_at (codes "FILE") rows)
+show_in rows = show (record {
+  files = paths_at (codes "dir") (codes "file") rows;
+  root = text_at (codes "type") rows;
+  word = text_at (codes "HEX") rows;
+})
 
 -- the call of a subcommand and its matches; clap has only these six
 abbrev pub request_in : Text × List Row → Request
 request_in met =
-    if bytes_eq met.0 (codes "compile") then compile_in met.1
+    if bytes_eq met.0 (codes "compile") then compile (paths_at (codes "dir") (codes "FILE") met.1)
     else if bytes_eq met.0 (codes "gate") then gate_in met.1
     else if bytes_eq met.0 (codes "gate-all") then gate_all_in met.1
     else if bytes_eq met.0 (codes "verify") then verify_in met.1
-    else if bytes_eq met.0 (codes "types") then types_in met.1
+    else if bytes_eq met.0 (codes "types") then types (paths_at (codes "dir") (codes "FILE") met.1)
     else show_in met.1
 
 -- ---- from the words
 
--- A command keeps the reference to the list of names that `--view` takes, and so do clap's definitions, and where it lies nobody
--- knows beforehand. So what clap does is said of some reference to just these names. By law it is the same for each (`OneCall`).
+-- A command keeps the reference to the list of names that `--view` takes, and so do clap's definitions, and where it
+-- lies nobody knows beforehand. So what clap does is said of some reference to just these names. By law it is the
+-- same for each (`OneCall`).
 
 -- clap takes the words, and its matches are those of this call
 pub record CallsFor (words : List Text) (call : Request) : Type 0 where

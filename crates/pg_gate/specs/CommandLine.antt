@@ -1,11 +1,9 @@
 -- The command line, as clap's contracts see a command.
-use Rattle.std.specs.Prelude.{◌≡◌, List, [], ◌∷◌, Some, true, false, codes}
+use Rattle.std.specs.Prelude.{List, [], ◌∷◌, Some, true, codes}
 use Rattle.std.specs.Borrow.{Bor}
-use Rattle.clap.specs.Words.{App, Rule, Text, app_of, new_app, new_rule, with_rule, with_subcommand}
+use Rattle.clap.specs.Words.{App, Rule, Text, new_app, new_rule, with_rule, with_subcommand}
 use Rattle.clap.specs.declared.ArgAction.TheVariants.{Append, SetTrue}
 use Rattle.clap.specs.declared.builder.value_parser.ValueParser.TheVariants as parsers
-use Rattle.clap.specs.declared.Command.{Command}
-use Rattle.clap.specs.declared.Command.TheViews.{out-Command}
 
 -- ---- arguments
 
@@ -18,9 +16,9 @@ defaulted name value =
 abbrev pub folder : Text → Rule
 folder name = defaulted name (codes ".")
 
--- `--NAME VALUE`, one of these values, by default that one
-abbrev pub among : Text → Bor (List (Bor Text)) → Text → Rule
-among name values value = record (defaulted name value) { parser = Some (parsers.Names values) }
+-- `--view VIEW`, one of these names, by default `numbers`
+abbrev pub view_option : Bor (List (Bor Text)) → Rule
+view_option names = record (defaulted (codes "view") (codes "numbers")) { parser = Some (parsers.Names names) }
 
 -- `--NAME VALUE`
 abbrev pub named : Text → Rule
@@ -59,11 +57,11 @@ view_names = codes "numbers" ∷ codes "names" ∷ []
 abbrev pub gate_app : Bor (List (Bor Text)) → App
 gate_app names = with_rules (new_app (codes "gate")) (folder (codes "old-dir") ∷ folder (codes "new-dir")
     ∷ named (codes "old") ∷ named (codes "new") ∷ named (codes "type") ∷ flag (codes "cert")
-    ∷ flag (codes "both") ∷ flag (codes "explain") ∷ among (codes "view") names (codes "numbers") ∷ [])
+    ∷ flag (codes "both") ∷ flag (codes "explain") ∷ view_option names ∷ [])
 
 abbrev pub gate_all_app : Bor (List (Bor Text)) → App
 gate_all_app names = with_rules (new_app (codes "gate-all")) (folder (codes "old-dir") ∷ folder (codes "new-dir")
-    ∷ named_each (codes "old") ∷ named_each (codes "new") ∷ flag (codes "explain") ∷ among (codes "view") names (codes "numbers") ∷ [])
+    ∷ named_each (codes "old") ∷ named_each (codes "new") ∷ flag (codes "explain") ∷ view_option names ∷ [])
 
 abbrev pub verify_app : App
 verify_app = with_rules (new_app (codes "verify")) (folder (codes "old-dir") ∷ folder (codes "new-dir")
@@ -80,12 +78,10 @@ abbrev pub top_app : App
 top_app = let app = new_app (codes "protogate") in
     record app { top = record app.top { no_binary_name = true; subcommand_required = true; has_version = true } }
 
-abbrev pub whole_app : Bor (List (Bor Text)) → App
-whole_app names =
-    with_subcommand (with_subcommand (with_subcommand (with_subcommand (with_subcommand (with_subcommand top_app compile_app.top) (gate_app names).top)
-    (gate_all_app names).top) verify_app.top) show_app.top) types_app.top
+abbrev pub with_apps : App → List App → App
+with_apps app [] = app
+with_apps app (below ∷ more) = with_apps (with_subcommand app below.top) more
 
--- a command of this shape, with no argument that is global
-pub record HasApp (app : App) (command : Command) : Type 0 where
-  pub shape : app_of command ≡ app
-  pub local : (out-Command command).has_globals ≡ false
+abbrev pub whole_app : Bor (List (Bor Text)) → App
+whole_app names = with_apps top_app
+    (compile_app ∷ gate_app names ∷ gate_all_app names ∷ verify_app ∷ show_app ∷ types_app ∷ [])

@@ -2,7 +2,6 @@
 use Rattle.std.specs.Prelude.{◌≡◌, ℕ, Bool, nat_eq, List, [], ◌∷◌, map, Option, Some, None, IsTrue, codes, if◌then◌else◌}
 use Rattle.std.specs.List.{ends_with}
 use Rattle.std.specs.Borrow.{Bor}
-use Rattle.clap.specs.Words.{Text}
 use Rattle.pg_check.specs.Declares.{Declares}
 use Rattle.pg_check.specs.Errors.{IsRefused}
 use Rattle.pg_check.specs.parts.Sources.{linked_sources}
@@ -17,12 +16,15 @@ use Rattle.pg_fds.specs.declared.error.FdsError.{FdsError}
 use Rattle.pg_fds.specs.declared.error.FdsError.TheVariants as sets
 use Rattle.pg_link.specs.Below.{path_below}
 use Rattle.pg_link.specs.Linked.{IsLinkedUp}
+use Rattle.pg_link.specs.Names.{Text}
 use Rattle.pg_link.specs.UseFaults.{LinkRefuses}
 use Rattle.pg_link.specs.Walk.{Entry, IsLinked, IsReadFault, World}
 use Rattle.pg_link.specs.declared.error.LinkError.{LinkError}
 use Rattle.pg_link.specs.declared.error.LinkError.TheVariants as links
 use Rattle.pg_link.specs.declared.target.Target.{Target}
 use Rattle.pg_gate.specs.Errors.{IsError}
+use Rattle.pg_gate.specs.declared.call.BothFiles.{BothFiles}
+use Rattle.pg_gate.specs.declared.call.Files.{Files}
 use Rattle.pg_gate.specs.declared.error.Fault.{Fault}
 use Rattle.pg_gate.specs.declared.error.Fault.TheVariants as faults
 use Rattle.pg_gate.specs.declared.error.GateError.{GateError}
@@ -30,17 +32,40 @@ use Rattle.pg_gate.specs.declared.error.Side.{Side}
 use Rattle.pg_schema.specs.declared.parts.Parts.{Parts}
 use Rattle.pg_schema.specs.rules.Sound.{IsSound}
 
+-- the paths of files below a folder
+pub record Paths : Type 0 where
+  pub folder : Text
+  pub files : List Text
+
+-- those of the old and of the new side
+pub record BothPaths : Type 0 where
+  pub old : Paths
+  pub new : Paths
+
 abbrev pub paths_of : List (Bor Text) → List Text
 paths_of = map (λ path. path.now)
 
--- ---- texts
+abbrev pub paths_in : Files → Paths
+paths_in files = record { folder = files.folder.now; files = paths_of files.paths.now }
+
+abbrev pub both_paths : BothFiles → BothPaths
+both_paths files = record { old = paths_in files.old; new = paths_in files.new }
+
+-- what a fault says, by what each kind of it would: of files that can't be linked, of a broken rule, and of a refused
+-- set
+abbrev pub IsFault : (LinkError → Type 0) → (CheckError → Type 0) → (FdsError → Type 0) → Fault → Type 0
+IsFault link rule set (faults.Link error) = link error
+IsFault link rule set (faults.Check error) = rule error
+IsFault link rule set (faults.Set error) = set error
+
+-- ---- source files
 
 -- no name in linked files stands twice, but for parts of packages, and each use of one resolves
 abbrev pub IsSettled : List Entry → Type 0
 IsSettled files = (targets : List (List Target)) × IsLinkedUp (record { files = files; targets = targets })
 
--- The schema of texts: just what they declare, which keep to the rules of the language. The files are those of the roots and of
--- all that they import, with texts that the source may give.
+-- The schema of texts: just what they declare, which keep to the rules of the language. The files are those of the
+-- roots and of all that they import, with texts that the source may give.
 pub record IsCompiled (w : World) (schema : Parts) : Type 0 where
   pub files : List Entry
   pub linked : IsLinked w files
@@ -61,23 +86,9 @@ pub record IsRuleFault (files : List Entry) (error : CheckError) : Type 0 where
 abbrev pub IsBrokenRule : World → CheckError → Type 0
 IsBrokenRule w error = (files : List Entry) × IsLinked w files × IsSettled files × IsRuleFault files error
 
--- what is wrong with texts: their files can't be linked, or those that are linked break a rule
+-- what is wrong with source files: they can't be linked, or those that are linked break a rule
 abbrev pub IsFaultOf : World → Fault → Type 0
-IsFaultOf w (faults.Link error) = IsLinkFault w error
-IsFaultOf w (faults.Check error) = IsBrokenRule w error
-IsFaultOf w (faults.Set error) = ⊥
-
--- files that can't be linked
-abbrev pub IsOfLink : World → Fault → Type 0
-IsOfLink w (faults.Link error) = IsLinkFault w error
-IsOfLink w (faults.Check error) = ⊥
-IsOfLink w (faults.Set error) = ⊥
-
--- linked files that break a rule
-abbrev pub IsOfRules : List Entry → Fault → Type 0
-IsOfRules files (faults.Link error) = ⊥
-IsOfRules files (faults.Check error) = IsRuleFault files error
-IsOfRules files (faults.Set error) = ⊥
+IsFaultOf w = IsFault (IsLinkFault w) (IsBrokenRule w) (λ error. ⊥)
 
 -- a side ends out of memory, or in a fault
 abbrev pub IsErrorOf : (Fault → Type 0) → Side → GateError → Type 0
@@ -115,32 +126,19 @@ pub record IsRefusedSet (give : Text → Text → Bool) (folder path : Text) (er
 
 -- what is wrong with a set: its file isn't given, or its bytes are refused
 abbrev pub IsFaultOfRead : (Text → Text → Bool) → (Text → Bool) → (folder path : Text) → Fault → Type 0
-IsFaultOfRead give lack folder path (faults.Link error) = IsNotGiven lack folder path error
-IsFaultOfRead give lack folder path (faults.Check error) = ⊥
-IsFaultOfRead give lack folder path (faults.Set error) = IsRefusedSet give folder path error
-
--- a file that isn't given
-abbrev pub IsGivenFault : (Text → Bool) → (folder path : Text) → Fault → Type 0
-IsGivenFault lack folder path (faults.Link error) = IsNotGiven lack folder path error
-IsGivenFault lack folder path (faults.Check error) = ⊥
-IsGivenFault lack folder path (faults.Set error) = ⊥
-
--- bytes that are refused
-abbrev pub IsFaultOfBytes : Text → Fault → Type 0
-IsFaultOfBytes bytes (faults.Link error) = ⊥
-IsFaultOfBytes bytes (faults.Check error) = ⊥
-IsFaultOfBytes bytes (faults.Set error) = IsNoSet bytes error
+IsFaultOfRead give lack folder path =
+    IsFault (IsNotGiven lack folder path) (λ error. ⊥) (IsRefusedSet give folder path)
 
 -- ---- sides
 
--- a path with this ending is a text's, any other a set's
-abbrev pub is_text : Text → Bool
-is_text path = ends_with nat_eq path (codes ".proto")
+-- a path with this ending is that of a source file, any other that of a set
+abbrev pub is_source_file : Text → Bool
+is_source_file path = ends_with nat_eq path (codes ".proto")
 
--- the path of the set that a side is, where its one path is a set's; else the side is texts
+-- the path of the set that a side is, where its one path is that of a set; else the side is source files
 abbrev pub set_at : List Text → Option Text
 set_at [] = None
-set_at (path ∷ []) = if is_text path then None else Some path
+set_at (path ∷ []) = if is_source_file path then None else Some path
 set_at (path ∷ other ∷ paths) = None
 
 abbrev pub IsSideBy : Option Text → World → Parts → Type 0
@@ -179,6 +177,4 @@ pub record IsUnwritten (w : World) (error : FdsError) : Type 0 where
 
 -- what is wrong with files that no set is written of
 abbrev pub IsFaultOfSet : World → Fault → Type 0
-IsFaultOfSet w (faults.Link error) = IsLinkFault w error
-IsFaultOfSet w (faults.Check error) = IsBrokenRule w error
-IsFaultOfSet w (faults.Set error) = IsUnwritten w error
+IsFaultOfSet w = IsFault (IsLinkFault w) (IsBrokenRule w) (IsUnwritten w)

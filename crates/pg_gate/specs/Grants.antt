@@ -1,6 +1,5 @@
 -- What a call may be answered, by what its sources may give and lack.
-use Rattle.std.specs.Prelude.{◌≡◌, ◌+◌, ◌&&◌, ℕ, Bool, true, false, not, List, [], ◌∷◌, Option, Some, None, is_some, option_map, string_bytes, IsTrue}
-use Rattle.clap.specs.Words.{Text}
+use Rattle.std.specs.Prelude.{◌≡◌, ◌+◌, ◌&&◌, ℕ, Bool, true, false, not, List, Option, Some, is_some, option_map, string_bytes, IsTrue}
 use Rattle.pg_cert.specs.Certificate.{Claim}
 use Rattle.pg_cert.specs.Text.{Certifies, IsSecondText}
 use Rattle.pg_dyn.specs.declared.view_name.ViewName.{ViewName}
@@ -13,17 +12,17 @@ use Rattle.pg_pairs.specs.NamedView.{seen_under}
 use Rattle.pg_schema.specs.declared.parts.Parts.{Parts}
 use Rattle.pg_schema.specs.Parts.{shape_of}
 use Rattle.pg_gate.specs.AllTypes.{IsAllTypes}
-use Rattle.pg_gate.specs.Call.{Request, compile, gate, gate_all, show, types, verify}
+use Rattle.pg_gate.specs.Call.{GateRequest, Request, compile, gate, gate_all, show, types, verify}
+use Rattle.pg_link.specs.Names.{Text}
 use Rattle.pg_link.specs.Walk.{World, world}
 use Rattle.pg_link.specs.declared.sources.Sources.{Ghosts}
-use Rattle.pg_gate.specs.Errors.{IsCallError, IsError, IsMemory}
-use Rattle.pg_gate.specs.Explained.{IsExplained}
+use Rattle.pg_gate.specs.Errors.{IsCallError, IsError}
 use Rattle.pg_gate.specs.Failures.{call_failures_at}
-use Rattle.pg_gate.specs.Files.{IsErrorOf, IsFaultOfSet, IsFaultOfSide, IsSetOf, IsSide, IsSideError}
+use Rattle.pg_gate.specs.Files.{IsErrorOf, IsFaultOfSet, IsFaultOfSide, IsSetOf, IsSide, IsSideError, Paths}
 use Rattle.pg_gate.specs.Answer.{IsAnswer, IsBroken, IsCompatible, certificate_of}
 use Rattle.pg_gate.specs.declared.answer.gate.Answer.{Answer}
 use Rattle.pg_gate.specs.Refusals.{refusal_for}
-use Rattle.pg_gate.specs.Showing.{IsBadWord, IsRefusedWord, IsShown}
+use Rattle.pg_gate.specs.Showing.{IsBadWord, IsExplained, IsRefusedWord, IsShown}
 use Rattle.pg_gate.specs.Steps.{AreSteps}
 use Rattle.pg_gate.specs.TypeNames.{ListsTypes}
 use Rattle.pg_gate.specs.Verified.{IsClaimFault, IsHeldBy}
@@ -59,7 +58,8 @@ pub record Between (old new : World) (holds : Parts → Parts → Type 0) : Type
   pub of_new : IsSide new new_schema
   pub so : holds old_schema new_schema
 
--- A fault of two sides. The old one is compiled first: a fault of the new one is told where the old one has a schema.
+-- A fault of two sides. The old one is compiled first: a fault of the new one is reported where the old one has a
+-- schema.
 abbrev pub IsSidesFault : World → World → Side → Fault → Type 0
 IsSidesFault old new sides.Old fault = IsFaultOfSide old fault
 IsSidesFault old new sides.New fault = OfSide old (λ schema. IsFaultOfSide new fault)
@@ -68,13 +68,15 @@ IsSidesFault old new sides.New fault = OfSide old (λ schema. IsFaultOfSide new 
 abbrev pub IsSidesError : World → World → GateError → Type 0
 IsSidesError old new = IsError ⊥ ⊥ ⊥ (IsSidesFault old new)
 
--- why no answer comes of two sides; a missing root is told of sides that both compile, the old one first
+-- why no answer comes of two sides; a missing root is reported of sides that both compile, the old one first
 abbrev pub IsGateError : Text → World → World → GateError → Type 0
-IsGateError root old new = IsError (Between old new (λ a b. Lacks a root)) (Between old new (λ a b. (Lacks a root → ⊥) × Lacks b root)) ⊥ (IsSidesFault old new)
+IsGateError root old new = IsError (Between old new (λ a b. Lacks a root))
+    (Between old new (λ a b. (Lacks a root → ⊥) × Lacks b root)) ⊥ (IsSidesFault old new)
 
 -- of two sides that compile the answer is the gate's, and a witness in it is what the path of its certificate carries
 abbrev pub IsAnswerOfFiles : Text → World → World → Answer → Type 0
-IsAnswerOfFiles root old new answer = Between old new (λ a b. IsAnswer a b root answer × CarriesWitness by_numbers (shape_of a) (shape_of b) (certificate_of answer))
+IsAnswerOfFiles root old new answer = Between old new (λ a b. IsAnswer a b root answer
+    × CarriesWitness by_numbers (shape_of a) (shape_of b) (certificate_of answer))
 
 -- the types are compatible under the view, as some certificate shows
 pub record IsShownCompatible (view : ViewName) (old new : Parts) (root : Text) : Type 0 where
@@ -82,10 +84,12 @@ pub record IsShownCompatible (view : ViewName) (old new : Parts) (root : Text) :
   pub named : certificate.view ≡ view
   pub compatible : IsCompatible (seen_under view old new) old new root certificate
 
--- The bytes are those of a message that breaks under the view, and no message that breaks has fewer, as some certificate shows. The steps
--- are the fields on a path from its root, by the cheapest choice of each pair, and the message is the one that these choices carry. Where
--- it is asked for, the readings are those of the bytes by the root types.
-pub record IsLeastWitness (view : ViewName) (old new : Parts) (root : Text) (explain : Bool) (bytes : List ℕ) (steps : List Step) (readings : Option Readings) : Type 0 where
+-- The bytes are those of a message that breaks under the view, and no message that breaks has fewer, as some
+-- certificate shows. The steps are the fields on a path from its root, by the cheapest choice of each pair, and the
+-- message is the one that these choices carry. Where it is asked for, the readings are those of the bytes by the root
+-- types.
+pub record IsLeastWitness (view : ViewName) (old new : Parts) (root : Text) (explain : Bool)
+    (bytes : List ℕ) (steps : List Step) (readings : Option Readings) : Type 0 where
   pub message : Kept
   pub certificate : Claim
   pub named : certificate.view ≡ view
@@ -96,8 +100,8 @@ pub record IsLeastWitness (view : ViewName) (old new : Parts) (root : Text) (exp
       (carried_along (seen_under view old new) (shape_of old) (shape_of new) are_steps.path) ≡ Some bytes
   pub explained : IsExplained explain old new certificate.root bytes readings
 
--- The text is that of the certificate of an answer under the view, in version 2, and this is whether a message breaks. A witness in it is
--- the message that the path of cheapest choices carries.
+-- The text is that of the certificate of an answer under the view, in version 2, and this is whether a message
+-- breaks. A witness in it is the message that the path of cheapest choices carries.
 pub record IsCertificateText (view : ViewName) (old new : Parts) (root text : Text) (breaks : Bool) : Type 0 where
   pub answer : Answer
   pub is_answer : IsAnswerUnder view old new root answer
@@ -106,47 +110,27 @@ pub record IsCertificateText (view : ViewName) (old new : Parts) (root text : Te
   pub is_second : IsSecondText old new text (certificate_of answer)
   pub breaks_is : breaks ≡ is_some (certificate_of answer).witness
 
--- what the gate finds of the types of that name under the view; the certificate where that is asked for, and nowhere else
+-- what the gate finds of the types of that name under the view; the certificate where that is asked for, and nowhere
+-- else
 abbrev pub IsFindingOf : ViewName → Parts → Parts → Text → (certificate_only explain : Bool) → Finding → Type 0
 IsFindingOf view old new root false explain findings.Compatible = IsShownCompatible view old new root
-IsFindingOf view old new root false explain (findings.Breaks witness steps readings) = IsLeastWitness view old new root explain witness.items steps.items readings
-IsFindingOf view old new root false explain (findings.Certified text breaks) = ⊥
-IsFindingOf view old new root false explain (findings.Verified verified) = ⊥
-IsFindingOf view old new root true explain findings.Compatible = ⊥
-IsFindingOf view old new root true explain (findings.Breaks witness steps readings) = ⊥
-IsFindingOf view old new root true explain (findings.Certified text breaks) = IsCertificateText view old new root (string_bytes text) breaks
-IsFindingOf view old new root true explain (findings.Verified verified) = ⊥
+IsFindingOf view old new root false explain (findings.Breaks witness steps readings) =
+    IsLeastWitness view old new root explain witness.items steps.items readings
+IsFindingOf view old new root true explain (findings.Certified text breaks) =
+    IsCertificateText view old new root (string_bytes text) breaks
+IsFindingOf view old new root certificate_only explain finding = ⊥
 
--- What the gate answers of the types of that name: what it finds from the old to the new one; where both directions are asked for, and
--- not the certificate alone, also what it finds from the new to the old one. Both are found under the same view.
-abbrev pub IsGateReply : ViewName → Parts → Parts → Text → (certificate_only both explain : Bool) → Reply → Type 0
-IsGateReply view old new root certificate_only both explain (replies.Set bytes) = ⊥
-IsGateReply view old new root certificate_only both explain (replies.Shown text) = ⊥
-IsGateReply view old new root certificate_only both explain (replies.Found finding) =
-    ((both && not certificate_only) ≡ false) × IsFindingOf view old new root certificate_only explain finding
-IsGateReply view old new root certificate_only both explain (replies.Both forward backward) =
-    ((both && not certificate_only) ≡ true) × IsFindingOf view old new root false explain forward × IsFindingOf view new old root false explain backward
-IsGateReply view old new root certificate_only both explain (replies.All all) = ⊥
-IsGateReply view old new root certificate_only both explain (replies.Refused refusal) = ⊥
-
--- a finding tells a certificate's witness, its steps and, where they are asked for, its readings; or that it has none
-abbrev pub ReportsAnswer : Parts → Parts → Claim → (explain : Bool) → Finding → Type 0
-ReportsAnswer old new certificate explain findings.Compatible = certificate.witness ≡ None
-ReportsAnswer old new certificate explain (findings.Breaks witness steps readings) =
-    (certificate.witness ≡ Some witness.items) × AreSteps old new certificate steps.items × IsExplained explain old new certificate.root witness.items readings
-ReportsAnswer old new certificate explain (findings.Certified text breaks) = ⊥
-ReportsAnswer old new certificate explain (findings.Verified verified) = ⊥
-
--- a finding tells a certificate's text in version 2, and whether it has a witness
-abbrev pub ReportsCertificate : Parts → Parts → Claim → Finding → Type 0
-ReportsCertificate old new certificate findings.Compatible = ⊥
-ReportsCertificate old new certificate (findings.Breaks witness steps readings) = ⊥
-ReportsCertificate old new certificate (findings.Certified text breaks) = Certifies old new (string_bytes text) certificate × IsSecondText old new (string_bytes text) certificate × (breaks ≡ is_some certificate.witness)
-ReportsCertificate old new certificate (findings.Verified verified) = ⊥
-
-abbrev pub Reports : Parts → Parts → Claim → (certificate_only explain : Bool) → Finding → Type 0
-Reports old new certificate false explain finding = ReportsAnswer old new certificate explain finding
-Reports old new certificate true explain finding = ReportsCertificate old new certificate finding
+-- What the gate answers: what it finds from the old to the new type; where both directions are asked for, and not the
+-- certificate alone, also what it finds from the new to the old one. Both are found under the same view.
+abbrev pub IsGateReply : Parts → Parts → GateRequest → Reply → Type 0
+IsGateReply old new asked (replies.Found finding) =
+    ((asked.both && not asked.certificate_only) ≡ false)
+    × IsFindingOf asked.view old new asked.root asked.certificate_only asked.explain finding
+IsGateReply old new asked (replies.Both forward backward) =
+    ((asked.both && not asked.certificate_only) ≡ true)
+    × IsFindingOf asked.view old new asked.root false asked.explain forward
+    × IsFindingOf asked.view new old asked.root false asked.explain backward
+IsGateReply old new asked reply = ⊥
 
 -- ---- certificates that are checked
 
@@ -164,20 +148,13 @@ IsVerified path old new finding = Between old new (λ a b. IsGiven old path (λ 
 abbrev pub IsCertificateFault : World → Text → Parts → Parts → CertificateFault → Type 0
 IsCertificateFault w path old new (certificates.Missing file) = (string_bytes file ≡ path) × IsTrue (w.may_lack path)
 IsCertificateFault w path old new (certificates.Failed file) = string_bytes file ≡ path
-IsCertificateFault w path old new (certificates.Refused fault) = IsGiven w path (λ bytes. IsClaimFault old new bytes fault)
+IsCertificateFault w path old new (certificates.Refused fault) =
+    IsGiven w path (λ bytes. IsClaimFault old new bytes fault)
 
--- why a certificate of two sides shows nothing; its own faults are told of sides that both compile
+-- why a certificate of two sides shows nothing; its own faults are reported of sides that both compile
 abbrev pub IsVerifyError : Text → World → World → CallError → Type 0
-IsVerifyError path old new = IsCallError (IsSidesError old new) (λ fault. Between old new (λ a b. IsCertificateFault old path a b fault)) (λ error. ⊥)
-
--- why a source gives no bytes for a path
-abbrev pub IsUngivenFault : (Text → Bool) → Text → CertificateFault → Type 0
-IsUngivenFault lack path (certificates.Missing file) = (string_bytes file ≡ path) × IsTrue (lack path)
-IsUngivenFault lack path (certificates.Failed file) = string_bytes file ≡ path
-IsUngivenFault lack path (certificates.Refused fault) = ⊥
-
-abbrev pub IsUngiven : (Text → Bool) → Text → CallError → Type 0
-IsUngiven lack path = IsCallError IsMemory (IsUngivenFault lack path) (λ error. ⊥)
+IsVerifyError path old new = IsCallError (IsSidesError old new)
+    (λ fault. Between old new (λ a b. IsCertificateFault old path a b fault)) (λ error. ⊥)
 
 -- ---- sets that are written
 
@@ -187,10 +164,12 @@ IsSetError w = IsErrorOf (IsFaultOfSet w) sides.Old
 
 -- ---- bytes that are shown
 
--- why nothing is shown: a fault of the files, which are compiled as an old side; else what is wrong is told of files that compile
+-- Why nothing is shown: a fault of the files, which are compiled as an old side; else what is wrong is reported of
+-- files that compile.
 abbrev pub IsShowError : World → (root word : Text) → CallError → Type 0
 IsShowError w root word = IsCallError
-    (IsError (OfSide w (λ schema. Lacks schema root)) ⊥ (OfSide w (λ schema. IsBadWord schema root word)) (λ side fault. (side ≡ sides.Old) × IsFaultOfSide w fault))
+    (IsError (OfSide w (λ schema. Lacks schema root)) ⊥ (OfSide w (λ schema. IsBadWord schema root word))
+    (λ side fault. (side ≡ sides.Old) × IsFaultOfSide w fault))
     (λ fault. ⊥) (λ error. OfSide w (λ schema. IsRefusedWord schema root word error))
 
 -- ---- calls
@@ -202,7 +181,7 @@ pub record Seen : Type 0 where
   pub before : ℕ
   pub after : ℕ
 
--- of a source, before the run and after it; a clause has the members of the source as S.Sources
+-- of a source, before the run and after it
 abbrev pub seen : {S : Type 0} → Ghosts S → S → S → Seen
 seen members old new = record {
   may_give = members.may_give old;
@@ -211,65 +190,25 @@ seen members old new = record {
   after = members.failures new;
 }
 
-abbrev pub world_of : Seen → Text → List Text → World
-world_of s folder paths = world s.may_give s.may_lack folder paths
+-- files of a source that is seen
+abbrev pub world_in : Seen → Paths → World
+world_in s paths = world s.may_give s.may_lack paths.folder paths.files
 
--- a set of the call's files is written, and nothing else
-abbrev pub IsSetReply : World → Reply → Type 0
-IsSetReply w (replies.Set bytes) = IsSetOf w bytes.items
-IsSetReply w (replies.Shown text) = ⊥
-IsSetReply w (replies.Found finding) = ⊥
-IsSetReply w (replies.Both forward backward) = ⊥
-IsSetReply w (replies.All all) = ⊥
-IsSetReply w (replies.Refused refusal) = ⊥
-
--- the lines of the message that the word's bytes are read as, and nothing else
-abbrev pub IsShowReply : World → (root word : Text) → Reply → Type 0
-IsShowReply w root word (replies.Set bytes) = ⊥
-IsShowReply w root word (replies.Shown text) = OfSide w (λ schema. IsShown schema root word (string_bytes text))
-IsShowReply w root word (replies.Found finding) = ⊥
-IsShowReply w root word (replies.Both forward backward) = ⊥
-IsShowReply w root word (replies.All all) = ⊥
-IsShowReply w root word (replies.Refused refusal) = ⊥
-
--- the full names of the message types of the files, and nothing else
-abbrev pub IsTypesReply : World → Reply → Type 0
-IsTypesReply w (replies.Set bytes) = ⊥
-IsTypesReply w (replies.Shown text) = OfSide w (λ schema. ListsTypes schema (string_bytes text))
-IsTypesReply w (replies.Found finding) = ⊥
-IsTypesReply w (replies.Both forward backward) = ⊥
-IsTypesReply w (replies.All all) = ⊥
-IsTypesReply w (replies.Refused refusal) = ⊥
-
--- what is found of all message types of two schemas, and nothing else
-abbrev pub IsAllReply : ViewName → Parts → Parts → (explain : Bool) → Reply → Type 0
-IsAllReply view old new explain (replies.Set bytes) = ⊥
-IsAllReply view old new explain (replies.Shown text) = ⊥
-IsAllReply view old new explain (replies.Found finding) = ⊥
-IsAllReply view old new explain (replies.Both forward backward) = ⊥
-IsAllReply view old new explain (replies.All all) = IsAllTypes view old new explain all
-IsAllReply view old new explain (replies.Refused refusal) = ⊥
-
--- what a certificate shows, and nothing else
-abbrev pub IsVerifyReply : Text → World → World → Reply → Type 0
-IsVerifyReply path old new (replies.Set bytes) = ⊥
-IsVerifyReply path old new (replies.Shown text) = ⊥
-IsVerifyReply path old new (replies.Found finding) = IsVerified path old new finding
-IsVerifyReply path old new (replies.Both forward backward) = ⊥
-IsVerifyReply path old new (replies.All all) = ⊥
-IsVerifyReply path old new (replies.Refused refusal) = ⊥
-
--- what is answered to a call, where nothing is refused
+-- what is answered to a call, where nothing is refused: each call has replies of its own
 abbrev pub IsReplyFor : Seen → Seen → Request → Reply → Type 0
-IsReplyFor old new (compile dir files) reply = IsSetReply (world_of old dir files) reply
-IsReplyFor old new (gate sides root certificate_only both explain view) reply =
-    Between (world_of old sides.old_dir (sides.old ∷ [])) (world_of new sides.new_dir (sides.new ∷ [])) (λ a b. IsGateReply view a b root certificate_only both explain reply)
-IsReplyFor old new (gate_all sides explain view) reply =
-    Between (world_of old sides.old_dir sides.old) (world_of new sides.new_dir sides.new) (λ a b. IsAllReply view a b explain reply)
-IsReplyFor old new (show dir file root word) reply = IsShowReply (world_of old dir (file ∷ [])) root word reply
-IsReplyFor old new (verify sides certificate) reply =
-    IsVerifyReply certificate (world_of old sides.old_dir (sides.old ∷ [])) (world_of new sides.new_dir (sides.new ∷ [])) reply
-IsReplyFor old new (types dir files) reply = IsTypesReply (world_of old dir files) reply
+IsReplyFor old new (compile files) (replies.Set bytes) = IsSetOf (world_in old files) bytes.items
+IsReplyFor old new (gate asked) reply =
+    Between (world_in old asked.files.old) (world_in new asked.files.new) (λ a b. IsGateReply a b asked reply)
+IsReplyFor old new (gate_all asked) (replies.All all) =
+    Between (world_in old asked.files.old) (world_in new asked.files.new)
+    (λ a b. IsAllTypes asked.view a b asked.explain all)
+IsReplyFor old new (show asked) (replies.Shown text) =
+    OfSide (world_in old asked.files) (λ schema. IsShown schema asked.root asked.word (string_bytes text))
+IsReplyFor old new (verify files certificate) (replies.Found finding) =
+    IsVerified certificate (world_in old files.old) (world_in new files.new) finding
+IsReplyFor old new (types files) (replies.Shown text) =
+    OfSide (world_in old files) (λ schema. ListsTypes schema (string_bytes text))
+IsReplyFor old new call reply = ⊥
 
 -- an error that no call but `verify` and `show` ends in
 abbrev pub OfGate : (GateError → Type 0) → CallError → Type 0
@@ -277,14 +216,15 @@ OfGate is = IsCallError is (λ fault. ⊥) (λ error. ⊥)
 
 -- why nothing is answered to a call
 abbrev pub IsErrorFor : Seen → Seen → Request → CallError → Type 0
-IsErrorFor old new (compile dir files) error = OfGate (IsSetError (world_of old dir files)) error
-IsErrorFor old new (gate sides root certificate_only both explain view) error =
-    OfGate (IsGateError root (world_of old sides.old_dir (sides.old ∷ [])) (world_of new sides.new_dir (sides.new ∷ []))) error
-IsErrorFor old new (gate_all sides explain view) error = OfGate (IsSidesError (world_of old sides.old_dir sides.old) (world_of new sides.new_dir sides.new)) error
-IsErrorFor old new (show dir file root word) error = IsShowError (world_of old dir (file ∷ [])) root word error
-IsErrorFor old new (verify sides certificate) error =
-    IsVerifyError certificate (world_of old sides.old_dir (sides.old ∷ [])) (world_of new sides.new_dir (sides.new ∷ [])) error
-IsErrorFor old new (types dir files) error = OfGate (IsSideError (world_of old dir files) sides.Old) error
+IsErrorFor old new (compile files) = OfGate (IsSetError (world_in old files))
+IsErrorFor old new (gate asked) =
+    OfGate (IsGateError asked.root (world_in old asked.files.old) (world_in new asked.files.new))
+IsErrorFor old new (gate_all asked) =
+    OfGate (IsSidesError (world_in old asked.files.old) (world_in new asked.files.new))
+IsErrorFor old new (show asked) = IsShowError (world_in old asked.files) asked.root asked.word
+IsErrorFor old new (verify files certificate) =
+    IsVerifyError certificate (world_in old files.old) (world_in new files.new)
+IsErrorFor old new (types files) = OfGate (IsSideError (world_in old files) sides.Old)
 
 -- each source's count of failures rose by just so much
 pub record Counted (old new : Seen) (failures : Side → ℕ) : Type 0 where
@@ -296,17 +236,14 @@ pub record IsAnswered (old new : Seen) (call : Request) (reply : Reply) : Type 0
   pub is_reply : IsReplyFor old new call reply
   pub counted : Counted old new (λ side. 0)
 
--- a refusal of the call that is printed for an error; a source failed only where the error tells of that, and but once
+-- a refusal of the call that is printed for an error; a source failed only where the error reports that, and but once
 pub record IsRefusal (old new : Seen) (call : Request) (refusal : Refusal) : Type 0 where
   pub error : CallError
   pub is_error : IsErrorFor old new call error
   pub counted : Counted old new (λ side. call_failures_at side error)
   pub printed : refusal_for call error ≡ Some refusal
 
+-- an answer, or a refusal
 abbrev pub Grants : Seen → Seen → Request → Reply → Type 0
-Grants old new call (replies.Set bytes) = IsAnswered old new call (replies.Set bytes)
-Grants old new call (replies.Shown text) = IsAnswered old new call (replies.Shown text)
-Grants old new call (replies.Found finding) = IsAnswered old new call (replies.Found finding)
-Grants old new call (replies.Both forward backward) = IsAnswered old new call (replies.Both forward backward)
-Grants old new call (replies.All all) = IsAnswered old new call (replies.All all)
 Grants old new call (replies.Refused refusal) = IsRefusal old new call refusal
+Grants old new call reply = IsAnswered old new call reply

@@ -1,9 +1,9 @@
 -- What a call's answer prints, and its status.
 use Rattle.std.specs.Prelude.{ℕ, ◌==◌, ◌||◌, [], if◌then◌else◌, length, string_bytes}
-use Rattle.clap.specs.Words.{Text}
+use Rattle.pg_link.specs.Names.{Text}
 use Rattle.pg_cert.specs.declared.verdict.Verdict.{Verdict}
 use Rattle.pg_cert.specs.declared.verdict.Verdict.TheVariants as verdicts
-use Rattle.pg_gate.specs.Call.{Request, compile, gate, gate_all, show, types, verify}
+use Rattle.pg_gate.specs.Call.{Request, gate}
 use Rattle.pg_gate.specs.AllText.{all_of}
 use Rattle.pg_gate.specs.Text.{both_of, finding_of, refusal_of}
 use Rattle.pg_gate.specs.declared.answer.all_types.AllTypes.{AllTypes}
@@ -60,14 +60,10 @@ text_of root (reply.Both forward backward) = both_of root forward backward
 text_of root (reply.All all) = all_of all
 text_of root (reply.Refused r) = refusal_of r
 
--- the name of the root types; a certificate has its own; a set, all types, the lines of a message and the names of types have none
+-- the name of the root types; a certificate has its own, and what other calls print has none
 abbrev pub root_of : Request → Text
-root_of (compile dir files) = []
-root_of (gate sides root certificate_only both explain view) = root
-root_of (gate_all sides explain view) = []
-root_of (show dir file root word) = []
-root_of (verify sides certificate) = []
-root_of (types dir files) = []
+root_of (gate asked) = asked.root
+root_of call = []
 
 pub record Printed : Type 0 where
   pub text : Text

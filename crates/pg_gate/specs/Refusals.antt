@@ -6,7 +6,7 @@ use Rattle.pg_dyn.specs.Codes.{code_of as message_code, place_of as message_plac
 use Rattle.pg_fds.specs.refusals.ErrorCodes.{place_of as set_place}
 use Rattle.pg_link.specs.Codes.{place_of as link_place}
 use Rattle.pg_link.specs.declared.error.Place.{Place}
-use Rattle.pg_gate.specs.Call.{Request, compile, gate, gate_all, show, types, verify}
+use Rattle.pg_gate.specs.Call.{Request, compile, show, types}
 use Rattle.pg_gate.specs.Codes.{call_code}
 use Rattle.pg_gate.specs.declared.call.error.CallError.{CallError}
 use Rattle.pg_gate.specs.declared.call.error.CallError.TheVariants as calls
@@ -86,9 +86,7 @@ without_side refusal = refusal_by None refusal.code refusal.location
 
 -- the refusal that is printed for an error of a call
 abbrev pub refusal_for : Request → CallError → Option Refusal
-refusal_for (compile dir files) error = option_map without_side (refusal_of error)
-refusal_for (gate sides root certificate_only both explain view) error = refusal_of error
-refusal_for (gate_all sides explain view) error = refusal_of error
-refusal_for (show dir file root word) error = option_map without_side (refusal_of error)
-refusal_for (verify sides certificate) error = refusal_of error
-refusal_for (types dir files) error = option_map without_side (refusal_of error)
+refusal_for (compile files) error = option_map without_side (refusal_of error)
+refusal_for (show asked) error = option_map without_side (refusal_of error)
+refusal_for (types files) error = option_map without_side (refusal_of error)
+refusal_for call error = refusal_of error

@@ -17,14 +17,16 @@ use Rattle.pg_pairs.specs.Returns.{Returns}
 
 -- the old type reads the bytes, and what it reads is home to v
 abbrev pub IsHomeIn : Shape → Shape → Pair → Message → List ℕ → Type 0
-IsHomeIn old new pair v bytes = (x : Message) × (dec old pair.old bytes ≡ Some x) × (home old new pair.old pair.new v x ≡ true)
+IsHomeIn old new pair v bytes =
+    (x : Message) × (dec old pair.old bytes ≡ Some x) × (home old new pair.old pair.new v x ≡ true)
 
--- Where the types are compatible under a view, and the pair returns, a plain old message that these bytes are the encoding of is home
--- in the others.
+-- Where the types are compatible under a view, and the pair returns, a plain old message that these bytes are the
+-- encoding of is home in the others.
 abbrev pub BringsHome : Shape → Shape → Pair → List ℕ → List ℕ → Type 0
 BringsHome old new pair bytes again =
     (view : View) → Compatible view old new pair.old pair.new → Returns old new pair →
-    (v : Message) → IsMessage old pair.old v → IsPlain v → enc old pair.old v ≡ bytes → length bytes ≤ cap → IsHomeIn old new pair v again
+    (v : Message) → IsMessage old pair.old v → IsPlain v → enc old pair.old v ≡ bytes → length bytes ≤ cap
+    → IsHomeIn old new pair v again
 
 -- they are read as a message without an encoding
 pub record HasNone (shape : Shape) (type : TypeId) (bytes : List ℕ) : Type 0 where

@@ -1,10 +1,10 @@
 -- What a run does to its sink.
-use Rattle.std.specs.Prelude.{◌≡◌, ◌⊎◌, ℕ, List, ◌++◌, take, Result, Ok, Err}
-use Rattle.clap.specs.Words.{Text}
+use Rattle.std.specs.Prelude.{◌≡◌, ◌⊎◌, ℕ, List, ◌++◌, take, Result, Err}
+use Rattle.pg_link.specs.Names.{Text}
 use Rattle.pg_gate.specs.Call.{CallsFor, Request}
 use Rattle.pg_gate.specs.Printed.{printed}
 use Rattle.pg_gate.specs.declared.error.GateError.{GateError}
-use Rattle.pg_gate.specs.declared.error.GateError.TheVariants.{Memory, RootMissingOld, RootMissingNew, Compile, WriteFailed, BadHex}
+use Rattle.pg_gate.specs.declared.error.GateError.TheVariants.{Memory, WriteFailed}
 use Rattle.pg_gate.specs.declared.print.reply.Reply.{Reply}
 
 -- the sink took what the words' call prints, with an answer granted to it, and nothing else
@@ -30,11 +30,12 @@ pub record Keeps (old new : Text) : Type 0 where
   pub more : Text
   pub is : new ≡ old ++ more
 
--- The sources of a run that ends out of memory: none failed; or their counts are those of an answer that is granted to the words'
--- call.
+-- The sources of a run that ends out of memory: none failed; or their counts are those of an answer that is granted
+-- to the words' call.
 pub data MayLack (granted : Request → Reply → Type 0) (words : List Text) (none_failed : Type 0) : Type 0 where
   unfailed : none_failed → MayLack granted words none_failed
-  answered : (call : Request) (reply : Reply) → CallsFor words call → granted call reply → MayLack granted words none_failed
+  answered : (call : Request) (reply : Reply) → CallsFor words call → granted call reply
+      → MayLack granted words none_failed
 
 -- a run ends without a status only where memory or its sink failed
 abbrev pub IsRunError : GateError → Type 0
@@ -42,10 +43,5 @@ IsRunError error = (error ≡ Memory) ⊎ (error ≡ WriteFailed)
 
 -- the failures of the sink in a run
 abbrev pub failures_in : Result ℕ GateError → ℕ
-failures_in (Ok status) = 0
-failures_in (Err Memory) = 0
-failures_in (Err RootMissingOld) = 0
-failures_in (Err RootMissingNew) = 0
-failures_in (Err (Compile side fault)) = 0
 failures_in (Err WriteFailed) = 1
-failures_in (Err BadHex) = 0
+failures_in result = 0

@@ -2,7 +2,7 @@
 use Rattle.std.specs.Prelude.{◌≡◌, ℕ, List, [], ◌∷◌, ◌++◌, map, codes, if◌then◌else◌, string_bytes}
 use Rattle.std.specs.List.{flat_map}
 use Rattle.std.specs.Option.{option_map_or}
-use Rattle.clap.specs.Words.{Text}
+use Rattle.pg_link.specs.Names.{Text}
 use Rattle.pg_cert.specs.Bounds.{bound_in}
 use Rattle.pg_cert.specs.Certificate.{Claim}
 use Rattle.pg_cert.specs.ClaimView.{view_in}
@@ -26,10 +26,12 @@ pub record NamedStep : Type 0 where
 
 -- the full name of the type's field of that number: that of the type, a dot, and its own
 abbrev pub field_name : Parts → TypeId → ℕ → Text
-field_name parts id number = (names_of parts id ++ codes ".") ++ option_map_or (λ (f : Field). string_bytes f.name) (field_of parts id number) []
+field_name parts id number = (names_of parts id ++ codes ".")
+    ++ option_map_or (λ (f : Field). string_bytes f.name) (field_of parts id number) []
 
 abbrev pub named_at : Parts → Parts → Pair → ℕ → NamedStep
-named_at old new pair number = record { number = number; old = field_name old pair.old number; new = field_name new pair.new number }
+named_at old new pair number =
+    record { number = number; old = field_name old pair.old number; new = field_name new pair.new number }
 
 -- The fields of a choice: one, and of two fields that meet in a oneof of the new type both, the smaller number first.
 abbrev pub numbers_of : Choice → List ℕ
@@ -42,8 +44,9 @@ steps_by old new stage = map (named_at old new stage.pair) (numbers_of stage.cho
 abbrev pub named : Step → NamedStep
 named step = record { number = step.number; old = string_bytes step.old.name; new = string_bytes step.new.name }
 
--- The steps are the fields of the choices on the witness's path, root first: from the claim's root by the cheapest choice of each pair to
--- the pair of the message that the choice holds. Enums are compared by the view that the claim names.
+-- The steps are the fields of the choices on the witness's path, root first: from the claim's root by the cheapest
+-- choice of each pair to the pair of the message that the choice holds. Enums are compared by the view that the claim
+-- names.
 pub record AreSteps (old new : Parts) (claim : Claim) (steps : List Step) : Type 0 where
   pub path : List stages.Step
   pub is_path : IsPath (view_in old new claim) (shape_of old) (shape_of new) (bound_in claim.bounds) claim.root path

@@ -3,7 +3,7 @@ use Rattle.std.specs.Prelude.{ℕ, List, [], ◌∷◌, ◌++◌, ◌/◌, ◌%�
 use Rattle.std.specs.Prelude.{length, string_bytes}
 use Rattle.std.specs.Fmt.{digits}
 use Rattle.std.specs.List.{flat_map}
-use Rattle.clap.specs.Words.{Text}
+use Rattle.pg_link.specs.Names.{Text}
 use Rattle.pg_cert.specs.declared.verdict.Verdict.{Verdict}
 use Rattle.pg_cert.specs.declared.verdict.Verdict.TheVariants as verdicts
 use Rattle.pg_link.specs.declared.error.Place.{Place}
@@ -73,11 +73,12 @@ verified_of verified = shown_of (string_bytes verified.name) verified.length ver
 
 -- `old` and the lines of the reading by the old type, and then `new` and those by the new one
 abbrev pub readings_of : Option Readings → Text
-readings_of (Some readings) = (codes "old" ++ line_end) ++ (string_bytes readings.old ++ ((codes "new" ++ line_end) ++ string_bytes readings.new))
+readings_of (Some readings) = (codes "old" ++ line_end) ++ (string_bytes readings.old
+    ++ ((codes "new" ++ line_end) ++ string_bytes readings.new))
 readings_of None = []
 
--- `compatible NAME`; `breaks NAME LENGTH`, `witness HEX`, the steps, and the two readings where they are asked for; a certificate's text
--- alone; or what a certificate shows
+-- `compatible NAME`; `breaks NAME LENGTH`, `witness HEX`, the steps, and the two readings where they are asked for; a
+-- certificate's text alone; or what a certificate shows
 abbrev pub finding_of : Text → Finding → Text
 finding_of root finding.Compatible = codes "compatible " ++ (root ++ line_end)
 finding_of root (finding.Breaks witness steps readings) =

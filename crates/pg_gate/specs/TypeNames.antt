@@ -1,7 +1,7 @@
 -- The names of a schema's message types, as they are printed.
 use Rattle.std.specs.Prelude.{◌≡◌, ◌++◌, string_bytes}
 use Rattle.std.specs.List.{flat_map}
-use Rattle.clap.specs.Words.{Text}
+use Rattle.pg_link.specs.Names.{Text}
 use Rattle.pg_schema.specs.declared.parts.message_type.MessageType.{MessageType}
 use Rattle.pg_schema.specs.declared.parts.Parts.{Parts}
 use Rattle.pg_gate.specs.Text.{line_end}

@@ -1,6 +1,7 @@
--- What a certificate's bytes show of two schemas, and why they are refused. What contracts see of a certificate is a claim.
-use Rattle.std.specs.Prelude.{◌≡◌, ◌⊎◌, ℕ, List, length, Option, Some, None, string_bytes}
-use Rattle.clap.specs.Words.{Text}
+-- What a certificate's bytes show of two schemas, and why they are refused. What contracts see of a certificate is a
+-- claim.
+use Rattle.std.specs.Prelude.{◌≡◌, ℕ, List, length, Option, Some, None, string_bytes}
+use Rattle.pg_link.specs.Names.{Text}
 use Rattle.pg_cert.specs.Certificate.{Claim, verdict_of}
 use Rattle.pg_cert.specs.ClaimView.{HoldsOf, IsFirstFaultOf, SaysOf}
 use Rattle.pg_cert.specs.Text.{Certifies, names_of}
@@ -9,10 +10,6 @@ use Rattle.pg_cert.specs.declared.error.CertError.TheVariants as checks
 use Rattle.pg_pairs.specs.declared.choice.Pair.{Pair}
 use Rattle.pg_schema.specs.declared.parts.Parts.{Parts}
 use Rattle.pg_least.specs.Roots.{IsNamed}
-use Rattle.pg_gate.specs.Errors.{IsCallError, IsMemory}
-use Rattle.pg_gate.specs.declared.call.error.CallError.{CallError}
-use Rattle.pg_gate.specs.declared.call.error.CertificateFault.{CertificateFault}
-use Rattle.pg_gate.specs.declared.call.error.CertificateFault.TheVariants as certificates
 use Rattle.pg_gate.specs.declared.call.error.ClaimFault.{ClaimFault}
 use Rattle.pg_gate.specs.declared.call.error.PairNames.{PairNames}
 use Rattle.pg_gate.specs.declared.print.location.Location.{Location}
@@ -28,10 +25,11 @@ abbrev pub witness_length : Option (List ℕ) → ℕ
 witness_length (Some bytes) = length bytes
 witness_length None = 0
 
--- The bytes are a text of a claim of the two schemas, and the claim holds under the view that it names: its table covers its root, and its witness, where it
--- has one, is as the root's bound says. The verdict is the claim's, and what it says is true of every message of the root's old type
--- (`Says`): `Compatible`, that none breaks; `Breaks`, that the witness's does, and none that breaks has fewer bytes; `AtLeast n`, that
--- each that breaks has at least n bytes. The name is the old root type's, and the length the witness's.
+-- The bytes are a text of a claim of the two schemas, and the claim holds under the view that it names: its table
+-- covers its root, and its witness, where it has one, is as the root's bound says. The verdict is the claim's, and
+-- what it says is true of every message of the root's old type (`Says`): `Compatible`, that none breaks; `Breaks`,
+-- that the witness's does, and none that breaks has fewer bytes; `AtLeast n`, that each that breaks has at least n
+-- bytes. The name is the old root type's, and the length the witness's.
 pub record IsHeld (old new : Parts) (bytes : Text) (verified : Verified) : Type 0 where
   pub claim : Claim
   pub certifies : Certifies old new bytes claim
@@ -43,10 +41,8 @@ pub record IsHeld (old new : Parts) (bytes : Text) (verified : Verified) : Type 
 
 -- what is found of a certificate's bytes
 abbrev pub IsHeldBy : Parts → Parts → Text → Finding → Type 0
-IsHeldBy old new bytes findings.Compatible = ⊥
-IsHeldBy old new bytes (findings.Breaks witness steps readings) = ⊥
-IsHeldBy old new bytes (findings.Certified text breaks) = ⊥
 IsHeldBy old new bytes (findings.Verified verified) = IsHeld old new bytes verified
+IsHeldBy old new bytes finding = ⊥
 
 -- ---- what is refused
 
@@ -65,47 +61,24 @@ pub record HasFirstFault (old new : Parts) (bytes : Text) (fault : CertError) : 
 abbrev pub IsFaultOfClaim : Parts → Parts → Text → CertError → Type 0
 IsFaultOfClaim old new bytes checks.Memory = ⊥
 IsFaultOfClaim old new bytes checks.BadText = (claim : Claim) → Certifies old new bytes claim → ⊥
-IsFaultOfClaim old new bytes checks.RootMissing = HasFirstFault old new bytes checks.RootMissing
-IsFaultOfClaim old new bytes (checks.PairMissing pair) = HasFirstFault old new bytes (checks.PairMissing pair)
-IsFaultOfClaim old new bytes (checks.BoundTooHigh pair number case) = HasFirstFault old new bytes (checks.BoundTooHigh pair number case)
-IsFaultOfClaim old new bytes checks.WitnessNotWritten = HasFirstFault old new bytes checks.WitnessNotWritten
-IsFaultOfClaim old new bytes checks.WitnessLength = HasFirstFault old new bytes checks.WitnessLength
-IsFaultOfClaim old new bytes checks.WitnessKeeps = HasFirstFault old new bytes checks.WitnessKeeps
-
--- a checker's error is why the bytes are refused, or says that memory ran out
-abbrev pub IsClaimRefusal : Parts → Parts → Text → CertError → Type 0
-IsClaimRefusal old new bytes error = (error ≡ checks.Memory) ⊎ IsFaultOfClaim old new bytes error
+IsFaultOfClaim old new bytes error = HasFirstFault old new bytes error
 
 -- the pair that a fault is of
 abbrev pub pair_of : CertError → Option Pair
-pair_of checks.Memory = None
-pair_of checks.BadText = None
-pair_of checks.RootMissing = None
 pair_of (checks.PairMissing pair) = Some pair
 pair_of (checks.BoundTooHigh pair number case) = Some pair
-pair_of checks.WitnessNotWritten = None
-pair_of checks.WitnessLength = None
-pair_of checks.WitnessKeeps = None
+pair_of error = None
 
 -- where a fault is reported: at its pair, by the full names of the types, or nowhere
 abbrev pub IsPlaceOf : Parts → Parts → CertError → Location → Type 0
 IsPlaceOf old new fault locations.Nowhere = pair_of fault ≡ None
-IsPlaceOf old new fault (locations.InPlace place) = ⊥
-IsPlaceOf old new fault (locations.InFile file) = ⊥
-IsPlaceOf old new fault (locations.AtByte at) = ⊥
-IsPlaceOf old new fault (locations.AtPair names) = (pair : Pair) × (fault ≡ checks.PairMissing pair) × AreNames old new pair names
-IsPlaceOf old new fault (locations.AtChoice names number case) = (pair : Pair) × (fault ≡ checks.BoundTooHigh pair number case) × AreNames old new pair names
+IsPlaceOf old new fault (locations.AtPair names) =
+    (pair : Pair) × (fault ≡ checks.PairMissing pair) × AreNames old new pair names
+IsPlaceOf old new fault (locations.AtChoice names number case) =
+    (pair : Pair) × (fault ≡ checks.BoundTooHigh pair number case) × AreNames old new pair names
+IsPlaceOf old new fault location = ⊥
 
 -- bytes are refused for this fault, which is reported there
 pub record IsClaimFault (old new : Parts) (bytes : Text) (fault : ClaimFault) : Type 0 where
   pub is_fault : IsFaultOfClaim old new bytes fault.error
   pub is_place : IsPlaceOf old new fault.error fault.location
-
--- bytes that are refused, for what they are
-abbrev pub IsOfClaim : Parts → Parts → Text → CertificateFault → Type 0
-IsOfClaim old new bytes (certificates.Missing file) = ⊥
-IsOfClaim old new bytes (certificates.Failed file) = ⊥
-IsOfClaim old new bytes (certificates.Refused fault) = IsClaimFault old new bytes fault
-
-abbrev pub IsClaimError : Parts → Parts → Text → CallError → Type 0
-IsClaimError old new bytes = IsCallError IsMemory (IsOfClaim old new bytes) (λ error. ⊥)

@@ -1,12 +1,13 @@
 -- What the gate answers under the view of a name.
-use Rattle.std.specs.Prelude.{◌≡◌}
-use Rattle.clap.specs.Words.{Text}
+use Rattle.std.specs.Prelude.{◌≡◌, ℕ, List}
 use Rattle.pg_schema.specs.declared.parts.Parts.{Parts}
 use Rattle.pg_dyn.specs.declared.view_name.ViewName.{ViewName}
 use Rattle.pg_pairs.specs.NamedView.{seen_under}
 use Rattle.pg_gate.specs.Answer.{IsAnswerBy, certificate_of}
 use Rattle.pg_gate.specs.declared.answer.gate.Answer.{Answer}
 
--- The same promise, with the numbers of two enums compared as the view of that name does. The certificate names the view.
-abbrev pub IsAnswerUnder : ViewName → Parts → Parts → Text → Answer → Type 0
-IsAnswerUnder view old new root answer = ((certificate_of answer).view ≡ view) × IsAnswerBy (seen_under view old new) old new root answer
+-- The same promise, with the numbers of two enums compared as the view of that name does. The certificate names the
+-- view.
+abbrev pub IsAnswerUnder : ViewName → Parts → Parts → List ℕ → Answer → Type 0
+IsAnswerUnder view old new root answer =
+    ((certificate_of answer).view ≡ view) × IsAnswerBy (seen_under view old new) old new root answer

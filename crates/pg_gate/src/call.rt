@@ -6,70 +6,66 @@ pub(crate) mod help;
 
 use pg_dyn::ViewName;
 
+/// The files of a side, by their paths below a folder: source files, with all that they import, or
+/// one descriptor set.
+#[derive(Clone, Copy, Debug)]
+pub(crate) struct Files<'a> {
+    pub folder: &'a str,
+    pub paths: &'a [&'a str],
+}
+
+/// The files of the old and of the new side.
+#[derive(Clone, Copy, Debug)]
+pub(crate) struct BothFiles<'a> {
+    pub old: Files<'a>,
+    pub new: Files<'a>,
+}
+
+/// What the gate is asked: what a reader of the new type sees of the messages that a writer of the
+/// old one writes, with enums compared by the view; the certificate alone where that is asked for,
+/// and else both directions where these are, and what breaks explained where that is.
+#[derive(Clone, Copy, Debug)]
+pub(crate) struct GateCall<'a> {
+    pub files: BothFiles<'a>,
+    pub root: &'a str,
+    pub certificate_only: bool,
+    pub both: bool,
+    pub explain: bool,
+    pub view: ViewName,
+}
+
+/// What the gate of all message types is asked: what a reader of the new types sees of the messages
+/// that a writer of the old ones writes, for all message types that both sides have; with enums
+/// compared by the view, and each cause explained where that is asked for.
+#[derive(Clone, Copy, Debug)]
+pub(crate) struct GateAllCall<'a> {
+    pub files: BothFiles<'a>,
+    pub explain: bool,
+    pub view: ViewName,
+}
+
+/// What is to be shown: the message that the bytes of this word are read as, by the type of this
+/// full name in the files.
+#[derive(Clone, Copy, Debug)]
+pub(crate) struct ShowCall<'a> {
+    pub files: Files<'a>,
+    pub root: &'a str,
+    pub word: &'a str,
+}
+
 /// The words of a command line, as they are meant.
-#[derive(Debug, Drop)]
+#[derive(Clone, Copy, Debug)]
 pub(crate) enum Call<'a> {
-    /// The descriptor set of the texts at these paths below the folder, and of all that they
-    /// import.
-    Compile {
-        dir: &'a str,
-        files: Vec<&'a str>,
-    },
-    /// What a reader of the new type sees of the messages that a writer of the old one writes, with
-    /// enums compared by the view; the certificate alone where that is asked for, and else both
-    /// directions where these are, and what breaks explained where that is.
-    Gate {
-        sides: Sides<'a>,
-        root: &'a str,
-        certificate_only: bool,
-        both: bool,
-        explain: bool,
-        view: ViewName,
-    },
-    /// The message that the bytes of this word are read as, by the type of this full name in the
-    /// text or the descriptor set of this path below the folder.
-    Show {
-        dir: &'a str,
-        file: &'a str,
-        root: &'a str,
-        word: &'a str,
-    },
+    /// The descriptor set of these source files, and of all that they import.
+    Compile(Files<'a>),
+    Gate(GateCall<'a>),
+    GateAll(GateAllCall<'a>),
+    Show(ShowCall<'a>),
     /// Whether the certificate in the file of this path holds of the two sides.
     Verify {
-        sides: Sides<'a>,
+        files: BothFiles<'a>,
         certificate: &'a str,
     },
-    /// What a reader of the new types sees of the messages that a writer of the old ones writes, for
-    /// all message types that both sides have: with enums compared by the view, and each cause
-    /// explained where that is asked for.
-    GateAll {
-        sides: AllSides<'a>,
-        explain: bool,
-        view: ViewName,
-    },
-    /// The full names of the message types of the files at these paths below the folder: texts,
-    /// with all that they import, or one descriptor set.
-    Types {
-        dir: &'a str,
-        files: Vec<&'a str>,
-    },
-}
-
-/// The folders and the files of the old and the new side. A file is a text where its path ends in
-/// `.proto`, and else a descriptor set.
-#[derive(Clone, Copy, Debug)]
-pub(crate) struct Sides<'a> {
-    pub old_dir: &'a str,
-    pub new_dir: &'a str,
-    pub old: &'a str,
-    pub new: &'a str,
-}
-
-/// The folders and all files of the old and the new side: source files, or one descriptor set each.
-#[derive(Debug, Drop)]
-pub(crate) struct AllSides<'a> {
-    pub old_dir: &'a str,
-    pub new_dir: &'a str,
-    pub old: Vec<&'a str>,
-    pub new: Vec<&'a str>,
+    /// The full names of the message types of these files.
+    Types(Files<'a>),
 }

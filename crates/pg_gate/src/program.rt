@@ -24,12 +24,12 @@ impl Call<'_> {
         ensures { result.now ≡ root_of (request_of self.now) }
     {
         match self {
-            Call::Gate { root, .. } => root,
-            Call::Compile { .. }
-            | Call::GateAll { .. }
-            | Call::Show { .. }
+            Call::Gate(asked) => asked.root,
+            Call::Compile(_)
+            | Call::GateAll(_)
+            | Call::Show(_)
             | Call::Verify { .. }
-            | Call::Types { .. } => "",
+            | Call::Types(_) => "",
         }
     }
 }
@@ -103,10 +103,11 @@ pub fn run<S: Sources, T: Sources, W: Sink>(
     ensures new_given { T.may_give new.new ≡ T.may_give new.old }
     ensures new_lacked { T.may_lack new.new ≡ T.may_lack new.old }
 {
-    let call = match command_line::call_of(alloc, words) {
-        Ok(call) => call,
+    let matches = match command_line::matches_of(alloc, words) {
+        Ok(matches) => matches,
         Err(error) => return usage(alloc, &error, sink),
     };
+    let call = command_line::call_of(&matches);
     let output = answer(alloc, &call, old, new)?.into_output(alloc, call.root())?;
     write_all(sink, &output.text)?;
     Ok(output.status)

@@ -12,7 +12,7 @@ use std::fmt;
 /// A cause with the field that breaks, and of two fields that meet in a oneof with the other one,
 /// of the larger number. Where that is asked for, its message as both sides read it.
 #[derive(Debug, Drop)]
-pub struct PlacedCause {
+pub(crate) struct PlacedCause {
     pub cause: Cause,
     pub field: Step,
     pub other: Option<Step>,
@@ -22,7 +22,7 @@ pub struct PlacedCause {
 /// What is found of all message types of two sides: each cause by which a message breaks, a line for
 /// each type of both sides, and the names that only one side has.
 #[derive(Debug, Drop)]
-pub struct AllTypes {
+pub(crate) struct AllTypes {
     pub causes: Vec<PlacedCause>,
     pub types: Vec<TypeLine>,
     pub removed: Vec<String>,

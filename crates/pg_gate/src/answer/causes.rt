@@ -8,9 +8,9 @@ ghost use Rattle.pg_gate.specs.Steps.{named, named_at, steps_by};
 
 use crate::answer::all_types::{AllTypes, PlacedCause};
 use crate::answer::compile::Compiled;
-use crate::answer::explaining::explained;
+use crate::answer::explaining::{Broken, explained};
 use crate::answer::step::Step;
-use crate::answer::stepping::{Side, places_in, step_of, types_on};
+use crate::answer::stepping::{PlacedSchemas, placed_schemas, step_of};
 use pg_causes::{Cause, Overview, gate_all};
 use pg_dyn::ViewName;
 use pg_pairs::Case;
@@ -19,38 +19,41 @@ use std::alloc::{AllocError, Global};
 /// Of two fields that meet in a oneof the one of the larger number.
 fn other_of(
     alloc: Global,
-    old: Side<'_>,
-    new: Side<'_>,
+    sides: &PlacedSchemas<'_>,
     stage: pg_least::Step,
 ) -> Result<Option<Step>, AllocError>
     ensures { IfOk result (λ other.
-        named_at old.entry.schema.now new.entry.schema.now stage.pair stage.choice.number
+        named_at sides.now.old.schema.now sides.now.new.schema.now stage.pair stage.choice.number
         ∷ map named (option_to_list other)
-        ≡ steps_by old.entry.schema.now new.entry.schema.now stage) }
+        ≡ steps_by sides.now.old.schema.now sides.now.new.schema.now stage) }
 {
     if stage.choice.case != Case::Oneof {
         return Ok(None);
     }
-    let other = step_of(alloc, old, new, stage.pair, stage.choice.part)?;
+    let other = step_of(alloc, sides, stage.pair, stage.choice.part)?;
     Ok(Some(other))
 }
 
 /// The cause with its field, or its two fields, and its readings where these are asked for.
 fn placed(
     alloc: Global,
-    old: Side<'_>,
-    new: Side<'_>,
+    sides: &PlacedSchemas<'_>,
     cause: Cause,
     explain: bool,
 ) -> Result<PlacedCause, AllocError>
-    requires { IsPairOf old.schema.now new.schema.now cause.at.pair }
+    requires { IsPairOf sides.now.old.schema.now sides.now.new.schema.now cause.at.pair }
     ensures same { IfOk result (λ placed. placed.cause ≡ cause) }
-    ensures placed { IfOk result (IsPlaced old.entry.schema.now new.entry.schema.now explain) }
+    ensures placed { IfOk result
+        (IsPlaced sides.now.old.schema.now sides.now.new.schema.now explain) }
 {
     let pair = cause.at.pair;
-    let field = step_of(alloc, old, new, pair, cause.at.choice.number)?;
-    let other = other_of(alloc, old, new, cause.at)?;
-    let readings = explained(alloc, old.schema, new.schema, pair, &cause.message, explain)?;
+    let field = step_of(alloc, sides, pair, cause.at.choice.number)?;
+    let other = other_of(alloc, sides, cause.at)?;
+    let broken = Broken {
+        pair,
+        bytes: &cause.message,
+    };
+    let readings = explained(alloc, sides.old.schema, sides.new.schema, &broken, explain)?;
     Ok(PlacedCause {
         cause,
         field,
@@ -59,33 +62,33 @@ fn placed(
     })
 }
 
-/// The same of each cause.
+/// Each cause with its fields and readings.
 fn placed_each(
     alloc: Global,
-    old: Side<'_>,
-    new: Side<'_>,
+    sides: &PlacedSchemas<'_>,
     causes: Vec<Cause>,
     explain: bool,
 ) -> Result<Vec<PlacedCause>, AllocError>
-    requires { AllByRecursion (λ (c : Cause). IsPairOf old.schema.now new.schema.now
-        c.at.pair) causes.items }
+    requires { AllByRecursion (λ (c : Cause).
+        IsPairOf sides.now.old.schema.now sides.now.new.schema.now c.at.pair) causes.items }
     ensures same { IfOk result (λ placed. map without_place placed.items ≡ causes.items) }
     ensures placed { IfOk result (λ placed. AllByRecursion
-        (IsPlaced old.entry.schema.now new.entry.schema.now explain) placed.items) }
+        (IsPlaced sides.now.old.schema.now sides.now.new.schema.now explain) placed.items) }
 {
     let mut each = Vec::new(alloc);
     for cause in causes {
-        each.push(placed(alloc, old, new, cause, explain)?)?;
+        each.push(placed(alloc, sides, cause, explain)?)?;
     }
     Ok(each)
 }
 
-/// Where the causes stand.
+/// The pair and the choice of each cause.
 fn stages_of(alloc: Global, causes: &[Cause]) -> Result<Vec<pg_least::Step>, AllocError> {
     causes.iter().map(|cause| cause.at).collect(alloc)
 }
 
-/// The same of the causes between two sides: where there is none, no file is gone through.
+/// Each cause between two sides, with its fields and readings. Where there is none, no file is gone
+/// through.
 fn all_placed(
     alloc: Global,
     old: &Compiled,
@@ -103,19 +106,8 @@ fn all_placed(
         return Ok(Vec::new(alloc));
     }
     let stages = stages_of(alloc, &causes)?;
-    let old_types = types_on(alloc, old.schema.parts().types.len(), &stages, true)?;
-    let new_types = types_on(alloc, new.schema.parts().types.len(), &stages, false)?;
-    let old_places = places_in(alloc, old, &old_types)?;
-    let new_places = places_in(alloc, new, &new_types)?;
-    let old_side = Side {
-        schema: &old.schema,
-        places: old_places.as_ref(),
-    };
-    let new_side = Side {
-        schema: &new.schema,
-        places: new_places.as_ref(),
-    };
-    placed_each(alloc, old_side, new_side, causes, explain)
+    let sides = placed_schemas(alloc, old, new, &stages)?;
+    placed_each(alloc, &sides, causes, explain)
 }
 
 /// What is found of all message types of two sides that compiled, under the view.

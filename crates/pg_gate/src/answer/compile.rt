@@ -1,13 +1,16 @@
-//! A side's schema, from the texts or the descriptor set that its source gives.
-ghost use Rattle.std.specs.Prelude.{◌≡◌, ◌+◌, IfErr, IfOk};
+//! A side's schema, from the source files or the descriptor set that its source gives.
+ghost use Rattle.std.specs.Prelude.{◌≡◌, IfErr, IfOk};
 ghost use Rattle.pg_link.specs.Linked.{IsLinkedUp};
-ghost use Rattle.pg_link.specs.Walk.{IsLinked, world};
+ghost use Rattle.pg_link.specs.Walk.{IsLinked};
 ghost use Rattle.pg_check.specs.Declares.{Declares};
 ghost use Rattle.pg_check.specs.parts.Sources.{linked_sources};
-ghost use Rattle.pg_gate.specs.Failures.{source_failures};
-ghost use Rattle.pg_gate.specs.Files.{IsCompiled, IsErrorOf, IsFaultOf, IsFaultOfRead, IsOfLink, IsOfRules, IsRead, IsSide, IsSideError, paths_of};
+ghost use Rattle.pg_gate.specs.Failures.{side_failures};
+ghost use Rattle.pg_gate.specs.Files.{IsCompiled, IsErrorOf, IsFaultOf, IsFaultOfRead, IsRead, IsSide, IsSideError, paths_in};
+ghost use Rattle.pg_gate.specs.inner.Sources.{Reads, world_of};
+ghost use Rattle.pg_gate.specs.inner.Faults.{IsOfLink, IsOfRules};
 
 use crate::answer::sets::{read_set, set_at};
+use crate::call::Files;
 use crate::error::{Fault, GateError, Side};
 use pg_check::{CheckError, build};
 use pg_link::{LinkError, Linked, Sources, link_below};
@@ -15,25 +18,21 @@ use pg_schema::Schema;
 use std::alloc::Global;
 
 /// The linked files of a side.
-fn files_of<S: Sources>(
+#[tactic(auto, using(crate::proofs::ErrorLemmas::if_same_side))]
+fn linked_files<S: Sources>(
     alloc: Global,
     source: &mut S,
     side: Side,
-    folder: &str,
-    paths: &[&str],
+    files: &Files<'_>,
 ) -> Result<Linked, GateError>
     ensures linked { IfOk result (λ linked.
-        IsLinked (world (S.may_give source.old) (S.may_lack source.old)
-        folder.now (paths_of paths.now)) linked.files) }
+        IsLinked (world_of S.Sources source.old (paths_in files.now)) linked.files) }
     ensures settled { IfOk result IsLinkedUp }
     ensures refused { IfErr result (IsErrorOf
-        (IsOfLink (world (S.may_give source.old) (S.may_lack source.old)
-        folder.now (paths_of paths.now))) side) }
-    ensures counted { S.failures source.new ≡ S.failures source.old + source_failures result }
-    ensures same_given { S.may_give source.new ≡ S.may_give source.old }
-    ensures same_lacked { S.may_lack source.new ≡ S.may_lack source.old }
+        (IsOfLink (world_of S.Sources source.old (paths_in files.now))) side) }
+    ensures reads { Reads S.Sources source.old source.new (side_failures side result) }
 {
-    match link_below(alloc, source, folder, paths) {
+    match link_below(alloc, source, files.folder, files.paths) {
         Ok(linked) => Ok(linked),
         Err(LinkError::Memory) => Err(GateError::Memory),
         Err(error) => Err(GateError::Compile(side, Fault::Link(error))),
@@ -75,54 +74,26 @@ impl Compiled {
     }
 }
 
-/// The schema of texts with their files: those at these paths below the folder, and all that they
-/// import.
-pub(crate) fn compile_texts<S: Sources>(
+/// The schema of source files, with these: those at the paths, and all that they import.
+#[tactic(auto, using(crate::proofs::ErrorLemmas::if_same_zero))]
+pub(crate) fn compile_sources<S: Sources>(
     alloc: Global,
     source: &mut S,
     side: Side,
-    folder: &str,
-    paths: &[&str],
+    files: &Files<'_>,
 ) -> Result<Compiled, GateError>
     ensures compiled { IfOk result (λ compiled.
-        IsCompiled (world (S.may_give source.old) (S.may_lack source.old)
-        folder.now (paths_of paths.now)) compiled.schema) }
+        IsCompiled (world_of S.Sources source.old (paths_in files.now)) compiled.schema) }
     ensures refused { IfErr result (IsErrorOf
-        (IsFaultOf (world (S.may_give source.old) (S.may_lack source.old)
-        folder.now (paths_of paths.now))) side) }
-    ensures counted { S.failures source.new ≡ S.failures source.old + source_failures result }
-    ensures same_given { S.may_give source.new ≡ S.may_give source.old }
-    ensures same_lacked { S.may_lack source.new ≡ S.may_lack source.old }
+        (IsFaultOf (world_of S.Sources source.old (paths_in files.now))) side) }
+    ensures reads { Reads S.Sources source.old source.new (side_failures side result) }
 {
-    let files = files_of(alloc, source, side, folder, paths)?;
+    let files = linked_files(alloc, source, side, files)?;
     let schema = schema_of(alloc, side, &files)?;
     Ok(Compiled {
         schema,
         files: Some(files),
     })
-}
-
-/// The schema of the texts at these paths below the folder, and of all that they import. The files
-/// themselves are dropped.
-pub(crate) fn schema_of_texts<S: Sources>(
-    alloc: Global,
-    source: &mut S,
-    side: Side,
-    folder: &str,
-    paths: &[&str],
-) -> Result<Schema, GateError>
-    ensures compiled { IfOk result (IsCompiled
-        (world (S.may_give source.old) (S.may_lack source.old)
-        folder.now (paths_of paths.now))) }
-    ensures refused { IfErr result (IsErrorOf
-        (IsFaultOf (world (S.may_give source.old) (S.may_lack source.old)
-        folder.now (paths_of paths.now))) side) }
-    ensures counted { S.failures source.new ≡ S.failures source.old + source_failures result }
-    ensures same_given { S.may_give source.new ≡ S.may_give source.old }
-    ensures same_lacked { S.may_lack source.new ≡ S.may_lack source.old }
-{
-    let compiled = compile_texts(alloc, source, side, folder, paths)?;
-    Ok(compiled.schema)
 }
 
 /// The schema of the descriptor set at this path below the folder, which has no files.
@@ -138,9 +109,7 @@ fn compile_set<S: Sources>(
     ensures refused { IfErr result (IsErrorOf
         (IsFaultOfRead (S.may_give source.old) (S.may_lack source.old)
         folder.now path.now) side) }
-    ensures counted { S.failures source.new ≡ S.failures source.old + source_failures result }
-    ensures same_given { S.may_give source.new ≡ S.may_give source.old }
-    ensures same_lacked { S.may_lack source.new ≡ S.may_lack source.old }
+    ensures reads { Reads S.Sources source.old source.new (side_failures side result) }
 {
     let schema = read_set(alloc, source, side, folder, path)?;
     Ok(Compiled {
@@ -149,48 +118,22 @@ fn compile_set<S: Sources>(
     })
 }
 
-/// A side's schema with its files: the set at its path, or else the texts at its paths and all that
-/// they import.
+/// A side's schema with its files: that of the set at its path, or else of the source files at its
+/// paths and all that they import.
 pub(crate) fn compile_files<S: Sources>(
     alloc: Global,
     source: &mut S,
     side: Side,
-    folder: &str,
-    paths: &[&str],
+    files: &Files<'_>,
 ) -> Result<Compiled, GateError>
     ensures compiled { IfOk result (λ compiled.
-        IsSide (world (S.may_give source.old) (S.may_lack source.old)
-        folder.now (paths_of paths.now)) compiled.schema) }
+        IsSide (world_of S.Sources source.old (paths_in files.now)) compiled.schema) }
     ensures refused { IfErr result (IsSideError
-        (world (S.may_give source.old) (S.may_lack source.old)
-        folder.now (paths_of paths.now)) side) }
-    ensures counted { S.failures source.new ≡ S.failures source.old + source_failures result }
-    ensures same_given { S.may_give source.new ≡ S.may_give source.old }
-    ensures same_lacked { S.may_lack source.new ≡ S.may_lack source.old }
+        (world_of S.Sources source.old (paths_in files.now)) side) }
+    ensures reads { Reads S.Sources source.old source.new (side_failures side result) }
 {
-    match set_at(paths) {
-        Some(path) => compile_set(alloc, source, side, folder, path),
-        None => compile_texts(alloc, source, side, folder, paths),
+    match set_at(files.paths) {
+        Some(path) => compile_set(alloc, source, side, files.folder, path),
+        None => compile_sources(alloc, source, side, files),
     }
-}
-
-/// A side's schema.
-pub(crate) fn compile<S: Sources>(
-    alloc: Global,
-    source: &mut S,
-    side: Side,
-    folder: &str,
-    paths: &[&str],
-) -> Result<Schema, GateError>
-    ensures compiled { IfOk result (IsSide (world (S.may_give source.old) (S.may_lack source.old)
-        folder.now (paths_of paths.now))) }
-    ensures refused { IfErr result (IsSideError
-        (world (S.may_give source.old) (S.may_lack source.old)
-        folder.now (paths_of paths.now)) side) }
-    ensures counted { S.failures source.new ≡ S.failures source.old + source_failures result }
-    ensures same_given { S.may_give source.new ≡ S.may_give source.old }
-    ensures same_lacked { S.may_lack source.new ≡ S.may_lack source.old }
-{
-    let compiled = compile_files(alloc, source, side, folder, paths)?;
-    Ok(compiled.schema)
 }

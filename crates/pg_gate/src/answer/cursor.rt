@@ -1,7 +1,7 @@
 //! The lines and columns of bytes of a text, one behind the other.
 ghost use Rattle.std.specs.Prelude.{◌≡◌, ◌≤◌, length, take};
 ghost use Rattle.pg_lex.specs.Place.{column, line};
-ghost use Rattle.pg_gate.specs.Cursor.{StandsAt};
+ghost use Rattle.pg_gate.specs.inner.Cursor.{StandsAt};
 
 use pg_lex::place;
 use std::marker::Model;
@@ -51,7 +51,7 @@ pub(crate) struct Cursor<'a> {
 
 impl<'a> Model for Cursor<'a> {
     ghost use Rattle.std.specs.Prelude.{List, ℕ};
-    ghost use Rattle.pg_gate.specs.Cursor.{StandsAt};
+    ghost use Rattle.pg_gate.specs.inner.Cursor.{StandsAt};
 
     ghost Value = { List ℕ };
 

@@ -1,49 +1,38 @@
 //! What a call is answered, from its sources.
-ghost use Rattle.std.specs.Prelude.{◌≡◌, ◌+◌, [], ◌∷◌, IfErr, IfOk, OnErr};
+ghost use Rattle.std.specs.Prelude.{◌≡◌, IfErr, IfOk, OnErr};
 ghost use Rattle.pg_cert.specs.ClaimView.{view_in};
 ghost use Rattle.pg_cert.specs.Text.{IsClaimOf};
 ghost use Rattle.pg_least.specs.Exact.{IsSearched};
 ghost use Rattle.pg_schema.specs.Parts.{shape_of};
 ghost use Rattle.pg_gate.specs.AllTypes.{IsAllTypes};
 ghost use Rattle.pg_gate.specs.Answer.{IsRefusedRoot};
-ghost use Rattle.pg_gate.specs.Call.{request_of, sides_of};
+ghost use Rattle.pg_gate.specs.Call.{gate_request, request_of};
 ghost use Rattle.pg_gate.specs.Failures.{call_failures, side_failures};
-ghost use Rattle.pg_gate.specs.Files.{paths_of};
-ghost use Rattle.pg_gate.specs.Grants.{Between, Grants, IsErrorFor, IsFindingOf, IsGateError, IsGateReply, IsReplyFor, IsSidesError, Reports, ReportsAnswer, ReportsCertificate, seen};
-ghost use Rattle.pg_link.specs.Walk.{world};
+ghost use Rattle.pg_gate.specs.Grants.{Between, Grants, IsErrorFor, IsFindingOf, IsGateError, IsGateReply, IsReplyFor, IsSidesError, seen};
+ghost use Rattle.pg_gate.specs.Files.{paths_in};
+ghost use Rattle.pg_gate.specs.inner.Sources.{Reads, world_of};
+ghost use Rattle.pg_gate.specs.inner.Reports.{Reports, ReportsAnswer, ReportsCertificate};
 
 use crate::answer::all_types::AllTypes;
-use crate::answer::both_sides::{SideFiles, compile_both};
+use crate::answer::both_sides::compile_both;
 use crate::answer::causes::all_types;
 use crate::answer::compile::Compiled;
-use crate::answer::explaining::explained;
+use crate::answer::explaining::{Broken, explained};
 use crate::answer::gate::gate_with;
 use crate::answer::showing::shown;
 use crate::answer::stepping::steps;
 use crate::answer::type_names::type_names;
 use crate::answer::verifying::verify;
 use crate::call::error::CallError;
-use crate::call::{AllSides, Call, Sides};
+use crate::call::{Call, GateAllCall, GateCall};
 use crate::error::{GateError, Side};
 use crate::print::refusal::refusal_for;
 use crate::print::reply::{Finding, Reply};
 use crate::print::writing::written;
 use pg_cert::{Certificate, to_text};
-use pg_dyn::ViewName;
 use pg_link::Sources;
 use pg_schema::Schema;
 use std::alloc::{AllocError, Global};
-
-/// What a gate is asked.
-#[derive(Clone, Copy)]
-struct Asked<'a> {
-    sides: &'a Sides<'a>,
-    root: &'a str,
-    certificate_only: bool,
-    both: bool,
-    explain: bool,
-    view: ViewName,
-}
 
 /// What is reported of the answer with this certificate: the witness's bytes and steps, if any, and
 /// on request its readings.
@@ -61,8 +50,11 @@ fn reported(
 {
     match certificate.witness() {
         Some(bytes) => {
-            let root = certificate.root();
-            let readings = explained(alloc, &old.schema, &new.schema, root, bytes, explain)?;
+            let broken = Broken {
+                pair: certificate.root(),
+                bytes,
+            };
+            let readings = explained(alloc, &old.schema, &new.schema, &broken, explain)?;
             Ok(Finding::Breaks {
                 witness: Vec::from_slice(alloc, bytes)?,
                 steps: steps(alloc, old, new, certificate)?,
@@ -95,42 +87,39 @@ fn finding_of(
     old: &Compiled,
     new: &Compiled,
     certificate: &Certificate,
-    certificate_only: bool,
-    explain: bool,
+    asked: &GateCall<'_>,
 ) -> Result<Finding, AllocError>
     requires searched { IsSearched (view_in old.now.schema new.now.schema certificate.now)
         (shape_of old.now.schema) (shape_of new.now.schema) certificate.now.root certificate.now }
     requires claim { IsClaimOf old.now.schema new.now.schema certificate.now }
-    ensures { IfOk result (Reports old.now.schema new.now.schema certificate.now certificate_only
-        explain) }
+    ensures { IfOk result (Reports old.now.schema new.now.schema certificate.now
+        asked.now.certificate_only asked.now.explain) }
 {
-    if certificate_only {
+    if asked.certificate_only {
         certified(alloc, &old.schema, &new.schema, certificate)
     } else {
-        reported(alloc, old, new, certificate, explain)
+        reported(alloc, old, new, certificate, asked.explain)
     }
 }
 
-/// What the gate finds from an old to a new side under the view.
+/// What the gate finds from an old to a new side.
 fn one_way(
     alloc: Global,
     old: &Compiled,
     new: &Compiled,
-    root: &str,
-    certificate_only: bool,
-    explain: bool,
-    view: ViewName,
+    asked: &GateCall<'_>,
 ) -> Result<Finding, GateError>
-    ensures found { IfOk result (IsFindingOf view old.now.schema new.now.schema root.now
-        certificate_only explain) }
-    ensures refused { IfErr result (IsRefusedRoot old.now.schema new.now.schema root.now) }
+    ensures found { IfOk result (IsFindingOf asked.now.view old.now.schema new.now.schema
+        asked.now.root.now asked.now.certificate_only asked.now.explain) }
+    ensures refused { IfErr result
+        (IsRefusedRoot old.now.schema new.now.schema asked.now.root.now) }
 {
     // What holds of every schema.
     old.schema.parts();
     new.schema.parts();
-    let answer = gate_with(alloc, &old.schema, &new.schema, root, view)?;
+    let answer = gate_with(alloc, &old.schema, &new.schema, asked.root, asked.view)?;
     let certificate = answer.certificate();
-    let finding = finding_of(alloc, old, new, certificate, certificate_only, explain)?;
+    let finding = finding_of(alloc, old, new, certificate, asked)?;
     Ok(finding)
 }
 
@@ -140,116 +129,61 @@ fn between(
     alloc: Global,
     old: &Compiled,
     new: &Compiled,
-    root: &str,
-    certificate_only: bool,
-    both: bool,
-    explain: bool,
-    view: ViewName,
+    asked: &GateCall<'_>,
 ) -> Result<Reply, GateError>
-    ensures found { IfOk result (IsGateReply view old.now.schema new.now.schema root.now
-        certificate_only both explain) }
-    ensures refused { IfErr result (IsRefusedRoot old.now.schema new.now.schema root.now) }
+    ensures found { IfOk result
+        (IsGateReply old.now.schema new.now.schema (gate_request asked.now)) }
+    ensures refused { IfErr result
+        (IsRefusedRoot old.now.schema new.now.schema asked.now.root.now) }
 {
-    let forward = one_way(alloc, old, new, root, certificate_only, explain, view)?;
-    if certificate_only || !both {
+    let forward = one_way(alloc, old, new, asked)?;
+    if asked.certificate_only || !asked.both {
         return Ok(Reply::Found(forward));
     }
-    let backward = one_way(alloc, new, old, root, false, explain, view)?;
+    let backward = one_way(alloc, new, old, asked)?;
     Ok(Reply::Both { forward, backward })
 }
 
 /// What the gate answers of the two sides.
 fn find<S: Sources, T: Sources>(
     alloc: Global,
-    asked: &Asked<'_>,
+    asked: &GateCall<'_>,
     old: &mut S,
     new: &mut T,
 ) -> Result<Reply, GateError>
     ensures found { IfOk result (λ reply. Between
-        (world (S.may_give old.old) (S.may_lack old.old)
-        asked.now.sides.now.old_dir.now (asked.now.sides.now.old.now ∷ []))
-        (world (T.may_give new.old) (T.may_lack new.old)
-        asked.now.sides.now.new_dir.now (asked.now.sides.now.new.now ∷ []))
-        (λ a b. IsGateReply asked.now.view a b asked.now.root.now asked.now.certificate_only
-        asked.now.both asked.now.explain reply)) }
+        (world_of S.Sources old.old (paths_in asked.now.files.old))
+        (world_of T.Sources new.old (paths_in asked.now.files.new))
+        (λ a b. IsGateReply a b (gate_request asked.now) reply)) }
     ensures refused { IfErr result (IsGateError asked.now.root.now
-        (world (S.may_give old.old) (S.may_lack old.old)
-        asked.now.sides.now.old_dir.now (asked.now.sides.now.old.now ∷ []))
-        (world (T.may_give new.old) (T.may_lack new.old)
-        asked.now.sides.now.new_dir.now (asked.now.sides.now.new.now ∷ []))) }
-    ensures old_counted { S.failures old.new ≡ S.failures old.old + side_failures Side.Old result }
-    ensures new_counted { T.failures new.new ≡ T.failures new.old + side_failures Side.New result }
-    ensures old_given { S.may_give old.new ≡ S.may_give old.old }
-    ensures old_lacked { S.may_lack old.new ≡ S.may_lack old.old }
-    ensures new_given { T.may_give new.new ≡ T.may_give new.old }
-    ensures new_lacked { T.may_lack new.new ≡ T.may_lack new.old }
+        (world_of S.Sources old.old (paths_in asked.now.files.old))
+        (world_of T.Sources new.old (paths_in asked.now.files.new))) }
+    ensures old_reads { Reads S.Sources old.old old.new (side_failures Side.Old result) }
+    ensures new_reads { Reads T.Sources new.old new.new (side_failures Side.New result) }
 {
-    let sides = asked.sides;
-    let old_files = SideFiles {
-        folder: sides.old_dir,
-        paths: &[sides.old],
-    };
-    let new_files = SideFiles {
-        folder: sides.new_dir,
-        paths: &[sides.new],
-    };
-    let both = compile_both(
-        alloc,
-        &old_files,
-        &new_files,
-        !asked.certificate_only,
-        old,
-        new,
-    )?;
-    between(
-        alloc,
-        &both.old,
-        &both.new,
-        asked.root,
-        asked.certificate_only,
-        asked.both,
-        asked.explain,
-        asked.view,
-    )
+    let both = compile_both(alloc, &asked.files, !asked.certificate_only, old, new)?;
+    between(alloc, &both.old, &both.new, asked)
 }
 
 /// What is found of all message types of the two sides.
 fn find_all<S: Sources, T: Sources>(
     alloc: Global,
-    sides: &AllSides<'_>,
-    explain: bool,
-    view: ViewName,
+    asked: &GateAllCall<'_>,
     old: &mut S,
     new: &mut T,
 ) -> Result<AllTypes, GateError>
     ensures found { IfOk result (λ all. Between
-        (world (S.may_give old.old) (S.may_lack old.old)
-        sides.now.old_dir.now (paths_of sides.now.old.items))
-        (world (T.may_give new.old) (T.may_lack new.old)
-        sides.now.new_dir.now (paths_of sides.now.new.items))
-        (λ a b. IsAllTypes view a b explain all)) }
+        (world_of S.Sources old.old (paths_in asked.now.files.old))
+        (world_of T.Sources new.old (paths_in asked.now.files.new))
+        (λ a b. IsAllTypes asked.now.view a b asked.now.explain all)) }
     ensures refused { IfErr result (IsSidesError
-        (world (S.may_give old.old) (S.may_lack old.old)
-        sides.now.old_dir.now (paths_of sides.now.old.items))
-        (world (T.may_give new.old) (T.may_lack new.old)
-        sides.now.new_dir.now (paths_of sides.now.new.items))) }
-    ensures old_counted { S.failures old.new ≡ S.failures old.old + side_failures Side.Old result }
-    ensures new_counted { T.failures new.new ≡ T.failures new.old + side_failures Side.New result }
-    ensures old_given { S.may_give old.new ≡ S.may_give old.old }
-    ensures old_lacked { S.may_lack old.new ≡ S.may_lack old.old }
-    ensures new_given { T.may_give new.new ≡ T.may_give new.old }
-    ensures new_lacked { T.may_lack new.new ≡ T.may_lack new.old }
+        (world_of S.Sources old.old (paths_in asked.now.files.old))
+        (world_of T.Sources new.old (paths_in asked.now.files.new))) }
+    ensures old_reads { Reads S.Sources old.old old.new (side_failures Side.Old result) }
+    ensures new_reads { Reads T.Sources new.old new.new (side_failures Side.New result) }
 {
-    let old_files = SideFiles {
-        folder: sides.old_dir,
-        paths: &sides.old,
-    };
-    let new_files = SideFiles {
-        folder: sides.new_dir,
-        paths: &sides.new,
-    };
-    let both = compile_both(alloc, &old_files, &new_files, true, old, new)?;
-    Ok(all_types(alloc, &both.old, &both.new, view, explain)?)
+    let both = compile_both(alloc, &asked.files, true, old, new)?;
+    Ok(all_types(alloc, &both.old, &both.new, asked.view, asked.explain)?)
 }
 
 /// What is answered to a call, where nothing is refused.
@@ -263,48 +197,18 @@ fn reply_to<S: Sources, T: Sources>(
         (seen S.Sources old.old old.new) (seen T.Sources new.old new.new) (request_of call.now)) }
     ensures refused { IfErr result (IsErrorFor
         (seen S.Sources old.old old.new) (seen T.Sources new.old new.new) (request_of call.now)) }
-    ensures old_counted { S.failures old.new ≡ S.failures old.old + call_failures Side.Old result }
-    ensures new_counted { T.failures new.new ≡ T.failures new.old + call_failures Side.New result }
-    ensures old_given { S.may_give old.new ≡ S.may_give old.old }
-    ensures old_lacked { S.may_lack old.new ≡ S.may_lack old.old }
-    ensures new_given { T.may_give new.new ≡ T.may_give new.old }
-    ensures new_lacked { T.may_lack new.new ≡ T.may_lack new.old }
+    ensures old_reads { Reads S.Sources old.old old.new (call_failures Side.Old result) }
+    ensures new_reads { Reads T.Sources new.old new.new (call_failures Side.New result) }
 {
     match call {
-        Call::Compile { dir, files } => Ok(Reply::Set(written(alloc, old, dir, files)?)),
-        Call::Gate {
-            sides,
-            root,
-            certificate_only,
-            both,
-            explain,
-            view,
-        } => {
-            let asked = Asked {
-                sides,
-                root,
-                certificate_only: *certificate_only,
-                both: *both,
-                explain: *explain,
-                view: *view,
-            };
-            Ok(find(alloc, &asked, old, new)?)
+        Call::Compile(files) => Ok(Reply::Set(written(alloc, old, files)?)),
+        Call::Gate(asked) => Ok(find(alloc, asked, old, new)?),
+        Call::GateAll(asked) => Ok(Reply::All(find_all(alloc, asked, old, new)?)),
+        Call::Show(asked) => Ok(Reply::Shown(shown(alloc, old, asked)?)),
+        Call::Verify { files, certificate } => {
+            Ok(Reply::Found(verify(alloc, files, certificate, old, new)?))
         }
-        Call::GateAll {
-            sides,
-            explain,
-            view,
-        } => Ok(Reply::All(find_all(alloc, sides, *explain, *view, old, new)?)),
-        Call::Show {
-            dir,
-            file,
-            root,
-            word,
-        } => Ok(Reply::Shown(shown(alloc, old, dir, file, root, word)?)),
-        Call::Verify { sides, certificate } => {
-            Ok(Reply::Found(verify(alloc, sides, certificate, old, new)?))
-        }
-        Call::Types { dir, files } => Ok(Reply::Shown(type_names(alloc, old, dir, files)?)),
+        Call::Types(files) => Ok(Reply::Shown(type_names(alloc, old, files)?)),
     }
 }
 

@@ -2,7 +2,7 @@
 ghost use Rattle.std.specs.Prelude.{◌≡◌, ◌<◌, length, IfOk, string_bytes};
 ghost use Rattle.pg_cert.specs.Text.{IsPairOf};
 ghost use Rattle.pg_schema.specs.Parts.{shape_of};
-ghost use Rattle.pg_gate.specs.Explained.{AreReadings, IsExplained, IsReading};
+ghost use Rattle.pg_gate.specs.Showing.{AreReadings, IsExplained, IsReading};
 ghost use Rattle.pg_gate.specs.Refusals as refusals;
 ghost use Rattle.pg_gate.specs.Text as spec;
 
@@ -47,40 +47,46 @@ fn reading(
     }
 }
 
+/// A message that breaks: its bytes, and the pair of its types.
+#[derive(Clone, Copy)]
+pub(crate) struct Broken<'a> {
+    pub pair: Pair,
+    pub bytes: &'a [u8],
+}
+
 /// The bytes, as the old and as the new type of the pair read them.
 fn readings(
     alloc: Global,
     old: &Schema,
     new: &Schema,
-    pair: Pair,
-    bytes: &[u8],
+    broken: &Broken<'_>,
 ) -> Result<Readings, AllocError>
-    requires { IsPairOf old.now new.now pair }
-    ensures { IfOk result (AreReadings old.now new.now pair bytes.now) }
+    requires { IsPairOf old.now new.now broken.now.pair }
+    ensures { IfOk result (AreReadings old.now new.now broken.now.pair broken.now.bytes.now) }
 {
-    let by_old = reading(alloc, old, pair.old, bytes)?;
-    let by_new = reading(alloc, new, pair.new, bytes)?;
+    let by_old = reading(alloc, old, broken.pair.old, broken.bytes)?;
+    let by_new = reading(alloc, new, broken.pair.new, broken.bytes)?;
     Ok(Readings {
         old: by_old,
         new: by_new,
     })
 }
 
-/// The same where it is asked for.
+/// The readings of the bytes, where they are asked for.
 pub(crate) fn explained(
     alloc: Global,
     old: &Schema,
     new: &Schema,
-    pair: Pair,
-    bytes: &[u8],
+    broken: &Broken<'_>,
     explain: bool,
 ) -> Result<Option<Readings>, AllocError>
-    requires { IsPairOf old.now new.now pair }
-    ensures { IfOk result (IsExplained explain old.now new.now pair bytes.now) }
+    requires { IsPairOf old.now new.now broken.now.pair }
+    ensures { IfOk result
+        (IsExplained explain old.now new.now broken.now.pair broken.now.bytes.now) }
 {
     if !explain {
         return Ok(None);
     }
-    let readings = readings(alloc, old, new, pair, bytes)?;
+    let readings = readings(alloc, old, new, broken)?;
     Ok(Some(readings))
 }

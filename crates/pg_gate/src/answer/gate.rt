@@ -8,13 +8,14 @@ ghost use Rattle.pg_least.specs.Path.{CarriesWitness};
 ghost use Rattle.pg_least.specs.Roots.{AreRoots, Lacks};
 ghost use Rattle.pg_gate.specs.Answer.{IsAnswer, IsRefusedRoot, certificate_of};
 ghost use Rattle.pg_gate.specs.Failures.{side_failures};
-ghost use Rattle.pg_gate.specs.Files.{paths_of};
 ghost use Rattle.pg_gate.specs.Grants.{IsAnswerOfFiles, IsGateError};
+ghost use Rattle.pg_gate.specs.Files.{paths_of};
 ghost use Rattle.pg_gate.specs.ViewAnswer.{IsAnswerUnder};
 ghost use Rattle.pg_gate.specs.declared.error.GateError.TheVariants as errors;
 ghost use Rattle.pg_link.specs.Walk.{world};
 
-use crate::answer::both_sides::{SideFiles, compile_both};
+use crate::answer::both_sides::compile_both;
+use crate::call::{BothFiles, Files};
 use crate::error::{GateError, Side};
 use pg_cert::Certificate;
 use pg_dyn::{Message, ViewName};
@@ -208,14 +209,16 @@ pub fn gate_files<S: Sources, T: Sources>(
     ensures new_given { T.may_give new.new ≡ T.may_give new.old }
     ensures new_lacked { T.may_lack new.new ≡ T.may_lack new.old }
 {
-    let old_files = SideFiles {
-        folder: ".",
-        paths: old_roots,
+    let files = BothFiles {
+        old: Files {
+            folder: ".",
+            paths: old_roots,
+        },
+        new: Files {
+            folder: ".",
+            paths: new_roots,
+        },
     };
-    let new_files = SideFiles {
-        folder: ".",
-        paths: new_roots,
-    };
-    let both = compile_both(alloc, &old_files, &new_files, false, old, new)?;
+    let both = compile_both(alloc, &files, false, old, new)?;
     gate(alloc, &both.old.schema, &both.new.schema, root)
 }

@@ -146,7 +146,7 @@ impl Places<'_> {
 pub(crate) fn places_of<'a>(
     alloc: Global,
     files: &'a Linked,
-    wanted: &'a [bool],
+    wanted: &[bool],
 ) -> Result<Places<'a>, AllocError> {
     let mut finder = Finder {
         wanted,

@@ -1,9 +1,11 @@
 //! Sides that are descriptor sets.
-ghost use Rattle.std.specs.Prelude.{◌≡◌, ◌+◌, IfErr, IfOk, IsTrue, option_map};
+ghost use Rattle.std.specs.Prelude.{◌≡◌, IfErr, IfOk, IsTrue, option_map};
 ghost use Rattle.pg_link.specs.Below.{path_below};
-ghost use Rattle.pg_gate.specs.Failures.{source_failures};
-ghost use Rattle.pg_gate.specs.Files.{IsErrorOf, IsFaultOfBytes, IsFaultOfRead, IsGivenFault, IsRead, IsStated, paths_of};
+ghost use Rattle.pg_gate.specs.Failures.{side_failures};
+ghost use Rattle.pg_gate.specs.Files.{IsErrorOf, IsFaultOfRead, IsRead, IsStated, paths_of};
 ghost use Rattle.pg_gate.specs.Files as spec;
+ghost use Rattle.pg_gate.specs.inner.Sources.{Reads};
+ghost use Rattle.pg_gate.specs.inner.Faults.{IsFaultOfBytes, IsGivenFault};
 
 use crate::error::{Fault, GateError, Side};
 use pg_fds::{FdsError, read};
@@ -11,14 +13,11 @@ use pg_link::{LinkError, Sources, read_file};
 use pg_schema::Schema;
 use std::alloc::Global;
 
-/// The ending of a path that is a text's.
-const TEXT: &[u8] = b".proto";
-
-/// Whether a file of this path is a text. Any other is a descriptor set.
-fn is_text(path: &str) -> bool
-    ensures { result ≡ spec.is_text path.now }
+/// Whether a file of this path is a source file. Any other is a descriptor set.
+fn is_source_file(path: &str) -> bool
+    ensures { result ≡ spec.is_source_file path.now }
 {
-    path.as_bytes().ends_with(TEXT)
+    path.as_bytes().ends_with(b".proto")
 }
 
 /// The path of the set, where a side of these paths is one.
@@ -26,12 +25,13 @@ pub(crate) fn set_at<'a>(paths: &[&'a str]) -> Option<&'a str>
     ensures { option_map (λ path. path.now) result ≡ spec.set_at (paths_of paths.now) }
 {
     match paths {
-        [path] if !is_text(path) => Some(path),
+        [path] if !is_source_file(path) => Some(path),
         _ => None,
     }
 }
 
 /// The bytes of the set.
+#[tactic(auto, using(crate::proofs::ErrorLemmas::if_same_side))]
 fn bytes_of<S: Sources>(
     alloc: Global,
     source: &mut S,
@@ -43,9 +43,7 @@ fn bytes_of<S: Sources>(
         IsTrue (S.may_give source.old (path_below folder.now path.now) bytes.items)) }
     ensures refused { IfErr result (IsErrorOf
         (IsGivenFault (S.may_lack source.old) folder.now path.now) side) }
-    ensures counted { S.failures source.new ≡ S.failures source.old + source_failures result }
-    ensures same_given { S.may_give source.new ≡ S.may_give source.old }
-    ensures same_lacked { S.may_lack source.new ≡ S.may_lack source.old }
+    ensures reads { Reads S.Sources source.old source.new (side_failures side result) }
 {
     match read_file(alloc, source, folder, path) {
         Ok(bytes) => Ok(bytes),
@@ -67,6 +65,7 @@ fn stated(alloc: Global, side: Side, bytes: &[u8]) -> Result<Schema, GateError>
 }
 
 /// The schema of the set at this path below the folder.
+#[tactic(auto, using(crate::proofs::ErrorLemmas::if_same_zero))]
 pub(crate) fn read_set<S: Sources>(
     alloc: Global,
     source: &mut S,
@@ -78,9 +77,7 @@ pub(crate) fn read_set<S: Sources>(
     ensures refused { IfErr result (IsErrorOf
         (IsFaultOfRead (S.may_give source.old) (S.may_lack source.old)
         folder.now path.now) side) }
-    ensures counted { S.failures source.new ≡ S.failures source.old + source_failures result }
-    ensures same_given { S.may_give source.new ≡ S.may_give source.old }
-    ensures same_lacked { S.may_lack source.new ≡ S.may_lack source.old }
+    ensures reads { Reads S.Sources source.old source.new (side_failures side result) }
 {
     let bytes = bytes_of(alloc, source, side, folder, path)?;
     stated(alloc, side, &bytes)

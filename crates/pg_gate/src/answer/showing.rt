@@ -1,13 +1,16 @@
 //! What is shown of bytes.
-ghost use Rattle.std.specs.Prelude.{◌≡◌, ◌+◌, ◌<◌, [], ◌∷◌, length, Some, IfErr, IfOk, string_bytes};
+ghost use Rattle.std.specs.Prelude.{◌≡◌, ◌<◌, length, Some, IfErr, IfOk, string_bytes};
 ghost use Rattle.pg_schema.specs.Parts.{shape_of};
 ghost use Rattle.pg_show.specs.Hex.{bytes_in};
-ghost use Rattle.pg_link.specs.Walk.{world};
 ghost use Rattle.pg_gate.specs.Failures.{call_failures};
 ghost use Rattle.pg_gate.specs.Grants.{IsShowError, OfSide};
-ghost use Rattle.pg_gate.specs.Showing.{IsReadAs, IsShowFault, IsShown, IsUnread, IsUnspelled};
+ghost use Rattle.pg_gate.specs.Files.{paths_in};
+ghost use Rattle.pg_gate.specs.Showing.{IsReadAs, IsShown};
+ghost use Rattle.pg_gate.specs.inner.Sources.{Reads, world_of};
+ghost use Rattle.pg_gate.specs.inner.Showing.{IsShowFault, IsUnread, IsUnspelled};
 
-use crate::answer::compile::compile;
+use crate::answer::compile::compile_files;
+use crate::call::ShowCall;
 use crate::call::error::CallError;
 use crate::error::{GateError, Side};
 use pg_dyn::DynError;
@@ -47,7 +50,7 @@ fn lines_of(
     }
 }
 
-/// The same by the type of this full name, of the bytes of the word.
+/// The lines of the message that the bytes of the word are read as by the type of this full name.
 fn shown_by(alloc: Global, schema: &Schema, root: &str, word: &str) -> Result<String, CallError>
     ensures shown { IfOk result (λ text. IsShown schema.now root.now word.now (string_bytes text)) }
     ensures refused { IfErr result (IsShowFault schema.now root.now word.now) }
@@ -59,27 +62,20 @@ fn shown_by(alloc: Global, schema: &Schema, root: &str, word: &str) -> Result<St
     lines_of(alloc, schema, type_id, &bytes)
 }
 
-/// The same by the type of the text or the set at this path below the folder, or of what a text
-/// imports.
+/// The lines of the message that is to be shown, by a type of the files or of what they import.
 pub(crate) fn shown<S: Sources>(
     alloc: Global,
     source: &mut S,
-    folder: &str,
-    file: &str,
-    root: &str,
-    word: &str,
+    asked: &ShowCall<'_>,
 ) -> Result<String, CallError>
     ensures shown { IfOk result (λ text. OfSide
-        (world (S.may_give source.old) (S.may_lack source.old) folder.now (file.now ∷ []))
-        (λ schema. IsShown schema root.now word.now (string_bytes text))) }
+        (world_of S.Sources source.old (paths_in asked.now.files))
+        (λ schema. IsShown schema asked.now.root.now asked.now.word.now (string_bytes text))) }
     ensures refused { IfErr result (IsShowError
-        (world (S.may_give source.old) (S.may_lack source.old)
-        folder.now (file.now ∷ [])) root.now word.now) }
-    ensures counted { S.failures source.new
-        ≡ S.failures source.old + call_failures Side.Old result }
-    ensures same_given { S.may_give source.new ≡ S.may_give source.old }
-    ensures same_lacked { S.may_lack source.new ≡ S.may_lack source.old }
+        (world_of S.Sources source.old (paths_in asked.now.files))
+        asked.now.root.now asked.now.word.now) }
+    ensures reads { Reads S.Sources source.old source.new (call_failures Side.Old result) }
 {
-    let schema = compile(alloc, source, Side::Old, folder, &[file])?;
-    shown_by(alloc, &schema, root, word)
+    let schema = compile_files(alloc, source, Side::Old, &asked.files)?.schema;
+    shown_by(alloc, &schema, asked.root, asked.word)
 }

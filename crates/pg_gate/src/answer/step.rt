@@ -7,14 +7,14 @@ use std::fmt;
 
 /// A field, by its full name, and where it is declared.
 #[derive(Debug, Drop)]
-pub struct NamedField {
+pub(crate) struct NamedField {
     pub name: String,
     pub place: Option<Place>,
 }
 
 /// A field on a witness's path: by its number, as it stands in the old type and in the new one.
 #[derive(Debug, Drop)]
-pub struct Step {
+pub(crate) struct Step {
     pub number: u32,
     pub old: NamedField,
     pub new: NamedField,

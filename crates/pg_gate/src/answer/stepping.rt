@@ -18,11 +18,19 @@ use pg_pairs::{Case, Pair};
 use pg_schema::{Schema, TypeId};
 use std::alloc::{AllocError, Global};
 
-/// A schema, and where its fields are declared: those of a descriptor set are nowhere.
-#[derive(Clone, Copy)]
-pub(crate) struct Side<'a> {
+/// A schema, and where the fields of some of its types are declared: those of a descriptor set are
+/// nowhere.
+#[derive(Drop)]
+pub(crate) struct PlacedSchema<'a> {
     pub schema: &'a Schema,
-    pub places: Option<&'a Places<'a>>,
+    places: Option<Places<'a>>,
+}
+
+/// The old and the new schema, with the places of fields.
+#[derive(Drop)]
+pub(crate) struct PlacedSchemas<'a> {
+    pub old: PlacedSchema<'a>,
+    pub new: PlacedSchema<'a>,
 }
 
 /// The full name of the type's field of that number.
@@ -40,7 +48,7 @@ fn field_name(alloc: Global, schema: &Schema, id: TypeId, number: u32) -> Result
 /// Where the type's field of that number is declared.
 fn place_of(
     alloc: Global,
-    places: Option<&Places<'_>>,
+    places: &Option<Places<'_>>,
     id: TypeId,
     number: u32,
 ) -> Result<Option<Place>, AllocError> {
@@ -53,35 +61,33 @@ fn place_of(
 /// The type's field of that number.
 fn named_field(
     alloc: Global,
-    schema: &Schema,
-    places: Option<&Places<'_>>,
+    side: &PlacedSchema<'_>,
     id: TypeId,
     number: u32,
 ) -> Result<NamedField, AllocError>
     ensures { IfOk result (λ field. string_bytes field.name
-        ≡ spec.field_name schema.now id number) }
+        ≡ spec.field_name side.now.schema.now id number) }
 {
     Ok(NamedField {
-        name: field_name(alloc, schema, id, number)?,
-        place: place_of(alloc, places, id, number)?,
+        name: field_name(alloc, side.schema, id, number)?,
+        place: place_of(alloc, &side.places, id, number)?,
     })
 }
 
 /// The step of that number between the types of the pair.
 pub(crate) fn step_of(
     alloc: Global,
-    old: Side<'_>,
-    new: Side<'_>,
+    sides: &PlacedSchemas<'_>,
     pair: Pair,
     number: u32,
 ) -> Result<Step, AllocError>
     ensures { IfOk result (λ step. spec.named step
-        ≡ spec.named_at old.entry.schema.now new.entry.schema.now pair number) }
+        ≡ spec.named_at sides.now.old.schema.now sides.now.new.schema.now pair number) }
 {
     Ok(Step {
         number,
-        old: named_field(alloc, old.schema, old.places, pair.old, number)?,
-        new: named_field(alloc, new.schema, new.places, pair.new, number)?,
+        old: named_field(alloc, &sides.old, pair.old, number)?,
+        new: named_field(alloc, &sides.new, pair.new, number)?,
     })
 }
 
@@ -89,17 +95,16 @@ pub(crate) fn step_of(
 fn add_steps(
     alloc: Global,
     steps: &mut Vec<Step>,
-    old: Side<'_>,
-    new: Side<'_>,
+    sides: &PlacedSchemas<'_>,
     stage: pg_least::Step,
 ) -> Result<(), AllocError>
     ensures { OnOk result (map spec.named steps.new.items ≡ map spec.named steps.old.items
-        ++ spec.steps_by old.entry.schema.now new.entry.schema.now stage) }
+        ++ spec.steps_by sides.now.old.schema.now sides.now.new.schema.now stage) }
 {
     let choice = stage.choice;
-    steps.push(step_of(alloc, old, new, stage.pair, choice.number)?)?;
+    steps.push(step_of(alloc, sides, stage.pair, choice.number)?)?;
     if choice.case == Case::Oneof {
-        steps.push(step_of(alloc, old, new, stage.pair, choice.part)?)?;
+        steps.push(step_of(alloc, sides, stage.pair, choice.part)?)?;
     }
     Ok(())
 }
@@ -107,28 +112,27 @@ fn add_steps(
 /// The steps of a path.
 fn steps_by(
     alloc: Global,
-    old: Side<'_>,
-    new: Side<'_>,
+    sides: &PlacedSchemas<'_>,
     path: &[pg_least::Step],
 ) -> Result<Vec<Step>, AllocError>
     ensures { IfOk result (λ steps. map spec.named steps.items
-        ≡ flat_map (spec.steps_by old.entry.schema.now new.entry.schema.now) path.now) }
+        ≡ flat_map (spec.steps_by sides.now.old.schema.now sides.now.new.schema.now) path.now) }
 {
     let mut steps = Vec::new(alloc);
     for stage in path {
-        add_steps(alloc, &mut steps, old, new, *stage)?;
+        add_steps(alloc, &mut steps, sides, *stage)?;
     }
     Ok(steps)
 }
 
 /// Which types of the old schema, or of the new one, are on the path.
-pub(crate) fn types_on(
+fn types_on(
     alloc: Global,
-    types: usize,
+    schema: &Schema,
     path: &[pg_least::Step],
     of_old: bool,
 ) -> Result<Vec<bool>, AllocError> {
-    let mut wanted = vec![in alloc; false; types]?;
+    let mut wanted = vec![in alloc; false; schema.parts().types.len()]?;
     for stage in path {
         let id = if of_old {
             stage.pair.old
@@ -142,16 +146,43 @@ pub(crate) fn types_on(
     Ok(wanted)
 }
 
-/// Where the fields of some of the side's types are declared: nowhere where it is a descriptor set.
-pub(crate) fn places_in<'a>(
+/// Where the fields of the side's types on the path are declared.
+fn places_on<'a>(
     alloc: Global,
     side: &'a Compiled,
-    wanted: &'a [bool],
+    path: &[pg_least::Step],
+    of_old: bool,
 ) -> Result<Option<Places<'a>>, AllocError> {
-    match &side.files {
-        Some(files) => Ok(Some(places_of(alloc, files, wanted)?)),
-        None => Ok(None),
-    }
+    let Some(files) = &side.files else {
+        return Ok(None);
+    };
+    let wanted = types_on(alloc, &side.schema, path, of_old)?;
+    let places = places_of(alloc, files, &wanted)?;
+    Ok(Some(places))
+}
+
+/// The schemas of two sides, with the places of the fields of the types on the path.
+pub(crate) fn placed_schemas<'a>(
+    alloc: Global,
+    old: &'a Compiled,
+    new: &'a Compiled,
+    path: &[pg_least::Step],
+) -> Result<PlacedSchemas<'a>, AllocError>
+    ensures old { IfOk result (λ sides. sides.old.schema.now ≡ old.now.schema) }
+    ensures new { IfOk result (λ sides. sides.new.schema.now ≡ new.now.schema) }
+{
+    let old_places = places_on(alloc, old, path, true)?;
+    let new_places = places_on(alloc, new, path, false)?;
+    Ok(PlacedSchemas {
+        old: PlacedSchema {
+            schema: &old.schema,
+            places: old_places,
+        },
+        new: PlacedSchema {
+            schema: &new.schema,
+            places: new_places,
+        },
+    })
 }
 
 /// The steps of the witness of a certificate between the two sides.
@@ -168,20 +199,6 @@ pub(crate) fn steps(
         steps.items) }
 {
     let path = path(alloc, &old.schema, &new.schema, certificate)?;
-    let old_types = types_on(alloc, old.schema.parts().types.len(), &path, true)?;
-    let new_types = types_on(alloc, new.schema.parts().types.len(), &path, false)?;
-    let old_places = places_in(alloc, old, &old_types)?;
-    let new_places = places_in(alloc, new, &new_types)?;
-    steps_by(
-        alloc,
-        Side {
-            schema: &old.schema,
-            places: old_places.as_ref(),
-        },
-        Side {
-            schema: &new.schema,
-            places: new_places.as_ref(),
-        },
-        &path,
-    )
+    let sides = placed_schemas(alloc, old, new, &path)?;
+    steps_by(alloc, &sides, &path)
 }

@@ -1,12 +1,13 @@
 //! The names of the message types that files declare.
-ghost use Rattle.std.specs.Prelude.{◌≡◌, ◌+◌, IfErr, IfOk, string_bytes};
-ghost use Rattle.pg_link.specs.Walk.{world};
-ghost use Rattle.pg_gate.specs.Failures.{source_failures};
-ghost use Rattle.pg_gate.specs.Files.{IsSideError, paths_of};
+ghost use Rattle.std.specs.Prelude.{IfErr, IfOk, string_bytes};
+ghost use Rattle.pg_gate.specs.Failures.{side_failures};
+ghost use Rattle.pg_gate.specs.Files.{IsSideError, paths_in};
 ghost use Rattle.pg_gate.specs.Grants.{OfSide};
+ghost use Rattle.pg_gate.specs.inner.Sources.{Reads, world_of};
 ghost use Rattle.pg_gate.specs.TypeNames.{ListsTypes};
 
-use crate::answer::compile::compile;
+use crate::answer::compile::compile_files;
+use crate::call::Files;
 use crate::error::{GateError, Side};
 use pg_link::Sources;
 use pg_schema::Schema;
@@ -25,25 +26,20 @@ fn names_of(alloc: Global, schema: &Schema) -> Result<String, AllocError>
     Ok(names)
 }
 
-/// The full names of the message types that the files at these paths below the folder declare, and
-/// those that they import.
+/// The full names of the message types that the files declare, and those that they import.
 pub(crate) fn type_names<S: Sources>(
     alloc: Global,
     source: &mut S,
-    folder: &str,
-    paths: &[&str],
+    files: &Files<'_>,
 ) -> Result<String, GateError>
     ensures named { IfOk result (λ text. OfSide
-        (world (S.may_give source.old) (S.may_lack source.old) folder.now (paths_of paths.now))
+        (world_of S.Sources source.old (paths_in files.now))
         (λ schema. ListsTypes schema (string_bytes text))) }
     ensures refused { IfErr result (IsSideError
-        (world (S.may_give source.old) (S.may_lack source.old)
-        folder.now (paths_of paths.now)) Side.Old) }
-    ensures counted { S.failures source.new ≡ S.failures source.old + source_failures result }
-    ensures same_given { S.may_give source.new ≡ S.may_give source.old }
-    ensures same_lacked { S.may_lack source.new ≡ S.may_lack source.old }
+        (world_of S.Sources source.old (paths_in files.now)) Side.Old) }
+    ensures reads { Reads S.Sources source.old source.new (side_failures Side.Old result) }
 {
-    let schema = compile(alloc, source, Side::Old, folder, paths)?;
+    let schema = compile_files(alloc, source, Side::Old, files)?.schema;
     let names = names_of(alloc, &schema)?;
     Ok(names)
 }

@@ -9,7 +9,7 @@ use std::fmt;
 /// What a certificate that holds shows of its root types: the full name of the old one, the
 /// verdict, and how many bytes the witness has, where there is one.
 #[derive(Debug, Drop)]
-pub struct Verified {
+pub(crate) struct Verified {
     pub name: String,
     pub verdict: Verdict,
     pub length: usize,

@@ -1,16 +1,18 @@
 //! What a certificate shows of two sides.
-ghost use Rattle.std.specs.Prelude.{◌≡◌, ◌+◌, List, ℕ, [], ◌∷◌, IfErr, IfOk, IsTrue, OnOk, string_bytes};
+ghost use Rattle.std.specs.Prelude.{◌≡◌, List, ℕ, IfErr, IfOk, IsTrue, OnOk, string_bytes};
 ghost use Rattle.pg_cert.specs.Certificate.{verdict_of};
 ghost use Rattle.pg_cert.specs.ClaimView.{HoldsOf, SaysOf};
 ghost use Rattle.pg_cert.specs.Text.{Certifies, names_of};
-ghost use Rattle.pg_link.specs.Walk.{world};
 ghost use Rattle.pg_gate.specs.Failures.{call_failures};
-ghost use Rattle.pg_gate.specs.Grants.{IsUngiven, IsVerified, IsVerifyError};
+ghost use Rattle.pg_gate.specs.Grants.{IsVerified, IsVerifyError};
+ghost use Rattle.pg_gate.specs.Files.{paths_in};
+ghost use Rattle.pg_gate.specs.inner.Sources.{Reads, world_of};
 ghost use Rattle.pg_gate.specs.Verified as spec;
+ghost use Rattle.pg_gate.specs.inner.Claims.{IsClaimError, IsClaimRefusal, IsUngiven};
 
-use crate::answer::both_sides::{SideFiles, compile_both};
+use crate::answer::both_sides::compile_both;
 use crate::answer::verified::Verified;
-use crate::call::Sides;
+use crate::call::BothFiles;
 use crate::call::error::{CallError, CertificateFault, ClaimFault, PairNames};
 use crate::error::{GateError, Side};
 use crate::print::location::Location;
@@ -25,10 +27,7 @@ use std::alloc::{AllocError, Global};
 fn read<S: Sources>(alloc: Global, source: &mut S, path: &str) -> Result<Vec<u8>, CallError>
     ensures given { IfOk result (λ bytes. IsTrue (S.may_give source.old path.now bytes.items)) }
     ensures refused { IfErr result (IsUngiven (S.may_lack source.old) path.now) }
-    ensures counted { S.failures source.new
-        ≡ S.failures source.old + call_failures Side.Old result }
-    ensures same_given { S.may_give source.new ≡ S.may_give source.old }
-    ensures same_lacked { S.may_lack source.new ≡ S.may_lack source.old }
+    ensures reads { Reads S.Sources source.old source.new (call_failures Side.Old result) }
 {
     // A fault names the path; room for it is taken before the source can fail.
     let file = String::from_str(alloc, path)?;
@@ -112,8 +111,8 @@ fn fault_of(
 
 /// What a checker's error is reported as: where it is why bytes are refused, so is that.
 fn reported(alloc: Global, old: &Schema, new: &Schema, error: CertError) -> CallError
-    ensures { (bytes : List ℕ) → spec.IsClaimRefusal old.now new.now bytes error
-        → spec.IsClaimError old.now new.now bytes result }
+    ensures { (bytes : List ℕ) → IsClaimRefusal old.now new.now bytes error
+        → IsClaimError old.now new.now bytes result }
 {
     if let CertError::Memory = error {
         return CallError::Gate(GateError::Memory);
@@ -132,7 +131,7 @@ fn spelled(
     bytes: &[u8],
 ) -> Result<Certificate, CallError>
     ensures certifies { IfOk result (Certifies old.now new.now bytes.now) }
-    ensures refused { IfErr result (spec.IsClaimError old.now new.now bytes.now) }
+    ensures refused { IfErr result (IsClaimError old.now new.now bytes.now) }
 {
     match from_text(alloc, old, new, bytes) {
         Ok(certificate) => Ok(certificate),
@@ -152,7 +151,7 @@ fn checked(
     ensures says { IfOk result (SaysOf old.now new.now certificate.now) }
     ensures refused { IfErr result (λ error. (bytes : List ℕ)
         → Certifies old.now new.now bytes certificate.now
-        → spec.IsClaimError old.now new.now bytes error) }
+        → IsClaimError old.now new.now bytes error) }
 {
     match check(alloc, old, new, certificate) {
         Ok(verdict) => Ok(verdict),
@@ -173,7 +172,7 @@ fn witness_length(certificate: &Certificate) -> usize
 /// What the certificate of these bytes shows of two schemas.
 fn held(alloc: Global, old: &Schema, new: &Schema, bytes: &[u8]) -> Result<Finding, CallError>
     ensures found { IfOk result (spec.IsHeldBy old.now new.now bytes.now) }
-    ensures refused { IfErr result (spec.IsClaimError old.now new.now bytes.now) }
+    ensures refused { IfErr result (IsClaimError old.now new.now bytes.now) }
 {
     let certificate = spelled(alloc, old, new, bytes)?;
     let verdict = checked(alloc, old, new, &certificate)?;
@@ -191,37 +190,21 @@ fn held(alloc: Global, old: &Schema, new: &Schema, bytes: &[u8]) -> Result<Findi
 /// compiled.
 pub(crate) fn verify<S: Sources, T: Sources>(
     alloc: Global,
-    sides: &Sides<'_>,
+    files: &BothFiles<'_>,
     certificate: &str,
     old: &mut S,
     new: &mut T,
 ) -> Result<Finding, CallError>
     ensures found { IfOk result (IsVerified certificate.now
-        (world (S.may_give old.old) (S.may_lack old.old)
-        sides.now.old_dir.now (sides.now.old.now ∷ []))
-        (world (T.may_give new.old) (T.may_lack new.old)
-        sides.now.new_dir.now (sides.now.new.now ∷ []))) }
+        (world_of S.Sources old.old (paths_in files.now.old))
+        (world_of T.Sources new.old (paths_in files.now.new))) }
     ensures refused { IfErr result (IsVerifyError certificate.now
-        (world (S.may_give old.old) (S.may_lack old.old)
-        sides.now.old_dir.now (sides.now.old.now ∷ []))
-        (world (T.may_give new.old) (T.may_lack new.old)
-        sides.now.new_dir.now (sides.now.new.now ∷ []))) }
-    ensures old_counted { S.failures old.new ≡ S.failures old.old + call_failures Side.Old result }
-    ensures new_counted { T.failures new.new ≡ T.failures new.old + call_failures Side.New result }
-    ensures old_given { S.may_give old.new ≡ S.may_give old.old }
-    ensures old_lacked { S.may_lack old.new ≡ S.may_lack old.old }
-    ensures new_given { T.may_give new.new ≡ T.may_give new.old }
-    ensures new_lacked { T.may_lack new.new ≡ T.may_lack new.old }
+        (world_of S.Sources old.old (paths_in files.now.old))
+        (world_of T.Sources new.old (paths_in files.now.new))) }
+    ensures old_reads { Reads S.Sources old.old old.new (call_failures Side.Old result) }
+    ensures new_reads { Reads T.Sources new.old new.new (call_failures Side.New result) }
 {
-    let old_files = SideFiles {
-        folder: sides.old_dir,
-        paths: &[sides.old],
-    };
-    let new_files = SideFiles {
-        folder: sides.new_dir,
-        paths: &[sides.new],
-    };
-    let both = compile_both(alloc, &old_files, &new_files, false, old, new)?;
+    let both = compile_both(alloc, files, false, old, new)?;
     let bytes = read(alloc, old, certificate)?;
     held(alloc, &both.old.schema, &both.new.schema, &bytes)
 }

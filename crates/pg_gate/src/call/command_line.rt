@@ -1,16 +1,17 @@
 //! The command line, read with `clap`.
-ghost use Rattle.std.specs.Prelude.{◌≡◌, ◌≢◌, false, IfErr, IfOk};
+ghost use Rattle.std.specs.Prelude.{◌≡◌, ◌≢◌, List, true, false, IfErr, IfOk};
 ghost use Rattle.clap.specs.Walk.{texts};
-ghost use Rattle.clap.specs.Words.{found_of, kind_of, rows_of, rule_of};
-ghost use Rattle.pg_gate.specs.CommandLine.{HasApp};
+ghost use Rattle.clap.specs.Words.{Text, found_of, has_subcommand, kind_of, rows_of, rule_of};
 ghost use Rattle.pg_gate.specs.Call as spec;
 ghost use Rattle.pg_gate.specs.CommandLine as command_line;
+ghost use Rattle.pg_gate.specs.inner.Matches.{AreMatchesOf, HasApp};
+ghost use Rattle.pg_gate.specs.Files.{both_paths, paths_in};
 
 use crate::call::help::{
     COMPILE_ANSWERS, GATE_ALL_ANSWERS, GATE_ANSWERS, NEW_FILE, NEW_FILES, OLD_FILE, OLD_FILES,
-    SHOW_ANSWERS, SHOWN_FILE, STATUSES, TYPES_ANSWERS, VERIFY_ANSWERS,
+    SHOW_ANSWERS, SHOWN_FILE, STATUSES, TYPES_ANSWERS, VERIFY_ANSWERS, VIEW,
 };
-use crate::call::{AllSides, Call, Sides};
+use crate::call::{BothFiles, Call, Files, GateAllCall, GateCall, ShowCall};
 use clap::error::ErrorKind;
 use clap::{Arg, ArgAction, ArgMatches, Command, Error};
 use pg_dyn::ViewName;
@@ -48,20 +49,13 @@ fn folder<'a>(alloc: Global, name: &'a str, help: &'a str) -> Arg<'a>
     defaulted(alloc, name, "D", ".", help)
 }
 
-/// An option that has one of these values, by default that one.
-fn among<'a>(
-    alloc: Global,
-    name: &'a str,
-    value_name: &'a str,
-    values: &'a [&'a str],
-    value: &'a str,
-    help: &'a str,
-) -> Arg<'a>
-    ensures rule { rule_of result
-        ≡ command_line.among name.entry.now values.entry value.entry.now }
+/// The view by which enums are compared, one of these names: by default the numbers alone.
+fn view_option<'a>(alloc: Global, names: &'a [&'a str]) -> Arg<'a>
+    ensures rule { rule_of result ≡ command_line.view_option names.entry }
     ensures local { result.global ≡ false }
 {
-    defaulted(alloc, name, value_name, value, help).value_parser(values)
+    let view = defaulted(alloc, "view", "VIEW", "numbers", VIEW);
+    view.value_parser(names)
 }
 
 /// An option that has to be there.
@@ -147,14 +141,7 @@ fn gate_command<'a>(alloc: Global, views: &'a [&'a str]) -> Result<Command<'a>, 
             "explain",
             "Show what breaks as both sides read it; with --cert it does nothing",
         ))?
-        .arg(among(
-            alloc,
-            "view",
-            "VIEW",
-            views,
-            "numbers",
-            "Compare enums by their numbers alone, or by the names of the numbers too",
-        ))
+        .arg(view_option(alloc, views))
 }
 
 fn gate_all_command<'a>(alloc: Global, views: &'a [&'a str]) -> Result<Command<'a>, AllocError>
@@ -168,14 +155,7 @@ fn gate_all_command<'a>(alloc: Global, views: &'a [&'a str]) -> Result<Command<'
         .arg(named_each(alloc, "old", "F", OLD_FILES))?
         .arg(named_each(alloc, "new", "F", NEW_FILES))?
         .arg(flag(alloc, "explain", "Show each cause as both sides read it"))?
-        .arg(among(
-            alloc,
-            "view",
-            "VIEW",
-            views,
-            "numbers",
-            "Compare enums by their numbers alone, or by the names of the numbers too",
-        ))
+        .arg(view_option(alloc, views))
 }
 
 fn verify_command<'a>(alloc: Global) -> Result<Command<'a>, AllocError>
@@ -255,15 +235,11 @@ fn text<'a>(found: &ArgMatches<'a>, name: &str) -> &'a str
     found.get_str(name).unwrap_or("")
 }
 
-/// The values of a word that may come more than once.
-fn texts<'a>(alloc: Global, found: &ArgMatches<'a>, name: &str) -> Result<Vec<&'a str>, AllocError>
-    ensures { IfOk result (λ values.
-        texts values.items ≡ spec.texts_at name.now (rows_of (found_of found.now))) }
+/// The values of an option or of a word.
+fn texts<'m>(found: &'m ArgMatches<'_>, name: &str) -> &'m [&'m str]
+    ensures { texts result.now ≡ spec.texts_at name.now (rows_of (found_of found.now)) }
 {
-    match found.get_strs(name) {
-        Some(values) => Vec::from_slice(alloc, values),
-        None => Ok(Vec::new(alloc)),
-    }
+    found.get_strs(name).unwrap_or(&[])
 }
 
 /// Whether an option without a value is there.
@@ -294,117 +270,101 @@ fn view(found: &ArgMatches<'_>, name: &str) -> ViewName
     view_if(text(found, name) == "names")
 }
 
-fn sides<'a>(found: &ArgMatches<'a>) -> Sides<'a>
-    ensures { spec.sides_of result ≡ spec.sides_in (rows_of (found_of found.now)) }
+/// The files that one option names, below the folder that the other does.
+fn files<'m>(found: &'m ArgMatches<'_>, folder: &str, name: &str) -> Files<'m>
+    ensures { paths_in result
+        ≡ spec.paths_at folder.now name.now (rows_of (found_of found.now)) }
 {
-    Sides {
-        old_dir: text(found, "old-dir"),
-        new_dir: text(found, "new-dir"),
-        old: text(found, "old"),
-        new: text(found, "new"),
+    Files {
+        folder: text(found, folder),
+        paths: texts(found, name),
     }
 }
 
-fn all_sides<'a>(alloc: Global, found: &ArgMatches<'a>) -> Result<AllSides<'a>, AllocError>
-    ensures { IfOk result (λ sides.
-        spec.all_sides_of sides ≡ spec.all_sides_in (rows_of (found_of found.now))) }
+/// The files of both sides.
+fn both_files<'m>(found: &'m ArgMatches<'_>) -> BothFiles<'m>
+    ensures { both_paths result ≡ spec.both_in (rows_of (found_of found.now)) }
 {
-    Ok(AllSides {
-        old_dir: text(found, "old-dir"),
-        new_dir: text(found, "new-dir"),
-        old: texts(alloc, found, "old")?,
-        new: texts(alloc, found, "new")?,
-    })
+    BothFiles {
+        old: files(found, "old-dir", "old"),
+        new: files(found, "new-dir", "new"),
+    }
 }
 
-fn compile_call<'a>(alloc: Global, found: &ArgMatches<'a>) -> Result<Call<'a>, AllocError>
-    ensures { IfOk result (λ call.
-        spec.request_of call ≡ spec.compile_in (rows_of (found_of found.now))) }
-{
-    Ok(Call::Compile {
-        dir: text(found, "dir"),
-        files: texts(alloc, found, "FILE")?,
-    })
-}
-
-fn gate_call<'a>(found: &ArgMatches<'a>) -> Call<'a>
+fn gate_call<'m>(found: &'m ArgMatches<'_>) -> Call<'m>
     ensures { spec.request_of result ≡ spec.gate_in (rows_of (found_of found.now)) }
 {
-    Call::Gate {
-        sides: sides(found),
+    Call::Gate(GateCall {
+        files: both_files(found),
         root: text(found, "type"),
         certificate_only: is_set(found, "cert"),
         both: is_set(found, "both"),
         explain: is_set(found, "explain"),
         view: view(found, "view"),
-    }
+    })
 }
 
-fn gate_all_call<'a>(alloc: Global, found: &ArgMatches<'a>) -> Result<Call<'a>, AllocError>
-    ensures { IfOk result (λ call.
-        spec.request_of call ≡ spec.gate_all_in (rows_of (found_of found.now))) }
+fn gate_all_call<'m>(found: &'m ArgMatches<'_>) -> Call<'m>
+    ensures { spec.request_of result ≡ spec.gate_all_in (rows_of (found_of found.now)) }
 {
-    Ok(Call::GateAll {
-        sides: all_sides(alloc, found)?,
+    Call::GateAll(GateAllCall {
+        files: both_files(found),
         explain: is_set(found, "explain"),
         view: view(found, "view"),
     })
 }
 
-fn verify_call<'a>(found: &ArgMatches<'a>) -> Call<'a>
+fn verify_call<'m>(found: &'m ArgMatches<'_>) -> Call<'m>
     ensures { spec.request_of result ≡ spec.verify_in (rows_of (found_of found.now)) }
 {
     Call::Verify {
-        sides: sides(found),
+        files: both_files(found),
         certificate: text(found, "CERT"),
     }
 }
 
-fn show_call<'a>(found: &ArgMatches<'a>) -> Call<'a>
+fn show_call<'m>(found: &'m ArgMatches<'_>) -> Call<'m>
     ensures { spec.request_of result ≡ spec.show_in (rows_of (found_of found.now)) }
 {
-    Call::Show {
-        dir: text(found, "dir"),
-        file: text(found, "file"),
+    Call::Show(ShowCall {
+        files: files(found, "dir", "file"),
         root: text(found, "type"),
         word: text(found, "HEX"),
-    }
-}
-
-fn types_call<'a>(alloc: Global, found: &ArgMatches<'a>) -> Result<Call<'a>, AllocError>
-    ensures { IfOk result (λ call.
-        spec.request_of call ≡ spec.types_in (rows_of (found_of found.now))) }
-{
-    Ok(Call::Types {
-        dir: text(found, "dir"),
-        files: texts(alloc, found, "FILE")?,
     })
 }
 
 /// What the subcommand of this name calls for.
-fn call_in<'a>(alloc: Global, name: &str, found: &ArgMatches<'a>) -> Result<Call<'a>, AllocError>
-    ensures { IfOk result (λ call. spec.request_of call
-        ≡ spec.request_in (name.now, rows_of (found_of found.now))) }
+fn call_in<'m>(name: &str, found: &'m ArgMatches<'_>) -> Call<'m>
+    ensures { spec.request_of result
+        ≡ spec.request_in (name.now, rows_of (found_of found.now)) }
 {
     match name {
-        "compile" => compile_call(alloc, found),
-        "gate" => Ok(gate_call(found)),
-        "gate-all" => gate_all_call(alloc, found),
-        "verify" => Ok(verify_call(found)),
-        "types" => types_call(alloc, found),
-        _ => Ok(show_call(found)),
+        "compile" => Call::Compile(files(found, "dir", "FILE")),
+        "gate" => gate_call(found),
+        "gate-all" => gate_all_call(found),
+        "verify" => verify_call(found),
+        "types" => Call::Types(files(found, "dir", "FILE")),
+        _ => show_call(found),
     }
 }
 
-/// What the words after the program's name call for, or why `clap` doesn't take them.
-pub(crate) fn call_of<'a>(alloc: Global, words: &'a [&'a str]) -> Result<Call<'a>, Error>
-    ensures call { IfOk result (λ call.
-        spec.CallsFor (texts words.entry.now) (spec.request_of call)) }
+/// What `clap` reads the words after the program's name as, or why it doesn't take them.
+pub(crate) fn matches_of<'a>(alloc: Global, words: &'a [&'a str]) -> Result<ArgMatches<'a>, Error>
+    ensures taken { IfOk result (AreMatchesOf (texts words.entry.now)) }
     ensures refused { IfErr result (λ error. kind_of error ≢ ErrorKind.OutOfMemory
         → spec.IsRefused (texts words.entry.now)) }
 {
     let command = whole_command(alloc, VIEW_NAMES.as_slice())?;
     let matches = command.try_get_matches_from(words)?;
+    Ok(matches)
+}
+
+/// What words call for that `clap` reads as these matches.
+pub(crate) fn call_of<'m>(matches: &'m ArgMatches<'_>) -> Call<'m>
+    requires { has_subcommand matches.now ≡ true }
+    ensures { (words : List Text) → AreMatchesOf words matches.now
+        → spec.CallsFor words (spec.request_of result) }
+{
     let (name, found) = matches.subcommand().unwrap();
-    Ok(call_in(alloc, name, found)?)
+    call_in(name, found)
 }

@@ -14,7 +14,7 @@ pub(crate) const SOURCE_FAILED: u16 = 309;
 
 /// The full names of an old and a new message type.
 #[derive(Debug, Drop)]
-pub struct PairNames {
+pub(crate) struct PairNames {
     pub old: String,
     pub new: String,
 }

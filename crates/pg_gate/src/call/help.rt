@@ -140,3 +140,7 @@ pub(crate) const NEW_FILES: &str =
 /// What help says of the file by which a message is shown.
 pub(crate) const SHOWN_FILE: &str =
     "The proto3 file, or a descriptor set where F doesn't end in .proto";
+
+/// What help says of the view by which enums are compared.
+pub(crate) const VIEW: &str =
+    "Compare enums by their numbers alone, or by the names of the numbers too";

@@ -10,7 +10,7 @@ use std::fmt;
 
 /// Where a fault is.
 #[derive(Debug, Drop)]
-pub enum Location {
+pub(crate) enum Location {
     /// A fault of no place, as a missing root.
     Nowhere,
     /// A file, with a line and a column from 1 on; columns count bytes.

@@ -14,7 +14,7 @@ use std::fmt;
 
 /// A refusal: the side that was compiled, the code's number, and where the fault is.
 #[derive(Debug, Drop)]
-pub struct Refusal {
+pub(crate) struct Refusal {
     pub side: Option<Side>,
     pub code: u16,
     pub location: Location,
@@ -97,10 +97,8 @@ pub(crate) fn refusal_for(call: &Call<'_>, error: CallError) -> Option<Refusal>
 {
     let refusal = refusal_of(error)?;
     match call {
-        Call::Compile { .. } | Call::Show { .. } | Call::Types { .. } => {
-            Some(refusal.without_side())
-        }
-        Call::Gate { .. } | Call::GateAll { .. } | Call::Verify { .. } => Some(refusal),
+        Call::Compile(_) | Call::Show(_) | Call::Types(_) => Some(refusal.without_side()),
+        Call::Gate(_) | Call::GateAll(_) | Call::Verify { .. } => Some(refusal),
     }
 }
 

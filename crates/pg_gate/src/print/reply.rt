@@ -13,7 +13,7 @@ use std::fmt;
 
 /// What a call is answered.
 #[derive(Debug, Drop)]
-pub enum Reply {
+pub(crate) enum Reply {
     /// The bytes of a descriptor set.
     Set(Vec<u8>),
     /// The lines of a message, or the names of message types.
@@ -29,7 +29,7 @@ pub enum Reply {
 
 /// What is found for a call, as it is printed.
 #[derive(Debug, Drop)]
-pub enum Finding {
+pub(crate) enum Finding {
     /// No message breaks.
     Compatible,
     /// The bytes of a message that breaks, and the fields on its path, root first. None that breaks
@@ -50,7 +50,7 @@ pub enum Finding {
 
 /// What `show` prints of a message's bytes by the old and by the new type: its lines, or a refusal.
 #[derive(Debug, Drop)]
-pub struct Readings {
+pub(crate) struct Readings {
     pub old: String,
     pub new: String,
 }
@@ -75,7 +75,7 @@ fn either(forward: u8, backward: u8) -> u8
 
 impl Reply {
     /// The status with which a program ends that prints it.
-    pub fn status(&self) -> u8
+    fn status(&self) -> u8
         ensures { result ≡ status_of self.now }
     {
         match self {
@@ -88,7 +88,7 @@ impl Reply {
     }
 
     /// Its text, for the root types of this name.
-    pub fn into_text(self, alloc: Global, root: &str) -> Result<Vec<u8>, AllocError>
+    fn into_text(self, alloc: Global, root: &str) -> Result<Vec<u8>, AllocError>
         ensures { IfOk result (λ text. text.items ≡ text_of root.now self) }
     {
         let text = match self {

@@ -21,11 +21,11 @@ returns-in_err-answer-clause-lacking g c = λ memory. unfailed c.in_err-answer.e
 
 pub returns-in_err-output-clause-lacking : goal.returns-in_err-output-clause-lacking
 returns-in_err-output-clause-lacking g c =
-    λ memory. answered (request_of c.in-Ok.call) c.in_ok-answer.field-0 c.in-Ok.ensures.call c.in_ok-answer.ensures.granted
+    λ memory. answered (request_of c.call_of-call.result) c.in_ok-answer.field-0 (c.call_of-call.ensures _ c.in-Ok.ensures.taken) c.in_ok-answer.ensures.granted
 
 pub returns-in_err-write_all-clause-lacking : goal.returns-in_err-write_all-clause-lacking
 returns-in_err-write_all-clause-lacking g c =
-    λ memory. answered (request_of c.in-Ok.call) c.in_ok-answer.field-0 c.in-Ok.ensures.call c.in_ok-answer.ensures.granted
+    λ memory. answered (request_of c.call_of-call.result) c.in_ok-answer.field-0 (c.call_of-call.ensures _ c.in-Ok.ensures.taken) c.in_ok-answer.ensures.granted
 
 pub returns-in_err-answer-clause-kept : goal.returns-in_err-answer-clause-kept
 returns-in_err-answer-clause-kept g c = nothing_came _ _ refl
@@ -41,13 +41,13 @@ returns-clause-kept g c = record { more = _; is = c.in_ok-write_all.ensures.whol
 
 -- A run that has an answer had a call.
 pub returns-in_err-answer-clause-uncalled : goal.returns-in_err-answer-clause-uncalled
-returns-in_err-answer-clause-uncalled g c = λ no. absurd (no (record { call = request_of c.in-Ok.call; called = c.in-Ok.ensures.call }))
+returns-in_err-answer-clause-uncalled g c = λ no. absurd (no (record { call = request_of c.call_of-call.result; called = (c.call_of-call.ensures _ c.in-Ok.ensures.taken) }))
 
 pub returns-in_err-output-clause-uncalled : goal.returns-in_err-output-clause-uncalled
-returns-in_err-output-clause-uncalled g c = λ no. absurd (no (record { call = request_of c.in-Ok.call; called = c.in-Ok.ensures.call }))
+returns-in_err-output-clause-uncalled g c = λ no. absurd (no (record { call = request_of c.call_of-call.result; called = (c.call_of-call.ensures _ c.in-Ok.ensures.taken) }))
 
 pub returns-in_err-write_all-clause-uncalled : goal.returns-in_err-write_all-clause-uncalled
-returns-in_err-write_all-clause-uncalled g c = λ no. absurd (no (record { call = request_of c.in-Ok.call; called = c.in-Ok.ensures.call }))
+returns-in_err-write_all-clause-uncalled g c = λ no. absurd (no (record { call = request_of c.call_of-call.result; called = (c.call_of-call.ensures _ c.in-Ok.ensures.taken) }))
 
 pub returns-clause-uncalled : goal.returns-clause-uncalled
-returns-clause-uncalled g c = λ no. absurd (no (record { call = request_of c.in-Ok.call; called = c.in-Ok.ensures.call }))
+returns-clause-uncalled g c = λ no. absurd (no (record { call = request_of c.call_of-call.result; called = (c.call_of-call.ensures _ c.in-Ok.ensures.taken) }))

@@ -11,5 +11,5 @@ abbrev pub invariant-loop-cause : goal.invariant-loop-cause
 invariant-loop-cause l =
     (map without_place l.each.items ++ into_iter_items l.cause-iterator ≡ l.fn.causes.items)
     × (into_iter_len l.cause-iterator ≡ length (into_iter_items l.cause-iterator))
-    × AllByRecursion (λ (c : Cause). IsPairOf l.old.schema.now l.new.schema.now c.at.pair) (into_iter_items l.cause-iterator)
-    × AllByRecursion (IsPlaced l.old.schema.now l.new.schema.now l.explain) l.each.items
+    × AllByRecursion (λ (c : Cause). IsPairOf l.sides.old.schema.now l.sides.new.schema.now c.at.pair) (into_iter_items l.cause-iterator)
+    × AllByRecursion (IsPlaced l.sides.old.schema.now l.sides.new.schema.now l.explain) l.each.items

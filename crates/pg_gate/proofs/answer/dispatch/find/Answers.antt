@@ -1,55 +1,62 @@
-use Rattle.std.proofs.Common.{◌≡◌, ◌∙◌, ◌+◌, ap, arith, [], ◌∷◌, subst, sym}
+use Rattle.std.proofs.Common.{◌≡◌, subst, sym}
 use Rattle.std.proofs.lemmas.Result.{IfErr-weaker, IfOk-weaker}
-use Rattle.pg_link.specs.Walk.{world}
+use Rattle.pg_gate.specs.Call.{gate_request}
 use Rattle.pg_gate.specs.Failures.{failures_at}
 use Rattle.pg_gate.specs.Grants.{IsGateError}
+use Rattle.pg_gate.specs.Files.{paths_in}
+use Rattle.pg_gate.specs.inner.Sources.{world_of}
 use Rattle.pg_gate.specs.declared.error.GateError.{GateError}
 use Rattle.pg_gate.specs.declared.error.Side.TheVariants as sides
 use Rattle.pg_gate.proofs.AnswerLemmas.{of_sides, refused_of_files, reply_of_files, root_uncounted}
 use Rattle.pg_gate.proofs.CallLemmas.{IfErr-IsErrAnd}
-use Rattle.pg_gate.proofs.ErrorLemmas.{passed_on}
+use Rattle.pg_gate.proofs.SourceLemmas.{no_more, passed}
 use Rattle.pg_gate.proofs.answer.dispatch.find.Goals as goal
 
 pub returns-in_err-both-clause-refused : goal.returns-in_err-both-clause-refused
 returns-in_err-both-clause-refused g c =
-    let old = world (g.S.Sources.may_give c.args.old.now) (g.S.Sources.may_lack c.args.old.now) c.args.asked.now.sides.now.old_dir.now (c.args.asked.now.sides.now.old.now ∷ []) in
-    let new = world (g.T.Sources.may_give c.args.new.now) (g.T.Sources.may_lack c.args.new.now) c.args.asked.now.sides.now.new_dir.now (c.args.asked.now.sides.now.new.now ∷ []) in
+    let asked = c.args.asked.now in
+    let old = world_of g.S.Sources c.args.old.now (paths_in asked.files.old) in
+    let new = world_of g.T.Sources c.args.new.now (paths_in asked.files.new) in
     let error : GateError = c.in_err-both.field-0.0 in
-    IfErr-IsErrAnd c.from_residual.result (λ e. e ≡ error) (λ e. IsGateError c.args.asked.now.root.now old new e) c.from_residual.ensures.1
-    (λ e same. subst (λ e. IsGateError c.args.asked.now.root.now old new e) (sym same) (of_sides c.args.asked.now.root.now old new error c.in_err-both.ensures.refused))
+    IfErr-IsErrAnd c.from_residual.result (λ e. e ≡ error) (λ e. IsGateError asked.root.now old new e) c.from_residual.ensures.1
+    (λ e same. subst (λ e. IsGateError asked.root.now old new e) (sym same) (of_sides asked.root.now old new error c.in_err-both.ensures.refused))
 
-pub returns-in_err-both-clause-old_counted : goal.returns-in_err-both-clause-old_counted
-returns-in_err-both-clause-old_counted g c =
-    let told = passed_on c.from_residual.result (failures_at sides.Old) c.in_err-both.field-0.0 c.from_residual.ensures.1 in
-    c.in_err-both.ensures.old_counted ∙ ap (λ n. g.S.Sources.failures c.args.old.now + n) (sym told)
+pub returns-in_err-both-clause-old_reads : goal.returns-in_err-both-clause-old_reads
+returns-in_err-both-clause-old_reads g c =
+    passed g.S.Sources c.args.old.now _ c.from_residual.result (failures_at sides.Old) c.in_err-both.field-0.0 c.from_residual.ensures.1 c.in_err-both.ensures.old_reads
 
-pub returns-in_err-both-clause-new_counted : goal.returns-in_err-both-clause-new_counted
-returns-in_err-both-clause-new_counted g c =
-    let told = passed_on c.from_residual.result (failures_at sides.New) c.in_err-both.field-0.0 c.from_residual.ensures.1 in
-    c.in_err-both.ensures.new_counted ∙ ap (λ n. g.T.Sources.failures c.args.new.now + n) (sym told)
+pub returns-in_err-both-clause-new_reads : goal.returns-in_err-both-clause-new_reads
+returns-in_err-both-clause-new_reads g c =
+    passed g.T.Sources c.args.new.now _ c.from_residual.result (failures_at sides.New) c.in_err-both.field-0.0 c.from_residual.ensures.1 c.in_err-both.ensures.new_reads
 
 pub returns-clause-found : goal.returns-clause-found
 returns-clause-found g c =
-    let old = world (g.S.Sources.may_give c.args.old.now) (g.S.Sources.may_lack c.args.old.now) c.args.asked.now.sides.now.old_dir.now (c.args.asked.now.sides.now.old.now ∷ []) in
-    let new = world (g.T.Sources.may_give c.args.new.now) (g.T.Sources.may_lack c.args.new.now) c.args.asked.now.sides.now.new_dir.now (c.args.asked.now.sides.now.new.now ∷ []) in
+    let asked = c.args.asked.now in
+    let old = world_of g.S.Sources c.args.old.now (paths_in asked.files.old) in
+    let new = world_of g.T.Sources c.args.new.now (paths_in asked.files.new) in
     let both = c.in_ok-both.both in
-    IfOk-weaker c.between.result _ _ (λ reply is. reply_of_files c.args.asked.now.root.now old new both.old.schema both.new.schema c.in_ok-both.ensures.old_compiled c.in_ok-both.ensures.new_compiled c.args.asked.now.view c.args.asked.now.certificate_only c.args.asked.now.both c.args.asked.now.explain reply is) c.between.ensures.found
+    IfOk-weaker c.between.result _ _
+    (λ reply is. reply_of_files asked.root.now old new both.old.schema both.new.schema c.in_ok-both.ensures.old_compiled c.in_ok-both.ensures.new_compiled (gate_request asked) reply is)
+    c.between.ensures.found
 
 pub returns-clause-refused : goal.returns-clause-refused
 returns-clause-refused g c =
-    let old = world (g.S.Sources.may_give c.args.old.now) (g.S.Sources.may_lack c.args.old.now) c.args.asked.now.sides.now.old_dir.now (c.args.asked.now.sides.now.old.now ∷ []) in
-    let new = world (g.T.Sources.may_give c.args.new.now) (g.T.Sources.may_lack c.args.new.now) c.args.asked.now.sides.now.new_dir.now (c.args.asked.now.sides.now.new.now ∷ []) in
+    let asked = c.args.asked.now in
+    let old = world_of g.S.Sources c.args.old.now (paths_in asked.files.old) in
+    let new = world_of g.T.Sources c.args.new.now (paths_in asked.files.new) in
     let both = c.in_ok-both.both in
-    IfErr-weaker c.between.result _ _ (λ error is. refused_of_files c.args.asked.now.root.now old new both.old.schema both.new.schema c.in_ok-both.ensures.old_compiled c.in_ok-both.ensures.new_compiled error is) c.between.ensures.refused
+    IfErr-weaker c.between.result _ _
+    (λ error is. refused_of_files asked.root.now old new both.old.schema both.new.schema c.in_ok-both.ensures.old_compiled c.in_ok-both.ensures.new_compiled error is)
+    c.between.ensures.refused
 
-pub returns-clause-old_counted : goal.returns-clause-old_counted
-returns-clause-old_counted g c =
+pub returns-clause-old_reads : goal.returns-clause-old_reads
+returns-clause-old_reads g c =
     let both = c.in_ok-both.both in
     let none = root_uncounted both.old.schema both.new.schema c.args.asked.now.root.now sides.Old c.between.result c.between.ensures.refused in
-    omega (arith, none, c.in_ok-both.ensures.old_counted)
+    no_more g.S.Sources c.args.old.now _ _ none c.in_ok-both.ensures.old_reads
 
-pub returns-clause-new_counted : goal.returns-clause-new_counted
-returns-clause-new_counted g c =
+pub returns-clause-new_reads : goal.returns-clause-new_reads
+returns-clause-new_reads g c =
     let both = c.in_ok-both.both in
     let none = root_uncounted both.old.schema both.new.schema c.args.asked.now.root.now sides.New c.between.result c.between.ensures.refused in
-    omega (arith, none, c.in_ok-both.ensures.new_counted)
+    no_more g.T.Sources c.args.new.now _ _ none c.in_ok-both.ensures.new_reads

@@ -1,4 +1,4 @@
-use Rattle.std.proofs.Common.{◌≡◌, ◌∙◌, ◌+◌, ap, arith, codes, subst, sym}
+use Rattle.std.proofs.Common.{◌≡◌, codes, subst, sym}
 use Rattle.std.proofs.lemmas.Result.{IfErr-weaker}
 use Rattle.pg_link.specs.Walk.{world}
 use Rattle.pg_gate.specs.Failures.{failures_at}
@@ -8,7 +8,7 @@ use Rattle.pg_gate.specs.declared.error.GateError.{GateError}
 use Rattle.pg_gate.specs.declared.error.Side.TheVariants as sides
 use Rattle.pg_gate.proofs.AnswerLemmas.{answer_of_files, both_ok, of_sides, refused_of_files, root_uncounted}
 use Rattle.pg_gate.proofs.CallLemmas.{IfErr-IsErrAnd}
-use Rattle.pg_gate.proofs.ErrorLemmas.{passed_on}
+use Rattle.pg_gate.proofs.SourceLemmas.{no_more, passed}
 use Rattle.pg_gate.proofs.answer.gate.gate_files.Goals as goal
 
 pub returns-in_err-both-clause-refused : goal.returns-in_err-both-clause-refused
@@ -21,13 +21,11 @@ returns-in_err-both-clause-refused g c =
 
 pub returns-in_err-both-clause-old_counted : goal.returns-in_err-both-clause-old_counted
 returns-in_err-both-clause-old_counted g c =
-    let told = passed_on c.from_residual.result (failures_at sides.Old) c.in_err-both.field-0.0 c.from_residual.ensures.1 in
-    c.in_err-both.ensures.old_counted ∙ ap (λ n. g.S.Sources.failures c.args.old.now + n) (sym told)
+    (passed g.S.Sources c.args.old.now _ c.from_residual.result (failures_at sides.Old) c.in_err-both.field-0.0 c.from_residual.ensures.1 c.in_err-both.ensures.old_reads).counted
 
 pub returns-in_err-both-clause-new_counted : goal.returns-in_err-both-clause-new_counted
 returns-in_err-both-clause-new_counted g c =
-    let told = passed_on c.from_residual.result (failures_at sides.New) c.in_err-both.field-0.0 c.from_residual.ensures.1 in
-    c.in_err-both.ensures.new_counted ∙ ap (λ n. g.T.Sources.failures c.args.new.now + n) (sym told)
+    (passed g.T.Sources c.args.new.now _ c.from_residual.result (failures_at sides.New) c.in_err-both.field-0.0 c.from_residual.ensures.1 c.in_err-both.ensures.new_reads).counted
 
 pub returns-clause-answer : goal.returns-clause-answer
 returns-clause-answer g c =
@@ -47,10 +45,10 @@ pub returns-clause-old_counted : goal.returns-clause-old_counted
 returns-clause-old_counted g c =
     let both = c.in_ok-both.both in
     let none = root_uncounted both.old.schema both.new.schema c.args.root.now sides.Old c.gate.result c.gate.ensures.refused in
-    omega (arith, none, c.in_ok-both.ensures.old_counted)
+    (no_more g.S.Sources c.args.old.now _ _ none c.in_ok-both.ensures.old_reads).counted
 
 pub returns-clause-new_counted : goal.returns-clause-new_counted
 returns-clause-new_counted g c =
     let both = c.in_ok-both.both in
     let none = root_uncounted both.old.schema both.new.schema c.args.root.now sides.New c.gate.result c.gate.ensures.refused in
-    omega (arith, none, c.in_ok-both.ensures.new_counted)
+    (no_more g.T.Sources c.args.new.now _ _ none c.in_ok-both.ensures.new_reads).counted

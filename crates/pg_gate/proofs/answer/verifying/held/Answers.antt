@@ -1,7 +1,7 @@
 use Rattle.std.proofs.Common.{◌≡◌, ◌∙◌, ap, subst, sym}
 use Rattle.pg_cert.specs.Text.{names_of}
 use Rattle.pg_pairs.specs.declared.choice.Pair.{Pair}
-use Rattle.pg_gate.specs.Verified.{IsClaimError}
+use Rattle.pg_gate.specs.inner.Claims.{IsClaimError}
 use Rattle.pg_gate.specs.declared.call.error.CallError.{CallError}
 use Rattle.pg_gate.proofs.CallLemmas.{IfErr-IsErrAnd}
 use Rattle.pg_gate.proofs.VerifyLemmas.{named_by}

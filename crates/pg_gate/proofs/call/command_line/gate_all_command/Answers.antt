@@ -1,7 +1,7 @@
 use Rattle.std.proofs.Common.{refl, codes}
 use Rattle.std.proofs.lemmas.Result.{IfOk-weaker}
 use Rattle.clap.specs.Words.{new_app}
-use Rattle.pg_gate.specs.CommandLine.{HasApp}
+use Rattle.pg_gate.specs.inner.Matches.{HasApp}
 use Rattle.pg_gate.proofs.CommandLineLemmas.{with_arg, with_text}
 use Rattle.pg_gate.proofs.call.command_line.gate_all_command.Goals as goal
 
@@ -15,4 +15,4 @@ returns c =
     let with_3 = with_arg c.in_ok-arg-3.field-0 with_2 c.named_each.ensures.rule c.named_each.ensures.local (c.in_ok-arg-3.ensures.shape c.named_each.ensures.local) c.in_ok-arg-3.ensures.globals in
     let with_4 = with_arg c.in_ok-arg-4.field-0 with_3 c.named_each-2.ensures.rule c.named_each-2.ensures.local (c.in_ok-arg-4.ensures.shape c.named_each-2.ensures.local) c.in_ok-arg-4.ensures.globals in
     let with_5 = with_arg c.in_ok-arg-5.field-0 with_4 c.flag.ensures.rule c.flag.ensures.local (c.in_ok-arg-5.ensures.shape c.flag.ensures.local) c.in_ok-arg-5.ensures.globals in
-    IfOk-weaker c.arg-6.result _ _ (λ r adds. with_arg r with_5 c.among.ensures.rule c.among.ensures.local (adds.shape c.among.ensures.local) adds.globals) c.arg-6.ensures
+    IfOk-weaker c.arg-6.result _ _ (λ r adds. with_arg r with_5 c.view_option.ensures.rule c.view_option.ensures.local (adds.shape c.view_option.ensures.local) adds.globals) c.arg-6.ensures

@@ -1,7 +1,7 @@
 use Rattle.std.proofs.Common.{refl, codes}
 use Rattle.std.proofs.lemmas.Result.{IfOk-weaker}
 use Rattle.clap.specs.Words.{new_app}
-use Rattle.pg_gate.specs.CommandLine.{HasApp}
+use Rattle.pg_gate.specs.inner.Matches.{HasApp}
 use Rattle.pg_gate.proofs.CommandLineLemmas.{with_arg, with_text}
 use Rattle.pg_gate.proofs.call.command_line.gate_command.Goals as goal
 
@@ -18,4 +18,4 @@ returns c =
     let with_6 = with_arg c.in_ok-arg-6.field-0 with_5 c.flag.ensures.rule c.flag.ensures.local (c.in_ok-arg-6.ensures.shape c.flag.ensures.local) c.in_ok-arg-6.ensures.globals in
     let with_7 = with_arg c.in_ok-arg-7.field-0 with_6 c.flag-2.ensures.rule c.flag-2.ensures.local (c.in_ok-arg-7.ensures.shape c.flag-2.ensures.local) c.in_ok-arg-7.ensures.globals in
     let with_8 = with_arg c.in_ok-arg-8.field-0 with_7 c.flag-3.ensures.rule c.flag-3.ensures.local (c.in_ok-arg-8.ensures.shape c.flag-3.ensures.local) c.in_ok-arg-8.ensures.globals in
-    IfOk-weaker c.arg-9.result _ _ (λ r adds. with_arg r with_8 c.among.ensures.rule c.among.ensures.local (adds.shape c.among.ensures.local) adds.globals) c.arg-9.ensures
+    IfOk-weaker c.arg-9.result _ _ (λ r adds. with_arg r with_8 c.view_option.ensures.rule c.view_option.ensures.local (adds.shape c.view_option.ensures.local) adds.globals) c.arg-9.ensures

@@ -1,16 +1,12 @@
-use Rattle.std.proofs.Common.{◌∙◌, [], ap, unwrap_or}
-use Rattle.std.proofs.lemmas.Result.{IfOk-weaker}
+use Rattle.std.proofs.Common.{◌∙◌, List, ℕ, [], ap, unwrap_or}
+use Rattle.std.specs.Borrow.{Bor}
 use Rattle.clap.proofs.WalkLemmas.{raw_values-rows}
 use Rattle.clap.specs.Walk.{texts}
 use Rattle.clap.specs.Words.{found_of}
+use Rattle.pg_gate.proofs.CallLemmas.{apply-unwrap_or}
 use Rattle.pg_gate.proofs.call.command_line.texts.Goals as goal
 
-pub returns-in-Some : goal.returns-in-Some
-returns-in-Some c =
-    let read = ap (λ o. unwrap_or o []) (c.in-Some.ensures ∙ raw_values-rows (found_of c.args.found.now) c.args.name.now) in
-    IfOk-weaker c.from_slice.result _ _ (λ values same. ap texts same ∙ read) c.from_slice.ensures.items
-
-pub returns-in-None : goal.returns-in-None
-returns-in-None c =
-    ap texts c.new.ensures.items
-    ∙ ap (λ o. unwrap_or o []) (c.in-None.ensures ∙ raw_values-rows (found_of c.args.found.now) c.args.name.now)
+pub returns : goal.returns
+returns c =
+    ap (λ s. texts s.now) c.unwrap_or.ensures ∙ apply-unwrap_or (λ (s : Bor (List (Bor (List ℕ)))). texts s.now) c.get_strs.result _
+    ∙ ap (λ o. unwrap_or o []) (c.get_strs.ensures ∙ raw_values-rows (found_of c.args.found.now) c.args.name.now)

@@ -1,0 +1,7 @@
+pub mod Claims
+pub mod Cursor
+pub mod Faults
+pub mod Matches
+pub mod Reports
+pub mod Showing
+pub mod Sources

@@ -1,0 +1,32 @@
+-- What checking functions inside the crate say of a certificate's bytes.
+use Rattle.std.specs.Prelude.{◌≡◌, ◌⊎◌, Bool, IsTrue, string_bytes}
+use Rattle.pg_cert.specs.declared.error.CertError.{CertError}
+use Rattle.pg_cert.specs.declared.error.CertError.TheVariants as checks
+use Rattle.pg_link.specs.Names.{Text}
+use Rattle.pg_schema.specs.declared.parts.Parts.{Parts}
+use Rattle.pg_gate.specs.Errors.{IsCallError, IsMemory}
+use Rattle.pg_gate.specs.Verified.{IsClaimFault, IsFaultOfClaim}
+use Rattle.pg_gate.specs.declared.call.error.CallError.{CallError}
+use Rattle.pg_gate.specs.declared.call.error.CertificateFault.{CertificateFault}
+use Rattle.pg_gate.specs.declared.call.error.CertificateFault.TheVariants as certificates
+
+-- a checker's error is why the bytes are refused, or says that memory ran out
+abbrev pub IsClaimRefusal : Parts → Parts → Text → CertError → Type 0
+IsClaimRefusal old new bytes error = (error ≡ checks.Memory) ⊎ IsFaultOfClaim old new bytes error
+
+-- bytes that are refused, for what they are
+abbrev pub IsOfClaim : Parts → Parts → Text → CertificateFault → Type 0
+IsOfClaim old new bytes (certificates.Refused fault) = IsClaimFault old new bytes fault
+IsOfClaim old new bytes fault = ⊥
+
+abbrev pub IsClaimError : Parts → Parts → Text → CallError → Type 0
+IsClaimError old new bytes = IsCallError IsMemory (IsOfClaim old new bytes) (λ error. ⊥)
+
+-- why a source gives no bytes for a path
+abbrev pub IsUngivenFault : (Text → Bool) → Text → CertificateFault → Type 0
+IsUngivenFault lack path (certificates.Missing file) = (string_bytes file ≡ path) × IsTrue (lack path)
+IsUngivenFault lack path (certificates.Failed file) = string_bytes file ≡ path
+IsUngivenFault lack path fault = ⊥
+
+abbrev pub IsUngiven : (Text → Bool) → Text → CallError → Type 0
+IsUngiven lack path = IsCallError IsMemory (IsUngivenFault lack path) (λ error. ⊥)
