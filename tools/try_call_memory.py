@@ -160,7 +160,6 @@ CALLS = [
          "Name 0801, MapValue 120408001001, breaks M 2"),
     Rows("relay", "view_rows", ["what the new type lacks is handed on"], "relay"),
     Tests("gate_files", "gate_tests", ["a_gate_over_files_answers_one_of_two", "a_gate_over_files_tells_the_old_side_first"]),
-    Tests("Reply::into_text", "gate_tests", ["a_reply_is_a_text", "a_reply_of_all_types_is_a_text"]),
     # The sink is left alone where `run` lacks memory.
     Tests("run", "gate_tests", ["compiles_again", "shows_again", "verifies_again", "gates_in_both_directions_again", "gates_a_oneof_again",
                                 "gates_all_types_again"]),
