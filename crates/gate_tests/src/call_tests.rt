@@ -1,6 +1,6 @@
 //! The calls of the gate by themselves, beside the runs of the program.
 use failing_source::FailingSource;
-use pg_gate::{Answer, Fault, Finding, GateError, LinkError, Reply, Side, gate, gate_files};
+use pg_gate::{Answer, Fault, GateError, LinkError, Side, gate, gate_files};
 use pg_link::{Listed, Sources};
 use rows::retry;
 use std::alloc::{AllocError, Global};
@@ -168,26 +168,5 @@ fn a_gate_over_files_tells_a_source_that_fails(rt: HostRuntime) {
 fn a_gate_over_files_refuses_a_missing_root(rt: HostRuntime) -> Result<(), Fail> {
     let missing = over_files(&rt, "int32 a = 1;", "int32 a = 1;", "N")?;
     assert!(rt; matches!(missing, Said::RootMissingOld));
-    Ok(())
-}
-
-/// A reply that a message breaks.
-fn reply_of(alloc: Global) -> Result<Reply, AllocError> {
-    Ok(Reply::Found(Finding::Breaks {
-        witness: Vec::from_slice(alloc, &MINUS_ONE)?,
-        steps: Vec::new(alloc),
-        readings: None,
-    }))
-}
-
-fn text_of_reply(alloc: Global) -> Result<Vec<u8>, AllocError> {
-    reply_of(alloc)?.into_text(alloc, "p.M")
-}
-
-/// A reply whose text lacks memory is dropped, so that the text is made of such a reply again.
-#[test]
-fn a_reply_is_a_text(rt: HostRuntime) -> Result<(), Fail> {
-    let text = retry!(&rt, Err(AllocError), text_of_reply(rt.alloc()))?;
-    assert!(rt; text.as_slice() == b"breaks p.M 11\nwitness 08ffffffffffffffffff01\n".as_slice());
     Ok(())
 }

@@ -4,8 +4,6 @@
 #![tactic(auto)]
 
 #[cfg(test)]
-mod all_tests;
-#[cfg(test)]
 mod call_tests;
 #[cfg(test)]
 mod failing_sink;

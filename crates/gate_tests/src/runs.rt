@@ -90,7 +90,7 @@ pub(crate) static FILES: [(&str, &[u8]); 21] = [
 ];
 
 /// Words, what is printed, and the status.
-pub(crate) static CALLS: [(&[&str], &str, u8); 18] = [
+pub(crate) static CALLS: [(&[&str], &str, u8); 19] = [
     (
         &["compile", "m.proto"],
         "\x0a\x24\x0a\x07m.proto\x22\x11\x0a\x01M\x12\x0c\x0a\x01a\x18\x01\x20\x01\x28\x05R\x01ab\x06proto3",
@@ -212,6 +212,20 @@ pub(crate) static CALLS: [(&[&str], &str, u8); 18] = [
         ],
         "cause value 11 08ffffffffffffffffff01 1 M.a m.proto:2:19 M.a u.proto:2:20\nold\n1 a int -1\nagain 08ffffffffffffffffff01\nnew\n1 a int 4294967295\nagain 08ffffffff0f\ncause oneof 4 08011001 1 K.a k.proto:2:19 K.a l.proto:2:29 K.b k.proto:2:32 K.b l.proto:2:42\nold\n1 a int 1\n2 b int 1\nagain 08011001\nnew\n2 b int 1\nagain 1001\nbreaks M 11\nbreaks K 4\n",
         1,
+    ),
+    // A type that breaks, one that doesn't, one that is removed, and one that is added.
+    (
+        &[
+            "gate-all",
+            "--old=m.proto",
+            "--old=k.proto",
+            "--old=d/b.proto",
+            "--new=u.proto",
+            "--new=d/b.proto",
+            "--new=e/b.proto",
+        ],
+        "cause value 11 08ffffffffffffffffff01 1 M.a m.proto:2:19 M.a u.proto:2:20\nbreaks M 11\ncompatible N\nremoved K\nadded p.N\n",
+        2,
     ),
     (
         &["relay"],
