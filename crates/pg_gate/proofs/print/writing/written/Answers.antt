@@ -9,4 +9,4 @@ pub returns-clause-refused : goal.returns-clause-refused
 returns-clause-refused g c =
     let w = world_of g.S.Sources c.args.source.now (paths_in c.args.files.now) in
     let other : c.in-Err.error ≡ sets.Memory → ⊥ = search rules in
-    (refl, unwritten w c.in_ok-compile_sources.field-0.schema c.in_ok-compile_sources.ensures.compiled c.in-Err.error other c.in-Err.ensures.err)
+    (refl, unwritten w c.in_ok-schema.field-0.schema c.in_ok-schema.ensures.compiled c.in-Err.error other c.in-Err.ensures.err)
