@@ -7,7 +7,7 @@ mod relaying;
 
 ghost use Rattle.std.specs.Prelude.{◌≡◌, Err, IfErr, IfOk};
 ghost use Rattle.pg_cert.specs.declared.error.CertError.TheVariants as faults;
-ghost use Rattle.pg_cert.specs.Certificate.{verdict_of};
+ghost use Rattle.pg_cert.specs.Verdict.{verdict_of};
 ghost use Rattle.pg_least.specs.Path.{CarriesWitness};
 ghost use Rattle.pg_pairs.specs.EnumView.{by_numbers};
 ghost use Rattle.pg_pairs.specs.NamedView.{seen_under};

@@ -17,7 +17,8 @@ use Rattle.pg_cert.specs.Bounds.{bound_in}
 use Rattle.pg_cert.specs.Certificate.{Claim, IsWitnessedIfThere}
 use Rattle.pg_cert.specs.ClaimView.{view_in}
 use Rattle.pg_cert.specs.Text.{IsClaimOf}
-use Rattle.pg_least.specs.Exact.{IsBesideClaim, IsSearched, IsWitnessMessage}
+use Rattle.pg_least.specs.Beside.{IsBesideClaim, IsWitnessMessage}
+use Rattle.pg_least.specs.Exact.{IsSearched}
 use Rattle.pg_least.specs.Path.{AreCarried, CarriesWitness, IsPath, carried_along}
 use Rattle.pg_least.specs.Roots.{AreRoots, Lacks}
 use Rattle.pg_least.proofs.PublicLaws.{compatible_is_seen, lost_messages_break, named_types_are_there}

@@ -17,8 +17,8 @@ use Rattle.pg_pairs.specs.NamedView.{seen_under}
 use Rattle.pg_pairs.specs.Reached.{IsLedTo}
 use Rattle.pg_pairs.proofs.PublicLaws.{pairs_lead_to_pairs}
 use Rattle.pg_cert.specs.Text.{IsPairOf}
-use Rattle.pg_least.specs.declared.witness.Step.{Step}
-use Rattle.pg_causes.specs.Causes.{causes_at, step_at}
+use Rattle.pg_least.specs.declared.witness.PairChoice.{PairChoice}
+use Rattle.pg_causes.specs.Causes.{causes_at, choice_at}
 use Rattle.pg_causes.specs.Overview.{IsOverview}
 use Rattle.pg_least.specs.Roots.{AreRoots}
 use Rattle.pg_causes.specs.declared.overview.Cause.{Cause}
@@ -42,16 +42,16 @@ module _ (view : ViewName) (old new : Parts) (is_old : IsShape (shape_of old)) (
       as_types old new pair
       (pairs_lead_to_pairs (shape_of old) (shape_of new) is_old is_new led.root pair (among_each (λ p. is_pair (shape_of old) (shape_of new) p ≡ true) led.root roots led.among known) led.leads)
 
-  steps_there : (pair : Pair) → IsPairOf old new pair → AllByRecursion (λ (at : Step). IsPairOf old new at.pair) (causes_at (seen_under view old new) (shape_of old) (shape_of new) pair)
+  steps_there : (pair : Pair) → IsPairOf old new pair → AllByRecursion (λ (at : PairChoice). IsPairOf old new at.pair) (causes_at (seen_under view old new) (shape_of old) (shape_of new) pair)
   steps_there pair there =
       let cs = causes (seen_under view old new) (shape_of old) (shape_of new) pair in
-      each-map (λ (at : Step). IsPairOf old new at.pair) (step_at pair) cs (each_of_all (λ (c : Choice). IsPairOf old new (step_at pair c).pair) (λ c. there) cs)
+      each-map (λ (at : PairChoice). IsPairOf old new at.pair) (choice_at pair) cs (each_of_all (λ (c : Choice). IsPairOf old new (choice_at pair c).pair) (λ c. there) cs)
 
   pub causes_there : (overview : Overview) → IsOverview view old new overview → AllByRecursion (λ (c : Cause). IsPairOf old new c.at.pair) overview.causes.items
   causes_there overview is =
       let roots = each_weaker (λ (p : Pair). (name : Text) × AreRoots old new name p) (λ p. is_pair (shape_of old) (shape_of new) p ≡ true) root_there is.roots is.roots_alike in
       let pairs = each_weaker (IsLedTo (children (shape_of old) (shape_of new)) is.roots) (IsPairOf old new) (led_there is.roots roots) is.causes.pairs is.causes.reached.led_to in
-      let each = each_weaker (IsPairOf old new) (λ (p : Pair). AllByRecursion (λ (at : Step). IsPairOf old new at.pair) (causes_at (seen_under view old new) (shape_of old) (shape_of new) p)) steps_there is.causes.pairs pairs in
-      let steps = each-flat_map (λ (at : Step). IsPairOf old new at.pair) (causes_at (seen_under view old new) (shape_of old) (shape_of new)) is.causes.pairs each in
-      each_unmapped (λ (at : Step). IsPairOf old new at.pair) (λ (c : Cause). c.at) overview.causes.items
-      (subst (AllByRecursion (λ (at : Step). IsPairOf old new at.pair)) (sym is.causes.are) steps)
+      let each = each_weaker (IsPairOf old new) (λ (p : Pair). AllByRecursion (λ (at : PairChoice). IsPairOf old new at.pair) (causes_at (seen_under view old new) (shape_of old) (shape_of new) p)) steps_there is.causes.pairs pairs in
+      let steps = each-flat_map (λ (at : PairChoice). IsPairOf old new at.pair) (causes_at (seen_under view old new) (shape_of old) (shape_of new)) is.causes.pairs each in
+      each_unmapped (λ (at : PairChoice). IsPairOf old new at.pair) (λ (c : Cause). c.at) overview.causes.items
+      (subst (AllByRecursion (λ (at : PairChoice). IsPairOf old new at.pair)) (sym is.causes.are) steps)

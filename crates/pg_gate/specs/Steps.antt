@@ -8,7 +8,7 @@ use Rattle.pg_cert.specs.Certificate.{Claim}
 use Rattle.pg_cert.specs.ClaimView.{view_in}
 use Rattle.pg_cert.specs.Text.{names_of}
 use Rattle.pg_least.specs.Path.{IsPath}
-use Rattle.pg_least.specs.declared.witness.Step as stages
+use Rattle.pg_least.specs.declared.witness.PairChoice as stages
 use Rattle.pg_pairs.specs.Choices.{is_oneof}
 use Rattle.pg_pairs.specs.declared.choice.Choice.{Choice}
 use Rattle.pg_pairs.specs.declared.choice.Pair.{Pair}
@@ -37,7 +37,7 @@ named_at old new pair number =
 abbrev pub numbers_of : Choice → List ℕ
 numbers_of c = if is_oneof c.case then c.number ∷ c.part ∷ [] else c.number ∷ []
 
-abbrev pub steps_by : Parts → Parts → stages.Step → List NamedStep
+abbrev pub steps_by : Parts → Parts → stages.PairChoice → List NamedStep
 steps_by old new stage = map (named_at old new stage.pair) (numbers_of stage.choice)
 
 -- a step without its places
@@ -48,6 +48,6 @@ named step = record { number = step.number; old = string_bytes step.old.name; ne
 -- choice of each pair to the pair of the message that the choice holds. Enums are compared by the view that the claim
 -- names.
 pub record AreSteps (old new : Parts) (claim : Claim) (steps : List Step) : Type 0 where
-  pub path : List stages.Step
+  pub path : List stages.PairChoice
   pub is_path : IsPath (view_in old new claim) (shape_of old) (shape_of new) (bound_in claim.bounds) claim.root path
   pub are : map named steps ≡ flat_map (steps_by old new) path

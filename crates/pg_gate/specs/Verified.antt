@@ -2,7 +2,8 @@
 -- claim.
 use Rattle.std.specs.Prelude.{◌≡◌, ℕ, List, length, Option, Some, None, string_bytes}
 use Rattle.pg_link.specs.Names.{Text}
-use Rattle.pg_cert.specs.Certificate.{Claim, verdict_of}
+use Rattle.pg_cert.specs.Certificate.{Claim}
+use Rattle.pg_cert.specs.Verdict.{verdict_of}
 use Rattle.pg_cert.specs.ClaimView.{HoldsOf, IsFirstFaultOf, SaysOf}
 use Rattle.pg_cert.specs.Text.{Certifies, names_of}
 use Rattle.pg_cert.specs.declared.error.CertError.{CertError}

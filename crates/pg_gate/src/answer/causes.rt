@@ -13,6 +13,7 @@ use crate::answer::step::Step;
 use crate::answer::stepping::{PlacedSchemas, placed_schemas, step_of};
 use pg_causes::{Cause, Overview, gate_all};
 use pg_dyn::ViewName;
+use pg_least::PairChoice;
 use pg_pairs::Case;
 use std::alloc::{AllocError, Global};
 
@@ -20,7 +21,7 @@ use std::alloc::{AllocError, Global};
 fn other_of(
     alloc: Global,
     sides: &PlacedSchemas<'_>,
-    stage: pg_least::Step,
+    stage: PairChoice,
 ) -> Result<Option<Step>, AllocError>
     ensures { IfOk result (λ other.
         named_at sides.now.old.schema.now sides.now.new.schema.now stage.pair stage.choice.number
@@ -83,7 +84,7 @@ fn placed_each(
 }
 
 /// The pair and the choice of each cause.
-fn stages_of(alloc: Global, causes: &[Cause]) -> Result<Vec<pg_least::Step>, AllocError> {
+fn stages_of(alloc: Global, causes: &[Cause]) -> Result<Vec<PairChoice>, AllocError> {
     causes.iter().map(|cause| cause.at).collect(alloc)
 }
 

@@ -1,9 +1,8 @@
 //! The gate: whether a reader of the new type sees all that a writer of the old one writes.
-ghost use Rattle.std.specs.Prelude.{◌≡◌, ◌+◌, ◌<◌, length, Err, codes, IfErr, IfOk};
+ghost use Rattle.std.specs.Prelude.{◌≡◌, ◌+◌, Err, codes, IfErr, IfOk};
 ghost use Rattle.pg_schema.specs.Parts.{shape_of};
 ghost use Rattle.pg_pairs.specs.EnumView.{by_numbers};
 ghost use Rattle.pg_pairs.specs.NamedView.{seen_under};
-ghost use Rattle.pg_least.specs.Exact.{IsBesideClaim, IsSearched};
 ghost use Rattle.pg_least.specs.Path.{CarriesWitness};
 ghost use Rattle.pg_least.specs.Roots.{AreRoots, Lacks};
 ghost use Rattle.pg_gate.specs.Answer.{IsAnswer, IsRefusedRoot, certificate_of};
@@ -21,10 +20,10 @@ use pg_cert::Certificate;
 use pg_dyn::{Message, ViewName};
 use pg_least::{Found, find_with};
 use pg_link::Sources;
-use pg_pairs::laws::{numbers_are_alike, sees_by_name};
-use pg_pairs::{Names, Numbers, Pair, View};
+use pg_pairs::laws::numbers_are_alike;
+use pg_pairs::{Pair, Priced};
 use pg_schema::Schema;
-use std::alloc::{AllocError, Global};
+use std::alloc::Global;
 
 /// What the gate says of two message types, with the certificate that shows it.
 #[derive(Drop)]
@@ -72,52 +71,6 @@ fn roots(old: &Schema, new: &Schema, root: &str) -> Result<Pair, GateError>
     })
 }
 
-/// What a search between these types finds, as the view of this one's name sees them.
-fn found_by<V: View>(
-    alloc: Global,
-    view: &V,
-    old: &Schema,
-    new: &Schema,
-    pair: Pair,
-) -> Result<Found, AllocError>
-    requires old_type { pair.old.index < length (shape_of old.now) }
-    requires new_type { pair.new.index < length (shape_of new.now) }
-    ensures searched { IfOk result (λ found. IsSearched (seen_under V.NAME old.now new.now)
-        (shape_of old.now) (shape_of new.now) pair found.certificate) }
-    ensures carried { IfOk result (λ found. CarriesWitness (seen_under V.NAME old.now new.now)
-        (shape_of old.now) (shape_of new.now) found.certificate) }
-    ensures witness { IfOk result (λ found. IsBesideClaim (seen_under V.NAME old.now new.now)
-        (shape_of old.now) (shape_of new.now) found.certificate found.witness) }
-    ensures named { IfOk result (λ found. found.certificate.view ≡ V.NAME) }
-{
-    sees_by_name(view, old, new);
-    find_with(alloc, view, old, new, pair)
-}
-
-/// What a search between these types finds under the view of that name.
-fn found_under(
-    alloc: Global,
-    old: &Schema,
-    new: &Schema,
-    pair: Pair,
-    view: ViewName,
-) -> Result<Found, AllocError>
-    requires old_type { pair.old.index < length (shape_of old.now) }
-    requires new_type { pair.new.index < length (shape_of new.now) }
-    ensures searched { IfOk result (λ found. IsSearched (seen_under view old.now new.now)
-        (shape_of old.now) (shape_of new.now) pair found.certificate) }
-    ensures carried { IfOk result (λ found. CarriesWitness (seen_under view old.now new.now)
-        (shape_of old.now) (shape_of new.now) found.certificate) }
-    ensures witness { IfOk result (λ found. IsBesideClaim (seen_under view old.now new.now)
-        (shape_of old.now) (shape_of new.now) found.certificate found.witness) }
-    ensures named { IfOk result (λ found. found.certificate.view ≡ view) }
-{
-    match view {
-        ViewName::Numbers => found_by(alloc, &Numbers, old, new, pair),
-        ViewName::Names => found_by(alloc, &Names, old, new, pair),
-    }
-}
-
 /// Whether the new reader sees all that the old writer writes, for the message types of this full
 /// name: that it does, or a message of the old type that breaks, of which none has fewer bytes;
 /// either with the certificate of the two types, which a checker takes. Enums are compared by the
@@ -142,10 +95,11 @@ pub fn gate_with(
     ensures refused { IfErr result (IsRefusedRoot old.now new.now root.now) }
 {
     let pair = roots(old, new, root)?;
+    let graph = Priced::new(&view, old, new);
     let Found {
         certificate,
         witness,
-    } = found_under(alloc, old, new, pair, view)?;
+    } = find_with(alloc, &graph, pair)?;
     match witness {
         Some(witness) => Ok(Answer::Breaks {
             witness,

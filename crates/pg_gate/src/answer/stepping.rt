@@ -12,7 +12,7 @@ use crate::answer::places::{Places, places_of};
 use crate::answer::step::{NamedField, Step};
 use crate::answer::verifying::name_of;
 use pg_cert::Certificate;
-use pg_least::path;
+use pg_least::{PairChoice, path};
 use pg_link::Place;
 use pg_pairs::{Case, Pair};
 use pg_schema::{Schema, TypeId};
@@ -96,7 +96,7 @@ fn add_steps(
     alloc: Global,
     steps: &mut Vec<Step>,
     sides: &PlacedSchemas<'_>,
-    stage: pg_least::Step,
+    stage: PairChoice,
 ) -> Result<(), AllocError>
     ensures { OnOk result (map spec.named steps.new.items ≡ map spec.named steps.old.items
         ++ spec.steps_by sides.now.old.schema.now sides.now.new.schema.now stage) }
@@ -113,7 +113,7 @@ fn add_steps(
 fn steps_by(
     alloc: Global,
     sides: &PlacedSchemas<'_>,
-    path: &[pg_least::Step],
+    path: &[PairChoice],
 ) -> Result<Vec<Step>, AllocError>
     ensures { IfOk result (λ steps. map spec.named steps.items
         ≡ flat_map (spec.steps_by sides.now.old.schema.now sides.now.new.schema.now) path.now) }
@@ -129,7 +129,7 @@ fn steps_by(
 fn types_on(
     alloc: Global,
     schema: &Schema,
-    path: &[pg_least::Step],
+    path: &[PairChoice],
     of_old: bool,
 ) -> Result<Vec<bool>, AllocError> {
     let mut wanted = vec![in alloc; false; schema.parts().types.len()]?;
@@ -150,7 +150,7 @@ fn types_on(
 fn places_on<'a>(
     alloc: Global,
     side: &'a Compiled,
-    path: &[pg_least::Step],
+    path: &[PairChoice],
     of_old: bool,
 ) -> Result<Option<Places<'a>>, AllocError> {
     let Some(files) = &side.files else {
@@ -166,7 +166,7 @@ pub(crate) fn placed_schemas<'a>(
     alloc: Global,
     old: &'a Compiled,
     new: &'a Compiled,
-    path: &[pg_least::Step],
+    path: &[PairChoice],
 ) -> Result<PlacedSchemas<'a>, AllocError>
     ensures old { IfOk result (λ sides. sides.old.schema.now ≡ old.now.schema) }
     ensures new { IfOk result (λ sides. sides.new.schema.now ≡ new.now.schema) }

@@ -1,6 +1,6 @@
 //! What a certificate shows of two sides.
 ghost use Rattle.std.specs.Prelude.{◌≡◌, List, ℕ, IfErr, IfOk, IsTrue, OnOk, string_bytes};
-ghost use Rattle.pg_cert.specs.Certificate.{verdict_of};
+ghost use Rattle.pg_cert.specs.Verdict.{verdict_of};
 ghost use Rattle.pg_cert.specs.ClaimView.{HoldsOf, SaysOf};
 ghost use Rattle.pg_cert.specs.Text.{Certifies, names_of};
 ghost use Rattle.pg_gate.specs.Failures.{call_failures};
