@@ -4,8 +4,6 @@ use Rattle.clap.specs.Words.{Text}
 use Rattle.pg_schema.specs.declared.parts.Parts.{Parts}
 use Rattle.pg_schema.specs.Parts.{shape_of}
 use Rattle.pg_schema.specs.Shape.{IsShape}
-use Rattle.pg_dyn.specs.Breaking.{Breaks, Compatible}
-use Rattle.pg_dyn.specs.Comparison.{same}
 use Rattle.pg_dyn.specs.encoding.Encoding.{enc}
 use Rattle.pg_dyn.specs.Kept.{Kept, message_of}
 use Rattle.pg_pairs.specs.declared.choice.Pair.{Pair}
