@@ -5,4 +5,4 @@ use Rattle.answer_rows.proofs.Chosen.{each_among}
 use Rattle.answer_rows.proofs.messages.chosen.Goals as goal
 
 pub returns-then-eq : goal.returns-then-eq
-returns-then-eq g c = (bound_in c.args.table.now, each_at_index _ c.deref-choice-items.result.now _ c.loop-choice.choice-index _ (c.deref-choice-items.ensures.value ∙ c.in_ok-options.ensures) c.loop-choice-test.true (search rules) (each_among _))
+returns-then-eq c = (bound_in c.args.table.now, each_at_index _ c.deref-choice-items.result.now _ c.loop-choice.choice-index _ (c.deref-choice-items.ensures.value ∙ c.in_ok-options.ensures) c.loop-choice-test.true (search rules) (each_among _))
