@@ -1,4 +1,6 @@
 //! Certificates.
+ghost use Rattle.pg_cert.specs.Text.{IsClaimOf};
+
 use crate::shown;
 use crate::shown::{Shown, add, list};
 use crate::spelled::{bounds_of, hex_bytes, pair_of, table_of};
@@ -98,7 +100,9 @@ fn written(
     alloc: Global,
     graph: &Priced<'_>,
     certificate: &Certificate,
-) -> Result<String, AllocError> {
+) -> Result<String, AllocError>
+    requires { IsClaimOf graph.now.old.now graph.now.new.now certificate.now }
+{
     let verdict = checked(alloc, graph, certificate)?;
     let text = to_text(alloc, graph.old, graph.new, certificate)?;
     format!(in alloc; "{verdict} | {}", text.as_bytes().escape_ascii())
