@@ -22,7 +22,8 @@ sys.dont_write_bytecode = True
 import ending  # noqa: E402
 from read_goals import faults, of_edits, verdict, verdicts  # noqa: E402
 from try_edits import plan, said_before, table_of, try_all, try_one  # noqa: E402
-from wrong_copies import CONTROL, Bad, Function, Left, Spot, Turned, answers_in, copies_for, file_of_type, functions_in, spots_of  # noqa: E402
+from wrong_copies import CONTROL, Bad, Function, Left, Spot, Turned, answers_in, controls, copies_for, file_of_type  # noqa: E402
+from wrong_copies import functions_in, make_room, spots_of  # noqa: E402
 
 SOURCE = """//! Numbers.
 #![tactic(auto)]
@@ -138,6 +139,18 @@ returns-clause-value c = search rules
 pub returns-clause-some : goal.returns-clause-some
 returns-clause-some c = search rules
 """
+# A method of the name of another, of another type of one file.
+ANOTHER = """
+/// Another number.
+pub struct OtherNumber(pub u8);
+
+impl OtherNumber {
+    /// The number as it is.
+    pub fn get(&self) -> u8 {
+        self.0 // of the other
+    }
+}
+"""
 # A definition that a search opens only where an answer says so.
 DOUBLES = """use Rattle.std.specs.Prelude.{ℕ, ◌+◌}
 
@@ -238,6 +251,19 @@ class Copies(unittest.TestCase):
         text = SOURCE.replace("* 2", "* 3").replace("checked_add(1)", "checked_add(2)")
         found = copies_for({"src/lib.rt": text}, self.room.name, "turned")
         self.assertEqual([it.name for it in found], ["twice_as_turned", "next_as_turned"])
+
+    def test_methods_of_one_name_have_copies_of_their_own(self):
+        text = SOURCE + ANOTHER
+        write(f"{self.room.name}/src/lib.rt", text)
+        both = text.replace("        self.0\n", "        1\n").replace("        self.0 // of the other", "        1")
+        copies = copies_for({"src/lib.rt": both}, self.room.name, "turned")
+        copies += controls(self.room.name, copies)
+        names = [f"get_of_{owner}_as_{edit}" for edit in ("turned", CONTROL) for owner in ("number", "other_number")]
+        self.assertEqual([it.name for it in copies], names)
+        with tempfile.TemporaryDirectory() as room:
+            found = make_room(room, "number_promises", self.room.name, copies)
+        owners = ["Number", "OtherNumber"] * 2
+        self.assertEqual([found[it].place for it in copies], [f"{owner}/{name}" for owner, name in zip(owners, names)])
 
     def test_an_edit_is_refused_where_one_of_its_copies_is(self):
         text = SOURCE.replace("* 2", "* 3").replace("add(1)", "add(2)")
@@ -408,6 +434,21 @@ class Kept(unittest.TestCase):
         self.edit("not_there", "nowhere", "here")
         kept = self.run_with((True, "src/lib.rt twice: returns"))
         self.assertEqual((kept.is_kept, kept.passed(), kept.failed()), (True, 1, 1))
+
+    def test_a_fault_of_one_crate_is_told_and_the_others_are_tried(self):
+        write(f"{self.room.name}/crates.txt", "number_promises:\nother_promises:\n")
+        shutil.copytree(self.crate, f"{self.room.name}/crates/other_promises")
+
+        def try_each(tries, _):
+            if tries.crate.name == "number_promises":
+                raise Bad("a copy is not found")
+            tries.said.update({it.edit: (True, "src/lib.rt twice: returns") for it in tries.copies})
+
+        printed = io.StringIO()
+        with mock.patch("try_edits.try_each", try_each), mock.patch("kit.store", lambda: None), contextlib.redirect_stdout(printed):
+            self.assertEqual(try_all(plan(self.room.name), 1, True), (1, 1))
+        self.assertIn("number_promises: Bad: a copy is not found", printed.getvalue())
+        self.assertIn("other_promises/one_more: src/lib.rt twice: returns", printed.getvalue())
 
     def key(self, folder, seed):
         """Returns what a run of its own, with this seed for the order of sets, says that the tries rest on."""

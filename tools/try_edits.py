@@ -11,7 +11,7 @@ A function that calls itself, or others that call it, can't be copied so. The fi
 tried alone in its place, over what that check proved of what it calls.
 
 A line says for each edit in which function it was refused, and for which clause or other goal. One that is proved, that doesn't compile, or
-that is refused for a name alone, fails. One that turns more than bodies of functions is not tried here, but by `rt must-fail` and `rt ci`
+that is refused for a name alone, fails. So does a crate whose edits can't be tried: a line says why, and the other crates are tried. One that turns more than bodies of functions is not tried here, but by `rt must-fail` and `rt ci`
 alone, which try all others too.
 
 Wants the libraries that `rt lib` builds, and builds those that are not there. What an earlier run on this machine passed is kept, by the
@@ -199,7 +199,11 @@ def try_one(tries, is_anew, most=MOST):
         tries.said.update(before)
         tries.is_kept = True
         return tries
-    try_each(tries, most)
+    try:
+        try_each(tries, most)
+    except Exception as reason:  # pylint: disable=broad-except
+        # What goes wrong with one crate is told as its fault: the others are tried.
+        tries.faults.append(f"{type(reason).__name__}: {reason}")
     if at and not tries.failed() and key_of(tries) == key:
         with tempfile.NamedTemporaryFile("w", dir=at, delete=False, encoding="utf-8") as file:
             json.dump(tries.said, file)

@@ -1,8 +1,9 @@
 """Copies of a crate in which each edit of must-fail stands as a function of its own, beside the original: for try_edits.py.
 
-An edit that turns bodies of functions gets a copy of each of these, called NAME_as_EDIT, right behind the original, with a copy of the
+An edit that turns bodies of functions gets a copy of each of these, called NAME_as_EDIT, right after the original, with a copy of the
 original's proof files. Nothing of the originals is changed. For each function with an edit there is one more copy that is not turned,
-NAME_as_it_stands: it has to be proved, so that no wrong copy is refused for its name alone.
+NAME_as_it_stands: it has to be proved, so that no wrong copy is refused for its name alone. Copies of a method have its type in their names,
+NAME_of_TYPE_as_EDIT, since a file may have methods of one name for several types.
 
 A function that calls itself, or that is proved together with others (`#[cycle(..)]`), has no copy: what it calls would call the original.
 Its edit is written where it stands (spots_of), in a copy of the crate of its own.
@@ -120,10 +121,16 @@ def can_be_copied(text, function):
     return not cycle_named(lines, function) and not calls_itself(function.name, lines[function.opens + 1 : function.last])
 
 
+def snake(name):
+    """Returns the name of a type as one of a function has it: `PairBound` as `pair_bound`."""
+    return re.sub(r"(?<!^)(?=[A-Z])", "_", name).lower()
+
+
 def copy_of(text, path, function, edit):
     """Returns a copy of this function as this text has it, for this edit."""
     lines = text.split("\n")
-    name = f"{function.name}_as_{edit}"
+    owner = owner_of(lines, function)
+    name = f"{function.name}_of_{snake(owner)}_as_{edit}" if owner else f"{function.name}_as_{edit}"
     own = lines[function.first : function.last + 1]
     head = function.head - function.first
     own[head] = own[head].replace(f"fn {function.name}", f"fn {name}", 1)
@@ -242,7 +249,7 @@ def copy_proof(room, crate, original, place):
 
 
 def write_copies(room, path, copies):
-    """Writes the copies of a file's functions into it, each behind its original."""
+    """Writes the copies of a file's functions into it, each after its original."""
     with open(f"{room}/{path}", encoding="utf-8") as file:
         lines = file.read().split("\n")
     for it in sorted(copies, key=lambda it: -it.function.last):
