@@ -1,4 +1,4 @@
-//! Calls that are made again where memory is refused.
+//! Rows that are answered again where memory is refused.
 use std::io;
 
 /// Prints a line of one word.
@@ -6,12 +6,12 @@ pub fn say<P: Print>(to: &P, word: &str) -> io::Result<()> {
     println!(to; "{word}")
 }
 
-/// Makes a call, and where it lacks memory, as the pattern says, makes it again over the same
-/// arguments.
+/// Answers a row by the expression, and where that lacks memory, as the pattern says, answers the
+/// row again as a whole, over what the expression names: the same schemas.
 ///
-/// A line `ready` is printed in front of the call and `done` behind it: a request for memory that
-/// is refused between the two is one of the call's own. Where the call reports it, `Memory` is
-/// printed between them.
+/// A line `ready` is printed before the answer is made and `done` after it: a request for memory
+/// that is refused between the two is one of the answer's own. Where the answer reports that,
+/// `Memory` is printed between them.
 #[macro_export]
 macro_rules! retry {
     ($rt:expr, $lacking:pat, $call:expr) => {{
