@@ -5,8 +5,8 @@
 
 ghost use Rattle.std.specs.Prelude.{◌≡◌, ◌+◌, codes, IfErr, IfOk};
 ghost use Rattle.pg_gate.specs.Failures.{side_failures};
-ghost use Rattle.pg_gate.specs.Files.{paths_of};
-ghost use Rattle.pg_gate.specs.Grants.{IsAnswerOfFiles, IsGateError};
+ghost use Rattle.pg_gate.specs.answer.Files.{paths_of};
+ghost use Rattle.pg_gate.specs.answer.Grants.{IsAnswerOfFiles, IsGateError};
 ghost use Rattle.pg_link.specs.Walk.{world};
 
 use pg_gate::{Answer, GateError, Side};

@@ -12,9 +12,9 @@ ghost use Rattle.pg_least.specs.Path.{CarriesWitness};
 ghost use Rattle.pg_pairs.specs.EnumView.{by_numbers};
 ghost use Rattle.pg_pairs.specs.NamedView.{seen_under};
 ghost use Rattle.pg_schema.specs.Parts.{shape_of};
-ghost use Rattle.pg_gate.specs.Answer.{IsAnswer, IsRefusedRoot, certificate_of};
-ghost use Rattle.pg_gate.specs.Codes.{code_of};
-ghost use Rattle.pg_gate.specs.ViewAnswer.{IsAnswerUnder};
+ghost use Rattle.pg_gate.specs.answer.Answer.{IsAnswer, IsRefusedRoot, certificate_of};
+ghost use Rattle.pg_gate.specs.print.Codes.{code_of};
+ghost use Rattle.pg_gate.specs.answer.ViewAnswer.{IsAnswerUnder};
 ghost use Rattle.pg_gate.specs.declared.error.GateError.TheVariants as errors;
 ghost use Rattle.pg_least.specs.Roots.{Lacks};
 

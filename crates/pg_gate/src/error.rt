@@ -59,7 +59,7 @@ pub enum GateError {
 
 impl Fault {
     ghost use Rattle.std.specs.Prelude.{◌≡◌};
-    ghost use Rattle.pg_gate.specs.Codes.{fault_code};
+    ghost use Rattle.pg_gate.specs.print.Codes.{fault_code};
 
     /// The number behind the E by which users know the fault.
     pub(crate) fn code(&self) -> u16
@@ -75,7 +75,7 @@ impl Fault {
 
 impl GateError {
     ghost use Rattle.std.specs.Prelude.{◌≡◌};
-    ghost use Rattle.pg_gate.specs.Codes.{code_of};
+    ghost use Rattle.pg_gate.specs.print.Codes.{code_of};
 
     /// The number behind the E by which users know the error: of a side that does not compile, the
     /// one that says what is wrong there.
@@ -95,7 +95,7 @@ impl GateError {
 
 impl fmt::Display for Side {
     ghost use Rattle.std.specs.Prelude.{Some};
-    ghost use Rattle.pg_gate.specs.Text.{side_of};
+    ghost use Rattle.pg_gate.specs.print.Text.{side_of};
 
     ghost output = { λ it. Some (side_of it) };
 

@@ -1,8 +1,8 @@
 //! Laws about what words call for, and about answers. Each is the contract of a function that does nothing.
 
-ghost use Rattle.pg_gate.specs.Agreement.{AllSaysWhatGateSays};
-ghost use Rattle.pg_gate.specs.Call.{OneCall};
-ghost use Rattle.pg_gate.specs.WorkedCalls.{WorkedCalls};
+ghost use Rattle.pg_gate.specs.answer.Agreement.{AllSaysWhatGateSays};
+ghost use Rattle.pg_gate.specs.call.Call.{OneCall};
+ghost use Rattle.pg_gate.specs.call.WorkedCalls.{WorkedCalls};
 
 /// Words that `clap` takes are one call, wherever the names of the views lie.
 pub fn one_call()

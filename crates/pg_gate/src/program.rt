@@ -2,9 +2,9 @@
 ghost use Rattle.std.specs.Prelude.{◌≡◌, ◌≢◌, ◌⊎◌, ◌+◌, IfErr, IfOk, IsErrOf, OnOk};
 ghost use Rattle.clap.specs.Walk.{texts};
 ghost use Rattle.clap.specs.Words.{kind_of};
-ghost use Rattle.pg_gate.specs.Call.{IsCall, IsRefused, request_of};
-ghost use Rattle.pg_gate.specs.Grants.{Grants, seen};
-ghost use Rattle.pg_gate.specs.Printed.{root_of};
+ghost use Rattle.pg_gate.specs.call.Call.{IsCall, IsRefused, request_of};
+ghost use Rattle.pg_gate.specs.answer.Grants.{Grants, seen};
+ghost use Rattle.pg_gate.specs.print.Printed.{root_of};
 ghost use Rattle.pg_gate.specs.Run.{Begins, IsRunError, Keeps, MayLack, Prints, failures_in};
 
 use crate::answer::dispatch::answer;

@@ -3,7 +3,7 @@
 #![tactic(auto)]
 
 ghost use Rattle.std.specs.Prelude.{◌≡◌, ◌+◌, ◌++◌, ◌<◌, ◌≤◌, [], ℕ, length, take, IfOk, OnErr, OnOk};
-ghost use Rattle.pg_gate.specs.Sink.{failures_in, taken_of};
+ghost use Rattle.pg_gate.specs.print.Sink.{failures_in, taken_of};
 
 use pg_gate::{Buffer, Sink, SinkError, StandardOutput};
 use std::alloc::Global;

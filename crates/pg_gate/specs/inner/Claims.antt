@@ -5,7 +5,7 @@ use Rattle.pg_cert.specs.declared.error.CertError.TheVariants as checks
 use Rattle.pg_link.specs.Names.{Text}
 use Rattle.pg_schema.specs.declared.parts.Parts.{Parts}
 use Rattle.pg_gate.specs.Errors.{IsCallError, IsMemory}
-use Rattle.pg_gate.specs.Verified.{IsClaimFault, IsFaultOfClaim}
+use Rattle.pg_gate.specs.answer.Verified.{IsClaimFault, IsFaultOfClaim}
 use Rattle.pg_gate.specs.declared.call.error.CallError.{CallError}
 use Rattle.pg_gate.specs.declared.call.error.CertificateFault.{CertificateFault}
 use Rattle.pg_gate.specs.declared.call.error.CertificateFault.TheVariants as certificates

@@ -2,7 +2,7 @@
 use Rattle.std.specs.Prelude.{Bool, List}
 use Rattle.pg_link.specs.Names.{Text}
 use Rattle.pg_link.specs.Walk.{Entry, World}
-use Rattle.pg_gate.specs.Files.{IsFault, IsLinkFault, IsNoSet, IsNotGiven, IsRuleFault}
+use Rattle.pg_gate.specs.answer.Files.{IsFault, IsLinkFault, IsNoSet, IsNotGiven, IsRuleFault}
 use Rattle.pg_gate.specs.declared.error.Fault.{Fault}
 
 -- files that can't be linked

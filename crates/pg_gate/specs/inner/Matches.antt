@@ -6,7 +6,7 @@ use Rattle.clap.specs.Words.{App, Text, app_of, fault_of, has_subcommand, subcom
 use Rattle.clap.specs.declared.ArgMatches.{ArgMatches}
 use Rattle.clap.specs.declared.Command.{Command}
 use Rattle.clap.specs.declared.Command.TheViews.{out-Command}
-use Rattle.pg_gate.specs.CommandLine.{view_names, whole_app}
+use Rattle.pg_gate.specs.call.CommandLine.{view_names, whole_app}
 
 -- a command of this shape, with no argument that is global
 pub record HasApp (app : App) (command : Command) : Type 0 where

@@ -3,8 +3,8 @@ use Rattle.std.specs.Prelude.{◌≡◌, Bool, true, false, Some, None, is_some,
 use Rattle.pg_cert.specs.Certificate.{Claim}
 use Rattle.pg_cert.specs.Text.{Certifies, IsSecondText}
 use Rattle.pg_schema.specs.declared.parts.Parts.{Parts}
-use Rattle.pg_gate.specs.Showing.{IsExplained}
-use Rattle.pg_gate.specs.Steps.{AreSteps}
+use Rattle.pg_gate.specs.answer.Showing.{IsExplained}
+use Rattle.pg_gate.specs.answer.Steps.{AreSteps}
 use Rattle.pg_gate.specs.declared.print.reply.Finding.{Finding}
 use Rattle.pg_gate.specs.declared.print.reply.Finding.TheVariants as findings
 

@@ -6,7 +6,7 @@ use Rattle.pg_schema.specs.declared.parts.Parts.{Parts}
 use Rattle.pg_show.specs.Hex.{bytes_in}
 use Rattle.pg_least.specs.Roots.{Lacks}
 use Rattle.pg_gate.specs.Errors.{IsCallError, IsError, IsMemory}
-use Rattle.pg_gate.specs.Showing.{IsBadWord, IsRefused, IsRefusedWord}
+use Rattle.pg_gate.specs.answer.Showing.{IsBadWord, IsRefused, IsRefusedWord}
 use Rattle.pg_gate.specs.declared.call.error.CallError.{CallError}
 use Rattle.pg_gate.specs.declared.error.GateError.{GateError}
 

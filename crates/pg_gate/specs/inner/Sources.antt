@@ -2,7 +2,7 @@
 use Rattle.std.specs.Prelude.{◌≡◌, ◌+◌, ℕ}
 use Rattle.pg_link.specs.Walk.{World, world}
 use Rattle.pg_link.specs.declared.sources.Sources.{Ghosts}
-use Rattle.pg_gate.specs.Files.{Paths}
+use Rattle.pg_gate.specs.answer.Files.{Paths}
 
 -- Files below a folder, with what their source may give and lack. A clause has the members of a source as S.Sources.
 abbrev pub world_of : {S : Type 0} → Ghosts S → S → Paths → World

@@ -1,7 +1,7 @@
 //! What is found of all message types of two sides, and its lines.
 ghost use Rattle.std.specs.Prelude.{◌≡◌, Some};
-ghost use Rattle.pg_gate.specs.AllText as spec;
-ghost use Rattle.pg_gate.specs.Printed.{all_status};
+ghost use Rattle.pg_gate.specs.print.AllText as spec;
+ghost use Rattle.pg_gate.specs.print.Printed.{all_status};
 
 use crate::answer::step::Step;
 use crate::print::hex::Hex;

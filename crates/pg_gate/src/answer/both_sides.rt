@@ -1,8 +1,8 @@
 //! Two sides that are compiled, the old one first.
 ghost use Rattle.std.specs.Prelude.{IfErr, IfOk};
 ghost use Rattle.pg_gate.specs.Failures.{side_failures};
-ghost use Rattle.pg_gate.specs.Files.{IsSide, paths_in};
-ghost use Rattle.pg_gate.specs.Grants.{IsSidesError};
+ghost use Rattle.pg_gate.specs.answer.Files.{IsSide, paths_in};
+ghost use Rattle.pg_gate.specs.answer.Grants.{IsSidesError};
 ghost use Rattle.pg_gate.specs.inner.Sources.{Reads, world_of};
 
 use crate::answer::compile::{Compiled, compile_files};

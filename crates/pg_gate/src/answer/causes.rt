@@ -3,8 +3,8 @@ ghost use Rattle.std.specs.Prelude.{◌≡◌, ◌∷◌, IfOk, map, option_to_l
 ghost use Rattle.std.specs.List.{AllByRecursion};
 ghost use Rattle.pg_causes.specs.declared.overview.Cause.{Cause};
 ghost use Rattle.pg_cert.specs.Text.{IsPairOf};
-ghost use Rattle.pg_gate.specs.AllTypes.{IsAllTypes, IsPlaced, without_place};
-ghost use Rattle.pg_gate.specs.Steps.{named, named_at, steps_by};
+ghost use Rattle.pg_gate.specs.answer.AllTypes.{IsAllTypes, IsPlaced, without_place};
+ghost use Rattle.pg_gate.specs.answer.Steps.{named, named_at, steps_by};
 
 use crate::answer::all_types::{AllTypes, PlacedCause};
 use crate::answer::compile::Compiled;

@@ -4,12 +4,12 @@ ghost use Rattle.pg_cert.specs.ClaimView.{view_in};
 ghost use Rattle.pg_cert.specs.Text.{IsClaimOf};
 ghost use Rattle.pg_least.specs.Exact.{IsSearched};
 ghost use Rattle.pg_schema.specs.Parts.{shape_of};
-ghost use Rattle.pg_gate.specs.AllTypes.{IsAllTypes};
-ghost use Rattle.pg_gate.specs.Answer.{IsRefusedRoot};
-ghost use Rattle.pg_gate.specs.Call.{gate_request, request_of};
+ghost use Rattle.pg_gate.specs.answer.AllTypes.{IsAllTypes};
+ghost use Rattle.pg_gate.specs.answer.Answer.{IsRefusedRoot};
+ghost use Rattle.pg_gate.specs.call.Call.{gate_request, request_of};
 ghost use Rattle.pg_gate.specs.Failures.{call_failures, side_failures};
-ghost use Rattle.pg_gate.specs.Grants.{Between, Grants, IsErrorFor, IsFindingOf, IsGateError, IsGateReply, IsReplyFor, IsSidesError, seen};
-ghost use Rattle.pg_gate.specs.Files.{paths_in};
+ghost use Rattle.pg_gate.specs.answer.Grants.{Between, Grants, IsErrorFor, IsFindingOf, IsGateError, IsGateReply, IsReplyFor, IsSidesError, seen};
+ghost use Rattle.pg_gate.specs.answer.Files.{paths_in};
 ghost use Rattle.pg_gate.specs.inner.Sources.{Reads, world_of};
 ghost use Rattle.pg_gate.specs.inner.Reports.{Reports, ReportsAnswer, ReportsCertificate};
 

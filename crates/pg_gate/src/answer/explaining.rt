@@ -2,9 +2,9 @@
 ghost use Rattle.std.specs.Prelude.{◌≡◌, ◌<◌, length, IfOk, string_bytes};
 ghost use Rattle.pg_cert.specs.Text.{IsPairOf};
 ghost use Rattle.pg_schema.specs.Parts.{shape_of};
-ghost use Rattle.pg_gate.specs.Showing.{AreReadings, IsExplained, IsReading};
-ghost use Rattle.pg_gate.specs.Refusals as refusals;
-ghost use Rattle.pg_gate.specs.Text as spec;
+ghost use Rattle.pg_gate.specs.answer.Showing.{AreReadings, IsExplained, IsReading};
+ghost use Rattle.pg_gate.specs.print.Refusals as refusals;
+ghost use Rattle.pg_gate.specs.print.Text as spec;
 
 use crate::print::refusal::{Refusal, refusal_of_bytes};
 use crate::print::reply::Readings;

@@ -5,11 +5,11 @@ ghost use Rattle.pg_pairs.specs.EnumView.{by_numbers};
 ghost use Rattle.pg_pairs.specs.NamedView.{seen_under};
 ghost use Rattle.pg_least.specs.Path.{CarriesWitness};
 ghost use Rattle.pg_least.specs.Roots.{AreRoots, Lacks};
-ghost use Rattle.pg_gate.specs.Answer.{IsAnswer, IsRefusedRoot, certificate_of};
+ghost use Rattle.pg_gate.specs.answer.Answer.{IsAnswer, IsRefusedRoot, certificate_of};
 ghost use Rattle.pg_gate.specs.Failures.{side_failures};
-ghost use Rattle.pg_gate.specs.Grants.{IsAnswerOfFiles, IsGateError};
-ghost use Rattle.pg_gate.specs.Files.{paths_of};
-ghost use Rattle.pg_gate.specs.ViewAnswer.{IsAnswerUnder};
+ghost use Rattle.pg_gate.specs.answer.Grants.{IsAnswerOfFiles, IsGateError};
+ghost use Rattle.pg_gate.specs.answer.Files.{paths_of};
+ghost use Rattle.pg_gate.specs.answer.ViewAnswer.{IsAnswerUnder};
 ghost use Rattle.pg_gate.specs.declared.error.GateError.TheVariants as errors;
 ghost use Rattle.pg_link.specs.Walk.{world};
 

@@ -3,9 +3,9 @@ ghost use Rattle.std.specs.Prelude.{◌≡◌, ◌<◌, length, Some, IfErr, IfO
 ghost use Rattle.pg_schema.specs.Parts.{shape_of};
 ghost use Rattle.pg_show.specs.Hex.{bytes_in};
 ghost use Rattle.pg_gate.specs.Failures.{call_failures};
-ghost use Rattle.pg_gate.specs.Grants.{IsShowError, OfSide};
-ghost use Rattle.pg_gate.specs.Files.{paths_in};
-ghost use Rattle.pg_gate.specs.Showing.{IsReadAs, IsShown};
+ghost use Rattle.pg_gate.specs.answer.Grants.{IsShowError, OfSide};
+ghost use Rattle.pg_gate.specs.answer.Files.{paths_in};
+ghost use Rattle.pg_gate.specs.answer.Showing.{IsReadAs, IsShown};
 ghost use Rattle.pg_gate.specs.inner.Sources.{Reads, world_of};
 ghost use Rattle.pg_gate.specs.inner.Showing.{IsShowFault, IsUnread, IsUnspelled};
 

@@ -1,6 +1,6 @@
 //! The lines of the fields on a witness's path.
 ghost use Rattle.std.specs.Prelude.{Some};
-ghost use Rattle.pg_gate.specs.Text as spec;
+ghost use Rattle.pg_gate.specs.print.Text as spec;
 
 use pg_link::Place;
 use std::fmt;

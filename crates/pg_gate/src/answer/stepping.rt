@@ -5,7 +5,7 @@ ghost use Rattle.pg_cert.specs.ClaimView.{view_in};
 ghost use Rattle.pg_cert.specs.Text.{names_of};
 ghost use Rattle.pg_least.specs.Exact.{IsSearched};
 ghost use Rattle.pg_schema.specs.Parts.{shape_of};
-ghost use Rattle.pg_gate.specs.Steps as spec;
+ghost use Rattle.pg_gate.specs.answer.Steps as spec;
 
 use crate::answer::compile::Compiled;
 use crate::answer::places::{Places, places_of};

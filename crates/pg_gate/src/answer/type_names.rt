@@ -1,10 +1,10 @@
 //! The names of the message types that files declare.
 ghost use Rattle.std.specs.Prelude.{IfErr, IfOk, string_bytes};
 ghost use Rattle.pg_gate.specs.Failures.{side_failures};
-ghost use Rattle.pg_gate.specs.Files.{IsSideError, paths_in};
-ghost use Rattle.pg_gate.specs.Grants.{OfSide};
+ghost use Rattle.pg_gate.specs.answer.Files.{IsSideError, paths_in};
+ghost use Rattle.pg_gate.specs.answer.Grants.{OfSide};
 ghost use Rattle.pg_gate.specs.inner.Sources.{Reads, world_of};
-ghost use Rattle.pg_gate.specs.TypeNames.{ListsTypes};
+ghost use Rattle.pg_gate.specs.answer.TypeNames.{ListsTypes};
 
 use crate::answer::compile::compile_files;
 use crate::call::Files;

@@ -1,7 +1,7 @@
 //! What a certificate shows, as it is printed.
 ghost use Rattle.std.specs.Prelude.{◌≡◌, Some};
-ghost use Rattle.pg_gate.specs.Printed.{verdict_status};
-ghost use Rattle.pg_gate.specs.Text as spec;
+ghost use Rattle.pg_gate.specs.print.Printed.{verdict_status};
+ghost use Rattle.pg_gate.specs.print.Text as spec;
 
 use pg_cert::Verdict;
 use std::fmt;

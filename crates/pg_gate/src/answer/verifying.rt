@@ -4,10 +4,10 @@ ghost use Rattle.pg_cert.specs.Verdict.{verdict_of};
 ghost use Rattle.pg_cert.specs.ClaimView.{HoldsOf, SaysOf};
 ghost use Rattle.pg_cert.specs.Text.{Certifies, names_of};
 ghost use Rattle.pg_gate.specs.Failures.{call_failures};
-ghost use Rattle.pg_gate.specs.Grants.{IsVerified, IsVerifyError};
-ghost use Rattle.pg_gate.specs.Files.{paths_in};
+ghost use Rattle.pg_gate.specs.answer.Grants.{IsVerified, IsVerifyError};
+ghost use Rattle.pg_gate.specs.answer.Files.{paths_in};
 ghost use Rattle.pg_gate.specs.inner.Sources.{Reads, world_of};
-ghost use Rattle.pg_gate.specs.Verified as spec;
+ghost use Rattle.pg_gate.specs.answer.Verified as spec;
 ghost use Rattle.pg_gate.specs.inner.Claims.{IsClaimError, IsClaimRefusal, IsUngiven};
 
 use crate::answer::both_sides::compile_both;

@@ -2,10 +2,10 @@
 ghost use Rattle.std.specs.Prelude.{◌≡◌, ◌≢◌, List, true, false, IfErr, IfOk};
 ghost use Rattle.clap.specs.Walk.{texts};
 ghost use Rattle.clap.specs.Words.{Text, found_of, has_subcommand, kind_of, rows_of, rule_of};
-ghost use Rattle.pg_gate.specs.Call as spec;
-ghost use Rattle.pg_gate.specs.CommandLine as command_line;
+ghost use Rattle.pg_gate.specs.call.Call as spec;
+ghost use Rattle.pg_gate.specs.call.CommandLine as command_line;
 ghost use Rattle.pg_gate.specs.inner.Matches.{AreMatchesOf, HasApp};
-ghost use Rattle.pg_gate.specs.Files.{both_paths, paths_in};
+ghost use Rattle.pg_gate.specs.answer.Files.{both_paths, paths_in};
 
 use crate::call::help::{
     COMPILE_ANSWERS, GATE_ALL_ANSWERS, GATE_ANSWERS, NEW_FILE, NEW_FILES, OLD_FILE, OLD_FILES,

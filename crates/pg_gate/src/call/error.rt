@@ -52,7 +52,7 @@ pub(crate) enum CallError {
 
 impl CertificateFault {
     ghost use Rattle.std.specs.Prelude.{◌≡◌};
-    ghost use Rattle.pg_gate.specs.Codes.{certificate_code};
+    ghost use Rattle.pg_gate.specs.print.Codes.{certificate_code};
 
     /// The number behind the E by which users know the fault.
     fn code(&self) -> u16
@@ -68,7 +68,7 @@ impl CertificateFault {
 
 impl CallError {
     ghost use Rattle.std.specs.Prelude.{◌≡◌};
-    ghost use Rattle.pg_gate.specs.Codes.{call_code};
+    ghost use Rattle.pg_gate.specs.print.Codes.{call_code};
 
     /// The number behind the E by which users know the error.
     pub(crate) fn code(&self) -> u16

@@ -1,6 +1,6 @@
 //! Bytes in lower case hexadecimal.
 ghost use Rattle.std.specs.Prelude.{Some};
-ghost use Rattle.pg_gate.specs.Text as spec;
+ghost use Rattle.pg_gate.specs.print.Text as spec;
 
 use std::fmt;
 

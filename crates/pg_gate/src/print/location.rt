@@ -1,7 +1,7 @@
 //! Where a fault is.
 ghost use Rattle.std.specs.Prelude.{◌≡◌, Some};
-ghost use Rattle.pg_gate.specs.Refusals as refusals;
-ghost use Rattle.pg_gate.specs.Text as spec;
+ghost use Rattle.pg_gate.specs.print.Refusals as refusals;
+ghost use Rattle.pg_gate.specs.print.Text as spec;
 
 use crate::call::error::{CertificateFault, PairNames};
 use crate::error::Fault;

@@ -1,9 +1,9 @@
 //! The line of a refusal.
 ghost use Rattle.std.specs.Prelude.{◌≡◌, None, Some};
-ghost use Rattle.pg_gate.specs.Call.{request_of};
-ghost use Rattle.pg_gate.specs.Printed as printed;
-ghost use Rattle.pg_gate.specs.Refusals as refusals;
-ghost use Rattle.pg_gate.specs.Text as spec;
+ghost use Rattle.pg_gate.specs.call.Call.{request_of};
+ghost use Rattle.pg_gate.specs.print.Printed as printed;
+ghost use Rattle.pg_gate.specs.print.Refusals as refusals;
+ghost use Rattle.pg_gate.specs.print.Text as spec;
 
 use crate::call::Call;
 use crate::call::error::{CallError, SOURCE_FAILED};

@@ -1,7 +1,7 @@
 //! What a call is answered, its text and its status.
 ghost use Rattle.std.specs.Prelude.{◌≡◌, Some, IfOk};
-ghost use Rattle.pg_gate.specs.Text as spec;
-ghost use Rattle.pg_gate.specs.Printed.{either_status, finding_status, status_of, text_of};
+ghost use Rattle.pg_gate.specs.print.Text as spec;
+ghost use Rattle.pg_gate.specs.print.Printed.{either_status, finding_status, status_of, text_of};
 
 use crate::answer::all_types::AllTypes;
 use crate::answer::step::{Step, Steps};

@@ -1,7 +1,7 @@
 //! The descriptor set of files.
 ghost use Rattle.std.specs.Prelude.{IfErr, IfOk};
 ghost use Rattle.pg_gate.specs.Failures.{side_failures};
-ghost use Rattle.pg_gate.specs.Files.{IsErrorOf, IsFaultOfSet, IsSetOf, paths_in};
+ghost use Rattle.pg_gate.specs.answer.Files.{IsErrorOf, IsFaultOfSet, IsSetOf, paths_in};
 ghost use Rattle.pg_gate.specs.inner.Sources.{Reads, world_of};
 
 use crate::answer::compile::compile_sources;

@@ -1,4 +1,4 @@
-use Rattle.pg_gate.proofs.OneCall as Calls
+use Rattle.pg_gate.proofs.lemmas.call.OneCall as Calls
 use Rattle.pg_gate.proofs.laws.one_call.Goals as goal
 
 pub returns : goal.returns

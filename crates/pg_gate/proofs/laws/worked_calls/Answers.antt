@@ -1,4 +1,4 @@
-use Rattle.pg_gate.proofs.WorkedCalls as Calls
+use Rattle.pg_gate.proofs.lemmas.call.WorkedCalls as Calls
 use Rattle.pg_gate.proofs.laws.worked_calls.Goals as goal
 
 pub returns : goal.returns

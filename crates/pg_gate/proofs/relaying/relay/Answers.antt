@@ -1,6 +1,6 @@
 use Rattle.std.proofs.lemmas.Result.{IfOk-weaker}
 use Rattle.pg_schema.specs.Parts.{shape_of}
-use Rattle.pg_gate.proofs.RelayLemmas.{writes_home}
+use Rattle.pg_gate.proofs.lemmas.RelayLemmas.{writes_home}
 use Rattle.pg_gate.proofs.relaying.relay.Goals as goal
 
 pub returns-clause-home : goal.returns-clause-home

@@ -1,4 +1,4 @@
-use Rattle.pg_gate.proofs.CauseLemmas.{causes_there}
+use Rattle.pg_gate.proofs.lemmas.answer.CauseLemmas.{causes_there}
 use Rattle.pg_gate.proofs.answer.causes.all_types.Goals as goal
 
 pub all_placed-requires : goal.all_placed-requires

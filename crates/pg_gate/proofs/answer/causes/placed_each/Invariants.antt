@@ -3,7 +3,7 @@ use Rattle.std.specs.List.{AllByRecursion}
 use Rattle.std.specs.Vec.Iter.{into_iter_items, into_iter_len}
 use Rattle.pg_causes.specs.declared.overview.Cause.{Cause}
 use Rattle.pg_cert.specs.Text.{IsPairOf}
-use Rattle.pg_gate.specs.AllTypes.{IsPlaced, without_place}
+use Rattle.pg_gate.specs.answer.AllTypes.{IsPlaced, without_place}
 use Rattle.pg_gate.proofs.answer.causes.placed_each.Given as goal
 
 -- the causes so far have their fields, and those that are left are the others of all

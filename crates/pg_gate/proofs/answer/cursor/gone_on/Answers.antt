@@ -1,5 +1,5 @@
 use Rattle.std.proofs.Common.{arith}
-use Rattle.pg_gate.proofs.Cursors.{passed}
+use Rattle.pg_gate.proofs.lemmas.answer.Cursors.{passed}
 use Rattle.pg_gate.proofs.answer.cursor.gone_on.Goals as goal
 
 pub overflow_add-result-then-column-passed : goal.overflow_add-result-then-column-passed

@@ -5,7 +5,7 @@ use Rattle.pg_cert.specs.Text.{IsClaimOf}
 use Rattle.pg_least.specs.Exact.{IsSearched}
 use Rattle.pg_schema.specs.Parts.{shape_of}
 use Rattle.pg_gate.specs.inner.Reports.{Reports}
-use Rattle.pg_gate.proofs.AnswerLemmas.{claim_of_answer, found_by, searched_by}
+use Rattle.pg_gate.proofs.lemmas.answer.AnswerLemmas.{claim_of_answer, found_by, searched_by}
 use Rattle.pg_gate.proofs.answer.dispatch.one_way.Goals as goal
 
 pub finding_of-requires-clause-searched : goal.finding_of-requires-clause-searched

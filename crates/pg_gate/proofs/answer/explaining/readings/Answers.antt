@@ -1,4 +1,4 @@
-use Rattle.pg_gate.proofs.Roots.{type_there}
+use Rattle.pg_gate.proofs.lemmas.answer.Roots.{type_there}
 use Rattle.pg_gate.proofs.answer.explaining.readings.Goals as goal
 
 pub reading-requires : goal.reading-requires

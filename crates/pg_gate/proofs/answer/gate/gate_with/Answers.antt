@@ -11,9 +11,9 @@ use Rattle.pg_least.specs.Path.{CarriesWitness}
 use Rattle.pg_least.proofs.PublicLaws.{named_types_are_there}
 use Rattle.pg_pairs.specs.EnumView.{EnumView}
 use Rattle.pg_pairs.specs.NamedView.{seen_under}
-use Rattle.pg_gate.specs.Answer.{IsAnswerBy, certificate_of}
-use Rattle.pg_gate.specs.ViewAnswer.{IsAnswerUnder}
-use Rattle.pg_gate.proofs.AnswerLemmas.{answer_with, answered, named_with}
+use Rattle.pg_gate.specs.answer.Answer.{IsAnswerBy, certificate_of}
+use Rattle.pg_gate.specs.answer.ViewAnswer.{IsAnswerUnder}
+use Rattle.pg_gate.proofs.lemmas.answer.AnswerLemmas.{answer_with, answered, named_with}
 use Rattle.pg_gate.proofs.answer.gate.gate_with.Goals as goal
 
 pub find_with-requires-clause-old_type : goal.find_with-requires-clause-old_type

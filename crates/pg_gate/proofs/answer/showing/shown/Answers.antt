@@ -1,17 +1,17 @@
 use Rattle.std.proofs.Common.{◌≡◌, string_bytes, subst, sym}
 use Rattle.std.proofs.lemmas.Result.{IfErr-weaker, IfOk-weaker}
 use Rattle.pg_gate.specs.Failures.{call_failures_at}
-use Rattle.pg_gate.specs.Grants.{IsShowError}
-use Rattle.pg_gate.specs.Files.{paths_in}
+use Rattle.pg_gate.specs.answer.Grants.{IsShowError}
+use Rattle.pg_gate.specs.answer.Files.{paths_in}
 use Rattle.pg_gate.specs.inner.Sources.{world_of}
 use Rattle.pg_gate.specs.inner.Showing.{IsShowFault}
 use Rattle.pg_gate.specs.declared.call.error.CallError.{CallError}
 use Rattle.pg_gate.specs.declared.call.error.CallError.TheVariants as calls
 use Rattle.pg_gate.specs.declared.error.Side.TheVariants as sides
-use Rattle.pg_gate.proofs.CallLemmas.{IfErr-IsErrAnd}
-use Rattle.pg_gate.proofs.ErrorLemmas.{none_counted}
-use Rattle.pg_gate.proofs.ShowLemmas.{of_files, refused_of_files, shown_of_files, shown_uncounted}
-use Rattle.pg_gate.proofs.SourceLemmas.{no_more, passed}
+use Rattle.pg_gate.proofs.lemmas.call.CallLemmas.{IfErr-IsErrAnd}
+use Rattle.pg_gate.proofs.lemmas.ErrorLemmas.{none_counted}
+use Rattle.pg_gate.proofs.lemmas.answer.ShowLemmas.{of_files, refused_of_files, shown_of_files, shown_uncounted}
+use Rattle.pg_gate.proofs.lemmas.answer.SourceLemmas.{no_more, passed}
 use Rattle.pg_gate.proofs.answer.showing.shown.Goals as goal
 
 pub returns-in_err-schema-clause-refused : goal.returns-in_err-schema-clause-refused

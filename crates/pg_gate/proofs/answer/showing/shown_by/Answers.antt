@@ -3,9 +3,9 @@ use Rattle.std.proofs.lemmas.Result.{IfErr-weaker, IfOk-weaker}
 use Rattle.pg_gate.specs.inner.Showing.{IsShowFault}
 use Rattle.pg_gate.specs.declared.call.error.CallError.{CallError}
 use Rattle.pg_gate.specs.declared.call.error.CallError.TheVariants as calls
-use Rattle.pg_gate.proofs.CallLemmas.{IfErr-IsErrAnd}
+use Rattle.pg_gate.proofs.lemmas.call.CallLemmas.{IfErr-IsErrAnd}
 use Rattle.pg_least.proofs.PublicLaws.{named_types_are_there}
-use Rattle.pg_gate.proofs.ShowLemmas.{shown_there, unread_there, unspelled_there}
+use Rattle.pg_gate.proofs.lemmas.answer.ShowLemmas.{shown_there, unread_there, unspelled_there}
 use Rattle.pg_gate.proofs.answer.showing.shown_by.Goals as goal
 
 pub lines_of-requires : goal.lines_of-requires

@@ -1,6 +1,6 @@
 use Rattle.std.proofs.Common.{◌≡◌, ◌++◌, map, drop}
 use Rattle.std.specs.List.{flat_map}
-use Rattle.pg_gate.specs.Steps.{named, steps_by}
+use Rattle.pg_gate.specs.answer.Steps.{named, steps_by}
 use Rattle.pg_gate.proofs.answer.stepping.steps_by.Given as goal
 
 -- the steps so far, and those of the choices that are left, are those of all

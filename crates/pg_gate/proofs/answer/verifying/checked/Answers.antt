@@ -1,4 +1,4 @@
-use Rattle.pg_gate.proofs.VerifyLemmas.{check_fault}
+use Rattle.pg_gate.proofs.lemmas.answer.VerifyLemmas.{check_fault}
 use Rattle.pg_gate.proofs.answer.verifying.checked.Goals as goal
 
 pub returns-in-Err-clause-refused : goal.returns-in-Err-clause-refused

@@ -3,8 +3,8 @@ use Rattle.pg_cert.specs.Text.{names_of}
 use Rattle.pg_pairs.specs.declared.choice.Pair.{Pair}
 use Rattle.pg_gate.specs.inner.Claims.{IsClaimError}
 use Rattle.pg_gate.specs.declared.call.error.CallError.{CallError}
-use Rattle.pg_gate.proofs.CallLemmas.{IfErr-IsErrAnd}
-use Rattle.pg_gate.proofs.VerifyLemmas.{named_by}
+use Rattle.pg_gate.proofs.lemmas.call.CallLemmas.{IfErr-IsErrAnd}
+use Rattle.pg_gate.proofs.lemmas.answer.VerifyLemmas.{named_by}
 use Rattle.pg_gate.proofs.answer.verifying.held.Goals as goal
 
 pub returns-in_err-verdict-clause-refused : goal.returns-in_err-verdict-clause-refused

@@ -1,6 +1,6 @@
 use Rattle.std.proofs.Common.{◌≡◌, rules}
 use Rattle.pg_cert.specs.declared.error.CertError.TheVariants as checks
-use Rattle.pg_gate.proofs.VerifyLemmas.{claim_fault}
+use Rattle.pg_gate.proofs.lemmas.answer.VerifyLemmas.{claim_fault}
 use Rattle.pg_gate.proofs.answer.verifying.reported.Goals as goal
 
 pub returns-in-Ok : goal.returns-in-Ok

@@ -1,4 +1,4 @@
-use Rattle.pg_gate.proofs.VerifyLemmas.{text_fault}
+use Rattle.pg_gate.proofs.lemmas.answer.VerifyLemmas.{text_fault}
 use Rattle.pg_gate.proofs.answer.verifying.spelled.Goals as goal
 
 pub returns-in-Err-clause-refused : goal.returns-in-Err-clause-refused

@@ -3,17 +3,17 @@ use Rattle.std.proofs.lemmas.Result.{IfErr-weaker, IfOk-weaker}
 use Rattle.std.specs.Prelude.{IsTrue}
 use Rattle.pg_link.specs.Names.{Text}
 use Rattle.pg_gate.specs.Failures.{call_failures_at}
-use Rattle.pg_gate.specs.Grants.{IsVerifyError}
-use Rattle.pg_gate.specs.Files.{paths_in}
+use Rattle.pg_gate.specs.answer.Grants.{IsVerifyError}
+use Rattle.pg_gate.specs.answer.Files.{paths_in}
 use Rattle.pg_gate.specs.inner.Sources.{world_of}
 use Rattle.pg_gate.specs.inner.Claims.{IsClaimError, IsUngiven}
 use Rattle.pg_gate.specs.declared.call.error.CallError.{CallError}
 use Rattle.pg_gate.specs.declared.call.error.CallError.TheVariants as calls
 use Rattle.pg_gate.specs.declared.error.Side.TheVariants as sides
-use Rattle.pg_gate.proofs.CallLemmas.{IfErr-IsErrAnd}
-use Rattle.pg_gate.proofs.ErrorLemmas.{none_counted}
-use Rattle.pg_gate.proofs.SourceLemmas.{no_more, passed, then}
-use Rattle.pg_gate.proofs.VerifyLemmas.{claim_uncounted, held_of_files, refused_bytes_of_files, ungiven_of_files, ungiven_uncounted}
+use Rattle.pg_gate.proofs.lemmas.call.CallLemmas.{IfErr-IsErrAnd}
+use Rattle.pg_gate.proofs.lemmas.ErrorLemmas.{none_counted}
+use Rattle.pg_gate.proofs.lemmas.answer.SourceLemmas.{no_more, passed, then}
+use Rattle.pg_gate.proofs.lemmas.answer.VerifyLemmas.{claim_uncounted, held_of_files, refused_bytes_of_files, ungiven_of_files, ungiven_uncounted}
 use Rattle.pg_gate.proofs.answer.verifying.verify.Goals as goal
 
 pub returns-in_err-both-clause-refused : goal.returns-in_err-both-clause-refused

@@ -1,7 +1,7 @@
 use Rattle.std.proofs.Common.{◌∙◌, Some, ap, sym, option_map}
 use Rattle.clap.specs.Words.{found_of, rows_of}
-use Rattle.pg_gate.specs.Call.{request_in}
-use Rattle.pg_gate.proofs.CallLemmas.{subcommand_rows_of-Some}
+use Rattle.pg_gate.specs.call.Call.{request_in}
+use Rattle.pg_gate.proofs.lemmas.call.CallLemmas.{subcommand_rows_of-Some}
 use Rattle.pg_gate.proofs.call.command_line.call_of.Goals as goal
 
 -- The call is that of the subcommand which the matches entered.

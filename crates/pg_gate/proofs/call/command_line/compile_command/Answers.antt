@@ -2,7 +2,7 @@ use Rattle.std.proofs.Common.{refl, codes}
 use Rattle.std.proofs.lemmas.Result.{IfOk-weaker}
 use Rattle.clap.specs.Words.{new_app}
 use Rattle.pg_gate.specs.inner.Matches.{HasApp}
-use Rattle.pg_gate.proofs.CommandLineLemmas.{with_arg, with_text}
+use Rattle.pg_gate.proofs.lemmas.call.CommandLineLemmas.{with_arg, with_text}
 use Rattle.pg_gate.proofs.call.command_line.compile_command.Goals as goal
 
 pub returns : goal.returns

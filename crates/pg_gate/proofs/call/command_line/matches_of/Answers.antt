@@ -6,9 +6,9 @@ use Rattle.std.specs.Result.{IsErrAnd}
 use Rattle.clap.specs.Walk.{texts}
 use Rattle.clap.specs.Words.{App, HasKind, Text, app_of, fault_of, is_simple, is_simple_and_free, kind_of, subcommand_of}
 use Rattle.clap.specs.declared.error.ErrorKind.TheVariants.{OutOfMemory}
-use Rattle.pg_gate.specs.Call.{IsRefused}
-use Rattle.pg_gate.specs.CommandLine.{view_names, whole_app}
-use Rattle.pg_gate.proofs.CallLemmas.{IfErr-IsErrAnd, some_kinds}
+use Rattle.pg_gate.specs.call.Call.{IsRefused}
+use Rattle.pg_gate.specs.call.CommandLine.{view_names, whole_app}
+use Rattle.pg_gate.proofs.lemmas.call.CallLemmas.{IfErr-IsErrAnd, some_kinds}
 use Rattle.pg_gate.proofs.call.command_line.matches_of.Goals as goal
 
 simple : (names : Bor (List (Bor Text))) → is_simple (whole_app names) ≡ true

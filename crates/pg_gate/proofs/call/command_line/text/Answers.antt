@@ -2,7 +2,7 @@ use Rattle.std.proofs.Common.{◌∙◌, List, ℕ, [], ap, unwrap_or}
 use Rattle.std.specs.Borrow.{Bor}
 use Rattle.clap.proofs.WalkLemmas.{first_value-rows}
 use Rattle.clap.specs.Words.{found_of}
-use Rattle.pg_gate.proofs.CallLemmas.{apply-unwrap_or}
+use Rattle.pg_gate.proofs.lemmas.call.CallLemmas.{apply-unwrap_or}
 use Rattle.pg_gate.proofs.call.command_line.text.Goals as goal
 
 pub returns : goal.returns

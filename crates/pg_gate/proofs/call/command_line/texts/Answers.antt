@@ -3,7 +3,7 @@ use Rattle.std.specs.Borrow.{Bor}
 use Rattle.clap.proofs.WalkLemmas.{raw_values-rows}
 use Rattle.clap.specs.Walk.{texts}
 use Rattle.clap.specs.Words.{found_of}
-use Rattle.pg_gate.proofs.CallLemmas.{apply-unwrap_or}
+use Rattle.pg_gate.proofs.lemmas.call.CallLemmas.{apply-unwrap_or}
 use Rattle.pg_gate.proofs.call.command_line.texts.Goals as goal
 
 pub returns : goal.returns

@@ -1,6 +1,6 @@
 use Rattle.std.proofs.Common.{◌∙◌, ap, codes}
 use Rattle.std.specs.Str.{bytes_eq}
-use Rattle.pg_gate.specs.Call.{view_if}
+use Rattle.pg_gate.specs.call.Call.{view_if}
 use Rattle.pg_gate.proofs.call.command_line.view.Goals as goal
 
 pub returns : goal.returns

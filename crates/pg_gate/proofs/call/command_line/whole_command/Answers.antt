@@ -4,9 +4,9 @@ use Rattle.clap.specs.Words.{App, new_app}
 use Rattle.clap.specs.Simple.{app_of_fields}
 use Rattle.clap.specs.declared.Command.{Command}
 use Rattle.clap.specs.declared.Command.TheOpen.{Command-F}
-use Rattle.pg_gate.specs.CommandLine.{top_app}
+use Rattle.pg_gate.specs.call.CommandLine.{top_app}
 use Rattle.pg_gate.specs.inner.Matches.{HasApp}
-use Rattle.pg_gate.proofs.CommandLineLemmas.{with_sub, with_text}
+use Rattle.pg_gate.proofs.lemmas.call.CommandLineLemmas.{with_sub, with_text}
 use Rattle.pg_gate.proofs.call.command_line.whole_command.Goals as goal
 
 pub returns : goal.returns

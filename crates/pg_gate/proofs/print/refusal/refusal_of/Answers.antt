@@ -1,5 +1,5 @@
 use Rattle.std.proofs.Common.{ℕ, ◌∙◌, ap}
-use Rattle.pg_gate.specs.Refusals.{refusal_with}
+use Rattle.pg_gate.specs.print.Refusals.{refusal_with}
 use Rattle.pg_gate.proofs.print.refusal.refusal_of.Goals as goal
 
 pub returns : goal.returns

@@ -1,6 +1,6 @@
 use Rattle.std.proofs.Common.{take}
 use Rattle.std.specs.Fmt.{HasWritten, IsPlainFormatter}
-use Rattle.pg_gate.specs.AllText.{names_of}
+use Rattle.pg_gate.specs.print.AllText.{names_of}
 use Rattle.pg_gate.proofs.answer.all_types.NameLinesDisplay.fmt.Given as goal
 
 abbrev pub invariant-loop-name : goal.invariant-loop-name

@@ -1,6 +1,6 @@
 use Rattle.std.proofs.Common.{take}
 use Rattle.std.specs.Fmt.{HasWritten, IsPlainFormatter}
-use Rattle.pg_gate.specs.Text.{steps_of}
+use Rattle.pg_gate.specs.print.Text.{steps_of}
 use Rattle.pg_gate.proofs.answer.step.StepsDisplay.fmt.Given as goal
 
 abbrev pub invariant-loop-step : goal.invariant-loop-step

@@ -1,6 +1,6 @@
 use Rattle.std.proofs.Common.{take}
 use Rattle.std.specs.Fmt.{HasWritten, IsPlainFormatter}
-use Rattle.pg_gate.specs.Text.{digits_of}
+use Rattle.pg_gate.specs.print.Text.{digits_of}
 use Rattle.pg_gate.proofs.print.hex.DigitsDisplay.fmt.Given as goal
 
 abbrev pub invariant-loop-byte : goal.invariant-loop-byte

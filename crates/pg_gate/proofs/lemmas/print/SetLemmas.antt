@@ -6,7 +6,7 @@ use Rattle.pg_fds.specs.declared.error.FdsError.{FdsError}
 use Rattle.pg_fds.specs.declared.error.FdsError.TheVariants as sets
 use Rattle.pg_link.specs.Walk.{World}
 use Rattle.pg_schema.specs.declared.parts.Parts.{Parts}
-use Rattle.pg_gate.specs.Files.{IsCompiled, IsUnwritten}
+use Rattle.pg_gate.specs.answer.Files.{IsCompiled, IsUnwritten}
 
 pub unwritten : (w : World) (schema : Parts) → IsCompiled w schema → (error : FdsError) → (error ≡ sets.Memory → ⊥)
     → (error ≡ sets.Memory) ⊎ ((error ≡ sets.Bytes messages.TooLong) × HasNoSet schema) → IsUnwritten w error

@@ -13,8 +13,8 @@ use Rattle.pg_pairs.specs.NamedView.{seen_under}
 use Rattle.pg_least.specs.Roots.{AreRoots}
 use Rattle.pg_causes.specs.declared.overview.TypeLine.{TypeLine}
 use Rattle.pg_causes.specs.TypeLines.{GateSays, IsTypeLine}
-use Rattle.pg_gate.specs.Agreement.{AllSaysWhatGateSays, bytes_to_break}
-use Rattle.pg_gate.specs.Answer.{IsAnswerBy}
+use Rattle.pg_gate.specs.answer.Agreement.{AllSaysWhatGateSays, bytes_to_break}
+use Rattle.pg_gate.specs.answer.Answer.{IsAnswerBy}
 use Rattle.pg_gate.specs.declared.answer.gate.Answer.{Answer}
 use Rattle.pg_gate.specs.declared.answer.gate.Answer.TheVariants as answers
 

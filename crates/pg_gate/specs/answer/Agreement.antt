@@ -10,7 +10,7 @@ use Rattle.pg_pairs.specs.Among.{IsAmong}
 use Rattle.pg_causes.specs.declared.overview.Overview.{Overview}
 use Rattle.pg_causes.specs.declared.overview.TypeLine.{TypeLine}
 use Rattle.pg_causes.specs.Overview.{IsOverview}
-use Rattle.pg_gate.specs.ViewAnswer.{IsAnswerUnder}
+use Rattle.pg_gate.specs.answer.ViewAnswer.{IsAnswerUnder}
 use Rattle.pg_gate.specs.declared.answer.gate.Answer.{Answer}
 use Rattle.pg_gate.specs.declared.answer.gate.Answer.TheVariants as answers
 

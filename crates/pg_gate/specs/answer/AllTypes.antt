@@ -7,8 +7,8 @@ use Rattle.pg_causes.specs.declared.overview.Cause.{Cause}
 use Rattle.pg_causes.specs.declared.overview.Overview.{Overview}
 use Rattle.pg_dyn.specs.declared.view_name.ViewName.{ViewName}
 use Rattle.pg_schema.specs.declared.parts.Parts.{Parts}
-use Rattle.pg_gate.specs.Showing.{IsExplained}
-use Rattle.pg_gate.specs.Steps.{named, steps_by}
+use Rattle.pg_gate.specs.answer.Showing.{IsExplained}
+use Rattle.pg_gate.specs.answer.Steps.{named, steps_by}
 use Rattle.pg_gate.specs.declared.answer.all_types.AllTypes.{AllTypes}
 use Rattle.pg_gate.specs.declared.answer.all_types.PlacedCause.{PlacedCause}
 

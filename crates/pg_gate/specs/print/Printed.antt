@@ -3,9 +3,9 @@ use Rattle.std.specs.Prelude.{ℕ, ◌==◌, ◌||◌, [], if◌then◌else◌, 
 use Rattle.pg_link.specs.Names.{Text}
 use Rattle.pg_cert.specs.declared.verdict.Verdict.{Verdict}
 use Rattle.pg_cert.specs.declared.verdict.Verdict.TheVariants as verdicts
-use Rattle.pg_gate.specs.Call.{Request, gate}
-use Rattle.pg_gate.specs.AllText.{all_of}
-use Rattle.pg_gate.specs.Text.{both_of, finding_of, refusal_of}
+use Rattle.pg_gate.specs.call.Call.{Request, gate}
+use Rattle.pg_gate.specs.print.AllText.{all_of}
+use Rattle.pg_gate.specs.print.Text.{both_of, finding_of, refusal_of}
 use Rattle.pg_gate.specs.declared.answer.all_types.AllTypes.{AllTypes}
 use Rattle.pg_gate.specs.declared.print.refusal.Refusal.{Refusal}
 use Rattle.pg_gate.specs.declared.print.reply.Finding.{Finding}

@@ -8,16 +8,16 @@ use Rattle.pg_show.specs.Hex.{bytes_in}
 use Rattle.pg_least.specs.Roots.{IsNamed, Lacks}
 use Rattle.pg_gate.specs.Errors.{IsError, IsMemory}
 use Rattle.pg_gate.specs.Failures.{call_failures_at}
-use Rattle.pg_gate.specs.Files.{IsFaultOfSide, IsSide, IsSideError}
-use Rattle.pg_gate.specs.Grants.{IsShowError, OfSide}
-use Rattle.pg_gate.specs.Showing.{IsBadWord, IsReadAs, IsRefused, IsRefusedWord, IsShown}
+use Rattle.pg_gate.specs.answer.Files.{IsFaultOfSide, IsSide, IsSideError}
+use Rattle.pg_gate.specs.answer.Grants.{IsShowError, OfSide}
+use Rattle.pg_gate.specs.answer.Showing.{IsBadWord, IsReadAs, IsRefused, IsRefusedWord, IsShown}
 use Rattle.pg_gate.specs.inner.Showing.{IsShowFault, IsUnread, IsUnspelled}
 use Rattle.pg_gate.specs.declared.call.error.CallError.{CallError}
 use Rattle.pg_gate.specs.declared.call.error.CallError.TheVariants as calls
 use Rattle.pg_gate.specs.declared.error.GateError.{GateError}
 use Rattle.pg_gate.specs.declared.error.Side.{Side}
 use Rattle.pg_gate.specs.declared.error.Side.TheVariants as sides
-use Rattle.pg_gate.proofs.ErrorLemmas.{call_error-weaker, error-weaker, memory_is, of_call, of_none}
+use Rattle.pg_gate.proofs.lemmas.ErrorLemmas.{call_error-weaker, error-weaker, memory_is, of_call, of_none}
 
 module _ (schema : Parts) (root word : Text) (type : TypeId) (named : IsNamed schema root type) where
   -- a word is refused by a schema that has the type

@@ -20,7 +20,7 @@ use Rattle.clap.specs.declared.builder.action.ArgAction.{ArgAction}
 use Rattle.clap.specs.declared.builder.action.ArgAction.TheVariants as actions
 use Rattle.clap.specs.declared.builder.value_parser.ValueParser.{ValueParser}
 use Rattle.clap.specs.declared.error.kind.ErrorKind.TheVariants as kind
-use Rattle.pg_gate.proofs.AlikeWalks.{by_id, by_index, by_long, by_short, changed, find_changed, finished_alike, reacted_alike, rows_after_alike, settled_alike, walk_alike, walked_alike, with_default_alike, word_met_alike}
+use Rattle.pg_gate.proofs.lemmas.call.AlikeWalks.{by_id, by_index, by_long, by_short, changed, find_changed, finished_alike, reacted_alike, rows_after_alike, settled_alike, walk_alike, walked_alike, with_default_alike, word_met_alike}
 
 module _ (g : Option ValueParser → Option ValueParser) (same_reading : (p : Option ValueParser) → reading_of (parser_of_value (g p)) ≡ reading_of (parser_of_value p)) (same_kinds : (ignore_case : Bool) (p : Option ValueParser) (text : Text) → value_kinds ignore_case (parser_of_value (g p)) text ≡ value_kinds ignore_case (parser_of_value p) text) where
   abbrev others : List Rule → List Rule

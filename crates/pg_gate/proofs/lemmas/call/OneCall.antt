@@ -14,9 +14,9 @@ use Rattle.clap.specs.Walk.{Held, Names, Row, Rule, Text, finished, nothing_held
 use Rattle.clap.specs.declared.builder.value_parser.ValueParser.{ValueParser}
 use Rattle.clap.specs.declared.builder.value_parser.ValueParser.TheVariants as parsers
 use Rattle.clap.specs.declared.error.kind.ErrorKind.TheVariants as kind
-use Rattle.pg_gate.specs.CommandLine.{view_names, whole_app}
-use Rattle.pg_gate.specs.Call.{CallsFor, IsCall, IsRefused, OneCall, Request, request_in}
-use Rattle.pg_gate.proofs.AlikeFaults.{built_fault_alike, changed_app, entered_at_alike}
+use Rattle.pg_gate.specs.call.CommandLine.{view_names, whole_app}
+use Rattle.pg_gate.specs.call.Call.{CallsFor, IsCall, IsRefused, OneCall, Request, request_in}
+use Rattle.pg_gate.proofs.lemmas.call.AlikeFaults.{built_fault_alike, changed_app, entered_at_alike}
 
 -- a reference to these texts, all of them at the first place of all
 abbrev placed : List Text → Bor (List (Bor Text))

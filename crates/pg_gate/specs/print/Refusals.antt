@@ -6,8 +6,8 @@ use Rattle.pg_dyn.specs.Codes.{code_of as message_code, place_of as message_plac
 use Rattle.pg_fds.specs.refusals.ErrorCodes.{place_of as set_place}
 use Rattle.pg_link.specs.Codes.{place_of as link_place}
 use Rattle.pg_link.specs.declared.error.Place.{Place}
-use Rattle.pg_gate.specs.Call.{Request, compile, show, types}
-use Rattle.pg_gate.specs.Codes.{call_code}
+use Rattle.pg_gate.specs.call.Call.{Request, compile, show, types}
+use Rattle.pg_gate.specs.print.Codes.{call_code}
 use Rattle.pg_gate.specs.declared.call.error.CallError.{CallError}
 use Rattle.pg_gate.specs.declared.call.error.CallError.TheVariants as calls
 use Rattle.pg_gate.specs.declared.call.error.CertificateFault.{CertificateFault}

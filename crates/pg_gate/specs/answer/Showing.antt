@@ -12,8 +12,8 @@ use Rattle.pg_show.specs.Hex.{bytes_in}
 use Rattle.pg_show.specs.Shown.{Refuses, Shows, most_levels, names_of}
 use Rattle.pg_least.specs.Roots.{IsNamed, Lacks}
 use Rattle.pg_pairs.specs.declared.choice.Pair.{Pair}
-use Rattle.pg_gate.specs.Refusals.{refusal_of_bytes}
-use Rattle.pg_gate.specs.Text.{refusal_of}
+use Rattle.pg_gate.specs.print.Refusals.{refusal_of_bytes}
+use Rattle.pg_gate.specs.print.Text.{refusal_of}
 use Rattle.pg_gate.specs.declared.print.reply.Readings.{Readings}
 
 -- the text is that of the message that the bytes are read as by the type, and no message in it stands too deep

@@ -22,9 +22,9 @@ use Rattle.pg_schema.specs.declared.parts.message_type.MessageType.{MessageType}
 use Rattle.pg_schema.specs.declared.parts.Parts.{Parts}
 use Rattle.pg_least.specs.Roots.{IsNamed}
 use Rattle.pg_gate.specs.Failures.{call_failures_at}
-use Rattle.pg_gate.specs.Files.{IsSide}
-use Rattle.pg_gate.specs.Grants.{IsSidesFault, IsVerified, IsVerifyError}
-use Rattle.pg_gate.specs.Verified.{HasFirstFault, IsClaimFault, IsFaultOfClaim, IsHeldBy, IsPlaceOf}
+use Rattle.pg_gate.specs.answer.Files.{IsSide}
+use Rattle.pg_gate.specs.answer.Grants.{IsSidesFault, IsVerified, IsVerifyError}
+use Rattle.pg_gate.specs.answer.Verified.{HasFirstFault, IsClaimFault, IsFaultOfClaim, IsHeldBy, IsPlaceOf}
 use Rattle.pg_gate.specs.inner.Claims.{IsClaimError, IsClaimRefusal, IsUngiven}
 use Rattle.pg_gate.specs.declared.call.error.CallError.{CallError}
 use Rattle.pg_gate.specs.declared.call.error.CallError.TheVariants as calls
@@ -33,7 +33,7 @@ use Rattle.pg_gate.specs.declared.call.error.ClaimFault.{ClaimFault}
 use Rattle.pg_gate.specs.declared.error.Side.{Side}
 use Rattle.pg_gate.specs.declared.error.Side.TheVariants as sides
 use Rattle.pg_gate.specs.declared.print.reply.Finding.{Finding}
-use Rattle.pg_gate.proofs.ErrorLemmas.{memory_is, of_memory, of_refused}
+use Rattle.pg_gate.proofs.lemmas.ErrorLemmas.{memory_is, of_memory, of_refused}
 use Rattle.pg_link.specs.Walk.{World}
 
 -- ---- names

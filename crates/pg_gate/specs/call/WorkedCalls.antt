@@ -3,8 +3,8 @@ use Rattle.std.specs.Prelude.{Bool, true, false, List, [], ◌∷◌, codes}
 use Rattle.clap.specs.Words.{Text}
 use Rattle.pg_dyn.specs.declared.view_name.ViewName.{ViewName}
 use Rattle.pg_dyn.specs.declared.view_name.ViewName.TheVariants as views
-use Rattle.pg_gate.specs.Files.{Paths}
-use Rattle.pg_gate.specs.Call.{CallsFor, IsRefused, Request, gate, gate_all, types}
+use Rattle.pg_gate.specs.answer.Files.{Paths}
+use Rattle.pg_gate.specs.call.Call.{CallsFor, IsRefused, Request, gate, gate_all, types}
 
 -- files of the current folder
 abbrev pub here : List Text → Paths

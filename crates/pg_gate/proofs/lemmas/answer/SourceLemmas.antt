@@ -4,7 +4,7 @@ use Rattle.std.specs.Result.{IsErrAnd}
 use Rattle.pg_link.specs.declared.sources.Sources.{Ghosts}
 use Rattle.pg_gate.specs.Failures.{failures_by}
 use Rattle.pg_gate.specs.inner.Sources.{Reads}
-use Rattle.pg_gate.proofs.ErrorLemmas.{passed_on}
+use Rattle.pg_gate.proofs.lemmas.ErrorLemmas.{passed_on}
 
 module _ {S : Type 0} (members : Ghosts S) (old : S) where
   -- what `?` passes on

@@ -7,9 +7,9 @@ use Rattle.clap.specs.Words.{Kinds, Text, fault_of, subcommand_of}
 use Rattle.clap.specs.declared.error.ErrorKind.{ErrorKind}
 use Rattle.clap.specs.declared.error.ErrorKind.TheVariants as kind
 use Rattle.pg_dyn.specs.declared.view_name.ViewName.TheVariants as views
-use Rattle.pg_gate.specs.Call.{CallsFor, IsRefused, Request, request_in, types}
-use Rattle.pg_gate.specs.CommandLine.{whole_app}
-use Rattle.pg_gate.specs.WorkedCalls.{WorkedCalls, asked_all, asked_gate, gate_all_words, gate_by, gate_words, here}
+use Rattle.pg_gate.specs.call.Call.{CallsFor, IsRefused, Request, request_in, types}
+use Rattle.pg_gate.specs.call.CommandLine.{whole_app}
+use Rattle.pg_gate.specs.call.WorkedCalls.{WorkedCalls, asked_all, asked_gate, gate_all_words, gate_by, gate_words, here}
 
 -- some reference to the names of the views
 abbrev names : Bor (List (Bor Text))

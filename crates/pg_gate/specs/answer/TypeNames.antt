@@ -4,7 +4,7 @@ use Rattle.std.specs.List.{flat_map}
 use Rattle.pg_link.specs.Names.{Text}
 use Rattle.pg_schema.specs.declared.parts.message_type.MessageType.{MessageType}
 use Rattle.pg_schema.specs.declared.parts.Parts.{Parts}
-use Rattle.pg_gate.specs.Text.{line_end}
+use Rattle.pg_gate.specs.print.Text.{line_end}
 
 -- the full name of a message type, on a line of its own
 abbrev pub name_line : MessageType → Text

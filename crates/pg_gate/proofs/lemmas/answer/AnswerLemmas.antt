@@ -20,26 +20,26 @@ use Rattle.pg_least.specs.Exact.{IsSearched}
 use Rattle.pg_least.specs.Path.{AreCarried, CarriesWitness, IsPath, carried_along}
 use Rattle.pg_least.specs.Roots.{AreRoots, Lacks}
 use Rattle.pg_least.proofs.PublicLaws.{compatible_is_seen, lost_messages_break, named_types_are_there}
-use Rattle.pg_gate.specs.Answer.{IsAnswer, IsAnswerBy, IsBroken, IsCompatible, IsRefusedRoot, certificate_of}
-use Rattle.pg_gate.specs.ViewAnswer.{IsAnswerUnder}
-use Rattle.pg_gate.specs.Files.{IsFaultOfSide, IsSide, IsSideError}
-use Rattle.pg_gate.specs.Grants.{Between, IsAnswerOfFiles, IsFindingOf, IsGateError, IsGateReply, IsSidesError, IsSidesFault}
-use Rattle.pg_gate.specs.Call.{GateRequest}
+use Rattle.pg_gate.specs.answer.Answer.{IsAnswer, IsAnswerBy, IsBroken, IsCompatible, IsRefusedRoot, certificate_of}
+use Rattle.pg_gate.specs.answer.ViewAnswer.{IsAnswerUnder}
+use Rattle.pg_gate.specs.answer.Files.{IsFaultOfSide, IsSide, IsSideError}
+use Rattle.pg_gate.specs.answer.Grants.{Between, IsAnswerOfFiles, IsFindingOf, IsGateError, IsGateReply, IsSidesError, IsSidesFault}
+use Rattle.pg_gate.specs.call.Call.{GateRequest}
 use Rattle.pg_gate.specs.inner.Reports.{Reports}
 use Rattle.pg_gate.specs.declared.error.Side.TheVariants as sides
 use Rattle.pg_link.specs.Walk.{World}
 use Rattle.pg_gate.specs.declared.answer.gate.Answer.{Answer}
 use Rattle.pg_gate.specs.declared.answer.gate.Answer.TheVariants as answers
 use Rattle.pg_gate.specs.declared.answer.step.Step.{Step}
-use Rattle.pg_gate.specs.Steps.{AreSteps}
+use Rattle.pg_gate.specs.answer.Steps.{AreSteps}
 use Rattle.pg_gate.specs.declared.error.GateError.{GateError}
 use Rattle.pg_gate.specs.declared.print.reply.Finding.{Finding}
 use Rattle.pg_gate.specs.declared.print.reply.Finding.TheVariants as findings
 use Rattle.pg_gate.specs.declared.print.reply.Reply.{Reply}
 use Rattle.pg_gate.specs.Failures.{failures_at, failures_by}
 use Rattle.pg_gate.specs.declared.error.Side.{Side}
-use Rattle.pg_gate.proofs.ErrorLemmas.{error-weaker, none_counted, of_none}
-use Rattle.pg_gate.proofs.Ranges.{searched_there}
+use Rattle.pg_gate.proofs.lemmas.ErrorLemmas.{error-weaker, none_counted, of_none}
+use Rattle.pg_gate.proofs.lemmas.answer.Ranges.{searched_there}
 
 -- ---- what a search answers
 

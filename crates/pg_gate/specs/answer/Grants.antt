@@ -11,22 +11,22 @@ use Rattle.pg_pairs.specs.EnumView.{by_numbers}
 use Rattle.pg_pairs.specs.NamedView.{seen_under}
 use Rattle.pg_schema.specs.declared.parts.Parts.{Parts}
 use Rattle.pg_schema.specs.Parts.{shape_of}
-use Rattle.pg_gate.specs.AllTypes.{IsAllTypes}
-use Rattle.pg_gate.specs.Call.{GateRequest, Request, compile, gate, gate_all, show, types, verify}
+use Rattle.pg_gate.specs.answer.AllTypes.{IsAllTypes}
+use Rattle.pg_gate.specs.call.Call.{GateRequest, Request, compile, gate, gate_all, show, types, verify}
 use Rattle.pg_link.specs.Names.{Text}
 use Rattle.pg_link.specs.Walk.{World, world}
 use Rattle.pg_link.specs.declared.sources.Sources.{Ghosts}
 use Rattle.pg_gate.specs.Errors.{IsCallError, IsError}
 use Rattle.pg_gate.specs.Failures.{call_failures_at}
-use Rattle.pg_gate.specs.Files.{IsErrorOf, IsFaultOfSet, IsFaultOfSide, IsSetOf, IsSide, IsSideError, Paths}
-use Rattle.pg_gate.specs.Answer.{IsAnswer, IsBroken, IsCompatible, certificate_of}
+use Rattle.pg_gate.specs.answer.Files.{IsErrorOf, IsFaultOfSet, IsFaultOfSide, IsSetOf, IsSide, IsSideError, Paths}
+use Rattle.pg_gate.specs.answer.Answer.{IsAnswer, IsBroken, IsCompatible, certificate_of}
 use Rattle.pg_gate.specs.declared.answer.gate.Answer.{Answer}
-use Rattle.pg_gate.specs.Refusals.{refusal_for}
-use Rattle.pg_gate.specs.Showing.{IsBadWord, IsExplained, IsRefusedWord, IsShown}
-use Rattle.pg_gate.specs.Steps.{AreSteps}
-use Rattle.pg_gate.specs.TypeNames.{ListsTypes}
-use Rattle.pg_gate.specs.Verified.{IsClaimFault, IsHeldBy}
-use Rattle.pg_gate.specs.ViewAnswer.{IsAnswerUnder}
+use Rattle.pg_gate.specs.print.Refusals.{refusal_for}
+use Rattle.pg_gate.specs.answer.Showing.{IsBadWord, IsExplained, IsRefusedWord, IsShown}
+use Rattle.pg_gate.specs.answer.Steps.{AreSteps}
+use Rattle.pg_gate.specs.answer.TypeNames.{ListsTypes}
+use Rattle.pg_gate.specs.answer.Verified.{IsClaimFault, IsHeldBy}
+use Rattle.pg_gate.specs.answer.ViewAnswer.{IsAnswerUnder}
 use Rattle.pg_gate.specs.declared.call.error.CallError.{CallError}
 use Rattle.pg_gate.specs.declared.call.error.CertificateFault.{CertificateFault}
 use Rattle.pg_gate.specs.declared.call.error.CertificateFault.TheVariants as certificates

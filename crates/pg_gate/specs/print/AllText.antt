@@ -6,7 +6,7 @@ use Rattle.pg_link.specs.Names.{Text}
 use Rattle.pg_causes.specs.declared.overview.Reason.{Reason}
 use Rattle.pg_causes.specs.declared.overview.Reason.TheVariants as reasons
 use Rattle.pg_causes.specs.declared.overview.TypeLine.{TypeLine}
-use Rattle.pg_gate.specs.Text.{field_of, hex_of, line_end, readings_of}
+use Rattle.pg_gate.specs.print.Text.{field_of, hex_of, line_end, readings_of}
 use Rattle.pg_gate.specs.declared.answer.all_types.AllTypes.{AllTypes}
 use Rattle.pg_gate.specs.declared.answer.all_types.PlacedCause.{PlacedCause}
 use Rattle.pg_gate.specs.declared.answer.step.Step.{Step}

@@ -8,8 +8,8 @@ use Rattle.clap.specs.Walk.{texts}
 use Rattle.clap.specs.Words.{Row, Text, all_of, fault_of, first_of, subcommand_of}
 use Rattle.pg_dyn.specs.declared.view_name.ViewName.{ViewName}
 use Rattle.pg_dyn.specs.declared.view_name.ViewName.TheVariants as views
-use Rattle.pg_gate.specs.CommandLine.{view_names, whole_app}
-use Rattle.pg_gate.specs.Files.{BothPaths, Paths, both_paths, paths_in}
+use Rattle.pg_gate.specs.call.CommandLine.{view_names, whole_app}
+use Rattle.pg_gate.specs.answer.Files.{BothPaths, Paths, both_paths, paths_in}
 use Rattle.pg_gate.specs.declared.call.Call.{Call}
 use Rattle.pg_gate.specs.declared.call.Call.TheVariants as call
 use Rattle.pg_gate.specs.declared.call.GateAllCall.{GateAllCall}

@@ -23,7 +23,7 @@ use Rattle.pg_causes.specs.Overview.{IsOverview}
 use Rattle.pg_least.specs.Roots.{AreRoots}
 use Rattle.pg_causes.specs.declared.overview.Cause.{Cause}
 use Rattle.pg_causes.specs.declared.overview.Overview.{Overview}
-use Rattle.pg_gate.proofs.Ranges.{as_types, each_unmapped}
+use Rattle.pg_gate.proofs.lemmas.answer.Ranges.{as_types, each_unmapped}
 use Rattle.pg_least.proofs.PublicLaws.{named_types_are_there}
 
 among_each : {A : Type 0} (P : A → Type 0) (x : A) (xs : List A) → IsAmong x xs → AllByRecursion P xs → P x

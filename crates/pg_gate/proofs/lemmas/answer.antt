@@ -1,0 +1,9 @@
+pub mod Agreement
+pub mod AnswerLemmas
+pub mod CauseLemmas
+pub mod Cursors
+pub mod Ranges
+pub mod Roots
+pub mod ShowLemmas
+pub mod SourceLemmas
+pub mod VerifyLemmas

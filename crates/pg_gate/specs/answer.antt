@@ -1,0 +1,10 @@
+pub mod Files
+pub mod Answer
+pub mod ViewAnswer
+pub mod Steps
+pub mod Showing
+pub mod TypeNames
+pub mod AllTypes
+pub mod Verified
+pub mod Grants
+pub mod Agreement
