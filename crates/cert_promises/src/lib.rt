@@ -6,8 +6,7 @@ ghost use Rattle.std.specs.Prelude.{◌≡◌, ◌⊎◌, length, nat_eq, slice_
 ghost use Rattle.std.specs.Option.{option_copied};
 ghost use Rattle.pg_cert.specs.declared.bounds.BoundsError.TheVariants.{Invariant};
 ghost use Rattle.pg_cert.specs.declared.error.CertError.TheVariants as errors;
-ghost use Rattle.pg_cert.specs.Bounds.{are_bounds, bound_in};
-ghost use Rattle.pg_cert.specs.Certificate.{Claim};
+ghost use Rattle.pg_cert.specs.Certificate.{are_bounds, bound_in, Claim};
 ghost use Rattle.pg_cert.specs.Witness.{AreBytes, is_witness};
 ghost use Rattle.pg_cert.specs.Verdict.{verdict_of};
 ghost use Rattle.pg_cert.specs.ClaimView.{HoldsOf, IsFirstFaultOf, SaysOf};

@@ -14,7 +14,7 @@ use Rattle.pg_pairs.specs.EnumView.{EnumView}
 use Rattle.pg_pairs.specs.ViewLaws.{IsEnumView}
 use Rattle.pg_pairs.specs.Reached.{itself}
 use Rattle.pg_cert.specs.declared.bounds.PairBound.{PairBound}
-use Rattle.pg_cert.specs.Bounds.{bound_in}
+use Rattle.pg_cert.specs.Certificate.{bound_in}
 use Rattle.pg_least.specs.Exact.{BoundSays, pairs_of}
 use Rattle.pg_least.specs.From.{AreBoundsFrom, CompatibleWithoutCauses}
 use Rattle.pg_least.specs.Roots.{AreRoots}

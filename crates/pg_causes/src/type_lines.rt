@@ -4,7 +4,7 @@ ghost use Rattle.std.specs.Prelude.{◌≡◌, ◌<◌, true, is_some, length, m
 ghost use Rattle.std.specs.List.{AllByRecursion};
 ghost use Rattle.pg_schema.specs.Parts.{name_at, shape_of};
 ghost use Rattle.pg_pairs.specs.declared.choice.Pair.{Pair};
-ghost use Rattle.pg_cert.specs.Bounds.{bound_in};
+ghost use Rattle.pg_cert.specs.Certificate.{bound_in};
 ghost use Rattle.pg_causes.specs.declared.overview.TypeLine.{TypeLine};
 
 use crate::overview::TypeLine;

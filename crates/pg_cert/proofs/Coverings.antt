@@ -15,7 +15,7 @@ use Rattle.pg_pairs.specs.CheapestLaws.{IsCheapest, CheapestIsLeast}
 use Rattle.pg_pairs.specs.Covering.{same_pair, children, IsThere, IsWithin, IsCovered}
 use Rattle.pg_cert.specs.declared.bounds.PairBound.{PairBound}
 use Rattle.pg_cert.specs.declared.error.CertError.TheVariants.{RootMissing, PairMissing}
-use Rattle.pg_cert.specs.Bounds.{is_bound, bound_in, are_bounds}
+use Rattle.pg_cert.specs.Certificate.{is_bound, bound_in, are_bounds}
 use Rattle.pg_cert.specs.Faults.{is_within, missing_child, cheaper_choice, too_high, pair_fault, first_pair_fault, root_fault}
 use Rattle.pg_cert.specs.Laws.{CoversWithoutFault}
 use Rattle.pg_cert.proofs.Tables.{same_pair-refl, same_pair-sym}
@@ -101,7 +101,7 @@ module _ (enum_view : EnumView) (old new : Shape) (table : Table) where
   none_faulty (b ∷ bounds) there each =
       both_none (pair_fault enum_view old new table b) (first_pair_fault enum_view old new table bounds) (faultless b (each b.pair b.bound there.0)) (none_faulty bounds there.1 each)
 
--- Where each pair stands once, its bound is the one that stands beside it.
+-- Where each pair is there once, its bound is the one next to it.
 no_bound : (bounds : List PairBound) (pair : Pair) → is_some (bound_in bounds pair) ≡ false → AllByRecursion (λ (b : PairBound). same_pair pair b.pair ≡ false) bounds
 no_bound [] pair h = tt
 no_bound (b ∷ bounds) pair h = of (same_pair pair b.pair) refl (λ k. no_bound bounds pair k) h
@@ -117,16 +117,16 @@ apart p q h = of (same_pair q p) refl
     of false e = refl
     of true e = absurd (let back = same_pair-sym q p e in cc)
 
-behind : (b : PairBound) (whole bounds : List PairBound) → AllByRecursion (λ (x : PairBound). same_pair b.pair x.pair ≡ false) bounds → AllByRecursion (λ (x : PairBound). bound_in whole x.pair ≡ Some x.bound) bounds → AllByRecursion (λ (x : PairBound). bound_in (b ∷ whole) x.pair ≡ Some x.bound) bounds
-behind b whole [] h k = tt
-behind b whole (x ∷ bounds) h k = (rw (apart b.pair x.pair h.0) k.0, behind b whole bounds h.1 k.1)
+beyond : (b : PairBound) (whole bounds : List PairBound) → AllByRecursion (λ (x : PairBound). same_pair b.pair x.pair ≡ false) bounds → AllByRecursion (λ (x : PairBound). bound_in whole x.pair ≡ Some x.bound) bounds → AllByRecursion (λ (x : PairBound). bound_in (b ∷ whole) x.pair ≡ Some x.bound) bounds
+beyond b whole [] h k = tt
+beyond b whole (x ∷ bounds) h k = (rw (apart b.pair x.pair h.0) k.0, beyond b whole bounds h.1 k.1)
 
 each_there : (bounds : List PairBound) → are_bounds bounds ≡ true → AllByRecursion (λ (b : PairBound). bound_in bounds b.pair ≡ Some b.bound) bounds
 each_there [] h = tt
 each_there (b ∷ bounds) h =
     let parts = and_parts (is_bound b.bound && not (is_some (bound_in bounds b.pair))) (are_bounds bounds) h in
     let once = (and_parts (is_bound b.bound) (not (is_some (bound_in bounds b.pair))) parts.0).1 in
-    (rw (same_pair-refl b.pair) refl, behind b bounds bounds (no_bound bounds b.pair (absent (is_some (bound_in bounds b.pair)) once)) (each_there bounds parts.1))
+    (rw (same_pair-refl b.pair) refl, beyond b bounds bounds (no_bound bounds b.pair (absent (is_some (bound_in bounds b.pair)) once)) (each_there bounds parts.1))
   where
     absent : (t : Bool) → not t ≡ true → t ≡ false
     absent false h = refl

@@ -8,7 +8,7 @@ not_not : (b : Bool) → not b ≡ true → b ≡ false
 not_not false h = refl
 not_not true h = absurd (cc)
 
--- the place of the byte behind a word that lacks it
+-- the offset of the byte after a word that lacks it
 place : (byte : ℕ) (word rest : List ℕ) → lacks byte word ≡ true → position_or_len (λ b. nat_eq b byte) (word ++ byte ∷ rest) ≡ length word
 place byte [] rest h = rw (eq-eqb byte byte refl) refl
 place byte (b ∷ word) rest h =
@@ -48,7 +48,7 @@ whole_taken : (n : ℕ) (xs : List ℕ) → n ≡ length xs → take n xs ≡ xs
 whole_taken n [] h = rw h refl
 whole_taken n (x ∷ xs) h = rw h (ap (λ ys. x ∷ ys) (whole_taken (length xs) xs refl))
 
--- Of a text with that word in front, what stands before and behind the byte's place.
+-- Of a text that begins with that word, what comes before and after the byte.
 pub cut-found : (byte : ℕ) (text word rest : List ℕ) (at : ℕ) → position (λ b. nat_eq b byte) text ≡ Some at → lacks byte word ≡ true → text ≡ word ++ byte ∷ rest →
     ◌≡◌ {A = Option (List ℕ × List ℕ)} (Some (take at text, take (length text - (at + 1)) (drop (at + 1) text))) (Some (word, rest))
 cut-found byte text word rest at found h is =
@@ -57,8 +57,8 @@ cut-found byte text word rest at found h is =
     let front : take at text ≡ word = subst (λ n. take n text ≡ word) same (front-found byte text word rest is) in
     let long : length text ≡ length word + 1 + length rest = ap length is ∙ length-word byte word rest in
     let left : length text - (at + 1) ≡ length rest = omega (arith, long, same) in
-    let behind : take (length text - (at + 1)) (drop (at + 1) text) ≡ rest = ap (take (length text - (at + 1))) back ∙ whole_taken (length text - (at + 1)) rest left in
-    λ j. Some (front j, behind j)
+    let after : take (length text - (at + 1)) (drop (at + 1) text) ≡ rest = ap (take (length text - (at + 1))) back ∙ whole_taken (length text - (at + 1)) rest left in
+    λ j. Some (front j, after j)
 
 pub cut-lost : {A : Type 0} (byte : ℕ) (text word rest : List ℕ) → position (λ b. nat_eq b byte) text ≡ None → lacks byte word ≡ true → text ≡ word ++ byte ∷ rest → A
 cut-lost byte text word rest lost h is = absurd (let there = position-found byte text word rest h is in cc)

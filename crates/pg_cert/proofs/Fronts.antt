@@ -1,4 +1,4 @@
--- Fronts of texts, and what stands behind them.
+-- Fronts of texts, and what follows them.
 use Rattle.std.specs.Borrow.{Bor}
 use Rattle.std.specs.Prelude.{MatchOption, IfSome}
 use Rattle.std.proofs.Common.{◌≡◌, ℕ, ◌+◌, eqb, true, false, List, [], ◌∷◌, ◌++◌, take, drop, length, Option, Some, None, refl, ap, sym, ◌∙◌, true≢false}
@@ -15,22 +15,22 @@ back_of : (front rest : List ℕ) → drop (length front) (front ++ rest) ≡ re
 back_of [] rest = refl
 back_of (x ∷ front) rest = back_of front rest
 
--- behind one front two equal texts go on alike
-pub same_behind : (front xs ys : List ℕ) → front ++ xs ≡ front ++ ys → xs ≡ ys
-same_behind front xs ys h = sym (back_of front xs) ∙ ap (drop (length front)) h ∙ back_of front ys
+-- after one front two equal texts go on alike
+pub same_after : (front xs ys : List ℕ) → front ++ xs ≡ front ++ ys → xs ≡ ys
+same_after front xs ys h = sym (back_of front xs) ∙ ap (drop (length front)) h ∙ back_of front ys
 
 module _ (text front : List ℕ) where
-  abbrev pub IsBehind : Option (Bor (List ℕ)) → Type 0
-  IsBehind found =
+  abbrev pub IsAfter : Option (Bor (List ℕ)) → Type 0
+  IsAfter found =
       MatchOption found (pointwise eqb (take (length front) text) front ≡ false)
       (λ rest. (pointwise eqb (take (length front) text) front ≡ true) × (rest.now ≡ drop (length front) text) × (length rest.now + length front ≡ length text))
 
-  pub behind_only : (found : Option (Bor (List ℕ))) → IsBehind found → IfSome found (λ rest. text ≡ front ++ rest.now)
-  behind_only None h = tt
-  behind_only (Some rest) h =
+  pub after_only : (found : Option (Bor (List ℕ))) → IsAfter found → IfSome found (λ rest. text ≡ front ++ rest.now)
+  after_only None h = tt
+  after_only (Some rest) h =
       sym (take-append-drop (length front) text) ∙ ap (λ xs. xs ++ drop (length front) text) (same_bytes (take (length front) text) front h.0) ∙ ap (λ xs. front ++ xs) (sym h.1)
 
-  pub behind_found : (found : Option (Bor (List ℕ))) → IsBehind found → (rest : List ℕ) → text ≡ front ++ rest → option_copied found ≡ Some rest
-  behind_found None h rest is =
+  pub after_found : (found : Option (Bor (List ℕ))) → IsAfter found → (rest : List ℕ) → text ≡ front ++ rest → option_copied found ≡ Some rest
+  after_found None h rest is =
       absurd (true≢false (sym (bytes_same front) ∙ ap (λ xs. pointwise eqb xs front) (sym (ap (take (length front)) is ∙ front_of front rest)) ∙ h))
-  behind_found (Some behind) h rest is = ap Some (h.1 ∙ ap (drop (length front)) is ∙ back_of front rest)
+  after_found (Some after) h rest is = ap Some (h.1 ∙ ap (drop (length front)) is ∙ back_of front rest)

@@ -83,9 +83,9 @@ longer (b ∷ bytes) name h =
     let n = length (b ∷ bytes) in
     let parts = and_parts (bytes_eq (take n name) (b ∷ bytes)) (is_dot_and_word (drop n name)) h in
     let front : length (take n name) ≡ length (b ∷ bytes) = ap length (same_bytes (take n name) (b ∷ bytes) parts.0) in
-    let behind = dot_is_there (drop n name) parts.1 in
+    let after = dot_is_there (drop n name) parts.1 in
     let both : length name ≡ length (take n name) + length (drop n name) = sym (ap length (take-append-drop n name)) ∙ length-append (take n name) (drop n name) in
-    omega (arith, front, behind, both)
+    omega (arith, front, after, both)
 
 -- words with dots between
 clean_parts : (bytes : List ℕ) → list_all (list_all is_word_byte) (parts_at_dots bytes) ≡ true → is_clean bytes ≡ true

@@ -5,9 +5,9 @@ use Rattle.pg_dyn.specs.declared.view_name.ViewName.TheVariants as views
 use Rattle.pg_cert.specs.declared.heading.Heading.{Heading}
 use Rattle.pg_cert.specs.declared.heading.Heading.TheVariants as headings
 use Rattle.pg_cert.specs.Reading.{front}
-use Rattle.pg_cert.proofs.Fronts.{same_behind}
+use Rattle.pg_cert.proofs.Fronts.{same_after}
 
--- the versions differ in the byte behind the first word
+-- the versions differ in the byte after the first word
 versions_apart : (view : ViewName) (r s : List ℕ) → front headings.First ++ r ≡ front (headings.Second view) ++ s → ⊥
 versions_apart views.Numbers r s is = let bad : ◌≡◌ {A = ℕ} 49 50 = ap (λ t. slice_index t 22) is in omega arith
 versions_apart views.Names r s is = let bad : ◌≡◌ {A = ℕ} 49 50 = ap (λ t. slice_index t 22) is in omega arith
@@ -18,13 +18,13 @@ views_apart r s is = let bad : ◌≡◌ {A = ℕ} 117 97 = ap (λ t. slice_inde
 
 -- a text has one heading
 pub same_heading : (h k : Heading) (r s : List ℕ) → front h ++ r ≡ front k ++ s → (h ≡ k) × (r ≡ s)
-same_heading headings.First headings.First r s is = (refl, same_behind (front headings.First) r s is)
+same_heading headings.First headings.First r s is = (refl, same_after (front headings.First) r s is)
 same_heading headings.First (headings.Second view) r s is = absurd (versions_apart view r s is)
 same_heading (headings.Second view) headings.First r s is = absurd (versions_apart view s r (sym is))
-same_heading (headings.Second views.Numbers) (headings.Second views.Numbers) r s is = (refl, same_behind (front (headings.Second views.Numbers)) r s is)
+same_heading (headings.Second views.Numbers) (headings.Second views.Numbers) r s is = (refl, same_after (front (headings.Second views.Numbers)) r s is)
 same_heading (headings.Second views.Numbers) (headings.Second views.Names) r s is = absurd (views_apart r s is)
 same_heading (headings.Second views.Names) (headings.Second views.Numbers) r s is = absurd (views_apart s r (sym is))
-same_heading (headings.Second views.Names) (headings.Second views.Names) r s is = (refl, same_behind (front (headings.Second views.Names)) r s is)
+same_heading (headings.Second views.Names) (headings.Second views.Names) r s is = (refl, same_after (front (headings.Second views.Names)) r s is)
 
 -- what a text of that heading is read as
 abbrev pub IsReadAs : Heading → List ℕ → Option (Heading × List ℕ) → Type 0

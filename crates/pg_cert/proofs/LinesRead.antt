@@ -4,7 +4,7 @@ use Rattle.std.proofs.Common.{◌≡◌, ℕ, true, List, [], ◌∷◌, ◌++�
 use Rattle.std.specs.List.{AllByRecursion}
 use Rattle.pg_schema.specs.declared.parts.Parts.{Parts}
 use Rattle.pg_cert.specs.declared.bounds.PairBound.{PairBound}
-use Rattle.pg_cert.specs.Bounds.{is_bound, are_bounds}
+use Rattle.pg_cert.specs.Certificate.{is_bound, are_bounds}
 use Rattle.pg_cert.specs.Reading.{IsRest, IsLeft}
 use Rattle.pg_cert.specs.Text.{IsPairOf, names_of, lines_text, bound_word}
 use Rattle.pg_cert.proofs.Tables.{parts_of_bounds}
@@ -17,14 +17,14 @@ pub each_more : {A : Type 0} (P : A → Type 0) (xs : List A) (x : A) → AllByR
 each_more P [] x h p = (p, tt)
 each_more P (z ∷ xs) x h p = (h.0, each_more P xs x h.1 p)
 
--- a line behind its first word, and what follows
+-- a line after its first word, and what follows
 abbrev pub words_of : (old new : Parts) → PairBound → List ℕ → List ℕ
 words_of old new b rest = names_of old b.pair.old ++ 32 ∷ (names_of new b.pair.new ++ 32 ∷ (bound_word b.bound ++ 10 ∷ rest))
 
 pub row : (o n w lines later : List ℕ) → ((codes "pair" ++ ((32 ∷ o) ++ ((32 ∷ n) ++ ((32 ∷ w) ++ 10 ∷ [])))) ++ lines) ++ later ≡ codes "pair " ++ (o ++ 32 ∷ (n ++ 32 ∷ (w ++ 10 ∷ (lines ++ later))))
 row o n w lines later = simp append_assoc
 
--- the next line, and those behind it
+-- the next line, and those after it
 pub record NextLine (old new : Parts) (bounds : List PairBound) (later : List ℕ) (read : List PairBound) (words : List ℕ) : Type 0 where
   pub line : PairBound
   pub left : List PairBound
@@ -34,8 +34,8 @@ pub record NextLine (old new : Parts) (bounds : List PairBound) (later : List �
   pub words_are : words ≡ words_of old new line (lines_text (names_of old) (names_of new) left ++ later)
 
 module _ (old new : Parts) (text : List ℕ) (bounds : List PairBound) (later : List ℕ) (rest : IsRest old new text bounds later) (read : List PairBound) where
-  same_behind : (xs ys : List ℕ) → codes "pair " ++ xs ≡ codes "pair " ++ ys → xs ≡ ys
-  same_behind xs ys h = cc
+  same_after : (xs ys : List ℕ) → codes "pair " ++ xs ≡ codes "pair " ++ ys → xs ≡ ys
+  same_after xs ys h = cc
 
   next : (left : List PairBound) → bounds ≡ read ++ left → (now words : List ℕ) → now ≡ lines_text (names_of old) (names_of new) left ++ later → now ≡ codes "pair " ++ words → NextLine old new bounds later read words
   next [] are now words spelled begins =
@@ -46,7 +46,7 @@ module _ (old new : Parts) (text : List ℕ) (bounds : List PairBound) (later : 
     bounds_are = are;
     there = each_front (λ (x : PairBound). IsPairOf old new x.pair) read b left (subst (AllByRecursion (λ (x : PairBound). IsPairOf old new x.pair)) are rest.of_schemas);
     bound = (parts_of_bounds read b left (subst (λ bs. are_bounds bs ≡ true) are rest.are)).0;
-    words_are = same_behind words (words_of old new b (lines_text (names_of old) (names_of new) left ++ later))
+    words_are = same_after words (words_of old new b (lines_text (names_of old) (names_of new) left ++ later))
         (sym begins ∙ spelled ∙ row (names_of old b.pair.old) (names_of new b.pair.new) (bound_word b.bound) (lines_text (names_of old) (names_of new) left) later);
   }
 
@@ -63,9 +63,9 @@ module _ (old new : Parts) (text : List ℕ) (bounds : List PairBound) (later : 
   all_read now is none = none_left is.left is.bounds_are now is.spelled none
 
   -- with one line more
-  pub line_read : (words : List ℕ) (is : NextLine old new bounds later read words) (line : PairBound) (behind : List ℕ) (grown : List PairBound) → line ≡ is.line → behind ≡ lines_text (names_of old) (names_of new) is.left ++ later → grown ≡ read ++ line ∷ [] → IsLeft old new bounds later grown behind
-  line_read words is line behind grown same left_behind grows = record {
+  pub line_read : (words : List ℕ) (is : NextLine old new bounds later read words) (line : PairBound) (after : List ℕ) (grown : List PairBound) → line ≡ is.line → after ≡ lines_text (names_of old) (names_of new) is.left ++ later → grown ≡ read ++ line ∷ [] → IsLeft old new bounds later grown after
+  line_read words is line after grown same left_after grows = record {
     left = is.left;
     bounds_are = is.bounds_are ∙ sym (append_assoc read (is.line ∷ []) is.left) ∙ ap (λ bs. bs ++ is.left) (sym (grows ∙ ap (λ b. read ++ b ∷ []) same));
-    spelled = left_behind;
+    spelled = left_after;
   }

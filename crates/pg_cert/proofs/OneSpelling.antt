@@ -10,13 +10,13 @@ use Rattle.pg_schema.specs.declared.parts.Parts.{Parts}
 use Rattle.pg_schema.specs.Invariant.{IsSchema}
 use Rattle.pg_pairs.specs.declared.choice.Pair.{Pair}
 use Rattle.pg_cert.specs.declared.bounds.PairBound.{PairBound}
-use Rattle.pg_cert.specs.Bounds.{is_bound, are_bounds}
+use Rattle.pg_cert.specs.Certificate.{is_bound, are_bounds}
 use Rattle.pg_cert.specs.Witness.{AreBytes}
 use Rattle.pg_cert.specs.Reading.{lacks, IsBlank}
 use Rattle.pg_cert.specs.Text.{IsPairOf, names_of, lines_text, last_text, bound_word, view_of, witness_word}
 use Rattle.pg_cert.specs.Laws.{OneSpelling}
 use Rattle.pg_cert.proofs.Cuts.{position-found, front-found, back-found}
-use Rattle.pg_cert.proofs.Fronts.{same_behind}
+use Rattle.pg_cert.proofs.Fronts.{same_after}
 use Rattle.pg_cert.proofs.HeadingsRead.{same_heading}
 use Rattle.pg_cert.proofs.LinesRead.{words_of, row}
 use Rattle.pg_cert.proofs.Plain.{name_there, name_lacks}
@@ -64,7 +64,7 @@ module _ (old new : Parts) (is_old : IsSchema old) (is_new : IsSchema new) where
   same_type : (parts : Parts) → IsSchema parts → (a b : TypeId) → a.index < length parts.types.items → b.index < length parts.types.items → names_of parts a ≡ names_of parts b → a ≡ b
   same_type parts is a b a_there b_there h = is.names a b (names_of parts a) (name_there parts a a_there) (name_there parts b b_there ∙ ap (λ n. Some n) (sym h))
 
-  -- the names of a pair, and what stands behind them
+  -- the names of a pair, and what follows them
   same_pair : (a b : Pair) (blank : ℕ) (r s : List ℕ) → IsBlank blank → IsPairOf old new a → IsPairOf old new b →
       names_of old a.old ++ 32 ∷ (names_of new a.new ++ blank ∷ r) ≡ names_of old b.old ++ 32 ∷ (names_of new b.new ++ blank ∷ s) → (a ≡ b) × (r ≡ s)
   same_pair a b blank r s is_blank a_there b_there is =
@@ -81,7 +81,7 @@ module _ (old new : Parts) (is_old : IsSchema old) (is_new : IsSchema new) where
 
   same_last : (a b : Option (List ℕ)) → AreBytes a → AreBytes b → last_text a ≡ last_text b → a ≡ b
   same_last a b h k is =
-      let words : witness_word a ++ 10 ∷ codes "end\n" ≡ witness_word b ++ 10 ∷ codes "end\n" = same_behind (codes "witness ") (witness_word a ++ 10 ∷ codes "end\n") (witness_word b ++ 10 ∷ codes "end\n") (sym (last-row a) ∙ is ∙ last-row b) in
+      let words : witness_word a ++ 10 ∷ codes "end\n" ≡ witness_word b ++ 10 ∷ codes "end\n" = same_after (codes "witness ") (witness_word a ++ 10 ∷ codes "end\n") (witness_word b ++ 10 ∷ codes "end\n") (sym (last-row a) ∙ is ∙ last-row b) in
       same_witness a b h k (same_word 10 (witness_word a) (witness_word b) (codes "end\n") (codes "end\n") (witness_lacks a) (witness_lacks b) words)
 
   line_row : (b : PairBound) (bounds : List PairBound) (later : List ℕ) → lines_text (names_of old) (names_of new) (b ∷ bounds) ++ later ≡ codes "pair " ++ words_of old new b (lines_text (names_of old) (names_of new) bounds ++ later)
@@ -99,7 +99,7 @@ module _ (old new : Parts) (is_old : IsSchema old) (is_new : IsSchema new) where
   same_lines (a ∷ front) (b ∷ others) v w as_there bs_there h k v_bytes w_bytes is =
       let x = lines_text (names_of old) (names_of new) front ++ last_text v in
       let y = lines_text (names_of old) (names_of new) others ++ last_text w in
-      let words = same_behind (codes "pair ") (words_of old new a x) (words_of old new b y) (sym (line_row a front (last_text v)) ∙ is ∙ line_row b others (last_text w)) in
+      let words = same_after (codes "pair ") (words_of old new a x) (words_of old new b y) (sym (line_row a front (last_text v)) ∙ is ∙ line_row b others (last_text w)) in
       let pair = same_pair a.pair b.pair 32 (bound_word a.bound ++ 10 ∷ x) (bound_word b.bound ++ 10 ∷ y) space as_there.0 bs_there.0 words in
       let one = first_of_bounds a front h in
       let other = first_of_bounds b others k in

@@ -1,4 +1,4 @@
--- Full names hold no blanks.
+-- Full names hold no spaces and line ends.
 use Rattle.std.proofs.Common.{◌≡◌, ℕ, ◌<◌, zero, suc, nat_eq, Bool, not, length, true, false, inl, inr, ap, sym, ◌∙◌, subst, true≢false, Option, Some, None, IfSome, is_some, unwrap_or, option_map, slice_get, List, [], ◌∷◌, refl, arith}
 use Rattle.std.specs.String.{string_bytes}
 use Rattle.std.specs.Str.{IsUtf8}
@@ -35,7 +35,7 @@ pub named_there : (types : List MessageType) (found : Option TypeId) (name : Lis
 named_there types None name h = tt
 named_there types (Some id) name h = name_inside types id.index name (h id refl)
 
--- no byte of a name is a blank
+-- no byte of a name is a space or a line end
 not_blank : (b blank : ℕ) → IsBlank blank → is_name_byte b ≡ true → not (nat_eq b blank) ≡ true
 not_blank b blank is h = of (nat_eq b blank) refl
   where

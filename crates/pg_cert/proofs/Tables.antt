@@ -1,4 +1,4 @@
--- Look-ups in a list of bounds, and lists in which each pair stands once.
+-- Look-ups in a list of bounds, and lists in which each pair is there once.
 use Rattle.std.proofs.Common.{◌≡◌, ℕ, ◌+◌, ◌<◌, List, [], ◌∷◌, ◌++◌, map, take, drop, length, get_or, Bool, true, false, not, ◌&&◌, nat_eq, cond, Option, Some, None, option_map, is_some, find, refl, ap, sym, ◌∙◌, subst, suc, add-one, drop-cons}
 use Rattle.std.specs.Map.{lookup}
 use Rattle.std.proofs.lemmas.Bool.{and_parts, eq-eqb}
@@ -8,7 +8,7 @@ use Rattle.pg_pairs.proofs.Choosing.{same_pair-true}
 use Rattle.pg_pairs.specs.declared.choice.Pair.{Pair}
 use Rattle.pg_pairs.specs.Covering.{same_pair}
 use Rattle.pg_cert.specs.declared.bounds.PairBound.{PairBound}
-use Rattle.pg_cert.specs.Bounds.{is_bound, bound_in, are_bounds}
+use Rattle.pg_cert.specs.Certificate.{is_bound, bound_in, are_bounds}
 use Rattle.pg_cert.specs.Entries.{bound_of}
 
 -- the entry of a pair is its bound
@@ -29,7 +29,7 @@ false_unless : (a b : Bool) → (a ≡ true → b ≡ true) → b ≡ false → 
 false_unless false b h e = refl
 false_unless true b h e = absurd (let t = h refl in cc)
 
--- a pair that stands in the list is there
+-- a pair of the list is found
 pub bound_in-there : (front : List PairBound) (b : PairBound) (rest : List PairBound) (p : Pair) → same_pair p b.pair ≡ true → is_some (bound_in (front ++ b ∷ rest) p) ≡ true
 bound_in-there [] b rest p h = rw h refl
 bound_in-there (x ∷ front) b rest p h =
@@ -40,7 +40,7 @@ not_some : {A : Type 0} (o : Option A) → is_some o ≡ true → not (is_some o
 not_some None h k = cc
 not_some (Some x) h k = cc
 
--- Of a list in which each pair stands once no pair stands in the front before it, and each bound is one.
+-- Of a list in which each pair is there once no pair is among those before it, and each bound is one.
 pub parts_of_bounds : (front : List PairBound) (b : PairBound) (rest : List PairBound) → are_bounds (front ++ b ∷ rest) ≡ true → (is_bound b.bound ≡ true) × (bound_in front b.pair ≡ None)
 parts_of_bounds [] b rest h =
     let parts = and_parts (is_bound b.bound && not (is_some (bound_in rest b.pair))) (are_bounds rest) h in
@@ -80,7 +80,7 @@ first_of_bounds b rest h =
     let parts = and_parts (is_bound b.bound && not (is_some (bound_in rest b.pair))) (are_bounds rest) h in
     ((and_parts (is_bound b.bound) (not (is_some (bound_in rest b.pair))) parts.0).0, parts.1)
 
--- One step over a list: what stands before the place, at it and behind it.
+-- One step over a list: what comes before the index, at it and after it.
 module _ {X : Type 0} (xs : List X) (i : ℕ) (d : X) (inside : i < length xs) where
   split_here : xs ≡ take i xs ++ get_or xs i d ∷ drop (suc i) xs
   split_here = sym (take-append-drop i xs) ∙ ap (λ ys. take i xs ++ ys) (drop-cons xs i d inside)

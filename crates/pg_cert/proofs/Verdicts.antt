@@ -12,8 +12,7 @@ use Rattle.pg_cert.specs.declared.verdict.Verdict.{Verdict}
 use Rattle.pg_cert.specs.declared.verdict.Verdict.TheVariants as verdicts
 use Rattle.pg_cert.specs.declared.error.CertError.{CertError}
 use Rattle.pg_cert.specs.declared.error.CertError.TheVariants as errors
-use Rattle.pg_cert.specs.Bounds.{are_bounds, bound_in}
-use Rattle.pg_cert.specs.Certificate.{Claim, Holds, IsWitnessed, IsWitnessedIfThere}
+use Rattle.pg_cert.specs.Certificate.{are_bounds, bound_in, Claim, Holds, IsWitnessed, IsWitnessedIfThere}
 use Rattle.pg_cert.specs.Verdict.{bound_verdict, verdict_of, Says}
 use Rattle.pg_cert.specs.Checked.{IsChecked}
 use Rattle.pg_cert.specs.Faults.{WitnessFault, WitnessFaultIfThere, first_fault}

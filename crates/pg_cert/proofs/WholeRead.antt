@@ -11,17 +11,17 @@ use Rattle.pg_cert.specs.declared.error.CertError.TheVariants.{Memory}
 use Rattle.pg_cert.specs.declared.heading.Heading.{Heading}
 use Rattle.pg_cert.specs.Certificate.{Claim}
 use Rattle.pg_cert.specs.Witness.{is_witness}
-use Rattle.pg_cert.specs.Reading.{IsRest, behind, front}
+use Rattle.pg_cert.specs.Reading.{IsRest, after_heading, front}
 use Rattle.pg_cert.specs.Text.{Names, IsPairOf, IsClaimOf, HasTexts, heading_text, names_of, lines_text, last_text, text_of}
 use Rattle.pg_cert.proofs.Spelling.{text-row}
 use Rattle.pg_cert.proofs.WitnessRead.{last-row}
 
--- the text behind its first words
-pub head-row : (heading : Heading) (old new : Names) (claim : Claim) → text_of heading old new claim ≡ front heading ++ behind old new claim
+-- the text after its first words
+pub head-row : (heading : Heading) (old new : Names) (claim : Claim) → text_of heading old new claim ≡ front heading ++ after_heading old new claim
 head-row heading old new claim =
     text-row heading old new claim
     ∙ ap (λ t. heading_text heading ++ (codes "root " ++ t)) (row (old claim.root.old) (new claim.root.new) (lines_text old new claim.bounds ++ last_text claim.witness))
-    ∙ sym (append_assoc (heading_text heading) (codes "root ") (behind old new claim))
+    ∙ sym (append_assoc (heading_text heading) (codes "root ") (after_heading old new claim))
   where
     row : (o n rest : List ℕ) → (o ++ (32 ∷ (n ++ 10 ∷ []))) ++ rest ≡ o ++ 32 ∷ (n ++ 10 ∷ rest)
     row o n rest = simp append_assoc

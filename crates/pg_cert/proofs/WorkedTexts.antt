@@ -12,10 +12,9 @@ use Rattle.pg_dyn.specs.declared.view_name.ViewName.{ViewName}
 use Rattle.pg_dyn.specs.declared.view_name.ViewName.TheVariants as views
 use Rattle.pg_cert.specs.declared.heading.Heading.{Heading}
 use Rattle.pg_cert.specs.declared.heading.Heading.TheVariants as headings
-use Rattle.pg_cert.specs.Bounds.{are_bounds}
-use Rattle.pg_cert.specs.Certificate.{Claim}
+use Rattle.pg_cert.specs.Certificate.{are_bounds, Claim}
 use Rattle.pg_cert.specs.Witness.{AreBytes, is_witness}
-use Rattle.pg_cert.specs.Reading.{behind, front}
+use Rattle.pg_cert.specs.Reading.{after_heading, front}
 use Rattle.pg_cert.specs.Text.{IsClaimOf, Names, last_text, lines_text, names_of, text_of, view_of, witness_word}
 use Rattle.pg_cert.specs.Worked.{by_names, child_witness, in_child, inner, minus_one, one_renamed, outer, to_unsigned, unchanged}
 use Rattle.pg_cert.specs.WorkedTexts.{AreNamed, IsNoText, IsNotTextOf, IsTextOf, WorkedTexts, m_and_n, only_m, only_n}
@@ -85,7 +84,7 @@ child_breaks : IsTextOf m_and_n (in_child (outer ∷ inner ∷ []) (Some child_w
 unfolding digits hex_on_literals
 child_breaks = text_is m_and_n (in_child (outer ∷ inner ∷ []) (Some child_witness)) headings.First _ of_both refl refl (lit< tt, (lit< tt, (lit< tt, (lit< tt, (lit< tt, (lit< tt, (lit< tt, (lit< tt, tt)))))))) refl refl
 
--- two texts with another byte at that place
+-- two texts with another byte at that offset
 apart : (at a b : ℕ) (text other : List ℕ) → slice_index text at ≡ a → slice_index other at ≡ b → (a ≡ b → ⊥) → text ≡ other → ⊥
 apart at a b text other is_a is_b differ same = differ (sym is_a ∙ ap (λ t. slice_index t at) same ∙ is_b)
 
@@ -128,10 +127,10 @@ only_names (headings.Second views.Names) later is view = views_differ (sym view)
 another_view : IsNotTextOf only_m unchanged (codes "protogate-certificate 2\nview names\nroot M M\npair M M none\nwitness none\nend\n")
 another_view old new old_named new_named certifies = only_names certifies.heading _ (certifies.spelled ∙ head-row certifies.heading (names_of old) (names_of new) unchanged) certifies.viewed
 
--- no heading stands in front of the text
+-- the text begins with no heading
 no_text : (text : List ℕ) → ((heading : Heading) (later : List ℕ) → text ≡ front heading ++ later → ⊥) → IsNoText text
 no_text text differs old new claim certifies =
-    differs certifies.heading (behind (names_of old) (names_of new) claim) (certifies.spelled ∙ head-row certifies.heading (names_of old) (names_of new) claim)
+    differs certifies.heading (after_heading (names_of old) (names_of new) claim) (certifies.spelled ∙ head-row certifies.heading (names_of old) (names_of new) claim)
 
 no_view-heading : (heading : Heading) (later : List ℕ) → codes "protogate-certificate 2\nroot M M\npair M M none\nwitness none\nend\n" ≡ front heading ++ later → ⊥
 no_view-heading headings.First later is = let bad : ◌≡◌ {A = ℕ} 50 49 = ap (λ t. slice_index t 22) is in omega arith
@@ -177,18 +176,18 @@ no_line = no_text _ no_line-heading
 abbrev Ends : List ℕ → Type 0
 Ends text = (front : List ℕ) × (text ≡ front ++ codes "end\n")
 
-ends_behind : (front text : List ℕ) → Ends text → Ends (front ++ text)
-ends_behind front text is = (front ++ is.0, ap (λ t. front ++ t) is.1 ∙ sym (append_assoc front is.0 (codes "end\n")))
+ends_after : (front text : List ℕ) → Ends text → Ends (front ++ text)
+ends_after front text is = (front ++ is.0, ap (λ t. front ++ t) is.1 ∙ sym (append_assoc front is.0 (codes "end\n")))
 
 last_ends : (witness : Option (List ℕ)) → Ends (last_text witness)
 last_ends witness = (codes "witness " ++ (witness_word witness ++ 10 ∷ []), last-row witness ∙ ap (λ t. codes "witness " ++ t) (sym (append_assoc (witness_word witness) (10 ∷ []) (codes "end\n"))))
 
 text_ends : (heading : Heading) (old new : Names) (claim : Claim) → Ends (text_of heading old new claim)
 text_ends heading old new claim =
-    let last = ends_behind (lines_text old new claim.bounds) _ (last_ends claim.witness) in
-    let second = ends_behind (new claim.root.new) _ (ends_behind (10 ∷ []) _ last) in
-    let first = ends_behind (old claim.root.old) _ (ends_behind (32 ∷ []) _ second) in
-    let whole = ends_behind (front heading) _ first in
+    let last = ends_after (lines_text old new claim.bounds) _ (last_ends claim.witness) in
+    let second = ends_after (new claim.root.new) _ (ends_after (10 ∷ []) _ last) in
+    let first = ends_after (old claim.root.old) _ (ends_after (32 ∷ []) _ second) in
+    let whole = ends_after (front heading) _ first in
     (whole.0, head-row heading old new claim ∙ whole.1)
 
 no_end : IsNoText (codes "protogate-certificate 1\nroot M M\npair M M none\nwitness none\n")

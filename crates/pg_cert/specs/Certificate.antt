@@ -1,16 +1,32 @@
--- Certificates: what they claim, and when a claim holds (this profile's choice: what a reader of a certificate has to
--- trust).
-use Rattle.std.specs.Prelude.{◌≡◌, ℕ, ⊤, List, length, Option, Some, None}
+-- Certificates: tables of bounds, what a certificate claims, and when a claim holds (this profile's choice: what a
+-- reader of a certificate has to trust).
+use Rattle.std.specs.Prelude.{◌≡◌, ℕ, ⊤, nat_le, List, [], ◌∷◌, length, find, Bool, true, not, ◌&&◌, is_some}
+use Rattle.std.specs.Prelude.{Option, Some, None, option_map}
 use Rattle.pg_schema.specs.Shape.{Shape}
 use Rattle.pg_dyn.specs.declared.view_name.ViewName.{ViewName}
 use Rattle.pg_dyn.specs.Message.{Message}
-use Rattle.pg_dyn.specs.encoding.Encoding.{enc}
+use Rattle.pg_dyn.specs.encoding.Encoding.{enc, cap}
 use Rattle.pg_dyn.specs.Breaking.{Breaks}
 use Rattle.pg_pairs.specs.declared.choice.Pair.{Pair}
 use Rattle.pg_pairs.specs.EnumView.{EnumView}
-use Rattle.pg_pairs.specs.Covering.{Covers}
+use Rattle.pg_pairs.specs.Covering.{Covers, same_pair}
+use Rattle.pg_pairs.specs.Choices.{Table}
 use Rattle.pg_cert.specs.declared.bounds.PairBound.{PairBound}
-use Rattle.pg_cert.specs.Bounds.{bound_in}
+
+-- 'none', or from 1 to the most bytes that a message may have
+abbrev pub is_bound : Option ℕ → Bool
+is_bound (Some n) = nat_le 1 n && nat_le n cap
+is_bound None = true
+
+-- the bound of a pair, where the list has one
+abbrev pub bound_in : List PairBound → Table
+bound_in bounds pair =
+    option_map (λ (b : PairBound). b.bound) (find (λ (b : PairBound). same_pair pair b.pair) bounds)
+
+-- each bound is one, and each pair is there once
+abbrev pub are_bounds : List PairBound → Bool
+are_bounds [] = true
+are_bounds (b ∷ bounds) = is_bound b.bound && not (is_some (bound_in bounds b.pair)) && are_bounds bounds
 
 -- the name of the view, the pair of root types, bounds of pairs, and maybe the bytes of a message that breaks
 pub record Claim : Type 0 where

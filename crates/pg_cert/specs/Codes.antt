@@ -1,4 +1,4 @@
--- The number behind the E by which users know the error.
+-- The number after the E by which users know the error.
 use Rattle.std.specs.Prelude.{ℕ}
 use Rattle.pg_cert.specs.declared.error.CertError.{CertError}
 use Rattle.pg_cert.specs.declared.error.CertError.TheVariants as errors

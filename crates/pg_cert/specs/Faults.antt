@@ -14,8 +14,7 @@ use Rattle.pg_cert.specs.declared.bounds.PairBound.{PairBound}
 use Rattle.pg_cert.specs.declared.error.CertError.{CertError}
 use Rattle.pg_cert.specs.declared.error.CertError.TheVariants.{Memory, BadText, RootMissing, PairMissing, BoundTooHigh}
 use Rattle.pg_cert.specs.declared.error.CertError.TheVariants.{WitnessNotWritten, WitnessLength, WitnessKeeps}
-use Rattle.pg_cert.specs.Bounds.{bound_in}
-use Rattle.pg_cert.specs.Certificate.{Claim, HasLength, IsWitnessed}
+use Rattle.pg_cert.specs.Certificate.{bound_in, Claim, HasLength, IsWitnessed}
 use Rattle.pg_cert.specs.Witness.{IsWritten}
 
 -- a bound is at most the cost; 'none' is above every cost

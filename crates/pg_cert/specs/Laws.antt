@@ -12,8 +12,7 @@ use Rattle.pg_cert.specs.declared.bounds.PairBound.{PairBound}
 use Rattle.pg_cert.specs.declared.error.CertError.{CertError}
 use Rattle.pg_cert.specs.declared.heading.Heading.{Heading}
 use Rattle.pg_cert.specs.declared.heading.Heading.TheVariants as headings
-use Rattle.pg_cert.specs.Bounds.{are_bounds, bound_in}
-use Rattle.pg_cert.specs.Certificate.{Claim, Holds, IsWitnessed}
+use Rattle.pg_cert.specs.Certificate.{are_bounds, bound_in, Claim, Holds, IsWitnessed}
 use Rattle.pg_cert.specs.Faults.{first_fault, WitnessFault}
 use Rattle.pg_cert.specs.Text.{Certifies, HasTexts}
 use Rattle.pg_cert.specs.Verdict.{Says, verdict_of}

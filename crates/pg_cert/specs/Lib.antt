@@ -1,4 +1,3 @@
-pub mod Bounds
 pub mod Entries
 pub mod Certificate
 pub mod Witness

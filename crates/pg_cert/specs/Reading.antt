@@ -1,11 +1,10 @@
--- What a reader of a certificate's text finds in front of it.
+-- What a reader finds at the front of a certificate's text.
 use Rattle.std.specs.Prelude.{◌≡◌, ℕ, ◌⊎◌, nat_eq, Bool, not, true, List, ◌∷◌, ◌++◌, codes, slice_index}
 use Rattle.std.specs.List.{AllByRecursion, list_all}
 use Rattle.pg_schema.specs.declared.parts.Parts.{Parts}
 use Rattle.pg_cert.specs.declared.bounds.PairBound.{PairBound}
 use Rattle.pg_cert.specs.declared.heading.Heading.{Heading}
-use Rattle.pg_cert.specs.Bounds.{are_bounds}
-use Rattle.pg_cert.specs.Certificate.{Claim}
+use Rattle.pg_cert.specs.Certificate.{are_bounds, Claim}
 use Rattle.pg_cert.specs.Text.{IsPairOf, Names, heading_text, last_text, lines_text, names_of}
 
 -- the byte isn't in the word
@@ -16,15 +15,15 @@ lacks byte word = list_all (λ b. not (nat_eq b byte)) word
 abbrev pub IsBlank : ℕ → Type 0
 IsBlank byte = (byte ≡ 32) ⊎ (byte ≡ 10)
 
--- the first lines of a text and the first word of the next, and what stands behind these
+-- the first lines of a text and the first word of the next, and what follows these
 abbrev pub front : Heading → List ℕ
 front heading = heading_text heading ++ codes "root "
 
-abbrev pub behind : Names → Names → Claim → List ℕ
-behind old new claim =
+abbrev pub after_heading : Names → Names → Claim → List ℕ
+after_heading old new claim =
     old claim.root.old ++ 32 ∷ (new claim.root.new ++ 10 ∷ (lines_text old new claim.bounds ++ last_text claim.witness))
 
--- the lines of these bounds of the schemas' pairs stand in front of what is left
+-- the lines of these bounds of the schemas' pairs come before what is left
 pub record IsRest (old new : Parts) (text : List ℕ) (bounds : List PairBound) (later : List ℕ) : Type 0 where
   pub of_schemas : AllByRecursion (λ (b : PairBound). IsPairOf old new b.pair) bounds
   pub are : are_bounds bounds ≡ true

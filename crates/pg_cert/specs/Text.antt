@@ -12,15 +12,14 @@ use Rattle.pg_pairs.specs.declared.choice.Pair.{Pair}
 use Rattle.pg_cert.specs.declared.bounds.PairBound.{PairBound}
 use Rattle.pg_cert.specs.declared.heading.Heading.{Heading}
 use Rattle.pg_cert.specs.declared.heading.Heading.TheVariants as headings
-use Rattle.pg_cert.specs.Bounds.{are_bounds}
-use Rattle.pg_cert.specs.Certificate.{Claim}
+use Rattle.pg_cert.specs.Certificate.{are_bounds, Claim}
 use Rattle.pg_cert.specs.Witness.{AreBytes, is_witness}
 
 -- a word with one space before it
 abbrev pub spaced_word : List ℕ → List ℕ
 spaced_word word = 32 ∷ word
 
--- words behind the first, each with one space before it, and the line's end
+-- words after the first, each with one space before it, and the line's end
 abbrev pub spaced : List (List ℕ) → List ℕ
 spaced [] = 10 ∷ []
 spaced (word ∷ words) = spaced_word word ++ spaced words
@@ -76,7 +75,7 @@ lines_text old new bounds = flat_map (λ (b : PairBound). line_of (bound_words o
 abbrev pub last_text : Option (List ℕ) → List ℕ
 last_text witness = flat_map line_of (last_words witness)
 
--- the lines of a certificate behind its heading
+-- the lines of a certificate after its heading
 abbrev pub claim_lines : Names → Names → Claim → List (List (List ℕ))
 claim_lines old new claim =
     root_words old new claim.root ∷ map (bound_words old new) claim.bounds ++ last_words claim.witness
@@ -85,7 +84,7 @@ claim_lines old new claim =
 abbrev pub text_of : Heading → Names → Names → Claim → List ℕ
 text_of heading old new claim = flat_map line_of (heading_lines heading ++ claim_lines old new claim)
 
--- both types of a pair, each behind a space
+-- both types of a pair, each after a space
 abbrev pub pair_words : Names → Names → Pair → List ℕ
 pair_words old new pair = spaced_word (old pair.old) ++ spaced_word (new pair.new)
 
@@ -93,7 +92,7 @@ pair_words old new pair = spaced_word (old pair.old) ++ spaced_word (new pair.ne
 abbrev pub names_of : Parts → Names
 names_of parts id = unwrap_or (name_at parts.types.items id) []
 
--- the types are there, on the side that they stand for
+-- each type is there, on its side
 abbrev pub IsPairOf : Parts → Parts → Pair → Type 0
 IsPairOf old new pair = (pair.old.index < length old.types.items) × (pair.new.index < length new.types.items)
 
@@ -102,7 +101,7 @@ pub record IsClaimOf (old new : Parts) (claim : Claim) : Type 0 where
   pub root : IsPairOf old new claim.root
   pub bounds : AllByRecursion (λ (b : PairBound). IsPairOf old new b.pair) claim.bounds
 
--- a claim of these schemas that has texts: what stands in it is in range
+-- a claim of these schemas that has texts: what it holds is in range
 pub record HasTexts (old new : Parts) (claim : Claim) : Type 0 where
   pub of_schemas : IsClaimOf old new claim
   pub bounds : are_bounds claim.bounds ≡ true

@@ -14,8 +14,7 @@ use Rattle.pg_cert.specs.declared.error.CertError.{CertError}
 use Rattle.pg_cert.specs.declared.error.CertError.TheVariants.{RootMissing, PairMissing, BoundTooHigh}
 use Rattle.pg_cert.specs.declared.error.CertError.TheVariants.{WitnessNotWritten, WitnessLength, WitnessKeeps}
 use Rattle.pg_cert.specs.declared.verdict.Verdict.TheVariants as verdicts
-use Rattle.pg_cert.specs.Bounds.{are_bounds}
-use Rattle.pg_cert.specs.Certificate.{Claim, Holds}
+use Rattle.pg_cert.specs.Certificate.{are_bounds, Claim, Holds}
 use Rattle.pg_cert.specs.Faults.{first_fault, WitnessFault}
 use Rattle.pg_cert.specs.Verdict.{verdict_of}
 
@@ -107,7 +106,7 @@ pub record WorkedCertificates : Type 0 where
   pub wrong_length : WitnessFault by_numbers (linked Uint32) (linked Int32) (both second) (Some (Some 7)) child_witness
       WitnessLength
   pub witness_kept : WitnessFault by_numbers signed signed root (Some (Some 11)) minus_one WitnessKeeps
-  -- a pair stands once, and a number is from 1 to 2,147,483,647
+  -- a pair is there once, and a number is from 1 to 2,147,483,647
   pub pair_twice : are_bounds (inner ∷ inner ∷ []) ≡ false
   pub zero_is_no_bound : are_bounds (pair_bound root (Some 0) ∷ []) ≡ false
   pub bound_above_the_most : are_bounds (pair_bound root (Some 2147483648) ∷ []) ≡ false

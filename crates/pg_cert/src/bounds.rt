@@ -2,7 +2,7 @@
 
 ghost use Rattle.std.specs.Prelude.{◌≡◌, true, false, length, map, nat_eq, slice_get, IfErr, IfOk, Option};
 ghost use Rattle.pg_cert.specs.declared.bounds.BoundsError.TheVariants.{Invariant};
-ghost use Rattle.pg_cert.specs.Bounds.{are_bounds, is_bound, bound_in};
+ghost use Rattle.pg_cert.specs.Certificate.{are_bounds, is_bound, bound_in};
 ghost use Rattle.pg_cert.specs.Entries.{bound_of};
 
 use crate::pair_keys::PairKeys;
@@ -26,7 +26,7 @@ pub struct PairBound {
 pub enum BoundsError {
     /// E001: memory was refused.
     Memory,
-    /// A pair stands twice, or a number isn't from 1 to 2,147,483,647.
+    /// A pair is there twice, or a number isn't from 1 to 2,147,483,647.
     Invariant,
 }
 
@@ -44,7 +44,7 @@ impl Model for Bounds {
 
     ghost Value = { List PairBound };
 
-    ghost use Rattle.pg_cert.specs.Bounds.{are_bounds};
+    ghost use Rattle.pg_cert.specs.Certificate.{are_bounds};
     ghost use Rattle.pg_cert.specs.Entries.{bound_of};
 
     ghost view = { λ b. map bound_of b.entries.entries };
@@ -90,7 +90,7 @@ impl Bounds {
     /// The table of these bounds, in this order.
     ///
     /// Refused, the list comes back: `Memory` where memory was refused, `Invariant` only where a
-    /// pair stands twice or a number isn't from 1 to 2,147,483,647.
+    /// pair is there twice or a number isn't from 1 to 2,147,483,647.
     pub fn new(
         alloc: Global,
         bounds: Vec<PairBound>,

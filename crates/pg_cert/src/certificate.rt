@@ -2,7 +2,7 @@
 
 ghost use Rattle.std.specs.Prelude.{◌≡◌, Some, true, false, option_map, IfErr, IfOk};
 ghost use Rattle.std.specs.Option.{option_copied};
-ghost use Rattle.pg_cert.specs.Bounds.{are_bounds};
+ghost use Rattle.pg_cert.specs.Certificate.{are_bounds};
 ghost use Rattle.pg_cert.specs.Witness.{AreBytes, is_witness};
 
 use crate::bounds::Bounds;
@@ -23,8 +23,7 @@ pub struct Certificate {
 
 impl Model for Certificate {
     ghost use Rattle.std.specs.Prelude.{◌≡◌, true, option_map};
-    ghost use Rattle.pg_cert.specs.Bounds.{are_bounds};
-    ghost use Rattle.pg_cert.specs.Certificate.{Claim};
+    ghost use Rattle.pg_cert.specs.Certificate.{are_bounds, Claim};
     ghost use Rattle.pg_cert.specs.Witness.{is_witness};
 
     ghost Value = { Claim };

@@ -37,7 +37,7 @@ impl CertError {
     ghost use Rattle.std.specs.Prelude.{◌≡◌};
     ghost use Rattle.pg_cert.specs.Codes.{code_of};
 
-    /// The number behind the E by which users know the error.
+    /// The number after the E by which users know the error.
     pub fn code(self) -> u16
         ensures { result ≡ code_of self }
     {

@@ -4,8 +4,8 @@ use crate::bounds::PairBound;
 use pg_schema::{Element, Schema, TypeId};
 use std::alloc::{AllocError, Global};
 
-/// Guesses the old types of a certificate's lines. Lines mostly stand as a search finds their
-/// pairs: behind the root come the types of its fields, and then those of each line's fields in
+/// Guesses the old types of a certificate's lines. Lines mostly come as a search finds their
+/// pairs: after the root come the types of its fields, and then those of each line's fields in
 /// turn, each where it was first seen. No clause speaks of guesses: they only say which name is
 /// looked at first.
 #[derive(Drop)]
@@ -61,7 +61,7 @@ impl Guesses {
         None
     }
 
-    /// The type of the line that comes behind those.
+    /// The type of the line that comes after those.
     pub(crate) fn next(&mut self, schema: &Schema, lines: &[PairBound]) -> TypeId {
         for at in self.line..lines.len() {
             self.line = at;

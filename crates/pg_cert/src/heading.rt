@@ -8,9 +8,9 @@ use pg_dyn::ViewName;
 /// The lines that say a text's version and its view.
 #[derive(Clone, Copy, Debug)]
 pub(crate) enum Heading {
-    /// Those of version 1, which means the view by numbers.
+    /// The lines of version 1, which means the view by numbers.
     First,
-    /// Those of version 2, which name the view.
+    /// The lines of version 2, which name the view.
     Second(ViewName),
 }
 

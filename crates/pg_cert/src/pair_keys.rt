@@ -4,7 +4,7 @@ ghost use Rattle.std.specs.Prelude.{◌≡◌};
 use crate::bounds::PairBound;
 use std::hash::{BuildHasher, DefaultHasher, FoldHasher, Hasher};
 
-/// Hashes each pair behind a number that all pairs of the table make. So pairs that collide can't
+/// Hashes each pair after a number that all pairs of the table make. So pairs that collide can't
 /// be sought before the whole table is known: with another pair in it all hash otherwise. No clause
 /// speaks of hashes.
 #[derive(Clone, Copy)]

@@ -1,4 +1,4 @@
-//! Certificates out of texts.
+//! Reads certificates.
 
 ghost use Rattle.std.specs.Prelude.{◌≡◌, ◌↔◌, ◌++◌, ◌∷◌, ◌<◌, ℕ, List, Option, length, nat_eq, option_map, position, Some, true, false, ◌⊎◌, IfErr, IfOk, IfSome, MatchResult};
 ghost use Rattle.std.specs.List.{AllByRecursion};
@@ -12,10 +12,9 @@ ghost use Rattle.pg_cert.specs.declared.bounds.PairBound.{PairBound};
 ghost use Rattle.pg_cert.specs.declared.error.CertError.TheVariants as errors;
 ghost use Rattle.pg_cert.specs.declared.heading.Heading.{Heading};
 ghost use Rattle.pg_cert.specs.declared.heading.Heading.TheVariants as headings;
-ghost use Rattle.pg_cert.specs.Bounds.{are_bounds, is_bound};
-ghost use Rattle.pg_cert.specs.Certificate.{Claim};
+ghost use Rattle.pg_cert.specs.Certificate.{are_bounds, is_bound, Claim};
 ghost use Rattle.pg_cert.specs.Witness.{AreBytes, is_witness};
-ghost use Rattle.pg_cert.specs.Reading.{IsBlank, IsRest, behind, front, lacks};
+ghost use Rattle.pg_cert.specs.Reading.{IsBlank, IsRest, after_heading, front, lacks};
 ghost use Rattle.pg_cert.specs.Text as spec;
 
 use crate::bounds::{Bounds, BoundsError, PairBound};
@@ -30,7 +29,7 @@ use pg_pairs::Pair;
 use pg_schema::{Schema, TypeId};
 use std::alloc::Global;
 
-/// The place of the first such byte.
+/// The offset of the first such byte.
 fn place_of(text: &[u8], byte: u8) -> Option<usize>
     ensures place { result ≡ position (λ b. nat_eq b byte) text.now }
     ensures inside { IfSome result (λ at. at < length text.now) }
@@ -38,7 +37,7 @@ fn place_of(text: &[u8], byte: u8) -> Option<usize>
     text.iter().position(|other| *other == byte)
 }
 
-/// The word before the first such byte, and what stands behind this.
+/// The word before the first such byte, and what follows this byte.
 fn cut(text: &[u8], byte: u8) -> Option<(&[u8], &[u8])>
     ensures shorter { IfSome result (λ parts. length parts.1.now < length text.now) }
     ensures found { (word rest : List ℕ) → lacks byte word ≡ true → text.now ≡ word ++ byte ∷ rest
@@ -51,7 +50,7 @@ fn cut(text: &[u8], byte: u8) -> Option<(&[u8], &[u8])>
     }
 }
 
-/// Whether the type at that place has that name.
+/// Whether the type of that index has that name.
 fn is_named(schema: &Schema, id: TypeId, word: &[u8]) -> bool
     ensures there { result ≡ true → id.index < length schema.now.types.items }
     ensures named { result ≡ true → word.now ≡ spec.names_of schema.now id }
@@ -62,7 +61,7 @@ fn is_named(schema: &Schema, id: TypeId, word: &[u8]) -> bool
     }
 }
 
-/// The type of that name, which is looked for at the guessed place first.
+/// The type of that name, which is looked for at the guessed index first.
 fn named(schema: &Schema, word: &[u8], guess: TypeId) -> Option<TypeId>
     ensures there { IfSome result (λ id. id.index < length schema.now.types.items) }
     ensures found { (id : TypeId) → id.index < length schema.now.types.items
@@ -79,7 +78,7 @@ fn named(schema: &Schema, word: &[u8], guess: TypeId) -> Option<TypeId>
     }
 }
 
-/// The type whose name stands before the first such blank, and what stands behind this.
+/// The type whose name comes before the first such byte, and what follows this byte.
 fn read_name<'a>(
     schema: &Schema,
     text: &'a [u8],
@@ -101,8 +100,8 @@ fn read_name<'a>(
     Some((id, rest))
 }
 
-/// The types of a pair, whose names stand in front with a space between and that blank behind them,
-/// and what stands behind this. The new type mostly stands at the old one's place.
+/// The types of a pair, whose names come first, with a space between them and that byte after them;
+/// and what follows this byte. The new type mostly has the old one's index.
 fn read_pair<'a>(
     old: &Schema,
     new: &Schema,
@@ -119,8 +118,8 @@ fn read_pair<'a>(
         → option_map {U = Pair × List ℕ} (λ parts. (parts.0, parts.1.now)) result
         ≡ Some (pair, rest) }
 {
-    let (first, behind) = read_name(old, text, b' ', guess)?;
-    let (second, rest) = read_name(new, behind, blank, first)?;
+    let (first, later) = read_name(old, text, b' ', guess)?;
+    let (second, rest) = read_name(new, later, blank, first)?;
     let pair = Pair {
         old: first,
         new: second,
@@ -145,7 +144,7 @@ fn bound_of(word: &[u8]) -> Option<Option<u32>>
     }
 }
 
-/// The bound in front, which ends its line, and what stands behind this.
+/// The bound that comes first, up to the end of its line, and what follows this line.
 fn read_bound(text: &[u8]) -> Option<(Option<u32>, &[u8])>
     ensures shorter { IfSome result (λ parts. length parts.1.now < length text.now) }
     ensures found { (bound : Option ℕ) (rest : List ℕ) → is_bound bound ≡ true
@@ -158,7 +157,7 @@ fn read_bound(text: &[u8]) -> Option<(Option<u32>, &[u8])>
     Some((bound, rest))
 }
 
-/// What stands behind that front.
+/// What follows that front, where the text begins with it.
 fn after<'a>(text: &'a [u8], front: &[u8]) -> Option<&'a [u8]>
     ensures only { IfSome result (λ rest. text.now ≡ front.now ++ rest.now) }
     ensures found { (rest : List ℕ) → text.now ≡ front.now ++ rest
@@ -167,8 +166,7 @@ fn after<'a>(text: &'a [u8], front: &[u8]) -> Option<&'a [u8]>
     text.strip_prefix(front)
 }
 
-/// The pair and its bound in a line whose first word is read already, and what stands behind the
-/// line.
+/// The pair and its bound in a line whose first word is read already, and what follows the line.
 fn read_line<'a>(
     old: &Schema,
     new: &Schema,
@@ -184,12 +182,12 @@ fn read_line<'a>(
         → option_map {U = PairBound × List ℕ} (λ parts. (parts.0, parts.1.now)) result
         ≡ Some (line, rest) }
 {
-    let (pair, behind) = read_pair(old, new, text, b' ', guess)?;
-    let (bound, rest) = read_bound(behind)?;
+    let (pair, later) = read_pair(old, new, text, b' ', guess)?;
+    let (bound, rest) = read_bound(later)?;
     Some((PairBound { pair, bound }, rest))
 }
 
-/// The pairs and their bounds in the lines in front, and what stands behind these.
+/// The pairs and their bounds in the lines that come first, and what follows these.
 fn read_lines<'a>(
     alloc: Global,
     old: &Schema,
@@ -208,12 +206,12 @@ fn read_lines<'a>(
     let mut left = text;
     while let Some(words) = after(left, b"pair ") {
         let guess = guesses.next(old, &bounds);
-        let Some((line, behind)) = read_line(old, new, words, guess) else {
+        let Some((line, later)) = read_line(old, new, words, guess) else {
             return Err(CertError::BadText);
         };
         guesses.see(line.pair.old);
         bounds.push(line)?;
-        left = behind;
+        left = later;
     }
     Ok((bounds, left))
 }
@@ -294,7 +292,7 @@ fn certificate_of(
     }
 }
 
-/// What stands behind the heading of version 2 that names the view by names.
+/// The heading of version 2 that names the view by names, and what follows it.
 fn read_names(text: &[u8]) -> Option<(Heading, &[u8])>
     ensures { (rest : List ℕ) → text.now ≡ front (headings.Second views.Names) ++ rest
         → option_map {U = Heading × List ℕ} (λ parts. (parts.0, parts.1.now)) result
@@ -306,7 +304,7 @@ fn read_names(text: &[u8]) -> Option<(Heading, &[u8])>
     }
 }
 
-/// The heading of version 2 in front, and what stands behind it.
+/// The heading of version 2 that comes first, and what follows it.
 fn read_second(text: &[u8]) -> Option<(Heading, &[u8])>
     ensures { (view : ViewName) (rest : List ℕ) → text.now ≡ front (headings.Second view) ++ rest
         → option_map {U = Heading × List ℕ} (λ parts. (parts.0, parts.1.now)) result
@@ -318,7 +316,7 @@ fn read_second(text: &[u8]) -> Option<(Heading, &[u8])>
     }
 }
 
-/// The heading in front, and what stands behind it and the first word of the next line.
+/// The heading that comes first, and what follows it and the first word of the next line.
 fn read_heading(text: &[u8]) -> Option<(Heading, &[u8])>
     ensures { (heading : Heading) (rest : List ℕ) → text.now ≡ front heading ++ rest
         → option_map {U = Heading × List ℕ} (λ parts. (parts.0, parts.1.now)) result
@@ -330,8 +328,8 @@ fn read_heading(text: &[u8]) -> Option<(Heading, &[u8])>
     }
 }
 
-/// The certificate of the view whose lines stand behind the heading, if there is one.
-fn read_behind(
+/// The certificate of the view whose lines follow the heading, if there is one.
+fn read_after(
     alloc: Global,
     old: &Schema,
     new: &Schema,
@@ -341,7 +339,7 @@ fn read_behind(
     ensures of_schemas { IfOk result (λ c. spec.IsClaimOf old.now new.now c) }
     ensures viewed { IfOk result (λ c. c.view ≡ view) }
     ensures found { (claim : Claim) → spec.HasTexts old.now new.now claim → claim.view ≡ view
-        → text.now ≡ behind (spec.names_of old.now) (spec.names_of new.now) claim
+        → text.now ≡ after_heading (spec.names_of old.now) (spec.names_of new.now) claim
         → MatchResult result (λ c. c ≡ claim) (λ e. e ≡ errors.Memory) }
 {
     let guess = TypeId { index: 0 };
@@ -371,7 +369,7 @@ fn read(
         return Err(CertError::BadText);
     };
     let view = heading.view();
-    let certificate = read_behind(alloc, old, new, view, words)?;
+    let certificate = read_after(alloc, old, new, view, words)?;
     Ok((heading, certificate))
 }
 

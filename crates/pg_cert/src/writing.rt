@@ -1,4 +1,4 @@
-//! Certificates as texts.
+//! Writes certificates.
 
 ghost use Rattle.std.specs.Prelude.{◌≡◌, ◌++◌, ◌∷◌, [], OnOk, IfOk, codes, string_bytes};
 ghost use Rattle.std.specs.Option.{option_copied};
@@ -41,7 +41,7 @@ fn push_name(text: &mut String, schema: &Schema, id: TypeId) -> Result<(), Alloc
     }
 }
 
-/// The names of both types, each behind a space.
+/// The names of both types, each after a space.
 fn push_pair(text: &mut String, old: &Schema, new: &Schema, pair: Pair) -> Result<(), AllocError>
     ensures { OnOk result (string_bytes text.new
         ≡ string_bytes text.old ++ spec.pair_words (spec.names_of old.now)
@@ -51,7 +51,7 @@ fn push_pair(text: &mut String, old: &Schema, new: &Schema, pair: Pair) -> Resul
     push_name(text, new, pair.new)
 }
 
-/// A bound behind a space, and the line's end.
+/// A bound after a space, and the line's end.
 fn push_bound(text: &mut String, bound: Option<u32>) -> Result<(), AllocError>
     ensures { OnOk result (string_bytes text.new
         ≡ string_bytes text.old ++ spec.spaced (spec.bound_word bound ∷ [])) }

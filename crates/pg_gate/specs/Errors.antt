@@ -19,7 +19,7 @@ IsError old_missing new_missing bad_hex fault (gates.Compile side found) = fault
 IsError old_missing new_missing bad_hex fault gates.WriteFailed = ⊥
 IsError old_missing new_missing bad_hex fault gates.BadHex = bad_hex
 
--- the same of a call's error, by what each kind of it says
+-- what a call's error says, by what each kind of it would
 abbrev pub IsCallError : (GateError → Type 0) → (CertificateFault → Type 0) → (DynError → Type 0) → CallError → Type 0
 IsCallError gate certificate bytes (calls.Gate error) = gate error
 IsCallError gate certificate bytes (calls.Certificate fault) = certificate fault

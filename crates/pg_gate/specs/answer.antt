@@ -3,7 +3,6 @@ pub mod Answer
 pub mod ViewAnswer
 pub mod Steps
 pub mod Showing
-pub mod TypeNames
 pub mod AllTypes
 pub mod Verified
 pub mod Grants

@@ -44,8 +44,8 @@ pub(crate) struct GateAllCall<'a> {
     pub view: ViewName,
 }
 
-/// What is to be shown: the message that the bytes of this word are read as, by the type of this
-/// full name in the files.
+/// What is to be shown: the message that the bytes of this argument are read as, by the type of
+/// this full name in the files.
 #[derive(Clone, Copy, Debug)]
 pub(crate) struct ShowCall<'a> {
     pub files: Files<'a>,
@@ -53,7 +53,7 @@ pub(crate) struct ShowCall<'a> {
     pub word: &'a str,
 }
 
-/// The words of a command line, as they are meant.
+/// The arguments of a command line, as they are meant.
 #[derive(Clone, Copy, Debug)]
 pub(crate) enum Call<'a> {
     /// The descriptor set of these source files, and of all that they import.

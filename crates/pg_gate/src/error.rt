@@ -19,15 +19,15 @@ pub enum Side {
 /// Why a side does not compile.
 #[derive(Debug, PartialEq, Eq, Drop, Error)]
 pub enum Fault {
-    /// Its texts can't be linked, or its descriptor set isn't there: by the code of that fault, at
-    /// its place.
+    /// Its source files can't be linked, or its descriptor set isn't there: by the code of that
+    /// fault, at its place.
     #[error("{0}")]
     Link(LinkError),
-    /// They break a rule of the language: by its code, at its place.
+    /// Its source files break a rule of the language: by its code, at its place.
     #[error("{0}")]
     Check(CheckError),
-    /// Its descriptor set is refused, or what its texts declare has none: by the code of the codec
-    /// of messages, of the set, or of the rule that it breaks.
+    /// Its descriptor set is refused, or what its source files declare has none: by the code of the
+    /// codec of messages, of the set, or of the rule that it breaks.
     #[error("{0}")]
     Set(FdsError),
 }
@@ -51,8 +51,7 @@ pub enum GateError {
     /// E904: the sink failed.
     #[error("The output could not be written.")]
     WriteFailed,
-    /// E905: a word that stands for bytes has an odd number of hexadecimal digits, or another
-    /// character.
+    /// E905: an argument for bytes has an odd number of hexadecimal digits, or another character.
     #[error("The word is not pairs of hexadecimal digits.")]
     BadHex,
 }
@@ -61,7 +60,7 @@ impl Fault {
     ghost use Rattle.std.specs.Prelude.{◌≡◌};
     ghost use Rattle.pg_gate.specs.print.Codes.{fault_code};
 
-    /// The number behind the E by which users know the fault.
+    /// The number after the E by which users know the fault.
     pub(crate) fn code(&self) -> u16
         ensures { result ≡ fault_code self.now }
     {
@@ -77,7 +76,7 @@ impl GateError {
     ghost use Rattle.std.specs.Prelude.{◌≡◌};
     ghost use Rattle.pg_gate.specs.print.Codes.{code_of};
 
-    /// The number behind the E by which users know the error: of a side that does not compile, the
+    /// The number after the E by which users know the error: of a side that does not compile, the
     /// one that says what is wrong there.
     pub fn code(&self) -> u16
         ensures { result ≡ code_of self.now }

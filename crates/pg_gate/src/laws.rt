@@ -1,4 +1,5 @@
-//! Laws about what words call for, and about answers. Each is the contract of a function that does nothing.
+//! Laws about what arguments call for, and about answers. Each is the contract of a function that
+//! does nothing.
 
 ghost use Rattle.pg_gate.specs.answer.Agreement.{AllSaysWhatGateSays};
 ghost use Rattle.pg_gate.specs.call.Call.{OneCall};

@@ -1,4 +1,5 @@
-//! The whole product: the words of a command line, an answer, its text in a sink and its status.
+//! The whole product: the arguments of a command line, an answer, its output in a sink and its
+//! status.
 #![tactic(auto)]
 
 mod answer;

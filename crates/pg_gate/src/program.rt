@@ -1,4 +1,4 @@
-//! The whole program: words, call, answer, text, sink and status.
+//! The whole program: arguments, call, answer, output, sink and status.
 ghost use Rattle.std.specs.Prelude.{◌≡◌, ◌≢◌, ◌⊎◌, ◌+◌, IfErr, IfOk, IsErrOf, OnOk};
 ghost use Rattle.clap.specs.Walk.{texts};
 ghost use Rattle.clap.specs.Words.{kind_of};
@@ -15,7 +15,7 @@ use clap::error::ErrorKind;
 use pg_link::Sources;
 use std::alloc::Global;
 
-/// The status of words that `clap` doesn't take, as of those that ask for help.
+/// The status of arguments that `clap` doesn't take, as of those that ask for help.
 const USAGE: u8 = 4;
 
 impl Call<'_> {
@@ -34,7 +34,7 @@ impl Call<'_> {
     }
 }
 
-/// Writes why `clap` doesn't take the words, as it says it itself.
+/// Writes why `clap` doesn't take the arguments, as it says it itself.
 fn usage<W: Sink>(alloc: Global, error: &clap::Error, sink: &mut W) -> Result<u8, GateError>
     ensures usage { IfOk result (λ status.
         (status ≡ USAGE) × (kind_of error.now ≢ ErrorKind.OutOfMemory)) }
@@ -53,14 +53,14 @@ fn usage<W: Sink>(alloc: Global, error: &clap::Error, sink: &mut W) -> Result<u8
     Ok(USAGE)
 }
 
-/// The whole program, on the words after its name: answers the call from its sources, writes the
-/// answer's text to the sink, and gives the exit status.
+/// The whole program, on the arguments after its name: answers the call from its sources, writes
+/// the answer's output to the sink, and gives the exit status.
 ///
 /// 0: compatible, or a set is written, a message shown, or types named. 1: breaks, of two
 /// directions either, or of all types one. 2: refused, or of all types one is removed. 3: a source
 /// failed. 4: help, or a bad command line. 5: a certificate says how many bytes a message has at
 /// least that breaks, and no more. The only errors are `Memory`, with the sink untouched, and
-/// `WriteFailed`, after which the sink took a beginning of the text.
+/// `WriteFailed`, after which the sink took a beginning of the output.
 pub fn run<S: Sources, T: Sources, W: Sink>(
     alloc: Global,
     words: &[&str],
@@ -68,16 +68,16 @@ pub fn run<S: Sources, T: Sources, W: Sink>(
     new: &mut T,
     sink: &mut W,
 ) -> Result<u8, GateError>
-    // Only words that `clap` doesn't take end with the status of usage.
+    // Only arguments that `clap` doesn't take end with the status of usage.
     ensures usage { IfOk result (λ status. status ≡ USAGE → IsRefused (texts words.now)) }
 
-    // Else the sink took exactly the text of the words' call and an answer granted to it.
+    // Else the sink took exactly the output of the arguments' call and an answer granted to it.
     ensures printed { IfOk result (λ status. status ≢ USAGE → Prints
         (Grants (seen S.Sources old.old old.new) (seen T.Sources new.old new.new))
         (texts words.now) status (W.taken sink.old) (W.taken sink.new)) }
 
-    // A sink that fails took a beginning of it; or `clap` doesn't take the words, and the sources
-    // are as they were. Memory that fails leaves the sink alone.
+    // A sink that fails took a beginning of it; or `clap` doesn't take the arguments, and the
+    // sources are as they were. Memory that fails leaves the sink alone.
     ensures begun { IsErrOf result GateError.WriteFailed → Begins
         (Grants (seen S.Sources old.old old.new) (seen T.Sources new.old new.new))
         (texts words.now) (W.taken sink.old) (W.taken sink.new)
@@ -87,7 +87,7 @@ pub fn run<S: Sources, T: Sources, W: Sink>(
     ensures kept { Keeps (W.taken sink.old) (W.taken sink.new) }
     ensures counted { W.failures sink.new ≡ W.failures sink.old + failures_in result }
 
-    // Words that are no call leave the sources as they were. Where memory runs out, no source
+    // Arguments that are no call leave the sources as they were. Where memory runs out, no source
     // failed, or as an answer reports that is granted.
     ensures unasked { IfOk result (λ status. status ≡ USAGE
         → (old.new ≡ old.old) × (new.new ≡ new.old)) }

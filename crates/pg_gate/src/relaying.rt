@@ -14,7 +14,7 @@ use std::alloc::Global;
 
 /// What a program of the new schema hands on of bytes: the encoding of the message that it reads
 /// them as by the pair's new type, which its schema has, at any depth. Records that the type
-/// doesn't accept stand behind its own fields, byte for byte and in the order read.
+/// doesn't accept follow its own fields, byte for byte and in the order read.
 ///
 /// Take bytes that encode a message of the pair's old type which has no unknown records at any
 /// depth. Where the two types are compatible under a view and `pg_pairs::returns` answers yes, the

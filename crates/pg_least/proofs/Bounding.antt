@@ -13,7 +13,7 @@ use Rattle.pg_pairs.specs.Choices.{number_for}
 use Rattle.pg_pairs.specs.Covering.{same_pair, distinct}
 use Rattle.pg_pairs.specs.LeastCosts.{IsNoMore}
 use Rattle.pg_cert.specs.declared.bounds.PairBound.{PairBound}
-use Rattle.pg_cert.specs.Bounds.{are_bounds, bound_in, is_bound}
+use Rattle.pg_cert.specs.Certificate.{are_bounds, bound_in, is_bound}
 use Rattle.pg_least.specs.declared.arcs.Arc.{Arc}
 use Rattle.pg_least.specs.Exact.{pairs_of}
 use Rattle.pg_least.specs.Graphs.{IsArc, arcs_by, arcs_to_numbers}

@@ -5,7 +5,7 @@ use Rattle.std.specs.List.Sorted.{IsPartitionPoint}
 use Rattle.pg_least.specs.declared.arcs.Arc.{Arc}
 use Rattle.pg_least.specs.Graphs.{arcs_to}
 
--- those to a place stand together
+-- the arcs to an index are next to each other
 together : (xs : List Arc) (at s n : ℕ) → s + n ≤ length xs → ((k : ℕ) (d : Arc) → k < s → (get_or xs k d).child < at) → ((k : ℕ) (d : Arc) → s ≤ k → k < s + n → (get_or xs k d).child ≡ at)
     → ((k : ℕ) (d : Arc) → s + n ≤ k → k < length xs → at < (get_or xs k d).child) → take n (drop s xs) ≡ arcs_to xs at
 together [] at zero zero within below here above = refl

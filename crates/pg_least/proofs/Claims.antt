@@ -13,8 +13,7 @@ use Rattle.pg_pairs.specs.Covering.{children, distinct, same_pair, Covers}
 use Rattle.pg_pairs.specs.Laws.{ExactIsLeast, NoneIsCompatible, ReachedBy}
 use Rattle.pg_cert.proofs.Tables.{same_pair-refl}
 use Rattle.pg_cert.specs.declared.bounds.PairBound.{PairBound}
-use Rattle.pg_cert.specs.Bounds.{are_bounds, bound_in, is_bound}
-use Rattle.pg_cert.specs.Certificate.{Claim, IsWitnessedIfThere}
+use Rattle.pg_cert.specs.Certificate.{are_bounds, bound_in, is_bound, Claim, IsWitnessedIfThere}
 use Rattle.pg_cert.specs.Witness.{is_witness}
 use Rattle.pg_least.specs.Descent.{IsCarriedFrom, IsTableOf}
 use Rattle.pg_least.specs.Exact.{BoundSays, IsSearched, pairs_of}

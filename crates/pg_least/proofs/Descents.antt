@@ -134,7 +134,7 @@ one_path enum_view old new table pair (s ∷ r ∷ ss) (t ∷ u ∷ ts) h k =
     (subst (λ (p : Pair). IsPath enum_view old new table p (u ∷ ts)) below k.3) in
     ap₂ (λ (x : PairChoice) (xs : List PairChoice). x ∷ xs) (same_step s t (h.0 ∙ sym k.0) (same_choice h.1 k.1)) later
 
--- The message of the last of these steps, on the path to which stands that first one. It is what the path carries from there on.
+-- The message of the last of these steps, whose path begins with that first one. It is what the path carries from there on.
 pub record IsInside (enum_view : EnumView) (old new : Shape) (first : PairChoice) (on steps : List PairChoice) (m : Kept) : Type 0 where
   pub table : Table
   pub last : PairChoice

@@ -14,7 +14,7 @@ use Rattle.pg_pairs.specs.Laws.{ExactIsLeast, NoneIsCompatible}
 use Rattle.pg_pairs.specs.LeastCosts.{LeastCostsAreExact, least_cost}
 use Rattle.pg_pairs.specs.Reached.{IsLedTo, LeadsTo, onwards}
 use Rattle.pg_cert.specs.declared.bounds.PairBound.{PairBound}
-use Rattle.pg_cert.specs.Bounds.{bound_in}
+use Rattle.pg_cert.specs.Certificate.{bound_in}
 use Rattle.pg_least.specs.Descent.{IsExactTable, IsTableOf}
 use Rattle.pg_least.specs.Exact.{BoundSays, pairs_of}
 use Rattle.pg_least.specs.From.{AreBoundsFrom, IsSettledFrom}

@@ -1,4 +1,4 @@
--- Tables as lists: what stands at a place is found, and what is found stands at one.
+-- Tables as lists: what is at an index is found, and what is found is at one.
 use Rattle.std.proofs.Common.{◌≡◌, ℕ, zero, suc, List, [], ◌∷◌, slice_get, Bool, true, false, not, ◌&&◌, cond, find, is_some, option_map, Option, Some, None, inl, inr, ⊎_elim, refl, sym, subst}
 use Rattle.std.proofs.lemmas.Bool.{and_parts}
 use Rattle.pg_pairs.proofs.Choosing.{same_pair-true}
@@ -7,7 +7,7 @@ use Rattle.pg_pairs.specs.Among.{IsAmong}
 use Rattle.pg_pairs.specs.Covering.{same_pair}
 use Rattle.pg_cert.proofs.Tables.{same_pair-refl}
 use Rattle.pg_cert.specs.declared.bounds.PairBound.{PairBound}
-use Rattle.pg_cert.specs.Bounds.{are_bounds, bound_in, is_bound}
+use Rattle.pg_cert.specs.Certificate.{are_bounds, bound_in, is_bound}
 use Rattle.pg_least.specs.Exact.{pairs_of}
 
 not_some : {A : Type 0} (o : Option A) → not (is_some o) ≡ true → o ≡ None
@@ -20,7 +20,7 @@ first_once b bounds h =
     let parts = and_parts (is_bound b.bound && not (is_some (bound_in bounds b.pair))) (are_bounds bounds) h in
     (not_some (bound_in bounds b.pair) (and_parts (is_bound b.bound) (not (is_some (bound_in bounds b.pair))) parts.0).1, parts.1)
 
--- what stands at a place is found
+-- what is at an index is found
 pub found_at : (bounds : List PairBound) (at : ℕ) (b : PairBound) → are_bounds bounds ≡ true → slice_get bounds at ≡ Some b → bound_in bounds b.pair ≡ Some b.bound
 found_at [] at b h here = absurd (cc)
 found_at (x ∷ bounds) zero b h here = let same : x ≡ b = cc in subst (λ y. bound_in (x ∷ bounds) y.pair ≡ Some y.bound) same (rw (same_pair-refl x.pair) refl)
@@ -30,7 +30,7 @@ found_at (x ∷ bounds) (suc at) b h here = of (same_pair b.pair x.pair) refl (f
     of false apart later = rw apart later
     of true same later = absurd (let none : bound_in bounds b.pair ≡ None = subst (λ p. bound_in bounds p ≡ None) (sym (same_pair-true b.pair x.pair same)) (first_once x bounds h).0 in cc)
 
--- what is found stands at a place
+-- what is found is at an index
 pub place_of : (bounds : List PairBound) (p : Pair) (bound : Option ℕ) → bound_in bounds p ≡ Some bound → (at : ℕ) × (slice_get bounds at ≡ Some (record { pair = p; bound = bound }))
 place_of [] p bound h = absurd (cc)
 place_of (b ∷ bounds) p bound h =

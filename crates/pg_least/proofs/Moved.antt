@@ -5,7 +5,7 @@ use Rattle.std.proofs.lemmas.List.Sums.{length-filter}
 use Rattle.std.proofs.lemmas.List.Sorted.{All-permutation, sum_by-IsPermutation, IsPermutation-sym}
 use Rattle.pg_pairs.specs.Among.{IsAmong}
 
--- what stands at a place stands in the list
+-- what is at an index is in the list
 at_place : {A : Type 0} (xs : List A) → All (λ x. IsAmong x xs) xs
 at_place xs k d inside = of xs k d inside
   where

@@ -10,7 +10,7 @@ use Rattle.pg_pairs.specs.Choices.{Table, choices}
 use Rattle.pg_pairs.specs.Covering.{children, IsExact}
 use Rattle.pg_pairs.specs.Among.{IsAmong}
 use Rattle.pg_cert.specs.declared.bounds.PairBound.{PairBound}
-use Rattle.pg_cert.specs.Bounds.{bound_in}
+use Rattle.pg_cert.specs.Certificate.{bound_in}
 use Rattle.pg_least.specs.Exact.{pairs_of}
 use Rattle.pg_least.specs.Path.{IsPath, carried_along}
 use Rattle.pg_pairs.specs.Reached.{IsReachedInOrder}

@@ -8,8 +8,7 @@ use Rattle.pg_pairs.specs.Choices.{number_for}
 use Rattle.pg_pairs.specs.Covering.{children, IsExact}
 use Rattle.pg_pairs.specs.Reached.{IsReachedInOrder}
 use Rattle.pg_cert.specs.declared.bounds.PairBound.{PairBound}
-use Rattle.pg_cert.specs.Bounds.{bound_in}
-use Rattle.pg_cert.specs.Certificate.{Claim, Holds}
+use Rattle.pg_cert.specs.Certificate.{bound_in, Claim, Holds}
 
 abbrev pub pairs_of : List PairBound → List Pair
 pairs_of bounds = map (λ (b : PairBound). b.pair) bounds

@@ -13,7 +13,7 @@ use Rattle.pg_pairs.specs.Covering.{children}
 use Rattle.pg_pairs.specs.Edges.{is_pair}
 use Rattle.pg_pairs.specs.Reached.{IsReachedFrom}
 use Rattle.pg_cert.specs.declared.bounds.PairBound.{PairBound}
-use Rattle.pg_cert.specs.Bounds.{bound_in}
+use Rattle.pg_cert.specs.Certificate.{bound_in}
 use Rattle.pg_least.specs.Descent.{IsExactTable}
 use Rattle.pg_least.specs.Exact.{BoundSays, pairs_of}
 use Rattle.pg_least.specs.Least.{AllLeast}

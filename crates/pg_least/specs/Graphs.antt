@@ -29,7 +29,7 @@ arcs_to_numbers arcs costs = filter (λ (a : Arc). is_some (cost_at costs a.chil
 abbrev pub relaxed_by : ℕ → Work → Work
 relaxed_by n work = record { settled = work.settled; relaxed = work.relaxed + n; opened = work.opened }
 
--- the arcs stand by the places that they lead to
+-- the arcs are in the order of the indices that they lead to
 abbrev pub AreByChild : List Arc → Type 0
 AreByChild arcs = IsNonDecreasingBy (λ (a : Arc). a.child) arcs
 

@@ -8,8 +8,7 @@ use Rattle.pg_pairs.specs.EnumView.{EnumView}
 use Rattle.pg_pairs.specs.Carried.{carried, choice_child}
 use Rattle.pg_pairs.specs.Cheapest.{cheapest}
 use Rattle.pg_pairs.specs.Choices.{Table, choices}
-use Rattle.pg_cert.specs.Bounds.{bound_in}
-use Rattle.pg_cert.specs.Certificate.{Claim}
+use Rattle.pg_cert.specs.Certificate.{bound_in, Claim}
 use Rattle.pg_least.specs.declared.witness.PairChoice.{PairChoice}
 
 -- The path of a witness: from the pair by its cheapest choice, of several the first, to the choice's child, and so on

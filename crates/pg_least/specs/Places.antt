@@ -5,7 +5,7 @@ use Rattle.pg_pairs.specs.declared.choice.Pair.{Pair}
 use Rattle.pg_pairs.specs.ByIndices.{by_indices}
 use Rattle.pg_least.specs.declared.arcs.Arc.{Arc}
 
--- a place for each of the first pairs, and only where the pair stands
+-- an index for each of the first pairs, and only that of the pair
 pub record ArePlaces (pairs : List Pair) (first : ℕ) (places : BTreeMap (ℕ × ℕ) ℕ) : Type 0 where
   pub sound : (p : Pair) (at : ℕ) → get by_indices places (p.old.index, p.new.index) ≡ Some at
       → slice_get pairs at ≡ Some p

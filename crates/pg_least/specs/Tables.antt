@@ -3,7 +3,7 @@ use Rattle.std.specs.Prelude.{◌≡◌, ℕ, List, slice_get, is_some, true, Op
 use Rattle.pg_pairs.specs.declared.choice.Pair.{Pair}
 use Rattle.pg_pairs.specs.Among.{IsAmong}
 use Rattle.pg_cert.specs.declared.bounds.PairBound.{PairBound}
-use Rattle.pg_cert.specs.Bounds.{are_bounds, bound_in}
+use Rattle.pg_cert.specs.Certificate.{are_bounds, bound_in}
 use Rattle.pg_least.specs.Exact.{pairs_of}
 
 -- A table has a bound for each pair in its lines and for no other, and the bound of a line is that of its pair.

@@ -49,7 +49,7 @@ fn place_of(places: &BTreeMap<(u32, u32), usize>, pair: Pair) -> usize
     }
 }
 
-/// Puts the edges of a place's pair behind the arcs.
+/// Adds the edges of the pair of that index to the arcs.
 fn add_arcs(
     arcs: &mut Vec<Arc>,
     places: &BTreeMap<(u32, u32), usize>,
@@ -118,7 +118,7 @@ pub(crate) fn arcs_of<G: Prices>(
     Ok(arcs)
 }
 
-/// Those to that place, of arcs that stand by the places that they lead to.
+/// The arcs to the pair of that index, of arcs in the order of the pairs that they lead to.
 pub(crate) fn arcs_to(arcs: &[Arc], at: usize) -> &[Arc]
     requires { AreByChild arcs.now }
     ensures { result.now ≡ arcs_to arcs.now at }

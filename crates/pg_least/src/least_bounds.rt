@@ -4,7 +4,7 @@ ghost use Rattle.std.specs.Prelude.{◌≡◌, ◌+◌, ◌++◌, ◌∷◌, [],
 ghost use Rattle.std.specs.List.{AllByRecursion};
 ghost use Rattle.pg_pairs.specs.Covering.{distinct};
 ghost use Rattle.pg_pairs.specs.Works.{opened_more};
-ghost use Rattle.pg_cert.specs.Bounds.{is_bound};
+ghost use Rattle.pg_cert.specs.Certificate.{is_bound};
 ghost use Rattle.pg_least.specs.From.{IsSettledFrom};
 ghost use Rattle.pg_least.specs.Least.{IsCounted, IsSettled, lines, opened_by};
 
@@ -15,7 +15,7 @@ use pg_pairs::laws::from_one_root;
 use pg_pairs::{Pair, Prices, Work, reached_from};
 use std::alloc::{AllocError, Global};
 
-/// Puts what the pair costs without a child behind the other costs.
+/// Adds what the pair costs without a child to the other costs.
 fn add_base<G: Prices>(
     alloc: Global,
     graph: &G,
@@ -70,7 +70,7 @@ fn table_of(alloc: Global, pairs: &[Pair], costs: &[Option<u32>]) -> Result<Boun
     match Bounds::new(alloc, bounds) {
         Ok(bounds) => Ok(bounds),
         Err((BoundsError::Memory, _)) => Err(AllocError),
-        // Each pair stands once, and each number is one that a message may have.
+        // Each pair is there once, and each number is one that a message may have.
         Err((BoundsError::Invariant, _)) => unreachable!(),
     }
 }

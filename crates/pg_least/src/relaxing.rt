@@ -59,7 +59,7 @@ fn relax<G: Prices>(
     progress.queue.push(cost, arc.from)
 }
 
-/// The same for each of those arcs.
+/// Lowers the costs by each of those arcs.
 fn relax_all<G: Prices>(
     graph: &G,
     arcs: &[Arc],
@@ -138,8 +138,8 @@ fn waiting(alloc: Global, costs: &[Option<u32>]) -> Result<Queue, AllocError>
 }
 
 /// Lowers the costs of places, which are those that they have without an arc, until each is the
-/// least of this and of what its arcs cost at the costs of their children. The arcs stand by the
-/// places that they lead to.
+/// least of this and of what its arcs cost at the costs of their children. The arcs are in the
+/// order of the places that they lead to.
 ///
 /// Refused only where memory is.
 pub(crate) fn settle_all<G: Prices>(

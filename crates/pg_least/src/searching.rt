@@ -10,7 +10,7 @@ ghost use Rattle.pg_pairs.specs.Choices.{number_for};
 ghost use Rattle.pg_pairs.specs.Edges.{edges};
 ghost use Rattle.pg_pairs.specs.EnumView.{by_numbers};
 ghost use Rattle.pg_pairs.specs.GraphView.{seen};
-ghost use Rattle.pg_cert.specs.Bounds.{bound_in};
+ghost use Rattle.pg_cert.specs.Certificate.{bound_in};
 ghost use Rattle.pg_least.specs.Beside.{IsBesideClaim};
 ghost use Rattle.pg_least.specs.Descent.{IsTableOf};
 ghost use Rattle.pg_least.specs.Exact.{IsSearched};

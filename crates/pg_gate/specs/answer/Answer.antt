@@ -1,7 +1,7 @@
 -- What the gate answers of the old and the new message type of one full name. What contracts see of a certificate is
 -- a claim. A view says which numbers of two enums are the same item, and an enum view also which of the others is
 -- least; `gate` compares enums by their numbers.
-use Rattle.std.specs.Prelude.{◌≡◌, ◌≤◌, ℕ, List, length, Some, None}
+use Rattle.std.specs.Prelude.{◌≡◌, ◌≤◌, ℕ, ⊤, List, length, Some, None}
 use Rattle.pg_schema.specs.declared.parts.Parts.{Parts}
 use Rattle.pg_schema.specs.Parts.{shape_of}
 use Rattle.pg_dyn.specs.Breaking.{Breaks, Compatible, Least}
@@ -11,15 +11,14 @@ use Rattle.pg_dyn.specs.Kept.{Kept, message_of, type_of}
 use Rattle.pg_dyn.specs.Message.{Message}
 use Rattle.pg_dyn.specs.declared.view_name.ViewName.TheVariants as views
 use Rattle.pg_pairs.specs.EnumView.{EnumView, by_numbers}
-use Rattle.pg_cert.specs.Bounds.{bound_in}
-use Rattle.pg_cert.specs.Certificate.{Claim, Holds}
+use Rattle.pg_cert.specs.Certificate.{bound_in, Claim, Holds}
 use Rattle.pg_least.specs.Exact.{IsSearched}
 use Rattle.pg_least.specs.Loss.{IsLost, NewSees, OldWrites}
 use Rattle.pg_least.specs.Roots.{AreRoots, Lacks}
-use Rattle.pg_gate.specs.Errors.{IsError}
 use Rattle.pg_gate.specs.declared.answer.gate.Answer.{Answer}
 use Rattle.pg_gate.specs.declared.answer.gate.Answer.TheVariants as answers
 use Rattle.pg_gate.specs.declared.error.GateError.{GateError}
+use Rattle.pg_gate.specs.declared.error.GateError.TheVariants as errors
 
 -- No message breaks: each message that the old writer encodes the new reader sees whole. The certificate is that of
 -- the root types, and it passes the checker; each bound in it is least. The root's bound in it is 'none', and there
@@ -36,8 +35,8 @@ pub record IsCompatible (enum_view : EnumView) (old new : Parts) (root : List �
 
 -- The witness is a message of the old root type, without unknown records, and it breaks: the new reader doesn't see
 -- it whole. No message that the old writer encodes and the new reader doesn't see whole has fewer bytes. The
--- certificate is that of the root types, and it passes the checker; each bound in it is least. The witness's bytes
--- stand in it.
+-- certificate is that of the root types, and it passes the checker; each bound in it is least. It has the witness's
+-- bytes.
 pub record IsBroken (enum_view : EnumView) (old new : Parts) (root : List ℕ) (witness : Kept) (certificate : Claim)
     : Type 0 where
   pub roots : AreRoots old new root certificate.root
@@ -71,6 +70,9 @@ abbrev pub IsAnswer : Parts → Parts → List ℕ → Answer → Type 0
 IsAnswer old new root answer =
     ((certificate_of answer).view ≡ views.Numbers) × IsAnswerBy by_numbers old new root answer
 
--- a refusal names a root that is missing: the old one first
+-- A refusal names a root that is missing: the old one first. Out of memory says nothing.
 abbrev pub IsRefusedRoot : Parts → Parts → List ℕ → GateError → Type 0
-IsRefusedRoot old new root = IsError (Lacks old root) ((Lacks old root → ⊥) × Lacks new root) ⊥ (λ side fault. ⊥)
+IsRefusedRoot old new root errors.Memory = ⊤
+IsRefusedRoot old new root errors.RootMissingOld = Lacks old root
+IsRefusedRoot old new root errors.RootMissingNew = (Lacks old root → ⊥) × Lacks new root
+IsRefusedRoot old new root error = ⊥

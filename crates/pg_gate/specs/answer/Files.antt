@@ -1,4 +1,4 @@
--- What a side's texts declare or its descriptor set states, and what either is refused for.
+-- What a side's source files declare or its descriptor set states, and what either is refused for.
 use Rattle.std.specs.Prelude.{◌≡◌, ℕ, Bool, nat_eq, List, [], ◌∷◌, map, Option, Some, None, IsTrue, codes, if◌then◌else◌}
 use Rattle.std.specs.List.{ends_with}
 use Rattle.std.specs.Borrow.{Bor}
@@ -60,12 +60,12 @@ IsFault link rule set (faults.Set error) = set error
 
 -- ---- source files
 
--- no name in linked files stands twice, but for parts of packages, and each use of one resolves
+-- no name in linked files is declared twice, but for parts of packages, and each use of one resolves
 abbrev pub IsSettled : List Entry → Type 0
 IsSettled files = (targets : List (List Target)) × IsLinkedUp (record { files = files; targets = targets })
 
--- The schema of texts: just what they declare, which keep to the rules of the language. The files are those of the
--- roots and of all that they import, with texts that the source may give.
+-- The schema of source files: just what they declare, which keep to the rules of the language. The files are those of
+-- the roots and of all that they import, with contents that the source may give.
 pub record IsCompiled (w : World) (schema : Parts) : Type 0 where
   pub files : List Entry
   pub linked : IsLinked w files
@@ -145,7 +145,7 @@ abbrev pub IsSideBy : Option Text → World → Parts → Type 0
 IsSideBy (Some path) w schema = IsRead w.may_give w.folder path schema
 IsSideBy None w schema = IsCompiled w schema
 
--- the schema of a side: what its set states, or its texts declare
+-- the schema of a side: what its set states, or its source files declare
 abbrev pub IsSide : World → Parts → Type 0
 IsSide w schema = IsSideBy (set_at w.roots) w schema
 
@@ -153,7 +153,7 @@ abbrev pub IsSideFaultBy : Option Text → World → Fault → Type 0
 IsSideFaultBy (Some path) w fault = IsFaultOfRead w.may_give w.may_lack w.folder path fault
 IsSideFaultBy None w fault = IsFaultOf w fault
 
--- what is wrong with a side: with its set, or with its texts
+-- what is wrong with a side: with its set, or with its source files
 abbrev pub IsFaultOfSide : World → Fault → Type 0
 IsFaultOfSide w fault = IsSideFaultBy (set_at w.roots) w fault
 

@@ -24,7 +24,7 @@ use Rattle.pg_gate.specs.declared.answer.gate.Answer.{Answer}
 use Rattle.pg_gate.specs.print.Refusals.{refusal_for}
 use Rattle.pg_gate.specs.answer.Showing.{IsBadWord, IsExplained, IsRefusedWord, IsShown}
 use Rattle.pg_gate.specs.answer.Steps.{AreSteps}
-use Rattle.pg_gate.specs.answer.TypeNames.{ListsTypes}
+use Rattle.pg_gate.specs.print.Text.{ListsTypes}
 use Rattle.pg_gate.specs.answer.Verified.{IsClaimFault, IsHeldBy}
 use Rattle.pg_gate.specs.answer.ViewAnswer.{IsAnswerUnder}
 use Rattle.pg_gate.specs.declared.call.error.CallError.{CallError}
@@ -140,7 +140,7 @@ pub record IsGiven (w : World) (path : Text) (holds : Text → Type 0) : Type 0 
   pub given : IsTrue (w.may_give path bytes)
   pub so : holds bytes
 
--- what is found of a certificate, whose bytes the old source may give for its path as it stands
+-- what is found of a certificate, whose bytes the old source may give for its path as it is given
 abbrev pub IsVerified : Text → World → World → Finding → Type 0
 IsVerified path old new finding = Between old new (λ a b. IsGiven old path (λ bytes. IsHeldBy a b bytes finding))
 

@@ -16,7 +16,7 @@ use Rattle.pg_gate.specs.print.Refusals.{refusal_of_bytes}
 use Rattle.pg_gate.specs.print.Text.{refusal_of}
 use Rattle.pg_gate.specs.declared.print.reply.Readings.{Readings}
 
--- the text is that of the message that the bytes are read as by the type, and no message in it stands too deep
+-- the output is that of the message that the bytes are read as by the type, and no message in it is too deep
 pub record IsReadAs (schema : Parts) (type : TypeId) (bytes text : Text) : Type 0 where
   pub shows : Shows (names_of schema) (shape_of schema) type bytes text
   pub within : (place : ℕ) → TooDeepIn (shape_of schema) most_levels (fields (shape_of schema) type) bytes place → ⊥

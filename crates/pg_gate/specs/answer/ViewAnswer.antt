@@ -6,8 +6,8 @@ use Rattle.pg_pairs.specs.NamedView.{seen_under}
 use Rattle.pg_gate.specs.answer.Answer.{IsAnswerBy, certificate_of}
 use Rattle.pg_gate.specs.declared.answer.gate.Answer.{Answer}
 
--- The same promise, with the numbers of two enums compared as the view of that name does. The certificate names the
--- view.
+-- The promise of `gate`, with the numbers of two enums compared as the view of that name does. The certificate names
+-- the view.
 abbrev pub IsAnswerUnder : ViewName → Parts → Parts → List ℕ → Answer → Type 0
 IsAnswerUnder view old new root answer =
     ((certificate_of answer).view ≡ view) × IsAnswerBy (seen_under view old new) old new root answer

@@ -53,7 +53,7 @@ compile_app = with_rules (new_app (codes "compile")) (folder (codes "dir") ∷ p
 abbrev pub view_names : List Text
 view_names = codes "numbers" ∷ codes "names" ∷ []
 
--- the gate's, with the names of the views behind this reference
+-- the gate's, with the names of the views that this reference leads to
 abbrev pub gate_app : Bor (List (Bor Text)) → App
 gate_app names = with_rules (new_app (codes "gate")) (folder (codes "old-dir") ∷ folder (codes "new-dir")
     ∷ named (codes "old") ∷ named (codes "new") ∷ named (codes "type") ∷ flag (codes "cert")

@@ -42,7 +42,7 @@ asked_all explain view = gate_all (record {
 pub record WorkedCalls : Type 0 where
   pub by_numbers : CallsFor (gate_words (codes "--view" ∷ codes "numbers" ∷ [])) (gate_by views.Numbers)
   pub by_names : CallsFor (gate_words (codes "--view" ∷ codes "names" ∷ [])) (gate_by views.Names)
-  pub behind_a_mark : CallsFor (gate_words (codes "--view=names" ∷ [])) (gate_by views.Names)
+  pub after_a_mark : CallsFor (gate_words (codes "--view=names" ∷ [])) (gate_by views.Names)
   pub no_view : CallsFor (gate_words []) (gate_by views.Numbers)
   pub with_readings : CallsFor (gate_words (codes "--explain" ∷ [])) (asked_gate true views.Numbers)
   pub another_word : IsRefused (gate_words (codes "--view" ∷ codes "other" ∷ []))

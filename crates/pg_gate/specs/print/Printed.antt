@@ -50,7 +50,7 @@ status_of (reply.Both forward backward) = either_status (finding_status forward)
 status_of (reply.All all) = all_status all
 status_of (reply.Refused r) = refusal_status r
 
--- ---- texts
+-- ---- outputs
 
 abbrev pub text_of : Text → Reply → Text
 text_of root (reply.Set bytes) = bytes.items

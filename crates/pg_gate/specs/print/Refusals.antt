@@ -31,7 +31,7 @@ located_by false place = InPlace place
 abbrev pub located : Place → Location
 located place = located_by (nat_eq place.line 0) place
 
--- at a place of a text, or at none
+-- at a place of a source file, or at none
 abbrev pub location_at : Option Place → Location
 location_at (Some place) = located place
 location_at None = Nowhere

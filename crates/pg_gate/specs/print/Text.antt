@@ -1,5 +1,5 @@
 -- The lines of an answer.
-use Rattle.std.specs.Prelude.{ℕ, List, [], ◌∷◌, ◌++◌, ◌/◌, ◌%◌, Option, Some, None, false, codes, decimal}
+use Rattle.std.specs.Prelude.{◌≡◌, ℕ, List, [], ◌∷◌, ◌++◌, ◌/◌, ◌%◌, Option, Some, None, false, codes, decimal}
 use Rattle.std.specs.Prelude.{length, string_bytes}
 use Rattle.std.specs.Fmt.{digits}
 use Rattle.std.specs.List.{flat_map}
@@ -18,6 +18,8 @@ use Rattle.pg_gate.specs.declared.print.reply.Readings.{Readings}
 use Rattle.pg_gate.specs.declared.answer.step.NamedField.{NamedField}
 use Rattle.pg_gate.specs.declared.answer.step.Step.{Step}
 use Rattle.pg_gate.specs.declared.answer.verified.Verified.{Verified}
+use Rattle.pg_schema.specs.declared.parts.message_type.MessageType.{MessageType}
+use Rattle.pg_schema.specs.declared.parts.Parts.{Parts}
 
 -- the end of a line
 abbrev pub line_end : Text
@@ -44,7 +46,7 @@ abbrev pub place_of : Place → Text
 place_of place = string_bytes place.file ++ (codes ":" ++ (decimal place.line
     ++ (codes ":" ++ decimal place.column)))
 
--- a side that is no text has no places
+-- a side that is no source files has no places
 abbrev pub place_or_dash : Option Place → Text
 place_or_dash (Some place) = place_of place
 place_or_dash None = codes "-"
@@ -103,14 +105,14 @@ side_before (Some s) = side_of s ++ codes " "
 side_before None = []
 
 -- a file's name, where it isn't empty
-abbrev pub behind_blank : Text → Text
-behind_blank [] = []
-behind_blank (byte ∷ bytes) = codes " " ++ (byte ∷ bytes)
+abbrev pub after_space : Text → Text
+after_space [] = []
+after_space (byte ∷ bytes) = codes " " ++ (byte ∷ bytes)
 
 abbrev pub location_of : Location → Text
 location_of location.Nowhere = []
 location_of (location.InPlace place) = codes " " ++ place_of place
-location_of (location.InFile file) = behind_blank (string_bytes file)
+location_of (location.InFile file) = after_space (string_bytes file)
 location_of (location.AtByte at) = codes " at " ++ decimal at
 location_of (location.AtPair names) = codes " " ++ (string_bytes names.old ++ (codes " " ++ string_bytes names.new))
 location_of (location.AtChoice names number case) =
@@ -121,3 +123,13 @@ location_of (location.AtChoice names number case) =
 abbrev pub refusal_of : Refusal → Text
 refusal_of refusal = codes "refused " ++ (side_before refusal.side ++ (codes "E"
     ++ (decimal refusal.code ++ (location_of refusal.location ++ line_end))))
+
+-- ---- names of types
+
+-- the full name of a message type, on a line of its own
+abbrev pub name_line : MessageType → Text
+name_line type = string_bytes type.name ++ line_end
+
+-- the output is the names of all message types that the schema declares, in order of declaration, and nothing else
+abbrev pub ListsTypes : Parts → Text → Type 0
+ListsTypes schema text = text ≡ flat_map name_line schema.types.items

@@ -60,7 +60,7 @@ pub(crate) struct Compiled {
 }
 
 impl Compiled {
-    /// The same, without the files unless they are to be kept.
+    /// The side without its files, unless they are to be kept.
     pub(crate) fn with_files(self, keep: bool) -> Compiled
         ensures { result.schema ≡ self.schema }
     {

@@ -1,4 +1,4 @@
-//! The lines and columns of bytes of a text, one behind the other.
+//! The lines and columns of bytes of a source file, one after the other.
 ghost use Rattle.std.specs.Prelude.{◌≡◌, ◌≤◌, length, take};
 ghost use Rattle.pg_lex.specs.Place.{column, line};
 ghost use Rattle.pg_gate.specs.inner.Cursor.{StandsAt};
@@ -6,7 +6,7 @@ ghost use Rattle.pg_gate.specs.inner.Cursor.{StandsAt};
 use pg_lex::place;
 use std::marker::Model;
 
-/// A byte of a text, or its end, by the offset, the line and the column.
+/// A byte of a source file, or its end, by the offset, the line and the column.
 #[derive(Clone, Copy)]
 struct Stand {
     at: usize,
@@ -14,14 +14,14 @@ struct Stand {
     column: usize,
 }
 
-/// The first byte of any text.
+/// The first byte of any source file.
 const FIRST: Stand = Stand {
     at: 0,
     line: 1,
     column: 1,
 };
 
-/// Goes on in the text, over bytes that aren't passed yet.
+/// Goes on in the source file, over bytes that aren't passed yet.
 fn gone_on(text: &[u8], from: Stand, to: usize) -> Stand
     requires stands { StandsAt text.now from }
     requires ahead { from.at ≤ to }
@@ -42,7 +42,7 @@ fn gone_on(text: &[u8], from: Stand, to: usize) -> Stand
     }
 }
 
-/// Goes down a text, and counts the lines and columns of what it passes once.
+/// Goes down a source file, and counts the lines and columns of what it passes once.
 #[derive(Drop)]
 pub(crate) struct Cursor<'a> {
     text: &'a [u8],
@@ -61,7 +61,7 @@ impl<'a> Model for Cursor<'a> {
 }
 
 impl<'a> Cursor<'a> {
-    /// At the text's first byte.
+    /// The cursor at the first byte.
     pub(crate) fn new(text: &'a [u8]) -> Cursor<'a>
         ensures { result ≡ text.now }
     {
@@ -69,7 +69,7 @@ impl<'a> Cursor<'a> {
     }
 
     /// The line and the column of a byte, to which it goes: those that `place` of `pg_lex` gives.
-    /// Only for a byte that is passed already it begins anew at the text's first.
+    /// Only for a byte that is passed already it begins anew at the first.
     pub(crate) fn place(&mut self, at: usize) -> (usize, usize)
         ensures line { result.0 ≡ line (take at self.old) }
         ensures column { result.1 ≡ column (take at self.old) }

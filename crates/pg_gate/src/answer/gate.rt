@@ -74,7 +74,7 @@ fn roots(old: &Schema, new: &Schema, root: &str) -> Result<Pair, GateError>
 /// Whether the new reader sees all that the old writer writes, for the message types of this full
 /// name: that it does, or a message of the old type that breaks, of which none has fewer bytes;
 /// either with the certificate of the two types, which a checker takes. Enums are compared by the
-/// view of that name, which stands in the certificate: under `Names` a number that both enums
+/// view of that name, which is in the certificate: under `Names` a number that both enums
 /// declare is another item where they give it other names.
 ///
 /// Refuses an old schema without the name (`RootMissingOld`), and else a new one without it
@@ -130,14 +130,14 @@ pub fn gate(alloc: Global, old: &Schema, new: &Schema, root: &str) -> Result<Ans
     gate_with(alloc, old, new, root, ViewName::Numbers)
 }
 
-/// The same over two sources: the schemas are those of texts that these may give at the paths, and
-/// of all that they import. A fault of the new side is told only where the old side has a schema. A
-/// side of one path that doesn't end in `.proto` is the descriptor set there, and its schema the
-/// one that the set states.
+/// What `gate` says of two sources: the schemas are those of source files that these may give at
+/// the paths, and of all that they import. A fault of the new side is reported only where the old
+/// side has a schema. A side of one path that doesn't end in `.proto` is the descriptor set there,
+/// and its schema the one that the set states.
 ///
-/// Refuses a side with its first fault (`Compile`): what its texts can't be linked for, or the
-/// first rule of the language that they break, at its place, or what its set is refused for; and a
-/// missing root, as `gate` does. `Memory` is out of memory.
+/// Refuses a side with its first fault (`Compile`): what its source files can't be linked for, or
+/// the first rule of the language that they break, at its place, or what its set is refused for;
+/// and a missing root, as `gate` does. `Memory` is out of memory.
 pub fn gate_files<S: Sources, T: Sources>(
     alloc: Global,
     old: &mut S,
@@ -146,8 +146,8 @@ pub fn gate_files<S: Sources, T: Sources>(
     new_roots: &[&str],
     root: &str,
 ) -> Result<Answer, GateError>
-    // The answer is that of texts and sets that the sources may give, and so is each refusal. A
-    // fault of the new side comes only where the old side has a schema.
+    // The answer is that of source files and sets that the sources may give, and so is each
+    // refusal. A fault of the new side comes only where the old side has a schema.
     ensures answer { IfOk result (IsAnswerOfFiles root.now
         (world (S.may_give old.old) (S.may_lack old.old) (codes ".") (paths_of old_roots.now))
         (world (T.may_give new.old) (T.may_lack new.old) (codes ".") (paths_of new_roots.now))) }

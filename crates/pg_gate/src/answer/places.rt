@@ -1,6 +1,6 @@
 //! Where the fields of a side are declared: found for all steps of a witness by one pass over the
 //! files, so that long ways take no more than linear time. `Linked::place` goes by all names, and
-//! counts its text from the first byte, at each call.
+//! counts its source file from the first byte, at each call.
 
 use crate::answer::cursor::Cursor;
 use pg_link::{Linked, Place};
@@ -9,7 +9,7 @@ use pg_syntax::tree::{FileTree, Message, Name, OneofPart, Part, Statement};
 use std::alloc::{AllocError, Global};
 use std::collections::BTreeMap;
 
-/// The place of a word: its file by number, the line and the column.
+/// The place of an identifier: its file by number, the line and the column.
 #[derive(Clone, Copy)]
 struct Spot {
     file: usize,

@@ -19,7 +19,7 @@ use pg_schema::{Schema, TypeId};
 use pg_show::{HexError, bytes_of_hex, show};
 use std::alloc::Global;
 
-/// The bytes of the word.
+/// The bytes that the argument spells.
 fn bytes_of(alloc: Global, word: &str) -> Result<Vec<u8>, GateError>
     ensures bytes { IfOk result (λ bytes. bytes_in word.now ≡ Some bytes.items) }
     ensures refused { IfErr result (IsUnspelled word.now) }
@@ -50,7 +50,7 @@ fn lines_of(
     }
 }
 
-/// The lines of the message that the bytes of the word are read as by the type of this full name.
+/// The lines of the message that the argument's bytes are read as by the type of this full name.
 fn shown_by(alloc: Global, schema: &Schema, root: &str, word: &str) -> Result<String, CallError>
     ensures shown { IfOk result (λ text. IsShown schema.now root.now word.now (string_bytes text)) }
     ensures refused { IfErr result (IsShowFault schema.now root.now word.now) }

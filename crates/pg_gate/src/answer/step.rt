@@ -12,7 +12,7 @@ pub(crate) struct NamedField {
     pub place: Option<Place>,
 }
 
-/// A field on a witness's path: by its number, as it stands in the old type and in the new one.
+/// A field on a witness's path: by its number, as the old type and the new one have it.
 #[derive(Debug, Drop)]
 pub(crate) struct Step {
     pub number: u32,

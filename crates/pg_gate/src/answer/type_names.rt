@@ -4,7 +4,7 @@ ghost use Rattle.pg_gate.specs.Failures.{side_failures};
 ghost use Rattle.pg_gate.specs.answer.Files.{IsSideError, paths_in};
 ghost use Rattle.pg_gate.specs.answer.Grants.{OfSide};
 ghost use Rattle.pg_gate.specs.inner.Sources.{Reads, world_of};
-ghost use Rattle.pg_gate.specs.answer.TypeNames.{ListsTypes};
+ghost use Rattle.pg_gate.specs.print.Text.{ListsTypes};
 
 use crate::answer::compile::compile_files;
 use crate::call::Files;

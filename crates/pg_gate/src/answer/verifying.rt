@@ -23,7 +23,7 @@ use pg_pairs::Pair;
 use pg_schema::{Schema, TypeId};
 use std::alloc::{AllocError, Global};
 
-/// The bytes of the certificate, for which the source is asked by its path as it stands.
+/// The bytes of the certificate, for which the source is asked by its path as it is given.
 fn read<S: Sources>(alloc: Global, source: &mut S, path: &str) -> Result<Vec<u8>, CallError>
     ensures given { IfOk result (λ bytes. IsTrue (S.may_give source.old path.now bytes.items)) }
     ensures refused { IfErr result (IsUngiven (S.may_lack source.old) path.now) }

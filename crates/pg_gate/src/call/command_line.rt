@@ -78,7 +78,7 @@ fn named_each<'a>(alloc: Global, name: &'a str, value: &'a str, help: &'a str) -
     named(alloc, name, value, help).action(ArgAction::Append)
 }
 
-/// A word without a name that has to be there.
+/// An argument without a name that has to be there.
 fn positional<'a>(alloc: Global, name: &'a str, help: &'a str) -> Arg<'a>
     ensures rule { rule_of result ≡ command_line.positional name.entry.now }
     ensures local { result.global ≡ false }
@@ -86,7 +86,7 @@ fn positional<'a>(alloc: Global, name: &'a str, help: &'a str) -> Arg<'a>
     Arg::new(alloc, name).required(true).help(help)
 }
 
-/// One or more of them.
+/// An argument without a name that has to be there, once or more.
 fn positionals<'a>(alloc: Global, name: &'a str, help: &'a str) -> Arg<'a>
     ensures rule { rule_of result ≡ command_line.positionals name.entry.now }
     ensures local { result.global ≡ false }
@@ -228,14 +228,14 @@ fn whole_command<'a>(alloc: Global, views: &'a [&'a str]) -> Result<Command<'a>,
         .subcommand(types_command(alloc)?)
 }
 
-/// The value of an option or of a word.
+/// The value of an option or of an argument without a name.
 fn text<'a>(found: &ArgMatches<'a>, name: &str) -> &'a str
     ensures { result.now ≡ spec.text_at name.now (rows_of (found_of found.now)) }
 {
     found.get_str(name).unwrap_or("")
 }
 
-/// The values of an option or of a word.
+/// The values of an option or of an argument without a name.
 fn texts<'m>(found: &'m ArgMatches<'_>, name: &str) -> &'m [&'m str]
     ensures { texts result.now ≡ spec.texts_at name.now (rows_of (found_of found.now)) }
 {
@@ -348,7 +348,7 @@ fn call_in<'m>(name: &str, found: &'m ArgMatches<'_>) -> Call<'m>
     }
 }
 
-/// What `clap` reads the words after the program's name as, or why it doesn't take them.
+/// What `clap` reads the arguments after the program's name as, or why it doesn't take them.
 pub(crate) fn matches_of<'a>(alloc: Global, words: &'a [&'a str]) -> Result<ArgMatches<'a>, Error>
     ensures taken { IfOk result (AreMatchesOf (texts words.entry.now)) }
     ensures refused { IfErr result (λ error. kind_of error ≢ ErrorKind.OutOfMemory
@@ -359,7 +359,7 @@ pub(crate) fn matches_of<'a>(alloc: Global, words: &'a [&'a str]) -> Result<ArgM
     Ok(matches)
 }
 
-/// What words call for that `clap` reads as these matches.
+/// What arguments call for that `clap` reads as these matches.
 pub(crate) fn call_of<'m>(matches: &'m ArgMatches<'_>) -> Call<'m>
     requires { has_subcommand matches.now ≡ true }
     ensures { (words : List Text) → AreMatchesOf words matches.now

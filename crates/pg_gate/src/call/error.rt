@@ -54,7 +54,7 @@ impl CertificateFault {
     ghost use Rattle.std.specs.Prelude.{◌≡◌};
     ghost use Rattle.pg_gate.specs.print.Codes.{certificate_code};
 
-    /// The number behind the E by which users know the fault.
+    /// The number after the E by which users know the fault.
     fn code(&self) -> u16
         ensures { result ≡ certificate_code self.now }
     {
@@ -70,7 +70,7 @@ impl CallError {
     ghost use Rattle.std.specs.Prelude.{◌≡◌};
     ghost use Rattle.pg_gate.specs.print.Codes.{call_code};
 
-    /// The number behind the E by which users know the error.
+    /// The number after the E by which users know the error.
     pub(crate) fn code(&self) -> u16
         ensures { result ≡ call_code self.now }
     {

@@ -4,11 +4,11 @@ ghost use Rattle.pg_gate.specs.print.Text as spec;
 
 use std::fmt;
 
-/// Two digits a byte.
+/// Bytes, printed as two digits each.
 #[derive(Clone, Copy)]
 pub(crate) struct Digits<'a>(pub &'a [u8]);
 
-/// The same, with `-` for no bytes.
+/// Bytes, printed as two digits each, and no bytes as `-`.
 #[derive(Clone, Copy)]
 pub(crate) struct Hex<'a>(pub &'a [u8]);
 

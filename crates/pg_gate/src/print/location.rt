@@ -59,7 +59,7 @@ pub(crate) fn location_of(at: Option<usize>) -> Location
     }
 }
 
-/// Where a side is at fault. A rule that a set breaks has no place in a text.
+/// Where a side is at fault. A rule that a set breaks has no place in a source file.
 pub(crate) fn location_of_fault(fault: Fault) -> Location
     ensures { result ≡ refusals.location_of_fault fault }
 {

@@ -28,7 +28,7 @@ impl Refusal {
         if self.code == SOURCE_FAILED { 3 } else { 2 }
     }
 
-    /// The same of files that are compiled by themselves.
+    /// The refusal without its side, for files that are compiled by themselves.
     fn without_side(self) -> Refusal
         ensures { result ≡ refusals.without_side self }
     {
@@ -65,8 +65,8 @@ fn refusal_of_gate(code: u16, error: GateError) -> Option<Refusal>
     }
 }
 
-/// The same for an error of a call with this code. A certificate and bytes are refused without a
-/// side.
+/// The refusal that is printed for an error of a call with this code. A certificate and bytes are
+/// refused without a side.
 fn refusal_with(code: u16, error: CallError) -> Option<Refusal>
     ensures { result ≡ refusals.refusal_with code error }
 {

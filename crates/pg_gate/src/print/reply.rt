@@ -1,4 +1,4 @@
-//! What a call is answered, its text and its status.
+//! What a call is answered, its output and its status.
 ghost use Rattle.std.specs.Prelude.{◌≡◌, Some, IfOk};
 ghost use Rattle.pg_gate.specs.print.Text as spec;
 ghost use Rattle.pg_gate.specs.print.Printed.{either_status, finding_status, status_of, text_of};
@@ -87,7 +87,7 @@ impl Reply {
         }
     }
 
-    /// Its text, for the root types of this name.
+    /// Its output, for the root types of this name.
     fn into_text(self, alloc: Global, root: &str) -> Result<Vec<u8>, AllocError>
         ensures { IfOk result (λ text. text.items ≡ text_of root.now self) }
     {
@@ -127,7 +127,7 @@ pub(crate) struct Output {
 }
 
 impl Reply {
-    /// Its text and its status.
+    /// Its output and its status.
     pub(crate) fn into_output(self, alloc: Global, root: &str) -> Result<Output, AllocError>
         ensures text { IfOk result (λ output. output.text.items ≡ text_of root.now self) }
         ensures status { IfOk result (λ output. output.status ≡ status_of self) }

@@ -1,6 +1,6 @@
 use Rattle.std.proofs.Common.{◌∙◌, rules}
 use Rattle.pg_dyn.proofs.Lists.{each_at_index}
-use Rattle.pg_cert.specs.Bounds.{bound_in}
+use Rattle.pg_cert.specs.Certificate.{bound_in}
 use Rattle.answer_rows.proofs.Chosen.{each_among}
 use Rattle.answer_rows.proofs.messages.chosen.Goals as goal
 

@@ -1,5 +1,5 @@
 use Rattle.std.proofs.Common.{◌≡◌, true, map, take}
-use Rattle.pg_cert.specs.Bounds.{are_bounds}
+use Rattle.pg_cert.specs.Certificate.{are_bounds}
 use Rattle.pg_cert.specs.Entries.{bound_of}
 use Rattle.pg_cert.proofs.bounds.entries_of.Given as goal
 

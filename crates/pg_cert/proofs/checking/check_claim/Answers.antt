@@ -5,8 +5,7 @@ use Rattle.std.proofs.lemmas.Result.{err_from_is_err_and}
 use Rattle.pg_schema.specs.Parts.{shape_of}
 use Rattle.pg_pairs.specs.GraphView.{seen}
 use Rattle.pg_cert.specs.declared.error.CertError.TheVariants as errors
-use Rattle.pg_cert.specs.Bounds.{bound_in}
-use Rattle.pg_cert.specs.Certificate.{IsWitnessed}
+use Rattle.pg_cert.specs.Certificate.{bound_in, IsWitnessed}
 use Rattle.pg_cert.specs.Verdict.{bound_verdict}
 use Rattle.pg_cert.specs.Faults.{WitnessFault, first_fault}
 use Rattle.pg_cert.proofs.Verdicts.{bad_table, bad_witness, found_alone, found_witnessed}

@@ -10,7 +10,7 @@ use Rattle.pg_pairs.specs.declared.choice.Pair.{Pair}
 use Rattle.pg_pairs.specs.EnumView.{by_numbers}
 use Rattle.pg_pairs.specs.Covering.{Covers}
 use Rattle.pg_cert.specs.declared.bounds.PairBound.{PairBound}
-use Rattle.pg_cert.specs.Bounds.{are_bounds, bound_in}
+use Rattle.pg_cert.specs.Certificate.{are_bounds, bound_in}
 use Rattle.pg_cert.specs.Faults.{first_fault}
 use Rattle.pg_cert.specs.Worked.{minus_one, signed, unsigned, tree, unchanged, to_unsigned, outer, inner}
 use Rattle.pg_cert.proofs.Coverings.{covers_without_fault}

@@ -19,7 +19,7 @@ loop-words-preserved c = (
   λ bounds later rest.
       let is = next_line c.args.old.now c.args.new.now c.args.text.now bounds later rest c.loop-words.bounds.items c.loop-words.left.now c.in-Some.words.now (c.loop-words.invariant.1 bounds later rest) c.in-Some.ensures.only in
       let parts = some_is _ c.read_line.result _ _ (c.read_line.ensures.found is.line _ is.there is.bound is.words_are) c.in-Some-read_line.is in
-      line_read c.args.old.now c.args.new.now c.args.text.now bounds later rest c.loop-words.bounds.items c.in-Some.words.now is c.in-Some-read_line.line c.in-Some-read_line.behind.now c.push.new.self.items (ap (λ p. p.0) parts) (ap (λ p. p.1) parts) c.in_ok-push.ensures.items,
+      line_read c.args.old.now c.args.new.now c.args.text.now bounds later rest c.loop-words.bounds.items c.in-Some.words.now is c.in-Some-read_line.line c.in-Some-read_line.later.now c.push.new.self.items (ap (λ p. p.0) parts) (ap (λ p. p.1) parts) c.in_ok-push.ensures.items,
 )
 
 pub returns-clause-found : goal.returns-clause-found

@@ -11,14 +11,13 @@ use Rattle.pg_pairs.specs.Choices.{number_for}
 use Rattle.pg_dyn.specs.declared.view_name.ViewName.{ViewName}
 use Rattle.pg_pairs.specs.NamedView.{seen_under}
 use Rattle.pg_pairs.specs.EnumView.{EnumView, by_numbers}
-use Rattle.pg_cert.specs.Bounds.{bound_in}
-use Rattle.pg_cert.specs.Certificate.{Claim, IsWitnessedIfThere}
+use Rattle.pg_cert.specs.Certificate.{bound_in, Claim, IsWitnessedIfThere}
 use Rattle.pg_cert.specs.ClaimView.{view_in}
 use Rattle.pg_cert.specs.Text.{IsClaimOf}
 use Rattle.pg_least.specs.Beside.{IsBesideClaim, IsWitnessMessage}
 use Rattle.pg_least.specs.Exact.{IsSearched}
 use Rattle.pg_least.specs.Path.{AreCarried, CarriesWitness, IsPath, carried_along}
-use Rattle.pg_least.specs.Roots.{AreRoots, Lacks}
+use Rattle.pg_least.specs.Roots.{AreRoots}
 use Rattle.pg_least.proofs.PublicLaws.{compatible_is_seen, lost_messages_break, named_types_are_there}
 use Rattle.pg_gate.specs.answer.Answer.{IsAnswer, IsAnswerBy, IsBroken, IsCompatible, IsRefusedRoot, certificate_of}
 use Rattle.pg_gate.specs.answer.ViewAnswer.{IsAnswerUnder}
@@ -33,12 +32,13 @@ use Rattle.pg_gate.specs.declared.answer.gate.Answer.TheVariants as answers
 use Rattle.pg_gate.specs.declared.answer.step.Step.{Step}
 use Rattle.pg_gate.specs.answer.Steps.{AreSteps}
 use Rattle.pg_gate.specs.declared.error.GateError.{GateError}
+use Rattle.pg_gate.specs.declared.error.GateError.TheVariants as gates
 use Rattle.pg_gate.specs.declared.print.reply.Finding.{Finding}
 use Rattle.pg_gate.specs.declared.print.reply.Finding.TheVariants as findings
 use Rattle.pg_gate.specs.declared.print.reply.Reply.{Reply}
 use Rattle.pg_gate.specs.Failures.{failures_at, failures_by}
 use Rattle.pg_gate.specs.declared.error.Side.{Side}
-use Rattle.pg_gate.proofs.lemmas.ErrorLemmas.{error-weaker, none_counted, of_none}
+use Rattle.pg_gate.proofs.lemmas.ErrorLemmas.{error-weaker, none_counted}
 use Rattle.pg_gate.proofs.lemmas.answer.Ranges.{searched_there}
 
 -- ---- what a search answers
@@ -184,14 +184,22 @@ module _ (root : Text) (old new : World) (a b : Parts) (of_old : IsSide old a) (
   reply_of_files asked reply is = record { old_schema = a; new_schema = b; of_old = of_old; of_new = of_new; so = is }
 
   pub refused_of_files : (error : GateError) → IsRefusedRoot a b root error → IsGateError root old new error
-  refused_of_files error is =
-      error-weaker (λ side fault. ⊥) (IsSidesFault old new)
-      (λ lacks. record { old_schema = a; new_schema = b; of_old = of_old; of_new = of_new; so = lacks })
-      (λ lacks. record { old_schema = a; new_schema = b; of_old = of_old; of_new = of_new; so = lacks })
-      (λ no. no) (λ side fault no. absurd no) error is
+  refused_of_files gates.Memory is = tt
+  refused_of_files gates.RootMissingOld lacks = record { old_schema = a; new_schema = b; of_old = of_old; of_new = of_new; so = lacks }
+  refused_of_files gates.RootMissingNew lacks = record { old_schema = a; new_schema = b; of_old = of_old; of_new = of_new; so = lacks }
+  refused_of_files (gates.Compile side fault) no = absurd no
+  refused_of_files gates.WriteFailed no = no
+  refused_of_files gates.BadHex no = no
 
 -- a missing root is no failure of a source
-pub root_uncounted : {X : Type 0} (old new : Parts) (root : Text) (side : Side) (r : Result X GateError) → IfErr r (IsRefusedRoot old new root) → failures_by (failures_at side) r ≡ 0
-root_uncounted old new root side r is =
-    none_counted r (λ e. IsRefusedRoot old new root e) (failures_at side)
-    (λ e is. of_none (Lacks old root) ((Lacks old root → ⊥) × Lacks new root) ⊥ side e is) is
+root_untold : (old new : Parts) (root : Text) (side : Side) (error : GateError) → IsRefusedRoot old new root error → failures_at side error ≡ 0
+root_untold old new root side gates.Memory is = refl
+root_untold old new root side gates.RootMissingOld is = refl
+root_untold old new root side gates.RootMissingNew is = refl
+root_untold old new root side (gates.Compile of fault) no = absurd no
+root_untold old new root side gates.WriteFailed no = absurd no
+root_untold old new root side gates.BadHex no = absurd no
+
+pub root_uncounted : {X : Type 0} (old new : Parts) (root : Text) (side : Side) (r : Result X GateError)
+    → IfErr r (IsRefusedRoot old new root) → failures_by (failures_at side) r ≡ 0
+root_uncounted old new root side r is = none_counted r (λ e. IsRefusedRoot old new root e) (failures_at side) (root_untold old new root side) is

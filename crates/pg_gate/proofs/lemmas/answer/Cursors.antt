@@ -1,4 +1,4 @@
--- Lines and columns behind more bytes.
+-- Lines and columns after more bytes.
 use Rattle.std.proofs.Common.{◌≡◌, ◌+◌, ◌-◌, ◌≤◌, ◌<◌, ℕ, Bool, List, ◌++◌, length, take, drop, eqb, cond, arith, ap, ◌∙◌, sym}
 use Rattle.std.specs.Prelude.{not, reverse}
 use Rattle.std.specs.List.{suffix_len, prefix_len}
@@ -16,7 +16,7 @@ suffix_len-append p xs ys =
     let whole = ap (prefix_len p) (reverse-append xs ys) ∙ prefix_len-append p (reverse ys) (reverse xs) in
     whole ∙ ap (λ n. cond (eqb (suffix_len p ys) n) (n + suffix_len p xs) (suffix_len p ys)) (length-reverse ys)
 
--- no line end among the bytes behind
+-- no line end among the bytes that follow
 column_along : (xs ys : List ℕ) → length ys < column ys → column (xs ++ ys) ≡ column xs + length ys
 column_along xs ys lt =
     let p : ℕ → Bool = (λ b. not (eqb b 10)) in
@@ -35,7 +35,7 @@ column_anew xs ys le =
 line_more : (xs ys : List ℕ) → line (xs ++ ys) + 1 ≡ line xs + line ys
 line_more xs ys = let more = sum_by-append (λ b. cond (eqb b 10) 1 0) xs ys in omega (arith, more)
 
--- the bytes as far as a place, and those behind it as far as a later one
+-- the bytes as far as an offset, and those after it as far as a later one
 parts : (text : List ℕ) (from to : ℕ) → from ≤ to → take to text ≡ take from text ++ take (to - from) (drop from text)
 parts text from to le = let n : to ≡ from + (to - from) = omega arith in ap (λ n. take n text) n ∙ take-add from (to - from) text
 
@@ -43,7 +43,7 @@ parts text from to le = let n : to ≡ from + (to - from) = omega arith in ap (�
 pub record Passed (text : List ℕ) (from : Stand) (to at_line at_column size : ℕ) : Type 0 where
   pub is_size : size ≡ to - from.at
   pub on_one_line : size < at_column → from.column + size ≡ column (take to text)
-  pub behind_end : at_column ≤ size → at_column ≡ column (take to text)
+  pub after_end : at_column ≤ size → at_column ≡ column (take to text)
   pub is_line : from.line + at_line ≡ line (take to text) + 1
   pub few : column (take from.at text) ≤ from.at + 1
 
@@ -61,7 +61,7 @@ passed text from to at_line at_column stands le within is_line is_column =
     record {
       is_size = size;
       on_one_line = λ lt. let is = ap column whole ∙ column_along xs ys (omega (arith, lt, c)) in omega (arith, is, stands.is_column);
-      behind_end = λ le. c ∙ sym (ap column whole ∙ column_anew xs ys (omega (arith, le, c)));
+      after_end = λ le. c ∙ sym (ap column whole ∙ column_anew xs ys (omega (arith, le, c)));
       is_line = let is = ap line whole in omega (arith, is, line_more xs ys, l, stands.is_line);
       few = omega (arith, suffix_len-le-length (λ b. not (eqb b 10)) xs, length-take-le from.at text stands.within);
     }

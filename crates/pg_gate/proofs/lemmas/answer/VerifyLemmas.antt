@@ -3,8 +3,7 @@ use Rattle.std.proofs.Common.{arith, ◌≡◌, ◌∙◌, ◌<◌, ◌⊎◌, �
 use Rattle.std.specs.Option.{option_map, option_or}
 use Rattle.std.specs.Prelude.{IsTrue}
 use Rattle.clap.specs.Words.{Text}
-use Rattle.pg_cert.specs.Bounds.{bound_in}
-use Rattle.pg_cert.specs.Certificate.{Claim}
+use Rattle.pg_cert.specs.Certificate.{bound_in, Claim}
 use Rattle.pg_cert.specs.ClaimView.{IsFirstFaultOf, view_in}
 use Rattle.pg_cert.specs.Faults.{WitnessFaultIfThere, cheaper_choice, first_fault, first_pair_fault, missing_child, root_fault, too_high}
 use Rattle.pg_cert.specs.Text.{Certifies, names_of}

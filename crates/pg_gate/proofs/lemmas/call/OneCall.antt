@@ -18,7 +18,7 @@ use Rattle.pg_gate.specs.call.CommandLine.{view_names, whole_app}
 use Rattle.pg_gate.specs.call.Call.{CallsFor, IsCall, IsRefused, OneCall, Request, request_in}
 use Rattle.pg_gate.proofs.lemmas.call.AlikeFaults.{built_fault_alike, changed_app, entered_at_alike}
 
--- a reference to these texts, all of them at the first place of all
+-- a reference to these strings, all of them at the first address of all
 abbrev placed : List Text → Bor (List (Bor Text))
 placed names = record { ref_ptr = (0, 0); now = map (λ (name : Text). record { ref_ptr = (0, 0); now = name }) names }
 

@@ -35,9 +35,9 @@ by_names : IsCalled (gate_words (codes "--view" ∷ codes "names" ∷ [])) (gate
 unfolding clap_on_literals
 by_names = (refl, refl)
 
-behind_a_mark : IsCalled (gate_words (codes "--view=names" ∷ [])) (gate_by views.Names)
+after_a_mark : IsCalled (gate_words (codes "--view=names" ∷ [])) (gate_by views.Names)
 unfolding clap_on_literals
-behind_a_mark = (refl, refl)
+after_a_mark = (refl, refl)
 
 no_view : IsCalled (gate_words []) (gate_by views.Numbers)
 unfolding clap_on_literals
@@ -107,7 +107,7 @@ pub worked_calls : WorkedCalls
 worked_calls = record {
   by_numbers = calls _ _ by_numbers;
   by_names = calls _ _ by_names;
-  behind_a_mark = calls _ _ behind_a_mark;
+  after_a_mark = calls _ _ after_a_mark;
   no_view = calls _ _ no_view;
   with_readings = calls _ _ with_readings;
   another_word = refused _ _ another_word;

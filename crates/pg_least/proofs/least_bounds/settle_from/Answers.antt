@@ -11,7 +11,7 @@ use Rattle.pg_pairs.specs.Among.{IsAmong}
 use Rattle.pg_pairs.specs.Covering.{distinct}
 use Rattle.pg_pairs.specs.Reached.{IsReachedFrom}
 use Rattle.pg_cert.specs.declared.bounds.PairBound.{PairBound}
-use Rattle.pg_cert.specs.Bounds.{bound_in, is_bound}
+use Rattle.pg_cert.specs.Certificate.{bound_in, is_bound}
 use Rattle.pg_least.specs.declared.arcs.Arc.{Arc}
 use Rattle.pg_least.specs.Graphs.{IsArc, arcs_by, arcs_to_numbers}
 use Rattle.pg_least.specs.From.{IsSettledFrom}

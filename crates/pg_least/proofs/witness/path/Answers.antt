@@ -1,7 +1,7 @@
 -- The graph is of the certificate's view and of the two schemas.
 use Rattle.std.proofs.Common.{◌∙◌, IfOk}
 use Rattle.pg_schema.specs.Parts.{shape_of}
-use Rattle.pg_cert.specs.Bounds.{bound_in}
+use Rattle.pg_cert.specs.Certificate.{bound_in}
 use Rattle.pg_cert.proofs.Graphs.{of_graph, to_graph}
 use Rattle.pg_least.specs.Exact.{IsSearched}
 use Rattle.pg_least.specs.Path.{IsPath}

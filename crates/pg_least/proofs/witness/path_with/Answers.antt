@@ -3,7 +3,7 @@ use Rattle.pg_schema.specs.Parts.{shape_of}
 use Rattle.pg_pairs.specs.declared.choice.Pair.{Pair}
 use Rattle.pg_pairs.specs.Choices.{number_for}
 use Rattle.pg_pairs.specs.GraphView.{seen}
-use Rattle.pg_cert.specs.Bounds.{bound_in}
+use Rattle.pg_cert.specs.Certificate.{bound_in}
 use Rattle.pg_cert.specs.declared.bounds.PairBound.{PairBound}
 use Rattle.pg_least.specs.declared.witness.PairChoice.{PairChoice}
 use Rattle.pg_least.specs.Descent.{IsExactTable, first_step}

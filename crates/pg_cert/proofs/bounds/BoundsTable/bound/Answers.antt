@@ -1,5 +1,5 @@
 use Rattle.std.proofs.Common.{◌∙◌, ap}
-use Rattle.pg_cert.specs.Bounds.{bound_in}
+use Rattle.pg_cert.specs.Certificate.{bound_in}
 use Rattle.pg_cert.proofs.Tables.{lookup-bound}
 use Rattle.pg_cert.proofs.bounds.BoundsTable.bound.Goals as goal
 

@@ -15,4 +15,4 @@ returns-then-column-passed-clause-stands c =
 pub returns-else-column-passed-clause-stands : goal.returns-else-column-passed-clause-stands
 returns-else-column-passed-clause-stands c =
     let so = passed c.args.text.now c.args.from c.args.to c.place-line.result.0 c.place-line.result.1 c.requires.stands c.requires.ahead c.requires.within c.place-line.ensures.line c.place-line.ensures.column in
-    record { within = c.requires.within; is_line = omega (arith, so.is_line); is_column = so.behind_end (omega (arith, c.if-column-passed.false)) }
+    record { within = c.requires.within; is_line = omega (arith, so.is_line); is_column = so.after_end (omega (arith, c.if-column-passed.false)) }

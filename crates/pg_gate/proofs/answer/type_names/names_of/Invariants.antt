@@ -1,7 +1,7 @@
 -- The types before the index have their lines.
 use Rattle.std.proofs.Common.{◌≡◌, string_bytes, take}
 use Rattle.std.specs.List.{flat_map}
-use Rattle.pg_gate.specs.answer.TypeNames.{name_line}
+use Rattle.pg_gate.specs.print.Text.{name_line}
 use Rattle.pg_gate.proofs.answer.type_names.names_of.Given as goal
 
 abbrev pub invariant-loop-message_type : goal.invariant-loop-message_type

@@ -1,9 +1,9 @@
 use Rattle.std.proofs.Common.{inl, inr, sym, ◌∙◌, ap, true≢false}
 use Rattle.std.proofs.lemmas.Result.{err_from_is_err_and}
-use Rattle.pg_cert.specs.Bounds.{are_bounds}
+use Rattle.pg_cert.specs.Certificate.{are_bounds}
 use Rattle.pg_cert.proofs.Cuts.{some_is, none_lost}
 use Rattle.pg_cert.proofs.WholeRead.{rest_of, made, made_of_schemas, made_view}
-use Rattle.pg_cert.proofs.reading.read_behind.Goals as goal
+use Rattle.pg_cert.proofs.reading.read_after.Goals as goal
 
 pub returns-in_default-clause-found : goal.returns-in_default-clause-found
 returns-in_default-clause-found c =
