@@ -23,7 +23,8 @@ module _ (text front : List ℕ) where
   abbrev pub IsAfter : Option (Bor (List ℕ)) → Type 0
   IsAfter found =
       MatchOption found (pointwise eqb (take (length front) text) front ≡ false)
-      (λ rest. (pointwise eqb (take (length front) text) front ≡ true) × (rest.now ≡ drop (length front) text) × (length rest.now + length front ≡ length text))
+      (λ rest. (pointwise eqb (take (length front) text) front ≡ true) × (rest.now ≡ drop (length front) text)
+      × (length rest.now + length front ≡ length text))
 
   pub after_only : (found : Option (Bor (List ℕ))) → IsAfter found → IfSome found (λ rest. text ≡ front ++ rest.now)
   after_only None h = tt

@@ -58,7 +58,8 @@ number_is table p n h = of (table p) h
 
 module _ (edges : Pair → List Edge) (base : Pair → Option ℕ) (price : Edge → ℕ → Option ℕ) where
   abbrev Dearer : Table → Type 0
-  Dearer s = (pair : Pair) (edge : Edge) (bound cost : ℕ) → is_some (s pair) ≡ true → IsAmong edge (edges pair) → 1 ≤ bound → price edge bound ≡ Some cost → bound < cost
+  Dearer s = (pair : Pair) (edge : Edge) (bound cost : ℕ) → is_some (s pair) ≡ true → IsAmong edge (edges pair) → 1 ≤ bound
+      → price edge bound ≡ Some cost → bound < cost
 
   abbrev Below : Table → Table → ℕ → Type 0
   Below s t n = (p : Pair) → number_for s p ≡ Some n → AtMost (number_for t p) n

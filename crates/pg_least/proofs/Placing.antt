@@ -80,7 +80,9 @@ module _ (settled : List Bool) (at : ℕ) (within : at < length settled) (fresh 
 
   -- how many arcs there are with one more in front, where it is one of them
   abbrev lengths : (x y z : Bool) → Arc → List Arc → Type 0
-  lengths x y z a arcs = length (cond x (a ∷ arcs_to_settled arcs after) (arcs_to_settled arcs after)) ≡ length (cond y (a ∷ arcs_to_settled arcs settled) (arcs_to_settled arcs settled)) + length (cond z (a ∷ arcs_to arcs at) (arcs_to arcs at))
+  lengths x y z a arcs = length (cond x (a ∷ arcs_to_settled arcs after) (arcs_to_settled arcs after))
+      ≡ length (cond y (a ∷ arcs_to_settled arcs settled) (arcs_to_settled arcs settled))
+      + length (cond z (a ∷ arcs_to arcs at) (arcs_to arcs at))
 
   with_one : (a : Arc) (arcs : List Arc) (y z : Bool) → ((z ≡ true) × (y ≡ false)) ⊎ (z ≡ false) → length (arcs_to_settled arcs after) ≡ length (arcs_to_settled arcs settled) + length (arcs_to arcs at) → lengths (y || z) y z a arcs
   with_one a arcs true true (inl (h, k)) rest = absurd (cc)

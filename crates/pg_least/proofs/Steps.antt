@@ -204,7 +204,8 @@ module _ {A : Type 0} (g : Arcs A) (arcs : List A) (bases : List (Option ℕ)) w
       }
 
     abbrev pub Result : List (Option ℕ) → List Entry → Type 0
-    Result lower more = Stands g arcs bases (done ++ a ∷ []) lower settled more level × ((i : ℕ) → is_set settled i ≡ true → cost_at lower i ≡ cost_at costs i) × (length lower ≡ length costs)
+    Result lower more = Stands g arcs bases (done ++ a ∷ []) lower settled more level
+        × ((i : ℕ) → is_set settled i ≡ true → cost_at lower i ≡ cost_at costs i) × (length lower ≡ length costs)
 
     pub relaxes : (lower : List (Option ℕ)) (more : List Entry) → IsRelaxed (g.from a) (g.price a level) costs heap lower more → Result lower more
     relaxes lower more h = of (g.price a level) refl h

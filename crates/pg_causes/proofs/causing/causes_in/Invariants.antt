@@ -11,6 +11,7 @@ use Rattle.pg_causes.proofs.causing.causes_in.Given as goal
 abbrev pub invariant-loop-index : goal.invariant-loop-index
 invariant-loop-index l =
     record {
-      are : map (λ (c : Cause). c.at) l.told.items ≡ flat_map (causes_at (seen l.graph) (shape_of l.graph.old.now) (shape_of l.graph.new.now)) (pairs_of (take l.index l.bounds));
+      are : map (λ (c : Cause). c.at) l.told.items
+          ≡ flat_map (causes_at (seen l.graph) (shape_of l.graph.old.now) (shape_of l.graph.new.now)) (pairs_of (take l.index l.bounds));
       each : AllByRecursion (IsCause (seen l.graph) l.graph.old.now l.graph.new.now) l.told.items;
     }

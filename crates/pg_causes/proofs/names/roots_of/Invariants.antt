@@ -10,6 +10,7 @@ use Rattle.pg_causes.proofs.names.roots_of.Given as goal
 abbrev pub invariant-loop-index : goal.invariant-loop-index
 invariant-loop-index l =
     record {
-      in_order : map (λ (p : Pair). name_at l.old.types.items p.old) l.roots.items ≡ map Some (filter (is_declared l.new) (map name_of (take l.index l.types)));
+      in_order : map (λ (p : Pair). name_at l.old.types.items p.old) l.roots.items
+          ≡ map Some (filter (is_declared l.new) (map name_of (take l.index l.types)));
       alike : AllByRecursion (λ p. (name : List ℕ) × AreRoots l.old l.new name p) l.roots.items;
     }

@@ -9,6 +9,7 @@ use Rattle.pg_causes.proofs.type_lines.type_lines.Given as goal
 abbrev pub invariant-loop-root : goal.invariant-loop-root
 invariant-loop-root l =
     record {
-      names : map (λ (line : TypeLine). Some (string_bytes line.name)) l.lines.items ≡ map (λ (p : Pair). name_at l.old.types.items p.old) (take l.root-index l.roots);
+      names : map (λ (line : TypeLine). Some (string_bytes line.name)) l.lines.items
+          ≡ map (λ (p : Pair). name_at l.old.types.items p.old) (take l.root-index l.roots);
       bounds : map (λ (line : TypeLine). Some line.bound) l.lines.items ≡ map (bound_in l.bounds) (take l.root-index l.roots);
     }

@@ -6,4 +6,5 @@ use Rattle.pg_cert.proofs.writing.push_lines.Given as goal
 -- with the lines that are left it is the whole text
 abbrev pub invariant-loop-at : goal.invariant-loop-at
 invariant-loop-at l =
-    string_bytes l.text ++ lines_text (names_of l.old) (names_of l.new) (drop l.at l.bounds) ≡ string_bytes l.initial.text ++ lines_text (names_of l.old) (names_of l.new) l.bounds
+    string_bytes l.text ++ lines_text (names_of l.old) (names_of l.new) (drop l.at l.bounds)
+    ≡ string_bytes l.initial.text ++ lines_text (names_of l.old) (names_of l.new) l.bounds

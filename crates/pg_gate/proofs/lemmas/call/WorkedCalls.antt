@@ -13,7 +13,10 @@ use Rattle.pg_gate.specs.call.WorkedCalls.{WorkedCalls, asked_all, asked_gate, g
 
 -- some reference to the names of the views
 abbrev names : Bor (List (Bor Text))
-names = record { ref_ptr = (0, 0); now = record { ref_ptr = (0, 0); now = codes "numbers" } ∷ record { ref_ptr = (0, 0); now = codes "names" } ∷ [] }
+names = record {
+  ref_ptr = (0, 0);
+  now = record { ref_ptr = (0, 0); now = codes "numbers" } ∷ record { ref_ptr = (0, 0); now = codes "names" } ∷ [];
+}
 
 abbrev IsCalled : List Text → Request → Type 0
 IsCalled words call = (fault_of (whole_app names) words ≡ []) × (option_map request_in (subcommand_of (whole_app names) words) ≡ Some call)

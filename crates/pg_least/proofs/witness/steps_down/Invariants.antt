@@ -6,7 +6,9 @@ use Rattle.pg_least.specs.Descent.{IsPathDown, first_step}
 use Rattle.pg_least.proofs.witness.steps_down.Given as goal
 
 abbrev pub invariant-loop-child : goal.invariant-loop-child
-invariant-loop-child l = IsPathDown (seen l.graph) (shape_of l.graph.old.now) (shape_of l.graph.new.now) (bound_in l.bounds) l.steps.items l.last × ((first_step l.steps.items l.last).pair ≡ l.fn.pair)
+invariant-loop-child l =
+    IsPathDown (seen l.graph) (shape_of l.graph.old.now) (shape_of l.graph.new.now) (bound_in l.bounds) l.steps.items l.last
+    × ((first_step l.steps.items l.last).pair ≡ l.fn.pair)
 
 abbrev pub decreases-loop-child : goal.decreases-loop-child
 decreases-loop-child l = l.last.choice.cost

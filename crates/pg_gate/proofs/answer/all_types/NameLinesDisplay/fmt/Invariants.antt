@@ -5,4 +5,5 @@ use Rattle.pg_gate.proofs.answer.all_types.NameLinesDisplay.fmt.Given as goal
 
 abbrev pub invariant-loop-name : goal.invariant-loop-name
 invariant-loop-name g l =
-    IsPlainFormatter l.initial.f → HasWritten g.W.Write.write_str_gives l.initial.f (names_of l.self.word.now (take l.name-index l.name-items)) l.f
+    IsPlainFormatter l.initial.f
+    → HasWritten g.W.Write.write_str_gives l.initial.f (names_of l.self.word.now (take l.name-index l.name-items)) l.f
