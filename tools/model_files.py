@@ -19,18 +19,16 @@ import subprocess
 import sys
 
 TOP = os.path.dirname(os.path.dirname(os.path.realpath(__file__)))
-# Which message a witness is: a clause of `gate` by itself.
-PATH = "crates/pg_least/specs/Path.antt"
 ROOTS = {
     "a message breaks": ["crates/pg_dyn/specs/Breaking.antt"],
-    "what `gate` promises": ["crates/pg_gate/specs/answer/Answer.antt", PATH],
-    "what `gate_with` promises": ["crates/pg_gate/specs/answer/ViewAnswer.antt", PATH],
+    "what `gate` promises": ["crates/pg_gate/specs/answer/Answer.antt"],
+    "what `gate_with` promises": ["crates/pg_gate/specs/answer/ViewAnswer.antt"],
     "what `relay` promises": ["crates/pg_gate/specs/Relaying.antt"],
     "what `gate_all` promises": ["crates/pg_causes/specs/Overview.antt"],
 }
 # Promises of which docs/MODEL.md says the counts alone, by the words of their contracts.
 UNLISTED = {
-    "what the gate promises of texts and sets": ["crates/pg_gate/specs/answer/Files.antt", "crates/pg_gate/specs/answer/Answer.antt", PATH],
+    "what the gate promises of texts and sets": ["crates/pg_gate/specs/answer/Files.antt", "crates/pg_gate/specs/answer/Answer.antt"],
     "what `run` promises": [f"crates/pg_gate/specs/{it}.antt" for it in ("call/Call", "answer/Grants", "print/Printed", "Run")],
 }
 # Which documents say the counts of which promise.

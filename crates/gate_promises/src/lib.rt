@@ -8,7 +8,7 @@ mod relaying;
 ghost use Rattle.std.specs.Prelude.{◌≡◌, Err, IfErr, IfOk};
 ghost use Rattle.pg_cert.specs.declared.error.CertError.TheVariants as faults;
 ghost use Rattle.pg_cert.specs.Verdict.{verdict_of};
-ghost use Rattle.pg_least.specs.Path.{CarriesWitness};
+ghost use Rattle.pg_least.specs.Searched.{CarriesWitness};
 ghost use Rattle.pg_pairs.specs.EnumView.{by_numbers};
 ghost use Rattle.pg_pairs.specs.NamedView.{seen_under};
 ghost use Rattle.pg_schema.specs.Parts.{shape_of};
@@ -16,7 +16,7 @@ ghost use Rattle.pg_gate.specs.answer.Answer.{IsAnswer, IsRefusedRoot, certifica
 ghost use Rattle.pg_gate.specs.print.Codes.{code_of};
 ghost use Rattle.pg_gate.specs.answer.ViewAnswer.{IsAnswerUnder};
 ghost use Rattle.pg_gate.specs.declared.error.GateError.TheVariants as errors;
-ghost use Rattle.pg_least.specs.Roots.{Lacks};
+ghost use Rattle.pg_least.specs.Loss.{Lacks};
 
 use pg_cert::{CertError, Verdict};
 use pg_gate::{Answer, GateError, SinkError, ViewName};

@@ -13,8 +13,7 @@ ghost use Rattle.pg_pairs.specs.GraphView.{seen};
 ghost use Rattle.pg_cert.specs.Certificate.{bound_in};
 ghost use Rattle.pg_cert.specs.ClaimView.{view_in};
 ghost use Rattle.pg_least.specs.Beside.{IsBesideClaim};
-ghost use Rattle.pg_least.specs.Path.{CarriesWitness, IsPath};
-ghost use Rattle.pg_least.specs.Exact.{IsSearched};
+ghost use Rattle.pg_least.specs.Searched.{CarriesWitness, IsPath, IsSearched};
 ghost use Rattle.pg_least.specs.Least.{IsCounted, IsSettled};
 
 use pg_cert::{Bounds, Certificate};

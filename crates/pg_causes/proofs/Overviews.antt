@@ -15,9 +15,9 @@ use Rattle.pg_pairs.specs.ViewLaws.{IsEnumView}
 use Rattle.pg_pairs.specs.Reached.{itself}
 use Rattle.pg_cert.specs.declared.bounds.PairBound.{PairBound}
 use Rattle.pg_cert.specs.Certificate.{bound_in}
-use Rattle.pg_least.specs.Exact.{BoundSays, pairs_of}
+use Rattle.pg_least.specs.Searched.{BoundSays, pairs_of}
 use Rattle.pg_least.specs.From.{AreBoundsFrom, CompatibleWithoutCauses}
-use Rattle.pg_least.specs.Roots.{AreRoots}
+use Rattle.pg_least.specs.Loss.{AreRoots}
 use Rattle.pg_least.proofs.PublicLaws.{compatible_is_seen, lost_messages_break, named_types_are_there, tables_by_lines}
 use Rattle.pg_causes.specs.TypeLines.{GateSays, IsTypeLine}
 use Rattle.pg_causes.specs.declared.overview.TypeLine.{TypeLine}

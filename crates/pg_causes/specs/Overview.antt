@@ -7,7 +7,7 @@ use Rattle.pg_dyn.specs.declared.view_name.ViewName.{ViewName}
 use Rattle.pg_pairs.specs.declared.choice.Pair.{Pair}
 use Rattle.pg_pairs.specs.EnumView.{EnumView}
 use Rattle.pg_pairs.specs.NamedView.{seen_under}
-use Rattle.pg_least.specs.Roots.{AreRoots}
+use Rattle.pg_least.specs.Loss.{AreRoots}
 use Rattle.pg_causes.specs.Causes.{AreCauses}
 use Rattle.pg_causes.specs.Names.{only, shared}
 use Rattle.pg_causes.specs.TypeLines.{IsTypeLine}

@@ -9,8 +9,7 @@ use Rattle.pg_dyn.specs.Message.{Message}
 use Rattle.pg_pairs.specs.declared.choice.Pair.{Pair}
 use Rattle.pg_pairs.specs.Causes.{HasNoCause}
 use Rattle.pg_pairs.specs.EnumView.{EnumView}
-use Rattle.pg_least.specs.Loss.{IsLost, NewSees, OldWrites}
-use Rattle.pg_least.specs.Roots.{AreRoots}
+use Rattle.pg_least.specs.Loss.{IsLost, NewSees, OldWrites, AreRoots}
 use Rattle.pg_causes.specs.declared.overview.TypeLine.{TypeLine}
 
 -- no message breaks: each one that the old writer encodes the new reader sees whole

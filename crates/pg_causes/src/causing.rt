@@ -10,7 +10,7 @@ ghost use Rattle.pg_pairs.specs.Among.{IsAmong};
 ghost use Rattle.pg_pairs.specs.Causes.{causes};
 ghost use Rattle.pg_pairs.specs.GraphView.{seen};
 ghost use Rattle.pg_cert.specs.Certificate.{bound_in};
-ghost use Rattle.pg_least.specs.Exact.{pairs_of};
+ghost use Rattle.pg_least.specs.Searched.{pairs_of};
 ghost use Rattle.pg_causes.specs.Causes.{IsCause, causes_at};
 ghost use Rattle.pg_causes.specs.declared.overview.Cause.{Cause};
 ghost use Rattle.pg_pairs.specs.declared.choice.Pair.{Pair};

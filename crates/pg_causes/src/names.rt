@@ -3,7 +3,7 @@
 ghost use Rattle.std.specs.Prelude.{◌≡◌, ℕ, List, map, Some, string_bytes, IfOk};
 ghost use Rattle.std.specs.List.{AllByRecursion};
 ghost use Rattle.pg_schema.specs.Parts.{name_at};
-ghost use Rattle.pg_least.specs.Roots.{AreRoots};
+ghost use Rattle.pg_least.specs.Loss.{AreRoots};
 ghost use Rattle.pg_pairs.specs.declared.choice.Pair.{Pair};
 ghost use Rattle.pg_causes.specs.Names.{only, shared};
 

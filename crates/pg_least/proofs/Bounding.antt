@@ -15,7 +15,7 @@ use Rattle.pg_pairs.specs.LeastCosts.{IsNoMore}
 use Rattle.pg_cert.specs.declared.bounds.PairBound.{PairBound}
 use Rattle.pg_cert.specs.Certificate.{are_bounds, bound_in, is_bound}
 use Rattle.pg_least.specs.declared.arcs.Arc.{Arc}
-use Rattle.pg_least.specs.Exact.{pairs_of}
+use Rattle.pg_least.specs.Searched.{pairs_of}
 use Rattle.pg_least.specs.Graphs.{IsArc, arcs_by, arcs_to_numbers}
 use Rattle.pg_pairs.specs.LeastOf.{cost_under, least_of, lesser_cost}
 use Rattle.pg_least.specs.Least.{IsLeastBound, edges_to_numbers, lines}

@@ -16,8 +16,7 @@ use Rattle.pg_cert.specs.declared.bounds.PairBound.{PairBound}
 use Rattle.pg_cert.specs.Certificate.{are_bounds, bound_in, is_bound, Claim, IsWitnessedIfThere}
 use Rattle.pg_cert.specs.Witness.{is_witness}
 use Rattle.pg_least.specs.Descent.{IsCarriedFrom, IsTableOf}
-use Rattle.pg_least.specs.Exact.{BoundSays, IsSearched, pairs_of}
-use Rattle.pg_least.specs.Path.{CarriesWitness}
+use Rattle.pg_least.specs.Searched.{BoundSays, IsSearched, pairs_of, CarriesWitness}
 
 -- the first of the pairs is there
 first_there : (bounds : List PairBound) (p : Pair) (ps : List Pair) → pairs_of bounds ≡ p ∷ ps → is_some (bound_in bounds p) ≡ true

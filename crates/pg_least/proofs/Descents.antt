@@ -18,7 +18,7 @@ use Rattle.pg_pairs.specs.Laws.{ReachedBy}
 use Rattle.pg_pairs.specs.Among.{IsAmong}
 use Rattle.pg_least.specs.declared.witness.PairChoice.{PairChoice}
 use Rattle.pg_least.specs.Descent.{IsCarriedFrom, IsExactTable, IsStep, IsPathDown, IsWholePath, first_step}
-use Rattle.pg_least.specs.Path.{IsPath, carried_along}
+use Rattle.pg_least.specs.Searched.{IsPath, carried_along}
 
 -- the number of a pair's bound
 pub number_there : (table : Table) (pair : Pair) → is_some (number_for table pair) ≡ true → (n : ℕ) × (table pair ≡ Some (Some n))

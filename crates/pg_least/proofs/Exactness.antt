@@ -16,7 +16,7 @@ use Rattle.pg_pairs.specs.Reached.{IsLedTo, LeadsTo, onwards}
 use Rattle.pg_cert.specs.declared.bounds.PairBound.{PairBound}
 use Rattle.pg_cert.specs.Certificate.{bound_in}
 use Rattle.pg_least.specs.Descent.{IsExactTable, IsTableOf}
-use Rattle.pg_least.specs.Exact.{BoundSays, pairs_of}
+use Rattle.pg_least.specs.Searched.{BoundSays, pairs_of}
 use Rattle.pg_least.specs.From.{AreBoundsFrom, IsSettledFrom}
 use Rattle.pg_least.specs.Least.{AllLeast, IsSettled}
 use Rattle.pg_least.proofs.Listed.{among_found, there_among}

@@ -8,7 +8,7 @@ use Rattle.pg_pairs.specs.Covering.{same_pair}
 use Rattle.pg_cert.proofs.Tables.{same_pair-refl}
 use Rattle.pg_cert.specs.declared.bounds.PairBound.{PairBound}
 use Rattle.pg_cert.specs.Certificate.{are_bounds, bound_in, is_bound}
-use Rattle.pg_least.specs.Exact.{pairs_of}
+use Rattle.pg_least.specs.Searched.{pairs_of}
 
 not_some : {A : Type 0} (o : Option A) → not (is_some o) ≡ true → o ≡ None
 not_some None h = refl

@@ -23,7 +23,7 @@ use Rattle.pg_pairs.specs.LeastCosts.{least_cost}
 use Rattle.pg_pairs.specs.Reached.{IsLedTo, LeadsTo, itself, onwards}
 use Rattle.pg_cert.specs.declared.bounds.PairBound.{PairBound}
 use Rattle.pg_cert.specs.Certificate.{bound_in}
-use Rattle.pg_least.specs.Exact.{pairs_of}
+use Rattle.pg_least.specs.Searched.{pairs_of}
 use Rattle.pg_least.specs.From.{AreBoundsFrom, CompatibleWithoutCauses}
 use Rattle.pg_least.specs.Least.{AllLeast}
 use Rattle.pg_least.proofs.Listed.{among_found, there_among}

@@ -11,8 +11,7 @@ use Rattle.pg_pairs.specs.Covering.{children, IsExact}
 use Rattle.pg_pairs.specs.Among.{IsAmong}
 use Rattle.pg_cert.specs.declared.bounds.PairBound.{PairBound}
 use Rattle.pg_cert.specs.Certificate.{bound_in}
-use Rattle.pg_least.specs.Exact.{pairs_of}
-use Rattle.pg_least.specs.Path.{IsPath, carried_along}
+use Rattle.pg_least.specs.Searched.{pairs_of, IsPath, carried_along}
 use Rattle.pg_pairs.specs.Reached.{IsReachedInOrder}
 use Rattle.pg_least.specs.declared.witness.PairChoice.{PairChoice}
 

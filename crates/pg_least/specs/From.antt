@@ -15,7 +15,7 @@ use Rattle.pg_pairs.specs.Reached.{IsReachedFrom}
 use Rattle.pg_cert.specs.declared.bounds.PairBound.{PairBound}
 use Rattle.pg_cert.specs.Certificate.{bound_in}
 use Rattle.pg_least.specs.Descent.{IsExactTable}
-use Rattle.pg_least.specs.Exact.{BoundSays, pairs_of}
+use Rattle.pg_least.specs.Searched.{BoundSays, pairs_of}
 use Rattle.pg_least.specs.Least.{AllLeast}
 
 -- just the roots and the pairs that they lead to, breadth first, each with its least bound

@@ -10,7 +10,7 @@ use Rattle.pg_pairs.specs.LeastOf.{cost_under, least_of}
 use Rattle.pg_pairs.specs.Reached.{IsReachedInOrder}
 use Rattle.pg_cert.specs.declared.bounds.PairBound.{PairBound}
 use Rattle.pg_cert.specs.Certificate.{bound_in}
-use Rattle.pg_least.specs.Exact.{pairs_of}
+use Rattle.pg_least.specs.Searched.{pairs_of}
 
 -- the bound is the least of the pair's base and of what its edges cost at their children's bounds
 abbrev pub IsLeastBound : (Pair → List Edge) → (Pair → Option ℕ) → (Edge → ℕ → Option ℕ) → Table → Pair → Option ℕ

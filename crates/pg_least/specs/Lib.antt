@@ -1,5 +1,3 @@
-pub mod Path
-pub mod Exact
 pub mod Beside
 pub mod Descent
 pub mod Queues
@@ -8,7 +6,7 @@ pub mod Graphs
 pub mod Places
 pub mod Least
 pub mod From
-pub mod Roots
 pub mod Loss
 pub mod LossLaws
 pub mod Tables
+pub mod Searched

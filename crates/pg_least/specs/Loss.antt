@@ -1,6 +1,10 @@
--- Whether the new reader sees what the old writer writes. A view says which numbers of two enums are the same item.
-use Rattle.std.specs.Prelude.{◌≡◌, ◌≤◌, length, true, Some}
+-- The two message types of one full name, and whether the reader of the new one sees what the writer of the old one
+-- writes. A view says which numbers of two enums are the same item.
+use Rattle.std.specs.Prelude.{◌≡◌, ◌≤◌, length, true, Some, ◌≢◌, ℕ, List}
 use Rattle.pg_schema.specs.Shape.{Shape, fields}
+use Rattle.pg_schema.specs.declared.parts.field.TypeId.{TypeId}
+use Rattle.pg_schema.specs.declared.parts.Parts.{Parts}
+use Rattle.pg_schema.specs.Parts.{name_at}
 use Rattle.pg_dyn.specs.Belonging.{IsMessage}
 use Rattle.pg_dyn.specs.Comparison.{View, records_outside, same, unshared_bytes}
 use Rattle.pg_dyn.specs.reading.Decoding.{dec}
@@ -8,6 +12,19 @@ use Rattle.pg_dyn.specs.encoding.Encoding.{cap, enc}
 use Rattle.pg_dyn.specs.Message.{IsPlain, Message, unknown_of}
 use Rattle.pg_dyn.specs.encoding.Writing.{bytes_of}
 use Rattle.pg_pairs.specs.declared.choice.Pair.{Pair}
+
+-- the message type of that full name
+abbrev pub IsNamed : Parts → List ℕ → TypeId → Type 0
+IsNamed parts name id = name_at parts.types.items id ≡ Some name
+
+-- no message type has the name
+abbrev pub Lacks : Parts → List ℕ → Type 0
+Lacks parts name = (id : TypeId) → name_at parts.types.items id ≢ Some name
+
+-- the two message types of that full name
+pub record AreRoots (old new : Parts) (root : List ℕ) (pair : Pair) : Type 0 where
+  pub old_named : IsNamed old root pair.old
+  pub new_named : IsNamed new root pair.new
 
 -- a message that the old writer encodes: one of the type, without unknown records, of no more bytes than an encoding
 -- may have

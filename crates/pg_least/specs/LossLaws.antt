@@ -8,8 +8,7 @@ use Rattle.pg_dyn.specs.Breaking.{Breaks, Compatible}
 use Rattle.pg_dyn.specs.Comparison.{View}
 use Rattle.pg_dyn.specs.Message.{Message}
 use Rattle.pg_pairs.specs.declared.choice.Pair.{Pair}
-use Rattle.pg_least.specs.Loss.{IsLost, NewSees, OldWrites}
-use Rattle.pg_least.specs.Roots.{IsNamed}
+use Rattle.pg_least.specs.Loss.{IsLost, NewSees, OldWrites, IsNamed}
 
 -- A message is lost just where it breaks.
 abbrev pub LostMessagesBreak : Type 0

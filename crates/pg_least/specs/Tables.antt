@@ -4,7 +4,7 @@ use Rattle.pg_pairs.specs.declared.choice.Pair.{Pair}
 use Rattle.pg_pairs.specs.Among.{IsAmong}
 use Rattle.pg_cert.specs.declared.bounds.PairBound.{PairBound}
 use Rattle.pg_cert.specs.Certificate.{are_bounds, bound_in}
-use Rattle.pg_least.specs.Exact.{pairs_of}
+use Rattle.pg_least.specs.Searched.{pairs_of}
 
 -- A table has a bound for each pair in its lines and for no other, and the bound of a line is that of its pair.
 pub record TablesByLines : Type 0 where

@@ -13,9 +13,8 @@ ghost use Rattle.pg_pairs.specs.GraphView.{seen};
 ghost use Rattle.pg_cert.specs.Certificate.{bound_in};
 ghost use Rattle.pg_least.specs.Beside.{IsBesideClaim};
 ghost use Rattle.pg_least.specs.Descent.{IsTableOf};
-ghost use Rattle.pg_least.specs.Exact.{IsSearched};
+ghost use Rattle.pg_least.specs.Searched.{IsSearched, CarriesWitness};
 ghost use Rattle.pg_least.specs.Least.{IsCounted};
-ghost use Rattle.pg_least.specs.Path.{CarriesWitness};
 
 use crate::least_bounds::settle;
 use crate::witness::witness;

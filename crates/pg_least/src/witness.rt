@@ -10,8 +10,7 @@ ghost use Rattle.pg_pairs.specs.Laws.{ReachedBy};
 ghost use Rattle.pg_cert.specs.Certificate.{bound_in};
 ghost use Rattle.pg_cert.specs.ClaimView.{view_in};
 ghost use Rattle.pg_least.specs.Descent.{IsCarriedFrom, IsExactTable, IsStep, IsWholePath, first_step};
-ghost use Rattle.pg_least.specs.Exact.{IsSearched};
-ghost use Rattle.pg_least.specs.Path.{IsPath, carried_along};
+ghost use Rattle.pg_least.specs.Searched.{IsSearched, IsPath, carried_along};
 
 use pg_cert::{Bounds, Certificate};
 use pg_dyn::Message;

@@ -12,9 +12,8 @@ use Rattle.pg_dyn.specs.Message.{Message}
 use Rattle.pg_dyn.specs.declared.view_name.ViewName.TheVariants as views
 use Rattle.pg_pairs.specs.EnumView.{EnumView, by_numbers}
 use Rattle.pg_cert.specs.Certificate.{bound_in, Claim, Holds}
-use Rattle.pg_least.specs.Exact.{IsSearched}
-use Rattle.pg_least.specs.Loss.{IsLost, NewSees, OldWrites}
-use Rattle.pg_least.specs.Roots.{AreRoots, Lacks}
+use Rattle.pg_least.specs.Searched.{IsSearched}
+use Rattle.pg_least.specs.Loss.{IsLost, NewSees, OldWrites, AreRoots, Lacks}
 use Rattle.pg_gate.specs.declared.answer.gate.Answer.{Answer}
 use Rattle.pg_gate.specs.declared.answer.gate.Answer.TheVariants as answers
 use Rattle.pg_gate.specs.declared.error.GateError.{GateError}

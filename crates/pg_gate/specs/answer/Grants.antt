@@ -5,8 +5,8 @@ use Rattle.pg_cert.specs.Text.{Certifies, IsSecondText}
 use Rattle.pg_dyn.specs.declared.view_name.ViewName.{ViewName}
 use Rattle.pg_dyn.specs.encoding.Encoding.{enc}
 use Rattle.pg_dyn.specs.Kept.{Kept}
-use Rattle.pg_least.specs.Path.{CarriesWitness, carried_along}
-use Rattle.pg_least.specs.Roots.{Lacks}
+use Rattle.pg_least.specs.Searched.{CarriesWitness, carried_along}
+use Rattle.pg_least.specs.Loss.{Lacks}
 use Rattle.pg_pairs.specs.EnumView.{by_numbers}
 use Rattle.pg_pairs.specs.NamedView.{seen_under}
 use Rattle.pg_schema.specs.declared.parts.Parts.{Parts}

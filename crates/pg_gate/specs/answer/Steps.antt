@@ -6,7 +6,7 @@ use Rattle.pg_link.specs.Names.{Text}
 use Rattle.pg_cert.specs.Certificate.{bound_in, Claim}
 use Rattle.pg_cert.specs.ClaimView.{view_in}
 use Rattle.pg_cert.specs.Text.{names_of}
-use Rattle.pg_least.specs.Path.{IsPath}
+use Rattle.pg_least.specs.Searched.{IsPath}
 use Rattle.pg_least.specs.declared.witness.PairChoice as stages
 use Rattle.pg_pairs.specs.Choices.{is_oneof}
 use Rattle.pg_pairs.specs.declared.choice.Choice.{Choice}

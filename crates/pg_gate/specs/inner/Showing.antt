@@ -4,7 +4,7 @@ use Rattle.pg_link.specs.Names.{Text}
 use Rattle.pg_schema.specs.declared.parts.field.TypeId.{TypeId}
 use Rattle.pg_schema.specs.declared.parts.Parts.{Parts}
 use Rattle.pg_show.specs.Hex.{bytes_in}
-use Rattle.pg_least.specs.Roots.{Lacks}
+use Rattle.pg_least.specs.Loss.{Lacks}
 use Rattle.pg_gate.specs.Errors.{IsCallError, IsError, IsMemory}
 use Rattle.pg_gate.specs.answer.Showing.{IsBadWord, IsRefused, IsRefusedWord}
 use Rattle.pg_gate.specs.declared.call.error.CallError.{CallError}

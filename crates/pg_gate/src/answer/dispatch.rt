@@ -2,7 +2,7 @@
 ghost use Rattle.std.specs.Prelude.{◌≡◌, IfErr, IfOk, OnErr};
 ghost use Rattle.pg_cert.specs.ClaimView.{view_in};
 ghost use Rattle.pg_cert.specs.Text.{IsClaimOf};
-ghost use Rattle.pg_least.specs.Exact.{IsSearched};
+ghost use Rattle.pg_least.specs.Searched.{IsSearched};
 ghost use Rattle.pg_schema.specs.Parts.{shape_of};
 ghost use Rattle.pg_gate.specs.answer.AllTypes.{IsAllTypes};
 ghost use Rattle.pg_gate.specs.answer.Answer.{IsRefusedRoot};

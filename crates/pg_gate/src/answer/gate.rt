@@ -3,8 +3,8 @@ ghost use Rattle.std.specs.Prelude.{◌≡◌, ◌+◌, Err, codes, IfErr, IfOk}
 ghost use Rattle.pg_schema.specs.Parts.{shape_of};
 ghost use Rattle.pg_pairs.specs.EnumView.{by_numbers};
 ghost use Rattle.pg_pairs.specs.NamedView.{seen_under};
-ghost use Rattle.pg_least.specs.Path.{CarriesWitness};
-ghost use Rattle.pg_least.specs.Roots.{AreRoots, Lacks};
+ghost use Rattle.pg_least.specs.Searched.{CarriesWitness};
+ghost use Rattle.pg_least.specs.Loss.{AreRoots, Lacks};
 ghost use Rattle.pg_gate.specs.answer.Answer.{IsAnswer, IsRefusedRoot, certificate_of};
 ghost use Rattle.pg_gate.specs.Failures.{side_failures};
 ghost use Rattle.pg_gate.specs.answer.Grants.{IsAnswerOfFiles, IsGateError};

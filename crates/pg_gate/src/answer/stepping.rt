@@ -3,7 +3,7 @@ ghost use Rattle.std.specs.Prelude.{◌≡◌, ◌++◌, IfOk, OnOk, true, is_so
 ghost use Rattle.std.specs.List.{flat_map};
 ghost use Rattle.pg_cert.specs.ClaimView.{view_in};
 ghost use Rattle.pg_cert.specs.Text.{names_of};
-ghost use Rattle.pg_least.specs.Exact.{IsSearched};
+ghost use Rattle.pg_least.specs.Searched.{IsSearched};
 ghost use Rattle.pg_schema.specs.Parts.{shape_of};
 ghost use Rattle.pg_gate.specs.answer.Steps as spec;
 

@@ -4,7 +4,7 @@ use Rattle.pg_schema.specs.Parts.{shape_of}
 use Rattle.pg_dyn.specs.declared.view_name.ViewName.{ViewName}
 use Rattle.pg_pairs.specs.NamedView.{seen_under}
 use Rattle.pg_pairs.specs.declared.choice.Pair.{Pair}
-use Rattle.pg_least.specs.Exact.{IsSearched}
+use Rattle.pg_least.specs.Searched.{IsSearched}
 use Rattle.answer_rows.proofs.searches.path_down.Goals as goal
 
 pub path-requires-clause-searched : goal.path-requires-clause-searched

@@ -3,7 +3,7 @@ use Rattle.std.specs.List.{AllByRecursion}
 use Rattle.pg_schema.specs.declared.parts.Parts.{Parts}
 use Rattle.pg_schema.specs.Parts.{name_at}
 use Rattle.pg_causes.specs.Names.{name_of}
-use Rattle.pg_least.specs.Roots.{AreRoots}
+use Rattle.pg_least.specs.Loss.{AreRoots}
 use Rattle.pg_pairs.specs.declared.choice.Pair.{Pair}
 use Rattle.pg_causes.proofs.Going.{each_pushed, pushed}
 use Rattle.pg_causes.proofs.Naming.{none_found, placed_name, shared_more, shared_same}

@@ -5,7 +5,7 @@ use Rattle.pg_pairs.specs.declared.choice.Pair.{Pair}
 use Rattle.pg_pairs.specs.Edges.{is_pair}
 use Rattle.pg_pairs.specs.GraphView.{seen}
 use Rattle.pg_cert.specs.Certificate.{bound_in}
-use Rattle.pg_least.specs.Exact.{pairs_of}
+use Rattle.pg_least.specs.Searched.{pairs_of}
 use Rattle.pg_least.specs.From.{AreBoundsFrom}
 use Rattle.pg_causes.specs.Names.{shared}
 use Rattle.pg_causes.specs.declared.overview.TypeLine.{TypeLine}

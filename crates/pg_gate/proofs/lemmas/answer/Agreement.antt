@@ -10,7 +10,7 @@ use Rattle.pg_pairs.proofs.Among.{among_each}
 use Rattle.pg_pairs.specs.declared.choice.Pair.{Pair}
 use Rattle.pg_pairs.specs.EnumView.{EnumView}
 use Rattle.pg_pairs.specs.NamedView.{seen_under}
-use Rattle.pg_least.specs.Roots.{AreRoots}
+use Rattle.pg_least.specs.Loss.{AreRoots}
 use Rattle.pg_causes.specs.declared.overview.TypeLine.{TypeLine}
 use Rattle.pg_causes.specs.TypeLines.{GateSays, IsTypeLine}
 use Rattle.pg_gate.specs.answer.Agreement.{AllSaysWhatGateSays, bytes_to_break}

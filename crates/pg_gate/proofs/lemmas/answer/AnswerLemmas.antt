@@ -15,9 +15,8 @@ use Rattle.pg_cert.specs.Certificate.{bound_in, Claim, IsWitnessedIfThere}
 use Rattle.pg_cert.specs.ClaimView.{view_in}
 use Rattle.pg_cert.specs.Text.{IsClaimOf}
 use Rattle.pg_least.specs.Beside.{IsBesideClaim, IsWitnessMessage}
-use Rattle.pg_least.specs.Exact.{IsSearched}
-use Rattle.pg_least.specs.Path.{AreCarried, CarriesWitness, IsPath, carried_along}
-use Rattle.pg_least.specs.Roots.{AreRoots}
+use Rattle.pg_least.specs.Searched.{IsSearched, AreCarried, CarriesWitness, IsPath, carried_along}
+use Rattle.pg_least.specs.Loss.{AreRoots}
 use Rattle.pg_least.proofs.PublicLaws.{compatible_is_seen, lost_messages_break, named_types_are_there}
 use Rattle.pg_gate.specs.answer.Answer.{IsAnswer, IsAnswerBy, IsBroken, IsCompatible, IsRefusedRoot, certificate_of}
 use Rattle.pg_gate.specs.answer.ViewAnswer.{IsAnswerUnder}

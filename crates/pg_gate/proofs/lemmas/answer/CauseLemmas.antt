@@ -20,7 +20,7 @@ use Rattle.pg_cert.specs.Text.{IsPairOf}
 use Rattle.pg_least.specs.declared.witness.PairChoice.{PairChoice}
 use Rattle.pg_causes.specs.Causes.{causes_at, choice_at}
 use Rattle.pg_causes.specs.Overview.{IsOverview}
-use Rattle.pg_least.specs.Roots.{AreRoots}
+use Rattle.pg_least.specs.Loss.{AreRoots}
 use Rattle.pg_causes.specs.declared.overview.Cause.{Cause}
 use Rattle.pg_causes.specs.declared.overview.Overview.{Overview}
 use Rattle.pg_gate.proofs.lemmas.answer.Ranges.{as_types, each_unmapped}

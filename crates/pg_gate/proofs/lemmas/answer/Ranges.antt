@@ -17,7 +17,7 @@ use Rattle.pg_pairs.proofs.PublicLaws.{pairs_lead_to_pairs}
 use Rattle.pg_cert.specs.declared.bounds.PairBound.{PairBound}
 use Rattle.pg_cert.specs.Certificate.{Claim}
 use Rattle.pg_cert.specs.Text.{IsClaimOf, IsPairOf}
-use Rattle.pg_least.specs.Exact.{IsSearched}
+use Rattle.pg_least.specs.Searched.{IsSearched}
 
 pub each_unmapped : {A B : Type 0} (P : B → Type 0) (f : A → B) (xs : List A) → AllByRecursion P (map f xs) → AllByRecursion (λ x. P (f x)) xs
 each_unmapped P f [] all = tt

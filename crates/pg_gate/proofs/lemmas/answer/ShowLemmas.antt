@@ -5,7 +5,7 @@ use Rattle.pg_link.specs.Walk.{World}
 use Rattle.pg_schema.specs.declared.parts.field.TypeId.{TypeId}
 use Rattle.pg_schema.specs.declared.parts.Parts.{Parts}
 use Rattle.pg_show.specs.Hex.{bytes_in}
-use Rattle.pg_least.specs.Roots.{IsNamed, Lacks}
+use Rattle.pg_least.specs.Loss.{IsNamed, Lacks}
 use Rattle.pg_gate.specs.Errors.{IsError, IsMemory}
 use Rattle.pg_gate.specs.Failures.{call_failures_at}
 use Rattle.pg_gate.specs.answer.Files.{IsFaultOfSide, IsSide, IsSideError}

@@ -19,7 +19,7 @@ use Rattle.pg_schema.specs.Shape.{Shape}
 use Rattle.pg_schema.specs.declared.parts.field.TypeId.{TypeId}
 use Rattle.pg_schema.specs.declared.parts.message_type.MessageType.{MessageType}
 use Rattle.pg_schema.specs.declared.parts.Parts.{Parts}
-use Rattle.pg_least.specs.Roots.{IsNamed}
+use Rattle.pg_least.specs.Loss.{IsNamed}
 use Rattle.pg_gate.specs.Failures.{call_failures_at}
 use Rattle.pg_gate.specs.answer.Files.{IsSide}
 use Rattle.pg_gate.specs.answer.Grants.{IsSidesFault, IsVerified, IsVerifyError}

@@ -4,9 +4,8 @@ use Rattle.pg_schema.specs.declared.parts.Parts.{Parts}
 use Rattle.pg_schema.specs.Parts.{shape_of}
 use Rattle.pg_pairs.specs.Edges.{edges}
 use Rattle.pg_cert.proofs.Graphs.{of_graph}
-use Rattle.pg_least.specs.Exact.{IsSearched}
+use Rattle.pg_least.specs.Searched.{IsSearched, CarriesWitness}
 use Rattle.pg_least.specs.Least.{IsCounted}
-use Rattle.pg_least.specs.Path.{CarriesWitness}
 use Rattle.pg_least.proofs.searching.search_counted.Goals as goal
 
 pub found_counted-requires : goal.found_counted-requires

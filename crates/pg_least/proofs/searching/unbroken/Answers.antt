@@ -1,8 +1,7 @@
 use Rattle.std.proofs.Common.{subst, sym}
 use Rattle.pg_schema.specs.Parts.{shape_of}
 use Rattle.pg_pairs.specs.GraphView.{seen}
-use Rattle.pg_least.specs.Exact.{IsSearched}
-use Rattle.pg_least.specs.Path.{CarriesWitness}
+use Rattle.pg_least.specs.Searched.{IsSearched, CarriesWitness}
 use Rattle.pg_least.proofs.Claims.{searched_none}
 use Rattle.pg_least.proofs.searching.unbroken.Goals as goal
 

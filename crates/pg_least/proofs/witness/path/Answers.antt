@@ -3,8 +3,7 @@ use Rattle.std.proofs.Common.{◌∙◌, IfOk}
 use Rattle.pg_schema.specs.Parts.{shape_of}
 use Rattle.pg_cert.specs.Certificate.{bound_in}
 use Rattle.pg_cert.proofs.Graphs.{of_graph, to_graph}
-use Rattle.pg_least.specs.Exact.{IsSearched}
-use Rattle.pg_least.specs.Path.{IsPath}
+use Rattle.pg_least.specs.Searched.{IsSearched, IsPath}
 use Rattle.pg_least.proofs.witness.path.Goals as goal
 
 pub path_with-requires-clause-searched : goal.path_with-requires-clause-searched

@@ -2,7 +2,7 @@ use Rattle.std.proofs.Common.{subst, sym}
 use Rattle.pg_cert.specs.Certificate.{Claim}
 use Rattle.pg_cert.specs.ClaimView.{view_in}
 use Rattle.pg_cert.specs.Text.{IsClaimOf}
-use Rattle.pg_least.specs.Exact.{IsSearched}
+use Rattle.pg_least.specs.Searched.{IsSearched}
 use Rattle.pg_schema.specs.Parts.{shape_of}
 use Rattle.pg_gate.specs.inner.Reports.{Reports}
 use Rattle.pg_gate.proofs.lemmas.answer.AnswerLemmas.{claim_of_answer, found_by, searched_by}

@@ -2,7 +2,7 @@
 use Rattle.std.proofs.Common.{◌≡◌, IfOk, subst}
 use Rattle.pg_dyn.specs.declared.view_name.ViewName.TheVariants as views
 use Rattle.pg_schema.specs.Parts.{shape_of}
-use Rattle.pg_least.specs.Path.{CarriesWitness}
+use Rattle.pg_least.specs.Searched.{CarriesWitness}
 use Rattle.pg_gate.specs.answer.Answer.{IsAnswerBy, certificate_of}
 use Rattle.pg_gate.proofs.answer.gate.gate.Goals as goal
 

@@ -6,8 +6,7 @@ use Rattle.pg_dyn.specs.Kept.{Kept}
 use Rattle.pg_cert.specs.Certificate.{Claim}
 use Rattle.pg_cert.proofs.Graphs.{of_graph}
 use Rattle.pg_least.specs.Beside.{IsBesideClaim}
-use Rattle.pg_least.specs.Exact.{IsSearched}
-use Rattle.pg_least.specs.Path.{CarriesWitness}
+use Rattle.pg_least.specs.Searched.{IsSearched, CarriesWitness}
 use Rattle.pg_least.proofs.PublicLaws.{named_types_are_there}
 use Rattle.pg_pairs.specs.EnumView.{EnumView}
 use Rattle.pg_pairs.specs.NamedView.{seen_under}
