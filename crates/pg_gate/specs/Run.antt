@@ -25,7 +25,7 @@ pub record Begins (granted : Request → Reply → Type 0) (words : List Text) (
   pub count : ℕ
   pub written : new ≡ old ++ take count (printed call reply).text
 
--- what a sink took is still there, in front of what came
+-- what a sink took is still there, before what came
 pub record Keeps (old new : Text) : Type 0 where
   pub more : Text
   pub is : new ≡ old ++ more

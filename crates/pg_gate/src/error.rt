@@ -19,15 +19,15 @@ pub enum Side {
 /// Why a side does not compile.
 #[derive(Debug, PartialEq, Eq, Drop, Error)]
 pub enum Fault {
-    /// Its source files can't be linked, or its descriptor set isn't there: by the code of that
+    /// The side's source files can't be linked, or its descriptor set isn't there: by the code of that
     /// fault, at its place.
     #[error("{0}")]
     Link(LinkError),
-    /// Its source files break a rule of the language: by its code, at its place.
+    /// The side's source files break a rule of the language: by its code, at its place.
     #[error("{0}")]
     Check(CheckError),
-    /// Its descriptor set is refused, or what its source files declare has none: by the code of the
-    /// codec of messages, of the set, or of the rule that it breaks.
+    /// The side's descriptor set is refused, or what its source files declare has none: by the code
+    /// of the codec of messages, of the set, or of the rule that it breaks.
     #[error("{0}")]
     Set(FdsError),
 }

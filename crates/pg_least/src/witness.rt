@@ -1,4 +1,4 @@
-//! The messages that bounds tell of.
+//! The messages that bounds speak of.
 
 ghost use Rattle.std.specs.Prelude.{◌≡◌, ◌++◌, [], ◌∷◌, ℕ, true, is_some, Some, IfOk};
 ghost use Rattle.pg_schema.specs.Parts.{shape_of};

@@ -53,7 +53,7 @@ pub record IsBroken (enum_view : EnumView) (old new : Parts) (root : List ℕ) (
       (length (enc (shape_of old) certificate.root.old (message_of witness)))
   pub bytes_are : certificate.witness ≡ Some (enc (shape_of old) certificate.root.old (message_of witness))
 
--- One of the two, under an enum view.
+-- One of these two answers, under an enum view.
 abbrev pub IsAnswerBy : EnumView → Parts → Parts → List ℕ → Answer → Type 0
 IsAnswerBy enum_view old new root (answers.Compatible certificate) = IsCompatible enum_view old new root certificate
 IsAnswerBy enum_view old new root (answers.Breaks witness certificate) =

@@ -87,7 +87,7 @@ impl Reply {
         }
     }
 
-    /// Its output, for the root types of this name.
+    /// The reply's output, for the root types of this name.
     fn into_text(self, alloc: Global, root: &str) -> Result<Vec<u8>, AllocError>
         ensures { IfOk result (λ text. text.items ≡ text_of root.now self) }
     {
@@ -127,7 +127,7 @@ pub(crate) struct Output {
 }
 
 impl Reply {
-    /// Its output and its status.
+    /// The reply's output and its status.
     pub(crate) fn into_output(self, alloc: Global, root: &str) -> Result<Output, AllocError>
         ensures text { IfOk result (λ output. output.text.items ≡ text_of root.now self) }
         ensures status { IfOk result (λ output. output.status ≡ status_of self) }
