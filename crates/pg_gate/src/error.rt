@@ -19,8 +19,8 @@ pub enum Side {
 /// Why a side does not compile.
 #[derive(Debug, PartialEq, Eq, Drop, Error)]
 pub enum Fault {
-    /// The side's source files can't be linked, or its descriptor set isn't there: by the code of that
-    /// fault, at its place.
+    /// The side's source files can't be linked, or its descriptor set isn't there: by the code of
+    /// that fault, at its place.
     #[error("{0}")]
     Link(LinkError),
     /// The side's source files break a rule of the language: by its code, at its place.

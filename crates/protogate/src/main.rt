@@ -1,4 +1,4 @@
-//! The program `protogate`: the words, the files and the standard output of its process.
+//! The program `protogate`: the arguments, the files and the standard output of its process.
 #![tactic(auto)]
 
 use pg_gate::{GateError, StandardOutput, run};
@@ -14,7 +14,7 @@ const USAGE: u8 = 4;
 /// The status of memory or a device that fails.
 const DEVICE: u8 = 3;
 
-/// The words after the program's name.
+/// The arguments after the program's name.
 fn words(rt: &HostRuntime) -> io::Result<Vec<String>> {
     let words = env::args(rt)?.skip(1).collect(rt.alloc())?;
     Ok(words)
@@ -30,7 +30,7 @@ fn status_of(ended: &Result<u8, GateError>) -> Option<u8> {
     }
 }
 
-/// Runs on the words, over the system's files and its standard output.
+/// Runs on the arguments, over the system's files and its standard output.
 fn run_on(rt: &HostRuntime, words: &[String]) -> Result<Option<u8>, AllocError> {
     let words: Vec<&str> = words.iter().map(|word| word.as_str()).collect(rt.alloc())?;
     let ended = run(
