@@ -1,14 +1,13 @@
 -- The choices of a row of fields and the cheapest one, one field before the others.
-use Rattle.std.proofs.Common.{◌≡◌, ℕ, suc, ◌-◌, ◌<◌, ◌≤◌, List, [], ◌∷◌, ◌++◌, map, length, drop, get_or, slice_index_or, reverse, nat_eq, Option, None, ap, ap₂, sym, ◌∙◌, subst, refl, arith}
+use Rattle.std.proofs.Common.{◌≡◌, ℕ, suc, ◌-◌, ◌<◌, ◌≤◌, List, [], ◌∷◌, ◌++◌, map, length, drop, slice_index_or, nat_eq, Option, None, ap, sym, ◌∙◌, subst, refl, arith}
 use Rattle.std.specs.HashMap.{HashMap, get, IsEmpty}
 use Rattle.std.specs.Map.{lookup}
-use Rattle.std.proofs.lemmas.List.{append_assoc, reverse-append}
+use Rattle.std.proofs.lemmas.List.{append_assoc}
 use Rattle.pg_schema.specs.declared.parts.field.Field.{Field}
 use Rattle.pg_schema.specs.Parts.{field_shape}
 use Rattle.pg_schema.specs.Shape.{FieldShape, field_at}
 use Rattle.pg_dyn.specs.encoding.Encoding.{cap}
 use Rattle.pg_pairs.specs.declared.choice.Choice.{Choice}
-use Rattle.pg_pairs.specs.declared.least_member.Member.{Member}
 use Rattle.pg_pairs.specs.declared.least_member.Two.{Two}
 use Rattle.pg_pairs.specs.EnumView.{EnumView}
 use Rattle.pg_pairs.specs.Choices.{Table, choices_beside, joined_choices, all_choices, affordable}
@@ -18,7 +17,7 @@ use Rattle.pg_pairs.specs.Members.{new_oneof}
 use Rattle.pg_pairs.specs.LeastMembers.{member_of, least_member, met_choices, beside, IsOrdered, KeepsLeast}
 use Rattle.pg_pairs.proofs.Cheaper.{same-below, cheapest-within}
 use Rattle.pg_pairs.proofs.LeastMembers.{cheapest-joined}
-use Rattle.pg_pairs.proofs.OptionSteps.{affordable-append, drop_at, get_map, item_is}
+use Rattle.pg_pairs.proofs.OptionSteps.{affordable-append, drop_at}
 
 -- of a field's choices with later ones the cheapest is enough
 pub cheapest_before : (enum_view : EnumView) (table : Table) (gs : List FieldShape) (f : FieldShape) (fs : List FieldShape) →
@@ -40,9 +39,6 @@ past_end (x ∷ xs) = past_end xs
 
 pub none_at_end : (enum_view : EnumView) (table : Table) (gs : List FieldShape) (list : List Field) → None ≡ cheapest (affordable (all_choices enum_view table gs (map field_shape (drop (length list) list))))
 none_at_end enum_view table gs list = sym (ap (λ fs. cheapest (affordable (all_choices enum_view table gs (map field_shape fs)))) (past_end list))
-
-pub choices_at_end : (enum_view : EnumView) (table : Table) (gs : List FieldShape) (list : List Field) → [] ≡ reverse (affordable (all_choices enum_view table gs (map field_shape (drop (length list) list))))
-choices_at_end enum_view table gs list = sym (ap (λ fs. reverse (affordable (all_choices enum_view table gs (map field_shape fs)))) (past_end list))
 
 pub kept_at_end : {S : Type 0} (gs : List FieldShape) (list : List Field) (kept : HashMap ℕ Two S) → IsEmpty kept → KeepsLeast gs (map field_shape (drop (length list) list)) kept
 kept_at_end gs list kept empty = subst (λ fs. KeepsLeast gs (map field_shape fs) kept) (sym (past_end list)) (record { least = λ new old. ap (λ o. beside o old) (none new); ordered = λ new. subst IsOrdered (sym (none new)) tt })
@@ -75,33 +71,3 @@ module _ (list : List Field) (at : ℕ) (f : Field) (positive : 1 ≤ at) (small
 
   pub kept_before : {S : Type 0} (gs : List FieldShape) (kept : HashMap ℕ Two S) → KeepsLeast gs (field_shape f ∷ map field_shape (drop at list)) kept → KeepsLeast gs (map field_shape (drop (at - 1) list)) kept
   kept_before gs kept h = subst (λ fs. KeepsLeast gs fs kept) row h
-
-  -- after the choices of later fields, from the last one on, come the field's own and those with the fields that it meets
-  pub choices_before : (enum_view : EnumView) (table : Table) (gs : List FieldShape) (later fresh own both turned after : List Choice) →
-      later ≡ reverse (affordable (all_choices enum_view table gs (map field_shape (drop at list)))) → fresh ≡ [] →
-      own ≡ fresh ++ affordable (choices_beside enum_view table (field_shape f) (field_at gs f.number)) →
-      both ≡ own ++ affordable (joined_choices gs (field_shape f) (map field_shape (drop (suc (at - 1)) list))) →
-      turned ≡ reverse both → after ≡ later ++ turned → after ≡ reverse (affordable (all_choices enum_view table gs (map field_shape (drop (at - 1) list))))
-  choices_before enum_view table gs later fresh own both turned after later_is fresh_is own_is both_is turned_is after_is =
-      let beside = choices_beside enum_view table (field_shape f) (field_at gs f.number) in
-      let joined = joined_choices gs (field_shape f) (map field_shape (drop at list)) in
-      let rest = all_choices enum_view table gs (map field_shape (drop at list)) in
-      let next : suc (at - 1) ≡ at = omega arith in
-      let made : both ≡ affordable (beside ++ joined) =
-      both_is ∙ ap (λ n. own ++ affordable (joined_choices gs (field_shape f) (map field_shape (drop n list)))) next
-      ∙ ap (λ cs. cs ++ affordable joined) (own_is ∙ ap (λ cs. cs ++ affordable beside) fresh_is) ∙ sym (affordable-append beside joined) in
-      after_is ∙ ap₂ (λ xs ys. xs ++ ys) later_is (turned_is ∙ ap reverse made) ∙ sym (reverse-append (affordable (beside ++ joined)) (affordable rest))
-      ∙ ap reverse (sym (affordable-append (beside ++ joined) rest)) ∙ ap (λ fs. reverse (affordable (all_choices enum_view table gs fs))) row
-
-  pub oneof_before : (gs : List FieldShape) (oneofs : List (Option ℕ)) → oneofs ≡ map (λ f. new_oneof gs (field_shape f)) list → get_or oneofs (at - 1) None ≡ new_oneof gs (field_shape f)
-  oneof_before gs oneofs are = ap (λ os. get_or os (at - 1) None) are ∙ get_map (λ f. new_oneof gs (field_shape f)) list (at - 1) f None (omega arith) is
-
-  -- what the field meets, as it is said of its index
-  pub met_at : (gs : List FieldShape) (oneof : Option ℕ) (met : Option Member) → oneof ≡ new_oneof gs (field_shape f) → met ≡ least_member gs oneof f.oneof (map field_shape (drop at list)) → (g : Field) → g ≡ slice_index_or list (at - 1) g →
-      met ≡ least_member gs (new_oneof gs (field_shape g)) g.oneof (map field_shape (drop (suc (at - 1)) list))
-  met_at gs oneof met oneof_is met_is g g_is =
-      let inside : at - 1 < length list = omega arith in
-      let next : at ≡ suc (at - 1) = omega arith in
-      let same : f ≡ g = item_is list (at - 1) f g inside is g_is in
-      met_is ∙ ap (λ o. least_member gs o f.oneof (map field_shape (drop at list))) oneof_is
-      ∙ ap₂ (λ (x : Field) n. least_member gs (new_oneof gs (field_shape x)) x.oneof (map field_shape (drop n list))) same next

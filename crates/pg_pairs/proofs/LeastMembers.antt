@@ -106,11 +106,3 @@ module _ {S : Type 0} (gs : List FieldShape) (f : FieldShape) (fs : List FieldSh
       (λ old. met now_ordered old ∙ ap (λ (n : Member). if not (same_oneof old n.oneof) then Some (lesser n (beside later old)) else beside later old) m_is
       ∙ ap (λ o. if not (same_oneof old f.oneof) then Some (lesser (member_of f) (beside o old)) else beside o old) later_is)
       (ordered now_ordered)
-
--- a field that meets no later one joins none
-pub joins_none : (gs : List FieldShape) (a : FieldShape) (later : List FieldShape) → least_member gs (new_oneof gs a) a.oneof later ≡ None → joined_choices gs a later ≡ []
-joins_none gs a later none = of (joined_choices gs a later) (cheapest-joined gs a later ∙ ap (λ o. cheapest (met_choices (member_of a) o)) none)
-  where
-    of : (cs : List Choice) → cheapest cs ≡ None → cs ≡ []
-    of [] h = refl
-    of (c ∷ cs) h = absurd (cc)

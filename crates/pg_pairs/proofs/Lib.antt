@@ -51,7 +51,7 @@ pub mod CheapestSteps
 pub mod EntryRecords
 pub mod Cheaper
 pub mod LeastMembers
-pub mod Joining
+pub mod Linking
 pub mod SetTypes
 pub mod Offers
 pub mod LeastCosts

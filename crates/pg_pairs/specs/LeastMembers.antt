@@ -1,15 +1,13 @@
 -- The cheapest fields that a field can meet in a new oneof.
-use Rattle.std.specs.Prelude.{◌≡◌, ℕ, suc, ◌+◌, ◌≤◌, nat_eq, nat_le, ⊤, List, [], ◌∷◌, ◌++◌, map, drop, slice_index_or, not, ◌&&◌, if◌then◌else◌, Option, Some, None, IfSome}
+use Rattle.std.specs.Prelude.{◌≡◌, ℕ, ◌+◌, ◌≤◌, nat_eq, nat_le, ⊤, List, [], ◌∷◌, not, ◌&&◌, if◌then◌else◌, Option, Some, None, IfSome}
 use Rattle.std.specs.HashMap.{HashMap, get}
-use Rattle.pg_schema.specs.declared.parts.field.Field.{Field}
-use Rattle.pg_schema.specs.Parts.{field_shape}
 use Rattle.pg_schema.specs.Shape.{FieldShape}
 use Rattle.pg_dyn.specs.reading.Content.{same_oneof}
 use Rattle.pg_pairs.specs.declared.case.Case.TheVariants as cases
 use Rattle.pg_pairs.specs.declared.choice.Choice.{Choice}
 use Rattle.pg_pairs.specs.declared.least_member.Member.{Member}
 use Rattle.pg_pairs.specs.declared.least_member.Two.{Two}
-use Rattle.pg_pairs.specs.Choices.{affordable, choice, joined_choices}
+use Rattle.pg_pairs.specs.Choices.{choice}
 use Rattle.pg_pairs.specs.Costs.{least_content}
 use Rattle.pg_pairs.specs.Members.{new_oneof}
 
@@ -50,15 +48,3 @@ IsOrdered (Some two) = IfSome two.other (λ other. two.first.cost ≤ other.cost
 pub record KeepsLeast {S : Type 0} (gs fs : List FieldShape) (kept : HashMap ℕ Two S) : Type 0 where
   pub least : (new : ℕ) (old : Option ℕ) → beside (get nat_eq kept new) old ≡ least_member gs (Some new) old fs
   pub ordered : (new : ℕ) → IsOrdered (get nat_eq kept new)
-
--- what the field at that index meets of the later ones
-abbrev pub IsMetBy : List FieldShape → List Field → ℕ → Option Member → Type 0
-IsMetBy gs fs at met =
-    (f : Field) → f ≡ slice_index_or fs at f →
-    met ≡ least_member gs (new_oneof gs (field_shape f)) f.oneof (map field_shape (drop (suc at) fs))
-
--- after the former choices come those of the field at that index with each later one
-abbrev pub JoinsWith : List FieldShape → List Field → ℕ → List Choice → List Choice → Type 0
-JoinsWith gs fs at old new =
-    (f : Field) → f ≡ slice_index_or fs at f →
-    new ≡ old ++ affordable (joined_choices gs (field_shape f) (map field_shape (drop (suc at) fs)))

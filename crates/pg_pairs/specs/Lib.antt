@@ -22,6 +22,7 @@ pub mod Comparing
 pub mod HeldItems
 pub mod Members
 pub mod LeastMembers
+pub mod OneofLinks
 pub mod FirstSeen
 pub mod ByIndices
 pub mod Contents

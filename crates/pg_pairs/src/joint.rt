@@ -1,45 +1,35 @@
 //! The choices of two fields that come into one oneof of the new type.
 
-ghost use Rattle.std.specs.Prelude.{◌≡◌, ◌+◌, ◌++◌, ◌<◌, ◌^◌, [], ◌∷◌, List, if◌then◌else◌, length, map, not, ◌&&◌, OnOk};
+ghost use Rattle.std.specs.Prelude.{◌≡◌, ◌+◌, ◌++◌, ◌<◌, ◌^◌, [], ◌∷◌, List, length, OnOk};
 ghost use Rattle.std.specs.List.{AllByRecursion};
 ghost use Rattle.pg_schema.specs.declared.parts.field.Field.{Field};
 ghost use Rattle.pg_schema.specs.Parts.{field_shape};
 ghost use Rattle.pg_schema.specs.Shape.{FieldShape};
-ghost use Rattle.pg_dyn.specs.reading.Content.{same_oneof};
 ghost use Rattle.pg_pairs.specs.Choices.{affordable, choice};
 ghost use Rattle.pg_pairs.specs.Costs.{least_content};
-ghost use Rattle.pg_pairs.specs.LeastMembers.{IsMetBy, JoinsWith};
-ghost use Rattle.pg_pairs.specs.Members.{new_oneof};
+ghost use Rattle.pg_pairs.specs.OneofLinks.{AreLinks, JoinsWith};
 
 use crate::case::Case;
 use crate::choice::Choice;
 use crate::cost::least_content;
 use crate::field_choice::offer;
-use crate::least_member::Member;
 use crate::member::same_oneof;
+use crate::oneof_links::Link;
 use pg_schema::Field;
 use std::alloc::AllocError;
 
-/// The choice of two fields that the new type has in those oneofs: there is one where these are the
-/// same oneof, and the two aren't in one old oneof.
+/// Appends the choice of two fields that meet.
 fn offer_meeting(
     choices: &mut Vec<Choice>,
     first: &Field,
     second: &Field,
-    oneofs: (Option<u32>, Option<u32>),
 ) -> Result<(), AllocError>
     requires first { first.now.number < 2 ^ 29 }
     requires second { second.now.number < 2 ^ 29 }
-    ensures { OnOk result (choices.new.items
-        ≡ choices.old.items ++ affordable
-        (if same_oneof oneofs.0 oneofs.1 && not (same_oneof first.now.oneof second.now.oneof)
-        then choice first.now.number Case.Oneof second.now.number
-        (least_content (field_shape first.now) + least_content (field_shape second.now)) ∷ []
-        else [])) }
+    ensures { OnOk result (choices.new.items ≡ choices.old.items ++ affordable
+        (choice first.now.number Case.Oneof second.now.number
+        (least_content (field_shape first.now) + least_content (field_shape second.now)) ∷ [])) }
 {
-    if !same_oneof(oneofs.0, oneofs.1) || same_oneof(first.oneof, second.oneof) {
-        return Ok(());
-    }
     let cost = least_content(first) + least_content(second);
     offer(
         choices,
@@ -50,29 +40,30 @@ fn offer_meeting(
     )
 }
 
-/// Appends the choices of a field with each later one of its new oneof. The cheapest of those that
-/// it meets says whether there are any.
+/// Appends the choices of a field with each later one of its new oneof that isn't in its old one.
+/// Of those that are in it one at most is looked at before each choice.
 pub(crate) fn offer_joined(
     choices: &mut Vec<Choice>,
     list: &[Field],
-    oneofs: &[Option<u32>],
+    links: &[Link],
     at: usize,
-    least: Option<Member>,
 ) -> Result<(), AllocError>
     requires at { at < length list.now }
     requires numbers { AllByRecursion (λ (f : Field). f.number < 2 ^ 29) list.now }
-    requires oneofs { length oneofs.now ≡ length list.now }
-    ensures { OnOk result ((gs : List FieldShape)
-        → oneofs.now ≡ map (λ f. new_oneof gs (field_shape f)) list.now
-        → IsMetBy gs list.now at least
+    requires links { (gs : List FieldShape) × AreLinks gs list.now 0 links.now }
+    ensures { OnOk result ((gs : List FieldShape) → AreLinks gs list.now 0 links.now
         → JoinsWith gs list.now at choices.old.items choices.new.items) }
 {
-    if least.is_none() {
-        return Ok(());
-    }
     let first = &list[at];
-    for later in at + 1..list.len() {
-        offer_meeting(choices, first, &list[later], (oneofs[at], oneofs[later]))?;
+    let mut later = links[at].next;
+    while later < list.len() {
+        let second = &list[later];
+        if same_oneof(first.oneof, second.oneof) {
+            later = links[later].other;
+        } else {
+            offer_meeting(choices, first, second)?;
+            later = links[later].next;
+        }
     }
     Ok(())
 }

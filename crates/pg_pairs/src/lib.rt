@@ -22,6 +22,7 @@ mod least_cost;
 mod least_member;
 mod member;
 mod names;
+mod oneof_links;
 mod option_list;
 mod priced;
 mod prices;

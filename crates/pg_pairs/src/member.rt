@@ -1,36 +1,18 @@
 //! Fields that come into one oneof of a new type.
 
-ghost use Rattle.std.specs.Prelude.{◌≡◌, map, IfOk};
+ghost use Rattle.std.specs.Prelude.{◌≡◌};
 ghost use Rattle.pg_schema.specs.Parts.{field_shape, shape_of};
 ghost use Rattle.pg_schema.specs.Shape.{fields};
 ghost use Rattle.pg_dyn.specs.reading.Content.{same_oneof};
 ghost use Rattle.pg_pairs.specs.Members.{new_oneof};
 
 use pg_schema::{Field, Schema, TypeId};
-use std::alloc::{AllocError, Global};
 
 /// The oneof that the new type's field of that number is in.
 pub(crate) fn new_oneof(new: &Schema, type_id: TypeId, field: &Field) -> Option<u32>
     ensures { result ≡ new_oneof (fields (shape_of new.now) type_id) (field_shape field.now) }
 {
     new.field(type_id, field.number)?.oneof
-}
-
-/// For each field the oneof that the new type's field of its number is in.
-pub(crate) fn new_oneofs(
-    alloc: Global,
-    new: &Schema,
-    type_id: TypeId,
-    list: &[Field],
-) -> Result<Vec<Option<u32>>, AllocError>
-    ensures { IfOk result (λ oneofs. oneofs.items
-        ≡ map (λ f. new_oneof (fields (shape_of new.now) type_id) (field_shape f)) list.now) }
-{
-    let mut oneofs = Vec::with_capacity(alloc, list.len())?;
-    for field in list {
-        oneofs.push(new_oneof(new, type_id, field))?;
-    }
-    Ok(oneofs)
 }
 
 /// Whether two fields are in one oneof.

@@ -11,16 +11,13 @@ ghost use Rattle.pg_pairs.specs.GraphView.{seen};
 use crate::choice::{Choice, Pair};
 use crate::field_choice::offer_beside;
 use crate::joint::offer_joined;
-use crate::least_member::met_by;
-use crate::member::new_oneofs;
+use crate::oneof_links::links_of;
 use crate::priced::Priced;
 use crate::table::Table;
 use pg_schema::{Field, TypeId};
 use std::alloc::{AllocError, Global};
-use std::collections::HashMap;
 
-/// The choices of those fields. They are gone through from the last on: only a field that meets a
-/// later one in a new oneof is compared with each of them.
+/// The choices of those fields.
 fn choices_of<T: Table>(
     alloc: Global,
     graph: &Priced<'_>,
@@ -33,21 +30,12 @@ fn choices_of<T: Table>(
         ≡ affordable (all_choices (seen graph.now) (T.bounds table.now)
         (fields (shape_of graph.now.new.now) type_id) (map field_shape list.now))) }
 {
-    let oneofs = new_oneofs(alloc, graph.new, type_id, list)?;
-    let mut kept = HashMap::new(alloc);
+    let links = links_of(alloc, graph.new, type_id, list)?;
     let mut choices = Vec::new(alloc);
-    let mut at = list.len();
-    while at > 0 {
-        at -= 1;
-        let field = &list[at];
-        let mut own = Vec::new(alloc);
-        offer_beside(graph, table, &mut own, type_id, field)?;
-        let met = met_by(&mut kept, field, oneofs[at])?;
-        offer_joined(&mut own, list, &oneofs, at, met)?;
-        own.reverse();
-        choices.append(&mut own)?;
+    for at in 0..list.len() {
+        offer_beside(graph, table, &mut choices, type_id, &list[at])?;
+        offer_joined(&mut choices, list, &links, at)?;
     }
-    choices.reverse();
     Ok(choices)
 }
 
