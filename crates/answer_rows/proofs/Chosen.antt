@@ -2,7 +2,7 @@
 use Rattle.std.proofs.Common.{◌≡◌, List, [], ◌∷◌, inl, inr, refl}
 use Rattle.std.specs.List.{AllByRecursion}
 use Rattle.pg_dyn.proofs.Lists.{each_weaker}
-use Rattle.pg_pairs.specs.Among.{IsAmong}
+use Rattle.pg_pairs.specs.bounds.Covering.{IsAmong}
 
 pub each_among : {A : Type 0} (xs : List A) → AllByRecursion (λ x. IsAmong x xs) xs
 each_among [] = tt

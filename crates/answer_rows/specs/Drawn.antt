@@ -8,11 +8,10 @@ use Rattle.std.proofs.lemmas.Bool.{and_parts}
 use Rattle.std.proofs.lemmas.List.{length-map}
 use Rattle.std.proofs.lemmas.Map.Steps.{length-le_from_distinct_below}
 use Rattle.pg_dyn.specs.encoding.Encoding.{cap}
-use Rattle.pg_pairs.specs.declared.choice.Pair.{Pair}
-use Rattle.pg_pairs.specs.declared.edge.Edge.{Edge}
-use Rattle.pg_pairs.specs.declared.edge.Part.TheVariants.{Whole}
-use Rattle.pg_pairs.specs.Among.{IsAmong}
-use Rattle.pg_pairs.specs.Covering.{distinct, same_pair}
+use Rattle.pg_pairs.specs.declared.choices.choice.Pair.{Pair}
+use Rattle.pg_pairs.specs.declared.graph.edge.Edge.{Edge}
+use Rattle.pg_pairs.specs.declared.graph.edge.Part.TheVariants.{Whole}
+use Rattle.pg_pairs.specs.bounds.Covering.{IsAmong, distinct, same_pair}
 
 abbrev pub is_drawn : Pair → Bool
 is_drawn p = nat_eq p.old.index 0 && nat_lt p.new.index 9

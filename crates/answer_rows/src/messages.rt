@@ -2,8 +2,8 @@
 ghost use Rattle.std.specs.Prelude.{IfOk, IfSome};
 ghost use Rattle.pg_schema.specs.Parts.{shape_of};
 ghost use Rattle.pg_dyn.specs.Fits.{Fits};
-ghost use Rattle.pg_pairs.specs.CarriedChoices.{IsChoiceOf};
-ghost use Rattle.pg_pairs.specs.GraphView.{seen};
+ghost use Rattle.pg_pairs.specs.witness.CarriedChoices.{IsChoiceOf};
+ghost use Rattle.pg_pairs.specs.graph.GraphView.{seen};
 
 use crate::spelled::{choice_of, hex_bytes, number_at, pair_of, table_of};
 use pg_cert::Bounds;

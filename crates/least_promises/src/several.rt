@@ -3,8 +3,8 @@
 ghost use Rattle.std.specs.Prelude.{◌≡◌, true, IfOk};
 ghost use Rattle.std.specs.List.{AllByRecursion};
 ghost use Rattle.pg_schema.specs.Parts.{shape_of};
-ghost use Rattle.pg_pairs.specs.Edges.{edges, is_pair};
-ghost use Rattle.pg_pairs.specs.GraphView.{seen};
+ghost use Rattle.pg_pairs.specs.graph.Edges.{edges, is_pair};
+ghost use Rattle.pg_pairs.specs.graph.GraphView.{seen};
 ghost use Rattle.pg_least.specs.From.{AreBoundsFrom, IsSettledFrom};
 ghost use Rattle.pg_least.specs.Least.{IsCounted};
 

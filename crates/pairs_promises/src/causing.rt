@@ -4,11 +4,11 @@ ghost use Rattle.std.specs.Prelude.{◌≡◌, None, IfOk};
 ghost use Rattle.pg_schema.specs.Parts.{shape_of};
 ghost use Rattle.pg_dyn.specs.Fits.{Fits};
 ghost use Rattle.pg_dyn.specs.Kept.{message_of, type_of};
-ghost use Rattle.pg_pairs.specs.Among.{IsAmong};
-ghost use Rattle.pg_pairs.specs.Carried.{carried};
-ghost use Rattle.pg_pairs.specs.Causes as own;
-ghost use Rattle.pg_pairs.specs.Laws.{ReachedBy};
-ghost use Rattle.pg_pairs.specs.GraphView.{seen};
+ghost use Rattle.pg_pairs.specs.bounds.Covering.{IsAmong};
+ghost use Rattle.pg_pairs.specs.witness.Carried.{carried};
+ghost use Rattle.pg_pairs.specs.choices.Causes as own;
+ghost use Rattle.pg_pairs.specs.bounds.Laws.{ReachedBy};
+ghost use Rattle.pg_pairs.specs.graph.GraphView.{seen};
 
 use pg_dyn::Message;
 use pg_pairs::{Choice, Pair, Priced};

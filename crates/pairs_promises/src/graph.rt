@@ -3,15 +3,15 @@
 ghost use Rattle.std.specs.Prelude.{◌≡◌, ◌+◌, ◌<◌, ◌^◌, true, IfOk, OnErr, OnOk};
 ghost use Rattle.std.specs.List.{AllByRecursion};
 ghost use Rattle.pg_schema.specs.Parts.{shape_of};
-ghost use Rattle.pg_pairs.specs.Among.{IsAmong};
-ghost use Rattle.pg_pairs.specs.Choices.{no_bounds};
-ghost use Rattle.pg_pairs.specs.Covering as covering;
-ghost use Rattle.pg_pairs.specs.Edges as prices;
-ghost use Rattle.pg_pairs.specs.GraphView.{seen};
-ghost use Rattle.pg_pairs.specs.LeastCosts.{least_cost};
-ghost use Rattle.pg_pairs.specs.Reached.{IsReachedFrom, IsReachedInOrder};
-ghost use Rattle.pg_pairs.specs.Seen.{AreClosed};
-ghost use Rattle.pg_pairs.specs.Works.{opened_more, relaxed_more};
+ghost use Rattle.pg_pairs.specs.bounds.Covering.{IsAmong};
+ghost use Rattle.pg_pairs.specs.choices.Choices.{no_bounds};
+ghost use Rattle.pg_pairs.specs.bounds.Covering as covering;
+ghost use Rattle.pg_pairs.specs.graph.Edges as prices;
+ghost use Rattle.pg_pairs.specs.graph.GraphView.{seen};
+ghost use Rattle.pg_pairs.specs.bounds.LeastCosts.{least_cost};
+ghost use Rattle.pg_pairs.specs.graph.Reached.{IsReachedFrom, IsReachedInOrder};
+ghost use Rattle.pg_pairs.specs.graph.Seen.{AreClosed};
+ghost use Rattle.pg_pairs.specs.graph.Works.{opened_more, relaxed_more};
 
 use pg_pairs::{Edge, Pair, Priced, Prices, View, Work};
 use pg_schema::Schema;

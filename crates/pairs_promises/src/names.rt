@@ -3,9 +3,9 @@
 ghost use Rattle.std.specs.Prelude.{◌≡◌};
 ghost use Rattle.pg_dyn.specs.declared.view_name.ViewName.TheVariants as views;
 ghost use Rattle.pg_dyn.specs.ViewNames.{alike_under, named_numbers, same_names};
-ghost use Rattle.pg_pairs.specs.LeastByName as by_name;
-ghost use Rattle.pg_pairs.specs.NamedView.{least_under};
-ghost use Rattle.pg_pairs.specs.ViewLaws.{IsLeastOf};
+ghost use Rattle.pg_pairs.specs.views.NamedView as by_name;
+ghost use Rattle.pg_pairs.specs.views.NamedView.{least_under};
+ghost use Rattle.pg_pairs.specs.views.ViewLaws.{IsLeastOf};
 
 use pg_dyn::ViewName;
 use pg_pairs::{Names, View};

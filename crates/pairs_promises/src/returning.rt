@@ -2,7 +2,7 @@
 
 ghost use Rattle.std.specs.Prelude.{◌↔◌, IsTrue, IfOk};
 ghost use Rattle.pg_schema.specs.Parts.{shape_of};
-ghost use Rattle.pg_pairs.specs.Returns.{Returns};
+ghost use Rattle.pg_pairs.specs.home.Returns.{Returns};
 
 use pg_pairs::Pair;
 use pg_schema::Schema;

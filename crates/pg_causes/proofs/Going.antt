@@ -6,7 +6,7 @@ use Rattle.std.proofs.lemmas.List.{append-nil, map-append}
 use Rattle.std.proofs.lemmas.Option.{get_or_from_slice_get, slice_get_within}
 use Rattle.std.proofs.Math.Seq.{take-suc}
 use Rattle.pg_dyn.proofs.Lists.{each-append}
-use Rattle.pg_pairs.specs.Among.{IsAmong}
+use Rattle.pg_pairs.specs.bounds.Covering.{IsAmong}
 
 -- what is at an index is among the list
 pub among_get : {A : Type 0} (xs ys : List A) (i : ℕ) (d : A) → xs ≡ ys → i < length xs → IsAmong (get_or xs i d) ys

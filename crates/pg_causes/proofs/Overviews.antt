@@ -5,14 +5,14 @@ use Rattle.pg_schema.specs.declared.parts.Parts.{Parts}
 use Rattle.pg_schema.specs.Parts.{name_at, shape_of}
 use Rattle.pg_schema.specs.Shape.{IsShape, Shape}
 use Rattle.pg_dyn.proofs.Lists.{each_weaker}
-use Rattle.pg_pairs.proofs.Reaching.{every_is_among}
-use Rattle.pg_pairs.specs.declared.choice.Pair.{Pair}
-use Rattle.pg_pairs.specs.Among.{IsAmong}
-use Rattle.pg_pairs.specs.Causes.{HasNoCause, causes}
-use Rattle.pg_pairs.specs.Edges.{is_pair}
-use Rattle.pg_pairs.specs.EnumView.{EnumView}
-use Rattle.pg_pairs.specs.ViewLaws.{IsEnumView}
-use Rattle.pg_pairs.specs.Reached.{itself}
+use Rattle.pg_pairs.proofs.lemmas.graph.Reaching.{every_is_among}
+use Rattle.pg_pairs.specs.declared.choices.choice.Pair.{Pair}
+use Rattle.pg_pairs.specs.bounds.Covering.{IsAmong}
+use Rattle.pg_pairs.specs.choices.Causes.{HasNoCause, causes}
+use Rattle.pg_pairs.specs.graph.Edges.{is_pair}
+use Rattle.pg_pairs.specs.views.EnumView.{EnumView}
+use Rattle.pg_pairs.specs.views.ViewLaws.{IsEnumView}
+use Rattle.pg_pairs.specs.graph.Reached.{itself}
 use Rattle.pg_cert.specs.declared.bounds.PairBound.{PairBound}
 use Rattle.pg_cert.specs.Certificate.{bound_in}
 use Rattle.pg_least.specs.Searched.{BoundSays, pairs_of}

@@ -3,10 +3,10 @@ use Rattle.std.specs.Prelude.{ℕ, nat_eq, Bool, true, false, if◌then◌else�
 use Rattle.pg_schema.specs.declared.parts.field.Element.{Element}
 use Rattle.pg_schema.specs.declared.parts.field.Element.TheVariants as elements
 use Rattle.pg_schema.specs.Shape.{FieldShape, Shape, field_at, fields}
-use Rattle.pg_pairs.specs.declared.case.Case.{Case}
-use Rattle.pg_pairs.specs.declared.case.Case.TheVariants as cases
-use Rattle.pg_pairs.specs.declared.choice.Choice.{Choice}
-use Rattle.pg_pairs.specs.declared.choice.Pair.{Pair}
+use Rattle.pg_pairs.specs.declared.choices.case.Case.{Case}
+use Rattle.pg_pairs.specs.declared.choices.case.Case.TheVariants as cases
+use Rattle.pg_pairs.specs.declared.choices.choice.Choice.{Choice}
+use Rattle.pg_pairs.specs.declared.choices.choice.Pair.{Pair}
 use Rattle.pg_causes.specs.declared.overview.Reason.{Reason}
 use Rattle.pg_causes.specs.declared.overview.Reason.TheVariants as reasons
 

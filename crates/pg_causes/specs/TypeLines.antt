@@ -6,9 +6,9 @@ use Rattle.pg_schema.specs.Shape.{Shape}
 use Rattle.pg_dyn.specs.Breaking.{Compatible, Least}
 use Rattle.pg_dyn.specs.encoding.Encoding.{enc}
 use Rattle.pg_dyn.specs.Message.{Message}
-use Rattle.pg_pairs.specs.declared.choice.Pair.{Pair}
-use Rattle.pg_pairs.specs.Causes.{HasNoCause}
-use Rattle.pg_pairs.specs.EnumView.{EnumView}
+use Rattle.pg_pairs.specs.declared.choices.choice.Pair.{Pair}
+use Rattle.pg_pairs.specs.choices.Causes.{HasNoCause}
+use Rattle.pg_pairs.specs.views.EnumView.{EnumView}
 use Rattle.pg_least.specs.Loss.{IsLost, NewSees, OldWrites, AreRoots}
 use Rattle.pg_causes.specs.declared.overview.TypeLine.{TypeLine}
 

@@ -6,14 +6,14 @@ ghost use Rattle.pg_schema.specs.Parts.{shape_of};
 ghost use Rattle.pg_dyn.specs.encoding.Encoding.{cap, enc};
 ghost use Rattle.pg_dyn.specs.Fits.{Fits};
 ghost use Rattle.pg_dyn.specs.Kept.{message_of, type_of};
-ghost use Rattle.pg_pairs.specs.Among.{IsAmong};
-ghost use Rattle.pg_pairs.specs.Causes.{causes};
-ghost use Rattle.pg_pairs.specs.GraphView.{seen};
+ghost use Rattle.pg_pairs.specs.bounds.Covering.{IsAmong};
+ghost use Rattle.pg_pairs.specs.choices.Causes.{causes};
+ghost use Rattle.pg_pairs.specs.graph.GraphView.{seen};
 ghost use Rattle.pg_cert.specs.Certificate.{bound_in};
 ghost use Rattle.pg_least.specs.Searched.{pairs_of};
 ghost use Rattle.pg_causes.specs.Causes.{IsCause, causes_at};
 ghost use Rattle.pg_causes.specs.declared.overview.Cause.{Cause};
-ghost use Rattle.pg_pairs.specs.declared.choice.Pair.{Pair};
+ghost use Rattle.pg_pairs.specs.declared.choices.choice.Pair.{Pair};
 
 use crate::overview::Cause;
 use crate::reason::reason_of;

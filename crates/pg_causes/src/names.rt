@@ -4,7 +4,7 @@ ghost use Rattle.std.specs.Prelude.{◌≡◌, ℕ, List, map, Some, string_byte
 ghost use Rattle.std.specs.List.{AllByRecursion};
 ghost use Rattle.pg_schema.specs.Parts.{name_at};
 ghost use Rattle.pg_least.specs.Loss.{AreRoots};
-ghost use Rattle.pg_pairs.specs.declared.choice.Pair.{Pair};
+ghost use Rattle.pg_pairs.specs.declared.choices.choice.Pair.{Pair};
 ghost use Rattle.pg_causes.specs.Names.{only, shared};
 
 use pg_pairs::Pair;

@@ -1,7 +1,7 @@
 //! What is answered of two schemas.
 
 ghost use Rattle.std.specs.Prelude.{IfOk};
-ghost use Rattle.pg_pairs.specs.GraphView.{seen};
+ghost use Rattle.pg_pairs.specs.graph.GraphView.{seen};
 ghost use Rattle.pg_causes.specs.Overview.{IsOverview, IsOverviewBy};
 
 use crate::causing::causes_in;

@@ -3,7 +3,7 @@
 ghost use Rattle.std.specs.Prelude.{◌≡◌, ◌<◌, true, is_some, length, map, Some, string_bytes, IfOk};
 ghost use Rattle.std.specs.List.{AllByRecursion};
 ghost use Rattle.pg_schema.specs.Parts.{name_at, shape_of};
-ghost use Rattle.pg_pairs.specs.declared.choice.Pair.{Pair};
+ghost use Rattle.pg_pairs.specs.declared.choices.choice.Pair.{Pair};
 ghost use Rattle.pg_cert.specs.Certificate.{bound_in};
 ghost use Rattle.pg_causes.specs.declared.overview.TypeLine.{TypeLine};
 

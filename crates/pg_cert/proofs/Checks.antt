@@ -2,8 +2,8 @@
 use Rattle.std.proofs.Common.{◌≡◌, ℕ, ◌+◌, List, [], ◌∷◌, drop, Option, Some, None, slice_get, zero, suc, refl, ap, sym, ◌∙◌, add-one}
 use Rattle.std.specs.Option.{option_or}
 use Rattle.pg_schema.specs.Shape.{Shape}
-use Rattle.pg_pairs.specs.EnumView.{EnumView}
-use Rattle.pg_pairs.specs.Choices.{Table}
+use Rattle.pg_pairs.specs.views.EnumView.{EnumView}
+use Rattle.pg_pairs.specs.choices.Choices.{Table}
 use Rattle.pg_cert.specs.declared.bounds.PairBound.{PairBound}
 use Rattle.pg_cert.specs.declared.error.CertError.{CertError}
 use Rattle.pg_cert.specs.Faults.{pair_fault, first_pair_fault}

@@ -5,14 +5,13 @@ use Rattle.std.specs.Option.{option_or}
 use Rattle.std.proofs.lemmas.Bool.{and_parts, leb-true, le-leb}
 use Rattle.pg_schema.specs.Shape.{Shape}
 use Rattle.pg_dyn.proofs.Lists.{each_weaker}
-use Rattle.pg_pairs.proofs.Choosing.{same_pair-true}
-use Rattle.pg_pairs.specs.declared.choice.Choice.{Choice}
-use Rattle.pg_pairs.specs.declared.choice.Pair.{Pair}
-use Rattle.pg_pairs.specs.EnumView.{EnumView}
-use Rattle.pg_pairs.specs.Choices.{Table, choices}
-use Rattle.pg_pairs.specs.Cheapest.{cheapest}
-use Rattle.pg_pairs.specs.CheapestLaws.{IsCheapest, CheapestIsLeast}
-use Rattle.pg_pairs.specs.Covering.{same_pair, children, IsThere, IsWithin, IsCovered}
+use Rattle.pg_pairs.proofs.lemmas.choices.Choosing.{same_pair-true}
+use Rattle.pg_pairs.specs.declared.choices.choice.Choice.{Choice}
+use Rattle.pg_pairs.specs.declared.choices.choice.Pair.{Pair}
+use Rattle.pg_pairs.specs.views.EnumView.{EnumView}
+use Rattle.pg_pairs.specs.choices.Choices.{Table, choices, cheapest}
+use Rattle.pg_pairs.specs.choices.CheapestLaws.{IsCheapest, CheapestIsLeast}
+use Rattle.pg_pairs.specs.bounds.Covering.{same_pair, children, IsThere, IsWithin, IsCovered}
 use Rattle.pg_cert.specs.declared.bounds.PairBound.{PairBound}
 use Rattle.pg_cert.specs.declared.error.CertError.TheVariants.{RootMissing, PairMissing}
 use Rattle.pg_cert.specs.Certificate.{is_bound, bound_in, are_bounds}

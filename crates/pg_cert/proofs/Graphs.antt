@@ -2,10 +2,10 @@
 use Rattle.std.proofs.Common.{◌≡◌, subst, subst₂, sym}
 use Rattle.pg_schema.specs.declared.parts.Parts.{Parts}
 use Rattle.pg_dyn.specs.declared.view_name.ViewName.{ViewName}
-use Rattle.pg_pairs.specs.declared.priced.Priced.{Priced}
-use Rattle.pg_pairs.specs.EnumView.{EnumView}
-use Rattle.pg_pairs.specs.GraphView.{seen}
-use Rattle.pg_pairs.specs.NamedView.{seen_under}
+use Rattle.pg_pairs.specs.declared.graph.priced.Priced.{Priced}
+use Rattle.pg_pairs.specs.views.EnumView.{EnumView}
+use Rattle.pg_pairs.specs.graph.GraphView.{seen}
+use Rattle.pg_pairs.specs.views.NamedView.{seen_under}
 
 module _ (P : EnumView → Parts → Parts → Type 0) (graph : Priced) (view : ViewName) (old new : Parts) where
   pub of_graph : graph.view ≡ view → graph.old.now ≡ old → graph.new.now ≡ new → P (seen graph) graph.old.now graph.new.now → P (seen_under view old new) old new

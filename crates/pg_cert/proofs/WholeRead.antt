@@ -4,7 +4,7 @@ use Rattle.std.proofs.Common.{◌≡◌, ℕ, true, false, List, [], ◌∷◌, 
 use Rattle.std.specs.List.{AllByRecursion}
 use Rattle.pg_schema.specs.declared.parts.Parts.{Parts}
 use Rattle.pg_dyn.specs.declared.view_name.ViewName.{ViewName}
-use Rattle.pg_pairs.specs.declared.choice.Pair.{Pair}
+use Rattle.pg_pairs.specs.declared.choices.choice.Pair.{Pair}
 use Rattle.pg_cert.specs.declared.bounds.PairBound.{PairBound}
 use Rattle.pg_cert.specs.declared.error.CertError.{CertError}
 use Rattle.pg_cert.specs.declared.error.CertError.TheVariants.{Memory}

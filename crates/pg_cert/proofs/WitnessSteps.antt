@@ -9,8 +9,8 @@ use Rattle.pg_dyn.specs.Kept.{Kept, message_of, type_of}
 use Rattle.pg_dyn.specs.Kept as kept
 use Rattle.pg_dyn.specs.Laws.{ReadsAgain}
 use Rattle.pg_dyn.specs.Message.{Message, IsPlain, ends, holds, nests}
-use Rattle.pg_pairs.specs.declared.choice.Pair.{Pair}
-use Rattle.pg_pairs.specs.EnumView.{EnumView}
+use Rattle.pg_pairs.specs.declared.choices.choice.Pair.{Pair}
+use Rattle.pg_pairs.specs.views.EnumView.{EnumView}
 use Rattle.pg_cert.specs.Certificate.{HasLength, IsWitnessed}
 use Rattle.pg_cert.specs.Witness.{IsWritten, is_witness, IsWriting}
 use Rattle.pg_dyn.proofs.PublicLaws.{plain_is_kept}

@@ -12,7 +12,7 @@ use Rattle.pg_dyn.specs.reading.Decoding.{dec}
 use Rattle.pg_dyn.specs.Examples.{first, one, SameType}
 use Rattle.pg_dyn.specs.Laws.{ReadsAgain, SelfCompatible}
 use Rattle.pg_dyn.specs.Message.{Int}
-use Rattle.pg_pairs.specs.EnumView.{by_numbers}
+use Rattle.pg_pairs.specs.views.EnumView.{by_numbers}
 use Rattle.pg_cert.specs.declared.error.CertError.TheVariants.{Memory, BadText, RootMissing, PairMissing, BoundTooHigh, WitnessNotWritten, WitnessLength, WitnessKeeps}
 use Rattle.pg_cert.specs.Certificate.{IsWitnessed}
 use Rattle.pg_cert.specs.Witness.{IsWritten}

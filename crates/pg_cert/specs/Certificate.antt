@@ -1,16 +1,15 @@
 -- Certificates: tables of bounds, what a certificate claims, and when a claim holds (this profile's choice: what a
 -- reader of a certificate has to trust).
-use Rattle.std.specs.Prelude.{◌≡◌, ℕ, ⊤, nat_le, List, [], ◌∷◌, length, find, Bool, true, not, ◌&&◌, is_some}
-use Rattle.std.specs.Prelude.{Option, Some, None, option_map}
+use Rattle.std.specs.Prelude.{◌≡◌, ℕ, ⊤, nat_le, List, [], ◌∷◌, length, find, Bool, true, not, ◌&&◌, is_some, Option, Some, None, option_map}
 use Rattle.pg_schema.specs.Shape.{Shape}
 use Rattle.pg_dyn.specs.declared.view_name.ViewName.{ViewName}
 use Rattle.pg_dyn.specs.Message.{Message}
 use Rattle.pg_dyn.specs.encoding.Encoding.{enc, cap}
 use Rattle.pg_dyn.specs.Breaking.{Breaks}
-use Rattle.pg_pairs.specs.declared.choice.Pair.{Pair}
-use Rattle.pg_pairs.specs.EnumView.{EnumView}
-use Rattle.pg_pairs.specs.Covering.{Covers, same_pair}
-use Rattle.pg_pairs.specs.Choices.{Table}
+use Rattle.pg_pairs.specs.declared.choices.choice.Pair.{Pair}
+use Rattle.pg_pairs.specs.views.EnumView.{EnumView}
+use Rattle.pg_pairs.specs.bounds.Covering.{Covers, same_pair}
+use Rattle.pg_pairs.specs.choices.Choices.{Table}
 use Rattle.pg_cert.specs.declared.bounds.PairBound.{PairBound}
 
 -- 'none', or from 1 to the most bytes that a message may have

@@ -1,7 +1,7 @@
 -- What the checker answers of a claim under an enum view: whether it holds, and what that shows.
 use Rattle.std.specs.Prelude.{◌≡◌, ◌⊎◌, Result, IfErr, IfOk, OnOk}
 use Rattle.pg_schema.specs.Shape.{Shape}
-use Rattle.pg_pairs.specs.EnumView.{EnumView}
+use Rattle.pg_pairs.specs.views.EnumView.{EnumView}
 use Rattle.pg_cert.specs.declared.error.CertError.{CertError}
 use Rattle.pg_cert.specs.declared.error.CertError.TheVariants as errors
 use Rattle.pg_cert.specs.declared.verdict.Verdict.{Verdict}

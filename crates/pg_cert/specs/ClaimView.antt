@@ -1,8 +1,8 @@
 -- What the view that a claim names sees between two schemas, and when the claim holds of them.
 use Rattle.pg_schema.specs.declared.parts.Parts.{Parts}
 use Rattle.pg_schema.specs.Parts.{shape_of}
-use Rattle.pg_pairs.specs.NamedView.{seen_under}
-use Rattle.pg_pairs.specs.EnumView.{EnumView}
+use Rattle.pg_pairs.specs.views.NamedView.{seen_under}
+use Rattle.pg_pairs.specs.views.EnumView.{EnumView}
 use Rattle.pg_cert.specs.declared.error.CertError.{CertError}
 use Rattle.pg_cert.specs.declared.verdict.Verdict.{Verdict}
 use Rattle.pg_cert.specs.Certificate.{Claim, Holds}

@@ -1,19 +1,17 @@
 -- Where a table fails to cover its root: the first fault, in the order of this profile. The root first; then pair by
 -- pair in the table's order, of each pair its first missing child, then its first choice that costs less than the
 -- bound.
-use Rattle.std.specs.Prelude.{◌≡◌, ◌⊎◌, ℕ, nat_le, List, [], ◌∷◌, find, Bool, false, not, Option, Some, None}
-use Rattle.std.specs.Prelude.{option_map, is_some, if◌then◌else◌}
+use Rattle.std.specs.Prelude.{◌≡◌, ◌⊎◌, ℕ, nat_le, List, [], ◌∷◌, find, Bool, false, not, Option, Some, None, option_map, is_some, if◌then◌else◌}
 use Rattle.std.specs.Option.{option_or}
 use Rattle.pg_schema.specs.Shape.{Shape}
-use Rattle.pg_pairs.specs.declared.choice.Choice.{Choice}
-use Rattle.pg_pairs.specs.declared.choice.Pair.{Pair}
-use Rattle.pg_pairs.specs.EnumView.{EnumView}
-use Rattle.pg_pairs.specs.Choices.{case_number, Table, choices}
-use Rattle.pg_pairs.specs.Covering.{children}
+use Rattle.pg_pairs.specs.declared.choices.choice.Choice.{Choice}
+use Rattle.pg_pairs.specs.declared.choices.choice.Pair.{Pair}
+use Rattle.pg_pairs.specs.views.EnumView.{EnumView}
+use Rattle.pg_pairs.specs.choices.Choices.{case_number, Table, choices}
+use Rattle.pg_pairs.specs.bounds.Covering.{children}
 use Rattle.pg_cert.specs.declared.bounds.PairBound.{PairBound}
 use Rattle.pg_cert.specs.declared.error.CertError.{CertError}
-use Rattle.pg_cert.specs.declared.error.CertError.TheVariants.{Memory, BadText, RootMissing, PairMissing, BoundTooHigh}
-use Rattle.pg_cert.specs.declared.error.CertError.TheVariants.{WitnessNotWritten, WitnessLength, WitnessKeeps}
+use Rattle.pg_cert.specs.declared.error.CertError.TheVariants.{Memory, BadText, RootMissing, PairMissing, BoundTooHigh, WitnessNotWritten, WitnessLength, WitnessKeeps}
 use Rattle.pg_cert.specs.Certificate.{bound_in, Claim, HasLength, IsWitnessed}
 use Rattle.pg_cert.specs.Witness.{IsWritten}
 

@@ -4,8 +4,8 @@ use Rattle.pg_schema.specs.Shape.{Shape}
 use Rattle.pg_dyn.specs.Message.{Message}
 use Rattle.pg_dyn.specs.encoding.Encoding.{enc}
 use Rattle.pg_dyn.specs.Breaking.{Breaks, Compatible, Least}
-use Rattle.pg_pairs.specs.declared.choice.Pair.{Pair}
-use Rattle.pg_pairs.specs.EnumView.{EnumView}
+use Rattle.pg_pairs.specs.declared.choices.choice.Pair.{Pair}
+use Rattle.pg_pairs.specs.views.EnumView.{EnumView}
 use Rattle.pg_cert.specs.declared.verdict.Verdict.{Verdict}
 use Rattle.pg_cert.specs.declared.verdict.Verdict.TheVariants as verdicts
 use Rattle.pg_cert.specs.Certificate.{bound_in, Claim}

@@ -8,7 +8,7 @@ use Rattle.pg_dyn.specs.Kept as kept
 use Rattle.pg_dyn.specs.Kept.{Kept, message_of, type_of}
 use Rattle.pg_dyn.specs.Message.{Message, IsPlain}
 use Rattle.pg_dyn.specs.encoding.Encoding.{enc, cap}
-use Rattle.pg_pairs.specs.declared.choice.Pair.{Pair}
+use Rattle.pg_pairs.specs.declared.choices.choice.Pair.{Pair}
 
 -- a witness has bytes
 abbrev pub is_witness : Option (List ℕ) → Bool

@@ -6,13 +6,12 @@ use Rattle.pg_schema.specs.declared.parts.field.Presence.TheVariants.{Implicit, 
 use Rattle.pg_schema.specs.Shape.{Shape}
 use Rattle.pg_dyn.specs.declared.view_name.ViewName.TheVariants as views
 use Rattle.pg_dyn.specs.Examples.{first, second, field, scalar, of_fields, linked}
-use Rattle.pg_pairs.specs.declared.choice.Pair.{Pair}
-use Rattle.pg_pairs.specs.EnumView.{by_numbers}
-use Rattle.pg_pairs.specs.SmallPairs.{both}
+use Rattle.pg_pairs.specs.declared.choices.choice.Pair.{Pair}
+use Rattle.pg_pairs.specs.views.EnumView.{by_numbers}
+use Rattle.pg_pairs.specs.choices.SmallPairs.{both}
 use Rattle.pg_cert.specs.declared.bounds.PairBound.{PairBound}
 use Rattle.pg_cert.specs.declared.error.CertError.{CertError}
-use Rattle.pg_cert.specs.declared.error.CertError.TheVariants.{RootMissing, PairMissing, BoundTooHigh}
-use Rattle.pg_cert.specs.declared.error.CertError.TheVariants.{WitnessNotWritten, WitnessLength, WitnessKeeps}
+use Rattle.pg_cert.specs.declared.error.CertError.TheVariants.{RootMissing, PairMissing, BoundTooHigh, WitnessNotWritten, WitnessLength, WitnessKeeps}
 use Rattle.pg_cert.specs.declared.verdict.Verdict.TheVariants as verdicts
 use Rattle.pg_cert.specs.Certificate.{are_bounds, Claim, Holds}
 use Rattle.pg_cert.specs.Faults.{first_fault, WitnessFault}

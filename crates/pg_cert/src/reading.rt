@@ -7,7 +7,7 @@ ghost use Rattle.hex.specs.declared.error.FromHexError.TheVariants.{OutOfMemory}
 ghost use Rattle.pg_schema.specs.declared.parts.field.TypeId.{TypeId};
 ghost use Rattle.pg_dyn.specs.declared.view_name.ViewName.{ViewName};
 ghost use Rattle.pg_dyn.specs.declared.view_name.ViewName.TheVariants as views;
-ghost use Rattle.pg_pairs.specs.declared.choice.Pair.{Pair};
+ghost use Rattle.pg_pairs.specs.declared.choices.choice.Pair.{Pair};
 ghost use Rattle.pg_cert.specs.declared.bounds.PairBound.{PairBound};
 ghost use Rattle.pg_cert.specs.declared.error.CertError.TheVariants as errors;
 ghost use Rattle.pg_cert.specs.declared.heading.Heading.{Heading};

@@ -11,9 +11,9 @@ use Rattle.pg_dyn.specs.reading.Refusals.{MayRefuseUnlimited}
 use Rattle.pg_dyn.specs.Belonging.{IsMessage}
 use Rattle.pg_dyn.specs.Breaking.{Compatible}
 use Rattle.pg_dyn.specs.Comparison.{View}
-use Rattle.pg_pairs.specs.declared.choice.Pair.{Pair}
-use Rattle.pg_pairs.specs.Home.{home}
-use Rattle.pg_pairs.specs.Returns.{Returns}
+use Rattle.pg_pairs.specs.declared.choices.choice.Pair.{Pair}
+use Rattle.pg_pairs.specs.home.Home.{home}
+use Rattle.pg_pairs.specs.home.Returns.{Returns}
 
 -- the old type reads the bytes, and what it reads is home to v
 abbrev pub IsHomeIn : Shape → Shape → Pair → Message → List ℕ → Type 0

@@ -3,7 +3,7 @@
 ghost use Rattle.std.specs.Prelude.{◌≡◌, ◌<◌, ◌≤◌, length, Some, IfErr, IfOk};
 ghost use Rattle.pg_schema.specs.Parts.{shape_of};
 ghost use Rattle.pg_dyn.specs.encoding.Encoding.{cap};
-ghost use Rattle.pg_pairs.specs.Home.{relayed};
+ghost use Rattle.pg_pairs.specs.home.Home.{relayed};
 ghost use Rattle.pg_gate.specs.Relaying.{BringsHome, IsRelayError};
 
 use pg_dyn::{DynError, decode_ref_unlimited, encode_ref};

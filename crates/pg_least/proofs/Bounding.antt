@@ -4,20 +4,19 @@ use Rattle.std.specs.List.{AllByRecursion}
 use Rattle.std.specs.List.Sorted.{IsPermutation}
 use Rattle.std.proofs.lemmas.Bool.{and_parts}
 use Rattle.pg_dyn.specs.encoding.Encoding.{cap}
-use Rattle.pg_pairs.proofs.Among.{among_each}
-use Rattle.pg_pairs.proofs.Reaching.{every_is_among}
-use Rattle.pg_pairs.specs.declared.choice.Pair.{Pair}
-use Rattle.pg_pairs.specs.declared.edge.Edge.{Edge}
-use Rattle.pg_pairs.specs.Among.{IsAmong}
-use Rattle.pg_pairs.specs.Choices.{number_for}
-use Rattle.pg_pairs.specs.Covering.{same_pair, distinct}
-use Rattle.pg_pairs.specs.LeastCosts.{IsNoMore}
+use Rattle.pg_pairs.proofs.lemmas.choices.Among.{among_each}
+use Rattle.pg_pairs.proofs.lemmas.graph.Reaching.{every_is_among}
+use Rattle.pg_pairs.specs.declared.choices.choice.Pair.{Pair}
+use Rattle.pg_pairs.specs.declared.graph.edge.Edge.{Edge}
+use Rattle.pg_pairs.specs.bounds.Covering.{IsAmong, same_pair, distinct}
+use Rattle.pg_pairs.specs.choices.Choices.{number_for}
+use Rattle.pg_pairs.specs.bounds.LeastCosts.{IsNoMore}
 use Rattle.pg_cert.specs.declared.bounds.PairBound.{PairBound}
 use Rattle.pg_cert.specs.Certificate.{are_bounds, bound_in, is_bound}
 use Rattle.pg_least.specs.declared.arcs.Arc.{Arc}
 use Rattle.pg_least.specs.Searched.{pairs_of}
 use Rattle.pg_least.specs.Graphs.{IsArc, arcs_by, arcs_to_numbers}
-use Rattle.pg_pairs.specs.LeastOf.{cost_under, least_of, lesser_cost}
+use Rattle.pg_pairs.specs.graph.LeastOf.{cost_under, least_of, lesser_cost}
 use Rattle.pg_least.specs.Least.{IsLeastBound, edges_to_numbers, lines}
 use Rattle.pg_least.specs.Places.{IsPlaced}
 use Rattle.pg_least.specs.Relaxing.{IsBalanced, cost_at, offer}

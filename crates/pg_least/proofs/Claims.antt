@@ -5,12 +5,12 @@ use Rattle.pg_schema.specs.Shape.{Shape, IsShape}
 use Rattle.pg_dyn.specs.declared.view_name.ViewName.{ViewName}
 use Rattle.pg_dyn.specs.encoding.Encoding.{cap, enc}
 use Rattle.pg_dyn.specs.Kept.{Kept, message_of, type_of}
-use Rattle.pg_pairs.specs.declared.choice.Pair.{Pair}
-use Rattle.pg_pairs.specs.EnumView.{EnumView}
-use Rattle.pg_pairs.specs.ViewLaws.{IsEnumView}
-use Rattle.pg_pairs.specs.Choices.{number_for}
-use Rattle.pg_pairs.specs.Covering.{children, distinct, same_pair, Covers}
-use Rattle.pg_pairs.specs.Laws.{ExactIsLeast, NoneIsCompatible, ReachedBy}
+use Rattle.pg_pairs.specs.declared.choices.choice.Pair.{Pair}
+use Rattle.pg_pairs.specs.views.EnumView.{EnumView}
+use Rattle.pg_pairs.specs.views.ViewLaws.{IsEnumView}
+use Rattle.pg_pairs.specs.choices.Choices.{number_for}
+use Rattle.pg_pairs.specs.bounds.Covering.{children, distinct, same_pair, Covers}
+use Rattle.pg_pairs.specs.bounds.Laws.{ExactIsLeast, NoneIsCompatible, ReachedBy}
 use Rattle.pg_cert.proofs.Tables.{same_pair-refl}
 use Rattle.pg_cert.specs.declared.bounds.PairBound.{PairBound}
 use Rattle.pg_cert.specs.Certificate.{are_bounds, bound_in, is_bound, Claim, IsWitnessedIfThere}

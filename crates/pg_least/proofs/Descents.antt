@@ -4,18 +4,16 @@ use Rattle.pg_schema.specs.Shape.{Shape}
 use Rattle.pg_dyn.specs.Message.{Message}
 use Rattle.pg_dyn.specs.Fits.{Fits}
 use Rattle.pg_dyn.specs.Kept.{Kept, message_of, type_of}
-use Rattle.pg_pairs.proofs.Among.{among_each}
-use Rattle.pg_pairs.specs.declared.choice.Choice.{Choice}
-use Rattle.pg_pairs.specs.declared.choice.Pair.{Pair}
-use Rattle.pg_pairs.specs.EnumView.{EnumView}
-use Rattle.pg_pairs.specs.Carried.{carried, choice_child}
-use Rattle.pg_pairs.specs.CarriedChoices.{ChildGiven, ChildReached, ChildThere}
-use Rattle.pg_pairs.specs.Cheapest.{cheapest}
-use Rattle.pg_pairs.specs.CheapestLaws.{IsCheapest, CheapestIsLeast}
-use Rattle.pg_pairs.specs.Choices.{Table, number_for, choices}
-use Rattle.pg_pairs.specs.Covering.{IsWithin}
-use Rattle.pg_pairs.specs.Laws.{ReachedBy}
-use Rattle.pg_pairs.specs.Among.{IsAmong}
+use Rattle.pg_pairs.proofs.lemmas.choices.Among.{among_each}
+use Rattle.pg_pairs.specs.declared.choices.choice.Choice.{Choice}
+use Rattle.pg_pairs.specs.declared.choices.choice.Pair.{Pair}
+use Rattle.pg_pairs.specs.views.EnumView.{EnumView}
+use Rattle.pg_pairs.specs.witness.Carried.{carried, choice_child}
+use Rattle.pg_pairs.specs.witness.CarriedChoices.{ChildGiven, ChildReached, ChildThere}
+use Rattle.pg_pairs.specs.choices.Choices.{cheapest, Table, number_for, choices}
+use Rattle.pg_pairs.specs.choices.CheapestLaws.{IsCheapest, CheapestIsLeast}
+use Rattle.pg_pairs.specs.bounds.Covering.{IsWithin, IsAmong}
+use Rattle.pg_pairs.specs.bounds.Laws.{ReachedBy}
 use Rattle.pg_least.specs.declared.witness.PairChoice.{PairChoice}
 use Rattle.pg_least.specs.Descent.{IsCarriedFrom, IsExactTable, IsStep, IsPathDown, IsWholePath, first_step}
 use Rattle.pg_least.specs.Searched.{IsPath, carried_along}

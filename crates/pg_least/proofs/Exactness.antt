@@ -1,18 +1,17 @@
 -- Over two schemas settled bounds are exact.
 use Rattle.std.proofs.Common.{◌≡◌, ℕ, List, is_some, Option, Some, None, ap, sym, ◌∙◌, subst}
 use Rattle.pg_schema.specs.Shape.{Shape, IsShape}
-use Rattle.pg_pairs.proofs.Among.{among_each}
-use Rattle.pg_pairs.proofs.Reaching.{every_is_among}
-use Rattle.pg_pairs.specs.declared.choice.Pair.{Pair}
-use Rattle.pg_pairs.specs.Among.{IsAmong}
-use Rattle.pg_pairs.specs.EnumView.{EnumView}
-use Rattle.pg_pairs.specs.ViewLaws.{IsEnumView}
-use Rattle.pg_pairs.specs.Covering.{IsThere, children, IsExact}
-use Rattle.pg_pairs.specs.Edges.{LeastCostsByEdges, edge_price, edges}
-use Rattle.pg_pairs.specs.Choices.{no_bounds}
-use Rattle.pg_pairs.specs.Laws.{ExactIsLeast, NoneIsCompatible}
-use Rattle.pg_pairs.specs.LeastCosts.{LeastCostsAreExact, least_cost}
-use Rattle.pg_pairs.specs.Reached.{IsLedTo, LeadsTo, onwards}
+use Rattle.pg_pairs.proofs.lemmas.choices.Among.{among_each}
+use Rattle.pg_pairs.proofs.lemmas.graph.Reaching.{every_is_among}
+use Rattle.pg_pairs.specs.declared.choices.choice.Pair.{Pair}
+use Rattle.pg_pairs.specs.bounds.Covering.{IsAmong, IsThere, children, IsExact}
+use Rattle.pg_pairs.specs.views.EnumView.{EnumView}
+use Rattle.pg_pairs.specs.views.ViewLaws.{IsEnumView}
+use Rattle.pg_pairs.specs.graph.Edges.{LeastCostsByEdges, edge_price, edges}
+use Rattle.pg_pairs.specs.choices.Choices.{no_bounds}
+use Rattle.pg_pairs.specs.bounds.Laws.{ExactIsLeast, NoneIsCompatible}
+use Rattle.pg_pairs.specs.bounds.LeastCosts.{LeastCostsAreExact, least_cost}
+use Rattle.pg_pairs.specs.graph.Reached.{IsLedTo, LeadsTo, onwards}
 use Rattle.pg_cert.specs.declared.bounds.PairBound.{PairBound}
 use Rattle.pg_cert.specs.Certificate.{bound_in}
 use Rattle.pg_least.specs.Descent.{IsExactTable, IsTableOf}

@@ -1,7 +1,7 @@
 -- Indices and elements of lists.
 use Rattle.std.proofs.Common.{ℕ, zero, suc, ◌<◌, ◌++◌, List, [], ◌∷◌, length, get_or, inl, inr, ⊎_elim, arith}
 use Rattle.std.specs.List.{AllByRecursion}
-use Rattle.pg_pairs.specs.Among.{IsAmong}
+use Rattle.pg_pairs.specs.bounds.Covering.{IsAmong}
 
 pub each_at : {X : Type 0} (P : X → Type 0) (xs : List X) (i : ℕ) (d : X) → i < length xs → AllByRecursion P xs → P (get_or xs i d)
 each_at P [] i d within each = absurd (omega arith)

@@ -8,7 +8,7 @@ use Rattle.pg_dyn.specs.encoding.Encoding.{enc}
 use Rattle.pg_dyn.specs.encoding.Writing.{bytes_of}
 use Rattle.pg_dyn.specs.Message.{Message, unknown_of}
 use Rattle.pg_dyn.specs.reading.Decoding.{dec}
-use Rattle.pg_pairs.specs.declared.choice.Pair.{Pair}
+use Rattle.pg_pairs.specs.declared.choices.choice.Pair.{Pair}
 use Rattle.pg_least.specs.Loss.{IsLost, NewSees}
 use Rattle.pg_least.specs.LossLaws.{CompatibleIsSeen, LostMessagesBreak}
 

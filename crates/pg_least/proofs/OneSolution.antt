@@ -1,10 +1,10 @@
 -- The equation of least bounds has one solution.
 use Rattle.std.proofs.Common.{◌≡◌, ℕ, zero, suc, ◌<◌, ◌≤◌, ◌⊎◌, List, [], ◌∷◌, map, nat_le, Bool, true, false, cond, is_some, option_and_then, Option, Some, None, inl, inr, ⊎_elim, refl, ap, sym, ◌∙◌, subst, arith, leb-true, leb-false}
-use Rattle.pg_pairs.specs.declared.choice.Pair.{Pair}
-use Rattle.pg_pairs.specs.declared.edge.Edge.{Edge}
-use Rattle.pg_pairs.specs.Among.{IsAmong}
-use Rattle.pg_pairs.specs.Choices.{Table, number_for}
-use Rattle.pg_pairs.specs.LeastOf.{cost_under, least_of, lesser_cost}
+use Rattle.pg_pairs.specs.declared.choices.choice.Pair.{Pair}
+use Rattle.pg_pairs.specs.declared.graph.edge.Edge.{Edge}
+use Rattle.pg_pairs.specs.bounds.Covering.{IsAmong}
+use Rattle.pg_pairs.specs.choices.Choices.{Table, number_for}
+use Rattle.pg_pairs.specs.graph.LeastOf.{cost_under, least_of, lesser_cost}
 use Rattle.pg_least.specs.Least.{AllLeast, HasNumbers, OneSolution}
 use Rattle.pg_least.proofs.Bounding.{among_map, map_among}
 

@@ -2,11 +2,11 @@
 use Rattle.std.proofs.Common.{◌≡◌, ℕ, zero, suc, ◌+◌, ◌<◌, ◌≤◌, ◌⊎◌, nat_eq, eqb-true, eq-eqb, ne_eqb, List, [], ◌∷◌, ◌++◌, length, set, replicate, filter, Bool, true, false, cond, ◌||◌, is_some, Option, Some, None, inl, inr, ⊎_elim, refl, ap, ap₂, sym, ◌∙◌, subst, arith, get_or-set_same, get_or-set_other}
 use Rattle.std.specs.declared.cmp.Reverse.{Reverse}
 use Rattle.std.specs.List.{AllByRecursion}
-use Rattle.pg_pairs.proofs.Among.{among_each}
-use Rattle.pg_pairs.specs.declared.edge.Edge.{Edge}
+use Rattle.pg_pairs.proofs.lemmas.choices.Among.{among_each}
+use Rattle.pg_pairs.specs.declared.graph.edge.Edge.{Edge}
 use Rattle.pg_least.specs.declared.arcs.Arc.{Arc}
-use Rattle.pg_pairs.specs.Among.{IsAmong}
-use Rattle.pg_pairs.specs.LeastCosts.{IsNoMore}
+use Rattle.pg_pairs.specs.bounds.Covering.{IsAmong}
+use Rattle.pg_pairs.specs.bounds.LeastCosts.{IsNoMore}
 use Rattle.pg_least.specs.Relaxing.{AreNumbers, IsBalanced, Stands, cost_at, is_set, offer, waits}
 use Rattle.pg_least.specs.Graphs.{arcs_by, arcs_to, arcs_to_settled, arcs_to_numbers, left}
 use Rattle.pg_least.proofs.Lists.{among_left, among_right}

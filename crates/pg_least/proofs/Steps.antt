@@ -5,8 +5,8 @@ use Rattle.std.proofs.lemmas.Bool.{and_parts}
 use Rattle.std.proofs.lemmas.List.Sorted.{All-permutation, list_any-IsPermutation}
 use Rattle.std.proofs.lemmas.List.Elements.{All-cons, All-tail}
 use Rattle.pg_least.specs.Queues.{entry, IsLeastTaken, IsOneMore}
-use Rattle.pg_pairs.specs.Among.{IsAmong}
-use Rattle.pg_pairs.specs.LeastCosts.{IsNoMore}
+use Rattle.pg_pairs.specs.bounds.Covering.{IsAmong}
+use Rattle.pg_pairs.specs.bounds.LeastCosts.{IsNoMore}
 use Rattle.pg_least.specs.Relaxing.{Arcs, cost_at, is_set, waits, offer, IsOffered, IsLess, IsRelaxed, Stands}
 
 abbrev Entry : Type 0

@@ -1,13 +1,12 @@
 -- Places of pairs.
 use Rattle.std.proofs.Common.{◌≡◌, ℕ, suc, ◌+◌, ◌<◌, ◌⊎◌, List, [], ◌∷◌, ◌++◌, length, slice_get, map, flat_map, Bool, true, false, cond, is_some, Some, inl, inr, ⊎_elim, refl, ap, sym, ◌∙◌, subst, arith, append-nil, append_assoc}
 use Rattle.std.specs.BTreeMap.{BTreeMap, get, Updates}
-use Rattle.pg_pairs.specs.declared.choice.Pair.{Pair}
-use Rattle.pg_pairs.specs.Among.{IsAmong}
-use Rattle.pg_pairs.specs.ByIndices.{by_indices, equal_same}
-use Rattle.pg_pairs.specs.Covering.{same_pair}
+use Rattle.pg_pairs.specs.declared.choices.choice.Pair.{Pair}
+use Rattle.pg_pairs.specs.bounds.Covering.{IsAmong, same_pair}
+use Rattle.pg_pairs.specs.graph.ByIndices.{by_indices, equal_same}
 use Rattle.pg_cert.proofs.Tables.{same_pair-refl}
 use Rattle.pg_least.specs.Places.{ArePlaces}
-use Rattle.pg_pairs.proofs.Choosing.{same_pair-true}
+use Rattle.pg_pairs.proofs.lemmas.choices.Choosing.{same_pair-true}
 use Rattle.pg_least.proofs.Steps.{place_cases}
 
 -- One pair more has a place.

@@ -1,7 +1,7 @@
 -- A table without numbers: each pair is there once.
 use Rattle.std.proofs.Common.{◌≡◌, List, [], ◌∷◌, map, filter, Bool, true, false, not, None, refl, subst}
-use Rattle.pg_pairs.specs.declared.choice.Pair.{Pair}
-use Rattle.pg_pairs.specs.Covering.{same_pair, distinct}
+use Rattle.pg_pairs.specs.declared.choices.choice.Pair.{Pair}
+use Rattle.pg_pairs.specs.bounds.Covering.{same_pair, distinct}
 use Rattle.pg_cert.specs.declared.bounds.PairBound.{PairBound}
 use Rattle.pg_cert.specs.Certificate.{bound_in, are_bounds}
 use Rattle.pg_least.proofs.Listed.{first_once}

@@ -2,16 +2,15 @@
 use Rattle.std.proofs.Common.{◌≡◌, ℕ, zero, suc, ◌+◌, ◌*◌, ◌<◌, ◌≤◌, ◌⊎◌, List, [], ◌∷◌, map, filter, length, nat_le, Bool, true, false, not, cond, is_some, option_and_then, Option, Some, None, inl, inr, ⊎_elim, refl, ap, sym, ◌∙◌, arith}
 use Rattle.std.specs.List.{AllByRecursion}
 use Rattle.pg_dyn.specs.encoding.Encoding.{cap}
-use Rattle.pg_pairs.specs.declared.choice.Pair.{Pair}
-use Rattle.pg_pairs.specs.declared.edge.Edge.{Edge}
-use Rattle.pg_pairs.specs.Among.{IsAmong}
-use Rattle.pg_pairs.specs.Choices.{Table, number_for}
-use Rattle.pg_pairs.specs.Covering.{distinct, same_pair}
-use Rattle.pg_pairs.specs.LeastOf.{cost_under, least_of, lesser_cost}
-use Rattle.pg_pairs.specs.Reached.{LeadsTo, itself, onwards}
+use Rattle.pg_pairs.specs.declared.choices.choice.Pair.{Pair}
+use Rattle.pg_pairs.specs.declared.graph.edge.Edge.{Edge}
+use Rattle.pg_pairs.specs.bounds.Covering.{IsAmong, distinct, same_pair}
+use Rattle.pg_pairs.specs.choices.Choices.{Table, number_for}
+use Rattle.pg_pairs.specs.graph.LeastOf.{cost_under, least_of, lesser_cost}
+use Rattle.pg_pairs.specs.graph.Reached.{LeadsTo, itself, onwards}
 use Rattle.pg_least.specs.Least.{AllLeast}
 use Rattle.pg_least.proofs.Bounding.{among_map, map_among}
-use Rattle.pg_pairs.proofs.Choosing.{same_pair-true}
+use Rattle.pg_pairs.proofs.lemmas.choices.Choosing.{same_pair-true}
 use Rattle.pg_least.proofs.OneSolution.{least_among, number_is}
 
 both_none : (a b : Option ℕ) → lesser_cost a b ≡ None → (a ≡ None) × (b ≡ None)

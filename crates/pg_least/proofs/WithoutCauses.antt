@@ -5,22 +5,20 @@ use Rattle.pg_schema.specs.Shape.{Shape, IsShape}
 use Rattle.pg_dyn.specs.Breaking.{Compatible}
 use Rattle.pg_dyn.specs.encoding.Encoding.{cap}
 use Rattle.pg_dyn.proofs.Lists.{each_weaker}
-use Rattle.pg_pairs.proofs.Among.{among_each}
-use Rattle.pg_pairs.specs.declared.choice.Choice.{Choice}
-use Rattle.pg_pairs.specs.declared.choice.Pair.{Pair}
-use Rattle.pg_pairs.specs.declared.edge.Edge.{Edge}
-use Rattle.pg_pairs.specs.EnumView.{EnumView}
-use Rattle.pg_pairs.specs.Among.{IsAmong}
-use Rattle.pg_pairs.specs.Causes.{HasNoCause, causes}
-use Rattle.pg_pairs.specs.CauseLaws.{PricesAreNear}
-use Rattle.pg_pairs.specs.Cheapest.{cheapest}
-use Rattle.pg_pairs.specs.CheapestLaws.{CheapestIsLeast, IsCheapest}
-use Rattle.pg_pairs.specs.Choices.{Table, choices, no_bounds}
-use Rattle.pg_pairs.specs.Covering.{IsWithin, children, distinct, IsExact}
-use Rattle.pg_pairs.specs.EdgeChildren.{edge_leads}
-use Rattle.pg_pairs.specs.Edges.{LeastCostsByEdges, PairsLeadToPairs, SchemasArePriced, edge_price, edges, is_pair}
-use Rattle.pg_pairs.specs.LeastCosts.{least_cost}
-use Rattle.pg_pairs.specs.Reached.{IsLedTo, LeadsTo, itself, onwards}
+use Rattle.pg_pairs.proofs.lemmas.choices.Among.{among_each}
+use Rattle.pg_pairs.specs.declared.choices.choice.Choice.{Choice}
+use Rattle.pg_pairs.specs.declared.choices.choice.Pair.{Pair}
+use Rattle.pg_pairs.specs.declared.graph.edge.Edge.{Edge}
+use Rattle.pg_pairs.specs.views.EnumView.{EnumView}
+use Rattle.pg_pairs.specs.bounds.Covering.{IsAmong, IsWithin, children, distinct, IsExact}
+use Rattle.pg_pairs.specs.choices.Causes.{HasNoCause, causes}
+use Rattle.pg_pairs.specs.graph.CauseLaws.{PricesAreNear}
+use Rattle.pg_pairs.specs.choices.Choices.{cheapest, Table, choices, no_bounds}
+use Rattle.pg_pairs.specs.choices.CheapestLaws.{CheapestIsLeast, IsCheapest}
+use Rattle.pg_pairs.specs.graph.EdgeChildren.{edge_leads}
+use Rattle.pg_pairs.specs.graph.Edges.{LeastCostsByEdges, PairsLeadToPairs, SchemasArePriced, edge_price, edges, is_pair}
+use Rattle.pg_pairs.specs.bounds.LeastCosts.{least_cost}
+use Rattle.pg_pairs.specs.graph.Reached.{IsLedTo, LeadsTo, itself, onwards}
 use Rattle.pg_cert.specs.declared.bounds.PairBound.{PairBound}
 use Rattle.pg_cert.specs.Certificate.{bound_in}
 use Rattle.pg_least.specs.Searched.{pairs_of}

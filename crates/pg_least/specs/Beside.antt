@@ -5,7 +5,7 @@ use Rattle.pg_dyn.specs.Breaking.{Breaks}
 use Rattle.pg_dyn.specs.encoding.Encoding.{enc}
 use Rattle.pg_dyn.specs.Fits.{Fits}
 use Rattle.pg_dyn.specs.Kept.{Kept, message_of, type_of}
-use Rattle.pg_pairs.specs.EnumView.{EnumView}
+use Rattle.pg_pairs.specs.views.EnumView.{EnumView}
 use Rattle.pg_cert.specs.Certificate.{Claim}
 
 -- a breaking message of the root's old type, whose bytes are the claim's witness

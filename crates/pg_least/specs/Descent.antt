@@ -2,17 +2,15 @@
 use Rattle.std.specs.Prelude.{◌≡◌, ℕ, List, [], ◌∷◌, Option, Some, None}
 use Rattle.pg_schema.specs.Shape.{Shape}
 use Rattle.pg_dyn.specs.Message.{Message}
-use Rattle.pg_pairs.specs.declared.choice.Pair.{Pair}
-use Rattle.pg_pairs.specs.EnumView.{EnumView}
-use Rattle.pg_pairs.specs.Carried.{choice_child}
-use Rattle.pg_pairs.specs.Cheapest.{cheapest}
-use Rattle.pg_pairs.specs.Choices.{Table, choices}
-use Rattle.pg_pairs.specs.Covering.{children, IsExact}
-use Rattle.pg_pairs.specs.Among.{IsAmong}
+use Rattle.pg_pairs.specs.declared.choices.choice.Pair.{Pair}
+use Rattle.pg_pairs.specs.views.EnumView.{EnumView}
+use Rattle.pg_pairs.specs.witness.Carried.{choice_child}
+use Rattle.pg_pairs.specs.choices.Choices.{cheapest, Table, choices}
+use Rattle.pg_pairs.specs.bounds.Covering.{children, IsExact, IsAmong}
 use Rattle.pg_cert.specs.declared.bounds.PairBound.{PairBound}
 use Rattle.pg_cert.specs.Certificate.{bound_in}
 use Rattle.pg_least.specs.Searched.{pairs_of, IsPath, carried_along}
-use Rattle.pg_pairs.specs.Reached.{IsReachedInOrder}
+use Rattle.pg_pairs.specs.graph.Reached.{IsReachedInOrder}
 use Rattle.pg_least.specs.declared.witness.PairChoice.{PairChoice}
 
 -- each bound of the table is the least cost of its pair's choices

@@ -3,15 +3,14 @@ use Rattle.std.specs.Prelude.{◌≡◌, ℕ, ◌↔◌, true, List, Option, Som
 use Rattle.std.specs.List.{AllByRecursion}
 use Rattle.pg_schema.specs.Shape.{Shape, IsShape}
 use Rattle.pg_dyn.specs.Breaking.{Compatible}
-use Rattle.pg_pairs.specs.declared.choice.Pair.{Pair}
-use Rattle.pg_pairs.specs.declared.edge.Edge.{Edge}
-use Rattle.pg_pairs.specs.EnumView.{EnumView}
-use Rattle.pg_pairs.specs.ViewLaws.{IsEnumView}
-use Rattle.pg_pairs.specs.Among.{IsAmong}
-use Rattle.pg_pairs.specs.Causes.{HasNoCause}
-use Rattle.pg_pairs.specs.Covering.{children}
-use Rattle.pg_pairs.specs.Edges.{is_pair}
-use Rattle.pg_pairs.specs.Reached.{IsReachedFrom}
+use Rattle.pg_pairs.specs.declared.choices.choice.Pair.{Pair}
+use Rattle.pg_pairs.specs.declared.graph.edge.Edge.{Edge}
+use Rattle.pg_pairs.specs.views.EnumView.{EnumView}
+use Rattle.pg_pairs.specs.views.ViewLaws.{IsEnumView}
+use Rattle.pg_pairs.specs.bounds.Covering.{IsAmong, children}
+use Rattle.pg_pairs.specs.choices.Causes.{HasNoCause}
+use Rattle.pg_pairs.specs.graph.Edges.{is_pair}
+use Rattle.pg_pairs.specs.graph.Reached.{IsReachedFrom}
 use Rattle.pg_cert.specs.declared.bounds.PairBound.{PairBound}
 use Rattle.pg_cert.specs.Certificate.{bound_in}
 use Rattle.pg_least.specs.Descent.{IsExactTable}

@@ -1,11 +1,11 @@
 -- Arcs of a graph.
 use Rattle.std.specs.Prelude.{◌≡◌, ℕ, ◌+◌, ◌<◌, nat_eq, List, filter, [], ◌∷◌, suc, Bool, true, false, is_some, Option}
 use Rattle.std.specs.List.Sorted.{IsNonDecreasingBy}
-use Rattle.pg_pairs.specs.declared.choice.Pair.{Pair}
-use Rattle.pg_pairs.specs.declared.edge.Edge.{Edge}
-use Rattle.pg_pairs.specs.declared.work.Work.{Work}
+use Rattle.pg_pairs.specs.declared.choices.choice.Pair.{Pair}
+use Rattle.pg_pairs.specs.declared.graph.edge.Edge.{Edge}
+use Rattle.pg_pairs.specs.declared.graph.work.Work.{Work}
 use Rattle.pg_least.specs.declared.arcs.Arc.{Arc}
-use Rattle.pg_pairs.specs.Among.{IsAmong}
+use Rattle.pg_pairs.specs.bounds.Covering.{IsAmong}
 use Rattle.pg_least.specs.Relaxing.{Arcs, cost_at, is_set}
 
 -- what an arc costs is what its edge does

@@ -1,13 +1,12 @@
 -- The least bounds of a graph.
-use Rattle.std.specs.Prelude.{◌≡◌, ℕ, ◌+◌, ◌<◌, ◌≤◌, true, List, [], ◌∷◌, length, map, filter, flat_map, is_some}
-use Rattle.std.specs.Prelude.{Option, Some}
-use Rattle.pg_pairs.specs.declared.choice.Pair.{Pair}
-use Rattle.pg_pairs.specs.declared.edge.Edge.{Edge}
-use Rattle.pg_pairs.specs.declared.work.Work.{Work}
-use Rattle.pg_pairs.specs.Among.{IsAmong}
-use Rattle.pg_pairs.specs.Choices.{Table, number_for}
-use Rattle.pg_pairs.specs.LeastOf.{cost_under, least_of}
-use Rattle.pg_pairs.specs.Reached.{IsReachedInOrder}
+use Rattle.std.specs.Prelude.{◌≡◌, ℕ, ◌+◌, ◌<◌, ◌≤◌, true, List, [], ◌∷◌, length, map, filter, flat_map, is_some, Option, Some}
+use Rattle.pg_pairs.specs.declared.choices.choice.Pair.{Pair}
+use Rattle.pg_pairs.specs.declared.graph.edge.Edge.{Edge}
+use Rattle.pg_pairs.specs.declared.graph.work.Work.{Work}
+use Rattle.pg_pairs.specs.bounds.Covering.{IsAmong}
+use Rattle.pg_pairs.specs.choices.Choices.{Table, number_for}
+use Rattle.pg_pairs.specs.graph.LeastOf.{cost_under, least_of}
+use Rattle.pg_pairs.specs.graph.Reached.{IsReachedInOrder}
 use Rattle.pg_cert.specs.declared.bounds.PairBound.{PairBound}
 use Rattle.pg_cert.specs.Certificate.{bound_in}
 use Rattle.pg_least.specs.Searched.{pairs_of}

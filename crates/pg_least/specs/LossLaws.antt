@@ -7,7 +7,7 @@ use Rattle.pg_schema.specs.Shape.{Shape}
 use Rattle.pg_dyn.specs.Breaking.{Breaks, Compatible}
 use Rattle.pg_dyn.specs.Comparison.{View}
 use Rattle.pg_dyn.specs.Message.{Message}
-use Rattle.pg_pairs.specs.declared.choice.Pair.{Pair}
+use Rattle.pg_pairs.specs.declared.choices.choice.Pair.{Pair}
 use Rattle.pg_least.specs.Loss.{IsLost, NewSees, OldWrites, IsNamed}
 
 -- A message is lost just where it breaks.

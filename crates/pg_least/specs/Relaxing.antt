@@ -1,10 +1,9 @@
 -- Costs that are settled least first.
-use Rattle.std.specs.Prelude.{◌≡◌, ℕ, ◌<◌, ◌≤◌, ⊤, ◌⊎◌, nat_eq, List, slice_index_or, slice_set as set}
-use Rattle.std.specs.Prelude.{Bool, true, false, ◌&&◌, Option, Some, None, option_and_then}
+use Rattle.std.specs.Prelude.{◌≡◌, ℕ, ◌<◌, ◌≤◌, ⊤, ◌⊎◌, nat_eq, List, slice_index_or, slice_set as set, Bool, true, false, ◌&&◌, Option, Some, None, option_and_then}
 use Rattle.std.specs.declared.cmp.Reverse.{Reverse}
 use Rattle.std.specs.List.{All, list_any}
-use Rattle.pg_pairs.specs.Among.{IsAmong}
-use Rattle.pg_pairs.specs.LeastCosts.{IsNoMore}
+use Rattle.pg_pairs.specs.bounds.Covering.{IsAmong}
+use Rattle.pg_pairs.specs.bounds.LeastCosts.{IsNoMore}
 use Rattle.pg_least.specs.Queues.{IsOneMore}
 
 -- an arc leads from a place to its child's, and costs what the child's bound says

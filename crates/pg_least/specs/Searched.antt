@@ -4,13 +4,12 @@ use Rattle.pg_schema.specs.Shape.{Shape}
 use Rattle.pg_dyn.specs.Breaking.{Compatible, Least}
 use Rattle.pg_dyn.specs.encoding.Encoding.{enc}
 use Rattle.pg_dyn.specs.Message.{Message}
-use Rattle.pg_pairs.specs.declared.choice.Pair.{Pair}
-use Rattle.pg_pairs.specs.EnumView.{EnumView}
-use Rattle.pg_pairs.specs.Choices.{number_for, Table, choices}
-use Rattle.pg_pairs.specs.Covering.{children, IsExact}
-use Rattle.pg_pairs.specs.Reached.{IsReachedInOrder}
-use Rattle.pg_pairs.specs.Carried.{carried, choice_child}
-use Rattle.pg_pairs.specs.Cheapest.{cheapest}
+use Rattle.pg_pairs.specs.declared.choices.choice.Pair.{Pair}
+use Rattle.pg_pairs.specs.views.EnumView.{EnumView}
+use Rattle.pg_pairs.specs.choices.Choices.{number_for, Table, choices, cheapest}
+use Rattle.pg_pairs.specs.bounds.Covering.{children, IsExact}
+use Rattle.pg_pairs.specs.graph.Reached.{IsReachedInOrder}
+use Rattle.pg_pairs.specs.witness.Carried.{carried, choice_child}
 use Rattle.pg_cert.specs.declared.bounds.PairBound.{PairBound}
 use Rattle.pg_cert.specs.Certificate.{bound_in, Claim, Holds}
 use Rattle.pg_least.specs.declared.witness.PairChoice.{PairChoice}

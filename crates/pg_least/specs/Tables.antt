@@ -1,7 +1,7 @@
 -- What a table says of the pairs in its lines.
 use Rattle.std.specs.Prelude.{◌≡◌, ℕ, List, slice_get, is_some, true, Option, Some}
-use Rattle.pg_pairs.specs.declared.choice.Pair.{Pair}
-use Rattle.pg_pairs.specs.Among.{IsAmong}
+use Rattle.pg_pairs.specs.declared.choices.choice.Pair.{Pair}
+use Rattle.pg_pairs.specs.bounds.Covering.{IsAmong}
 use Rattle.pg_cert.specs.declared.bounds.PairBound.{PairBound}
 use Rattle.pg_cert.specs.Certificate.{are_bounds, bound_in}
 use Rattle.pg_least.specs.Searched.{pairs_of}

@@ -4,11 +4,11 @@ ghost use Rattle.std.specs.Prelude.{◌≡◌, ◌<◌, ℕ, List, length, map, 
 ghost use Rattle.std.specs.BTreeMap.{get};
 ghost use Rattle.std.specs.List.{AllByRecursion};
 ghost use Rattle.std.specs.List.Sorted.{IsPermutation};
-ghost use Rattle.pg_pairs.specs.declared.choice.Pair.{Pair};
-ghost use Rattle.pg_pairs.specs.declared.edge.Edge.{Edge};
-ghost use Rattle.pg_pairs.specs.Among.{IsAmong};
-ghost use Rattle.pg_pairs.specs.ByIndices.{by_indices};
-ghost use Rattle.pg_pairs.specs.Seen.{AreClosed};
+ghost use Rattle.pg_pairs.specs.declared.choices.choice.Pair.{Pair};
+ghost use Rattle.pg_pairs.specs.declared.graph.edge.Edge.{Edge};
+ghost use Rattle.pg_pairs.specs.bounds.Covering.{IsAmong};
+ghost use Rattle.pg_pairs.specs.graph.ByIndices.{by_indices};
+ghost use Rattle.pg_pairs.specs.graph.Seen.{AreClosed};
 ghost use Rattle.pg_least.specs.declared.arcs.Arc.{Arc};
 ghost use Rattle.pg_least.specs.Graphs.{AreByChild, arcs_to};
 ghost use Rattle.pg_least.specs.Places.{ArePlaces, IsPlaced};

@@ -2,8 +2,8 @@
 
 ghost use Rattle.std.specs.Prelude.{◌≡◌, ◌+◌, ◌++◌, ◌∷◌, [], ◌<◌, ◌^◌, List, length, map, filter, flat_map, is_some, true, Option, IfOk, OnOk};
 ghost use Rattle.std.specs.List.{AllByRecursion};
-ghost use Rattle.pg_pairs.specs.Covering.{distinct};
-ghost use Rattle.pg_pairs.specs.Works.{opened_more};
+ghost use Rattle.pg_pairs.specs.bounds.Covering.{distinct};
+ghost use Rattle.pg_pairs.specs.graph.Works.{opened_more};
 ghost use Rattle.pg_cert.specs.Certificate.{is_bound};
 ghost use Rattle.pg_least.specs.From.{IsSettledFrom};
 ghost use Rattle.pg_least.specs.Least.{IsCounted, IsSettled, lines, opened_by};

@@ -3,10 +3,10 @@
 ghost use Rattle.std.specs.Prelude.{◌≡◌, ◌+◌, ◌++◌, ◌<◌, ◌^◌, ℕ, List, length, slice_set as set, true, false, Bool, Option, Some, IfOk, IfSome, IfNone, OnOk};
 ghost use Rattle.std.specs.List.{AllByRecursion};
 ghost use Rattle.std.specs.BinaryHeap.{heap_items};
-ghost use Rattle.pg_pairs.specs.Works.{relaxed_more};
+ghost use Rattle.pg_pairs.specs.graph.Works.{relaxed_more};
 ghost use Rattle.pg_least.specs.declared.arcs.Arc.{Arc};
-ghost use Rattle.pg_pairs.specs.Among.{IsAmong};
-ghost use Rattle.pg_pairs.specs.LeastCosts.{IsNoMore};
+ghost use Rattle.pg_pairs.specs.bounds.Covering.{IsAmong};
+ghost use Rattle.pg_pairs.specs.bounds.LeastCosts.{IsNoMore};
 ghost use Rattle.pg_least.specs.Relaxing.{Arcs, AreNumbers, IsBalanced, IsLess, IsRelaxed, Stands, cost_at, is_set, waits};
 ghost use Rattle.pg_least.specs.Graphs.{AreByChild, IsArc, arcs_by, arcs_to_numbers, relaxed_by};
 

@@ -4,9 +4,9 @@ ghost use Rattle.std.specs.Prelude.{◌≡◌, ◌++◌, [], ◌∷◌, ℕ, tru
 ghost use Rattle.pg_schema.specs.Parts.{shape_of};
 ghost use Rattle.pg_dyn.specs.Fits.{Fits};
 ghost use Rattle.pg_dyn.specs.Kept.{message_of, type_of};
-ghost use Rattle.pg_pairs.specs.Choices.{Table, number_for};
-ghost use Rattle.pg_pairs.specs.GraphView.{seen};
-ghost use Rattle.pg_pairs.specs.Laws.{ReachedBy};
+ghost use Rattle.pg_pairs.specs.choices.Choices.{Table, number_for};
+ghost use Rattle.pg_pairs.specs.graph.GraphView.{seen};
+ghost use Rattle.pg_pairs.specs.bounds.Laws.{ReachedBy};
 ghost use Rattle.pg_cert.specs.Certificate.{bound_in};
 ghost use Rattle.pg_cert.specs.ClaimView.{view_in};
 ghost use Rattle.pg_least.specs.Descent.{IsCarriedFrom, IsExactTable, IsStep, IsWholePath, first_step};

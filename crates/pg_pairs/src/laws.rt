@@ -1,25 +1,25 @@
 //! Laws about the definitions. Each is the contract of a function that does nothing.
 
-ghost use Rattle.pg_pairs.specs.CarriedChoices.{EachChildCostsLess, EachChoiceIsCarried};
-ghost use Rattle.pg_pairs.specs.CauseLaws.{CausesAreOwn, NamesAlone, PricesAreNear};
-ghost use Rattle.pg_pairs.specs.CheapestLaws.{CheapestIsLeast};
-ghost use Rattle.pg_pairs.specs.ComesHome.{MessagesComeHome};
-ghost use Rattle.pg_pairs.specs.Contents.{ContentsCost};
-ghost use Rattle.pg_pairs.specs.CoversByNumber.{CoversByNumber};
-ghost use Rattle.pg_pairs.specs.Edges.{LeastCostsByEdges, PairsLeadToPairs, SchemasArePriced};
-ghost use Rattle.pg_pairs.specs.ElementGaps.{ElementGaps, UnseenAreNotZero};
-ghost use Rattle.pg_pairs.specs.FieldCosts.{ChildrenCost, ListsCost, MapsCost, SingleScalarsCost};
-ghost use Rattle.pg_pairs.specs.TrueGaps.{GapTable};
-ghost use Rattle.pg_pairs.specs.HomeExamples.{HomeExamples};
-ghost use Rattle.pg_pairs.specs.Laws.{CoveringBounds, ExactIsLeast, NoneIsCompatible};
-ghost use Rattle.pg_pairs.specs.LeastCosts.{LeastCostsAreExact};
-ghost use Rattle.pg_pairs.specs.ViewLaws.{IsEnumView, NumbersAreAlike};
-ghost use Rattle.pg_pairs.specs.ReadBack.{SeenItemsHaveOneBody};
-ghost use Rattle.pg_pairs.specs.Reached.{FromOneRoot};
-ghost use Rattle.pg_pairs.specs.SmallPairs.{SmallPairs};
-ghost use Rattle.pg_pairs.specs.GraphView.{seen};
+ghost use Rattle.pg_pairs.specs.witness.CarriedChoices.{EachChildCostsLess, EachChoiceIsCarried};
+ghost use Rattle.pg_pairs.specs.graph.CauseLaws.{CausesAreOwn, NamesAlone, PricesAreNear};
+ghost use Rattle.pg_pairs.specs.choices.CheapestLaws.{CheapestIsLeast};
+ghost use Rattle.pg_pairs.specs.home.ComesHome.{MessagesComeHome};
+ghost use Rattle.pg_pairs.specs.bounds.Contents.{ContentsCost};
+ghost use Rattle.pg_pairs.specs.bounds.CoversByNumber.{CoversByNumber};
+ghost use Rattle.pg_pairs.specs.graph.Edges.{LeastCostsByEdges, PairsLeadToPairs, SchemasArePriced};
+ghost use Rattle.pg_pairs.specs.gaps.ElementGaps.{ElementGaps, UnseenAreNotZero};
+ghost use Rattle.pg_pairs.specs.bounds.FieldCosts.{ChildrenCost, ListsCost, MapsCost, SingleScalarsCost};
+ghost use Rattle.pg_pairs.specs.gaps.TrueGaps.{GapTable};
+ghost use Rattle.pg_pairs.specs.home.HomeExamples.{HomeExamples};
+ghost use Rattle.pg_pairs.specs.bounds.Laws.{CoveringBounds, ExactIsLeast, NoneIsCompatible};
+ghost use Rattle.pg_pairs.specs.bounds.LeastCosts.{LeastCostsAreExact};
+ghost use Rattle.pg_pairs.specs.views.ViewLaws.{IsEnumView, NumbersAreAlike};
+ghost use Rattle.pg_pairs.specs.home.ReadBack.{SeenItemsHaveOneBody};
+ghost use Rattle.pg_pairs.specs.graph.Reached.{FromOneRoot};
+ghost use Rattle.pg_pairs.specs.choices.SmallPairs.{SmallPairs};
+ghost use Rattle.pg_pairs.specs.graph.GraphView.{seen};
 
-use crate::priced::Priced;
+use crate::graph::priced::Priced;
 use pg_dyn::laws::{kept_by_number, reads_again};
 
 /// Small pairs of types with all their choices.

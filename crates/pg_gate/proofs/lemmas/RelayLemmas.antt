@@ -8,9 +8,9 @@ use Rattle.pg_dyn.specs.reading.Decoding.{dec}
 use Rattle.pg_dyn.specs.Belonging.{IsMessage}
 use Rattle.pg_dyn.specs.Fits.{Fits}
 use Rattle.pg_dyn.specs.Kept.{Kept, message_of, type_of}
-use Rattle.pg_pairs.specs.declared.choice.Pair.{Pair}
-use Rattle.pg_pairs.specs.Home.{home, comes_home}
-use Rattle.pg_pairs.specs.ComesHome.{MessagesComeHome}
+use Rattle.pg_pairs.specs.declared.choices.choice.Pair.{Pair}
+use Rattle.pg_pairs.specs.home.Home.{home, comes_home}
+use Rattle.pg_pairs.specs.home.ComesHome.{MessagesComeHome}
 use Rattle.pg_gate.specs.Relaying.{BringsHome}
 
 -- what comes home is read, and is home

@@ -10,7 +10,7 @@ use Rattle.pg_dyn.specs.Fits.{Fits}
 use Rattle.pg_dyn.specs.Kept.{Kept, message_of, type_of}
 use Rattle.pg_dyn.specs.Message.{Message}
 use Rattle.pg_dyn.specs.declared.view_name.ViewName.TheVariants as views
-use Rattle.pg_pairs.specs.EnumView.{EnumView, by_numbers}
+use Rattle.pg_pairs.specs.views.EnumView.{EnumView, by_numbers}
 use Rattle.pg_cert.specs.Certificate.{bound_in, Claim, Holds}
 use Rattle.pg_least.specs.Searched.{IsSearched}
 use Rattle.pg_least.specs.Loss.{IsLost, NewSees, OldWrites, AreRoots, Lacks}

@@ -7,8 +7,8 @@ use Rattle.pg_dyn.specs.encoding.Encoding.{enc}
 use Rattle.pg_dyn.specs.Kept.{Kept}
 use Rattle.pg_least.specs.Searched.{CarriesWitness, carried_along}
 use Rattle.pg_least.specs.Loss.{Lacks}
-use Rattle.pg_pairs.specs.EnumView.{by_numbers}
-use Rattle.pg_pairs.specs.NamedView.{seen_under}
+use Rattle.pg_pairs.specs.views.EnumView.{by_numbers}
+use Rattle.pg_pairs.specs.views.NamedView.{seen_under}
 use Rattle.pg_schema.specs.declared.parts.Parts.{Parts}
 use Rattle.pg_schema.specs.Parts.{shape_of}
 use Rattle.pg_gate.specs.answer.AllTypes.{IsAllTypes}

@@ -11,7 +11,7 @@ use Rattle.pg_schema.specs.Shape.{fields}
 use Rattle.pg_show.specs.Hex.{bytes_in}
 use Rattle.pg_show.specs.Shown.{Refuses, Shows, most_levels, names_of}
 use Rattle.pg_least.specs.Loss.{IsNamed, Lacks}
-use Rattle.pg_pairs.specs.declared.choice.Pair.{Pair}
+use Rattle.pg_pairs.specs.declared.choices.choice.Pair.{Pair}
 use Rattle.pg_gate.specs.print.Refusals.{refusal_of_bytes}
 use Rattle.pg_gate.specs.print.Text.{refusal_of}
 use Rattle.pg_gate.specs.declared.print.reply.Readings.{Readings}

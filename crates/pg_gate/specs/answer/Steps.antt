@@ -8,9 +8,9 @@ use Rattle.pg_cert.specs.ClaimView.{view_in}
 use Rattle.pg_cert.specs.Text.{names_of}
 use Rattle.pg_least.specs.Searched.{IsPath}
 use Rattle.pg_least.specs.declared.witness.PairChoice as stages
-use Rattle.pg_pairs.specs.Choices.{is_oneof}
-use Rattle.pg_pairs.specs.declared.choice.Choice.{Choice}
-use Rattle.pg_pairs.specs.declared.choice.Pair.{Pair}
+use Rattle.pg_pairs.specs.choices.Choices.{is_oneof}
+use Rattle.pg_pairs.specs.declared.choices.choice.Choice.{Choice}
+use Rattle.pg_pairs.specs.declared.choices.choice.Pair.{Pair}
 use Rattle.pg_schema.specs.declared.parts.field.Field.{Field}
 use Rattle.pg_schema.specs.declared.parts.field.TypeId.{TypeId}
 use Rattle.pg_schema.specs.declared.parts.Parts.{Parts}

@@ -2,7 +2,7 @@
 use Rattle.std.specs.Prelude.{◌≡◌, ℕ, List}
 use Rattle.pg_schema.specs.declared.parts.Parts.{Parts}
 use Rattle.pg_dyn.specs.declared.view_name.ViewName.{ViewName}
-use Rattle.pg_pairs.specs.NamedView.{seen_under}
+use Rattle.pg_pairs.specs.views.NamedView.{seen_under}
 use Rattle.pg_gate.specs.answer.Answer.{IsAnswerBy, certificate_of}
 use Rattle.pg_gate.specs.declared.answer.gate.Answer.{Answer}
 

@@ -1,8 +1,8 @@
 //! The gate: whether a reader of the new type sees all that a writer of the old one writes.
 ghost use Rattle.std.specs.Prelude.{◌≡◌, ◌+◌, Err, codes, IfErr, IfOk};
 ghost use Rattle.pg_schema.specs.Parts.{shape_of};
-ghost use Rattle.pg_pairs.specs.EnumView.{by_numbers};
-ghost use Rattle.pg_pairs.specs.NamedView.{seen_under};
+ghost use Rattle.pg_pairs.specs.views.EnumView.{by_numbers};
+ghost use Rattle.pg_pairs.specs.views.NamedView.{seen_under};
 ghost use Rattle.pg_least.specs.Searched.{CarriesWitness};
 ghost use Rattle.pg_least.specs.Loss.{AreRoots, Lacks};
 ghost use Rattle.pg_gate.specs.answer.Answer.{IsAnswer, IsRefusedRoot, certificate_of};

@@ -1,5 +1,5 @@
 use Rattle.std.proofs.Common.{◌≡◌, map, take}
-use Rattle.pg_pairs.specs.declared.edge.Edge.{Edge}
+use Rattle.pg_pairs.specs.declared.graph.edge.Edge.{Edge}
 use Rattle.answer_rows.proofs.drawn.children_of.Given as goal
 
 abbrev pub invariant-loop-edge : goal.invariant-loop-edge

@@ -2,8 +2,8 @@
 use Rattle.std.proofs.Common.{subst, sym}
 use Rattle.pg_schema.specs.Parts.{shape_of}
 use Rattle.pg_dyn.specs.declared.view_name.ViewName.{ViewName}
-use Rattle.pg_pairs.specs.NamedView.{seen_under}
-use Rattle.pg_pairs.specs.declared.choice.Pair.{Pair}
+use Rattle.pg_pairs.specs.views.NamedView.{seen_under}
+use Rattle.pg_pairs.specs.declared.choices.choice.Pair.{Pair}
 use Rattle.pg_least.specs.Searched.{IsSearched}
 use Rattle.answer_rows.proofs.searches.path_down.Goals as goal
 

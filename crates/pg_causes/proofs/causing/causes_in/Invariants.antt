@@ -2,7 +2,7 @@
 use Rattle.std.proofs.Common.{◌≡◌, map, take}
 use Rattle.std.specs.List.{AllByRecursion, flat_map}
 use Rattle.pg_schema.specs.Parts.{shape_of}
-use Rattle.pg_pairs.specs.GraphView.{seen}
+use Rattle.pg_pairs.specs.graph.GraphView.{seen}
 use Rattle.pg_least.specs.Searched.{pairs_of}
 use Rattle.pg_causes.specs.Causes.{IsCause, causes_at}
 use Rattle.pg_causes.specs.declared.overview.Cause.{Cause}

@@ -1,7 +1,7 @@
 -- The choices before the index are causes.
 use Rattle.std.proofs.Common.{◌≡◌, map, take}
 use Rattle.std.specs.List.{AllByRecursion}
-use Rattle.pg_pairs.specs.GraphView.{seen}
+use Rattle.pg_pairs.specs.graph.GraphView.{seen}
 use Rattle.pg_causes.specs.Causes.{IsCause, choice_at}
 use Rattle.pg_causes.specs.declared.overview.Cause.{Cause}
 use Rattle.pg_causes.proofs.causing.causes_of.Given as goal

@@ -4,7 +4,7 @@ use Rattle.pg_schema.specs.declared.parts.Parts.{Parts}
 use Rattle.pg_schema.specs.Parts.{name_at}
 use Rattle.pg_causes.specs.Names.{name_of}
 use Rattle.pg_least.specs.Loss.{AreRoots}
-use Rattle.pg_pairs.specs.declared.choice.Pair.{Pair}
+use Rattle.pg_pairs.specs.declared.choices.choice.Pair.{Pair}
 use Rattle.pg_causes.proofs.Going.{each_pushed, pushed}
 use Rattle.pg_causes.proofs.Naming.{none_found, placed_name, shared_more, shared_same}
 use Rattle.pg_causes.proofs.names.roots_of.Goals.{in-Some+in_ok-push, in_default}

@@ -4,7 +4,7 @@ use Rattle.std.specs.List.{AllByRecursion}
 use Rattle.pg_causes.specs.Names.{is_declared, name_of}
 use Rattle.pg_schema.specs.Parts.{name_at}
 use Rattle.pg_least.specs.Loss.{AreRoots}
-use Rattle.pg_pairs.specs.declared.choice.Pair.{Pair}
+use Rattle.pg_pairs.specs.declared.choices.choice.Pair.{Pair}
 use Rattle.pg_causes.proofs.names.roots_of.Given as goal
 
 abbrev pub invariant-loop-index : goal.invariant-loop-index

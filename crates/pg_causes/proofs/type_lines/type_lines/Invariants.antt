@@ -1,7 +1,7 @@
 -- The roots before the index have their lines.
 use Rattle.std.proofs.Common.{◌≡◌, map, take, Some, string_bytes}
 use Rattle.pg_schema.specs.Parts.{name_at}
-use Rattle.pg_pairs.specs.declared.choice.Pair.{Pair}
+use Rattle.pg_pairs.specs.declared.choices.choice.Pair.{Pair}
 use Rattle.pg_cert.specs.Certificate.{bound_in}
 use Rattle.pg_causes.specs.declared.overview.TypeLine.{TypeLine}
 use Rattle.pg_causes.proofs.type_lines.type_lines.Given as goal

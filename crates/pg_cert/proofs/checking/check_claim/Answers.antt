@@ -3,7 +3,7 @@ use Rattle.std.proofs.Common.{◌≡◌, ◌⊎◌, Some, None, ap, sym, ◌∙�
 use Rattle.std.specs.Option.{option_copied}
 use Rattle.std.proofs.lemmas.Result.{err_from_is_err_and}
 use Rattle.pg_schema.specs.Parts.{shape_of}
-use Rattle.pg_pairs.specs.GraphView.{seen}
+use Rattle.pg_pairs.specs.graph.GraphView.{seen}
 use Rattle.pg_cert.specs.declared.error.CertError.TheVariants as errors
 use Rattle.pg_cert.specs.Certificate.{bound_in, IsWitnessed}
 use Rattle.pg_cert.specs.Verdict.{bound_verdict}

@@ -1,7 +1,7 @@
 use Rattle.std.proofs.Common.{sym, ◌∙◌, inl, inr}
 use Rattle.std.proofs.lemmas.Result.{err_from_is_err_and}
 use Rattle.pg_schema.specs.Parts.{shape_of}
-use Rattle.pg_pairs.specs.GraphView.{seen}
+use Rattle.pg_pairs.specs.graph.GraphView.{seen}
 use Rattle.pg_cert.specs.Certificate.{bound_in}
 use Rattle.pg_cert.proofs.Checks.{fault_here, no_fault_here, no_pair_here, none_is}
 use Rattle.pg_cert.proofs.checking.check_pairs.Goals as goal

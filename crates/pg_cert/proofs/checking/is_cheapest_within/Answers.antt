@@ -1,7 +1,7 @@
 use Rattle.std.proofs.Common.{sym, ◌∙◌}
 use Rattle.pg_schema.specs.Parts.{shape_of}
-use Rattle.pg_pairs.specs.Choices.{choices}
-use Rattle.pg_pairs.specs.GraphView.{seen}
+use Rattle.pg_pairs.specs.choices.Choices.{choices}
+use Rattle.pg_pairs.specs.graph.GraphView.{seen}
 use Rattle.pg_cert.specs.Certificate.{bound_in}
 use Rattle.pg_cert.proofs.Coverings.{none_cheaper}
 use Rattle.pg_cert.proofs.checking.is_cheapest_within.Goals as goal

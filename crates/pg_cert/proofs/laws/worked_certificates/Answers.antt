@@ -6,9 +6,9 @@ use Rattle.pg_wire.specs.Varint.{varint}
 use Rattle.pg_dyn.specs.Coding.{word_bytes}
 use Rattle.pg_dyn.specs.Message.{Int, ends, nests}
 use Rattle.pg_dyn.specs.Examples.{linked, one}
-use Rattle.pg_pairs.specs.declared.choice.Pair.{Pair}
-use Rattle.pg_pairs.specs.EnumView.{by_numbers}
-use Rattle.pg_pairs.specs.Covering.{Covers}
+use Rattle.pg_pairs.specs.declared.choices.choice.Pair.{Pair}
+use Rattle.pg_pairs.specs.views.EnumView.{by_numbers}
+use Rattle.pg_pairs.specs.bounds.Covering.{Covers}
 use Rattle.pg_cert.specs.declared.bounds.PairBound.{PairBound}
 use Rattle.pg_cert.specs.Certificate.{are_bounds, bound_in}
 use Rattle.pg_cert.specs.Faults.{first_fault}

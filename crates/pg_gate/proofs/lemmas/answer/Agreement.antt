@@ -6,10 +6,10 @@ use Rattle.pg_schema.specs.Invariant.{IsSchema}
 use Rattle.pg_schema.specs.Parts.{shape_of}
 use Rattle.pg_schema.specs.Shape.{Shape}
 use Rattle.pg_dyn.specs.Breaking.{Compatible, Least}
-use Rattle.pg_pairs.proofs.Among.{among_each}
-use Rattle.pg_pairs.specs.declared.choice.Pair.{Pair}
-use Rattle.pg_pairs.specs.EnumView.{EnumView}
-use Rattle.pg_pairs.specs.NamedView.{seen_under}
+use Rattle.pg_pairs.proofs.lemmas.choices.Among.{among_each}
+use Rattle.pg_pairs.specs.declared.choices.choice.Pair.{Pair}
+use Rattle.pg_pairs.specs.views.EnumView.{EnumView}
+use Rattle.pg_pairs.specs.views.NamedView.{seen_under}
 use Rattle.pg_least.specs.Loss.{AreRoots}
 use Rattle.pg_causes.specs.declared.overview.TypeLine.{TypeLine}
 use Rattle.pg_causes.specs.TypeLines.{GateSays, IsTypeLine}

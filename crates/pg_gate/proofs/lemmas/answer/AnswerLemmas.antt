@@ -6,11 +6,11 @@ use Rattle.pg_schema.specs.Parts.{shape_of}
 use Rattle.pg_schema.specs.Shape.{IsShape}
 use Rattle.pg_dyn.specs.encoding.Encoding.{enc}
 use Rattle.pg_dyn.specs.Kept.{Kept, message_of}
-use Rattle.pg_pairs.specs.declared.choice.Pair.{Pair}
-use Rattle.pg_pairs.specs.Choices.{number_for}
+use Rattle.pg_pairs.specs.declared.choices.choice.Pair.{Pair}
+use Rattle.pg_pairs.specs.choices.Choices.{number_for}
 use Rattle.pg_dyn.specs.declared.view_name.ViewName.{ViewName}
-use Rattle.pg_pairs.specs.NamedView.{seen_under}
-use Rattle.pg_pairs.specs.EnumView.{EnumView, by_numbers}
+use Rattle.pg_pairs.specs.views.NamedView.{seen_under}
+use Rattle.pg_pairs.specs.views.EnumView.{EnumView, by_numbers}
 use Rattle.pg_cert.specs.Certificate.{bound_in, Claim, IsWitnessedIfThere}
 use Rattle.pg_cert.specs.ClaimView.{view_in}
 use Rattle.pg_cert.specs.Text.{IsClaimOf}

@@ -7,14 +7,13 @@ use Rattle.pg_schema.specs.Parts.{shape_of}
 use Rattle.pg_schema.specs.Shape.{IsShape}
 use Rattle.pg_dyn.proofs.Lists.{each-flat_map, each_of_all, each_weaker, each-map}
 use Rattle.pg_dyn.specs.declared.view_name.ViewName.{ViewName}
-use Rattle.pg_pairs.specs.declared.choice.Choice.{Choice}
-use Rattle.pg_pairs.specs.declared.choice.Pair.{Pair}
-use Rattle.pg_pairs.specs.Among.{IsAmong}
-use Rattle.pg_pairs.specs.Covering.{children}
-use Rattle.pg_pairs.specs.Edges.{is_pair}
-use Rattle.pg_pairs.specs.Causes.{causes}
-use Rattle.pg_pairs.specs.NamedView.{seen_under}
-use Rattle.pg_pairs.specs.Reached.{IsLedTo}
+use Rattle.pg_pairs.specs.declared.choices.choice.Choice.{Choice}
+use Rattle.pg_pairs.specs.declared.choices.choice.Pair.{Pair}
+use Rattle.pg_pairs.specs.bounds.Covering.{IsAmong, children}
+use Rattle.pg_pairs.specs.graph.Edges.{is_pair}
+use Rattle.pg_pairs.specs.choices.Causes.{causes}
+use Rattle.pg_pairs.specs.views.NamedView.{seen_under}
+use Rattle.pg_pairs.specs.graph.Reached.{IsLedTo}
 use Rattle.pg_pairs.proofs.PublicLaws.{pairs_lead_to_pairs}
 use Rattle.pg_cert.specs.Text.{IsPairOf}
 use Rattle.pg_least.specs.declared.witness.PairChoice.{PairChoice}

@@ -8,11 +8,11 @@ use Rattle.pg_schema.specs.declared.parts.Parts.{Parts}
 use Rattle.pg_schema.specs.Parts.{field_shape, shape_of}
 use Rattle.pg_schema.specs.Shape.{IsShape}
 use Rattle.pg_dyn.proofs.Lists.{each_weaker}
-use Rattle.pg_pairs.specs.declared.choice.Pair.{Pair}
-use Rattle.pg_pairs.specs.Covering.{children}
-use Rattle.pg_pairs.specs.Edges.{is_pair}
-use Rattle.pg_pairs.specs.EnumView.{EnumView}
-use Rattle.pg_pairs.specs.Reached.{LeadsTo}
+use Rattle.pg_pairs.specs.declared.choices.choice.Pair.{Pair}
+use Rattle.pg_pairs.specs.bounds.Covering.{children}
+use Rattle.pg_pairs.specs.graph.Edges.{is_pair}
+use Rattle.pg_pairs.specs.views.EnumView.{EnumView}
+use Rattle.pg_pairs.specs.graph.Reached.{LeadsTo}
 use Rattle.pg_pairs.proofs.PublicLaws.{pairs_lead_to_pairs}
 use Rattle.pg_cert.specs.declared.bounds.PairBound.{PairBound}
 use Rattle.pg_cert.specs.Certificate.{Claim}

@@ -2,13 +2,13 @@ use Rattle.std.proofs.Common.{◌≡◌, ◌++◌, List, flat_map, slice_get, ta
 use Rattle.std.specs.BTreeMap.{get}
 use Rattle.std.specs.List.{AllByRecursion}
 use Rattle.std.proofs.lemmas.Option.{slice_get-get_or}
-use Rattle.pg_pairs.proofs.Among.{among_each}
-use Rattle.pg_pairs.proofs.Reaching.{every_is_among}
-use Rattle.pg_pairs.proofs.Grown.{take_more}
-use Rattle.pg_pairs.specs.declared.choice.Pair.{Pair}
-use Rattle.pg_pairs.specs.declared.edge.Edge.{Edge}
-use Rattle.pg_pairs.specs.Among.{IsAmong}
-use Rattle.pg_pairs.specs.ByIndices.{by_indices}
+use Rattle.pg_pairs.proofs.lemmas.choices.Among.{among_each}
+use Rattle.pg_pairs.proofs.lemmas.graph.Reaching.{every_is_among}
+use Rattle.pg_pairs.proofs.lemmas.graph.Grown.{take_more}
+use Rattle.pg_pairs.specs.declared.choices.choice.Pair.{Pair}
+use Rattle.pg_pairs.specs.declared.graph.edge.Edge.{Edge}
+use Rattle.pg_pairs.specs.bounds.Covering.{IsAmong}
+use Rattle.pg_pairs.specs.graph.ByIndices.{by_indices}
 use Rattle.pg_least.proofs.Lists.{each_at}
 use Rattle.pg_least.proofs.Tables.{place_there, flat_map-end}
 use Rattle.pg_least.proofs.arcs.arcs_in_order.Goals as goal

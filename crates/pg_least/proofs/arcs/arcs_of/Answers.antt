@@ -1,9 +1,9 @@
 use Rattle.std.proofs.Common.{List, map, subst, rules}
 use Rattle.std.specs.List.Sorted.{IsPermutation}
 use Rattle.std.proofs.lemmas.List.Sorted.{IsNonDecreasingBy-from_sort_by_key, IsPermutation-map}
-use Rattle.pg_pairs.proofs.Among.{among_each}
-use Rattle.pg_pairs.proofs.Reaching.{every_is_among}
-use Rattle.pg_pairs.specs.declared.edge.Edge.{Edge}
+use Rattle.pg_pairs.proofs.lemmas.choices.Among.{among_each}
+use Rattle.pg_pairs.proofs.lemmas.graph.Reaching.{every_is_among}
+use Rattle.pg_pairs.specs.declared.graph.edge.Edge.{Edge}
 use Rattle.pg_least.specs.declared.arcs.Arc.{Arc}
 use Rattle.pg_least.specs.Places.{IsPlaced}
 use Rattle.pg_least.proofs.Moved.{among_back}

@@ -1,9 +1,9 @@
 use Rattle.std.proofs.Common.{◌≡◌, ◌+◌, ℕ, ◌∷◌, [], ◌++◌, List, Option, map, take, get_or, ap, sym, ◌∙◌, arith}
-use Rattle.pg_pairs.specs.declared.choice.Pair.{Pair}
-use Rattle.pg_pairs.specs.declared.work.Work.{Work}
-use Rattle.pg_pairs.specs.Works.{opened_more}
+use Rattle.pg_pairs.specs.declared.choices.choice.Pair.{Pair}
+use Rattle.pg_pairs.specs.declared.graph.work.Work.{Work}
+use Rattle.pg_pairs.specs.graph.Works.{opened_more}
 use Rattle.pg_least.specs.Least.{opened_by}
-use Rattle.pg_pairs.proofs.Grown.{take_more}
+use Rattle.pg_pairs.proofs.lemmas.graph.Grown.{take_more}
 use Rattle.pg_least.proofs.Tables.{map-end}
 use Rattle.pg_least.proofs.least_bounds.bases_of.Goals as goal
 

@@ -3,13 +3,12 @@ use Rattle.std.specs.List.{AllByRecursion}
 use Rattle.std.specs.List.Sorted.{IsPermutation}
 use Rattle.std.proofs.lemmas.List.{length-map}
 use Rattle.pg_dyn.specs.encoding.Encoding.{cap}
-use Rattle.pg_pairs.proofs.Among.{among_each}
-use Rattle.pg_pairs.specs.declared.choice.Pair.{Pair}
-use Rattle.pg_pairs.specs.declared.edge.Edge.{Edge}
-use Rattle.pg_pairs.specs.declared.work.Work.{Work}
-use Rattle.pg_pairs.specs.Among.{IsAmong}
-use Rattle.pg_pairs.specs.Covering.{distinct}
-use Rattle.pg_pairs.specs.Reached.{IsReachedFrom}
+use Rattle.pg_pairs.proofs.lemmas.choices.Among.{among_each}
+use Rattle.pg_pairs.specs.declared.choices.choice.Pair.{Pair}
+use Rattle.pg_pairs.specs.declared.graph.edge.Edge.{Edge}
+use Rattle.pg_pairs.specs.declared.graph.work.Work.{Work}
+use Rattle.pg_pairs.specs.bounds.Covering.{IsAmong, distinct}
+use Rattle.pg_pairs.specs.graph.Reached.{IsReachedFrom}
 use Rattle.pg_cert.specs.declared.bounds.PairBound.{PairBound}
 use Rattle.pg_cert.specs.Certificate.{bound_in, is_bound}
 use Rattle.pg_least.specs.declared.arcs.Arc.{Arc}

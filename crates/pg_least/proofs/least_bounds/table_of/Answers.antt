@@ -1,11 +1,11 @@
 use Rattle.std.proofs.Common.{◌++◌, ◌∷◌, [], List, None, take, get_or, ap, ap₂, sym, ◌∙◌, arith, true≢false}
 use Rattle.std.proofs.lemmas.List.{take_all}
-use Rattle.pg_pairs.specs.declared.choice.Pair.{Pair}
+use Rattle.pg_pairs.specs.declared.choices.choice.Pair.{Pair}
 use Rattle.pg_cert.specs.declared.bounds.PairBound.{PairBound}
 use Rattle.pg_cert.specs.Certificate.{are_bounds}
 use Rattle.pg_least.specs.Least.{lines}
 use Rattle.pg_least.proofs.Bounding.{lines_more, once_lines, takes_long}
-use Rattle.pg_pairs.proofs.Grown.{take_more}
+use Rattle.pg_pairs.proofs.lemmas.graph.Grown.{take_more}
 use Rattle.pg_least.proofs.least_bounds.table_of.Goals as goal
 
 unset : Pair

@@ -1,11 +1,11 @@
 use Rattle.std.proofs.Common.{◌≡◌, ◌+◌, ◌++◌, ◌<◌, ◌≤◌, ◌∷◌, [], take, List, length, Option, true, Some, ℕ, get_or, ap, sym, ◌∙◌, subst, append_assoc, IfSome, heap_items, arith}
 use Rattle.std.proofs.lemmas.List.{take_all}
-use Rattle.pg_pairs.proofs.Grown.{take_more}
-use Rattle.pg_pairs.specs.declared.edge.Part.TheVariants.{Whole}
-use Rattle.pg_pairs.specs.declared.work.Work.{Work}
-use Rattle.pg_pairs.specs.Works.{relaxed_more}
+use Rattle.pg_pairs.proofs.lemmas.graph.Grown.{take_more}
+use Rattle.pg_pairs.specs.declared.graph.edge.Part.TheVariants.{Whole}
+use Rattle.pg_pairs.specs.declared.graph.work.Work.{Work}
+use Rattle.pg_pairs.specs.graph.Works.{relaxed_more}
 use Rattle.pg_least.specs.declared.arcs.Arc.{Arc}
-use Rattle.pg_pairs.specs.Among.{IsAmong}
+use Rattle.pg_pairs.specs.bounds.Covering.{IsAmong}
 use Rattle.pg_least.specs.Relaxing.{Stands, cost_at, is_set}
 use Rattle.pg_least.specs.Graphs.{IsArc, arcs_by, relaxed_by}
 use Rattle.pg_least.proofs.Lists.{each_at}

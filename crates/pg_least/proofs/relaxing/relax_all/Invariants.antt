@@ -2,7 +2,7 @@ use Rattle.std.proofs.Common.{◌≡◌, ◌++◌, take, List, Option, Bool, tru
 use Rattle.std.specs.List.{AllByRecursion}
 use Rattle.std.specs.BinaryHeap.{heap_items}
 use Rattle.pg_least.specs.declared.arcs.Arc.{Arc}
-use Rattle.pg_pairs.specs.Among.{IsAmong}
+use Rattle.pg_pairs.specs.bounds.Covering.{IsAmong}
 use Rattle.pg_least.specs.Relaxing.{Stands, cost_at, is_set}
 use Rattle.pg_least.specs.Graphs.{arcs_by, relaxed_by}
 use Rattle.pg_least.proofs.relaxing.relax_all.Given as goal

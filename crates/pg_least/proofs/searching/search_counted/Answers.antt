@@ -2,7 +2,7 @@
 use Rattle.std.proofs.Common.{◌<◌, length, subst, sym}
 use Rattle.pg_schema.specs.declared.parts.Parts.{Parts}
 use Rattle.pg_schema.specs.Parts.{shape_of}
-use Rattle.pg_pairs.specs.Edges.{edges}
+use Rattle.pg_pairs.specs.graph.Edges.{edges}
 use Rattle.pg_cert.proofs.Graphs.{of_graph}
 use Rattle.pg_least.specs.Searched.{IsSearched, CarriesWitness}
 use Rattle.pg_least.specs.Least.{IsCounted}

@@ -1,7 +1,7 @@
 use Rattle.std.proofs.lemmas.Result.{IfOk-weaker}
 use Rattle.pg_schema.specs.Parts.{shape_of}
-use Rattle.pg_pairs.proofs.EdgeLaws.{is_there}
-use Rattle.pg_pairs.specs.GraphView.{seen}
+use Rattle.pg_pairs.proofs.lemmas.graph.EdgeLaws.{is_there}
+use Rattle.pg_pairs.specs.graph.GraphView.{seen}
 use Rattle.pg_least.proofs.Exactness.{settled_is_exact}
 use Rattle.pg_least.proofs.searching.settled.Goals as goal
 

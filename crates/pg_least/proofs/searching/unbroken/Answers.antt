@@ -1,6 +1,6 @@
 use Rattle.std.proofs.Common.{subst, sym}
 use Rattle.pg_schema.specs.Parts.{shape_of}
-use Rattle.pg_pairs.specs.GraphView.{seen}
+use Rattle.pg_pairs.specs.graph.GraphView.{seen}
 use Rattle.pg_least.specs.Searched.{IsSearched, CarriesWitness}
 use Rattle.pg_least.proofs.Claims.{searched_none}
 use Rattle.pg_least.proofs.searching.unbroken.Goals as goal

@@ -1,6 +1,6 @@
 use Rattle.std.proofs.lemmas.Result.{IfOk-weaker}
 use Rattle.pg_schema.specs.Parts.{shape_of}
-use Rattle.pg_pairs.specs.GraphView.{seen}
+use Rattle.pg_pairs.specs.graph.GraphView.{seen}
 use Rattle.pg_least.proofs.Exactness.{bounds_are}
 use Rattle.pg_least.proofs.several.bounds_from.Goals as goal
 

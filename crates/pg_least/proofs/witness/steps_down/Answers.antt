@@ -1,7 +1,7 @@
 use Rattle.std.proofs.Common.{◌≡◌, Some, ap, sym, ◌∙◌, subst}
 use Rattle.pg_schema.specs.Parts.{shape_of}
-use Rattle.pg_pairs.specs.Carried.{choice_child}
-use Rattle.pg_pairs.specs.GraphView.{seen}
+use Rattle.pg_pairs.specs.witness.Carried.{choice_child}
+use Rattle.pg_pairs.specs.graph.GraphView.{seen}
 use Rattle.pg_cert.specs.Certificate.{bound_in}
 use Rattle.pg_least.specs.Descent.{IsPathDown, first_step}
 use Rattle.pg_least.proofs.Descents.{child_number, costs_less, first_on, last_step, number_of, path_on}

@@ -1,4 +1,4 @@
-use Rattle.pg_pairs.proofs.NearPrices as NearPrices
+use Rattle.pg_pairs.proofs.lemmas.graph.NearPrices as NearPrices
 use Rattle.pg_pairs.proofs.laws.causes_are_own.Goals as goal
 
 pub returns : goal.returns

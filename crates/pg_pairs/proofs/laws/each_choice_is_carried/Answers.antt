@@ -1,4 +1,4 @@
-use Rattle.pg_pairs.proofs.Reached as Reached
+use Rattle.pg_pairs.proofs.lemmas.witness.Reached as Reached
 use Rattle.pg_pairs.proofs.laws.each_choice_is_carried.Goals as goal
 
 pub returns : goal.returns

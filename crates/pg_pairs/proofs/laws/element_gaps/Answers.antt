@@ -1,4 +1,4 @@
-use Rattle.pg_pairs.proofs.ElementGaps as ElementGaps
+use Rattle.pg_pairs.proofs.lemmas.gaps.ElementGaps as ElementGaps
 use Rattle.pg_pairs.proofs.laws.element_gaps.Goals as goal
 
 pub returns : goal.returns

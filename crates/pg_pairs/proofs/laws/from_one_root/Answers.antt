@@ -1,4 +1,4 @@
-use Rattle.pg_pairs.proofs.Reaching as Reaching
+use Rattle.pg_pairs.proofs.lemmas.graph.Reaching as Reaching
 use Rattle.pg_pairs.proofs.laws.from_one_root.Goals as goal
 
 pub returns : goal.returns

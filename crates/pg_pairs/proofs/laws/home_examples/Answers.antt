@@ -1,4 +1,4 @@
-use Rattle.pg_pairs.proofs.HomeExamples as HomeExamples
+use Rattle.pg_pairs.proofs.lemmas.home.HomeExamples as HomeExamples
 use Rattle.pg_pairs.proofs.laws.home_examples.Goals as goal
 
 pub returns : goal.returns

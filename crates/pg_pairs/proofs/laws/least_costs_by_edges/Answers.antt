@@ -1,4 +1,4 @@
-use Rattle.pg_pairs.proofs.EdgeCosts as EdgeCosts
+use Rattle.pg_pairs.proofs.lemmas.graph.EdgeCosts as EdgeCosts
 use Rattle.pg_pairs.proofs.laws.least_costs_by_edges.Goals as goal
 
 pub returns : goal.returns

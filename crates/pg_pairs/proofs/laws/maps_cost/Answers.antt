@@ -1,4 +1,4 @@
-use Rattle.pg_pairs.proofs.FieldAlone as FieldAlone
+use Rattle.pg_pairs.proofs.lemmas.bounds.FieldAlone as FieldAlone
 use Rattle.pg_pairs.proofs.laws.maps_cost.Goals as goal
 
 pub returns : goal.returns

@@ -1,4 +1,4 @@
-use Rattle.pg_pairs.proofs.Home as Home
+use Rattle.pg_pairs.proofs.lemmas.home.Home as Home
 use Rattle.pg_pairs.proofs.laws.messages_come_home.Goals as goal
 
 pub returns : goal.returns

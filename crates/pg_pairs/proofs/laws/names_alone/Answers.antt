@@ -2,8 +2,8 @@ use Rattle.std.proofs.Common.{◌≡◌, Bool, ◌⊎◌, inl, inr, refl}
 use Rattle.pg_schema.specs.declared.parts.field.EnumId.{EnumId}
 use Rattle.pg_schema.specs.declared.parts.field.Element.{Element}
 use Rattle.pg_schema.specs.declared.parts.field.Element.TheVariants as elements
-use Rattle.pg_pairs.specs.EnumView.{EnumView, by_numbers}
-use Rattle.pg_pairs.specs.Gaps.{gap_item}
+use Rattle.pg_pairs.specs.views.EnumView.{EnumView, by_numbers}
+use Rattle.pg_pairs.specs.gaps.Gaps.{gap_item}
 use Rattle.pg_pairs.proofs.laws.names_alone.Goals as goal
 
 bears : (enum_view : EnumView) (counts : Bool) (old new : Element)

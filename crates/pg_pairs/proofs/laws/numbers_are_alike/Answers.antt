@@ -1,4 +1,4 @@
-use Rattle.pg_pairs.proofs.NamedViews as NamedViews
+use Rattle.pg_pairs.proofs.lemmas.views.NamedViews as NamedViews
 use Rattle.pg_pairs.proofs.laws.numbers_are_alike.Goals as goal
 
 pub returns : goal.returns

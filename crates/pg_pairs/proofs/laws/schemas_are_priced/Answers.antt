@@ -1,4 +1,4 @@
-use Rattle.pg_pairs.proofs.EdgeLaws as EdgeLaws
+use Rattle.pg_pairs.proofs.lemmas.graph.EdgeLaws as EdgeLaws
 use Rattle.pg_pairs.proofs.laws.schemas_are_priced.Goals as goal
 
 pub returns : goal.returns

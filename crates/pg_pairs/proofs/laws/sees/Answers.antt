@@ -1,4 +1,4 @@
-use Rattle.pg_pairs.proofs.NamedViews.{seen_under_is}
+use Rattle.pg_pairs.proofs.lemmas.views.NamedViews.{seen_under_is}
 use Rattle.pg_pairs.proofs.laws.sees.Goals as goal
 
 pub returns : goal.returns

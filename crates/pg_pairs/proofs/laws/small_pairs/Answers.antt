@@ -1,4 +1,4 @@
-use Rattle.pg_pairs.proofs.SmallPairs as SmallPairs
+use Rattle.pg_pairs.proofs.lemmas.choices.SmallPairs as SmallPairs
 use Rattle.pg_pairs.proofs.laws.small_pairs.Goals as goal
 
 pub returns : goal.returns

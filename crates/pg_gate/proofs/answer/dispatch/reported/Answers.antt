@@ -1,6 +1,6 @@
 use Rattle.std.proofs.Common.{subst, sym}
 use Rattle.pg_cert.specs.Text.{IsPairOf}
-use Rattle.pg_pairs.specs.declared.choice.Pair.{Pair}
+use Rattle.pg_pairs.specs.declared.choices.choice.Pair.{Pair}
 use Rattle.pg_gate.proofs.answer.dispatch.reported.Goals as goal
 
 pub explained-requires : goal.explained-requires

@@ -8,8 +8,8 @@ use Rattle.pg_cert.proofs.Graphs.{of_graph}
 use Rattle.pg_least.specs.Beside.{IsBesideClaim}
 use Rattle.pg_least.specs.Searched.{IsSearched, CarriesWitness}
 use Rattle.pg_least.proofs.PublicLaws.{named_types_are_there}
-use Rattle.pg_pairs.specs.EnumView.{EnumView}
-use Rattle.pg_pairs.specs.NamedView.{seen_under}
+use Rattle.pg_pairs.specs.views.EnumView.{EnumView}
+use Rattle.pg_pairs.specs.views.NamedView.{seen_under}
 use Rattle.pg_gate.specs.answer.Answer.{IsAnswerBy, certificate_of}
 use Rattle.pg_gate.specs.answer.ViewAnswer.{IsAnswerUnder}
 use Rattle.pg_gate.proofs.lemmas.answer.AnswerLemmas.{answer_with, answered, named_with}

@@ -1,0 +1,67 @@
+-- Where no message up to a length breaks each choice costs more.
+use Rattle.std.proofs.Common.{length, ◌≡◌, ℕ, ◌<◌, ◌≤◌, Bool, true, false, nat_le, nat_eq, cond, if◌then◌else◌, Some, None, refl, subst, arith}
+use Rattle.std.specs.List.{AllByRecursion}
+use Rattle.std.proofs.lemmas.Bool.{leb-false}
+use Rattle.pg_schema.specs.Shape.{Shape, FieldShape, IsShape, fields, field_at}
+use Rattle.pg_dyn.specs.encoding.Encoding.{cap, enc}
+use Rattle.pg_dyn.proofs.Lists.{each_unfiltered}
+use Rattle.pg_pairs.specs.declared.choices.choice.Choice.{Choice}
+use Rattle.pg_pairs.specs.declared.choices.choice.Pair.{Pair}
+use Rattle.pg_pairs.specs.views.EnumView.{by_numbers}
+use Rattle.pg_pairs.specs.views.ViewLaws.{IsEnumView}
+use Rattle.pg_pairs.proofs.lemmas.views.NamedViews.{none_differs}
+use Rattle.pg_pairs.specs.choices.Choices.{Table, all_choices, choices, field_choices}
+use Rattle.pg_pairs.specs.bounds.Covering.{same_pair, IsAmong}
+use Rattle.pg_pairs.specs.bounds.Laws.{IsReached}
+use Rattle.pg_pairs.proofs.lemmas.choices.Choosing.{field_allowed, same_pair-true}
+use Rattle.pg_pairs.proofs.lemmas.witness.Reached.{choices_reached}
+use Rattle.pg_pairs.proofs.lemmas.graph.Reaching.{every_is_among}
+use Rattle.pg_schema.specs.declared.parts.field.TypeId.{TypeId}
+use Rattle.pg_dyn.specs.Message.{Message}
+use Rattle.pg_dyn.specs.Comparison.{numbers}
+use Rattle.pg_dyn.specs.Breaking.{Breaks}
+
+-- No message of at most that many bytes breaks.
+abbrev pub CompatibleTo : ℕ → Shape → Shape → TypeId → TypeId → Type 0
+CompatibleTo n old new a b = (u : Message) → Breaks numbers old new a b u → n < length (enc old a u)
+
+pub by_numbers_is_view : IsEnumView by_numbers
+by_numbers_is_view old new zero = none_differs zero
+
+module _ (old new : Shape) (shape_old : IsShape old) (shape_new : IsShape new) (table : Table)
+    (reached : (p : Pair) (x : ℕ) → table p ≡ Some (Some x) → IsReached by_numbers old new p x) (pair : Pair) (n : ℕ) (small : n ≤ cap)
+    (fine : CompatibleTo n old new pair.old pair.new) where
+  one_dear : (c : Choice) → IsAmong c (choices by_numbers table old new pair) → n < c.cost
+  one_dear c among =
+      let (u, both) = choices_reached by_numbers old new table by_numbers_is_view shape_old shape_new pair c among (λ p x at less. reached p x at) in
+      subst (λ k. n < k) both.1 (fine u both.0)
+
+  pub all_dear : AllByRecursion (λ (c : Choice). n < c.cost) (all_choices by_numbers table (fields new pair.new) (fields old pair.old))
+  all_dear =
+      each_unfiltered (λ (c : Choice). n < c.cost) (λ (c : Choice). nat_le c.cost cap) (λ c above. let over = leb-false c.cost cap above in omega arith)
+      (all_choices by_numbers table (fields new pair.new) (fields old pair.old))
+      (every_is_among (λ (c : Choice). n < c.cost) (choices by_numbers table old new pair) one_dear)
+
+  pub field_dear : (f g : FieldShape) → field_at (fields old pair.old) f.number ≡ Some f → field_at (fields new pair.new) f.number ≡ Some g → AllByRecursion (λ (c : Choice). n < c.cost) (field_choices by_numbers table f g)
+  field_dear f g found at = field_allowed (λ (c : Choice). n < c.cost) by_numbers table (fields new pair.new) (fields old pair.old) f.number f g found at all_dear
+
+-- the table of one pair's bound
+pub one_bound : Pair → ℕ → Table
+one_bound pair x p = if same_pair pair p then Some (Some x) else None
+
+pub bound_there : (pair : Pair) (x : ℕ) → one_bound pair x pair ≡ Some (Some x)
+unfolding one_bound
+bound_there pair x = rw (self pair.old.index, self pair.new.index) refl
+  where
+    self : (n : ℕ) → nat_eq n n ≡ true
+    self n = grind arith
+
+pub one_reached : (old new : Shape) (pair : Pair) (x : ℕ) → IsReached by_numbers old new pair x → (p : Pair) (y : ℕ) → one_bound pair x p ≡ Some (Some y) → IsReached by_numbers old new p y
+unfolding one_bound
+one_reached old new pair x is p y at = of (same_pair pair p) refl at
+  where
+    of : (b : Bool) → same_pair pair p ≡ b → cond b (Some (Some x)) None ≡ Some (Some y) → IsReached by_numbers old new p y
+    of true same there =
+        let equal : x ≡ y = cc in
+        subst (λ q. IsReached by_numbers old new q y) (same_pair-true pair p same) (subst (IsReached by_numbers old new pair) equal is)
+    of false same there = absurd (cc)

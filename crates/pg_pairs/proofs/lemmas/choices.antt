@@ -1,0 +1,12 @@
+pub mod Among
+pub mod Cheaper
+pub mod CheapestSteps
+pub mod ChoicePlaces
+pub mod Choosing
+pub mod Costs
+pub mod LeastMembers
+pub mod LowCosts
+pub mod Offers
+pub mod OneofLinks
+pub mod OptionSteps
+pub mod SmallPairs

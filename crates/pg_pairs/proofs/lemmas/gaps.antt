@@ -1,0 +1,9 @@
+pub mod ElementGaps
+pub mod GapItems
+pub mod Gaps
+pub mod KindsRead
+pub mod Leaves
+pub mod Lengths
+pub mod Likeness
+pub mod Likes
+pub mod Zeros

@@ -1,0 +1,137 @@
+-- One step of the search for pairs: the children of the next one are added at the end.
+use Rattle.std.proofs.Common.{◌≡◌, ℕ, zero, suc, ◌+◌, ◌<◌, List, [], ◌∷◌, ◌++◌, flat_map, take, length, get_or, slice_get, true, false, ltb, lt-ltb, le-ltb, is_some, unwrap_or, option_map, Option, Some, None, inl, inr, ⊎_elim, refl, ap, sym, ◌∙◌, subst, append-nil, append_assoc, add-one, arith}
+use Rattle.std.specs.List.{AllByRecursion}
+use Rattle.std.proofs.lemmas.List.{take-append-le}
+use Rattle.std.proofs.lemmas.Option.{slice_get-get_or, slice_get_cases}
+use Rattle.pg_dyn.proofs.Lists.{each-append, each_weaker}
+use Rattle.pg_pairs.specs.graph.EdgeChildren.{append_left, append_right}
+use Rattle.pg_pairs.specs.declared.choices.choice.Pair.{Pair}
+use Rattle.pg_pairs.specs.bounds.Covering.{distinct, IsAmong}
+use Rattle.pg_pairs.specs.graph.FirstSeen.{OnePairMore}
+use Rattle.pg_pairs.specs.graph.Seen.{AreClosed}
+use Rattle.pg_pairs.specs.graph.Reached.{FromOneRoot, IsLedTo, IsReachedFrom, LeadsTo, itself, onwards}
+use Rattle.pg_pairs.proofs.lemmas.choices.Among.{among_each}
+use Rattle.pg_pairs.proofs.lemmas.graph.Grown.{distinct-again, distinct-front, grown_behind, each_distinct, among_distinct}
+
+-- Places in lists.
+
+-- what is read at a place, by what its reading says
+pub copied_at : {A B : Type 0} (now : B → A) (xs : List A) (i : ℕ) (r : Option B) → is_some r ≡ ltb i (length xs) → ((d : A) → unwrap_or (option_map now r) d ≡ get_or xs i d) → option_map now r ≡ slice_get xs i
+copied_at now xs i None there value =
+    ⊎_elim (λ here. absurd (let no : false ≡ true = there ∙ lt-ltb i (length xs) here.1 in cc)) (λ past. sym past.1) (slice_get_cases xs i).1
+copied_at now xs i (Some b) there value =
+    ⊎_elim (λ here. ap Some (value (now b)) ∙ sym (slice_get-get_or xs i (now b) here.1))
+    (λ past. absurd (let no : true ≡ false = there ∙ le-ltb i (length xs) past.0 in cc)) (slice_get_cases xs i).1
+
+inside : {A : Type 0} (xs : List A) (i : ℕ) (x : A) → slice_get xs i ≡ Some x → i < length xs
+inside [] i x h = absurd (cc)
+inside (y ∷ xs) zero x h = omega arith
+inside (y ∷ xs) (suc i) x h = let later = inside xs i x h in omega arith
+
+take_suc : {A : Type 0} (xs : List A) (i : ℕ) (x : A) → slice_get xs i ≡ Some x → take (suc i) xs ≡ take i xs ++ x ∷ []
+take_suc [] i x h = absurd (cc)
+take_suc (y ∷ xs) zero x h = let same : y ≡ x = cc in ap (λ z. z ∷ []) same
+take_suc (y ∷ xs) (suc i) x h = ap (λ zs. y ∷ zs) (take_suc xs i x h)
+
+take_one_more : {A : Type 0} (xs : List A) (i : ℕ) (x : A) → slice_get xs i ≡ Some x → take (i + 1) xs ≡ take i xs ++ x ∷ []
+take_one_more xs i x h = ap (λ n. take n xs) (add-one i) ∙ take_suc xs i x h
+
+pub take_past : {A : Type 0} (xs : List A) (i : ℕ) → slice_get xs i ≡ None → take i xs ≡ xs
+take_past [] zero h = refl
+take_past [] (suc i) h = refl
+take_past (y ∷ xs) zero h = absurd (cc)
+take_past (y ∷ xs) (suc i) h = ap (λ zs. y ∷ zs) (take_past xs i h)
+
+pub each_at : {A : Type 0} (P : A → Type 0) (xs : List A) (i : ℕ) (x : A) → slice_get xs i ≡ Some x → AllByRecursion P xs → P x
+each_at P [] i x h each = absurd (cc)
+each_at P (y ∷ xs) zero x h each = let same : y ≡ x = cc in subst P same each.0
+each_at P (y ∷ xs) (suc i) x h each = each_at P xs i x h each.1
+
+pub every_is_among : {A : Type 0} (P : A → Type 0) (xs : List A) → ((x : A) → IsAmong x xs → P x) → AllByRecursion P xs
+every_is_among P [] h = tt
+every_is_among P (x ∷ xs) h = (h x (inl refl), every_is_among P xs (λ y among. h y (inr among)))
+
+flat_map-end : {A B : Type 0} (h : A → List B) (xs : List A) (x : A) → flat_map h (xs ++ x ∷ []) ≡ flat_map h xs ++ h x
+flat_map-end h [] x = append-nil (h x)
+flat_map-end h (y ∷ xs) x = ap (λ zs. h y ++ zs) (flat_map-end h xs x) ∙ sym (append_assoc (h y) (flat_map h xs) (h x))
+
+-- each child of each pair is among all children
+each_flat : {A B : Type 0} (h : A → List B) (xs : List A) (all : List B) → ((y : B) → IsAmong y (flat_map h xs) → IsAmong y all) → AllByRecursion (λ x. AllByRecursion (λ y. IsAmong y all) (h x)) xs
+each_flat h [] all within = tt
+each_flat h (x ∷ xs) all within = (
+  every_is_among (λ y. IsAmong y all) (h x) (λ y among. within y (append_left y (h x) (flat_map h xs) among)),
+  each_flat h xs all (λ y among. within y (append_right y (h x) (flat_map h xs) among)),
+)
+
+module _ (law : OnePairMore) (kids : Pair → List Pair) (roots : List Pair) where
+  -- the roots and the children of the pairs before that place
+  abbrev pub found_to : ℕ → List Pair → List Pair
+  found_to at ps = distinct (roots ++ flat_map kids (take at ps))
+
+  pub once : (at : ℕ) (ps : List Pair) → ps ≡ found_to at ps → distinct ps ≡ ps
+  once at ps so_far = ap distinct so_far ∙ distinct-again law (roots ++ flat_map kids (take at ps)) ∙ sym so_far
+
+  module _ (ps : List Pair) (at : ℕ) (x : Pair) (here : slice_get ps at ≡ Some x) (after : List Pair) (is : after ≡ distinct (ps ++ kids x)) where
+    front_stays : ps ≡ found_to at ps → take (at + 1) after ≡ take (at + 1) ps
+    front_stays so_far =
+        let (more, grown) = grown_behind law ps (kids x) (once at ps so_far) in
+        ap (take (at + 1)) (is ∙ grown) ∙ take-append-le (at + 1) ps more (let within = inside ps at x here in omega arith)
+
+    pub next_found : ps ≡ found_to at ps → after ≡ found_to (at + 1) after
+    next_found so_far =
+        is ∙ ap (λ qs. distinct (qs ++ kids x)) so_far ∙ distinct-front law (roots ++ flat_map kids (take at ps)) (kids x)
+        ∙ ap distinct (append_assoc roots (flat_map kids (take at ps)) (kids x))
+        ∙ ap (λ qs. distinct (roots ++ qs)) (sym (flat_map-end kids (take at ps) x))
+        ∙ ap (λ qs. distinct (roots ++ flat_map kids qs)) (sym (front_stays so_far ∙ take_one_more ps at x here))
+
+    child_led : (c : Pair) → IsLedTo kids roots x → IsAmong c (kids x) → IsLedTo kids roots c
+    child_led c led among = record { root = led.root; among = led.among; leads = onwards x c led.leads among }
+
+    pub next_led : AllByRecursion (IsLedTo kids roots) ps → AllByRecursion (IsLedTo kids roots) after
+    next_led led =
+        subst (AllByRecursion (IsLedTo kids roots)) (sym is)
+        (each_distinct (IsLedTo kids roots) (ps ++ kids x)
+        (each-append (IsLedTo kids roots) ps (kids x) led
+        (every_is_among (IsLedTo kids roots) (kids x) (λ c among. child_led c (each_at (IsLedTo kids roots) ps at x here led) among))))
+
+  -- what holds of the pairs and of the children of the next holds of all that are found
+  pub next_each : (P : Pair → Type 0) (ps : List Pair) (x : Pair) (after : List Pair) → after ≡ distinct (ps ++ kids x) → AllByRecursion P ps → ((y : Pair) → IsAmong y (kids x) → P y) → AllByRecursion P after
+  next_each P ps x after is each more = subst (AllByRecursion P) (sym is) (each_distinct P (ps ++ kids x) (each-append P ps (kids x) each (every_is_among P (kids x) more)))
+
+  module _ (ps : List Pair) (in_order : ps ≡ distinct (roots ++ flat_map kids ps)) where
+    -- what is found stands in the list
+    among_found : (y : Pair) → IsAmong y (roots ++ flat_map kids ps) → IsAmong y ps
+    among_found y among = subst (IsAmong y) (sym in_order) (among_distinct y (roots ++ flat_map kids ps) among)
+
+    pub all_closed : AreClosed kids ps
+    all_closed = each_flat kids ps ps (λ y among. among_found y (append_right y roots (flat_map kids ps) among))
+
+    led_among : (root : Pair) → IsAmong root roots → (p : Pair) → LeadsTo kids root p → IsAmong p ps
+    led_among root first p itself = among_found root (append_left root roots (flat_map kids ps) first)
+    led_among root first p (onwards above child leads among) =
+        among_each (λ y. IsAmong y ps) child (kids above) among
+        (among_each (λ q. AllByRecursion (λ y. IsAmong y ps) (kids q)) above ps (led_among root first above leads) all_closed)
+
+    all_led : (p : Pair) → IsLedTo kids roots p → IsAmong p ps
+    all_led p led = led_among led.root led.among p led.leads
+
+  -- all are found
+  pub all_found : (ps : List Pair) (at : ℕ) → take at ps ≡ ps → ps ≡ found_to at ps → AllByRecursion (IsLedTo kids roots) ps → IsReachedFrom kids roots ps
+  all_found ps at past so_far led =
+      let in_order : ps ≡ distinct (roots ++ flat_map kids ps) = so_far ∙ ap (λ qs. distinct (roots ++ flat_map kids qs)) past in
+      record {
+        in_order = in_order;
+        led_to = led;
+        all = all_led ps in_order;
+      }
+
+-- one root leads to its own pairs alone
+one_leads : (kids : Pair → List Pair) (root p : Pair) → IsLedTo kids (root ∷ []) p → LeadsTo kids root p
+one_leads kids root p led = subst (λ r. LeadsTo kids r p) (⊎_elim (λ same. same) (λ none. absurd none) led.among) led.leads
+
+pub from_one_root : FromOneRoot
+from_one_root kids root ps reached = record {
+  in_order = reached.in_order;
+  led_to = each_weaker (IsLedTo kids (root ∷ [])) (LeadsTo kids root) (λ p led. one_leads kids root p led) ps reached.led_to;
+  all = λ p leads. reached.all p (record { root = root; among = inl refl; leads = leads });
+}

@@ -1,0 +1,13 @@
+pub mod Backwards
+pub mod ChildrenHome
+pub mod FieldsHome
+pub mod Gathering
+pub mod Home
+pub mod HomeComparands
+pub mod HomeExamples
+pub mod HomeMessage
+pub mod Outside
+pub mod ReadBack
+pub mod RelayedRecords
+pub mod ReturnSteps
+pub mod Returned

@@ -1,0 +1,64 @@
+-- Messages come home: by induction over the message.
+use Rattle.std.proofs.Common.{◌≡◌, ℕ, length, true, Some, sym, ◌∙◌, true≢false}
+use Rattle.std.proofs.lemmas.Bool.{false_from_ne_true}
+use Rattle.pg_schema.specs.declared.parts.field.TypeId.{TypeId}
+use Rattle.pg_schema.specs.Shape.{Shape, IsShape}
+use Rattle.pg_dyn.specs.Message.{Message, ends, holds, nests}
+use Rattle.pg_dyn.specs.encoding.Encoding.{enc}
+use Rattle.pg_dyn.specs.reading.Decoding.{dec}
+use Rattle.pg_dyn.specs.Comparison.{View}
+use Rattle.pg_dyn.specs.Breaking.{Compatible, is_kept}
+use Rattle.pg_pairs.specs.home.Home.{home, comes_home}
+use Rattle.pg_dyn.specs.Laws.{ReadsAgain}
+use Rattle.pg_dyn.specs.ViewNames.{KeptByNumber}
+use Rattle.pg_pairs.proofs.lemmas.bounds.Dearer.{CompatibleTo}
+use Rattle.pg_pairs.proofs.lemmas.home.ChildrenHome.{ComesHome, ChildrenComeHome}
+use Rattle.pg_pairs.specs.home.ComesHome.{MessagesComeHome}
+use Rattle.pg_pairs.proofs.lemmas.home.HomeMessage.{comes}
+
+module _ (reads_again : ReadsAgain) (old new : Shape) (shape_old : IsShape old) (shape_new : IsShape new) where
+  from_children : (v : Message) → ChildrenComeHome old new v → ComesHome old new v
+  from_children v come a b fine returns is plain small w read is_new small_new =
+      comes old new a b v w
+      (record {
+        reads_again = reads_again;
+        shape_old = shape_old;
+        shape_new = shape_new;
+        is_message = is;
+        is_plain = plain;
+        has_encoding = small;
+        fine = fine;
+        returns = returns;
+        come = come;
+        is_read = read;
+        is_new = is_new;
+        new_encoding = small_new;
+      })
+
+  each_child : (v : Message) → ChildrenComeHome old new v
+  each_child (ends unknown) = tt
+  each_child (holds number key leaf later) = each_child later
+  each_child (nests number key child later) = (from_children child (each_child child), each_child later)
+
+  pub every_message : (v : Message) → ComesHome old new v
+  every_message v = from_children v (each_child v)
+
+home_from : (old new : Shape) (a b : TypeId) (v w x : Message) → dec new b (enc old a v) ≡ Some w → dec old a (enc new b w) ≡ Some x → home old new a b v x ≡ true → comes_home old new a b v ≡ true
+unfolding comes_home
+home_from old new a b v w x read again is_home = rw (read, again) is_home
+
+-- What is compatible under a view is so by number, up to any length.
+by_number : KeptByNumber → (view : View) (old new : Shape) (a b : TypeId) (n : ℕ) → Compatible view old new a b → CompatibleTo n old new a b
+by_number kept_by_number view old new a b n compatible u breaks =
+    absurd
+    (compatible u (record {
+      is_message = breaks.is_message;
+      is_plain = breaks.is_plain;
+      has_encoding = breaks.has_encoding;
+      not_kept = false_from_ne_true (is_kept view old new a b u) (λ kept. true≢false (sym (kept_by_number view old new a b u kept) ∙ breaks.not_kept));
+    }))
+
+pub messages_come_home : ReadsAgain → KeptByNumber → MessagesComeHome
+messages_come_home reads_again kept_by_number view old new pair shape_old shape_new compatible returns v is plain small w read is_new small_new =
+    let (x, again, is_home) = every_message reads_again old new shape_old shape_new v pair.old pair.new (by_number kept_by_number view old new pair.old pair.new (length (enc old pair.old v)) compatible) returns is plain small w read is_new small_new in
+    home_from old new pair.old pair.new v w x read again is_home

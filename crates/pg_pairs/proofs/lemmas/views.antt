@@ -1,0 +1,5 @@
+pub mod FoundValues
+pub mod LeastByName
+pub mod LeastNumberLaws
+pub mod NameLaws
+pub mod NamedViews

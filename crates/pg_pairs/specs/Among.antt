@@ -1,6 +1,0 @@
--- What stands in a list.
-use Rattle.std.specs.Prelude.{◌≡◌, List, [], ◌∷◌, ◌⊎◌}
-
-abbrev pub IsAmong : {A : Type 0} → A → List A → Type 0
-IsAmong x [] = ⊥
-IsAmong x (y ∷ ys) = (x ≡ y) ⊎ IsAmong x ys

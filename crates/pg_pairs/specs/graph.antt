@@ -1,0 +1,10 @@
+pub mod ByIndices
+pub mod CauseLaws
+pub mod EdgeChildren
+pub mod Edges
+pub mod FirstSeen
+pub mod GraphView
+pub mod LeastOf
+pub mod Reached
+pub mod Seen
+pub mod Works

@@ -1,0 +1,24 @@
+-- The law that messages come home.
+use Rattle.std.specs.Prelude.{◌≡◌, ◌≤◌, length, true, Some}
+use Rattle.pg_schema.specs.Shape.{Shape, IsShape}
+use Rattle.pg_dyn.specs.Message.{Message, IsPlain}
+use Rattle.pg_dyn.specs.encoding.Encoding.{cap, enc}
+use Rattle.pg_dyn.specs.reading.Decoding.{dec}
+use Rattle.pg_dyn.specs.Belonging.{IsMessage}
+use Rattle.pg_dyn.specs.Comparison.{View}
+use Rattle.pg_dyn.specs.Breaking.{Compatible}
+use Rattle.pg_pairs.specs.declared.choices.choice.Pair.{Pair}
+use Rattle.pg_pairs.specs.home.Returns.{Returns}
+use Rattle.pg_pairs.specs.home.Home.{comes_home}
+
+-- Where two types are compatible under a view and the pair returns, each plain message of the old type comes home: of
+-- its bytes, where the new type reads them as a message that has an encoding, the old type's reader sees, after they
+-- have been relayed, what is home.
+abbrev pub MessagesComeHome : Type 0
+MessagesComeHome =
+    (view : View) (old new : Shape) (pair : Pair) → IsShape old → IsShape new →
+    Compatible view old new pair.old pair.new → Returns old new pair →
+    (v : Message) → IsMessage old pair.old v → IsPlain v → length (enc old pair.old v) ≤ cap →
+    (w : Message) → dec new pair.new (enc old pair.old v) ≡ Some w → IsMessage new pair.new w →
+    length (enc new pair.new w) ≤ cap →
+    comes_home old new pair.old pair.new v ≡ true

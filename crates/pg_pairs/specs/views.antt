@@ -1,0 +1,5 @@
+pub mod EnumView
+pub mod LeastNumbers
+pub mod MissingNames
+pub mod NamedView
+pub mod ViewLaws

@@ -1,0 +1,5 @@
+pub mod Carried
+pub mod CarriedChoices
+pub mod CarriedItems
+pub mod Comparing
+pub mod HeldItems
