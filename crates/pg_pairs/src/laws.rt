@@ -4,10 +4,8 @@ ghost use Rattle.pg_pairs.specs.witness.CarriedChoices.{EachChildCostsLess, Each
 ghost use Rattle.pg_pairs.specs.graph.CauseLaws.{CausesAreOwn, NamesAlone, PricesAreNear};
 ghost use Rattle.pg_pairs.specs.choices.CheapestLaws.{CheapestIsLeast};
 ghost use Rattle.pg_pairs.specs.home.ComesHome.{MessagesComeHome};
-ghost use Rattle.pg_pairs.specs.bounds.Contents.{ContentsCost};
-ghost use Rattle.pg_pairs.specs.bounds.CoversByNumber.{CoversByNumber};
 ghost use Rattle.pg_pairs.specs.graph.Edges.{LeastCostsByEdges, PairsLeadToPairs, SchemasArePriced};
-ghost use Rattle.pg_pairs.specs.gaps.ElementGaps.{ElementGaps, UnseenAreNotZero};
+ghost use Rattle.pg_pairs.specs.gaps.ZeroSeen.{UnseenAreNotZero};
 ghost use Rattle.pg_pairs.specs.bounds.FieldCosts.{ChildrenCost, ListsCost, MapsCost, SingleScalarsCost};
 ghost use Rattle.pg_pairs.specs.gaps.TrueGaps.{GapTable};
 ghost use Rattle.pg_pairs.specs.home.HomeExamples.{HomeExamples};
@@ -38,12 +36,6 @@ pub fn gap_table()
     ensures { GapTable }
 {}
 
-/// The gap between any two like elements that are no messages, under any view of enum items, is a
-/// least item that isn't seen; where there is none each is seen.
-pub fn element_gaps()
-    ensures { ElementGaps }
-{}
-
 /// An item that the reader of a like element doesn't read as the same item isn't zero, under any
 /// view; of two enums where the view finds 0 alike.
 pub fn unseen_are_not_zero()
@@ -65,12 +57,6 @@ pub fn numbers_are_alike()
 /// there too.
 pub fn sees(_graph: &Priced<'_>)
     ensures { IsEnumView (seen _graph.now) }
-{}
-
-/// A content that breaks alone has at least the bytes of one of its field's choices: of scalars,
-/// lists and maps, and of children that are as long as the table says.
-pub fn contents_cost()
-    ensures { ContentsCost }
 {}
 
 /// A message that breaks with one scalar or enum in a singular field alone has at least the bytes
@@ -103,11 +89,6 @@ pub fn covering_bounds()
 /// A pair whose bound is 'none' in such a table is compatible.
 pub fn none_is_compatible()
     ensures { NoneIsCompatible }
-{}
-
-/// A table that covers a pair under any view covers it by number.
-pub fn covers_by_number()
-    ensures { CoversByNumber }
 {}
 
 /// The message of a choice breaks and has the choice's cost, if its child, where it has one, breaks

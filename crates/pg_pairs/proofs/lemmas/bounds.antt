@@ -4,7 +4,6 @@ pub mod AcrossPlain
 pub mod Broken
 pub mod ChildTests
 pub mod Comparands
-pub mod CoversByNumber
 pub mod Dearer
 pub mod Decisions
 pub mod Exact

@@ -1,4 +1,3 @@
-pub mod ElementGaps
 pub mod GapItems
 pub mod Gaps
 pub mod KindsRead
@@ -6,4 +5,5 @@ pub mod Leaves
 pub mod Lengths
 pub mod Likeness
 pub mod Likes
+pub mod ZeroSeen
 pub mod Zeros
