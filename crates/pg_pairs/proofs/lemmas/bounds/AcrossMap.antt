@@ -29,7 +29,8 @@ use Rattle.pg_dyn.proofs.PublicLaws.{entry_bodies_read, rising_entries_stay}
 -- whether the record of an entry has a reading
 abbrev pub is_entry_readable : Reader → Scalar → Element → WireRecord → Bool
 is_entry_readable child l d r =
-    is_some (option_and_then (λ rs. if all_plain_readable child (key_field l ∷ value_field d ∷ []) rs then Some rs else None) (option_from (records_of r.body)))
+    is_some (option_and_then (λ rs. if all_plain_readable child (key_field l ∷ value_field d ∷ []) rs then Some rs else None)
+    (option_from (records_of r.body)))
 
 -- One entry: written with a key of type k and an element e, read with l and d.
 module _ (child : Reader) (k l : Scalar) (e d : Element) (key value : Leaf)
@@ -55,7 +56,8 @@ module _ (child : Reader) (k l : Scalar) (e d : Element) (key value : Leaf)
 
   abbrev IsReadIn : List ℕ → Type 0
   IsReadIn bytes =
-      (records_of bytes ≡ Ok (two_records l d key_bytes value_bytes)) × ((number : ℕ) → entry_in l d (written number Len bytes) ≡ Some (key, value))
+      (records_of bytes ≡ Ok (two_records l d key_bytes value_bytes))
+      × ((number : ℕ) → entry_in l d (written number Len bytes) ≡ Some (key, value))
 
   entry_read : length (entry_bytes k e key value) < 2 ^ 64 → IsReadIn (entry_bytes k e key value)
   entry_read =
@@ -80,9 +82,12 @@ module _ (child : Reader) (k l : Scalar) (e d : Element) (key value : Leaf)
 -- what is known of a map field
 pub record IsMap (child : Reader) (g : FieldShape) (l : Scalar) : Type 0 where
   pub accepts : (bytes : List ℕ) → is_accepted g (written g.number Len bytes) ≡ true
-  pub content_is : (rs : List WireRecord) → content g rs ≡ option_map (λ es. map (λ (e : Leaf × Leaf). record { number = g.number; key = Some e.0; item = e.1 }) (by_key es)) (all_some (map (entry_in l g.element) rs))
+  pub content_is : (rs : List WireRecord) → content g rs
+      ≡ option_map (λ es. map (λ (e : Leaf × Leaf). record { number = g.number; key = Some e.0; item = e.1 }) (by_key es))
+      (all_some (map (entry_in l g.element) rs))
   pub readable_is : (r : WireRecord) → is_readable child g r ≡ is_entry_readable child l g.element r
-  pub records_are : (qs : List (Part Leaf)) → field_records g qs ≡ map (λ (q : Part Leaf). written g.number Len (entry_bytes l g.element (key_of l q) q.item)) qs
+  pub records_are : (qs : List (Part Leaf)) → field_records g qs
+      ≡ map (λ (q : Part Leaf). written g.number Len (entry_bytes l g.element (key_of l q) q.item)) qs
 
 is_map_of : (child : Reader) (number : ℕ) (l : Scalar) (d : Element) (oneof : Option ℕ) → IsMap child (record { number = number; presence = presences.Map l; element = d; oneof = oneof }) l
 unfolding written

@@ -60,7 +60,8 @@ pub record IsUnpacked (f : FieldShape) : Type 0 where
 -- one record for a list that isn't empty
 pub record IsPackedList (f : FieldShape) : Type 0 where
   pub none : field_records f [] ≡ []
-  pub one : (q : Part Leaf) (qs : List (Part Leaf)) → field_records f (q ∷ qs) ≡ written f.number Len (flat_map (λ (r : Part Leaf). body (form f.element) r.item) (q ∷ qs)) ∷ []
+  pub one : (q : Part Leaf) (qs : List (Part Leaf)) → field_records f (q ∷ qs)
+      ≡ written f.number Len (flat_map (λ (r : Part Leaf). body (form f.element) r.item) (q ∷ qs)) ∷ []
 
 packable_child : (child : Reader) (e : Element) (bytes : List ℕ) → is_packable e ≡ true → is_child child e bytes ≡ true
 packable_child child (elements.Scalar s) bytes h = refl
@@ -95,7 +96,8 @@ module _ (view : View) (child : Reader) (f g : FieldShape) (numbers : f.number �
 
   -- the content of a list, or of at most one item
   abbrev pub IsTakenWhole : List Comparand → Type 0
-  IsTakenWhole cs = (if is_repeated g.presence then map (λ (c : Comparand). c.written) cs else last_item g.presence g.element (map (λ (c : Comparand). c.written) cs)) ≡ map (λ (c : Comparand). c.written) cs
+  IsTakenWhole cs = (if is_repeated g.presence then map (λ (c : Comparand). c.written) cs
+      else last_item g.presence g.element (map (λ (c : Comparand). c.written) cs)) ≡ map (λ (c : Comparand). c.written) cs
 
   pub across_unpacked : IsUnpacked f → (cs : List Comparand) → AllByRecursion (Seen view child f g) cs → AllByRecursion (Sits g) cs → IsTakenWhole cs → Across child f g cs
   across_unpacked unpacked cs seen sits whole =

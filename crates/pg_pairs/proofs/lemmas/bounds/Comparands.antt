@@ -72,7 +72,8 @@ length-entry_bytes k e key value =
 -- an entry costs at least as much as one with bodies that are no longer
 abbrev pub EntryCosts : FieldShape → Scalar → ℕ → Comparand → Type 0
 EntryCosts f k n c =
-    (a b : ℕ) → a ≤ body_length (form (elements.Scalar k)) (key_of k (writes c)) → b ≤ body_length (form f.element) c.written → entry_cost f.number a b ≤ n
+    (a b : ℕ) → a ≤ body_length (form (elements.Scalar k)) (key_of k (writes c)) → b ≤ body_length (form f.element) c.written →
+    entry_cost f.number a b ≤ n
 
 pub entry_costs : (child : Reader) (f : FieldShape) (k : Scalar) → f.presence ≡ presences.Map k → (cs : List Comparand) → AllByRecursion (EntryCosts f k (total f cs)) cs
 entry_costs child f k is cs =

@@ -276,7 +276,8 @@ module _ (enum_view : EnumView) (law : IsEnumView enum_view) (table : Table) (ch
       }
 
   abbrev KeyGaps : Scalar → Scalar → Type 0
-  KeyGaps k l = Allowed (choice_of number cases.Map 1 (option_map (λ body. entry_cost number body (least_body e)) (gap_body enum_view true (elements.Scalar k) (elements.Scalar l))))
+  KeyGaps k l = Allowed (choice_of number cases.Map 1
+      (option_map (λ body. entry_cost number body (least_body e)) (gap_body enum_view true (elements.Scalar k) (elements.Scalar l))))
 
   abbrev ValueGaps : Scalar → Type 0
   ValueGaps k = Allowed (choice_of number cases.Map 2 (option_map (one_item (old (presences.Map k))) (gap_body enum_view true e d)))

@@ -85,7 +85,8 @@ module _ (enum_view : EnumView) (law : IsEnumView enum_view) (old new : Shape) (
       (n : ℕ) (found_old : field_at (fields old a) n ≡ Some f) (found_new : field_at (fields new b) n ≡ Some g) (there : IsThere table (pair_of s t)) where
     abbrev Bounded : Comparand → Type 0
     Bounded c =
-        (bytes : List ℕ) (test : Message → Bool) → c.written ≡ Bytes bytes → c.expected ≡ Kept test → is_child_kept (dec new) t test bytes ≡ false →
+        (bytes : List ℕ) (test : Message → Bool) → c.written ≡ Bytes bytes → c.expected ≡ Kept test → is_child_kept (dec new) t test bytes
+        ≡ false →
         (x : ℕ) × (number_for table (pair_of s t) ≡ Some x) × (x ≤ length bytes)
 
     -- at the field's own types
@@ -181,7 +182,8 @@ module _ (enum_view : EnumView) (law : IsEnumView enum_view) (old new : Shape) (
 
     -- each field alone is kept, or the bound is reached
     abbrev FineAt : FieldShape → Type 0
-    FineAt f = (g : FieldShape) → field_at gs f.number ≡ Some g → is_field_kept enum_view.alike (dec new) f g (comparands_at f.number cs) ≡ true
+    FineAt f = (g : FieldShape) → field_at gs f.number ≡ Some g → is_field_kept enum_view.alike (dec new) f g (comparands_at f.number cs)
+        ≡ true
 
     fine_or : (f : FieldShape) → field_at fs f.number ≡ Some f → FineAt f ⊎ Goal
     fine_or f found = of (field_at gs f.number) refl

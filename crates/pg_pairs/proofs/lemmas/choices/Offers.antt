@@ -15,7 +15,8 @@ use Rattle.pg_pairs.specs.choices.Choices.{Table, all_choices, child_body, choic
 -- The parts of a field's choices.
 
 abbrev pub gap_choice : EnumView → FieldShape → FieldShape → List Choice
-gap_choice enum_view f g = choice_of f.number cases.Gap 0 (option_map (one_item f) (gap_body enum_view (zero_counts f g) f.element g.element))
+gap_choice enum_view f g = choice_of f.number cases.Gap 0
+    (option_map (one_item f) (gap_body enum_view (zero_counts f g) f.element g.element))
 
 abbrev pub child_choice : Table → FieldShape → FieldShape → List Choice
 child_choice table f g = choice_of f.number cases.Child 0 (option_map (one_item f) (child_body table f.element g.element))
@@ -27,7 +28,8 @@ abbrev pub like_choices : EnumView → Table → FieldShape → FieldShape → L
 like_choices enum_view table f g = gap_choice enum_view f g ++ child_choice table f g ++ list_choice f g
 
 abbrev pub key_choice : EnumView → FieldShape → Scalar → Scalar → List Choice
-key_choice enum_view f k l = choice_of f.number cases.Map 1 (option_map (λ body. entry_cost f.number body (least_body f.element)) (gap_body enum_view true (elements.Scalar k) (elements.Scalar l)))
+key_choice enum_view f k l = choice_of f.number cases.Map 1
+    (option_map (λ body. entry_cost f.number body (least_body f.element)) (gap_body enum_view true (elements.Scalar k) (elements.Scalar l)))
 
 abbrev pub value_choice : EnumView → FieldShape → FieldShape → List Choice
 value_choice enum_view f g = choice_of f.number cases.Map 2 (option_map (one_item f) (gap_body enum_view true f.element g.element))

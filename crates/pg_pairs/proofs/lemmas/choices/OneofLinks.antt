@@ -90,7 +90,8 @@ module _ (gs : List FieldShape) (list : List Field) where
   -- what was put out with what is left makes the total, and the next one is in the new oneof
   pub record Follows (a : FieldShape) (total now : List Choice) (later : ℕ) : Type 0 where
     pub so_far : now ++ affordable (joined_from gs a list later) ≡ total
-    pub member : (b : Field) → later < length list → b ≡ slice_index_or list later b → same_oneof (new_oneof gs a) (new_oneof gs (field_shape b)) ≡ true
+    pub member : (b : Field) → later < length list → b ≡ slice_index_or list later b →
+        same_oneof (new_oneof gs a) (new_oneof gs (field_shape b)) ≡ true
 
   module _ (a : FieldShape) (b : Field) (total now : List Choice) (later : ℕ) (inside : later < length list) (is : b ≡ slice_index_or list later b) (f : Follows a total now later) where
     new_is : new_oneof gs a ≡ new_oneof gs (field_shape b)

@@ -106,7 +106,8 @@ no_text (F64 bits) h unseen = absurd h
 -- With zero among the items, the least is that over all of them, and it isn't zero.
 abbrev IsTrueOfAll : Scalar → Scalar → Gap → Type 0
 IsTrueOfAll s t gaps.Unlike = like (elements.Scalar s) (elements.Scalar t) ≡ false
-IsTrueOfAll s t gaps.None = (like (elements.Scalar s) (elements.Scalar t) ≡ true) × IsGapItem numbers true (elements.Scalar s) (elements.Scalar t) None
+IsTrueOfAll s t gaps.None = (like (elements.Scalar s) (elements.Scalar t) ≡ true)
+    × IsGapItem numbers true (elements.Scalar s) (elements.Scalar t) None
 IsTrueOfAll s t (gaps.Least length value) =
     (like (elements.Scalar s) (elements.Scalar t) ≡ true) × (body_length (scalar_form s) (item_named (scalar_form s) value) ≡ length)
     × IsGapItem numbers true (elements.Scalar s) (elements.Scalar t) (Some (item_named (scalar_form s) value))

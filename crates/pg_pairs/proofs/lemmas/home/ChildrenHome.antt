@@ -45,7 +45,8 @@ Comes old new a b v w = (x : Message) × (dec old a (enc new b w) ≡ Some x) ×
 -- The message comes home between types that are compatible up to its length.
 abbrev pub ComesHome : Shape → Shape → Message → Type 0
 ComesHome old new v =
-    (a b : TypeId) → CompatibleTo (length (enc old a v)) old new a b → Returns old new (pair_of a b) → IsMessage old a v → IsPlain v → length (enc old a v) ≤ cap →
+    (a b : TypeId) → CompatibleTo (length (enc old a v)) old new a b → Returns old new (pair_of a b) → IsMessage old a v → IsPlain v →
+    length (enc old a v) ≤ cap →
     (w : Message) → dec new b (enc old a v) ≡ Some w → IsMessage new b w → length (enc new b w) ≤ cap → Comes old new a b v w
 
 -- each child does

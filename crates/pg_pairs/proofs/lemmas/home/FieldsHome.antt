@@ -27,7 +27,8 @@ use Rattle.pg_pairs.proofs.lemmas.gaps.Likes.{like_self}
 use Rattle.pg_pairs.proofs.lemmas.bounds.Ways.{plain_across}
 
 -- The field reads these records, and shows what it should.
-pub record FieldComes (child : Reader) (f : FieldShape) (beside : Option FieldShape) (homing : List (Part Expected)) (rs : List WireRecord) : Type 0 where
+pub record FieldComes (child : Reader) (f : FieldShape) (beside : Option FieldShape) (homing : List (Part Expected))
+    (rs : List WireRecord) : Type 0 where
   pub readable : all_field_readable child f rs ≡ true
   pub made : List (Part Item)
   pub read : field_read child f rs ≡ Some made

@@ -368,7 +368,8 @@ module _ (old new : Shape) (a b : TypeId) (v w : Message) (goes : Goes old new a
   readable f found = (field_comes f found).readable
 
   abbrev come_home : Message
-  come_home = the_message (dec old) fs (fields_are_found.0 old a goes.shape_old).rising (again old new a b v w goes) (at_number old new a b v w goes) (λ f found. refl) (old_apart old new a b v w goes) made readable read_made
+  come_home = the_message (dec old) fs (fields_are_found.0 old a goes.shape_old).rising (again old new a b v w goes)
+      (at_number old new a b v w goes) (λ f found. refl) (old_apart old new a b v w goes) made readable read_made
 
   is_read_home : dec old a (enc new b w) ≡ Some come_home
   is_read_home =

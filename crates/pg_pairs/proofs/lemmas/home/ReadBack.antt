@@ -127,7 +127,8 @@ text_raw (Bytes bytes) = refl
 
 abbrev OneBody : Scalar → Scalar → Type 0
 OneBody s t =
-    (item : Leaf) → like (elements.Scalar s) (elements.Scalar t) ≡ true → is_bool_of_zigzag (elements.Scalar s) (elements.Scalar t) ≡ false → InRange (scalar_form s) item →
+    (item : Leaf) → like (elements.Scalar s) (elements.Scalar t) ≡ true → is_bool_of_zigzag (elements.Scalar s) (elements.Scalar t)
+    ≡ false → InRange (scalar_form s) item →
     leaf_in (scalar_form t) (body (scalar_form s) item) ≡ Some item → body (scalar_form t) item ≡ body (scalar_form s) item
 
 one_body : (s t : Scalar) → OneBody s t

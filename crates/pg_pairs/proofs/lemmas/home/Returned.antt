@@ -26,11 +26,22 @@ leaf_again shape type (Plain leaf) = leaf
 leaf_again shape type (Msg m) = Bytes (enc shape type m)
 
 abbrev pub part_again : Shape → TypeId → Part Item → Part Leaf
-part_again shape type p = record { number = p.number; key = p.key; item = leaf_again shape (child_type (fields shape type) p.number) p.item }
+part_again shape type p = record {
+  number = p.number;
+  key = p.key;
+  item =
+      leaf_again shape (child_type (fields shape type) p.number) p.item;
+}
 
 -- the comparand that the new type writes again
 abbrev pub returned : Shape → Element → Comparand → Comparand
-returned new d h = record { number = h.number; key = h.key; written = leaf_again new (element_type d) (item_read (dec new) d h.written); expected = h.expected }
+returned new d h = record {
+  number = h.number;
+  key = h.key;
+  written =
+      leaf_again new (element_type d) (item_read (dec new) d h.written);
+  expected = h.expected;
+}
 
 -- an item of a message that has an encoding
 abbrev pub IsGood : Shape → TypeId → Item → Type 0
@@ -43,7 +54,8 @@ ComesBack old new (elements.Scalar s) d h = InRange (form (elements.Scalar s)) h
 ComesBack old new (elements.Enum s) d h = InRange (form (elements.Enum s)) h.written × (h.expected ≡ Alike h.written)
 ComesBack old new (elements.Message s) (elements.Message t) h =
     (bytes : List ℕ) × (test : Message → Bool) × (h.written ≡ Bytes bytes) × (h.expected ≡ Kept test)
-    × ((m : Message) → dec new t bytes ≡ Some m → IsGood new t (Msg m) → (x : Message) × (dec old s (enc new t m) ≡ Some x) × (test x ≡ true))
+    × ((m : Message) → dec new t bytes ≡ Some m → IsGood new t (Msg m) →
+    (x : Message) × (dec old s (enc new t m) ≡ Some x) × (test x ≡ true))
 ComesBack old new (elements.Message s) (elements.Scalar t) h = ⊤
 ComesBack old new (elements.Message s) (elements.Enum t) h = ⊤
 

@@ -44,7 +44,9 @@ use Rattle.pg_pairs.proofs.lemmas.witness.CarryUnlikeMaps.{far_in_range, far_len
 module _ (enum_view : EnumView) (law : IsEnumView enum_view) (old new : Shape) (shape_old : IsShape old) (shape_new : IsShape new) (table : Table) (pair : Pair) where
   -- A choice of that cost whose messages are made so is reached by them.
   abbrev pub IsCarried : Option Pair → (Option Message → Message) → ℕ → Type 0
-  IsCarried wanted made cost = cost ≤ cap → ChildThere table wanted cost × ((child : Option Message) → ChildReached enum_view old new table wanted child → ReachedBy enum_view old new pair (made child) cost)
+  IsCarried wanted made cost = cost ≤ cap →
+      ChildThere table wanted cost × ((child : Option Message) → ChildReached enum_view old new table wanted child →
+      ReachedBy enum_view old new pair (made child) cost)
 
   abbrev pub CarriesField : FieldShape → FieldShape → Choice → Type 0
   CarriesField f g c = IsCarried (field_child f g c.case c.part) (carried_field enum_view f g c.case c.part) c.cost

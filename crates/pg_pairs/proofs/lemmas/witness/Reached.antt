@@ -28,7 +28,9 @@ use Rattle.pg_dyn.proofs.PublicLaws.{fields_are_found}
 module _ (enum_view : EnumView) (law : IsEnumView enum_view) (old new : Shape) (shape_old : IsShape old) (shape_new : IsShape new) (table : Table) (pair : Pair) where
   -- two fields that meet stand in order, and not in one old oneof
   abbrev pub AreApart : Choice → Type 0
-  AreApart c = is_oneof c.case ≡ true → (c.number < c.part) × ((f e : FieldShape) → field_at (fields old pair.old) c.number ≡ Some f → field_at (fields old pair.old) c.part ≡ Some e → same_oneof f.oneof e.oneof ≡ false)
+  AreApart c = is_oneof c.case ≡ true →
+      (c.number < c.part) × ((f e : FieldShape) → field_at (fields old pair.old) c.number ≡ Some f → field_at (fields old pair.old) c.part
+      ≡ Some e → same_oneof f.oneof e.oneof ≡ false)
 
   -- the fields of both types that a choice stands in, and of two that meet the second
   pub record Stands (c : Choice) : Type 0 where
@@ -40,7 +42,9 @@ module _ (enum_view : EnumView) (law : IsEnumView enum_view) (old new : Shape) (
     pub second : is_oneof c.case ≡ true → (e : FieldShape) × (field_at (fields old pair.old) c.part ≡ Some e)
 
   abbrev CarriesChoice : Choice → Type 0
-  CarriesChoice c = AreApart c × Stands c × IsCarried enum_view law old new shape_old shape_new table pair (choice_child old new pair c) (carried enum_view old new pair c) c.cost
+  CarriesChoice c = AreApart c × Stands c
+      × IsCarried enum_view law old new shape_old shape_new table pair (choice_child old new pair c)
+      (carried enum_view old new pair c) c.cost
 
   fits_old : (n : ℕ) (x : FieldShape) → field_at (fields old pair.old) n ≡ Some x → PresenceFits x.presence x.element x.oneof
   fits_old n x found = (each_at (IsField (length old)) (fields old pair.old) n x found (fields_are_found.0 old pair.old shape_old).each).presence_fits
@@ -166,7 +170,9 @@ module _ (enum_view : EnumView) (law : IsEnumView enum_view) (old new : Shape) (
 
   -- what is known of a choice that an encoding may have
   abbrev Known : Choice → Type 0
-  Known c = AreApart c × Stands c × ChildThere table (choice_child old new pair c) c.cost × ((child : Option Message) → ChildReached enum_view old new table (choice_child old new pair c) child → ReachedBy enum_view old new pair (carried enum_view old new pair c child) c.cost)
+  Known c = AreApart c × Stands c × ChildThere table (choice_child old new pair c) c.cost
+      × ((child : Option Message) → ChildReached enum_view old new table (choice_child old new pair c) child →
+      ReachedBy enum_view old new pair (carried enum_view old new pair c child) c.cost)
 
   kept_each : (cs : List Choice) → AllByRecursion CarriesChoice cs → AllByRecursion Known (filter (λ (c : Choice). nat_le c.cost cap) cs)
   kept_each [] h = tt

@@ -261,7 +261,8 @@ parts_shown hidden n (kept.nests number key listed child later) =
 module _ (view : View) (old new : Shape) (a b : TypeId) where
   abbrev item_expected : ℕ → KeptItem → Expected
   item_expected n (kept.Plain listed leaf) = Alike leaf
-  item_expected n (kept.Msg listed m) = comparison.Kept (same view old new (child_type (fields old a) n) (child_type (fields new b) n) (message_of m))
+  item_expected n (kept.Msg listed m) =
+      comparison.Kept (same view old new (child_type (fields old a) n) (child_type (fields new b) n) (message_of m))
 
   expected_shown : (hidden : Bool) (n : ℕ) (m : Kept) → shown is_zero_expected hidden n (expected view old new a b (message_of m)) ≡ map (put_in item_expected) (filter (is_shown_part hidden) (of_number n m))
   unfolding same

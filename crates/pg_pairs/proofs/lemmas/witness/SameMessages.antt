@@ -93,7 +93,8 @@ module _ (view : ViewName) (old new : Parts) (v w : Kept) where
   same_by f = is_same_beside view old new v w f (field_at (fields (shape_of new) (type_of w)) f.number)
 
   abbrev outside_same : Bool
-  outside_same = bytes_eq (bytes_of (records_outside (fields (shape_of new) (type_of w)) (unknown_of w))) (unshared_bytes (shape_of old) (type_of v) (fields (shape_of new) (type_of w)) (message_of v))
+  outside_same = bytes_eq (bytes_of (records_outside (fields (shape_of new) (type_of w)) (unknown_of w)))
+      (unshared_bytes (shape_of old) (type_of v) (fields (shape_of new) (type_of w)) (message_of v))
 
   same_is : is_same view old new v w ≡ (list_all same_by (fields (shape_of old) (type_of v)) && outside_same)
   unfolding same

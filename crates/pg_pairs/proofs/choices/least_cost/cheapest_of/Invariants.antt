@@ -15,6 +15,7 @@ invariant-loop-at g l =
       place : l.at ≤ length l.list;
       found :
           l.found
-          ≡ cheapest (affordable (all_choices (seen l.graph) (g.T.Table.bounds l.table) (fields (shape_of l.graph.new.now) l.type_id) (map field_shape (drop l.at l.list))));
+          ≡ cheapest (affordable (all_choices (seen l.graph) (g.T.Table.bounds l.table) (fields (shape_of l.graph.new.now) l.type_id)
+          (map field_shape (drop l.at l.list))));
       kept : KeepsLeast (fields (shape_of l.graph.new.now) l.type_id) (map field_shape (drop l.at l.list)) l.kept;
     }

@@ -13,4 +13,5 @@ decreases-loop-later l = length l.list - l.later
 abbrev pub invariant-loop-later : goal.invariant-loop-later
 invariant-loop-later l =
     (gs : List FieldShape) → AreLinks gs l.list 0 l.links → (f : Field) → f ≡ slice_index_or l.list l.at f →
-    Follows gs l.list (field_shape f) (l.fn.choices.items ++ affordable (joined_from gs (field_shape f) l.list (suc l.at))) l.choices.items l.later
+    Follows gs l.list (field_shape f)
+    (l.fn.choices.items ++ affordable (joined_from gs (field_shape f) l.list (suc l.at))) l.choices.items l.later

@@ -7,5 +7,7 @@ use Rattle.pg_pairs.proofs.choices.option_list.choices_of.Given as goal
 
 abbrev pub invariant-loop-at : goal.invariant-loop-at
 invariant-loop-at g l =
-    l.choices.items ++ affordable (all_choices (seen l.graph) (g.T.Table.bounds l.table) (fields (shape_of l.graph.new.now) l.type_id) (map field_shape (drop l.at l.list)))
-    ≡ affordable (all_choices (seen l.graph) (g.T.Table.bounds l.table) (fields (shape_of l.graph.new.now) l.type_id) (map field_shape l.list))
+    l.choices.items ++ affordable (all_choices (seen l.graph) (g.T.Table.bounds l.table) (fields (shape_of l.graph.new.now) l.type_id)
+    (map field_shape (drop l.at l.list)))
+    ≡ affordable (all_choices (seen l.graph) (g.T.Table.bounds l.table) (fields (shape_of l.graph.new.now) l.type_id)
+    (map field_shape l.list))

@@ -7,4 +7,5 @@ use Rattle.pg_pairs.proofs.graph.priced.edges_of.Given as goal
 
 abbrev pub invariant-loop-field : goal.invariant-loop-field
 invariant-loop-field l =
-    l.edges.items ≡ flat_map (λ f. map (edge_to l.pair f) (children_beside f (field_at (fields (shape_of l.new) l.pair.new) f.number))) (map field_shape (take l.field-index l.list))
+    l.edges.items ≡ flat_map (λ f. map (edge_to l.pair f) (children_beside f (field_at (fields (shape_of l.new) l.pair.new) f.number)))
+    (map field_shape (take l.field-index l.list))

@@ -35,13 +35,17 @@ decreases-is_same_message l = 8 * weight l.message.now - 2
 
 abbrev pub invariant-are_same_contents-loop-number : goal.invariant-are_same_contents-loop-number
 invariant-are_same_contents-loop-number l =
-    AllByRecursion (λ (c : ℕ × ContentRef). is_same_if l.graph.view l.graph.old.now l.graph.new.now l.message l.read (field_at (fields (shape_of l.graph.old.now) (type_of l.message)) c.0) ≡ true) (take l.number-index l.contents)
+    AllByRecursion (λ (c : ℕ × ContentRef). is_same_if l.graph.view l.graph.old.now l.graph.new.now l.message l.read
+    (field_at (fields (shape_of l.graph.old.now) (type_of l.message)) c.0) ≡ true) (take l.number-index l.contents)
 
 abbrev pub invariant-are_same_others-loop-number : goal.invariant-are_same_others-loop-number
 invariant-are_same_others-loop-number l =
-    AllByRecursion (λ (c : ℕ × ContentRef). is_same_if l.graph.view l.graph.old.now l.graph.new.now l.message l.read (field_at (fields (shape_of l.graph.old.now) (type_of l.message)) c.0) ≡ true) (take l.number-index l.others)
+    AllByRecursion (λ (c : ℕ × ContentRef). is_same_if l.graph.view l.graph.old.now l.graph.new.now l.message l.read
+    (field_at (fields (shape_of l.graph.old.now) (type_of l.message)) c.0) ≡ true) (take l.number-index l.others)
 
 abbrev pub invariant-is_same_content-loop-at : goal.invariant-is_same_content-loop-at
 invariant-is_same_content-loop-at l =
-    all_match l.graph.view l.graph.old.now l.graph.new.now (field_shape l.fields.old.now) (field_shape l.fields.new.now) (drop l.at (keyed l.content)) (drop l.at (keyed l.read))
-    ≡ all_match l.graph.view l.graph.old.now l.graph.new.now (field_shape l.fields.old.now) (field_shape l.fields.new.now) (keyed l.content) (keyed l.read)
+    all_match l.graph.view l.graph.old.now l.graph.new.now (field_shape l.fields.old.now) (field_shape l.fields.new.now)
+    (drop l.at (keyed l.content)) (drop l.at (keyed l.read))
+    ≡ all_match l.graph.view l.graph.old.now l.graph.new.now (field_shape l.fields.old.now) (field_shape l.fields.new.now)
+    (keyed l.content) (keyed l.read)
