@@ -31,8 +31,7 @@ total f cs = length (bytes_of (field_records f (map writes cs)))
 abbrev pub HoldsItem : Element → Comparand → Type 0
 HoldsItem (elements.Message t) c =
     (bytes : List ℕ) × (test : Message → Bool) × (c.written ≡ Bytes bytes) × (c.expected ≡ Kept test)
-HoldsItem (elements.Scalar s) c = InRange (form (elements.Scalar s)) c.written × (c.expected ≡ Alike c.written)
-HoldsItem (elements.Enum s) c = InRange (form (elements.Enum s)) c.written × (c.expected ≡ Alike c.written)
+HoldsItem e c = InRange (form e) c.written × (c.expected ≡ Alike c.written)
 
 -- a part of that field's content
 pub record Holds (f : FieldShape) (c : Comparand) : Type 0 where
@@ -54,10 +53,9 @@ RisingKeys k (c ∷ cs) =
 
 -- a singular field has one part at most, a map's keys rise
 abbrev pub IsInOrder : Presence → List Comparand → Type 0
-IsInOrder presences.Implicit cs = IsAtMostOne cs
-IsInOrder presences.Explicit cs = IsAtMostOne cs
 IsInOrder (presences.Repeated packed) cs = ⊤
 IsInOrder (presences.Map k) cs = RisingKeys k cs
+IsInOrder p cs = IsAtMostOne cs
 
 abbrev pub passes : (Message → Bool) → Option Message → Bool
 passes test (Some m) = test m
@@ -73,10 +71,7 @@ ChildBound table child (elements.Message s) (elements.Message t) c =
     (bytes : List ℕ) (test : Message → Bool) → c.written ≡ Bytes bytes → c.expected ≡ Kept test →
     is_child_kept child t test bytes ≡ false →
     (x : ℕ) × (number_for table (record { old = s; new = t }) ≡ Some x) × (x ≤ length bytes)
-ChildBound table child (elements.Message s) (elements.Scalar t) c = ⊤
-ChildBound table child (elements.Message s) (elements.Enum t) c = ⊤
-ChildBound table child (elements.Scalar s) d c = ⊤
-ChildBound table child (elements.Enum s) d c = ⊤
+ChildBound table child e d c = ⊤
 
 -- what is known of the content of an old field beside the new one of its number: both fields keep to the rules of
 -- presence, the parts are of the old field and in order, and children that break are no shorter than the table says

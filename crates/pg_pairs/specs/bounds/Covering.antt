@@ -20,8 +20,7 @@ IsAmong x (y ∷ ys) = (x ≡ y) ⊎ IsAmong x ys
 abbrev pub children_by : Option Scalar → Option Scalar → Bool
 children_by (Some k) (Some l) = like (elements.Scalar k) (elements.Scalar l)
 children_by None None = true
-children_by (Some k) None = false
-children_by None (Some l) = false
+children_by k l = false
 
 abbrev pub has_children : Presence → Presence → Bool
 has_children p q = children_by (map_key p) (map_key q)

@@ -41,12 +41,8 @@ case_number cases.Oneof = 6
 
 -- two fields meet
 abbrev pub is_oneof : Case → Bool
-is_oneof cases.Unlike = false
-is_oneof cases.Gap = false
-is_oneof cases.Child = false
-is_oneof cases.List = false
-is_oneof cases.Map = false
 is_oneof cases.Oneof = true
+is_oneof case = false
 
 abbrev pub choice : ℕ → Case → ℕ → ℕ → Choice
 choice number case part cost = record { number = number; case = case; part = part; cost = cost }
@@ -72,10 +68,7 @@ gap_body enum_view zero old new = option_map (body_length (form old)) (gap_item 
 -- the pair of two elements that are messages
 abbrev pub child_pair : Element → Element → Option Pair
 child_pair (elements.Message s) (elements.Message t) = Some (record { old = s; new = t })
-child_pair (elements.Message s) (elements.Scalar t) = None
-child_pair (elements.Message s) (elements.Enum t) = None
-child_pair (elements.Scalar s) t = None
-child_pair (elements.Enum s) t = None
+child_pair old new = None
 
 -- a child's bound as a body
 abbrev pub child_body : Table → Element → Element → Option ℕ
@@ -90,11 +83,7 @@ singular_cost f g = of f.presence g.presence
     of (presences.Repeated true) presences.Explicit = Some (least_content f)
     of (presences.Repeated false) presences.Explicit = Some (2 * least_content f)
     of (presences.Repeated packed) presences.Implicit = Some (least_content f)
-    of (presences.Repeated packed) (presences.Repeated q) = None
-    of (presences.Repeated packed) (presences.Map key) = None
-    of presences.Implicit q = None
-    of presences.Explicit q = None
-    of (presences.Map key) q = None
+    of p q = None
 
 -- a field that is no map in either type
 abbrev pub plain_choices : EnumView → Table → FieldShape → FieldShape → List Choice
@@ -118,16 +107,13 @@ map_choices enum_view table f g k l =
 -- the type of a map's keys
 abbrev pub map_key : Presence → Option Scalar
 map_key (presences.Map key) = Some key
-map_key presences.Implicit = None
-map_key presences.Explicit = None
-map_key (presences.Repeated packed) = None
+map_key p = None
 
 -- of a map beside a map, of two fields that are none, and of a map beside a field that is none
 abbrev pub choices_by : EnumView → Table → FieldShape → FieldShape → Option Scalar → Option Scalar → List Choice
 choices_by enum_view table f g (Some k) (Some l) = map_choices enum_view table f g k l
 choices_by enum_view table f g None None = plain_choices enum_view table f g
-choices_by enum_view table f g (Some k) None = choice f.number cases.Unlike 0 (unlike_cost f g) ∷ []
-choices_by enum_view table f g None (Some l) = choice f.number cases.Unlike 0 (unlike_cost f g) ∷ []
+choices_by enum_view table f g k l = choice f.number cases.Unlike 0 (unlike_cost f g) ∷ []
 
 -- the choices of one field, by case and part
 abbrev pub field_choices : EnumView → Table → FieldShape → FieldShape → List Choice
@@ -135,8 +121,7 @@ field_choices enum_view table f g = choices_by enum_view table f g (map_key f.pr
 
 abbrev pub in_one_oneof : Option FieldShape → Option FieldShape → Bool
 in_one_oneof (Some g) (Some h) = same_oneof g.oneof h.oneof
-in_one_oneof (Some g) None = false
-in_one_oneof None h = false
+in_one_oneof g h = false
 
 -- two fields of both types, in one new oneof and not in one old oneof
 abbrev pub joins : List FieldShape → FieldShape → FieldShape → Bool

@@ -1,5 +1,5 @@
 -- Gaps: items that a reader of another type doesn't read as the same item.
-use Rattle.std.specs.Prelude.{ℕ, ◌^◌, ℤ, pos, negsuc, Bool, [], ◌∷◌, ◌++◌, length, Option, Some, None}
+use Rattle.std.specs.Prelude.{ℕ, ◌^◌, ℤ, pos, negsuc, Bool, [], ◌∷◌, ◌++◌, length, Option, Some, None, option_map}
 use Rattle.pg_schema.specs.declared.parts.field.Scalar.{Scalar}
 use Rattle.pg_schema.specs.declared.parts.field.Scalar.TheVariants as scalars
 use Rattle.pg_schema.specs.declared.parts.field.Element.{Element}
@@ -78,13 +78,11 @@ gap scalars.Bytes t = gaps.Unlike
 
 -- the item that a value of the table names
 abbrev pub item_named : Form → ℤ → Leaf
-item_named (Integer whole) value = Int value
-item_named Single value = Int value
-item_named Double value = Int value
 item_named Text (pos n) = Bytes (n ∷ [])
 item_named Text (negsuc n) = Bytes []
 item_named Raw (pos n) = Bytes (n ∷ [])
 item_named Raw (negsuc n) = Bytes []
+item_named f value = Int value
 
 abbrev pub item_of : Form → Gap → Option Leaf
 item_of f gaps.Unlike = None
@@ -93,14 +91,8 @@ item_of f (gaps.Least body value) = Some (item_named f value)
 
 -- The item of the gap between two elements, none where there is no gap. A scalar beside an enum goes by int32.
 abbrev pub gap_item : EnumView → Bool → Element → Element → Option Leaf
-gap_item enum_view zero (elements.Message s) new = None
-gap_item enum_view zero (elements.Scalar s) (elements.Message t) = None
 gap_item enum_view zero (elements.Scalar s) (elements.Scalar t) = item_of (scalar_form s) (gap s t)
 gap_item enum_view zero (elements.Scalar s) (elements.Enum t) = item_of (scalar_form s) (gap s scalars.Int32)
-gap_item enum_view zero (elements.Enum s) (elements.Message t) = None
 gap_item enum_view zero (elements.Enum s) (elements.Scalar t) = item_of (form (elements.Enum s)) (gap scalars.Int32 t)
-gap_item enum_view zero (elements.Enum s) (elements.Enum t) = of (enum_view.least s t zero)
-  where
-    of : Option ℤ → Option Leaf
-    of (Some n) = Some (Int n)
-    of None = None
+gap_item enum_view zero (elements.Enum s) (elements.Enum t) = option_map Int (enum_view.least s t zero)
+gap_item enum_view zero old new = None

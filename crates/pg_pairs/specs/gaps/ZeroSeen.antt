@@ -10,16 +10,12 @@ use Rattle.pg_pairs.specs.gaps.TrueGaps.{is_seen}
 
 abbrev pub IsNoMessage : Element → Type 0
 IsNoMessage (elements.Message t) = ⊥
-IsNoMessage (elements.Scalar s) = ⊤
-IsNoMessage (elements.Enum e) = ⊤
+IsNoMessage e = ⊤
 
 -- of two enums the view finds 0 alike
 abbrev pub FindsZeroAlike : View → Element → Element → Type 0
 FindsZeroAlike view (elements.Enum s) (elements.Enum t) = view s t (pos 0) ≡ true
-FindsZeroAlike view (elements.Enum s) (elements.Scalar t) = ⊤
-FindsZeroAlike view (elements.Enum s) (elements.Message t) = ⊤
-FindsZeroAlike view (elements.Scalar s) new = ⊤
-FindsZeroAlike view (elements.Message s) new = ⊤
+FindsZeroAlike view old new = ⊤
 
 -- Zero is seen between any two like elements, under any view, of two enums where it finds 0 alike: an item that isn't
 -- seen isn't zero.

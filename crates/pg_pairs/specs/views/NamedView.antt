@@ -30,8 +30,7 @@ least_under views.Names old new zero = least_by_name old new zero
 -- without both enums no number differs
 abbrev pub least_there : ViewName → Option EnumType → Option EnumType → Bool → Option ℤ
 least_there view (Some old) (Some new) zero = least_under view old new zero
-least_there view (Some old) None zero = None
-least_there view None new zero = None
+least_there view old new zero = None
 
 -- what the view of that name finds alike, with the least number that isn't
 abbrev pub seen_under : ViewName → Parts → Parts → EnumView

@@ -29,16 +29,12 @@ nonzero_leaf Raw = Bytes (97 ∷ [])
 
 abbrev pub far_leaf : Form → Leaf
 far_leaf (Integer w) = Int (pos 1)
-far_leaf Single = zero_leaf Single
-far_leaf Double = zero_leaf Double
-far_leaf Text = zero_leaf Text
-far_leaf Raw = zero_leaf Raw
+far_leaf f = zero_leaf f
 
 -- an item of an element by its form's leaf; of messages it is the empty one
 abbrev pub item_by : (Form → Leaf) → Element → Item
 item_by leaf (elements.Message t) = Msg (ends [])
-item_by leaf (elements.Scalar s) = Plain (leaf (form (elements.Scalar s)))
-item_by leaf (elements.Enum e) = Plain (leaf (form (elements.Enum e)))
+item_by leaf e = Plain (leaf (form e))
 
 -- a key or a value beside the new one: zero where they are like, else what isn't an integer's default
 abbrev pub apart_leaf : Element → Element → Leaf
@@ -50,21 +46,16 @@ apart_item e d = if like e d then item_by zero_leaf e else item_by far_leaf e
 -- an implicit field's least item isn't zero; the empty message has no bytes
 abbrev pub least_leaf : Presence → Element → Leaf
 least_leaf presences.Implicit e = nonzero_leaf (form e)
-least_leaf presences.Explicit e = zero_leaf (form e)
-least_leaf (presences.Repeated packed) e = zero_leaf (form e)
-least_leaf (presences.Map k) e = zero_leaf (form e)
+least_leaf p e = zero_leaf (form e)
 
 abbrev pub least_key : Presence → Option Leaf
 least_key (presences.Map k) = Some (zero_leaf (form (elements.Scalar k)))
-least_key presences.Implicit = None
-least_key presences.Explicit = None
-least_key (presences.Repeated packed) = None
+least_key p = None
 
 -- A field's least part, before others.
 abbrev pub least_part_of : ℕ → Presence → Element → Message → Message
 least_part_of number p (elements.Message t) later = nests number (least_key p) (ends []) later
-least_part_of number p (elements.Scalar s) later = holds number (least_key p) (least_leaf p (elements.Scalar s)) later
-least_part_of number p (elements.Enum s) later = holds number (least_key p) (least_leaf p (elements.Enum s)) later
+least_part_of number p e later = holds number (least_key p) (least_leaf p e) later
 
 abbrev pub least_part : FieldShape → Message → Message
 least_part f later = least_part_of f.number f.presence f.element later
@@ -92,9 +83,7 @@ lost_onto number p q zero = alone number None zero
 
 abbrev pub key_of : Presence → Scalar
 key_of (presences.Map key) = key
-key_of presences.Implicit = Int32
-key_of presences.Explicit = Int32
-key_of (presences.Repeated packed) = Int32
+key_of p = Int32
 
 -- an entry whose key has a gap
 abbrev pub key_alone : ℕ → Element → Option Leaf → Message
@@ -134,8 +123,7 @@ carried_two f None = ends []
 abbrev pub carried_of : EnumView → (first beside second : Option FieldShape) → Choice → Option Message → Message
 carried_of enum_view (Some f) (Some g) e c child =
     if is_oneof c.case then carried_two f e else carried_field enum_view f g c.case c.part child
-carried_of enum_view (Some f) None e c child = ends []
-carried_of enum_view None g e c child = ends []
+carried_of enum_view f g e c child = ends []
 
 -- the message of a choice
 abbrev pub carried : EnumView → Shape → Shape → Pair → Choice → Option Message → Message
@@ -147,20 +135,16 @@ carried enum_view old new pair c child =
 
 -- an item that is a child, and the value of an entry
 abbrev pub has_child : Case → ℕ → Bool
-has_child cases.Unlike part = false
-has_child cases.Gap part = false
 has_child cases.Child part = true
-has_child cases.List part = false
 has_child cases.Map part = nat_eq part 2
-has_child cases.Oneof part = false
+has_child case part = false
 
 abbrev pub field_child : FieldShape → FieldShape → Case → ℕ → Option Pair
 field_child f g case part = if has_child case part then child_pair f.element g.element else None
 
 abbrev pub child_of : Option FieldShape → Option FieldShape → Choice → Option Pair
 child_of (Some f) (Some g) c = field_child f g c.case c.part
-child_of (Some f) None c = None
-child_of None g c = None
+child_of f g c = None
 
 abbrev pub choice_child : Shape → Shape → Pair → Choice → Option Pair
 choice_child old new pair c =

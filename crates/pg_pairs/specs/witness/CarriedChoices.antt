@@ -20,17 +20,15 @@ IsChoiceOf enum_view old new pair c = (table : Table) × IsAmong c (choices enum
 -- A child is given just where the choice has one, and is a message of that pair's old type.
 abbrev pub ChildGiven : Shape → Option Pair → Option Kept → Type 0
 ChildGiven old None None = ⊤
-ChildGiven old None (Some m) = ⊥
-ChildGiven old (Some p) None = ⊥
 ChildGiven old (Some p) (Some m) = Fits old m × (type_of m ≡ p.old)
+ChildGiven old p m = ⊥
 
 -- The child comes just where there is one, and has the length of its pair's bound.
 abbrev pub ChildReached : EnumView → Shape → Shape → Table → Option Pair → Option Message → Type 0
 ChildReached enum_view old new table None None = ⊤
-ChildReached enum_view old new table None (Some m) = ⊥
-ChildReached enum_view old new table (Some p) None = ⊥
 ChildReached enum_view old new table (Some p) (Some m) =
     (x : ℕ) × (table p ≡ Some (Some x)) × ReachedBy enum_view old new p m x
+ChildReached enum_view old new table p m = ⊥
 
 -- What a table has for the child of a choice of that cost, where the choice has one: a smaller number.
 abbrev pub ChildThere : Table → Option Pair → ℕ → Type 0

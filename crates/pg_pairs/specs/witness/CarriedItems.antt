@@ -77,9 +77,8 @@ IsChildOf shape element child = Fits shape child × (element ≡ elements.Messag
 
 -- A choice round an item is one of a field that is no map, and that of an entry is one of a map.
 abbrev pub IsPlacedBy : Presence → Case → Type 0
-IsPlacedBy p cases.Unlike = ⊤
 IsPlacedBy p cases.Gap = is_map p ≡ false
 IsPlacedBy p cases.Child = is_map p ≡ false
 IsPlacedBy p cases.List = is_map p ≡ false
 IsPlacedBy p cases.Map = is_map p ≡ true
-IsPlacedBy p cases.Oneof = ⊤
+IsPlacedBy p case = ⊤

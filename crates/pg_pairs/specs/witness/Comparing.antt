@@ -102,10 +102,8 @@ keyed_shown hidden content = filter (λ (x : Keyed). not (hidden && is_zero_valu
 -- one item at most, in no list
 abbrev pub IsSingle : Option ContentRef → Type 0
 IsSingle (Some (contents.One value)) = ⊤
-IsSingle (Some (contents.Many vs)) = ⊥
-IsSingle (Some (contents.Numbers ns)) = ⊥
-IsSingle (Some (contents.Map es)) = ⊥
 IsSingle None = ⊤
+IsSingle content = ⊥
 
 module _ (view : ViewName) (old new : Parts) where
   abbrev pub keyed_match : FieldShape → FieldShape → Keyed → Keyed → Bool
