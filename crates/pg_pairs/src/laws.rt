@@ -43,7 +43,7 @@ pub fn unseen_are_not_zero()
 {}
 
 /// An item that the reader of a like element reads as itself has one body in both, so that what the
-/// new type writes of it is read as itself again; but for a zigzag number that is read as a bool.
+/// new type writes of it is read as itself once more; but for a zigzag number that is read as a bool.
 pub fn seen_items_have_one_body()
     ensures { SeenItemsHaveOneBody }
 {}
@@ -65,18 +65,20 @@ pub fn single_scalars_cost()
     ensures { SingleScalarsCost }
 {}
 
-/// So has one that breaks with a list alone, of scalars or of children, under a table that covers
-/// the pair.
+/// A message that breaks with a list alone, of scalars or of children, has at least the bytes of the
+/// field's cheapest choice, under a table that covers the pair.
 pub fn lists_cost()
     ensures { ListsCost }
 {}
 
-/// And with a map alone.
+/// A message that breaks with a map alone has at least the bytes of the field's cheapest choice,
+/// under a table that covers the pair.
 pub fn maps_cost()
     ensures { MapsCost }
 {}
 
-/// And with a child in a singular field alone.
+/// A message that breaks with a child in a singular field alone has at least the bytes of the
+/// field's cheapest choice, under a table that covers the pair.
 pub fn children_cost()
     ensures { ChildrenCost }
 {}

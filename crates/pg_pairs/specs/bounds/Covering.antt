@@ -39,7 +39,7 @@ all_children gs fs = flat_map (λ (f : FieldShape). children_beside f (field_at 
 abbrev pub same_pair : Pair → Pair → Bool
 same_pair p q = nat_eq p.old.index q.old.index && nat_eq p.new.index q.new.index
 
--- each once, where it first stands
+-- each pair once, where it comes first
 abbrev pub distinct : List Pair → List Pair
 distinct [] = []
 distinct (p ∷ ps) = p ∷ filter (λ q. not (same_pair p q)) (distinct ps)

@@ -49,7 +49,7 @@ ListsCost =
     is_repeated f.presence ≡ true →
     (items : List Item) → CostsCheapest enum_view old new table pair f g (list_alone f.number items)
 
--- The entries of a map, likewise.
+-- The entries of a map, under a table that covers the pair.
 abbrev pub MapsCost : Type 0
 MapsCost =
     (enum_view : EnumView) (old new : Shape) (table : Table) (root : Pair) → IsEnumView enum_view → IsShape old →
@@ -58,7 +58,7 @@ MapsCost =
     is_map f.presence ≡ true →
     (entries : List (Leaf × Item)) → CostsCheapest enum_view old new table pair f g (map_alone f.number entries)
 
--- One child in a singular field, likewise.
+-- One child in a singular field, under a table that covers the pair.
 abbrev pub ChildrenCost : Type 0
 ChildrenCost =
     (enum_view : EnumView) (old new : Shape) (table : Table) (root : Pair) → IsEnumView enum_view → IsShape old →

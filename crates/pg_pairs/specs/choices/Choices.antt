@@ -30,7 +30,7 @@ no_bounds pair = None
 abbrev pub number_for : Table → Pair → Option ℕ
 number_for table pair = option_and_then (λ bound. bound) (table pair)
 
--- the number that stands for a case in what is printed
+-- the number by which a case is printed
 abbrev pub case_number : Case → ℕ
 case_number cases.Unlike = 1
 case_number cases.Gap = 2

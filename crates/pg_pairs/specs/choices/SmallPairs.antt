@@ -25,7 +25,7 @@ HasChoices fs gs cs = choices by_numbers no_bounds (of_fields fs) (of_fields gs)
 abbrev pub loops : List FieldShape
 loops = field 1 Explicit (elements.Message first) ∷ field 2 (Repeated false) (elements.Message first) ∷ []
 
--- and with a field beside
+-- such a type with a field of numbers besides
 abbrev pub looped : Scalar → List FieldShape
 looped s = loops ++ scalar 3 Implicit s ∷ []
 

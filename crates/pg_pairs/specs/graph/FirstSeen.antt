@@ -1,10 +1,10 @@
--- Lists in which each pair stands once, where it was first seen.
+-- Lists that have each pair once, where it was first seen.
 use Rattle.std.specs.Prelude.{◌≡◌, List, [], ◌∷◌, ◌++◌, if◌then◌else◌}
 use Rattle.std.specs.List.{list_any}
 use Rattle.pg_pairs.specs.declared.choices.choice.Pair.{Pair}
 use Rattle.pg_pairs.specs.bounds.Covering.{same_pair, distinct}
 
--- One pair more at the end of a list stands there if it isn't among the others.
+-- One pair more at the end of a list stays there if it isn't among the others.
 abbrev pub OnePairMore : Type 0
 OnePairMore =
     (pairs : List Pair) (pair : Pair) →

@@ -10,8 +10,8 @@ pub data LeadsTo (children : Pair → List Pair) (root : Pair) : Pair → Type 0
   onwards : (pair child : Pair) → LeadsTo children root pair → IsAmong child (children pair) →
       LeadsTo children root child
 
--- Breadth first: the root, then the children of each pair in turn, each pair once, where it first stands; just the
--- pairs that the root leads to, no other and all of them.
+-- Breadth first: the root, then the children of each pair in turn, each pair once, where it comes first;
+-- just the pairs that the root leads to, no other and all of them.
 pub record IsReachedInOrder (children : Pair → List Pair) (root : Pair) (pairs : List Pair) : Type 0 where
   pub in_order : pairs ≡ distinct (root ∷ flat_map children pairs)
   pub led_to : AllByRecursion (LeadsTo children root) pairs
@@ -23,7 +23,7 @@ pub record IsLedTo (children : Pair → List Pair) (roots : List Pair) (pair : P
   pub among : IsAmong root roots
   pub leads : LeadsTo children root pair
 
--- Likewise from several roots: first these, in their order.
+-- Breadth first from several roots: the roots in their order, then the children of each pair in turn.
 pub record IsReachedFrom (children : Pair → List Pair) (roots pairs : List Pair) : Type 0 where
   pub in_order : pairs ≡ distinct (roots ++ flat_map children pairs)
   pub led_to : AllByRecursion (IsLedTo children roots) pairs

@@ -9,11 +9,11 @@ use Rattle.pg_pairs.specs.graph.ByIndices.{by_indices}
 abbrev pub has_pair : List Pair → Pair → Bool
 has_pair pairs p = list_any (λ q. same_pair q p) pairs
 
--- the set has the places of the types of these pairs, and of no others
+-- the set has the indices of the types of these pairs, and of no others
 abbrev pub AreSeen : List Pair → BTreeSet (ℕ × ℕ) → Type 0
 AreSeen pairs seen = (p : Pair) → contains by_indices seen (p.old.index, p.new.index) ≡ has_pair pairs p
 
--- each pair's children stand in the list too
+-- each pair's children are in the list too
 abbrev pub AreClosed : (Pair → List Pair) → List Pair → Type 0
 AreClosed children pairs =
     AllByRecursion (λ (p : Pair). AllByRecursion (λ (c : Pair). IsAmong c pairs) (children p)) pairs

@@ -29,7 +29,7 @@ list_of_int32 presence = of_fields (scalar 1 presence Int32 ∷ [])
 abbrev pub held : List FieldShape → Shape
 held fs = fs ∷ (field 1 Explicit (elements.Message first) ∷ []) ∷ []
 
--- a message of the second type, with an empty text in the one that it holds
+-- a message of the second type, with an empty string in the one that it holds
 abbrev pub holds_empty_text : Message
 holds_empty_text = nests 1 None (one (Bytes [])) (ends [])
 
@@ -37,12 +37,12 @@ abbrev pub holds_nothing : Message
 holds_nothing = nests 1 None (ends []) (ends [])
 
 pub record HomeExamples : Type 0 where
-  -- a field that the new type lacks stands behind its own, and comes home
+  -- a field that the new type lacks comes after its own, and comes home
   pub lacked_field_is_relayed : relayed int32 first (8 ∷ 5 ∷ 18 ∷ 1 ∷ 120 ∷ []) ≡ Some (8 ∷ 5 ∷ 18 ∷ 1 ∷ 120 ∷ [])
   pub unknown_records_stand_last : relayed int32 first (18 ∷ 1 ∷ 120 ∷ 8 ∷ 5 ∷ []) ≡ Some (8 ∷ 5 ∷ 18 ∷ 1 ∷ 120 ∷ [])
   pub lacked_field_is_home : comes_home with_bytes int32 first first
       (holds 1 None (Int (pos 5)) (holds 2 None (Bytes (120 ∷ [])) (ends []))) ≡ true
-  -- optional string to string: the empty text isn't written again, and isn't missed
+  -- optional string to string: the empty string isn't written again, and isn't missed
   pub zero_is_dropped : relayed (of_fields text) first (10 ∷ 0 ∷ []) ≡ Some []
   pub zero_is_not_missed : comes_home (of_fields optional_text) (of_fields text) first first (one (Bytes [])) ≡ true
   pub zero_of_a_child_is_not_missed : comes_home (held optional_text) (held text) second second holds_empty_text ≡ true

@@ -4,7 +4,7 @@ use Rattle.std.specs.Prelude.{ℕ, ◌^◌, ℤ, nat_le, nat_lt, List, [], ◌�
 use Rattle.std.specs.Ordering.{int_eq}
 use Rattle.pg_wire.specs.Words.{twos_complement}
 
--- the word of 64 bits that stands in a message for a number of an enum (Protocol Buffers Encoding guide, "Signed
+-- the word of 64 bits by which a message holds a number of an enum (Protocol Buffers Encoding guide, "Signed
 -- Integers")
 abbrev pub number_word : ℤ → ℕ
 number_word n = twos_complement (2 ^ 64) n

@@ -62,7 +62,7 @@ content_alone number content = content_before number content (ends [])
 abbrev pub apart_small : Element → Element → Small
 apart_small e d = if like e d then Zero else Far
 
--- the content is one of a field of that presence and element, as it stands
+-- the content is one of a field of that presence and element
 abbrev pub IsTakenBy : Shape → Presence → Element → Content → Type 0
 IsTakenBy shape presence element content = ItemsFit shape presence element content × (HasKeyTwice content → ⊥)
 

@@ -53,7 +53,8 @@ pub(crate) fn least_body(element: Element) -> u64
     }
 }
 
-/// The same of an item that isn't zero, as an empty message isn't.
+/// The least body of an element's item that isn't zero, with its length where it has one. An empty
+/// message isn't zero.
 pub(crate) fn nonzero_body(element: Element) -> u64
     ensures bytes { result ≡ nonzero_body element }
     ensures few { result ≤ 8 }

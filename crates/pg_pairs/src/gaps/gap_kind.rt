@@ -3,7 +3,7 @@
 /// Of the items of one scalar type, those that a reader of another doesn't read as the same item.
 #[derive(Clone, Copy, Debug, PartialEq, Eq)]
 pub enum Gap {
-    /// Their items are of different kinds or stand in different wire types.
+    /// Their items are of different kinds or wire types.
     Unlike,
     /// Each item is read as itself.
     None,

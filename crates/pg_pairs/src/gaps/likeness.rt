@@ -7,15 +7,15 @@ use crate::gaps::gap_kind::Gap;
 use crate::gaps::scalar_gap::gap;
 use pg_schema::{Element, Scalar};
 
-/// Whether the scalars' items are of one kind and stand in one wire type.
+/// Whether the scalars' items are of one kind and one wire type.
 fn scalars_are_like(old: Scalar, new: Scalar) -> bool
     ensures { result ≡ like (Element.Scalar old) (Element.Scalar new) }
 {
     !matches!(gap(old, new), Gap::Unlike)
 }
 
-/// Whether the elements' items are of one kind and stand in one wire type. An enum's stand as those
-/// of int32.
+/// Whether the elements' items are of one kind and one wire type. An enum's items are those of
+/// int32.
 pub(crate) fn are_like(old: Element, new: Element) -> bool
     ensures { result ≡ like old new }
 {

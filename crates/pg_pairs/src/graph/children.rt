@@ -48,7 +48,7 @@ pub(crate) fn child_beside(new: &Schema, type_id: TypeId, field: &Field) -> Opti
     field_child(field, new.field(type_id, field.number)?)
 }
 
-/// The children of those fields, each once, where it first stands.
+/// The children of those fields, each once, in the order in which they come first.
 fn children_of(
     alloc: Global,
     new: &Schema,
@@ -70,7 +70,7 @@ fn children_of(
     Ok(pairs)
 }
 
-/// The pairs of types of the messages that stand in shared fields of a pair, each once, by the
+/// The pairs of types of the messages in shared fields of a pair, each once, by the
 /// least number of such a field.
 ///
 /// Refused only where memory is.

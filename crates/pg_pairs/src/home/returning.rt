@@ -15,7 +15,7 @@ use crate::graph::walking::reached_pairs;
 use pg_schema::{Field, Presence, Schema, TypeId};
 use std::alloc::{AllocError, Global};
 
-/// Whether the items of the field stand in one record.
+/// Whether the field is a packed list.
 fn is_packed(field: &Field) -> bool
     ensures { result ≡ is_packed field.now.presence }
 {
@@ -36,7 +36,7 @@ fn becomes_packed(new: &Schema, type_id: TypeId, field: &Field) -> bool
     }
 }
 
-/// Whether one of those fields is.
+/// Whether one of those fields becomes packed.
 fn one_becomes_packed(new: &Schema, type_id: TypeId, list: &[Field]) -> bool
     ensures { result ≡ list_any (λ f. becomes_packed (field_shape f)
         (field_at (fields (shape_of new.now) type_id) f.number)) list.now }
@@ -49,7 +49,7 @@ fn one_becomes_packed(new: &Schema, type_id: TypeId, list: &[Field]) -> bool
     false
 }
 
-/// Whether a field of the pair is.
+/// Whether a field of the pair becomes packed.
 fn packs(old: &Schema, new: &Schema, pair: Pair) -> bool
     ensures { result ≡ packs (shape_of old.now) (shape_of new.now) pair }
 {
@@ -59,7 +59,7 @@ fn packs(old: &Schema, new: &Schema, pair: Pair) -> bool
     }
 }
 
-/// Whether a field of one of those pairs is.
+/// Whether a field of one of those pairs becomes packed.
 fn one_packs(old: &Schema, new: &Schema, pairs: &[Pair]) -> bool
     ensures { result ≡ list_any (packs (shape_of old.now) (shape_of new.now)) pairs.now }
 {

@@ -17,7 +17,7 @@ use pg_schema::{EnumType, EnumValue};
 #[derive(Clone, Copy, Debug)]
 pub struct Names;
 
-/// The word that stands in messages for the number of an enum.
+/// The word by which messages hold the number of an enum.
 fn number_word(number: i32) -> u64
     ensures { result ≡ number_word number }
 {
@@ -83,8 +83,8 @@ fn rise_by_word(values: &[EnumValue]) -> bool
     values.is_sorted_by_key(|value| number_word(value.number))
 }
 
-/// The values with the number of this one, which stand together where the words of the numbers
-/// rise.
+/// The values with the number of this one, which are next to each other where the words of the
+/// numbers rise.
 fn values_beside<'a>(values: &'a [EnumValue], value: &EnumValue) -> &'a [EnumValue]
     requires { RiseByWord values.now }
     ensures { is_missing (map named result.now) (named value.now)
@@ -97,25 +97,25 @@ fn values_beside<'a>(values: &'a [EnumValue], value: &EnumValue) -> &'a [EnumVal
     &rest[..count]
 }
 
-/// Whether the value at the place has the number and the name of this one.
-fn stands_at(others: &[EnumValue], place: usize, value: &EnumValue) -> bool
+/// Whether the value at the index has the number and the name of this one.
+fn is_at(others: &[EnumValue], index: usize, value: &EnumValue) -> bool
     ensures { result ≡ true → is_missing (map named others.now) (named value.now) ≡ false }
 {
-    match others.get(place) {
+    match others.get(index) {
         Some(other) => is_named(other, value.number, &value.name),
         None => false,
     }
 }
 
-/// Where the value stands, sought from the place on and in front of it at once.
-fn nearest_place(others: &[EnumValue], place: usize, value: &EnumValue) -> Option<usize> {
+/// The index of the value nearest to that index, sought after and before it in turn.
+fn nearest_index(others: &[EnumValue], index: usize, value: &EnumValue) -> Option<usize> {
     for distance in 0..others.len() {
-        let behind = place.saturating_add(distance);
-        if stands_at(others, behind, value) {
-            return Some(behind);
+        let after = index.saturating_add(distance);
+        if is_at(others, after, value) {
+            return Some(after);
         }
-        let before = place.saturating_sub(distance + 1);
-        if stands_at(others, before, value) {
+        let before = index.saturating_sub(distance + 1);
+        if is_at(others, before, value) {
             return Some(before);
         }
     }
@@ -128,35 +128,35 @@ fn start_of(values: &[EnumValue], number: i32) -> usize {
     values.partition_point(|value| number_word(value.number) < word)
 }
 
-/// Where the value stands among the others, sought first behind the place and then nearest to it;
-/// the place itself where they lack the value. A wrong answer would cost time alone, since what
-/// stands there is compared before anything is said of it.
-fn place_of(others: &[EnumValue], rise: bool, value: &EnumValue, place: usize) -> usize
+/// The index of the value among the others, sought first after that index and then nearest to it;
+/// the index itself where they lack the value. A wrong answer would cost time alone, since the value
+/// at the index is compared before anything is said of it.
+fn index_of(others: &[EnumValue], rise: bool, value: &EnumValue, index: usize) -> usize
     requires { rise ≡ true → RiseByWord others.now }
 {
-    let next = place.saturating_add(1);
-    if stands_at(others, next, value) {
+    let next = index.saturating_add(1);
+    if is_at(others, next, value) {
         return next;
     }
     if rise {
         let start = start_of(others, value.number);
         let beside = values_beside(others, value);
         let near = next.saturating_sub(start).min(beside.len());
-        return match nearest_place(beside, near, value) {
+        return match nearest_index(beside, near, value) {
             Some(found) => start.saturating_add(found),
-            None => place,
+            None => index,
         };
     }
-    nearest_place(others, next.min(others.len()), value).unwrap_or(place)
+    nearest_index(others, next.min(others.len()), value).unwrap_or(index)
 }
 
-/// The same as `is_missing`, sought first at the place, and then by halving where the words of the
+/// What `is_missing` answers, sought first at the index, and then by halving where the words of the
 /// others' numbers rise.
-fn is_missing_beside(others: &[EnumValue], rise: bool, place: usize, value: &EnumValue) -> bool
+fn is_missing_beside(others: &[EnumValue], rise: bool, index: usize, value: &EnumValue) -> bool
     requires { rise ≡ true → RiseByWord others.now }
     ensures { result ≡ is_missing (map named others.now) (named value.now) }
 {
-    if stands_at(others, place, value) {
+    if is_at(others, index, value) {
         return false;
     }
     if rise {
@@ -197,19 +197,19 @@ fn is_lesser(number: i32, least: Option<i32>) -> bool
 }
 
 /// The least number that counts and that these values give a name that the others don't give it,
-/// though they have it. The values of two enums mostly stand in much the same order, so a value is
-/// sought first behind the place where one was last found.
+/// though they have it. The values of two enums mostly have much the same order, so a value is
+/// sought first after the index at which one was last found.
 fn least_missing(values: &[EnumValue], others: &[EnumValue], zero: bool) -> Option<i32>
     ensures { result ≡ least_number (missing_numbers zero (map named values.now)
         (map named others.now)) }
 {
     let rise = rise_by_word(others);
     let mut least = None;
-    let mut place = 0;
+    let mut index = 0;
     for value in values {
         if counts(value.number, zero) && is_lesser(value.number, least) {
-            place = place_of(others, rise, value, place);
-            if is_missing_beside(others, rise, place, value) {
+            index = index_of(others, rise, value, index);
+            if is_missing_beside(others, rise, index, value) {
                 least = Some(value.number);
             }
         }

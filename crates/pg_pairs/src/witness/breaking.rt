@@ -86,7 +86,7 @@ pub fn breaks(
         Ok(lent) => Ok(breaks_as_written(alloc, graph, pair, &lent, written)?),
         Err(error) => match error {
             DynError::Memory => Err(error),
-            // An encoding is read again.
+            // What an encoding is read as.
             _ => unreachable!(),
         },
     }

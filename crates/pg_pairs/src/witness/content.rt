@@ -84,7 +84,8 @@ pub(crate) fn least_content(alloc: Global, field: &Field) -> Result<Content, All
     }
 }
 
-/// That of unlike fields; where zero doesn't count an item that isn't zero.
+/// The least content of a field beside an unlike one; where zero doesn't count an item that isn't
+/// zero.
 fn unlike_content(alloc: Global, old: &Field, new: &Field) -> Result<Content, AllocError>
     ensures seen { IfOk result (λ content. content_alone old.now.number content
         ≡ unlike_message (field_shape old.now) (field_shape new.now)) }
@@ -118,7 +119,7 @@ fn item_content(
     }
 }
 
-/// A list that the new field doesn't keep: two zeros beside an explicit field, of which one is
+/// The content of a list that the new field doesn't keep: two zeros beside an explicit field, of which one is
 /// read, else one.
 fn lost_items(alloc: Global, old: &Field, new: &Field) -> Result<Content, AllocError>
     ensures seen { IfOk result (λ content. content_alone old.now.number content

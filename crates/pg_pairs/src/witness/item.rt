@@ -30,7 +30,7 @@ pub(crate) enum Small {
     Far,
 }
 
-/// Such an item of bytes, or of a text.
+/// The short item of bytes, or of a string.
 fn small_bytes(alloc: Global, small: Small) -> Result<Vec<u8>, AllocError>
     ensures { IfOk result (λ bytes. Bytes bytes.items ≡ leaf_by small Raw) }
 {
@@ -40,7 +40,7 @@ fn small_bytes(alloc: Global, small: Small) -> Result<Vec<u8>, AllocError>
     }
 }
 
-/// Such an item of the scalar.
+/// The short item of a scalar.
 pub(crate) fn small_leaf(alloc: Global, scalar: Scalar, small: Small) -> Result<Value, AllocError>
     ensures leaf { IfOk result (λ value. leaf_of value ≡ leaf_by small (scalar_form scalar)) }
     ensures key { IfOk result IsKey }
@@ -63,7 +63,7 @@ pub(crate) fn small_leaf(alloc: Global, scalar: Scalar, small: Small) -> Result<
     }
 }
 
-/// Such an item of the element; of messages it is the empty one.
+/// The short item of an element; of messages it is the empty one.
 pub(crate) fn small_item(alloc: Global, element: Element, small: Small) -> Result<Value, AllocError>
     ensures seen { IfOk result (λ value. value_item value ≡ item_by (leaf_by small) element) }
     ensures fits { IfOk result (λ value. (shape : Shape) → ElementFits (length shape) element
@@ -101,7 +101,7 @@ fn scalar_gap_item(alloc: Global, old: Scalar, new: Scalar) -> Result<Option<Val
     match gap(old, new) {
         Gap::Unlike | Gap::None => Ok(None),
         Gap::Least { value, .. } => match old {
-            // The one gap of bytes: a byte that is no text.
+            // The one gap of bytes: a byte that isn't UTF-8.
             Scalar::String | Scalar::Bytes => {
                 Ok(Some(Value::Bytes(Vec::from_slice(alloc, &[0x80])?)))
             }

@@ -48,7 +48,7 @@ fn is_zero(value: &ValueRef<'_>) -> bool
     }
 }
 
-/// The bytes of a text, or bytes; of another item none.
+/// The bytes of a string or of bytes; of another item none.
 fn bytes_of<'b>(value: &'b ValueRef<'_>) -> &'b [u8]
     ensures { result.now ≡ leaf_bytes (leaf_of value.now) }
 {
@@ -59,7 +59,7 @@ fn bytes_of<'b>(value: &'b ValueRef<'_>) -> &'b [u8]
     }
 }
 
-/// Whether the bytes of two texts, or two items of bytes, are equal.
+/// Whether two strings or two items of bytes are equal.
 fn has_same_bytes(first: &ValueRef<'_>, second: &ValueRef<'_>) -> bool
     ensures { result ≡ bytes_eq (leaf_bytes (leaf_of first.now))
         (leaf_bytes (leaf_of second.now)) }
@@ -67,7 +67,7 @@ fn has_same_bytes(first: &ValueRef<'_>, second: &ValueRef<'_>) -> bool
     bytes_of(first) == bytes_of(second)
 }
 
-/// Whether the two items, which are no messages, are equal. Texts are their bytes.
+/// Whether the two items, which are no messages, are equal. Strings are their bytes.
 pub(crate) fn is_same_leaf(first: &ValueRef<'_>, second: &ValueRef<'_>) -> bool
     requires first { IsKey first.now }
     requires second { IsKey second.now }
@@ -123,7 +123,7 @@ pub(crate) fn count(content: &ContentRef<'_>) -> usize
     }
 }
 
-/// The item at that place, which the content has.
+/// The item at that index, which the content has.
 pub(crate) fn held_at<'b, 'a>(content: &'b ContentRef<'a>, at: usize) -> Held<'b, 'a>
     requires { at < length (keyed content.now) }
     ensures { slice_get (keyed content.now) at

@@ -65,7 +65,7 @@ zigzag_gap enum_view zero (elements.Scalar s) (elements.Enum t) h = absurd (cc)
 zigzag_gap enum_view zero (elements.Enum s) d h = absurd (cc)
 zigzag_gap enum_view zero (elements.Message s) d h = absurd (cc)
 
--- no zigzag number stands beside a bool, or the gap costs no more
+-- no zigzag number is beside a bool, or the gap costs no more
 not_zigzag : (enum_view : EnumView) (Q : ℕ → Type 0) (up : (m n : ℕ) → m ≤ n → Q m → Q n) (zero : Bool) (e d : Element) (number : ℕ) (case : Case) (part : ℕ) (price : ℕ → ℕ) → AllByRecursion (λ (c : Choice). Q c.cost) (choice_of number case part (option_map price (gap_body enum_view zero e d))) → (whole len : ℕ) → least_body e ≤ len → ((b : ℕ) → b ≤ len → price b ≤ whole) → (is_bool_of_zigzag e d ≡ false) ⊎ Q whole
 not_zigzag enum_view Q up zero e d number case part price gaps whole len least cost =
     ⊎_elim
@@ -304,7 +304,7 @@ module _ (enum_view : EnumView) (law : IsEnumView enum_view) (table : Table) (ch
       (comparand_or enum_view law table child Q up (old (presences.Map k)) (new (presences.Map l)) true (one_item (old (presences.Map k))) like_values number cases.Map 2 cases.Map 2 value_gaps children whole c
       holds tt bound (value_price k whole c holds cost))
 
-  -- no zigzag number stands beside a bool, neither as a key nor as a value
+  -- no zigzag number is beside a bool, neither as a key nor as a value
   apart_or : (k l : Scalar) → KeyGaps k l → ValueGaps k → (whole : ℕ) (c : Comparand) → Holds (old (presences.Map k)) c → EntryCosts (old (presences.Map k)) k whole c → ((is_bool_of_zigzag (elements.Scalar k) (elements.Scalar l) ≡ false) × (is_bool_of_zigzag e d ≡ false)) ⊎ Q whole
   apart_or k l key_gaps value_gaps whole c holds cost =
       ⊎_elim

@@ -77,9 +77,9 @@ module _ (view : View) (child : Reader) (number : ℕ) (e d : Element) (o r : Op
       across_map view child (old (presences.Map k)) (new (presences.Map l)) k l refl (is_map child (old (presences.Map k)) k refl) (is_map child (new (presences.Map l)) l refl)
       (like_wire (elements.Scalar k) (elements.Scalar l) keys) (like_wire e d is_like) cs (each_both _ _ cs seen entries) rising
 
--- What stands of a content in both fields, where it crosses.
+-- What both fields have of a content that crosses.
 
--- one item at most where one of the two is singular, none that is zero where one of them is implicit; a packed list stands beside a list
+-- one item at most where one of the two is singular, none that is zero where one of them is implicit; beside a packed list is a list
 pub record PlainWay (p q : Presence) (cs : List Comparand) : Type 0 where
   pub no_map_old : IsNoMap p
   pub no_map_new : IsNoMap q

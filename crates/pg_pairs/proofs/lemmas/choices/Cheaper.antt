@@ -94,7 +94,7 @@ cheapest-below n (c ∷ cs) = of (nat_le c.cost n) refl (cheapest-below n cs)
 pub same-below : (n : ℕ) (xs ys : List Choice) → cheapest xs ≡ cheapest ys → cheapest (filter (λ (c : Choice). nat_le c.cost n) xs) ≡ cheapest (filter (λ (c : Choice). nat_le c.cost n) ys)
 same-below n xs ys same = cheapest-below n xs ∙ ap (if_below n) same ∙ sym (cheapest-below n ys)
 
--- and one may stand in the place of the other in a row
+-- one may take the other's position in a row
 pub cheapest-within : (xs ys zs rest : List Choice) → cheapest ys ≡ cheapest zs → first_of (cheapest (xs ++ ys)) (cheapest rest) ≡ cheapest (xs ++ (zs ++ rest))
 cheapest-within xs ys zs rest same =
     sym (cheapest-append (xs ++ ys) rest) ∙ ap cheapest (append_assoc xs ys rest) ∙ cheapest-append xs (ys ++ rest)

@@ -45,7 +45,7 @@ kept_at_end gs list kept empty = subst (λ fs. KeepsLeast gs (map field_shape fs
     none : (new : ℕ) → get nat_eq kept new ≡ None
     none new = ap (lookup (nat_eq new)) empty
 
--- the step of the loop, which goes down to the place before
+-- the step of the loop, which goes down to the index before
 module _ (list : List Field) (at : ℕ) (f : Field) (positive : 1 ≤ at) (small : at ≤ length list) (is : f ≡ slice_index_or list (at - 1) f) where
   row : field_shape f ∷ map field_shape (drop at list) ≡ map field_shape (drop (at - 1) list)
   row =
@@ -53,7 +53,7 @@ module _ (list : List Field) (at : ℕ) (f : Field) (positive : 1 ≤ at) (small
       let next : suc (at - 1) ≡ at = omega arith in
       sym (ap (map field_shape) (drop_at list (at - 1) f f inside is) ∙ ap (λ n. field_shape f ∷ map field_shape (drop n list)) next)
 
-  -- of the row that the field's own choices and the one with the field that it meets make, beside what was found behind it
+  -- of the row that the field's own choices and the one with the field that it meets make, beside what was found after it
   pub found_before : (enum_view : EnumView) (table : Table) (gs : List FieldShape) (oneof : Option ℕ) (cleared beside after row_after : List Choice) (first later found : Option Choice) →
       later ≡ cheapest (affordable (all_choices enum_view table gs (map field_shape (drop at list)))) → cleared ≡ [] →
       beside ≡ cleared ++ affordable (choices_beside enum_view table (field_shape f) (field_at gs f.number)) → oneof ≡ new_oneof gs (field_shape f) →

@@ -116,7 +116,7 @@ singular_low number presences.Implicit q e d o r = tt
 singular_low number presences.Explicit q e d o r = tt
 singular_low number (presences.Map key) q e d o r = tt
 
--- Gaps: their items are numbers or texts of one letter.
+-- Gaps: their items are numbers or strings of one letter.
 
 word_short : (wire : WireType) (word : ℕ) → length (word_bytes wire word) ≤ 10
 unfolding word_bytes

@@ -93,7 +93,7 @@ text_seen (Int n) h counts = absurd h
 text_seen (F32 bits) h counts = absurd h
 text_seen (F64 bits) h counts = absurd h
 
--- the shortest bytes that are no text are one byte
+-- the shortest bytes that aren't UTF-8 are one byte
 no_text : (other : Leaf) → InRange (scalar_form scalars.Bytes) other → is_seen numbers (elements.Scalar scalars.Bytes) (elements.Scalar scalars.String) other ≡ false → 2 ≤ body_length (scalar_form scalars.Bytes) other
 unfolding is_utf8 chars
 no_text (Bytes []) h unseen = absurd (cc)

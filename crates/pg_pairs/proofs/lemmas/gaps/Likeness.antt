@@ -1,4 +1,4 @@
--- Like elements stand in one wire type.
+-- Like elements have one wire type.
 use Rattle.std.proofs.Common.{◌≡◌, true, false, refl}
 use Rattle.pg_schema.specs.declared.parts.field.Element.{Element}
 use Rattle.pg_schema.specs.declared.parts.field.Scalar.TheVariants as scalars

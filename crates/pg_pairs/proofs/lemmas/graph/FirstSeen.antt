@@ -1,4 +1,4 @@
--- Lists in which each pair stands once, where it was first seen.
+-- Lists that have each pair once, where it was first seen.
 use Rattle.std.proofs.Common.{◌≡◌, ℕ, List, [], ◌∷◌, ◌++◌, filter, flat_map, Bool, true, false, not, ◌||◌, cond, refl, ap, sym, ◌∙◌, subst, append-nil, option_to_list, Option, Some, None, take, slice_index_or, length, ◌<◌, ◌+◌}
 use Rattle.std.specs.List.{list_any}
 use Rattle.std.proofs.lemmas.List.{take_more}
@@ -20,7 +20,7 @@ has-filter test p keeps (q ∷ ps) = of (same_pair q p) (test q) refl refl (has-
     of false false is_s is_t later = rw (is_t, is_s) later
     of true false is_s is_t later = absurd (let kept = keeps q is_s in cc)
 
--- One pair more stands at the end, if it wasn't there.
+-- One pair more is at the end, if it wasn't there.
 pub distinct-more : (ps : List Pair) (p : Pair) → distinct (ps ++ p ∷ []) ≡ cond (has_pair (distinct ps) p) (distinct ps) (distinct ps ++ p ∷ [])
 distinct-more [] p = refl
 distinct-more (x ∷ ps) p = ap (λ qs. x ∷ filter (λ q. not (same_pair x q)) qs) (distinct-more ps p) ∙ of (same_pair x p) (has_pair (distinct ps) p) refl refl

@@ -1,4 +1,4 @@
--- Lists in which each pair stands once, as they grow.
+-- Lists that have each pair once, as they grow.
 use Rattle.std.proofs.Common.{◌≡◌, ℕ, ◌+◌, ◌<◌, List, [], ◌∷◌, ◌++◌, filter, take, length, get_or, Bool, true, false, not, ◌||◌, cond, if◌then◌else◌, inl, inr, ⊎_elim, refl, ap, sym, ◌∙◌, subst, append-nil, append_assoc, add-one}
 use Rattle.std.specs.BTreeSet.{BTreeSet, Updates, contains}
 use Rattle.std.specs.List.{AllByRecursion}
@@ -40,7 +40,7 @@ module _ (law : OnePairMore) where
         | false ↦ λ h. law zs y ∙ ap (λ ps. grown ps y) once ∙ grown_new zs y h
       ] refl
 
-  -- the front of a list in which each stands once may be grown first
+  -- the front of a list that has each pair once may be grown first
   first_grown : (zs : List Pair) (y : Pair) (ys : List Pair) → distinct zs ≡ zs → distinct (zs ++ y ∷ ys) ≡ distinct (grown zs y ++ ys)
   first_grown zs y ys once =
       ap distinct (sym (append_assoc zs (y ∷ []) ys))

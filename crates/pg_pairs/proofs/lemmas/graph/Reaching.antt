@@ -13,9 +13,9 @@ use Rattle.pg_pairs.specs.graph.Reached.{FromOneRoot, IsLedTo, IsReachedFrom, Le
 use Rattle.pg_pairs.proofs.lemmas.choices.Among.{among_each}
 use Rattle.pg_pairs.proofs.lemmas.graph.Grown.{distinct-again, distinct-front, grown_behind, each_distinct, among_distinct}
 
--- Places in lists.
+-- Indices of lists.
 
--- what is read at a place, by what its reading says
+-- what is read at an index, by what its reading says
 pub copied_at : {A B : Type 0} (now : B → A) (xs : List A) (i : ℕ) (r : Option B) → is_some r ≡ ltb i (length xs) → ((d : A) → unwrap_or (option_map now r) d ≡ get_or xs i d) → option_map now r ≡ slice_get xs i
 copied_at now xs i None there value =
     ⊎_elim (λ here. absurd (let no : false ≡ true = there ∙ lt-ltb i (length xs) here.1 in cc)) (λ past. sym past.1) (slice_get_cases xs i).1
@@ -64,7 +64,7 @@ each_flat h (x ∷ xs) all within = (
 )
 
 module _ (law : OnePairMore) (kids : Pair → List Pair) (roots : List Pair) where
-  -- the roots and the children of the pairs before that place
+  -- the roots and the children of the pairs before that index
   abbrev pub found_to : ℕ → List Pair → List Pair
   found_to at ps = distinct (roots ++ flat_map kids (take at ps))
 
@@ -99,7 +99,7 @@ module _ (law : OnePairMore) (kids : Pair → List Pair) (roots : List Pair) whe
   next_each P ps x after is each more = subst (AllByRecursion P) (sym is) (each_distinct P (ps ++ kids x) (each-append P ps (kids x) each (every_is_among P (kids x) more)))
 
   module _ (ps : List Pair) (in_order : ps ≡ distinct (roots ++ flat_map kids ps)) where
-    -- what is found stands in the list
+    -- what is found is in the list
     among_found : (y : Pair) → IsAmong y (roots ++ flat_map kids ps) → IsAmong y ps
     among_found y among = subst (IsAmong y) (sym in_order) (among_distinct y (roots ++ flat_map kids ps) among)
 

@@ -66,7 +66,7 @@ seen_home child f g beside cs h =
     (λ c s. (rw s.zero_same, and_from (same_key c.key c.key) (matches numbers f f c.expected (item_read child f.element c.written)) (same_key_refl c.key) (meets_own f g f c.expected (item_read child f.element c.written) s.met)))
     cs h)
 
--- What stands across is read.
+-- What crosses is read.
 
 pub across_readable : (child : Reader) (f g : FieldShape) (cs : List Comparand) → Across child g f cs → all_field_readable child f (field_records g (map writes cs)) ≡ true
 across_readable child f g cs across =

@@ -229,7 +229,7 @@ one_body scalars.Bytes scalars.Bytes item alike other range read = refl
 one_body scalars.Bytes scalars.String item alike other range read = sym (text_raw item)
 one_body scalars.Bytes t item alike other range read = absurd (cc)
 
--- an enum stands as int32 does
+-- an enum is written as int32 is
 of_int32 : (t : Scalar) → is_bool_of_zigzag (elements.Scalar scalars.Int32) (elements.Scalar t) ≡ false
 of_int32 scalars.Bool = refl
 of_int32 t = refl

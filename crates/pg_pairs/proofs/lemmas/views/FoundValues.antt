@@ -1,4 +1,4 @@
--- Where a value is found among others: at its place, or where those of one number stand together.
+-- Where a value is found among others: at an index, or among those of its number, which are next to each other.
 use Rattle.std.proofs.Common.{◌≡◌, ℕ, zero, suc, ℤ, ◌+◌, ◌-◌, ◌<◌, ◌≤◌, List, [], ◌∷◌, length, get_or, map, take, drop, length-drop, get_or-drop, Bool, true, false, not, ◌&&◌, ◌||◌, ltb, leb, ltb-true, ap, subst, refl, ◌∙◌, arith}
 use Rattle.std.specs.List.{list_any}
 use Rattle.std.specs.List.Sorted.{IsPartitionPoint}
@@ -75,17 +75,17 @@ cut xs v s n inside within lower upper =
     from_start : (k : ℕ) (d : EnumValue) → s ≤ k → get_or (drop s xs) (k - s) d ≡ get_or xs k d
     from_start k d h = get_or-drop s xs (k - s) d ∙ ap (λ i. get_or xs i d) (let same : s + (k - s) ≡ k = omega arith in same)
 
--- A value that stands at a place among the others isn't missing there.
+-- A value at an index of the others isn't missing there.
 
-stands_there : (n : ℤ) (name : List ℕ) (others : List EnumValue) (place : ℕ) (o : EnumValue) → place < length others → o ≡ get_or others place o → (int_eq o.number n && bytes_eq (string_bytes o.name) name) ≡ true → has_name (map named others) n name ≡ true
-stands_there n name [] place o h is named_so = absurd (omega (arith, h))
-stands_there n name (u ∷ others) zero o h is named_so =
+is_there : (n : ℤ) (name : List ℕ) (others : List EnumValue) (place : ℕ) (o : EnumValue) → place < length others → o ≡ get_or others place o → (int_eq o.number n && bytes_eq (string_bytes o.name) name) ≡ true → has_name (map named others) n name ≡ true
+is_there n name [] place o h is named_so = absurd (omega (arith, h))
+is_there n name (u ∷ others) zero o h is named_so =
     or_left (int_eq u.number n && bytes_eq (string_bytes u.name) name) (has_name (map named others) n name)
     (subst (λ (w : EnumValue). (int_eq w.number n && bytes_eq (string_bytes w.name) name) ≡ true) is named_so)
-stands_there n name (u ∷ others) (suc place) o h is named_so =
-    or_right (int_eq u.number n && bytes_eq (string_bytes u.name) name) (has_name (map named others) n name) (stands_there n name others place o (omega (arith, h)) is named_so)
+is_there n name (u ∷ others) (suc place) o h is named_so =
+    or_right (int_eq u.number n && bytes_eq (string_bytes u.name) name) (has_name (map named others) n name) (is_there n name others place o (omega (arith, h)) is named_so)
 
 pub not_missing : (others : List EnumValue) (place : ℕ) (o v : EnumValue) → place < length others → o ≡ get_or others place o → (int_eq o.number v.number && bytes_eq (string_bytes o.name) (string_bytes v.name)) ≡ true → is_missing (map named others) (named v) ≡ false
 not_missing others place o v h is named_so =
-    let there = stands_there v.number (string_bytes v.name) others place o h is named_so in
+    let there = is_there v.number (string_bytes v.name) others place o h is named_so in
     and_right (declares (map named others) v.number) (not (has_name (map named others) v.number (string_bytes v.name))) (ap not there)

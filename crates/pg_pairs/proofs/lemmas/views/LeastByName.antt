@@ -155,7 +155,7 @@ module _ (zero : Bool) (v : NamedNumber) (values others : List NamedNumber) (o :
         | false ↦ λ e. left_out_step zero v values others o e
       ] refl
 
--- What is left of the values, with the next one in front.
+-- What is left of the values, the next one first.
 pub next_left : (zero : Bool) (values : List EnumValue) (others : List NamedNumber) (i : ℕ) (v : EnumValue) (o : Option ℤ) → i < length values → v ≡ get_or values i v
     → lesser_of o (least_number (missing_numbers zero (map named (drop i values)) others)) ≡ lesser_of o (least_number (missing_numbers zero (named v ∷ map named (drop (i + 1) values)) others))
 next_left zero values others i v o h is =

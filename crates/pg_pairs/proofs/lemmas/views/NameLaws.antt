@@ -12,7 +12,7 @@ use Rattle.pg_pairs.specs.views.LeastNumbers.{least_number, has_32_bits, number_
 use Rattle.pg_pairs.proofs.lemmas.views.LeastNumberLaws.{least_of_those}
 use Rattle.pg_pairs.specs.views.NamedView.{alike_by_name, differing, least_by_name}
 
--- What stands in a list that is made of another.
+-- What is in a list that is made of another.
 
 module _ {A : Type 0} (test : A → Bool) where
   pub among_filter : (x : A) (xs : List A) → IsAmong x xs → test x ≡ true → IsAmong x (filter test xs)

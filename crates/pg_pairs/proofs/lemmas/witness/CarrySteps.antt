@@ -265,7 +265,7 @@ not_sibling fs rising f e found apart =
         (and_left (same_oneof e.oneof g.oneof) (not (nat_eq e.number g.number)) (subst (λ (x : FieldShape). same_oneof e.oneof x.oneof ≡ false) (sym same) apart))
 
 module _ (type : TypeId) where
-  -- a content set behind one part of a lower number that isn't in its oneof
+  -- a content set after one part of a lower number that isn't in its oneof
   with_content_behind : (fs : List FieldShape) (e : FieldShape) (number : ℕ) (key : Option Leaf) (item : KeptItem) (qs : List (Part KeptItem)) → is_sibling_number fs e number ≡ false → nat_lt number e.number ≡ true → nat_lt e.number number ≡ false → with_content fs e qs (kept_from type (record { number = number; key = key; item = item } ∷ []) []) ≡ kept_from type (record { number = number; key = key; item = item } ∷ qs) []
   with_content_behind fs e number key (Plain listed leaf) qs sibling below above =
       rw (sibling) (rw (below, above) (ap (λ x. kept_from type (record { number = number; key = key; item = Plain listed leaf } ∷ x) []) (append-nil qs)))

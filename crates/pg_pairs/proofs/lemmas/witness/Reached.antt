@@ -26,13 +26,13 @@ use Rattle.pg_pairs.proofs.lemmas.witness.Meeting.{reach_meeting}
 use Rattle.pg_dyn.proofs.PublicLaws.{fields_are_found}
 
 module _ (enum_view : EnumView) (law : IsEnumView enum_view) (old new : Shape) (shape_old : IsShape old) (shape_new : IsShape new) (table : Table) (pair : Pair) where
-  -- two fields that meet stand in order, and not in one old oneof
+  -- two fields that meet are in order, and not in one old oneof
   abbrev pub AreApart : Choice → Type 0
   AreApart c = is_oneof c.case ≡ true →
       (c.number < c.part) × ((f e : FieldShape) → field_at (fields old pair.old) c.number ≡ Some f → field_at (fields old pair.old) c.part
       ≡ Some e → same_oneof f.oneof e.oneof ≡ false)
 
-  -- the fields of both types that a choice stands in, and of two that meet the second
+  -- the fields of both types that a choice is of, and of two that meet the second
   pub record Stands (c : Choice) : Type 0 where
     pub field : FieldShape
     pub beside : FieldShape

@@ -62,7 +62,7 @@ map_key_is_key (values.Text n) h = tt
 map_key_is_key (values.Bytes n) h = tt
 map_key_is_key (values.Msg child) h = h
 
--- it stands in a list just where the field is repeated
+-- it is in a list just where the field is repeated
 is_listed : (shape : Shape) (f : FieldShape) (listed : Bool) (v : ValueRef) → HoldsItem shape f (item_seen listed v) → is_repeated f.presence ≡ listed
 is_listed shape f listed (values.Int n) h = h.0
 is_listed shape f listed (values.F32 n) h = h.0

@@ -1,4 +1,4 @@
--- The words rise, so the values of one number stand together.
+-- The words rise, so the values of one number are next to each other.
 use Rattle.std.proofs.Common.{◌≡◌, ◌-◌, ◌∙◌, List, map, true, false, ltb, leb, take, drop, length, length-drop, ap, subst, arith, rules}
 use Rattle.std.specs.List.Sorted.{IsPartitionPoint}
 use Rattle.std.proofs.lemmas.List.{take_all}

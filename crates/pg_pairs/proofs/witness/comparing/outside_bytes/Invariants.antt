@@ -1,4 +1,4 @@
--- What stands outside of the records before the index.
+-- What is outside of the records before the index.
 use Rattle.std.proofs.Common.{◌≡◌, flat_map, take}
 use Rattle.pg_schema.specs.Parts.{shape_of}
 use Rattle.pg_schema.specs.Shape.{fields}
