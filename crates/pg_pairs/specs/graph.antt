@@ -2,7 +2,6 @@ pub mod ByIndices
 pub mod CauseLaws
 pub mod EdgeChildren
 pub mod Edges
-pub mod FirstSeen
 pub mod GraphView
 pub mod LeastOf
 pub mod Reached

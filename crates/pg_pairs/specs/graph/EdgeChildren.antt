@@ -9,7 +9,7 @@ use Rattle.pg_pairs.specs.declared.graph.edge.Edge.{Edge}
 use Rattle.pg_pairs.specs.bounds.Covering.{IsAmong, all_children, children, children_beside, distinct, same_pair}
 use Rattle.pg_pairs.specs.graph.Edges.{edge_to, edges}
 
-same_pair-true : (p q : Pair) → same_pair p q ≡ true → p ≡ q
+pub same_pair-true : (p q : Pair) → same_pair p q ≡ true → p ≡ q
 same_pair-true p q h =
     let both = and_parts (nat_eq p.old.index q.old.index) (nat_eq p.new.index q.new.index) h in
     λ i. record {
@@ -17,7 +17,8 @@ same_pair-true p q h =
       new = record { index = eqb-true p.new.index q.new.index both.1 i };
     }
 
-among_distinct : (p : Pair) (ps : List Pair) → IsAmong p ps → IsAmong p (distinct ps)
+-- a pair of a list is among its distinct pairs
+pub among_distinct : (p : Pair) (ps : List Pair) → IsAmong p ps → IsAmong p (distinct ps)
 among_distinct p [] h = absurd h
 among_distinct p (q ∷ ps) h = ⊎_elim (λ same. inl same) (λ later. of (same_pair q p) refl (among_distinct p ps later)) h
   where

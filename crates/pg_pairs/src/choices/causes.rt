@@ -11,10 +11,10 @@ ghost use Rattle.pg_pairs.specs.bounds.Laws.{ReachedBy};
 ghost use Rattle.pg_pairs.specs.graph.GraphView.{seen};
 
 use crate::choices::choice::{Choice, Pair};
-use crate::laws::{causes_are_own, sees};
 use crate::choices::option_list::options;
 use crate::graph::priced::Priced;
 use crate::graph::table::NoBounds;
+use crate::laws::{causes_are_own, sees};
 use crate::witness::message::carry;
 use pg_dyn::Message;
 use std::alloc::{AllocError, Global};

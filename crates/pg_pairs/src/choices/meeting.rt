@@ -19,11 +19,7 @@ use pg_schema::Field;
 use std::alloc::AllocError;
 
 /// Appends the choice of two fields that meet.
-fn offer_meeting(
-    choices: &mut Vec<Choice>,
-    first: &Field,
-    second: &Field,
-) -> Result<(), AllocError>
+fn offer_meeting(choices: &mut Vec<Choice>, first: &Field, second: &Field) -> Result<(), AllocError>
     requires first { first.now.number < 2 ^ 29 }
     requires second { second.now.number < 2 ^ 29 }
     ensures { OnOk result (choices.new.items ≡ choices.old.items ++ affordable

@@ -68,7 +68,10 @@ pub(crate) fn links_of(
 {
     let none = list.len();
     let mut first = HashMap::new(alloc);
-    let mut links = vec![in alloc; Link { next: none, other: none }; none]?;
+    let mut links = vec![in alloc; Link {
+        next: none,
+        other: none
+    }; none]?;
     let mut at = none;
     while at > 0 {
         at -= 1;

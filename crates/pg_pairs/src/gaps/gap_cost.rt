@@ -10,10 +10,10 @@ ghost use Rattle.pg_pairs.specs.gaps.Gaps.{body_length, gap, item_of};
 ghost use Rattle.pg_pairs.specs.graph.GraphView.{seen};
 
 use crate::choices::cost::{varint_bytes, with_length};
-use crate::graph::children::child_pair;
 use crate::gaps::gap_kind::Gap;
-use crate::graph::priced::Priced;
 use crate::gaps::scalar_gap::gap;
+use crate::graph::children::child_pair;
+use crate::graph::priced::Priced;
 use crate::graph::table::Table;
 use crate::views::view::View;
 use pg_dyn::complement_64;

@@ -10,6 +10,7 @@ ghost use Rattle.pg_pairs.specs.bounds.Covering.{all_children, children, childre
 use crate::choices::case::Case;
 use crate::choices::choice::{Choice, Pair};
 use crate::gaps::likeness::are_like;
+use crate::graph::walking::add_unseen;
 use pg_schema::{Element, Field, Presence, Schema, TypeId};
 use std::alloc::{AllocError, Global};
 use std::collections::BTreeSet;
@@ -58,15 +59,15 @@ fn children_of(
     ensures { IfOk result (λ pairs. pairs.items
         ≡ distinct (all_children (fields (shape_of new.now) type_id) (map field_shape list.now))) }
 {
-    let mut pairs = Vec::new(alloc);
-    let mut seen = BTreeSet::new(alloc);
+    let mut found = Vec::new(alloc);
     for field in list {
         if let Some(child) = child_beside(new, type_id, field) {
-            if seen.insert((child.old.index, child.new.index))? {
-                pairs.push(child)?;
-            }
+            found.push(child)?;
         }
     }
+    let mut pairs = Vec::new(alloc);
+    let mut seen = BTreeSet::new(alloc);
+    add_unseen(&mut pairs, &mut seen, &found)?;
     Ok(pairs)
 }
 

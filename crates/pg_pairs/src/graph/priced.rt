@@ -10,13 +10,13 @@ ghost use Rattle.pg_pairs.specs.bounds.LeastCosts.{least_cost};
 
 use crate::choices::choice::{Choice, Pair};
 use crate::choices::cost::{one_item, with_length};
+use crate::choices::least_cost::cheapest;
 use crate::graph::children::{child_beside, children};
 use crate::graph::edge::{Edge, Part};
-use crate::choices::least_cost::cheapest;
 use crate::graph::prices::Prices;
 use crate::graph::table::NoBounds;
-use crate::views::view::View;
 use crate::graph::work::Work;
+use crate::views::view::View;
 use pg_dyn::{MAX_ENCODING_LEN, ViewName};
 use pg_schema::{Field, Presence, Schema};
 use std::alloc::{AllocError, Global};

@@ -12,7 +12,7 @@ use std::alloc::{AllocError, Global};
 use std::collections::BTreeSet;
 
 /// Adds those of the pairs found that weren't seen yet, in their order.
-fn add_unseen(
+pub(crate) fn add_unseen(
     pairs: &mut Vec<Pair>,
     seen: &mut BTreeSet<(u32, u32)>,
     found: &[Pair],

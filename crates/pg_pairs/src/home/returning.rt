@@ -10,8 +10,8 @@ ghost use Rattle.pg_pairs.specs.home.Returns.{Returns, becomes_packed, packs};
 use crate::choices::choice::Pair;
 use crate::graph::priced::Priced;
 use crate::graph::prices::Prices;
-use crate::views::view::Numbers;
 use crate::graph::walking::reached_pairs;
+use crate::views::view::Numbers;
 use pg_schema::{Field, Presence, Schema, TypeId};
 use std::alloc::{AllocError, Global};
 

@@ -10,8 +10,8 @@ ghost use Rattle.pg_dyn.specs.Kept.{message_of, type_of};
 ghost use Rattle.pg_pairs.specs.graph.GraphView.{seen};
 
 use crate::choices::choice::Pair;
-use crate::witness::comparing::is_same_message;
 use crate::graph::priced::Priced;
+use crate::witness::comparing::is_same_message;
 use pg_dyn::laws::reads_again;
 use pg_dyn::{DynError, Message, MessageRef, decode_ref_unlimited, encode};
 use std::alloc::{AllocError, Global};

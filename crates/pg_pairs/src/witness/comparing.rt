@@ -17,8 +17,8 @@ ghost use Rattle.pg_pairs.specs.witness.Comparing.{all_match, HasEncoding, HeldF
 
 use crate::choices::beside::Beside;
 use crate::graph::priced::Priced;
-use crate::witness::same_contents::{count, held_at, is_same_key, is_same_leaf, shown};
 use crate::views::view::View;
+use crate::witness::same_contents::{count, held_at, is_same_key, is_same_leaf, shown};
 use pg_dyn::{ContentRef, DynError, MessageRef, ValueRef, encode_unshared_ref};
 use pg_schema::{Element, Field, Schema, TypeId};
 use pg_wire::Record;

@@ -14,8 +14,8 @@ ghost use Rattle.pg_pairs.specs.witness.CarriedItems.{IsChildOf, leaf_by, value_
 ghost use Rattle.pg_dyn.specs.Kept.{message_of};
 
 use crate::gaps::gap_kind::Gap;
-use crate::graph::priced::Priced;
 use crate::gaps::scalar_gap::gap;
+use crate::graph::priced::Priced;
 use crate::views::view::View;
 use pg_dyn::{Integer, Message, Value};
 use pg_schema::{Element, EnumId, Scalar};

@@ -1,7 +1,7 @@
 -- What holds of all choices, or of all children, holds of those of one field.
-use Rattle.std.proofs.Common.{◌≡◌, ℕ, ◌+◌, ◌<◌, List, [], ◌∷◌, ◌++◌, Bool, true, false, not, nat_eq, cond, if◌then◌else◌, Some, refl, ap, ◌∙◌, subst, arith, eqb-true}
+use Rattle.std.proofs.Common.{◌≡◌, ℕ, ◌+◌, ◌<◌, List, [], ◌∷◌, ◌++◌, true, false, not, nat_eq, cond, if◌then◌else◌, Some, refl, ap, ◌∙◌, subst, arith, eqb-true}
 use Rattle.std.specs.List.{AllByRecursion}
-use Rattle.std.proofs.lemmas.Bool.{and_parts}
+use Rattle.std.proofs.lemmas.Bool.{not-false}
 use Rattle.pg_schema.specs.Shape.{FieldShape, Rising, field_at}
 use Rattle.pg_pairs.specs.declared.choices.case.Case.TheVariants as cases
 use Rattle.pg_pairs.specs.declared.choices.choice.Choice.{Choice}
@@ -10,6 +10,7 @@ use Rattle.pg_pairs.specs.views.EnumView.{EnumView}
 use Rattle.pg_pairs.specs.choices.Costs.{least_content}
 use Rattle.pg_pairs.specs.choices.Choices.{Table, choice, field_choices, joins, joined_choices, choices_beside, all_choices}
 use Rattle.pg_pairs.specs.bounds.Covering.{field_children, children_beside, all_children, same_pair, distinct}
+use Rattle.pg_pairs.specs.graph.EdgeChildren.{same_pair-true}
 use Rattle.pg_dyn.proofs.PublicLaws.{fields_are_found}
 use Rattle.pg_dyn.proofs.Lists.{each_at, each_before, each_after, each_unfiltered}
 
@@ -66,21 +67,12 @@ module _ (P : Choice → Type 0) (enum_view : EnumView) (table : Table) (gs : Li
           elim (nat_eq x.number k) as (λ c. nat_eq x.number k ≡ c → cond c (Some x) (field_at fs k) ≡ Some b → field_at fs k ≡ Some b)
           [ true ↦ λ e h. absurd (apart (eqb-true x.number k e)) | false ↦ λ e h. h ] refl found
 
--- children, of which each stands once in the list
-
-pub same_pair-true : (p q : Pair) → same_pair p q ≡ true → p ≡ q
-same_pair-true p q h =
-    let both = and_parts (nat_eq p.old.index q.old.index) (nat_eq p.new.index q.new.index) h in
-    λ i. record { old = record { index = eqb-true p.old.index q.old.index both.0 i }; new = record { index = eqb-true p.new.index q.new.index both.1 i } }
-
-not_false : (b : Bool) → not b ≡ false → b ≡ true
-not_false true h = refl
-not_false false h = absurd (cc)
+-- children, each once in the list
 
 each_distinct : (P : Pair → Type 0) (ps : List Pair) → AllByRecursion P (distinct ps) → AllByRecursion P ps
 each_distinct P [] h = tt
 each_distinct P (p ∷ ps) h =
-    (h.0, each_distinct P ps (each_unfiltered P (λ q. not (same_pair p q)) (λ q same. subst P (same_pair-true p q (not_false (same_pair p q) same)) h.0) (distinct ps) h.1))
+    (h.0, each_distinct P ps (each_unfiltered P (λ q. not (same_pair p q)) (λ q same. subst P (same_pair-true p q (not-false (same_pair p q) same)) h.0) (distinct ps) h.1))
 
 module _ (P : Pair → Type 0) (gs : List FieldShape) where
   children_in : (fs : List FieldShape) (n : ℕ) (f g : FieldShape) → field_at fs n ≡ Some f → field_at gs n ≡ Some g → AllByRecursion P (all_children gs fs) → AllByRecursion P (field_children f g)

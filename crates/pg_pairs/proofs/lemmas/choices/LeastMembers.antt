@@ -1,11 +1,11 @@
 -- The cheapest choice of a field with later ones is the one with the least of them; two of each new oneof are enough to find it.
 use Rattle.std.proofs.Common.{◌≡◌, ℕ, ◌+◌, List, [], ◌∷◌, ◌++◌, Bool, true, false, not, ◌&&◌, cond, if◌then◌else◌, nat_eq, nat_le, Option, Some, None, refl, ap, sym, ◌∙◌, subst, arith, option_and_then, eqb-true, eq-eqb}
 use Rattle.std.specs.HashMap.{HashMap, get, Updates}
+use Rattle.std.proofs.Math.Bool.{and_comm}
 use Rattle.std.proofs.lemmas.Bool.{leb-true, leb-false, le-leb, lt-leb}
 use Rattle.pg_schema.specs.Shape.{FieldShape, field_at}
 use Rattle.pg_dyn.specs.reading.Content.{same_oneof}
 use Rattle.pg_pairs.specs.declared.choices.case.Case.TheVariants as cases
-use Rattle.pg_pairs.specs.declared.choices.choice.Choice.{Choice}
 use Rattle.pg_pairs.specs.declared.choices.least_member.Member.{Member}
 use Rattle.pg_pairs.specs.declared.choices.least_member.Two.{Two}
 use Rattle.pg_pairs.specs.choices.Costs.{least_content}
@@ -32,12 +32,6 @@ in_oneof_is gs a b = of (field_at gs a.number) (field_at gs b.number)
     of (Some g) None = no_second g.oneof
     of None y = refl
 
-and_swap : (a b : Bool) → (a && b) ≡ (b && a)
-and_swap true true = refl
-and_swap true false = refl
-and_swap false true = refl
-and_swap false false = refl
-
 le-shift : (k m n : ℕ) → nat_le (k + m) (k + n) ≡ nat_le m n
 le-shift k m n =
     elim (nat_le m n) as (λ b. nat_le m n ≡ b → nat_le (k + m) (k + n) ≡ b) [
@@ -50,7 +44,7 @@ lesser-joined a m None = refl
 lesser-joined a m (Some n) = rw (le-shift a.cost m.cost n.cost) (elim (nat_le m.cost n.cost) as (λ b. Some (cond b (joined_with a m) (joined_with a n)) ≡ Some (joined_with a (cond b m n))) [ true ↦ refl | false ↦ refl ])
 
 pub joins_is : (gs : List FieldShape) (a b : FieldShape) → joins gs a b ≡ (same_oneof (new_oneof gs a) (new_oneof gs b) && not (same_oneof a.oneof b.oneof))
-joins_is gs a b = ap (λ one. not (same_oneof a.oneof b.oneof) && one) (in_oneof_is gs a b) ∙ and_swap (not (same_oneof a.oneof b.oneof)) (same_oneof (new_oneof gs a) (new_oneof gs b))
+joins_is gs a b = ap (λ one. not (same_oneof a.oneof b.oneof) && one) (in_oneof_is gs a b) ∙ and_comm (not (same_oneof a.oneof b.oneof)) (same_oneof (new_oneof gs a) (new_oneof gs b))
 
 pub cheapest-joined : (gs : List FieldShape) (a : FieldShape) (later : List FieldShape) → cheapest (joined_choices gs a later) ≡ cheapest (met_choices (member_of a) (least_member gs (new_oneof gs a) a.oneof later))
 cheapest-joined gs a [] = refl

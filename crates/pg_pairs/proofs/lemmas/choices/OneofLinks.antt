@@ -1,5 +1,5 @@
 -- From a field along the later ones of its new oneof: what is passed over joins nothing.
-use Rattle.std.proofs.Common.{◌≡◌, ℕ, suc, ◌+◌, ◌<◌, ◌≤◌, List, [], ◌∷◌, ◌++◌, map, length, drop, set, slice_index_or, nat_eq, Bool, true, false, not, ◌&&◌, if◌then◌else◌, Option, Some, None, refl, ap, ap₂, sym, ◌∙◌, subst, subst₂, arith, eqb-true, eq-eqb, append_assoc, length-set}
+use Rattle.std.proofs.Common.{◌≡◌, ℕ, suc, ◌+◌, ◌<◌, ◌≤◌, List, [], ◌∷◌, ◌++◌, map, length, set, slice_index_or, nat_eq, Bool, true, false, not, ◌&&◌, if◌then◌else◌, Option, Some, None, refl, ap, ap₂, sym, ◌∙◌, subst, subst₂, arith, eqb-true, eq-eqb, append_assoc, length-set}
 use Rattle.std.proofs.lemmas.List.{get_or-set_same, get_or-set_other}
 use Rattle.pg_schema.specs.declared.parts.field.Field.{Field}
 use Rattle.pg_schema.specs.Parts.{field_shape}
@@ -60,10 +60,7 @@ module _ (gs : List FieldShape) (list : List Field) where
         member = (before o).member;
       }
 
-  -- the next field outside the old oneof
-  pub beside_passes : (f : Field) (n next : ℕ) → Passes gs list (new_oneof gs (field_shape f)) IsAny n next → Passes gs list (new_oneof gs (field_shape f)) (IsBeside f) n next
-  beside_passes f n next p = record { later = p.later; same = λ a own old. p.same a own tt; member = p.member }
-
+  -- the next field outside the old oneof, where the next field is in it
   pub other_passes : (f g : Field) (n next other : ℕ) → next < length list → g ≡ slice_index_or list next g → same_oneof f.oneof g.oneof ≡ true → Passes gs list (new_oneof gs (field_shape f)) IsAny n next →
       Passes gs list (new_oneof gs (field_shape g)) (IsBeside g) (suc next) other → Passes gs list (new_oneof gs (field_shape f)) (IsBeside f) n other
   other_passes f g n next other inside is old p q =

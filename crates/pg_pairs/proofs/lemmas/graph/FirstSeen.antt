@@ -1,14 +1,9 @@
 -- Lists that have each pair once, where it was first seen.
-use Rattle.std.proofs.Common.{◌≡◌, ℕ, List, [], ◌∷◌, ◌++◌, filter, flat_map, Bool, true, false, not, ◌||◌, cond, refl, ap, sym, ◌∙◌, subst, append-nil, option_to_list, Option, Some, None, take, slice_index_or, length, ◌<◌, ◌+◌}
-use Rattle.std.specs.List.{list_any}
-use Rattle.std.proofs.lemmas.List.{take_more}
-use Rattle.pg_dyn.proofs.Lists.{flat_map-append'}
+use Rattle.std.proofs.Common.{◌≡◌, List, [], ◌∷◌, ◌++◌, filter, Bool, true, false, not, ◌||◌, cond, refl, ap, sym, ◌∙◌, subst, append-nil}
 use Rattle.pg_pairs.specs.declared.choices.choice.Pair.{Pair}
 use Rattle.pg_pairs.specs.bounds.Covering.{same_pair, distinct}
-use Rattle.pg_pairs.proofs.lemmas.choices.Choosing.{same_pair-true}
-
-abbrev pub has_pair : List Pair → Pair → Bool
-has_pair ps p = list_any (λ q. same_pair q p) ps
+use Rattle.pg_pairs.specs.graph.EdgeChildren.{same_pair-true}
+use Rattle.pg_pairs.specs.graph.Seen.{has_pair}
 
 -- a filter that drops no pair that is the same as p
 has-filter : (test : Pair → Bool) (p : Pair) → ((q : Pair) → same_pair q p ≡ true → test q ≡ true) → (ps : List Pair) → has_pair (filter test ps) p ≡ has_pair ps p
@@ -47,17 +42,3 @@ distinct-more (x ∷ ps) p = ap (λ qs. x ∷ filter (λ q. not (same_pair x q))
     of true false is_s is_t = rw (is_t, filter-end (distinct ps), is_s) (ap (λ qs. x ∷ qs) (append-nil (filter (λ q. not (same_pair x q)) (distinct ps))))
     of false true is_s is_t = rw (is_s, has-filter (λ q. not (same_pair x q)) p (keeps is_s) (distinct ps), is_t)
     of false false is_s is_t = rw (is_s, has-filter (λ q. not (same_pair x q)) p (keeps is_s) (distinct ps), is_t, filter-end (distinct ps), is_s)
-
--- A list grown by the pair of one field.
-abbrev pub grown : List Pair → Option Pair → List Pair
-grown ps None = ps
-grown ps (Some p) = cond (has_pair ps p) ps (ps ++ p ∷ [])
-
-pub distinct-grown : (ps : List Pair) (o : Option Pair) → distinct (ps ++ option_to_list o) ≡ grown (distinct ps) o
-distinct-grown ps None = ap distinct (append-nil ps)
-distinct-grown ps (Some p) = distinct-more ps p
-
--- what each of a front gives, and what the next one does
-pub row_more : {X B : Type 0} (give : X → List B) (xs : List X) (i : ℕ) (x : X) → i < length xs → x ≡ slice_index_or xs i x → flat_map give (take (i + 1) xs) ≡ flat_map give (take i xs) ++ give x
-row_more give xs i x inside is =
-    ap (flat_map give) (take_more xs i x inside ∙ ap (λ y. take i xs ++ y ∷ []) (sym is)) ∙ flat_map-append' give (take i xs) (x ∷ []) ∙ ap (λ ys. flat_map give (take i xs) ++ ys) (append-nil (give x))

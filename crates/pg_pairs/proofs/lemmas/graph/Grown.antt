@@ -1,15 +1,15 @@
 -- Lists that have each pair once, as they grow.
-use Rattle.std.proofs.Common.{◌≡◌, ℕ, ◌+◌, ◌<◌, List, [], ◌∷◌, ◌++◌, filter, take, length, get_or, Bool, true, false, not, ◌||◌, cond, if◌then◌else◌, inl, inr, ⊎_elim, refl, ap, sym, ◌∙◌, subst, append-nil, append_assoc, add-one}
+use Rattle.std.proofs.Common.{◌≡◌, ℕ, ◌+◌, ◌<◌, List, [], ◌∷◌, ◌++◌, take, length, get_or, Bool, true, false, not, ◌||◌, cond, if◌then◌else◌, refl, ap, sym, ◌∙◌, subst, append-nil, append_assoc, add-one}
 use Rattle.std.specs.BTreeSet.{BTreeSet, Updates, contains}
 use Rattle.std.specs.List.{AllByRecursion}
 use Rattle.std.proofs.Math.Seq.{take-suc}
 use Rattle.pg_pairs.specs.declared.choices.choice.Pair.{Pair}
-use Rattle.pg_pairs.specs.bounds.Covering.{same_pair, distinct, IsAmong}
-use Rattle.pg_pairs.specs.graph.FirstSeen.{OnePairMore}
+use Rattle.pg_pairs.specs.bounds.Covering.{same_pair, distinct}
 use Rattle.pg_pairs.specs.graph.ByIndices.{by_indices, equal_same}
 use Rattle.pg_pairs.specs.graph.Seen.{has_pair, AreSeen}
 use Rattle.pg_dyn.proofs.Lists.{each_filtered}
-use Rattle.pg_pairs.proofs.lemmas.choices.Choosing.{same_pair-true}
+use Rattle.pg_pairs.specs.graph.EdgeChildren.{same_pair-true}
+use Rattle.pg_pairs.proofs.lemmas.graph.FirstSeen.{distinct-more}
 
 -- a list with one pair more, if it isn't there
 abbrev pub grown : List Pair → Pair → List Pair
@@ -24,85 +24,63 @@ grown_again ps p h = rw h refl
 pub take_more : {X : Type 0} (xs : List X) (i : ℕ) (d : X) → i < length xs → take (i + 1) xs ≡ take i xs ++ get_or xs i d ∷ []
 take_more xs i d inside = ap (λ n. take n xs) (add-one i) ∙ take-suc xs i d inside
 
-module _ (law : OnePairMore) where
-  -- lists with the same distinct pairs grow alike
-  alike : (xs zs ys : List Pair) → distinct xs ≡ distinct zs → distinct (xs ++ ys) ≡ distinct (zs ++ ys)
-  alike xs zs [] h = ap distinct (append-nil xs) ∙ h ∙ sym (ap distinct (append-nil zs))
-  alike xs zs (y ∷ ys) h =
-      ap distinct (sym (append_assoc xs (y ∷ []) ys))
-      ∙ alike (xs ++ y ∷ []) (zs ++ y ∷ []) ys (law xs y ∙ ap (λ ps. grown ps y) h ∙ sym (law zs y))
-      ∙ ap distinct (append_assoc zs (y ∷ []) ys)
+-- lists with the same distinct pairs grow alike
+alike : (xs zs ys : List Pair) → distinct xs ≡ distinct zs → distinct (xs ++ ys) ≡ distinct (zs ++ ys)
+alike xs zs [] h = ap distinct (append-nil xs) ∙ h ∙ sym (ap distinct (append-nil zs))
+alike xs zs (y ∷ ys) h =
+    ap distinct (sym (append_assoc xs (y ∷ []) ys))
+    ∙ alike (xs ++ y ∷ []) (zs ++ y ∷ []) ys (distinct-more xs y ∙ ap (λ ps. grown ps y) h ∙ sym (distinct-more zs y))
+    ∙ ap distinct (append_assoc zs (y ∷ []) ys)
 
-  grown_once : (zs : List Pair) (y : Pair) → distinct zs ≡ zs → distinct (grown zs y) ≡ grown zs y
-  grown_once zs y once =
-      elim (has_pair zs y) as (λ b. has_pair zs y ≡ b → distinct (if b then zs else zs ++ y ∷ []) ≡ (if b then zs else zs ++ y ∷ [])) [
-        | true ↦ λ h. once
-        | false ↦ λ h. law zs y ∙ ap (λ ps. grown ps y) once ∙ grown_new zs y h
-      ] refl
+grown_once : (zs : List Pair) (y : Pair) → distinct zs ≡ zs → distinct (grown zs y) ≡ grown zs y
+grown_once zs y once =
+    elim (has_pair zs y) as (λ b. has_pair zs y ≡ b → distinct (if b then zs else zs ++ y ∷ []) ≡ (if b then zs else zs ++ y ∷ [])) [
+      | true ↦ λ h. once
+      | false ↦ λ h. distinct-more zs y ∙ ap (λ ps. grown ps y) once ∙ grown_new zs y h
+    ] refl
 
-  -- the front of a list that has each pair once may be grown first
-  first_grown : (zs : List Pair) (y : Pair) (ys : List Pair) → distinct zs ≡ zs → distinct (zs ++ y ∷ ys) ≡ distinct (grown zs y ++ ys)
-  first_grown zs y ys once =
-      ap distinct (sym (append_assoc zs (y ∷ []) ys))
-      ∙ alike (zs ++ y ∷ []) (grown zs y) ys (law zs y ∙ ap (λ ps. grown ps y) once ∙ sym (grown_once zs y once))
+-- the front of a list that has each pair once may be grown first
+first_grown : (zs : List Pair) (y : Pair) (ys : List Pair) → distinct zs ≡ zs → distinct (zs ++ y ∷ ys) ≡ distinct (grown zs y ++ ys)
+first_grown zs y ys once =
+    ap distinct (sym (append_assoc zs (y ∷ []) ys))
+    ∙ alike (zs ++ y ∷ []) (grown zs y) ys (distinct-more zs y ∙ ap (λ ps. grown ps y) once ∙ sym (grown_once zs y once))
 
-  once_behind : (zs ys : List Pair) → distinct zs ≡ zs → distinct (distinct (zs ++ ys)) ≡ distinct (zs ++ ys)
-  once_behind zs [] once =
-      let same : distinct (zs ++ []) ≡ zs = ap distinct (append-nil zs) ∙ once in
-      ap distinct same ∙ once ∙ sym same
-  once_behind zs (y ∷ ys) once =
-      let same = first_grown zs y ys once in
-      ap distinct same ∙ once_behind (grown zs y) ys (grown_once zs y once) ∙ sym same
+once_after : (zs ys : List Pair) → distinct zs ≡ zs → distinct (distinct (zs ++ ys)) ≡ distinct (zs ++ ys)
+once_after zs [] once =
+    let same : distinct (zs ++ []) ≡ zs = ap distinct (append-nil zs) ∙ once in
+    ap distinct same ∙ once ∙ sym same
+once_after zs (y ∷ ys) once =
+    let same = first_grown zs y ys once in
+    ap distinct same ∙ once_after (grown zs y) ys (grown_once zs y once) ∙ sym same
 
-  -- distinct pairs are so again
-  pub distinct-again : (ps : List Pair) → distinct (distinct ps) ≡ distinct ps
-  distinct-again ps = once_behind [] ps refl
+-- distinct pairs are so again
+pub distinct-again : (ps : List Pair) → distinct (distinct ps) ≡ distinct ps
+distinct-again ps = once_after [] ps refl
 
-  -- distinct pairs stay at the front
-  pub grown_behind : (zs ys : List Pair) → distinct zs ≡ zs → (more : List Pair) × (distinct (zs ++ ys) ≡ zs ++ more)
-  grown_behind zs [] once = ([], ap distinct (append-nil zs) ∙ once ∙ sym (append-nil zs))
-  grown_behind zs (y ∷ ys) once =
-      let same = first_grown zs y ys once in
-      let (more, is) = grown_behind (grown zs y) ys (grown_once zs y once) in
-      elim (has_pair zs y) as (λ b. has_pair zs y ≡ b → (rest : List Pair) × (distinct (zs ++ y ∷ ys) ≡ zs ++ rest)) [
-        | true ↦ λ h. (more, same ∙ is ∙ ap (λ ps. ps ++ more) (grown_again zs y h))
-        | false ↦ λ h. (y ∷ more, same ∙ is ∙ ap (λ ps. ps ++ more) (grown_new zs y h) ∙ append_assoc zs (y ∷ []) more)
-      ] refl
+-- distinct pairs stay at the front
+pub grown_after : (zs ys : List Pair) → distinct zs ≡ zs → (more : List Pair) × (distinct (zs ++ ys) ≡ zs ++ more)
+grown_after zs [] once = ([], ap distinct (append-nil zs) ∙ once ∙ sym (append-nil zs))
+grown_after zs (y ∷ ys) once =
+    let same = first_grown zs y ys once in
+    let (more, is) = grown_after (grown zs y) ys (grown_once zs y once) in
+    elim (has_pair zs y) as (λ b. has_pair zs y ≡ b → (rest : List Pair) × (distinct (zs ++ y ∷ ys) ≡ zs ++ rest)) [
+      | true ↦ λ h. (more, same ∙ is ∙ ap (λ ps. ps ++ more) (grown_again zs y h))
+      | false ↦ λ h. (y ∷ more, same ∙ is ∙ ap (λ ps. ps ++ more) (grown_new zs y h) ∙ append_assoc zs (y ∷ []) more)
+    ] refl
 
-  -- only the distinct pairs of the front matter
-  pub distinct-front : (xs ys : List Pair) → distinct (distinct xs ++ ys) ≡ distinct (xs ++ ys)
-  distinct-front xs ys = alike (distinct xs) xs ys (distinct-again xs)
+-- only the distinct pairs of the front matter
+pub distinct-front : (xs ys : List Pair) → distinct (distinct xs ++ ys) ≡ distinct (xs ++ ys)
+distinct-front xs ys = alike (distinct xs) xs ys (distinct-again xs)
 
-  -- the front of a list with one pair more
-  pub one_more : (front xs : List Pair) (i : ℕ) (d : Pair) → i < length xs → (ps : List Pair) → ps ≡ distinct (front ++ take i xs) → distinct (front ++ take (i + 1) xs) ≡ grown ps (get_or xs i d)
-  one_more front xs i d inside ps so_far =
-      let x = get_or xs i d in
-      ap (λ ys. distinct (front ++ ys)) (take_more xs i d inside) ∙ ap distinct (sym (append_assoc front (take i xs) (x ∷ []))) ∙ law (front ++ take i xs) x ∙ ap (λ qs. grown qs x) (sym so_far)
+-- the front of a list with one pair more
+pub one_more : (front xs : List Pair) (i : ℕ) (d : Pair) → i < length xs → (ps : List Pair) → ps ≡ distinct (front ++ take i xs) → distinct (front ++ take (i + 1) xs) ≡ grown ps (get_or xs i d)
+one_more front xs i d inside ps so_far =
+    let x = get_or xs i d in
+    ap (λ ys. distinct (front ++ ys)) (take_more xs i d inside) ∙ ap distinct (sym (append_assoc front (take i xs) (x ∷ []))) ∙ distinct-more (front ++ take i xs) x ∙ ap (λ qs. grown qs x) (sym so_far)
 
 pub each_distinct : (P : Pair → Type 0) (ps : List Pair) → AllByRecursion P ps → AllByRecursion P (distinct ps)
 each_distinct P [] h = tt
 each_distinct P (p ∷ ps) h = (h.0, each_filtered P (λ q. not (same_pair p q)) (distinct ps) (each_distinct P ps h.1))
-
--- a pair of a list is among its distinct pairs
-pub among_distinct : (x : Pair) (ps : List Pair) → IsAmong x ps → IsAmong x (distinct ps)
-among_distinct x [] h = absurd h
-among_distinct x (p ∷ ps) h = ⊎_elim (λ same. inl same) (λ later. of (same_pair p x) refl (among_distinct x ps later)) h
-  where
-    kept : (qs : List Pair) → same_pair p x ≡ false → IsAmong x qs → IsAmong x (filter (λ q. not (same_pair p q)) qs)
-    kept [] apart k = absurd k
-    kept (q ∷ qs) apart k =
-        ⊎_elim
-        (λ same.
-        let here : not (same_pair p q) ≡ true = ap (λ y. not (same_pair p y)) (sym same) ∙ ap not apart in
-        subst (λ b. IsAmong x (cond b (q ∷ filter (λ q. not (same_pair p q)) qs) (filter (λ q. not (same_pair p q)) qs))) (sym here) (inl same))
-        (λ later.
-        let rest = kept qs apart later in
-        elim (not (same_pair p q)) as (λ b. IsAmong x (cond b (q ∷ filter (λ q. not (same_pair p q)) qs) (filter (λ q. not (same_pair p q)) qs))) [ true ↦ inr rest | false ↦ rest ])
-        k
-
-    of : (b : Bool) → same_pair p x ≡ b → IsAmong x (distinct ps) → IsAmong x (distinct (p ∷ ps))
-    of true e k = inl (sym (same_pair-true p x e))
-    of false e k = inr (kept (distinct ps) e k)
 
 -- The set of what was seen.
 

@@ -4,14 +4,13 @@ use Rattle.std.specs.List.{AllByRecursion}
 use Rattle.std.proofs.lemmas.List.{take-append-le}
 use Rattle.std.proofs.lemmas.Option.{slice_get-get_or, slice_get_cases}
 use Rattle.pg_dyn.proofs.Lists.{each-append, each_weaker}
-use Rattle.pg_pairs.specs.graph.EdgeChildren.{append_left, append_right}
+use Rattle.pg_pairs.specs.graph.EdgeChildren.{among_distinct, append_left, append_right}
 use Rattle.pg_pairs.specs.declared.choices.choice.Pair.{Pair}
 use Rattle.pg_pairs.specs.bounds.Covering.{distinct, IsAmong}
-use Rattle.pg_pairs.specs.graph.FirstSeen.{OnePairMore}
 use Rattle.pg_pairs.specs.graph.Seen.{AreClosed}
 use Rattle.pg_pairs.specs.graph.Reached.{FromOneRoot, IsLedTo, IsReachedFrom, LeadsTo, itself, onwards}
 use Rattle.pg_pairs.proofs.lemmas.choices.Among.{among_each}
-use Rattle.pg_pairs.proofs.lemmas.graph.Grown.{distinct-again, distinct-front, grown_behind, each_distinct, among_distinct}
+use Rattle.pg_pairs.proofs.lemmas.graph.Grown.{distinct-again, distinct-front, grown_after, each_distinct}
 
 -- Indices of lists.
 
@@ -63,23 +62,23 @@ each_flat h (x ∷ xs) all within = (
   each_flat h xs all (λ y among. within y (append_right y (h x) (flat_map h xs) among)),
 )
 
-module _ (law : OnePairMore) (kids : Pair → List Pair) (roots : List Pair) where
+module _ (kids : Pair → List Pair) (roots : List Pair) where
   -- the roots and the children of the pairs before that index
   abbrev pub found_to : ℕ → List Pair → List Pair
   found_to at ps = distinct (roots ++ flat_map kids (take at ps))
 
   pub once : (at : ℕ) (ps : List Pair) → ps ≡ found_to at ps → distinct ps ≡ ps
-  once at ps so_far = ap distinct so_far ∙ distinct-again law (roots ++ flat_map kids (take at ps)) ∙ sym so_far
+  once at ps so_far = ap distinct so_far ∙ distinct-again (roots ++ flat_map kids (take at ps)) ∙ sym so_far
 
   module _ (ps : List Pair) (at : ℕ) (x : Pair) (here : slice_get ps at ≡ Some x) (after : List Pair) (is : after ≡ distinct (ps ++ kids x)) where
     front_stays : ps ≡ found_to at ps → take (at + 1) after ≡ take (at + 1) ps
     front_stays so_far =
-        let (more, grown) = grown_behind law ps (kids x) (once at ps so_far) in
+        let (more, grown) = grown_after ps (kids x) (once at ps so_far) in
         ap (take (at + 1)) (is ∙ grown) ∙ take-append-le (at + 1) ps more (let within = inside ps at x here in omega arith)
 
     pub next_found : ps ≡ found_to at ps → after ≡ found_to (at + 1) after
     next_found so_far =
-        is ∙ ap (λ qs. distinct (qs ++ kids x)) so_far ∙ distinct-front law (roots ++ flat_map kids (take at ps)) (kids x)
+        is ∙ ap (λ qs. distinct (qs ++ kids x)) so_far ∙ distinct-front (roots ++ flat_map kids (take at ps)) (kids x)
         ∙ ap distinct (append_assoc roots (flat_map kids (take at ps)) (kids x))
         ∙ ap (λ qs. distinct (roots ++ qs)) (sym (flat_map-end kids (take at ps) x))
         ∙ ap (λ qs. distinct (roots ++ flat_map kids qs)) (sym (front_stays so_far ∙ take_one_more ps at x here))

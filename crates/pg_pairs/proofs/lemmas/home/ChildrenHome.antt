@@ -74,7 +74,7 @@ not_packed old new a b f g returns found at =
     let own : becomes_packed f (field_at (fields new b) f.number) ≡ false = each_at (λ h. becomes_packed h (field_at (fields new b) h.number) ≡ false) (fields old a) f.number f found none in
     sym (ap (becomes_packed f) at) ∙ own
 
-home_is : (old new : Shape) (s t : TypeId) (child x : Message) → home old new s t child x ≡ home_message (fields old s) (fields new t) (homeward old new s t child) x
+pub home_is : (old new : Shape) (s t : TypeId) (child x : Message) → home old new s t child x ≡ home_message (fields old s) (fields new t) (homeward old new s t child) x
 unfolding home
 home_is old new s t child x = refl
 

@@ -21,7 +21,7 @@ use Rattle.pg_dyn.specs.Laws.{of_number}
 use Rattle.pg_dyn.proofs.Lists.{each_weaker, each_both, map_map, each-filter, each_filtered, filter_none, filter-map, list_all_each, list_any_at, each_of_all}
 use Rattle.pg_pairs.specs.gaps.Likeness.{like}
 use Rattle.pg_pairs.specs.choices.Choices.{no_bounds}
-use Rattle.pg_pairs.specs.home.Home.{home, home_content, home_message, homeward}
+use Rattle.pg_pairs.specs.home.Home.{home_content, home_message, homeward}
 use Rattle.pg_pairs.specs.bounds.Contents.{total, ChildBound, Holds}
 use Rattle.pg_pairs.specs.bounds.Covering.{has_children}
 use Rattle.pg_pairs.proofs.lemmas.bounds.AcrossPlain.{IsNoMap}
@@ -33,7 +33,8 @@ use Rattle.pg_dyn.proofs.PublicLaws.{children_are_shorter, decoding_is, fields_a
 use Rattle.pg_pairs.proofs.lemmas.bounds.Dearer.{CompatibleTo, by_numbers_is_view}
 use Rattle.pg_pairs.proofs.lemmas.home.HomeComparands.{home_comparands, same_writes, home_expected}
 use Rattle.pg_pairs.proofs.lemmas.home.Returned.{part_again, returned, IsGood, ComesBack, type_at, encoded_again, written_again, good_parts}
-use Rattle.pg_pairs.proofs.lemmas.home.ChildrenHome.{pair_of, Comes, child_among, child_returns, not_packed, kept_comparands, back_comparands, leaf_comparands}
+use Rattle.pg_pairs.proofs.lemmas.witness.CarriedItems.{like_message}
+use Rattle.pg_pairs.proofs.lemmas.home.ChildrenHome.{home_is, pair_of, Comes, child_among, child_returns, not_packed, kept_comparands, back_comparands, leaf_comparands}
 use Rattle.pg_pairs.proofs.lemmas.bounds.OneMessage.{field_fits, total_within, holds_at, order_at, costs_at}
 use Rattle.pg_pairs.proofs.lemmas.bounds.KeptUpTo.{dear_at}
 use Rattle.pg_pairs.proofs.lemmas.bounds.ToChildren.{child_compatible}
@@ -92,10 +93,6 @@ unfolding enc
 known_within shape type m =
     let all = length-append (bytes_of (records_in (fields shape type) (encoded_parts shape type m))) (bytes_of (unknown_of m)) in
     omega arith
-
-home_as_message : (old new : Shape) (a b : TypeId) (v x : Message) → home old new a b v x ≡ home_message (fields old a) (fields new b) (homeward old new a b v) x
-unfolding home
-home_as_message old new a b v x = refl
 
 module _ (old new : Shape) (a b : TypeId) (v w : Message) (goes : Goes old new a b v w) where
   abbrev fs : List FieldShape
@@ -179,11 +176,6 @@ module _ (old new : Shape) (a b : TypeId) (v w : Message) (goes : Goes old new a
         (dear_at old new goes.shape_old goes.shape_new a b v goes.is_message goes.is_plain goes.has_encoding goes.fine f g found at))
 
     -- What must come back of each comparand.
-
-    like_message : (s : TypeId) (x : Element) → like (elements.Message s) x ≡ true → (t : TypeId) × (x ≡ elements.Message t)
-    like_message s (elements.Message t) h = (t, refl)
-    like_message s (elements.Scalar t) h = absurd (cc)
-    like_message s (elements.Enum t) h = absurd (cc)
 
     plain_children : (p' q' : Presence) → IsNoMap p' → IsNoMap q' → has_children p' q' ≡ true
     plain_children (presences.Map k) q' h k' = absurd h
@@ -389,4 +381,4 @@ module _ (old new : Shape) (a b : TypeId) (v w : Message) (goes : Goes old new a
       (each_weaker (λ f. field_at fs f.number ≡ Some f) (λ f. home_content f (field_at gs f.number) homing (parts come_home) ≡ true) each_home fs (fields_are_found.2 fs (fields_are_found.0 old a goes.shape_old).rising))
 
   pub comes : Comes old new a b v w
-  comes = (come_home, is_read_home, home_as_message old new a b v come_home ∙ all_home)
+  comes = (come_home, is_read_home, home_is old new a b v come_home ∙ all_home)

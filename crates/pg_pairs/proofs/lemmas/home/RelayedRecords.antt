@@ -28,6 +28,10 @@ use Rattle.pg_pairs.proofs.lemmas.home.Gathering.{parts_are}
 use Rattle.pg_pairs.proofs.lemmas.home.FieldsHome.{FieldComes, nothing_read, home_parts}
 use Rattle.pg_pairs.proofs.lemmas.home.Outside.{outside_home}
 
+comparands_none : (xs : List Comparand) → map writes xs ≡ [] → xs ≡ []
+comparands_none [] h = refl
+comparands_none (c ∷ xs) h = absurd (cc)
+
 -- A message that the new type reads and writes again, between types that are compatible up to its length.
 pub record Goes (old new : Shape) (a b : TypeId) (v w : Message) : Type 0 where
   pub reads_again : ReadsAgain
@@ -136,11 +140,7 @@ module _ (old new : Shape) (a b : TypeId) (v w : Message) (goes : Goes old new a
   -- No content.
 
   pub none_expected : (f : FieldShape) → comparands_at f.number cs ≡ [] → filter (is_of f.number) homing ≡ []
-  none_expected f none = sym (home_expected old new a b v f.number) ∙ ap (map expects) (no_comparands (comparands_at f.number hcs) (same_writes old new a b v f.number ∙ ap (map writes) none))
-    where
-      no_comparands : (hs : List Comparand) → map writes hs ≡ [] → hs ≡ []
-      no_comparands [] h = refl
-      no_comparands (h ∷ hs) k = absurd (cc)
+  none_expected f none = sym (home_expected old new a b v f.number) ∙ ap (map expects) (comparands_none (comparands_at f.number hcs) (same_writes old new a b v f.number ∙ ap (map writes) none))
 
   pub none_left : (f : FieldShape) → field_at fs f.number ≡ Some f → comparands_at f.number cs ≡ [] → at_number f ≡ []
   none_left f found none = of (field_at gs f.number) refl
@@ -164,10 +164,6 @@ module _ (old new : Shape) (a b : TypeId) (v w : Message) (goes : Goes old new a
       ⊎_elim (λ none. inl (none_left f found_f (no_comparands f.number none))) (λ none. inr (none_left h found_h (no_comparands h.number none)))
       (one_is_empty old a v f h goes.shape_old goes.is_message found_f found_h sibling)
     where
-      comparands_none : (xs : List Comparand) → map writes xs ≡ [] → xs ≡ []
-      comparands_none [] h = refl
-      comparands_none (c ∷ xs) h = absurd (cc)
-
       no_comparands : (n : ℕ) → filter (is_of n) (encoded_parts old a v) ≡ [] → comparands_at n cs ≡ []
       no_comparands n none = comparands_none (comparands_at n cs) (sym (field_written numbers old new a b v n) ∙ none)
 

@@ -55,13 +55,10 @@ zero_any (elements.Scalar s) = zero_length (elements.Scalar s) tt
 zero_any (elements.Enum s) = zero_length (elements.Enum s) tt
 zero_any (elements.Message t) = refl
 
-nonzero_any : (e : Element) → IsLeafy e → body_length (form e) (nonzero_leaf (form e)) ≡ nonzero_body e
-nonzero_any = nonzero_length
-
 least_total_at : (number : ℕ) (p : Presence) (e : Element) (o : Option ℕ) → PresenceFits p e o → (c : Comparand) → c.key ≡ least_key p → c.written ≡ least_leaf p e → total (record { number = number; presence = p; element = e; oneof = o }) (c ∷ []) ≡ least_content (record { number = number; presence = p; element = e; oneof = o })
 least_total_at number presences.Implicit e o fits c key w =
     unpacked_total _ (unpacked_implicit number e o) (λ b. refl) c ∙ ap (λ l. length (tag number (form_wire (form e))) + body_length (form e) l) w
-    ∙ ap (λ n. length (tag number (form_wire (form e))) + n) (nonzero_any e (implicit_leafy e o fits))
+    ∙ ap (λ n. length (tag number (form_wire (form e))) + n) (nonzero_length e (implicit_leafy e o fits))
 least_total_at number presences.Explicit e o fits c key w =
     unpacked_total _ (unpacked_explicit number e o) (λ b. refl) c ∙ ap (λ l. length (tag number (form_wire (form e))) + body_length (form e) l) w
     ∙ ap (λ n. length (tag number (form_wire (form e))) + n) (zero_any e)

@@ -41,10 +41,6 @@ pub list_all-map : {A B : Type 0} (test : B → Bool) (f : A → B) (xs : List A
 list_all-map test f [] = refl
 list_all-map test f (x ∷ xs) = ap (λ b. test (f x) && b) (list_all-map test f xs)
 
-pub each-unmap : {A B : Type 0} (P : B → Type 0) (f : A → B) (xs : List A) → AllByRecursion P (map f xs) → AllByRecursion (λ x. P (f x)) xs
-each-unmap P f [] h = tt
-each-unmap P f (x ∷ xs) h = (h.0, each-unmap P f xs h.1)
-
 pub each_got : {A : Type 0} (P : A → Type 0) (xs : List A) (i : ℕ) (x : A) → AllByRecursion P xs → slice_get xs i ≡ Some x → P x
 each_got P [] i x h is = absurd (cc)
 each_got P (y ∷ xs) zero x h is = let same : y ≡ x = cc in subst P same h.0

@@ -1,4 +1,4 @@
-use Rattle.std.proofs.Common.{arith, ◌≡◌, ◌≤◌, ◌<◌, ◌-◌, ◌+◌, ◌∙◌, suc, length, if◌then◌else◌, ap, sym, subst, refl}
+use Rattle.std.proofs.Common.{arith, ◌≡◌, ◌<◌, ◌-◌, ◌∙◌, suc, length, if◌then◌else◌, ap, sym, subst, refl}
 use Rattle.pg_schema.specs.Parts.{field_shape, shape_of}
 use Rattle.pg_schema.specs.Shape.{fields}
 use Rattle.pg_dyn.specs.reading.Content.{same_oneof}
@@ -34,16 +34,16 @@ loop-at-preserved c =
       place = omega arith;
       first =
           first_before gs list n f inside c.index-list-at.is (λ o. first_in c.loop-at.first o (length list)) (λ o. first_in c.next_of.new.first o (length list))
-      (λ o. c.in_ok-next.ensures.kept o ∙ ap (λ q. if same_oneof q o then n else first_in c.loop-at.first o (length list)) c.new_oneof.ensures)
-      (subst (λ m. AreFirst gs list m c.loop-at.first) next c.loop-at.invariant.first);
+          (λ o. c.in_ok-next.ensures.kept o ∙ ap (λ q. if same_oneof q o then n else first_in c.loop-at.first o (length list)) c.new_oneof.ensures)
+          (subst (λ m. AreFirst gs list m c.loop-at.first) next c.loop-at.invariant.first);
       links =
-      let are = subst (λ m. AreLinks gs list m c.loop-at.links.items) next c.loop-at.invariant.links in
-      let p : Passes gs list (new_oneof gs (field_shape f)) IsAny (suc n) c.in_ok-next.next =
-      subst (Passes gs list (new_oneof gs (field_shape f)) IsAny (suc n)) (sym (c.in_ok-next.ensures.former ∙ ap (λ q. first_in c.loop-at.first q (length list)) c.new_oneof.ensures))
-      (subst (λ m. AreFirst gs list m c.loop-at.first) next c.loop-at.invariant.first (new_oneof gs (field_shape f))) in
-      links_before gs list n c.loop-at.links.items _ inside are
-      (linked gs list n f inside c.index-list-at.is c.in_ok-next.next c.other_from-other.result p
-      (c.other_from-other.ensures gs (suc n) (subst (AreLinks gs list (suc n)) (sym c.deref.ensures.value) are) p.later p));
+          let are = subst (λ m. AreLinks gs list m c.loop-at.links.items) next c.loop-at.invariant.links in
+          let p : Passes gs list (new_oneof gs (field_shape f)) IsAny (suc n) c.in_ok-next.next =
+          subst (Passes gs list (new_oneof gs (field_shape f)) IsAny (suc n)) (sym (c.in_ok-next.ensures.former ∙ ap (λ q. first_in c.loop-at.first q (length list)) c.new_oneof.ensures))
+          (subst (λ m. AreFirst gs list m c.loop-at.first) next c.loop-at.invariant.first (new_oneof gs (field_shape f))) in
+          links_before gs list n c.loop-at.links.items _ inside are
+          (linked gs list n f inside c.index-list-at.is c.in_ok-next.next c.other_from-other.result p
+          (c.other_from-other.ensures gs (suc n) (subst (AreLinks gs list (suc n)) (sym c.deref.ensures.value) are) p.later p));
     }
 
 pub returns : goal.returns

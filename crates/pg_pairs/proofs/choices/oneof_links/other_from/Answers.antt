@@ -1,6 +1,6 @@
 use Rattle.std.proofs.Common.{rules, arith, ◌≡◌, ◌<◌, length, true}
 use Rattle.pg_dyn.specs.reading.Content.{same_oneof}
-use Rattle.pg_pairs.proofs.lemmas.choices.OneofLinks.{beside_passes, other_passes}
+use Rattle.pg_pairs.proofs.lemmas.choices.OneofLinks.{other_passes}
 use Rattle.pg_pairs.proofs.choices.oneof_links.other_from.Goals as goal
 
 pub returns-then-same_oneof : goal.returns-then-same_oneof

@@ -4,7 +4,6 @@ use Rattle.std.specs.List.{AllByRecursion}
 use Rattle.pg_pairs.specs.declared.choices.choice.Pair.{Pair}
 use Rattle.pg_pairs.specs.bounds.Covering.{distinct}
 use Rattle.pg_pairs.specs.graph.Reached.{IsLedTo, itself}
-use Rattle.pg_pairs.proofs.lemmas.graph.FirstSeen.{distinct-more}
 use Rattle.pg_pairs.proofs.lemmas.graph.Grown.{each_distinct}
 use Rattle.pg_pairs.proofs.lemmas.graph.Reaching.{copied_at, every_is_among, once, next_found, next_led, all_found, all_closed, take_past, next_each, each_at}
 use Rattle.pg_pairs.proofs.graph.walking.reached_from.Goals as goal
@@ -32,29 +31,28 @@ loop-at-init g c =
 
 pub add_unseen-requires-in-loop-at-clause-once : goal.add_unseen-requires-in-loop-at-clause-once
 add_unseen-requires-in-loop-at-clause-once g c =
-    once distinct-more (g.G.Prices.children_of c.args.graph.now) c.args.roots.now c.loop-at.at c.loop-at.pairs.items c.loop-at.invariant.in_order
+    once (g.G.Prices.children_of c.args.graph.now) c.args.roots.now c.loop-at.at c.loop-at.pairs.items c.loop-at.invariant.in_order
 
 pub loop-at-preserved : goal.loop-at-preserved
 loop-at-preserved g c =
     let ps = c.loop-at.pairs.items in
     let after = c.add_unseen-in-loop-at.new.pairs.items in
     let kids = g.G.Prices.children_of c.args.graph.now in
-    let law = distinct-more in
     let roots = c.args.roots.now in
     let at = c.loop-at.at in
     let x = c.in-Some.pair in
     let here : slice_get ps at ≡ Some x = ap (λ (qs : List Pair). slice_get qs at) (sym c.deref.ensures.value) ∙ sym (copied_at (λ b. b.now) c.deref.result.now at c.get.result c.get.ensures.lookup.0 (c.get.ensures.lookup.4 (omega arith))) ∙ sym c.copied.ensures ∙ c.in-Some.is in
     let is : after ≡ distinct (ps ++ kids x) = c.in_ok-add_unseen-2.ensures.added ∙ ap (λ (qs : List Pair). distinct (ps ++ qs)) (c.deref-in-loop-at.ensures.value ∙ c.in_ok-found.ensures) in
     record {
-      in_order = next_found law kids roots ps at x here after is c.loop-at.invariant.in_order;
-      led_to = next_led law kids roots ps at x here after is c.loop-at.invariant.led_to;
+      in_order = next_found kids roots ps at x here after is c.loop-at.invariant.in_order;
+      led_to = next_led kids roots ps at x here after is c.loop-at.invariant.led_to;
       seen = c.in_ok-add_unseen-2.ensures.seen;
-      known = next_each law kids roots (λ (p : Pair). g.G.Prices.is_known c.args.graph.now p ≡ true) ps x after is c.loop-at.invariant.known (λ y among. g.G.Prices.children_are_known c.args.graph.now x y (each_at (λ (p : Pair). g.G.Prices.is_known c.args.graph.now p ≡ true) ps at x here c.loop-at.invariant.known) among);
+      known = next_each kids roots (λ (p : Pair). g.G.Prices.is_known c.args.graph.now p ≡ true) ps x after is c.loop-at.invariant.known (λ y among. g.G.Prices.children_are_known c.args.graph.now x y (each_at (λ (p : Pair). g.G.Prices.is_known c.args.graph.now p ≡ true) ps at x here c.loop-at.invariant.known) among);
     }
 
 pub returns-clause-once : goal.returns-clause-once
 returns-clause-once g c =
-    once distinct-more (g.G.Prices.children_of c.args.graph.now) c.args.roots.now c.loop-at.at c.loop-at.pairs.items c.loop-at.invariant.in_order
+    once (g.G.Prices.children_of c.args.graph.now) c.args.roots.now c.loop-at.at c.loop-at.pairs.items c.loop-at.invariant.in_order
 
 pub returns-clause-in_order : goal.returns-clause-in_order
 returns-clause-in_order g c =
@@ -64,9 +62,9 @@ returns-clause-in_order g c =
       | else-loop-at-test w ↦ take_all c.loop-at.at ps (let far = w.loop-at-test.false in let small = c.loop-at.pairs.small in omega arith)
       | then-loop-at-test+in_default w ↦ take_past ps c.loop-at.at (ap (λ (qs : List Pair). slice_get qs c.loop-at.at) (sym w.deref.ensures.value) ∙ sym (copied_at (λ b. b.now) w.deref.result.now c.loop-at.at w.get.result w.get.ensures.lookup.0 (w.get.ensures.lookup.4 (omega arith))) ∙ sym w.copied.ensures ∙ none_is w.copied.result w.in_default.not-Some)
     ] in
-    all_found distinct-more (g.G.Prices.children_of c.args.graph.now) c.args.roots.now ps c.loop-at.at past c.loop-at.invariant.in_order c.loop-at.invariant.led_to
+    all_found (g.G.Prices.children_of c.args.graph.now) c.args.roots.now ps c.loop-at.at past c.loop-at.invariant.in_order c.loop-at.invariant.led_to
 
 pub returns-clause-closed : goal.returns-clause-closed
 returns-clause-closed g c =
     let reached = returns-clause-in_order g c in
-    all_closed distinct-more (g.G.Prices.children_of c.args.graph.now) c.args.roots.now c.loop-at.pairs.items reached.in_order
+    all_closed (g.G.Prices.children_of c.args.graph.now) c.args.roots.now c.loop-at.pairs.items reached.in_order
