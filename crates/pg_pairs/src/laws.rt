@@ -13,7 +13,7 @@ ghost use Rattle.pg_pairs.specs.bounds.Laws.{CoveringBounds, ExactIsLeast, NoneI
 ghost use Rattle.pg_pairs.specs.bounds.LeastCosts.{LeastCostsAreExact};
 ghost use Rattle.pg_pairs.specs.views.ViewLaws.{IsEnumView, NumbersAreAlike};
 ghost use Rattle.pg_pairs.specs.home.ReadBack.{SeenItemsHaveOneBody};
-ghost use Rattle.pg_pairs.specs.graph.Reached.{FromOneRoot};
+ghost use Rattle.pg_pairs.specs.graph.Seen.{FromOneRoot};
 ghost use Rattle.pg_pairs.specs.choices.SmallPairs.{SmallPairs};
 ghost use Rattle.pg_pairs.specs.graph.GraphView.{seen};
 

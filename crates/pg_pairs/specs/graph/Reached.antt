@@ -1,5 +1,5 @@
 -- The pairs that root pairs lead to by children, whatever these are, and their order.
-use Rattle.std.specs.Prelude.{◌≡◌, List, [], ◌∷◌, ◌++◌, flat_map}
+use Rattle.std.specs.Prelude.{◌≡◌, List, ◌∷◌, ◌++◌, flat_map}
 use Rattle.std.specs.List.{AllByRecursion}
 use Rattle.pg_pairs.specs.declared.choices.choice.Pair.{Pair}
 use Rattle.pg_pairs.specs.bounds.Covering.{IsAmong, distinct}
@@ -28,9 +28,3 @@ pub record IsReachedFrom (children : Pair → List Pair) (roots pairs : List Pai
   pub in_order : pairs ≡ distinct (roots ++ flat_map children pairs)
   pub led_to : AllByRecursion (IsLedTo children roots) pairs
   pub all : (pair : Pair) → IsLedTo children roots pair → IsAmong pair pairs
-
--- From one root alone these are just the pairs that it leads to.
-abbrev pub FromOneRoot : Type 0
-FromOneRoot =
-    (children : Pair → List Pair) (root : Pair) (pairs : List Pair) → IsReachedFrom children (root ∷ []) pairs →
-    IsReachedInOrder children root pairs

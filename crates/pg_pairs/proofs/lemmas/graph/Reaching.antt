@@ -7,8 +7,8 @@ use Rattle.pg_dyn.proofs.Lists.{each-append, each_weaker}
 use Rattle.pg_pairs.specs.graph.EdgeChildren.{among_distinct, append_left, append_right}
 use Rattle.pg_pairs.specs.declared.choices.choice.Pair.{Pair}
 use Rattle.pg_pairs.specs.bounds.Covering.{distinct, IsAmong}
-use Rattle.pg_pairs.specs.graph.Seen.{AreClosed}
-use Rattle.pg_pairs.specs.graph.Reached.{FromOneRoot, IsLedTo, IsReachedFrom, LeadsTo, itself, onwards}
+use Rattle.pg_pairs.specs.graph.Seen.{AreClosed, FromOneRoot}
+use Rattle.pg_pairs.specs.graph.Reached.{IsLedTo, IsReachedFrom, LeadsTo, itself, onwards}
 use Rattle.pg_pairs.proofs.lemmas.choices.Among.{among_each}
 use Rattle.pg_pairs.proofs.lemmas.graph.Grown.{distinct-again, distinct-front, grown_after, each_distinct}
 
