@@ -1,86 +1,52 @@
-//! What only clauses read: each takes no memory.
+//! What only clauses read: it takes no memory.
 ghost use Rattle.std.specs.Prelude.{◌≡◌, ℕ, List, [], ◌∷◌, ◌+◌, ◌++◌};
 ghost use Rattle.std.specs.Borrow.{ftrue};
 
 use std::marker::{Model, PhantomData};
 
-/// A list of bytes.
+/// What was noted: each note, their bytes in one row, and how many there are.
 #[derive(Drop)]
-pub struct GhostBytes {
+pub struct GhostNotes {
     marker: PhantomData<u8>,
+    pub ghost paths: { List (List ℕ) },
     pub ghost bytes: { List ℕ },
-}
-
-impl Model for GhostBytes {
-    ghost also_owns = { λ _. ftrue };
-}
-
-impl GhostBytes {
-    /// No bytes.
-    pub fn new() -> GhostBytes
-        ensures { result.bytes ≡ [] }
-    {
-        GhostBytes {
-            marker: PhantomData,
-        }
-    }
-
-    /// Appends the bytes to the list.
-    pub fn note(&mut self, _bytes: &[u8])
-        ensures { self.new.bytes ≡ self.old.bytes ++ _bytes.now }
-    {}
-}
-
-/// A count without an end.
-#[derive(Drop)]
-pub struct GhostCount {
-    marker: PhantomData<u8>,
     pub ghost count: { ℕ },
 }
 
-impl Model for GhostCount {
+/// The bytes that a sink took.
+pub type GhostBytes = GhostNotes;
+
+/// A count without an end.
+pub type GhostCount = GhostNotes;
+
+/// The paths that a source was asked for.
+pub type GhostPaths = GhostNotes;
+
+impl Model for GhostNotes {
     ghost also_owns = { λ _. ftrue };
 }
 
-impl GhostCount {
-    /// A count of none.
-    pub fn new() -> GhostCount
-        ensures { result.count ≡ 0 }
+impl GhostNotes {
+    /// No notes.
+    pub fn new() -> GhostNotes
+        ensures { (result.paths ≡ []) × (result.bytes ≡ []) × (result.count ≡ 0) }
     {
-        GhostCount {
+        GhostNotes {
             marker: PhantomData,
         }
     }
+
+    /// Appends a note.
+    pub fn note(&mut self, _bytes: &[u8])
+        ensures { (self.new.paths ≡ self.old.paths ++ _bytes.now ∷ [])
+            × (self.new.bytes ≡ self.old.bytes ++ _bytes.now)
+            × (self.new.count ≡ self.old.count + 1) }
+    {}
 
     /// Counts one more.
     pub fn add(&mut self)
         ensures { self.new.count ≡ self.old.count + 1 }
-    {}
-}
-
-/// A list of paths.
-#[derive(Drop)]
-pub struct GhostPaths {
-    marker: PhantomData<u8>,
-    pub ghost paths: { List (List ℕ) },
-}
-
-impl Model for GhostPaths {
-    ghost also_owns = { λ _. ftrue };
-}
-
-impl GhostPaths {
-    /// No paths.
-    pub fn new() -> GhostPaths
-        ensures { result.paths ≡ [] }
     {
-        GhostPaths {
-            marker: PhantomData,
-        }
+        self.note(b"");
     }
-
-    /// Appends the path to the list.
-    pub fn note(&mut self, _path: &[u8])
-        ensures { self.new.paths ≡ self.old.paths ++ _path.now ∷ [] }
-    {}
 }

@@ -29,7 +29,7 @@ mod walk;
 
 pub use error::{LinkError, Place, place_in};
 pub use folder::Folder;
-pub use ghosts::{GhostBytes, GhostCount, GhostPaths};
+pub use ghosts::{GhostBytes, GhostCount, GhostNotes, GhostPaths};
 pub use linked::Linked;
 pub use linking::{link, link_below};
 pub use listed::Listed;
