@@ -1,22 +1,43 @@
--- Which paths a source is asked for, step by step.
-use Rattle.std.proofs.Common.{◌≡◌, ◌∙◌, inl, inr, ◌+◌, Bool, true, false, ◌||◌, List, [], ◌∷◌, ◌++◌, Option, Some, None, All, String, string_bytes, ap, refl, sym, subst, length, length-append, map, append-nil, append_assoc, true≢false, codes, if◌then◌else◌, slice_index_or, arith}
+-- What reads leave of a source, and which paths it is asked for, step by step.
+use Rattle.std.proofs.Common.{◌≡◌, ◌∙◌, inl, inr, ◌+◌, ℕ, Bool, true, false, ◌||◌, List, [], ◌∷◌, ◌++◌, Option, Some, None, All, String, string_bytes, ap, refl, sym, subst, length, length-append, map, append-nil, append_assoc, true≢false, codes, if◌then◌else◌, slice_index_or, arith}
 use Rattle.std.proofs.lemmas.Bool.{or_from, or_parts}
 use Rattle.std.proofs.lemmas.List.{append_cancel_left, map-append, length-map}
 use Rattle.std.proofs.lemmas.List.Folds.{list_any-append, list_any_at}
 use Rattle.std.proofs.lemmas.Slice.Eq.{bytes_eq-Decides}
 use Rattle.std.specs.Global.{Global}
 use Rattle.std.specs.Str.{bytes_eq}
+use Rattle.pg_link.specs.declared.sources.Sources.{Ghosts}
 use Rattle.pg_link.specs.declared.walk.SourceFile as kept
 use Rattle.pg_link.specs.declared.walk.Walk as walks
 use Rattle.pg_link.specs.Below.{path_below}
 use Rattle.pg_link.specs.Files.{Differ, is_path_of, paths_of}
 use Rattle.pg_link.specs.Names.{Text}
-use Rattle.pg_link.specs.Reads.{ReadsApart, ReadsEach, ReadsNew, ReadsAll, is_begun}
+use Rattle.pg_link.specs.Reads.{Reads, ReadsApart, ReadsEach, ReadsNew, ReadsAll, is_begun, world_of}
 use Rattle.pg_link.specs.Sources.{also, AtMostOne}
-use Rattle.pg_link.specs.Walk.{Entry, entries, open_paths, outlines, has_path, path_of}
+use Rattle.pg_link.specs.Walk.{Entry, World, entries, open_paths, outlines, has_path, path_of, world}
 use Rattle.pg_link.proofs.PathLaws.{any-map, among_entries}
 use Rattle.pg_link.proofs.TextLaws.{same_text}
 use Rattle.pg_link.proofs.WalkLaws.{outlines-push}
+
+-- ---- what reads leave of a source
+
+module _ {S : Type 0} (members : Ghosts S) (old : S) where
+  -- a source that isn't asked
+  pub unasked : Reads members old old 0
+  unasked = record { counted = omega arith; same_given = refl; same_lacked = refl }
+
+  -- reads, and then further ones
+  pub then : (mid new : S) (n : ℕ) → Reads members old mid 0 → Reads members mid new n → Reads members old new n
+  then mid new n first second = record {
+    counted = omega (arith, first.counted, second.counted);
+    same_given = second.same_given ∙ first.same_given;
+    same_lacked = second.same_lacked ∙ first.same_lacked;
+  }
+
+  pub same_world : (new : S) (n : ℕ) (folder : Text) (roots : List Text) → Reads members old new n → world_of members new folder roots ≡ world_of members old folder roots
+  same_world new n folder roots reads =
+      ap (λ (g : Text → Text → Bool). world g (members.may_lack new) folder roots) reads.same_given
+      ∙ ap (λ (l : Text → Bool). world (members.may_give old) l folder roots) reads.same_lacked
 
 -- ---- tests
 

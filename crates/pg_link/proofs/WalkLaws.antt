@@ -22,7 +22,7 @@ use Rattle.pg_link.specs.Index.{texts}
 use Rattle.pg_link.specs.Names.{Text}
 use Rattle.pg_link.specs.Outline.{file_imports}
 use Rattle.pg_link.specs.PostOrder.{IsPostOrder}
-use Rattle.pg_link.specs.Walk.{World, world, Gives, MayBe, ImportsAt, Comes, Reached, MayLead, Stays, Onwards, Entry, IsEntry, outline, outlines, entries, files_in_order, open_paths, IsSound, Follows, Asks, IsAsked, IsAskedAt, IsPlace, IsReadFault, IsTextFault, IsImportFault, IsLinked, ComesTo, Refuses}
+use Rattle.pg_link.specs.Walk.{World, Gives, MayBe, ImportsAt, Comes, Reached, MayLead, Stays, Onwards, Entry, IsEntry, outline, outlines, entries, files_in_order, open_paths, IsSound, Follows, Asks, IsAsked, IsAskedAt, IsPlace, IsReadFault, IsTextFault, IsImportFault, IsLinked, ComesTo, Refuses}
 use Rattle.pg_link.proofs.OrderLaws.{no_cycle}
 use Rattle.pg_link.proofs.TextLaws.{same_text, differ_turned}
 
@@ -266,13 +266,6 @@ one_more w path ps es new name file ls sound same is may_be reached its among di
       apart = subst (λ (fs : List File). Differ (ps ++ paths_of fs)) (sym grown) apart;
       few = omega (arith, sound.few, ap length is, length-append es (e ∷ []));
     }
-
--- ---- another moment of the source
-
-pub same_world : (give first : Text → Text → Bool) (lack other : Text → Bool) (folder : Text) (roots : List Text) → give ≡ first → lack ≡ other
-    → world give lack folder roots ≡ world first other folder roots
-same_world give first lack other folder roots given lacked =
-    ap (λ (g : Text → Text → Bool). world g lack folder roots) given ∙ ap (λ (l : Text → Bool). world first l folder roots) lacked
 
 -- ---- the roots
 

@@ -1,12 +1,23 @@
--- Which paths a source is asked for when imports are followed.
-use Rattle.std.specs.Prelude.{◌≡◌, ◌+◌, ◌||◌, Bool, true, false, List, length, map, Option}
+-- What reads leave of a source, and which paths it is asked for when imports are followed.
+use Rattle.std.specs.Prelude.{◌≡◌, ◌+◌, ◌||◌, ℕ, Bool, true, false, List, length, map, Option}
 use Rattle.std.specs.List.{All}
+use Rattle.pg_link.specs.declared.sources.Sources.{Ghosts}
 use Rattle.pg_link.specs.declared.walk.Walk as walks
 use Rattle.pg_link.specs.Below.{path_below}
 use Rattle.pg_link.specs.Files.{Differ, is_path_of}
 use Rattle.pg_link.specs.Names.{Text}
 use Rattle.pg_link.specs.Sources.{also}
-use Rattle.pg_link.specs.Walk.{Entry, entries, has_path, open_paths, path_of}
+use Rattle.pg_link.specs.Walk.{Entry, World, entries, has_path, open_paths, path_of, world}
+
+-- A source with a folder and roots below it. A clause has the members of a source as S.Sources.
+abbrev pub world_of : {S : Type 0} → Ghosts S → S → (folder : Text) → (roots : List Text) → World
+world_of members source folder roots = world (members.may_give source) (members.may_lack source) folder roots
+
+-- what reads leave of a source: it failed just so often more, and may give and lack what it did
+pub record Reads {S : Type 0} (members : Ghosts S) (old new : S) (failures : ℕ) : Type 0 where
+  pub counted : members.failures new ≡ members.failures old + failures
+  pub same_given : members.may_give new ≡ members.may_give old
+  pub same_lacked : members.may_lack new ≡ members.may_lack old
 
 -- the paths that a source was asked for between two moments: no path twice
 pub record ReadsApart (before after : Option (List Text)) : Type 0 where

@@ -6,7 +6,7 @@ ghost use Rattle.pg_link.specs.Imports.{line_of};
 use pg_syntax::tree::{FileTree, Statement};
 use std::alloc::{AllocError, Global};
 
-/// An import statement, with the first byte of its literal.
+/// An import statement, with the offset of its literal.
 #[derive(Debug, Drop)]
 pub(crate) struct ImportLine {
     pub path: String,

@@ -1,9 +1,10 @@
-//! A file's text and tree, with the places of the faults in them.
+//! The bytes and the tree of a file, with the places of the faults in them.
 ghost use Rattle.std.specs.Prelude.{◌≡◌, ◌≤◌, ◌+◌, ◌∷◌, [], IfErr, IfOk, IsTrue, OnOk, length};
 ghost use Rattle.pg_link.specs.Below.{path_below};
 ghost use Rattle.pg_lex.specs.Lexes.{lexes, max_len};
 ghost use Rattle.pg_lex.specs.Symbol.{placed};
 ghost use Rattle.pg_lex.specs.Faults as lex;
+ghost use Rattle.pg_link.specs.Reads.{Reads};
 ghost use Rattle.pg_link.specs.Sources.{also, AtMostOne};
 ghost use Rattle.pg_link.specs.Walk as spec;
 
@@ -16,7 +17,7 @@ use pg_syntax::SyntaxError;
 use pg_syntax::tree::FileTree;
 use std::alloc::{AllocError, Global};
 
-/// The byte at which a lexical fault stands.
+/// The offset of a lexical fault.
 fn lex_place(error: LexError) -> usize
     ensures { result ≡ lex.place_of error }
 {
@@ -33,7 +34,7 @@ fn lex_place(error: LexError) -> usize
     }
 }
 
-/// The byte at which a syntax fault stands.
+/// The offset of a syntax fault.
 fn syntax_place(error: SyntaxError) -> usize
     ensures { result ≡ spec.syntax_place error }
 {
@@ -49,7 +50,7 @@ fn syntax_place(error: SyntaxError) -> usize
     }
 }
 
-/// The tokens of a file's text.
+/// The tokens of a file.
 fn tokens_of<'a>(alloc: Global, path: &str, text: &'a [u8]) -> Result<Vec<Token<'a>>, LinkError>
     ensures tokens { IfOk result (λ tokens. lexes text.now (placed tokens.items)) }
     ensures short { IfOk result (λ tokens. length text.now ≤ max_len) }
@@ -65,7 +66,7 @@ fn tokens_of<'a>(alloc: Global, path: &str, text: &'a [u8]) -> Result<Vec<Token<
     }
 }
 
-/// The tree of a file's text.
+/// The tree of a file.
 pub(crate) fn tree_of(alloc: Global, path: &str, text: &[u8]) -> Result<FileTree, LinkError>
     ensures parsed { IfOk result (λ file. spec.IsParsed text.now file) }
     ensures fault { IfErr result (spec.IsTextFault path.now text.now) }
@@ -100,7 +101,7 @@ pub(crate) fn asked_at(
     }
 }
 
-/// The text of a file. Where the source fails, the place is the file as a whole, whoever asks for
+/// The bytes of a file. Where the source fails, the place is the file as a whole, whoever asks for
 /// it.
 pub(crate) fn text_of<S: Sources>(
     alloc: Global,
@@ -113,13 +114,11 @@ pub(crate) fn text_of<S: Sources>(
         IsTrue (S.may_give source.old (path_below folder.now path.now) bytes.items)) }
     ensures fault { IfErr result (spec.IsReadFault
         (S.may_lack source.old) folder.now asking.entry path.now) }
-    ensures counted { S.failures source.new ≡ S.failures source.old + spec.failures_of result }
     ensures asked { OnOk result (S.reads source.new
         ≡ also (path_below folder.now path.now ∷ []) (S.reads source.old)) }
     ensures asked_once { AtMostOne (path_below folder.now path.now) (S.reads source.old)
         (S.reads source.new) }
-    ensures same_given { S.may_give source.new ≡ S.may_give source.old }
-    ensures same_lacked { S.may_lack source.new ≡ S.may_lack source.old }
+    ensures reads { Reads S.Sources source.old source.new (spec.failures_of result) }
 {
     // Made before the read, so that a failure of the source is reported even where no memory is
     // left.
@@ -141,8 +140,7 @@ pub(crate) fn text_of<S: Sources>(
 ///
 /// # Errors
 ///
-/// The source then stands as its reads left it, and its count of failures rose by one where it
-/// failed.
+/// The source is as its reads left it, and its count of failures rose by one where it failed.
 /// - `LinkError::MissingFile` (E301), at the file as a whole (`PATH`, line 0, column 0), where the
 ///   source doesn't have it.
 /// - `LinkError::SourceFailed` (E309), at the file as a whole, where the source failed.

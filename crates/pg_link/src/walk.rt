@@ -1,8 +1,8 @@
 //! The imports, followed depth first, each path read once.
-ghost use Rattle.std.specs.Prelude.{◌≡◌, ◌+◌, ◌≤◌, IfErr, IfOk, OnOk, ◌++◌, ◌∷◌, [], List, ℕ, false, true, length, map, string_bytes};
+ghost use Rattle.std.specs.Prelude.{◌≡◌, ◌≤◌, IfErr, IfOk, OnOk, ◌++◌, ◌∷◌, [], List, ℕ, false, true, length, map, string_bytes};
 ghost use Rattle.pg_link.specs.Files.{is_path_of};
 ghost use Rattle.pg_link.specs.Index.{texts};
-ghost use Rattle.pg_link.specs.Reads.{ReadsAll, ReadsApart, ReadsEach, ReadsNew};
+ghost use Rattle.pg_link.specs.Reads.{Reads, ReadsAll, ReadsApart, ReadsEach, ReadsNew, world_of};
 ghost use Rattle.pg_link.specs.Walk as spec;
 ghost use Rattle.pg_link.specs.declared.error.LinkError.TheVariants as error;
 
@@ -17,14 +17,14 @@ use std::alloc::Global;
 /// The most files that are linked.
 pub(crate) const MAX_FILES: usize = 1024;
 
-/// A text that was read, and its tree.
+/// The bytes of a file that was read, and its tree.
 #[derive(Debug, Drop)]
 pub struct SourceFile {
     pub bytes: Vec<u8>,
     pub tree: FileTree,
 }
 
-/// An import that asks for a path: its file, the text of that, and the first byte of its literal.
+/// An import that asks for a path: its file, the bytes of that, and the offset of its literal.
 #[derive(Clone, Copy)]
 pub(crate) struct Asking<'a> {
     pub file: &'a str,
@@ -35,7 +35,7 @@ pub(crate) struct Asking<'a> {
 /// The files that were read, and how far.
 #[derive(Debug, Drop)]
 pub(crate) struct Walk {
-    /// By path, each behind those that it imports.
+    /// By path, each after those that it imports.
     pub files: IndexMap<String, SourceFile>,
     /// The paths from a root to here, each of which imports the next.
     opened: IndexSet<String>,
@@ -112,20 +112,19 @@ fn visit<S: Sources>(
 ) -> Result<(), LinkError>
     requires { is_path_of (spec.open_paths walk.old) path.now ≡ false }
     ensures sound { OnOk result ((roots : List (List ℕ))
-        → spec.Follows (spec.world (S.may_give source.old) (S.may_lack source.old) folder.now roots)
-        walk.old asking.entry path.now
-        → spec.IsSound (spec.world (S.may_give source.old) (S.may_lack source.old) folder.now roots)
-        (spec.open_paths walk.old) (spec.entries walk.new)) }
+        → spec.Follows (world_of S.Sources source.old folder.now roots) walk.old asking.entry
+        path.now
+        → spec.IsSound (world_of S.Sources source.old folder.now roots) (spec.open_paths walk.old)
+        (spec.entries walk.new)) }
     // Each refusal comes only where what it names is there, at its place.
     ensures refused { IfErr result (λ e. (roots : List (List ℕ))
-        → spec.Follows (spec.world (S.may_give source.old) (S.may_lack source.old) folder.now roots)
-        walk.old asking.entry path.now
-        → spec.Refuses (spec.world (S.may_give source.old) (S.may_lack source.old) folder.now roots)
-        e) }
+        → spec.Follows (world_of S.Sources source.old folder.now roots) walk.old asking.entry
+        path.now
+        → spec.Refuses (world_of S.Sources source.old folder.now roots) e) }
     ensures opened { OnOk result (spec.open_paths walk.new ≡ spec.open_paths walk.old) }
     ensures has { OnOk result (spec.has_path walk.new path.now ≡ true) }
     ensures kept { OnOk result (spec.Keeps walk.old walk.new) }
-    // What has come is the path, or what it leads to by the texts that are kept.
+    // What has come is the path, or what it leads to by the files that are kept.
     ensures extends { OnOk result (spec.Extends walk.old walk.new) }
     ensures come { OnOk result (spec.ComeBy walk.old walk.new path.now) }
     // They come in post-order of imports.
@@ -136,9 +135,7 @@ fn visit<S: Sources>(
     ensures reads_new { ReadsNew folder.now (S.reads source.old) (S.reads source.new) walk.old }
     ensures reads_all { OnOk result (ReadsAll folder.now (S.reads source.old)
         (S.reads source.new) walk.old walk.new) }
-    ensures counted { S.failures source.new ≡ S.failures source.old + spec.failures_of result }
-    ensures same_given { S.may_give source.new ≡ S.may_give source.old }
-    ensures same_lacked { S.may_lack source.new ≡ S.may_lack source.old }
+    ensures reads { Reads S.Sources source.old source.new (spec.failures_of result) }
 {
     if walk.files.contains_key(path) {
         return Ok(());
@@ -169,11 +166,10 @@ fn visit<S: Sources>(
 }
 
 /// Reads the roots below the folder, and all that they import, each path once. Imports are followed
-/// depth first, in the order of their statements; a file's own text is looked at before its
-/// imports. The files stand in the order in which their imports were done with: each behind those
-/// that it imports.
+/// depth first, in the order of their statements; a file's own bytes are looked at before its
+/// imports. The files come in post-order of imports: each after those that it imports.
 ///
-/// E301 to E303, E308 and E309 are answered, and the faults of the texts, at the place at which
+/// E301 to E303, E308 and E309 are answered, and the faults of the files, at the place at which
 /// `LinkError` has them.
 pub(crate) fn follow_imports<S: Sources>(
     alloc: Global,
@@ -181,15 +177,15 @@ pub(crate) fn follow_imports<S: Sources>(
     folder: &str,
     roots: &[&str],
 ) -> Result<Walk, LinkError>
-    // Each text that is kept is one that the source may give for its path, each tree is that of its
-    // text, each root and import is among the files, each path once, and no other is; they are in
+    // The bytes of each file are such as the source may give for its path, and its tree is theirs.
+    // Each root and import is among the files, each path once, and no other is. They are in
     // post-order of imports, no file imports one twice, none is on a circle, and 1,024 is the most.
     ensures linked { IfOk result (λ walk.
-        spec.IsLinked (spec.world (S.may_give source.old) (S.may_lack source.old) folder.now
-        (texts roots.now)) (spec.entries walk)) }
+        spec.IsLinked (world_of S.Sources source.old folder.now (texts roots.now))
+        (spec.entries walk)) }
     // Each refusal comes only where what it names is there, at its place.
     ensures refused { IfErr result (spec.Refuses
-        (spec.world (S.may_give source.old) (S.may_lack source.old) folder.now (texts roots.now))) }
+        (world_of S.Sources source.old folder.now (texts roots.now))) }
     // Whatever is answered, the source was asked for no path twice; and where all is read, for just
     // the paths of the files.
     ensures reads_apart { ReadsApart (S.reads source.old) (S.reads source.new) }
@@ -197,9 +193,7 @@ pub(crate) fn follow_imports<S: Sources>(
         (λ walk. ReadsEach folder.now (S.reads source.old) (S.reads source.new)
         (spec.entries walk)) }
     // A failure of the source is reported as one, and nothing else is.
-    ensures counted { S.failures source.new ≡ S.failures source.old + spec.failures_of result }
-    ensures same_given { S.may_give source.new ≡ S.may_give source.old }
-    ensures same_lacked { S.may_lack source.new ≡ S.may_lack source.old }
+    ensures reads { Reads S.Sources source.old source.new (spec.failures_of result) }
 {
     let mut walk = Walk {
         files: IndexMap::new(alloc),

@@ -6,13 +6,14 @@ use Rattle.pg_link.specs.declared.imports.ImportLine as lines
 use Rattle.pg_link.specs.declared.walk.Asking as askings
 use Rattle.pg_link.specs.declared.walk.SourceFile as kept
 use Rattle.pg_link.specs.Files.{Differ, is_path_of, paths_of}
-use Rattle.pg_link.specs.Walk.{World, world, Entry, IsSound, Follows, IsTextFault, IsParsed, IsImportFault, Refuses, VisitLists, entries, listed_paths, open_paths, outlines, has_path}
+use Rattle.pg_link.specs.Reads.{world_of}
+use Rattle.pg_link.specs.Walk.{World, Entry, IsSound, Follows, IsTextFault, IsParsed, IsImportFault, Refuses, VisitLists, entries, listed_paths, open_paths, outlines, has_path}
 use Rattle.pg_link.proofs.LeadLaws.{ComeByThese, both_extend, come_done, come_first, come_next, one_extends, same_extends}
 use Rattle.pg_link.proofs.OrderLaws.{apart_more}
 use Rattle.pg_link.proofs.PathLaws.{has_found}
 use Rattle.pg_link.proofs.PostOrderLaws.{file_listed, listed_before, next_listed, none_listed}
-use Rattle.pg_link.proofs.ReadLaws.{at_most_new, first_way, next_way, none_new, none_read, not_begun, one_new, way_done, way_refused}
-use Rattle.pg_link.proofs.WalkLaws.{beyond, comes_of, follows_next, import_refused, line_path, next_import, none_yet, not_read, one_more, open_count, open_one, reached_of, read_refused, same_world, take_none, text_refused}
+use Rattle.pg_link.proofs.ReadLaws.{at_most_new, first_way, next_way, none_new, none_read, not_begun, one_new, same_world, then, unasked, way_done, way_refused}
+use Rattle.pg_link.proofs.WalkLaws.{beyond, comes_of, follows_next, import_refused, line_path, next_import, none_yet, not_read, one_more, open_count, open_one, reached_of, read_refused, take_none, text_refused}
 use Rattle.pg_link.proofs.walk.+visit.Goals as goal
 
 pub returns-then-contains_key-clause-has : goal.returns-then-contains_key-clause-has
@@ -31,14 +32,14 @@ returns-in_err-bytes-clause-reads_new g t c =
 
 pub returns-in_err-bytes-clause-refused : goal.returns-in_err-bytes-clause-refused
 returns-in_err-bytes-clause-refused g t c =
-    let w = λ (roots : List (List ℕ)). world (g.S.Sources.may_give c.args.source.now) (g.S.Sources.may_lack c.args.source.now) c.args.folder.now roots in
+    let w = λ (roots : List (List ℕ)). world_of g.S.Sources c.args.source.now c.args.folder.now roots in
     let p = err_from_is_err_and c.from_residual.result c.from_residual.ensures.1 in
     rw (p.1, p.2) (λ roots f. read_refused (w roots) (open_paths c.args.walk.now) c.args.asking c.args.path.now c.in_err-bytes.field-0.0 f.asks c.in_err-bytes.ensures.fault)
 
 pub returns-then-len-ge-MAX_FILES-clause-refused : goal.returns-then-len-ge-MAX_FILES-clause-refused
 returns-then-len-ge-MAX_FILES-clause-refused g t c =
     let walk = c.args.walk.now in
-    let w = λ (roots : List (List ℕ)). world (g.S.Sources.may_give c.args.source.now) (g.S.Sources.may_lack c.args.source.now) c.args.folder.now roots in
+    let w = λ (roots : List (List ℕ)). world_of g.S.Sources c.args.source.now c.args.folder.now roots in
     let none : has_path walk c.args.path.now ≡ false = has_found walk c.args.path.now ∙ (sym c.contains_key.ensures ∙ c.if-contains_key.false) in
     let many : 1024 ≤ length (open_paths walk) + length (entries walk) = omega (arith, open_count walk, c.len.ensures.len, c.len-2.ensures.len) in
     λ roots f. beyond (w roots) (open_paths walk) (entries walk) c.args.asking c.args.path.now c.in_ok-bytes.bytes.items c.in_ok-asked_at.field-0 f.is_sound f.asks
@@ -46,7 +47,7 @@ returns-then-len-ge-MAX_FILES-clause-refused g t c =
 
 pub returns-in_err-tree-clause-refused : goal.returns-in_err-tree-clause-refused
 returns-in_err-tree-clause-refused g t c =
-    let w = λ (roots : List (List ℕ)). world (g.S.Sources.may_give c.args.source.now) (g.S.Sources.may_lack c.args.source.now) c.args.folder.now roots in
+    let w = λ (roots : List (List ℕ)). world_of g.S.Sources c.args.source.now c.args.folder.now roots in
     let p = err_from_is_err_and c.from_residual-in_err-tree.result c.from_residual-in_err-tree.ensures.1 in
     let fault : IsTextFault c.args.path.now c.in_ok-bytes.bytes.items c.in_err-tree.field-0.0 =
     subst (λ (t : List ℕ). IsTextFault c.args.path.now t c.in_err-tree.field-0.0) c.deref.ensures.value c.in_err-tree.ensures.fault in
@@ -59,7 +60,7 @@ lines-init g t c =
     let new = c.begin.new.self in
     let path : List ℕ = c.args.path.now in
     let ls : List lines.ImportLine = c.in_ok-lines.lines.items in
-    let w = λ (roots : List (List ℕ)). world (g.S.Sources.may_give c.args.source.now) (g.S.Sources.may_lack c.args.source.now) c.args.folder.now roots in
+    let w = λ (roots : List (List ℕ)). world_of g.S.Sources c.args.source.now c.args.folder.now roots in
     let none : has_path walk path ≡ false = has_found walk path ∙ (sym c.contains_key.ensures ∙ c.if-contains_key.false) in
     let room : length (open_paths walk) + length (entries walk) < 1024 = omega (arith, open_count walk, c.len.ensures.len, c.len-2.ensures.len) in
     let same : entries new ≡ entries walk = c.in_ok-begin.ensures.same in
@@ -75,9 +76,7 @@ lines-init g t c =
       come = come_first walk new (map line_path (take 0 ls)) same;
       lists = none_listed walk new (map line_path (take 0 ls)) same (ap (map line_path) (take_none ls));
       asked = first_way c.args.folder.now _ _ walk new path c.requires.1.1.1 none c.in_ok-bytes.ensures.asked same;
-      counted = omega (arith, c.in_ok-bytes.ensures.counted);
-      same_given = c.in_ok-bytes.ensures.same_given;
-      same_lacked = c.in_ok-bytes.ensures.same_lacked;
+      reads = c.in_ok-bytes.ensures.reads;
       rises = omega (arith, ap length same, ap length opened);
       grows = omega (arith, ap length same);
       room = room;
@@ -93,7 +92,7 @@ returns-in_err-check-clause-refused g t c =
     let next : List ℕ = c.as_str-next.result.now in
     let before : List (List ℕ) = map string_bytes c.lines.before.keys in
     let e = c.in_err-check.field-0.0 in
-    let w = λ (roots : List (List ℕ)). world (g.S.Sources.may_give c.args.source.now) (g.S.Sources.may_lack c.args.source.now) c.args.folder.now roots in
+    let w = λ (roots : List (List ℕ)). world_of g.S.Sources c.args.source.now c.args.folder.now roots in
     let p = err_from_is_err_and c.from_residual-in_err-check.result c.from_residual-in_err-check.ensures.1 in
     let parsed : IsParsed c.in_ok-bytes.bytes.items c.in_ok-tree.tree = subst (λ (text : List ℕ). IsParsed text c.in_ok-tree.tree) c.deref.ensures.value c.in_ok-tree.ensures.parsed in
     let fault : IsImportFault (path ∷ open_paths walk) before here next e =
@@ -114,12 +113,11 @@ returns-in_err-visit-clause-refused g t c =
     let here : askings.Asking = record { file = c.args.path; text = c.deref-in-lines.result; at = line.at } in
     let next : List ℕ = c.as_str-next.result.now in
     let e = c.in_err-visit.field-0.0 in
-    let w = λ (roots : List (List ℕ)). world (g.S.Sources.may_give c.args.source.now) (g.S.Sources.may_lack c.args.source.now) c.args.folder.now roots in
+    let w = λ (roots : List (List ℕ)). world_of g.S.Sources c.args.source.now c.args.folder.now roots in
     let p = err_from_is_err_and c.from_residual-in_err-visit.result c.from_residual-in_err-visit.ensures.1 in
     let parsed : IsParsed c.in_ok-bytes.bytes.items c.in_ok-tree.tree = subst (λ (text : List ℕ). IsParsed text c.in_ok-tree.tree) c.deref.ensures.value c.in_ok-tree.ensures.parsed in
     rw (p.1, p.2) (λ roots f.
-    let now = same_world (g.S.Sources.may_give c.lines.source) (g.S.Sources.may_give c.args.source.now) (g.S.Sources.may_lack c.lines.source) (g.S.Sources.may_lack c.args.source.now)
-    c.args.folder.now roots inv.same_given inv.same_lacked in
+    let now = same_world g.S.Sources c.args.source.now c.lines.source 0 c.args.folder.now roots inv.reads in
     let i = next_import (w roots) path c.in_ok-bytes.bytes.items here.text.now next c.in_ok-tree.tree c.in_ok-lines.lines.items c.lines.index line
     record { is_given = c.in_ok-bytes.ensures.given; is_parsed = parsed } c.deref-in-lines.ensures.value c.as_str-next.ensures.value c.in_ok-lines.ensures
     (omega arith) c.index-line.ensures in
@@ -139,7 +137,7 @@ lines-preserved g t c =
     let line : lines.ImportLine = c.index-line.result.now in
     let here : askings.Asking = record { file = c.args.path; text = c.deref-in-lines.result; at = line.at } in
     let next : List ℕ = c.as_str-next.result.now in
-    let w = λ (roots : List (List ℕ)). world (g.S.Sources.may_give c.args.source.now) (g.S.Sources.may_lack c.args.source.now) c.args.folder.now roots in
+    let w = λ (roots : List (List ℕ)). world_of g.S.Sources c.args.source.now c.args.folder.now roots in
     let parsed : IsParsed c.in_ok-bytes.bytes.items c.in_ok-tree.tree = subst (λ (text : List ℕ). IsParsed text c.in_ok-tree.tree) c.deref.ensures.value c.in_ok-tree.ensures.parsed in
     let has = λ (l : lines.ImportLine). has_path new (string_bytes l.path) ≡ true in
     let this : has line = subst (λ (q : List ℕ). has_path new q ≡ true) c.as_str-next.ensures.value after.has in
@@ -152,15 +150,14 @@ lines-preserved g t c =
     subst (λ (qs : List (List ℕ)). is_path_of qs next ≡ false) inv.before_is c.in_ok-check.ensures.first in
     record {
       sound = λ roots f.
-          let now = same_world (g.S.Sources.may_give c.lines.source) (g.S.Sources.may_give c.args.source.now) (g.S.Sources.may_lack c.lines.source) (g.S.Sources.may_lack c.args.source.now)
-          c.args.folder.now roots inv.same_given inv.same_lacked in
+          let now = same_world g.S.Sources c.args.source.now c.lines.source 0 c.args.folder.now roots inv.reads in
           let i = next_import (w roots) path c.in_ok-bytes.bytes.items here.text.now next c.in_ok-tree.tree ls c.lines.index line
           record { is_given = c.in_ok-bytes.ensures.given; is_parsed = parsed } c.deref-in-lines.ensures.value c.as_str-next.ensures.value c.in_ok-lines.ensures
           within c.index-line.ensures in
           let follows = follows_next (w roots) c.lines.walk path (open_paths walk) here next inv.opened (inv.sound roots f) refl i.0
           (comes_of (w roots) (open_paths walk) c.args.asking path f.asks) in
           subst (λ (x : World). IsSound x (path ∷ open_paths walk) (entries new)) now
-          (subst (λ (ps : List (List ℕ)). IsSound (world (g.S.Sources.may_give c.lines.source) (g.S.Sources.may_lack c.lines.source) c.args.folder.now roots) ps (entries new)) inv.opened
+          (subst (λ (ps : List (List ℕ)). IsSound (world_of g.S.Sources c.lines.source c.args.folder.now roots) ps (entries new)) inv.opened
           (after.sound roots (subst (λ (x : World). Follows x c.lines.walk (Some here) next) (sym now) follows)));
       opened = after.opened ∙ inv.opened;
       so_far = All-more has ls c.lines.index line within those (subst has c.index-line.ensures this);
@@ -172,9 +169,7 @@ lines-preserved g t c =
       lists = subst (λ (qs : List (List ℕ)). VisitLists (listed_paths walk) qs new) (sym more)
           (next_listed (listed_paths walk) (map line_path (take c.lines.index ls)) next c.lines.walk new inv.lists after.extends after.lists);
       asked = next_way c.args.folder.now _ _ _ walk c.lines.walk new path inv.asked inv.opened after.reads_all;
-      counted = omega (arith, after.counted, inv.counted);
-      same_given = after.same_given ∙ inv.same_given;
-      same_lacked = after.same_lacked ∙ inv.same_lacked;
+      reads = then g.S.Sources c.args.source.now c.lines.source _ 0 inv.reads after.reads;
       rises = omega (arith, after.grows, ap length after.opened, inv.rises);
       grows = omega (arith, after.grows, inv.grows);
       room = inv.room;
@@ -189,7 +184,7 @@ returns-clause-sound g t c = λ roots f.
     let new = c.end.new.self in
     let ls : List lines.ImportLine = c.in_ok-lines.lines.items in
     let file : kept.SourceFile = record { bytes = c.in_ok-bytes.bytes; tree = c.in_ok-tree.tree } in
-    let w = world (g.S.Sources.may_give c.args.source.now) (g.S.Sources.may_lack c.args.source.now) c.args.folder.now roots in
+    let w = world_of g.S.Sources c.args.source.now c.args.folder.now roots in
     let parsed : IsParsed c.in_ok-bytes.bytes.items c.in_ok-tree.tree = subst (λ (text : List ℕ). IsParsed text c.in_ok-tree.tree) c.deref.ensures.value c.in_ok-tree.ensures.parsed in
     let sound : IsSound w (path ∷ open_paths walk) (entries mid) = inv.sound roots f in
     let last = c.in_ok-end.ensures.comes.is_last (not_read w path (open_paths walk) (entries mid) sound) in

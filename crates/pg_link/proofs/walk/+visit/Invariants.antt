@@ -1,7 +1,8 @@
 use Rattle.std.proofs.Common.{◌≡◌, ◌-◌, ◌+◌, ◌<◌, ℕ, List, ◌∷◌, All, take, true, length, map, string_bytes}
 use Rattle.pg_link.specs.declared.imports.ImportLine as lines
 use Rattle.pg_link.specs.Files.{Differ}
-use Rattle.pg_link.specs.Walk.{world, IsSound, Extends, Follows, Keeps, VisitLists, entries, listed_paths, open_paths, has_path}
+use Rattle.pg_link.specs.Reads.{Reads, world_of}
+use Rattle.pg_link.specs.Walk.{IsSound, Extends, Follows, Keeps, VisitLists, entries, listed_paths, open_paths, has_path}
 use Rattle.pg_link.proofs.LeadLaws.{ComeByThese}
 use Rattle.pg_link.proofs.ReadLaws.{IsUnderWay}
 use Rattle.pg_link.proofs.WalkLaws.{line_path}
@@ -13,8 +14,8 @@ decreases-visit g l = 1024 - (length (open_paths l.walk.now) + length (entries l
 
 abbrev pub invariant-lines : goal.invariant-lines
 invariant-lines g l = record {
-  sound : (roots : List (List ℕ)) → Follows (world (g.S.Sources.may_give l.fn.source) (g.S.Sources.may_lack l.fn.source) l.folder roots) l.fn.walk l.asking l.path
-      → IsSound (world (g.S.Sources.may_give l.fn.source) (g.S.Sources.may_lack l.fn.source) l.folder roots) (l.path ∷ open_paths l.fn.walk) (entries l.walk);
+  sound : (roots : List (List ℕ)) → Follows (world_of g.S.Sources l.fn.source l.folder roots) l.fn.walk l.asking l.path
+      → IsSound (world_of g.S.Sources l.fn.source l.folder roots) (l.path ∷ open_paths l.fn.walk) (entries l.walk);
   opened : open_paths l.walk ≡ l.path ∷ open_paths l.fn.walk;
   so_far : All (λ (line : lines.ImportLine). has_path l.walk (string_bytes line.path) ≡ true) (take l.index l.lines.items);
   before_is : map string_bytes l.before.keys ≡ map line_path (take l.index l.lines.items);
@@ -24,9 +25,7 @@ invariant-lines g l = record {
   come : ComeByThese l.fn.walk l.walk (map line_path (take l.index l.lines.items));
   lists : VisitLists (listed_paths l.fn.walk) (map line_path (take l.index l.lines.items)) l.walk;
   asked : IsUnderWay l.folder (g.S.Sources.reads l.fn.source) (g.S.Sources.reads l.source) l.fn.walk l.walk l.path;
-  counted : g.S.Sources.failures l.source ≡ g.S.Sources.failures l.fn.source;
-  same_given : g.S.Sources.may_give l.source ≡ g.S.Sources.may_give l.fn.source;
-  same_lacked : g.S.Sources.may_lack l.source ≡ g.S.Sources.may_lack l.fn.source;
+  reads : Reads g.S.Sources l.fn.source l.source 0;
   rises : length (open_paths l.fn.walk) + length (entries l.fn.walk) < length (open_paths l.walk) + length (entries l.walk);
   grows : length (entries l.fn.walk) < length (entries l.walk) + 1;
   room : length (open_paths l.fn.walk) + length (entries l.fn.walk) < 1024;

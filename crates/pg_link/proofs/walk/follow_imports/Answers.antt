@@ -7,11 +7,12 @@ use Rattle.std.specs.Global.{Global}
 use Rattle.pg_link.specs.declared.walk.Walk as walks
 use Rattle.pg_link.specs.Files.{is_path_of, paths_of}
 use Rattle.pg_link.specs.Index.{texts}
-use Rattle.pg_link.specs.Walk.{World, world, IsSound, Follows, Refuses, VisitLists, entries, outlines, has_path}
+use Rattle.pg_link.specs.Reads.{world_of}
+use Rattle.pg_link.specs.Walk.{World, IsSound, Follows, Refuses, VisitLists, entries, outlines, has_path}
 use Rattle.pg_link.proofs.LeadLaws.{none_come, root_next}
 use Rattle.pg_link.proofs.PostOrderLaws.{first_listed, next_listed}
-use Rattle.pg_link.proofs.ReadLaws.{all_far, far_apart, far_refused, first_far, next_far}
-use Rattle.pg_link.proofs.WalkLaws.{contains_root, first_sound, follows_root, linked, same_world, take_none}
+use Rattle.pg_link.proofs.ReadLaws.{all_far, far_apart, far_refused, first_far, next_far, same_world, then, unasked}
+use Rattle.pg_link.proofs.WalkLaws.{contains_root, first_sound, follows_root, linked, take_none}
 use Rattle.pg_link.proofs.walk.follow_imports.Goals as goal
 
 pub returns-in_err-visit-clause-refused : goal.returns-in_err-visit-clause-refused
@@ -21,10 +22,9 @@ returns-in_err-visit-clause-refused g c =
     let none : Bor (List ℕ) = record { ref_ptr = (0, 0); now = [] } in
     let root : List ℕ = (slice_index_or roots c.loop-root.root-index none).now in
     let e = c.in_err-visit.field-0.0 in
-    let w = world (g.S.Sources.may_give c.args.source.now) (g.S.Sources.may_lack c.args.source.now) c.args.folder.now (texts roots) in
+    let w = world_of g.S.Sources c.args.source.now c.args.folder.now (texts roots) in
     let p = err_from_is_err_and c.from_residual.result c.from_residual.ensures.1 in
-    let now = same_world (g.S.Sources.may_give c.loop-root.source) (g.S.Sources.may_give c.args.source.now) (g.S.Sources.may_lack c.loop-root.source) (g.S.Sources.may_lack c.args.source.now)
-    c.args.folder.now (texts roots) inv.same_given inv.same_lacked in
+    let now = same_world g.S.Sources c.args.source.now c.loop-root.source 0 c.args.folder.now (texts roots) inv.reads in
     let follows = follows_root w c.loop-root.walk root inv.opened inv.sound (contains_root roots c.loop-root.root-index none c.loop-root-test.true) in
     rw (p.1, p.2) (subst (λ (x : World). Refuses x e) now
     (c.in_err-visit.ensures.refused (texts roots) (subst (λ (x : World). Follows x c.loop-root.walk None root) (sym now) follows)))
@@ -37,10 +37,9 @@ loop-root-preserved g c =
     let none : Bor (List ℕ) = record { ref_ptr = (0, 0); now = [] } in
     let root : List ℕ = (slice_index_or roots c.loop-root.root-index none).now in
     let new = c.visit.new.walk in
-    let w = world (g.S.Sources.may_give c.args.source.now) (g.S.Sources.may_lack c.args.source.now) c.args.folder.now (texts roots) in
-    let mid = world (g.S.Sources.may_give c.loop-root.source) (g.S.Sources.may_lack c.loop-root.source) c.args.folder.now (texts roots) in
-    let now = same_world (g.S.Sources.may_give c.loop-root.source) (g.S.Sources.may_give c.args.source.now) (g.S.Sources.may_lack c.loop-root.source) (g.S.Sources.may_lack c.args.source.now)
-    c.args.folder.now (texts roots) inv.same_given inv.same_lacked in
+    let w = world_of g.S.Sources c.args.source.now c.args.folder.now (texts roots) in
+    let mid = world_of g.S.Sources c.loop-root.source c.args.folder.now (texts roots) in
+    let now = same_world g.S.Sources c.args.source.now c.loop-root.source 0 c.args.folder.now (texts roots) inv.reads in
     let follows = follows_root w c.loop-root.walk root inv.opened inv.sound (contains_root roots c.loop-root.root-index none c.loop-root-test.true) in
     let has = λ (root : Bor (List ℕ)). has_path new root.now ≡ true in
     let those : All has (take c.loop-root.root-index roots) = λ k d within. after.kept _ (inv.has_roots k d within) in
@@ -54,16 +53,14 @@ loop-root-preserved g c =
       lists = subst (λ (ps : List (List ℕ)). VisitLists [] ps new) (sym (map_more (λ (r : Bor (List ℕ)). r.now) roots c.loop-root.root-index none c.loop-root-test.true))
           (next_listed [] (texts (take c.loop-root.root-index roots)) root c.loop-root.walk new inv.lists after.extends after.lists);
       asked = next_far c.args.folder.now _ _ _ c.loop-root.walk new inv.asked inv.opened after.reads_all;
-      counted = omega (arith, after.counted, inv.counted);
-      same_given = after.same_given ∙ inv.same_given;
-      same_lacked = after.same_lacked ∙ inv.same_lacked;
+      reads = then g.S.Sources c.args.source.now c.loop-root.source _ 0 inv.reads after.reads;
     }
 
 pub returns-clause-linked : goal.returns-clause-linked
 returns-clause-linked g c =
     let inv = c.loop-root.invariant in
     let roots = c.args.roots.now in
-    let w = world (g.S.Sources.may_give c.args.source.now) (g.S.Sources.may_lack c.args.source.now) c.args.folder.now (texts roots) in
+    let w = world_of g.S.Sources c.args.source.now c.args.folder.now (texts roots) in
     let has = λ (root : Bor (List ℕ)). has_path c.loop-root.walk root.now ≡ true in
     let whole : take c.loop-root.root-index roots ≡ roots = take_all c.loop-root.root-index roots (omega (arith, c.loop-root-test.false)) in
     let all : All has roots = subst (λ (xs : List (Bor (List ℕ))). All has xs) whole inv.has_roots in
@@ -94,7 +91,5 @@ loop-root-init g c =
       from_roots = none_come (texts c.args.roots.now) walk none;
       lists = first_listed walk (texts (take 0 c.args.roots.now)) none (ap texts (take_none c.args.roots.now));
       asked = first_far c.args.folder.now _ _ walk refl none;
-      counted = refl;
-      same_given = refl;
-      same_lacked = refl;
+      reads = unasked g.S.Sources c.args.source.now;
     }

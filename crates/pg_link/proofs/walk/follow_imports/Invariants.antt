@@ -1,19 +1,18 @@
 use Rattle.std.proofs.Common.{◌≡◌, [], All, take, true}
 use Rattle.pg_link.specs.Index.{texts}
-use Rattle.pg_link.specs.Walk.{world, IsSound, VisitLists, entries, open_paths, has_path}
+use Rattle.pg_link.specs.Reads.{Reads, world_of}
+use Rattle.pg_link.specs.Walk.{IsSound, VisitLists, entries, open_paths, has_path}
 use Rattle.pg_link.proofs.LeadLaws.{ComeFrom}
 use Rattle.pg_link.proofs.ReadLaws.{IsSoFar}
 use Rattle.pg_link.proofs.walk.follow_imports.Given as goal
 
 abbrev pub invariant-loop-root : goal.invariant-loop-root
 invariant-loop-root g l = record {
-  sound : IsSound (world (g.S.Sources.may_give l.fn.source) (g.S.Sources.may_lack l.fn.source) l.folder (texts l.roots)) [] (entries l.walk);
+  sound : IsSound (world_of g.S.Sources l.fn.source l.folder (texts l.roots)) [] (entries l.walk);
   opened : open_paths l.walk ≡ [];
   has_roots : All (λ root. has_path l.walk root.now ≡ true) (take l.root-index l.roots);
   from_roots : ComeFrom (texts l.roots) l.walk;
   lists : VisitLists [] (texts (take l.root-index l.roots)) l.walk;
   asked : IsSoFar l.folder (g.S.Sources.reads l.fn.source) (g.S.Sources.reads l.source) l.walk;
-  counted : g.S.Sources.failures l.source ≡ g.S.Sources.failures l.fn.source;
-  same_given : g.S.Sources.may_give l.source ≡ g.S.Sources.may_give l.fn.source;
-  same_lacked : g.S.Sources.may_lack l.source ≡ g.S.Sources.may_lack l.fn.source;
+  reads : Reads g.S.Sources l.fn.source l.source 0;
 }
