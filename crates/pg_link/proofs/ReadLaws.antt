@@ -27,8 +27,8 @@ module _ {S : Type 0} (members : Ghosts S) (old : S) where
   unasked = record { counted = omega arith; same_given = refl; same_lacked = refl }
 
   -- reads, and then further ones
-  pub then : (mid new : S) (n : ℕ) → Reads members old mid 0 → Reads members mid new n → Reads members old new n
-  then mid new n first second = record {
+  pub reads_on : (mid new : S) (n : ℕ) → Reads members old mid 0 → Reads members mid new n → Reads members old new n
+  reads_on mid new n first second = record {
     counted = omega (arith, first.counted, second.counted);
     same_given = second.same_given ∙ first.same_given;
     same_lacked = second.same_lacked ∙ first.same_lacked;

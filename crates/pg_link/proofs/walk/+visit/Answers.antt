@@ -12,7 +12,7 @@ use Rattle.pg_link.proofs.LeadLaws.{ComeByThese, both_extend, come_done, come_fi
 use Rattle.pg_link.proofs.OrderLaws.{apart_more}
 use Rattle.pg_link.proofs.PathLaws.{has_found}
 use Rattle.pg_link.proofs.PostOrderLaws.{file_listed, listed_before, next_listed, none_listed}
-use Rattle.pg_link.proofs.ReadLaws.{at_most_new, first_way, next_way, none_new, none_read, not_begun, one_new, same_world, then, unasked, way_done, way_refused}
+use Rattle.pg_link.proofs.ReadLaws.{at_most_new, first_way, next_way, none_new, none_read, not_begun, one_new, reads_on, same_world, way_done, way_refused}
 use Rattle.pg_link.proofs.WalkLaws.{beyond, comes_of, follows_next, import_refused, line_path, next_import, none_yet, not_read, one_more, open_count, open_one, reached_of, read_refused, take_none, text_refused}
 use Rattle.pg_link.proofs.walk.+visit.Goals as goal
 
@@ -169,7 +169,7 @@ lines-preserved g t c =
       lists = subst (λ (qs : List (List ℕ)). VisitLists (listed_paths walk) qs new) (sym more)
           (next_listed (listed_paths walk) (map line_path (take c.lines.index ls)) next c.lines.walk new inv.lists after.extends after.lists);
       asked = next_way c.args.folder.now _ _ _ walk c.lines.walk new path inv.asked inv.opened after.reads_all;
-      reads = then g.S.Sources c.args.source.now c.lines.source _ 0 inv.reads after.reads;
+      reads = reads_on g.S.Sources c.args.source.now c.lines.source _ 0 inv.reads after.reads;
       rises = omega (arith, after.grows, ap length after.opened, inv.rises);
       grows = omega (arith, after.grows, inv.grows);
       room = inv.room;

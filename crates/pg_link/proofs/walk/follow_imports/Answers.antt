@@ -11,7 +11,7 @@ use Rattle.pg_link.specs.Reads.{world_of}
 use Rattle.pg_link.specs.Walk.{World, IsSound, Follows, Refuses, VisitLists, entries, outlines, has_path}
 use Rattle.pg_link.proofs.LeadLaws.{none_come, root_next}
 use Rattle.pg_link.proofs.PostOrderLaws.{first_listed, next_listed}
-use Rattle.pg_link.proofs.ReadLaws.{all_far, far_apart, far_refused, first_far, next_far, same_world, then, unasked}
+use Rattle.pg_link.proofs.ReadLaws.{all_far, far_apart, far_refused, first_far, next_far, reads_on, same_world, unasked}
 use Rattle.pg_link.proofs.WalkLaws.{contains_root, first_sound, follows_root, linked, take_none}
 use Rattle.pg_link.proofs.walk.follow_imports.Goals as goal
 
@@ -53,7 +53,7 @@ loop-root-preserved g c =
       lists = subst (λ (ps : List (List ℕ)). VisitLists [] ps new) (sym (map_more (λ (r : Bor (List ℕ)). r.now) roots c.loop-root.root-index none c.loop-root-test.true))
           (next_listed [] (texts (take c.loop-root.root-index roots)) root c.loop-root.walk new inv.lists after.extends after.lists);
       asked = next_far c.args.folder.now _ _ _ c.loop-root.walk new inv.asked inv.opened after.reads_all;
-      reads = then g.S.Sources c.args.source.now c.loop-root.source _ 0 inv.reads after.reads;
+      reads = reads_on g.S.Sources c.args.source.now c.loop-root.source _ 0 inv.reads after.reads;
     }
 
 pub returns-clause-linked : goal.returns-clause-linked
