@@ -1,6 +1,6 @@
--- What the rules take and what they refuse, by small examples. Bytes stand for places of a text. Whole bodies and a file of
--- every construct are shown by tests: their trees are long to write out.
-use Rattle.std.specs.Prelude.{◌≡◌, ◌≤◌, ℕ, Bool, true, false, List, [], ◌∷◌, ◌++◌, codes, length, Option, Some, None}
+-- What the rules take and what they refuse, by small examples, with offsets for positions. A file of every construct is tested:
+-- its tree is long to write out.
+use Rattle.std.specs.Prelude.{◌≡◌, ◌≤◌, ℕ, Bool, true, false, List, [], ◌∷◌, ◌++◌, codes, length, Option, Some, None, string_bytes}
 use Rattle.pg_schema.specs.JsonName.{default_json_name}
 use Rattle.pg_schema.specs.ScalarWords.{scalar_of}
 use Rattle.pg_check.specs.declared.rules.fault.Fault.{Fault}
@@ -13,7 +13,9 @@ use Rattle.pg_check.specs.declared.rules.options.Owner.TheVariants as owners
 use Rattle.pg_check.specs.rules.Enums as enums
 use Rattle.pg_check.specs.rules.Faults.{broken_at, earlier, option_fault}
 use Rattle.pg_check.specs.rules.Files.{too_many}
+use Rattle.pg_check.specs.rules.KeepsRules.{KeepsRules}
 use Rattle.pg_check.specs.parts.MadeNumbers.{field_number, value_number}
+use Rattle.pg_check.specs.parts.MadeParts.{Source}
 use Rattle.pg_check.specs.rules.Members as members
 use Rattle.pg_check.specs.rules.Messages as messages
 use Rattle.pg_check.specs.rules.Names as names
@@ -21,9 +23,12 @@ use Rattle.pg_check.specs.rules.Numbers.{rank, is_field_number}
 use Rattle.pg_check.specs.declared.rules.options.Owner.{Owner}
 use Rattle.pg_check.specs.rules.Options.{OptionAt, an_option, first_bad, in_brackets, in_line, is_of, is_of_kind, option_named}
 use Rattle.pg_check.specs.rules.Outline.{Message}
-use Rattle.pg_check.specs.rules.ReservedItems.{numbers_of}
+use Rattle.pg_check.specs.rules.ReservedItems.{names_in, numbers_of}
 use Rattle.pg_check.specs.rules.Types.{is_key_scalar, is_packable}
 use Rattle.pg_syntax.specs.declared.tree as tree
+use Rattle.pg_syntax.specs.declared.tree.Part.{Part}
+use Rattle.pg_syntax.specs.declared.tree.Part.TheVariants as parts
+use Rattle.pg_syntax.specs.declared.tree.Statement.TheVariants as statements
 use Rattle.pg_syntax.specs.declared.tree.Value.TheVariants as values
 use Rattle.std.specs.Prelude.{pos, negsuc}
 
@@ -42,7 +47,26 @@ stated text is_right at = record { name = text; is_right = is_right; at = at }
 abbrev pub reported : Rule → ℕ → Option Fault
 reported rule at = Some (broken_at rule at)
 
+-- the field `int32 a = 1;`, wherever its words are
+pub record IsFieldA (f : tree.Field.Field) : Type 0 where
+  pub no_label : f.label ≡ None
+  pub is_named : string_bytes f.name.text ≡ codes "a"
+  pub is_numbered : f.number ≡ 1
+  pub no_options : f.settings ≡ None
+
+-- a file with one message type of this body, and with nothing else
+pub record HasOneMessage (s : Source) (body : List Part) : Type 0 where
+  pub message : tree.Message.Message
+  pub no_package : s.tree.packaged ≡ None
+  pub is_only : s.tree.statements.items ≡ statements.Message message ∷ []
+  pub has_body : message.parts.items ≡ body
+
 pub record WorkedRules : Type 0 where
+  -- message M { int32 a = 1; }
+  pub kept_file : (s : Source) (f : tree.Field.Field) → IsFieldA f → HasOneMessage s (parts.Field f ∷ []) → KeepsRules (s ∷ [])
+  -- message M { int32 a = 1; reserved "a"; }
+  pub reserved_name_in_file : (s : Source) (f : tree.Field.Field) (r : tree.Reserved.Reserved) → IsFieldA f → names_in r.items ≡ codes "a" ∷ []
+      → HasOneMessage s (parts.Field f ∷ parts.Reserved r ∷ []) → KeepsRules (s ∷ []) → ⊥
   pub highest_number : is_field_number (rank false 536870911) ≡ true
   pub zero_is_none : is_field_number (rank false 0) ≡ false
   pub kept_by_the_runtime : is_field_number (rank false 19000) ≡ false

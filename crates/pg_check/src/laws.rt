@@ -7,9 +7,9 @@ ghost use Rattle.pg_schema.specs.declared.parts.Parts.{Parts};
 ghost use Rattle.pg_syntax.specs.declared.tree.TypeName.{TypeName};
 ghost use Rattle.pg_link.specs.Linked.{IsLinkedUp, LinkedFiles};
 ghost use Rattle.pg_link.specs.Walk.{Entry};
+ghost use Rattle.pg_check.specs.admitting.BrokenParts.{IsFirstBrokenPart, KeepsAll};
 ghost use Rattle.pg_check.specs.rules.BrokenRules.{IsFirstBroken};
 ghost use Rattle.pg_check.specs.Declares.{Declares};
-ghost use Rattle.pg_check.specs.parts.EnumPlaces.{AreNumbered};
 ghost use Rattle.pg_check.specs.Examples.{WorkedRules};
 ghost use Rattle.pg_check.specs.rules.KeepsRules.{KeepsRules};
 ghost use Rattle.pg_check.specs.parts.MadeParts.{Source};
@@ -30,6 +30,12 @@ pub fn worked_rules()
 pub fn kept_rules()
     ensures { (files : List Source) (e : CheckError) → KeepsRules files
         → IsFirstBroken files e → ⊥ }
+{}
+
+/// Parts that come from no source file and keep to the rules break none: `admit` reports no rule of
+/// them.
+pub fn kept_part_rules()
+    ensures { (parts : Parts) (e : CheckError) → KeepsAll parts → IsFirstBrokenPart parts e → ⊥ }
 {}
 
 /// The parts of linked files that keep to the rules are those of a schema: their names are words,
@@ -64,11 +70,4 @@ pub fn resolved_types()
 /// alike.
 pub fn rule_codes()
     ensures { AreRuleCodes }
-{}
-
-/// Linking numbers message types and enums in order of declaration, as the rules list them. So what
-/// a type name names by number is what it names by its full name, an enum also by its place scope
-/// by scope.
-pub fn linked_numbers()
-    ensures { (linked : LinkedFiles) → IsLinkedUp linked → AreNumbered linked.files }
 {}

@@ -3,6 +3,7 @@ use Rattle.pg_schema.specs.ScalarWords.{scalar_of}
 use Rattle.pg_check.specs.rules.Files.{too_many}
 use Rattle.pg_check.specs.rules.Options.{option_named}
 use Rattle.pg_check.specs.rules.Outline.{Message}
+use Rattle.pg_check.proofs.lemmas.rules.SmallFiles.{kept_file, reserved_name_in_file}
 use Rattle.pg_check.proofs.laws.worked_rules.Goals as goal
 
 so_many_types : (left : ℕ) (ms : List Message) → length ms ≤ left → too_many left ms ≡ None
@@ -17,6 +18,8 @@ one_type_more (n ∷ ms) m more = one_type_more ms m more
 pub returns : goal.returns
 unfolding option_named scalar_of
 returns c = record {
+  kept_file = kept_file;
+  reserved_name_in_file = reserved_name_in_file;
   highest_number = refl;
   zero_is_none = refl;
   kept_by_the_runtime = refl;

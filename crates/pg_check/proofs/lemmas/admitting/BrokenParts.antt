@@ -1,5 +1,5 @@
 -- What is reported of parts that come from no text is the first rule that they break, and of one part the lowest code.
-use Rattle.std.proofs.Common.{◌≡◌, ◌≤◌, ◌<◌, inl, inr, ℕ, Bool, true, false, not, nat_le, List, [], ◌∷◌, length, map, Option, Some, None, sym, ap, subst, refl, arith}
+use Rattle.std.proofs.Common.{◌≡◌, ◌≤◌, ◌<◌, inl, inr, ℕ, Bool, true, false, not, nat_le, List, [], ◌∷◌, ◌++◌, length, map, Option, Some, None, sym, ap, subst, refl, arith}
 use Rattle.std.specs.List.{list_any, AllByRecursion}
 use Rattle.std.proofs.lemmas.Bool.Decides.{nat_tests}
 use Rattle.pg_link.specs.declared.error.Place.{Place}
@@ -16,7 +16,7 @@ use Rattle.pg_check.specs.admitting.BrokenParts.{BreaksFilePart, BreaksFirst, Is
 use Rattle.pg_check.specs.Errors.{error_of}
 use Rattle.pg_check.specs.declared.rules.numbers.Keyed.{Keyed}
 use Rattle.pg_check.specs.rules.Faults.{broken, broken_at, first_fault, or_else, order}
-use Rattle.pg_check.specs.rules.Firsts.{IsFirstAgain, IsNotAfter}
+use Rattle.pg_check.specs.rules.Firsts.{IsBehind, IsFirstAgain, IsNotAfter}
 use Rattle.pg_check.specs.rules.Numbers as numbers
 use Rattle.pg_check.specs.admitting.PartFaults as faults
 use Rattle.pg_check.proofs.lemmas.rules.FirstFaults.{IsFound, Meets, earlier_meets, first_meets, found_left, found_right}
@@ -146,3 +146,26 @@ none_broken parts none =
       enums = all_keep _ KeepsEnumType enum_type_keeps parts.enums.items ((first_fault_none faults.enum_fault parts.enums.items).0 each_enum);
       files = all_keep _ KeepsFilePart file_part_keeps parts.files.items ((first_fault_none faults.file_fault parts.files.items).0 each_file);
     }
+
+-- ---- parts that keep to the rules
+
+kept_at : {X : Type 0} (Keeps : X → Type 0) (before after : List X) (x : X) → AllByRecursion Keeps (before ++ x ∷ after) → Keeps x
+kept_at Keeps [] after x keep = keep.0
+kept_at Keeps (b ∷ bs) after x keep = kept_at Keeps bs after x keep.1
+
+kept_there : {X : Type 0} (Keeps : X → Type 0) (xs : List X) (x : X) → AllByRecursion Keeps xs → IsBehind Keeps xs x → Keeps x
+kept_there Keeps xs x keep behind = kept_at Keeps behind.before behind.after x (subst (AllByRecursion Keeps) behind.is keep)
+
+none_first : (parts : Parts) (place : Place) (e : CheckError) → KeepsAll parts → BreaksFirst parts place e → ⊥
+none_first parts place e keep (too_many_types more) = let small = keep.few_types in omega (arith, more, small)
+none_first parts place e keep (in_type t error code small behind breaks low) =
+    kept_there KeepsType parts.types.items t keep.types behind place error code breaks
+none_first parts place e keep (in_enum n error code small types behind breaks low) =
+    let keeps = kept_there KeepsEnumType parts.enums.items n keep.enums behind in
+    subst (λ o. IsFound o 0 code) ((values_judged 0 (faults.declared_enum n)).none.1 keeps) (enum_type_found n place error code breaks)
+none_first parts place e keep (in_file f error code small types enumerations behind breaks) =
+    kept_there KeepsFilePart parts.files.items f keep.files behind place error code breaks
+
+-- they break none
+pub kept_unbroken : (parts : Parts) (e : CheckError) → KeepsAll parts → IsFirstBrokenPart parts e → ⊥
+kept_unbroken parts e keep h = none_first parts h.place e keep h.breaks
