@@ -25,7 +25,6 @@ use Rattle.pg_syntax.specs.declared.tree as tree
 use Rattle.pg_syntax.specs.declared.tree.EnumPart.TheVariants as enum_parts
 use Rattle.pg_syntax.specs.declared.tree.OneofPart.TheVariants as oneof_parts
 use Rattle.pg_syntax.specs.declared.tree.Part.{Part}
-use Rattle.pg_syntax.specs.declared.tree.Part.TheVariants as parts
 use Rattle.pg_syntax.specs.declared.tree.ServicePart.TheVariants as service_parts
 use Rattle.pg_syntax.specs.declared.tree.Statement.TheVariants as statements
 
@@ -69,10 +68,10 @@ pub data BreaksMessage (targets : ℕ → Option Target) (body : List Part) (pla
       BreaksMessage targets body place (errors.BadMapKey place) 407 (place_of m) (place_of m)
   bad_oneof_member : (m : DeclaredField) → IsFirst may_be_member (members body) m →
       BreaksMessage targets body place (errors.BadOneofMember place) 408 (place_of m) (place_of m)
-  empty_oneof : (o : tree.Oneof.Oneof) → IsBehind (λ p. oneof_keeps p ≡ true) body (parts.Oneof o) →
+  empty_oneof : (o : tree.Oneof.Oneof) → IsBehind (λ o. oneof_keeps o ≡ true) (messages.oneofs body) o →
       messages.has_member o.parts.items ≡ false →
       BreaksMessage targets body place (errors.BadOneofMember place) 408 o.name.span.from o.name.span.from
-  oneof_option : (o : tree.Oneof.Oneof) (line : tree.OptionLine.OptionLine) → IsBehind (λ p. oneof_keeps p ≡ true) body (parts.Oneof o) →
+  oneof_option : (o : tree.Oneof.Oneof) (line : tree.OptionLine.OptionLine) → IsBehind (λ o. oneof_keeps o ≡ true) (messages.oneofs body) o →
       messages.has_member o.parts.items ≡ true → IsBehind (λ p. is_no_option p ≡ true) o.parts.items (oneof_parts.Option line) →
       BreaksMessage targets body place (errors.BadOption place) 411 line.span.from line.span.from
   bad_message_option : (at : ℕ) → IsFirstBadOption (messages.lines body) at →

@@ -23,7 +23,6 @@ use Rattle.pg_syntax.specs.declared.tree as tree
 use Rattle.pg_syntax.specs.declared.tree.EnumPart.TheVariants as enum_parts
 use Rattle.pg_syntax.specs.declared.tree.OneofPart.TheVariants as oneof_parts
 use Rattle.pg_syntax.specs.declared.tree.Part.{Part}
-use Rattle.pg_syntax.specs.declared.tree.Part.TheVariants as parts
 use Rattle.pg_syntax.specs.declared.tree.ServicePart.TheVariants as service_parts
 use Rattle.pg_syntax.specs.declared.tree.Statement.TheVariants as statements
 
@@ -69,15 +68,8 @@ is_no_option (oneof_parts.Map m) = true
 is_no_option (oneof_parts.Field f) = true
 
 -- a oneof has a member, and no option
-abbrev pub oneof_keeps : Part → Bool
-oneof_keeps (parts.Empty span) = true
-oneof_keeps (parts.Message' name shape row span) = true
-oneof_keeps (parts.Enum e) = true
-oneof_keeps (parts.Oneof o) = messages.has_member o.parts.items && list_all is_no_option o.parts.items
-oneof_keeps (parts.Option o) = true
-oneof_keeps (parts.Reserved r) = true
-oneof_keeps (parts.Map m) = true
-oneof_keeps (parts.Field f) = true
+abbrev pub oneof_keeps : tree.Oneof.Oneof → Bool
+oneof_keeps o = messages.has_member o.parts.items && list_all is_no_option o.parts.items
 
 abbrev pub has_field_number : Keyed → Bool
 has_field_number k = numbers.is_field_number k.key
@@ -107,7 +99,7 @@ pub record MessageKeeps (targets : ℕ → Option Target) (body : List Part) : T
   pub fields : FieldsKeep (messages.declared body)
   pub map_keys : list_all has_key (members body) ≡ true
   pub oneof_members : list_all may_be_member (members body) ≡ true
-  pub oneofs : list_all oneof_keeps body ≡ true
+  pub oneofs : list_all oneof_keeps (messages.oneofs body) ≡ true
   pub options : OptionsKeep (messages.lines body)
   pub field_options : AllByRecursion (λ m. OptionsKeep (member_options m)) (members body)
   pub packed : list_all (is_packed_rightly targets) (members body) ≡ true

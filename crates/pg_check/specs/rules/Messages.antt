@@ -65,6 +65,19 @@ lines_in (parts.Field f) = []
 abbrev pub lines : List Part → List OptionAt
 lines body = flat_map lines_in body
 
+abbrev pub oneof_in : Part → List tree.Oneof.Oneof
+oneof_in (parts.Empty span) = []
+oneof_in (parts.Message' name shape row span) = []
+oneof_in (parts.Enum e) = []
+oneof_in (parts.Oneof o) = o ∷ []
+oneof_in (parts.Option o) = []
+oneof_in (parts.Reserved r) = []
+oneof_in (parts.Map m) = []
+oneof_in (parts.Field f) = []
+
+abbrev pub oneofs : List Part → List tree.Oneof.Oneof
+oneofs body = flat_map oneof_in body
+
 -- ---- what the rules see of the fields, whether a source file or a descriptor set declares them
 
 pub record DeclaredMessage : Type 0 where
@@ -108,16 +121,6 @@ oneof_option (oneof_parts.Field f) = None
 -- no option stands in a oneof
 abbrev pub oneof_fault : tree.Oneof.Oneof → Option Fault
 oneof_fault o = or_else (empty_oneof o) (first_fault oneof_option o.parts.items)
-
-abbrev pub part_oneof : Part → Option Fault
-part_oneof (parts.Empty span) = None
-part_oneof (parts.Message' name shape row span) = None
-part_oneof (parts.Enum e) = None
-part_oneof (parts.Oneof o) = oneof_fault o
-part_oneof (parts.Option o) = None
-part_oneof (parts.Reserved r) = None
-part_oneof (parts.Map m) = None
-part_oneof (parts.Field f) = None
 
 -- a member of a oneof is neither a map nor `repeated` or `optional`
 abbrev pub is_bad_member : DeclaredField → Bool
@@ -186,7 +189,7 @@ shapes_fault targets ms =
     (earlier (first_fault member_option ms) (first_fault (member_packed targets) ms)))
 
 abbrev pub parts_fault : List Part → Option Fault
-parts_fault body = earlier (broken rules.BadOption (first_bad (lines body))) (first_fault part_oneof body)
+parts_fault body = earlier (broken rules.BadOption (first_bad (lines body))) (first_fault oneof_fault (oneofs body))
 
 -- The first rule that a message's own body breaks, without the messages and enums in it. `targets` says what the type name
 -- that begins at a byte of the file names.

@@ -100,7 +100,7 @@ fn oneof_fault(oneof: &Oneof) -> Option<Fault>
 
 /// The first rule that the oneofs break by themselves.
 fn oneofs_fault(body: &[Part]) -> Option<Fault>
-    ensures { result ≡ first_fault spec.part_oneof body.now }
+    ensures { result ≡ first_fault spec.oneof_fault (spec.oneofs body.now) }
 {
     for part in body {
         if let Part::Oneof(oneof) = part {

@@ -1,11 +1,11 @@
 -- Oneofs of messages that keep to the rules: each has a member.
-use Rattle.std.proofs.Common.{◌≡◌, ◌∙◌, ℕ, zero, suc, ◌+◌, ◌^◌, ◌<◌, ◌≤◌, Bool, true, false, ◌||◌, nat_lt, nat_eq, List, [], ◌∷◌, ◌++◌, length, map, Option, arith, sym, ap, subst, refl, length-append}
+use Rattle.std.proofs.Common.{◌≡◌, ◌∙◌, ℕ, zero, suc, ◌+◌, ◌^◌, ◌<◌, ◌≤◌, Bool, true, false, ◌||◌, ◌&&◌, nat_lt, nat_eq, List, [], ◌∷◌, ◌++◌, length, map, Option, arith, sym, ap, subst, refl, length-append}
 use Rattle.std.specs.List.{list_all, list_any}
 use Rattle.std.specs.List.Sorted.{IsPermutation}
 use Rattle.std.specs.Option.{option_map}
 use Rattle.std.proofs.lemmas.Bool.{false≢true}
 use Rattle.std.proofs.lemmas.Bool.Decides.{nat_tests}
-use Rattle.std.proofs.lemmas.List.Folds.{list_any-append}
+use Rattle.std.proofs.lemmas.List.Folds.{list_all-append, list_any-append}
 use Rattle.std.proofs.lemmas.List.Sorted.{list_any-IsPermutation}
 use Rattle.pg_schema.specs.declared.parts.field.Field.{Field}
 use Rattle.pg_schema.specs.rules.Messages.{have_members, is_member, is_place}
@@ -15,7 +15,7 @@ use Rattle.pg_check.specs.rules.KeepsRules.{is_no_option, oneof_keeps}
 use Rattle.pg_check.specs.parts.MadeFields.{MadeField, field, made_field, oneof_of}
 use Rattle.pg_check.specs.parts.MadeNumbers.{index_of}
 use Rattle.pg_check.specs.rules.Members.{DeclaredField, members_from, members_in, oneof_members, oneofs_in}
-use Rattle.pg_check.specs.rules.Messages.{has_member}
+use Rattle.pg_check.specs.rules.Messages.{has_member, oneof_in, oneofs}
 use Rattle.pg_check.proofs.lemmas.parts.KeptFields.{oneof_count}
 use Rattle.pg_check.proofs.lemmas.rules.NoneLaws.{and_both, and_left, and_right}
 use Rattle.pg_syntax.specs.declared.tree as tree
@@ -40,20 +40,26 @@ some_members start (oneof_parts.Option o ∷ ps) h = some_members start ps h
 some_members start (oneof_parts.Map m ∷ ps) h = omega arith
 some_members start (oneof_parts.Field f ∷ ps) h = omega arith
 
+has_own : (o : tree.Oneof.Oneof) → list_all oneof_keeps (o ∷ []) ≡ true → has_member o.parts.items ≡ true
+has_own o k = and_left (has_member o.parts.items) (list_all is_no_option o.parts.items) (and_left (oneof_keeps o) true k)
+
 -- no more oneofs than fields
-pub fewer_oneofs : (start : ℕ) (body : List Part) → list_all oneof_keeps body ≡ true → oneof_count body ≤ length (members_from start body)
+split_oneofs : (p : Part) (ps : List Part) → list_all oneof_keeps (oneofs (p ∷ ps)) ≡ true → (list_all oneof_keeps (oneof_in p) && list_all oneof_keeps (oneofs ps)) ≡ true
+split_oneofs p ps h = sym (list_all-append oneof_keeps (oneof_in p) (oneofs ps)) ∙ h
+
+pub fewer_oneofs : (start : ℕ) (body : List Part) → list_all oneof_keeps (oneofs body) ≡ true → oneof_count body ≤ length (members_from start body)
 fewer_oneofs start [] h = omega arith
 fewer_oneofs start (p ∷ ps) h =
-    let others : oneof_count ps ≤ length (members_from (start + oneofs_in p) ps) = fewer_oneofs (start + oneofs_in p) ps (and_right (oneof_keeps p) _ h) in
-    let one : oneofs_in p ≤ length (members_in start p) = first p (and_left (oneof_keeps p) (list_all oneof_keeps ps) h) in
+    let others : oneof_count ps ≤ length (members_from (start + oneofs_in p) ps) = fewer_oneofs (start + oneofs_in p) ps (and_right (list_all oneof_keeps (oneof_in p)) _ (split_oneofs p ps h)) in
+    let one : oneofs_in p ≤ length (members_in start p) = first p (and_left (list_all oneof_keeps (oneof_in p)) (list_all oneof_keeps (oneofs ps)) (split_oneofs p ps h)) in
     let all : length (members_in start p ++ members_from (start + oneofs_in p) ps) ≡ length (members_in start p) + length (members_from (start + oneofs_in p) ps) = length-append (members_in start p) (members_from (start + oneofs_in p) ps) in
     omega (arith, others, one, all)
   where
-    first : (q : Part) → oneof_keeps q ≡ true → oneofs_in q ≤ length (members_in start q)
+    first : (q : Part) → list_all oneof_keeps (oneof_in q) ≡ true → oneofs_in q ≤ length (members_in start q)
     first (parts.Empty span) k = omega arith
     first (parts.Message' name shape row span) k = omega arith
     first (parts.Enum e) k = omega arith
-    first (parts.Oneof o) k = some_members start o.parts.items (and_left (has_member o.parts.items) (list_all is_no_option o.parts.items) k)
+    first (parts.Oneof o) k = some_members start o.parts.items (has_own o k)
     first (parts.Option o) k = omega arith
     first (parts.Reserved r) k = omega arith
     first (parts.Map m) k = omega arith
@@ -87,11 +93,12 @@ member_here start (oneof_parts.Map m ∷ ps) lt h = or_first (nat_eq (index_of s
 member_here start (oneof_parts.Field f ∷ ps) lt h = or_first (nat_eq (index_of start) start) _ (own_place start lt)
 
 -- the oneof at each place has one
-member_there : (start place : ℕ) (body : List Part) → start ≤ place → place < start + oneof_count body → place < 2 ^ 32 → list_all oneof_keeps body ≡ true → list_any (stands_in place) (members_from start body) ≡ true
+member_there : (start place : ℕ) (body : List Part) → start ≤ place → place < start + oneof_count body → place < 2 ^ 32 → list_all oneof_keeps (oneofs body) ≡ true → list_any (stands_in place) (members_from start body) ≡ true
 member_there start place [] low high lt h = absurd (omega (arith, low, high))
 member_there start place (p ∷ ps) low high lt h =
     list_any-append (stands_in place) (members_in start p) (members_from (start + oneofs_in p) ps)
-    ∙ by p high (and_left (oneof_keeps p) (list_all oneof_keeps ps) h) (λ from below. member_there (start + oneofs_in p) place ps from below lt (and_right (oneof_keeps p) _ h))
+    ∙ by p high (and_left (list_all oneof_keeps (oneof_in p)) (list_all oneof_keeps (oneofs ps)) (split_oneofs p ps h))
+    (λ from below. member_there (start + oneofs_in p) place ps from below lt (and_right (list_all oneof_keeps (oneof_in p)) _ (split_oneofs p ps h)))
   where
     later : (q : Part) → oneofs_in q ≡ 0 → place < start + (oneofs_in q + oneof_count ps) → (start + oneofs_in q ≤ place → place < start + oneofs_in q + oneof_count ps → list_any (stands_in place) (members_from (start + oneofs_in q) ps) ≡ true)
         → (list_any (stands_in place) (members_in start q) || list_any (stands_in place) (members_from (start + oneofs_in q) ps)) ≡ true
@@ -105,13 +112,13 @@ member_there start place (p ∷ ps) low high lt h =
         let same : start ≡ place = grind (arith, nat_tests) in
         or_first _ (list_any (stands_in place) (members_from (start + 1) ps)) (subst (λ n. list_any (stands_in n) (oneof_members start o.parts.items) ≡ true) same (member_here start o.parts.items (subst (λ n. n < 2 ^ 32) (sym same) lt) k))
 
-    by : (q : Part) → place < start + (oneofs_in q + oneof_count ps) → oneof_keeps q ≡ true
+    by : (q : Part) → place < start + (oneofs_in q + oneof_count ps) → list_all oneof_keeps (oneof_in q) ≡ true
         → (start + oneofs_in q ≤ place → place < start + oneofs_in q + oneof_count ps → list_any (stands_in place) (members_from (start + oneofs_in q) ps) ≡ true)
         → (list_any (stands_in place) (members_in start q) || list_any (stands_in place) (members_from (start + oneofs_in q) ps)) ≡ true
     by (parts.Empty span) top k others = later (parts.Empty span) refl top others
     by (parts.Message' name shape row span) top k others = later (parts.Message' name shape row span) refl top others
     by (parts.Enum e) top k others = later (parts.Enum e) refl top others
-    by (parts.Oneof o) top k others = at_oneof o (nat_lt start place) refl top (and_left (has_member o.parts.items) (list_all is_no_option o.parts.items) k) others
+    by (parts.Oneof o) top k others = at_oneof o (nat_lt start place) refl top (has_own o k) others
     by (parts.Option o) top k others = later (parts.Option o) refl top others
     by (parts.Reserved r) top k others = later (parts.Reserved r) refl top others
     by (parts.Map m) top k others = later (parts.Map m) refl top others
@@ -127,7 +134,7 @@ each_has : (n : ℕ) (fields : List Field) → ((place : ℕ) → place < n → 
 each_has zero fields h = refl
 each_has (suc n) fields h = and_both _ _ (h n (omega arith)) (each_has n fields (λ place lt. h place (omega (arith, lt))))
 
-pub oneofs_have_members : (targets : ℕ → Option Target) (body : List Part) (fields : List Field) → IsPermutation (map (made_field targets) (members_from 0 body)) (map field fields) → list_all oneof_keeps body ≡ true
+pub oneofs_have_members : (targets : ℕ → Option Target) (body : List Part) (fields : List Field) → IsPermutation (map (made_field targets) (members_from 0 body)) (map field fields) → list_all oneof_keeps (oneofs body) ≡ true
     → oneof_count body ≤ 2 ^ 32 → have_members (oneof_count body) fields ≡ true
 oneofs_have_members targets body fields moved keep few = each_has (oneof_count body) fields (λ place lt.
     let there : list_any (stands_in place) (members_from 0 body) ≡ true = member_there 0 place body (omega arith) (omega (arith, lt)) (omega (arith, lt, few)) keep in

@@ -26,7 +26,6 @@ use Rattle.pg_check.proofs.lemmas.rules.NoneLaws.{not_not}
 use Rattle.pg_syntax.specs.declared.tree as tree
 use Rattle.pg_syntax.specs.declared.tree.OneofPart.TheVariants as oneof_parts
 use Rattle.pg_syntax.specs.declared.tree.Part.{Part}
-use Rattle.pg_syntax.specs.declared.tree.Part.TheVariants as parts
 
 -- ---- packed
 
@@ -81,7 +80,7 @@ OneofFault o f =
     ⊎ ((messages.has_member o.parts.items ≡ true)
     × ((p : tree.OneofPart.OneofPart) × IsBehind (λ p. is_no_option p ≡ true) o.parts.items p × LineFault p f))
 
-oneof_judged : (o : tree.Oneof.Oneof) → Judged (messages.oneof_fault o) ((messages.has_member o.parts.items && list_all is_no_option o.parts.items) ≡ true) (OneofFault o)
+oneof_judged : (o : tree.Oneof.Oneof) → Judged (messages.oneof_fault o) (oneof_keeps o ≡ true) (OneofFault o)
 oneof_judged o = by (messages.has_member o.parts.items)
   where
     lines : Judged (first_fault messages.oneof_option o.parts.items) (list_all is_no_option o.parts.items ≡ true)
@@ -111,19 +110,6 @@ oneof_judged o = by (messages.has_member o.parts.items)
             → IsFound (Some (broken_at rules.BadOneofMember o.name.span.from)) f.declared (order f.rule)
         found f (inl h) = subst (λ g. IsFound (Some (broken_at rules.BadOneofMember o.name.span.from)) g.declared (order g.rule)) (sym h.1) (inr (refl, omega arith))
         found f (inr h) = absurd (false≢true h.0)
-
-abbrev pub PartFault : Part → Fault → Type 0
-PartFault p f = (o : tree.Oneof.Oneof) × (p ≡ parts.Oneof o) × OneofFault o f
-
-part_judged : (p : Part) → Judged (messages.part_oneof p) (oneof_keeps p ≡ true) (PartFault p)
-part_judged (parts.Empty span) = nothing refl (λ f h. let is = h.1 in cc (is))
-part_judged (parts.Message' name shape row span) = nothing refl (λ f h. let is = h.1 in cc (is))
-part_judged (parts.Enum e) = nothing refl (λ f h. let is = h.1 in cc (is))
-part_judged (parts.Oneof o) = broken_as (oneof_judged o) (λ f h. (o, refl, h)) (λ f h. let same : o ≡ h.0 = cc (h.1) in subst (λ x. OneofFault x f) (sym same) h.2)
-part_judged (parts.Option o) = nothing refl (λ f h. let is = h.1 in cc (is))
-part_judged (parts.Reserved r) = nothing refl (λ f h. let is = h.1 in cc (is))
-part_judged (parts.Map m) = nothing refl (λ f h. let is = h.1 in cc (is))
-part_judged (parts.Field x) = nothing refl (λ f h. let is = h.1 in cc (is))
 
 -- ---- the body
 
@@ -187,7 +173,7 @@ ShapesFault targets ms f =
     ⊎ ((m : DeclaredField) × IsBehind (λ m. is_packed_rightly targets m ≡ true) ms m × PackedFault targets m f)))
 
 abbrev pub PartsFault : List Part → Fault → Type 0
-PartsFault body f = OptionFault (messages.lines body) f ⊎ ((p : Part) × IsBehind (λ p. oneof_keeps p ≡ true) body p × PartFault p f)
+PartsFault body f = OptionFault (messages.lines body) f ⊎ ((o : tree.Oneof.Oneof) × IsBehind (λ o. oneof_keeps o ≡ true) (messages.oneofs body) o × OneofFault o f)
 
 abbrev pub MessageFault : (ℕ → Option Target) → List Part → Fault → Type 0
 MessageFault targets body f = FieldsFault (messages.declared body) f ⊎ (ShapesFault targets (members body) f ⊎ PartsFault body f)
@@ -201,7 +187,7 @@ message_judged targets body =
     (both _ _ (such rules.BadOneofMember messages.is_bad_member may_be_member place_of (λ m. refl) ms)
     (both _ _ (each messages.member_option (λ m. OptionsKeep (member_options m)) (λ m. OptionFaultOf (place_of m) (member_options m)) (λ m. own_options_judged (place_of m) (member_options m)) ms)
     (each_test (messages.member_packed targets) (is_packed_rightly targets) (PackedFault targets) (packed_judged targets) ms))))
-    (both _ _ (options_judged (messages.lines body)) (each_test messages.part_oneof oneof_keeps PartFault part_judged body)))) (
+    (both _ _ (options_judged (messages.lines body)) (each_test messages.oneof_fault oneof_keeps OneofFault oneof_judged (messages.oneofs body))))) (
       (λ h. let (fs, (ss, ps)) = h in record {
         fields = fs;
         map_keys = ss.0;
@@ -226,11 +212,9 @@ message_tells targets body place f (inr (inl (inr (inl (m, first, is))))) = subs
 message_tells targets body place f (inr (inl (inr (inr (inl (m, behind, (n, first, is))))))) = subst (TellsMessage targets body place) (sym is) (bad_field_option m n behind first)
 message_tells targets body place f (inr (inl (inr (inr (inr (m, behind, (denied, (s, first, is)))))))) = subst (TellsMessage targets body place) (sym is) (packed_not_allowed m s behind denied first)
 message_tells targets body place f (inr (inr (inl (n, first, is)))) = subst (TellsMessage targets body place) (sym is) (bad_message_option n first)
-message_tells targets body place f (inr (inr (inr (p, behind, (o, same, inl (none, is)))))) =
-    subst (TellsMessage targets body place) (sym is) (empty_oneof o (subst (IsBehind (λ p. oneof_keeps p ≡ true) body) same behind) none)
-message_tells targets body place f (inr (inr (inr (p, behind, (o, same, inr (some, (q, inside, (line, of_line, is)))))))) =
-    subst (TellsMessage targets body place) (sym is) (oneof_option o line (subst (IsBehind (λ p. oneof_keeps p ≡ true) body) same behind) some
-    (subst (IsBehind (λ p. is_no_option p ≡ true) o.parts.items) of_line inside))
+message_tells targets body place f (inr (inr (inr (o, behind, inl (none, is))))) = subst (TellsMessage targets body place) (sym is) (empty_oneof o behind none)
+message_tells targets body place f (inr (inr (inr (o, behind, inr (some, (q, inside, (line, of_line, is))))))) =
+    subst (TellsMessage targets body place) (sym is) (oneof_option o line behind some (subst (IsBehind (λ p. is_no_option p ≡ true) o.parts.items) of_line inside))
 
 pub message_broken : (P : (declared code : ℕ) → Type 0) (targets : ℕ → Option Target) (body : List Part) (place : Place) → ((f : Fault) → MessageFault targets body f → P f.declared (order f.rule))
     → (e : CheckError) (c d a : ℕ) → BreaksMessage targets body place e c d a → P d c
@@ -241,7 +225,6 @@ message_broken P targets body place k e c d a (bad_field_option m at behind firs
 message_broken P targets body place k e c d a (packed_not_allowed m s behind denied first) =
     k (option_fault rules.PackedNotAllowed (place_of m) s.span.from) (inr (inl (inr (inr (inr (m, behind, (denied, (s, first, refl))))))))
 message_broken P targets body place k e c d a (bad_message_option at first) = k (broken_at rules.BadOption at) (inr (inr (inl (at, first, refl))))
-message_broken P targets body place k e c d a (empty_oneof o behind none) = k (broken_at rules.BadOneofMember o.name.span.from) (inr (inr (inr (parts.Oneof o, behind, (o, refl, inl (none, refl))))))
+message_broken P targets body place k e c d a (empty_oneof o behind none) = k (broken_at rules.BadOneofMember o.name.span.from) (inr (inr (inr (o, behind, inl (none, refl)))))
 message_broken P targets body place k e c d a (oneof_option o line behind some inside) =
-    k (broken_at rules.BadOption line.span.from)
-    (inr (inr (inr (parts.Oneof o, behind, (o, refl, inr (some, (oneof_parts.Option line, inside, (line, refl, refl))))))))
+    k (broken_at rules.BadOption line.span.from) (inr (inr (inr (o, behind, inr (some, (oneof_parts.Option line, inside, (line, refl, refl)))))))
