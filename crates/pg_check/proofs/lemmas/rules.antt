@@ -1,5 +1,4 @@
 pub mod FirstLaws
-pub mod Texts
 pub mod TextSets
 pub mod Titles
 pub mod TextKeys

@@ -1,6 +1,7 @@
 -- Options (proto3 language specification, "Option"; descriptor.proto, `FileOptions` and the like). Which are taken, that each
 -- is stated once in its place, and that none stands in a oneof, is this profile's choice.
 use Rattle.std.specs.Prelude.{ℕ, Bool, true, false, not, ◌&&◌, ◌||◌, List, [], ◌∷◌, map, codes, Option, Some, None, string_bytes, if◌then◌else◌}
+use Rattle.std.specs.Borrow.{Bor}
 use Rattle.std.specs.Str.{bytes_eq}
 use Rattle.pg_check.specs.declared.rules.options.Kind.{Kind}
 use Rattle.pg_check.specs.declared.rules.options.Kind.TheVariants as kinds
@@ -19,6 +20,9 @@ pub record Entry : Type 0 where
 
 abbrev pub named : List ℕ → ℕ → Kind → Entry
 named name number kind = record { name = name; known = record { number = number; kind = kind } }
+
+abbrev pub entry : Bor (List ℕ) × ℕ × Kind → Entry
+entry o = named o.0.now o.1 o.2
 
 abbrev pub deprecated : ℕ → Entry
 deprecated number = named (codes "deprecated") number kinds.Flag

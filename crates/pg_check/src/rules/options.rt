@@ -1,8 +1,6 @@
 //! Options.
 
-ghost use Rattle.std.specs.Prelude.{◌≡◌, ◌∷◌, ◌++◌, [], IfOk, OnOk, map};
-ghost use Rattle.pg_check.specs.declared.rules.options.Kind.TheVariants as kinds;
-ghost use Rattle.pg_check.specs.declared.rules.options.Owner.TheVariants as owners;
+ghost use Rattle.std.specs.Prelude.{◌≡◌, ◌++◌, IfOk, OnOk, map};
 ghost use Rattle.pg_check.specs.rules.Names.{titled};
 ghost use Rattle.pg_check.specs.rules.Options as spec;
 
@@ -52,80 +50,52 @@ pub(crate) struct Stated<'a> {
     pub at: usize,
 }
 
-fn flag(number: u32) -> Option<Known>
-    ensures { result ≡ spec.an_option number kinds.Flag }
-{
-    Some(Known {
-        number,
-        kind: Kind::Flag,
-    })
-}
+/// The options of a file, of a field and of the others, each with its number and its kind.
+const FILE_OPTIONS: [(&str, u32, Kind); 13] = [
+    ("java_package", 1, Kind::Text),
+    ("java_outer_classname", 8, Kind::Text),
+    ("optimize_for", 9, Kind::Mode),
+    ("java_multiple_files", 10, Kind::Flag),
+    ("go_package", 11, Kind::Text),
+    ("deprecated", 23, Kind::Flag),
+    ("cc_enable_arenas", 31, Kind::Flag),
+    ("objc_class_prefix", 36, Kind::Text),
+    ("csharp_namespace", 37, Kind::Text),
+    ("swift_prefix", 39, Kind::Text),
+    ("php_class_prefix", 40, Kind::Text),
+    ("php_namespace", 41, Kind::Text),
+    ("ruby_package", 45, Kind::Text),
+];
 
-fn text(number: u32) -> Option<Known>
-    ensures { result ≡ spec.an_option number kinds.Text }
-{
-    Some(Known {
-        number,
-        kind: Kind::Text,
-    })
-}
+const MESSAGE_OPTIONS: [(&str, u32, Kind); 1] = [("deprecated", 3, Kind::Flag)];
 
-/// The option of a file that has this name.
-fn file_option(name: &str) -> Option<Known>
-    ensures { result ≡ spec.option_named owners.File name.now }
+const FIELD_OPTIONS: [(&str, u32, Kind); 3] = [
+    ("packed", 2, Kind::Flag),
+    ("deprecated", 3, Kind::Flag),
+    ("json_name", 10, Kind::Text),
+];
+
+const ENUM_OPTIONS: [(&str, u32, Kind); 2] =
+    [("allow_alias", 2, Kind::Flag), ("deprecated", 3, Kind::Flag)];
+
+const VALUE_OPTIONS: [(&str, u32, Kind); 1] = [("deprecated", 1, Kind::Flag)];
+
+const SERVICE_OPTIONS: [(&str, u32, Kind); 1] = [("deprecated", 33, Kind::Flag)];
+
+/// The option of the table that has this name.
+fn known_among(mut table: &[(&str, u32, Kind)], name: &str) -> Option<Known>
+    ensures { result ≡ spec.known_among (map spec.entry table.entry.now) name.now }
 {
-    match name {
-        "java_package" => text(1),
-        "java_outer_classname" => text(8),
-        "optimize_for" => Some(Known {
-            number: 9,
-            kind: Kind::Mode,
-        }),
-        "java_multiple_files" => flag(10),
-        "go_package" => text(11),
-        "deprecated" => flag(23),
-        "cc_enable_arenas" => flag(31),
-        "objc_class_prefix" => text(36),
-        "csharp_namespace" => text(37),
-        "swift_prefix" => text(39),
-        "php_class_prefix" => text(40),
-        "php_namespace" => text(41),
-        "ruby_package" => text(45),
-        _ => None,
+    while let [option, rest @ ..] = table {
+        if name == option.0 {
+            return Some(Known {
+                number: option.1,
+                kind: option.2,
+            });
+        }
+        table = rest;
     }
-}
-
-/// The option of a field that has this name.
-fn field_option(name: &str) -> Option<Known>
-    ensures { result ≡ spec.option_named owners.Field name.now }
-{
-    match name {
-        "packed" => flag(2),
-        "deprecated" => flag(3),
-        "json_name" => text(10),
-        _ => None,
-    }
-}
-
-/// The option of an enum that has this name.
-fn enum_option(name: &str) -> Option<Known>
-    ensures { result ≡ spec.option_named owners.Enum name.now }
-{
-    match name {
-        "allow_alias" => flag(2),
-        "deprecated" => flag(3),
-        _ => None,
-    }
-}
-
-/// The option `deprecated` of that number, where it has this name.
-fn deprecated(number: u32, name: &str) -> Option<Known>
-    ensures { result ≡ spec.known_among (spec.deprecated number ∷ []) name.now }
-{
-    match name {
-        "deprecated" => flag(number),
-        _ => None,
-    }
+    None
 }
 
 /// The option of that name.
@@ -133,14 +103,14 @@ fn option_named(owner: Owner, name: &str) -> Option<Known>
     ensures { result ≡ spec.option_named owner name.now }
 {
     match owner {
-        Owner::File => file_option(name),
-        Owner::Message => deprecated(3, name),
-        Owner::Field => field_option(name),
+        Owner::File => known_among(&FILE_OPTIONS, name),
+        Owner::Message => known_among(&MESSAGE_OPTIONS, name),
+        Owner::Field => known_among(&FIELD_OPTIONS, name),
         Owner::Oneof => None,
-        Owner::Enum => enum_option(name),
-        Owner::EnumValue => deprecated(1, name),
-        Owner::Service => deprecated(33, name),
-        Owner::Method => deprecated(33, name),
+        Owner::Enum => known_among(&ENUM_OPTIONS, name),
+        Owner::EnumValue => known_among(&VALUE_OPTIONS, name),
+        Owner::Service => known_among(&SERVICE_OPTIONS, name),
+        Owner::Method => known_among(&SERVICE_OPTIONS, name),
     }
 }
 
