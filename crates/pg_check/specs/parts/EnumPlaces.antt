@@ -1,5 +1,5 @@
 -- Where enums stand in a schema, which has them scope by scope, by where they stand in order of declaration.
-use Rattle.std.specs.Prelude.{◌≡◌, ◌<◌, ℕ, List, [], ◌∷◌, map, flat_map, length, get_or, Option, option_map}
+use Rattle.std.specs.Prelude.{◌≡◌, ◌<◌, ℕ, List, ◌∷◌, map, flat_map, length, get_or, slice_get, Option, option_map}
 use Rattle.std.specs.List.{position_from}
 use Rattle.std.specs.Option.{unwrap_or}
 use Rattle.std.specs.Str.{bytes_eq}
@@ -54,4 +54,4 @@ pub record AreNumbered (files : List Entry) : Type 0 where
   pub types : message_names (all_declared files) ≡ map (λ name. 46 ∷ name) (declared_messages files)
   pub enums : enum_names (all_declared files) ≡ map (λ name. 46 ∷ name) (declared_names files)
   pub placed : (number : ℕ) → number < length (declared_names files)
-      → get_or (scoped_names files) (get_or (enum_places files) number 0) [] ≡ get_or (declared_names files) number []
+      → slice_get (scoped_names files) (get_or (enum_places files) number 0) ≡ slice_get (declared_names files) number

@@ -17,7 +17,6 @@ use Rattle.pg_check.specs.parts.MadeServices.{made_services, service, service_in
 use Rattle.pg_check.specs.rules.Outline.{all_enums, enums_in, file_enums, full_name, package_of, row_enums, scoped_enums, statement_enums, statements_behind}
 use Rattle.pg_check.proofs.lemmas.parts.PlacedParts.{IsCountable}
 use Rattle.pg_check.specs.parts.Sources.{linked_source, linked_sources}
-use Rattle.pg_check.proofs.lemmas.parts.KeptFiles.{enums_are, source_enums}
 use Rattle.pg_check.proofs.lemmas.parts.ScopedEnums.{scoped_long}
 use Rattle.pg_check.proofs.lemmas.parts.Totals.{total, total_joined}
 use Rattle.pg_syntax.specs.declared.tree as tree
@@ -134,97 +133,65 @@ body_enums scope (p ∷ ps) =
     let joined : words_in (view.row (view.nodes (view.part p) ++ view.all_nodes view.part ps)) ≡ words_in (view.part p) + words_in (view.row (view.all_nodes view.part ps)) = nodes_words (view.part p) (view.all_nodes view.part ps) in
     omega (arith, first, others, both, joined)
 
-enums_few : (scope : List ℕ) (s : tree.Statement.Statement) → length (statement_enums scope s) ≤ words_in (view.statement s)
-enums_few scope (statements.Empty span) = omega arith
-enums_few scope (statements.Import i) = omega arith
-enums_few scope (statements.Option o) = omega arith
-enums_few scope (statements.Message m) = let inner : length (flat_map (enums_in (full_name scope m.name)) m.parts.items) ≤ words_in (view.runs view.part m.parts.items) = body_enums (full_name scope m.name) m.parts.items in omega (arith, inner)
-enums_few scope (statements.Enum e) = omega arith
-enums_few scope (statements.Service s) = omega arith
+statement_few : (targets : ℕ → Option Target) (scope : List ℕ) (s : tree.Statement.Statement) → length (statement_enums scope s) + length (service_in targets scope s) ≤ words_in (view.statement s)
+statement_few targets scope (statements.Empty span) = omega arith
+statement_few targets scope (statements.Import i) = omega arith
+statement_few targets scope (statements.Option o) = omega arith
+statement_few targets scope (statements.Message m) = let inner : length (flat_map (enums_in (full_name scope m.name)) m.parts.items) ≤ words_in (view.runs view.part m.parts.items) = body_enums (full_name scope m.name) m.parts.items in omega (arith, inner)
+statement_few targets scope (statements.Enum e) = omega arith
+statement_few targets scope (statements.Service s) = omega arith
 
-all_enums_few : (scope : List ℕ) (ss : List tree.Statement.Statement) → length (all_enums scope ss) ≤ words_in (view.runs view.statement ss)
-all_enums_few scope [] = omega arith
-all_enums_few scope (s ∷ ss) =
-    let first = enums_few scope s in
-    let others = all_enums_few scope ss in
-    let both : length (statement_enums scope s ++ all_enums scope ss) ≡ length (statement_enums scope s) + length (all_enums scope ss) = length-append (statement_enums scope s) (all_enums scope ss) in
+all_few : (targets : ℕ → Option Target) (scope : List ℕ) (ss : List tree.Statement.Statement) → length (all_enums scope ss) + length (made_services targets scope ss) ≤ words_in (view.runs view.statement ss)
+all_few targets scope [] = omega arith
+all_few targets scope (s ∷ ss) =
+    let first = statement_few targets scope s in
+    let others = all_few targets scope ss in
+    let enums : length (statement_enums scope s ++ all_enums scope ss) ≡ length (statement_enums scope s) + length (all_enums scope ss) = length-append (statement_enums scope s) (all_enums scope ss) in
+    let services : length (service_in targets scope s ++ made_services targets scope ss) ≡ length (service_in targets scope s) + length (made_services targets scope ss) = length-append (service_in targets scope s) (made_services targets scope ss) in
     let joined : words_in (view.row (view.nodes (view.statement s) ++ view.all_nodes view.statement ss)) ≡ words_in (view.statement s) + words_in (view.row (view.all_nodes view.statement ss)) = nodes_words (view.statement s) (view.all_nodes view.statement ss) in
-    omega (arith, first, others, both, joined)
+    omega (arith, first, others, enums, services, joined)
 
 behind_words : (p : Option tree.Packaged.Packaged) → words_in (view.runs view.statement (statements_behind p)) ≤ words_in (view.perhaps view.packaged p)
 behind_words None = omega arith
 behind_words (Some p) = omega arith
 
-file_enums_few : (file : tree.FileTree.FileTree) → length (scoped_enums file) ≤ words_in (view.file file)
-file_enums_few file =
-    let scope = package_of file in
-    let front = all_enums_few scope file.statements.items in
-    let behind = all_enums_few scope (statements_behind file.packaged) in
-    let within = behind_words file.packaged in
-    let same : length (scoped_enums file) ≡ length (file_enums file) = scoped_long file in
-    let both : length (all_enums scope file.statements.items ++ all_enums scope (statements_behind file.packaged)) ≡ length (all_enums scope file.statements.items) + length (all_enums scope (statements_behind file.packaged)) =
-    length-append (all_enums scope file.statements.items) (all_enums scope (statements_behind file.packaged)) in
-    omega (arith, front, behind, within, same, both)
-
--- ---- services
-
-services_few : (targets : ℕ → Option Target) (scope : List ℕ) (s : tree.Statement.Statement) → length (service_in targets scope s) ≤ words_in (view.statement s)
-services_few targets scope (statements.Empty span) = omega arith
-services_few targets scope (statements.Import i) = omega arith
-services_few targets scope (statements.Option o) = omega arith
-services_few targets scope (statements.Message m) = omega arith
-services_few targets scope (statements.Enum e) = omega arith
-services_few targets scope (statements.Service s) = omega arith
-
-all_services_few : (targets : ℕ → Option Target) (scope : List ℕ) (ss : List tree.Statement.Statement) → length (made_services targets scope ss) ≤ words_in (view.runs view.statement ss)
-all_services_few targets scope [] = omega arith
-all_services_few targets scope (s ∷ ss) =
-    let first = services_few targets scope s in
-    let others = all_services_few targets scope ss in
-    let both : length (service_in targets scope s ++ made_services targets scope ss) ≡ length (service_in targets scope s) + length (made_services targets scope ss) = length-append (service_in targets scope s) (made_services targets scope ss) in
-    let joined : words_in (view.row (view.nodes (view.statement s) ++ view.all_nodes view.statement ss)) ≡ words_in (view.statement s) + words_in (view.row (view.all_nodes view.statement ss)) = nodes_words (view.statement s) (view.all_nodes view.statement ss) in
-    omega (arith, first, others, both, joined)
-
-file_services_few : (s : Source) → length (file_services s) ≤ words_in (view.file s.tree)
-file_services_few s =
+file_few : (s : Source) → length (scoped_enums s.tree) + length (file_services s) ≤ words_in (view.file s.tree)
+file_few s =
     let scope = package_of s.tree in
-    let front = all_services_few s.targets scope s.tree.statements.items in
-    let behind = all_services_few s.targets scope (statements_behind s.tree.packaged) in
+    let start = s.tree.statements.items in
+    let rest = statements_behind s.tree.packaged in
+    let front = all_few s.targets scope start in
+    let behind = all_few s.targets scope rest in
     let within = behind_words s.tree.packaged in
-    let both : length (made_services s.targets scope s.tree.statements.items ++ made_services s.targets scope (statements_behind s.tree.packaged)) ≡ length (made_services s.targets scope s.tree.statements.items) + length (made_services s.targets scope (statements_behind s.tree.packaged)) =
-    length-append (made_services s.targets scope s.tree.statements.items) (made_services s.targets scope (statements_behind s.tree.packaged)) in
-    omega (arith, front, behind, within, both)
+    let same : length (scoped_enums s.tree) ≡ length (file_enums s.tree) = scoped_long s.tree in
+    let enums : length (all_enums scope start ++ all_enums scope rest) ≡ length (all_enums scope start) + length (all_enums scope rest) = length-append (all_enums scope start) (all_enums scope rest) in
+    let services : length (made_services s.targets scope start ++ made_services s.targets scope rest) ≡ length (made_services s.targets scope start) + length (made_services s.targets scope rest) = length-append (made_services s.targets scope start) (made_services s.targets scope rest) in
+    omega (arith, front, behind, within, same, enums, services)
 
 -- ---- all files
 
-all_enums_bound : (all files : List Entry) → AllByRecursion (λ (e : Entry). IsParsed e.1.bytes.items e.1.tree) files → length (flat_map source_enums (map (linked_source all) files)) ≤ length files * max_len
-all_enums_bound all [] h = omega arith
-all_enums_bound all (e ∷ es) h =
-    let rest : length (flat_map source_enums (map (linked_source all) es)) ≤ length es * max_len = all_enums_bound all es h.1 in
-    let first : length (scoped_enums e.1.tree) ≤ words_in (view.file e.1.tree) = file_enums_few e.1.tree in
-    let few : words_in (view.file e.1.tree) ≤ max_len = file_words e.1.bytes.items e.1.tree h.0 in
-    let both : length (scoped_enums e.1.tree ++ flat_map source_enums (map (linked_source all) es)) ≡ length (scoped_enums e.1.tree) + length (flat_map source_enums (map (linked_source all) es)) = length-append (scoped_enums e.1.tree) (flat_map source_enums (map (linked_source all) es)) in
-    omega (arith, rest, first, few, both)
-
-all_services_bound : (d : Declared) (all files : List Entry) → AllByRecursion (λ (e : Entry). IsParsed e.1.bytes.items e.1.tree) files → length (with_files d (map (linked_source all) files)).services ≤ length d.services + length files * max_len
-all_services_bound d all [] h = omega arith
-all_services_bound d all (e ∷ es) h =
+all_bound : (d : Declared) (all files : List Entry) → AllByRecursion (λ (e : Entry). IsParsed e.1.bytes.items e.1.tree) files
+    → length (with_files d (map (linked_source all) files)).enums + length (with_files d (map (linked_source all) files)).services ≤ (length d.enums + length d.services) + length files * max_len
+all_bound d all [] h = omega arith
+all_bound d all (e ∷ es) h =
     let s = linked_source all e in
-    let rest : length (with_files (with_file d s) (map (linked_source all) es)).services ≤ length (d.services ++ file_services s) + length es * max_len = all_services_bound (with_file d s) all es h.1 in
-    let first : length (file_services s) ≤ words_in (view.file e.1.tree) = file_services_few s in
+    let made = map made_enum (scoped_enums e.1.tree) in
+    let rest : length (with_files (with_file d s) (map (linked_source all) es)).enums + length (with_files (with_file d s) (map (linked_source all) es)).services
+    ≤ (length (d.enums ++ made) + length (d.services ++ file_services s)) + length es * max_len = all_bound (with_file d s) all es h.1 in
+    let first : length (scoped_enums e.1.tree) + length (file_services s) ≤ words_in (view.file e.1.tree) = file_few s in
     let few : words_in (view.file e.1.tree) ≤ max_len = file_words e.1.bytes.items e.1.tree h.0 in
-    let both : length (d.services ++ file_services s) ≡ length d.services + length (file_services s) = length-append d.services (file_services s) in
-    omega (arith, rest, first, few, both)
+    let enums : length (d.enums ++ made) ≡ length d.enums + length made = length-append d.enums made in
+    let long : length made ≡ length (scoped_enums e.1.tree) = length-map (scoped_enums e.1.tree) made_enum in
+    let services : length (d.services ++ file_services s) ≡ length d.services + length (file_services s) = length-append d.services (file_services s) in
+    omega (arith, rest, first, few, enums, long, services)
 
 -- 1,024 files of 4,194,304 bytes
 pub countable : (l : LinkedFiles) (parts : Parts) → IsLinkedUp l → ArePartsOf (linked_sources l.files) parts → IsCountable parts
 countable l parts up are =
-    let parsed : AllByRecursion (λ (e : Entry). IsParsed e.1.bytes.items e.1.tree) l.files = recursion_from_All (λ (e : Entry). IsParsed e.1.bytes.items e.1.tree) l.files up.parsed in
+    let d = with_files nothing (linked_sources l.files) in
     let few = up.few in
-    let found = flat_map source_enums (linked_sources l.files) in
-    let made : map enumeration parts.enums.items ≡ map made_enum found = are.enums ∙ enums_are nothing (linked_sources l.files) in
-    let enum_types : length parts.enums.items ≡ length found = sym (length-map parts.enums.items enumeration) ∙ (ap length made ∙ length-map found made_enum) in
-    let enum_bound : length found ≤ length l.files * max_len = all_enums_bound l.files l.files parsed in
-    let services : length parts.services.items ≡ length (with_files nothing (linked_sources l.files)).services = sym (length-map parts.services.items service) ∙ ap length are.services in
-    let service_bound : length (with_files nothing (linked_sources l.files)).services ≤ 0 + length l.files * max_len = all_services_bound nothing l.files l.files parsed in
-    record { enums = omega (arith, few, enum_types, enum_bound); services = omega (arith, few, services, service_bound) }
+    let enums : length parts.enums.items ≡ length d.enums = sym (length-map parts.enums.items enumeration) ∙ ap length are.enums in
+    let services : length parts.services.items ≡ length d.services = sym (length-map parts.services.items service) ∙ ap length are.services in
+    let bound : length d.enums + length d.services ≤ (0 + 0) + length l.files * max_len =
+    all_bound nothing l.files l.files (recursion_from_All (λ (e : Entry). IsParsed e.1.bytes.items e.1.tree) l.files up.parsed) in
+    record { enums = omega (arith, few, enums, bound); services = omega (arith, few, services, bound) }

@@ -27,10 +27,10 @@ use Rattle.pg_check.specs.parts.MadeOptions.{flag_value, or_flag}
 use Rattle.pg_check.specs.rules.Names.{Named, is_same as is_same_name}
 use Rattle.pg_check.specs.rules.Numbers.{highest_value, is_same, is_within, lowest_value, rank}
 use Rattle.pg_check.specs.rules.Options.{is_alone, is_word, name_of}
-use Rattle.pg_check.proofs.lemmas.parts.Moved.{all_weaker, pairs_joined, pairs_of_map, pairs_weaker}
+use Rattle.pg_check.proofs.lemmas.parts.Moved.{all_weaker, pairs_of_map, pairs_weaker}
 use Rattle.pg_check.proofs.lemmas.rules.NoneLaws.{and_both, and_left, and_right}
 use Rattle.pg_check.proofs.lemmas.rules.TextSets.{bytes_eq-sym}
-use Rattle.pg_check.proofs.lemmas.parts.UsesApart.{is_outside, items_apart, keys_apart, keys_free, ranges_apart, two_apart}
+use Rattle.pg_check.proofs.lemmas.parts.UsesApart.{all_uses, is_outside, items_apart, keys_apart, keys_free, or_first, ranges_apart, two_apart}
 use Rattle.pg_syntax.specs.declared.tree as tree
 use Rattle.pg_syntax.specs.declared.tree.EnumPart.TheVariants as parts
 use Rattle.pg_syntax.specs.declared.tree.Value.TheVariants as values
@@ -171,10 +171,6 @@ alias_stated (parts.Option o ∷ ps) h there =
 
 -- ---- numbers
 
-or_first : (a b : Bool) → a ≡ true → (a || b) ≡ true
-or_first true b h = refl
-or_first false b h = absurd (false≢true h)
-
 or_last : (a : Bool) → (a || true) ≡ true
 or_last true = refl
 or_last false = refl
@@ -200,28 +196,11 @@ values_fit false vs h =
     pairs_weaker (λ v w. two_apart (counted_value v) (counted_value w)) (λ v w. uses_apart (value_use v) (value_use w) || are_aliases false (value_use v) (value_use w))
     (λ v w k. or_first (uses_apart (value_use v) (value_use w)) _ k) vs (sym (pairs_of_map two_apart counted_value vs) ∙ h refl)
 
-ranges_fit : (al : Bool) (rs : List ReservedValues) → all_pairs ranges_apart (map span_of rs) ≡ true
-    → all_pairs (λ q r. uses_apart (reserved_values_use q) (reserved_values_use r) || are_aliases al (reserved_values_use q) (reserved_values_use r)) rs ≡ true
-ranges_fit al rs h =
-    pairs_weaker (λ q r. ranges_apart (span_of q) (span_of r)) (λ q r. uses_apart (reserved_values_use q) (reserved_values_use r) || are_aliases al (reserved_values_use q) (reserved_values_use r))
-    (λ q r k. or_first (uses_apart (reserved_values_use q) (reserved_values_use r)) _ k) rs (sym (pairs_of_map ranges_apart span_of rs) ∙ h)
-
-between : (al : Bool) (v : schema.EnumValue) (rs : List ReservedValues) → list_all (is_outside (counted_value v)) (map span_of rs) ≡ true
-    → list_all (λ u. uses_apart (value_use v) u || are_aliases al (value_use v) u) (map reserved_values_use rs) ≡ true
-between al v [] h = refl
-between al v (r ∷ rs) h = and_both _ _ (or_first (uses_apart (value_use v) (reserved_values_use r)) _ (and_left _ _ h)) (between al v rs (and_right (is_outside (counted_value v) (span_of r)) _ h))
-
-all_between : (al : Bool) (vs : List schema.EnumValue) (rs : List ReservedValues) → list_all (λ n. list_all (is_outside n) (map span_of rs)) (map counted_value vs) ≡ true
-    → list_all (λ w. list_all (λ u. uses_apart w u || are_aliases al w u) (map reserved_values_use rs)) (map value_use vs) ≡ true
-all_between al [] rs h = refl
-all_between al (v ∷ vs) rs h = and_both _ _ (between al v rs (and_left _ _ h)) (all_between al vs rs (and_right (list_all (is_outside (counted_value v)) (map span_of rs)) _ h))
-
 enum_once : (al : Bool) (vs : List schema.EnumValue) (rs : List ReservedValues) → (al ≡ false → all_pairs two_apart (map counted_value vs) ≡ true) → all_pairs ranges_apart (map span_of rs) ≡ true
     → list_all (λ n. list_all (is_outside n) (map span_of rs)) (map counted_value vs) ≡ true → is_used_once al (enum_uses vs rs) ≡ true
 enum_once al vs rs h k m =
-    pairs_joined (λ a b. uses_apart a b || are_aliases al a b) (map value_use vs) (map reserved_values_use rs)
-    (pairs_of_map (λ a b. uses_apart a b || are_aliases al a b) value_use vs ∙ values_fit al vs h)
-    (pairs_of_map (λ a b. uses_apart a b || are_aliases al a b) reserved_values_use rs ∙ ranges_fit al rs k) (all_between al vs rs m)
+    all_uses (λ a b. uses_apart a b || are_aliases al a b) value_use reserved_values_use counted_value span_of
+    (λ p q l. or_first (uses_apart (reserved_values_use p) (reserved_values_use q)) _ l) (λ v p l. or_first (uses_apart (value_use v) (reserved_values_use p)) _ l) vs rs (values_fit al vs h) k m
 
 -- ---- the enum
 

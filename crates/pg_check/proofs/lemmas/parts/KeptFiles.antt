@@ -1,7 +1,7 @@
 -- The parts of files that keep to the rules.
-use Rattle.std.proofs.Common.{◌≡◌, ◌∙◌, ℕ, ◌+◌, ◌≤◌, List, [], ◌∷◌, ◌++◌, length, map, flat_map, Option, sym, ap, refl, arith, length-append, append_assoc}
+use Rattle.std.proofs.Common.{◌≡◌, ◌∙◌, ℕ, ◌+◌, ◌≤◌, List, [], ◌∷◌, ◌++◌, length, map, flat_map, Option, sym, ap, arith, length-append, append_assoc}
 use Rattle.std.specs.List.{AllByRecursion}
-use Rattle.std.proofs.lemmas.List.{length-map, map-append}
+use Rattle.std.proofs.lemmas.List.{append-nil, length-map, map-append}
 use Rattle.pg_schema.specs.declared.parts.enum_type.EnumType.{EnumType}
 use Rattle.pg_schema.specs.declared.parts.file.File.{File}
 use Rattle.pg_schema.specs.declared.parts.message_type.MessageType.{MessageType}
@@ -15,7 +15,7 @@ use Rattle.pg_check.proofs.lemmas.parts.KeptParts.{KeptEnum, KeptFile, KeptMessa
 use Rattle.pg_check.specs.parts.MadeEnums.{enumeration, made_enum}
 use Rattle.pg_check.specs.parts.MadeParts.{Declared, EachIs, FileShape, IsFileOf, IsTypeOf, Source, TypeTree, file_shape, nothing, placed_enums, placed_messages, type_tree, type_trees, with_file, with_files}
 use Rattle.pg_check.specs.rules.Outline.{Enum, Message, file_messages, scoped_enums}
-use Rattle.pg_check.proofs.lemmas.parts.Eachs.{each-length, joined_all}
+use Rattle.pg_check.proofs.lemmas.parts.Eachs.{each-length, each_all, each_flat, each_weaker, joined_all, same_all}
 use Rattle.pg_check.proofs.lemmas.parts.KeptEnums.{kept_enum}
 use Rattle.pg_check.proofs.lemmas.parts.KeptMessages.{kept_message}
 use Rattle.pg_check.proofs.lemmas.parts.KeptOptions.{kept_options}
@@ -38,10 +38,7 @@ all_trees_keep d (s ∷ ss) h k =
     (trees_keep s.targets (placed_messages (length d.types) s.tree) (placed_enums (length d.enums) s.tree) (file_messages s.tree) k.0.messages)) k.1
 
 kept_messages : (ws : List TypeTree) (ts : List MessageType) → EachIs IsTypeOf ws ts → AllByRecursion TreeKeeps ws → AllByRecursion KeptMessage ts
-kept_messages [] [] is h = tt
-kept_messages [] (t ∷ ts) is h = absurd is
-kept_messages (w ∷ ws) [] is h = absurd is
-kept_messages (w ∷ ws) (t ∷ ts) is h = (kept_message w.targets w.full w.body w.nested w.enums t is.0 h.0, kept_messages ws ts is.1 h.1)
+kept_messages = each_all IsTypeOf TreeKeeps KeptMessage (λ w t is h. kept_message w.targets w.full w.body w.nested w.enums t is h)
 
 pub tree_count : (d : Declared) (ss : List Source) → length (with_files d ss).types ≡ length d.types + length (flat_map source_messages ss)
 tree_count d [] = omega arith
@@ -62,45 +59,32 @@ abbrev FoundKeeps : Enum → Type 0
 FoundKeeps e = EnumKeeps e.tree.parts.items
 
 pub enums_are : (d : Declared) (ss : List Source) → (with_files d ss).enums ≡ d.enums ++ map made_enum (flat_map source_enums ss)
-enums_are d [] = sym (append_none d.enums)
-  where
-    append_none : {X : Type 0} (xs : List X) → xs ++ [] ≡ xs
-    append_none [] = refl
-    append_none (x ∷ xs) = ap (λ ys. x ∷ ys) (append_none xs)
+enums_are d [] = sym (append-nil d.enums)
 enums_are d (s ∷ ss) =
     enums_are (with_file d s) ss
     ∙ (append_assoc d.enums (map made_enum (scoped_enums s.tree)) (map made_enum (flat_map source_enums ss))
     ∙ ap (λ es. d.enums ++ es) (sym (map-append made_enum (scoped_enums s.tree) (flat_map source_enums ss))))
 
 all_enums_keep : (ss : List Source) → AllByRecursion FileKeeps ss → AllByRecursion FoundKeeps (flat_map source_enums ss)
-all_enums_keep [] h = tt
-all_enums_keep (s ∷ ss) h = joined_all FoundKeeps (scoped_enums s.tree) (flat_map source_enums ss) (scoped_all FoundKeeps s.tree h.0.enums) (all_enums_keep ss h.1)
+all_enums_keep ss h =
+    each_flat FoundKeeps source_enums ss (each_weaker FileKeeps (λ s. AllByRecursion FoundKeeps (source_enums s)) (λ s k. scoped_all FoundKeeps s.tree k.enums) ss h)
 
 kept_enums : (es : List EnumType) (found : List Enum) → map enumeration es ≡ map made_enum found → AllByRecursion FoundKeeps found → AllByRecursion KeptEnum es
-kept_enums [] found is h = tt
-kept_enums (e ∷ es) [] is h = absurd (cc (is))
-kept_enums (e ∷ es) (m ∷ ms) is h =
-    let one : enumeration e ≡ made_enum m = cc (is) in
-    let others : map enumeration es ≡ map made_enum ms = cc (is) in
-    (kept_enum e m.full m.tree.parts.items one h.0, kept_enums es ms others h.1)
+kept_enums = same_all enumeration made_enum FoundKeeps KeptEnum (λ e m is h. kept_enum e m.full m.tree.parts.items is h)
 
 -- ---- files
 
 abbrev ShapeKeeps : FileShape → Type 0
 ShapeKeeps w = OptionsKeep (file_lines w.tree)
 
-all_shapes_keep : (d : Declared) (ss : List Source) → AllByRecursion ShapeKeeps d.files → AllByRecursion FileKeeps ss → AllByRecursion ShapeKeeps (with_files d ss).files
-all_shapes_keep d [] h k = h
-all_shapes_keep d (s ∷ ss) h k =
-    all_shapes_keep (with_file d s) ss (joined_all ShapeKeeps d.files (file_shape (length d.types) (length d.enums) (length d.services) s ∷ []) h (k.0.options, tt)) k.1
+-- what holds of what each file comes to holds of all shapes
+pub each_shape : (P : FileShape → Type 0) (Q : Source → Type 0) → ((d : Declared) (s : Source) → Q s → P (file_shape (length d.types) (length d.enums) (length d.services) s))
+    → (d : Declared) (ss : List Source) → AllByRecursion P d.files → AllByRecursion Q ss → AllByRecursion P (with_files d ss).files
+each_shape P Q so d [] h k = h
+each_shape P Q so d (s ∷ ss) h k = each_shape P Q so (with_file d s) ss (joined_all P d.files (file_shape (length d.types) (length d.enums) (length d.services) s ∷ []) h (so d s k.0, tt)) k.1
 
 kept_files : (ws : List FileShape) (fs : List File) → EachIs IsFileOf ws fs → AllByRecursion ShapeKeeps ws → AllByRecursion KeptFile fs
-kept_files [] [] is h = tt
-kept_files [] (f ∷ fs) is h = absurd is
-kept_files (w ∷ ws) [] is h = absurd is
-kept_files (w ∷ ws) (f ∷ fs) is h =
-    let kept = kept_options w.tree f.options.items is.0.options h.0 in
-    (record { rising = kept.rising; fitting = kept.fitting }, kept_files ws fs is.1 h.1)
+kept_files = each_all IsFileOf ShapeKeeps KeptFile (λ w f is h. let kept = kept_options w.tree f.options.items is.options h in record { rising = kept.rising; fitting = kept.fitting })
 
 pub kept_parts : (files : List Source) (parts : Parts) → Declares files parts → KeptParts parts
 kept_parts files parts h =
@@ -113,5 +97,5 @@ kept_parts files parts h =
       few_types = omega (arith, count, same, few);
       messages = kept_messages (with_files nothing files).types parts.types.items h.has_parts.types (all_trees_keep nothing files tt keep.each);
       enums = kept_enums parts.enums.items (flat_map source_enums files) (h.has_parts.enums ∙ enums_are nothing files) (all_enums_keep files keep.each);
-      files = kept_files (with_files nothing files).files parts.files.items h.has_parts.files (all_shapes_keep nothing files tt keep.each);
+      files = kept_files (with_files nothing files).files parts.files.items h.has_parts.files (each_shape ShapeKeeps FileKeeps (λ d s h. h.options) nothing files tt keep.each);
     }

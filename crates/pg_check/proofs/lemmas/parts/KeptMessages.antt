@@ -2,7 +2,6 @@
 use Rattle.std.proofs.Common.{◌≡◌, ◌∙◌, ℕ, ◌+◌, ◌^◌, ◌<◌, ◌≤◌, Bool, true, false, not, ◌&&◌, ◌||◌, nat_lt, nat_le, nat_eq, List, [], ◌∷◌, length, map, Option, string_bytes, arith, sym, ap, refl}
 use Rattle.std.specs.List.{list_all, list_any}
 use Rattle.std.specs.List.Sorted.{IsPermutation}
-use Rattle.std.proofs.lemmas.Bool.{false≢true}
 use Rattle.std.proofs.lemmas.Bool.Decides.{nat_tests}
 use Rattle.std.proofs.lemmas.List.{length-map}
 use Rattle.std.proofs.lemmas.List.Folds.{list_all-map}
@@ -31,12 +30,12 @@ use Rattle.pg_check.specs.rules.Names as names
 use Rattle.pg_check.specs.rules.Numbers.{highest_field, is_within, lowest_field}
 use Rattle.pg_check.proofs.lemmas.parts.KeptEnums.{free_of_each_other}
 use Rattle.pg_check.proofs.lemmas.parts.KeptFields.{all_in_oneofs, field_counts, fields_kept, is_kept, oneof_count}
-use Rattle.pg_check.proofs.lemmas.parts.Moved.{IsSymmetric, all_moved, all_weaker, pairs_joined, pairs_moved, pairs_of_map, pairs_weaker}
+use Rattle.pg_check.proofs.lemmas.parts.Moved.{IsSymmetric, all_moved, all_weaker, pairs_moved, pairs_of_map, pairs_weaker}
 use Rattle.pg_check.proofs.lemmas.parts.KeptOneofs.{fewer_oneofs, oneofs_have_members, rising_short}
 use Rattle.pg_check.proofs.lemmas.rules.NoneLaws.{and_both, and_left, and_right}
 use Rattle.pg_check.proofs.lemmas.parts.Rising.{rising_from, two_symmetric}
 use Rattle.pg_check.proofs.lemmas.rules.TextSets.{bytes_eq-sym}
-use Rattle.pg_check.proofs.lemmas.parts.UsesApart.{is_outside, items_apart, keys_apart, keys_free, ranges_apart, two_apart}
+use Rattle.pg_check.proofs.lemmas.parts.UsesApart.{all_uses, is_outside, items_apart, keys_apart, keys_free, or_first, ranges_apart, two_apart}
 use Rattle.pg_syntax.specs.declared.tree.Part.{Part}
 use Rattle.pg_syntax.specs.declared.tree.Part.TheVariants as parts
 
@@ -66,10 +65,6 @@ in_range n f h = grind (arith, nat_tests)
 
 same_number : (n : ℕ) → nat_eq n n ≡ true
 same_number n = grind (arith, nat_tests)
-
-or_first : (a b : Bool) → a ≡ true → (a || b) ≡ true
-or_first true b h = refl
-or_first false b h = absurd (false≢true h)
 
 or_later : (a b : Bool) → b ≡ true → (a || b) ≡ true
 or_later true b h = refl
@@ -102,31 +97,14 @@ span_of r = (r.first, r.last)
 abbrev number_of_field : Field → ℕ
 number_of_field f = f.number
 
-ranges_fit : (rs : List ReservedFields) → all_pairs ranges_apart (map span_of rs) ≡ true → all_pairs (λ q r. uses_apart (reserved_use q) (reserved_use r) || are_aliases false (reserved_use q) (reserved_use r)) rs ≡ true
-ranges_fit rs h =
-    pairs_weaker (λ q r. ranges_apart (span_of q) (span_of r)) (λ q r. uses_apart (reserved_use q) (reserved_use r) || are_aliases false (reserved_use q) (reserved_use r))
-    (λ q r k. or_first (uses_apart (reserved_use q) (reserved_use r)) _ k) rs (sym (pairs_of_map ranges_apart span_of rs) ∙ h)
-
-numbers_fit : (fs : List Field) → all_pairs two_apart (map number_of_field fs) ≡ true → all_pairs (λ f g. uses_apart (field_use f) (field_use g) || are_aliases false (field_use f) (field_use g)) fs ≡ true
-numbers_fit fs h =
-    pairs_weaker (λ f g. two_apart f.number g.number) (λ f g. uses_apart (field_use f) (field_use g) || are_aliases false (field_use f) (field_use g))
-    (λ f g k. or_first (uses_apart (field_use f) (field_use g)) _ k) fs (sym (pairs_of_map two_apart number_of_field fs) ∙ h)
-
-between : (f : Field) (rs : List ReservedFields) → list_all (is_outside f.number) (map span_of rs) ≡ true → list_all (λ u. uses_apart (field_use f) u || are_aliases false (field_use f) u) (map reserved_use rs) ≡ true
-between f [] h = refl
-between f (r ∷ rs) h = and_both _ _ (or_first (uses_apart (field_use f) (reserved_use r)) _ (and_left _ _ h)) (between f rs (and_right (is_outside f.number (span_of r)) _ h))
-
-all_between : (fs : List Field) (rs : List ReservedFields) → list_all (λ f. list_all (is_outside (number_of_field f)) (map span_of rs)) fs ≡ true
-    → list_all (λ w. list_all (λ u. uses_apart w u || are_aliases false w u) (map reserved_use rs)) (map field_use fs) ≡ true
-all_between [] rs h = refl
-all_between (f ∷ fs) rs h = and_both _ _ (between f rs (and_left _ _ h)) (all_between fs rs (and_right (list_all (is_outside f.number) (map span_of rs)) _ h))
-
 message_once : (fs : List Field) (rs : List ReservedFields) → all_pairs two_apart (map number_of_field fs) ≡ true → all_pairs ranges_apart (map span_of rs) ≡ true
     → list_all (λ f. list_all (is_outside (number_of_field f)) (map span_of rs)) fs ≡ true → is_used_once false (message_uses fs rs) ≡ true
 message_once fs rs h k m =
-    pairs_joined (λ a b. uses_apart a b || are_aliases false a b) (map field_use fs) (map reserved_use rs)
-    (pairs_of_map (λ a b. uses_apart a b || are_aliases false a b) field_use fs ∙ numbers_fit fs h)
-    (pairs_of_map (λ a b. uses_apart a b || are_aliases false a b) reserved_use rs ∙ ranges_fit rs k) (all_between fs rs m)
+    all_uses (λ a b. uses_apart a b || are_aliases false a b) field_use reserved_use number_of_field span_of (λ p q l. or_first (uses_apart (reserved_use p) (reserved_use q)) _ l)
+    (λ f p l. or_first (uses_apart (field_use f) (reserved_use p)) _ l) fs rs
+    (pairs_weaker (λ f g. two_apart f.number g.number) (λ f g. uses_apart (field_use f) (field_use g) || are_aliases false (field_use f) (field_use g))
+    (λ f g l. or_first (uses_apart (field_use f) (field_use g)) _ l) fs (sym (pairs_of_map two_apart number_of_field fs) ∙ h)) k
+    (list_all-map (λ n. list_all (is_outside n) (map span_of rs)) number_of_field fs ∙ m)
 
 -- ---- JSON names
 

@@ -4,7 +4,7 @@ use Rattle.std.specs.List.{list_all, AllByRecursion}
 use Rattle.std.proofs.lemmas.Bool.{false≢true}
 use Rattle.std.proofs.lemmas.Bool.Decides.{nat_tests}
 use Rattle.std.proofs.lemmas.List.Elements.{recursion_from_All}
-use Rattle.std.proofs.lemmas.List.Folds.{list_all-append, list_all-map}
+use Rattle.std.proofs.lemmas.List.Folds.{list_all-map}
 use Rattle.std.proofs.lemmas.Option.{slice_get_within}
 use Rattle.std.proofs.lemmas.Slice.Eq.{bytes_eq-Decides}
 use Rattle.std.specs.Str.{bytes_eq}
@@ -32,14 +32,15 @@ use Rattle.pg_check.specs.rules.Enums as enums
 use Rattle.pg_check.specs.parts.MadeEnums.{MadeEnum, MadeValue, enumeration, made_enum, made_values, value}
 use Rattle.pg_check.specs.parts.MadeFields.{MadeField, element_in, field, made_field}
 use Rattle.pg_check.specs.parts.MadeMessages.{made_fields}
-use Rattle.pg_check.specs.parts.MadeParts.{Declared, EachIs, FileShape, IsFileOf, IsTypeOf, Source, TypeTree, file_shape, nothing, type_tree, with_file, with_files}
+use Rattle.pg_check.specs.parts.MadeParts.{EachIs, FileShape, IsFileOf, IsTypeOf, Source, TypeTree, nothing, type_tree, with_files}
 use Rattle.pg_check.specs.parts.ResolvedTypes.{IsNamed, IsResolvedMethod, IsResolvedService, IsScalarOr, ResolvesTo, file_services, full_name_of, messages_of, rpc_in, service_in, services_of, type_name_of, words_of}
 use Rattle.pg_check.specs.parts.Sources.{linked_source, linked_sources}
 use Rattle.pg_check.specs.rules.Members.{DeclaredField, members}
 use Rattle.pg_check.specs.rules.Outline.{Enum, Message, file_messages, package_of, scoped_enums, statements_behind}
 use Rattle.pg_check.specs.rules.Types.{scalar_named}
-use Rattle.pg_check.proofs.lemmas.parts.Eachs.{joined_all}
-use Rattle.pg_check.proofs.lemmas.parts.KeptFiles.{enums_are, source_enums}
+use Rattle.pg_check.proofs.lemmas.parts.Eachs.{each_mapped, joined_all, same_all}
+use Rattle.pg_check.proofs.lemmas.standing.UniqueNames.{distinct_left, distinct_right}
+use Rattle.pg_check.proofs.lemmas.parts.KeptFiles.{each_shape, enums_are, source_enums}
 use Rattle.pg_check.proofs.lemmas.parts.Moved.{all_moved, pairs_of_map, pairs_weaker}
 use Rattle.pg_check.proofs.lemmas.parts.NamedParts.{NamedEnum, NamedMessage, NamedParts, has_package, is_named_field}
 use Rattle.pg_check.proofs.lemmas.parts.NamedUses.{Here, IsMet}
@@ -176,10 +177,6 @@ module _ (files : List Entry) (parts : Parts) where
 
 -- ---- files
 
-paired : {X : Type 0} (P : X → Type 0) (e : Entry) (xs : List X) → AllByRecursion P xs → AllByRecursion (λ (p : Entry × X). P p.1) (map (λ (x : X). (e, x)) xs)
-paired P e [] h = tt
-paired P e (x ∷ xs) h = (h.0, paired P e xs h.1)
-
 abbrev IsGoodEntry : Entry → Type 0
 IsGoodEntry e = IsGoodFile e.1.tree
 
@@ -190,7 +187,7 @@ entries_good (e ∷ es) parsed = (good_file e.1.tree (file_good e.1.bytes.items 
 all_messages_good : (files : List Entry) → AllByRecursion IsGoodEntry files → AllByRecursion (λ (x : Entry × Message). IsGoodMessage x.1) (messages_of files)
 all_messages_good [] h = tt
 all_messages_good (e ∷ es) h =
-    joined_all (λ (x : Entry × Message). IsGoodMessage x.1) (map (λ (m : Message). (e, m)) (file_messages e.1.tree)) (messages_of es) (paired IsGoodMessage e (file_messages e.1.tree) h.0.messages) (all_messages_good es h.1)
+    joined_all (λ (x : Entry × Message). IsGoodMessage x.1) (map (λ (m : Message). (e, m)) (file_messages e.1.tree)) (messages_of es) (each_mapped (λ (x : Entry × Message). IsGoodMessage x.1) (λ (m : Message). (e, m)) (file_messages e.1.tree) h.0.messages) (all_messages_good es h.1)
 
 all_services_good : (files : List Entry) → AllByRecursion IsGoodEntry files → AllByRecursion (λ (x : Entry × tree.Service.Service). IsGoodService x.1) (services_of files)
 all_services_good [] h = tt
@@ -198,7 +195,7 @@ all_services_good (e ∷ es) h =
     let front = flat_map service_in e.1.tree.statements.items in
     let behind = flat_map service_in (statements_behind e.1.tree.packaged) in
     let own : AllByRecursion IsGoodService (file_services e.1.tree) = joined_all IsGoodService front behind (services_good e.1.tree.statements.items h.0.front) (services_good (statements_behind e.1.tree.packaged) h.0.behind) in
-    joined_all (λ (x : Entry × tree.Service.Service). IsGoodService x.1) (map (λ (s : tree.Service.Service). (e, s)) (file_services e.1.tree)) (services_of es) (paired IsGoodService e (file_services e.1.tree) own) (all_services_good es h.1)
+    joined_all (λ (x : Entry × tree.Service.Service). IsGoodService x.1) (map (λ (s : tree.Service.Service). (e, s)) (file_services e.1.tree)) (services_of es) (each_mapped (λ (x : Entry × tree.Service.Service). IsGoodService x.1) (λ (s : tree.Service.Service). (e, s)) (file_services e.1.tree) own) (all_services_good es h.1)
 
 all_enums_good : (all files : List Entry) → AllByRecursion IsGoodEntry files → AllByRecursion IsGoodEnum (flat_map source_enums (map (linked_source all) files))
 all_enums_good all [] h = tt
@@ -208,12 +205,6 @@ all_enums_good all (e ∷ es) h = joined_all IsGoodEnum (scoped_enums e.1.tree) 
 
 abbrev ShapeFits : FileShape → Type 0
 ShapeFits w = is_package (package_of w.tree) ≡ true
-
-all_shapes_fit : (d : Declared) (all files : List Entry) → AllByRecursion ShapeFits d.files → AllByRecursion IsGoodEntry files → AllByRecursion ShapeFits (with_files d (map (linked_source all) files)).files
-all_shapes_fit d all [] h k = h
-all_shapes_fit d all (e ∷ es) h k =
-    let s : Source = linked_source all e in
-    all_shapes_fit (with_file d s) all es (joined_all ShapeFits d.files (file_shape (length d.types) (length d.enums) (length d.services) s ∷ []) h (k.0.has_package, tt)) k.1
 
 packages_named : (ws : List FileShape) (fs : List File) → EachIs IsFileOf ws fs → AllByRecursion (λ (w : FileShape). is_package (package_of w.tree) ≡ true) ws → list_all has_package fs ≡ true
 packages_named [] [] is h = refl
@@ -235,26 +226,10 @@ abbrev HasWords : EnumType → Type 0
 HasWords e = list_all is_value e.values.items ≡ true
 
 enums_named : (es : List EnumType) (found : List Enum) → map enumeration es ≡ map made_enum found → AllByRecursion IsGoodEnum found → AllByRecursion HasWords es
-enums_named [] found is h = tt
-enums_named (e ∷ es) [] is h = absurd (cc (is))
-enums_named (e ∷ es) (m ∷ ms) is h =
-    let one : enumeration e ≡ made_enum m = cc (is) in
-    let others : map enumeration es ≡ map made_enum ms = cc (is) in
-    let values : map value e.values.items ≡ made_values m.tree.parts.items = ap (λ (x : MadeEnum). x.values) one in
-    (sym (list_all-map is_word_value value e.values.items) ∙ (ap (list_all is_word_value) values ∙ values_worded m.tree.parts.items h.0.body), enums_named es ms others h.1)
+enums_named = same_all enumeration made_enum IsGoodEnum HasWords (λ e m is h.
+    sym (list_all-map is_word_value value e.values.items) ∙ (ap (list_all is_word_value) (ap (λ (x : MadeEnum). x.values) is) ∙ values_worded m.tree.parts.items h.body))
 
 -- ---- names in one message, of names that all differ
-
-distinct_left : (xs ys : List (List ℕ)) → are_distinct (xs ++ ys) ≡ true → are_distinct xs ≡ true
-distinct_left [] ys h = refl
-distinct_left (x ∷ xs) ys h =
-    and_both (list_all (differ x) xs) (are_distinct xs)
-    (and_left (list_all (differ x) xs) (list_all (differ x) ys) (sym (list_all-append (differ x) xs ys) ∙ and_left (list_all (differ x) (xs ++ ys)) (are_distinct (xs ++ ys)) h))
-    (distinct_left xs ys (and_right (list_all (differ x) (xs ++ ys)) (are_distinct (xs ++ ys)) h))
-
-distinct_right : (xs ys : List (List ℕ)) → are_distinct (xs ++ ys) ≡ true → are_distinct ys ≡ true
-distinct_right [] ys h = h
-distinct_right (x ∷ xs) ys h = distinct_right xs ys (and_right (list_all (differ x) (xs ++ ys)) (are_distinct (xs ++ ys)) h)
 
 differ_before : (f : List ℕ → List ℕ) (a b : List ℕ) → differ (f a) (f b) ≡ true → differ a b ≡ true
 differ_before f a b h = by (bytes_eq a b) refl
@@ -318,7 +293,8 @@ linked_parts l parts up h placed =
           (types_named files parts met (messages_of files) d.types parts.types.items (linked_trees l) h.has_parts.types held (all_messages_good files good))
           (all_fields_once parts.enums.items parts.types.items (types_distinct parts placed.names));
       enums = enums_join parts.enums.items (enums_named parts.enums.items (flat_map source_enums sources) made (all_enums_good files files good)) placed.values_once;
-      packages = packages_named d.files parts.files.items h.has_parts.files (all_shapes_fit nothing files files tt good);
+      packages = packages_named d.files parts.files.items h.has_parts.files (each_shape ShapeFits (λ (s : Source). IsGoodFile s.tree) (λ d s h. h.has_package) nothing sources tt
+          (each_mapped (λ (s : Source). IsGoodFile s.tree) (linked_source files) files good));
       services = services_named files parts (services_of files) parts.services.items (resolved_types l parts up h).services (all_services_good files good);
       declared_once = placed.declared_once;
       file_scopes = placed.file_scopes;

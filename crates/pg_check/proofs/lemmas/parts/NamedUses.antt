@@ -1,11 +1,11 @@
 -- What a type name of linked files resolves to is what the parts have under its number.
-use Rattle.std.proofs.Common.{◌≡◌, ◌∙◌, ℕ, zero, suc, ◌+◌, ◌^◌, ◌<◌, ◌≤◌, Bool, true, false, cond, not, ◌&&◌, is_some, List, [], ◌∷◌, ◌++◌, length, map, get_or, slice_get, Option, Some, None, option_map, string_bytes, sym, ap, subst, refl, arith, length-append}
-use Rattle.std.specs.List.{AllByRecursion, position_from}
-use Rattle.std.specs.Option.{option_and_then, unwrap_or}
+use Rattle.std.proofs.Common.{◌≡◌, ◌∙◌, ℕ, ◌+◌, ◌^◌, ◌<◌, ◌≤◌, Bool, true, false, cond, not, ◌&&◌, is_some, List, [], ◌∷◌, ◌++◌, length, map, get_or, slice_get, Option, Some, None, option_map, string_bytes, sym, ap, subst, refl, arith}
+use Rattle.std.specs.List.{AllByRecursion}
+use Rattle.std.specs.Option.{option_and_then}
 use Rattle.std.specs.Str.{bytes_eq}
 use Rattle.std.proofs.lemmas.List.{length-map}
 use Rattle.std.proofs.lemmas.List.Quantifiers.{position-Some}
-use Rattle.std.proofs.lemmas.Option.{get_or_from_slice_get, slice_get-get_or, slice_get-map, slice_get_within}
+use Rattle.std.proofs.lemmas.Option.{slice_get-get_or, slice_get-map, slice_get_within}
 use Rattle.std.proofs.lemmas.Slice.Eq.{bytes_eq-Decides}
 use Rattle.pg_schema.specs.declared.parts.enum_type.EnumType.{EnumType}
 use Rattle.pg_schema.specs.declared.parts.field.Element.{Element}
@@ -23,15 +23,13 @@ use Rattle.pg_link.specs.Resolves.{Resolves, found, part_words, reference}
 use Rattle.pg_link.specs.Targets.{all_declared, enum_names, message_names, number_in, numbered, target_at, target_in, use_at}
 use Rattle.pg_link.specs.Uses.{Use, field_uses, file_uses, in_field, in_rpc, is_scalar, is_scalar_alone}
 use Rattle.pg_link.specs.Walk.{Entry, outlines, path_of}
-use Rattle.pg_check.specs.parts.EnumPlaces.{AreNumbered, by_scope, declared_messages, declared_names, enum_full, enum_places, place_among, scoped_names}
+use Rattle.pg_check.specs.parts.EnumPlaces.{AreNumbered, by_scope, declared_messages, declared_names, enum_places, scoped_names}
 use Rattle.pg_check.specs.parts.MadeFields.{element_of}
 use Rattle.pg_check.specs.parts.MadeNumbers.{index_of}
 use Rattle.pg_check.specs.parts.MadeServices.{message_at}
 use Rattle.pg_check.specs.parts.ResolvedTypes.{IsScalarOr, ResolvesTo, full_name_of, words_of}
 use Rattle.pg_check.specs.rules.Options.{is_alone}
-use Rattle.pg_check.specs.rules.Outline.{file_enums, scoped_enums}
 use Rattle.pg_check.specs.rules.Types.{scalar_named}
-use Rattle.pg_check.proofs.lemmas.parts.ScopedEnums.{scoped_long}
 use Rattle.pg_check.proofs.lemmas.standing.TreePlaces.{index_is}
 use Rattle.pg_schema.specs.declared.parts.field.Element.TheVariants as elements
 use Rattle.pg_syntax.specs.declared.tree as tree
@@ -58,32 +56,13 @@ has_number dotted names full number are at =
     by None is none = absurd (cc (none))
     by (Some name) is some = let dotted_is : full ≡ 46 ∷ name = cc (some) in record { name = name; is_dotted = dotted_is; is_there = is }
 
--- ---- enums scope by scope
-
-first_within : (p : List ℕ → Bool) (i : ℕ) (xs : List (List ℕ)) → 0 < i + length xs → unwrap_or (position_from p i xs) 0 < i + length xs
-first_within p i [] some = some
-first_within p i (x ∷ xs) some = by (p x) (first_within p (i + 1) xs (omega arith))
+numbered_as : (make : ℕ → Target) (dotted : List Text) (names : List (List ℕ)) (full : Text) (t : Target) → dotted ≡ map dot names
+    → option_map make (number_in dotted full) ≡ Some t → (n : ℕ) × (make n ≡ t) × HasNumber names full n
+numbered_as make dotted names full t are is = by (number_in dotted full) refl is
   where
-    by : (b : Bool) → unwrap_or (position_from p (i + 1) xs) 0 < (i + 1) + length xs → unwrap_or (cond b (Some i) (position_from p (i + 1) xs)) 0 < i + length (x ∷ xs)
-    by true rest = omega arith
-    by false rest = omega (arith, rest)
-
-place_within : (names : List (List ℕ)) (these : List (List ℕ)) (n : ℕ) → 0 < length names → get_or (map (place_among names) these) n 0 < length names
-place_within names [] n some = some
-place_within names (x ∷ these) zero some = let there : place_among names x < 0 + length names = first_within (bytes_eq x) 0 names (omega (arith, some)) in omega (arith, there)
-place_within names (x ∷ these) (suc n) some = place_within names these n some
-
--- as many of them as in order of declaration
-as_many : (files : List Entry) → length (scoped_names files) ≡ length (declared_names files)
-as_many [] = refl
-as_many (e ∷ es) =
-    let scoped = map enum_full (scoped_enums e.1.tree) in
-    let declared = map enum_full (file_enums e.1.tree) in
-    let here : length scoped ≡ length declared = length-map (scoped_enums e.1.tree) enum_full ∙ (scoped_long e.1.tree ∙ sym (length-map (file_enums e.1.tree) enum_full)) in
-    let left : length (scoped ++ scoped_names es) ≡ length scoped + length (scoped_names es) = length-append scoped (scoped_names es) in
-    let right : length (declared ++ declared_names es) ≡ length declared + length (declared_names es) = length-append declared (declared_names es) in
-    let rest = as_many es in
-    omega (arith, here, left, right, rest)
+    by : (o : Option ℕ) → number_in dotted full ≡ o → option_map make o ≡ Some t → (n : ℕ) × (make n ≡ t) × HasNumber names full n
+    by None at none = absurd (cc (none))
+    by (Some n) at some = let same : make n ≡ t = cc (some) in (n, same, has_number dotted names full n are at)
 
 -- ---- files and parts that meet
 
@@ -108,20 +87,12 @@ module _ (files : List Entry) (parts : Parts) (met : IsMet files parts) where
   HasName false full (targets.Enum n) = ⊥
 
   kind_named : (takes : Bool) (full : Text) (k : Kind) (t : Target) → numbered all takes full k ≡ Some t → (is_type k ≡ true) × HasName takes full t
-  kind_named takes full kinds.Message t is = (refl, by (number_in (message_names all) full) refl is)
-    where
-      by : (o : Option ℕ) → number_in (message_names all) full ≡ o → option_map targets.Message o ≡ Some t → HasName takes full t
-      by None at none = absurd (cc (none))
-      by (Some n) at some =
-          let same : targets.Message n ≡ t = cc (some) in
-          subst (HasName takes full) same (has_number (message_names all) (declared_messages files) full n met.numbers.types at)
-  kind_named true full kinds.Enum t is = (refl, by (number_in (enum_names all) full) refl is)
-    where
-      by : (o : Option ℕ) → number_in (enum_names all) full ≡ o → option_map targets.Enum o ≡ Some t → HasName true full t
-      by None at none = absurd (cc (none))
-      by (Some n) at some =
-          let same : targets.Enum n ≡ t = cc (some) in
-          subst (HasName true full) same (has_number (enum_names all) (declared_names files) full n met.numbers.enums at)
+  kind_named takes full kinds.Message t is =
+      let at = numbered_as targets.Message (message_names all) (declared_messages files) full t met.numbers.types is in
+      (refl, subst (HasName takes full) at.1 at.2)
+  kind_named true full kinds.Enum t is =
+      let at = numbered_as targets.Enum (enum_names all) (declared_names files) full t met.numbers.enums is in
+      (refl, subst (HasName true full) at.1 at.2)
   kind_named false full kinds.Enum t is = absurd (cc (is))
   kind_named takes full kinds.Entry t is = absurd (cc (is))
   kind_named takes full kinds.Package t is = absurd (cc (is))
@@ -187,13 +158,11 @@ module _ (files : List Entry) (parts : Parts) (met : IsMet files parts) where
       let j = get_or (enum_places files) n 0 in
       let few = met.few_enums in
       let scoped = scoped_names files in
-      let same_long = as_many files in
-      let within : n < length (declared_names files) = slice_get_within (declared_names files) n name is in
-      let inside : j < length scoped = place_within scoped (declared_names files) n (omega (arith, within, same_long)) in
+      let same : slice_get scoped j ≡ Some name = met.numbers.placed n (slice_get_within (declared_names files) n name is) ∙ is in
+      let inside : j < length scoped = slice_get_within scoped j name same in
       let long : length parts.enums.items ≡ length scoped = sym (length-map parts.enums.items enum_name) ∙ ap length met.enums_are in
-      let same : get_or scoped j [] ≡ name = met.numbers.placed n within ∙ get_or_from_slice_get (declared_names files) n name [] is in
       ap (λ i. option_map enum_name (slice_get parts.enums.items i)) (index_is j (omega (arith, inside, long, few)))
-      ∙ (sym (slice_get-map enum_name parts.enums.items j) ∙ (ap (λ xs. slice_get xs j) met.enums_are ∙ (slice_get-get_or scoped j [] inside ∙ ap (λ x. Some x) same)))
+      ∙ (sym (slice_get-map enum_name parts.enums.items j) ∙ (ap (λ xs. slice_get xs j) met.enums_are ∙ same))
 
   abbrev of_target : Target → Element
   of_target t = element_of None (Some (by_scope (enum_places files) t))

@@ -1,11 +1,12 @@
 -- Each message type, enum and service of linked files stands in one place, and in its scope.
-use Rattle.std.proofs.Common.{◌≡◌, ◌∙◌, ℕ, zero, suc, ◌+◌, ◌^◌, ◌≤◌, Bool, true, false, not, ◌&&◌, List, [], ◌∷◌, ◌++◌, length, take, drop, map, flat_map, Option, Some, slice_get, option_map, string_bytes, sym, ap, subst, refl, arith, append_assoc}
+use Rattle.std.proofs.Common.{◌≡◌, ◌∙◌, ℕ, zero, suc, ◌+◌, ◌^◌, ◌≤◌, Bool, true, false, not, ◌&&◌, List, [], ◌∷◌, ◌++◌, length, take, drop, map, flat_map, Option, Some, slice_get, option_map, string_bytes, sym, ap, ap₂, subst, refl, arith, append_assoc}
 use Rattle.std.proofs.Math.Seq.{drop-append_seam, take-append_seam}
 use Rattle.std.specs.List.{list_all, AllByRecursion}
 use Rattle.std.specs.Str.{bytes_eq}
 use Rattle.std.proofs.lemmas.Bool.{false≢true}
 use Rattle.std.proofs.lemmas.List.{append-nil, length-map, map-append}
 use Rattle.std.proofs.lemmas.Option.{slice_get-map}
+use Rattle.std.proofs.lemmas.Simd.{map-map}
 use Rattle.std.proofs.lemmas.Slice.Eq.{bytes_eq-Decides}
 use Rattle.pg_schema.specs.declared.parts.enum_type.EnumType.{EnumType}
 use Rattle.pg_schema.specs.declared.parts.field.EnumId.{EnumId}
@@ -16,7 +17,7 @@ use Rattle.pg_schema.specs.declared.parts.Parts.{Parts}
 use Rattle.pg_schema.specs.declared.parts.service.Service as schema_services
 use Rattle.pg_schema.specs.declared.parts.service.ServiceId.{ServiceId}
 use Rattle.pg_schema.specs.rules.DeclaredNames.{within}
-use Rattle.pg_schema.specs.rules.Scopes.{are_declared_once, are_each_once, are_enums_in, are_services_in, are_types_in, declared_enums, declared_services, declared_types, enum_name, enum_places, is_dot_and_word, is_file_scope, is_in, is_named_in, is_type_scope, service_name, service_places, type_name, type_places}
+use Rattle.pg_schema.specs.rules.Scopes.{are_declared_once, are_each_once, are_enums_in, are_services_in, are_types_in, declared_enums, declared_services, declared_types, enum_name, is_dot_and_word, is_file_scope, is_in, is_named_in, is_type_scope, service_name, type_name}
 use Rattle.pg_schema.specs.rules.Words.{is_word}
 use Rattle.pg_link.specs.declared.target.Target.{Target}
 use Rattle.pg_check.specs.parts.ByScope.{Placed, placed_from}
@@ -24,14 +25,14 @@ use Rattle.pg_check.specs.rules.KeepsRules.{source_messages}
 use Rattle.pg_check.specs.parts.MadeEnums.{MadeEnum, enumeration, made_enum}
 use Rattle.pg_check.specs.parts.MadeParts.{ArePartsOf, Declared, EachIs, FileShape, IsFileOf, IsTypeOf, Source, TypeTree, file_services, nothing, placed_enums, placed_messages, type_tree, type_trees, with_file, with_files}
 use Rattle.pg_check.specs.parts.MadeServices.{MadeService, made_services, service}
-use Rattle.pg_check.specs.rules.Outline.{Enum, Message, enum_scope, scoped_enums, file_messages, message_scope, package_of, statements_behind}
+use Rattle.pg_check.specs.rules.Outline.{Enum, Message, enum_scope, file_messages, message_scope, package_of, statements_behind}
 use Rattle.pg_check.proofs.lemmas.parts.DeclaredPlaces.{all_enum_places, all_service_places, all_types, enums_of_file, enums_of_tree, looked_up, service_scopes, services_of_file, types_of_file, types_of_tree}
-use Rattle.pg_check.proofs.lemmas.parts.Eachs.{joined_all}
+use Rattle.pg_check.proofs.lemmas.parts.Eachs.{each_flat, each_weaker, joined_all}
 use Rattle.pg_check.proofs.lemmas.parts.KeptFiles.{enums_are, source_enums}
 use Rattle.pg_check.proofs.lemmas.rules.NoneLaws.{and_both}
 use Rattle.pg_check.proofs.lemmas.parts.Regrouped.{count_from, each_once, placed_total}
 use Rattle.pg_check.proofs.lemmas.parts.ScopesOnce.{IsScoped, full_of}
-use Rattle.pg_check.proofs.lemmas.parts.Totals.{as_one, total, total_flat, total_joined, total_map, total_none}
+use Rattle.pg_check.proofs.lemmas.parts.Totals.{as_one, total, total_joined, total_map, total_none}
 use Rattle.pg_check.proofs.lemmas.parts.WordedFiles.{IsGoodEnum, IsGoodFile, IsGoodMessage, IsGoodStatement}
 use Rattle.pg_syntax.specs.declared.tree as tree
 use Rattle.pg_syntax.specs.declared.tree.Statement.TheVariants as statements
@@ -129,15 +130,12 @@ tree_names d [] = sym (append-nil (map (λ (w : TypeTree). w.full) d.types))
 tree_names d (s ∷ ss) =
     let of = λ (w : TypeTree). w.full in
     let trees = type_trees (length d.types) (length d.enums) s in
-    let fulls : map of trees ≡ map full_of (file_messages s.tree) = again s.targets (placed_messages (length d.types) s.tree) (placed_enums (length d.enums) s.tree) (file_messages s.tree) in
+    let fulls : map of trees ≡ map full_of (file_messages s.tree) =
+    map-map of (type_tree s.targets (placed_messages (length d.types) s.tree) (placed_enums (length d.enums) s.tree)) (file_messages s.tree) in
     tree_names (with_file d s) ss
     ∙ (ap (λ xs. xs ++ map full_of (flat_map source_messages ss)) (map-append of d.types trees ∙ ap (λ xs. map of d.types ++ xs) fulls)
     ∙ (append_assoc (map of d.types) (map full_of (file_messages s.tree)) (map full_of (flat_map source_messages ss))
     ∙ ap (λ xs. map of d.types ++ xs) (sym (map-append full_of (file_messages s.tree) (flat_map source_messages ss)))))
-  where
-    again : (targets : ℕ → Option Target) (ts qs : List Placed) (xs : List Message) → map (λ (w : TypeTree). w.full) (map (type_tree targets ts qs) xs) ≡ map full_of xs
-    again targets ts qs [] = refl
-    again targets ts qs (x ∷ xs) = ap (λ ys. x.full ∷ ys) (again targets ts qs xs)
 
 each_name : (ws : List TypeTree) (ts : List MessageType) → EachIs IsTypeOf ws ts → map (λ (t : MessageType). string_bytes t.name) ts ≡ map (λ (w : TypeTree). w.full) ws
 each_name [] [] h = refl
@@ -193,8 +191,7 @@ pub record IsSettledSource (s : Source) : Type 0 where
   pub scoped : IsScoped s.tree
 
 pub scoped_all : (ss : List Source) → AllByRecursion IsSettledSource ss → AllByRecursion (λ (s : Source). IsScoped s.tree) ss
-scoped_all [] h = tt
-scoped_all (s ∷ ss) h = (h.0.scoped, scoped_all ss h.1)
+scoped_all ss h = each_weaker IsSettledSource (λ s. IsScoped s.tree) (λ s k. k.scoped) ss h
 
 abbrev pub MessageUnder : Message → Type 0
 MessageUnder m = IsUnder m.scope m.full
@@ -205,21 +202,15 @@ EnumUnder e = IsUnder e.scope e.full
 abbrev pub ServiceUnder : List ℕ × MadeService → Type 0
 ServiceUnder s = IsUnder s.0 s.1.name
 
-messages_under : (ms : List Message) → AllByRecursion IsGoodMessage ms → AllByRecursion MessageUnder ms
-messages_under [] h = tt
-messages_under (m ∷ ms) h = (record { word = string_bytes m.name.text; is_a_word = h.0.name; is = h.0.is_full }, messages_under ms h.1)
-
-enums_under : (es : List Enum) → AllByRecursion IsGoodEnum es → AllByRecursion EnumUnder es
-enums_under [] h = tt
-enums_under (e ∷ es) h = (record { word = string_bytes e.tree.name.text; is_a_word = h.0.name; is = h.0.is_full }, enums_under es h.1)
-
 pub all_messages_under : (ss : List Source) → AllByRecursion IsSettledSource ss → AllByRecursion MessageUnder (flat_map source_messages ss)
-all_messages_under [] h = tt
-all_messages_under (s ∷ ss) h = joined_all MessageUnder (file_messages s.tree) (flat_map source_messages ss) (messages_under (file_messages s.tree) h.0.good.messages) (all_messages_under ss h.1)
+all_messages_under ss h =
+    each_flat MessageUnder source_messages ss (each_weaker IsSettledSource (λ s. AllByRecursion MessageUnder (source_messages s)) (λ s k.
+    each_weaker IsGoodMessage MessageUnder (λ m g. record { word = string_bytes m.name.text; is_a_word = g.name; is = g.is_full }) (source_messages s) k.good.messages) ss h)
 
 pub all_enums_under : (ss : List Source) → AllByRecursion IsSettledSource ss → AllByRecursion EnumUnder (flat_map source_enums ss)
-all_enums_under [] h = tt
-all_enums_under (s ∷ ss) h = joined_all EnumUnder (scoped_enums s.tree) (flat_map source_enums ss) (enums_under (scoped_enums s.tree) h.0.good.enums) (all_enums_under ss h.1)
+all_enums_under ss h =
+    each_flat EnumUnder source_enums ss (each_weaker IsSettledSource (λ s. AllByRecursion EnumUnder (source_enums s)) (λ s k.
+    each_weaker IsGoodEnum EnumUnder (λ e g. record { word = string_bytes e.tree.name.text; is_a_word = g.name; is = g.is_full }) (source_enums s) k.good.enums) ss h)
 
 -- each service beside its scope
 abbrev pub beside : List ℕ → MadeService → List ℕ × MadeService
@@ -254,24 +245,52 @@ all_services_under (s ∷ ss) h =
 service_scopes_are : (ss : List Source) → flat_map service_scopes ss ≡ map service_scope (flat_map scoped_services ss)
 service_scopes_are [] = refl
 service_scopes_are (s ∷ ss) =
-    ap (λ xs. xs ++ flat_map service_scopes ss) (again (package_of s.tree) (file_services s))
+    ap (λ xs. xs ++ flat_map service_scopes ss) (sym (map-map service_scope (beside (package_of s.tree)) (file_services s)))
     ∙ (ap (λ xs. map service_scope (scoped_services s) ++ xs) (service_scopes_are ss) ∙ sym (map-append service_scope (scoped_services s) (flat_map scoped_services ss)))
-  where
-    again : (scope : List ℕ) (xs : List MadeService) → map (λ (x : MadeService). scope) xs ≡ map service_scope (map (beside scope) xs)
-    again scope [] = refl
-    again scope (x ∷ xs) = ap (λ ys. scope ∷ ys) (again scope xs)
 
-pub services_are : (d : Declared) (ss : List Source) → (with_files d ss).services ≡ d.services ++ map (λ (s : List ℕ × MadeService). s.1) (flat_map scoped_services ss)
+abbrev pub made_in : List ℕ × MadeService → MadeService
+made_in s = s.1
+
+pub services_back : (scope : List ℕ) (xs : List MadeService) → map made_in (map (beside scope) xs) ≡ xs
+services_back scope [] = refl
+services_back scope (x ∷ xs) = ap (λ ys. x ∷ ys) (services_back scope xs)
+
+pub services_are : (d : Declared) (ss : List Source) → (with_files d ss).services ≡ d.services ++ map made_in (flat_map scoped_services ss)
 services_are d [] = sym (append-nil d.services)
 services_are d (s ∷ ss) =
-    let of = λ (x : List ℕ × MadeService). x.1 in
     services_are (with_file d s) ss
-    ∙ (append_assoc d.services (file_services s) (map of (flat_map scoped_services ss))
-    ∙ ap (λ xs. d.services ++ xs) (ap (λ xs. xs ++ map of (flat_map scoped_services ss)) (again (package_of s.tree) (file_services s)) ∙ sym (map-append of (scoped_services s) (flat_map scoped_services ss))))
+    ∙ (append_assoc d.services (file_services s) (map made_in (flat_map scoped_services ss))
+    ∙ ap (λ xs. d.services ++ xs) (ap (λ xs. xs ++ map made_in (flat_map scoped_services ss)) (sym (services_back (package_of s.tree) (file_services s)))
+    ∙ sym (map-append made_in (scoped_services s) (flat_map scoped_services ss))))
+
+-- ---- one kind of what is declared
+
+-- places that files and message types declare come to as many numbers, from 0 on
+places_come : {I : Type 0} (index : I → ℕ) (in_file : File → List I) (in_type : MessageType → List I) (files : List File) (types : List MessageType) (g : ℕ → ℕ)
+    (scopes : List (List ℕ)) (count : ℕ) → length scopes ≡ count → count ≤ 2 ^ 32
+    → total (λ (f : File). total (λ id. g (index id)) (in_file f)) files + total (λ (t : MessageType). total (λ id. g (index id)) (in_type t)) types
+    ≡ total (λ (p : Placed). g p.index) (placed_from 0 scopes)
+    → total g (flat_map (λ (f : File). map index (in_file f)) files ++ flat_map (λ (t : MessageType). map index (in_type t)) types) ≡ total g (count_from 0 count)
+places_come {I} index in_file in_type files types g scopes count long few summed =
+    total_joined g (flat_map (λ (f : File). map index (in_file f)) files) (flat_map (λ (t : MessageType). map index (in_type t)) types)
+    ∙ (ap₂ (λ m n. m + n) (each in_file files) (each in_type types)
+    ∙ (summed ∙ (placed_total g 0 scopes (omega (arith, long, few)) ∙ ap (λ n. total g (count_from 0 n)) long)))
   where
-    again : (scope : List ℕ) (xs : List MadeService) → xs ≡ map (λ (x : List ℕ × MadeService). x.1) (map (beside scope) xs)
-    again scope [] = refl
-    again scope (x ∷ xs) = ap (λ ys. x ∷ ys) (again scope xs)
+    each : {X : Type 0} (ids : X → List I) (xs : List X) → total g (flat_map (λ x. map index (ids x)) xs) ≡ total (λ x. total (λ id. g (index id)) (ids x)) xs
+    each ids [] = refl
+    each ids (x ∷ xs) = total_joined g (map index (ids x)) (flat_map (λ y. map index (ids y)) xs) ∙ ap₂ (λ m n. m + n) (total_map g index (ids x)) (each ids xs)
+
+-- what a place says whose name is not in the scope
+abbrev name_fails : {A : Type 0} → (A → List ℕ) → List A → List ℕ → ℕ → ℕ
+name_fails name ts scope i = as_one (not (is_named_in scope (option_map name (slice_get ts i))))
+
+-- no place does, where each has the name of what is declared
+none_fails : {A X : Type 0} (name : A → List ℕ) (full scope : X → List ℕ) (ts : List A) (xs : List X) → map name ts ≡ map full xs
+    → AllByRecursion (λ x. IsUnder (scope x) (full x)) xs → length xs ≤ 2 ^ 32 → total (λ (p : Placed). name_fails name ts p.scope p.index) (placed_from 0 (map scope xs)) ≡ 0
+none_fails {A} {X} name full scope ts xs same under few =
+    looked_up scope (name_fails name ts) (λ (x : X). 0) 0 xs (omega (arith, few)) (λ i x at.
+    ap (λ b. as_one (not b)) (named_under (scope x) (full x) (option_map name (slice_get ts (0 + i))) (at_place name full ts xs same i x at)
+    (all_at (λ y. IsUnder (scope y) (full y)) xs under i x at))) ∙ total_none xs
 
 module _ (ss : List Source) (parts : Parts) (are : ArePartsOf ss parts) (settled : AllByRecursion IsSettledSource ss)
     (few_types : length parts.types.items ≤ 2 ^ 32) (few_enums : length parts.enums.items ≤ 2 ^ 32) (few_services : length parts.services.items ≤ 2 ^ 32) where
@@ -299,11 +318,20 @@ module _ (ss : List Source) (parts : Parts) (are : ArePartsOf ss parts) (settled
   pub enum_count : length enums ≡ length all_es
   enum_count = sym (length-map enums enumeration) ∙ (ap length enums_made ∙ length-map all_es made_enum)
 
-  pub services_made : map service parts.services.items ≡ map (λ (s : List ℕ × MadeService). s.1) all_xs
+  pub services_made : map service parts.services.items ≡ map made_in all_xs
   services_made = are.services ∙ services_are nothing ss
 
   pub service_count : length parts.services.items ≡ length all_xs
-  service_count = sym (length-map parts.services.items service) ∙ (ap length services_made ∙ length-map all_xs (λ (s : List ℕ × MadeService). s.1))
+  service_count = sym (length-map parts.services.items service) ∙ (ap length services_made ∙ length-map all_xs made_in)
+
+  abbrev type_named : MessageType → List ℕ
+  type_named t = string_bytes t.name
+
+  abbrev enum_named : EnumType → List ℕ
+  enum_named e = string_bytes e.name
+
+  abbrev service_named : schema_services.Service → List ℕ
+  service_named s = string_bytes s.name
 
   abbrev scoped : AllByRecursion (λ (s : Source). IsScoped s.tree) ss
   scoped = scoped_all ss settled
@@ -312,63 +340,24 @@ module _ (ss : List Source) (parts : Parts) (are : ArePartsOf ss parts) (settled
 
   types_placed : (g : ℕ → ℕ) → total g (declared_types parts.files.items types) ≡ total g (count_from 0 (length types))
   types_placed g =
-      let files = flat_map (λ (f : File). type_places f.types.items) parts.files.items in
-      let nested = flat_map (λ (t : MessageType). type_places t.nested_types.items) types in
-      let both : total g (files ++ nested) ≡ total g files + total g nested = total_joined g files nested in
-      let of_files : total g files ≡ total (λ (f : File). total g (type_places f.types.items)) parts.files.items = total_flat g (λ (f : File). type_places f.types.items) parts.files.items in
-      let of_nested : total g nested ≡ total (λ (t : MessageType). total g (type_places t.nested_types.items)) types = total_flat g (λ (t : MessageType). type_places t.nested_types.items) types in
-      let in_files : total (λ (f : File). total g (type_places f.types.items)) parts.files.items ≡ total (file_types (λ s. g)) parts.files.items = again_files parts.files.items in
-      let in_types : total (λ (t : MessageType). total g (type_places t.nested_types.items)) types ≡ total (nested_types (λ s. g)) types = again_types types in
-      let summed = types_summed (λ s. g) ss parts are scoped in
-      let long : length (map message_scope all_ms) ≡ length types = length-map all_ms message_scope ∙ sym type_count in
-      let places : total (λ (p : Placed). g p.index) (placed_from 0 (map message_scope all_ms)) ≡ total g (count_from 0 (length (map message_scope all_ms))) = placed_total g 0 (map message_scope all_ms) (omega (arith, long, few_types)) in
-      let counted : total g (count_from 0 (length (map message_scope all_ms))) ≡ total g (count_from 0 (length types)) = ap (λ n. total g (count_from 0 n)) long in
-      omega (arith, both, of_files, of_nested, in_files, in_types, summed, places, counted)
-    where
-      again_files : (fs : List File) → total (λ (f : File). total g (type_places f.types.items)) fs ≡ total (file_types (λ s. g)) fs
-      again_files [] = refl
-      again_files (f ∷ fs) = ap (λ n. n + total (λ (x : File). total g (type_places x.types.items)) fs) (total_map g (λ (id : TypeId). id.index) f.types.items) ∙ ap (λ n. file_types (λ s. g) f + n) (again_files fs)
-
-      again_types : (ts : List MessageType) → total (λ (t : MessageType). total g (type_places t.nested_types.items)) ts ≡ total (nested_types (λ s. g)) ts
-      again_types [] = refl
-      again_types (t ∷ ts) = ap (λ n. n + total (λ (x : MessageType). total g (type_places x.nested_types.items)) ts) (total_map g (λ (id : TypeId). id.index) t.nested_types.items) ∙ ap (λ n. nested_types (λ s. g) t + n) (again_types ts)
+      places_come (λ (id : TypeId). id.index) (λ f. f.types.items) (λ t. t.nested_types.items) parts.files.items types g (map message_scope all_ms) (length types)
+      (length-map all_ms message_scope ∙ sym type_count) few_types (types_summed (λ s. g) ss parts are scoped)
 
   enums_placed : (g : ℕ → ℕ) → total g (declared_enums parts.files.items types) ≡ total g (count_from 0 (length enums))
   enums_placed g =
-      let files = flat_map (λ (f : File). enum_places f.enums.items) parts.files.items in
-      let nested = flat_map (λ (t : MessageType). enum_places t.nested_enums.items) types in
-      let both : total g (files ++ nested) ≡ total g files + total g nested = total_joined g files nested in
-      let of_files : total g files ≡ total (λ (f : File). total g (enum_places f.enums.items)) parts.files.items = total_flat g (λ (f : File). enum_places f.enums.items) parts.files.items in
-      let of_nested : total g nested ≡ total (λ (t : MessageType). total g (enum_places t.nested_enums.items)) types = total_flat g (λ (t : MessageType). enum_places t.nested_enums.items) types in
-      let in_files : total (λ (f : File). total g (enum_places f.enums.items)) parts.files.items ≡ total (file_enum_ids (λ s. g)) parts.files.items = again_files parts.files.items in
-      let in_types : total (λ (t : MessageType). total g (enum_places t.nested_enums.items)) types ≡ total (nested_enums (λ s. g)) types = again_types types in
-      let summed = enums_summed (λ s. g) ss parts are scoped in
-      let long : length (map enum_scope all_es) ≡ length enums = length-map all_es enum_scope ∙ sym enum_count in
-      let places : total (λ (p : Placed). g p.index) (placed_from 0 (map enum_scope all_es)) ≡ total g (count_from 0 (length (map enum_scope all_es))) = placed_total g 0 (map enum_scope all_es) (omega (arith, long, few_enums)) in
-      let counted : total g (count_from 0 (length (map enum_scope all_es))) ≡ total g (count_from 0 (length enums)) = ap (λ n. total g (count_from 0 n)) long in
-      omega (arith, both, of_files, of_nested, in_files, in_types, summed, places, counted)
-    where
-      again_files : (fs : List File) → total (λ (f : File). total g (enum_places f.enums.items)) fs ≡ total (file_enum_ids (λ s. g)) fs
-      again_files [] = refl
-      again_files (f ∷ fs) = ap (λ n. n + total (λ (x : File). total g (enum_places x.enums.items)) fs) (total_map g (λ (id : EnumId). id.index) f.enums.items) ∙ ap (λ n. file_enum_ids (λ s. g) f + n) (again_files fs)
+      places_come (λ (id : EnumId). id.index) (λ f. f.enums.items) (λ t. t.nested_enums.items) parts.files.items types g (map enum_scope all_es) (length enums)
+      (length-map all_es enum_scope ∙ sym enum_count) few_enums (enums_summed (λ s. g) ss parts are scoped)
 
-      again_types : (ts : List MessageType) → total (λ (t : MessageType). total g (enum_places t.nested_enums.items)) ts ≡ total (nested_enums (λ s. g)) ts
-      again_types [] = refl
-      again_types (t ∷ ts) = ap (λ n. n + total (λ (x : MessageType). total g (enum_places x.nested_enums.items)) ts) (total_map g (λ (id : EnumId). id.index) t.nested_enums.items) ∙ ap (λ n. nested_enums (λ s. g) t + n) (again_types ts)
+  service_scope_count : length (flat_map service_scopes ss) ≡ length parts.services.items
+  service_scope_count = ap length (service_scopes_are ss) ∙ (length-map all_xs service_scope ∙ sym service_count)
 
   services_placed : (g : ℕ → ℕ) → total g (declared_services parts.files.items) ≡ total g (count_from 0 (length parts.services.items))
   services_placed g =
-      let of_files : total g (declared_services parts.files.items) ≡ total (λ (f : File). total g (service_places f.services.items)) parts.files.items = total_flat g (λ (f : File). service_places f.services.items) parts.files.items in
-      let in_files : total (λ (f : File). total g (service_places f.services.items)) parts.files.items ≡ total (file_services_ids (λ s. g)) parts.files.items = again_files parts.files.items in
-      let summed = services_summed (λ s. g) ss parts are scoped in
-      let long : length (flat_map service_scopes ss) ≡ length parts.services.items = ap length (service_scopes_are ss) ∙ (length-map all_xs service_scope ∙ sym service_count) in
-      let places : total (λ (p : Placed). g p.index) (placed_from 0 (flat_map service_scopes ss)) ≡ total g (count_from 0 (length (flat_map service_scopes ss))) = placed_total g 0 (flat_map service_scopes ss) (omega (arith, long, few_services)) in
-      let counted : total g (count_from 0 (length (flat_map service_scopes ss))) ≡ total g (count_from 0 (length parts.services.items)) = ap (λ n. total g (count_from 0 n)) long in
-      omega (arith, of_files, in_files, summed, places, counted)
-    where
-      again_files : (fs : List File) → total (λ (f : File). total g (service_places f.services.items)) fs ≡ total (file_services_ids (λ s. g)) fs
-      again_files [] = refl
-      again_files (f ∷ fs) = ap (λ n. n + total (λ (x : File). total g (service_places x.services.items)) fs) (total_map g (λ (id : ServiceId). id.index) f.services.items) ∙ ap (λ n. file_services_ids (λ s. g) f + n) (again_files fs)
+      let summed : total (λ (f : File). total (λ (id : ServiceId). g id.index) f.services.items) parts.files.items ≡ total (λ (p : Placed). g p.index) (placed_from 0 (flat_map service_scopes ss)) =
+      services_summed (λ s. g) ss parts are scoped in
+      ap (total g) (sym (append-nil (declared_services parts.files.items)))
+      ∙ places_come (λ (id : ServiceId). id.index) (λ f. f.services.items) (λ t. []) parts.files.items [] g (flat_map service_scopes ss) (length parts.services.items)
+      service_scope_count few_services (omega (arith, summed))
 
   pub declared_once : are_declared_once parts.files.items types (length enums) (length parts.services.items) ≡ true
   declared_once =
@@ -380,78 +369,31 @@ module _ (ss : List Source) (parts : Parts) (are : ArePartsOf ss parts) (settled
 
   -- scopes
 
-  abbrev type_fails : List ℕ → ℕ → ℕ
-  type_fails scope i = as_one (not (is_named_in scope (type_name types (record { index = i }))))
-
-  type_found : (i : ℕ) (m : Message) → slice_get all_ms i ≡ Some m → type_fails m.scope (0 + i) ≡ 0
-  type_found i m at =
-      let found : type_name types (record { index = 0 + i }) ≡ Some m.full = at_place (λ (t : MessageType). string_bytes t.name) full_of types all_ms (type_names_are ss parts are) i m at in
-      ap (λ b. as_one (not b)) (named_under m.scope m.full (type_name types (record { index = 0 + i })) found (all_at MessageUnder all_ms (all_messages_under ss settled) i m at))
-
-  no_type_fails : total (file_types type_fails) parts.files.items + total (nested_types type_fails) types ≡ 0
+  no_type_fails : total (file_types (name_fails type_named types)) parts.files.items + total (nested_types (name_fails type_named types)) types ≡ 0
   no_type_fails =
-      let summed = types_summed type_fails ss parts are scoped in
-      let few : length all_ms ≤ 2 ^ 32 = let long = type_count in omega (arith, long, few_types) in
-      let looked : total (λ (p : Placed). type_fails p.scope p.index) (placed_from 0 (map message_scope all_ms)) ≡ total (λ (m : Message). 0) all_ms = looked_up message_scope type_fails (λ m. 0) 0 all_ms (omega (arith, few)) type_found in
-      let none : total (λ (m : Message). 0) all_ms ≡ 0 = total_none all_ms in
-      omega (arith, summed, looked, none)
+      types_summed (name_fails type_named types) ss parts are scoped
+      ∙ none_fails type_named full_of message_scope types all_ms (type_names_are ss parts are) (all_messages_under ss settled) (let long = type_count in omega (arith, long, few_types))
 
-  pub enum_names_are : map (λ (e : EnumType). string_bytes e.name) enums ≡ map (λ (e : Enum). e.full) all_es
-  enum_names_are = again enums all_es enums_made
-    where
-      again : (xs : List EnumType) (ys : List Enum) → map enumeration xs ≡ map made_enum ys → map (λ (e : EnumType). string_bytes e.name) xs ≡ map (λ (e : Enum). e.full) ys
-      again [] [] is = refl
-      again [] (y ∷ ys) is = absurd (cc (is))
-      again (x ∷ xs) [] is = absurd (cc (is))
-      again (x ∷ xs) (y ∷ ys) is =
-          let one : enumeration x ≡ made_enum y = cc (is) in
-          let others : map enumeration xs ≡ map made_enum ys = cc (is) in
-          ap (λ n. n ∷ map (λ (e : EnumType). string_bytes e.name) xs) (ap (λ (e : MadeEnum). e.name) one) ∙ ap (λ ns. y.full ∷ ns) (again xs ys others)
+  pub enum_names_are : map enum_named enums ≡ map (λ (e : Enum). e.full) all_es
+  enum_names_are =
+      sym (map-map (λ (e : MadeEnum). e.name) enumeration enums) ∙ (ap (map (λ (e : MadeEnum). e.name)) enums_made ∙ map-map (λ (e : MadeEnum). e.name) made_enum all_es)
 
-  abbrev enum_fails : List ℕ → ℕ → ℕ
-  enum_fails scope i = as_one (not (is_named_in scope (enum_name enums (record { index = i }))))
-
-  enum_found : (i : ℕ) (e : Enum) → slice_get all_es i ≡ Some e → enum_fails e.scope (0 + i) ≡ 0
-  enum_found i e at =
-      let found : enum_name enums (record { index = 0 + i }) ≡ Some e.full = at_place (λ (x : EnumType). string_bytes x.name) (λ (x : Enum). x.full) enums all_es enum_names_are i e at in
-      ap (λ b. as_one (not b)) (named_under e.scope e.full (enum_name enums (record { index = 0 + i })) found (all_at EnumUnder all_es (all_enums_under ss settled) i e at))
-
-  no_enum_fails : total (file_enum_ids enum_fails) parts.files.items + total (nested_enums enum_fails) types ≡ 0
+  no_enum_fails : total (file_enum_ids (name_fails enum_named enums)) parts.files.items + total (nested_enums (name_fails enum_named enums)) types ≡ 0
   no_enum_fails =
-      let summed = enums_summed enum_fails ss parts are scoped in
-      let few : length all_es ≤ 2 ^ 32 = let long = enum_count in omega (arith, long, few_enums) in
-      let looked : total (λ (p : Placed). enum_fails p.scope p.index) (placed_from 0 (map enum_scope all_es)) ≡ total (λ (e : Enum). 0) all_es = looked_up enum_scope enum_fails (λ e. 0) 0 all_es (omega (arith, few)) enum_found in
-      let none : total (λ (e : Enum). 0) all_es ≡ 0 = total_none all_es in
-      omega (arith, summed, looked, none)
+      enums_summed (name_fails enum_named enums) ss parts are scoped
+      ∙ none_fails enum_named (λ (e : Enum). e.full) enum_scope enums all_es enum_names_are (all_enums_under ss settled) (let long = enum_count in omega (arith, long, few_enums))
 
-  service_names_are : map (λ (s : schema_services.Service). string_bytes s.name) parts.services.items ≡ map (λ (s : List ℕ × MadeService). s.1.name) all_xs
-  service_names_are = again parts.services.items all_xs services_made
-    where
-      again : (xs : List schema_services.Service) (ys : List (List ℕ × MadeService)) → map service xs ≡ map (λ (s : List ℕ × MadeService). s.1) ys → map (λ (s : schema_services.Service). string_bytes s.name) xs ≡ map (λ (s : List ℕ × MadeService). s.1.name) ys
-      again [] [] is = refl
-      again [] (y ∷ ys) is = absurd (cc (is))
-      again (x ∷ xs) [] is = absurd (cc (is))
-      again (x ∷ xs) (y ∷ ys) is =
-          let one : service x ≡ y.1 = cc (is) in
-          let others : map service xs ≡ map (λ (s : List ℕ × MadeService). s.1) ys = cc (is) in
-          ap (λ n. n ∷ map (λ (s : schema_services.Service). string_bytes s.name) xs) (ap (λ (s : MadeService). s.name) one) ∙ ap (λ ns. y.1.name ∷ ns) (again xs ys others)
+  service_names_are : map service_named parts.services.items ≡ map (λ (s : List ℕ × MadeService). s.1.name) all_xs
+  service_names_are =
+      sym (map-map (λ (s : MadeService). s.name) service parts.services.items) ∙ (ap (map (λ (s : MadeService). s.name)) services_made ∙ map-map (λ (s : MadeService). s.name) made_in all_xs)
 
-  abbrev service_fails : List ℕ → ℕ → ℕ
-  service_fails scope i = as_one (not (is_named_in scope (service_name parts.services.items (record { index = i }))))
-
-  service_found : (i : ℕ) (s : List ℕ × MadeService) → slice_get all_xs i ≡ Some s → service_fails (service_scope s) (0 + i) ≡ 0
-  service_found i s at =
-      let found : service_name parts.services.items (record { index = 0 + i }) ≡ Some s.1.name = at_place (λ (x : schema_services.Service). string_bytes x.name) (λ (x : List ℕ × MadeService). x.1.name) parts.services.items all_xs service_names_are i s at in
-      ap (λ b. as_one (not b)) (named_under s.0 s.1.name (service_name parts.services.items (record { index = 0 + i })) found (all_at ServiceUnder all_xs (all_services_under ss settled) i s at))
-
-  no_service_fails : total (file_services_ids service_fails) parts.files.items ≡ 0
+  no_service_fails : total (file_services_ids (name_fails service_named parts.services.items)) parts.files.items ≡ 0
   no_service_fails =
-      let summed = services_summed service_fails ss parts are scoped in
-      let few : length all_xs ≤ 2 ^ 32 = let long = service_count in omega (arith, long, few_services) in
-      let scopes : total (λ (p : Placed). service_fails p.scope p.index) (placed_from 0 (flat_map service_scopes ss)) ≡ total (λ (p : Placed). service_fails p.scope p.index) (placed_from 0 (map service_scope all_xs)) = ap (λ xs. total (λ (p : Placed). service_fails p.scope p.index) (placed_from 0 xs)) (service_scopes_are ss) in
-      let looked : total (λ (p : Placed). service_fails p.scope p.index) (placed_from 0 (map service_scope all_xs)) ≡ total (λ (s : List ℕ × MadeService). 0) all_xs = looked_up service_scope service_fails (λ s. 0) 0 all_xs (omega (arith, few)) service_found in
-      let none : total (λ (s : List ℕ × MadeService). 0) all_xs ≡ 0 = total_none all_xs in
-      omega (arith, summed, scopes, looked, none)
+      let fails = name_fails service_named parts.services.items in
+      services_summed fails ss parts are scoped
+      ∙ (ap (λ xs. total (λ (p : Placed). fails p.scope p.index) (placed_from 0 xs)) (service_scopes_are ss)
+      ∙ none_fails service_named (λ (s : List ℕ × MadeService). s.1.name) service_scope parts.services.items all_xs service_names_are (all_services_under ss settled)
+      (let long = service_count in omega (arith, long, few_services)))
 
   pub type_scopes : list_all (is_type_scope types enums) types ≡ true
   type_scopes =

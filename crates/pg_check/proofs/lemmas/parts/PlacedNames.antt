@@ -18,17 +18,18 @@ use Rattle.pg_check.specs.parts.ByScope.{Placed, placed_from}
 use Rattle.pg_check.specs.rules.KeepsRules.{source_messages}
 use Rattle.pg_check.specs.parts.MadeEnums.{enumeration, made_enum}
 use Rattle.pg_check.specs.parts.MadeParts.{ArePartsOf, Declared, IsTypeOf, Source, file_services, nothing, placed_enums, placed_messages, type_tree, type_trees, with_file, with_files}
-use Rattle.pg_check.specs.parts.MadeServices.{MadeService, service}
+use Rattle.pg_check.specs.parts.MadeServices.{service}
 use Rattle.pg_check.specs.rules.Outline.{Enum, enum_scope, scoped_enums, file_messages, package_of}
 use Rattle.pg_check.proofs.lemmas.parts.PlacedParts.{HasValuesOnce}
 use Rattle.pg_check.specs.parts.Sources.{linked_source, linked_sources}
 use Rattle.pg_check.proofs.lemmas.parts.DeclaredPlaces.{looked_up}
 use Rattle.pg_check.proofs.lemmas.parts.DeclaredTotals.{file_is, inside, of_enum_type, of_made_service, of_message_type, value_texts}
+use Rattle.pg_check.proofs.lemmas.parts.Eachs.{same_all}
 use Rattle.pg_check.proofs.lemmas.parts.KeptFiles.{source_enums}
 use Rattle.pg_check.proofs.lemmas.parts.LinkedParts.{distinct_before}
 use Rattle.pg_check.proofs.lemmas.parts.NamedOnce.{once_named, weight}
 use Rattle.pg_check.proofs.lemmas.parts.PartNames.{enum_values_are, file_is_so, own_counts, own_is, service_is_so, tree_counts, type_is, values_count, values_looked}
-use Rattle.pg_check.proofs.lemmas.parts.PartPlaces.{IsSettledSource, beside, each_total, enum_count, enum_names_are, enums_made, enums_summed, file_enum_ids, nested_enums, scoped_all, scoped_services, services_made}
+use Rattle.pg_check.proofs.lemmas.parts.PartPlaces.{IsSettledSource, each_total, enum_count, enum_names_are, enums_made, enums_summed, file_enum_ids, made_in, nested_enums, scoped_all, scoped_services, services_back, services_made}
 use Rattle.pg_check.proofs.lemmas.parts.Regrouped.{everywhere}
 use Rattle.pg_check.proofs.lemmas.parts.ScopesOnce.{NamesOnce, each_file_once, file_scoped}
 use Rattle.pg_check.proofs.lemmas.parts.Totals.{distinct_from_times, one, times, total, total_both, total_flat, total_joined, total_map, total_same}
@@ -51,15 +52,8 @@ module _ (y : List ℕ) where
   abbrev f : Text → ℕ
   f = one (46 ∷ y)
 
-  abbrev second : List ℕ × MadeService → MadeService
-  second s = s.1
-
-  services_back : (scope : List ℕ) (xs : List MadeService) → map second (map (beside scope) xs) ≡ xs
-  services_back scope [] = refl
-  services_back scope (x ∷ xs) = ap (λ zs. x ∷ zs) (services_back scope xs)
-
   abbrev pub in_all : List Source → ℕ
-  in_all ss = (total (of_message_type f) (flat_map source_messages ss) + total (of_enum_type f) (flat_map source_enums ss)) + total (of_made_service f) (map second (flat_map scoped_services ss))
+  in_all ss = (total (of_message_type f) (flat_map source_messages ss) + total (of_enum_type f) (flat_map source_enums ss)) + total (of_made_service f) (map made_in (flat_map scoped_services ss))
 
   files_counted : (all files : List Entry) → AllByRecursion IsSettledSource (map (linked_source all) files) → total (weight f) (all_declared files) ≡ in_all (map (linked_source all) files)
   files_counted all [] h = refl
@@ -71,9 +65,9 @@ module _ (y : List ℕ) where
       let both : total (weight f) (file_names e.1.tree ++ all_declared es) ≡ total (weight f) (file_names e.1.tree) + total (weight f) (all_declared es) = total_joined (weight f) (file_names e.1.tree) (all_declared es) in
       let messages : total (of_message_type f) (file_messages e.1.tree ++ flat_map source_messages ss) ≡ total (of_message_type f) (file_messages e.1.tree) + total (of_message_type f) (flat_map source_messages ss) = total_joined (of_message_type f) (file_messages e.1.tree) (flat_map source_messages ss) in
       let enum_types : total (of_enum_type f) (scoped_enums e.1.tree ++ flat_map source_enums ss) ≡ total (of_enum_type f) (scoped_enums e.1.tree) + total (of_enum_type f) (flat_map source_enums ss) = total_joined (of_enum_type f) (scoped_enums e.1.tree) (flat_map source_enums ss) in
-      let services : total (of_made_service f) (map second (scoped_services s ++ flat_map scoped_services ss)) ≡ total (of_made_service f) (file_services s) + total (of_made_service f) (map second (flat_map scoped_services ss)) =
-      ap (total (of_made_service f)) (map-append second (scoped_services s) (flat_map scoped_services ss) ∙ ap (λ xs. xs ++ map second (flat_map scoped_services ss)) (services_back (package_of s.tree) (file_services s)))
-      ∙ total_joined (of_made_service f) (file_services s) (map second (flat_map scoped_services ss)) in
+      let services : total (of_made_service f) (map made_in (scoped_services s ++ flat_map scoped_services ss)) ≡ total (of_made_service f) (file_services s) + total (of_made_service f) (map made_in (flat_map scoped_services ss)) =
+      ap (total (of_made_service f)) (map-append made_in (scoped_services s) (flat_map scoped_services ss) ∙ ap (λ xs. xs ++ map made_in (flat_map scoped_services ss)) (services_back (package_of s.tree) (file_services s)))
+      ∙ total_joined (of_made_service f) (file_services s) (map made_in (flat_map scoped_services ss)) in
       omega (arith, here, rest, both, messages, enum_types, services)
 
   trees_counted : (d : Declared) (ss : List Source) → total (tree_counts y) (with_files d ss).types ≡ total (tree_counts y) d.types + total (of_message_type f) (flat_map source_messages ss)
@@ -129,7 +123,7 @@ module _ (l : LinkedFiles) (up : IsLinkedUp l) (parts : Parts) (are : ArePartsOf
       let both : total (λ (e : Enum). one y e.full + of_values e) all_es ≡ total (λ (e : Enum). one y e.full) all_es + total of_values all_es = total_both (λ (e : Enum). one y e.full) of_values all_es in
       omega (arith, own, summed, looked, both)
 
-  services_count : (y : List ℕ) → times y (flat_map service_names parts.services.items) ≡ total (of_made_service (one (46 ∷ y))) (map (λ (s : List ℕ × MadeService). s.1) (flat_map scoped_services ss))
+  services_count : (y : List ℕ) → times y (flat_map service_names parts.services.items) ≡ total (of_made_service (one (46 ∷ y))) (map made_in (flat_map scoped_services ss))
   services_count y =
       total_flat (one y) service_names parts.services.items
       ∙ (total_same _ _ parts.services.items (everywhere _ parts.services.items (service_is_so y))
@@ -174,12 +168,6 @@ module _ (l : LinkedFiles) (up : IsLinkedUp l) (parts : Parts) (are : ArePartsOf
   )
 
   pub values_once : AllByRecursion HasValuesOnce enums
-  values_once = again enums all_es (enums_made ss parts are settled few_types few_enums few_services) (each_few all_es values_few)
-    where
-      again : (xs : List EnumType) (es : List Enum) → map enumeration xs ≡ map made_enum es → AllByRecursion (λ (e : Enum). are_distinct (value_texts e.tree.parts.items) ≡ true) es → AllByRecursion HasValuesOnce xs
-      again [] es is h = tt
-      again (x ∷ xs) [] is h = absurd (cc (is))
-      again (x ∷ xs) (e ∷ es) is h =
-          let first : enumeration x ≡ made_enum e = cc (is) in
-          let others : map enumeration xs ≡ map made_enum es = cc (is) in
-          (ap are_distinct (enum_values_are [] x e first) ∙ h.0, again xs es others h.1)
+  values_once =
+      same_all enumeration made_enum (λ (e : Enum). are_distinct (value_texts e.tree.parts.items) ≡ true) HasValuesOnce (λ x e is h. ap are_distinct (enum_values_are [] x e is) ∙ h)
+      enums all_es (enums_made ss parts are settled few_types few_enums few_services) (each_few all_es values_few)

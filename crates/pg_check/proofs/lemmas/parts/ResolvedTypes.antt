@@ -5,6 +5,7 @@ use Rattle.std.specs.List.Sorted.{IsPermutation}
 use Rattle.std.proofs.lemmas.List.{append-nil, map-append}
 use Rattle.std.proofs.lemmas.List.Elements.{All-from_recursion, recursion_from_All}
 use Rattle.std.proofs.lemmas.List.Sorted.{All-permutation, IsPermutation-sym}
+use Rattle.std.proofs.lemmas.Simd.{map-map}
 use Rattle.pg_schema.specs.declared.parts.enum_type.EnumType.{EnumType}
 use Rattle.pg_schema.specs.declared.parts.field.Element.{Element}
 use Rattle.pg_schema.specs.declared.parts.field.Element.TheVariants as elements
@@ -25,7 +26,7 @@ use Rattle.pg_link.specs.Walk.{Entry, IsParsed, outlines, path_of}
 use Rattle.pg_link.proofs.VisibleLaws.{first_among, later_among}
 use Rattle.pg_check.specs.Declares.{Declares}
 use Rattle.pg_check.specs.parts.ByScope.{Placed}
-use Rattle.pg_check.specs.parts.EnumPlaces.{declared_messages, enum_full, message_full, scoped_names}
+use Rattle.pg_check.specs.parts.EnumPlaces.{declared_messages, enum_full, scoped_names}
 use Rattle.pg_check.specs.parts.MadeEnums.{MadeEnum, enumeration, made_enum}
 use Rattle.pg_check.specs.parts.MadeFields.{MadeField, element_in, field, made_field}
 use Rattle.pg_check.specs.parts.MadeMessages.{made_fields}
@@ -36,7 +37,7 @@ use Rattle.pg_check.specs.parts.Sources.{linked_source, linked_sources}
 use Rattle.pg_check.specs.rules.Members.{DeclaredField, Mapped, Plain, members}
 use Rattle.pg_check.specs.rules.Outline.{Enum, Message, file_messages, full_name, package_of, scoped_enums, statements_behind}
 use Rattle.pg_check.proofs.lemmas.parts.CountableParts.{countable}
-use Rattle.pg_check.proofs.lemmas.parts.Eachs.{each-append, joined_all}
+use Rattle.pg_check.proofs.lemmas.parts.Eachs.{each-append, each_mapped, each_weaker, joined_all}
 use Rattle.pg_check.proofs.lemmas.parts.KeptFiles.{enums_are, kept_parts, source_enums}
 use Rattle.pg_check.proofs.lemmas.parts.NamedUses.{Here, IsMet, all_found, element_named, method_resolves}
 use Rattle.pg_check.proofs.lemmas.parts.NumberedNames.{are_numbered}
@@ -49,14 +50,6 @@ use Rattle.pg_syntax.specs.declared.tree.ServicePart.TheVariants as service_part
 use Rattle.pg_syntax.specs.declared.tree.Statement.TheVariants as statements
 
 -- ---- lists
-
-each_mapped : {A B : Type 0} (P : B → Type 0) (f : A → B) (xs : List A) → AllByRecursion (λ x. P (f x)) xs → AllByRecursion P (map f xs)
-each_mapped P f [] h = tt
-each_mapped P f (x ∷ xs) h = (h.0, each_mapped P f xs h.1)
-
-each_weaker : {A : Type 0} (P Q : A → Type 0) → ((x : A) → P x → Q x) → (xs : List A) → AllByRecursion P xs → AllByRecursion Q xs
-each_weaker P Q f [] h = tt
-each_weaker P Q f (x ∷ xs) h = (f x h.0, each_weaker P Q f xs h.1)
 
 each_among : {A : Type 0} (xs : List A) → AllByRecursion (IsAmong xs) xs
 each_among [] = tt
@@ -127,20 +120,10 @@ module _ (files : List Entry) where
   fulls_are [] = refl
   fulls_are (e ∷ es) =
       let own : List (Entry × Message) = map (λ (m : Message). (e, m)) (file_messages e.1.tree) in
-      map-append (λ (x : Entry × Message). x.1.full) own (messages_of es) ∙ ap₂ (λ xs ys. xs ++ ys) (own_fulls (file_messages e.1.tree)) (fulls_are es)
-    where
-      own_fulls : (ms : List Message) → map (λ (x : Entry × Message). x.1.full) (map (λ (m : Message). (e, m)) ms) ≡ map message_full ms
-      own_fulls [] = refl
-      own_fulls (m ∷ ms) = ap (λ ns. m.full ∷ ns) (own_fulls ms)
+      map-append (λ (x : Entry × Message). x.1.full) own (messages_of es) ∙ ap₂ (λ xs ys. xs ++ ys) (map-map (λ (x : Entry × Message). x.1.full) (λ (m : Message). (e, m)) (file_messages e.1.tree)) (fulls_are es)
 
   enums_named : (xs : List EnumType) (ys : List Enum) → map enumeration xs ≡ map made_enum ys → map (λ (e : EnumType). string_bytes e.name) xs ≡ map enum_full ys
-  enums_named [] [] is = refl
-  enums_named [] (y ∷ ys) is = absurd (cc (is))
-  enums_named (x ∷ xs) [] is = absurd (cc (is))
-  enums_named (x ∷ xs) (y ∷ ys) is =
-      let one : enumeration x ≡ made_enum y = cc (is) in
-      let others : map enumeration xs ≡ map made_enum ys = cc (is) in
-      ap₂ (λ n ns. n ∷ ns) (ap (λ (e : MadeEnum). e.name) one) (enums_named xs ys others)
+  enums_named xs ys is = sym (map-map (λ (e : MadeEnum). e.name) enumeration xs) ∙ (ap (map (λ (e : MadeEnum). e.name)) is ∙ map-map (λ (e : MadeEnum). e.name) made_enum ys)
 
   scoped_are : (es : List Entry) → map enum_full (flat_map source_enums (map (linked_source files) es)) ≡ scoped_names es
   scoped_are [] = refl

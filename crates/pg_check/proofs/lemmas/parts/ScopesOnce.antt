@@ -1,9 +1,13 @@
 -- Each message type and enum of a file stands in one scope: the file's package, or one of its message types.
-use Rattle.std.proofs.Common.{◌≡◌, ◌∙◌, ◌⊎◌, inl, inr, ℕ, ◌+◌, ◌≤◌, Bool, true, false, List, [], ◌∷◌, ◌++◌, length, map, flat_map, Option, Some, None, string_bytes, sym, ap, subst, refl, arith, append_assoc}
-use Rattle.std.specs.List.{AllByRecursion}
+use Rattle.std.proofs.Common.{◌≡◌, ◌∙◌, ◌⊎◌, inl, inr, ℕ, ◌+◌, ◌≤◌, Bool, true, false, ◌&&◌, nat_eq, List, [], ◌∷◌, ◌++◌, length, map, flat_map, Option, Some, None, string_bytes, sym, ap, subst, refl, arith, append_assoc}
+use Rattle.std.specs.List.{list_all, AllByRecursion}
 use Rattle.std.specs.Str.{bytes_eq}
+use Rattle.std.proofs.lemmas.Bool.{false≢true}
+use Rattle.std.proofs.lemmas.Bool.Decides.{nat_tests}
 use Rattle.std.proofs.lemmas.List.{append-nil}
 use Rattle.std.proofs.lemmas.Slice.Eq.{bytes_eq-Decides}
+use Rattle.pg_schema.specs.rules.Packages.{is_front}
+use Rattle.pg_schema.specs.rules.Words.{is_word, is_word_byte}
 use Rattle.pg_link.specs.declared.target.Target.{Target}
 use Rattle.pg_link.specs.Declares.{Done, Word, names_in, package_names, package_scope, within as linked_within}
 use Rattle.pg_link.specs.Files.{Declared}
@@ -11,14 +15,16 @@ use Rattle.pg_link.specs.Names.{Text, called}
 use Rattle.pg_link.specs.Outline.{all_of, file_names, of_statement, package_words, word}
 use Rattle.pg_link.specs.Targets.{all_declared}
 use Rattle.pg_link.specs.Walk.{Entry}
-use Rattle.pg_check.specs.rules.Outline.{Enum, Message, all_enums, all_messages, enums_in, file_enums, file_messages, full_name, messages_in, package_in, package_of, row_enums, row_list, row_messages, scoped_enums, statement_enums, statement_messages, statements_behind}
-use Rattle.pg_check.proofs.lemmas.parts.DeclaredTotals.{behind_dot, file_is, first_dotted, of_message_type, package_scope_is}
+use Rattle.pg_check.specs.rules.Outline.{Enum, Message, all_enums, all_messages, dotted_more, enums_in, file_enums, file_messages, full_name, messages_in, package_in, package_of, row_enums, row_list, row_messages, scoped_enums, statement_enums, statement_messages, statements_behind}
+use Rattle.pg_check.proofs.lemmas.parts.DeclaredTotals.{file_is, more_dotted, of_message_type}
 use Rattle.pg_check.proofs.lemmas.parts.Eachs.{joined_all}
 use Rattle.pg_check.proofs.lemmas.parts.NamedOnce.{IsOnce, none_of, part, weight}
+use Rattle.pg_check.proofs.lemmas.rules.NoneLaws.{and_left, and_right}
 use Rattle.pg_check.proofs.lemmas.parts.ScopedEnums.{scoped_all}
+use Rattle.pg_check.proofs.lemmas.standing.UniqueNames.{whole_front}
 use Rattle.pg_check.proofs.lemmas.parts.Totals.{as_one, one, one_from, same_one, times, total, total_joined, total_map}
-use Rattle.pg_check.proofs.lemmas.parts.WordTrees.{IsGood}
-use Rattle.pg_check.proofs.lemmas.parts.WordedFiles.{IsGoodFile, IsGoodMessage}
+use Rattle.pg_check.proofs.lemmas.parts.WordTrees.{IsGood, rows_good}
+use Rattle.pg_check.proofs.lemmas.parts.WordedFiles.{IsGoodDotted, IsGoodFile, IsGoodMessage, word_bytes}
 use Rattle.pg_syntax.specs.declared.tree as tree
 use Rattle.pg_syntax.specs.declared.tree.Part.{Part, Row_of-Part, end_of-Part, more_of-Part}
 use Rattle.pg_syntax.specs.declared.tree.Part.TheVariants as parts
@@ -63,89 +69,58 @@ module _ (ss : List (List ℕ)) where
   right_there : (ms ns : List Message) → AllThere (ms ++ ns) → AllThere ns
   right_there ms ns h y = let all : total (full_is y) (ms ++ ns) ≤ times y ss = h y in let both : total (full_is y) (ms ++ ns) ≡ total (full_is y) ms + total (full_is y) ns = total_joined (full_is y) ms ns in omega (arith, all, both)
 
-  mutual
-    part_messages : (scope : List ℕ) (p : Part) → There scope → AllThere (messages_in scope p) → AllByRecursion MessageThere (messages_in scope p)
-    part_messages scope (parts.Empty span) h k = tt
-    part_messages scope (parts.Message' name shape row span) h k =
-        let m : Message = record { scope = scope; full = full_name scope name; name = name; body = row_list row } in
-        (h, row_messages_there (full_name scope name) row (first_there m (row_messages (full_name scope name) row) k) (others_there m (row_messages (full_name scope name) row) k))
-    part_messages scope (parts.Enum e) h k = tt
-    part_messages scope (parts.Oneof o) h k = tt
-    part_messages scope (parts.Option o) h k = tt
-    part_messages scope (parts.Reserved r) h k = tt
-    part_messages scope (parts.Map m) h k = tt
-    part_messages scope (parts.Field f) h k = tt
+  -- the scopes of these message types and enums are there
+  abbrev Both : List Message → List Enum → Type 0
+  Both ms es = AllByRecursion MessageThere ms × AllByRecursion EnumThere es
 
-    row_messages_there : {n : _} (scope : List ℕ) (row : Row_of-Part n) → There scope → AllThere (row_messages scope row) → AllByRecursion MessageThere (row_messages scope row)
-    row_messages_there scope end_of-Part h k = tt
-    row_messages_there scope (more_of-Part p rest) h k =
-        joined_all MessageThere (messages_in scope p) (row_messages scope rest)
-        (part_messages scope p h (left_there (messages_in scope p) (row_messages scope rest) k)) (row_messages_there scope rest h (right_there (messages_in scope p) (row_messages scope rest) k))
+  joined : (ms ns : List Message) (es fs : List Enum) → (AllThere ms → Both ms es) → (AllThere ns → Both ns fs) → AllThere (ms ++ ns) → Both (ms ++ ns) (es ++ fs)
+  joined ms ns es fs front behind h =
+      let left = front (left_there ms ns h) in
+      let right = behind (right_there ms ns h) in
+      (joined_all MessageThere ms ns left.0 right.0, joined_all EnumThere es fs left.1 right.1)
 
   mutual
-    part_enums : (scope : List ℕ) (p : Part) → There scope → AllThere (messages_in scope p) → AllByRecursion EnumThere (enums_in scope p)
-    part_enums scope (parts.Empty span) h k = tt
-    part_enums scope (parts.Message' name shape row span) h k =
-        let m : Message = record { scope = scope; full = full_name scope name; name = name; body = row_list row } in
-        row_enums_there (full_name scope name) row (first_there m (row_messages (full_name scope name) row) k) (others_there m (row_messages (full_name scope name) row) k)
-    part_enums scope (parts.Enum e) h k = (h, tt)
-    part_enums scope (parts.Oneof o) h k = tt
-    part_enums scope (parts.Option o) h k = tt
-    part_enums scope (parts.Reserved r) h k = tt
-    part_enums scope (parts.Map m) h k = tt
-    part_enums scope (parts.Field f) h k = tt
+    part_there : (scope : List ℕ) (p : Part) → There scope → AllThere (messages_in scope p) → Both (messages_in scope p) (enums_in scope p)
+    part_there scope (parts.Empty span) h k = (tt, tt)
+    part_there scope (parts.Message' name shape row span) h k =
+        let full = full_name scope name in
+        let m : Message = record { scope = scope; full = full; name = name; body = row_list row } in
+        let inner = row_there full row (first_there m (row_messages full row) k) (others_there m (row_messages full row) k) in
+        ((h, inner.0), inner.1)
+    part_there scope (parts.Enum e) h k = (tt, (h, tt))
+    part_there scope (parts.Oneof o) h k = (tt, tt)
+    part_there scope (parts.Option o) h k = (tt, tt)
+    part_there scope (parts.Reserved r) h k = (tt, tt)
+    part_there scope (parts.Map m) h k = (tt, tt)
+    part_there scope (parts.Field f) h k = (tt, tt)
 
-    row_enums_there : {n : _} (scope : List ℕ) (row : Row_of-Part n) → There scope → AllThere (row_messages scope row) → AllByRecursion EnumThere (row_enums scope row)
-    row_enums_there scope end_of-Part h k = tt
-    row_enums_there scope (more_of-Part p rest) h k =
-        joined_all EnumThere (enums_in scope p) (row_enums scope rest)
-        (part_enums scope p h (left_there (messages_in scope p) (row_messages scope rest) k)) (row_enums_there scope rest h (right_there (messages_in scope p) (row_messages scope rest) k))
+    row_there : {n : _} (scope : List ℕ) (row : Row_of-Part n) → There scope → AllThere (row_messages scope row) → Both (row_messages scope row) (row_enums scope row)
+    row_there scope end_of-Part h k = (tt, tt)
+    row_there scope (more_of-Part p rest) h k =
+        joined (messages_in scope p) (row_messages scope rest) (enums_in scope p) (row_enums scope rest) (part_there scope p h) (row_there scope rest h) k
 
-  body_messages : (scope : List ℕ) (ps : List Part) → There scope → AllThere (flat_map (messages_in scope) ps) → AllByRecursion MessageThere (flat_map (messages_in scope) ps)
-  body_messages scope [] h k = tt
-  body_messages scope (p ∷ ps) h k =
-      joined_all MessageThere (messages_in scope p) (flat_map (messages_in scope) ps)
-      (part_messages scope p h (left_there (messages_in scope p) (flat_map (messages_in scope) ps) k)) (body_messages scope ps h (right_there (messages_in scope p) (flat_map (messages_in scope) ps) k))
+  body_there : (scope : List ℕ) (ps : List Part) → There scope → AllThere (flat_map (messages_in scope) ps) → Both (flat_map (messages_in scope) ps) (flat_map (enums_in scope) ps)
+  body_there scope [] h k = (tt, tt)
+  body_there scope (p ∷ ps) h k =
+      joined (messages_in scope p) (flat_map (messages_in scope) ps) (enums_in scope p) (flat_map (enums_in scope) ps) (part_there scope p h) (body_there scope ps h) k
 
-  body_enums : (scope : List ℕ) (ps : List Part) → There scope → AllThere (flat_map (messages_in scope) ps) → AllByRecursion EnumThere (flat_map (enums_in scope) ps)
-  body_enums scope [] h k = tt
-  body_enums scope (p ∷ ps) h k =
-      joined_all EnumThere (enums_in scope p) (flat_map (enums_in scope) ps)
-      (part_enums scope p h (left_there (messages_in scope p) (flat_map (messages_in scope) ps) k)) (body_enums scope ps h (right_there (messages_in scope p) (flat_map (messages_in scope) ps) k))
+  statement_there : (scope : List ℕ) (s : tree.Statement.Statement) → There scope → AllThere (statement_messages scope s) → Both (statement_messages scope s) (statement_enums scope s)
+  statement_there scope (statements.Empty span) h k = (tt, tt)
+  statement_there scope (statements.Import i) h k = (tt, tt)
+  statement_there scope (statements.Option o) h k = (tt, tt)
+  statement_there scope (statements.Message d) h k =
+      let full = full_name scope d.name in
+      let m : Message = record { scope = scope; full = full; name = d.name; body = d.parts.items } in
+      let messages = flat_map (messages_in full) d.parts.items in
+      let inner = body_there full d.parts.items (first_there m messages k) (others_there m messages k) in
+      ((h, inner.0), inner.1)
+  statement_there scope (statements.Enum e) h k = (tt, (h, tt))
+  statement_there scope (statements.Service s) h k = (tt, tt)
 
-  statement_messages_there : (scope : List ℕ) (s : tree.Statement.Statement) → There scope → AllThere (statement_messages scope s) → AllByRecursion MessageThere (statement_messages scope s)
-  statement_messages_there scope (statements.Empty span) h k = tt
-  statement_messages_there scope (statements.Import i) h k = tt
-  statement_messages_there scope (statements.Option o) h k = tt
-  statement_messages_there scope (statements.Message d) h k =
-      let m : Message = record { scope = scope; full = full_name scope d.name; name = d.name; body = d.parts.items } in
-      let inner = flat_map (messages_in (full_name scope d.name)) d.parts.items in
-      (h, body_messages (full_name scope d.name) d.parts.items (first_there m inner k) (others_there m inner k))
-  statement_messages_there scope (statements.Enum e) h k = tt
-  statement_messages_there scope (statements.Service s) h k = tt
-
-  statement_enums_there : (scope : List ℕ) (s : tree.Statement.Statement) → There scope → AllThere (statement_messages scope s) → AllByRecursion EnumThere (statement_enums scope s)
-  statement_enums_there scope (statements.Empty span) h k = tt
-  statement_enums_there scope (statements.Import i) h k = tt
-  statement_enums_there scope (statements.Option o) h k = tt
-  statement_enums_there scope (statements.Message d) h k =
-      let m : Message = record { scope = scope; full = full_name scope d.name; name = d.name; body = d.parts.items } in
-      let inner = flat_map (messages_in (full_name scope d.name)) d.parts.items in
-      body_enums (full_name scope d.name) d.parts.items (first_there m inner k) (others_there m inner k)
-  statement_enums_there scope (statements.Enum e) h k = (h, tt)
-  statement_enums_there scope (statements.Service s) h k = tt
-
-  all_messages_there : (scope : List ℕ) (xs : List tree.Statement.Statement) → There scope → AllThere (all_messages scope xs) → AllByRecursion MessageThere (all_messages scope xs)
-  all_messages_there scope [] h k = tt
-  all_messages_there scope (x ∷ xs) h k =
-      joined_all MessageThere (statement_messages scope x) (all_messages scope xs)
-      (statement_messages_there scope x h (left_there (statement_messages scope x) (all_messages scope xs) k)) (all_messages_there scope xs h (right_there (statement_messages scope x) (all_messages scope xs) k))
-
-  all_enums_there : (scope : List ℕ) (xs : List tree.Statement.Statement) → There scope → AllThere (all_messages scope xs) → AllByRecursion EnumThere (all_enums scope xs)
-  all_enums_there scope [] h k = tt
-  all_enums_there scope (x ∷ xs) h k =
-      joined_all EnumThere (statement_enums scope x) (all_enums scope xs)
-      (statement_enums_there scope x h (left_there (statement_messages scope x) (all_messages scope xs) k)) (all_enums_there scope xs h (right_there (statement_messages scope x) (all_messages scope xs) k))
+  all_there : (scope : List ℕ) (xs : List tree.Statement.Statement) → There scope → AllThere (all_messages scope xs) → Both (all_messages scope xs) (all_enums scope xs)
+  all_there scope [] h k = (tt, tt)
+  all_there scope (x ∷ xs) h k =
+      joined (statement_messages scope x) (all_messages scope xs) (statement_enums scope x) (all_enums scope xs) (statement_there scope x h) (all_there scope xs h) k
 
 module _ (file : tree.FileTree.FileTree) where
   abbrev front : List Message
@@ -157,20 +132,98 @@ module _ (file : tree.FileTree.FileTree) where
   package_there : There (scopes_of file) (package_of file)
   package_there = let here : one (package_of file) (package_of file) ≡ 1 = same_one (package_of file) in omega (arith, here)
 
-  all_there : AllThere (scopes_of file) (file_messages file)
-  all_there y = let is : times y (map full_of (file_messages file)) ≡ total (full_is y) (file_messages file) = total_map (one y) full_of (file_messages file) in omega (arith, is)
+  both_there : Both (scopes_of file) (file_messages file) (file_enums file)
+  both_there =
+      let scope = package_of file in
+      let ss = scopes_of file in
+      joined ss front behind (all_enums scope file.statements.items) (all_enums scope (statements_behind file.packaged))
+      (all_there ss scope file.statements.items package_there) (all_there ss scope (statements_behind file.packaged) package_there)
+      (λ y. let is : times y (map full_of (file_messages file)) ≡ total (full_is y) (file_messages file) = total_map (one y) full_of (file_messages file) in omega (arith, is))
 
-  messages_there : AllByRecursion (MessageThere (scopes_of file)) (file_messages file)
-  messages_there =
-      joined_all (MessageThere (scopes_of file)) front behind
-      (all_messages_there (scopes_of file) (package_of file) file.statements.items package_there (left_there (scopes_of file) front behind all_there))
-      (all_messages_there (scopes_of file) (package_of file) (statements_behind file.packaged) package_there (right_there (scopes_of file) front behind all_there))
+-- ---- the front of a package is one of its parts
 
-  enums_there : AllByRecursion (EnumThere (scopes_of file)) (file_enums file)
-  enums_there =
-      joined_all (EnumThere (scopes_of file)) (all_enums (package_of file) file.statements.items) (all_enums (package_of file) (statements_behind file.packaged))
-      (all_enums_there (scopes_of file) (package_of file) file.statements.items package_there (left_there (scopes_of file) front behind all_there))
-      (all_enums_there (scopes_of file) (package_of file) (statements_behind file.packaged) package_there (right_there (scopes_of file) front behind all_there))
+no_dot : (b : ℕ) → is_word_byte b ≡ true → nat_eq b 46 ≡ true → ⊥
+no_dot b h k = grind (arith, nat_tests)
+
+same_byte : (a b : ℕ) → nat_eq a b ≡ true → a ≡ b
+same_byte a b h = grind (arith, nat_tests)
+
+-- a front that goes as far as the rest goes over the whole word
+record GoesOn (y w rest : List ℕ) : Type 0 where
+  pub later : List ℕ
+  pub is : y ≡ w ++ later
+  pub is_front_of : is_front later rest ≡ true
+
+goes_on : (w rest y : List ℕ) → list_all is_word_byte w ≡ true → is_front y (w ++ rest) ≡ true → GoesOn y w rest
+goes_on [] rest y h k = record { later = y; is = refl; is_front_of = k }
+goes_on (b ∷ bs) rest [] h k = absurd (no_dot b (and_left (is_word_byte b) (list_all is_word_byte bs) h) k)
+goes_on (b ∷ bs) rest (c ∷ cs) h k =
+    let more = goes_on bs rest cs (and_right (is_word_byte b) (list_all is_word_byte bs) h) (and_right (nat_eq c b) (is_front cs (bs ++ rest)) k) in
+    let first : c ≡ b = same_byte c b (and_left (nat_eq c b) (is_front cs (bs ++ rest)) k) in
+    record { later = more.later; is = ap (λ n. n ∷ cs) first ∙ ap (λ ns. b ∷ ns) more.is; is_front_of = more.is_front_of }
+
+abbrev text : Word → Text
+text w = w.text
+
+abbrev IsWordOf : Word → Type 0
+IsWordOf w = is_word w.text ≡ true
+
+-- the whole of the first word
+first_is : (scope : Text) (w : Word) (rest : List Declared) (y : List ℕ) → y ≡ w.text ++ [] → one (scope ++ 46 ∷ y) (linked_within scope w.text) ≡ 1
+first_is scope w rest y is = ap (λ t. one (scope ++ 46 ∷ t) (linked_within scope w.text)) is ∙ same_one (linked_within scope w.text)
+
+part_there : (scope : Text) (w : Word) (ws : List Word) (y : List ℕ) → AllByRecursion IsWordOf (w ∷ ws) → is_front y (w.text ++ called (map text ws)) ≡ true → 1 ≤ total (part (one (scope ++ 46 ∷ y))) (package_names scope (w ∷ ws))
+part_there scope w [] y words front =
+    let more = goes_on w.text [] y (word_bytes w.text words.0) front in
+    by more.later more.is more.is_front_of
+  where
+    by : (z : List ℕ) → y ≡ w.text ++ z → is_front z [] ≡ true → 1 ≤ total (part (one (scope ++ 46 ∷ y))) (package_names scope (w ∷ []))
+    by [] is k = let here : one (scope ++ 46 ∷ y) (linked_within scope w.text) ≡ 1 = first_is scope w [] y is in omega (arith, here)
+    by (c ∷ cs) is k = absurd (false≢true k)
+part_there scope w (v ∷ vs) y words front =
+    let more = goes_on w.text (called (map text (v ∷ vs))) y (word_bytes w.text words.0) front in
+    by more.later more.is more.is_front_of (λ z k. part_there (linked_within scope w.text) v vs z words.1 k)
+  where
+    by : (z : List ℕ) → y ≡ w.text ++ z → is_front z (46 ∷ (v.text ++ called (map text vs))) ≡ true
+        → ((x : List ℕ) → is_front x (v.text ++ called (map text vs)) ≡ true → 1 ≤ total (part (one (linked_within scope w.text ++ 46 ∷ x))) (package_names (linked_within scope w.text) (v ∷ vs)))
+        → 1 ≤ total (part (one (scope ++ 46 ∷ y))) (package_names scope (w ∷ v ∷ vs))
+    by [] is k next = let here : one (scope ++ 46 ∷ y) (linked_within scope w.text) ≡ 1 = first_is scope w [] y is in omega (arith, here)
+    by (c ∷ cs) is k next =
+        let dot : c ≡ 46 = same_byte c 46 (and_left (nat_eq c 46) (is_front cs (v.text ++ called (map text vs))) k) in
+        let whole : scope ++ 46 ∷ y ≡ linked_within scope w.text ++ 46 ∷ cs =
+        ap (λ t. scope ++ 46 ∷ t) (is ∙ ap (λ n. w.text ++ n ∷ cs) dot)
+        ∙ sym (append_assoc scope (46 ∷ (w.text ++ [])) (46 ∷ cs) ∙ ap (λ t. scope ++ 46 ∷ (t ++ 46 ∷ cs)) (append-nil w.text)) in
+        let there : 1 ≤ total (part (one (linked_within scope w.text ++ 46 ∷ cs))) (package_names (linked_within scope w.text) (v ∷ vs)) = next cs (and_right (nat_eq c 46) (is_front cs (v.text ++ called (map text vs))) k) in
+        let same : total (part (one (scope ++ 46 ∷ y))) (package_names (linked_within scope w.text) (v ∷ vs)) ≡ total (part (one (linked_within scope w.text ++ 46 ∷ cs))) (package_names (linked_within scope w.text) (v ∷ vs)) =
+        ap (λ x. total (part (one x)) (package_names (linked_within scope w.text) (v ∷ vs))) whole in
+        omega (arith, there, same)
+
+more_words : (ns : List tree.Name.Name) → AllByRecursion IsGoodDotted ns → AllByRecursion IsWordOf (map word ns)
+more_words [] h = tt
+more_words (n ∷ ns) h = (h.0.1, more_words ns h.1)
+
+tail_is : (a b : ℕ) (xs ys : List ℕ) → a ∷ xs ≡ b ∷ ys → xs ≡ ys
+tail_is a b xs ys h = cc (h)
+
+pub package_front : (file : tree.FileTree.FileTree) (p : tree.Packaged.Packaged) (y : List ℕ) → IsGoodFile file → file.packaged ≡ Some p → is_front y (package_of file) ≡ true → 1 ≤ total (part (one (46 ∷ y))) (file_names file)
+package_front file p y good is front =
+    let f = part (one (46 ∷ y)) in
+    let words = package_words file.packaged in
+    let name = p.package.name in
+    let first = names_in (package_scope words) (all_of of_statement file.statements.items Done) in
+    let second = package_names [] words in
+    let third = names_in (package_scope words) (all_of of_statement (statements_behind file.packaged) Done) in
+    let good_package : IsGood (view.perhaps view.packaged (Some p)) = subst (λ q. IsGood (view.perhaps view.packaged q)) is good.package_good in
+    let spelled : dotted_more (string_bytes name.first.text) name.more.items ≡ string_bytes name.first.text ++ called (map text (map word name.more.items)) =
+    tail_is 46 46 _ _ (more_dotted (string_bytes name.first.text) name.more.items) in
+    let front_here : is_front y (string_bytes name.first.text ++ called (map text (map word name.more.items))) ≡ true =
+    sym (ap (is_front y) spelled) ∙ (ap (λ q. is_front y (package_in q)) (sym is) ∙ front) in
+    let there : 1 ≤ total f (package_names [] (package_words (Some p))) =
+    part_there [] (word name.first) (map word name.more.items) y (good_package.0.1.0.0, more_words name.more.items (rows_good view.dot_name name.more.items good_package.0.1.0.1)) front_here in
+    let here : total f (package_names [] (package_words (Some p))) ≡ total f second = ap (λ q. total f (package_names [] (package_words q))) (sym is) in
+    let whole : total f (first ++ (second ++ third)) ≡ total f first + total f (second ++ third) = total_joined f first (second ++ third) in
+    let later : total f (second ++ third) ≡ total f second + total f third = total_joined f second third in
+    omega (arith, there, here, whole, later)
 
 -- ---- none is there twice
 
@@ -227,33 +280,6 @@ fulls_few file y good =
     let is = file_is (one (46 ∷ y)) no_targets file good in
     omega (arith, below, is)
 
--- the package is one of its parts
-last_part : (scope : Text) (w : Word) (ws : List Word) (x : Text) → x ≡ scope ++ called (map (λ (v : Word). v.text) (w ∷ ws)) → 1 ≤ total (part (one x)) (package_names scope (w ∷ ws))
-last_part scope w [] x is = let here : one x (linked_within scope w.text) ≡ 1 = ap (one x) (sym is) ∙ same_one x in omega (arith, here)
-last_part scope w (v ∷ vs) x is =
-    let step : scope ++ called (map (λ (u : Word). u.text) (w ∷ v ∷ vs)) ≡ linked_within scope w.text ++ called (map (λ (u : Word). u.text) (v ∷ vs)) =
-    sym (append_assoc scope (46 ∷ (w.text ++ [])) (called (map (λ (u : Word). u.text) (v ∷ vs))) ∙ ap (λ t. scope ++ 46 ∷ (t ++ called (map (λ (u : Word). u.text) (v ∷ vs)))) (append-nil w.text)) in
-    let rest : 1 ≤ total (part (one x)) (package_names (linked_within scope w.text) (v ∷ vs)) = last_part (linked_within scope w.text) v vs x (is ∙ step) in
-    omega (arith, rest)
-
-pub package_part : (file : tree.FileTree.FileTree) (p : tree.Packaged.Packaged) → IsGoodFile file → file.packaged ≡ Some p → 1 ≤ total (part (one (46 ∷ package_of file))) (file_names file)
-package_part file p good is =
-    let words = package_words file.packaged in
-    let x : Text = 46 ∷ package_of file in
-    let f = part (one x) in
-    let first = names_in (package_scope words) (all_of of_statement file.statements.items Done) in
-    let second = package_names [] words in
-    let third = names_in (package_scope words) (all_of of_statement (statements_behind file.packaged) Done) in
-    let good_package : IsGood (view.perhaps view.packaged (Some p)) = subst (λ q. IsGood (view.perhaps view.packaged q)) is good.package_good in
-    let dotted : behind_dot (package_in (Some p)) ≡ 46 ∷ package_in (Some p) = first_dotted (string_bytes p.package.name.first.text) p.package.name.more.items good_package.0.1.0.0 in
-    let same : x ≡ package_scope words = sym (package_scope_is file.packaged good.package_good ∙ subst (λ q. behind_dot (package_in q) ≡ 46 ∷ package_in q) (sym is) dotted) in
-    let there : 1 ≤ total f (package_names [] (package_words (Some p))) =
-    last_part [] (word p.package.name.first) (map word p.package.name.more.items) x (same ∙ ap (λ q. package_scope (package_words q)) is) in
-    let here : total f (package_names [] (package_words (Some p))) ≡ total f second = ap (λ q. total f (package_names [] (package_words q))) (sym is) in
-    let whole : total f (first ++ (second ++ third)) ≡ total f first + total f (second ++ third) = total_joined f first (second ++ third) in
-    let later : total f (second ++ third) ≡ total f second + total f third = total_joined f second third in
-    omega (arith, there, here, whole, later)
-
 none_empty : (ms : List Message) → AllByRecursion IsGoodMessage ms → total (full_is []) ms ≡ 0
 none_empty [] h = refl
 none_empty (m ∷ ms) h =
@@ -270,7 +296,7 @@ package_free file good once = by file.packaged refl
     by None is = ap (λ q. total (full_is (package_in q)) (file_messages file)) is ∙ none_empty (file_messages file) good.messages
     by (Some p) is =
         let x : Text = 46 ∷ package_of file in
-        let none : total (weight (one x)) (file_names file) ≡ 0 = none_of (weight (one x)) (part (one x)) (file_names file) (package_part file p good is) (once x).alone in
+        let none : total (weight (one x)) (file_names file) ≡ 0 = none_of (weight (one x)) (part (one x)) (file_names file) (package_front file p (package_of file) good is (whole_front (package_of file))) (once x).alone in
         let few : total (full_is (package_of file)) (file_messages file) ≤ total (weight (one x)) (file_names file) = fulls_few file (package_of file) good in
         omega (arith, none, few)
 
@@ -301,6 +327,6 @@ each_is scope_of ss (x ∷ xs) few h = let at_most : times (scope_of x) ss ≤ 1
 
 pub file_scoped : (file : tree.FileTree.FileTree) → IsGoodFile file → NamesOnce (file_names file) → IsScoped file
 file_scoped file good once = record {
-  messages = each_is (λ (m : Message). m.scope) (scopes_of file) (file_messages file) (scopes_few file good once) (messages_there file);
-  enums = each_is (λ (e : Enum). e.scope) (scopes_of file) (scoped_enums file) (scopes_few file good once) (scoped_all (EnumThere (scopes_of file)) file (enums_there file));
+  messages = each_is (λ (m : Message). m.scope) (scopes_of file) (file_messages file) (scopes_few file good once) (both_there file).0;
+  enums = each_is (λ (e : Enum). e.scope) (scopes_of file) (scoped_enums file) (scopes_few file good once) (scoped_all (EnumThere (scopes_of file)) file (both_there file).1);
 }

@@ -1,14 +1,16 @@
 -- Numbers that are declared and numbers that are reserved, as a schema has them: none stands twice.
-use Rattle.std.proofs.Common.{◌≡◌, ℕ, ◌+◌, Bool, true, false, not, ◌&&◌, ◌||◌, nat_lt, nat_le, nat_eq, List, [], ◌∷◌, map, arith, refl}
+use Rattle.std.proofs.Common.{◌≡◌, ◌∙◌, ℕ, ◌+◌, Bool, true, false, not, ◌&&◌, ◌||◌, nat_lt, nat_le, nat_eq, List, [], ◌∷◌, ◌++◌, map, sym, arith, refl}
 use Rattle.std.specs.List.{list_all, list_any}
 use Rattle.std.proofs.lemmas.Bool.{false≢true}
 use Rattle.std.proofs.lemmas.Bool.Decides.{nat_tests}
+use Rattle.std.proofs.lemmas.List.Folds.{list_all-map}
 use Rattle.pg_schema.specs.rules.Pairs.{all_pairs}
 use Rattle.pg_check.specs.declared.rules.numbers.Keyed.{Keyed}
 use Rattle.pg_check.specs.declared.rules.numbers.Numbers.{Numbers}
 use Rattle.pg_check.specs.rules.KeepsRules.{are_apart, is_free, lies_within, rises}
 use Rattle.pg_check.specs.rules.Numbers.{is_in, is_same, is_within}
 use Rattle.pg_check.specs.rules.ReservedItems.{overlap}
+use Rattle.pg_check.proofs.lemmas.parts.Moved.{all_weaker, pairs_joined, pairs_of_map, pairs_weaker}
 use Rattle.pg_check.proofs.lemmas.rules.NoneLaws.{and_both, and_left, and_right}
 
 -- ---- two numbers, two ranges, and a number and a range
@@ -95,3 +97,22 @@ module _ (lowest highest base : ℕ) (conv : ℕ → ℕ) (counts : (r : ℕ) �
   keys_free [] rs wk ws us h = refl
   keys_free (k ∷ ks) rs wk ws us h =
       and_both _ _ (key_free k rs (and_left _ _ wk) ws us (and_left _ _ h)) (keys_free ks rs (and_right (within k) _ wk) ws us (and_right (is_free rs k) _ h))
+
+-- ---- uses of a schema
+
+pub or_first : (a b : Bool) → a ≡ true → (a || b) ≡ true
+or_first true b h = refl
+or_first false b h = absurd (false≢true h)
+
+-- what is declared and what is reserved, of which no two share a number
+pub all_uses : {U X R : Type 0} (beside : U → U → Bool) (use_of : X → U) (reserves : R → U) (number_of : X → ℕ) (span : R → ℕ × ℕ)
+    → ((p q : R) → ranges_apart (span p) (span q) ≡ true → beside (reserves p) (reserves q) ≡ true) → ((x : X) (p : R) → is_outside (number_of x) (span p) ≡ true → beside (use_of x) (reserves p) ≡ true)
+    → (xs : List X) (rs : List R) → all_pairs (λ x y. beside (use_of x) (use_of y)) xs ≡ true → all_pairs ranges_apart (map span rs) ≡ true
+    → list_all (λ n. list_all (is_outside n) (map span rs)) (map number_of xs) ≡ true → all_pairs beside (map use_of xs ++ map reserves rs) ≡ true
+all_uses beside use_of reserves number_of span two out xs rs h k m =
+    pairs_joined beside (map use_of xs) (map reserves rs) (pairs_of_map beside use_of xs ∙ h)
+    (pairs_of_map beside reserves rs ∙ pairs_weaker (λ p q. ranges_apart (span p) (span q)) (λ p q. beside (reserves p) (reserves q)) two rs (sym (pairs_of_map ranges_apart span rs) ∙ k))
+    (list_all-map (λ w. list_all (beside w) (map reserves rs)) use_of xs
+    ∙ all_weaker (λ x. list_all (is_outside (number_of x)) (map span rs)) (λ x. list_all (beside (use_of x)) (map reserves rs)) (λ x l. list_all-map (beside (use_of x)) reserves rs
+    ∙ all_weaker (λ p. is_outside (number_of x) (span p)) (λ p. beside (use_of x) (reserves p)) (out x) rs (sym (list_all-map (is_outside (number_of x)) span rs) ∙ l)) xs
+    (sym (list_all-map (λ n. list_all (is_outside n) (map span rs)) number_of xs) ∙ m))

@@ -31,10 +31,6 @@ abbrev pub Lie : (from to : ℕ) → List Use → Type 0
 Lie from to [] = from ≤ to
 Lie from to (u ∷ us) = (from ≤ u.at) × Lie (suc u.at) to us
 
-lie_long : (from to : ℕ) (us : List Use) → Lie from to us → from ≤ to
-lie_long from to [] h = h
-lie_long from to (u ∷ us) h = let rest : suc u.at ≤ to = lie_long (suc u.at) to us h.1 in let first : from ≤ u.at = h.0 in omega (arith, first, rest)
-
 lie_earlier : (from later to : ℕ) (us : List Use) → from ≤ later → Lie later to us → Lie from to us
 lie_earlier from later to [] less h = let rest : later ≤ to = h in omega (arith, less, rest)
 lie_earlier from later to (u ∷ us) less h = let first : later ≤ u.at = h.0 in (omega (arith, less, first), h.1)

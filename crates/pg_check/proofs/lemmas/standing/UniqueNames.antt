@@ -107,7 +107,7 @@ same_byte : (b : ℕ) → nat_eq b b ≡ true
 same_byte b = grind (arith, nat_tests)
 
 -- a package is a part of itself
-whole_front : (name : List ℕ) → is_front name name ≡ true
+pub whole_front : (name : List ℕ) → is_front name name ≡ true
 whole_front [] = refl
 whole_front (b ∷ bs) = and_both (nat_eq b b) (is_front bs bs) (same_byte b) (whole_front bs)
 
