@@ -39,14 +39,14 @@ pub fn kept_part_rules()
 {}
 
 /// The parts of linked files that keep to the rules are those of a schema: their names are words,
-/// what is named is there, each type stands once and in its scope, and full names differ.
+/// what is named is there, each type is declared once and in its scope, and full names differ.
 pub fn linked_parts()
     ensures { (linked : LinkedFiles) (parts : Parts) → IsLinkedUp linked
         → Declares (linked_sources linked.files) parts → IsSound parts }
 {}
 
-/// The parts of linked files stand as a set states them: each file imports no path twice and stands
-/// behind those that it imports, message types are nested at most 64 deep, and message types, enums
+/// The parts of linked files are in the order of a set: each file imports no path twice and comes
+/// after those that it imports, message types are nested at most 64 deep, and message types, enums
 /// and services are numbered in order.
 pub fn linked_parts_stand()
     ensures { (linked : LinkedFiles) (parts : Parts) → IsLinkedUp linked

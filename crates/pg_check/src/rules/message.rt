@@ -76,7 +76,7 @@ fn has_member(body: &[OneofPart]) -> bool
     false
 }
 
-/// The first option that stands in a oneof.
+/// The first option in a oneof.
 fn oneof_option(body: &[OneofPart]) -> Option<Fault>
     ensures { result ≡ first_fault spec.oneof_option body.now }
 {
@@ -280,8 +280,8 @@ pub(crate) fn numbers_fault(
     Ok(earlier(broken(Rule::BadNumber, first_bad_number(keys)), of_twice))
 }
 
-/// The place of the first JSON name that stood before. The names are made only where keys don't
-/// tell them apart.
+/// The offset of the first JSON name that was given before. The names are made only where keys
+/// don't tell them apart.
 fn first_clash(alloc: Global, list: &[DeclaredField<'_>]) -> Result<Option<usize>, AllocError>
     ensures { IfOk result (λ place. place
         ≡ names.first_twice (map json_named (map member list.now))) }

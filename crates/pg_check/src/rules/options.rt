@@ -27,9 +27,9 @@ pub(crate) enum Owner {
 pub(crate) enum Kind {
     /// `true` or `false`.
     Flag,
-    /// A word of `optimize_for`.
+    /// A mode of `optimize_for`.
     Mode,
-    /// A text.
+    /// A string.
     Text,
 }
 
@@ -41,7 +41,7 @@ pub(crate) struct Known {
     pub kind: Kind,
 }
 
-/// An option as it is stated: the first word of its name, and where it stands.
+/// An option as it is stated: the first identifier of its name, and where it is.
 #[derive(Clone, Copy, Debug)]
 pub(crate) struct Stated<'a> {
     pub name: &'a str,
@@ -75,8 +75,10 @@ const FIELD_OPTIONS: [(&str, u32, Kind); 3] = [
     ("json_name", 10, Kind::Text),
 ];
 
-const ENUM_OPTIONS: [(&str, u32, Kind); 2] =
-    [("allow_alias", 2, Kind::Flag), ("deprecated", 3, Kind::Flag)];
+const ENUM_OPTIONS: [(&str, u32, Kind); 2] = [
+    ("allow_alias", 2, Kind::Flag),
+    ("deprecated", 3, Kind::Flag),
+];
 
 const VALUE_OPTIONS: [(&str, u32, Kind); 1] = [("deprecated", 1, Kind::Flag)];
 
@@ -114,7 +116,7 @@ fn option_named(owner: Owner, name: &str) -> Option<Known>
     }
 }
 
-/// The name is this one word.
+/// The name is this one identifier.
 pub(crate) fn is_word(word: &str, name: &Dotted) -> bool
     ensures { result ≡ spec.is_word word.now name.now }
 {
@@ -156,7 +158,7 @@ fn is_right(owner: Owner, setting: &Setting) -> bool
     }
 }
 
-/// An option that stands at that byte.
+/// An option that is at that offset.
 pub(crate) fn option_at(owner: Owner, at: usize, setting: &Setting) -> Stated<'_>
     ensures { spec.stated result ≡ spec.option_at owner at setting.now }
 {
@@ -216,7 +218,7 @@ fn names_of(alloc: Global, options: &[Stated<'_>]) -> Result<Vec<Titled>, AllocE
     Ok(names)
 }
 
-/// The place of the first option that isn't right.
+/// The offset of the first option that isn't right.
 fn first_wrong(options: &[Stated<'_>]) -> Option<usize>
     ensures { result ≡ spec.first_wrong (map spec.stated options.now) }
 {
@@ -228,7 +230,7 @@ fn first_wrong(options: &[Stated<'_>]) -> Option<usize>
     None
 }
 
-/// The place of the first option that isn't right, or was stated before.
+/// The offset of the first option that isn't right, or was stated before.
 pub(crate) fn first_bad(alloc: Global, options: &[Stated<'_>]) -> Result<Option<usize>, AllocError>
     ensures { IfOk result (λ place. place ≡ spec.first_bad (map spec.stated options.now)) }
 {

@@ -44,7 +44,7 @@ module _ (s : Source) (body : List Part) (one : HasOneMessage s body) where
   enums_are = listed_once all_enums ∙ ap enums_in_all one.has_body
 
   lines_are : file_lines s.tree ≡ []
-  lines_are = listed_once (λ package ss. flat_map file_line ss)
+  lines_are = listed_once (λ scope ss. flat_map file_line ss)
 
 no_options : OptionsKeep []
 no_options = record { right = refl; once = refl }
@@ -60,13 +60,13 @@ unlabelled label none b packable h =
 kept_body : (targets : ℕ → Option Target) (f : tree.Field.Field) → IsFieldA f → MessageKeeps targets (parts.Field f ∷ [])
 kept_body targets f is = record {
   fields = record {
-      numbers_fit = subst (λ n. list_all has_field_number (field n f.name.span.from ∷ []) ≡ true) (sym is.is_numbered) refl;
-      numbers_once = refl;
-      numbers_free = refl;
-      names_free = refl;
-      reserved = record { within = refl; rising = refl; apart = refl };
-      json_names_once = refl;
-    };
+    numbers_fit = subst (λ n. list_all has_field_number (field n f.name.span.from ∷ []) ≡ true) (sym is.is_numbered) refl;
+    numbers_once = refl;
+    numbers_free = refl;
+    names_free = refl;
+    reserved = record { within = refl; rising = refl; apart = refl };
+    json_names_once = refl;
+  };
   map_keys = refl;
   oneof_members = refl;
   oneofs = refl;
@@ -80,13 +80,16 @@ kept_file s f is one =
     let here = messages_are s (parts.Field f ∷ []) one in
     let count : length (messages_in_all s (parts.Field f ∷ []) one (parts.Field f ∷ []) ++ []) ≡ 1 = refl in record {
       few_types = subst (λ (ms : List Message). length (ms ++ []) ≤ 4096) (sym here) (omega (arith, count));
-      each = (record {
+      each = (
+        record {
           messages = subst (AllByRecursion (λ (m : Message). MessageKeeps s.targets m.body)) (sym here) (kept_body s.targets f is, tt);
           enums = subst (AllByRecursion (λ (e : Enum). EnumKeeps e.tree.parts.items)) (sym (enums_are s (parts.Field f ∷ []) one)) tt;
           options = subst OptionsKeep (sym (lines_are s (parts.Field f ∷ []) one)) no_options;
           front = subst (AllByRecursion StatementKeeps) (sym one.is_only) (tt, tt);
           behind = subst (λ p. AllByRecursion StatementKeeps (statements_behind p)) (sym one.no_package) tt;
-        }, tt);
+        },
+        tt,
+      );
     }
 
 pub reserved_name_in_file : (s : Source) (f : tree.Field.Field) (r : tree.Reserved.Reserved) → IsFieldA f → names_in r.items ≡ codes "a" ∷ []
