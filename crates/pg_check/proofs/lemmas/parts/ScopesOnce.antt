@@ -172,17 +172,17 @@ IsWordOf w = is_word w.text ≡ true
 first_is : (scope : Text) (w : Word) (rest : List Declared) (y : List ℕ) → y ≡ w.text ++ [] → one (scope ++ 46 ∷ y) (linked_within scope w.text) ≡ 1
 first_is scope w rest y is = ap (λ t. one (scope ++ 46 ∷ t) (linked_within scope w.text)) is ∙ same_one (linked_within scope w.text)
 
-part_there : (scope : Text) (w : Word) (ws : List Word) (y : List ℕ) → AllByRecursion IsWordOf (w ∷ ws) → is_front y (w.text ++ called (map text ws)) ≡ true → 1 ≤ total (part (one (scope ++ 46 ∷ y))) (package_names scope (w ∷ ws))
-part_there scope w [] y words front =
+front_there : (scope : Text) (w : Word) (ws : List Word) (y : List ℕ) → AllByRecursion IsWordOf (w ∷ ws) → is_front y (w.text ++ called (map text ws)) ≡ true → 1 ≤ total (part (one (scope ++ 46 ∷ y))) (package_names scope (w ∷ ws))
+front_there scope w [] y words front =
     let more = goes_on w.text [] y (word_bytes w.text words.0) front in
     by more.later more.is more.is_front_of
   where
     by : (z : List ℕ) → y ≡ w.text ++ z → is_front z [] ≡ true → 1 ≤ total (part (one (scope ++ 46 ∷ y))) (package_names scope (w ∷ []))
     by [] is k = let here : one (scope ++ 46 ∷ y) (linked_within scope w.text) ≡ 1 = first_is scope w [] y is in omega (arith, here)
     by (c ∷ cs) is k = absurd (false≢true k)
-part_there scope w (v ∷ vs) y words front =
+front_there scope w (v ∷ vs) y words front =
     let more = goes_on w.text (called (map text (v ∷ vs))) y (word_bytes w.text words.0) front in
-    by more.later more.is more.is_front_of (λ z k. part_there (linked_within scope w.text) v vs z words.1 k)
+    by more.later more.is more.is_front_of (λ z k. front_there (linked_within scope w.text) v vs z words.1 k)
   where
     by : (z : List ℕ) → y ≡ w.text ++ z → is_front z (46 ∷ (v.text ++ called (map text vs))) ≡ true
         → ((x : List ℕ) → is_front x (v.text ++ called (map text vs)) ≡ true → 1 ≤ total (part (one (linked_within scope w.text ++ 46 ∷ x))) (package_names (linked_within scope w.text) (v ∷ vs)))
@@ -219,7 +219,7 @@ package_front file p y good is front =
     let front_here : is_front y (string_bytes name.first.text ++ called (map text (map word name.more.items))) ≡ true =
     sym (ap (is_front y) spelled) ∙ (ap (λ q. is_front y (package_in q)) (sym is) ∙ front) in
     let there : 1 ≤ total f (package_names [] (package_words (Some p))) =
-    part_there [] (word name.first) (map word name.more.items) y (good_package.0.1.0.0, more_words name.more.items (rows_good view.dot_name name.more.items good_package.0.1.0.1)) front_here in
+    front_there [] (word name.first) (map word name.more.items) y (good_package.0.1.0.0, more_words name.more.items (rows_good view.dot_name name.more.items good_package.0.1.0.1)) front_here in
     let here : total f (package_names [] (package_words (Some p))) ≡ total f second = ap (λ q. total f (package_names [] (package_words q))) (sym is) in
     let whole : total f (first ++ (second ++ third)) ≡ total f first + total f (second ++ third) = total_joined f first (second ++ third) in
     let later : total f (second ++ third) ≡ total f second + total f third = total_joined f second third in
