@@ -5,7 +5,7 @@ use pg_dyn::DynError;
 use std::alloc::{AllocError, AllocFailed};
 use thiserror::Error;
 
-/// Why a descriptor set can't be written, or states no schema (descriptor.proto; docs/REFUSALS.md).
+/// Why a descriptor set can't be written, or states no schema (descriptor.proto; docs/ERRORS.md).
 #[derive(Debug, PartialEq, Eq, Drop, Error)]
 pub enum FdsError {
     /// E001: memory was refused.
