@@ -1,4 +1,4 @@
+pub mod ElementGaps
 pub mod Gaps
 pub mod Likeness
 pub mod TrueGaps
-pub mod ZeroSeen

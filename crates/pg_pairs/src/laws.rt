@@ -5,7 +5,7 @@ ghost use Rattle.pg_pairs.specs.graph.CauseLaws.{CausesAreOwn, NamesAlone, Price
 ghost use Rattle.pg_pairs.specs.choices.CheapestLaws.{CheapestIsLeast};
 ghost use Rattle.pg_pairs.specs.home.ComesHome.{MessagesComeHome};
 ghost use Rattle.pg_pairs.specs.graph.Edges.{LeastCostsByEdges, PairsLeadToPairs, SchemasArePriced};
-ghost use Rattle.pg_pairs.specs.gaps.ZeroSeen.{UnseenAreNotZero};
+ghost use Rattle.pg_pairs.specs.gaps.ElementGaps.{ElementGaps, UnseenAreNotZero};
 ghost use Rattle.pg_pairs.specs.bounds.FieldCosts.{ChildrenCost, ListsCost, MapsCost, SingleScalarsCost};
 ghost use Rattle.pg_pairs.specs.gaps.TrueGaps.{GapTable};
 ghost use Rattle.pg_pairs.specs.home.HomeExamples.{HomeExamples};
@@ -34,6 +34,12 @@ pub fn home_examples()
 /// none each item is seen.
 pub fn gap_table()
     ensures { GapTable }
+{}
+
+/// The gap between any two like elements that are no messages, under any view of enum items, is a
+/// least item that isn't seen; where there is none each is seen.
+pub fn element_gaps()
+    ensures { ElementGaps }
 {}
 
 /// An item that the reader of a like element doesn't read as the same item isn't zero, under any

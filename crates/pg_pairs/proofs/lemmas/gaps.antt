@@ -1,3 +1,4 @@
+pub mod ElementGaps
 pub mod GapItems
 pub mod Gaps
 pub mod KindsRead
@@ -5,5 +6,4 @@ pub mod Leaves
 pub mod Lengths
 pub mod Likeness
 pub mod Likes
-pub mod ZeroSeen
 pub mod Zeros

@@ -1,16 +1,29 @@
--- Zero, which the reader of a like element sees.
-use Rattle.std.specs.Prelude.{◌≡◌, ⊤, pos, true, false}
+-- The gap between any two like elements that are no messages, under any view of enum items; and zero, which like
+-- elements see.
+use Rattle.std.specs.Prelude.{◌≡◌, ⊤, pos, Bool, true, false}
 use Rattle.pg_schema.specs.declared.parts.field.Element.{Element}
 use Rattle.pg_schema.specs.declared.parts.field.Element.TheVariants as elements
 use Rattle.pg_dyn.specs.Message.{Leaf, is_zero}
 use Rattle.pg_dyn.specs.Coding.{form, InRange}
 use Rattle.pg_dyn.specs.Comparison.{View}
+use Rattle.pg_pairs.specs.views.EnumView.{EnumView}
+use Rattle.pg_pairs.specs.views.ViewLaws.{IsEnumView}
 use Rattle.pg_pairs.specs.gaps.Likeness.{like}
-use Rattle.pg_pairs.specs.gaps.TrueGaps.{is_seen}
+use Rattle.pg_pairs.specs.gaps.Gaps.{gap_item}
+use Rattle.pg_pairs.specs.gaps.TrueGaps.{is_seen, IsGapItem}
 
 abbrev pub IsNoMessage : Element → Type 0
 IsNoMessage (elements.Message t) = ⊥
 IsNoMessage e = ⊤
+
+-- Between two enums it is the number that the view names, beside a scalar an enum's goes by int32, and between
+-- scalars by the table: the item is a least one of all that count and aren't seen, and where there is none each that
+-- counts is seen.
+abbrev pub ElementGaps : Type 0
+ElementGaps =
+    (enum_view : EnumView) → IsEnumView enum_view → (zero : Bool) (old new : Element) → IsNoMessage old →
+    like old new ≡ true →
+    IsGapItem enum_view.alike zero old new (gap_item enum_view zero old new)
 
 -- of two enums the view finds 0 alike
 abbrev pub FindsZeroAlike : View → Element → Element → Type 0

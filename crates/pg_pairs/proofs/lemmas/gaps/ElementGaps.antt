@@ -1,4 +1,4 @@
--- Zero is seen between like elements that are no messages.
+-- The gap between elements that are no messages, and which items aren't seen.
 use Rattle.std.proofs.Common.{◌≡◌, pos, Bool, true, false, Some, refl, ap, sym, subst, ◌∙◌}
 use Rattle.pg_schema.specs.declared.parts.field.Element.{Element}
 use Rattle.pg_schema.specs.declared.parts.field.Element.TheVariants as elements
@@ -7,11 +7,20 @@ use Rattle.pg_dyn.specs.Coding.{Form, Integer, Single, Double, Text, Raw, form, 
 use Rattle.pg_dyn.specs.Comparison.{View, alike_leaves}
 use Rattle.pg_pairs.specs.gaps.Likeness.{like_forms, like}
 use Rattle.pg_pairs.specs.gaps.TrueGaps.{is_seen}
-use Rattle.pg_pairs.specs.gaps.ZeroSeen.{IsNoMessage, FindsZeroAlike, UnseenAreNotZero}
+use Rattle.pg_pairs.specs.gaps.ElementGaps.{IsNoMessage, FindsZeroAlike, ElementGaps, UnseenAreNotZero}
+use Rattle.pg_pairs.proofs.lemmas.gaps.GapItems.{IsLeafy, gap_item_is}
 use Rattle.pg_pairs.proofs.lemmas.gaps.Leaves.{seen_from}
 use Rattle.pg_dyn.proofs.PublicLaws.{equal_leaves}
 use Rattle.pg_pairs.proofs.lemmas.gaps.Likeness.{like_wire}
 use Rattle.pg_pairs.proofs.lemmas.gaps.Zeros.{zero_by_form, zero_across}
+
+leafy : (e : Element) → IsNoMessage e → IsLeafy e
+leafy (elements.Message t) h = absurd h
+leafy (elements.Scalar s) h = tt
+leafy (elements.Enum e) h = tt
+
+pub element_gaps : ElementGaps
+element_gaps enum_view law zero old new no_message is_like = gap_item_is enum_view law zero old new (leafy old no_message) is_like
 
 like_zeros : (a b : Form) → like_forms a b ≡ true → zero_leaf a ≡ zero_leaf b
 like_zeros (Integer a) (Integer b) h = refl
