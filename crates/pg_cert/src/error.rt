@@ -11,7 +11,7 @@ pub enum CertError {
     #[error("Out of memory.")]
     Memory,
     /// E801: the bytes are no certificate's text for these schemas.
-    #[error("The text is not a certificate of these schemas.")]
+    #[error("The bytes are not a certificate of these schemas.")]
     BadText,
     /// E802: the table lacks the root.
     #[error("The certificate has no bound for the root.")]

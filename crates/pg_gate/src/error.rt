@@ -52,7 +52,7 @@ pub enum GateError {
     #[error("The output could not be written.")]
     WriteFailed,
     /// E905: an argument for bytes has an odd number of hexadecimal digits, or another character.
-    #[error("The word is not pairs of hexadecimal digits.")]
+    #[error("The argument is not pairs of hexadecimal digits.")]
     BadHex,
 }
 

@@ -10,7 +10,7 @@ pub enum HexError {
     #[error("Out of memory.")]
     Memory,
     /// E905: the word has an odd number of digits, or another character.
-    #[error("The word is not pairs of hexadecimal digits.")]
+    #[error("The argument is not pairs of hexadecimal digits.")]
     BadHex,
 }
 
