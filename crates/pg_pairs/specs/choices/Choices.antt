@@ -83,7 +83,11 @@ singular_cost f g = of f.presence g.presence
     of (presences.Repeated true) presences.Explicit = Some (least_content f)
     of (presences.Repeated false) presences.Explicit = Some (2 * least_content f)
     of (presences.Repeated packed) presences.Implicit = Some (least_content f)
-    of p q = None
+    of (presences.Repeated packed) (presences.Repeated q) = None
+    of (presences.Repeated packed) (presences.Map key) = None
+    of presences.Implicit q = None
+    of presences.Explicit q = None
+    of (presences.Map key) q = None
 
 -- a field that is no map in either type
 abbrev pub plain_choices : EnumView → Table → FieldShape → FieldShape → List Choice

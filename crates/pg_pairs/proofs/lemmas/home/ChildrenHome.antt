@@ -74,9 +74,9 @@ not_packed old new a b f g returns found at =
     let own : becomes_packed f (field_at (fields new b) f.number) ≡ false = each_at (λ h. becomes_packed h (field_at (fields new b) h.number) ≡ false) (fields old a) f.number f found none in
     sym (ap (becomes_packed f) at) ∙ own
 
-pub home_is : (old new : Shape) (s t : TypeId) (child x : Message) → home old new s t child x ≡ home_message (fields old s) (fields new t) (homeward old new s t child) x
+pub home_as_message : (old new : Shape) (s t : TypeId) (child x : Message) → home old new s t child x ≡ home_message (fields old s) (fields new t) (homeward old new s t child) x
 unfolding home
-home_is old new s t child x = refl
+home_as_message old new s t child x = refl
 
 module _ (old new : Shape) (shape_old : IsShape old) (shape_new : IsShape new) (a b : TypeId) (f g : FieldShape) (s t : TypeId) (is_old : f.element ≡ elements.Message s) (is_new : g.element ≡ elements.Message t)
     (n : ℕ) (found : field_at (fields old a) n ≡ Some f) (at : field_at (fields new b) n ≡ Some g) where
@@ -137,7 +137,7 @@ module _ (old new : Shape) (shape_old : IsShape old) (shape_new : IsShape new) (
     (λ m read good.
         let compatible = fine (enc old s child) (written ∙ ap Bytes (bytes_are old s child)) in
         let (x, again, is_home) = comes s t compatible returns own.is_message own.is_plain own.has_encoding m read good.0 good.1 in
-        (x, again, test_is x ∙ sym (home_is old new s t child x) ∙ is_home)),
+        (x, again, test_is x ∙ sym (home_as_message old new s t child x) ∙ is_home)),
   )
 
   each_kept : (m : ℕ) → m ≤ cap → (v : Message) → IsMessage old a v → IsPlain v → ChildrenShorter old a m v → AllByRecursion (λ c. c.number ≡ n → IsKeptComparand c) (comparands numbers old new a b v)

@@ -34,7 +34,7 @@ use Rattle.pg_pairs.proofs.lemmas.bounds.Dearer.{CompatibleTo, by_numbers_is_vie
 use Rattle.pg_pairs.proofs.lemmas.home.HomeComparands.{home_comparands, same_writes, home_expected}
 use Rattle.pg_pairs.proofs.lemmas.home.Returned.{part_again, returned, IsGood, ComesBack, type_at, encoded_again, written_again, good_parts}
 use Rattle.pg_pairs.proofs.lemmas.witness.CarriedItems.{like_message}
-use Rattle.pg_pairs.proofs.lemmas.home.ChildrenHome.{home_is, pair_of, Comes, child_among, child_returns, not_packed, kept_comparands, back_comparands, leaf_comparands}
+use Rattle.pg_pairs.proofs.lemmas.home.ChildrenHome.{home_as_message, pair_of, Comes, child_among, child_returns, not_packed, kept_comparands, back_comparands, leaf_comparands}
 use Rattle.pg_pairs.proofs.lemmas.bounds.OneMessage.{field_fits, total_within, holds_at, order_at, costs_at}
 use Rattle.pg_pairs.proofs.lemmas.bounds.KeptUpTo.{dear_at}
 use Rattle.pg_pairs.proofs.lemmas.bounds.ToChildren.{child_compatible}
@@ -381,4 +381,4 @@ module _ (old new : Shape) (a b : TypeId) (v w : Message) (goes : Goes old new a
       (each_weaker (λ f. field_at fs f.number ≡ Some f) (λ f. home_content f (field_at gs f.number) homing (parts come_home) ≡ true) each_home fs (fields_are_found.2 fs (fields_are_found.0 old a goes.shape_old).rising))
 
   pub comes : Comes old new a b v w
-  comes = (come_home, is_read_home, home_is old new a b v come_home ∙ all_home)
+  comes = (come_home, is_read_home, home_as_message old new a b v come_home ∙ all_home)
