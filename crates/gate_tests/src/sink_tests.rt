@@ -128,7 +128,7 @@ fn is_help(ended: Ended, taken: &[u8]) -> bool {
     match ended {
         Ended::With(4) => {
             taken.starts_with(b"Compare proto3 message types ")
-                && taken.ends_with(b" how long a message is at least that breaks\n")
+                && taken.ends_with(b" a lower bound on the length of a message that breaks\n")
         }
         Ended::Memory => taken.is_empty(),
         _ => false,

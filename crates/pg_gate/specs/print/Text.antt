@@ -54,7 +54,7 @@ place_or_dash None = codes "-"
 abbrev pub field_of : NamedField → Text
 field_of field = string_bytes field.name ++ (codes " " ++ place_or_dash field.place)
 
--- `step NUMBER OLDFIELD OLDPLACE NEWFIELD NEWPLACE`
+-- `step NUMBER OLDFIELD OLDPOSITION NEWFIELD NEWPOSITION`
 abbrev pub step_of : Step → Text
 step_of step = codes "step " ++ (decimal step.number ++ (codes " " ++ (field_of step.old
     ++ (codes " " ++ (field_of step.new ++ line_end)))))

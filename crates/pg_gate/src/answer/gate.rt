@@ -71,7 +71,7 @@ fn roots(old: &Schema, new: &Schema, root: &str) -> Result<Pair, GateError>
     })
 }
 
-/// Whether the new reader sees all that the old writer writes, for the message types of this full
+/// Whether the new program reads all that the old one writes, for the message types of this full
 /// name: that it does, or a message of the old type that breaks, of which none has fewer bytes;
 /// either with the certificate of the two types, which a checker takes. Enums are compared by the
 /// view of that name, which is in the certificate: under `Names` a number that both enums
@@ -109,7 +109,7 @@ pub fn gate_with(
     }
 }
 
-/// Whether the new reader sees all that the old writer writes, for the message types of this full
+/// Whether the new program reads all that the old one writes, for the message types of this full
 /// name: that it does, or a message of the old type that breaks, of which none has fewer bytes;
 /// either with the certificate of the two types, which a checker takes. Enums are compared by their
 /// numbers alone, as `gate_with` does under `Numbers`.

@@ -2,17 +2,17 @@
 
 /// What help says of the statuses.
 pub(crate) const STATUSES: &str = "Statuses:
-  0  compatible: the new reader sees all that the old writer writes; or a set is written, a message shown, or types named
-  1  breaks: it doesn't see all of some message; with --both, in one direction at least
+  0  compatible: the new program reads all that the old one writes; or a set is written, a message shown, or types named
+  1  breaks: it misreads some message; with --both, in one direction at least
   2  refused: a fault in a file, a certificate or bytes, or the message type is missing; or gate-all finds one removed
   3  out of memory, or a file or the output failed
   4  help, the version, or a bad command line
-  5  bound: a certificate says only how long a message is at least that breaks";
+  5  bound: a certificate gives only a lower bound on the length of a message that breaks";
 
 /// What help says of a set that is written: what is printed, and the statuses.
 pub(crate) const COMPILE_ANSWERS: &str =
     "Prints the bytes of a google.protobuf.FileDescriptorSet, or a line
-  refused CODE PLACE   no set, for a fault at the place; `man protogate` has each code
+  refused CODE POSITION  no set, for a fault at that position; `man protogate` has each code
 
 Statuses:
   0  the set is written to standard output, and nothing else
@@ -24,13 +24,13 @@ Statuses:
 pub(crate) const GATE_ANSWERS: &str = "Prints lines:
   compatible NAME       no message breaks
   breaks NAME LENGTH    some message does; the shortest have that many bytes
-  witness HEX           one of these, behind breaks
-  step NUMBER OLDFIELD OLDPLACE NEWFIELD NEWPLACE
+  witness HEX           one of these, after breaks
+  step NUMBER OLDFIELD OLDPOSITION NEWFIELD NEWPOSITION
                         each field on the way to what breaks in it
-  old, new              with --explain, behind the steps: each stands before the lines of `show`
+  old, new              with --explain, after the steps: each comes before the lines of `show`
                         for HEX by the type of that side, or before a refusal of it
   forward, backward     with --both, before the lines of either direction
-  refused SIDE CODE PLACE
+  refused SIDE CODE POSITION
                         no answer, for a fault of the old or the new side; `man protogate` has each code
   refused E901          no answer, since the old side has no message type of that name
   refused E902          no answer, since only the old side has it
@@ -38,26 +38,26 @@ With --cert it prints the lines of the certificate, or those of a refusal.
 With --view names a number that both sides' enums have is another value if it has other names.
 
 Statuses:
-  0  compatible: the new reader sees all that the old writer writes
-  1  breaks: it doesn't see all of some message; with --both, in one direction at least
+  0  compatible: the new program reads all that the old one writes
+  1  breaks: it misreads some message; with --both, in one direction at least
   2  refused: a fault in a file, or the message type is missing
   3  out of memory, or a file or the output failed
   4  help, the version, or a bad command line
-  5  never of gate: only verify ends so, where a certificate says a bound alone";
+  5  never of gate: only verify ends so, where a certificate gives a bound alone";
 
 /// What help says of the answers on all message types: what is printed, and the statuses.
 pub(crate) const GATE_ALL_ANSWERS: &str = "Prints lines, in this order:
-  cause CASE LENGTH HEX NUMBER OLDFIELD OLDPLACE NEWFIELD NEWPLACE
+  cause CASE LENGTH HEX NUMBER OLDFIELD OLDPOSITION NEWFIELD NEWPOSITION
                         a field that breaks by itself, in a message type of both sides or one that these lead to;
-                        each is told once. HEX is a shortest message of its old message type that breaks so.
-                        Two fields that meet in a oneof have the smaller NUMBER, and the names and places of both
+                        each is printed once. HEX is a shortest message of its old message type that breaks so.
+                        Two fields that meet in a oneof have the smaller NUMBER, and the names and positions of both
   old, new              with --explain, after a cause: each comes before the lines of `show`
                         for HEX by the type of that side, or before a refusal of it
   compatible NAME       no message of this type breaks
   breaks NAME LENGTH    some message does; the shortest have that many bytes
   removed NAME          a message type that only the old side has
   added NAME            a message type that only the new side has
-  refused SIDE CODE PLACE
+  refused SIDE CODE POSITION
                         no answer, for a fault of the old or the new side; `man protogate` has each code
 
 CASE says why it breaks:
@@ -75,24 +75,24 @@ Statuses:
   2  removed: a message type that only the old side has; or refused: a fault in a file
   3  out of memory, or a file or the output failed
   4  help, the version, or a bad command line
-  5  never of gate-all: only verify ends so, where a certificate says a bound alone";
+  5  never of gate-all: only verify ends so, where a certificate gives a bound alone";
 
 /// What help says of a message that is shown: what is printed, and the statuses.
 pub(crate) const SHOW_ANSWERS: &str =
-    "Prints lines, those of a message inside two spaces further in:
+    "Prints lines, those of a nested message two spaces further in:
   NUMBER NAME ITEM      an item of a field
   NUMBER NAME key ITEM value ITEM
                         an entry of a map
   unknown HEX           a record that no field takes
   again HEX             at the end, what is written of the message
-  refused CODE PLACE    no message, for a fault of the file; `man protogate` has each code
+  refused CODE POSITION no message, for a fault of the file; `man protogate` has each code
   refused CODE at BYTE  no message, for a fault of its bytes at that one
-An ITEM is int N, f32 HEX and f64 HEX with the bits, text HEX, bytes HEX, or msg, with the lines of that message behind it.
+An ITEM is int N, f32 HEX and f64 HEX with the bits, text HEX, bytes HEX, or msg, with the lines of that message after it.
 For no bytes HEX is -.
 
 Statuses:
   0  the message is shown
-  2  refused: a fault in a file, the message type is missing, or HEX is none or no message of it
+  2  refused: a fault in a file, the message type is missing, or HEX is malformed, or isn't such a message
   3  out of memory, or a file or the output failed
   4  help, the version, or a bad command line";
 
@@ -110,12 +110,12 @@ Statuses:
   2  refused: a fault in a file, or the certificate doesn't hold
   3  out of memory, or a file or the output failed
   4  help, the version, or a bad command line
-  5  bound: it holds, and says only how long a message is at least that breaks";
+  5  bound: it holds, and gives only a lower bound on the length of a message that breaks";
 
 /// What help says of the names of types: what is printed, and the statuses.
 pub(crate) const TYPES_ANSWERS: &str = "Prints lines:
   NAME                  each message type by its full name, in order of declaration, those of imports too
-  refused CODE PLACE    no names, for a fault at the place; `man protogate` has each code
+  refused CODE POSITION no names, for a fault at that position; `man protogate` has each code
 
 Statuses:
   0  each type is named
