@@ -13,7 +13,7 @@ if [ "$status" -ne 4 ]; then
     exit 1
 fi
 
-# As a script that is called by its own name or by a link finds what stands beside it, without another process where it can.
+# As a script that is called by its own name or by a link finds what is beside it, without another process where it can.
 write_script() {
     {
         cat <<'END_OF_HEAD'
@@ -53,7 +53,12 @@ say_at_work() {
 }
 if [ -t 2 ]; then
     case ${1-} in
-        compile | gate | gate-all | show | types | verify) { say_at_work "$1"; } </dev/null >/dev/null 3>&- 4>&- 5>&- 6>&- 7>&- 8>&- 9>&- & ;;
+        compile | gate | gate-all | show | types | verify)
+            said=$here/../share/protogate/said.py
+            if [ "${PROTOGATE_WORDS-}" != no ] && [ -f "$said" ] && command -v python3 >/dev/null; then
+                exec python3 -SB "$said" "$here/../libexec/protogate" "$@"
+            fi
+            { say_at_work "$1"; } </dev/null >/dev/null 3>&- 4>&- 5>&- 6>&- 7>&- 8>&- 9>&- & ;;
     esac
 fi
 exec "$here/../libexec/protogate" "$@"

@@ -33,7 +33,7 @@ version_of() {
     esac
 }
 
-# What is said behind a commit's name where the files are other ones.
+# What is said after a commit's name where the files are other ones.
 changed() {
     git -C "$root" diff --quiet HEAD || echo +changed
 }
@@ -43,7 +43,7 @@ needed_library() {
     grep -ao 'GLIBC_2\.[0-9]*' "$1" | sed 's/GLIBC_//' | sort -uV | tail -n 1
 }
 
-# A tarball whose entries stand in the order of their names, with the time of the commit and no owner of this machine.
+# A tarball whose entries are in the order of their names, with the time of the commit and no owner of this machine.
 pack() {
     tar --sort=name --mtime="@$time" --owner=0 --group=0 --numeric-owner --mode=go=u-w -C "$1" -cf - -- "$2" | gzip -9n
 }

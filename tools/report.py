@@ -4,7 +4,7 @@ mend it; the types that break; what was refused and how to mend it; and warnings
 
 usage: gate.sh --record run.json REVISION FOLDER; tools/report.py run.json > report.html
 
-The page needs nothing else: no script, no other file, no network. A place is a link into the repository where the record was made on
+The page needs nothing else: no script, no other file, no network. A position is a link into the repository where the record was made on
 GitHub or GitLab, or where --old-link and --new-link say how it goes, with {path} and {line} in it.
 """
 
@@ -26,7 +26,7 @@ HERE = os.path.dirname(os.path.realpath(__file__))
 sys.dont_write_bytecode = True
 sys.path += [HERE, f"{HERE}/../examples/ci"]
 from causes import mend, why  # noqa: E402
-from refusals import code_in, meaning_of, rule_of  # noqa: E402
+from refusals import code_in, mend_of, sentence_of  # noqa: E402
 from wording import last_fields  # noqa: E402
 
 NAME = os.environ.get("PROTOGATE_REPORT_NAME") or "report.py"
@@ -77,7 +77,7 @@ $body
 
 
 def text(words):
-    """As the words stand in a page. What isn't Unicode was read as such, and is shown so."""
+    """As a page spells the words. What isn't Unicode was read as such, and is shown so."""
     return html.escape(str(words).encode("utf-8", "backslashreplace").decode())
 
 
@@ -89,7 +89,7 @@ def code(words):
     return tag("code", text(words))
 
 
-# Places.
+# Positions.
 
 
 def links(record, environment):
@@ -110,7 +110,7 @@ def path_of(file, record):
 
 
 def place_of(place, record, link):
-    """A place, as a link where one is known. One that is '-' is none: the side was gated as a set."""
+    """A position, as a link where one is known. One that is '-' is none: the side was gated as a set."""
     found = re.fullmatch(r"(.+):(\d+):\d+", place)
     if not found:
         return tag("span", "in a descriptor set", "dim") if place == "-" else code(place)
@@ -166,7 +166,7 @@ def head_of_reading(side, line):
     if not line.startswith("refused "):
         return f"The {side} side reads", ""
     refusal = line.split()[1]
-    meaning = marked(meaning_of(refusal, is_shown=True))
+    meaning = marked(sentence_of(refusal))
     if refusal in NOT_SHOWN:
         return f"The {side} side's reading isn't shown", tag("p", meaning, "dim")
     return f"The {side} side refuses it", tag("p", f"{meaning} {tag('b', 'What to do:')} {MEND_READING}", "dim")
@@ -293,7 +293,7 @@ def missing(answer, record):
         words = "The new side has no such type, so nothing reads what is stored or sent of it."
         words += near + f" If that is meant: {code('--skip ' + answer['type'])}."
     else:
-        words = f"{code('refused ' + answer['said'])}{near} {mend_of(answer['said'])}"
+        words = f"{code('refused ' + answer['said'])}{near} {explained(answer['said'])}"
     return tag("article", head_of(answer, record) + tag("p", words))
 
 
@@ -305,13 +305,13 @@ def marked(words):
     return re.sub(r"`([^`]*)`", lambda it: f"<code>{it[1]}</code>", text(words))
 
 
-def mend_of(said):
+def explained(said):
     refusal = code_in(said)
-    return f"{marked(meaning_of(refusal))} {tag('b', 'What to do:')} {marked(rule_of(refusal)[1])}" if refusal and rule_of(refusal)[1] else ""
+    return f"{marked(sentence_of(refusal))} {tag('b', 'What to do:')} {marked(mend_of(refusal))}" if refusal and mend_of(refusal) else ""
 
 
 def by_protoc(record):
-    """The call that gates what protoc makes of the texts that are refused. It is that of the run: no shorter one has the old side."""
+    """The call that gates what protoc makes of the files that are refused. It is that of the run: no shorter one has the old side."""
     name, *words = record["call"]
     return tag("p", "This call gates what protoc makes of it:") + tag("div", tag("pre", text(shlex.join([name, "--with-protoc", *words]))), "side")
 
@@ -323,7 +323,7 @@ def refused(refusal, record, link):
     if refusal["text"]:
         parts.append(tag("div", tag("pre", text(refusal["text"])), "side"))
     near = f" Did you mean {code(refusal['nearest'])}?" if refusal.get("nearest") else ""
-    parts.append(tag("p", (text(refusal.get("advice") or "") or mend_of(refusal["code"])) + near))
+    parts.append(tag("p", (text(refusal.get("advice") or "") or explained(refusal["code"])) + near))
     if refusal["protoc"]:
         parts.append(by_protoc(record))
     if refusal["protoc_says"]:

@@ -3,7 +3,7 @@
 
 usage: tools/test_ci.py [PROGRAM]    by default the program that was built; some tests are passed over where there is no protoc
 
-What is wanted of a change stands in examples/changes, or follows from the rules of the language.
+What is wanted of a change is in examples/changes, or follows from the rules of the language.
 """
 
 import json
@@ -34,7 +34,7 @@ def read(path):
 
 
 class Repository(unittest.TestCase):
-    """A repository with one commit, `v1`, of the old texts, and the new ones in its work tree."""
+    """A repository with one commit, `v1`, of the old source files, and the new ones in its work tree."""
 
     def setUp(self):
         self.room = tempfile.TemporaryDirectory()
@@ -108,7 +108,7 @@ class Answers(Repository):
         self.assertEqual(self.call("v1", "./proto/", "Customer", "Order"), (1, [*self.causes, self.breaks, "compatible Customer"]))
 
     def test_causes_of_named_types(self):
-        """Those of other types aren't told, also where a type that holds them is compatible, or is skipped."""
+        """Causes of other types aren't told, also where a type that holds them is compatible, or is skipped."""
         old = "message L { %s a = 1; } message M { map<int32, L> l = 1; } message N { %s b = 1; M m = 2; } message O { %s c = 1; }"
         self.release({"a.proto": HEAD + old % (("int64",) * 3)}, {"a.proto": HEAD + old % (("int32",) * 3)})
         wanted = {"L": "L.a", "M": "L.a", "N": "L.a N.b", "O": "O.c"}
@@ -215,7 +215,7 @@ class Answers(Repository):
         self.assertEqual(self.types("v1", "proto"), (0, ["compatible p.q.A"]))
 
     def test_one_name_in_two_texts(self):
-        """Texts that nothing joins may declare one name."""
+        """Source files that nothing joins may declare one name."""
         self.release({"a.proto": HEAD + "message A { int32 a = 1; }", "b.proto": HEAD + "message A { bytes a = 1; }"},
                      {"a.proto": HEAD + "message A { int64 a = 1; }", "b.proto": HEAD + "message A { string a = 1; }"})
         self.assertEqual(self.types("v1", "proto"), (1, ["breaks A 3", "compatible A"]))
@@ -253,7 +253,7 @@ class Answers(Repository):
         self.assertIn("::error file=proto/order.proto,title=protogate%3A value Order.quantity,line=5,col=10::", said[6])
         self.assertIn("::error file=proto/order.proto,title=protogate%3A value Order.note,line=7,col=10::", said[7])
         self.assertIn("220180%0AThe old side reads:%0A4 note bytes 80%0A", said[7])
-        self.assertIn("%0AThe new side refuses it: E604 at 0 (a text that isn't UTF-8)%0AWhat to do: Give the field its old type back", said[7])
+        self.assertIn("%0AThe new side refuses it: E604 at 0. The string is not UTF-8.%0AWhat to do: Give the field its old type back", said[7])
         self.assertEqual(wording.reading("old", "refused E608 at 200\n"), "The old side's reading isn't shown: E608 at 200")
         self.assertEqual(wording.annotation("a, b", "50%\n", "c:d.proto", "c:d.proto:1:2"),
                          "::error file=c%3Ad.proto,title=a%2C b,line=1,col=2::50%25%0A")
@@ -297,20 +297,20 @@ class Faults(Repository):
         self.release_options()
         said = [f"refused {side} {it}" for side in ("old", "new") for it in ("E205 shop.proto:8:21", "E204 units.proto:7:1")]
         self.assertEqual(self.call("v1", "proto"), (2, said))
-        self.assertIn("shop.proto:8:21 isn't taken as a text; protoc may make a set of it: use --with-protoc\n", self.advice)
-        # What is refused of the old side has no place in the work tree.
+        self.assertIn("shop.proto:8:21 isn't taken as a source file; protoc may make a set of it: use --with-protoc\n", self.advice)
+        # What is refused of the old side isn't in the work tree.
         told = self.call("v1", "proto", "--github")[1][len(said):]
         self.assertEqual([" file=proto/" in it or ",line=" in it for it in told], [False, False, True, True])
 
     def test_a_text_that_was_refused_before(self):
-        """A type isn't new that the old side has in a text that is refused."""
+        """A type isn't new that the old side has in a source file that is refused."""
         self.release({"a.proto": HEAD + "option (x) = 1; message A { }"}, {"a.proto": HEAD + "message A { }"})
         self.assertEqual(self.call("v1", "proto"), (2, ["refused old E205 a.proto:2:8"]))
         self.assertEqual(self.call("v1", "proto", "A"), (2, ["refused old E205 a.proto:2:8"]))
 
     @NO_PROTOC
     def test_an_import_of_the_library(self):
-        """Its file that is proto2 isn't taken as a text."""
+        """Its file that is proto2 isn't taken as a source file."""
         text = HEAD + 'import "google/protobuf/descriptor.proto"; message A { }'
         self.release({"a.proto": text}, {"a.proto": text})
         self.assertEqual(self.call("v1", "proto"), (2, ["refused old E301 a.proto:2:8", "refused new E301 a.proto:2:8"]))

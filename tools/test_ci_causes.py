@@ -34,7 +34,7 @@ import witnesses  # noqa: E402
 class Causes(unittest.TestCase):
     def test_each_case_of_the_page(self):
         """Each word of the page has its sentences in both directions, and no other has."""
-        rows = read("docs/USAGE.md").partition("`CASE` is one of these words:")[2].partition("\n```")[0]
+        rows = read("docs/COMPATIBILITY.md").partition("`CASE` is one of these words:")[2].partition("\n```")[0]
         listed = re.findall(r"^\| `([a-z-]+)` \|", rows, re.M)
         self.assertEqual(listed, ["unlike", "value", "name", "list-to-one", "map", "map-key", "map-value", "oneof"])
         self.assertEqual([listed, listed], [list(causes.WHY), list(causes.MEND)])
@@ -69,7 +69,7 @@ class Lines(unittest.TestCase):
         return runs.Overview(f"cause {case} 2 0801 1 {fields}\nold\n1 a int 1\nnew\n1 a int 1\n{breaks}\n", 1, *paths)
 
     def test_a_place_with_spaces(self):
-        """A path may hold what looks like a place, or like other words of the line."""
+        """A path may hold what looks like a position, or like other words of the line."""
         paths = ["a b:1:2 c.proto"], ["x.proto"]
         fields = "M.a a b:1:2 c.proto:3:4 M.a x.proto:5:6"
         overview = self.overview(fields, paths)
@@ -117,7 +117,7 @@ class Ways(test_ci.Repository):
         return status, [it.split()[5] for it in said if it.startswith("cause ")]
 
     def narrow(self, texts):
-        """Releases texts, and then the same ones with an int32 in the place of each int64."""
+        """Releases source files, and then the same ones with an int32 in place of each int64."""
         texts = {name: HEAD + it for name, it in texts.items()}
         self.release(texts, {name: it.replace("int64", "int32") for name, it in texts.items()})
 
@@ -161,7 +161,7 @@ class Ways(test_ci.Repository):
         self.assertEqual(self.named("v1", "proto"), {"M.a": ["M", "Y", "Z"], "X.m": ["X"], "Y.m": ["Y"]})
 
     def test_all_keys(self):
-        """Varints are like varints, and 32 bits, 64 bits and texts each like themselves."""
+        """Varints are like varints, and 32 bits, 64 bits and strings each like themselves."""
         kinds = ["int32 int64 uint32 uint64 sint32 sint64 bool", "fixed32 sfixed32", "fixed64 sfixed64", "string"]
         keys = [(key, kind) for kind in kinds for key in kind.split()]
         pairs = [(one, other) for one in keys for other in keys]
@@ -173,7 +173,7 @@ class Ways(test_ci.Repository):
         self.assertEqual(found["M", "M"], [f"T{at}" for at, ((_, one), (_, other)) in enumerate(pairs) if one == other])
 
     def test_types_of_several_runs(self):
-        """Where a name stands twice there are several runs, and each may lead to the cause."""
+        """Where a side declares a name twice there are several runs, and each may lead to the cause."""
         self.narrow({"c.proto": "message S { int64 a = 1; }", "a.proto": 'import "c.proto"; message D { int32 z = 1; } message X { S s = 1; }',
                      "b.proto": 'import "c.proto"; message D { int32 y = 1; } message Y { S s = 1; }'})
         self.assertEqual({name: set(it) for name, it in self.named("v1", "proto").items()}, {"S.a": {"S", "X", "Y"}})
@@ -218,7 +218,7 @@ class Told(test_ci.Repository):
 
     @NO_PROTOC
     def test_a_set_of_an_include(self):
-        """Its fields have no places, and its file is shown where it is."""
+        """Its fields have no positions, and its file is shown where it is."""
         option = HEAD + 'import "google/protobuf/descriptor.proto"; extend google.protobuf.FieldOptions { string unit = 50001; }'
         text = HEAD + 'import "x/o.proto"; message S { int64 a = 1 [(unit) = "kg"]; }'
         self.write({"third/x/o.proto": option, "third/x/s.proto": text, "proto/a.proto": HEAD + 'import "x/s.proto"; message A { S s = 1; }'})
@@ -246,7 +246,7 @@ class Steps(unittest.TestCase):
         with mock.patch("builtins.open", wraps=open) as opened:
             self.assertEqual([side.line_at(f"{name}:{line}:1") for line in (1, 2, 3)][0], "#!/usr/bin/env python3")
             self.assertEqual(opened.call_count, 1)
-        self.assertEqual([side.line_at(it) for it in ("-", "none.proto:1:1", f"{name}:100000:1")], [""] * 3)
+        self.assertEqual([side.line_at(it) for it in ("-", "none.proto:1:1", f"{name}:100000:1")], [None] * 3)
 
     def test_how_a_removed_type_is_called_now(self):
         """It is compared with a few of the names, those with the same last part first."""
@@ -300,7 +300,7 @@ class Steps(unittest.TestCase):
 
 
 def sets_of(text):
-    """The files of the set that the program makes of a text."""
+    """The files of the set that the program makes of a source file."""
     with tempfile.TemporaryDirectory() as room:
         with open(f"{room}/a.proto", "w", encoding="utf-8") as file:
             file.write(HEAD + text)

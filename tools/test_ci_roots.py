@@ -120,7 +120,7 @@ class Library(Trees):
     VALUE = "  The new program reads this value as another one, refuses it, or doesn't read it."
 
     def protoc_of(self, texts):
-        """Puts a protoc on the path, with a library beside it that has these texts."""
+        """Puts a protoc on the path, with a library beside it that has these source files."""
         self.write({"bin/protoc": "#!/bin/sh\nexit 1\n"}, self.room.name)
         self.write({f"include/google/protobuf/{name}.proto": text for name, text in texts.items()}, self.room.name)
         os.chmod(f"{self.room.name}/bin/protoc", 0o755)
@@ -151,7 +151,7 @@ class Library(Trees):
         self.assertEqual(self.call("v1", "proto"), (1, ["cause value 6 108080808008 2 A.b a.proto:4:8 A.b a.proto:4:8", self.VALUE, "breaks A 6"]))
 
     def test_a_fault_in_the_library(self):
-        """Its place is where the file is."""
+        """Its position is where the file is."""
         self.protoc_of({"here": HEAD + "package google.protobuf;\nmessage L { int32 a = 0; }"})
         self.release_import("here")
         place = f"{os.path.realpath(self.room.name)}/include/google/protobuf/here.proto:3:19"
@@ -160,7 +160,7 @@ class Library(Trees):
         self.assertNotIn("file=", said[3])
 
     def test_what_is_not_found(self):
-        """Only what may be the library's comes with protoc. Its proto2 files are no texts."""
+        """Only what may be the library's comes with protoc. Its proto2 files aren't taken."""
         self.protoc_of({"two": 'syntax = "proto2";'})
         for name in ("google/protobuf/two.proto", "google/type/money.proto"):
             text = HEAD + f'import "{name}";'

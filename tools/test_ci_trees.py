@@ -157,7 +157,7 @@ class Links(Trees):
         self.assertEqual(self.types("v1", "proto"), (0, ["compatible p.A", "compatible p.A"]))
 
     def test_an_import_by_one_that_leads_out(self):
-        """What an old text imports is what it was, and not today's file."""
+        """What an old source file imports is what it was, and not today's file."""
         self.write({"shared/a.proto": WIDE % "A", "proto/b.proto": HEAD + 'import "folder/a.proto"; message B { p.A a = 1; }'})
         self.link(f"{self.top}/shared", "proto/folder")
         self.commit()
@@ -209,7 +209,7 @@ class Namesakes(Trees):
 
 
     def test_a_named_one_in_a_text_that_is_refused(self):
-        """A second declaration may be in a text that wasn't read, on either side."""
+        """A second declaration may be in a source file that wasn't read, on either side."""
         fault = " option (x) = 1;"
         hidden = WIDE.replace("message", "message /* here */\n") % "T"
         self.release({"a.proto": WIDE % "T", "c.proto": WIDE % "C"},
@@ -448,7 +448,7 @@ class Together(Trees):
         self.assertEqual(self.calls("p.C")[1][2:][-1], self.gated(["c.proto"]))
 
     def test_namesakes(self):
-        """A name that stands twice on a side makes two runs, and each file is in one of them."""
+        """A name that a side declares twice makes two runs, and each file is in one of them."""
         self.release_three()
         self.write({"proto/d.proto": WIDE % "B", "proto/e.proto": HEAD + "message E { }"})
         self.commit()

@@ -3,7 +3,7 @@
 
 usage: tools/test_ci_words.py [PROGRAM]    by default the program that was built
 
-What is wanted of a text follows from the rules of the language and from docs/REFUSALS.md.
+What is wanted of a source file follows from the rules of the language and from docs/ERRORS.md.
 """
 
 import datetime
@@ -18,10 +18,8 @@ sys.dont_write_bytecode = True
 import report  # noqa: E402
 import test_ci  # noqa: E402
 from test_ci import GATE, HEAD, TOP, read  # noqa: E402
-import codes  # noqa: E402
 import declarations  # noqa: E402
 import places  # noqa: E402
-import refusals  # noqa: E402
 import settings  # noqa: E402
 import wording  # noqa: E402
 
@@ -30,7 +28,7 @@ FAR = "2999-12-31"
 
 class Repository(test_ci.Repository):
     def compatible(self, old, new, *words):
-        """Gates two texts of compatible types, and returns the warnings, without what begins their lines."""
+        """Gates two source files of compatible types, and returns the warnings, without what begins their lines."""
         self.release({"a.proto": HEAD + old}, {"a.proto": HEAD + new})
         status, said = self.call("v1", "proto", *words)
         self.assertEqual((status, {it.split()[0] for it in said if not it.startswith("::")}), (0, {"compatible"}), said)
@@ -46,35 +44,8 @@ class Repository(test_ci.Repository):
         return re.sub(r"<style>.*</style>|<[^>]*>", "", done.stdout.decode(), flags=re.S).replace("&#x27;", "'")
 
 
-class Codes(unittest.TestCase):
-    def test_the_table_is_that_of_the_page(self):
-        done = subprocess.run([f"{TOP}/tools/code_table.py", "--compare"])
-        self.assertEqual(done.returncode, 0)
-
-    def test_each_row_of_the_page(self):
-        """Each code that begins a row is in the table, with that row's last cell where the row is the code's own."""
-        page = read("docs/REFUSALS.md")
-        before = page.partition("## Shown messages")[0]
-        for code, mend in re.findall(r"^\| (E\d{3}) \|.*[^\\\n]\| (.*) \|$", before, re.M):
-            if "(see " not in mend and mend != "The same.":
-                self.assertEqual(codes.REFUSED[code][1], mend, code)
-        listed = set(re.findall(r"^\| (E\d{3})", page, re.M))
-        self.assertEqual(listed - {*codes.REFUSED, *codes.SHOWN}, set())
-        self.assertLessEqual({f"E50{it}" for it in range(1, 6)} | {"E604", "E608"}, {*codes.REFUSED} & {*codes.SHOWN})
-
-    def test_words_without_places(self):
-        """Beside a place nothing more is said of it, and nothing that leads elsewhere on the page."""
-        self.assertEqual(refusals.meaning_of("E101"), "The text isn't UTF-8.")
-        self.assertEqual(refusals.meaning_of("E205"), "A custom option, in parentheses, which isn't supported.")
-        self.assertEqual(refusals.meaning_of("E604", is_shown=True), "The record that begins there holds a text that isn't UTF-8.")
-        for code in codes.REFUSED:
-            words = refusals.sentences_on(code)
-            self.assertRegex(words, r"^[A-Z`].*\. What to do: .*\.$", code)
-            self.assertNotRegex(words, r"\bAt |\(see|see below|\]\(", code)
-
-
 class Words(Repository):
-    fault = "E401: A number is out of range."
+    fault = "E401: The number of the field, value or reserved item is out of range."
 
     def release_a_fault(self):
         self.release({"a.proto": HEAD + "message A { }"}, {"a.proto": HEAD + "message A { int32 a = 0; }"})
@@ -82,16 +53,16 @@ class Words(Repository):
     def test_on_standard_error(self):
         self.release_a_fault()
         self.assertEqual(self.call("v1", "proto"), (2, ["refused new E401 a.proto:2:19"]))
-        self.assertRegex(self.advice, rf"\Agate: {self.fault} .* What to do: Take another number\.\n\Z")
+        self.assertRegex(self.advice, rf"\Agate: {self.fault} What to do: Take another number\. .*\.\n\Z")
 
     def test_in_an_annotation(self):
         self.release_a_fault()
         line = self.call("v1", "proto", "--github")[1][-1]
-        self.assertRegex(line, rf"^::error file=proto/a\.proto,.*,line=2,col=19::{self.fault} .*What to do: Take another number\.")
+        self.assertRegex(line, rf"^::error file=proto/a\.proto,.*,line=2,col=19::{self.fault} What to do: Take another number\.")
 
     def test_on_the_page(self):
         self.release_a_fault()
-        self.assertRegex(self.page("v1", "proto"), "A number is out of range\\..* What to do: Take another number\\.")
+        self.assertRegex(self.page("v1", "proto"), "The number of the field, value or reserved item is out of range\\. What to do: Take another number\\.")
 
     def test_a_name_that_neither_side_has(self):
         self.release({"a.proto": HEAD + "package p; message A { }"}, {"a.proto": HEAD + "package p; message A { }"})
@@ -211,7 +182,7 @@ class Cautions(Repository):
         self.assertEqual(re.findall(r"warning: (\S+),", self.advice), ["E.B"])
 
     def test_a_service_in_a_text_that_is_refused(self):
-        """A service isn't removed that may be in a text which wasn't read."""
+        """A service isn't removed that may be in a source file which wasn't read."""
         self.release({"a.proto": HEAD + "message A { } service S { }"},
                      {"a.proto": HEAD + "message A { }", "b.proto": HEAD + "option (x) = 1; service S { }"})
         self.call("v1", "proto")
@@ -221,7 +192,7 @@ class Cautions(Repository):
 
 
 class Places(unittest.TestCase):
-    """The reader of texts is right, or finds nothing: it is compared with what a descriptor declares."""
+    """The reader of source files is right, or finds nothing: it is compared with what a descriptor declares."""
 
     def declared(self, *fields):
         made = declarations.Declared("message", "A")
@@ -387,8 +358,8 @@ class Settings(Repository):
         self.assertEqual(self.call()[0], 0)
 
     def test_the_settings_of_the_page(self):
-        """What docs/USAGE.md shows is what the script takes."""
-        shown = re.search(r"^```ini\n(.*?)^```", read("docs/USAGE.md"), re.S | re.M)[1]
+        """What docs/CI.md shows is what the script takes."""
+        shown = re.search(r"^```ini\n(.*?)^```", read("docs/CI.md"), re.S | re.M)[1]
         self.write({"protogate.ini": shown})
         taken = settings.Settings(f"{self.top}/protogate.ini")
         self.assertEqual(set(taken.said), set(settings.GATE_KEYS))

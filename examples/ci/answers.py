@@ -28,7 +28,7 @@ class Added:
 
     def nearest(self, name):
         """Returns the type that a removed one probably is, or nothing: one with the same last part, or one that is spelled much like it. Of
-        many types those are looked at that stand beside it in order."""
+        many types only its neighbours in alphabetical order are looked at."""
         last = last_part(name)
         at = bisect_left(self.names, (last,))
         beside = self.names[max(0, at - MOST_NEAR // 2) : at + MOST_NEAR // 2]
@@ -49,7 +49,7 @@ def pairs_of(name, old, new):
 
 def judge(name, old, new, ways, added):
     """Yields the answers for a type that either side has, or that is named; those of two source files have no verdict yet. There is none
-    where the other side's text is refused."""
+    where the other side's file is refused."""
     base = {"type": name, "direction": "forward", "steps": [], "old_file": None, "new_file": None}
     if name not in old.declared and name not in new.declared:
         known = sorted({*old.declared, *new.declared})
@@ -162,12 +162,14 @@ def gated(judged, old, new, call):
 
 
 def refusals_of(side):
-    """Yields what a side's texts are refused for, each fault once."""
+    """Yields what a side's files are refused for, each fault once."""
     for (said, status), files in side.refusals.items():
         code, _, place = said.partition(" ")
         parts = re.fullmatch(r"(.+):(\d+):(\d+)", place)
         file = parts[1] if parts else place or files[0]
-        text = side.line_at(place) if parts else ""
+        line = side.line_at(place) if parts else None
+        text = (line or "").encode("utf-8", "surrogateescape").decode("utf-8", "replace").strip()
+        side.excerpts[side.shown(place or files[0])] = line
         imported = re.search(r"""["'](.+)["']""", text) if code == "E301" else None
         says = [side.protoc_says[it] for it in files if it in side.protoc_says]
         # Of imports that are missing, protoc may bring those of the library.
@@ -178,7 +180,7 @@ def refusals_of(side):
 
 
 def gate_all(old, new, call):
-    """Returns the answers, by old text and order of declaration, the causes of what breaks, and the refusals: with names, those that may hide
+    """Returns the answers, by old file and order of declaration, the causes of what breaks, and the refusals: with names, those that may hide
     a named type."""
     wanted = call.types or [*old.declared, *(it for it in new.declared if it not in old.declared)]
     wanted = [it for it in wanted if it not in call.skip]
@@ -195,7 +197,7 @@ def gate_all(old, new, call):
 
 
 def unread_refusal(side, path, kind, why):
-    """Returns a refusal that isn't the program's: its kind is in the code's place, and its advice says what to do."""
+    """Returns a refusal that isn't the program's: its kind comes in place of the code, and its advice says what to do."""
     return {"side": side.name, "code": kind, "place": path, "file": path, "text": "", "status": 2, "texts": [path], "nearest": None,
             "protoc": False, "protoc_says": None, "advice": f"{why}, or leave it out: --skip {shlex.quote(plain(path))}"}
 

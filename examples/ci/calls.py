@@ -41,7 +41,7 @@ def called(*words, **how):
     """Runs the program, and only one that is proved. Returns its status, what it printed, and what was said on standard error, where that is
     piped."""
     try:
-        return run([program(), *words], env={**os.environ, "PROTOGATE_PROVED_ONLY": "1"}, **how)
+        return run([program(), *words], env={**os.environ, "PROTOGATE_PROVED_ONLY": "1", "PROTOGATE_WORDS": "no"}, **how)
     except OSError as fault:
         raise Stop(127, f"{program()} can't be run ({fault.strerror}): install it, or say where it is in PROTOGATE") from None
 

@@ -1,7 +1,7 @@
 """Warnings of what no message shows today, and what hurts later or elsewhere: in a later release, in JSON, or in a call.
 
 They never change an answer or a status. A caution has a subject (a field, an enum's value, a method or a service), the side on which it is
-declared, its place there, words, and the place on the new side at which it is shown: the file alone where its lines aren't surely known.
+declared, its position there, words, and the position on the new side at which it is shown: the file alone where its lines aren't surely known.
 """
 
 import functools
@@ -35,7 +35,7 @@ class Declarations:
         return found
 
     def place(self, file, kind, name, number=None):
-        """Returns a name's place in a source file, or the file alone."""
+        """Returns a name's position in a source file, or the file alone."""
         if file not in self.known:
             self.known[file] = self.places(file)
         line, column = self.known[file].get((kind, name, number), (None, None))

@@ -1,5 +1,5 @@
-"""How a line of the program is cut where it names fields: each by its full name and its place on either side. A path may hold what looks
-like a place, or like other words of the line, so it is cut by the paths that are known."""
+"""How a line of the program is cut where it names fields: each by its full name and its position on either side. A path may hold what
+looks like a position, or like other words of the line, so it is cut by the paths that are known."""
 
 import re
 
@@ -10,14 +10,14 @@ KEYS = ("old", "old_place", "new", "new_place")
 
 
 def places_in(words, paths):
-    """Yields each place with which words may begin: one of a known path, or `-`, which stands for a place of a descriptor set."""
+    """Yields each position with which words may begin: one in a known path, or `-`, which is that of a descriptor set."""
     if words == "-" or words.startswith("- "):
         yield "-"
     yield from (words[: it.end()] for it in POSITION.finditer(words) if words[: it.start()] in paths)
 
 
 def cuts_of(words, paths):
-    """Yields each way to cut words, of which each begins with a space, into a name and a place of each collection of paths."""
+    """Yields each way to cut words, of which each begins with a space, into a name and a position in each collection of paths."""
     if not paths:
         yield from [()] * (not words)
         return

@@ -1,17 +1,17 @@
 #!/usr/bin/env python3
-"""Gates the message types of a folder against a revision of git, with protogate: may the folder be released as it stands?
+"""Gates the message types of a folder against a revision of git, with protogate: may the folder be released as it is?
 
 The old side is FOLDER as it was at REVISION, the new side is FOLDER in the work tree. Each message type of the old side is gated,
-or each that is named. All that breaks is told in one run, each cause once:
+or each that is named. One run reports all that breaks, each cause once:
 
-  cause CASE LENGTH HEX NUMBER OLDFIELD OLDPLACE NEWFIELD NEWPLACE
-                                   why something breaks, with a message that shows it, of the type that has the field; of two fields that
-                                   meet in a oneof the last four words come twice. A sentence follows, on a line of its own, after two spaces
-  refused SIDE CODE PLACE          a file of that side has a fault; what is in it isn't gated
-  refused SIDE KIND PATH           what is there can't be gated: a submodule, link, file, folder or name; or it is unseen, or there twice
+  cause CASE LENGTH HEX NUMBER OLDFIELD OLDPOSITION NEWFIELD NEWPOSITION
+                                   why something breaks, with a message of the type that has the field. For two fields that meet in a
+                                   oneof the last four words come twice. The next line says it in a sentence, after two spaces
+  refused SIDE CODE POSITION       a file of that side has an error; its types aren't gated
+  refused SIDE KIND PATH           a path can't be gated: a submodule, link, file, folder or name, or one that was missed, or is there twice
   refused E901 TYPE                neither side has the type that is named
-  breaks TYPE LENGTH               the length of the shortest message of this type that breaks. Of a type that is named the message follows,
-                                   as 'witness HEX at OLDFIELD OLDPLACE NEWFIELD NEWPLACE'
+  breaks TYPE LENGTH               the length of the shortest message of this type that breaks. If the type is named, the message follows,
+                                   as 'witness HEX at OLDFIELD OLDPOSITION NEWFIELD NEWPOSITION'
   removed TYPE                     the new side has no such type
   added TYPE                       only the new side has it: nothing can break
   compatible COUNT types           with --types, and of types that are named, a line 'compatible TYPE' each
@@ -20,11 +20,12 @@ or each that is named. All that breaks is told in one run, each cause once:
 
 With --both a line of what is gated begins with 'forward', or with 'backward' for what old programs read of new messages.
 
-Each file whose name ends in .proto is read, links that stay in FOLDER and submodules that are checked out too. What isn't looked at is a
-line and status 2, unless --skip names it. Imports are found below FOLDER, below each --include, and where the library is installed.
+Each file whose name ends in .proto is read, also through links that stay in FOLDER and in submodules that are checked out. What can't be
+read is a line and status 2, unless --skip names it. Imports are found below FOLDER, below each --include, and where the library is installed.
 
-The status is the highest: 0 compatible or added, 1 breaks, 2 removed or refused, 3 out of memory, or a file, the program or this script failed,
-4 a wrong call, 127 no protogate that is proved. Advice and warnings go to standard error. protogate is taken from the path, or from PROTOGATE.
+The status is the highest of these: 0 compatible or added; 1 breaks; 2 removed or refused; 3 out of memory, or a file, the program or this
+script failed; 4 a wrong call; 127 no protogate that is proved. Advice and warnings go to standard error; where that is a terminal, an error
+is shown with its line. protogate is taken from the path, or from PROTOGATE.
 
 What a call leaves out is taken from protogate.ini at the top of the repository. Several releases there are gated one after another.
 """
@@ -80,7 +81,7 @@ def parser_of():
     made.add_argument("--types", dest="names_types", action="store_true", help="name each compatible type, in the place of a count")
     made.add_argument("--both", action=argparse.BooleanOptionalAction, help="ask for both directions, or forward alone")
     made.add_argument("--view", choices=["numbers", "names"], help="compare enums by numbers alone, or by names too")
-    made.add_argument("--with-protoc", action=argparse.BooleanOptionalAction, help="where a text is refused, gate the set that protoc makes of it")
+    made.add_argument("--with-protoc", action=argparse.BooleanOptionalAction, help="where a file is refused, gate the set that protoc makes of it")
     made.add_argument("--github", action="store_true", help="print annotations for GitHub, too")
     made.add_argument("--record", metavar="FILE", help="write all that was found as JSON, for a report")
     made.add_argument("--version", action=Version, nargs=0, help="print the version of records, and the program's")
@@ -111,7 +112,7 @@ def words_of(call):
 
 
 def side_of(name, places, laid, library_root, room):
-    """Returns a side: its folder, the first of the places, with those where its imports are looked for too."""
+    """Returns a side: its folder, the first of these, with those where its imports are looked for too."""
     there = [(place, it) for place, it in zip(places, laid) if it]
     walks = [Walk(it.folder, place.folder, it.files_outside) for place, it in there]
     roots = [Root(it.folder, walk, place.top, it.unread) for (place, it), walk in zip(there, walks)]
@@ -188,6 +189,7 @@ def recorded(call, room):
         advice = advice_on_branch(call.revision, commit)
         for it in answers:
             it.update({"advice": advice} if advice and it["verdict"] in ("breaks", "removed") else {})
+    call.excerpts = {(it.name, place): line for it in sides for place, line in it.excerpts.items()}
     cautions = cautions_of(old, new, answers, call.types)
     is_empty = not (old.declared or new.declared or refusals or call.skip or call.types)
     return {"call": words_of(call), "revision": call.revision, "commit": commit, "folder": folder, "prefix": places[0].top, "both": call.both,
@@ -214,7 +216,7 @@ def gate_releases(call):
             say(f"== {call.revision} ==")
         with tempfile.TemporaryDirectory(prefix="protogate-ci-") as room:
             record["runs"].append(recorded(call, room))
-        print_all(record["runs"][-1], call.github, call.names_types or bool(call.types))
+        print_all(record["runs"][-1], call.github, call.names_types or bool(call.types), call.excerpts if sys.stderr.isatty() else None)
         sys.stdout.flush()
     advise_on_skips(call)
     record["status"] = max([record["status"], *(it["status"] for it in record["runs"])])

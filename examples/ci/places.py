@@ -1,4 +1,4 @@
-"""Where a source file declares what its descriptor says, which has no places: a reader of files that compile.
+"""Where a source file declares what its descriptor says, which has no positions: a reader of files that compile.
 
 It goes by tokens alone, so what it found is taken only where that is just what the descriptor declares (`places_of`).
 """
@@ -12,7 +12,7 @@ TOKEN = re.compile(BETWEEN + rb"""|(?P<token>"(?:\\.|[^"\\\n])*"|'(?:\\.|[^'\\\n
 
 
 class Reader:
-    """Reads the tokens of a source file, and notes the place of each declared name: by kind, full name and number, a line and a column."""
+    """Reads the tokens of a source file, and notes where each declared name is: by kind, full name and number, a line and a column."""
 
     def __init__(self, text):
         self.tokens = [(it["token"], it.start("token")) for it in TOKEN.finditer(text) if it["token"]]

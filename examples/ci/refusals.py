@@ -1,11 +1,8 @@
-"""What a refusal means and what to do about it, in sentences: by the table of codes that is made of docs/REFUSALS.md."""
+"""What an error means and what to do about it, in sentences: by the table of codes that tools/errors.py makes."""
 
 import re
 
-from codes import REFUSED, SHOWN
-
-# A sentence of the table that says where in a file a fault is reported: beside a place it says nothing more.
-WHERE = re.compile(r"(?:At|Its name alone|It has no place)\b(?:`[^`]*`|[^.`]|\.(?! [A-Z]|$))*(?:\.(?: |$))")
+from codes import ERRORS
 
 
 def code_in(said):
@@ -14,17 +11,16 @@ def code_in(said):
     return found and found[0]
 
 
-def rule_of(code, is_shown=False):
-    """Returns what a code means and what to do, each empty where the table hasn't the code. Of bytes that are shown it may mean another thing."""
-    return (is_shown and SHOWN.get(code)) or REFUSED.get(code) or SHOWN.get(code) or ("", "")
+def sentence_of(code):
+    """Returns what a code means; empty where the table hasn't it."""
+    return ERRORS.get(code, ("", ""))[0]
 
 
-def meaning_of(code, is_shown=False):
-    """Returns what a code means, without where it is reported."""
-    return re.sub(WHERE, "", rule_of(code, is_shown)[0]).strip()
+def mend_of(code, name="gate.sh"):
+    """Returns what to do about an error, with the name by which the script is called."""
+    return ERRORS.get(code, ("", ""))[1].replace("gate.sh", name)
 
 
 def sentences_on(code, name="gate.sh"):
-    """Returns what a code means and what to do about it, with the name by which the script is called."""
-    mend = rule_of(code)[1].replace("gate.sh", name)
-    return f"{meaning_of(code)} What to do: {mend}" if mend else ""
+    """Returns what a code means and what to do about it."""
+    return f"{sentence_of(code)} What to do: {mend_of(code, name)}" if code in ERRORS else ""

@@ -1,6 +1,6 @@
 """Which source files `protogate gate-all` takes in one run, and what it says of their types.
 
-All files of both sides are one run, where they go together. Where a name stands twice on a side, or a side has too many files or types, there
+All files of both sides are one run, where they go together. Where a side declares a name twice, or a side has too many files or types, there
 are several runs; each has what its files import. What protoc made of a file is a whole side.
 """
 
@@ -66,7 +66,7 @@ class Half:
 
 class Overview:
     """What a run says: its causes, of each type of both sides the length of a shortest message that breaks, or None, and what only one side
-    has; or the line of a refusal. Its places are of the paths of the two sides."""
+    has; or the line of a refusal. Its positions have the paths of the two sides."""
 
     def __init__(self, said, status, old_paths, new_paths):
         self.paths = old_paths, new_paths

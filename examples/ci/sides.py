@@ -1,16 +1,16 @@
-"""What a side is: its texts, the types that they declare, what is refused, and the sets that protoc makes."""
+"""What a side is: its source files, the types that they declare, what is refused, and the sets that protoc makes."""
 
-import functools
 import os
 import re
 import subprocess
 
 from calls import Stop, plain, run
+from excerpts import lines_of
 from reading import Reading, files_of_set
 from trees import LINK, SUBMODULE
 from walks import is_below, is_text
 
-# What `--with-protoc` may mend: what stands in a text and is skipped in a set, and imports that protoc brings with it.
+# What `--with-protoc` may mend: what a source file may not have and a set may, and imports that protoc brings with it.
 MENDED_BY_PROTOC = ("E107", "E204", "E205", "E301", "E411")
 
 # A file, and a line and a column in it where there are some.
@@ -20,13 +20,6 @@ PLACE = re.compile(r"(.+?)((?::\d+:\d+)?)", re.S)
 def is_skipped(path, skipped):
     """Returns whether a call leaves out a path or a folder around it. A path may be given as it is printed."""
     return is_below(path, skipped) or plain(path) in skipped
-
-
-@functools.lru_cache(maxsize=256)
-def lines_of(path):
-    """Returns the lines of a source file. Those of one file are looked at together."""
-    with open(path, encoding="utf-8", errors="replace") as text:
-        return text.read().split("\n")
 
 
 class Side:
@@ -39,6 +32,8 @@ class Side:
         self.files = self.walk.texts
         self.unread = {**self.walk.unread, **laid.unread, **roots.twice}
         self.declared, self.sets, self.refusals, self.protoc_says = {}, {}, {}, {}
+        # The line of each position that is refused, as it is shown.
+        self.excerpts = {}
         # What a set says of each source file that was compiled and of what it imports, and the files of each set that protoc made.
         self.known, self.in_sets = {}, {}
         # The source files that were read and that are refused. What is shown of files outside the gated folder, with their paths from the
@@ -118,14 +113,14 @@ class Side:
         return shown + found[2]
 
     def words(self, file, option_of_folder, option_of_file):
-        """The words of a call that name this side's text, or the set that stands for it."""
+        """The arguments of a call that name this side's source file, or the set that is gated in place of it."""
         folder, named = os.path.split(self.sets[file]) if file in self.sets else (self.folder, file)
         return [f"{option_of_folder}={folder}", f"{option_of_file}={named}"]
 
     def line_at(self, place):
-        """Returns the text of the line of a place, or nothing."""
+        """Returns the line of a position as the source file has it, or nothing."""
         file, _, line = place.rpartition(":")[0].rpartition(":")
         try:
-            return lines_of(f"{self.folder}/{file}")[int(line) - 1].strip()
+            return lines_of(f"{self.folder}/{file}")[int(line) - 1]
         except (OSError, ValueError, IndexError):
-            return ""
+            return None

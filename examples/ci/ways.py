@@ -4,7 +4,7 @@ from sets import fields_of
 
 # As many types are named of a cause.
 MOST_TYPES = 20
-# The types of a map's key, as a set numbers them, by how they are written: as varints, in 32 or 64 bits, as texts. Keys that are written in
+# The types of a map's key, as a set numbers them, by how they are written: as varints, in 32 or 64 bits, as strings. Keys that are written in
 # two ways are unlike, and what such maps hold is compared with nothing.
 KEYS = ((3, 4, 5, 8, 13, 17, 18), (7, 15), (6, 16), (9,))
 WRITTEN = {key: keys for keys in KEYS for key in keys}

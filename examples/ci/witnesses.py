@@ -13,7 +13,7 @@ OWN = ("witness", "steps", "readings")
 
 
 def answers_in(said, status, old_paths, new_paths):
-    """Returns what the gate says: of each direction its verdict, or the line of a refusal. Lines that aren't whole are no answer. Its places
+    """Returns what the gate says: of each direction its verdict, or the line of a refusal. Lines that aren't whole are no answer. Its positions
     are of the paths of the two sides."""
     answers, direction, reading = [], "forward", None
     statuses = {"compatible": 0, "breaks": 1, "refused": status}
@@ -45,7 +45,7 @@ def shown(lines):
 
 
 def settle_field(field, old, new, way):
-    """Makes 'old' the old side's field, also backward, where the sides are exchanged, and adds what is at both places."""
+    """Makes 'old' the old side's field, also backward, where the sides are exchanged, and adds what is at both positions."""
     if way == "backward":
         field.update(old=field["new"], new=field["old"], old_place=field["new_place"], new_place=field["old_place"])
     field.update(old_text=old.line_at(field["old_place"]), new_text=new.line_at(field["new_place"]))

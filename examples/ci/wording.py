@@ -5,7 +5,8 @@ import sys
 
 from calls import plain
 from causes import mend, why
-from refusals import code_in, rule_of, sentences_on
+from excerpts import block
+from refusals import code_in, mend_of, sentence_of, sentences_on
 from settings import FILE
 
 # As many hexadecimal digits of a witness are printed; the record has them all.
@@ -59,12 +60,28 @@ def counts_of(run):
             yield f"{way} " * run["both"] + f"compatible {count} type" + "s" * (count > 1)
 
 
+def code_of(it):
+    """Returns the code of a line that is a refusal, or nothing."""
+    return code_in(it.get("code") or it.get("said") or "") if it.get("verdict", "refused") == "refused" else None
+
+
 def explanation_of(it, name):
     """Returns what the refusal of a line means and what to do about it, or nothing."""
-    code = code_in(it.get("code") or it.get("said") or "") if it.get("verdict", "refused") == "refused" else None
+    code = code_of(it)
     if code == "E901":
-        return f"E901: Neither side has a message type {it['type']}. What to do: {rule_of(code)[1]}"
+        return f"E901: Neither side has a message type {it['type']}. What to do: {mend_of(code, name)}"
     return f"{code}: {sentences_on(code, name)}" if code and sentences_on(code, name) else ""
+
+
+def shown_on_terminal(it, run, excerpts):
+    """Returns what a terminal shows of a refusal with a code: its sentence, the line of the source file, and what to do. The old side's file
+    is shown with the revision, as git names it."""
+    code, name, place = code_of(it), run["call"][0], it.get("place", "")
+    sentence = f"Neither side has a message type {it['type']}." if code == "E901" else sentence_of(code)
+    line = excerpts.get((it.get("side"), place))
+    if place and it["file"] not in run["outside"]:
+        place = f"{run['revision']}:" * (it["side"] == "old") + f"{run['folder']}/{place}"
+    return block(code, sentence, place, line, (advice_on(it), mend_of(code, name)))
 
 
 def advice_on(it):
@@ -79,7 +96,7 @@ def advice_on(it):
         words.append(f"{it['place']} imports a file of the library that isn't below the folder, an --include, protoc's folder or the "
                      "system's; protoc may bring it: use --with-protoc")
     elif it.get("protoc"):
-        words.append(f"{it['place']} isn't taken as a text; protoc may make a set of it: use --with-protoc")
+        words.append(f"{it['place']} isn't taken as a source file; protoc may make a set of it: use --with-protoc")
     if it.get("protoc_says"):
         lacks = re.search(r"google/protobuf/\S+: File not found", it["protoc_says"])
         words.append(f"protoc refuses it on the {it['side']} side, too: {it['protoc_says']}"
@@ -110,7 +127,7 @@ def reading(side, lines):
         return f"The {side} side reads:\n{lines.strip()}"
     if why.split()[0] in ("E001", "E607", "E608"):
         return f"The {side} side's reading isn't shown: {why}"
-    return f"The {side} side refuses it: {why}" + " (a text that isn't UTF-8)" * why.startswith("E604 ")
+    return f"The {side} side refuses it: {why}. {sentence_of(why.split()[0])}".rstrip()
 
 
 def what_breaks(cause):
@@ -136,7 +153,7 @@ def told(it, run):
 
 
 def annotation_of_cause(cause, run):
-    """The annotation of a cause, at the new side's field where that has a place, of two at the later one."""
+    """The annotation of a cause, at the new side's field where that has a position, of two at the later one."""
     field = cause["fields"][-1]
     place = field["new_place"]
     file = cause["new_file"] if place == "-" else place.rpartition(":")[0].rpartition(":")[0]
@@ -165,10 +182,10 @@ def annotation_of_caution(caution, run):
     return annotation(f"protogate: {caution['subject']}", caution["words"], file and path_of(file, run), place, "warning")
 
 
-def hints_of(run):
-    """Returns what goes to standard error beside the lines: what each code means, how to mend a cause, what may help, and warnings, each
-    once."""
-    name, lines = run["call"][0], [*run["refusals"], *run["answers"]]
+def hints_of(run, is_shown):
+    """Returns what goes to standard error beside the lines: what each code means, unless that is shown already, how to mend a cause, what may
+    help, and warnings, each once."""
+    name, lines = run["call"][0], [it for it in (*run["refusals"], *run["answers"]) if not (is_shown and sentence_of(code_of(it)))]
     mends = [f"{it['case']}: What to do: {mend(it)}" for it in run["causes"]]
     warnings = [f"warning: {it['subject']}, {it['side']} {it['place']}: {it['words']}" for it in run["warnings"]]
     hints = mends + [explanation_of(it, name) for it in lines] + [advice_on(it) for it in lines] + warnings
@@ -201,24 +218,31 @@ def say(*lines):
 
 
 def lines_of(run, names_types):
-    """Yields the lines of a run: the causes, each with why it breaks, then what is refused, the types that break, were removed or came, and
-    how many are compatible, or which."""
+    """Yields the lines of a run, each with what is refused, or with nothing: the causes, each with why it breaks, then what is refused, the
+    types that break, were removed or came, and how many are compatible, or which."""
     for cause in run["causes"]:
-        yield line_of_cause(cause, run["both"])
-        yield f"  {why(cause)}"
+        yield line_of_cause(cause, run["both"]), None
+        yield f"  {why(cause)}", None
     for it in run["refusals"]:
-        yield f"refused {it['side']} {it['code']} {it['place']}"
+        yield f"refused {it['side']} {it['code']} {it['place']}", it
     for verdict in ("refused", "breaks", "removed", "added", *["compatible"] * names_types):
-        yield from (line_of(it, run["both"]) for it in run["answers"] if it["verdict"] == verdict)
+        yield from ((line_of(it, run["both"]), it if verdict == "refused" else None) for it in run["answers"] if it["verdict"] == verdict)
     if not names_types:
-        yield from counts_of(run)
+        yield from ((it, None) for it in counts_of(run))
     if run["is_empty"]:
-        yield "no message types"
+        yield "no message types", None
 
 
-def print_all(run, github, names_types):
-    say(*lines_of(run, names_types))
-    for hint in hints_of(run):
+def print_all(run, github, names_types, excerpts=None):
+    """Prints a run. With the lines of source files, by side and position, what is refused is shown on standard error after its line."""
+    is_shown, lines = excerpts is not None, list(lines_of(run, names_types))
+    if not is_shown:
+        say(*(line for line, _ in lines))
+    for line, refusal in lines if is_shown else ():
+        say(line)
+        if refusal and sentence_of(code_of(refusal)):
+            print(shown_on_terminal(refusal, run, excerpts), file=sys.stderr, flush=True)
+    for hint in hints_of(run, is_shown):
         advise(hint)
     if github:
         say(*annotations_of(run))
