@@ -25,7 +25,7 @@ def lengths(levels):
 
 
 def circle(length, scalar):
-    """Returns the text of a circle of so many types, the first of which has a field of this type."""
+    """Returns a source file of a circle of so many types, the first of which has a field of this type."""
     types = [f"message T{at} {{ T{(at + 1) % length} n = 1;{f' {scalar} x = 2;' if at == 0 else ''} }}\n" for at in range(length)]
     return 'syntax = "proto3";\n' + "".join(types)
 

@@ -1,7 +1,7 @@
 #!/usr/bin/env bash
-# How deep messages in messages may be read, tested, written, copied and dropped on a stack of so many KiB: in fields, in lists and in
-# maps; of how many types in one another a set is written; how deep a witness `protogate gate` builds; and how deep a one `protogate verify`
-# reads, behind what it says of the longest chain of types.
+# How deep nested messages may be read, tested, written, copied and dropped on a stack of so many KiB: in fields, in lists and in maps; of
+# how many nested types a set is written; how deep a witness `protogate gate` builds; and how deep a witness `protogate verify` reads, after
+# its answer on the longest chain of types.
 # usage: bench/depth.sh [FOLDER [KIB [KIND..]]]    FOLDER keeps the built program for the next run; by default the stack has 8,192 KiB.
 # KIND is gate, verify, types, or CALLS:NEST; by default all. CALLS is own (messages that own their parts), lent (those that borrow them),
 # relay, breaks, unshared (what another type lacks of a message) or written (a message beside its bytes), NEST is fields, lists or maps.

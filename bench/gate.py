@@ -42,7 +42,7 @@ def chain(number, _side):
 
 
 def circle(number, _side):
-    """The first type has a field of every other one, so that these stand in the table by number; they refer to each other from both
+    """The first type has a field of every other one, so that the table has these by number; they refer to each other from both
     ends in turn, 1, 4095, 2, 4094 and so on to the middle, and from there to 1."""
     if number == 0:
         for other in range(1, TYPES):

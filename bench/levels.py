@@ -1,7 +1,7 @@
 #!/usr/bin/env python3
-"""Prints how many bytes of stack each call takes for a level of messages in messages: in fields, in lists and in maps. Of texts it prints
-the bytes of stack for message blocks in one another, 64 of them, and for a chain of 1,024 files: as many of each as there may be; and of
-message types in one another for the 97 of a set that is read, and for the 4,096 that a schema may have.
+"""Prints how many bytes of stack each call takes for a level of nested messages: in fields, in lists and in maps. Of source files it
+prints the bytes of stack for 64 nested message blocks and for a chain of 1,024 files, the most that there may be. Of nested message types
+it prints them for the 97 that a set may have when it is read, and for the 4,096 of a schema.
 
 usage: bench/levels.py PROGRAM [LEVELS]    by default 20,000 levels; PROGRAM is crates/depth/out/depth in the folder of bench/depth.sh
 

@@ -18,7 +18,7 @@ IMPORTS = 8
 
 
 def use(number, at):
-    """A type name that the file of this number sees."""
+    """A type name that the file of this number imports or declares."""
     other = max(number - at % (IMPORTS + 1), 0)
     name = f"Type{other}_{at % TYPES}"
     return [name, f"bench.p{other % 7}.{name}", f".bench.p{other % 7}.{name}"][at % 3 if other % 7 == number % 7 else 1 + at % 2]

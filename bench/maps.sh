@@ -1,8 +1,8 @@
 #!/usr/bin/env bash
 # Times decode of maps of 10,000, 30,000 and 100,000 entries: with rising keys, falling ones, keys all about, falling ones in two maps
-# by turns, and two keys by turns. A hundred thousand should take some ten times as long as ten thousand. Then of maps in a child of
-# which each entry stands in a record of its own, with falling keys and with rising ones, and of which every 17 entries do, with falling
-# keys: twice as many should take some twice as long.
+# by turns, and two keys by turns. A hundred thousand should take some ten times as long as ten thousand. Then it times maps in a
+# child: one whose entries each have a record of their own, with falling keys and with rising ones, and one with a record for every 17
+# entries, with falling keys. Twice as many should take some twice as long.
 # usage: bench/maps.sh [FOLDER]    FOLDER keeps the built program for the next run.
 set -eu
 top=$(cd "$(dirname "$0")/.." && pwd)

@@ -1,5 +1,5 @@
 #!/usr/bin/env python3
-"""Writes a proto3 file of messages that stand in one another, with long names: 30 messages of 10,000 letters each, in each 30 uses.
+"""Writes a proto3 file of 30 nested messages, each with a name of 10,000 letters and 30 uses.
 
 usage: names.py FOLDER
 

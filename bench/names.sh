@@ -1,5 +1,5 @@
 #!/usr/bin/env bash
-# Times linking of one file of 300 KB whose messages have long names and stand in one another, beside protoc on the same file.
+# Times linking of one file of 300 KB with nested messages of long names, beside protoc on the same file.
 # Each name is kept in full, and so costs the length of those around it; protoc does the same.
 # usage: bench/names.sh [FOLDER]    FOLDER keeps the built program for the next run, also that of bench/link.sh.
 set -eu

@@ -1,8 +1,8 @@
 #!/usr/bin/env bash
-# Times decode of messages of 1,000 and of 10,000 fields behind which 100,000 records alternate between the members of a oneof: next to
-# each other, around all other fields, in a oneof for each two fields, and the first two again in a child of whose records each stands in
-# one of its own. The number of fields should make little difference. Then of such a child in which a field is a zero or a number by
-# turns, of fields that come by falling number, and of the third kind's fields in such a child: these take time by the fields.
+# Times decode of messages of 1,000 and of 10,000 fields, after which 100,000 records alternate between the members of a oneof: next to
+# each other, around all other fields, in a oneof for each two fields, and the first two again in a child that comes in pieces, one record
+# in each. The number of fields should make little difference. Then it times such a child in which a field is a zero or a number by turns,
+# fields that come by falling number, and the third kind's fields in such a child: these take time by the fields.
 # usage: bench/oneofs.sh [FOLDER]    FOLDER keeps the built program for the next run.
 set -eu
 top=$(cd "$(dirname "$0")/.." && pwd)

@@ -63,7 +63,7 @@ compare() {
     python3 "$top/bench/timed.py" 5 $call -- sh -c "$peer"
 }
 
-# grow WHOLE QUARTER: the ratio behind the first time is the growth.
+# grow WHOLE QUARTER: the ratio after the first time is the growth.
 grow() {
     local whole
     words_of "$1"

@@ -1,5 +1,5 @@
 #!/usr/bin/env bash
-# Times a file of 4,096 message types with 15 fields each, from its text to a checked schema, beside protoc on the same file; then files
+# Times a file of 4,096 message types with 15 fields each, from its bytes to a checked schema, beside protoc on the same file; then files
 # with bodies of 1,000 and of 10,000 fields, members, maps, values and a tenth as many reserved ranges, of which the second should take ten
 # times as long as the first.
 # usage: bench/rules.sh [FOLDER]    FOLDER keeps the built program for the next run.

@@ -1,6 +1,6 @@
 #!/usr/bin/env python3
-"""Writes a proto3 text of about 4 MB, of 3,700 message types with 32 fields each; or of so many types. Each type has a comment, but where
-the last word is `bare`.
+"""Writes a proto3 source file of about 4 MB, of 3,700 message types with 32 fields each; or of so many types. Each type has a comment,
+unless the last argument is `bare`.
 
 usage: sets.py FILE [TYPES [bare]]
 """

@@ -1,7 +1,7 @@
 #!/usr/bin/env bash
-# Times `protogate compile` of a text of 4 MB, with comments and without, and of 1,024 files, and `protogate gate` on the text's set as both
-# sides, beside protoc: compiling the same texts, and reading and writing the same set twice. Then the same of a quarter of the types and of
-# the files: four times as many should take some four times as long.
+# Times `protogate compile` of a source file of 4 MB, with comments and without, and of 1,024 files, and `protogate gate` on that file's set
+# as both sides, beside protoc: compiling the same files, and reading and writing the same set twice. Then it times a quarter of the types
+# and of the files: four times as many should take some four times as long.
 # usage: bench/sets.sh [FOLDER]
 set -eu
 top=$(cd "$(dirname "$0")/.." && pwd)

@@ -1,5 +1,5 @@
 #!/usr/bin/env python3
-"""Writes a proto3 text of ordinary declarations with comments, of about the bytes that are asked for.
+"""Writes a proto3 source file of ordinary declarations with comments, of about the bytes that are asked for.
 
 usage: text.py BYTES > FILE
 """

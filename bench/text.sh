@@ -1,5 +1,5 @@
 #!/usr/bin/env bash
-# Times the lexer and the parser on a text of 4 MB, beside protoc on the same text.
+# Times the lexer and the parser on a source file of 4 MB, beside protoc on the same file.
 # usage: bench/text.sh [FOLDER]    FOLDER keeps the built program for the next run.
 set -eu
 top=$(cd "$(dirname "$0")/.." && pwd)

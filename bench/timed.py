@@ -4,7 +4,7 @@
 usage: timed.py TIMES WORD.. [-- WORD..]..
 
 Times are of the whole process, from its start to its end, in seconds; memory is its largest resident set, in MB. What the
-commands print is thrown away; their statuses are told. Behind each time stands its ratio to that of the last command. Beside
+commands print is thrown away; their statuses are told. Each time is followed by its ratio to that of the last command. Beside
 other work on the machine the processor time says more, for a process that waits takes none.
 """
 import os

@@ -1,10 +1,10 @@
 #!/usr/bin/env python3
 """Proves and builds the program: each crate once those below it are proved, as many side by side as there are processors and memory for.
 
-usage: tools/build.py    what is built already, and unchanged, is taken as it stands, so a build that was stopped goes on from there
+usage: tools/build.py    what is built already, and unchanged, isn't built again, so a build that was stopped goes on from there
 
-It says at the start and each minute how long it is likely to take. Another build of the same checkout waits until this one has ended. Beside the
-program stands when its sources were read, and which kit proved it (stamp.py). Only a next build needs the libraries; at most 4 GB of these are
+It says at the start and each minute how long it is likely to take. Another build of the same checkout waits until this one has ended. Files
+beside the program say when its sources were read, and which kit proved it (stamp.py). Only a next build needs the libraries; at most 4 GB of these are
 left. What only a next check of a library needs is removed once that is built; with --keep all stays, so that a build after a change takes
 less time.
 """
@@ -37,7 +37,7 @@ DISK, MOST_LEFT = 6_000_000_000, 4_000_000_000
 USAGE = 4
 # So many jobs a check is faster by more of them.
 MOST_JOBS = 4
-# The processor seconds below which a crate was taken as it stands.
+# The processor seconds below which a crate was there already.
 TAKEN = 4
 # What a build wants on the path, and what for.
 PROGRAMS = {"rt": "the kit that proves and builds", "cc": "it links the program"}
@@ -53,7 +53,7 @@ def say(text):
 
 
 def lane_of(name):
-    """Returns the folder in which a crate is checked while rt keeps its own place for another check."""
+    """Returns the folder in which a crate is checked while rt keeps its own folder for another check."""
     return f"{TOP}/crates/{PROGRAM}/out/lanes/{name}"
 
 

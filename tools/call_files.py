@@ -31,7 +31,7 @@ VIEWS = ("numbers", "names")
 MISSING, FAILED = "missing", "failed"
 # A file of this many bytes is not read.
 MOST_BYTES = 2_147_483_647
-# The program links at most 1,024 files of a side. Imports that only this reader sees may be among as many again.
+# The program links at most 1,024 files of a side. This reader may take other words for imports, so there may be more here.
 MOST_FILES = 4096
 # The file that keeps a folder in the copy, since only files are handed over.
 KEPT = "kept.folder"
@@ -262,7 +262,7 @@ class Copies:
                 raise Unanswerable(f"{path!r} can't be handed over by that name")
 
     def handed(self):
-        """Returns the name and the place of each file of the copy."""
+        """Returns the name of each file of the copy, and where it is."""
         found = []
         for at, _, files in os.walk(self.top):
             found += [(os.path.relpath(f"{at}/{it}", self.top), f"{at}/{it}") for it in files]

@@ -3,7 +3,7 @@
 
 usage: tools/code_lines.py    a line for each crate, and one for all of them
 
-Code is each line of `src/` that is neither blank nor a comment, nor belongs to a contract or an import. A contract is what follows `requires`,
+Code is each line of `src/` that is neither empty nor a comment, nor belongs to a contract or an import. A contract is what follows `requires`,
 `ensures`, `invariant`, `decreases` or `ghost` up to its end. Definitions are the lines of `specs/`, proofs those of `proofs/`, with blank lines and
 comments. After each count of code and of proofs is the one from before the crates were made smaller.
 """
@@ -53,7 +53,7 @@ def depth_of(line):
 
 
 def kinds_of(lines):
-    """Yields the kind of each line of a source that isn't blank."""
+    """Yields the kind of each line of a source that isn't empty."""
     kind, depth = None, 0
     for line in lines:
         words = line.strip()

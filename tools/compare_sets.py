@@ -8,7 +8,7 @@ first statement asks for proto3. It wants protoc and python3-protobuf. One line 
 at the end the counts: equal, refused (by protogate's code), refused by protoc too or alone, different. The status is 0 where
 none differs.
 
-Both sets are decoded, and what the standard leaves to the writer is made alike: the place of a map's entry type among the
+Both sets are decoded, and what the standard leaves to the writer is made alike: the order of a map's entry type among the
 nested types, an rpc's options that state nothing, and the name of a oneof that `optional` makes.
 """
 import argparse

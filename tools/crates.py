@@ -14,7 +14,7 @@ class Crate:
         self.name, self.line, self.folder, self.deps = name, line, folder, deps
 
     def below(self):
-        """Returns the crates that this one stands on, lowest first, each once."""
+        """Returns the crates that this one needs, lowest first, each once."""
         found = []
         for dep in self.deps:
             found += [it for it in [*dep.below(), dep] if it not in found]
@@ -64,8 +64,8 @@ class BadEdit(Exception):
 
 
 def applied(text, folder):
-    """Returns the texts of the crate's files with this edit, by their paths. A line 'file: PATH' names a file; a line 'old: TEXT', whose text
-    stands in it once, and a line 'new: TEXT' after it turn it. No other line is read."""
+    """Returns the contents of the crate's files with this edit, by their paths. A line 'file: PATH' names a file; a line 'old: ..', with
+    what is in it once, and a line 'new: ..' after it change it. No other line is read."""
     path, old, pairs, texts = "", "", 0, {}
     for line in text.split("\n"):
         if line.startswith("file: "):
@@ -85,7 +85,7 @@ def applied(text, folder):
 
 
 def turn(texts, folder, path, old, new):
-    """Replaces a text that stands in the file once."""
+    """Replaces what is in the file once."""
     if path not in texts:
         if not os.path.isfile(f"{folder}/{path}"):
             raise BadEdit(f"there is no file {path}")
@@ -98,7 +98,7 @@ def turn(texts, folder, path, old, new):
 
 
 def texts_of_edit(path, folder):
-    """Returns the texts of the crate's files with the edit in this file."""
+    """Returns the contents of the crate's files with the edit in this file."""
     try:
         with open(path, encoding="utf-8") as file:
             return applied(file.read(), folder)

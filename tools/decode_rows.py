@@ -2,9 +2,9 @@
 """Makes rows of crates/bytes_rows: byte strings, and what python3-protobuf (its C++ core) reads and writes again.
 
 Run `/usr/bin/python3 tools/decode_rows.py` at the top of the repository. It writes the lines of crates/bytes_rows/stdin and stdout that
-begin with `another runtime` anew, behind the others, which are written by hand. The rows are always the same. Those of APART are what
+begin with `another runtime` anew, after the others, which are written by hand. The rows are always the same. Those of APART are what
 this repository and that runtime make of bytes otherwise by choice, each with its reason; all others leave it out. The lists of numbers
-stand in list_rows.py.
+are in list_rows.py.
 """
 import random
 import sys
@@ -266,7 +266,7 @@ ENTRIES = [
 def entries_between(r, depth):
     """Entries of few keys in any order, with other records between them."""
     kinds = []
-    # a map by numbers, one by texts and one to messages
+    # a map by numbers, one by strings and one to messages
     for number in [3, 12, 17]:
         key, kind = KEYS[(number - 1) % 12], VALUES[number - 1]
 
@@ -393,7 +393,7 @@ class Lines:
                 self.add(": %s: lists of other numbers" % name, "across " + data, back)
 
     def put_behind(self, folder):
-        """Puts them behind the lines that are written by hand."""
+        """Puts them after the lines that are written by hand."""
         for name, lines in [("stdin", self.asked), ("stdout", self.answered)]:
             with open(folder + "/" + name, encoding="utf-8") as file:
                 kept = [line for line in file if not line.startswith("another runtime")]
@@ -445,7 +445,7 @@ ODD = [
     ]),
 ]
 
-# The same of `W`.
+# Fields of `W`, which are odd in the same way.
 ODD_WIDE = [
     ("W: words and packed lists that are cut off", [
         "1a 07 00 00 00 00 00 00 00", "1a 09 00 00 00 00 00 00 00 00 00", "1a 0f" + "00" * 15, "22 03 00 00 00", "22 05 00 00 00 00 00", "19 00 00 00 00 00 00 00",

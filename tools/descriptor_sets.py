@@ -1,9 +1,9 @@
 #!/usr/bin/python3
 """Writes the rows of crates/fds_rows (descriptor sets by protoc, and what becomes of them when they are changed), and those rows of
-crates/gate_rows that compile the same texts.
+crates/gate_rows that compile the same source files.
 
-Needs protoc (3.21) and python3-protobuf. Each set is made by `protoc --include_imports --descriptor_set_out`, from sources in which the
-message types stand before the map fields beside them, as our writing has it; a changed set is made of one of these by python3-protobuf.
+Needs protoc (3.21) and python3-protobuf. Each set is made by `protoc --include_imports --descriptor_set_out`, from source files that
+declare message types before the map fields next to them, the order that protogate writes; a changed set is made of one of these by python3-protobuf.
 
     /usr/bin/python3 tools/descriptor_sets.py
 """
@@ -72,7 +72,7 @@ service S {
 }
 """,
 }
-# services.proto sees enums.proto's M beside m.proto's: the second is renamed.
+# services.proto has enums.proto's M in scope beside m.proto's: the second is renamed.
 SOURCES["services.proto"] = SOURCES["services.proto"].replace(".M m = 1", ".Other m = 1")
 SOURCES["other.proto"] = 'syntax = "proto3"; message Other { int32 a = 1; }'
 SOURCES["services.proto"] = SOURCES["services.proto"].replace('"m.proto"', '"other.proto"')
@@ -98,7 +98,7 @@ enum E { option deprecated = true; ZERO = 0; }
 SOURCES["d.proto"] = 'syntax = "proto3"; import public "b.proto"; import public "m.proto"; message D { B b = 1; M m = 2; }'
 
 
-# The names of errors by code (docs/REFUSALS.md): of bytes, of a set, and of the rules that it breaks, which are at no place.
+# The names of errors by code (docs/ERRORS.md): of bytes, of a set, and of the rules that it breaks, which have no position.
 WIRE_ERRORS = {501: "VarintTooLong", 502: "Truncated", 503: "BadTag", 504: "Group", 505: "BadWireType"}
 BYTES_ERRORS = {604: "NotUtf8", 608: "TooDeep"}
 SET_ERRORS = {702: "NotProto3", 703: "BadType", 704: "BadReference"}
@@ -139,7 +139,7 @@ def by_protoc():
 
 
 def texts_of_examples():
-    """Returns the folder and the name of each text of the repository's examples."""
+    """Returns the folder and the name of each source file of the repository's examples."""
     found = [(at, name) for at, _, names in os.walk(EXAMPLES) for name in names if name.endswith(".proto")]
     return sorted(found)
 
@@ -194,7 +194,7 @@ def first(name):
 
 
 def with_bytes(message, data):
-    """The message with these bytes behind its own, as an old or a newer program may write them."""
+    """The message with these bytes after its own, as an old or a newer program may write them."""
     return message.MergeFromString(data)
 
 
@@ -343,7 +343,7 @@ def named_as_first(message):
 
 
 def packed_texts(message):
-    """A list of texts more, which is packed."""
+    """One more list of strings, which is packed."""
     field = message.field.add(name="texts", number=9, label=3, type=9, json_name="texts")
     field.options.packed = True
 
@@ -371,7 +371,7 @@ def refused(sets):
 
     bytes_of_one = one.SerializeToString()
     rows.append(("a front", 502, bytes_of_one[:-1], 0))
-    # A fault stands at the first byte of the innermost record that has it: that of the type's name, and what stands behind the file.
+    # A fault is reported at the first byte of the innermost record that has it: that of the type's name, and what follows the file.
     rows.append(("no text", 604, bytes_of_one.replace(b"\x0a\x01M", b"\x0a\x01\xff"), bytes_of_one.index(b"\x0a\x01M")))
     for what, code, behind in (("a varint of 11 bytes", 501, b"\x08" + b"\x80" * 11), ("a tag of number 0", 503, b"\x00"),
                                ("a group behind", 504, b"\x0b"), ("a wire type 6", 505, b"\x0e")):
@@ -472,7 +472,7 @@ def refused(sets):
     row("a dot in a name beside a type in a type", 415, one, lambda s: (setattr(message(s), "name", "a.b"), s.file[0].message_type.add(name="a").nested_type.add(name="b")))
     row("two types of a name with a dot", 704, one, lambda s: (setattr(message(s), "name", "a.b"), s.file[0].message_type.add(name="a.b")))
     row("a type name for a name with a dot", 704, one, lambda s: (setattr(message(s), "name", "a.b"), setattr(field(s), "type", 11), setattr(field(s), "type_name", ".a.b")))
-    # The first that breaks a rule: types, enums, files. More than 4,096 types come before, and names that are no words behind all.
+    # The first that breaks a rule: types, enums, files. More than 4,096 types come before, and names that are no identifiers last.
     enum = lambda s: s.file[-1].enum_type[0]
     row("a type's rule before an enum's", 412, enums, lambda s: (packed_texts(message(s)), setattr(enum(s).value[2], "number", -5)))
     row("an enum's rule before a file's", 414, enums, lambda s: (s.file[0].enum_type.add(name="Empty"), with_bytes(s.file[0].options, b"\x48\x04")))

@@ -1,6 +1,6 @@
 """Runs other programs so that they end with this one: each is the first of a session of its own, and all of a session are ended together.
 
-`on_signals` has Ctrl-C, SIGTERM and SIGHUP end them, and then this program by SystemExit. So what stands in a `finally` or a `with` is done.
+`on_signals` has Ctrl-C, SIGTERM and SIGHUP end them, and then this program by SystemExit. So the code of a `finally` or a `with` still runs.
 One that the caller ignores, as SIGHUP below nohup, is ignored here too.
 """
 

@@ -4,7 +4,7 @@
 usage: tools/first_answer.py [WORD..]    takes the words that `protogate` takes
 
 It prints what the program prints and ends with its status: so does a call of the proved program, but that starts at once. Where `rt try`
-comes to no answer it ends with 3, and says what `rt try` said. It works beside builds and other calls, and leaves nothing behind.
+comes to no answer it ends with 3, and says what `rt try` said. It works beside builds and other calls, and leaves no file.
 """
 
 import contextlib
@@ -178,6 +178,16 @@ def lacks_tools():
     return True
 
 
+def show_refusals(printed, words):
+    """Shows on a terminal in words what was refused, as the script that starts the proved program does."""
+    scripts = f"{TOP}/examples/ci"
+    if sys.stderr and sys.stderr.isatty() and os.path.isfile(f"{scripts}/shown.py"):
+        sys.path.append(scripts)
+        from shown import shown
+
+        write_all(sys.stderr, os.fsencode(shown(os.fsdecode(printed), words, "gate.sh")))
+
+
 def run(words):
     """Answers the words, and returns the status to end with."""
     if lacks_tools():
@@ -188,6 +198,8 @@ def run(words):
         with tempfile.TemporaryDirectory(prefix="protogate-") as room:
             printed, status = answer(words, room)
         status = status if write_all(sys.stdout, printed) else NO_ANSWER
+        if status in (2, 3):
+            show_refusals(printed, words)
     except NoAnswer as fault:
         write_all(sys.stderr, fault.said)
         say(f"no answer: {fault}")

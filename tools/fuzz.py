@@ -1,22 +1,22 @@
 #!/usr/bin/env python3
-"""Runs the built program on texts, descriptor sets, certificates and messages that are changed at random, and judges its answers.
+"""Runs the built program on source files, descriptor sets, certificates and messages that are changed at random, and judges its answers.
 
     tools/fuzz.py [--seed N] [--count N] [--seconds N] [--jobs N] [--only KIND:NUMBER] [--folder FOLDER] [PROGRAM]
 
-KIND is text, set, certificate or message. Of each kind COUNT inputs are tried (20,000 by default), by as many processes side by side as
-there are processors. That takes a minute or two of four of them. It goes on until all are tried, but fails where that takes more than
+KIND is `text` (source files), `set`, `certificate` or `message`. Of each kind COUNT inputs are tried (20,000 by default), by as many
+processes side by side as there are processors. That takes a minute or two of four of them. It goes on until all are tried, but fails where that takes more than
 SECONDS (600), and says how many were. What is changed are the repository's own inputs (tools/fuzz_seeds.py), one to four times each
 (tools/fuzz_changes.py). The input of a kind and number is the same for a seed, however many are tried.
 
 Asked of every run: it ends within ten seconds with a status from 0 to 5, by no signal, with nothing on standard error, and prints
-just what docs/USAGE.md and docs/REFUSALS.md say of that subcommand and status. Asked of what is accepted:
+just what docs/USAGE.md and docs/ERRORS.md say of that subcommand and status. Asked of what is accepted:
 
-- text, set: the certificate of `gate --cert` passes `verify`, with the same status and the length of its root, and names the view that was
-  asked for, by numbers or by names. Of one in eight `gate` without `--cert` says the same; of one in sixteen `--both` begins with that, the
+- `text`, `set`: the certificate of `gate --cert` passes `verify`, with the same status and the length of its root, and names the view
+  that was asked for, by numbers or by names. Of one in eight `gate` without `--cert` says the same; of one in sixteen `--both` begins with that, the
   witness has its length, the old side reads it and writes it again, and `--explain` says what `show` says of it. Of one in eight `types` names the types of the changed side, each
   by its full name and the one that was asked for among them where the gate answers; it refuses what `gate` refuses of that side. Of one in
   sixteen `gate-all` says of all types what `gate` says of one and `types` names, and `show` reads the message of a cause as it says
-- text: what `compile` refuses, `gate` refuses alike; the set that `compile` writes is one for protoc, where it is there, and, of one in
+- `text`: what `compile` refuses, `gate` refuses alike; the set that `compile` writes is one for protoc, where it is there, and, of one in
   four, for `show`
 - certificate: `gate` answers what `verify` says has been proved
 - message: `show` of what was written again shows the same, and the same bytes again
@@ -251,7 +251,7 @@ def judge_certificate(room, words, sides, status, certificate):
 
 def judge_gate(room, random_, sides, type_):
     """Asks the gate of two sides for its certificate by one view, and checks it; of a share also for the answer, and of a part of that for
-    both directions, and the witness is shown. Returns the status and the text of the first of these calls."""
+    both directions, and the witness is shown. Returns the status and the output of the first of these calls."""
     words = ["gate", *sides, "--type", type_, *random_.choice(VIEWS)]
     is_both, is_plain = (random_.randrange(it) == 0 for it in (BOTH_SHARE, PLAIN_SHARE))
     status, said = room.run([*words, "--cert"], "certificate", keep="c")
@@ -268,7 +268,7 @@ def judge_gate(room, random_, sides, type_):
 
 
 def judge_types(room, side, sides, type_, answer):
-    """Asks which types the changed side has, and compares that with the answer of the gate: its status and text."""
+    """Asks which types the changed side has, and compares that with the answer of the gate: its status and output."""
     status, said = answer
     listed, names = room.run(["types", "--dir", side, sides[sides.index("--" + side) + 1]])
     if listed not in ACCEPTED["types"]:
@@ -293,7 +293,7 @@ def judge_protoc(path, name):
 
 
 def judge_compile(room, random_, side, name, type_, answer):
-    """Compiles the text of a side, and reads the set that is written. What is refused `gate` refuses alike."""
+    """Compiles the source file of a side, and reads the set that is written. What is refused `gate` refuses alike."""
     status, said = room.run(["compile", "--dir", side, name], keep="compiled.pb")
     if status not in ACCEPTED["compile"]:
         expect(is_refused_alike(said, answer, side), f"compile: {quoted(said)}, gate: {quoted(answer)}")
@@ -329,7 +329,7 @@ def judge_all(room, random_, sides, type_):
 
 
 def judge_sides(room, random_, seed, side, type_):
-    """Asks the gate of two sides of which one was changed, of a share also which types that has, and returns its status and text."""
+    """Asks the gate of two sides of which one was changed, of a share also which types that has, and returns its status and output."""
     sides = sides_of(seed)
     status, said = judge_gate(room, random_, sides, type_)
     if random_.randrange(TYPES_SHARE) == 0:
@@ -340,7 +340,7 @@ def judge_sides(room, random_, seed, side, type_):
 
 
 def try_text(room, random_, seeds):
-    """Changes a text of one side, and compares it with the other side."""
+    """Changes a source file of one side, and compares it with the other side."""
     seed, other = random_.choice(seeds["text"]), random_.choice(seeds["text"])
     side, type_ = random_.choice(("old", "new")), random_.choice(seed.types)
     files = {"old": dict(seed.old_files), "new": dict(seed.new_files)}
@@ -465,7 +465,7 @@ def inputs_of(options, share):
 
 
 def try_share(options, seeds, share):
-    """Tries a share of the inputs, as far as the time goes. Returns its counts, and what to print of each failure behind its place in the
+    """Tries a share of the inputs, as far as the time goes. Returns its counts, and what to print of each failure, with its index in the
     order."""
     room, counts, failures = Room(options.program, options.library), collections.Counter(), []
     try:
@@ -482,7 +482,7 @@ def try_share(options, seeds, share):
 
 
 def made_seeds(options, seeds):
-    """Returns the sets that the program makes of the texts of each change, and the certificates between them, by both views."""
+    """Returns the sets that the program makes of the source files of each change, and the certificates between them, by both views."""
     room, sets, certificates = Room(options.program, options.library), [], []
     for seed in seeds:
         room.clear()

@@ -1,4 +1,4 @@
-"""How tools/fuzz.py changes bytes, messages, texts and certificates: each function takes a source of random numbers and what it changes."""
+"""How tools/fuzz.py changes bytes, messages, source files and certificates: each function takes a source of random numbers and what it changes."""
 import functools
 import re
 
@@ -72,7 +72,7 @@ def varint(number):
 
 
 def read_varint(data, at):
-    """Returns the varint at a place and where it ends, or nothing."""
+    """Returns the varint at an offset and where it ends, or nothing."""
     number = 0
     for length in range(min(10, len(data) - at)):
         number |= (data[at + length] & 127) << 7 * length
@@ -134,7 +134,7 @@ def a_record(random, number):
 
 
 def change_records(random, records, other):
-    """Changes one record, or its place."""
+    """Changes one record, or moves it."""
     at = random.randrange(len(records))
     record = records[at]
     way = random.randrange(10)
@@ -203,7 +203,7 @@ def put_word(random, tokens, other):
 
 
 def a_statement(random, tokens):
-    """Returns the ends of the tokens up to a semicolon, behind what ends the statement before."""
+    """Returns the ends of the tokens up to a semicolon, after what ends the statement before."""
     end = place_of(random, tokens, lambda it: it == b";")
     if end is None:
         return 0, 0
@@ -219,7 +219,7 @@ def drop_statement(random, tokens, _):
 
 
 def put_statement(random, tokens, other):
-    """Puts a statement of this text or of another one behind a statement."""
+    """Puts a statement of this source file or of another one after a statement."""
     source = random.choice((tokens, other))
     begin, end = a_statement(random, source)
     _, at = a_statement(random, tokens)
@@ -231,7 +231,7 @@ TEXT_CHANGES = (change_scalar,) * 6 + (change_label,) * 3 + (change_number,) * 3
 
 
 def changed_text(random, data, other):
-    """Returns a text with one of its tokens or statements changed, seldom with bytes changed."""
+    """Returns a source file with one of its tokens or statements changed, seldom with bytes changed."""
     tokens = list(tokens_of(data))
     if not tokens or random.random() < 0.06:
         return changed_bytes(random, data, other)

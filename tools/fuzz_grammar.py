@@ -1,6 +1,6 @@
 """What the program may print, by subcommand and status, as tools/fuzz.py asks it: regular expressions of the whole output.
 
-Places of a text are `FILE:LINE:COLUMN`, and a file is named as the text that imports it names it. The input is small and its files
+A position in a source file is `FILE:LINE:COLUMN`, and a file is named as the import has it. The input is small and its files
 are there, so that no run is short of memory (E001) or has a device that fails but by a folder in the place of a file.
 """
 import re
@@ -13,7 +13,7 @@ BYTES = rb"(?:-|%s)" % HEX
 PLACE = rb"[^\n]*:%s:%s" % (NUMBER, NUMBER)
 STEP_PLACE = rb"(?:-|%s)" % PLACE
 
-# A fault of a text, at its place or in a file; one of a set, in its bytes or in what it states.
+# A fault of a source file, at its position or in a whole file; one of a set, in its bytes or in what it states.
 TEXT_FAULT = rb"(?:E10[1-8]|E20[1-7]|E30[1-8]|E40[1-9]|E41[0-4]) %s|(?:E301|E308) [^\n]*" % PLACE
 BYTES_FAULT = rb"(?:E50[1-5]|E604|E608) at \d+"
 SET_FAULT = rb"%s|E70[234]|E40[1-9]|E41[0-5]" % BYTES_FAULT
@@ -75,7 +75,7 @@ FORMS = {
 
 ANSWERS = {call: {status: re.compile(form) for status, form in forms.items()} for call, forms in FORMS.items()}
 
-# What protoc 3.21 says of a set that proto3 has no rule against: whole lines, each behind the file's name. Names are compared as JSON
+# What protoc 3.21 says of a set that proto3 has no rule against: whole lines, each after the file's name. Names are compared as JSON
 # names in camel case, whichever are given, and values of an enum without its name and in one case. Of a file that has such a fault the
 # files that import it say that, and that its types are not there.
 PROTOC_SAYS = b"|".join([

@@ -1,4 +1,4 @@
-"""What tools/fuzz.py changes: the texts, descriptor sets, certificates and messages of examples/ and of the rows of crates/.
+"""What tools/fuzz.py changes: the source files, descriptor sets, certificates and messages of examples/ and of the rows of crates/.
 
 Bytes are spelled in rows as crates/rows says. Of the rows that run the program, those are taken that it accepts.
 """
@@ -10,7 +10,7 @@ from fuzz_changes import records_of
 
 ROOT = os.path.dirname(os.path.dirname(os.path.abspath(__file__)))
 
-# Texts that are longer are left out: they take long, and short ones say as much.
+# Source files that are longer are left out: they take long, and short ones say as much.
 LONGEST = 20_000
 
 # Two sides, each with its files by path and the one that is asked for; the types that may be asked for; and a certificate between
@@ -73,14 +73,14 @@ def seeds_of_rows():
 
 
 def types_of_text(text):
-    """Returns the full names of the message types that begin a line of a text."""
+    """Returns the full names of the message types that begin a line of a source file."""
     package = re.search(r"^package ([\w.]+);", text, re.M)
     names = re.findall(r"^message (\w+)", text, re.M)
     return [f"{package[1]}.{it}" if package else it for it in names]
 
 
 def read_folder(folder):
-    """Returns the texts right in a folder, by name."""
+    """Returns the source files right in a folder, by name."""
     found = {}
     for name in sorted(os.listdir(folder)):
         if name.endswith(".proto"):
@@ -95,7 +95,7 @@ def example(old_folder, old, new_folder, new):
 
 
 def seeds_of_examples():
-    """Returns a seed for each change of examples/ between two texts."""
+    """Returns a seed for each change of examples/ between two source files."""
     at = os.path.join(ROOT, "examples")
     changes = sorted(os.listdir(os.path.join(at, "changes")))
     folders = [os.path.join(at, "changes", it) for it in changes]
@@ -104,7 +104,7 @@ def seeds_of_examples():
 
 
 def text_of_type(spelled):
-    """Returns the text of a type as crates/bytes_rows spells it, `M: FIELD, FIELD`, each field as `LABEL TYPE NAME=NUMBER`."""
+    """Returns a source file of a type as crates/bytes_rows spells it, `M: FIELD, FIELD`, each field as `LABEL TYPE NAME=NUMBER`."""
     plain, oneofs = [], {}
     for oneof, label, type_, name, number in FIELD.findall(spelled):
         packed = " [packed = false]" if label == "unpacked" else ""
@@ -116,7 +116,7 @@ def text_of_type(spelled):
 
 
 def seeds_of_messages():
-    """Returns a seed for each message of crates/bytes_rows, with the text of the type that stands in front of it there."""
+    """Returns a seed for each message of crates/bytes_rows, with a source file of the type that is before it there."""
     found, text = [], b""
     for row in lines_of("bytes_rows", "stdin"):
         asked = row.partition(" | ")[2]
@@ -158,7 +158,7 @@ def seeds_of_sets():
 
 
 def all_seeds():
-    """Returns the seeds by kind; the sets that the program makes of the texts come beside these."""
+    """Returns the seeds by kind; the sets that the program makes of the source files come beside these."""
     sides, certificates, messages = seeds_of_rows()
     is_set = [it for it in sides if not (it.old.endswith(".proto") and it.new.endswith(".proto"))]
     return {

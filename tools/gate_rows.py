@@ -4,9 +4,9 @@ nests, and what is wanted of them.
 
     tools/gate_rows.py
 
-A row stands in crates/*_rows/stdin, and what the program has to print of it in crates/*_rows/stdout. This script makes the rows
+A row is in crates/*_rows/stdin, and what the program has to print of it in crates/*_rows/stdout. This script makes the rows
 that are too long to write by hand. What is wanted is computed here by the rules of the language, of message bytes and of certificates
-(docs/MODEL.md, docs/CERTIFICATES.md, docs/REFUSALS.md), never by the program. All other rows stay as they stand, in front of these.
+(docs/MODEL.md, docs/CERTIFICATES.md, docs/ERRORS.md), never by the program. All other rows stay as they are, before these.
 """
 import os
 import re
@@ -36,7 +36,7 @@ def printed(data):
 
 
 def spelled(data):
-    """The bytes as rows spell them: quotes as they are, and no blanks at the ends or round the marks that end a file or a side."""
+    """The bytes as rows spell them: quotes as they are, and no spaces at the ends or round the marks that end a file or a side."""
     text = re.sub(r"\\(['\"])", r"\1", printed(data))
     return re.sub("^ | $|(?<= )[|;](?= )", lambda found: "\\x%02x" % ord(found[0]), text)
 
@@ -68,7 +68,7 @@ def place(text, at, path):
 
 
 def field(text, name, number, path):
-    """The full name and the place of the field of that number in the message of that full name."""
+    """The full name and the position of the field of that number in the message of that full name."""
     start = text.index("message %s {" % name.rpartition(".")[2])
     found = re.compile(r"(\w+) = %d\b" % number).search(text, start)
     return "%s.%s %s" % (name, found[1], place(text, found.start(), path))
@@ -82,7 +82,7 @@ FIRST, SECOND = "protogate-certificate 1\n", "protogate-certificate 2\nview numb
 
 
 def certificate(root, pairs, witness="none", heading=SECOND):
-    """The text of a certificate between types of the same names."""
+    """A certificate between types of the same names."""
     table = "".join("pair %s %s %s\n" % (name, name, bound) for name, bound in pairs)
     return "%sroot %s %s\n%switness %s\nend\n" % (heading, root, root, table, witness)
 
@@ -107,9 +107,9 @@ def chain(scalar, last):
 
 
 def chain_readings(last, witness):
-    """How both sides read the witness of such a chain: as 2^31 and as -2^31, or neither where the number stands deeper than 100 levels."""
+    """How both sides read the witness of such a chain: as 2^31 and as -2^31, or neither where the number is deeper than 100 levels."""
     if last >= 100:
-        # The fault stands at the innermost message's record, of eight bytes.
+        # The fault is at the innermost message's record, of eight bytes.
         refused = "refused E608 at %d\n" % (len(witness) - 8)
         return "old\n%snew\n%s" % (refused, refused)
     again = b"\x08" + varint(2**64 - 2**31)
@@ -159,7 +159,7 @@ def answer_row(what, call, *words, wanted):
 
 
 def chain_calls(last):
-    """A number past the sign bit at the end of a chain of types, by the calls: what is found, and what the checker says of its text."""
+    """A number past the sign bit at the end of a chain of types, by the calls: what is found, and what the checker says of its certificate."""
     sides = ["C%d: <<%d 0 C# n=1; C#: >>C0 n=1; C0: %s a=1" % (last, last - 1, scalar) for scalar in ("uint32", "int32")]
     witness, bounds = bytes.fromhex("088080808008"), [6]
     for _ in range(last):
@@ -274,7 +274,7 @@ def nested_rows():
     shown = "".join("  " * depth + "1 m msg\n" for depth in range(99))
     row("99 messages in one another", words + deep.hex(), text, "", 0, shown + "again %s\n" % deep.hex())
     deeper = inside(deep)
-    # The fault stands at the innermost record, of two bytes.
+    # The fault is at the innermost record, of two bytes.
     refused = "refused E608 at %d\n" % (len(deeper) - 2)
     row("100 messages in one another", words + deeper.hex(), text, "", 2, refused)
 
@@ -286,7 +286,7 @@ def many_types(count):
 def many_types_rows():
     words, one = "gate %s --type M" % TEXTS, files(("m.proto", message("int32 a = 1;")))
     row("4096 message types", words, files(("m.proto", many_types(4096))), one, 0, "compatible M\n")
-    # The last type is refused: each but the first has a line of its own, behind two lines.
+    # The last type is refused: each but the first has a line of its own, after two lines.
     refused = "refused old E413 m.proto:4098:9\n"
     row("4097 message types", words, files(("m.proto", many_types(4097))), one, 2, refused)
 
@@ -300,7 +300,7 @@ def deep_block_rows():
     row("65 message blocks in one another", words, deeper, files(("m.proto", message("int32 a = 1;"))), 2, refused)
 
 
-# Each statement of a file but a service, with one blank between two tokens of a line.
+# Each statement of a file but a service, with one space between two tokens of a line.
 STATEMENTS = """syntax = "proto3" ;
 import "b.proto" ;
 import public "c" ".proto" ;
@@ -330,7 +330,7 @@ reserved "J" ;
 
 
 def closing_rows():
-    """A closing parenthesis before any token behind the first statement, or at the end, can't go on."""
+    """A closing parenthesis before any token after the first statement, or at the end, is unexpected."""
     first = STATEMENTS.index("\n") + 1
     places = [found.start() for found in re.finditer(r"\S+", STATEMENTS) if found.start() >= first] + [len(STATEMENTS)]
     words, one = "gate %s --type M" % TEXTS, files(("m.proto", message("int32 a = 1;")))
@@ -341,7 +341,7 @@ def closing_rows():
 
 
 def rewrite(folder, rows):
-    """Writes the rows into stdin and stdout of that crate, behind the other rows that stand there."""
+    """Writes the rows into stdin and stdout of that crate, after the other rows."""
     for name, at in (("stdin", 0), ("stdout", 1)):
         path = os.path.join(CRATES, folder, name)
         with open(path) as file:

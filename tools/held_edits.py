@@ -1,12 +1,15 @@
 #!/usr/bin/env python3
 """Holds the set of edits: each public function of a library that isn't a law has one that the gate tries.
 
-usage: tools/held_edits.py --compare    prints the functions that have none; the status is 1 where there are some
+usage: tools/held_edits.py --compare         prints the functions that have none; the status is 1 where there are some
+       tools/held_edits.py --list [CRATE..]  prints the edits of these crates, or of all, as the sentences that their names are, with the
+                                             files that each turns; those of `more-edits`, which are tried by hand, come last
 
 An edit is of a function where it turns its body, or the body of a promise that calls it: a function of a crate NAME_promises that names
 the library in crates.txt. A law has an empty body, or one that only calls laws of libraries.
 """
 
+import glob
 import os
 import re
 import sys
@@ -84,11 +87,32 @@ def without_edits(top):
     return lacking
 
 
-def main():
+def sentences(crate):
+    """Yields a line for each edit of a crate: what it does, by its name, and the files that it turns."""
+    by_hand = sorted(glob.glob(f"{crate.folder}/more-edits/*.edit"))
+    for path in [*files_of_edits(crate.folder)[0], *by_hand]:
+        with open(path, encoding="utf-8") as file:
+            turns = dict.fromkeys(re.findall(r"^file: *(\S+)", file.read(), re.M))
+        said = os.path.basename(path).removesuffix(".edit").replace("_", " ")
+        yield f"  {said} ({', '.join(turns)}){', by hand' if path in by_hand else ''}"
+
+
+def list_edits(names):
+    """Prints the edits of the crates of these names, or of all that have some."""
+    for name, crate in crates_of(TOP).items():
+        found = [] if names and name not in names else list(sentences(crate))
+        if found:
+            print("\n".join([f"{name}: {len(found)}", *found]))
+
+
+def main(words):
+    if words[:1] == ["--list"]:
+        list_edits(words[1:])
+        return 0
     lacking = without_edits(TOP)
     print("\n".join([*lacking, f"public functions without an edit: {len(lacking)}"]))
     return 1 if lacking else 0
 
 
 if __name__ == "__main__":
-    sys.exit(main())
+    sys.exit(main(sys.argv[1:]))

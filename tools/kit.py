@@ -80,7 +80,7 @@ def copy_parts(folder, to):
 
 
 def link_built(folder, to):
-    """Gives what was built of a library another place by links, which take no room, without what its own checks keep."""
+    """Links what was built of a library into another folder, which takes no room, without what its own checks keep."""
     if os.path.isdir(f"{folder}/out"):
         left = shutil.ignore_patterns(os.path.basename(KEPT))
         shutil.copytree(f"{folder}/out", f"{to}/out", copy_function=link_or_copy, ignore=left, symlinks=True)

@@ -5,7 +5,7 @@ usage: tools/links.py            the pages that are named without a link, by doc
        tools/links.py --write    links them
        tools/links.py --compare  status 1 where a link leads to no file, or to no heading of a page
 
-A link's target counts from its document's folder; links to other places on the net are passed over. A page is named by its path from
+A link's target counts from its document's folder; links to the net are passed over. A page is named by its path from
 the top, as in `docs/USAGE.md`.
 """
 

@@ -28,7 +28,7 @@ def schema(name, packed, kinds):
 
 
 def numbers(first, second):
-    """Integers that both kinds have: of either the least and the greatest, and some between, of which two stand twice."""
+    """Integers that both kinds have: of either the least and the greatest, and some between, two of them twice."""
     some = dict.fromkeys([0, 1, -1, 5, 127, 128, 300, -300, 2**31, LEAST[first], GREATEST[first], LEAST[second], GREATEST[second]])
     least, greatest = max(LEAST[first], LEAST[second]), min(GREATEST[first], GREATEST[second])
     return [it for it in some if least <= it <= greatest] + [1, 0]

@@ -3,8 +3,9 @@
 
 usage: tools/model_files.py            the files and lines: of a breaking message, of what `gate`, `gate_with`, `relay` and `gate_all`
                                        promise of schemas, and of what the gate over files and the whole program promise
-       tools/model_files.py --compare  status 1 where docs/MODEL.md lists other files, where it or README.md says other counts, or where
-                                       a document names a file of code or definitions, or docs/PROOFS.md a word, that isn't there
+       tools/model_files.py --compare  status 1 where docs/MODEL.md lists other files, where it, docs/GUARANTEES.md or README.md says other
+                                       counts, or where a page names a file of code or definitions, or docs/PROOFS.md, docs/COSTS.md or
+                                       docs/ARCHITECTURE.md a word, that isn't there
 
 A promise rests on the files that have its words, and on all that these import, onwards. Whole files count, so it may rest on less. Of the kit
 the models of a command line (`clap`) and of hexadecimal digits (`hex`) are counted apart, where the kit has them as files; its words for numbers,
@@ -26,24 +27,34 @@ ROOTS = {
     "what `relay` promises": ["crates/pg_gate/specs/Relaying.antt"],
     "what `gate_all` promises": ["crates/pg_causes/specs/Overview.antt"],
 }
-# Promises of which docs/MODEL.md says the counts alone, by the words of their contracts.
+# Promises of which docs/GUARANTEES.md says the counts alone, by the words of their contracts.
 UNLISTED = {
     "what the gate promises of texts and sets": ["crates/pg_gate/specs/answer/Files.antt", "crates/pg_gate/specs/answer/Answer.antt"],
     "what `run` promises": [f"crates/pg_gate/specs/{it}.antt" for it in ("call/Call", "answer/Grants", "print/Printed", "Run")],
 }
 # Which documents say the counts of which promise.
 COUNTED = {
-    "README.md": ["a message breaks", "what `gate` promises", *UNLISTED],
-    "docs/MODEL.md": ["what `gate` promises", "what `gate_with` promises", "what `relay` promises", "what `gate_all` promises", *UNLISTED],
+    "README.md": ["a message breaks", "what `gate` promises"],
+    "docs/MODEL.md": ["what `gate` promises", "what `gate_with` promises", "what `relay` promises", "what `gate_all` promises"],
+    "docs/GUARANTEES.md": [
+        "a message breaks",
+        "what `gate` promises",
+        "what `gate_with` promises",
+        "what `gate_all` promises",
+        "what `relay` promises",
+        *UNLISTED,
+    ],
 }
-# A path of code or definitions that a document names: from the top, below `crates`, or below a crate's folder.
+# Pages of which each word in backticks has to be in code or definitions.
+WORDED = ("docs/PROOFS.md", "docs/COSTS.md", "docs/ARCHITECTURE.md")
+# A path of code or definitions that a page names: from the top, below `crates`, or below a crate's folder.
 NAMED = re.compile(r"`([\w/+-]+/[\w+-]+\.(?:rt|antt))`")
 IMPORT = re.compile(r"^\s*(?:pub\s+)?use\s+Rattle\.(\w+)\.specs\.(\w+(?:\.\w+)*)", re.M)
 # The crates of the kit whose definitions are counted.
 MODELS = ("clap", "hex")
 # The promise of which these documents say what it takes of these.
 WHOLE = "what `run` promises"
-TRUSTING = ("README.md", "SECURITY.md", "docs/MODEL.md", "docs/GUARANTEES.md")
+TRUSTING = ("README.md", "SECURITY.md", "docs/GUARANTEES.md")
 
 
 @functools.lru_cache(maxsize=None)
@@ -127,7 +138,7 @@ def lines_of(paths):
 
 
 def differences():
-    """Returns what docs/MODEL.md and README.md say otherwise than the definitions: files, and counts of files and lines."""
+    """Returns what the pages say otherwise than the definitions: files, and counts of files and lines."""
     said = {it: open(f"{TOP}/{it}", encoding="utf-8").read() for it in COUNTED}
     listed = re.findall(r"^\| `(crates/pg_\w+/specs/[\w/]+\.antt)` \|", said["docs/MODEL.md"], re.M)
     wanted = dict.fromkeys(it for roots in ROOTS.values() for it in rests_on(*roots))
@@ -160,7 +171,7 @@ def missing_paths():
 
 
 def missing_words():
-    """Returns the words in the first cells of docs/PROOFS.md that stand nowhere in code or definitions."""
+    """Returns the words in backticks of some pages that are nowhere in code or definitions."""
     known = set()
     for at, folders, names in os.walk(f"{TOP}/crates"):
         folders[:] = [it for it in folders if it != "out"]
@@ -168,10 +179,13 @@ def missing_words():
             if name.endswith((".rt", ".antt")):
                 with open(f"{at}/{name}", encoding="utf-8") as file:
                     known.update(re.findall(r"\w+", file.read()), [name.partition(".")[0]])
-    with open(f"{TOP}/docs/PROOFS.md", encoding="utf-8") as file:
-        cells = re.findall(r"^\| (.*?) \|", file.read(), re.M)
-    said = dict.fromkeys(word for cell in cells for word in re.findall(r"`(\w+)`", cell))
-    return [f"docs/PROOFS.md has {it}, which stands nowhere" for it in said if it not in known]
+    known.update(os.listdir(f"{TOP}/crates"))
+    found = []
+    for document in WORDED:
+        with open(f"{TOP}/{document}", encoding="utf-8") as file:
+            said = dict.fromkeys(re.findall(r"`(\w+)`", file.read()))
+        found += [f"{document} has {it}, which is nowhere in code or definitions" for it in said if it not in known]
+    return found
 
 
 def main(words):

@@ -2,11 +2,11 @@
 """Draws the pictures of docs/pictures: each NAME.txt says what NAME.svg shows.
 
 usage: tools/pictures.py            draws them all
-       tools/pictures.py --compare  status 1 where a picture isn't what its text says
+       tools/pictures.py --compare  status 1 where a picture isn't what its source says
        tools/pictures.py --report [PROGRAM]    takes report.png anew: run it after a change of tools/report.py. It needs git and Chromium;
                                                what it shows depends on the fonts, so nothing compares it
 
-A text begins with a line 'title ..' and a line that says how the rest is read: 'flow' (a row a line, boxes with calls between them,
+A source begins with a line 'title ..' and a line that says how the rest is read: 'flow' (a row a line, boxes with calls between them,
 as 'a -> call -> b'), 'table' (a row a line, cells with '|' between them, the first row is the head) or 'graph' ('node NAME PLACE TEXT',
 'edge FROM TO TEXT', nodes from left to right; an edge may go to a neighbour on either side, or back to its own node).
 """

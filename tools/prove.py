@@ -10,7 +10,7 @@ pictures are compared first, and that each public function has an edit; a messag
 (try_lent.py). What passed is put back into the repository, where its sources are still the same, and tried last: the program and the
 libraries' calls with each request for memory refused, the program on rows and on random inputs, the scripts that call it, the commands of
 the documents, and the tests of these scripts.
-What earlier runs on this machine passed is taken as it stands; with --anew all is proved and tried again.
+What earlier runs on this machine passed isn't proved again; with --anew all is proved and tried again.
 
 It says at the start, and each minute, how long it is likely to take. A line of rt follows the seconds since the start. The last lines are the
 processor seconds of each crate by kind: its proof, its seeds (a second proof, where edits are left to `rt ci`), its edits, its tests, and
@@ -39,7 +39,7 @@ from machine import is_confined, lanes, missing, processors  # noqa: E402
 from try_edits import plan, try_all  # noqa: E402
 
 # What compares the documents, pictures and edits with what they are of: it takes seconds.
-COMPARED = ("model_files.py", "links.py", "pictures.py", "code_table.py", "held_edits.py")
+COMPARED = ("model_files.py", "links.py", "pictures.py", "errors.py", "plain_words.py", "held_edits.py")
 # What tries what was built: the program and the calls with each request for memory refused, the program on rows, and the scripts that
 # call it. The last ones try the launcher and the gate itself.
 TESTERS = (
@@ -50,7 +50,10 @@ TESTERS = (
     "test_ci_trees.py",
     "test_ci_roots.py",
     "test_ci_words.py",
+    "test_ci_terminal.py",
     "test_ci_causes.py",
+    "test_errors.py",
+    "test_plain_words.py",
     "test_packages.py",
     "test_try_edits.py",
     "test_launcher.py",
@@ -254,8 +257,8 @@ def put_back(room, copied, begun):
 
 
 def documents_agree():
-    """Returns whether the documents name the files that the promise rests on, their links lead somewhere, the pictures say what their texts say, and
-    each public function has an edit."""
+    """Returns whether the documents name the files that the promise rests on, their links lead somewhere, the pictures are those of their sources,
+    errors have one wording, words are plain, and each public function has an edit."""
     return all([subprocess.run([f"tools/{it}", "--compare"]).returncode == 0 for it in COMPARED])
 
 

@@ -1,14 +1,14 @@
-"""Reads what a check says of copies of functions, or of functions that an edit turns where they stand (wrong_copies.py): for try_edits.py.
+"""Reads what a check says of copies of functions, or of functions that an edit turns in place (wrong_copies.py): for try_edits.py.
 
 A wrong body is refused where the prover leaves a goal of it open: a clause of its own, or what a call in it requires. It is open where the
-prover's search, which proves the body as it stands, finds no proof of it.
+prover's search, which proves the body without the edit, finds no proof of it.
 
 - An answer that its proof file gives to a goal, and that is no proof of it any more, is told (`by hand`) but refuses nothing alone: another
   form of the same code can do that.
 - A wrong body may rename its goals and steps, as a `match` round a call does, and its proof files then name some that it doesn't have. That
   refuses nothing. Where a goal is lost so that has an answer by hand, what is open may be that goal under another name, which wants its
   answer: then only a goal counts for which the prover found values at which it is false.
-- Any other complaint, of a name, a type or a text that can't be read, is none of the contract, and then the body counts as not refused. So
+- Any other complaint, of a name, a type or a source that can't be read, is none of the contract, and then the body counts as not refused. So
   does one of which nothing is said, and one whose check the system ends, as for memory.
 
 What that rests on. `rt check` is asked for these functions alone (`--only`), by their whole paths. It proves them and what they call in the
@@ -17,7 +17,7 @@ place, what the check of the same crate's copies proved just before. A function 
 functions that it calls are proved to do, so it is admitted only where theirs are: no contract of theirs can be left out. Left out are the
 other functions, with their proof files, and lemmas that none of these proofs cites. No edit changes those, and the gate proves them with
 the crate. So a check counts only where each function that was asked for is among those of which something is said, its last line counts
-just these, and each of them is proved but the wrong bodies and what is proved together with one; among them each function as it stands, by
+just these, and each of them is proved but the wrong bodies and what is proved together with one; among them each function without the edit, by
 the same proof files.
 """
 
@@ -29,9 +29,9 @@ from wrong_copies import CONTROL
 # What a wrong body comes to: a goal of its own stays open, it is still proved, or neither is shown.
 REFUSED, PROVED, OTHER = "refused", "proved", "other"
 FUNCTION = re.compile(r"fn (.+?): (proved|not proved|no proof|could not tell|assumed|not assumed)\b")
-# What stands in the name of a closure, or of another part of a function that the last line doesn't count, in front of the function's own.
+# What the name of a closure, or of another part of a function that the last line doesn't count, has before the function's own name.
 INSIDE = "::fn::"
-# A line that complains of a place: an error, or a note of a goal that stays open.
+# A line that complains of a position: an error, or a note of a goal that stays open.
 PLACED = re.compile(r"(note: )?(?:\./)?((?:src|specs|proofs)/\S+?):(\d+):\d+: (.*)")
 COMPILER = re.compile(r"error\[[\w-]+\]")
 # An answer that is no proof of its goal.
@@ -42,11 +42,11 @@ LOST_GOAL = re.compile(r"proofs/\S*: error: .*: module `")
 # What is said of an open goal where the prover found values at which it is false.
 SHOWN_FALSE = "allow values at which this goal is false"
 LIMIT = "gave up at one of its limits"
-# What shows that a goal is open, as it is told behind its name: values at which it is false, a search that finds no proof, one that ends at a limit
+# What shows that a goal is open, as it is told after its name: values at which it is false, a search that finds no proof, one that ends at a limit
 # (a count of steps, the same on each machine), or an answer by hand that is none.
 FALSE, SOUGHT, LIMITED, BY_HAND = " shown false", "", " at a limit", " by hand"
-# What is said behind that of a goal whose like, of the same clause or loop, has an answer by hand in the body as it stands: the search may find none
-# of it either where it holds.
+# What is said after that of a goal whose like, of the same clause or loop, has an answer by hand in the body without the edit: the search may
+# find none of it either where it holds.
 WEAK = " (its like is proved by hand)"
 KIND = re.compile(r"clause-\w+|loop-\w+(?=-preserved|-init)|returns(?!.*clause-)")
 GOAL = re.compile(r"error: `([^`]*)`: |\(`([^`]*)`\)|was not checked: (\S+)")
@@ -59,7 +59,7 @@ def goal_of(line):
 
 
 def is_of(path, line, text, it, spot):
-    """Returns whether what is said of this line of a file is said of the copy or turned function: it stands among its lines, in its proof files, or in
+    """Returns whether what is said of this line of a file is said of the copy or turned function: it is among its lines, in its proof files, or in
     those of its cycle under a goal of its own, whose name begins with the function's where there are more of them."""
     if path == it.path and line in spot.lines or path.startswith(f"proofs/{spot.place}/"):
         return True

@@ -1,4 +1,4 @@
-"""What stands beside the built program: when its sources were read and what they were, and the kit that proved it. The script `protogate` compares
+"""What is beside the built program: when its sources were read and what they were, and the kit that proved it. The script `protogate` compares
 these.
 
 The file protogate.begun has as its time when the build or the gate read the sources, and as its only line what `rt version` printed.

@@ -29,7 +29,7 @@ static void tell(int number) {
     if (write(ANSWERS, &number, sizeof number) != sizeof number) _exit(1);
 }
 
-/* Takes the words of a request behind the program's name, and returns how many they are with that. */
+/* Takes the arguments of a request, which follow the program's name, and returns how many they are with that. */
 static int take_words(char *program) {
     unsigned length;
     int count = 0;

@@ -1,5 +1,6 @@
 #!/usr/bin/env python3
-"""Tests of what the gate and the build are made of: the limits of a machine, the model of time, what is kept, a check of a copy, and the set of edits.
+"""Tests of what the gate and the build are made of: the limits of a machine, the model of time, what is kept, a check of a copy, the set of
+edits, and the tables of definitions.
 
 usage: tools/test_gate_parts.py    a few seconds
 """
@@ -18,6 +19,7 @@ import kit  # noqa: E402
 import machine  # noqa: E402
 import prove  # noqa: E402
 import times  # noqa: E402
+import word_tables  # noqa: E402
 from crates import crates_of  # noqa: E402
 from test_gate import TOP, Room, text_of, write  # noqa: E402
 
@@ -215,6 +217,31 @@ pub fn laws()
     def test_what_calls_more_than_laws_is_none(self):
         source = self.SOURCE.replace("    law();", "    low(3);")
         self.assertEqual(self.lacking(source, {"pg_low": ("number / 2", "number")}), ["pg_low/src/lib.rt: laws"])
+
+
+class WordTables(unittest.TestCase):
+    SOURCE = """-- What this file is about.
+use Rattle.std.specs.Prelude.{ℕ}
+
+-- a number
+-- in two lines
+abbrev pub first : ℕ
+first = 1
+
+pub record Second : Type 0 where
+  pub field : ℕ
+
+mutual
+  -- inside a block
+  pub data Third : Type 0 where
+"""
+
+    def test_each_definition_has_the_comment_above_it(self):
+        lines = self.SOURCE.split("\n")
+        with mock.patch.object(word_tables, "lines_of", lambda _: lines):
+            found = [(it.name, it.said, it.line) for it in word_tables.definitions("")]
+            self.assertEqual(word_tables.head_of(""), "What this file is about.")
+        self.assertEqual(found, [("first", "a number in two lines", 6), ("Second", "", 9), ("Third", "inside a block", 14)])
 
 
 class PassedOver(Room):

@@ -18,7 +18,7 @@ from trial_checkout import Checkout, write  # noqa: E402
 
 class Built(Checkout):
     """The built program is started, and nothing else, unless what it was built of has changed since. To the system each source is as new as the test, as
-    in a checkout that was copied with its times, so the texts decide where no time does."""
+    in a checkout that was copied with its times, so the contents decide where no time does."""
 
     def setUp(self):
         super().setUp()
@@ -110,7 +110,7 @@ class Built(Checkout):
         self.changes("touch -r pg_low/src ../time; : >pg_low/src/more.rt; touch -d @1 pg_low/src/more.rt; touch -r ../time pg_low/src")
 
     def test_a_file_that_was_touched(self):
-        """Its text may have been another while the program was built."""
+        """Its contents may have been others while the program was built."""
         self.changes("touch pg_low/src/lib.rt")
 
     def test_no_checksum(self):
@@ -165,7 +165,7 @@ class Built(Checkout):
         for it in ("sh", "find"):
             os.symlink(shutil.which(it), f"{self.room}/bin/{it}")
         self.is_stale(PATH=f"{self.room}/bin")
-        # Where nothing was changed since, no text is read.
+        # Where nothing was changed since, no file is read.
         os.utime(f"{self.out}/protogate.begun")
         self.is_built(PATH=f"{self.room}/bin")
         os.utime(f"{self.top}/crates.txt")

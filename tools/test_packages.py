@@ -59,7 +59,7 @@ class Reports(test_ci.Repository):
         self.release_orders()
         page = self.page("v1", "proto")
         for words in ("proto breaks old messages", "The run's status is 1", "220180", "4 note bytes 80", "refused E604 at 0",
-                      "a text that isn't UTF-8", "What to do: Leave the field's type as it was",
+                      "The string is not UTF-8.", "What to do: Leave the field's type as it was",
                       "bytes note = 4;", "string note = 4;", "proto/order.proto:7:10", "Customer"):
             self.assertIn(words, page.words)
         self.assertEqual(page.targets, [])
@@ -83,7 +83,7 @@ class Reports(test_ci.Repository):
         """The call that gates a set of what is refused is that of the run; no other command knows both sides."""
         self.release({"a.proto": HEAD + "message A { }"}, {"a.proto": HEAD + 'option (x) = "<&>";'})
         page = self.page("v1", "proto", "--view", "numbers")
-        for words in ("new E205", 'option (x) = "<&>";', "A custom option, in parentheses", "What to do:",
+        for words in ("new E205", 'option (x) = "<&>";', "The custom option is not supported.", "What to do:",
                       "gate.sh --with-protoc --view numbers v1 proto"):
             self.assertIn(words, page.words)
         self.assertNotIn("--old-dir", page.words)
@@ -465,7 +465,7 @@ class Packages(test_ci.Repository):
             self.assertTrue(done.stderr.startswith(b"release: MAINTAINER is 'A Name <name@host>', not "), done.stderr)
 
     def gate_by_tarball(self, tarball):
-        """The unpacked folder gates as it stands, also through a link, and writes a page."""
+        """The unpacked folder gates without more, also through a link, and writes a page."""
         subprocess.run(["tar", "-xzf", tarball, "-C", self.room.name], check=True)
         tool = f"{self.room.name}/protogate-1.2.3-linux-x86_64/bin/protogate"
         os.symlink(f"{tool}-ci", f"{self.room.name}/gate-it")

@@ -4,8 +4,8 @@
 usage: tools/test_try_edits.py    takes some checks of a crate of ten functions, a minute or two
 
 The crate has edits that must not count as refused: one that changes nothing of what is answered, one that breaks a name, one that can't be
-parsed. A tool that took any complaint of the prover for a refusal would pass these. One more crate has a function that isn't proved as it
-stands: there no edit counts.
+parsed. A tool that took any complaint of the prover for a refusal would pass these. One more crate has a function that isn't proved
+without an edit: there no edit counts.
 """
 
 import contextlib

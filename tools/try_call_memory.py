@@ -12,7 +12,7 @@ answer is printed, which has to be the row's (crates/*_rows/stdout).
 So each run either says `Memory`, once and between the two lines, and then gives the answer; or it gives the answer all the same. Of a
 call that hands back what it was given, or leaves what it was lent, that line also says what came back, which stands here.
 
-The calls are all those of docs/CALLS.md that may run out of memory: one that is tried by no line fails, but for those of NOT_TRIED.
+The calls are all those of docs/GUARANTEES.md that may run out of memory: one that is tried by no line fails, but for those of NOT_TRIED.
 A line is printed for each call: how many requests were refused, how often that was reported, how often the answer came all the same,
 and how many runs did neither, which are printed. The last line has the sums, and the processor seconds that all took. The status is 1
 where a run did neither, where no request of a row was reported, where a call is missing, or where there were more requests than five
@@ -56,7 +56,7 @@ def record(number, value):
 
 
 def back(content, *records):
-    """What comes back of `set`, and the message, of these records, as it is then (docs/CALLS.md)."""
+    """What comes back of `set`, and the message, of these records, as it is then (docs/GUARANTEES.md)."""
     return "%s %s" % (content, b"".join(records).hex() or "-")
 
 
@@ -172,9 +172,10 @@ def lines_of(crate, name):
 
 
 def listed_calls():
-    """Returns the calls that docs/CALLS.md says may be refused memory: those of its tables."""
-    with open(os.path.join(ROOT, "docs/CALLS.md"), encoding="utf-8") as file:
-        rows = re.findall(r"^\| (`[^|]*) \|", file.read(), re.M)
+    """Returns the calls that docs/GUARANTEES.md says may be refused memory: those of its table of what each call refuses."""
+    with open(os.path.join(ROOT, "docs/GUARANTEES.md"), encoding="utf-8") as file:
+        section = file.read().partition("\n## What each call refuses\n")[2].partition("\n## ")[0]
+    rows = re.findall(r"^\| `pg_\w+` \| (`[^|]*) \|", section, re.M)
     return {name for row in rows for name in re.findall(r"`([\w:]+)`", row)}
 
 
@@ -270,9 +271,9 @@ def options_of():
 
 
 def missing_calls():
-    """Prints which calls of docs/CALLS.md are tried by no line, and which are tried and not there; returns how many."""
+    """Prints which calls of docs/GUARANTEES.md are tried by no line, and which are tried and not there; returns how many."""
     listed, tried = listed_calls(), {name for it in CALLS for name in it.calls.split()} | NOT_TRIED
-    for what, calls in (("is tried by no line", listed - tried), ("isn't in docs/CALLS.md", tried - listed)):
+    for what, calls in (("is tried by no line", listed - tried), ("isn't in docs/GUARANTEES.md", tried - listed)):
         for call in sorted(calls):
             print(f"{call} {what}")
     return len(listed ^ tried)

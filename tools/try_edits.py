@@ -4,10 +4,10 @@
 usage: tools/try_edits.py [--anew] [--list] [--by COUNT] [CRATE..]    all crates with edits, where none is named
 
 Each alone, an edit costs a check of its crate, and nearly all of that is reading the libraries anew; and the edits of a crate begin with a
-second proof of it. So `rt check` is given a copy of the crate in which each wrong body stands beside the original (wrong_copies.py), and
+second proof of it. So `rt check` is given a copy of the crate in which each wrong body is beside the original (wrong_copies.py), and
 `--only` has it check these copies and what they call. An edit is refused where the prover leaves a goal open in just its copy, and says nothing else of
-it; and where all else is proved, among it a copy of each of these functions that is as it stands (read_goals.py says what that rests on).
-A function that calls itself, or others that call it, can't be copied so. The first check proves it as it stands, and then its edit is
+it; and where all else is proved, among it a copy of each of these functions without an edit (read_goals.py says what that rests on).
+A function that calls itself, or others that call it, can't be copied so. The first check proves it without an edit, and then its edit is
 tried alone in its place, over what that check proved of what it calls.
 
 A line says for each edit in which function it was refused, and for which clause or other goal. One that is proved, that doesn't compile, or
@@ -17,7 +17,7 @@ alone, which try all others too.
 Wants the libraries that `rt lib` builds, and builds those that are not there. What an earlier run on this machine passed is kept, by the
 checksum of all that it read: beside what the kit keeps, or in this user's cache (kit.py). With --anew all is tried. With --by a check has the copies of so many edits at most,
 and a line says what each check took: so it shows which edits are cheap, and no dear one keeps the others waiting. With --list a table of all
-edits stands before the last line. This counts what was refused and what wasn't; the status is 1 where one wasn't.
+edits comes before the last line. This counts what was refused and what wasn't; the status is 1 where one wasn't.
 """
 
 import argparse
@@ -44,7 +44,7 @@ TOP = os.path.dirname(os.path.dirname(os.path.realpath(__file__)))
 TOOLS = ("try_edits.py", "wrong_copies.py", "read_goals.py", "why_refused.py", "crates.py", "kit.py")
 # So many edits have their copies in one check, where nothing else is asked for: all.
 MOST = 1_000_000
-# An edit that is tried where it stands: the files' texts with it, and where the functions stand that it turns.
+# An edit that is tried in place: the files' contents with it, and where the functions are that it turns.
 InPlace = namedtuple("InPlace", "texts spots")
 
 
@@ -108,7 +108,7 @@ def in_parts(copies, most):
 
 
 def try_copies(tries, copies, standing, kept):
-    """Tries the copies in one check, which also proves these functions as they stand, which other edits turn in place, and leaves in a folder what it kept.
+    """Tries the copies in one check, which also proves these functions without an edit, which other edits turn in place, and leaves in a folder what it kept.
     Where some copies don't compile, they are told, and the others are tried without them."""
     crate = tries.crate
     while copies or standing:
@@ -134,7 +134,7 @@ def try_copies(tries, copies, standing, kept):
 
 
 def try_in_place(tries, edit, kept):
-    """Tries an edit alone, where it stands, over a copy of what was kept: so what one edit leaves is of no account to the next."""
+    """Tries an edit alone, in place, over a copy of what was kept: so what one edit leaves is of no account to the next."""
     crate, (texts, spots) = tries.crate, tries.in_place[edit]
     with tempfile.TemporaryDirectory(prefix="protogate-edits-") as room:
         folder = kit.make_repository(room, crate)
@@ -165,7 +165,7 @@ def try_each(tries, most):
 
 
 def key_of(tries):
-    """Returns a sum of all that the tries rest on: the kit, these scripts, the crate with its copies, and those below it. Where an edit stands
+    """Returns a sum of all that the tries rest on: the kit, these scripts, the crate with its copies, and those below it. Where an edit is
     that is tried in place follows from these; and that has sets, which each run lists in another order."""
     texts = {edit: it.texts for edit, it in tries.in_place.items()}
     made = hashlib.sha256(repr((kit.identity(), tries.copies, texts)).encode())
@@ -238,7 +238,7 @@ def try_all(plans, jobs, is_anew, most=MOST, note=lambda tries, is_over: None):
 
 
 def build_below(plans):
-    """Builds the libraries that these crates stand on, where they are not there, and returns whether all stand."""
+    """Builds the libraries that these crates need, where they are not there, and returns whether all are built."""
     return kit.build_libraries({dep.folder: dep for it in plans for dep in it.crate.below()}.values())
 
 

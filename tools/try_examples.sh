@@ -1,8 +1,8 @@
 #!/bin/sh
 # Runs the examples and compares what is printed, and each status: the changes below `examples/changes`, each with its certificate
-# and its descriptor sets; the commands of README.md, docs/USAGE.md, docs/REFUSALS.md and the page for `man`; the script for continuous integration; what the scripts that
-# start the program say on a terminal; and what `main` ends with on a full device, on a word that isn't UTF-8, and where memory is
-# refused. The page for `man` has each code of docs/REFUSALS.md.
+# and its descriptor sets; the commands of README.md, of the pages below `docs`, and of the page for `man`; the script for continuous
+# integration; what the scripts that start the program say on a terminal; and what `main` ends with on a full device, on an argument that
+# isn't UTF-8, and where memory is refused.
 # usage: tools/try_examples.sh [PROGRAM]    by default the script `protogate` at the top, which starts the proved program alone
 # Blocks of commands that call `protoc` want it on the path, and are passed over, with a line, where it isn't; so is what
 # is said on a terminal where there is no `script` of util-linux, or none of the other tools that it takes, and what is said where
@@ -34,8 +34,8 @@ said_by() {
     echo "status $?"
 }
 
-# The gate on the two texts of a change, with these further words, says what a file has. Its certificate shows the same; of the two texts' sets
-# the gate says the same but for places; and a witness is, by the old text, read and written again as it stands.
+# The gate on the two source files of a change, with these further words, says what a file has. Its certificate shows the same; of the two
+# files' sets the gate says the same but for positions; and a witness is, by the old file, read and written again unchanged.
 try_says() {
     example=$1
     says=$2
@@ -67,7 +67,7 @@ try_change() {
     fi
 }
 
-# Writes each block of a document that begins with a line '$ ..' to a file of its own, block.001 onwards, in the order of the text.
+# Writes each block of a document that begins with a line '$ ..' to a file of its own, block.001 onwards, in the order of the page.
 blocks_of() {
     awk '
         /^```/ { in_block = !in_block; is_first = in_block; file = ""; next }
@@ -77,7 +77,7 @@ blocks_of() {
     ' "$1"
 }
 
-# The shell's text that types a block again: each command behind its own lines, with the status of the one before it.
+# The shell script that types a block again: each command after its own lines, with the status of the one before it.
 commands_of() {
     awk '
         function run() { if (command != "") print "(exit $status)\n" command "status=$?"; command = "" }
@@ -89,12 +89,13 @@ commands_of() {
     ' "$1"
 }
 
-# Runs the blocks of a document, one behind the other in one folder, and compares what stands behind each command.
+# Runs the blocks of a document, one after another in one folder, and compares what comes after each command. A document may have none.
 try_document() {
     rm -f block.*
     blocks_of "$1"
-    compare "$1: blocks of commands" some "$([ -e block.001 ] && echo some || echo none)"
+    compare "$1: blocks of commands" "$(grep -q '^\$ ' "$1" && echo some || echo none)" "$([ -e block.001 ] && echo some || echo none)"
     for block in block.*; do
+        [ -e "$block" ] || continue
         if ! command -v protoc >/dev/null && grep -q '^\$ protoc ' "$block"; then
             echo "passed over, without protoc: $1, $block"
             continue
@@ -112,7 +113,7 @@ make_release() {
         && cp examples/new/* proto
 }
 
-# The examples of the page for `man`, as they stand, in a folder that has such files.
+# The examples of the page for `man`, in a folder that has such files.
 try_manual() {
     mkdir -p -- "$room/manual/released" && cd -- "$room/manual" || exit 3
     sed 's/^syntax.*/& package shop;/' "$root/examples/old/order.proto" >released/order.proto
@@ -157,8 +158,8 @@ try_status() {
     compare "$*" "status $wanted" "$("$@" >/dev/null 2>&1; echo "status $?")"
 }
 
-# A repository's scripts with a program that answers by its first word: `gate` takes two seconds, `show` none, `verify` stops, and
-# `compile` says what the C library is asked for.
+# A repository's scripts with a program that answers by its first word: `gate` takes two seconds, `show` none, `verify` stops, `types`
+# refuses, and `compile` says what the C library is asked for.
 make_slow_program() {
     mkdir -p slow/tools slow/docs slow/crates/protogate/out slow/crates/protogate/src slow/crates/protogate/specs && cp -- "$root/protogate" slow && cp -R -- "$root/examples" slow \
         && cp -R -- "$root/tools/install.sh" "$root/tools/report.py" "$root/tools/completions" slow/tools \
@@ -171,6 +172,7 @@ case $1 in
     verify) kill -STOP $$ ;;
     show) ;;
     compile) echo "$GLIBC_TUNABLES" ;;
+    types) echo 'refused E301 gone.proto' && exit 2 ;;
     *) exit 4 ;;
 esac
 END
@@ -185,16 +187,33 @@ said_on_terminal() {
     SHELL=/bin/sh slow=$1 script -qec "$2" /dev/null </dev/null | tr -d '\r'
 }
 
+# A shell that starts a run which stops itself, and goes on with it a second and more after it has stopped.
+stopped='"$slow" verify & for turn in 1 2 3 4 5 6 7 8 9 10; do case $(ps -o stat= -p $!) in T*) break ;; esac; sleep 1; done; sleep 1.5; kill -CONT $!; wait'
+
 # A run of two seconds is said to be at work, by its first word alone, and only where standard error is a terminal. One that has
-# ended isn't, whether or not anybody waits for it, nor one that is stopped. The script leaves nothing behind that has a file open.
+# ended isn't, whether or not anybody waits for it, nor one that is stopped. The script leaves no process that has a file open.
 try_terminal() {
     at_work='protogate: still at work: gate'
     compare "$1: two seconds" "$at_work" "$(said_on_terminal "$1" '"$slow" gate "a\\nb" "$(printf "\033[7m")"')"
     compare "$1: not on a terminal" "" "$(said_on_terminal "$1" '"$slow" gate 2>said; cat said')"
     compare "$1: ended" "" "$(said_on_terminal "$1" '"$slow" show; sleep 2')"
     compare "$1: ended, and not waited for" "" "$(said_on_terminal "$1" '"$slow" show & exec sleep 2')"
-    compare "$1: stopped" "" "$(said_on_terminal "$1" '"$slow" verify & sleep 2; kill -CONT $!; wait')"
+    compare "$1: stopped" "" "$(said_on_terminal "$1" "$stopped")"
     compare "$1: an open file" "free" "$(said_on_terminal "$1" '(flock -n 9; "$slow" show) 9>lock; flock -w 0.5 lock echo free')"
+}
+
+# What is refused is shown in words, once, and only where standard error is a terminal.
+try_words() {
+    line='refused E301 gone.proto'
+    words='error[E301]: The file was not found.
+ --> gone.proto'
+    compare "$1: words" "$line
+$words" "$(said_on_terminal "$1" '"$slow" types gone.proto' | head -n 3)"
+    compare "$1: the status" "status 2" "$(said_on_terminal "$1" '"$slow" types gone.proto >said 2>&1; echo "status $?"')"
+    compare "$1: words elsewhere" "$line" "$(cat said)"
+    compare "$1: the status with words" "status 2" "$(said_on_terminal "$1" '"$slow" types gone.proto >said; echo "status $?"' | tail -n 1)"
+    compare "$1: standard output" "$line" "$(cat said)"
+    compare "$1: no words" "$line" "$(PROTOGATE_WORDS=no said_on_terminal "$1" '"$slow" types gone.proto')"
 }
 
 # Large pages and no fast bins are asked for, where the user asks the C library for nothing else.
@@ -215,8 +234,13 @@ try_terminals() {
         echo "passed over, with another script than that of util-linux: what is said on a terminal"
         return
     fi
-    try_terminal slow/protogate
-    try_terminal "slow/o'clock/bin/protogate"
+    for slow_one in slow/protogate "slow/o'clock/bin/protogate"; do
+        try_terminal "$slow_one"
+        try_words "$slow_one"
+        export PROTOGATE_WORDS=no
+        try_terminal "$slow_one"
+        unset PROTOGATE_WORDS
+    done
 }
 
 # What is printed on standard error, and the status, where the output's device is full.
@@ -256,7 +280,7 @@ try_refused_memory() {
     compare "$*: growths refused" "some told, 0 wrong" "$([ "$refused" -gt 0 ] && echo some || echo none) told, $wrong wrong"
 }
 
-# The same of each subcommand, of help and of a word that is none.
+# Refuses memory in turn to each subcommand, to help and to a word that is none.
 try_memory() {
     if ! command -v cc >/dev/null; then
         echo "passed over, without cc: what is said where memory is refused"
@@ -295,9 +319,9 @@ PROGRAM=$program
 PATH=$room/top:$PATH
 export PROGRAM PATH
 make_release || exit 3
-try_document "$root/README.md"
-try_document "$root/docs/USAGE.md"
-try_document "$root/docs/REFUSALS.md"
+for document in "$root/README.md" "$root"/docs/*.md; do
+    try_document "$document"
+done
 try_manual
 gate=examples/ci/gate.sh
 try_status 0 "$gate" v1.4 proto Customer
@@ -320,7 +344,5 @@ compare "an installed program" "status 4" "$("slow/o'clock/bin/protogate" relay;
 try_pages slow/protogate
 try_pages "slow/o'clock/bin/protogate"
 try_terminals
-compare "docs/protogate.1: codes" "$(sed -n 's/^| \(E[^|]*\)|.*/\1/p' "$root/docs/REFUSALS.md" | grep -o 'E[0-9][0-9]*' | sort -u)" \
-    "$(sed -n 's/^\.BI* \(E[0-9]*\).*/\1/p' "$root/docs/protogate.1" | sort -u)"
 echo "examples: $passed passed, $failed failed"
 [ "$failed" -eq 0 ]

@@ -5,7 +5,7 @@
 
 Each run either prints `refused E001` and ends with 3, or prints its answer and ends with its status. The calls are one of each
 subcommand, `gate` in both directions over a number of another sign inside a message, a oneof and a map, `gate-all` over the same, and `verify` of a certificate
-that holds and of two that don't. Their answers stand here; they follow from the rules of docs/MODEL.md and docs/CERTIFICATES.md.
+that holds and of two that don't. Their answers are here; they follow from the rules of docs/MODEL.md and docs/CERTIFICATES.md.
 
 A line is printed for each call: how many requests were refused, how often the program said so, how often it gave its answer all the
 same, and how many runs did neither, which are printed. The last line has the sums, and the processor seconds; the status is 1 where a

@@ -4,12 +4,12 @@
     tools/try_rows.py [--jobs N] [PROGRAM]
 
 Each row of crates/gate_rows/stdin has words, and files of the old and of the new side. Those of the old side are written to the folder in
-which the program runs, those of the new side below another, which `--new-dir` names. The program has to end with the status and print
-the text that stand in crates/gate_rows/stdout. Where a row says so, they are other ones by names.
+which the program runs, those of the new side below another, which `--new-dir` names. The program has to end with the status and
+the output that crates/gate_rows/stdout has. Where a row says so, they are other ones by names.
 
 A file that fails is a folder in its place. An output that fails is a library in front of the C library's `write` (tools/slow_output.c,
 built by cc, without which these runs are passed over): it takes one byte at a time, and fails at a given one. What was taken has to be
-a beginning of the text, and the status 3. The last line has the counts; the status is 1 where a run failed.
+a beginning of the output, and the status 3. The last line has the counts; the status is 1 where a run failed.
 """
 import collections
 import multiprocessing
@@ -34,7 +34,7 @@ NEW = "new-side"
 # So many runs that failed are printed.
 MOST_PRINTED = 20
 
-# What a run has to print: its words, the files of both sides by path, the status, and the text or parts of it.
+# What a run has to print: its words, the files of both sides by path, the status, and the output or parts of it.
 Row = collections.namedtuple("Row", "what words old new status text parts")
 
 

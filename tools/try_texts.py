@@ -1,14 +1,14 @@
 #!/usr/bin/env python3
-"""Runs `protogate gate` on every text below a folder, each against itself, and compares what it answers.
+"""Runs `protogate gate` on every source file below a folder, each against itself, and compares what it answers.
 
     tools/try_texts.py PROGRAM FOLDER [FOLDER ..]
 
-The texts are ones that `protoc` takes, as those of Debian's libprotobuf-dev in /usr/include. Each is compared with
-itself under a root type that no text declares, so that a text which compiles gives the refusal of the missing root
+The files are ones that `protoc` takes, as those of Debian's libprotobuf-dev in /usr/include. Each is compared with
+itself under a root type that no file declares, so that a file which compiles gives the refusal of the missing root
 (E901). What this program leaves out is refused by its code: a file of another syntax, groups, extensions, custom
-options, weak imports and imports that aren't there, in the text or in what it imports. Which code that is, is read
-off the texts here, without their comments and strings. One line is printed for each text that is answered otherwise,
-then a line for each answer with its count; the status is 1 where a text was answered otherwise.
+options, weak imports and imports that aren't there, in the file or in what it imports. Which code that is, is read
+off the files here, without their comments and strings. One line is printed for each file that is answered otherwise,
+then a line for each answer with its count; the status is 1 where a file was answered otherwise.
 """
 import collections
 import pathlib
@@ -46,7 +46,7 @@ def own_code(text):
 
 
 def expected(folder, path, seen):
-    """The code that a text below a folder is refused with: its own, or the first of what it imports."""
+    """The code that a file below a folder is refused with: its own, or the first of what it imports."""
     if path in seen:
         return TAKEN
     seen.add(path)

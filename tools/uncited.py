@@ -3,8 +3,8 @@
 
 usage: tools/uncited.py [CRATE..]    all crates, where none is named; prints FILE:LINE NAME, and how many there are
 
-A name counts as cited where it stands as a word in another place of the crate's own files or, if it is `pub`, of those of any crate; an
-operator such as ◌>>◌ where its sign stands. What is cited by uncited lemmas alone is listed too, since the search goes on without those.
+A name counts as cited where the crate's own files have it as a word elsewhere or, if it is `pub`, those of any crate; an
+operator such as ◌>>◌ where they have its sign. What is cited by uncited lemmas alone is listed too, since the search goes on without those.
 It can't see what `search` and `grind` find by themselves without a name in a proof file; so take a lemma out only where the crate is
 still proved without it. Answers to goals and invariants are the prover's own names, and aren't listed.
 """
@@ -20,7 +20,7 @@ COMMENT = re.compile(r"--.*|//.*")
 
 
 def texts():
-    """Returns the text of each file of code, definitions and proofs, by its path."""
+    """Returns the content of each file of code, definitions and proofs, by its path."""
     found = {}
     for at, folders, files in os.walk(f"{TOP}/crates"):
         folders[:] = sorted(it for it in folders if it != "out")
@@ -36,7 +36,7 @@ def is_goal(path):
 
 
 class Unit:
-    """A lemma, a definition, or a module or mutual block with all that stands in it: where it begins, its names, and its words."""
+    """A lemma, a definition, or a module or mutual block with all that is in it: where it begins, its names, and its words."""
 
     def __init__(self, path, line, lines):
         self.path, self.line, self.crate = path, line, path.split("/")[1]
@@ -60,7 +60,7 @@ def units_of(path, text):
 
 
 def roots_of(text):
-    """Returns the words of a file whose text is all in use."""
+    """Returns the words of a file that is all in use."""
     kept = [it for it in text.split("\n") if not re.match(r"\s*(pub )?(ghost )?(use|mod) ", it)]
     return {word for line in kept for word in WORD.findall(COMMENT.sub("", line))}
 

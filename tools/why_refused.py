@@ -16,7 +16,7 @@ import sys
 TOP = os.path.dirname(os.path.dirname(os.path.realpath(__file__)))
 TRIED = re.compile(r"must-fail (\w+)/([\w.-]+)\.edit: (.*)")
 REFUSED = re.compile(r"refused, as it must be: (?:note: )?(?:\./)?(\S+?):(\d+):\d+: (.*)")
-# A goal of a function whose answers stand in a file of its own, and what is said of one that stays open.
+# A goal of a function whose answers are in a file of its own, and what is said of one that stays open.
 ANSWER = re.compile(r"proofs/(?:\S*/)?([^/]+)/Answers\.antt")
 OPEN = re.compile(r"no proof of|it is not proved that|gave up at one of its limits")
 GOAL = re.compile(r"\(`([^`]*)`\)")
@@ -24,7 +24,7 @@ FUNCTION = re.compile(r"^\s*(?:pub(?:\(\w+\))?\s+)?(?:const\s+)?fn\s+(\w+)")
 
 
 def function_at(path, line):
-    """Returns the function that the line is of: that which begins there or behind its comments, else the last that began before it."""
+    """Returns the function that the line is of: that which begins there or after its comments, else the last that began before it."""
     try:
         with open(path, encoding="utf-8") as file:
             lines = file.read().split("\n")
@@ -41,7 +41,7 @@ def function_at(path, line):
 
 
 def clause_of(goal):
-    """Returns the clause that a goal is of, by the names that the prover gives goals: returns-in-Err-clause-place is of place."""
+    """Returns the clause that a goal is of, by the names that the prover gives goals: returns-in-Err-clause-refused is of refused."""
     named = re.search(r"clause-(\w+)", goal)
     return f"{named[1]} ({goal})" if named else goal
 

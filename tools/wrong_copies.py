@@ -1,4 +1,4 @@
-"""Copies of a crate in which each edit of must-fail stands as a function of its own, beside the original: for try_edits.py.
+"""Copies of a crate in which each edit of must-fail is a function of its own, beside the original: for try_edits.py.
 
 An edit that turns bodies of functions gets a copy of each of these, called NAME_as_EDIT, right after the original, with a copy of the
 original's proof files. Nothing of the originals is changed. For each function with an edit there is one more copy that is not turned,
@@ -6,7 +6,7 @@ NAME_as_it_stands: it has to be proved, so that no wrong copy is refused for its
 NAME_of_TYPE_as_EDIT, since a file may have methods of one name for several types.
 
 A function that calls itself, or that is proved together with others (`#[cycle(..)]`), has no copy: what it calls would call the original.
-Its edit is written where it stands (spots_of), in a copy of the crate of its own.
+Its edit is written in place (spots_of), in a copy of the crate of its own.
 """
 
 import collections
@@ -18,19 +18,19 @@ PARTS = ("src", "specs", "proofs")
 # The edit that changes nothing.
 CONTROL = "it_stands"
 HEAD = re.compile(r"( *)(?:pub(?:\([^)]*\))? )?(?:const )?fn (\w+)")
-# What stands above a function and belongs to it.
+# What is above a function and belongs to it.
 ABOVE = re.compile(r" *(?:///|//|#\[)")
 CYCLE = re.compile(r" *#\[cycle\((\w+)\)\]")
 TYPE = re.compile(r"^(?:pub(?:\([^)]*\))? )?(?:struct|enum) (\w+)", re.M)
 
 # A function by its lines, counted from 0: its comments and attributes, its head, the brace that opens its body, and its last.
 Function = collections.namedtuple("Function", "name indent first head opens last")
-# A copy: its edit, the file that it stands in, the original, its own name, and its lines.
+# A copy: its edit, the file that it is in, the original, its own name, and its lines.
 Copy = collections.namedtuple("Copy", "edit path function name lines")
-# A function that an edit turns where it stands.
+# A function that an edit turns in place.
 Turned = collections.namedtuple("Turned", "edit path function")
-# Where a copy or a turned function stands: its place in the crate, as the folder of its proof files; its lines, counted from 1; and for a
-# turned one the name of its cycle of calls, which is its own where it is in none, and the places of all functions in that; and the goals
+# Where a copy or a turned function is: its path in the crate, as the folder of its proof files; its lines, counted from 1; and for a
+# turned one the name of its cycle of calls, which is its own where it is in none, and the paths of all functions in that; and the goals
 # that its proof file answers by a plain search, which the prover makes anyway, and those that it answers by hand.
 Spot = collections.namedtuple("Spot", "place lines cycle members searched by_hand", defaults=[frozenset(), frozenset()])
 # An answer in a proof file, and one that is a plain search.
@@ -57,7 +57,7 @@ def end_of(lines, head, indent):
 
 
 def opening_of(lines, head, last, indent):
-    """Returns the line with the brace that opens the function's body: clauses stand further in than the function."""
+    """Returns the line with the brace that opens the function's body: clauses are further in than the function."""
     for at in range(head, last):
         if lines[at] == indent + "{" or lines[at].endswith(" {") and lines[at][len(indent)] != " ":
             return at
@@ -65,7 +65,7 @@ def opening_of(lines, head, last, indent):
 
 
 def functions_in(text):
-    """Returns the functions of a file that `rt fmt` laid out, but those whose body stands on one line."""
+    """Returns the functions of a file that `rt fmt` laid out, but those whose body is on one line."""
     lines, found = text.split("\n"), []
     for head, line in enumerate(lines):
         named = HEAD.match(line)
@@ -127,7 +127,7 @@ def snake(name):
 
 
 def copy_of(text, path, function, edit):
-    """Returns a copy of this function as this text has it, for this edit."""
+    """Returns a copy of this function as this file has it, for this edit."""
     lines = text.split("\n")
     owner = owner_of(lines, function)
     name = f"{function.name}_of_{snake(owner)}_as_{edit}" if owner else f"{function.name}_as_{edit}"
@@ -143,7 +143,7 @@ def text_of(path):
 
 
 def functions_of(texts, folder, edit):
-    """Returns the functions that the edit turns which makes these texts of the crate's files, each with its file."""
+    """Returns the functions that the edit turns which makes these contents of the crate's files, each with its file."""
     if not re.fullmatch(r"\w+", edit) or edit == CONTROL:
         raise Bad("its name is none for a function")
     found = []
@@ -158,7 +158,7 @@ def functions_of(texts, folder, edit):
 
 
 def copies_for(texts, folder, edit):
-    """Returns the wrong copies of the edit that makes these texts of the crate's files: one of each function that it turns, or none where one of
+    """Returns the wrong copies of the edit that makes these contents of the crate's files: one of each function that it turns, or none where one of
     these has no copy."""
     found = functions_of(texts, folder, edit)
     if not all(can_be_copied(text, it) for path, it in found for text in (text_of(f"{folder}/{path}"), texts[path])):
@@ -167,7 +167,7 @@ def copies_for(texts, folder, edit):
 
 
 def controls(folder, copies):
-    """Returns for each function that has a wrong copy one that is as it stands."""
+    """Returns for each function that has a wrong copy one without an edit."""
     found = {(it.path, it.function): text_of(f"{folder}/{it.path}") for it in copies}
     return [copy_of(text, *at, CONTROL) for at, text in found.items()]
 
@@ -178,7 +178,7 @@ def files_below(folder, *parts):
 
 
 def file_of_type(folder, path, name):
-    """Returns the file that declares the type whose methods stand in this one: this one, where it does."""
+    """Returns the file that declares the type whose methods are in this one: this one, where it does."""
     sources = [it for it in files_below(folder, "src") if it.endswith(".rt")]
     found = [os.path.relpath(it, folder) for it in sources if name in TYPE.findall(text_of(it))]
     if path not in found and len(found) != 1:
@@ -187,7 +187,7 @@ def file_of_type(folder, path, name):
 
 
 def place_of(folder, path, lines, function):
-    """Returns the function's place in the crate, as folder of its proof files: of `get` of `Parts`, which src/a.rt declares, it is a/Parts/get."""
+    """Returns the function's path in the crate, as folder of its proof files: of `get` of `Parts`, which src/a.rt declares, it is a/Parts/get."""
     owner = owner_of(lines, function)
     path = file_of_type(folder, path, owner) if owner else path
     module = "" if path in ("src/lib.rt", "src/main.rt") else path.removeprefix("src/").removesuffix(".rt")
@@ -202,7 +202,7 @@ def answers_in(folder, *names):
 
 
 def places(room, path, copies):
-    """Returns where each copy in this file of the room stands."""
+    """Returns where each copy in this file of the room is."""
     text = text_of(f"{room}/{path}")
     lines, found = text.split("\n"), collections.defaultdict(list)
     for it in functions_in(text):
@@ -214,7 +214,7 @@ def places(room, path, copies):
 
 
 def spots_of(texts, folder, edit):
-    """Returns where the functions stand that the edit turns which makes these texts of the crate's files: it changes no number of a line."""
+    """Returns where the functions are that the edit turns which makes these contents of the crate's files: it changes no number of a line."""
     found = {}
     for path, function in functions_of(texts, folder, edit):
         text = text_of(f"{folder}/{path}")
@@ -230,12 +230,12 @@ def spots_of(texts, folder, edit):
 
 
 def controls_in_place(spots):
-    """Returns where these functions stand in a room that doesn't turn them: of all that is said there, none may be of them, so they have no lines."""
+    """Returns where these functions are in a room that doesn't turn them: of all that is said there, none may be of them, so they have no lines."""
     return {it._replace(edit=CONTROL): spot._replace(lines=range(0)) for it, spot in spots.items()}
 
 
 def copy_proof(room, crate, original, place):
-    """Copies what stands beside the original's proof, renamed. A name of the original's own modules becomes one of the copy's."""
+    """Copies what is beside the original's proof, renamed. A name of the original's own modules becomes one of the copy's."""
     old, new = (it.replace("/", ".") for it in (original, place))
     named = re.compile(rf"(Rattle\.{crate}\.(?:proofs|specs\.contracts)\.){re.escape(old)}(?=[.\s])")
     for at, _, names in os.walk(f"{room}/proofs/{original}"):
@@ -266,7 +266,7 @@ def copy_crate(room, folder):
 
 
 def make_room(room, crate, folder, copies):
-    """Writes the crate with its copies into the room. Returns where each copy stands."""
+    """Writes the crate with its copies into the room. Returns where each copy is."""
     copy_crate(room, folder)
     found = {}
     for path in {it.path for it in copies}:
@@ -281,7 +281,7 @@ def make_room(room, crate, folder, copies):
 
 
 def make_edited_room(room, folder, texts):
-    """Writes the crate with these texts of its files into the room."""
+    """Writes the crate with these contents of its files into the room."""
     copy_crate(room, folder)
     for path, text in texts.items():
         with open(f"{room}/{path}", "w", encoding="utf-8") as file:

@@ -1,6 +1,6 @@
 # Completions of protogate for bash.
 
-# The word behind the last one that is this option, or what is taken without.
+# The argument after the last one that is this option, or what is taken without.
 _protogate_value() {
     local at found=$2
     for ((at = 1; at < COMP_CWORD; at++)); do
