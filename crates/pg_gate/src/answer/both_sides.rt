@@ -3,7 +3,8 @@ ghost use Rattle.std.specs.Prelude.{IfErr, IfOk};
 ghost use Rattle.pg_gate.specs.Failures.{side_failures};
 ghost use Rattle.pg_gate.specs.answer.Files.{IsSide, paths_in};
 ghost use Rattle.pg_gate.specs.answer.Grants.{IsSidesError};
-ghost use Rattle.pg_gate.specs.inner.Sources.{Reads, world_of};
+ghost use Rattle.pg_link.specs.Reads.{Reads};
+ghost use Rattle.pg_gate.specs.inner.Sources.{world_of};
 
 use crate::answer::compile::{Compiled, compile_files};
 use crate::call::BothFiles;

@@ -6,7 +6,8 @@ ghost use Rattle.pg_check.specs.Declares.{Declares};
 ghost use Rattle.pg_check.specs.parts.Sources.{linked_sources};
 ghost use Rattle.pg_gate.specs.Failures.{side_failures};
 ghost use Rattle.pg_gate.specs.answer.Files.{IsCompiled, IsErrorOf, IsFaultOf, IsFaultOfRead, IsRead, IsSide, IsSideError, paths_in};
-ghost use Rattle.pg_gate.specs.inner.Sources.{Reads, world_of};
+ghost use Rattle.pg_link.specs.Reads.{Reads};
+ghost use Rattle.pg_gate.specs.inner.Sources.{world_of};
 ghost use Rattle.pg_gate.specs.inner.Faults.{IsOfLink, IsOfRules};
 
 use crate::answer::sets::{read_set, set_at};

@@ -2,7 +2,8 @@
 ghost use Rattle.std.specs.Prelude.{IfErr, IfOk};
 ghost use Rattle.pg_gate.specs.Failures.{side_failures};
 ghost use Rattle.pg_gate.specs.answer.Files.{IsErrorOf, IsFaultOfSet, IsSetOf, paths_in};
-ghost use Rattle.pg_gate.specs.inner.Sources.{Reads, world_of};
+ghost use Rattle.pg_link.specs.Reads.{Reads};
+ghost use Rattle.pg_gate.specs.inner.Sources.{world_of};
 
 use crate::answer::compile::compile_sources;
 use crate::call::Files;
