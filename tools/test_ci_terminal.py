@@ -121,7 +121,7 @@ class Program(Repository):
     def test_other_errors(self):
         show = ("show", "--dir=o", "--file=m.proto", "--type=shop.Account")
         for words, sentence, place in (((*show, "08"), "E502]: The input ends inside the record or varint.", " --> byte 0"),
-                                       ((*show, "0"), "E905]: The word is not pairs of hexadecimal digits.", "  = help: Write two digits a byte"),
+                                       ((*show, "0"), "E905]: The argument is not pairs of hexadecimal digits.", "  = help: Write two digits a byte"),
                                        (("compile", "gone.proto"), "E301]: The file was not found.", " --> gone.proto"),
                                        (("verify", "--old=o/m.proto", "--new=o/m.proto", "none"), "E301]: The file was not found.", " --> none")):
             lines = self.shown(*words)[2].splitlines()

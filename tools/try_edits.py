@@ -201,6 +201,8 @@ def try_one(tries, is_anew, most=MOST):
         return tries
     try:
         try_each(tries, most)
+    except ending.Ended:
+        raise
     except Exception as reason:  # pylint: disable=broad-except
         # What goes wrong with one crate is told as its fault: the others are tried.
         tries.faults.append(f"{type(reason).__name__}: {reason}")

@@ -26,8 +26,8 @@ abbrev pub other_of : Option Step → Text
 other_of (Some step) = codes " " ++ (field_of step.old ++ (codes " " ++ field_of step.new))
 other_of None = []
 
--- `cause CASE LENGTH HEX NUMBER OLDFIELD OLDPOSITION NEWFIELD NEWPOSITION`, and of two fields that meet the four words of
--- both; then the two readings where they are asked for
+-- `cause CASE LENGTH HEX NUMBER OLDFIELD OLDPOSITION NEWFIELD NEWPOSITION`, and of two fields that meet the four words
+-- of both; then the two readings where they are asked for
 abbrev pub cause_of : PlacedCause → Text
 cause_of c =
     codes "cause " ++ (reason_word c.cause.reason ++ (codes " " ++ (decimal (length c.cause.message.items) ++ (codes " "

@@ -9,5 +9,7 @@ use Rattle.pg_least.proofs.arcs.add_arcs.Given as goal
 abbrev pub invariant-loop-edge : goal.invariant-loop-edge
 invariant-loop-edge l = record {
   edges : map (λ (a : Arc). a.edge) l.arcs.items ≡ map (λ (a : Arc). a.edge) l.fn.arcs.items ++ take l.edge-index l.edges;
-  placed : (pairs : List Pair) → ArePlaces pairs (length pairs) l.places → AllByRecursion (λ (e : Edge). slice_get pairs l.fn.from ≡ Some e.from) l.edges → AllByRecursion (IsPlaced pairs) l.fn.arcs.items → AllByRecursion (IsPlaced pairs) l.arcs.items;
+  placed : (pairs : List Pair) → ArePlaces pairs (length pairs) l.places
+      → AllByRecursion (λ (e : Edge). slice_get pairs l.fn.from ≡ Some e.from) l.edges
+      → AllByRecursion (IsPlaced pairs) l.fn.arcs.items → AllByRecursion (IsPlaced pairs) l.arcs.items;
 }

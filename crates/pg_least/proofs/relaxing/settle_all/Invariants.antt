@@ -8,7 +8,10 @@ use Rattle.pg_least.proofs.relaxing.settle_all.Given as goal
 abbrev pub invariant-loop-bound : goal.invariant-loop-bound
 invariant-loop-bound g l = record {
   long : length l.settled.items ≡ length l.costs;
-  stands : (level : ℕ) × (done : List Arc) × Stands (arcs_by (g.G.Prices.price_of l.graph)) l.arcs l.fn.costs done l.costs l.settled.items (heap_items l.progress.queue.heap) level × ((a : Arc) → IsAmong a l.arcs → is_set l.settled.items a.child ≡ true → IsAmong a done);
+  stands : (level : ℕ) × (done : List Arc)
+      × Stands (arcs_by (g.G.Prices.price_of l.graph)) l.arcs l.fn.costs done l.costs l.settled.items
+      (heap_items l.progress.queue.heap) level
+      × ((a : Arc) → IsAmong a l.arcs → is_set l.settled.items a.child ≡ true → IsAmong a done);
   counted : l.progress.work ≡ relaxed_by (length (arcs_to_settled l.arcs l.settled.items)) l.fn.work;
 }
 
