@@ -1,4 +1,4 @@
--- What comes home of a message that is relayed, and why bytes aren't relayed.
+-- What the old program reads back of a message that is relayed, and why bytes aren't relayed.
 use Rattle.std.specs.Prelude.{◌≡◌, ℕ, ◌<◌, ◌≤◌, ⊤, List, length, true, Some, None}
 use Rattle.pg_schema.specs.declared.parts.field.TypeId.{TypeId}
 use Rattle.pg_schema.specs.Shape.{Shape}
@@ -15,13 +15,13 @@ use Rattle.pg_pairs.specs.declared.choices.choice.Pair.{Pair}
 use Rattle.pg_pairs.specs.home.Home.{home}
 use Rattle.pg_pairs.specs.home.Returns.{Returns}
 
--- the old type reads the bytes, and what it reads is home to v
+-- the old type reads the bytes, and by what it reads v returns
 abbrev pub IsHomeIn : Shape → Shape → Pair → Message → List ℕ → Type 0
 IsHomeIn old new pair v bytes =
     (x : Message) × (dec old pair.old bytes ≡ Some x) × (home old new pair.old pair.new v x ≡ true)
 
--- Where the types are compatible under a view, and the pair returns, a plain old message that these bytes are the
--- encoding of is home in the others.
+-- Let the types be compatible under a view, and let the pair return. Then a plain old message whose encoding the first
+-- bytes are returns by what the old type reads of the second bytes.
 abbrev pub BringsHome : Shape → Shape → Pair → List ℕ → List ℕ → Type 0
 BringsHome old new pair bytes again =
     (view : View) → Compatible view old new pair.old pair.new → Returns old new pair →
@@ -34,7 +34,7 @@ pub record HasNone (shape : Shape) (type : TypeId) (bytes : List ℕ) : Type 0 w
   pub read : dec shape type bytes ≡ Some message
   pub too_long : cap < length (enc shape type message)
 
--- they have no reading, and the fault that the error names at its place
+-- they have no reading, and they have the fault that the error names, at its offset
 pub record IsUnread (shape : Shape) (type : TypeId) (bytes : List ℕ) (error : DynError) : Type 0 where
   pub unread : dec shape type bytes ≡ None
   pub fault : MayRefuseUnlimited shape type bytes error

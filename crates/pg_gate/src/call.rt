@@ -21,9 +21,9 @@ pub(crate) struct BothFiles<'a> {
     pub new: Files<'a>,
 }
 
-/// What the gate is asked: what a reader of the new type sees of the messages that a writer of the
-/// old one writes, with enums compared by the view; the certificate alone where that is asked for,
-/// and else both directions where these are, and what breaks explained where that is.
+/// What the gate is asked: what a reader of the new type reads of the messages that a writer of the
+/// old one writes, with enums compared by the view. On request, the answer is the certificate
+/// alone; else, on request, it has both directions, and it explains what breaks.
 #[derive(Clone, Copy, Debug)]
 pub(crate) struct GateCall<'a> {
     pub files: BothFiles<'a>,
@@ -34,9 +34,9 @@ pub(crate) struct GateCall<'a> {
     pub view: ViewName,
 }
 
-/// What the gate of all message types is asked: what a reader of the new types sees of the messages
-/// that a writer of the old ones writes, for all message types that both sides have; with enums
-/// compared by the view, and each cause explained where that is asked for.
+/// What the gate of all message types is asked: what a reader of the new types reads of the
+/// messages that a writer of the old ones writes, for all message types that both sides have. Enums
+/// are compared by the view, and on request each cause is explained.
 #[derive(Clone, Copy, Debug)]
 pub(crate) struct GateAllCall<'a> {
     pub files: BothFiles<'a>,

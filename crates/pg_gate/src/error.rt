@@ -19,11 +19,11 @@ pub enum Side {
 /// Why a side does not compile.
 #[derive(Debug, PartialEq, Eq, Drop, Error)]
 pub enum Fault {
-    /// The side's source files can't be linked, or its descriptor set isn't there: by the code of
-    /// that fault, at its place.
+    /// The side's source files can't be linked, or its descriptor set isn't there: by the code and
+    /// the position of that fault.
     #[error("{0}")]
     Link(LinkError),
-    /// The side's source files break a rule of the language: by its code, at its place.
+    /// The side's source files break a rule of the language: by its code and its position.
     #[error("{0}")]
     Check(CheckError),
     /// The side's descriptor set is refused, or what its source files declare has none: by the code
@@ -41,11 +41,11 @@ pub enum GateError {
     /// E901: the old schema has no message type of the root's name.
     #[error("The old schema has no such message type.")]
     RootMissingOld,
-    /// E902: the new schema has none.
+    /// E902: the new schema has no message type of the root's name.
     #[error("The new schema has no such message type.")]
     RootMissingNew,
-    /// E903: a side does not compile. Of files that are compiled by themselves the side is the old
-    /// one.
+    /// E903: a side does not compile. Files that are compiled by themselves are reported as the old
+    /// side.
     #[error("The {0} side does not compile: {1}")]
     Compile(Side, Fault),
     /// E904: the sink failed.
@@ -76,8 +76,8 @@ impl GateError {
     ghost use Rattle.std.specs.Prelude.{◌≡◌};
     ghost use Rattle.pg_gate.specs.print.Codes.{code_of};
 
-    /// The number after the E by which users know the error: of a side that does not compile, the
-    /// one that says what is wrong there.
+    /// The number after the E by which users know the error. For a side that does not compile, it
+    /// is the one that says what is wrong there.
     pub fn code(&self) -> u16
         ensures { result ≡ code_of self.now }
     {

@@ -5,7 +5,7 @@ ghost use Rattle.pg_gate.specs.answer.Agreement.{AllSaysWhatGateSays};
 ghost use Rattle.pg_gate.specs.call.Call.{OneCall};
 ghost use Rattle.pg_gate.specs.call.WorkedCalls.{WorkedCalls};
 
-/// Words that `clap` takes are one call, wherever the names of the views lie.
+/// Arguments that `clap` takes are one call, wherever in memory the names of the views are.
 pub fn one_call()
     ensures { OneCall }
 {}

@@ -56,10 +56,10 @@ fn usage<W: Sink>(alloc: Global, error: &clap::Error, sink: &mut W) -> Result<u8
 /// The whole program, on the arguments after its name: answers the call from its sources, writes
 /// the answer's output to the sink, and gives the exit status.
 ///
-/// 0: compatible, or a set is written, a message shown, or types named. 1: breaks, of two
-/// directions either, or of all types one. 2: refused, or of all types one is removed. 3: a source
-/// failed. 4: help, or a bad command line. 5: a certificate says how many bytes a message has at
-/// least that breaks, and no more. The only errors are `Memory`, with the sink untouched, and
+/// 0: compatible, or a set is written, a message shown, or types named. 1: breaks, in either of two
+/// directions, or in one of all types. 2: refused, or one of all types is removed. 3: a source
+/// failed. 4: help, or a bad command line. 5: a certificate gives only a lower bound on the length
+/// of a message that breaks. The only errors are `Memory`, with the sink untouched, and
 /// `WriteFailed`, after which the sink took a beginning of the output.
 pub fn run<S: Sources, T: Sources, W: Sink>(
     alloc: Global,

@@ -21,7 +21,7 @@ fn words(rt: &HostRuntime) -> io::Result<Vec<String>> {
 }
 
 /// The status of a run; none where memory was refused. How it ended is lent, so that it is dropped
-/// at one place.
+/// only once.
 fn status_of(ended: &Result<u8, GateError>) -> Option<u8> {
     match ended {
         Ok(status) => Some(*status),

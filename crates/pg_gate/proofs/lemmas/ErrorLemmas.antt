@@ -1,4 +1,4 @@
--- What errors say, and which failures of sources they tell of.
+-- What errors say, and which failures of sources they report.
 use Rattle.std.proofs.Common.{◌≡◌, ℕ, Result, Ok, Err, IfErr, refl, ap, sym, subst}
 use Rattle.std.specs.Result.{IsErrAnd}
 use Rattle.pg_dyn.specs.declared.error.DynError.{DynError}
@@ -68,7 +68,7 @@ old_alone A B C F (gates.Compile of fault) is = ap (λ s. if_same sides.Old s (f
 old_alone A B C F gates.WriteFailed is = refl
 old_alone A B C F gates.BadHex is = refl
 
--- an error that is no side's tells of no source
+-- an error of neither side reports no failure of a source
 pub of_none : (A B C : Type 0) (side : Side) (error : GateError) → IsError A B C (λ s fault. ⊥) error → failures_at side error ≡ 0
 of_none A B C side gates.Memory is = refl
 of_none A B C side gates.RootMissingOld is = refl
@@ -80,7 +80,7 @@ of_none A B C side gates.BadHex is = refl
 pub of_memory : (side : Side) (error : GateError) → IsMemory error → failures_at side error ≡ 0
 of_memory side error is = ap (failures_at side) is
 
--- a call's error tells of no source where each kind of it tells of none
+-- a call's error reports no failure of a source where each kind of it reports none
 pub of_call : (G : GateError → Type 0) (C : CertificateFault → Type 0) (B : DynError → Type 0) (side : Side) → ((error : GateError) → G error → failures_at side error ≡ 0)
     → ((fault : CertificateFault) → C fault → call_failures_at side (calls.Certificate fault) ≡ 0) → (error : CallError) → IsCallError G C B error → call_failures_at side error ≡ 0
 of_call G C B side g c (calls.Gate error) is = g error is
@@ -90,7 +90,7 @@ of_call G C B side g c (calls.Bytes error) is = refl
 pub of_refused : (side : Side) → if_same side sides.Old 0 ≡ 0
 of_refused side = if_same_zero side sides.Old
 
--- an answer whose errors tell of no failure
+-- an answer whose errors report no failure
 pub none_counted : {T E : Type 0} (r : Result T E) (P : E → Type 0) (tells : E → ℕ) → ((e : E) → P e → tells e ≡ 0) → IfErr r P → failures_by tells r ≡ 0
 none_counted (Ok x) P tells none is = refl
 none_counted (Err e) P tells none is = none e is

@@ -1,4 +1,4 @@
--- What is relayed of a plain old message comes home.
+-- A plain old message that is relayed returns.
 use Rattle.std.proofs.Common.{◌≡◌, ◌≤◌, ℕ, List, length, true, false, true≢false, Option, Some, None, refl, ap, sym, ◌∙◌, subst}
 use Rattle.pg_schema.specs.declared.parts.field.TypeId.{TypeId}
 use Rattle.pg_schema.specs.Shape.{Shape, IsShape}
@@ -13,7 +13,7 @@ use Rattle.pg_pairs.specs.home.Home.{home, comes_home}
 use Rattle.pg_pairs.specs.home.ComesHome.{MessagesComeHome}
 use Rattle.pg_gate.specs.Relaying.{BringsHome}
 
--- what comes home is read, and is home
+-- the old type reads a message that returns, and reads it back
 read_home : (old new : Shape) (a b : TypeId) (v w : Message) → dec new b (enc old a v) ≡ Some w → comes_home old new a b v ≡ true → (x : Message) × (dec old a (enc new b w) ≡ Some x) × (home old new a b v x ≡ true)
 unfolding comes_home
 read_home old new a b v w read h = of (dec old a (enc new b w)) refl
@@ -29,7 +29,7 @@ brings_home law old new pair shape_old shape_new w bytes again read is_new same 
     let comes = law view old new pair shape_old shape_new compatible returns v is plain fits w read_v is_new (subst (λ bs. length bs ≤ cap) same short) in
     subst (λ bs. (x : Message) × (dec old pair.old bs ≡ Some x) × (home old new pair.old pair.new v x ≡ true)) (sym same) (read_home old new pair.old pair.new v w read_v comes)
 
--- so it does of a message that fits the schema, and of what the encoder writes of it
+-- a message returns where the one that the new type reads fits the schema, and the encoder writes that one again
 pub writes_home : MessagesComeHome → (old new : Shape) (pair : Pair) → IsShape old → IsShape new → (m : Kept) (bytes again : List ℕ) → dec new pair.new bytes ≡ Some (message_of m) → Fits new m × (type_of m ≡ pair.new) → (again ≡ enc new (type_of m) (message_of m)) × (length again ≤ cap) → BringsHome old new pair bytes again
 writes_home law old new pair shape_old shape_new m bytes again read fits written =
     brings_home law old new pair shape_old shape_new (message_of m) bytes again read (subst (λ t. IsMessage new t (message_of m)) fits.1 fits.0.is_message)

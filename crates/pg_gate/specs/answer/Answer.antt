@@ -1,5 +1,5 @@
--- What the gate answers of the old and the new message type of one full name. What contracts see of a certificate is
--- a claim. A view says which numbers of two enums are the same item, and an enum view also which of the others is
+-- What the gate answers of the old and the new message type of one full name. Contracts take a certificate as a
+-- claim. A view says which numbers of two enums are the same item, and an enum view also which of the others is
 -- least; `gate` compares enums by their numbers.
 use Rattle.std.specs.Prelude.{◌≡◌, ◌≤◌, ℕ, ⊤, List, length, Some, None}
 use Rattle.pg_schema.specs.declared.parts.Parts.{Parts}
@@ -19,7 +19,7 @@ use Rattle.pg_gate.specs.declared.answer.gate.Answer.TheVariants as answers
 use Rattle.pg_gate.specs.declared.error.GateError.{GateError}
 use Rattle.pg_gate.specs.declared.error.GateError.TheVariants as errors
 
--- No message breaks: each message that the old writer encodes the new reader sees whole. The certificate is that of
+-- No message breaks: the new reader reads each message whole that the old writer encodes. The certificate is that of
 -- the root types, and it passes the checker; each bound in it is least. The root's bound in it is 'none', and there
 -- is no witness.
 pub record IsCompatible (enum_view : EnumView) (old new : Parts) (root : List ℕ) (certificate : Claim) : Type 0 where
@@ -32,8 +32,8 @@ pub record IsCompatible (enum_view : EnumView) (old new : Parts) (root : List �
   pub no_witness : certificate.witness ≡ None
   pub compatible : Compatible enum_view.alike (shape_of old) (shape_of new) certificate.root.old certificate.root.new
 
--- The witness is a message of the old root type, without unknown records, and it breaks: the new reader doesn't see
--- it whole. No message that the old writer encodes and the new reader doesn't see whole has fewer bytes. The
+-- The witness is a message of the old root type, without unknown records, and it breaks: the new reader doesn't read
+-- it whole. No message that the old writer encodes and the new reader doesn't read whole has fewer bytes. The
 -- certificate is that of the root types, and it passes the checker; each bound in it is least. It has the witness's
 -- bytes.
 pub record IsBroken (enum_view : EnumView) (old new : Parts) (root : List ℕ) (witness : Kept) (certificate : Claim)

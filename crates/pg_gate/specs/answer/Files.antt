@@ -37,7 +37,7 @@ pub record Paths : Type 0 where
   pub folder : Text
   pub files : List Text
 
--- those of the old and of the new side
+-- the paths of the old and of the new side
 pub record BothPaths : Type 0 where
   pub old : Paths
   pub new : Paths

@@ -100,7 +100,7 @@ pub record IsLeastWitness (view : ViewName) (old new : Parts) (root : Text) (exp
       (carried_along (seen_under view old new) (shape_of old) (shape_of new) are_steps.path) ≡ Some bytes
   pub explained : IsExplained explain old new certificate.root bytes readings
 
--- The text is that of the certificate of an answer under the view, in version 2, and this is whether a message
+-- The string spells the certificate of an answer under the view, in version 2, and `breaks` is whether a message
 -- breaks. A witness in it is the message that the path of cheapest choices carries.
 pub record IsCertificateText (view : ViewName) (old new : Parts) (root text : Text) (breaks : Bool) : Type 0 where
   pub answer : Answer
@@ -181,7 +181,7 @@ pub record Seen : Type 0 where
   pub before : ℕ
   pub after : ℕ
 
--- of a source, before the run and after it
+-- what a run knows of a source, by the source before the run and after it
 abbrev pub seen : {S : Type 0} → Ghosts S → S → S → Seen
 seen members old new = record {
   may_give = members.may_give old;
@@ -190,7 +190,7 @@ seen members old new = record {
   after = members.failures new;
 }
 
--- files of a source that is seen
+-- files of a source, by what a run knows of it
 abbrev pub world_in : Seen → Paths → World
 world_in s paths = world s.may_give s.may_lack paths.folder paths.files
 

@@ -21,7 +21,7 @@ pub record IsReadAs (schema : Parts) (type : TypeId) (bytes text : Text) : Type 
   pub shows : Shows (names_of schema) (shape_of schema) type bytes text
   pub within : (place : ℕ) → TooDeepIn (shape_of schema) most_levels (fields (shape_of schema) type) bytes place → ⊥
 
--- the same for the type of that full name, and the bytes that the word spells
+-- the argument spells bytes, and the output is that of the message that the type of this full name reads them as
 pub record IsShown (schema : Parts) (root word text : Text) : Type 0 where
   pub type : TypeId
   pub bytes : Text
@@ -36,7 +36,7 @@ pub record IsRefused (schema : Parts) (type : TypeId) (bytes : Text) (error : Dy
   pub is_reported : error ≡ messages.Memory → ⊥
   pub refuses : Refuses (shape_of schema) type bytes error
 
--- bytes that the word spells are refused by the type of that full name
+-- bytes that the argument spells are refused by the type of that full name
 pub record IsRefusedWord (schema : Parts) (root word : Text) (error : DynError) : Type 0 where
   pub type : TypeId
   pub bytes : Text
@@ -44,7 +44,7 @@ pub record IsRefusedWord (schema : Parts) (root word : Text) (error : DynError) 
   pub spelled : bytes_in word ≡ Some bytes
   pub refused : IsRefused schema type bytes error
 
--- a word that is read, and spells no bytes: the schema has the type
+-- the schema has the type, so the argument is read, and it spells no bytes
 abbrev pub IsBadWord : Parts → Text → Text → Type 0
 IsBadWord schema root word = (Lacks schema root → ⊥) × (bytes_in word ≡ None)
 

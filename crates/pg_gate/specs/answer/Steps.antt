@@ -32,14 +32,14 @@ abbrev pub named_at : Parts → Parts → Pair → ℕ → NamedStep
 named_at old new pair number =
     record { number = number; old = field_name old pair.old number; new = field_name new pair.new number }
 
--- The fields of a choice: one, and of two fields that meet in a oneof of the new type both, the smaller number first.
+-- The fields of a choice: one, or both that meet in a oneof of the new type, the smaller number first.
 abbrev pub numbers_of : Choice → List ℕ
 numbers_of c = if is_oneof c.case then c.number ∷ c.part ∷ [] else c.number ∷ []
 
 abbrev pub steps_by : Parts → Parts → stages.PairChoice → List NamedStep
 steps_by old new stage = map (named_at old new stage.pair) (numbers_of stage.choice)
 
--- a step without its places
+-- a step without its positions
 abbrev pub named : Step → NamedStep
 named step = record { number = step.number; old = string_bytes step.old.name; new = string_bytes step.new.name }
 

@@ -1,4 +1,4 @@
--- What a certificate's bytes show of two schemas, and why they are refused. What contracts see of a certificate is a
+-- What a certificate's bytes show of two schemas, and why they are refused. Contracts take a certificate as a
 -- claim.
 use Rattle.std.specs.Prelude.{◌≡◌, ℕ, List, length, Option, Some, None, string_bytes}
 use Rattle.pg_link.specs.Names.{Text}
@@ -26,11 +26,11 @@ abbrev pub witness_length : Option (List ℕ) → ℕ
 witness_length (Some bytes) = length bytes
 witness_length None = 0
 
--- The bytes are a text of a claim of the two schemas, and the claim holds under the view that it names: its table
--- covers its root, and its witness, where it has one, is as the root's bound says. The verdict is the claim's, and
--- what it says is true of every message of the root's old type (`Says`): `Compatible`, that none breaks; `Breaks`,
--- that the witness's does, and none that breaks has fewer bytes; `AtLeast n`, that each that breaks has at least n
--- bytes. The name is the old root type's, and the length the witness's.
+-- The bytes spell a claim of the two schemas, and the claim holds under the view that it names: its table covers its
+-- root, and its witness, where it has one, is as the root's bound says. The verdict is the claim's, and what it says
+-- is true of every message of the root's old type (`Says`): `Compatible`, that none breaks; `Breaks`, that the
+-- witness's does, and none that breaks has fewer bytes; `AtLeast n`, that each that breaks has at least n bytes. The
+-- name is the old root type's, and the length the witness's.
 pub record IsHeld (old new : Parts) (bytes : Text) (verified : Verified) : Type 0 where
   pub claim : Claim
   pub certifies : Certifies old new bytes claim
@@ -52,7 +52,7 @@ pub record AreNames (old new : Parts) (pair : Pair) (names : PairNames) : Type 0
   pub old_is : string_bytes names.old ≡ names_of old pair.old
   pub new_is : string_bytes names.new ≡ names_of new pair.new
 
--- the bytes are a text of a claim of the two schemas, which has this first fault under the view that it names
+-- the bytes spell a claim of the two schemas, which has this first fault under the view that it names
 pub record HasFirstFault (old new : Parts) (bytes : Text) (fault : CertError) : Type 0 where
   pub claim : Claim
   pub certifies : Certifies old new bytes claim

@@ -146,9 +146,9 @@ request_in met =
 
 -- ---- from the words
 
--- A command keeps the reference to the list of names that `--view` takes, and so do clap's definitions, and where it
--- lies nobody knows beforehand. So what clap does is said of some reference to just these names. By law it is the
--- same for each (`OneCall`).
+-- A command keeps the reference to the list of names that `--view` takes, and so do clap's definitions, and nobody
+-- knows beforehand where in memory that list is. So what clap does is said of some reference to just these names. By
+-- law it is the same for each (`OneCall`).
 
 -- clap takes the words, and its matches are those of this call
 pub record CallsFor (words : List Text) (call : Request) : Type 0 where

@@ -1,4 +1,4 @@
--- The command line, as clap's contracts see a command.
+-- The command line, as a command in clap's contracts.
 use Rattle.std.specs.Prelude.{List, [], ◌∷◌, Some, true, codes}
 use Rattle.std.specs.Borrow.{Bor}
 use Rattle.clap.specs.Words.{App, Rule, Text, new_app, new_rule, with_rule, with_subcommand}
@@ -28,11 +28,11 @@ named name = record (new_rule name) { long = Some name; value_names = 1; require
 abbrev pub named_each : Text → Rule
 named_each name = record (named name) { action = Some Append }
 
--- a word without a name
+-- an argument without a name
 abbrev pub positional : Text → Rule
 positional name = record (new_rule name) { required = true }
 
--- one or more of them
+-- one or more arguments without a name
 abbrev pub positionals : Text → Rule
 positionals name = record (positional name) { action = Some Append }
 

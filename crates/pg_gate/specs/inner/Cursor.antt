@@ -1,4 +1,4 @@
--- A place in a source file that a cursor has come to.
+-- The position in a source file that a cursor has come to.
 use Rattle.std.specs.Prelude.{◌≡◌, ◌≤◌, ℕ, List, length, take}
 use Rattle.pg_lex.specs.Place.{column, line}
 use Rattle.pg_gate.specs.declared.answer.cursor.Stand.{Stand}

@@ -16,7 +16,7 @@ ReportsAnswer old new certificate explain (findings.Breaks witness steps reading
     × IsExplained explain old new certificate.root witness.items readings
 ReportsAnswer old new certificate explain finding = ⊥
 
--- the certificate's text in version 2, and whether it has a witness
+-- the certificate as a string in version 2, and whether it has a witness
 abbrev pub ReportsCertificate : Parts → Parts → Claim → Finding → Type 0
 ReportsCertificate old new certificate (findings.Certified text breaks) =
     Certifies old new (string_bytes text) certificate × IsSecondText old new (string_bytes text) certificate

@@ -1,4 +1,4 @@
--- What functions inside the crate take a source for: what it may give and lack below a folder.
+-- What functions inside the crate know of a source: what it may give and lack below a folder.
 use Rattle.pg_link.specs.Walk.{World, world}
 use Rattle.pg_link.specs.declared.sources.Sources.{Ghosts}
 use Rattle.pg_gate.specs.answer.Files.{Paths}

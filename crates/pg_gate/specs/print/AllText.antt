@@ -21,7 +21,7 @@ reason_word reasons.MapKey = codes "map-key"
 reason_word reasons.MapValue = codes "map-value"
 reason_word reasons.Oneof = codes "oneof"
 
--- of two fields that meet the one of the larger number, after the other
+-- the field of the larger number, after the one that it meets
 abbrev pub other_of : Option Step → Text
 other_of (Some step) = codes " " ++ (field_of step.old ++ (codes " " ++ field_of step.new))
 other_of None = []

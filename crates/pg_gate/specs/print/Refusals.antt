@@ -21,7 +21,7 @@ use Rattle.pg_gate.specs.declared.print.location.Location.{Location}
 use Rattle.pg_gate.specs.declared.print.location.Location.TheVariants.{Nowhere, InPlace, InFile, AtByte}
 use Rattle.pg_gate.specs.declared.print.refusal.Refusal.{Refusal}
 
--- ---- places
+-- ---- positions
 
 -- a file as a whole, or a line and a column in it
 abbrev pub located_by : Bool → Place → Location
@@ -31,7 +31,7 @@ located_by false place = InPlace place
 abbrev pub located : Place → Location
 located place = located_by (nat_eq place.line 0) place
 
--- at a place of a source file, or at none
+-- at a position in a source file, or nowhere
 abbrev pub location_at : Option Place → Location
 location_at (Some place) = located place
 location_at None = Nowhere

@@ -39,14 +39,14 @@ abbrev pub hex_of : List ℕ → Text
 hex_of [] = codes "-"
 hex_of (byte ∷ bytes) = digits_of (byte ∷ bytes)
 
--- ---- places and steps
+-- ---- positions and steps
 
 -- `FILE:LINE:COLUMN`
 abbrev pub place_of : Place → Text
 place_of place = string_bytes place.file ++ (codes ":" ++ (decimal place.line
     ++ (codes ":" ++ decimal place.column)))
 
--- a side that is no source files has no places
+-- a descriptor set has no positions in source files
 abbrev pub place_or_dash : Option Place → Text
 place_or_dash (Some place) = place_of place
 place_or_dash None = codes "-"
@@ -80,7 +80,7 @@ readings_of (Some readings) = (codes "old" ++ line_end) ++ (string_bytes reading
 readings_of None = []
 
 -- `compatible NAME`; `breaks NAME LENGTH`, `witness HEX`, the steps, and the two readings where they are asked for; a
--- certificate's text alone; or what a certificate shows
+-- certificate alone; or what a certificate shows
 abbrev pub finding_of : Text → Finding → Text
 finding_of root finding.Compatible = codes "compatible " ++ (root ++ line_end)
 finding_of root (finding.Breaks witness steps readings) =

@@ -9,8 +9,8 @@ use crate::print::reply::{ReadingLines, Readings};
 use pg_causes::{Cause, Reason, TypeLine};
 use std::fmt;
 
-/// A cause with the field that breaks, and of two fields that meet in a oneof with the other one,
-/// of the larger number. Where that is asked for, its message as both sides read it.
+/// A cause with the field that breaks; where two fields meet in a oneof, also with the other one,
+/// of the larger number. On request, it has its message as both sides read it.
 #[derive(Debug, Drop)]
 pub(crate) struct PlacedCause {
     pub cause: Cause,

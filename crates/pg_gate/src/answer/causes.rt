@@ -1,4 +1,4 @@
-//! The causes of two sides that compiled, with their fields, places and readings.
+//! The causes of two sides that compiled, with their fields, positions and readings.
 ghost use Rattle.std.specs.Prelude.{◌≡◌, ◌∷◌, IfOk, map, option_to_list};
 ghost use Rattle.std.specs.List.{AllByRecursion};
 ghost use Rattle.pg_causes.specs.declared.overview.Cause.{Cause};
@@ -17,7 +17,7 @@ use pg_least::PairChoice;
 use pg_pairs::Case;
 use std::alloc::{AllocError, Global};
 
-/// Of two fields that meet in a oneof the one of the larger number.
+/// The field of the larger number, where two fields meet in a oneof.
 fn other_of(
     alloc: Global,
     sides: &PlacedSchemas<'_>,

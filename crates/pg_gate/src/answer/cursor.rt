@@ -68,8 +68,8 @@ impl<'a> Cursor<'a> {
         Cursor { text, stand: FIRST }
     }
 
-    /// The line and the column of a byte, to which it goes: those that `place` of `pg_lex` gives.
-    /// Only for a byte that is passed already it begins anew at the first.
+    /// The line and the column of a byte, to which the cursor goes: those that `place` of `pg_lex`
+    /// gives. Only for a byte that it has passed, it begins anew at the first.
     pub(crate) fn place(&mut self, at: usize) -> (usize, usize)
         ensures line { result.0 ≡ line (take at self.old) }
         ensures column { result.1 ≡ column (take at self.old) }

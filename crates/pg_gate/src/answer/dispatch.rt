@@ -66,7 +66,7 @@ fn reported(
     }
 }
 
-/// The text of the certificate, and whether a message breaks.
+/// The certificate as a string, and whether a message breaks.
 fn certified(
     alloc: Global,
     old: &Schema,

@@ -1,4 +1,4 @@
-//! The gate: whether a reader of the new type sees all that a writer of the old one writes.
+//! The gate: whether a reader of the new type reads all that a writer of the old one writes.
 ghost use Rattle.std.specs.Prelude.{◌≡◌, ◌+◌, Err, codes, IfErr, IfOk};
 ghost use Rattle.pg_schema.specs.Parts.{shape_of};
 ghost use Rattle.pg_pairs.specs.views.EnumView.{by_numbers};
@@ -28,8 +28,8 @@ use std::alloc::Global;
 /// What the gate says of two message types, with the certificate that shows it.
 #[derive(Drop)]
 pub enum Answer {
-    /// No message breaks: of each message that the old writer encodes the new reader sees the same
-    /// values in the fields of both types, and gives back all others.
+    /// No message breaks: of each message that the old writer encodes, the new reader reads the
+    /// same values in the fields of both types, and gives back all others.
     Compatible(Certificate),
     /// A message of the old type that breaks, without unknown records. No message that breaks has
     /// fewer bytes.
@@ -135,9 +135,9 @@ pub fn gate(alloc: Global, old: &Schema, new: &Schema, root: &str) -> Result<Ans
 /// side has a schema. A side of one path that doesn't end in `.proto` is the descriptor set there,
 /// and its schema the one that the set states.
 ///
-/// Refuses a side with its first fault (`Compile`): what its source files can't be linked for, or
-/// the first rule of the language that they break, at its place, or what its set is refused for;
-/// and a missing root, as `gate` does. `Memory` is out of memory.
+/// Refuses a side with its first fault (`Compile`): why its source files can't be linked, or the
+/// first rule of the language that they break, with its position, or why its set is refused.
+/// Refuses a missing root as `gate` does. `Memory` is out of memory.
 pub fn gate_files<S: Sources, T: Sources>(
     alloc: Global,
     old: &mut S,

@@ -1,5 +1,5 @@
 //! Where the fields of a side are declared: found for all steps of a witness by one pass over the
-//! files, so that long ways take no more than linear time. `Linked::place` goes by all names, and
+//! files, so that long paths take no more than linear time. `Linked::place` goes by all names, and
 //! counts its source file from the first byte, at each call.
 
 use crate::answer::cursor::Cursor;
@@ -9,7 +9,7 @@ use pg_syntax::tree::{FileTree, Message, Name, OneofPart, Part, Statement};
 use std::alloc::{AllocError, Global};
 use std::collections::BTreeMap;
 
-/// The place of an identifier: its file by number, the line and the column.
+/// The position of an identifier: its file by number, the line and the column.
 #[derive(Clone, Copy)]
 struct Spot {
     file: usize,
@@ -27,7 +27,7 @@ struct Finder<'a> {
     spots: BTreeMap<(u32, u64), Spot>,
 }
 
-/// Puts the place of a field's name to the others.
+/// Adds the position of a field's name to the others.
 fn add_field(finder: &mut Finder<'_>, id: u32, number: u64, name: &Name) -> Result<(), AllocError> {
     let (line, column) = finder.cursor.place(name.span.from);
     let spot = Spot {
@@ -54,7 +54,7 @@ fn add_members(finder: &mut Finder<'_>, id: u32, parts: &[OneofPart]) -> Result<
     Ok(())
 }
 
-/// Puts the fields of one part of a message type to the others, and those of the types in it.
+/// Adds the fields of one part of a message type to the others, and those of the types in it.
 #[cycle(messages)]
 fn add_part(
     finder: &mut Finder<'_>,
@@ -84,7 +84,7 @@ fn add_parts(
     Ok(())
 }
 
-/// Puts the fields of a message type to the others, where they are wanted, and those of the types
+/// Adds the fields of a message type to the others, where they are wanted, and those of the types
 /// in it.
 #[cycle(messages)]
 fn add_message(finder: &mut Finder<'_>, message: &Message) -> Result<(), AllocError> {
@@ -111,7 +111,7 @@ fn add_tree(finder: &mut Finder<'_>, tree: &FileTree) -> Result<(), AllocError> 
     }
 }
 
-/// The places of the fields of some message types.
+/// The positions of the fields of some message types.
 #[derive(Drop)]
 pub(crate) struct Places<'a> {
     files: &'a Linked,
@@ -141,7 +141,7 @@ impl Places<'_> {
     }
 }
 
-/// The places of the fields of those message types at whose numbers `wanted` has `true`, by one
+/// The positions of the fields of those message types at whose indices `wanted` has `true`, by one
 /// pass over the files.
 pub(crate) fn places_of<'a>(
     alloc: Global,

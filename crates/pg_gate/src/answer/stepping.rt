@@ -18,15 +18,15 @@ use pg_pairs::{Case, Pair};
 use pg_schema::{Schema, TypeId};
 use std::alloc::{AllocError, Global};
 
-/// A schema, and where the fields of some of its types are declared: those of a descriptor set are
-/// nowhere.
+/// A schema, and where the fields of some of its types are declared. The fields of a descriptor set
+/// have no positions.
 #[derive(Drop)]
 pub(crate) struct PlacedSchema<'a> {
     pub schema: &'a Schema,
     places: Option<Places<'a>>,
 }
 
-/// The old and the new schema, with the places of fields.
+/// The old and the new schema, with the positions of fields.
 #[derive(Drop)]
 pub(crate) struct PlacedSchemas<'a> {
     pub old: PlacedSchema<'a>,
@@ -91,7 +91,7 @@ pub(crate) fn step_of(
     })
 }
 
-/// Appends the steps of a choice: of two fields that meet in a oneof one for each.
+/// Appends the steps of a choice: one, or one for each of two fields that meet in a oneof.
 fn add_steps(
     alloc: Global,
     steps: &mut Vec<Step>,
@@ -161,7 +161,7 @@ fn places_on<'a>(
     Ok(Some(places))
 }
 
-/// The schemas of two sides, with the places of the fields of the types on the path.
+/// The schemas of two sides, with the positions of the fields of the types on the path.
 pub(crate) fn placed_schemas<'a>(
     alloc: Global,
     old: &'a Compiled,

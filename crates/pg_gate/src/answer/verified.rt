@@ -16,8 +16,8 @@ pub(crate) struct Verified {
 }
 
 impl Verified {
-    /// 0 where no message breaks, 1 where one does, and 5 where it is only said how many bytes one
-    /// has at least.
+    /// 0 where no message breaks, 1 where one does, and 5 where the certificate gives only a lower
+    /// bound on the length of one that breaks.
     pub(crate) fn status(&self) -> u8
         ensures { result ≡ verdict_status self.now.verdict }
     {

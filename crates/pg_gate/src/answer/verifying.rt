@@ -110,7 +110,7 @@ fn fault_of(
     Ok(ClaimFault { error, location })
 }
 
-/// What a checker's error is reported as: where it is why bytes are refused, so is that.
+/// The error that reports a checker's error. It says why bytes are refused where that one does.
 fn reported(alloc: Global, old: &Schema, new: &Schema, error: CertError) -> CallError
     ensures { (bytes : List ℕ) → IsClaimRefusal old.now new.now bytes error
         → IsClaimError old.now new.now bytes result }

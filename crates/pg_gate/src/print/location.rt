@@ -11,7 +11,7 @@ use std::fmt;
 /// Where a fault is.
 #[derive(Debug, Drop)]
 pub(crate) enum Location {
-    /// A fault of no place, as a missing root.
+    /// A fault without a position, as a missing root.
     Nowhere,
     /// A file, with a line and a column from 1 on; columns count bytes.
     InPlace(Place),
@@ -29,7 +29,7 @@ pub(crate) enum Location {
     },
 }
 
-/// Where a place is: a line and a column of its file, or the file as a whole.
+/// What a position names: a line and a column of its file, or the file as a whole.
 fn located(place: Place) -> Location
     ensures { result ≡ refusals.located place }
 {
@@ -59,7 +59,7 @@ pub(crate) fn location_of(at: Option<usize>) -> Location
     }
 }
 
-/// Where a side is at fault. A rule that a set breaks has no place in a source file.
+/// Where a side is at fault. A rule that a set breaks has no position in a source file.
 pub(crate) fn location_of_fault(fault: Fault) -> Location
     ensures { result ≡ refusals.location_of_fault fault }
 {
@@ -70,7 +70,7 @@ pub(crate) fn location_of_fault(fault: Fault) -> Location
     }
 }
 
-/// Where a certificate is at fault. One that isn't given is reported by its file.
+/// Where a certificate is at fault. A certificate that isn't given is reported by its file.
 pub(crate) fn location_of_certificate(fault: CertificateFault) -> Location
     ensures { result ≡ refusals.location_of_certificate fault }
 {

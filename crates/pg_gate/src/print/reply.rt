@@ -32,14 +32,14 @@ pub(crate) enum Reply {
 pub(crate) enum Finding {
     /// No message breaks.
     Compatible,
-    /// The bytes of a message that breaks, and the fields on its path, root first. None that breaks
-    /// has fewer. Where that is asked for, as both sides read it.
+    /// The bytes of a message that breaks, and the fields on its path, root first. No message that
+    /// breaks has fewer bytes. On request, the message as both sides read it.
     Breaks {
         witness: Vec<u8>,
         steps: Vec<Step>,
         readings: Option<Readings>,
     },
-    /// The text of the certificate, and whether a message breaks.
+    /// The certificate as a string, and whether a message breaks.
     Certified {
         text: String,
         breaks: bool,
@@ -141,7 +141,7 @@ impl Reply {
 }
 
 impl Finding {
-    /// 0 where no message breaks, and else 1; of a certificate its verdict's.
+    /// 0 where no message breaks, and else 1; for a certificate, the status of its verdict.
     fn status(&self) -> u8
         ensures { result ≡ finding_status self.now }
     {

@@ -125,7 +125,7 @@ searched_by view old new root (answers.Compatible certificate) is =
 searched_by view old new root (answers.Breaks witness certificate) is =
     subst (λ (v : ViewName). IsSearched (seen_under v old new) (shape_of old) (shape_of new) certificate.root certificate) (sym is.0) is.1.searched
 
--- ---- what is told of an answer
+-- ---- what is reported of an answer
 
 -- the witness is the encoding of the message that the path of its steps carries
 steps_carry : (view : ViewName) (old new : Parts) (certificate : Claim) (bytes : List ℕ) (steps : List Step) → certificate.view ≡ view
@@ -137,7 +137,7 @@ steps_carry view old new certificate bytes steps named carries written are =
     carried are.path
     (subst (λ (v : ViewName). IsPath (seen_under v old new) (shape_of old) (shape_of new) (bound_in certificate.bounds) certificate.root are.path) named are.is_path)
 
--- what is told of an answer's certificate is what is found
+-- what is reported of an answer's certificate is what is found
 pub found_by : (view : ViewName) (old new : Parts) (root : Text) (answer : Answer) (certificate_only explain : Bool) (finding : Finding) → IsAnswerUnder view old new root answer → CarriesWitness (seen_under view old new) (shape_of old) (shape_of new) (certificate_of answer)
     → Reports old new (certificate_of answer) certificate_only explain finding → IsFindingOf view old new root certificate_only explain finding
 found_by view old new root (answers.Compatible certificate) false explain findings.Compatible is carries tells = record { certificate = certificate; named = is.0; compatible = is.1 }

@@ -39,7 +39,7 @@ line_more xs ys = let more = sum_by-append (λ b. cond (eqb b 10) 1 0) xs ys in 
 parts : (text : List ℕ) (from to : ℕ) → from ≤ to → take to text ≡ take from text ++ take (to - from) (drop from text)
 parts text from to le = let n : to ≡ from + (to - from) = omega arith in ap (λ n. take n text) n ∙ take-add from (to - from) text
 
--- what a place is counted from: the bytes between it and an earlier one
+-- what a position is counted from: the bytes between it and an earlier one
 pub record Passed (text : List ℕ) (from : Stand) (to at_line at_column size : ℕ) : Type 0 where
   pub is_size : size ≡ to - from.at
   pub on_one_line : size < at_column → from.column + size ≡ column (take to text)

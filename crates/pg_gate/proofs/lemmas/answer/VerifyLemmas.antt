@@ -46,7 +46,7 @@ there f (type ∷ types) (suc at) within = there f types at (omega arith)
 pub named_by : (parts : Parts) (id : TypeId) (name : Text) → id.index < length parts.types.items → name ≡ names_of parts id → IsNamed parts name id
 named_by parts id name within is = there (λ (t : MessageType). string_bytes t.name) parts.types.items id.index within ∙ ap Some (sym is)
 
--- ---- the first fault of a claim is never that its text is bad
+-- ---- the first fault of a claim is never `BadText`
 
 abbrev is_bad_text : CertError → Bool
 is_bad_text checks.Memory = false
@@ -108,7 +108,7 @@ module _ (old new : Parts) (bytes : Text) where
     is_place = subst (λ e. IsPlaceOf old new e fault.location) (sym same) placed;
   }
 
-  -- a text that isn't read certifies nothing
+  -- bytes that aren't read certify nothing
   pub text_fault : (error : CertError) → (error ≡ checks.Memory) ⊎ ((error ≡ checks.BadText) × ((claim : Claim) → Certifies old new bytes claim → ⊥)) → IsClaimRefusal old new bytes error
   text_fault error (inl memory) = inl memory
   text_fault error (inr bad) = inr (subst (λ e. IsFaultOfClaim old new bytes e) (sym bad.0) bad.1)

@@ -12,7 +12,7 @@ returns-in-Err-clause-usage g c = IfOk-weaker c.usage.result _ _ (λ status is s
 pub returns-in-Err-clause-begun : goal.returns-in-Err-clause-begun
 returns-in-Err-clause-begun g c = λ failed. inr (c.in-Err.ensures.refused (c.usage.ensures.refused failed), refl, refl)
 
--- Where memory runs out before an answer is found, no source failed. Behind it each failed as the answer says.
+-- Where memory runs out before an answer is found, no source failed. After that, each failed as the answer says.
 pub returns-in-Err-clause-lacking : goal.returns-in-Err-clause-lacking
 returns-in-Err-clause-lacking g c = λ memory. unfailed (refl, refl)
 

@@ -1,4 +1,4 @@
--- The view by numbers sees enums by their numbers.
+-- The view by numbers compares enums by their numbers.
 use Rattle.std.proofs.Common.{◌≡◌, IfOk, subst}
 use Rattle.pg_dyn.specs.declared.view_name.ViewName.TheVariants as views
 use Rattle.pg_schema.specs.Parts.{shape_of}
