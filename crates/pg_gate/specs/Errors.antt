@@ -9,8 +9,8 @@ use Rattle.pg_gate.specs.declared.error.GateError.{GateError}
 use Rattle.pg_gate.specs.declared.error.GateError.TheVariants as gates
 use Rattle.pg_gate.specs.declared.error.Side.{Side}
 
--- What an error says, by what each error would: of a missing root of either side, of a word that spells no bytes, and
--- of a fault of a side. Out of memory says nothing, and that the sink failed is no answer of a source.
+-- What an error says, by what each error would: of a missing root of either side, of an argument that spells no bytes,
+-- and of a fault of a side. Out of memory says nothing, and that the sink failed is no answer of a source.
 abbrev pub IsError : (old_missing new_missing bad_hex : Type 0) → (Side → Fault → Type 0) → GateError → Type 0
 IsError old_missing new_missing bad_hex fault gates.Memory = Unit {0}
 IsError old_missing new_missing bad_hex fault gates.RootMissingOld = old_missing

@@ -22,7 +22,7 @@ abbrev pub certificate_failures : CertificateFault → ℕ
 certificate_failures (certificates.Failed file) = 1
 certificate_failures fault = 0
 
--- of a count that one side reports, what is the other's
+-- how much of the first side's count belongs to the second side: all of it where they are the same, and else nothing
 abbrev pub if_same : Side → Side → ℕ → ℕ
 if_same sides.Old sides.Old count = count
 if_same sides.New sides.New count = count

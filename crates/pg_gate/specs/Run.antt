@@ -7,7 +7,7 @@ use Rattle.pg_gate.specs.declared.error.GateError.{GateError}
 use Rattle.pg_gate.specs.declared.error.GateError.TheVariants.{Memory, WriteFailed}
 use Rattle.pg_gate.specs.declared.print.reply.Reply.{Reply}
 
--- the sink took what the words' call prints, with an answer granted to it, and nothing else
+-- the sink took what the arguments' call prints, with an answer granted to it, and nothing else
 pub record Prints (granted : Request → Reply → Type 0) (words : List Text) (status : ℕ) (old new : Text) : Type 0 where
   pub call : Request
   pub reply : Reply
@@ -16,7 +16,7 @@ pub record Prints (granted : Request → Reply → Type 0) (words : List Text) (
   pub ended : status ≡ (printed call reply).status
   pub written : new ≡ old ++ (printed call reply).text
 
--- the sink took a beginning of it
+-- the sink took a beginning of what the arguments' call prints
 pub record Begins (granted : Request → Reply → Type 0) (words : List Text) (old new : Text) : Type 0 where
   pub call : Request
   pub reply : Reply
@@ -31,7 +31,7 @@ pub record Keeps (old new : Text) : Type 0 where
   pub is : new ≡ old ++ more
 
 -- The sources of a run that ends out of memory: none failed; or their counts are those of an answer that is granted
--- to the words' call.
+-- to the arguments' call.
 pub data MayLack (granted : Request → Reply → Type 0) (words : List Text) (none_failed : Type 0) : Type 0 where
   unfailed : none_failed → MayLack granted words none_failed
   answered : (call : Request) (reply : Reply) → CallsFor words call → granted call reply

@@ -168,13 +168,13 @@ pub record IsSetOf (w : World) (bytes : List ℕ) : Type 0 where
   pub compiled : IsCompiled w schema
   pub set : fds schema bytes
 
--- what the files declare has no set of so few bytes as a message may have
+-- what the files declare has no set that is as short as a message has to be
 pub record IsUnwritten (w : World) (error : FdsError) : Type 0 where
   pub schema : Parts
   pub compiled : IsCompiled w schema
   pub is_reported : error ≡ sets.Bytes messages.TooLong
   pub has_none : HasNoSet schema
 
--- what is wrong with files that no set is written of
+-- why no set is written of the files
 abbrev pub IsFaultOfSet : World → Fault → Type 0
 IsFaultOfSet w = IsFault (IsLinkFault w) (IsBrokenRule w) (IsUnwritten w)

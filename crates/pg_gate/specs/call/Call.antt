@@ -1,4 +1,4 @@
--- What the words of a command line call for.
+-- What the arguments of a command line call for.
 use Rattle.std.specs.Prelude.{◌≡◌, ◌≢◌, ◌⊎◌, Bool, true, false, List, [], Some, codes}
 use Rattle.std.specs.Prelude.{unwrap_or, option_map, if◌then◌else◌}
 use Rattle.std.specs.Borrow.{Bor}
@@ -144,31 +144,31 @@ request_in met =
     else if bytes_eq met.0 (codes "types") then types (paths_at (codes "dir") (codes "FILE") met.1)
     else show_in met.1
 
--- ---- from the words
+-- ---- from the arguments
 
 -- A command keeps the reference to the list of names that `--view` takes, and so do clap's definitions, and nobody
 -- knows beforehand where in memory that list is. So what clap does is said of some reference to just these names. By
 -- law it is the same for each (`OneCall`).
 
--- clap takes the words, and its matches are those of this call
+-- clap takes the arguments, and its matches are those of this call
 pub record CallsFor (words : List Text) (call : Request) : Type 0 where
   pub names : Bor (List (Bor Text))
   pub are_names : texts names.now ≡ view_names
   pub taken : fault_of (whole_app names) words ≡ []
   pub by_matches : option_map request_in (subcommand_of (whole_app names) words) ≡ Some call
 
--- the words call for something
+-- the arguments call for something
 pub record IsCall (words : List Text) : Type 0 where
   pub call : Request
   pub called : CallsFor words call
 
--- clap doesn't take the words: it finds a fault of them, or they ask for help or the version
+-- clap doesn't take the arguments: it finds a fault of them, or they ask for help or the version
 pub record IsRefused (words : List Text) : Type 0 where
   pub names : Bor (List (Bor Text))
   pub are_names : texts names.now ≡ view_names
   pub by_clap : fault_of (whole_app names) words ≢ []
 
--- Words that clap takes are just one call: whichever such reference the command keeps.
+-- Arguments that clap takes are just one call, whichever such reference the command keeps.
 pub record OneCall : Type 0 where
   pub called_or_refused : (words : List Text) → IsCall words ⊎ IsRefused words
   pub never_both : (words : List Text) → IsCall words → ¬ (IsRefused words)

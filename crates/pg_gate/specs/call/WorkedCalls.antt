@@ -1,4 +1,4 @@
--- Words of the command line, and what they call for.
+-- Arguments of the command line, and what they call for.
 use Rattle.std.specs.Prelude.{Bool, true, false, List, [], ◌∷◌, codes}
 use Rattle.clap.specs.Words.{Text}
 use Rattle.pg_dyn.specs.declared.view_name.ViewName.{ViewName}
@@ -10,7 +10,7 @@ use Rattle.pg_gate.specs.call.Call.{CallsFor, IsRefused, Request, gate, gate_all
 abbrev pub here : List Text → Paths
 here files = record { folder = codes "."; files = files }
 
--- `gate` for a type M of two files, and further words
+-- `gate` for a type M of two files, and further arguments
 abbrev pub gate_words : List Text → List Text
 gate_words more =
     codes "gate" ∷ codes "--old" ∷ codes "o" ∷ codes "--new" ∷ codes "n" ∷ codes "--type" ∷ codes "M" ∷ more
@@ -28,7 +28,7 @@ asked_gate explain view = gate (record {
 abbrev pub gate_by : ViewName → Request
 gate_by view = asked_gate false view
 
--- `gate-all` of two old files and a new one, and further words
+-- `gate-all` of two old files and a new one, and further arguments
 abbrev pub gate_all_words : List Text → List Text
 gate_all_words more = codes "gate-all" ∷ codes "--old" ∷ codes "b" ∷ codes "--new=n" ∷ codes "--old=a" ∷ more
 

@@ -14,7 +14,7 @@ use Rattle.pg_gate.specs.declared.call.error.CertificateFault.TheVariants as cer
 abbrev pub IsClaimRefusal : Parts → Parts → Text → CertError → Type 0
 IsClaimRefusal old new bytes error = (error ≡ checks.Memory) ⊎ IsFaultOfClaim old new bytes error
 
--- bytes that are refused, for what they are
+-- the bytes are refused as a certificate, for this fault
 abbrev pub IsOfClaim : Parts → Parts → Text → CertificateFault → Type 0
 IsOfClaim old new bytes (certificates.Refused fault) = IsClaimFault old new bytes fault
 IsOfClaim old new bytes fault = ⊥

@@ -1,4 +1,4 @@
--- The command that `clap` is given, and what it reads words as that it takes.
+-- The command that `clap` is given, and what it reads the arguments as that it takes.
 use Rattle.std.specs.Prelude.{◌≡◌, true, false, List, []}
 use Rattle.std.specs.Borrow.{Bor}
 use Rattle.clap.specs.Walk.{texts}
@@ -13,7 +13,7 @@ pub record HasApp (app : App) (command : Command) : Type 0 where
   pub shape : app_of command ≡ app
   pub local : (out-Command command).has_globals ≡ false
 
--- `clap` takes the words: these matches are those of the subcommand that they enter
+-- `clap` takes the arguments: these matches are those of the subcommand that they enter
 pub record AreMatchesOf (words : List Text) (matches : ArgMatches) : Type 0 where
   pub names : Bor (List (Bor Text))
   pub are_names : texts names.now ≡ view_names

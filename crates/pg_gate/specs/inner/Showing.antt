@@ -10,7 +10,7 @@ use Rattle.pg_gate.specs.answer.Showing.{IsBadWord, IsRefused, IsRefusedWord}
 use Rattle.pg_gate.specs.declared.call.error.CallError.{CallError}
 use Rattle.pg_gate.specs.declared.error.GateError.{GateError}
 
--- a word that spells no bytes
+-- an argument that spells no bytes
 abbrev pub IsUnspelled : Text → GateError → Type 0
 IsUnspelled word = IsError ⊥ ⊥ (bytes_in word ≡ None) (λ side fault. ⊥)
 
@@ -18,8 +18,8 @@ IsUnspelled word = IsError ⊥ ⊥ (bytes_in word ≡ None) (λ side fault. ⊥)
 abbrev pub IsUnread : Parts → TypeId → Text → CallError → Type 0
 IsUnread schema type bytes = IsCallError IsMemory (λ fault. ⊥) (IsRefused schema type bytes)
 
--- Why nothing is shown by a schema: no message type has the name; else the word spells no bytes; else the bytes are
--- refused.
+-- Why nothing is shown by a schema: no message type has the name; else the argument spells no bytes; else the bytes
+-- are refused.
 abbrev pub IsShowFault : Parts → Text → Text → CallError → Type 0
 IsShowFault schema root word =
     IsCallError (IsError (Lacks schema root) ⊥ (IsBadWord schema root word) (λ side fault. ⊥))

@@ -49,7 +49,7 @@ types_of lines = flat_map (λ (line : TypeLine). type_of (string_bytes line.name
 abbrev pub names_of : Text → List (String Global) → Text
 names_of word names = flat_map (λ (name : String Global). word ++ (codes " " ++ (string_bytes name ++ line_end))) names
 
--- the causes, the types of both sides, those that the new side lacks, and those that the old one does
+-- the causes, the types of both sides, those that the new side lacks, and those that the old side lacks
 abbrev pub all_of : AllTypes → Text
 all_of all =
     causes_of all.causes.items

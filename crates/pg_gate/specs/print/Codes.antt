@@ -21,7 +21,7 @@ fault_code (faults.Link error) = link_code error
 fault_code (faults.Check error) = rule_code error
 fault_code (faults.Set error) = set_code error
 
--- of a side that doesn't compile, the code that says what is wrong there
+-- the code that says what is wrong with a side that doesn't compile
 abbrev pub code_of : GateError → ℕ
 code_of gates.Memory = 1
 code_of gates.RootMissingOld = 901
@@ -30,7 +30,7 @@ code_of (gates.Compile side fault) = fault_code fault
 code_of gates.WriteFailed = 904
 code_of gates.BadHex = word_code hexes.BadHex
 
--- a certificate that isn't given has the code of any file that isn't
+-- a certificate that isn't given has the code of any file that isn't given
 abbrev pub certificate_code : CertificateFault → ℕ
 certificate_code (certificates.Missing file) = 301
 certificate_code (certificates.Failed file) = 309

@@ -58,7 +58,7 @@ location_of_certificate (certificates.Refused fault) = fault.location
 abbrev pub refusal_by : Option Side → ℕ → Location → Refusal
 refusal_by side code location = record { side = side; code = code; location = location }
 
--- of an error of the gate with this code; out of memory and a sink that failed aren't printed
+-- the refusal of an error of the gate with this code; out of memory and a sink that failed aren't printed
 abbrev pub refusal_of_gate : ℕ → GateError → Option Refusal
 refusal_of_gate code Memory = None
 refusal_of_gate code RootMissingOld = Some (refusal_by None code Nowhere)
@@ -73,7 +73,7 @@ refusal_with code (calls.Gate error) = refusal_of_gate code error
 refusal_with code (calls.Certificate fault) = Some (refusal_by None code (location_of_certificate fault))
 refusal_with code (calls.Bytes error) = Some (refusal_by None code (location_of (message_place error)))
 
--- of bytes, as `show` prints it
+-- the refusal of bytes, as `show` prints it
 abbrev pub refusal_of_bytes : DynError → Refusal
 refusal_of_bytes error = refusal_by None (message_code error) (location_of (message_place error))
 

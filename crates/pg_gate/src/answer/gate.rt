@@ -72,10 +72,10 @@ fn roots(old: &Schema, new: &Schema, root: &str) -> Result<Pair, GateError>
 }
 
 /// Whether the new program reads all that the old one writes, for the message types of this full
-/// name: that it does, or a message of the old type that breaks, of which none has fewer bytes;
-/// either with the certificate of the two types, which a checker takes. Enums are compared by the
-/// view of that name, which is in the certificate: under `Names` a number that both enums
-/// declare is another item where they give it other names.
+/// name. The answer is that it does, or a shortest message of the old type that breaks; either
+/// has the certificate of the two types, which a checker takes. Enums are compared by the view of
+/// that name, which is in the certificate: under `Names` a number that both enums declare is
+/// another item where they give it other names.
 ///
 /// Refuses an old schema without the name (`RootMissingOld`), and else a new one without it
 /// (`RootMissingNew`). `Memory` is out of memory.
@@ -110,8 +110,8 @@ pub fn gate_with(
 }
 
 /// Whether the new program reads all that the old one writes, for the message types of this full
-/// name: that it does, or a message of the old type that breaks, of which none has fewer bytes;
-/// either with the certificate of the two types, which a checker takes. Enums are compared by their
+/// name. The answer is that it does, or a shortest message of the old type that breaks; either
+/// has the certificate of the two types, which a checker takes. Enums are compared by their
 /// numbers alone, as `gate_with` does under `Numbers`.
 ///
 /// Refuses an old schema without the name (`RootMissingOld`), and else a new one without it

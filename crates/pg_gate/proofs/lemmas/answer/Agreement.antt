@@ -18,7 +18,7 @@ use Rattle.pg_gate.specs.answer.Answer.{IsAnswerBy}
 use Rattle.pg_gate.specs.declared.answer.gate.Answer.{Answer}
 use Rattle.pg_gate.specs.declared.answer.gate.Answer.TheVariants as answers
 
--- a bound that is said of compatible types is none, and one beside a least length is that length
+-- the bound that the gate gives of compatible types is none; where there is a least length, it gives that length
 none_said : (enum_view : EnumView) (old new : Shape) (pair : Pair) (bound : Option ℕ) → GateSays enum_view old new pair bound → Compatible enum_view.alike old new pair.old pair.new → bound ≡ None
 none_said enum_view old new pair None says compatible = refl
 none_said enum_view old new pair (Some bytes) says compatible = absurd (compatible says.least.message says.least.breaks)

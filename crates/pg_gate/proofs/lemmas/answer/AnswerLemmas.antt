@@ -51,7 +51,7 @@ pub named_with : (view : ViewName) (claim : Claim) (witness : Option Kept) → c
 named_with view claim (Some kept) is = is
 named_with view claim None is = is
 
--- a bound that is there and no number is 'none'
+-- a bound that is there and isn't a number is 'none'
 none_is_there : (o : Option (Option ℕ)) → is_some o ≡ true → is_some (option_and_then (λ bound. bound) o) ≡ false → o ≡ Some None
 none_is_there None there no_number = absurd (cc)
 none_is_there (Some None) there no_number = refl
@@ -91,7 +91,7 @@ module _ (enum_view : EnumView) (old new : Parts) (root : Text) (claim : Claim) 
         bytes_are = is.written;
       }
 
-  -- what is found beside the claim makes its answer
+  -- the witness that is found with the claim, or none, makes the answer
   answered_here : (witness : Option Kept) → IsBesideClaim enum_view (shape_of old) (shape_of new) claim witness → IsAnswerBy enum_view old new root (answer_with claim witness)
   answered_here (Some kept) beside = broken_with kept beside
   answered_here None beside = compatible_without beside

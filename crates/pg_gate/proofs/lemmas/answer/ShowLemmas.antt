@@ -1,4 +1,4 @@
--- What is shown by a schema, and why nothing is; and these of the files that declare it.
+-- What is shown by a schema, or by the files that declare it, and why nothing is.
 use Rattle.std.proofs.Common.{◌≡◌, Some}
 use Rattle.clap.specs.Words.{Text}
 use Rattle.pg_link.specs.Walk.{World}
@@ -20,7 +20,7 @@ use Rattle.pg_gate.specs.declared.error.Side.TheVariants as sides
 use Rattle.pg_gate.proofs.lemmas.ErrorLemmas.{call_error-weaker, error-weaker, memory_is, of_call, of_none}
 
 module _ (schema : Parts) (root word : Text) (type : TypeId) (named : IsNamed schema root type) where
-  -- a word is refused by a schema that has the type
+  -- an argument that spells no bytes is refused, where the schema has the type
   pub unspelled_there : (error : GateError) → IsUnspelled word error → IsShowFault schema root word (calls.Gate error)
   unspelled_there error is =
       error-weaker (λ side fault. ⊥) (λ side fault. ⊥) (λ no. absurd no) (λ no. no) (λ none. ((λ lacks. lacks type named), none)) (λ side fault no. no) error is
@@ -56,7 +56,7 @@ module _ (w : World) (root word : Text) where
         (λ side fault no. absurd no) error is)
         (λ fault no. no) (λ error is. record { schema = schema; of_side = of_side; so = is }) error is
 
--- what is wrong beside the files no source failed in
+-- no source failed where the files compile and something else is wrong
 pub shown_uncounted : (schema : Parts) (root word : Text) (side : Side) (error : CallError) → IsShowFault schema root word error → call_failures_at side error ≡ 0
 shown_uncounted schema root word side error is =
     of_call (IsError (Lacks schema root) ⊥ (IsBadWord schema root word) (λ side fault. ⊥)) (λ fault. ⊥) (IsRefusedWord schema root word) side

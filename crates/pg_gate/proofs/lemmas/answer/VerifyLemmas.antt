@@ -99,7 +99,7 @@ no_bad_witness enum_view old new claim None is = is
 -- ---- why bytes are refused
 
 module _ (old new : Parts) (bytes : Text) where
-  -- what is reported of an error that is why they are refused
+  -- the fault that is reported of the checker's error, which says why the bytes are refused
   pub claim_fault : (error : CertError) (fault : ClaimFault) → fault.error ≡ error → IsPlaceOf old new error fault.location → (error ≡ checks.Memory → ⊥) → IsClaimRefusal old new bytes error
       → IsClaimFault old new bytes fault
   claim_fault error fault same placed other (inl memory) = absurd (other memory)
@@ -159,7 +159,7 @@ module _ (path : Text) (old new : World) (a b : Parts) (of_old : IsSide old a) (
         record { old_schema = a; new_schema = b; of_old = of_old; of_new = of_new; so = record { bytes = bytes; given = given; so = is } }
     refused_bytes_of_files (calls.Bytes error) is = absurd is
 
--- bytes that are refused no source failed in
+-- no source failed where bytes are refused
 pub claim_uncounted : (old new : Parts) (bytes : Text) (side : Side) (error : CallError) → IsClaimError old new bytes error → call_failures_at side error ≡ 0
 claim_uncounted old new bytes side (calls.Gate error) is = of_memory side error is
 claim_uncounted old new bytes side (calls.Certificate (certificates.Missing file)) is = absurd is

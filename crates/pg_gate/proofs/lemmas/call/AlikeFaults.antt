@@ -1,4 +1,4 @@
--- What a parse makes of words where the parsers of some arguments are others that take the same values: what it is refused for.
+-- The faults of a parse stay the same where other parsers of some arguments take the same values.
 use Rattle.std.specs.Prelude.{encode_utf8, if◌then◌else◌, is_some}
 use Rattle.std.specs.List.{list_any}
 use Rattle.std.specs.Option.{option_map_or}

@@ -1,4 +1,4 @@
--- What a parse makes of words where the parsers of some arguments are others that take the same values: the walk over the words.
+-- The walk of a parse over its words stays the same where other parsers of some arguments take the same values.
 use Rattle.std.specs.Prelude.{encode_utf8, fold, if◌then◌else◌}
 use Rattle.std.proofs.Common.{◌≡◌, ◌∙◌, ◌&&◌, ◌||◌, Bool, true, false, ℕ, zero, suc, List, [], ◌∷◌, Option, Some, None, refl, ap, ap₂, cond, drop, find, length, map, option_map, slice_get}
 use Rattle.std.specs.Str.{bytes_eq, chars}

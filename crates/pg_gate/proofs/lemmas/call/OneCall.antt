@@ -1,4 +1,4 @@
--- What words call for doesn't depend on where the names of the views lie.
+-- What arguments call for doesn't depend on where in memory the names of the views are.
 use Rattle.std.specs.Prelude.{◌&&◌, false, is_some, not, option_map, if◌then◌else◌}
 use Rattle.std.specs.List.{list_any}
 use Rattle.std.specs.Borrow.{Bor}

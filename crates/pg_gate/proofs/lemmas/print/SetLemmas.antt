@@ -1,4 +1,4 @@
--- What files that no set is written of are refused for.
+-- Why files are refused where no set is written of them.
 use Rattle.std.proofs.Common.{◌≡◌, ◌⊎◌, inl, inr}
 use Rattle.pg_dyn.specs.declared.error.DynError.TheVariants as messages
 use Rattle.pg_fds.specs.writing.Written.{HasNoSet}

@@ -5,7 +5,7 @@ use Rattle.pg_gate.specs.Run.{answered, unfailed}
 use Rattle.pg_gate.proofs.lemmas.RunLemmas.{nothing_came}
 use Rattle.pg_gate.proofs.program.run.Goals as goal
 
--- Usage is answered only of words that `clap` does not take.
+-- Usage is answered only to arguments that `clap` doesn't take.
 pub returns-in-Err-clause-usage : goal.returns-in-Err-clause-usage
 returns-in-Err-clause-usage g c = IfOk-weaker c.usage.result _ _ (λ status is same. c.in-Err.ensures.refused is.1) c.usage.ensures.usage
 
