@@ -20,7 +20,7 @@ pub(crate) fn list_of(alloc: Global, bounds: &Bounds) -> Result<String, AllocErr
     Ok(list)
 }
 
-/// What the checker says.
+/// The checker's verdict.
 pub(crate) fn checked(
     alloc: Global,
     graph: &Priced<'_>,
@@ -32,7 +32,7 @@ pub(crate) fn checked(
     }
 }
 
-/// What the checker says of the certificate of these parts.
+/// The checker's verdict on the certificate of these parts.
 pub(crate) fn check_claim(
     alloc: Global,
     graph: &Priced<'_>,
@@ -53,7 +53,7 @@ fn witness_of(alloc: Global, digits: &str) -> Result<Option<Vec<u8>>, AllocError
     Ok(Some(hex_bytes(alloc, digits)?))
 }
 
-/// `check | OLD | NEW | ROOT | BOUNDS [| WITNESS]`: what the checker says.
+/// `check | OLD | NEW | ROOT | BOUNDS [| WITNESS]`: the checker's verdict.
 pub(crate) fn check_parts(
     alloc: Global,
     graph: &Priced<'_>,
@@ -95,7 +95,7 @@ pub(crate) fn table(alloc: Global, words: &str) -> Result<String, AllocError> {
     shown_table(alloc, Bounds::new(alloc, bounds_of(alloc, words)?))
 }
 
-/// What the checker says of a certificate, and the text that is written of it.
+/// The checker's verdict on a certificate, and the bytes that `to_text` writes of it.
 fn written(
     alloc: Global,
     graph: &Priced<'_>,
@@ -108,8 +108,8 @@ fn written(
     format!(in alloc; "{verdict} | {}", text.as_bytes().escape_ascii())
 }
 
-/// `text | OLD | NEW | TEXT`: why the text is none, or what the checker says of its certificate and
-/// the text that is written of it.
+/// `text | OLD | NEW | TEXT`: why `TEXT` spells no certificate, or the checker's verdict on the
+/// certificate and what `to_text` writes of it.
 pub(crate) fn text(alloc: Global, graph: &Priced<'_>, words: &str) -> Result<String, AllocError> {
     let bytes = bytes_of(alloc, words)?;
     match from_text(alloc, graph.old, graph.new, &bytes) {
@@ -118,7 +118,7 @@ pub(crate) fn text(alloc: Global, graph: &Priced<'_>, words: &str) -> Result<Str
     }
 }
 
-/// Whether the bytes are no certificate's text.
+/// Whether `from_text` refuses the bytes with `BadText`.
 fn is_bad(alloc: Global, graph: &Priced<'_>, bytes: &[u8]) -> Result<bool, AllocError> {
     match from_text(alloc, graph.old, graph.new, bytes) {
         Err(CertError::Memory) => Err(AllocError),
@@ -127,7 +127,7 @@ fn is_bad(alloc: Global, graph: &Priced<'_>, bytes: &[u8]) -> Result<bool, Alloc
     }
 }
 
-/// How many of the fronts of the bytes are bad, without the whole.
+/// How many proper prefixes of the bytes spell no certificate.
 fn bad_fronts(alloc: Global, graph: &Priced<'_>, bytes: &[u8]) -> Result<usize, AllocError> {
     let mut count = 0_usize;
     for end in 0..bytes.len() {
@@ -138,8 +138,8 @@ fn bad_fronts(alloc: Global, graph: &Priced<'_>, bytes: &[u8]) -> Result<usize, 
     Ok(count)
 }
 
-/// `fronts | OLD | NEW | TEXT`: how many fronts of the text are no certificate's text, of how many
-/// there are.
+/// `fronts | OLD | NEW | TEXT`: how many proper prefixes of `TEXT` spell no certificate, and how
+/// many there are.
 pub(crate) fn fronts(alloc: Global, graph: &Priced<'_>, words: &str) -> Result<String, AllocError> {
     let bytes = bytes_of(alloc, words)?;
     let count = bad_fronts(alloc, graph, &bytes)?;

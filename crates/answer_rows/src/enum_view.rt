@@ -1,4 +1,4 @@
-//! What a view sees of enums.
+//! How a view compares the values of enums.
 use pg_pairs::{Priced, View};
 use pg_schema::EnumId;
 use std::alloc::{AllocError, Global};

@@ -1,4 +1,4 @@
-//! Where pairs lead to, what they cost, and whether messages come home.
+//! Where pairs lead to, what they cost, and whether their messages return.
 use crate::searches::shown_bounds;
 use crate::shown::list_or_none;
 use crate::spelled::pair_of;
@@ -19,7 +19,7 @@ pub(crate) fn child_pairs(
     )
 }
 
-/// `returns | OLD | NEW | PAIR`: whether messages of the pair may come home, `yes` or `no`.
+/// `returns | OLD | NEW | PAIR`: `yes` where the pair returns, else `no`.
 pub(crate) fn may_return(
     alloc: Global,
     graph: &Priced<'_>,

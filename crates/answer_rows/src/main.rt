@@ -2,13 +2,13 @@
 //! standard input.
 //!
 //! A line is `WHAT IT SHOWS | CALL | OLD SCHEMA | NEW SCHEMA | WORDS`. The schemas are spelled as
-//! `tiny_schemas` says. A pair of types is spelled by their places, counted from 0, as `0 1`; a
+//! `tiny_schemas` says. A pair of types is spelled by their indexes, counted from 0, as `0 1`; a
 //! bound by its pair and a number or `none`, with `, ` between bounds; a choice by its number,
-//! case, part and cost; bytes by hexadecimal digits, and the text of a certificate with escapes.
-//! Words that are left out are zeros, and `-` is no bounds. The words of each call stand at its
-//! function. With `retry ` in front of the call it is made again where it lacks memory
-//! (`rows::retry`). `rows` says how a line spells a text many times. Of another row that runs out
-//! of memory `Memory` is printed.
+//! case, part and cost; bytes by hexadecimal digits, and a certificate with escapes. Words that are
+//! left out are zeros, and `-` is no bounds. Each call's function says what its words are. With
+//! `retry ` in front, the call is made again where it lacks memory (`rows::retry`).
+//! `rows::unrolled` says how a line spells repeats. For any other row that runs out of memory,
+//! `Memory` is printed.
 #![tactic(auto)]
 
 mod certificates;

@@ -193,7 +193,8 @@ fn carried_round(
     )
 }
 
-/// The same of `CHOICE [| TYPE | BYTES]`.
+/// The message of the choice in `CHOICE [| TYPE | BYTES]`, round the child that `TYPE | BYTES`
+/// spells, if one is given.
 fn carry_words(
     alloc: Global,
     graph: &Priced<'_>,
@@ -271,8 +272,8 @@ fn verdict_as_written(
     Ok(if answer { "breaks" } else { "kept" })
 }
 
-/// `breaks_as_written | OLD | NEW | PAIR | TYPE | BYTES`: the same of a message that borrows from
-/// the bytes, and of what is written of it.
+/// `breaks_as_written | OLD | NEW | PAIR | TYPE | BYTES`: whether a message that borrows from the
+/// bytes breaks between the pair's types as it is written.
 pub(crate) fn break_as_written(
     alloc: Global,
     graph: &Priced<'_>,

@@ -11,7 +11,7 @@ use std::alloc::AllocError;
 use std::io;
 use tiny_schemas::schemas;
 
-/// The table of the bounds; of those that came back where it lacks memory.
+/// The table of the bounds; where it lacks memory, the table of those that came back.
 fn made(
     rt: &HostRuntime,
     bounds: Vec<PairBound>,
@@ -75,7 +75,7 @@ fn again(
     )?)
 }
 
-/// The same without schemas.
+/// Answers a call without schemas, and again where memory is refused.
 fn alone_again(rt: &HostRuntime, call: &str, words: &str) -> io::Result<String> {
     Ok(retry!(rt, Err(AllocError), alone(rt.alloc(), call, words))?)
 }

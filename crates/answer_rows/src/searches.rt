@@ -10,7 +10,7 @@ use pg_least::{find_with, path, search, search_counted, search_with};
 use pg_pairs::{Pair, Priced, Work};
 use std::alloc::{AllocError, Global};
 
-/// What the checker says of these bounds alone.
+/// The checker's verdict on these bounds alone.
 fn alone(
     alloc: Global,
     graph: &Priced<'_>,
@@ -87,8 +87,8 @@ fn searched(
 }
 
 /// `search | OLD | NEW | ROOT`: the root of the certificate, its bounds, its witness with the type
-/// of the message beside it, and what the checker says: by numbers of the bounds alone, by names of
-/// the certificate.
+/// of the message next to it, and the checker's verdict: by numbers on the bounds alone, by names
+/// on the certificate.
 pub(crate) fn search_pair(
     alloc: Global,
     graph: &Priced<'_>,

@@ -62,7 +62,7 @@ pub(crate) fn list<T: Shown>(alloc: Global, items: &[T]) -> Result<String, Alloc
     Ok(list)
 }
 
-/// The same, or `none` where there is no item.
+/// The items with `, ` between them, or `none` where there is no item.
 pub(crate) fn list_or_none<T: Shown>(alloc: Global, items: &[T]) -> Result<String, AllocError> {
     if items.is_empty() {
         return String::from_str(alloc, "none");

@@ -9,7 +9,7 @@ fn word_at(text: &str, at: usize) -> &str {
     text.split(' ').nth(at).unwrap_or("")
 }
 
-/// The number of the word at that place, 0 where there is none.
+/// The number of the word at that index, 0 where there is none.
 pub(crate) fn number_at(text: &str, at: usize) -> u32 {
     word_at(text, at).parse().unwrap_or(0)
 }
@@ -56,7 +56,7 @@ fn bound_of(text: &str) -> PairBound {
     }
 }
 
-/// The bounds that the text spells.
+/// The bounds that the words spell.
 pub(crate) fn bounds_of(alloc: Global, text: &str) -> Result<Vec<PairBound>, AllocError> {
     let mut bounds = Vec::new(alloc);
     for bound in text.split(", ") {
@@ -67,7 +67,7 @@ pub(crate) fn bounds_of(alloc: Global, text: &str) -> Result<Vec<PairBound>, All
     Ok(bounds)
 }
 
-/// The table of the bounds that the text spells; `None` where they are no table.
+/// The table of the bounds that the words spell; `None` where they are no table.
 pub(crate) fn table_of(alloc: Global, text: &str) -> Result<Option<Bounds>, AllocError> {
     let bounds = bounds_of(alloc, text)?;
     match Bounds::new(alloc, bounds) {

@@ -11,13 +11,13 @@ pub(crate) fn word(alloc: Global, bytes: &[u8]) -> Result<String, AllocError> {
     hex::encode(alloc, bytes)
 }
 
-/// The name of an error, with its place.
+/// The name of an error, with its offset.
 pub(crate) fn name_of(alloc: Global, error: DynError) -> Result<String, AllocError> {
     debug(alloc, &error)
 }
 
-/// An integer, `f` or `d` and the bits of a float or a double, `'` and a text, `#` and bytes, or a
-/// message.
+/// An integer, `f` or `d` and the bits of a float or a double, `'` and a string, `#` and bytes, or
+/// a message.
 fn spelled_value(alloc: Global, value: &Value) -> Result<String, AllocError> {
     match value {
         Value::Int(number) => format!(in alloc; "{}", number.get()),

@@ -2,13 +2,14 @@
 //! ANSWER`: what the calls of `pg_wire`, `pg_dyn` and `pg_show` make of bytes and of contents.
 //! Bytes are spelled in hexadecimal, and no bytes as `-`.
 //!
-//! `type SCHEMA` and `other SCHEMA` make schemas, as `tiny_schemas` reads them. The first type of
-//! the one is that of the bytes and contents in the lines behind it, and that of the other is what
-//! `fits` and `outside` compare with, and what `across` writes by.
+//! `type SCHEMA` and `other SCHEMA` make schemas, as `tiny_schemas` reads them. Bytes and contents
+//! in later lines are of the first type of `type`'s schema. `fits` and `outside` compare with the
+//! first type of `other`'s schema, and `across` writes by it.
 //!
-//! With `retry ` in front of the call it is made again where it lacks memory (`rows::retry`).
-//! `rows` says how a line spells a text many times. Of another row that runs out of memory `Memory`
-//! is printed; in place of it stand what `set` gave back, and the message as it is then.
+//! With `retry ` in front, the call is made again where it lacks memory (`rows::retry`).
+//! `rows::unrolled` says how a line spells repeats. For any other row that runs out of memory,
+//! `Memory` is printed; a row of `set` adds the content that came back, and the message as it is
+//! then.
 #![tactic(auto)]
 
 mod beside;

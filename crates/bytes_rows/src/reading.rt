@@ -42,7 +42,7 @@ fn is_copied(
     Ok(is_alike(lent, &copy) && written(alloc, schema, &copy)? == written(alloc, schema, message)?)
 }
 
-/// Why neither of two readers reads bytes: `WrongKind` where they say other things, unless one of
+/// Why neither of two readers reads bytes: `WrongKind` where they give other reasons, unless one of
 /// them lacks memory.
 fn common(lent: Option<DynError>, owned: Option<DynError>) -> DynError {
     match (lent, owned) {
@@ -111,7 +111,7 @@ fn rewritten(alloc: Global, schema: &Schema, bytes: &[u8]) -> Result<String, Dyn
     Ok(owned)
 }
 
-/// The same, or `refused` where the bytes have a fault, whichever it is.
+/// What is written again of bytes that are read, or `refused` where they have any fault.
 fn again(alloc: Global, schema: &Schema, bytes: &[u8]) -> Result<String, DynError> {
     match rewritten(alloc, schema, bytes) {
         Err(DynError::Wire(_) | DynError::NotUtf8 { .. } | DynError::TooDeep { .. }) => {
@@ -121,7 +121,7 @@ fn again(alloc: Global, schema: &Schema, bytes: &[u8]) -> Result<String, DynErro
     }
 }
 
-/// The same, or a complaint where it is what another runtime makes of the bytes.
+/// What is written again of bytes, or a complaint where another runtime makes the same of them.
 fn apart(alloc: Global, schema: &Schema, bytes: &[u8], theirs: &str) -> Result<String, DynError> {
     let found = again(alloc, schema, bytes)?;
     if found.as_str() == theirs {
@@ -243,7 +243,7 @@ fn shown(alloc: Global, schema: &Schema, bytes: &[u8]) -> Result<String, DynErro
     Ok(format!(in alloc; "{}", text.as_bytes().escape_ascii())?)
 }
 
-/// What a call makes of bytes, beside which it has another word or none.
+/// What a call makes of bytes, with another word or none.
 fn found(
     alloc: Global,
     types: &Types,

@@ -61,7 +61,7 @@ fn last_fault(bytes: &[u8]) -> Option<WireError> {
     None
 }
 
-/// The place of that fault, and the same fault three bytes later.
+/// The offset of the fault at the end of the records, and the same fault three bytes later.
 fn place(alloc: Global, bytes: &[u8]) -> Result<String, AllocError> {
     match last_fault(bytes) {
         Some(error) if error.at() < 1_000_000 => {

@@ -70,7 +70,7 @@ fn written_of(
     shown(alloc, schema, &message, found)
 }
 
-/// What it holds.
+/// What the message holds that comes of setting the contents in turn.
 fn held_of(
     alloc: Global,
     schema: &Schema,
@@ -96,7 +96,7 @@ fn whole_of(
     written(alloc, schema, &message)
 }
 
-/// The bytes of its copy.
+/// The bytes of the copy of the message of just these contents.
 fn copy_of(
     alloc: Global,
     schema: &Schema,

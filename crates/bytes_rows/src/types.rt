@@ -26,7 +26,7 @@ impl Types {
     }
 }
 
-/// Makes the schema that the line says, and answers whether it says one.
+/// Makes the schema that the line spells, and answers whether it spells one.
 pub(crate) fn put(alloc: Global, place: &mut Schema, line: &str) -> Result<String, AllocError> {
     match schema(alloc, line)? {
         Some(made) => {

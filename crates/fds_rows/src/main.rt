@@ -4,8 +4,8 @@
 //! bytes again. `field MESSAGE NUMBER` is answered with the name of that field of the written
 //! schema, and `descriptor_schema` with the names of its message types.
 //!
-//! With `retry ` in front of all that the line is answered again where it lacks memory
-//! (`rows::retry`). Of another line that runs out of memory `Memory` is printed.
+//! With `retry ` in front of all that, the line is answered again where it lacks memory
+//! (`rows::retry`). For any other line that runs out of memory, `Memory` is printed.
 #![tactic(auto)]
 
 mod own;

@@ -50,7 +50,7 @@ pub(crate) fn of_set(alloc: Global, spelled: &str) -> Result<String, AllocError>
     told(alloc, read_and_written(alloc, &bytes))
 }
 
-/// The same of a schema that was made of files, where it is also read of what is written of it.
+/// What is written of a schema of files, and whether the same schema is read back from it.
 fn written_and_read(alloc: Global, schema: &Schema) -> Result<Written, FdsError> {
     let (bytes, is_same) = written(alloc, schema)?;
     let is_read = is_read(alloc, schema, &bytes)?;

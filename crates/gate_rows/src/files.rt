@@ -5,7 +5,7 @@ use std::alloc::{AllocError, Global};
 /// A path and the bytes there.
 pub(crate) type File<'a> = (&'a str, Vec<u8>);
 
-/// The files that the text spells: none where it is empty.
+/// The files that the row's part spells: none where it is empty.
 pub(crate) fn files(alloc: Global, text: &str) -> Result<Vec<File>, AllocError> {
     let mut files = Vec::new(alloc);
     for file in text.split(" ; ") {

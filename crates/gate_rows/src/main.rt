@@ -1,6 +1,6 @@
 //! Runs the program once for each line of standard input, over the files that the line holds, and
-//! prints its status and text, or `Memory` where memory runs out. `rows` says how a line spells a
-//! text many times.
+//! prints its status and output, or `Memory` where memory runs out. `rows::unrolled` says how a
+//! line spells repeats.
 #![tactic(auto)]
 
 mod files;

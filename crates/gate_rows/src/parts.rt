@@ -1,4 +1,4 @@
-//! The parts of a text that a row asks for, where no more of the text is known from outside:
+//! The parts of an output that a row asks for, where no more of the output is known from outside:
 //! `PART`, with ` ; ` between two.
 use std::alloc::{AllocError, Global};
 
@@ -10,7 +10,7 @@ fn add(told: &mut String, part: &str) -> Result<(), AllocError> {
     Ok(())
 }
 
-/// Those of the parts that stand in the text, and the whole text where no part is asked for.
+/// The parts that are in the output, or the whole output where no part is asked for.
 pub(crate) fn told(alloc: Global, text: String, parts: &str) -> Result<String, AllocError> {
     if parts.is_empty() {
         return Ok(text);

@@ -1,6 +1,6 @@
 //! One row: `WHAT | WORDS | OLD FILES | NEW FILES`, and ` | PARTS` where only these are known of
-//! the text. Words have a blank between. A row of `gate` that names no view is run under both:
-//! what it prints by names stands behind the rest where it isn't the same but for the view.
+//! the output. A space separates two words. A row of `gate` that names no view is run under both
+//! views: its output by names follows the rest where more than the name of the view differs.
 use crate::files::{File, files, lent};
 use crate::parts::told;
 use pg_gate::{Buffer, GateError, run};
@@ -24,12 +24,12 @@ fn words_of(alloc: Global, text: &str) -> Result<Vec<&str>, AllocError> {
     text.split(' ').collect(alloc)
 }
 
-/// How a run ended. It is lent, so that it is dropped at one place.
+/// The status of a run. How it ended is lent, so that it is dropped only once.
 fn status_of(ended: &Result<u8, GateError>) -> Result<u8, AllocError> {
     match ended {
         Ok(status) => Ok(*status),
         Err(GateError::Memory) => Err(AllocError),
-        // A sink that refuses the text: its room was too small.
+        // The sink refused the output: its room was too small.
         Err(_) => Ok(u8::MAX),
     }
 }
@@ -74,7 +74,7 @@ fn has_two_views(words: &str, status: u8) -> bool {
     words.starts_with("gate ") && !words.contains("--view") && status < 4
 }
 
-/// What the same run prints by names, where it isn't the same but for the view.
+/// What the same run prints by names, where more than the name of the view differs.
 fn by_names(
     alloc: Global,
     words: &str,
@@ -91,7 +91,7 @@ fn by_names(
     format!(in alloc; " | by names {status} {text}")
 }
 
-/// The status and the text of a row's run.
+/// The status and the output of a row's run.
 pub(crate) fn answer(alloc: Global, row: &str) -> Result<String, AllocError> {
     let row = unrolled(alloc, row)?;
     let (_, rest) = cut(&row);

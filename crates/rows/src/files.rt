@@ -6,8 +6,8 @@ use std::alloc::{AllocError, Global};
 /// A path and the bytes there.
 pub type File = (String, Vec<u8>);
 
-// The path and the text that a file's spelling has: of one that begins with `~` the path is
-// `m.proto`.
+// The path and the spelled bytes of a file: the path is `m.proto` where the spelling begins with
+// `~`.
 fn parts_of(spelled: &str) -> (&str, &str) {
     if spelled.starts_with('~') {
         ("m.proto", spelled)
@@ -16,7 +16,7 @@ fn parts_of(spelled: &str) -> (&str, &str) {
     }
 }
 
-// The text that is spelled, where it is UTF-8.
+// The path that is spelled, where it is UTF-8.
 fn path_of(alloc: Global, spelled: &str) -> Result<String, AllocError> {
     let bytes = bytes_of(alloc, spelled)?;
     String::from_str(alloc, str::from_utf8(&bytes).unwrap_or("not UTF-8"))
@@ -27,8 +27,8 @@ fn file_of(alloc: Global, spelled: &str) -> Result<File, AllocError> {
     Ok((path_of(alloc, path)?, text_of(alloc, text)?))
 }
 
-/// The files that the text spells, each as `PATH=TEXT`, with ` ; ` between. A file that begins with
-/// `~` is that text at the path `m.proto`.
+/// The files that are spelled, each as `PATH=TEXT`, with ` ; ` between. A spelling that begins with
+/// `~` is `TEXT` alone, of a file at the path `m.proto`.
 pub fn files_of(alloc: Global, spelled: &str) -> Result<Vec<File>, AllocError> {
     let mut files = Vec::new(alloc);
     for file in spelled.split(" ; ") {

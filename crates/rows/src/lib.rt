@@ -16,7 +16,7 @@ pub use retry::say;
 pub use spelled::{bytes_of, spelling};
 pub use texts::{text_of, with_word};
 
-/// The part of a row in front of the first ` | `, and what stands behind it: nothing where there is
+/// What a row has before the first ` | ` and after it: the whole row and nothing where there is
 /// none.
 pub fn cut(row: &str) -> (&str, &str) {
     row.split_once(" | ").unwrap_or((row, ""))

@@ -1,12 +1,12 @@
-//! Rows that say a text many times.
+//! Rows that spell repeats.
 use std::alloc::{AllocError, Global};
 
-/// The number that is spelled, 0 for any other text.
+/// The number that is spelled, 0 where none is.
 pub fn number_of(text: &str) -> u32 {
     text.parse::<u32>().unwrap_or(0)
 }
 
-// Appends the text once, each `#` in it being the number.
+// Appends the string once, with the number in place of each `#` in it.
 fn put(alloc: Global, out: &mut String, text: &str, number: u32) -> Result<(), AllocError> {
     for (place, part) in text.split('#').enumerate() {
         if place > 0 {
@@ -17,7 +17,7 @@ fn put(alloc: Global, out: &mut String, text: &str, number: u32) -> Result<(), A
     Ok(())
 }
 
-// Appends the text once for each number from the one up or down to the other, without that.
+// Appends the string once for each number from `from` up or down to `to`, without `to`.
 fn put_each(
     alloc: Global,
     out: &mut String,
@@ -43,15 +43,15 @@ fn put_repeat(alloc: Global, out: &mut String, spelled: &str) -> Result<(), Allo
     put_each(alloc, out, text, number_of(from), number_of(to))
 }
 
-// Puts a repeat, which ends with `>>`, and what stands behind it.
+// Appends a repeat, which ends with `>>`, and what comes after it.
 fn put_piece(alloc: Global, out: &mut String, piece: &str) -> Result<(), AllocError> {
     let (repeat, behind) = piece.split_once(">>").unwrap_or((piece, ""));
     put_repeat(alloc, out, repeat)?;
     out.push_str(behind)
 }
 
-/// The row with each `<<FROM TO TEXT>>` in it replaced by the text once for each number from `FROM`
-/// up to `TO`, or down to it, without `TO`, each `#` in the text being the number.
+/// The row with each repeat in it written out: `<<FROM TO TEXT>>` is `TEXT` once for each number
+/// from `FROM` up or down to `TO`, without `TO`, with the number in place of each `#` in `TEXT`.
 pub fn unrolled(alloc: Global, row: &str) -> Result<String, AllocError> {
     let (front, rest) = row.split_once("<<").unwrap_or((row, ""));
     let mut out = String::from_str(alloc, front)?;

@@ -10,7 +10,7 @@ fn digit(byte: u8) -> u8 {
     }
 }
 
-// The byte that is spelled right behind a backslash, and how many bytes spell it.
+// The byte that is spelled right after a backslash, and how many bytes spell it.
 fn escaped(behind: &[u8]) -> (u8, usize) {
     match behind {
         [b'n', ..] => (b'\n', 1),
@@ -22,7 +22,7 @@ fn escaped(behind: &[u8]) -> (u8, usize) {
     }
 }
 
-/// The bytes that the text spells: `\n`, `\r` and `\t` as in Rust, `\x` with two lower case digits
+/// The bytes that a row spells: `\n`, `\r` and `\t` as in Rust, `\x` with two lower case digits
 /// for any byte, and a backslash before any other byte for that byte. So what `escape_ascii` prints
 /// of bytes spells them again.
 pub fn bytes_of(alloc: Global, text: &str) -> Result<Vec<u8>, AllocError> {

@@ -1,8 +1,8 @@
-//! Texts of files as rows spell them.
+//! Source files as rows spell them.
 use crate::spelled::bytes_of;
 use std::alloc::{AllocError, Global};
 
-/// The bytes of a file that the text spells: a `~` at its head stands for the line `syntax =
+/// The bytes of a file that is spelled: a `~` at its head stands for the line `syntax =
 /// "proto3";`.
 pub fn text_of(alloc: Global, spelled: &str) -> Result<Vec<u8>, AllocError> {
     match spelled.strip_prefix('~') {
@@ -14,7 +14,7 @@ pub fn text_of(alloc: Global, spelled: &str) -> Result<Vec<u8>, AllocError> {
     }
 }
 
-/// The text with a word and a blank put in at a byte.
+/// The source file with a word and a space put in at that offset.
 pub fn with_word(alloc: Global, text: &[u8], at: usize, word: &str) -> Result<Vec<u8>, AllocError> {
     let (front, back) = text.split_at_checked(at).unwrap_or((text, b""));
     let mut out = Vec::from_slice(alloc, front)?;

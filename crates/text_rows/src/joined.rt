@@ -30,7 +30,7 @@ fn of_tokens(alloc: Global, text: &[u8], tokens: &[Token]) -> Result<String, All
     }
 }
 
-/// The path of the first import of the text.
+/// The path of the first import of the source file.
 pub fn answer(alloc: Global, spelled: &str) -> Result<String, AllocError> {
     let text = text_of(alloc, spelled)?;
     match lex(alloc, &text) {

@@ -54,7 +54,7 @@ fn of_reads(alloc: Global, source: &mut Source, options: Options) -> Result<Stri
     Ok(out)
 }
 
-/// The place of a byte of the first file.
+/// The line and the column of a byte of the first file.
 fn of_place(alloc: Global, files: &[(&str, &[u8])], at: u32) -> Result<String, AllocError> {
     let Some((path, text)) = files.first() else {
         return String::from_str(alloc, "no file");

@@ -1,4 +1,4 @@
-//! Parts that come from no text.
+//! Parts that come from no source file.
 mod enums;
 mod files;
 mod pieces;

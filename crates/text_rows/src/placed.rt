@@ -1,4 +1,4 @@
-//! Refusals at their places.
+//! Refusals with their positions.
 use pg_lex::place;
 use pg_link::Place;
 use rows::spelling;
@@ -10,7 +10,7 @@ pub fn refusal(alloc: Global, text: &[u8], fault: (u16, usize)) -> Result<String
     format!(in alloc; "E{} {line}:{column}", fault.0)
 }
 
-/// The code with a place in a file.
+/// The code with a position in a file.
 pub fn refusal_in(alloc: Global, code: u16, place: &Place) -> Result<String, AllocError> {
     let file = spelling(alloc, place.file.as_bytes())?;
     format!(in alloc; "E{code} {file}:{}:{}", place.line, place.column)

@@ -6,7 +6,7 @@ use rows::{cut, retry, say, unrolled};
 use std::alloc::AllocError;
 use std::io;
 
-/// What `from_parts` makes of the parts; of those that came back where it lacks memory.
+/// What `from_parts` makes of the parts; where it lacks memory, of those that came back.
 fn made(rt: &HostRuntime, parts: Parts) -> io::Result<Result<Schema, (PartsError, Parts)>> {
     match Schema::from_parts(rt.alloc(), parts) {
         Err((PartsError::Memory, back)) => {
@@ -29,7 +29,7 @@ fn again(rt: &HostRuntime, kind: &str, input: &str) -> io::Result<String> {
     Ok(retry!(rt, Err(AllocError), answer_of(rt.alloc(), kind, input))?)
 }
 
-/// What is printed of the row behind its call, and of what comes in front of its answer
+/// Answers the row that follows `retry `, and prints what comes in front of the answer
 /// (`rows::retry`).
 pub fn answer(rt: &HostRuntime, input: &str) -> io::Result<String> {
     let input = unrolled(rt.alloc(), input)?;

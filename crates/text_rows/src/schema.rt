@@ -40,7 +40,7 @@ fn name_of_field(found: Option<&Field>) -> &str {
     }
 }
 
-/// The name of the field that `PLACE NUMBER` names.
+/// The name of the field that `INDEX NUMBER` spells: its message type and its number.
 fn field<'a>(schema: &'a Schema, words: &str) -> &'a str {
     let (place, number) = words.split_once(' ').unwrap_or((words, ""));
     let index = number_of(place);

@@ -1,10 +1,10 @@
-//! The tokens of a text.
+//! The tokens of a source file.
 use crate::placed::refusal;
 use pg_lex::{Kind, LexError, Token, lex, place};
 use rows::{cut, debug, number_of, text_of};
 use std::alloc::{AllocError, Global};
 
-/// The code, and the byte at which the fault stands.
+/// The code, and the offset of the fault.
 fn fault(error: LexError) -> (u16, usize) {
     match error {
         LexError::Memory => (1, 0),
@@ -28,7 +28,7 @@ fn value(alloc: Global, kind: &Kind) -> Result<String, AllocError> {
     }
 }
 
-/// A token's value and its place, as `a@0-1`.
+/// A token's value and its offsets, as `a@0-1`.
 fn token(alloc: Global, token: &Token) -> Result<String, AllocError> {
     let value = value(alloc, &token.kind)?;
     format!(in alloc; "{value}@{}-{}", token.span.from, token.span.to)
@@ -45,7 +45,7 @@ fn tokens(alloc: Global, tokens: &[Token]) -> Result<String, AllocError> {
     Ok(out)
 }
 
-/// What is shown of the tokens of a text, or of its fault.
+/// What is shown of the tokens of a source file, or of its fault.
 fn shown_tokens(
     alloc: Global,
     text: &[u8],
@@ -65,8 +65,8 @@ fn place_of(alloc: Global, text: &[u8], offset: u32) -> Result<String, AllocErro
     format!(in alloc; "{line}:{column}")
 }
 
-/// The tokens of a text with their places, or the code and the place of what it is refused with;
-/// with an offset behind it the place of that byte.
+/// The tokens of a source file with their offsets, or the code and the position of its refusal. For
+/// `TEXT | OFFSET` it is the line and the column of that byte.
 pub fn answer(alloc: Global, input: &str) -> Result<String, AllocError> {
     let (spelled, offset) = cut(input);
     let text = text_of(alloc, spelled)?;

@@ -1,4 +1,4 @@
-//! Trees of texts, and of texts with a word in front of each token.
+//! Trees of source files, also with a word put in front of each token.
 mod one;
 mod shown;
 
@@ -7,7 +7,7 @@ use pg_lex::{LexError, Token, lex};
 use rows::{cut, text_of, with_word};
 use std::alloc::{AllocError, Global};
 
-/// Appends the answer for that text.
+/// Appends the answer for the source file with the word put in at that offset.
 fn put(
     alloc: Global,
     out: &mut String,
@@ -39,7 +39,7 @@ fn answers(alloc: Global, text: &[u8], word: &str) -> Result<String, AllocError>
     }
 }
 
-/// The answer for a text, or where a word stands behind it those for the text with the word put in.
+/// The answer for a source file; for `TEXT | WORD` the answers with the word put in at each token.
 pub fn answer(alloc: Global, input: &str) -> Result<String, AllocError> {
     let (spelled, word) = cut(input);
     let text = text_of(alloc, spelled)?;

@@ -1,4 +1,4 @@
-//! A field, as `LABEL TYPE NAME=NUMBER` or `TYPE NAME=NUMBER` says.
+//! A field, spelled `LABEL TYPE NAME=NUMBER` or `TYPE NAME=NUMBER`.
 use crate::scalar::scalar_of;
 use pg_schema::{Element, EnumId, Field, FieldOptions, Presence, Scalar, TypeId};
 use std::alloc::{AllocError, Global};
@@ -28,7 +28,7 @@ fn words_of(text: &str) -> Words<'_> {
     }
 }
 
-// The place of the type of that name, or one that no schema has.
+// The index of the type of that name, or one that no schema has.
 fn place_of(types: &[&str], name: &str) -> u32 {
     let mut place = 0_u32;
     for other in types {
@@ -73,12 +73,12 @@ fn held(types: &[&str], words: &Words) -> (Presence, Element) {
     (presence_of(words.label, element), element)
 }
 
-// The place of the oneof that a label names.
+// The index of the oneof that a label names.
 fn oneof_of(label: &str) -> Option<u32> {
     label.strip_prefix("k")?.parse().ok()
 }
 
-/// The field that the text says, of a schema of these types.
+/// The field that the words spell, of a schema of these types.
 pub(crate) fn field(alloc: Global, types: &[&str], text: &str) -> Result<Field, AllocError> {
     let words = words_of(text);
     let (presence, element) = held(types, &words);

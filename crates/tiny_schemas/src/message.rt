@@ -1,9 +1,9 @@
-//! A message type, as `NAME: FIELD, FIELD` or `NAME` says.
+//! A message type, spelled `NAME: FIELD, FIELD` or `NAME`.
 use crate::field::field;
 use pg_schema::{Field, MessageOptions, MessageType};
 use std::alloc::{AllocError, Global};
 
-/// The name of the type that the text says.
+/// The name of the type that the words spell.
 pub(crate) fn name_of(text: &str) -> &str {
     text.split_once(": ").unwrap_or((text, "")).0
 }
@@ -46,7 +46,7 @@ fn oneofs_of(alloc: Global, count: u32) -> Result<Vec<String>, AllocError> {
     Ok(names)
 }
 
-/// The message type that the text says, of a schema of these types.
+/// The message type that the words spell, of a schema of these types.
 pub(crate) fn message(
     alloc: Global,
     types: &[&str],

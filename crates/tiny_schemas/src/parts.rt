@@ -77,7 +77,7 @@ fn types_of(alloc: Global, line: &str) -> Result<Vec<MessageType>, AllocError> {
     messages_of(alloc, &names, line)
 }
 
-// The places of the types, in their order.
+// The indexes of the types, in their order.
 fn places_of(alloc: Global, types: &[MessageType]) -> Result<Vec<TypeId>, AllocError> {
     let mut places = Vec::new(alloc);
     let mut index = 0_u32;
@@ -112,7 +112,7 @@ fn parts_of(alloc: Global, line: &str) -> Result<Parts, AllocError> {
     })
 }
 
-/// The schema that the line says; `None` where it says none.
+/// The schema that the line spells; `None` where it spells none.
 pub fn schema(alloc: Global, line: &str) -> Result<Option<Schema>, AllocError> {
     let parts = parts_of(alloc, line)?;
     match Schema::from_parts(alloc, parts) {
@@ -122,7 +122,7 @@ pub fn schema(alloc: Global, line: &str) -> Result<Option<Schema>, AllocError> {
     }
 }
 
-/// The schemas that two lines say; `None` where one of them says none.
+/// The schemas that two lines spell; `None` where one of them spells none.
 pub fn schemas(
     alloc: Global,
     old: &str,

@@ -4,11 +4,11 @@
 //! A line is `WHAT IT SHOWS | OLD SCHEMA | NEW SCHEMA`. The schemas are spelled as `tiny_schemas`
 //! says, and the types that are asked for are called `M`. What is printed is the least message that
 //! breaks, in hexadecimal digits, or that the types are compatible: by the numbers of enums, and by
-//! their names. Where bytes stand behind the schemas, as ` | DIGITS`, it is what the first type of
-//! the new schema hands on of them; or, of several new schemas with ` > ` between them, what one
-//! hands on to the next. With `retry CALL ` in front of the schemas it is that call's answer, made
-//! again where it lacks memory (`rows::retry`). Of another row that runs out of memory `Memory` is
-//! printed.
+//! their names. Where bytes follow the schemas, as ` | DIGITS`, it is what the first type of the
+//! new schema hands on of them; or, of several new schemas with ` > ` between them, what the last
+//! of them hands on. With `retry CALL ` in front of the schemas it is that call's answer, made
+//! again where it lacks memory (`rows::retry`). For any other row that runs out of memory, `Memory`
+//! is printed.
 #![tactic(auto)]
 
 mod overviews;

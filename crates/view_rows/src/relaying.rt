@@ -51,9 +51,9 @@ pub(crate) fn handed_on_by(
     }
 }
 
-/// What a program of each of the new schemas, one behind the other with ` > ` between them, hands
-/// on of what it has from the one before, the first of them of the bytes; or the code and the byte
-/// of a refusal. Each reads by its schema's first type.
+/// What a program of the last new schema hands on; ` > ` separates the new schemas. A program of
+/// the first one reads the bytes, and one of each later schema what the program before it hands on.
+/// Each reads by its schema's first type. A refusal is shown by its code and its byte.
 pub(crate) fn handed_on(
     alloc: Global,
     old: &str,

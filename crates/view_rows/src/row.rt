@@ -15,8 +15,8 @@ fn shown(alloc: Global, answer: &Answer) -> Result<String, AllocError> {
     }
 }
 
-/// What is shown of an answer, or of its refusal. It is lent, so that it is dropped at one place: to
-/// drop it takes the prover long at each way out.
+/// What is shown of an answer, or of its refusal. It is lent, so that it is dropped only once: a
+/// drop takes the prover long at each way out.
 fn answered_with(alloc: Global, found: &Result<Answer, GateError>) -> Result<String, AllocError> {
     match found {
         Ok(answer) => shown(alloc, answer),

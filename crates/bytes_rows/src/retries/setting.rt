@@ -10,7 +10,7 @@ use pg_schema::Schema;
 use rows::say;
 use std::io;
 
-/// The content that came back and the message as it is then, behind `Memory`.
+/// Prints `Memory`, the content that came back, and the message as it is then.
 fn say_back(
     rt: &HostRuntime,
     schema: &Schema,
@@ -22,7 +22,7 @@ fn say_back(
     println!(rt; "Memory {back} {bytes}")
 }
 
-/// Sets a content; where memory is refused the one that came back.
+/// Sets a content; where memory is refused, sets the one that came back.
 fn set_last(
     rt: &HostRuntime,
     schema: &Schema,
@@ -54,7 +54,7 @@ fn with_last(
     Ok(spelled(rt.alloc(), shown)?)
 }
 
-/// The contents but for the last are set before.
+/// Sets all contents but the last, and then shows the message with the last one.
 fn with_all(
     rt: &HostRuntime,
     schema: &Schema,

@@ -1,4 +1,4 @@
-//! What may stand behind the files of a row, each with ` | ` in front.
+//! The options that may follow the files of a row, each with ` | ` in front.
 use rows::number_of;
 
 #[derive(Clone, Copy)]
@@ -9,7 +9,7 @@ pub struct Options<'a> {
     pub folder: &'a str,
     /// `fails READ`: the source fails at its read of that number, counted from 1.
     pub fails_at: u32,
-    /// `names NAME NAME ..`: the full names whose places are printed too.
+    /// `names NAME NAME ..`: the full names whose positions are printed too.
     pub names: &'a str,
     /// `read PATH PATH ..`: the files that are read in turn and printed, where none is linked.
     pub reads: &'a str,

@@ -4,8 +4,8 @@ use pg_link::{LinkError, Linked, Target};
 use rows::spelling;
 use std::alloc::{AllocError, Global};
 
-/// The code and the place of a refusal; of a text that is no file in its own right the code is E100
-/// or E200.
+/// The code and the position of a refusal. The code is E100 for a source file that the lexer
+/// refuses, and E200 for one that the parser refuses.
 pub fn refusal(alloc: Global, error: LinkError) -> Result<String, AllocError> {
     let code = match &error {
         LinkError::Lex(_, _) => 100,
@@ -66,8 +66,8 @@ fn name(alloc: Global, linked: &Linked, name: &str) -> Result<String, AllocError
     }
 }
 
-/// The files in their order, each with what its uses of types resolve to, and the places of these
-/// names.
+/// The files in their order, each with what its uses of types resolve to, and the positions of
+/// these names.
 pub fn linked_files(alloc: Global, linked: &Linked, names: &str) -> Result<String, AllocError> {
     let mut out = files(alloc, linked)?;
     for one in names.split(' ') {

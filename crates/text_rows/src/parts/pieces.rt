@@ -2,13 +2,13 @@
 //! to the message type or the enum that came last, or to that type's last field:
 //!
 //! - `package NAME`, `import PATH`, `mode` (`optimize_for = CODE_SIZE`), `option NUMBER` (of the
-//!   value `true`), and `top PLACE`, !   `top_enum PLACE` and `top_service PLACE` for what stands
-//!   in no other type;
-//! - `type NAME`, `oneof NAME`, `reserved FIRST LAST`, `reserved_name NAME`, `inner PLACE`,
-//!   `inner_enum PLACE`, `deprecated_type`;
+//!   value `true`), and `top INDEX`, `top_enum INDEX` and `top_service INDEX` for what is nested in
+//!   no type;
+//! - `type NAME`, `oneof NAME`, `reserved FIRST LAST`, `reserved_name NAME`, `inner INDEX`,
+//!   `inner_enum INDEX`, `deprecated_type`;
 //! - `field NUMBER NAME PRESENCE TYPE`, `member NUMBER NAME` (an `int32` of the first oneof), `json
-//!   NAME`, `packed` and `unpacked` (that !   option), `deprecated`, `in_oneof`, `unstated`
-//!   (without the word `optional`);
+//!   NAME`, `packed` and `unpacked` (that option), `deprecated`, `in_oneof`, `unstated` (without
+//!   the word `optional`);
 //! - `enum NAME`, `value NAME NUMBER`, `range FIRST LAST`, `alias`;
 //! - `service NAME`.
 use super::enums::{add_to_enum, enum_type};

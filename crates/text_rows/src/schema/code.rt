@@ -3,7 +3,7 @@ use crate::placed::refusal_in;
 use pg_check::CheckError;
 use std::alloc::{AllocError, Global};
 
-/// The code and the place of a refusal, as the program prints them.
+/// The code and the position of a refusal, as the program prints them.
 pub fn refusal(alloc: Global, error: CheckError) -> Result<String, AllocError> {
     let code = error.code();
     match error.place() {

@@ -1,4 +1,4 @@
-//! The tree of one text.
+//! The tree of one source file.
 use super::shown::first_statement;
 use crate::placed::refusal;
 use pg_lex::{LexError, Token, lex};
@@ -6,7 +6,7 @@ use pg_syntax::tree::FileTree;
 use pg_syntax::{SyntaxError, parse};
 use std::alloc::{AllocError, Global};
 
-/// The code, and the byte at which the fault stands.
+/// The code, and the offset of the fault.
 fn fault(error: SyntaxError) -> (u16, usize) {
     match error {
         SyntaxError::Memory => (1, 0),
@@ -20,7 +20,7 @@ fn fault(error: SyntaxError) -> (u16, usize) {
     }
 }
 
-/// What is shown of the file of a text, or of its fault.
+/// What is shown of a source file's tree, or of its fault.
 fn shown_file(
     alloc: Global,
     text: &[u8],
@@ -33,7 +33,7 @@ fn shown_file(
     }
 }
 
-/// What a text with these tokens is refused with, or what is shown of it.
+/// What is shown of a source file, or its refusal; `no tokens` where the lexer refuses it.
 pub fn answer_of(alloc: Global, text: &[u8]) -> Result<String, AllocError> {
     match lex(alloc, text) {
         Ok(tokens) => shown_file(alloc, text, parse(alloc, &tokens, text.len())),

@@ -34,7 +34,7 @@ fn field(alloc: Global, field: &Field) -> Result<String, AllocError> {
     )
 }
 
-/// A `;` for each of them.
+/// A `;` for each empty statement of a run.
 fn empties(alloc: Global, run: &EmptyStatements) -> Result<String, AllocError> {
     let mut out = String::from_str(alloc, ";")?;
     for _ in &run.more {
@@ -56,7 +56,7 @@ fn part(alloc: Global, part: &Part) -> Result<String, AllocError> {
     }
 }
 
-/// Its bytes, its name and its parts.
+/// A message's offsets, its name and its parts.
 fn message(alloc: Global, message: &Message) -> Result<String, AllocError> {
     let span = message.span;
     let mut out = format!(in alloc; "{}-{} message {}", span.from, span.to, message.name.text)?;
@@ -78,7 +78,7 @@ fn rpc(alloc: Global, rpc: &Rpc) -> Result<String, AllocError> {
     format!(in alloc; ", {} ({input}) ({output})", rpc.name.text)
 }
 
-/// Its name and its rpcs.
+/// A service's name and its rpcs.
 fn service(alloc: Global, service: &Service) -> Result<String, AllocError> {
     let mut out = format!(in alloc; "service {}", service.name.text)?;
     for part in &service.parts {
