@@ -74,7 +74,7 @@ fn told(answer: Result<Answer, GateError>) -> Said {
     said_of(&answer)
 }
 
-/// The answer on the schemas that these lines say.
+/// The answer on the schemas that these lines spell.
 fn answer_of(alloc: Global, old: &str, new: &str, root: &str) -> Result<Said, AllocError> {
     match schemas(alloc, old, new)? {
         Some((old, new)) => Ok(told(gate(alloc, &old, &new, root))),

@@ -1,6 +1,6 @@
 //! Sinks that fail or go slowly, the runs of the program over them and over sources that fail, and
-//! the calls of the gate by themselves. All of it stands in tests: what the crate held outside of
-//! them would be proved twice.
+//! the calls of the gate by themselves. Everything is in tests: code outside of them would be
+//! proved twice.
 #![tactic(auto)]
 
 #[cfg(test)]

@@ -1,5 +1,5 @@
 //! Runs of the program over files in memory, one of each subcommand at least, and what they print.
-//! `run` is called at one place, and how it ended is a value that nothing has to drop: else each
+//! Only one function calls `run`, and how it ended is a value that nothing has to drop: else each
 //! test takes the prover long, for the contract and for what may have to be dropped at its ends.
 use pg_gate::{Buffer, GateError, Sink, Sources, run};
 use pg_link::Listed;
@@ -9,7 +9,7 @@ use std::alloc::{AllocError, Global};
 const ONE: &[u8] =
     b"\x0a\x24\x0a\x07m.proto\x22\x11\x0a\x01M\x12\x0c\x0a\x01a\x18\x01\x20\x01\x28\x05R\x01ab\x06proto3";
 
-/// The same with a field of type `uint32`.
+/// The set of `message M { uint32 a = 1; }`, as protoc writes it.
 const UNSIGNED: &[u8] =
     b"\x0a\x24\x0a\x07m.proto\x22\x11\x0a\x01M\x12\x0c\x0a\x01a\x18\x01\x20\x01\x28\x0dR\x01ab\x06proto3";
 

@@ -9,7 +9,7 @@ use std::io;
 use std::process::Abort;
 use std::test::Fail;
 
-/// What is wrong where a sink takes one byte a call, or nothing: it is given the whole text.
+/// What is wrong where a sink takes one byte a call, or nothing: it gets the whole output.
 fn fault_of_slow(
     alloc: Global,
     words: &[&str],
@@ -43,7 +43,7 @@ fn stops_at(alloc: Global, words: &[&str], taken: &[u8]) -> Result<bool, AllocEr
     Ok(matches!(ended, Ended::WriteFailed) && sink.sink.sink.bytes.as_slice() == taken)
 }
 
-/// Whether it does so at each write of what the call prints.
+/// Whether the run fails so at each write of what the call prints.
 fn stops_anywhere(alloc: Global, words: &[&str], printed: &[u8]) -> Result<bool, AllocError> {
     for taken in 0..printed.len() {
         if !stops_at(alloc, words, &printed[..taken])? {
@@ -135,8 +135,8 @@ fn is_help(ended: Ended, taken: &[u8]) -> bool {
     }
 }
 
-/// Help is said whole, or memory is reported and the sink left alone, where any one request may be
-/// refused.
+/// Help is printed whole, or memory is reported and the sink left alone, where any one request may
+/// be refused.
 #[test]
 fn keeps_to_memory_in_help(rt: HostRuntime) {
     let Ok(mut sink) = buffer(rt.alloc()) else {

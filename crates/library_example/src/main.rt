@@ -11,8 +11,8 @@ use std::io;
 /// The path of the source file on either side.
 const PATH: &str = "order.proto";
 
-/// The answer in words. It is lent, so that it is dropped at one place. Each part of an answer has
-/// a name here, and one that isn't used begins with `_`.
+/// The answer in words. It is lent, so that it is dropped only once. Each part of an answer has a
+/// name here, and one that isn't used begins with `_`.
 fn words_of(alloc: Global, answer: &Result<Answer, GateError>) -> Result<String, AllocError> {
     match answer {
         Ok(Answer::Compatible(_certificate)) => format!(in alloc; "compatible"),

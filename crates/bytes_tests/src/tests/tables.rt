@@ -1,5 +1,5 @@
-//! The tables and certificates that callers hold. What the checker and texts answer stands in the
-//! rows of `answer_rows`.
+//! The tables and certificates that callers hold. The rows of `answer_rows` show what the checker,
+//! `from_text` and `to_text` answer.
 use super::M;
 use pg_cert::{Bounds, BoundsError, Certificate, PairBound};
 use pg_dyn::ViewName;
