@@ -70,9 +70,8 @@ pub fn to_text(
     pg_cert::to_text(alloc, old, new, certificate)
 }
 
-/// What `to_text` answers of the certificate that `from_text` reads: of the certificate that the
-/// bytes spell the text of version 2, whatever version they are of. Bytes are refused only where
-/// they spell none.
+/// What `to_text` answers of the certificate that `from_text` reads: the bytes may spell it in any
+/// version, and it is written in version 2. Bytes are refused only where they spell none.
 pub fn text_again(
     alloc: Global,
     old: &Schema,

@@ -28,7 +28,7 @@ pub fn build(alloc: Global, linked: &Linked) -> Result<Schema, CheckError>
     pg_check::build(alloc, linked)
 }
 
-/// How the parts of what `build` answers stand. Only an edit uses the other parts.
+/// How the parts that `build` answers are arranged. Only an edit uses the other parts.
 pub fn build_stands(alloc: Global, files: &Linked, _others: Parts) -> Result<Schema, CheckError>
     ensures { IfOk result StandingParts }
 {

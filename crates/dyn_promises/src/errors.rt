@@ -1,4 +1,4 @@
-//! The codes and places of errors.
+//! The codes and offsets of errors.
 
 ghost use Rattle.std.specs.Prelude.{◌≡◌};
 ghost use Rattle.pg_dyn.specs.Codes.{code_of, place_of};

@@ -22,7 +22,7 @@ use pg_fds::FdsError;
 use pg_schema::Schema;
 use std::alloc::{AllocError, AllocFailed, Global};
 
-/// The first place where the part stands, or the start. Only edits ask for it.
+/// The offset of the part's first occurrence, or 0 where there is none. Only edits ask for it.
 pub fn place_of(bytes: &[u8], part: &[u8]) -> usize {
     memmem::find(bytes, part).unwrap_or(0)
 }
@@ -64,7 +64,7 @@ pub fn write_stated(alloc: Global, readable: &Schema) -> Result<Vec<u8>, FdsErro
     pg_fds::write(alloc, readable)
 }
 
-/// How deep the messages stand that `write` answers.
+/// How deep the messages are nested in what `write` answers.
 pub fn write_shallow(alloc: Global, nested: &Schema) -> Result<Vec<u8>, FdsError>
     ensures { IfOk result (λ bytes. are_shallow nested.now ≡ true → IsNotTooDeep bytes.items) }
 {

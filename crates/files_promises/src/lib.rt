@@ -22,8 +22,8 @@ pub fn gate_files<S: Sources, T: Sources>(
     new_roots: &[&str],
     root: &str,
 ) -> Result<Answer, GateError>
-    // The answer is that of texts and sets that the sources may give, and so is each refusal. A
-    // fault of the new side comes only where the old side has a schema.
+    // The answer is that of source files and sets that the sources may give, and so is each
+    // refusal. A fault of the new side is reported only where the old side has a schema.
     ensures answer { IfOk result (IsAnswerOfFiles root.now
         (world (S.may_give old.old) (S.may_lack old.old) (codes ".") (paths_of old_roots.now))
         (world (T.may_give new.old) (T.may_lack new.old) (codes ".") (paths_of new_roots.now))) }

@@ -1,4 +1,4 @@
-//! The codes and places of faults.
+//! The codes and positions of faults.
 
 ghost use Rattle.std.specs.Prelude.{◌≡◌};
 ghost use Rattle.pg_link.specs.Codes.{code_of, place_of};

@@ -1,4 +1,4 @@
-//! Whether messages come home.
+//! Whether the messages of a pair return.
 
 ghost use Rattle.std.specs.Prelude.{◌↔◌, IsTrue, IfOk};
 ghost use Rattle.pg_schema.specs.Parts.{shape_of};

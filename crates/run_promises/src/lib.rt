@@ -21,7 +21,7 @@ pub fn run<S: Sources, T: Sources, W: Sink>(
     new: &mut T,
     sink: &mut W,
 ) -> Result<u8, GateError>
-    // The sink took exactly the text of the words' call and an answer granted to it.
+    // The sink took exactly the output for the words' call and an answer granted to it.
     ensures printed { IfOk result (λ status. status ≢ 4 → Prints
         (Grants (seen S.Sources old.old old.new) (seen T.Sources new.old new.new))
         (texts words.now) status (W.taken sink.old) (W.taken sink.new)) }
@@ -72,15 +72,15 @@ pub fn run_failed<S: Sources, T: Sources, W: Sink>(
     new: &mut T,
     sink: &mut W,
 ) -> Result<u8, GateError>
-    // A sink that fails took a beginning of the text; or `clap` doesn't take the words, and the
-    // sources are as they were. Memory that fails leaves the sink alone.
+    // A sink that fails took a prefix of the output; or `clap` doesn't take the words, and the
+    // sources are as they were. A lack of memory leaves the sink alone.
     ensures begun { IsErrOf result GateError.WriteFailed → Begins
         (Grants (seen S.Sources old.old old.new) (seen T.Sources new.old new.new))
         (texts asked.now) (W.taken sink.old) (W.taken sink.new)
         ⊎ (IsRefused (texts asked.now) × (old.new ≡ old.old) × (new.new ≡ new.old)) }
     ensures only { IfErr result IsRunError }
     ensures untouched { IsErrOf result GateError.Memory → W.taken sink.new ≡ W.taken sink.old }
-    // Its count rose by one where it ends so, and by none else.
+    // The sink's count of failures rises by one where the run ends so, else it stays the same.
     ensures counted { W.failures sink.new ≡ W.failures sink.old + failures_in result }
 {
     pg_gate::run(alloc, asked, old, new, sink)
