@@ -6,7 +6,7 @@
 //! bound by its pair and a number or `none`, with `, ` between bounds; a choice by its number,
 //! case, part and cost; bytes by hexadecimal digits, and a certificate with escapes. Words that are
 //! left out are zeros, and `-` is no bounds. Each call's function says what its words are. With
-//! `retry ` in front, the call is made again where it lacks memory (`rows::retry`).
+//! `retry ` in front, the row is answered again where it lacks memory (`rows::retry`).
 //! `rows::unrolled` says how a line spells repeats. For any other row that runs out of memory,
 //! `Memory` is printed.
 #![tactic(auto)]

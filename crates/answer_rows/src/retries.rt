@@ -1,4 +1,4 @@
-//! Calls that are made again where memory is refused.
+//! Rows that are answered again where memory is refused.
 use crate::certificates::shown_table;
 use crate::row::{alone, between};
 use crate::shown::list;

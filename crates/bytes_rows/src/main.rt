@@ -6,7 +6,7 @@
 //! in later lines are of the first type of `type`'s schema. `fits` and `outside` compare with the
 //! first type of `other`'s schema, and `across` writes by it.
 //!
-//! With `retry ` in front, the call is made again where it lacks memory (`rows::retry`).
+//! With `retry ` in front, the row is answered again where it lacks memory (`rows::retry`).
 //! `rows::unrolled` says how a line spells repeats. For any other row that runs out of memory,
 //! `Memory` is printed; a row of `set` adds the content that came back, and the message as it is
 //! then.

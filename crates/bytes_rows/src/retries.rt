@@ -1,4 +1,4 @@
-//! Calls that are made again where memory is refused.
+//! Rows that are answered again where memory is refused.
 mod numbers;
 mod setting;
 

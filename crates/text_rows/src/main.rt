@@ -18,7 +18,7 @@
 //!   with `| message NAME`, `| has INDEX`, `| type INDEX`, `| field INDEX NUMBER` and `| enum
 //!   INDEX` what these calls of the schema answer.
 //!
-//! With `retry ` in front of the second part, the row's call is made again where it lacks memory
+//! With `retry ` in front of the second part, the row is answered again where it lacks memory
 //! (`rows::retry`). `rows` says how source files are spelled. For any other row that runs out of
 //! memory, `Memory` is printed.
 #![tactic(auto)]

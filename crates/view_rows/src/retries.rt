@@ -1,4 +1,4 @@
-//! Calls that are made again where memory is refused.
+//! Rows that are answered again where memory is refused.
 use crate::overviews::overviewed;
 use crate::relaying::handed_on_by;
 use crate::row::gated;
