@@ -5,7 +5,7 @@ use Rattle.std.specs.Option.{option_or}
 use Rattle.std.proofs.lemmas.Bool.{and_parts, leb-true, le-leb}
 use Rattle.pg_schema.specs.Shape.{Shape}
 use Rattle.pg_dyn.proofs.Lists.{each_weaker}
-use Rattle.pg_pairs.proofs.lemmas.choices.Choosing.{same_pair-true}
+use Rattle.pg_pairs.specs.graph.EdgeChildren.{same_pair-true}
 use Rattle.pg_pairs.specs.declared.choices.choice.Choice.{Choice}
 use Rattle.pg_pairs.specs.declared.choices.choice.Pair.{Pair}
 use Rattle.pg_pairs.specs.views.EnumView.{EnumView}

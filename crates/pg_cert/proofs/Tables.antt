@@ -4,7 +4,7 @@ use Rattle.std.specs.Map.{lookup}
 use Rattle.std.proofs.lemmas.Bool.{and_parts, eq-eqb}
 use Rattle.std.proofs.lemmas.List.{take-append-drop}
 use Rattle.std.proofs.Math.Seq.{take-suc}
-use Rattle.pg_pairs.proofs.lemmas.choices.Choosing.{same_pair-true}
+use Rattle.pg_pairs.specs.graph.EdgeChildren.{same_pair-true}
 use Rattle.pg_pairs.specs.declared.choices.choice.Pair.{Pair}
 use Rattle.pg_pairs.specs.bounds.Covering.{same_pair}
 use Rattle.pg_cert.specs.declared.bounds.PairBound.{PairBound}

@@ -6,7 +6,7 @@ use Rattle.pg_pairs.specs.bounds.Covering.{IsAmong, same_pair}
 use Rattle.pg_pairs.specs.graph.ByIndices.{by_indices, equal_same}
 use Rattle.pg_cert.proofs.Tables.{same_pair-refl}
 use Rattle.pg_least.specs.Places.{ArePlaces}
-use Rattle.pg_pairs.proofs.lemmas.choices.Choosing.{same_pair-true}
+use Rattle.pg_pairs.specs.graph.EdgeChildren.{same_pair-true}
 use Rattle.pg_least.proofs.Steps.{place_cases}
 
 -- One pair more has a place.
