@@ -19,7 +19,7 @@ use pg_schema::Schema;
 use std::alloc::Global;
 
 /// The linked files of a side.
-#[tactic(auto, using(crate::proofs::ErrorLemmas::if_same_side))]
+#[tactic(auto, using(crate::proofs::lemmas::ErrorLemmas::if_same_side))]
 fn linked_files<S: Sources>(
     alloc: Global,
     source: &mut S,
@@ -76,7 +76,7 @@ impl Compiled {
 }
 
 /// The schema of source files, with these: those at the paths, and all that they import.
-#[tactic(auto, using(crate::proofs::ErrorLemmas::if_same_zero))]
+#[tactic(auto, using(crate::proofs::lemmas::ErrorLemmas::if_same_zero))]
 pub(crate) fn compile_sources<S: Sources>(
     alloc: Global,
     source: &mut S,

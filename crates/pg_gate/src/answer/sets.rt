@@ -31,7 +31,7 @@ pub(crate) fn set_at<'a>(paths: &[&'a str]) -> Option<&'a str>
 }
 
 /// The bytes of the set.
-#[tactic(auto, using(crate::proofs::ErrorLemmas::if_same_side))]
+#[tactic(auto, using(crate::proofs::lemmas::ErrorLemmas::if_same_side))]
 fn bytes_of<S: Sources>(
     alloc: Global,
     source: &mut S,
@@ -65,7 +65,7 @@ fn stated(alloc: Global, side: Side, bytes: &[u8]) -> Result<Schema, GateError>
 }
 
 /// The schema of the set at this path below the folder.
-#[tactic(auto, using(crate::proofs::ErrorLemmas::if_same_zero))]
+#[tactic(auto, using(crate::proofs::lemmas::ErrorLemmas::if_same_zero))]
 pub(crate) fn read_set<S: Sources>(
     alloc: Global,
     source: &mut S,

@@ -186,18 +186,18 @@ module _ (root : Text) (old new : World) (a b : Parts) (of_old : IsSide old a) (
   refused_of_files gates.Memory is = tt
   refused_of_files gates.RootMissingOld lacks = record { old_schema = a; new_schema = b; of_old = of_old; of_new = of_new; so = lacks }
   refused_of_files gates.RootMissingNew lacks = record { old_schema = a; new_schema = b; of_old = of_old; of_new = of_new; so = lacks }
-  refused_of_files (gates.Compile side fault) no = absurd no
-  refused_of_files gates.WriteFailed no = no
-  refused_of_files gates.BadHex no = no
+  refused_of_files (gates.Compile side fault) never = absurd never
+  refused_of_files gates.WriteFailed never = never
+  refused_of_files gates.BadHex never = never
 
 -- a missing root is no failure of a source
 root_untold : (old new : Parts) (root : Text) (side : Side) (error : GateError) → IsRefusedRoot old new root error → failures_at side error ≡ 0
 root_untold old new root side gates.Memory is = refl
 root_untold old new root side gates.RootMissingOld is = refl
 root_untold old new root side gates.RootMissingNew is = refl
-root_untold old new root side (gates.Compile of fault) no = absurd no
-root_untold old new root side gates.WriteFailed no = absurd no
-root_untold old new root side gates.BadHex no = absurd no
+root_untold old new root side (gates.Compile of fault) never = absurd never
+root_untold old new root side gates.WriteFailed never = absurd never
+root_untold old new root side gates.BadHex never = absurd never
 
 pub root_uncounted : {X : Type 0} (old new : Parts) (root : Text) (side : Side) (r : Result X GateError)
     → IfErr r (IsRefusedRoot old new root) → failures_by (failures_at side) r ≡ 0
