@@ -7,7 +7,7 @@ ERRORS = {
         'Give the process more memory, or check fewer files in one run.',
     ),
     'E101': (
-        'The text is not UTF-8.',
+        'The source file is not UTF-8.',
         'Save the file as UTF-8.',
     ),
     'E102': (
@@ -43,7 +43,7 @@ ERRORS = {
         'Write proto3: protogate reads nothing else.',
     ),
     'E202': (
-        'Unexpected token.',
+        'Unexpected token or end of file.',
         'Look before it for a missing `;`, name or `}`, or a misspelt keyword.',
     ),
     'E203': (
