@@ -1,4 +1,4 @@
--- What stands behind ten bytes makes no difference to the varint at their front.
+-- What follows ten bytes makes no difference to the varint at their front.
 use Rattle.std.proofs.Common.{◌≡◌, ℕ, zero, suc, ◌≤◌, List, [], ◌∷◌, ◌++◌, length, take, drop, Ok, Err, Result, refl, ap, sym, ◌∙◌, arith, lt-ltb, le-ltb, ⊎_elim}
 use Rattle.std.proofs.lemmas.Bool.{cases_lt}
 use Rattle.std.proofs.lemmas.List.{take-append-drop, length-take-le}

@@ -1,4 +1,4 @@
--- Varints, pieces of one length, and rows of them: read exactly where they stand.
+-- Varints, pieces of one length, and rows of them: read exactly where they are.
 use Rattle.std.proofs.Common.{◌≡◌, ◌↔◌, ℕ, ◌≤◌, ◌<◌, ◌⊎◌, inl, inr, ⊎_elim, List, ◌++◌, length, flat_map, Ok, Err, ap, ◌∙◌, arith}
 use Rattle.std.specs.List.{AllByRecursion}
 use Rattle.pg_wire.specs.Reading.{Fault, VarintTooLong, Truncated, exactly, row}
