@@ -6,7 +6,7 @@ use Rattle.pg_syntax.specs.declared.error.Reason.TheVariants as reasons
 use Rattle.pg_syntax.specs.declared.error.Fault.{Fault}
 use Rattle.pg_syntax.specs.Tree.{Tree, Empty, Leaf, Both, At, spell, symbols}
 use Rattle.pg_syntax.specs.Grammar.{Class, is_in, Look, looks, look_of, Grammar, Row, One, Seq, Pick, Optional, Many, Node, Unless, Refused, Checked, Closed, Derives}
-use Rattle.pg_syntax.specs.Reading.{Point, Outcome, ◌>>=◌, fault, next_in, first_of, one_of, repeated, instead, read}
+use Rattle.pg_syntax.specs.inner.Reading.{Point, Outcome, ◌>>=◌, fault, next_in, first_of, one_of, repeated, instead, read}
 use Rattle.pg_syntax.specs.Due.{Due, Behind}
 use Rattle.pg_syntax.proofs.Check.{check}
 use Rattle.pg_syntax.proofs.Classes.{and_parts}
@@ -14,11 +14,11 @@ use Rattle.pg_syntax.proofs.Trees.{symbols-append, stands_spell}
 use Rattle.pg_syntax.proofs.Law.{Found, bind_err, refuted}
 use Rattle.pg_syntax.proofs.Grammars.{law}
 
--- What is said of a reason, before the symbols w and behind the symbols v.
+-- What is said of a reason, before the symbols w and after the symbols v.
 abbrev pub Telling : Type 1
 Telling = Reason → List Symbol → List Symbol → Type 0
 
--- The fault stands behind tokens and before others, between which that is said of its reason.
+-- The fault is after tokens and before others, between which that is said of its reason.
 pub record Stops (P : Telling) (p : Point) (f : Fault) : Type 0 where
   pub front : List Placed
   pub back : List Placed
@@ -26,7 +26,7 @@ pub record Stops (P : Telling) (p : Point) (f : Fault) : Type 0 where
   pub left : f.left ≡ length back
   pub holds : P f.reason (symbols back) (symbols front)
 
--- The fault is 'unexpected', or it stands so.
+-- The fault is 'unexpected', or it is so between tokens.
 abbrev pub Told : Telling → Point → Fault → Type 0
 Told P p f = (f.reason ≡ reasons.Unexpected) ⊎ Stops P p f
 
@@ -46,7 +46,7 @@ told_as P Q p f turn (inr h) = inr (record {
 abbrev pub behind : (Tree → Type 0) → Telling → Telling
 behind D P r w = Behind D (P r w)
 
--- what is said behind a tree that was found
+-- what is said after a tree that was found
 told_behind : (D : Tree → Type 0) (P : Telling) (p : Point) (t : Tree) (q : Point) (f : Fault) → Found D p t q → Told P q f → Told (behind D P) p f
 told_behind D P p t q f found (inl e) = inl e
 told_behind D P p t q f found (inr h) = inr (record {
@@ -79,7 +79,7 @@ unexpected_one c p (t ∷ ts) f e = go (is_in c t.symbol) e
     go true e = absurd (ok_is_no_err _ f e)
     go false e = refuted (λ x. x.reason ≡ reasons.Unexpected) (fault reasons.Unexpected p) f e refl
 
--- ---- one behind the other, and rows
+-- ---- one after the other, and rows
 
 due_seq : (g h : Grammar) → check g ≡ true → TellsDue g → TellsDue h → TellsDue (Seq g h)
 due_seq g h k one two p f e = elim (bind_err (read g p) (λ t q. read h q >>= λ u end. Ok (Both t u, end)) f e) [
@@ -178,7 +178,7 @@ due (Refused reason) k p f e = told_instead (due_in (Refused reason)) reason p f
 due (Checked reason test g) k p f e = due_checked reason test g p f e
 due (Closed cs g) k p f e = let a = and_parts (check g) _ k in due g a.0 p f e
 
--- ---- at the place of the fault
+-- ---- at the fault
 
 same_front : (xs ys us vs : List Placed) → xs ++ us ≡ ys ++ vs → length us ≡ length vs → xs ≡ ys
 same_front [] [] us vs e l = refl

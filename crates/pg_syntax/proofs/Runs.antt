@@ -9,10 +9,10 @@ use Rattle.pg_syntax.specs.declared.error.Reason.{Reason}
 use Rattle.pg_syntax.specs.declared.error.Refusal.{Refusal}
 use Rattle.pg_syntax.specs.Tree.{Tree, At, spell, symbols}
 use Rattle.pg_syntax.specs.Grammar.{Grammar, Class, looks, look_of, One, Seq, Pick, Optional, Many, Node, Unless, Refused, Checked, Closed}
-use Rattle.pg_syntax.specs.Reading.{Point, Outcome, Fails, ◌>>=◌, fault, first_of, next_in, instead, read}
+use Rattle.pg_syntax.specs.inner.Reading.{Point, point, Outcome, Fails, ◌>>=◌, fault, first_of, next_in, instead, read}
 use Rattle.pg_syntax.specs.Proto3.{empty, option, labelled_field, plain_field, map_field, oneof_part, oneof, reserved, enum_value, enum_part, enumeration, rpc_part, rpc, service_part, service, part_in, message, import_line, statement}
 use Rattle.pg_syntax.specs.Views as view
-use Rattle.pg_syntax.specs.Views.{all_nodes, nodes, point, run, runs}
+use Rattle.pg_syntax.specs.Views.{all_nodes, nodes, run, runs}
 use Rattle.pg_syntax.proofs.Classes.{and_parts}
 use Rattle.pg_syntax.proofs.Rows.{GoesOn, again, stop, wrong}
 
@@ -28,7 +28,7 @@ pub added : {X : Type 0} (to_tree : X → Tree) (xs ys : List X) (x : X) → ys 
 added to_tree xs ys x is =
     ap (all_nodes to_tree) is ∙ (all_joined to_tree xs (x ∷ []) ∙ ap (λ ts. all_nodes to_tree xs ++ ts) (append-nil (nodes (to_tree x))))
 
--- a last element in the place of another, with more nodes behind
+-- a last element instead of another, with more nodes after it
 pub merged : {X : Type 0} (to_tree : X → Tree) (front old new : List X) (x y z : X) → old ≡ front ++ x ∷ [] → new ≡ front ++ y ∷ []
     → nodes (to_tree y) ≡ nodes (to_tree x) ++ nodes (to_tree z) → all_nodes to_tree new ≡ all_nodes to_tree old ++ nodes (to_tree z)
 merged to_tree front old new x y z was is joins =
@@ -43,7 +43,7 @@ run_joined : (first : Span) (ss : List Span) (next : Span) (more : List Span) �
 run_joined first [] next more = refl
 run_joined first (s ∷ ss) next more = ap (λ ts. view.empty first ∷ ts) (run_joined s ss next more)
 
--- a run behind another
+-- a run after another
 pub joined_run : (first : Span) (ss : List Span) (next : Span) (more both : List Span) → both ≡ (ss ++ next ∷ []) ++ more
     → nodes (run first both) ≡ nodes (run first ss) ++ nodes (run next more)
 joined_run first ss next more both is =

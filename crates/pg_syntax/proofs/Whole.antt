@@ -8,12 +8,13 @@ use Rattle.pg_syntax.specs.declared.error.Reason.TheVariants as reasons
 use Rattle.pg_syntax.specs.declared.error.Fault.{Fault}
 use Rattle.pg_syntax.specs.Tree.{Tree, spell, symbols, Stands}
 use Rattle.pg_syntax.specs.Grammar.{Grammar, Derives}
-use Rattle.pg_syntax.specs.Reading.{Point, Fails, fault, read}
+use Rattle.pg_syntax.specs.inner.Reading.{Point, Fails, fault, read}
 use Rattle.pg_syntax.specs.declared.error.Refusal.{Refusal}
 use Rattle.pg_syntax.specs.declared.error.Refusal.TheVariants as refusals
 use Rattle.std.proofs.lemmas.List.{length-map}
 use Rattle.pg_syntax.specs.declared.error.SyntaxError.{SyntaxError}
-use Rattle.pg_syntax.specs.Refusals.{Alike, Refused, Fits, Reports, place_of, error_of}
+use Rattle.pg_syntax.specs.Refusals.{Alike, Refused, Reports, place_of, error_of}
+use Rattle.pg_syntax.specs.inner.Refusals.{Fits}
 use Rattle.pg_syntax.proofs.Check.{check}
 use Rattle.pg_syntax.proofs.Law.{Wrong, Agree, Meets, rests, wrong_here, wrong_later}
 use Rattle.pg_syntax.proofs.Grammars.{law}
@@ -68,7 +69,7 @@ module _ (g : Grammar) (checks : check g ≡ true) (p : Point) where
   pub whole_wrong : (f : Fault) → read g p ≡ Err f → Refused g f.reason f.left p.rest
   whole_wrong f e = let w = (law g checks).wrong p f e in refused f w (due_at g checks p f w.front w.back e w.splits w.left) (λ t d agree. let less : Meets (rests f.reason f.left) t [] (Err f) = rw e at (meets (rests f.reason f.left) t d agree) in omega arith)
 
-  -- more tokens behind a whole tree
+  -- more tokens after a whole tree
   pub whole_more : (t : Tree) (q : Point) → read g p ≡ Ok (t, q) → 0 < length q.rest → Refused g reasons.Unexpected (length q.rest) p.rest
   whole_more t q e more =
       refused (fault reasons.Unexpected q) (wrong_later p t q (fault reasons.Unexpected q) ((law g checks).found p t q e) (wrong_here reasons.Unexpected q tt)) (inl refl)
@@ -106,7 +107,7 @@ pub some_of : {X : Type 0} (xs : List X) (view : X → Placed) (test : Bool) →
 some_of [] view test e off = let wrong : true ≡ false = sym e ∙ off in cc
 some_of (x ∷ xs) view test e off = omega arith
 
--- a fault, reported with its place
+-- a fault, reported with its offset
 pub told : {X : Type 0} (g : Grammar) (xs : List X) (view : X → Placed) (end at : ℕ) (f : Fault) (error : SyntaxError) → Refused g f.reason f.left (map view xs)
     → at ≡ place_of end (drop (length xs - f.left) (map view xs)) → error ≡ error_of f.reason at → Reports g end (map view xs) error
 told g xs view end at f error h is said =

@@ -1,6 +1,6 @@
 pub mod Tree
 pub mod Grammar
-pub mod Reading
+pub mod inner
 pub mod Proto3
 pub mod Views
 pub mod Due

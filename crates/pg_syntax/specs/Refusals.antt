@@ -3,16 +3,14 @@ use Rattle.std.specs.Prelude.{◌≡◌, ◌⊎◌, ℕ, ◌+◌, List, [], ◌�
 use Rattle.pg_lex.specs.Symbol.{Symbol, Placed}
 use Rattle.pg_syntax.specs.declared.error.Reason.{Reason}
 use Rattle.pg_syntax.specs.declared.error.Reason.TheVariants as reasons
-use Rattle.pg_syntax.specs.declared.error.Refusal.{Refusal}
-use Rattle.pg_syntax.specs.declared.error.Refusal.TheVariants as refusals
 use Rattle.pg_syntax.specs.declared.error.SyntaxError.{SyntaxError}
 use Rattle.pg_syntax.specs.declared.error.SyntaxError.TheVariants as errors
 use Rattle.pg_syntax.specs.Tree.{Tree, spell, bare, symbols}
 use Rattle.pg_syntax.specs.Grammar.{Grammar, Names, Derives}
 use Rattle.pg_syntax.specs.Due.{Due}
 
--- The row goes on as the tokens do up to the one with this number and with it; behind the last token stands the end.
--- For other reasons than that a token isn't expected: it is the row of all tokens.
+-- For an unexpected token: both rows are the same up to the symbol of this index and with it, where the end of a row
+-- counts as a symbol. For each other reason the rows are the same.
 abbrev pub Alike : Reason → ℕ → List Symbol → List Symbol → Type 0
 Alike reasons.Unexpected k v w = take (k + 1) v ≡ take (k + 1) w
 Alike reasons.NotProto3 k v w = v ≡ w
@@ -22,7 +20,7 @@ Alike reasons.CustomOption k v w = v ≡ w
 Alike reasons.WeakImport k v w = v ≡ w
 Alike reasons.NestedTooDeep k v w = v ≡ w
 
--- No tree spells the tokens: what the reason names stands behind `front`, there it is due, and no tree that the grammar derives is alike.
+-- No tree spells the tokens: what the reason names follows `front`, it is due there, and no tree of the grammar agrees.
 pub record Refused (g : Grammar) (reason : Reason) (left : ℕ) (tokens : List Placed) : Type 0 where
   pub front : List Placed
   pub back : List Placed
@@ -46,14 +44,13 @@ error_of reasons.CustomOption at = errors.CustomOption at
 error_of reasons.WeakImport at = errors.WeakImport at
 error_of reasons.NestedTooDeep at = errors.NestedTooDeep at
 
--- What a refusal of the tokens says: memory ran out, or a reason stands at its place.
+-- What a refusal of the tokens says: memory ran out, or a reason holds at the error's offset.
 abbrev pub Reports : Grammar → ℕ → List Placed → SyntaxError → Type 0
-Reports g end tokens error = (error ≡ errors.Memory) ⊎ ((reason : Reason) × (left : ℕ) × (h : Refused g reason left tokens) × (error ≡ error_of reason (place_of end h.back)))
+Reports g end tokens error =
+    (error ≡ errors.Memory)
+    ⊎ ((reason : Reason) × (left : ℕ) × (h : Refused g reason left tokens)
+    × (error ≡ error_of reason (place_of end h.back)))
 
-abbrev pub Fits : Grammar → Refusal → List Placed → Type 0
-Fits g refusals.Memory tokens = Unit {0}
-Fits g (refusals.Fault f) tokens = Refused g f.reason f.left tokens
-
--- Two trees that spell the same row are the same, but for where their nodes stand.
+-- Two trees that spell the same row are the same, but for the spans of their nodes.
 abbrev pub OneTree : Grammar → Type 0
 OneTree g = (t u : Tree) → Derives g t → Derives g u → spell t ≡ spell u → bare t ≡ bare u
