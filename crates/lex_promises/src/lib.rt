@@ -19,7 +19,7 @@ pub fn lex(alloc: Global, text: &[u8]) -> Result<Vec<Token<'_>>, LexError>
     pg_lex::lex(alloc, text)
 }
 
-/// What `lex` answers: where the tokens stand.
+/// What `lex` answers: where the tokens are.
 pub fn lex_places(alloc: Global, of: &[u8]) -> Result<Vec<Token<'_>>, LexError>
     ensures rise { IfOk result (λ tokens. Rises 0 (placed tokens.items)) }
     ensures words { IfOk result (λ tokens. WordsAreSlices of.now (placed tokens.items)) }
@@ -27,7 +27,7 @@ pub fn lex_places(alloc: Global, of: &[u8]) -> Result<Vec<Token<'_>>, LexError>
     pg_lex::lex(alloc, of)
 }
 
-/// What `lex` answers: how long a text it takes.
+/// What `lex` answers: how long a source file it takes.
 pub fn lex_short(alloc: Global, long: &[u8]) -> Result<Vec<Token<'_>>, LexError>
     ensures { IfOk result (λ tokens. length long.now ≤ max_len) }
 {

@@ -119,7 +119,7 @@ reaches start s (b ∷ bytes) left h = go (step s b) refl h (λ t k. reaches (st
     go (Some t) e k again = reaches_cons s t b start bytes left e (again t k)
     go None e k again = cc
 
--- A fault of the scanner, behind bytes from a place on, names what begins there.
+-- A fault of the scanner, after bytes that begin at an offset, names what begins there.
 abbrev pub Reports : LexError → ℕ → List ℕ → Type 0
 Reports e at bytes = (place_of e ≡ at) × Names e bytes
 
@@ -156,7 +156,7 @@ shorter start s bytes left apart some h = go (passes start s bytes left h)
     go (inr (inl (none, line))) = absurd (omega (arith, ap length none, some))
     go (inr (inr (slash, alike))) = absurd (apart slash)
 
--- behind a `/` that begins no comment
+-- after a `/` that begins no comment
 lone_slash : (c : ℕ) (bytes : List ℕ) → skip (47 ∷ c ∷ bytes) Between (47 ∷ c ∷ bytes) ≡ Rest (47 ∷ c ∷ bytes) → (c == 47 || c == 42) ≡ false
 lone_slash c bytes h = go (eqb c 47) refl (eqb c 42) refl
   where
@@ -165,7 +165,7 @@ lone_slash c bytes h = go (eqb c 47) refl (eqb c 42) refl
     go false e true k = absurd (let le = shorter (47 ∷ c ∷ bytes) Block bytes (47 ∷ c ∷ bytes) (λ p. cc) (omega arith) (rw (e, k) at h) in omega (arith, le))
     go false e false k = refl
 
--- No blank stands there, and no `/` that begins a comment.
+-- No white space is there, and no `/` that begins a comment.
 pub settled_byte : (b : ℕ) (bytes : List ℕ) → skip (b ∷ bytes) Between (b ∷ bytes) ≡ Rest (b ∷ bytes) → (is_blank b ≡ false) × (b ≡ 47 → begins (λ c. c == 47 || c == 42) bytes ≡ false)
 settled_byte b bytes h = (blank (is_blank b) refl, λ slash. comment bytes (ap (λ x. skip (x ∷ bytes) Between (x ∷ bytes)) (sym slash) ∙ h ∙ ap (λ x. Rest (x ∷ bytes)) slash))
   where

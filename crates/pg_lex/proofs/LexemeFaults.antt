@@ -207,7 +207,7 @@ module _ (at : ℕ) (rest : List ℕ) (stop : begins is_word_byte rest ≡ false
         digit_first : begins is_digit ((digits ++ tail) ++ rest) ≡ true
         digit_first = begins_front is_digit (digits ++ tail) rest (begins_front is_digit digits tail (first_of is_digit digits some all))
 
-  -- the digits behind `0x`
+  -- the digits after `0x`
   hexadecimal_fault : (run : List ℕ) (e : LexError) → has_x run ≡ true → list_all is_word_byte run ≡ true → hexadecimal at (drop 2 run) ≡ Err e → Reports e at (run ++ rest)
   unfolding hexadecimal
   hexadecimal_fault [] e x letters h = cc

@@ -1,4 +1,4 @@
--- The scanner comes to each fault that stands in a text, so a text has one at most.
+-- The scanner comes to each fault that is in a source file, so a source file has one at most.
 use Rattle.std.proofs.Common.{◌≡◌, ℕ, zero, suc, ◌+◌, ◌-◌, ◌^◌, ◌<◌, ◌≤◌, Bool, true, false, cond, eqb, List, [], ◌∷◌, ◌++◌, length, take, drop, refl, sym, ◌∙◌, ap, arith, ◌⊎◌, inl, inr, Result, Ok, Err, Option, Some, None, length-append, eq-eqb, subst}
 use Rattle.std.proofs.Math.Seq.{take-append_seam, drop-append_seam}
 use Rattle.std.proofs.lemmas.Bool.Decides.{nat_tests}
@@ -117,7 +117,7 @@ too_large n m large small e = omega arith
 small_or_large : (bytes : List ℕ) (n : ℕ) → 2 ^ 64 ≤ n → BeginsNumber bytes n → Floats bytes → ⊥
 small_or_large bytes n large number float = let known = float_number bytes float in too_large n known.0 large known.1 (number_value bytes n known.0 number known.2)
 
--- What a code may name where a digit stands.
+-- What a code may name where a digit is.
 abbrev AtDigit : LexError → List ℕ → Type 0
 AtDigit e bytes =
     ((e ≡ errors.BadCharacter (place_of e)) × ((n : ℕ) → ¬ (BeginsNumber bytes n)))
@@ -160,7 +160,7 @@ one_at_digit e f at bytes p q (inr (inr (is, float))) (inl (is', none)) = absurd
 one_at_digit e f at bytes p q (inr (inr (is, float))) (inr (inl (is', (n, large, number)))) = absurd (small_or_large bytes n large number float)
 one_at_digit e f at bytes p q (inr (inr (is, float))) (inr (inr (is', float'))) = is ∙ ap errors.FloatLiteral (p ∙ sym q) ∙ sym is'
 
--- a whole number stands where no fault does
+-- a whole number is where no fault is
 whole_no_fault : (e : LexError) (run rest : List ℕ) (v : ℕ) → IsWhole run v rest → AtDigit e (run ++ rest) → ⊥
 whole_no_fault e run rest v whole (inl (is, none)) = none v (whole_number run rest v whole)
 whole_no_fault e run rest v whole (inr (inl (is, (n, large, number)))) = too_large n v large whole.0 (number_value (run ++ rest) n v number (whole_number run rest v whole))
@@ -357,7 +357,7 @@ scanned-err : (at : ℕ) (bytes : List ℕ) (ts : List Placed) (rest : List ℕ)
 unfolding scanned
 scanned-err at bytes ts rest e before place names = comes (length bytes) at bytes ts rest e (omega arith) before place names
 
--- The scanner's fault is the one that stands in the text.
+-- The scanner's fault is the one that is in the source file.
 text_tokens-err : (text : List ℕ) (e : LexError) → Stands e text → text_tokens text ≡ Err e
 unfolding text_tokens
 text_tokens-err text e (front, rest, tokens, split, place, lexed, inl (none, before), names) = go (has_mark text) refl

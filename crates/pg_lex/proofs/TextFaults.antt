@@ -1,4 +1,4 @@
--- A fault of the scanner stands where the text before it has tokens, and what it names begins there.
+-- Where a fault of the scanner is, the source file up to it has tokens, and what the fault names begins there.
 use Rattle.std.proofs.Common.{◌≡◌, ℕ, zero, suc, ◌+◌, ◌-◌, ◌<◌, ◌≤◌, Bool, true, false, cond, eqb, get_or, List, [], ◌∷◌, ◌++◌, length, take, drop, refl, sym, ◌∙◌, ap, arith, ◌⊎◌, inl, inr, Result, Ok, Err, Option, Some, None, length-append, append_assoc, append-nil, subst}
 use lib.Utf8.{encode}
 use Rattle.std.proofs.Math.Seq.{take-append_seam}
@@ -106,7 +106,7 @@ low_gap s (b ∷ gap) h = go (step s b) refl h (λ t k. low_gap t gap k)
     go (Some t) e k again = last t e k (again t k)
     go None e k again = absurd (stuck gap k)
 
--- ---- where a fault stands
+-- ---- where a fault is
 
 -- a gap in front of what is spelled before a rest
 before-gap : (at : ℕ) (gap bytes rest : List ℕ) (ts : List Placed) → IsGap gap → SpellsBefore (at + length gap) bytes ts rest → SpellsBefore at (gap ++ bytes) ts rest
@@ -124,7 +124,7 @@ before-gap at gap bytes rest (t ∷ ts) h (inner, word, more, split, is_gap, is,
   later,
 )
 
--- Bytes at a place have a front of tokens, behind which stands what the fault names.
+-- Bytes that begin at an offset have a front of tokens, after which is what the fault names.
 abbrev FaultIn : ℕ → List ℕ → LexError → Type 0
 FaultIn at bytes e = (front rest : List ℕ) × (ts : List Placed) × (bytes ≡ front ++ rest) × Spells at front ts × EndsLow front
     × SpellsBefore at bytes ts rest × Reports e (at + length front) rest
@@ -166,7 +166,7 @@ skipped_in at bytes e h =
     let fault = skipped_fault at bytes e h in
     subst (λ x. FaultIn at x e) (sym fault.2) (FaultIn-gap at fault.0 fault.1 e fault.3 (FaultIn-here (at + length fault.0) fault.1 e fault.4))
 
--- what is behind a gap
+-- what follows a gap
 skipped_then : (n at place : ℕ) (bytes left : List ℕ) (e : LexError) → skipped at bytes ≡ Ok (place, left) → lexemes n place left ≡ Err e → FaultIn place left e → FaultIn at bytes e
 unfolding lexemes
 skipped_then n at place bytes left e h read more = go (passes bytes Between bytes left known.0)
@@ -237,9 +237,9 @@ scanned_fault at bytes e h = elim (bind_err {Y = List Placed} (skipped at bytes)
       skipped_then (length bytes) at next.0 bytes next.1 e r u (lexemes_fault (length bytes) next.0 next.1 e (skipped-shorter at next.0 bytes next.1 r) still u)
 ]
 
--- ---- whole texts
+-- ---- whole source files
 
--- A front of a text is one, if its last byte is a character by itself.
+-- A front of a source file is one, if its last byte is a character by itself.
 utf8_front : (text head front rest : List ℕ) → IsUtf8 text → text ≡ (head ++ front) ++ rest → IsUtf8 head → EndsLow front → IsUtf8 (head ++ front)
 utf8_front text head front rest utf8 split h (inl none) = rw none (rw append-nil h)
 utf8_front text head front rest utf8 split h (inr (before, b, e, low)) =
@@ -283,7 +283,7 @@ Refused e text = (length text ≤ max_len) × IsUtf8 text × ((tokens : List Pla
 refused : (text : List ℕ) (e : LexError) → length text ≤ max_len → IsUtf8 text → text_tokens text ≡ Err e → Refused e text
 refused text e fits utf8 h = (fits, utf8, no_tokens text e h, Stands-scan text e utf8 h)
 
--- What the scanner answers in place of tokens is what the refusal says.
+-- Where the scanner refuses, its error is what the refusal says.
 pub Refuses-scan : (text : List ℕ) (e : LexError) → length text ≤ max_len → IsUtf8 text → Fails e (text_tokens text) → Refuses e text
 Refuses-scan text errors.Memory fits utf8 h = tt
 Refuses-scan text (errors.BadCharacter at) fits utf8 h = refused text (errors.BadCharacter at) fits utf8 h

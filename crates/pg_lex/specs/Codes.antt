@@ -1,4 +1,4 @@
--- The number behind the E by which users know the error.
+-- The number after the E in the code that users see.
 use Rattle.std.specs.Prelude.{ℕ}
 use Rattle.pg_lex.specs.declared.error.LexError.{LexError}
 use Rattle.pg_lex.specs.declared.error.LexError.TheVariants as errors

@@ -1,4 +1,4 @@
--- What each code of a refusal names, of the bytes from its place to the text's end.
+-- What each code of a refusal names, of the bytes from its offset to the end of the source file.
 -- Source: this profile's choice, as the specification names no faults.
 use Rattle.std.specs.Prelude.{◌≡◌, ◌⊎◌, ℕ, ◌^◌, ◌<◌, ◌≤◌, true, false, ◌||◌, ◌==◌, List, ◌∷◌, ◌++◌, Some}
 use Rattle.std.specs.Str.{is_utf8}
@@ -8,7 +8,7 @@ use Rattle.pg_lex.specs.Bytes.{is_letter, is_digit, is_word_byte, is_quote, is_m
 use Rattle.pg_lex.specs.Number.{IsPlain, IsHexadecimal, value, after_x}
 use Rattle.pg_lex.specs.Literal.{IsBody, resolved}
 
--- the byte at which the fault stands
+-- the byte at which the fault is
 abbrev pub place_of : LexError → ℕ
 place_of errors.Memory = 0
 place_of (errors.NotUtf8 at) = at
@@ -20,21 +20,21 @@ place_of (errors.NumberTooLarge at) = at
 place_of (errors.FloatLiteral at) = at
 place_of (errors.FileTooLong at) = at
 
--- A byte that begins no lexeme, no blank and no comment.
+-- A byte that begins no lexeme, no white space and no comment.
 abbrev pub BadByte : List ℕ → Type 0
 BadByte bytes = (b : ℕ) × (rest : List ℕ) × (bytes ≡ b ∷ rest)
     × ((is_letter b || (is_digit b || (is_quote b || (is_mark b || is_blank b)))) ≡ false)
     × (b ≡ 47 → begins (λ c. c == 47 || c == 42) rest ≡ false)
 
--- A number of one of the three forms, of any size, right behind which no letter, digit or `_` stands; but
--- behind decimal and octal digits an exponent may begin.
+-- A number of one of the three forms, of any size, right after which there is no letter, digit or `_`; but
+-- after decimal and octal digits an exponent may begin.
 abbrev pub BeginsNumber : List ℕ → ℕ → Type 0
 BeginsNumber bytes n = (digits rest : List ℕ) × (bytes ≡ digits ++ rest) × (
     (IsPlain digits n × ((begins is_word_byte rest ≡ false) ⊎ (begins is_exponent rest ≡ true)))
     ⊎ (IsHexadecimal digits × (n ≡ value 16 (after_x digits)) × (begins is_word_byte rest ≡ false)))
 
--- A digit that begins no number: another letter or `_` follows at once, or no digit follows `0x`, or `8` or
--- `9` stands in an octal number.
+-- A digit that begins no number: another letter or `_` follows at once, or no digit follows `0x`, or an
+-- octal number has an `8` or `9`.
 abbrev pub BadNumber : List ℕ → Type 0
 BadNumber bytes = (begins is_digit bytes ≡ true) × ((n : ℕ) → ¬ (BeginsNumber bytes n))
 
@@ -46,19 +46,21 @@ BeginsFloat bytes =
     ⊎ ((digits rest : List ℕ) × (n : ℕ) × (bytes ≡ digits ++ rest) × IsPlain digits n × (n < 2 ^ 64)
     × (begins (λ b. is_dot b || is_exponent b) rest ≡ true))
 
--- A quote behind which no body comes to its closing quote.
+-- A quote after which no body comes to its closing quote.
 abbrev pub OpensLiteral : List ℕ → Type 0
 OpensLiteral bytes = (quote : ℕ) × (behind : List ℕ) × (bytes ≡ quote ∷ behind) × (is_quote quote ≡ true)
     × ((body rest : List ℕ) → behind ≡ body ++ quote ∷ rest → ¬ (IsBody quote body))
 
--- A literal that ends, and whose body stands for no text of UTF-8.
+-- A literal that ends, and whose body means no string of UTF-8.
 abbrev pub BeginsBadLiteral : List ℕ → Type 0
-BeginsBadLiteral bytes = (quote : ℕ) × (body rest : List ℕ) × (bytes ≡ quote ∷ body ++ quote ∷ rest) × (is_quote quote ≡ true)
+BeginsBadLiteral bytes =
+    (quote : ℕ) × (body rest : List ℕ) × (bytes ≡ quote ∷ body ++ quote ∷ rest) × (is_quote quote ≡ true)
     × IsBody quote body × ((text : List ℕ) → resolved body ≡ Some text → ¬ (is_utf8 text ≡ true))
 
--- A `/*` behind which there is no `*/`.
+-- A `/*` after which there is no `*/`.
 abbrev pub OpensComment : List ℕ → Type 0
-OpensComment bytes = (body : List ℕ) × (bytes ≡ 47 ∷ 42 ∷ body) × ((inner rest : List ℕ) → ¬ (body ≡ inner ++ 42 ∷ 47 ∷ rest))
+OpensComment bytes =
+    (body : List ℕ) × (bytes ≡ 47 ∷ 42 ∷ body) × ((inner rest : List ℕ) → ¬ (body ≡ inner ++ 42 ∷ 47 ∷ rest))
 
 -- What the code names begins the bytes.
 abbrev pub Names : LexError → List ℕ → Type 0

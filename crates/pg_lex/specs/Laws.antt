@@ -1,30 +1,30 @@
 -- Laws about the definition of tokens.
--- Source: they follow from the definitions; the small texts read proto3 language specification, "Lexical Elements".
+-- Source: they follow from the definitions; the small source files show the specification's "Lexical Elements".
 use Rattle.std.specs.Prelude.{◌≡◌, ℕ, ◌+◌, List, [], ◌∷◌, ◌++◌, length, codes}
 use Rattle.pg_lex.specs.declared.error.LexError.{LexError}
 use Rattle.pg_lex.specs.declared.error.LexError.TheVariants.{BadCharacter, OpenString, BadEscape, OpenComment, NumberTooLarge, FloatLiteral}
 use Rattle.pg_lex.specs.Lexes.{lexes, Stands, byte_order_mark}
 use Rattle.pg_lex.specs.Symbol.{Symbol, Word, Whole, Text, Mark, Placed}
 
--- A text has one row of tokens at most.
+-- A source file has one row of tokens at most.
 abbrev pub OneReading : Type 0
 OneReading = (text : List ℕ) (some others : List Placed) → lexes text some → lexes text others → some ≡ others
 
--- A text has one fault at most, whose code and place are one.
+-- A source file has one fault at most: any two have one code and one offset.
 abbrev pub OneFault : Type 0
 OneFault = (text : List ℕ) (e f : LexError) → Stands e text → Stands f text → e ≡ f
 
--- A text that has tokens has no fault.
+-- A source file that has tokens has no fault.
 abbrev pub TokensOrFault : Type 0
 TokensOrFault = (text : List ℕ) (e : LexError) (tokens : List Placed) → Stands e text → ¬ (lexes text tokens)
 
--- ---- small texts
+-- ---- small source files
 
 abbrev pub placed : Symbol → ℕ → ℕ → Placed
 placed symbol from to = record { symbol = symbol; from = from; to = to }
 
--- The tokens of names and comments, and of the three forms of numbers. A comment of one line may stand at the
--- text's end, and a byte order mark at its start.
+-- The tokens of names and comments, and of the three forms of numbers. A comment of one line may end the
+-- source file, and a byte order mark may begin it.
 abbrev pub SmallTexts : Type 0
 SmallTexts =
     lexes [] []
@@ -43,19 +43,22 @@ SmallTexts =
 abbrev pub quoted : List ℕ → List ℕ
 quoted body = 34 ∷ body ++ 34 ∷ []
 
--- A literal of this escape has this text.
+-- A literal of this escape has this string.
 abbrev pub Escapes : List ℕ → List ℕ → Type 0
 Escapes letters text = lexes (quoted (92 ∷ letters)) (placed (Text text) 0 (length letters + 3) ∷ [])
 
 abbrev pub EachEscape : Type 0
 EachEscape =
-    Escapes (codes "a") (7 ∷ []) × Escapes (codes "b") (8 ∷ []) × Escapes (codes "f") (12 ∷ []) × Escapes (codes "n") (10 ∷ [])
+    Escapes (codes "a") (7 ∷ []) × Escapes (codes "b") (8 ∷ [])
+    × Escapes (codes "f") (12 ∷ []) × Escapes (codes "n") (10 ∷ [])
     × Escapes (codes "r") (13 ∷ []) × Escapes (codes "t") (9 ∷ []) × Escapes (codes "v") (11 ∷ [])
-    × Escapes (92 ∷ []) (92 ∷ []) × Escapes (39 ∷ []) (39 ∷ []) × Escapes (34 ∷ []) (34 ∷ []) × Escapes (codes "?") (codes "?")
+    × Escapes (92 ∷ []) (92 ∷ []) × Escapes (39 ∷ []) (39 ∷ [])
+    × Escapes (34 ∷ []) (34 ∷ []) × Escapes (codes "?") (codes "?")
     × Escapes (codes "0") (0 ∷ []) × Escapes (codes "12") (10 ∷ []) × Escapes (codes "1013") (codes "A3")
-    × Escapes (codes "x9") (9 ∷ []) × Escapes (codes "X412") (codes "A2") × Escapes (codes "u00412") (codes "A2") × Escapes (codes "U0010FFFF") (0xF4 ∷ 0x8F ∷ 0xBF ∷ 0xBF ∷ [])
+    × Escapes (codes "x9") (9 ∷ []) × Escapes (codes "X412") (codes "A2") × Escapes (codes "u00412") (codes "A2")
+    × Escapes (codes "U0010FFFF") (0xF4 ∷ 0x8F ∷ 0xBF ∷ 0xBF ∷ [])
 
--- The text has no tokens, and the fault stands in it.
+-- The source file has no tokens, and the fault is in it.
 abbrev pub HasNone : LexError → List ℕ → Type 0
 HasNone e text = ((tokens : List Placed) → ¬ (lexes text tokens)) × Stands e text
 
