@@ -3,6 +3,7 @@ use Rattle.std.specs.Prelude.{ℕ}
 use Rattle.pg_lex.specs.declared.error.LexError.{LexError}
 use Rattle.pg_lex.specs.declared.error.LexError.TheVariants as errors
 
+-- the number of each error
 abbrev pub code_of : LexError → ℕ
 code_of errors.Memory = 1
 code_of (errors.NotUtf8 at) = 101

@@ -20,6 +20,7 @@ TokensOrFault = (text : List ℕ) (e : LexError) (tokens : List Placed) → Stan
 
 -- ---- small source files
 
+-- a symbol from one offset to another
 abbrev pub placed : Symbol → ℕ → ℕ → Placed
 placed symbol from to = record { symbol = symbol; from = from; to = to }
 
@@ -47,6 +48,7 @@ quoted body = 34 ∷ body ++ 34 ∷ []
 abbrev pub Escapes : List ℕ → List ℕ → Type 0
 Escapes letters text = lexes (quoted (92 ∷ letters)) (placed (Text text) 0 (length letters + 3) ∷ [])
 
+-- Each escape of one letter, and escapes by octal and hexadecimal digits.
 abbrev pub EachEscape : Type 0
 EachEscape =
     Escapes (codes "a") (7 ∷ []) × Escapes (codes "b") (8 ∷ [])
@@ -62,6 +64,7 @@ EachEscape =
 abbrev pub HasNone : LexError → List ℕ → Type 0
 HasNone e text = ((tokens : List Placed) → ¬ (lexes text tokens)) × Stands e text
 
+-- Each code of a refusal, by a small source file that has that fault.
 abbrev pub SmallFaults : Type 0
 SmallFaults =
     HasNone (FloatLiteral 0) (codes "1.")
