@@ -3,6 +3,7 @@ use Rattle.std.specs.Prelude.{ℕ}
 use Rattle.pg_syntax.specs.declared.error.SyntaxError.{SyntaxError}
 use Rattle.pg_syntax.specs.declared.error.SyntaxError.TheVariants as errors
 
+-- the number of each error
 abbrev pub code_of : SyntaxError → ℕ
 code_of errors.Memory = 1
 code_of (errors.NotProto3 at) = 201

@@ -35,6 +35,7 @@ abbrev pub place_of : ℕ → List Placed → ℕ
 place_of end [] = end
 place_of end (t ∷ ts) = t.from
 
+-- the error of a reason at an offset
 abbrev pub error_of : Reason → ℕ → SyntaxError
 error_of reasons.NotProto3 at = errors.NotProto3 at
 error_of reasons.Unexpected at = errors.Unexpected at
