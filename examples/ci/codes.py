@@ -235,7 +235,7 @@ ERRORS = {
         'Ask the gate anew: the certificate is forged, or a side was changed since.',
     ),
     'E901': (
-        'The old schema has no such message type.',
+        'The old schema, or that of `show`, has no such message type.',
         'Write its full name, with its package and without a leading dot.',
     ),
     'E902': (

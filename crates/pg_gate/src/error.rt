@@ -39,7 +39,7 @@ pub enum GateError {
     #[error("Out of memory.")]
     Memory,
     /// E901: the old schema has no message type of the root's name.
-    #[error("The old schema has no such message type.")]
+    #[error("The old schema, or that of `show`, has no such message type.")]
     RootMissingOld,
     /// E902: the new schema has no message type of the root's name.
     #[error("The new schema has no such message type.")]
