@@ -1,8 +1,8 @@
 //! The gaps between scalar types.
 use crate::shown::add;
 use pg_pairs::{Gap, gap};
+use pg_schema::Scalar;
 use std::alloc::{AllocError, Global};
-use tiny_schemas::scalar_of;
 
 static SCALARS: &[&str] = &[
     "int32", "int64", "uint32", "uint64", "bool", "sint32", "sint64", "fixed32", "fixed64",
@@ -11,7 +11,7 @@ static SCALARS: &[&str] = &[
 
 /// The gap, or `None` where a name is none of a scalar type.
 fn gap_of(old: &str, new: &str) -> Option<Gap> {
-    Some(gap(scalar_of(old)?, scalar_of(new)?))
+    Some(gap(Scalar::named(old)?, Scalar::named(new)?))
 }
 
 fn shown(alloc: Global, old: &str, new: &str) -> Result<String, AllocError> {

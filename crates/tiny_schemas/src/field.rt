@@ -1,5 +1,4 @@
 //! A field, spelled `LABEL TYPE NAME=NUMBER` or `TYPE NAME=NUMBER`.
-use crate::scalar::scalar_of;
 use pg_schema::{Element, EnumId, Field, FieldOptions, Presence, Scalar, TypeId};
 use std::alloc::{AllocError, Global};
 
@@ -41,7 +40,7 @@ fn place_of(types: &[&str], name: &str) -> u32 {
 }
 
 fn element_of(types: &[&str], name: &str) -> Element {
-    match scalar_of(name) {
+    match Scalar::named(name) {
         Some(scalar) => Element::Scalar(scalar),
         None if name == "E" => Element::Enum(EnumId { index: 0 }),
         None => Element::Message(TypeId {
@@ -65,7 +64,7 @@ fn presence_of(label: &str, element: Element) -> Presence {
 fn held(types: &[&str], words: &Words) -> (Presence, Element) {
     if let Some(entry) = words.kind.strip_prefix("map<") {
         let (key, value) = entry.split_once(',').unwrap_or((entry, ""));
-        let key = scalar_of(key).unwrap_or(Scalar::Bytes);
+        let key = Scalar::named(key).unwrap_or(Scalar::Bytes);
         let value = value.split_once('>').unwrap_or((value, "")).0;
         return (Presence::Map { key }, element_of(types, value));
     }

@@ -12,7 +12,5 @@
 mod field;
 mod message;
 mod parts;
-mod scalar;
 
 pub use parts::{schema, schemas};
-pub use scalar::scalar_of;
