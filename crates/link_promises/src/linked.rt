@@ -1,13 +1,13 @@
 //! What a caller may ask of linked files.
 
 ghost use Rattle.std.specs.Prelude.{◌≡◌, ◌<◌, ◌∷◌, IfErr, IfNone, IfOk, IfSome, Some, length, map, slice_get, ℕ};
-ghost use Rattle.pg_link.specs.Files.{all_names, visible_names};
-ghost use Rattle.pg_link.specs.Index.{texts};
+ghost use Rattle.pg_link.specs.names.Files.{all_names, visible_names};
+ghost use Rattle.pg_link.specs.names.Names.{texts};
 ghost use Rattle.pg_link.specs.Linked.{IsDeclaredAt, IsDeclaredNowhere, IsLinkedUp};
-ghost use Rattle.pg_link.specs.Resolves.{Resolves, reference};
-ghost use Rattle.pg_link.specs.Targets.{file_places, file_targets};
-ghost use Rattle.pg_link.specs.UseFaults.{IsNoName};
-ghost use Rattle.pg_link.specs.Walk.{Entry, outlines, path_of};
+ghost use Rattle.pg_link.specs.names.Resolves.{Resolves, reference};
+ghost use Rattle.pg_link.specs.uses.Targets.{file_places, file_targets};
+ghost use Rattle.pg_link.specs.uses.UseFaults.{IsNoName};
+ghost use Rattle.pg_link.specs.walk.Walk.{Entry, outlines, path_of};
 
 use indexmap::IndexMap;
 use pg_link::{LinkError, Linked, SourceFile, Target};

@@ -1,14 +1,14 @@
 //! Sources, and what is read from them.
 
 ghost use Rattle.std.specs.Prelude.{◌≡◌, ◌+◌, [], ◌∷◌, IfErr, IfOk, IsErrOf, IsTrue, None, OnOk, Some, codes};
-ghost use Rattle.pg_link.specs.Below.{path_below};
-ghost use Rattle.pg_link.specs.Index.{texts};
+ghost use Rattle.pg_link.specs.walk.FolderPath.{path_below};
+ghost use Rattle.pg_link.specs.names.Names.{texts};
 ghost use Rattle.pg_link.specs.Linked.{IsLinkedUp};
 ghost use Rattle.pg_link.specs.Listed.{gives, lacks};
-ghost use Rattle.pg_link.specs.Reads.{ReadsApart, ReadsEach};
+ghost use Rattle.pg_link.specs.walk.Reads.{ReadsApart, ReadsEach};
 ghost use Rattle.pg_link.specs.Sources.{also, AtMostOne, failures_in};
-ghost use Rattle.pg_link.specs.UseFaults.{LinkRefuses};
-ghost use Rattle.pg_link.specs.Walk as spec;
+ghost use Rattle.pg_link.specs.uses.UseFaults.{LinkRefuses};
+ghost use Rattle.pg_link.specs.walk.Walk as spec;
 ghost use Rattle.pg_link.specs.declared.error.LinkError.TheVariants as link_errors;
 ghost use Rattle.pg_link.specs.declared.sources.SourceError.TheVariants as source_errors;
 

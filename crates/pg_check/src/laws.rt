@@ -6,7 +6,7 @@ ghost use Rattle.pg_schema.specs.declared.parts.field.Element.{Element};
 ghost use Rattle.pg_schema.specs.declared.parts.Parts.{Parts};
 ghost use Rattle.pg_syntax.specs.declared.tree.TypeName.{TypeName};
 ghost use Rattle.pg_link.specs.Linked.{IsLinkedUp, LinkedFiles};
-ghost use Rattle.pg_link.specs.Walk.{Entry};
+ghost use Rattle.pg_link.specs.walk.Walk.{Entry};
 ghost use Rattle.pg_check.specs.admitting.BrokenParts.{IsFirstBrokenPart, KeepsAll};
 ghost use Rattle.pg_check.specs.rules.BrokenRules.{IsFirstBroken};
 ghost use Rattle.pg_check.specs.Declares.{Declares};

@@ -1,6 +1,6 @@
 -- The failures of their sources that errors report.
 use Rattle.std.specs.Prelude.{ℕ, Result, Ok, Err}
-use Rattle.pg_link.specs.Walk.{failures_of}
+use Rattle.pg_link.specs.walk.Walk.{failures_of}
 use Rattle.pg_gate.specs.declared.call.error.CallError.{CallError}
 use Rattle.pg_gate.specs.declared.call.error.CallError.TheVariants as calls
 use Rattle.pg_gate.specs.declared.call.error.CertificateFault.{CertificateFault}

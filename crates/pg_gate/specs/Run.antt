@@ -1,6 +1,6 @@
 -- What a run does to its sink.
 use Rattle.std.specs.Prelude.{◌≡◌, ◌⊎◌, ℕ, List, ◌++◌, take, Result, Err}
-use Rattle.pg_link.specs.Names.{Text}
+use Rattle.pg_link.specs.names.Names.{Text}
 use Rattle.pg_gate.specs.call.Call.{CallsFor, Request}
 use Rattle.pg_gate.specs.print.Printed.{printed}
 use Rattle.pg_gate.specs.declared.error.GateError.{GateError}

@@ -2,9 +2,9 @@
 use Rattle.std.specs.Prelude.{ℕ, Option, Some, None}
 use Rattle.pg_lex.specs.Codes.{code_of as lex_code}
 use Rattle.pg_syntax.specs.Codes.{code_of as syntax_code}
-use Rattle.pg_link.specs.declared.error.Place.{Place}
 use Rattle.pg_link.specs.declared.error.LinkError.{LinkError}
 use Rattle.pg_link.specs.declared.error.LinkError.TheVariants as errors
+use Rattle.pg_link.specs.declared.error.Place.{Place}
 
 abbrev pub code_of : LinkError → ℕ
 code_of (errors.MissingFile place) = 301

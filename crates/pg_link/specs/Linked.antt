@@ -1,16 +1,14 @@
 -- Files that are linked: their names, and what their uses resolve to.
-use Rattle.std.specs.Prelude.{◌≡◌, ◌≤◌, ℕ, Bool, List, ◌∷◌, map, length, slice_get, take, Some}
 use Rattle.std.specs.List.{All, IsAmong}
+use Rattle.std.specs.Prelude.{◌≡◌, ◌≤◌, ℕ, List, ◌∷◌, map, length, take, Some}
 use Rattle.pg_lex.specs.Place.{line, column}
-use Rattle.pg_link.specs.declared.index.Index as indexes
-use Rattle.pg_link.specs.declared.target.Target.{Target}
-use Rattle.pg_link.specs.Files.{Declared, Differ, InOrder, paths_of}
-use Rattle.pg_link.specs.Names.{Text}
-use Rattle.pg_link.specs.Outline.{file_names}
-use Rattle.pg_link.specs.VisibleFiles.{AreVisibleFiles}
-use Rattle.pg_link.specs.Standing.{Lists, NoneTwice, all_standings}
-use Rattle.pg_link.specs.Targets.{file_places, file_targets}
-use Rattle.pg_link.specs.Walk.{Entry, IsParsed, outlines, path_of}
+use Rattle.pg_link.specs.declared.uses.target.Target.{Target}
+use Rattle.pg_link.specs.names.Files.{Declared, Differ, InOrder, paths_of}
+use Rattle.pg_link.specs.names.Names.{Text}
+use Rattle.pg_link.specs.names.Outline.{file_names}
+use Rattle.pg_link.specs.names.Standing.{NoneTwice, all_standings}
+use Rattle.pg_link.specs.uses.Targets.{file_targets}
+use Rattle.pg_link.specs.walk.Walk.{Entry, IsParsed, outlines, path_of}
 
 -- files, each behind those that it imports, and for each what its uses resolve to, in the order of its text
 pub record LinkedFiles : Type 0 where
@@ -27,21 +25,6 @@ pub record IsLinkedUp (l : LinkedFiles) : Type 0 where
   pub once : NoneTwice (all_standings l.files)
   pub resolved : map (map Some) l.targets ≡ map (file_targets l.files) l.files
 
--- files as they were read
-pub record IsRead (files : List Entry) : Type 0 where
-  pub parsed : All (λ e. IsParsed e.1.bytes.items e.1.tree) files
-  pub in_order : InOrder (outlines files)
-  pub apart : Differ (paths_of (outlines files))
-  pub few : length files ≤ 1024
-
--- linked files, beside their index, what each of them sees, and where its uses begin
-pub record IsSettled (files : List Entry) (index : indexes.Index) (visible_files : List (List Bool)) (targets : List (List Target)) (places : List (List ℕ)) : Type 0 where
-  pub linked : IsLinkedUp (record { files = files; targets = targets })
-  pub lists : Lists index (all_standings files)
-  pub visible_length : length visible_files ≡ length files
-  pub are_visible : AreVisibleFiles files visible_files
-  pub placed : places ≡ map file_places files
-
 -- the full name, here without its dot, is declared in one of the files, at this line and column
 pub record IsDeclaredAt (files : List Entry) (full path : Text) (at_line at_column : ℕ) : Type 0 where
   pub file : Entry
@@ -56,22 +39,3 @@ pub record IsDeclaredAt (files : List Entry) (full path : Text) (at_line at_colu
 -- no file declares the full name, here without its dot
 abbrev pub IsDeclaredNowhere : List Entry → Text → Type 0
 IsDeclaredNowhere files full = (file : Entry) (d : Declared) → IsAmong files file → IsAmong (file_names file.1.tree) d → d.name ≡ 46 ∷ full → ⊥
-
--- the first of these files is there
-pub record HasFirst (files : List Entry) (numbers : List ℕ) : Type 0 where
-  pub number : ℕ
-  pub others : List ℕ
-  pub file : Entry
-  pub is_first : numbers ≡ number ∷ others
-  pub is_there : slice_get files number ≡ Some file
-
--- the first of these files, and the place of a byte of it
-pub record IsFirstPlace (files : List Entry) (numbers : List ℕ) (at : ℕ) (path : Text) (at_line at_column : ℕ) : Type 0 where
-  pub number : ℕ
-  pub others : List ℕ
-  pub file : Entry
-  pub is_first : numbers ≡ number ∷ others
-  pub is_there : slice_get files number ≡ Some file
-  pub is_path : path ≡ path_of file
-  pub is_line : at_line ≡ line (take at file.1.bytes.items)
-  pub is_column : at_column ≡ column (take at file.1.bytes.items)

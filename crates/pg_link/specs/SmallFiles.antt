@@ -1,15 +1,15 @@
 -- What names name on small files, what small files declare, and which imports are never linked.
-use Rattle.std.specs.Prelude.{◌≡◌, ℕ, true, false, List, [], ◌∷◌, ◌++◌, Some, None, codes, map}
 use Rattle.std.specs.List.{IsAmong}
+use Rattle.std.specs.Prelude.{◌≡◌, ℕ, true, false, List, [], ◌∷◌, ◌++◌, Some, None, codes, map}
 use Rattle.pg_link.specs.declared.names.Kind.{Kind}
 use Rattle.pg_link.specs.declared.names.Kind.TheVariants.{Message, Enum, Entry, Value, Field, Oneof, Service, Method}
-use Rattle.pg_link.specs.Names.{Text, Names}
-use Rattle.pg_link.specs.Resolves.{Reference, found}
-use Rattle.pg_link.specs.Files.{File, Import, Declared, InOrder, Differ, visible_names, all_names, seen_paths, import_paths, paths_of}
-use Rattle.pg_link.specs.Declares.{Word, Declarations, Done, Alone, MapField, Within, Beside, names_of_file}
-use Rattle.pg_link.specs.PostOrder.{IsPostOrder}
-use Rattle.pg_link.specs.Standing.{Standing, NoneTwice, standing}
-use Rattle.pg_link.specs.Walk.{World, Entry as Read, IsLinked, outlines}
+use Rattle.pg_link.specs.names.Declares.{Word, Declarations, Done, Alone, MapField, Within, Beside, names_of_file}
+use Rattle.pg_link.specs.names.Files.{File, Import, Declared, InOrder, Differ, visible_names, all_names, seen_paths, import_paths, paths_of}
+use Rattle.pg_link.specs.names.Names.{Text, Names}
+use Rattle.pg_link.specs.walk.PostOrder.{IsPostOrder}
+use Rattle.pg_link.specs.names.Resolves.{Reference, found}
+use Rattle.pg_link.specs.names.Standing.{Standing, NoneTwice, standing}
+use Rattle.pg_link.specs.walk.Walk.{World, Entry as Read, IsLinked, outlines}
 
 -- a name without a dot in front, and one with it
 abbrev pub part : Text → List Text → Reference

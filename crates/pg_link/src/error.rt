@@ -1,6 +1,6 @@
 //! Why files can't be linked.
 ghost use Rattle.std.specs.Prelude.{◌≡◌, IfOk};
-ghost use Rattle.pg_link.specs.Walk as spec;
+ghost use Rattle.pg_link.specs.walk.Walk as spec;
 
 use pg_lex::{LexError, place};
 use pg_syntax::SyntaxError;
@@ -125,7 +125,6 @@ impl From<AllocError> for LinkError {
 }
 
 impl<T: Drop> From<AllocFailed<T>> for LinkError {
-    ghost use Rattle.pg_link.specs.declared.error.LinkError.TheVariants.{Memory};
 
     ghost from_gives = { λ _ error. error ≡ Memory };
 

@@ -1,8 +1,8 @@
 //! Laws about the definitions. Each is the contract of a function that does nothing.
 
-ghost use Rattle.pg_link.specs.Files.{SeenPathsAreSeen};
+ghost use Rattle.pg_link.specs.names.Files.{SeenPathsAreSeen};
 ghost use Rattle.pg_link.specs.SmallFiles.{SmallFiles};
-ghost use Rattle.pg_link.specs.Standing.{NoneTwiceIsOnce};
+ghost use Rattle.pg_link.specs.names.Standing.{NoneTwiceIsOnce};
 
 /// No name stands twice, as the names are looked at one by one, exactly where of any two that are
 /// one both are parts of packages.

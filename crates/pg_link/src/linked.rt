@@ -1,19 +1,82 @@
 //! Linked files.
-ghost use Rattle.std.specs.Prelude.{◌≡◌, ◌<◌, IfErr, IfNone, IfOk, IfSome, List, Some, length, map, slice_get};
+ghost use Rattle.std.specs.Prelude.{◌≡◌, ◌<◌, ◌∷◌, IfErr, IfNone, IfOk, IfSome, List, Some, length, map, slice_get, true, ℕ};
+ghost use Rattle.pg_link.specs.Linked.{IsDeclaredAt, IsDeclaredNowhere, IsLinkedUp};
+ghost use Rattle.pg_link.specs.inner.Index.{files_of};
+ghost use Rattle.pg_link.specs.inner.Refusals.{Refuses, SaysOf};
+ghost use Rattle.pg_link.specs.inner.Settled.{HasFirst, IsFirstPlace, IsRead};
+ghost use Rattle.pg_link.specs.names.Files.{all_names, visible_names};
+ghost use Rattle.pg_link.specs.names.Names.{texts};
+ghost use Rattle.pg_link.specs.names.Resolves.{Resolves, reference};
+ghost use Rattle.pg_link.specs.uses.Targets.{file_places, file_targets};
+ghost use Rattle.pg_link.specs.uses.UseFaults.{IsNameFault, IsNoName};
+ghost use Rattle.pg_link.specs.walk.Walk.{Entry, outlines, path_of};
 
-use crate::declaring::index_names;
-use crate::error::LinkError;
-use crate::index::{Index, Visible};
-use crate::looking::{first_place, is_behind_dot};
-use crate::resolve::Unresolved;
-use crate::target::Target;
-use crate::targets::{FileTargets, all_targets};
-use crate::visible_files::visible_files_of;
+use crate::names::declaring::index_names;
+use crate::error::{LinkError, Place};
+use crate::names::Named;
+use crate::names::index::{Index, Visible};
+use crate::names::resolve::Unresolved;
+use crate::uses::target::Target;
+use crate::uses::targets::{FileTargets, all_targets};
+use crate::names::visible_files::visible_files_of;
 use crate::walk::SourceFile;
 use indexmap::IndexMap;
+use pg_lex::place;
 use pg_syntax::tree::TypeName;
 use std::alloc::Global;
 use std::marker::Model;
+
+/// A full name without the dot in front.
+fn behind_dot(full: &str) -> &str
+    ensures { (rest : List ℕ) → full.now ≡ 46 ∷ rest → result.now ≡ rest }
+{
+    full.strip_prefix(".").unwrap_or(full)
+}
+
+/// Whether a full name is this one with a dot in front.
+fn is_behind_dot(full: &str, name: &str) -> bool
+    ensures only { result ≡ true → full.now ≡ 46 ∷ name.now }
+    ensures each { full.now ≡ 46 ∷ name.now → result ≡ true }
+{
+    match full.strip_prefix(".") {
+        Some(rest) => rest == name,
+        None => false,
+    }
+}
+
+/// Where what bears a name is first declared.
+fn first_place<'a>(
+    files: &'a IndexMap<String, SourceFile>,
+    named: &Named,
+) -> Option<(&'a str, usize, usize)>
+    ensures place { IfSome result (λ p. IsFirstPlace files.now.entries
+        (files_of named.now) named.now.at p.0.now p.1 p.2) }
+    ensures absent { IfNone result (HasFirst files.now.entries (files_of named.now) → ⊥) }
+{
+    let (path, file) = files.get_index(named.file)?;
+    let (line, column) = place(&file.bytes, named.at);
+    Some((path.as_str(), line, column))
+}
+
+/// The fault of a name that doesn't resolve in a file.
+fn name_fault(alloc: Global, path: &str, why: Unresolved) -> LinkError
+    ensures { SaysOf why path.now result }
+{
+    let Ok(file) = String::from_str(alloc, path) else {
+        return LinkError::Memory;
+    };
+    let place = Place {
+        file,
+        line: 0,
+        column: 0,
+    };
+    match why {
+        Unresolved::UnknownName => LinkError::UnknownName(place),
+        Unresolved::NotAType => LinkError::NotAType(place),
+        Unresolved::NotImported => LinkError::NotImported(place),
+        Unresolved::Memory => LinkError::Memory,
+    }
+}
 
 /// Files whose imports, names and uses are settled. Contracts see the files, each behind those that
 /// it imports, and for each what its uses of type names resolve to.
@@ -29,7 +92,8 @@ impl Model for Linked {
     ghost use Rattle.std.specs.Prelude.{map};
     ghost use Rattle.std.specs.Coded.{codes};
     ghost use Rattle.pg_syntax.specs.contracts.tree.Part as part;
-    ghost use Rattle.pg_link.specs.Linked.{LinkedFiles, IsSettled};
+    ghost use Rattle.pg_link.specs.Linked.{LinkedFiles};
+    ghost use Rattle.pg_link.specs.inner.Settled.{IsSettled};
 
     ghost Value = { LinkedFiles };
 
@@ -46,15 +110,6 @@ impl Model for Linked {
 }
 
 impl Linked {
-    ghost use Rattle.pg_link.specs.Files.{all_names, visible_names};
-    ghost use Rattle.pg_link.specs.Index.{texts};
-    ghost use Rattle.pg_link.specs.Linked.{IsDeclaredAt, IsDeclaredNowhere, IsLinkedUp, IsRead};
-    ghost use Rattle.pg_link.specs.Resolves.{Resolves, reference};
-    ghost use Rattle.pg_link.specs.Targets.{file_places, file_targets};
-    ghost use Rattle.pg_link.specs.Unresolved.{Refuses};
-    ghost use Rattle.pg_link.specs.UseFaults.{IsNameFault};
-    ghost use Rattle.pg_link.specs.Walk.{Entry, outlines, path_of};
-
     /// Settles the names and the uses of files that were read.
     pub(crate) fn of(
         alloc: Global,
@@ -106,7 +161,7 @@ impl Linked {
     }
 
     /// The path of a file.
-    pub(crate) fn path_of(&self, file: usize) -> &str
+    fn path_of(&self, file: usize) -> &str
         ensures { (e : Entry) → slice_get self.now.files file ≡ Some e → result.now ≡ path_of e }
     {
         match self.files.get_index(file) {
@@ -117,7 +172,7 @@ impl Linked {
 
     /// The full name that a name means in a scope of a file, with a dot in front, or why there is
     /// none.
-    pub(crate) fn look_up(
+    fn look_up(
         &self,
         alloc: Global,
         file: usize,
@@ -139,8 +194,39 @@ impl Linked {
         self.index.resolve(alloc, visible, scope, name)
     }
 
-    /// Where a full name, given without its dot, is first declared.
-    pub(crate) fn declared_at(&self, full_name: &str) -> Option<(&str, usize, usize)>
+    /// The full name, without a dot in front, of the message type or enum that a name names in a
+    /// scope of a file. The file is given by its number, the scope by its words.
+    ///
+    /// E305 where nothing that is seen has what it names and no file has a type of that name, E306
+    /// where it names what is neither, E307 where a file has such a type that this one doesn't see;
+    /// line and column are 0.
+    pub fn resolve(
+        &self,
+        alloc: Global,
+        file: usize,
+        scope: &[&str],
+        name: &TypeName,
+    ) -> Result<&str, LinkError>
+        requires { file < length self.now.files }
+        ensures resolves { IfOk result (λ full. (e : Entry) → slice_get self.now.files file ≡ Some e
+            → Resolves (visible_names (outlines self.now.files) (path_of e)) (texts scope.now)
+            (reference name.now) (46 ∷ full.now)) }
+        ensures refused { IfErr result
+            (λ error. (e : Entry) → slice_get self.now.files file ≡ Some e
+            → IsNoName (visible_names (outlines self.now.files) (path_of e))
+            (all_names (outlines self.now.files)) (texts scope.now) (reference name.now)
+            (path_of e) error) }
+    {
+        match self.look_up(alloc, file, scope, name) {
+            Ok(full) => Ok(behind_dot(full)),
+            Err(why) => Err(name_fault(alloc, self.path_of(file), why)),
+        }
+    }
+
+    /// The file, line and column of a word that declares a full name, which is given without a dot
+    /// in front: a part of packages may have several. `None` where no file declares it. It takes no
+    /// memory, and goes by the names one by one.
+    pub fn place(&self, full_name: &str) -> Option<(&str, usize, usize)>
         ensures place { IfSome result
             (λ p. IsDeclaredAt self.now.files full_name.now p.0.now p.1 p.2) }
         ensures absent { IfNone result (IsDeclaredNowhere self.now.files full_name.now) }

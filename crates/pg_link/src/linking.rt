@@ -1,10 +1,10 @@
 //! Files, linked.
 ghost use Rattle.std.specs.Prelude.{◌≡◌, ◌+◌, IfErr, IfOk, codes};
-ghost use Rattle.pg_link.specs.Index.{texts};
+ghost use Rattle.pg_link.specs.names.Names.{texts};
 ghost use Rattle.pg_link.specs.Linked.{IsLinkedUp};
-ghost use Rattle.pg_link.specs.Reads.{ReadsApart, ReadsEach, world_of};
-ghost use Rattle.pg_link.specs.UseFaults.{LinkRefuses};
-ghost use Rattle.pg_link.specs.Walk as spec;
+ghost use Rattle.pg_link.specs.walk.Reads.{ReadsApart, ReadsEach, world_of};
+ghost use Rattle.pg_link.specs.uses.UseFaults.{LinkRefuses};
+ghost use Rattle.pg_link.specs.walk.Walk as spec;
 
 use crate::Sources;
 use crate::error::LinkError;

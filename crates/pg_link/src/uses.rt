@@ -1,10 +1,14 @@
 //! The type names that a file uses.
 ghost use Rattle.std.specs.Prelude.{◌≡◌, ◌++◌, ◌∷◌, [], IfOk, OnOk, map, flat_map, false, true};
-ghost use Rattle.pg_link.specs.Index.{texts};
-ghost use Rattle.pg_link.specs.Outline as outline;
-ghost use Rattle.pg_link.specs.Resolves.{reference};
-ghost use Rattle.pg_link.specs.Sites.{AddsUses, use_of};
-ghost use Rattle.pg_link.specs.Uses as spec;
+ghost use Rattle.pg_link.specs.names.Names.{texts};
+ghost use Rattle.pg_link.specs.names.Outline as outline;
+ghost use Rattle.pg_link.specs.names.Resolves.{reference};
+ghost use Rattle.pg_link.specs.inner.Made.{AddsUses, use_of};
+ghost use Rattle.pg_link.specs.uses.Uses as spec;
+
+pub(crate) mod found_scope;
+pub(crate) mod target;
+pub(crate) mod targets;
 
 use pg_schema::Scalar;
 use pg_syntax::tree::{

@@ -1,15 +1,21 @@
 //! The imports, followed depth first, each path read once.
 ghost use Rattle.std.specs.Prelude.{◌≡◌, ◌≤◌, IfErr, IfOk, OnOk, ◌++◌, ◌∷◌, [], List, ℕ, false, true, length, map, string_bytes};
-ghost use Rattle.pg_link.specs.Files.{is_path_of};
-ghost use Rattle.pg_link.specs.Index.{texts};
-ghost use Rattle.pg_link.specs.Reads.{Reads, ReadsAll, ReadsApart, ReadsEach, ReadsNew, world_of};
-ghost use Rattle.pg_link.specs.Walk as spec;
+ghost use Rattle.pg_link.specs.names.Files.{is_path_of};
+ghost use Rattle.pg_link.specs.names.Names.{texts};
+ghost use Rattle.pg_link.specs.walk.Reads.{Reads, ReadsApart, ReadsEach, world_of};
+ghost use Rattle.pg_link.specs.inner.Walking.{ReadsAll, ReadsNew};
+ghost use Rattle.pg_link.specs.walk.Walk as spec;
+ghost use Rattle.pg_link.specs.inner.Walking as walking;
 ghost use Rattle.pg_link.specs.declared.error.LinkError.TheVariants as error;
+
+pub(crate) mod folder_path;
+pub(crate) mod imports;
+pub(crate) mod reading;
 
 use crate::Sources;
 use crate::error::{LinkError, place_in};
-use crate::imports::imports_of;
-use crate::reading::{asked_at, text_of, tree_of};
+use crate::walk::imports::imports_of;
+use crate::walk::reading::{asked_at, text_of, tree_of};
 use indexmap::{IndexMap, IndexSet};
 use pg_syntax::tree::FileTree;
 use std::alloc::Global;
@@ -44,10 +50,10 @@ pub(crate) struct Walk {
 impl Walk {
     /// Notes that the imports of a file are followed from here on.
     fn begin(&mut self, alloc: Global, path: &str) -> Result<(), LinkError>
-        requires { is_path_of (spec.open_paths self.old) path.now ≡ false }
+        requires { is_path_of (walking.open_paths self.old) path.now ≡ false }
         ensures opened { OnOk result
-            (spec.open_paths self.new ≡ path.now ∷ spec.open_paths self.old) }
-        ensures same { OnOk result (spec.entries self.new ≡ spec.entries self.old) }
+            (walking.open_paths self.new ≡ path.now ∷ walking.open_paths self.old) }
+        ensures same { OnOk result (walking.entries self.new ≡ walking.entries self.old) }
         ensures failure { IfErr result (λ e. e ≡ error.Memory) }
     {
         let path = String::from_str(alloc, path)?;
@@ -58,10 +64,10 @@ impl Walk {
     /// Keeps a file whose imports were followed.
     fn end(&mut self, alloc: Global, path: &str, file: SourceFile) -> Result<(), LinkError>
         ensures opened { OnOk result ((p : List ℕ) (ps : List (List ℕ))
-            → spec.open_paths self.old ≡ p ∷ ps → spec.open_paths self.new ≡ ps) }
-        ensures comes { OnOk result (spec.ComesLast self.old self.new path.now file) }
-        ensures grows { OnOk result (length (spec.entries self.old)
-            ≤ length (spec.entries self.new)) }
+            → walking.open_paths self.old ≡ p ∷ ps → walking.open_paths self.new ≡ ps) }
+        ensures comes { OnOk result (walking.ComesLast self.old self.new path.now file) }
+        ensures grows { OnOk result (length (walking.entries self.old)
+            ≤ length (walking.entries self.new)) }
         ensures failure { IfErr result (λ e. e ≡ error.Memory) }
     {
         let path = String::from_str(alloc, path)?;
@@ -79,13 +85,13 @@ impl Walk {
         asking: Asking<'_>,
         path: &str,
     ) -> Result<(), LinkError>
-        ensures closed { OnOk result (is_path_of (spec.open_paths self.now) path.now ≡ false) }
+        ensures closed { OnOk result (is_path_of (walking.open_paths self.now) path.now ≡ false) }
         ensures first { OnOk result (is_path_of (map string_bytes before.old.keys) path.now
             ≡ false) }
         ensures noted { OnOk result (map string_bytes before.new.keys
             ≡ map string_bytes before.old.keys ++ path.now ∷ []) }
         ensures fault { IfErr result
-            (spec.IsImportFault (spec.open_paths self.now)
+            (walking.IsImportFault (walking.open_paths self.now)
             (map string_bytes before.old.keys) asking.entry path.now) }
     {
         let seen = String::from_str(alloc, path)?;
@@ -110,27 +116,27 @@ fn visit<S: Sources>(
     asking: Option<Asking<'_>>,
     walk: &mut Walk,
 ) -> Result<(), LinkError>
-    requires { is_path_of (spec.open_paths walk.old) path.now ≡ false }
+    requires { is_path_of (walking.open_paths walk.old) path.now ≡ false }
     ensures sound { OnOk result ((roots : List (List ℕ))
-        → spec.Follows (world_of S.Sources source.old folder.now roots) walk.old asking.entry
+        → walking.Follows (world_of S.Sources source.old folder.now roots) walk.old asking.entry
         path.now
-        → spec.IsSound (world_of S.Sources source.old folder.now roots) (spec.open_paths walk.old)
-        (spec.entries walk.new)) }
+        → walking.IsSound (world_of S.Sources source.old folder.now roots) (walking.open_paths walk.old)
+        (walking.entries walk.new)) }
     // Each refusal comes only where what it names is there, at its place.
     ensures refused { IfErr result (λ e. (roots : List (List ℕ))
-        → spec.Follows (world_of S.Sources source.old folder.now roots) walk.old asking.entry
+        → walking.Follows (world_of S.Sources source.old folder.now roots) walk.old asking.entry
         path.now
         → spec.Refuses (world_of S.Sources source.old folder.now roots) e) }
-    ensures opened { OnOk result (spec.open_paths walk.new ≡ spec.open_paths walk.old) }
-    ensures has { OnOk result (spec.has_path walk.new path.now ≡ true) }
-    ensures kept { OnOk result (spec.Keeps walk.old walk.new) }
+    ensures opened { OnOk result (walking.open_paths walk.new ≡ walking.open_paths walk.old) }
+    ensures has { OnOk result (walking.has_path walk.new path.now ≡ true) }
+    ensures kept { OnOk result (walking.Keeps walk.old walk.new) }
     // What has come is the path, or what it leads to by the files that are kept.
-    ensures extends { OnOk result (spec.Extends walk.old walk.new) }
-    ensures come { OnOk result (spec.ComeBy walk.old walk.new path.now) }
+    ensures extends { OnOk result (walking.Extends walk.old walk.new) }
+    ensures come { OnOk result (walking.ComeBy walk.old walk.new path.now) }
     // They come in post-order of imports.
     ensures lists { OnOk result
-        (spec.VisitLists (spec.listed_paths walk.old) (path.now ∷ []) walk.new) }
-    ensures grows { OnOk result (length (spec.entries walk.old) ≤ length (spec.entries walk.new)) }
+        (walking.VisitLists (walking.listed_paths walk.old) (path.now ∷ []) walk.new) }
+    ensures grows { OnOk result (length (walking.entries walk.old) ≤ length (walking.entries walk.new)) }
     // Whatever is answered, the source was asked for no path twice, and for none that was begun.
     ensures reads_new { ReadsNew folder.now (S.reads source.old) (S.reads source.new) walk.old }
     ensures reads_all { OnOk result (ReadsAll folder.now (S.reads source.old)
@@ -182,7 +188,7 @@ pub(crate) fn follow_imports<S: Sources>(
     // post-order of imports, no file imports one twice, none is on a circle, and 1,024 is the most.
     ensures linked { IfOk result (λ walk.
         spec.IsLinked (world_of S.Sources source.old folder.now (texts roots.now))
-        (spec.entries walk)) }
+        (walking.entries walk)) }
     // Each refusal comes only where what it names is there, at its place.
     ensures refused { IfErr result (spec.Refuses
         (world_of S.Sources source.old folder.now (texts roots.now))) }
@@ -191,7 +197,7 @@ pub(crate) fn follow_imports<S: Sources>(
     ensures reads_apart { ReadsApart (S.reads source.old) (S.reads source.new) }
     ensures reads_each { IfOk result
         (λ walk. ReadsEach folder.now (S.reads source.old) (S.reads source.new)
-        (spec.entries walk)) }
+        (walking.entries walk)) }
     // A failure of the source is reported as one, and nothing else is.
     ensures reads { Reads S.Sources source.old source.new (spec.failures_of result) }
 {

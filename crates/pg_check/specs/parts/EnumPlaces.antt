@@ -3,10 +3,10 @@ use Rattle.std.specs.Prelude.{◌≡◌, ◌<◌, ℕ, List, ◌∷◌, map, fla
 use Rattle.std.specs.List.{position_from}
 use Rattle.std.specs.Option.{unwrap_or}
 use Rattle.std.specs.Str.{bytes_eq}
-use Rattle.pg_link.specs.declared.target.Target.{Target}
-use Rattle.pg_link.specs.declared.target.Target.TheVariants as targets
-use Rattle.pg_link.specs.Targets.{all_declared, enum_names, message_names}
-use Rattle.pg_link.specs.Walk.{Entry}
+use Rattle.pg_link.specs.declared.uses.target.Target.{Target}
+use Rattle.pg_link.specs.declared.uses.target.Target.TheVariants as targets
+use Rattle.pg_link.specs.uses.Targets.{all_declared, enum_names, message_names}
+use Rattle.pg_link.specs.walk.Walk.{Entry}
 use Rattle.pg_check.specs.declared.rules.types.Targets.{Targets}
 use Rattle.pg_check.specs.rules.ByPlace.{named_at}
 use Rattle.pg_check.specs.rules.Outline.{Enum, Message, file_enums, file_messages, scoped_enums}

@@ -12,8 +12,8 @@ use Rattle.pg_schema.specs.declared.parts.field.Scalar.TheVariants as scalars
 use Rattle.pg_schema.specs.declared.parts.options.FieldOptions.{FieldOptions}
 use Rattle.pg_schema.specs.rules.Fields.{is_message, stated_or}
 use Rattle.pg_schema.specs.Shape.{is_packable}
-use Rattle.pg_link.specs.declared.target.Target.{Target}
-use Rattle.pg_link.specs.declared.target.Target.TheVariants as targets
+use Rattle.pg_link.specs.declared.uses.target.Target.{Target}
+use Rattle.pg_link.specs.declared.uses.target.Target.TheVariants as targets
 use Rattle.pg_check.specs.parts.MadeNumbers.{field_number, index_of}
 use Rattle.pg_check.specs.parts.MadeOptions.{flag_of}
 use Rattle.pg_check.specs.rules.Members.{DeclaredField, Plain, Mapped, json_name, name_of, number_of, settings, settings_of}

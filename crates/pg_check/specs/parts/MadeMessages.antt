@@ -7,7 +7,7 @@ use Rattle.pg_schema.specs.declared.parts.field.TypeId.{TypeId}
 use Rattle.pg_schema.specs.declared.parts.message_type.MessageType as types
 use Rattle.pg_schema.specs.declared.parts.message_type.ReservedFields.{ReservedFields}
 use Rattle.pg_schema.specs.declared.parts.options.MessageOptions.{MessageOptions}
-use Rattle.pg_link.specs.declared.target.Target.{Target}
+use Rattle.pg_link.specs.declared.uses.target.Target.{Target}
 use Rattle.pg_check.specs.parts.MadeFields.{MadeField, field, made_field, made_number}
 use Rattle.pg_check.specs.parts.MadeNumbers.{field_range}
 use Rattle.pg_check.specs.parts.MadeOptions.{flag_of}

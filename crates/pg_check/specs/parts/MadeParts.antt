@@ -7,7 +7,7 @@ use Rattle.pg_schema.specs.declared.parts.file.File as files
 use Rattle.pg_schema.specs.declared.parts.message_type.MessageType as messages
 use Rattle.pg_schema.specs.declared.parts.Parts.{Parts}
 use Rattle.pg_schema.specs.declared.parts.service.ServiceId.{ServiceId}
-use Rattle.pg_link.specs.declared.target.Target.{Target}
+use Rattle.pg_link.specs.declared.uses.target.Target.{Target}
 use Rattle.pg_check.specs.parts.ByScope.{Placed, placed_from, types_in, enums_in, type_id, enum_id}
 use Rattle.pg_check.specs.parts.MadeEnums.{MadeEnum, enumeration, made_enum}
 use Rattle.pg_check.specs.parts.MadeFiles.{AreOptions, file_import, made_imports, made_options}

@@ -6,8 +6,8 @@ use Rattle.pg_schema.specs.declared.parts.options.ServiceOptions.{ServiceOptions
 use Rattle.pg_schema.specs.declared.parts.service.Method as methods
 use Rattle.pg_schema.specs.declared.parts.service.Service as services
 use Rattle.pg_schema.specs.declared.parts.service.ServiceId.{ServiceId}
-use Rattle.pg_link.specs.declared.target.Target.{Target}
-use Rattle.pg_link.specs.declared.target.Target.TheVariants as targets
+use Rattle.pg_link.specs.declared.uses.target.Target.{Target}
+use Rattle.pg_link.specs.declared.uses.target.Target.TheVariants as targets
 use Rattle.pg_check.specs.rules.Files.{rpc_body}
 use Rattle.pg_check.specs.parts.MadeNumbers.{index_of}
 use Rattle.pg_check.specs.parts.MadeOptions.{flag_of}

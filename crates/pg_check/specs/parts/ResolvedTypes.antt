@@ -13,10 +13,10 @@ use Rattle.pg_schema.specs.declared.parts.Parts.{Parts}
 use Rattle.pg_schema.specs.declared.parts.service.Method.{Method}
 use Rattle.pg_schema.specs.declared.parts.service.Service.{Service}
 use Rattle.pg_schema.specs.rules.Words.{parts_at_dots}
-use Rattle.pg_link.specs.Files.{visible_names}
-use Rattle.pg_link.specs.Names.{Names, Text}
-use Rattle.pg_link.specs.Resolves.{Resolves, reference}
-use Rattle.pg_link.specs.Walk.{Entry, outlines, path_of}
+use Rattle.pg_link.specs.names.Files.{visible_names}
+use Rattle.pg_link.specs.names.Names.{Names, Text}
+use Rattle.pg_link.specs.names.Resolves.{Resolves, reference}
+use Rattle.pg_link.specs.walk.Walk.{Entry, outlines, path_of}
 use Rattle.pg_check.specs.parts.MadeFields.{made_number}
 use Rattle.pg_check.specs.parts.MadeParts.{EachIs}
 use Rattle.pg_check.specs.rules.Members.{DeclaredField, Plain, Mapped, members}

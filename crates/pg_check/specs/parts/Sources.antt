@@ -1,7 +1,7 @@
 -- Files that are linked and files of the code, as sources, and what is made of one.
 use Rattle.std.specs.Prelude.{◌≡◌, ℕ, List, map, option_map}
-use Rattle.pg_link.specs.Targets.{target_at}
-use Rattle.pg_link.specs.Walk.{Entry, path_of}
+use Rattle.pg_link.specs.uses.Targets.{target_at}
+use Rattle.pg_link.specs.walk.Walk.{Entry, path_of}
 use Rattle.pg_check.specs.declared.parts.made_parts.Made.{Made}
 use Rattle.pg_check.specs.declared.parts.made_parts.Source as code
 use Rattle.pg_check.specs.parts.EnumPlaces.{by_scope, enum_places, target_in}

@@ -3,8 +3,8 @@
 -- Field Numbers", "Reserved Fields", "Enumerations", "Oneof", "Maps", "JSON Mapping"; proto3 language specification, "Option").
 use Rattle.std.specs.Prelude.{◌≡◌, ◌≤◌, ◌-◌, ℕ, true, false, not, nat_eq, List, ◌∷◌, ◌++◌, length, map, flat_map, Option}
 use Rattle.pg_link.specs.declared.error.Place.{Place}
-use Rattle.pg_link.specs.declared.target.Target.{Target}
-use Rattle.pg_link.specs.Walk.{IsPlace}
+use Rattle.pg_link.specs.declared.uses.target.Target.{Target}
+use Rattle.pg_link.specs.walk.Walk.{IsPlace}
 use Rattle.pg_check.specs.declared.error.CheckError.{CheckError}
 use Rattle.pg_check.specs.declared.error.CheckError.TheVariants as errors
 use Rattle.pg_check.specs.declared.rules.numbers.Keyed.{Keyed}

@@ -1,6 +1,6 @@
 -- What type names name, by the byte at which each begins.
 use Rattle.std.specs.Prelude.{◌==◌, ℕ, List, [], ◌∷◌, Option, Some, None, if◌then◌else◌}
-use Rattle.pg_link.specs.declared.target.Target.{Target}
+use Rattle.pg_link.specs.declared.uses.target.Target.{Target}
 
 -- what stands beside the first of these places that is this one
 abbrev pub named_at : (places : List ℕ) (targets : List Target) (at : ℕ) → Option Target

@@ -5,7 +5,7 @@ use Rattle.std.specs.Option.{option_map}
 use Rattle.pg_check.specs.declared.rules.fault.Fault.{Fault}
 use Rattle.pg_check.specs.declared.rules.fault.Rule.TheVariants as rules
 use Rattle.pg_check.specs.declared.rules.options.Owner.TheVariants as owners
-use Rattle.pg_link.specs.declared.target.Target.{Target}
+use Rattle.pg_link.specs.declared.uses.target.Target.{Target}
 use Rattle.pg_check.specs.rules.Enums.{enum_fault}
 use Rattle.pg_check.specs.rules.Faults.{broken, earlier, earliest, first_fault}
 use Rattle.pg_check.specs.rules.Messages.{body_fault}

@@ -6,7 +6,7 @@ use Rattle.pg_check.specs.declared.rules.fault.Rule.TheVariants as rules
 use Rattle.pg_check.specs.declared.rules.numbers.Keyed.{Keyed}
 use Rattle.pg_check.specs.declared.rules.numbers.Numbers.{Numbers}
 use Rattle.pg_check.specs.declared.rules.options.Owner.TheVariants as owners
-use Rattle.pg_link.specs.declared.target.Target.{Target}
+use Rattle.pg_link.specs.declared.uses.target.Target.{Target}
 use Rattle.pg_check.specs.rules.Enums.{is_true}
 use Rattle.pg_check.specs.rules.Faults.{broken, declared_fault, earlier, or_else, first_fault}
 use Rattle.pg_check.specs.rules.Members.{DeclaredField, Plain, Mapped, members, key_of, named, json_named, place_of, settings, settings_of}

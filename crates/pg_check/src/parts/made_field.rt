@@ -1,7 +1,7 @@
 //! What a field declares, as a schema has it.
 
 ghost use Rattle.std.specs.Prelude.{◌≡◌, ℕ, IfOk, None, Option, map, option_map};
-ghost use Rattle.pg_link.specs.declared.target.Target.{Target};
+ghost use Rattle.pg_link.specs.declared.uses.target.Target.{Target};
 ghost use Rattle.pg_check.specs.parts.EnumPlaces.{target_in};
 ghost use Rattle.pg_check.specs.parts.MadeFields as spec;
 ghost use Rattle.pg_check.specs.parts.MadeNumbers.{index_of};

@@ -6,7 +6,7 @@ use Rattle.pg_fds.specs.declared.reading.walk.Open.{Open}
 use Rattle.pg_fds.specs.declared.reading.walk.Seen.{Seen}
 use Rattle.pg_fds.specs.declared.reading.walk.Seen.TheVariants as seen
 use Rattle.pg_fds.specs.declared.reading.walk.Walk.{Walk}
-use Rattle.pg_link.specs.PostOrder.{Visits}
+use Rattle.pg_link.specs.walk.PostOrder.{Visits}
 
 -- what each file imports
 abbrev pub lists_of : List (Vec ℕ Global) → List (List ℕ)

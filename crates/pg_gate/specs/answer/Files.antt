@@ -14,14 +14,14 @@ use Rattle.pg_fds.specs.writing.Set.{fds}
 use Rattle.pg_fds.specs.writing.Written.{HasNoSet}
 use Rattle.pg_fds.specs.declared.error.FdsError.{FdsError}
 use Rattle.pg_fds.specs.declared.error.FdsError.TheVariants as sets
-use Rattle.pg_link.specs.Below.{path_below}
+use Rattle.pg_link.specs.walk.FolderPath.{path_below}
 use Rattle.pg_link.specs.Linked.{IsLinkedUp}
-use Rattle.pg_link.specs.Names.{Text}
-use Rattle.pg_link.specs.UseFaults.{LinkRefuses}
-use Rattle.pg_link.specs.Walk.{Entry, IsLinked, IsReadFault, World}
+use Rattle.pg_link.specs.names.Names.{Text}
+use Rattle.pg_link.specs.uses.UseFaults.{LinkRefuses}
+use Rattle.pg_link.specs.walk.Walk.{Entry, IsLinked, IsReadFault, World}
 use Rattle.pg_link.specs.declared.error.LinkError.{LinkError}
 use Rattle.pg_link.specs.declared.error.LinkError.TheVariants as links
-use Rattle.pg_link.specs.declared.target.Target.{Target}
+use Rattle.pg_link.specs.declared.uses.target.Target.{Target}
 use Rattle.pg_gate.specs.Errors.{IsError}
 use Rattle.pg_gate.specs.declared.call.BothFiles.{BothFiles}
 use Rattle.pg_gate.specs.declared.call.Files.{Files}

@@ -13,8 +13,8 @@ use Rattle.pg_schema.specs.declared.parts.Parts.{Parts}
 use Rattle.pg_schema.specs.Parts.{shape_of}
 use Rattle.pg_gate.specs.answer.AllTypes.{IsAllTypes}
 use Rattle.pg_gate.specs.call.Call.{GateRequest, Request, compile, gate, gate_all, show, types, verify}
-use Rattle.pg_link.specs.Names.{Text}
-use Rattle.pg_link.specs.Walk.{World, world}
+use Rattle.pg_link.specs.names.Names.{Text}
+use Rattle.pg_link.specs.walk.Walk.{World, world}
 use Rattle.pg_link.specs.declared.sources.Sources.{Ghosts}
 use Rattle.pg_gate.specs.Errors.{IsCallError, IsError}
 use Rattle.pg_gate.specs.Failures.{call_failures_at}

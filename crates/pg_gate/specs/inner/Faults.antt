@@ -1,7 +1,7 @@
 -- What functions inside the crate say of faults, which no promise of a call names.
 use Rattle.std.specs.Prelude.{Bool, List}
-use Rattle.pg_link.specs.Names.{Text}
-use Rattle.pg_link.specs.Walk.{Entry, World}
+use Rattle.pg_link.specs.names.Names.{Text}
+use Rattle.pg_link.specs.walk.Walk.{Entry, World}
 use Rattle.pg_gate.specs.answer.Files.{IsFault, IsLinkFault, IsNoSet, IsNotGiven, IsRuleFault}
 use Rattle.pg_gate.specs.declared.error.Fault.{Fault}
 

@@ -1,6 +1,6 @@
 -- What showing functions inside the crate say of what they refuse.
 use Rattle.std.specs.Prelude.{◌≡◌, None}
-use Rattle.pg_link.specs.Names.{Text}
+use Rattle.pg_link.specs.names.Names.{Text}
 use Rattle.pg_schema.specs.declared.parts.field.TypeId.{TypeId}
 use Rattle.pg_schema.specs.declared.parts.Parts.{Parts}
 use Rattle.pg_show.specs.Hex.{bytes_in}

@@ -1,5 +1,5 @@
 -- What functions inside the crate know of a source: what it may give and lack below a folder.
-use Rattle.pg_link.specs.Walk.{World, world}
+use Rattle.pg_link.specs.walk.Walk.{World, world}
 use Rattle.pg_link.specs.declared.sources.Sources.{Ghosts}
 use Rattle.pg_gate.specs.answer.Files.{Paths}
 

@@ -2,7 +2,7 @@
 use Rattle.std.specs.Prelude.{ℕ, List, [], ◌++◌, Option, Some, None, String, codes, decimal, length, string_bytes}
 use Rattle.std.specs.List.{flat_map}
 use Rattle.std.specs.Global.{Global}
-use Rattle.pg_link.specs.Names.{Text}
+use Rattle.pg_link.specs.names.Names.{Text}
 use Rattle.pg_causes.specs.declared.overview.Reason.{Reason}
 use Rattle.pg_causes.specs.declared.overview.Reason.TheVariants as reasons
 use Rattle.pg_causes.specs.declared.overview.TypeLine.{TypeLine}

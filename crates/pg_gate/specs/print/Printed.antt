@@ -1,6 +1,6 @@
 -- What a call's answer prints, and its status.
 use Rattle.std.specs.Prelude.{ℕ, ◌==◌, ◌||◌, [], if◌then◌else◌, length, string_bytes}
-use Rattle.pg_link.specs.Names.{Text}
+use Rattle.pg_link.specs.names.Names.{Text}
 use Rattle.pg_cert.specs.declared.verdict.Verdict.{Verdict}
 use Rattle.pg_cert.specs.declared.verdict.Verdict.TheVariants as verdicts
 use Rattle.pg_gate.specs.call.Call.{Request, gate}

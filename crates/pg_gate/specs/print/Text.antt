@@ -3,7 +3,7 @@ use Rattle.std.specs.Prelude.{◌≡◌, ℕ, List, [], ◌∷◌, ◌++◌, ◌
 use Rattle.std.specs.Prelude.{length, string_bytes}
 use Rattle.std.specs.Fmt.{digits}
 use Rattle.std.specs.List.{flat_map}
-use Rattle.pg_link.specs.Names.{Text}
+use Rattle.pg_link.specs.names.Names.{Text}
 use Rattle.pg_cert.specs.declared.verdict.Verdict.{Verdict}
 use Rattle.pg_cert.specs.declared.verdict.Verdict.TheVariants as verdicts
 use Rattle.pg_link.specs.declared.error.Place.{Place}

@@ -3,7 +3,7 @@ ghost use Rattle.std.specs.Prelude.{IfErr, IfOk};
 ghost use Rattle.pg_gate.specs.Failures.{side_failures};
 ghost use Rattle.pg_gate.specs.answer.Files.{IsSide, paths_in};
 ghost use Rattle.pg_gate.specs.answer.Grants.{IsSidesError};
-ghost use Rattle.pg_link.specs.Reads.{Reads};
+ghost use Rattle.pg_link.specs.walk.Reads.{Reads};
 ghost use Rattle.pg_gate.specs.inner.Sources.{world_of};
 
 use crate::answer::compile::{Compiled, compile_files};

@@ -1,12 +1,12 @@
 //! A side's schema, from the source files or the descriptor set that its source gives.
 ghost use Rattle.std.specs.Prelude.{◌≡◌, IfErr, IfOk};
 ghost use Rattle.pg_link.specs.Linked.{IsLinkedUp};
-ghost use Rattle.pg_link.specs.Walk.{IsLinked};
+ghost use Rattle.pg_link.specs.walk.Walk.{IsLinked};
 ghost use Rattle.pg_check.specs.Declares.{Declares};
 ghost use Rattle.pg_check.specs.parts.Sources.{linked_sources};
 ghost use Rattle.pg_gate.specs.Failures.{side_failures};
 ghost use Rattle.pg_gate.specs.answer.Files.{IsCompiled, IsErrorOf, IsFaultOf, IsFaultOfRead, IsRead, IsSide, IsSideError, paths_in};
-ghost use Rattle.pg_link.specs.Reads.{Reads};
+ghost use Rattle.pg_link.specs.walk.Reads.{Reads};
 ghost use Rattle.pg_gate.specs.inner.Sources.{world_of};
 ghost use Rattle.pg_gate.specs.inner.Faults.{IsOfLink, IsOfRules};
 

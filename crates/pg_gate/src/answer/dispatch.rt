@@ -10,7 +10,7 @@ ghost use Rattle.pg_gate.specs.call.Call.{gate_request, request_of};
 ghost use Rattle.pg_gate.specs.Failures.{call_failures, side_failures};
 ghost use Rattle.pg_gate.specs.answer.Grants.{Between, Grants, IsErrorFor, IsFindingOf, IsGateError, IsGateReply, IsReplyFor, IsSidesError, seen};
 ghost use Rattle.pg_gate.specs.answer.Files.{paths_in};
-ghost use Rattle.pg_link.specs.Reads.{Reads};
+ghost use Rattle.pg_link.specs.walk.Reads.{Reads};
 ghost use Rattle.pg_gate.specs.inner.Sources.{world_of};
 ghost use Rattle.pg_gate.specs.inner.Reports.{Reports, ReportsAnswer, ReportsCertificate};
 

@@ -11,7 +11,7 @@ ghost use Rattle.pg_gate.specs.answer.Grants.{IsAnswerOfFiles, IsGateError};
 ghost use Rattle.pg_gate.specs.answer.Files.{paths_of};
 ghost use Rattle.pg_gate.specs.answer.ViewAnswer.{IsAnswerUnder};
 ghost use Rattle.pg_gate.specs.declared.error.GateError.TheVariants as errors;
-ghost use Rattle.pg_link.specs.Walk.{world};
+ghost use Rattle.pg_link.specs.walk.Walk.{world};
 
 use crate::answer::both_sides::compile_both;
 use crate::call::{BothFiles, Files};

@@ -6,7 +6,7 @@ ghost use Rattle.pg_gate.specs.Failures.{call_failures};
 ghost use Rattle.pg_gate.specs.answer.Grants.{IsShowError, OfSide};
 ghost use Rattle.pg_gate.specs.answer.Files.{paths_in};
 ghost use Rattle.pg_gate.specs.answer.Showing.{IsReadAs, IsShown};
-ghost use Rattle.pg_link.specs.Reads.{Reads};
+ghost use Rattle.pg_link.specs.walk.Reads.{Reads};
 ghost use Rattle.pg_gate.specs.inner.Sources.{world_of};
 ghost use Rattle.pg_gate.specs.inner.Showing.{IsShowFault, IsUnread, IsUnspelled};
 

@@ -3,7 +3,7 @@ ghost use Rattle.std.specs.Prelude.{IfErr, IfOk, string_bytes};
 ghost use Rattle.pg_gate.specs.Failures.{side_failures};
 ghost use Rattle.pg_gate.specs.answer.Files.{IsSideError, paths_in};
 ghost use Rattle.pg_gate.specs.answer.Grants.{OfSide};
-ghost use Rattle.pg_link.specs.Reads.{Reads};
+ghost use Rattle.pg_link.specs.walk.Reads.{Reads};
 ghost use Rattle.pg_gate.specs.inner.Sources.{world_of};
 ghost use Rattle.pg_gate.specs.print.Text.{ListsTypes};
 

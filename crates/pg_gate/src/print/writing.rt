@@ -2,7 +2,7 @@
 ghost use Rattle.std.specs.Prelude.{IfErr, IfOk};
 ghost use Rattle.pg_gate.specs.Failures.{side_failures};
 ghost use Rattle.pg_gate.specs.answer.Files.{IsErrorOf, IsFaultOfSet, IsSetOf, paths_in};
-ghost use Rattle.pg_link.specs.Reads.{Reads};
+ghost use Rattle.pg_link.specs.walk.Reads.{Reads};
 ghost use Rattle.pg_gate.specs.inner.Sources.{world_of};
 
 use crate::answer::compile::compile_sources;

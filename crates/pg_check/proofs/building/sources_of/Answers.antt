@@ -1,8 +1,8 @@
 use Rattle.std.proofs.Common.{◌≡◌, ◌∙◌, ℕ, List, Some, slice_get, option_map, sym, ap, refl}
-use Rattle.pg_link.specs.Files.{visible_names}
-use Rattle.pg_link.specs.Targets.{Resolution, all_declared, target_in}
-use Rattle.pg_link.specs.Uses.{file_uses}
-use Rattle.pg_link.specs.Walk.{Entry, outlines, path_of}
+use Rattle.pg_link.specs.names.Files.{visible_names}
+use Rattle.pg_link.specs.uses.Targets.{Resolution, all_declared, target_in}
+use Rattle.pg_link.specs.uses.Uses.{file_uses}
+use Rattle.pg_link.specs.walk.Walk.{Entry, outlines, path_of}
 use Rattle.pg_check.specs.parts.EnumPlaces.{by_scope, enum_places}
 use Rattle.pg_schema.specs.rules.Pairs.{is_rising}
 use Rattle.pg_check.specs.rules.ByPlace.{named_at}

@@ -8,9 +8,9 @@ use Rattle.pg_lex.specs.Bytes as lexical
 use Rattle.pg_lex.specs.Lexes.{IsLexeme, Spells, byte_order_mark, lexes, max_len}
 use Rattle.pg_lex.specs.Symbol.{Placed, Symbol, Word, Whole, Text, Mark}
 use Rattle.pg_schema.specs.declared.parts.Parts.{Parts}
-use Rattle.pg_link.specs.declared.target.Target.{Target}
+use Rattle.pg_link.specs.declared.uses.target.Target.{Target}
 use Rattle.pg_link.specs.Linked.{IsLinkedUp, LinkedFiles}
-use Rattle.pg_link.specs.Walk.{Entry, IsParsed}
+use Rattle.pg_link.specs.walk.Walk.{Entry, IsParsed}
 use Rattle.pg_check.specs.parts.MadeEnums.{enumeration, made_enum}
 use Rattle.pg_check.specs.parts.MadeParts.{ArePartsOf, Declared, Source, file_services, nothing, with_file, with_files}
 use Rattle.pg_check.specs.parts.MadeServices.{made_services, service, service_in}

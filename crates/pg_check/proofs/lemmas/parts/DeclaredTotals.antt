@@ -3,11 +3,11 @@ use Rattle.std.proofs.Common.{◌≡◌, ◌∙◌, ℕ, ◌+◌, true, List, []
 use Rattle.std.specs.List.{AllByRecursion}
 use Rattle.std.proofs.lemmas.Bool.{false≢true}
 use Rattle.std.proofs.lemmas.List.{append-nil}
-use Rattle.pg_link.specs.declared.target.Target.{Target}
-use Rattle.pg_link.specs.Declares.{Declarations, Done, Word, names_in, package_names, package_scope, within as linked_within}
-use Rattle.pg_link.specs.Files.{Declared}
-use Rattle.pg_link.specs.Names.{Text, called}
-use Rattle.pg_link.specs.Outline.{all_of, file_names, of_enum, of_enum_part, of_oneof, of_oneof_part, of_part, of_row, of_service, of_service_part, of_statement, package_words, word}
+use Rattle.pg_link.specs.declared.uses.target.Target.{Target}
+use Rattle.pg_link.specs.names.Declares.{Declarations, Done, Word, names_in, package_names, package_scope, within as linked_within}
+use Rattle.pg_link.specs.names.Files.{Declared}
+use Rattle.pg_link.specs.names.Names.{Text, called}
+use Rattle.pg_link.specs.names.Outline.{all_of, file_names, of_enum, of_enum_part, of_oneof, of_oneof_part, of_part, of_row, of_service, of_service_part, of_statement, package_words, word}
 use Rattle.pg_schema.specs.rules.DeclaredNames.{entry_name, within}
 use Rattle.pg_schema.specs.rules.Words.{is_word}
 use Rattle.pg_check.specs.rules.Enums as enums

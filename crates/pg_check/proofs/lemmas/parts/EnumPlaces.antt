@@ -12,7 +12,7 @@ use Rattle.std.proofs.lemmas.Grind.{flat_map-append}
 use Rattle.std.proofs.lemmas.List.{append-nil}
 use Rattle.std.proofs.lemmas.Map.Text.{btree_map_updates_text}
 use Rattle.std.proofs.lemmas.Slice.Eq.{bytes_eq-Decides}
-use Rattle.pg_link.specs.Walk.{Entry}
+use Rattle.pg_link.specs.walk.Walk.{Entry}
 use Rattle.pg_check.proofs.lemmas.parts.Linking.{take_next}
 
 -- those of one file more

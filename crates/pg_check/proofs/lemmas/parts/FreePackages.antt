@@ -6,11 +6,11 @@ use Rattle.pg_schema.specs.declared.parts.file.File.{File}
 use Rattle.pg_schema.specs.declared.parts.Parts.{Parts}
 use Rattle.pg_schema.specs.rules.DeclaredNames.{declared_names, within}
 use Rattle.pg_schema.specs.rules.Packages.{are_free_of, is_free_of, is_front}
-use Rattle.pg_link.specs.Files.{Declared as Name}
+use Rattle.pg_link.specs.names.Files.{Declared as Name}
 use Rattle.pg_link.specs.Linked.{IsLinkedUp, LinkedFiles}
-use Rattle.pg_link.specs.Outline.{file_names, word}
-use Rattle.pg_link.specs.Targets.{all_declared}
-use Rattle.pg_link.specs.Walk.{Entry}
+use Rattle.pg_link.specs.names.Outline.{file_names, word}
+use Rattle.pg_link.specs.uses.Targets.{all_declared}
+use Rattle.pg_link.specs.walk.Walk.{Entry}
 use Rattle.pg_check.specs.rules.Enums as enums
 use Rattle.pg_check.specs.rules.KeepsRules.{source_messages}
 use Rattle.pg_check.specs.parts.MadeParts.{ArePartsOf, EachIs, FileShape, IsFileOf, Source, nothing, with_files}

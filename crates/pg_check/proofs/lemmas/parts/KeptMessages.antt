@@ -16,7 +16,7 @@ use Rattle.pg_schema.specs.rules.Messages as rules
 use Rattle.pg_schema.specs.rules.Pairs.{all_pairs, are_distinct, differ, is_rising}
 use Rattle.pg_schema.specs.rules.TextSets.{is_among}
 use Rattle.pg_schema.specs.rules.Uses.{are_aliases, are_apart as uses_apart, field_use, is_reserved_range, is_used_once, message_uses, reserved_use}
-use Rattle.pg_link.specs.declared.target.Target.{Target}
+use Rattle.pg_link.specs.declared.uses.target.Target.{Target}
 use Rattle.pg_check.specs.declared.rules.numbers.Keyed.{Keyed}
 use Rattle.pg_check.specs.declared.rules.numbers.Numbers.{Numbers}
 use Rattle.pg_check.specs.rules.KeepsRules.{MessageKeeps, has_field_number, lies_within, rises}

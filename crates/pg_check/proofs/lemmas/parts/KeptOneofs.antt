@@ -10,7 +10,7 @@ use Rattle.std.proofs.lemmas.List.Sorted.{list_any-IsPermutation}
 use Rattle.pg_schema.specs.declared.parts.field.Field.{Field}
 use Rattle.pg_schema.specs.rules.Messages.{have_members, is_member, is_place}
 use Rattle.pg_schema.specs.rules.Pairs.{is_rising}
-use Rattle.pg_link.specs.declared.target.Target.{Target}
+use Rattle.pg_link.specs.declared.uses.target.Target.{Target}
 use Rattle.pg_check.specs.rules.KeepsRules.{is_no_option, oneof_keeps}
 use Rattle.pg_check.specs.parts.MadeFields.{MadeField, field, made_field, oneof_of}
 use Rattle.pg_check.specs.parts.MadeNumbers.{index_of}

@@ -26,7 +26,7 @@ use Rattle.pg_schema.specs.rules.Messages.{field_names}
 use Rattle.pg_schema.specs.rules.Pairs.{are_distinct, differ}
 use Rattle.pg_schema.specs.rules.Words.{is_package, is_word}
 use Rattle.pg_link.specs.Linked.{IsLinkedUp, LinkedFiles}
-use Rattle.pg_link.specs.Walk.{Entry, IsParsed}
+use Rattle.pg_link.specs.walk.Walk.{Entry, IsParsed}
 use Rattle.pg_check.specs.Declares.{Declares}
 use Rattle.pg_check.specs.rules.Enums as enums
 use Rattle.pg_check.specs.parts.MadeEnums.{MadeEnum, MadeValue, enumeration, made_enum, made_values, value}

@@ -3,9 +3,9 @@ use Rattle.std.proofs.Common.{◌≡◌, ◌∙◌, ◌+◌, ℕ, suc, List, [],
 use Rattle.std.proofs.Math.Seq.{take-suc}
 use Rattle.std.proofs.lemmas.List.{map-append}
 use Rattle.std.proofs.lemmas.Option.{get_or_from_slice_get, slice_get_within}
-use Rattle.pg_link.specs.declared.target.Target.{Target}
-use Rattle.pg_link.specs.Targets.{target_at}
-use Rattle.pg_link.specs.Walk.{Entry, path_of}
+use Rattle.pg_link.specs.declared.uses.target.Target.{Target}
+use Rattle.pg_link.specs.uses.Targets.{target_at}
+use Rattle.pg_link.specs.walk.Walk.{Entry, path_of}
 use Rattle.pg_check.specs.declared.parts.made_parts.Source as code
 use Rattle.pg_check.specs.parts.EnumPlaces.{by_scope, enum_places, target_in}
 use Rattle.pg_check.specs.parts.Sources.{linked_source, source}

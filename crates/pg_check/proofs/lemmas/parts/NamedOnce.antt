@@ -4,12 +4,12 @@ use Rattle.std.specs.Str.{bytes_eq}
 use Rattle.std.proofs.lemmas.List.{reverse-append}
 use Rattle.std.proofs.lemmas.Option.{same_Some}
 use Rattle.std.proofs.lemmas.Slice.Eq.{bytes_eq-Decides}
-use Rattle.pg_link.specs.Files.{Declared}
-use Rattle.pg_link.specs.Names.{Text, is_package}
-use Rattle.pg_link.specs.Outline.{file_names}
-use Rattle.pg_link.specs.Standing.{AllMayStand, Bearer, MayStand, NoneTwice, Standing, all_standings, bearer, bearers, first_of, standing, standings, standings_from}
-use Rattle.pg_link.specs.Targets.{all_declared}
-use Rattle.pg_link.specs.Walk.{Entry}
+use Rattle.pg_link.specs.names.Files.{Declared}
+use Rattle.pg_link.specs.names.Names.{Text, is_package}
+use Rattle.pg_link.specs.names.Outline.{file_names}
+use Rattle.pg_link.specs.names.Standing.{AllMayStand, Bearer, MayStand, NoneTwice, Standing, all_standings, bearer, bearers, first_of, standing, standings, standings_from}
+use Rattle.pg_link.specs.uses.Targets.{all_declared}
+use Rattle.pg_link.specs.walk.Walk.{Entry}
 use Rattle.pg_check.proofs.lemmas.rules.NoneLaws.{and_left, and_right}
 use Rattle.pg_check.proofs.lemmas.parts.Totals.{as_one, one, total, total_joined, total_map}
 

@@ -15,14 +15,14 @@ use Rattle.pg_schema.specs.declared.parts.Parts.{Parts}
 use Rattle.pg_schema.specs.ScalarWords.{scalar_of}
 use Rattle.pg_link.specs.declared.names.Kind.{Kind}
 use Rattle.pg_link.specs.declared.names.Kind.TheVariants as kinds
-use Rattle.pg_link.specs.declared.target.Target.{Target}
-use Rattle.pg_link.specs.declared.target.Target.TheVariants as targets
-use Rattle.pg_link.specs.Files.{Declared, visible_names}
-use Rattle.pg_link.specs.Names.{Names, Text, is_type}
-use Rattle.pg_link.specs.Resolves.{Resolves, found, part_words, reference}
-use Rattle.pg_link.specs.Targets.{all_declared, enum_names, message_names, number_in, numbered, target_at, target_in, use_at}
-use Rattle.pg_link.specs.Uses.{Use, field_uses, file_uses, in_field, in_rpc, is_scalar, is_scalar_alone}
-use Rattle.pg_link.specs.Walk.{Entry, outlines, path_of}
+use Rattle.pg_link.specs.declared.uses.target.Target.{Target}
+use Rattle.pg_link.specs.declared.uses.target.Target.TheVariants as targets
+use Rattle.pg_link.specs.names.Files.{Declared, visible_names}
+use Rattle.pg_link.specs.names.Names.{Names, Text, is_type}
+use Rattle.pg_link.specs.names.Resolves.{Resolves, found, part_words, reference}
+use Rattle.pg_link.specs.uses.Targets.{all_declared, enum_names, message_names, number_in, numbered, target_at, target_in, use_at}
+use Rattle.pg_link.specs.uses.Uses.{Use, field_uses, file_uses, in_field, in_rpc, is_scalar, is_scalar_alone}
+use Rattle.pg_link.specs.walk.Walk.{Entry, outlines, path_of}
 use Rattle.pg_check.specs.parts.EnumPlaces.{AreNumbered, by_scope, declared_messages, declared_names, enum_places, scoped_names}
 use Rattle.pg_check.specs.parts.MadeFields.{element_of}
 use Rattle.pg_check.specs.parts.MadeNumbers.{index_of}

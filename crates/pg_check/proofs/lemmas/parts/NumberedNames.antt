@@ -9,13 +9,13 @@ use Rattle.std.proofs.lemmas.List.Elements.{recursion_from_All}
 use Rattle.std.proofs.lemmas.Slice.Eq.{bytes_eq-Decides}
 use Rattle.pg_link.specs.declared.names.Kind.{Kind}
 use Rattle.pg_link.specs.declared.names.Kind.TheVariants as kinds
-use Rattle.pg_link.specs.Declares.{Declarations, Done, Within, Word, names_in, package_names, package_scope, within as linked_within}
-use Rattle.pg_link.specs.Files.{Declared}
+use Rattle.pg_link.specs.names.Declares.{Declarations, Done, Within, Word, names_in, package_names, package_scope, within as linked_within}
+use Rattle.pg_link.specs.names.Files.{Declared}
 use Rattle.pg_link.specs.Linked.{IsLinkedUp, LinkedFiles}
-use Rattle.pg_link.specs.Names.{Text}
-use Rattle.pg_link.specs.Outline.{all_of, file_names, of_enum, of_enum_part, of_oneof_part, of_part, of_row, of_service_part, of_statement, package_words, word}
-use Rattle.pg_link.specs.Targets.{all_declared, enum_names, is_enum, is_message, message_names, names_of}
-use Rattle.pg_link.specs.Walk.{Entry, IsParsed}
+use Rattle.pg_link.specs.names.Names.{Text}
+use Rattle.pg_link.specs.names.Outline.{all_of, file_names, of_enum, of_enum_part, of_oneof_part, of_part, of_row, of_service_part, of_statement, package_words, word}
+use Rattle.pg_link.specs.uses.Targets.{all_declared, enum_names, is_enum, is_message, message_names, names_of}
+use Rattle.pg_link.specs.walk.Walk.{Entry, IsParsed}
 use Rattle.pg_schema.specs.rules.Words.{is_word}
 use Rattle.pg_check.specs.parts.EnumPlaces.{AreNumbered, declared_messages, declared_names, enum_full, message_full, place_among, scoped_names}
 use Rattle.pg_check.specs.rules.Outline.{Enum, Message, all_enums, an_enum, all_messages, enums_in, file_enums, file_messages, full_name, messages_in, package_of, row_enums, row_list, row_messages, scoped_enums, statement_enums, statement_messages, statements_behind}

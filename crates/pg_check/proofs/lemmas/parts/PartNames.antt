@@ -17,8 +17,8 @@ use Rattle.pg_schema.specs.rules.Enums.{value_names}
 use Rattle.pg_schema.specs.rules.Fields.{is_message}
 use Rattle.pg_schema.specs.rules.Messages.{field_names}
 use Rattle.pg_schema.specs.Shape.{is_map}
-use Rattle.pg_link.specs.declared.target.Target.{Target}
-use Rattle.pg_link.specs.Names.{Text}
+use Rattle.pg_link.specs.declared.uses.target.Target.{Target}
+use Rattle.pg_link.specs.names.Names.{Text}
 use Rattle.pg_check.specs.rules.Enums as enums
 use Rattle.pg_check.specs.parts.MadeEnums.{MadeEnum, MadeValue, enumeration, made_enum, made_values, value}
 use Rattle.pg_check.specs.parts.MadeFields.{MadeField, element, field, labelled, made_field}

@@ -19,7 +19,7 @@ use Rattle.pg_schema.specs.declared.parts.service.ServiceId.{ServiceId}
 use Rattle.pg_schema.specs.rules.DeclaredNames.{within}
 use Rattle.pg_schema.specs.rules.Scopes.{are_declared_once, are_each_once, are_enums_in, are_services_in, are_types_in, declared_enums, declared_services, declared_types, enum_name, is_dot_and_word, is_file_scope, is_in, is_named_in, is_type_scope, service_name, type_name}
 use Rattle.pg_schema.specs.rules.Words.{is_word}
-use Rattle.pg_link.specs.declared.target.Target.{Target}
+use Rattle.pg_link.specs.declared.uses.target.Target.{Target}
 use Rattle.pg_check.specs.parts.ByScope.{Placed, placed_from}
 use Rattle.pg_check.specs.rules.KeepsRules.{source_messages}
 use Rattle.pg_check.specs.parts.MadeEnums.{MadeEnum, enumeration, made_enum}

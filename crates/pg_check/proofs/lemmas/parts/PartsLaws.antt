@@ -3,7 +3,7 @@ use Rattle.std.proofs.Common.{◌≡◌, ◌∙◌, ℕ, ◌+◌, ◌<◌, List,
 use Rattle.std.proofs.lemmas.List.{map-append, length-map}
 use Rattle.pg_schema.specs.declared.parts.service.ServiceId.{ServiceId}
 use Rattle.pg_schema.specs.declared.parts.Parts.{Parts}
-use Rattle.pg_link.specs.declared.target.Target.{Target}
+use Rattle.pg_link.specs.declared.uses.target.Target.{Target}
 use Rattle.pg_check.specs.declared.parts.made_parts.Made.{Made}
 use Rattle.pg_check.specs.parts.ByScope.{Placed, places_in, type_id, enum_id}
 use Rattle.pg_check.specs.parts.MadeEnums.{enumeration}

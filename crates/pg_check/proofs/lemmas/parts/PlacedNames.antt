@@ -10,10 +10,10 @@ use Rattle.pg_schema.specs.rules.DeclaredNames as names
 use Rattle.pg_schema.specs.rules.DeclaredNames.{declared_names, service_names, type_names, within}
 use Rattle.pg_schema.specs.rules.Pairs.{are_distinct}
 use Rattle.pg_link.specs.Linked.{IsLinkedUp, LinkedFiles}
-use Rattle.pg_link.specs.Names.{Text}
-use Rattle.pg_link.specs.Outline.{file_names}
-use Rattle.pg_link.specs.Targets.{all_declared}
-use Rattle.pg_link.specs.Walk.{Entry, IsParsed}
+use Rattle.pg_link.specs.names.Names.{Text}
+use Rattle.pg_link.specs.names.Outline.{file_names}
+use Rattle.pg_link.specs.uses.Targets.{all_declared}
+use Rattle.pg_link.specs.walk.Walk.{Entry, IsParsed}
 use Rattle.pg_check.specs.parts.ByScope.{Placed, placed_from}
 use Rattle.pg_check.specs.rules.KeepsRules.{source_messages}
 use Rattle.pg_check.specs.parts.MadeEnums.{enumeration, made_enum}

@@ -15,15 +15,15 @@ use Rattle.pg_schema.specs.declared.parts.message_type.MessageType.{MessageType}
 use Rattle.pg_schema.specs.declared.parts.Parts.{Parts}
 use Rattle.pg_schema.specs.declared.parts.service.Method.{Method}
 use Rattle.pg_schema.specs.declared.parts.service.Service.{Service}
-use Rattle.pg_link.specs.declared.target.Target.{Target}
+use Rattle.pg_link.specs.declared.uses.target.Target.{Target}
 use Rattle.pg_link.specs.declared.names.Kind.{Kind}
-use Rattle.pg_link.specs.Files.{visible_names}
+use Rattle.pg_link.specs.names.Files.{visible_names}
 use Rattle.pg_link.specs.Linked.{IsLinkedUp, LinkedFiles}
-use Rattle.pg_link.specs.Names.{Text}
-use Rattle.pg_link.specs.Targets.{all_declared, file_targets, target_in}
-use Rattle.pg_link.specs.Uses.{Use, file_uses}
-use Rattle.pg_link.specs.Walk.{Entry, IsParsed, outlines, path_of}
-use Rattle.pg_link.proofs.VisibleLaws.{first_among, later_among}
+use Rattle.pg_link.specs.names.Names.{Text}
+use Rattle.pg_link.specs.uses.Targets.{all_declared, file_targets, target_in}
+use Rattle.pg_link.specs.uses.Uses.{Use, file_uses}
+use Rattle.pg_link.specs.walk.Walk.{Entry, IsParsed, outlines, path_of}
+use Rattle.pg_link.proofs.lemmas.names.VisibleLaws.{first_among, later_among}
 use Rattle.pg_check.specs.Declares.{Declares}
 use Rattle.pg_check.specs.parts.ByScope.{Placed}
 use Rattle.pg_check.specs.parts.EnumPlaces.{declared_messages, enum_full, scoped_names}

@@ -1,8 +1,8 @@
 -- What holds of each type name that a file uses holds of the type names of its messages and services.
 use Rattle.std.proofs.Common.{◌≡◌, ℕ, ◌+◌, List, [], ◌∷◌, ◌++◌, flat_map, string_bytes, sym, ap, subst, refl}
 use Rattle.std.specs.List.{AllByRecursion}
-use Rattle.pg_link.specs.Names.{Text}
-use Rattle.pg_link.specs.Uses.{Use, field_uses, file_scope, file_uses, in_rpc, map_uses, oneof_part_uses, part_uses, row_uses, service_part_uses, statement_uses}
+use Rattle.pg_link.specs.names.Names.{Text}
+use Rattle.pg_link.specs.uses.Uses.{Use, field_uses, file_scope, file_uses, in_rpc, map_uses, oneof_part_uses, part_uses, row_uses, service_part_uses, statement_uses}
 use Rattle.pg_check.specs.parts.ResolvedTypes.{file_services, rpc_in, service_in, type_name_of, words_of}
 use Rattle.pg_check.specs.rules.Members.{DeclaredField, members, members_from, members_in, oneof_members, oneofs_in}
 use Rattle.pg_check.specs.rules.Outline.{Message, all_messages, file_messages, full_name, messages_in, package_of, row_list, row_messages, statement_messages, statements_behind}

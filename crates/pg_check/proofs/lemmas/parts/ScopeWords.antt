@@ -4,10 +4,10 @@ use Rattle.std.specs.List.{AllByRecursion}
 use Rattle.std.proofs.lemmas.List.{append-nil}
 use Rattle.pg_schema.specs.rules.DeclaredNames.{within}
 use Rattle.pg_schema.specs.rules.Words.{is_word, parts_at_dots}
-use Rattle.pg_link.specs.Declares.{Word}
-use Rattle.pg_link.specs.Names.{Text, called}
-use Rattle.pg_link.specs.Outline.{package_words, word}
-use Rattle.pg_link.specs.Uses.{file_scope}
+use Rattle.pg_link.specs.names.Declares.{Word}
+use Rattle.pg_link.specs.names.Names.{Text, called}
+use Rattle.pg_link.specs.names.Outline.{package_words, word}
+use Rattle.pg_link.specs.uses.Uses.{file_scope}
 use Rattle.pg_check.specs.parts.ResolvedTypes.{words_of}
 use Rattle.pg_check.specs.rules.Outline.{package_of}
 use Rattle.pg_check.proofs.lemmas.parts.DeclaredTotals.{behind_dot, package_scope_is, scope_is}

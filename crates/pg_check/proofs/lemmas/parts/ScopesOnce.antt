@@ -8,13 +8,13 @@ use Rattle.std.proofs.lemmas.List.{append-nil}
 use Rattle.std.proofs.lemmas.Slice.Eq.{bytes_eq-Decides}
 use Rattle.pg_schema.specs.rules.Packages.{is_front}
 use Rattle.pg_schema.specs.rules.Words.{is_word, is_word_byte}
-use Rattle.pg_link.specs.declared.target.Target.{Target}
-use Rattle.pg_link.specs.Declares.{Done, Word, names_in, package_names, package_scope, within as linked_within}
-use Rattle.pg_link.specs.Files.{Declared}
-use Rattle.pg_link.specs.Names.{Text, called}
-use Rattle.pg_link.specs.Outline.{all_of, file_names, of_statement, package_words, word}
-use Rattle.pg_link.specs.Targets.{all_declared}
-use Rattle.pg_link.specs.Walk.{Entry}
+use Rattle.pg_link.specs.declared.uses.target.Target.{Target}
+use Rattle.pg_link.specs.names.Declares.{Done, Word, names_in, package_names, package_scope, within as linked_within}
+use Rattle.pg_link.specs.names.Files.{Declared}
+use Rattle.pg_link.specs.names.Names.{Text, called}
+use Rattle.pg_link.specs.names.Outline.{all_of, file_names, of_statement, package_words, word}
+use Rattle.pg_link.specs.uses.Targets.{all_declared}
+use Rattle.pg_link.specs.walk.Walk.{Entry}
 use Rattle.pg_check.specs.rules.Outline.{Enum, Message, all_enums, all_messages, dotted_more, enums_in, file_enums, file_messages, full_name, messages_in, package_in, package_of, row_enums, row_list, row_messages, scoped_enums, statement_enums, statement_messages, statements_behind}
 use Rattle.pg_check.proofs.lemmas.parts.DeclaredTotals.{file_is, more_dotted, of_message_type}
 use Rattle.pg_check.proofs.lemmas.parts.Eachs.{joined_all}

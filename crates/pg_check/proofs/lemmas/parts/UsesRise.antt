@@ -6,13 +6,13 @@ use Rattle.std.proofs.lemmas.Option.{get_or_from_slice_get, slice_get_within}
 use Rattle.pg_lex.specs.Lexes.{Rises}
 use Rattle.pg_lex.specs.Symbol.{Placed}
 use Rattle.pg_lex.proofs.TextLaws.{text-rises}
-use Rattle.pg_link.specs.Names.{Text}
-use Rattle.pg_link.specs.Outline.{statements_behind}
-use Rattle.pg_link.specs.Resolves.{reference}
-use Rattle.pg_link.specs.Targets.{file_places, use_at}
-use Rattle.pg_link.specs.Uses.{Use, field_uses, file_scope, file_uses, in_field, in_rpc, is_scalar, map_uses, message_uses, oneof_part_uses, oneof_uses, part_uses, row_uses, rpc_uses, service_part_uses, service_uses, statement_uses}
+use Rattle.pg_link.specs.names.Names.{Text}
+use Rattle.pg_link.specs.names.Outline.{statements_behind}
+use Rattle.pg_link.specs.names.Resolves.{reference}
+use Rattle.pg_link.specs.uses.Targets.{file_places, use_at}
+use Rattle.pg_link.specs.uses.Uses.{Use, field_uses, file_scope, file_uses, in_field, in_rpc, is_scalar, map_uses, message_uses, oneof_part_uses, oneof_uses, part_uses, row_uses, rpc_uses, service_part_uses, service_uses, statement_uses}
 use Rattle.pg_link.specs.Linked.{IsLinkedUp, LinkedFiles}
-use Rattle.pg_link.specs.Walk.{Entry, IsParsed}
+use Rattle.pg_link.specs.walk.Walk.{Entry, IsParsed}
 use Rattle.pg_schema.specs.rules.Pairs.{is_rising}
 use Rattle.pg_check.proofs.lemmas.rules.NoneLaws.{and_both}
 use Rattle.pg_syntax.specs.declared.tree as tree

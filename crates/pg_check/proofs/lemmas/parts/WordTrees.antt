@@ -6,7 +6,7 @@ use Rattle.pg_lex.specs.Bytes as lexical
 use Rattle.pg_lex.specs.Lexes.{Spells, byte_order_mark, lexes, IsLexeme}
 use Rattle.pg_lex.specs.Symbol.{Placed, Symbol, Word, Whole, Text, Mark}
 use Rattle.pg_schema.specs.rules.Words.{is_digit, is_letter, is_word, is_word_byte}
-use Rattle.pg_link.specs.Walk.{IsParsed}
+use Rattle.pg_link.specs.walk.Walk.{IsParsed}
 use Rattle.pg_check.proofs.lemmas.parts.Eachs.{back_of, front_of}
 use Rattle.pg_check.proofs.lemmas.parts.Moved.{all_weaker}
 use Rattle.pg_check.proofs.lemmas.rules.NoneLaws.{and_both}

@@ -1,7 +1,7 @@
 -- What is reported of files is a rule that the first of them breaks which breaks one, and each rule that it breaks comes no earlier.
 use Rattle.std.proofs.Common.{◌≡◌, ◌∙◌, ◌+◌, ◌-◌, ℕ, List, [], ◌∷◌, ◌++◌, length, flat_map, Option, Some, None, slice_get, sym, ap, subst, refl, arith, length-append}
 use Rattle.pg_link.specs.declared.error.Place.{Place}
-use Rattle.pg_link.specs.Walk.{IsPlace}
+use Rattle.pg_link.specs.walk.Walk.{IsPlace}
 use Rattle.pg_check.specs.declared.declare.FileFault.{FileFault}
 use Rattle.pg_check.specs.declared.error.CheckError.{CheckError}
 use Rattle.pg_check.specs.declared.rules.fault.Fault.{Fault}

@@ -3,7 +3,7 @@ use Rattle.std.proofs.Common.{◌≡◌, ◌∙◌, ◌⊎◌, inl, inr, ℕ, Bo
 use Rattle.std.specs.List.{list_all}
 use Rattle.std.proofs.lemmas.Bool.{false≢true}
 use Rattle.pg_link.specs.declared.error.Place.{Place}
-use Rattle.pg_link.specs.declared.target.Target.{Target}
+use Rattle.pg_link.specs.declared.uses.target.Target.{Target}
 use Rattle.pg_schema.specs.rules.TextSets.{is_among}
 use Rattle.pg_check.specs.declared.error.CheckError.{CheckError}
 use Rattle.pg_check.specs.declared.rules.fault.Fault.{Fault}

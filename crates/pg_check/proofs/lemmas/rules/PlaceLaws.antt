@@ -5,9 +5,9 @@ use Rattle.std.specs.Borrow.{Bor}
 use Rattle.std.specs.Option.{IfSome, MatchOption, option_and_then, option_copied}
 use Rattle.std.proofs.lemmas.Bool.Decides.{nat_tests}
 use Rattle.std.proofs.lemmas.Option.{slice_get_past, slice_get_read}
-use Rattle.pg_link.specs.declared.target.Target.{Target}
-use Rattle.pg_link.specs.Targets.{Resolution, resolved_at, use_at}
-use Rattle.pg_link.specs.Uses.{Use}
+use Rattle.pg_link.specs.declared.uses.target.Target.{Target}
+use Rattle.pg_link.specs.uses.Targets.{Resolution, resolved_at, use_at}
+use Rattle.pg_link.specs.uses.Uses.{Use}
 use Rattle.pg_schema.specs.rules.Pairs.{is_rising}
 use Rattle.pg_schema.proofs.lemmas.rules.PairLemmas.{and_left, and_right}
 use Rattle.pg_check.specs.rules.ByPlace.{named_at}

@@ -2,7 +2,7 @@
 use Rattle.std.proofs.Common.{◌≡◌, ◌≤◌, ◌∙◌, ℕ, Bool, true, not, ◌&&◌, ◌||◌, List, [], ◌∷◌, ◌++◌, codes, length, flat_map, Option, None, string_bytes, sym, ap, subst, refl, arith}
 use Rattle.std.specs.List.{list_all, AllByRecursion}
 use Rattle.std.proofs.lemmas.Bool.{false≢true}
-use Rattle.pg_link.specs.declared.target.Target.{Target}
+use Rattle.pg_link.specs.declared.uses.target.Target.{Target}
 use Rattle.pg_check.specs.declared.rules.options.Owner.TheVariants as owners
 use Rattle.pg_check.specs.Examples.{HasOneMessage, IsFieldA, field}
 use Rattle.pg_check.specs.parts.MadeParts.{Source}

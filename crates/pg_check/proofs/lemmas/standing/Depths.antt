@@ -10,9 +10,9 @@ use Rattle.pg_schema.specs.declared.parts.file.File.{File}
 use Rattle.pg_schema.specs.declared.parts.message_type.MessageType.{MessageType}
 use Rattle.pg_schema.specs.declared.parts.Parts.{Parts}
 use Rattle.pg_schema.proofs.lemmas.rules.PairLemmas.{and_both}
-use Rattle.pg_link.specs.declared.target.Target.{Target}
+use Rattle.pg_link.specs.declared.uses.target.Target.{Target}
 use Rattle.pg_link.specs.Linked.{IsLinkedUp, LinkedFiles}
-use Rattle.pg_link.specs.Walk.{Entry, IsParsed}
+use Rattle.pg_link.specs.walk.Walk.{Entry, IsParsed}
 use Rattle.pg_check.specs.Declares.{Declares}
 use Rattle.pg_check.specs.parts.ByScope.{Placed, placed_from, type_id, types_in}
 use Rattle.pg_check.specs.parts.MadeNumbers.{index_of}

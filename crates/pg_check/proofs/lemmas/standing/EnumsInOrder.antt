@@ -15,7 +15,7 @@ use Rattle.pg_schema.specs.rules.Scopes.{enum_places}
 use Rattle.pg_schema.specs.rules.Sound.{IsSound}
 use Rattle.pg_schema.specs.rules.TextSets.{is_among}
 use Rattle.pg_schema.proofs.lemmas.rules.PairLemmas.{and_both, and_left, and_right}
-use Rattle.pg_link.specs.declared.target.Target.{Target}
+use Rattle.pg_link.specs.declared.uses.target.Target.{Target}
 use Rattle.pg_check.specs.parts.ByScope.{Placed, enum_id, placed_from, places_in}
 use Rattle.pg_check.specs.parts.MadeEnums.{enumeration, made_enum}
 use Rattle.pg_check.specs.parts.MadeNumbers.{index_of}

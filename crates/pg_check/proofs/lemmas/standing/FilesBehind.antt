@@ -14,10 +14,10 @@ use Rattle.pg_schema.specs.declared.parts.Parts.{Parts}
 use Rattle.pg_schema.specs.rules.Pairs.{are_distinct, differ}
 use Rattle.pg_schema.specs.rules.TextSets.{is_among}
 use Rattle.pg_schema.proofs.lemmas.rules.PairLemmas.{and_both}
-use Rattle.pg_link.specs.Files.{Differ, File, InOrder, import_paths, is_path_of, paths_of as linked_paths}
+use Rattle.pg_link.specs.names.Files.{Differ, File, InOrder, import_paths, is_path_of, paths_of as linked_paths}
 use Rattle.pg_link.specs.Linked.{IsLinkedUp, LinkedFiles}
-use Rattle.pg_link.specs.Outline.{file_imports, imports_in, statements_behind as linked_behind}
-use Rattle.pg_link.specs.Walk.{Entry, outline, path_of}
+use Rattle.pg_link.specs.names.Outline.{file_imports, imports_in, statements_behind as linked_behind}
+use Rattle.pg_link.specs.walk.Walk.{Entry, outline, path_of}
 use Rattle.pg_check.specs.Declares.{Declares}
 use Rattle.pg_check.specs.parts.MadeFiles.{MadeImport, file_import, import_in, made_imports}
 use Rattle.pg_check.specs.parts.MadeParts.{Declared, EachIs, FileShape, IsFileOf, Source, file_shape, nothing, with_file, with_files}

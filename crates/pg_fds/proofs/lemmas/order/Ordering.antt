@@ -12,7 +12,7 @@ use Rattle.pg_schema.specs.rules.Pairs.{are_distinct, differ}
 use Rattle.pg_schema.proofs.lemmas.rules.PairLemmas.{and_left, and_right}
 use Rattle.pg_check.specs.standing.Places.{places_from}
 use Rattle.pg_fds.specs.reading.FilePlaces.{ImportsAt, IsIndex, StandAt, name_at}
-use Rattle.pg_link.specs.PostOrder.{Visits, all_visited, listed_last, passed_over}
+use Rattle.pg_link.specs.walk.PostOrder.{Visits, all_visited, listed_last, passed_over}
 use Rattle.pg_fds.specs.stated.PostOrder.{Importer, IsPostOrder, imports_at, kept_paths, paths_of}
 use Rattle.pg_fds.specs.reading.Walks.{AreWithin, Falls, Walks}
 use Rattle.pg_fds.proofs.lemmas.lists.Marks.{found_within}

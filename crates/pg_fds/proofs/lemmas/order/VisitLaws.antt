@@ -5,7 +5,7 @@ use Rattle.std.proofs.lemmas.Option.{none-some, same_Some}
 use Rattle.std.specs.List.{AllByRecursion, list_any}
 use Rattle.std.specs.Option.{option_and_then}
 use Rattle.std.specs.Str.{bytes_eq}
-use Rattle.pg_link.specs.PostOrder.{Visits, all_visited, listed_last, passed_over}
+use Rattle.pg_link.specs.walk.PostOrder.{Visits, all_visited, listed_last, passed_over}
 use Rattle.pg_fds.specs.stated.StatedOrder.{visit, visit_each, visit_one}
 use Rattle.pg_fds.proofs.lemmas.lists.Marks.{all_weaker}
 use Rattle.pg_fds.proofs.lemmas.order.Visited.{Among, Text, all_behind, rank, same_bytes, visited_listed}

@@ -13,7 +13,7 @@ use Rattle.pg_schema.proofs.lemmas.rules.PairLemmas.{and_left, and_right, bytes_
 use Rattle.pg_dyn.specs.Message.{Message}
 use Rattle.pg_fds.specs.refusals.BadReferences.{IsBadReference, IsTrail}
 use Rattle.pg_fds.specs.refusals.BadReferences as causes
-use Rattle.pg_link.specs.PostOrder.{Visits}
+use Rattle.pg_link.specs.walk.PostOrder.{Visits}
 use Rattle.pg_fds.specs.stated.PostOrder.{Importer, importer_of, imports_at, imports_once, kept_paths, paths_of}
 use Rattle.pg_fds.specs.declared.descriptor.proto.TheConstants as proto
 use Rattle.pg_fds.specs.stated.Said.{text_at, texts_at}

@@ -25,7 +25,7 @@ use Rattle.pg_gate.specs.answer.Grants.{Between, IsAnswerOfFiles, IsFindingOf, I
 use Rattle.pg_gate.specs.call.Call.{GateRequest}
 use Rattle.pg_gate.specs.inner.Reports.{Reports}
 use Rattle.pg_gate.specs.declared.error.Side.TheVariants as sides
-use Rattle.pg_link.specs.Walk.{World}
+use Rattle.pg_link.specs.walk.Walk.{World}
 use Rattle.pg_gate.specs.declared.answer.gate.Answer.{Answer}
 use Rattle.pg_gate.specs.declared.answer.gate.Answer.TheVariants as answers
 use Rattle.pg_gate.specs.declared.answer.step.Step.{Step}

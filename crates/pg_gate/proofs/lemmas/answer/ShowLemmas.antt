@@ -1,7 +1,7 @@
 -- What is shown by a schema, or by the files that declare it, and why nothing is.
 use Rattle.std.proofs.Common.{◌≡◌, Some}
 use Rattle.clap.specs.Words.{Text}
-use Rattle.pg_link.specs.Walk.{World}
+use Rattle.pg_link.specs.walk.Walk.{World}
 use Rattle.pg_schema.specs.declared.parts.field.TypeId.{TypeId}
 use Rattle.pg_schema.specs.declared.parts.Parts.{Parts}
 use Rattle.pg_show.specs.Hex.{bytes_in}

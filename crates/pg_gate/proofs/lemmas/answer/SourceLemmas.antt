@@ -3,7 +3,7 @@ use Rattle.std.proofs.Common.{◌≡◌, ◌∙◌, ℕ, Result, arith, refl, su
 use Rattle.std.specs.Result.{IsErrAnd}
 use Rattle.pg_link.specs.declared.sources.Sources.{Ghosts}
 use Rattle.pg_gate.specs.Failures.{failures_by}
-use Rattle.pg_link.specs.Reads.{Reads}
+use Rattle.pg_link.specs.walk.Reads.{Reads}
 use Rattle.pg_gate.proofs.lemmas.ErrorLemmas.{passed_on}
 
 module _ {S : Type 0} (members : Ghosts S) (old : S) where

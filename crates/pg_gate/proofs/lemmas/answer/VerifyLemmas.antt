@@ -33,7 +33,7 @@ use Rattle.pg_gate.specs.declared.error.Side.{Side}
 use Rattle.pg_gate.specs.declared.error.Side.TheVariants as sides
 use Rattle.pg_gate.specs.declared.print.reply.Finding.{Finding}
 use Rattle.pg_gate.proofs.lemmas.ErrorLemmas.{memory_is, of_memory, of_refused}
-use Rattle.pg_link.specs.Walk.{World}
+use Rattle.pg_link.specs.walk.Walk.{World}
 
 -- ---- names
 

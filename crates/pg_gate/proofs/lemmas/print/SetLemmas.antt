@@ -4,7 +4,7 @@ use Rattle.pg_dyn.specs.declared.error.DynError.TheVariants as messages
 use Rattle.pg_fds.specs.writing.Written.{HasNoSet}
 use Rattle.pg_fds.specs.declared.error.FdsError.{FdsError}
 use Rattle.pg_fds.specs.declared.error.FdsError.TheVariants as sets
-use Rattle.pg_link.specs.Walk.{World}
+use Rattle.pg_link.specs.walk.Walk.{World}
 use Rattle.pg_schema.specs.declared.parts.Parts.{Parts}
 use Rattle.pg_gate.specs.answer.Files.{IsCompiled, IsUnwritten}
 

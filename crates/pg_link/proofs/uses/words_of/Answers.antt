@@ -1,8 +1,8 @@
 use Rattle.std.proofs.Common.{◌∙◌, ◌∷◌, ℕ, List, sym, ap, arith, string_bytes}
 use Rattle.std.proofs.lemmas.List.{take_all}
 use Rattle.pg_syntax.specs.declared.tree as tree
-use Rattle.pg_link.specs.Resolves.{part_words}
-use Rattle.pg_link.proofs.UseLaws.{texts_of_words}
+use Rattle.pg_link.specs.names.Resolves.{part_words}
+use Rattle.pg_link.proofs.lemmas.uses.UseLaws.{texts_of_words}
 use Rattle.pg_link.proofs.uses.words_of.Goals as goal
 
 pub returns : goal.returns

@@ -1,6 +1,6 @@
 use Rattle.std.proofs.Common.{◌≡◌, ◌∷◌, take, string_bytes}
-use Rattle.pg_link.specs.Index.{texts}
-use Rattle.pg_link.specs.Resolves.{part_words}
+use Rattle.pg_link.specs.names.Names.{texts}
+use Rattle.pg_link.specs.names.Resolves.{part_words}
 use Rattle.pg_link.proofs.uses.words_of.Given as goal
 
 abbrev pub invariant-loop-word : goal.invariant-loop-word

@@ -2,18 +2,19 @@ use Rattle.std.proofs.Common.{◌≡◌, inl, ◌∙◌, ◌+◌, ◌<◌, ◌�
 use Rattle.std.proofs.lemmas.List.{map_more, take_all}
 use Rattle.std.proofs.lemmas.List.Elements.{All-more}
 use Rattle.std.proofs.lemmas.Result.{err_from_is_err_and}
-use Rattle.pg_link.specs.declared.imports.ImportLine as lines
+use Rattle.pg_link.specs.declared.walk.imports.ImportLine as lines
 use Rattle.pg_link.specs.declared.walk.Asking as askings
 use Rattle.pg_link.specs.declared.walk.SourceFile as kept
-use Rattle.pg_link.specs.Files.{Differ, is_path_of, paths_of}
-use Rattle.pg_link.specs.Reads.{world_of}
-use Rattle.pg_link.specs.Walk.{World, Entry, IsSound, Follows, IsTextFault, IsParsed, IsImportFault, Refuses, VisitLists, entries, listed_paths, open_paths, outlines, has_path}
-use Rattle.pg_link.proofs.LeadLaws.{ComeByThese, both_extend, come_done, come_first, come_next, one_extends, same_extends}
-use Rattle.pg_link.proofs.OrderLaws.{apart_more}
-use Rattle.pg_link.proofs.PathLaws.{has_found}
-use Rattle.pg_link.proofs.PostOrderLaws.{file_listed, listed_before, next_listed, none_listed}
-use Rattle.pg_link.proofs.ReadLaws.{at_most_new, first_way, next_way, none_new, none_read, not_begun, one_new, reads_on, same_world, way_done, way_refused}
-use Rattle.pg_link.proofs.WalkLaws.{beyond, comes_of, follows_next, import_refused, line_path, next_import, none_yet, not_read, one_more, open_count, open_one, reached_of, read_refused, take_none, text_refused}
+use Rattle.pg_link.specs.names.Files.{Differ, is_path_of, paths_of}
+use Rattle.pg_link.specs.walk.Reads.{world_of}
+use Rattle.pg_link.specs.walk.Walk.{World, Entry, IsParsed, Refuses, outlines}
+use Rattle.pg_link.specs.inner.Walking.{IsSound, Follows, IsTextFault, IsImportFault, VisitLists, entries, listed_paths, open_paths, has_path}
+use Rattle.pg_link.proofs.lemmas.walk.LeadLaws.{ComeByThese, both_extend, come_done, come_first, come_next, one_extends, same_extends}
+use Rattle.pg_link.proofs.lemmas.walk.OrderLaws.{apart_more}
+use Rattle.pg_link.proofs.lemmas.walk.PathLaws.{has_found}
+use Rattle.pg_link.proofs.lemmas.walk.PostOrderLaws.{file_listed, listed_before, next_listed, none_listed}
+use Rattle.pg_link.proofs.lemmas.walk.ReadLaws.{at_most_new, first_way, next_way, none_new, none_read, not_begun, one_new, reads_on, same_world, way_done, way_refused}
+use Rattle.pg_link.proofs.lemmas.walk.WalkLaws.{beyond, comes_of, follows_next, import_refused, line_path, next_import, none_yet, not_read, one_more, open_count, open_one, reached_of, read_refused, take_none, text_refused}
 use Rattle.pg_link.proofs.walk.+visit.Goals as goal
 
 pub returns-then-contains_key-clause-has : goal.returns-then-contains_key-clause-has

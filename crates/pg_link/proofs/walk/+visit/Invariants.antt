@@ -1,11 +1,11 @@
 use Rattle.std.proofs.Common.{◌≡◌, ◌-◌, ◌+◌, ◌<◌, ℕ, List, ◌∷◌, All, take, true, length, map, string_bytes}
-use Rattle.pg_link.specs.declared.imports.ImportLine as lines
-use Rattle.pg_link.specs.Files.{Differ}
-use Rattle.pg_link.specs.Reads.{Reads, world_of}
-use Rattle.pg_link.specs.Walk.{IsSound, Extends, Follows, Keeps, VisitLists, entries, listed_paths, open_paths, has_path}
-use Rattle.pg_link.proofs.LeadLaws.{ComeByThese}
-use Rattle.pg_link.proofs.ReadLaws.{IsUnderWay}
-use Rattle.pg_link.proofs.WalkLaws.{line_path}
+use Rattle.pg_link.specs.declared.walk.imports.ImportLine as lines
+use Rattle.pg_link.specs.names.Files.{Differ}
+use Rattle.pg_link.specs.walk.Reads.{Reads, world_of}
+use Rattle.pg_link.specs.inner.Walking.{IsSound, Extends, Follows, Keeps, VisitLists, entries, listed_paths, open_paths, has_path}
+use Rattle.pg_link.proofs.lemmas.walk.LeadLaws.{ComeByThese}
+use Rattle.pg_link.proofs.lemmas.walk.ReadLaws.{IsUnderWay}
+use Rattle.pg_link.proofs.lemmas.walk.WalkLaws.{line_path}
 use Rattle.pg_link.proofs.walk.+visit.Given as goal
 
 -- each visit that goes on reads one more file

@@ -5,14 +5,15 @@ use Rattle.std.proofs.lemmas.Result.{err_from_is_err_and}
 use Rattle.std.specs.Borrow.{Bor}
 use Rattle.std.specs.Global.{Global}
 use Rattle.pg_link.specs.declared.walk.Walk as walks
-use Rattle.pg_link.specs.Files.{is_path_of, paths_of}
-use Rattle.pg_link.specs.Index.{texts}
-use Rattle.pg_link.specs.Reads.{world_of}
-use Rattle.pg_link.specs.Walk.{World, IsSound, Follows, Refuses, VisitLists, entries, outlines, has_path}
-use Rattle.pg_link.proofs.LeadLaws.{none_come, root_next}
-use Rattle.pg_link.proofs.PostOrderLaws.{first_listed, next_listed}
-use Rattle.pg_link.proofs.ReadLaws.{all_far, far_apart, far_refused, first_far, next_far, reads_on, same_world, unasked}
-use Rattle.pg_link.proofs.WalkLaws.{contains_root, first_sound, follows_root, linked, take_none}
+use Rattle.pg_link.specs.names.Files.{is_path_of, paths_of}
+use Rattle.pg_link.specs.names.Names.{texts}
+use Rattle.pg_link.specs.walk.Reads.{world_of}
+use Rattle.pg_link.specs.walk.Walk.{World, Refuses, outlines}
+use Rattle.pg_link.specs.inner.Walking.{IsSound, Follows, VisitLists, entries, has_path}
+use Rattle.pg_link.proofs.lemmas.walk.LeadLaws.{none_come, root_next}
+use Rattle.pg_link.proofs.lemmas.walk.PostOrderLaws.{first_listed, next_listed}
+use Rattle.pg_link.proofs.lemmas.walk.ReadLaws.{all_far, far_apart, far_refused, first_far, next_far, reads_on, same_world, unasked}
+use Rattle.pg_link.proofs.lemmas.walk.WalkLaws.{contains_root, first_sound, follows_root, linked, take_none}
 use Rattle.pg_link.proofs.walk.follow_imports.Goals as goal
 
 pub returns-in_err-visit-clause-refused : goal.returns-in_err-visit-clause-refused

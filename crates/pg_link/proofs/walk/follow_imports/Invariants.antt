@@ -1,9 +1,9 @@
 use Rattle.std.proofs.Common.{◌≡◌, [], All, take, true}
-use Rattle.pg_link.specs.Index.{texts}
-use Rattle.pg_link.specs.Reads.{Reads, world_of}
-use Rattle.pg_link.specs.Walk.{IsSound, VisitLists, entries, open_paths, has_path}
-use Rattle.pg_link.proofs.LeadLaws.{ComeFrom}
-use Rattle.pg_link.proofs.ReadLaws.{IsSoFar}
+use Rattle.pg_link.specs.names.Names.{texts}
+use Rattle.pg_link.specs.walk.Reads.{Reads, world_of}
+use Rattle.pg_link.specs.inner.Walking.{IsSound, VisitLists, entries, open_paths, has_path}
+use Rattle.pg_link.proofs.lemmas.walk.LeadLaws.{ComeFrom}
+use Rattle.pg_link.proofs.lemmas.walk.ReadLaws.{IsSoFar}
 use Rattle.pg_link.proofs.walk.follow_imports.Given as goal
 
 abbrev pub invariant-loop-root : goal.invariant-loop-root

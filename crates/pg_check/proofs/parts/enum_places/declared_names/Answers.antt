@@ -1,5 +1,5 @@
 use Rattle.std.proofs.Common.{◌∙◌, map, string_bytes, ap, sym}
-use Rattle.pg_link.specs.Walk.{Entry}
+use Rattle.pg_link.specs.walk.Walk.{Entry}
 use Rattle.pg_check.specs.parts.EnumPlaces.{enum_full}
 use Rattle.pg_check.specs.rules.Outline.{enumeration, file_enums}
 use Rattle.pg_check.proofs.lemmas.parts.EnumPlaces.{names_more}

@@ -1,6 +1,6 @@
 use Rattle.std.proofs.Common.{◌≡◌, codes, subst, sym}
 use Rattle.std.proofs.lemmas.Result.{IfErr-weaker}
-use Rattle.pg_link.specs.Walk.{world}
+use Rattle.pg_link.specs.walk.Walk.{world}
 use Rattle.pg_gate.specs.Failures.{failures_at}
 use Rattle.pg_gate.specs.answer.Files.{paths_of}
 use Rattle.pg_gate.specs.answer.Grants.{IsGateError}

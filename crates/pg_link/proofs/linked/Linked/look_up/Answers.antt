@@ -2,18 +2,19 @@ use Rattle.std.proofs.Common.{◌≡◌, ◌∙◌, ◌<◌, ℕ, Bool, List, So
 use Rattle.std.proofs.lemmas.List.{length-map}
 use Rattle.std.proofs.lemmas.Option.{slice_get_within}
 use Rattle.std.specs.Global.{Global}
-use Rattle.pg_link.specs.declared.index.Index as indexes
-use Rattle.pg_link.specs.declared.resolve.Unresolved.{Unresolved}
-use Rattle.pg_link.specs.declared.target.Target.{Target}
-use Rattle.pg_link.specs.Files.{all_names, visible_names}
-use Rattle.pg_link.specs.Index.{names_seen, texts}
-use Rattle.pg_link.specs.Linked.{IsSettled, LinkedFiles}
-use Rattle.pg_link.specs.Names.{Names, Text}
-use Rattle.pg_link.specs.Resolves.{Reference, Resolves, reference}
-use Rattle.pg_link.specs.Unresolved.{Refuses}
-use Rattle.pg_link.specs.Walk.{Entry, outlines, path_of}
-use Rattle.pg_link.proofs.LookLaws.{if_err, if_ok}
-use Rattle.pg_link.proofs.UseFaultLaws.{all_are, its_marks, visible_are}
+use Rattle.pg_link.specs.declared.names.index.Index as indexes
+use Rattle.pg_link.specs.declared.names.resolve.Unresolved.{Unresolved}
+use Rattle.pg_link.specs.declared.uses.target.Target.{Target}
+use Rattle.pg_link.specs.names.Files.{all_names, visible_names}
+use Rattle.pg_link.specs.inner.Index.{names_seen}
+use Rattle.pg_link.specs.names.Names.{texts, Names, Text}
+use Rattle.pg_link.specs.inner.Settled.{IsSettled}
+use Rattle.pg_link.specs.Linked.{LinkedFiles}
+use Rattle.pg_link.specs.names.Resolves.{Reference, Resolves, reference}
+use Rattle.pg_link.specs.inner.Refusals.{Refuses}
+use Rattle.pg_link.specs.walk.Walk.{Entry, outlines, path_of}
+use Rattle.pg_link.proofs.lemmas.names.LookLaws.{if_err, if_ok}
+use Rattle.pg_link.proofs.lemmas.uses.UseFaultLaws.{all_are, its_marks, visible_are}
 use Rattle.pg_link.proofs.linked.Linked.look_up.Goals as goal
 
 -- what the file sees, through the index

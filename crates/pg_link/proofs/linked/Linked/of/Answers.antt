@@ -1,7 +1,7 @@
 use Rattle.std.proofs.Common.{◌∙◌, Bool, List, Vec, map, subst, sym}
 use Rattle.std.proofs.lemmas.List.{length-map}
 use Rattle.std.specs.Global.{Global}
-use Rattle.pg_link.specs.VisibleFiles.{AreVisibleFiles}
+use Rattle.pg_link.specs.inner.VisibleFiles.{AreVisibleFiles}
 use Rattle.pg_link.proofs.linked.Linked.of.Goals as goal
 
 pub all_targets-requires-clause-visible_files : goal.all_targets-requires-clause-visible_files

@@ -4,8 +4,8 @@ use Rattle.std.proofs.lemmas.List.{length-map}
 use Rattle.std.specs.Option.{option_map}
 use Rattle.pg_link.specs.declared.targets.FileTargets.{FileTargets}
 use Rattle.pg_link.specs.Linked.{LinkedFiles}
-use Rattle.pg_link.specs.Targets.{file_places}
-use Rattle.pg_link.specs.Walk.{Entry}
+use Rattle.pg_link.specs.uses.Targets.{file_places}
+use Rattle.pg_link.specs.walk.Walk.{Entry}
 use Rattle.pg_link.proofs.linked.Linked.places.Goals as goal
 
 pub returns : goal.returns

@@ -1,10 +1,9 @@
 use Rattle.std.proofs.Common.{◌∙◌, ◌∷◌, sym, ap, subst}
-use Rattle.pg_link.specs.Files.{visible_names}
-use Rattle.pg_link.specs.Index.{texts}
-use Rattle.pg_link.specs.Names.{Text}
-use Rattle.pg_link.specs.Resolves.{Resolves, reference}
-use Rattle.pg_link.specs.Walk.{outlines, path_of}
-use Rattle.pg_link.proofs.LookLaws.{has_dot}
+use Rattle.pg_link.specs.names.Files.{visible_names}
+use Rattle.pg_link.specs.names.Names.{texts, Text}
+use Rattle.pg_link.specs.names.Resolves.{Resolves, reference}
+use Rattle.pg_link.specs.walk.Walk.{outlines, path_of}
+use Rattle.pg_link.proofs.lemmas.names.LookLaws.{has_dot}
 use Rattle.pg_link.proofs.linked.Linked.resolve.Goals as goal
 
 pub returns-in-Ok-clause-resolves : goal.returns-in-Ok-clause-resolves

@@ -1,9 +1,9 @@
 use Rattle.std.proofs.Common.{◌∙◌, ◌++◌, List, map, sym, ap}
 use Rattle.pg_syntax.specs.declared.tree.Part.{Part}
-use Rattle.pg_link.specs.Index.{texts}
-use Rattle.pg_link.specs.Sites.{use_of}
-use Rattle.pg_link.specs.Uses.{Use, part_uses}
-use Rattle.pg_link.proofs.UseLaws.{part_message}
+use Rattle.pg_link.specs.names.Names.{texts}
+use Rattle.pg_link.specs.inner.Made.{use_of}
+use Rattle.pg_link.specs.uses.Uses.{Use, part_uses}
+use Rattle.pg_link.proofs.lemmas.uses.UseLaws.{part_message}
 use Rattle.pg_link.proofs.uses.UseList.+uses.Goals as goal
 
 pub add_part-returns-in_ok-add_message-in-Message : goal.add_part-returns-in_ok-add_message-in-Message

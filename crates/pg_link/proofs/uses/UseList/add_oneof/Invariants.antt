@@ -1,7 +1,7 @@
 use Rattle.std.proofs.Common.{◌≡◌, ◌++◌, map, flat_map, drop}
-use Rattle.pg_link.specs.Index.{texts}
-use Rattle.pg_link.specs.Sites.{use_of}
-use Rattle.pg_link.specs.Uses.{oneof_part_uses}
+use Rattle.pg_link.specs.names.Names.{texts}
+use Rattle.pg_link.specs.inner.Made.{use_of}
+use Rattle.pg_link.specs.uses.Uses.{oneof_part_uses}
 use Rattle.pg_link.proofs.uses.UseList.add_oneof.Given as goal
 
 -- the uses so far, and those of the parts that are left, are those of all

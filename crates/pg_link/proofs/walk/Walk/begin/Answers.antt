@@ -1,4 +1,4 @@
-use Rattle.pg_link.proofs.PathLaws.{opens}
+use Rattle.pg_link.proofs.lemmas.walk.PathLaws.{opens}
 use Rattle.pg_link.proofs.walk.Walk.begin.Goals as goal
 
 pub returns-clause-opened : goal.returns-clause-opened

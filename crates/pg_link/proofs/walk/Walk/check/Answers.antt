@@ -1,5 +1,5 @@
 use Rattle.std.proofs.Common.{◌∙◌, sym}
-use Rattle.pg_link.proofs.PathLaws.{among_open, seen_before, first_seen, noted}
+use Rattle.pg_link.proofs.lemmas.walk.PathLaws.{among_open, seen_before, first_seen, noted}
 use Rattle.pg_link.proofs.walk.Walk.check.Goals as goal
 
 pub returns-then-not-branch-clause-fault : goal.returns-then-not-branch-clause-fault

@@ -4,8 +4,8 @@ use Rattle.std.specs.HashMap.{get_by_text}
 use Rattle.std.specs.String.{string_eq}
 use Rattle.indexmap.proofs.CallerLemmas.{insert_entry-new}
 use Rattle.pg_link.specs.declared.walk.Walk as walks
-use Rattle.pg_link.specs.Walk.{has_path}
-use Rattle.pg_link.proofs.PathLaws.{keeps_path, has_newest, has_found, none_of}
+use Rattle.pg_link.specs.inner.Walking.{has_path}
+use Rattle.pg_link.proofs.lemmas.walk.PathLaws.{keeps_path, has_newest, has_found, none_of}
 use Rattle.pg_link.proofs.walk.Walk.end.Goals as goal
 
 pub returns-clause-comes : goal.returns-clause-comes

@@ -3,7 +3,7 @@ use Rattle.std.proofs.Math.Nat.{lt_of_not-le}
 use Rattle.std.proofs.lemmas.Bool.Decides.{nat_tests}
 use Rattle.std.proofs.lemmas.List.Sorted.{searched}
 use Rattle.std.specs.Result.{MatchResult}
-use Rattle.pg_link.specs.declared.target.Target.{Target}
+use Rattle.pg_link.specs.declared.uses.target.Target.{Target}
 use Rattle.pg_check.proofs.lemmas.rules.PlaceLaws.{copied_is, found_there, found_nowhere, in_order}
 use Rattle.pg_check.proofs.rules.by_place.ByPlace.at.Goals as goal
 

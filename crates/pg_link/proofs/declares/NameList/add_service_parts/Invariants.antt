@@ -1,8 +1,0 @@
-use Rattle.std.proofs.Common.{◌≡◌, ◌++◌, map, drop}
-use Rattle.pg_link.specs.Declares.{Done, names_in}
-use Rattle.pg_link.specs.Outline.{all_of, declared_of, of_service_part}
-use Rattle.pg_link.proofs.declares.NameList.add_service_parts.Given as goal
-
--- the names so far, and those of the parts that are left, are those of all
-abbrev pub invariant-loop-part : goal.invariant-loop-part
-invariant-loop-part l = map declared_of l.self.names.items ++ names_in l.scope (all_of of_service_part (drop l.part-index l.parts) Done) ≡ map declared_of l.fn.self.names.items ++ names_in l.scope (all_of of_service_part l.parts Done)

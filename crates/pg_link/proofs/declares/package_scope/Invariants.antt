@@ -1,7 +1,0 @@
-use Rattle.std.proofs.Common.{◌≡◌, ◌∷◌, map, take, string_bytes}
-use Rattle.pg_link.specs.Declares.{package_scope}
-use Rattle.pg_link.specs.Outline.{word}
-use Rattle.pg_link.proofs.declares.package_scope.Given as goal
-
-abbrev pub invariant-loop-word : goal.invariant-loop-word
-invariant-loop-word l = string_bytes l.scope ≡ package_scope (word l.dotted.first ∷ map word (take l.word-index l.word-items))

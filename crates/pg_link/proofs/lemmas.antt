@@ -1,0 +1,4 @@
+pub mod SmallFiles
+pub mod walk
+pub mod names
+pub mod uses

@@ -1,0 +1,13 @@
+pub mod BridgeLaws
+pub mod DeclareLaws
+pub mod LookLaws
+pub mod MaskLaws
+pub mod NumberLaws
+pub mod OnceLaws
+pub mod PlaceLaws
+pub mod ResolvesLaws
+pub mod SeesLaws
+pub mod StandingLaws
+pub mod TextLaws
+pub mod VisibleFilesLaws
+pub mod VisibleLaws

@@ -1,0 +1,120 @@
+-- Full names and scopes, word by word.
+use Rattle.std.proofs.Common.{◌≡◌, ◌∙◌, ℕ, Bool, true, false, List, [], ◌∷◌, ◌++◌, map, Option, Some, None, refl, ap, string_bytes, append_assoc}
+use Rattle.std.proofs.Common.{zero, suc, ◌+◌, ◌-◌, ◌<◌, ◌≤◌, ◌≢◌, String, length, take, slice_index_or, subst, sym, add-one, arith}
+use Rattle.std.proofs.lemmas.List.{map_more}
+use Rattle.std.specs.Borrow.{Bor}
+use Rattle.std.specs.Global.{Global}
+use Rattle.std.specs.HashMap.{HashMap, get_by_text}
+use Rattle.pg_link.specs.declared.names.Named as nameds
+use Rattle.pg_link.specs.inner.Index.{files_of, is_seen, names_seen, word_alone}
+use Rattle.pg_link.specs.names.Names.{texts, Text, Names, called, bears, ends_word}
+use Rattle.std.specs.Option.{option_and_then, option_map}
+use Rattle.std.proofs.lemmas.Option.{same_Some}
+use Rattle.pg_link.specs.declared.names.Kind.{Kind}
+use Rattle.pg_link.specs.names.Resolves.{scopes, innermost, borne, part_words, reference}
+use Rattle.pg_syntax.specs.declared.tree as tree
+
+pub called-append : (words more : List Text) → called (words ++ more) ≡ called words ++ called more
+called-append [] more = refl
+called-append (word ∷ words) more = rw (called-append words more, append_assoc word (called words) (called more)) refl
+
+-- the innermost scope, and those around it
+pub scopes-around : (words : List Text) (word : Text) → scopes (words ++ word ∷ []) ≡ (words ++ word ∷ []) ∷ scopes words
+scopes-around [] word = refl
+scopes-around (w ∷ words) word = rw (scopes-around words word) refl
+
+pub innermost-around : (names : Names) (test : Kind → Bool) (part : Text) (words : List Text) (word : Text)
+    → bears names test (called (words ++ word ∷ []) ++ part) ≡ false → innermost names test part (words ++ word ∷ []) ≡ innermost names test part words
+innermost-around names test part words word none = rw (scopes-around words word, none) refl
+
+-- one more word
+pub called-more : {X : Type 0} (f : X → Text) (xs : List X) (i : ℕ) (d : X) → i < length xs
+    → called (map f (take (i + 1) xs)) ≡ called (map f (take i xs)) ++ called (f (slice_index_or xs i d) ∷ [])
+called-more f xs i d within = rw (map_more f xs i d within) (called-append (map f (take i xs)) (f (slice_index_or xs i d) ∷ []))
+
+-- the search begins with the innermost scope
+pub scopes-first : (words : List Text) → (around : List (List Text)) × (scopes words ≡ words ∷ around)
+scopes-first [] = ([], refl)
+scopes-first (word ∷ words) = let h = scopes-first words in (map (λ (inner : List Text). word ∷ inner) h.0 ++ [] ∷ [], rw h.1 refl)
+
+-- it ends there
+pub ends_here : (names : Names) (test : Kind → Bool) (part : Text) (scope around : List Text) (outer : Text)
+    → innermost names test part around ≡ innermost names test part scope → outer ≡ called around → bears names test (outer ++ part) ≡ true
+    → Some outer ≡ option_map called (innermost names test part scope)
+ends_here names test part scope around outer same is_called here =
+    let first = scopes-first around in
+    let at : bears names test (called around ++ part) ≡ true = subst (λ (t : Text). bears names test (t ++ part) ≡ true) is_called here in
+    let found : innermost names test part around ≡ Some around = rw (first.1, at) refl in
+    rw (← same, found, is_called) refl
+
+-- or it goes on outwards
+pub goes_outwards : (names : Names) (test : Kind → Bool) (part : Text) (scope : List (Bor Text)) (len : ℕ) → len ≤ length scope → len ≢ 0
+    → bears names test (called (texts (take len scope)) ++ part) ≡ false
+    → innermost names test part (texts (take (len - 1) scope)) ≡ innermost names test part (texts (take len scope))
+goes_outwards names test part scope zero within some none = absurd (some refl)
+goes_outwards names test part scope (suc n) within some none =
+    let word : Bor Text = slice_index_or scope n (record { ref_ptr = (0, 0); now = [] }) in
+    let less : suc n - 1 ≡ n = omega arith in
+    let split : texts (take (suc n) scope) ≡ texts (take n scope) ++ word.now ∷ [] =
+    rw (sym (add-one n)) (map_more (λ (w : Bor Text). w.now) scope n (record { ref_ptr = (0, 0); now = [] }) (omega arith)) in
+    let none_there : bears names test (called (texts (take n scope) ++ word.now ∷ []) ++ part) ≡ false = rw split at none in
+    rw (less, split) (sym (innermost-around names test part (texts (take n scope)) word.now none_there))
+
+-- the full name of a scope ends in its last word
+pub last_word : (scope : List (Bor Text)) (len : ℕ) (text : Text) → len ≤ length scope → len ≢ 0 → text ≡ called (texts (take len scope))
+    → text ≡ called (texts (take (len - 1) scope)) ++ called ((slice_index_or scope (len - 1) (record { ref_ptr = (0, 0); now = [] })).now ∷ [])
+last_word scope len text within some is =
+    let next : (len - 1) + 1 ≡ len = omega arith in
+    is ∙ (ap (λ (n : ℕ). called (texts (take n scope))) (sym next) ∙ called-more (λ (w : Bor Text). w.now) scope (len - 1) (record { ref_ptr = (0, 0); now = [] }) (omega arith))
+
+-- what the index holds of a name that is seen
+pub is_borne : {S : Type 0} (index : HashMap (String Global) nameds.Named S) (visible : Option (List Bool)) (full name : Text) (named : nameds.Named)
+    → get_by_text index full ≡ Some named → is_seen visible (files_of named) ≡ true → full ≡ name → Some (name, named.kind) ≡ borne (names_seen index visible) full
+is_borne index visible full name named held seen same = rw (held, seen, same) refl
+
+-- one more word behind a first one
+pub called-behind : {X : Type 0} (first : Text) (f : X → Text) (xs : List X) (i : ℕ) (d : X) → i < length xs
+    → called (first ∷ map f (take (i + 1) xs)) ≡ called (first ∷ map f (take i xs)) ++ called (f (slice_index_or xs i d) ∷ [])
+called-behind first f xs i d within = rw (map_more f xs i d within) (called-append (first ∷ map f (take i xs)) (f (slice_index_or xs i d) ∷ []))
+
+-- ---- a word alone
+
+abbrev pub shown : Bor Text × Bor nameds.Named → Text × Kind
+shown f = (f.0.now, f.1.now.kind)
+
+none_some : {X : Type 0} (x : X) → None ≡ Some x → ⊥
+none_some x is = absurd (cc (is))
+
+-- what the search ends at is what is meant
+pub word_found : (names : Names) (scope around : List Text) (outer part : Text) → innermost names ends_word part around ≡ innermost names ends_word part scope
+    → outer ≡ called around → bears names ends_word (outer ++ part) ≡ true
+    → borne names (outer ++ part) ≡ option_and_then (borne names) (option_map (λ (o : List Text). called o ++ part) (innermost names ends_word part scope))
+word_found names scope around outer part same is_called here =
+    through (innermost names ends_word part scope) (ends_here names ends_word part scope around outer same is_called here)
+  where
+    through : (m : Option (List Text)) → Some outer ≡ option_map called m → borne names (outer ++ part) ≡ option_and_then (borne names) (option_map (λ (o : List Text). called o ++ part) m)
+    through None is = absurd (none_some outer (sym is))
+    through (Some w) is = ap (λ (o : Text). borne names (o ++ part)) (same_Some outer (called w) is)
+
+-- where it ends nowhere, nothing is meant
+pub word_not_found : (names : Names) (part : Text) (scope : List (Bor Text)) (len : ℕ) → len ≡ 0 → bears names ends_word (called (texts (take len scope)) ++ part) ≡ false
+    → innermost names ends_word part (texts (take len scope)) ≡ innermost names ends_word part (texts scope)
+    → None ≡ option_and_then (borne names) (option_map (λ (o : List Text). called o ++ part) (innermost names ends_word part (texts scope)))
+word_not_found names part scope len zero_len none same =
+    let empty : texts (take len scope) ≡ [] = ap (λ (n : ℕ). texts (take n scope)) zero_len ∙ ap texts (take_none scope) in
+    let none_here : bears names ends_word (called [] ++ part) ≡ false = subst (λ (ws : List Text). bears names ends_word (called ws ++ part) ≡ false) empty none in
+    let nowhere : innermost names ends_word part [] ≡ None = rw none_here refl in
+    let left : innermost names ends_word part (texts scope) ≡ None = sym same ∙ (ap (innermost names ends_word part) empty ∙ nowhere) in
+    sym (ap (λ (m : Option (List Text)). option_and_then (borne names) (option_map (λ (o : List Text). called o ++ part) m)) left)
+  where
+    take_none : (xs : List (Bor Text)) → take 0 xs ≡ []
+    take_none [] = refl
+    take_none (x ∷ xs) = refl
+
+pub one_word : (n : tree.TypeName.TypeName) (word : Text) → n.is_full ≡ false → n.path.more.items ≡ [] → word ≡ string_bytes n.path.first.text → reference n ≡ word_alone word
+one_word n word full more same =
+    let by_full : reference n ≡ record { is_full = false; first = string_bytes n.path.first.text; more = part_words n.path.more.items } =
+    ap (λ (b : Bool). record { is_full = b; first = string_bytes n.path.first.text; more = part_words n.path.more.items }) full in
+    let by_more : record { is_full = false; first = string_bytes n.path.first.text; more = part_words n.path.more.items } ≡ word_alone (string_bytes n.path.first.text) =
+    ap (λ (ps : List tree.Name.Name). record { is_full = false; first = string_bytes n.path.first.text; more = part_words ps }) more in
+    by_full ∙ (by_more ∙ ap word_alone (sym same))

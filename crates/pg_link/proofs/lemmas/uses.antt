@@ -1,0 +1,4 @@
+pub mod FoundScopeLaws
+pub mod TargetLaws
+pub mod UseFaultLaws
+pub mod UseLaws

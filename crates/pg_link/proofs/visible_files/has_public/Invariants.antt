@@ -1,8 +1,0 @@
-use Rattle.std.proofs.Common.{◌≡◌, drop, map}
-use Rattle.pg_link.specs.Files.{public_paths}
-use Rattle.pg_link.specs.Imports.{line_of}
-use Rattle.pg_link.proofs.visible_files.has_public.Given as goal
-
--- what is handed on by those behind is handed on by all
-abbrev pub invariant-loop-line : goal.invariant-loop-line
-invariant-loop-line l = public_paths (map line_of (drop l.line-index l.lines)) ≡ public_paths (map line_of l.lines)

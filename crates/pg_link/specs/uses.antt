@@ -1,0 +1,4 @@
+pub mod Targets
+pub mod Unresolved
+pub mod UseFaults
+pub mod Uses

@@ -1,0 +1,4 @@
+pub mod FolderPath
+pub mod PostOrder
+pub mod Reads
+pub mod Walk

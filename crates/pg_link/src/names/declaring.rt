@@ -1,0 +1,220 @@
+//! The names of files, put into an index one by one.
+ghost use Rattle.std.specs.Prelude.{◌≡◌, ◌+◌, IfErr, IfOk, IfSome, OnOk, Some, None, false, length};
+ghost use Rattle.pg_link.specs.names.Files.{Declared};
+ghost use Rattle.pg_link.specs.names.Names.{is_package};
+ghost use Rattle.pg_link.specs.inner.Made.{declared_of};
+ghost use Rattle.pg_link.specs.names.Standing as spec;
+ghost use Rattle.pg_link.specs.inner.Indexed as indexed;
+ghost use Rattle.pg_link.specs.uses.Targets.{is_enum, is_message};
+
+use crate::names::declares::{DeclaredName, declared_names};
+use crate::error::{LinkError, place_in};
+use crate::names::index::Index;
+use crate::names::{Kind, Named};
+use crate::names::text_keys::TextKeys;
+use crate::walk::SourceFile;
+use indexmap::IndexMap;
+use std::alloc::{AllocError, Global};
+
+/// What stands under a name that this file declares first.
+fn first(alloc: Global, file: usize, declared: &DeclaredName, number: usize) -> Named
+    ensures added { indexed.view result
+        ≡ indexed.added (spec.standing file (declared_of declared.now)) None }
+    ensures number { result.number ≡ number }
+{
+    Named {
+        kind: declared.kind,
+        at: declared.at,
+        file,
+        others: Vec::new(alloc),
+        number,
+    }
+}
+
+/// What stands under a name once this file declares it too.
+fn again(file: usize, named: Named, number: usize) -> Result<Named, AllocError>
+    ensures added { IfOk result (λ n. (d : Declared)
+        → indexed.view n ≡ indexed.added (spec.standing file d) (Some (indexed.view named))) }
+    ensures number { IfOk result (λ n. n.number ≡ number) }
+{
+    let mut others = named.others;
+    others.push(file)?;
+    Ok(Named {
+        kind: named.kind,
+        at: named.at,
+        file: named.file,
+        others,
+        number,
+    })
+}
+
+/// Whether both are parts of packages, which one name may be of several files.
+fn may_share(old: Kind, new: Kind) -> bool
+    ensures { result ≡ spec.may_share old new }
+{
+    old.is_package() && new.is_package()
+}
+
+impl Index {
+    /// The number of the next that is declared as this.
+    fn next_number(&self, kind: Kind) -> usize
+        ensures { result ≡ indexed.next_number self.now kind }
+    {
+        match kind {
+            Kind::Message => self.messages.len(),
+            Kind::Enum => self.enums.len(),
+            _ => 0,
+        }
+    }
+
+    /// Counts one more that is declared as this, whose name stands at this place.
+    fn count(&mut self, kind: Kind, place: usize) -> Result<(), AllocError>
+        ensures names { OnOk result (self.new.names ≡ self.old.names) }
+        ensures messages { OnOk result
+            (length self.new.messages.items
+            ≡ length self.old.messages.items + indexed.one_if (is_message kind)) }
+        ensures enums { OnOk result (length self.new.enums.items
+            ≡ length self.old.enums.items + indexed.one_if (is_enum kind)) }
+    {
+        match kind {
+            Kind::Message => self.messages.push(place)?,
+            Kind::Enum => self.enums.push(place)?,
+            _ => {}
+        }
+        Ok(())
+    }
+
+    /// Appends a part of a package. The list of its files stays where it is and grows, however many
+    /// share the name. False where the name stands twice.
+    fn add_part(
+        &mut self,
+        alloc: Global,
+        file: usize,
+        declared: DeclaredName,
+    ) -> Result<bool, AllocError>
+        ensures { IfOk result (λ may. indexed.Adds self.old self.new
+            (spec.standing file (declared_of declared)) may) }
+    {
+        let kind = declared.kind;
+        let number = self.next_number(kind);
+        let place = self.names.len();
+        let name = declared.name.clone()?;
+        let alone = first(alloc, file, &declared, number);
+        match self.names.insert(name, alone)? {
+            None => {
+                self.count(kind, place)?;
+                Ok(true)
+            }
+            Some(named) => {
+                if !may_share(named.kind, kind) {
+                    return Ok(false);
+                }
+                let more = again(file, named, number)?;
+                self.names.insert(declared.name, more)?;
+                self.count(kind, place)?;
+                Ok(true)
+            }
+        }
+    }
+
+    /// Appends a name that no other may share, so that it is hashed once. False where it stands
+    /// twice.
+    fn add_alone(
+        &mut self,
+        alloc: Global,
+        file: usize,
+        declared: DeclaredName,
+    ) -> Result<bool, AllocError>
+        requires { is_package declared.kind ≡ false }
+        ensures { IfOk result (λ may. indexed.Adds self.old self.new
+            (spec.standing file (declared_of declared)) may) }
+    {
+        let kind = declared.kind;
+        let number = self.next_number(kind);
+        let named = first(alloc, file, &declared, number);
+        let place = self.names.len();
+        match self.names.insert(declared.name, named)? {
+            Some(_) => return Ok(false),
+            None => self.count(kind, place)?,
+        }
+        Ok(true)
+    }
+
+    /// Appends a name that a file declares. False where the name stands twice.
+    pub(crate) fn add(
+        &mut self,
+        alloc: Global,
+        file: usize,
+        declared: DeclaredName,
+    ) -> Result<bool, AllocError>
+        ensures { IfOk result (λ may. indexed.Adds self.old self.new
+            (spec.standing file (declared_of declared)) may) }
+    {
+        if declared.kind.is_package() {
+            self.add_part(alloc, file, declared)
+        } else {
+            self.add_alone(alloc, file, declared)
+        }
+    }
+}
+
+impl Index {
+    /// Appends the names that a file declares. `number` is the file's.
+    fn add_file(
+        &mut self,
+        alloc: Global,
+        number: usize,
+        path: &str,
+        file: &SourceFile,
+    ) -> Result<(), LinkError>
+        ensures holds { OnOk result (indexed.AddsAll self.old self.new
+            (spec.standings number file.now.tree)) }
+        ensures twice { IfErr result
+            (indexed.IsTwice self.old number path.now file.now.bytes.items
+            (spec.standings number file.now.tree)) }
+    {
+        let names = declared_names(alloc, &file.tree)?;
+        self.names.reserve(names.len())?;
+        for declared in names {
+            let at = declared.at;
+            if !self.add(alloc, number, declared)? {
+                let place = place_in(alloc, path, &file.bytes, at)?;
+                return Err(LinkError::DuplicateName(place));
+            }
+        }
+        Ok(())
+    }
+}
+
+/// The names of all files, by their full names and in the order in which they are declared. `files`
+/// stand in the order in which their names are looked at; each is numbered by its place.
+///
+/// E304 where a name is declared twice, and not both times as a part of a package: at the later of
+/// the two.
+pub(crate) fn index_names(
+    alloc: Global,
+    files: &IndexMap<String, SourceFile>,
+) -> Result<Index, LinkError>
+    // The index holds just the names that the files declare, and none stands twice.
+    ensures holds { IfOk result (λ index. indexed.Holds index.names
+        (spec.all_standings files.now.entries)) }
+    ensures once { OnOk result (spec.NoneTwice (spec.all_standings files.now.entries)) }
+    // Each message type and enum has its number.
+    ensures numbered { IfOk result (λ index. indexed.IsNumbered index
+        (spec.all_standings files.now.entries)) }
+    // A name is refused only where it is the first that stands twice, at its place.
+    ensures twice { IfErr result (spec.IsTwiceIn files.now.entries) }
+{
+    let mut index = Index {
+        names: IndexMap::with_hasher(alloc, TextKeys::of(files)),
+        messages: Vec::new(alloc),
+        enums: Vec::new(alloc),
+    };
+    for number in 0..files.len() {
+        let Some((path, file)) = files.get_index(number) else {
+            continue;
+        };
+        index.add_file(alloc, number, path.as_str(), file)?;
+    }
+    Ok(index)
+}

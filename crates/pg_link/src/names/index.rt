@@ -1,0 +1,293 @@
+//! The names of all files, by their full names.
+ghost use Rattle.std.specs.HashMap.{get_by_text};
+ghost use Rattle.std.specs.Prelude.{◌≡◌, ◌++◌, IfOk, IfSome, List, OnOk, Some, None, [], ◌∷◌, string_bytes, false, true, ℕ};
+ghost use Rattle.std.specs.Option.{is_some, option_map};
+ghost use Rattle.pg_link.specs.inner.Index as spec;
+ghost use Rattle.pg_link.specs.names.Names as names;
+ghost use Rattle.pg_link.specs.names.Resolves as resolves;
+
+use crate::names::{Kind, Named};
+use crate::names::text_keys::TextKeys;
+use indexmap::IndexMap;
+use pg_syntax::tree::{Name, TypeName};
+use std::alloc::{AllocError, Global};
+
+/// What a file sees: its own number, and for each file whether it sees it.
+#[derive(Clone, Copy)]
+pub(crate) struct Visible<'a> {
+    pub own: usize,
+    pub marks: &'a [bool],
+}
+
+/// Whether the file that sees is one of these, and sees itself.
+fn is_own(visible: Visible<'_>, files: &[usize]) -> bool
+    ensures { result ≡ true → spec.sees_one visible.entry.marks.now files.now ≡ true }
+{
+    match files.binary_search(&visible.own) {
+        Ok(_) => visible.marks.get(visible.own).copied().unwrap_or(false),
+        Err(_) => false,
+    }
+}
+
+/// Whether one of the files is seen. A part of a package may stand in all files, and mostly stands
+/// in the one that asks, so that is looked at first.
+fn sees_one(visible: Visible<'_>, files: &[usize]) -> bool
+    ensures { result ≡ spec.sees_one visible.entry.marks.now files.now }
+{
+    if is_own(visible, files) {
+        return true;
+    }
+    for file in files {
+        if visible.marks.get(*file).copied().unwrap_or(false) {
+            return true;
+        }
+    }
+    false
+}
+
+/// Whether one of the files that declare a name is seen. Where no file looks, all are.
+fn is_seen(visible: Option<Visible<'_>>, named: &Named) -> bool
+    ensures { result ≡ spec.is_seen (spec.visible_of visible.entry) (spec.files_of named.now) }
+{
+    let Some(visible) = visible else {
+        return true;
+    };
+    if visible.marks.get(named.file).copied().unwrap_or(false) {
+        return true;
+    }
+    sees_one(visible, &named.others)
+}
+
+/// Whether the search for the first part of a name ends at this kind, by the parts behind it.
+fn ends_at(kind: Kind, parts: &[Name]) -> bool
+    ensures { result ≡ resolves.sought_among (resolves.part_words parts.now) kind }
+{
+    match parts {
+        [] => kind.ends_word(),
+        [_, ..] => kind.ends_part(),
+    }
+}
+
+/// Appends a dot and the word to the text.
+pub(crate) fn push_word(text: &mut String, word: &str) -> Result<(), AllocError>
+    ensures { OnOk result (string_bytes text.new
+        ≡ string_bytes text.old ++ names.called (word.now ∷ [])) }
+{
+    text.push_str(".")?;
+    text.push_str(word)
+}
+
+/// As many bytes as most full names have, so that few texts of names grow twice.
+pub(crate) const ROOM: usize = 128;
+
+/// The full name of these words.
+fn called(alloc: Global, words: &[&str]) -> Result<String, AllocError>
+    ensures { IfOk result (λ text. string_bytes text ≡ names.called (names.texts words.now)) }
+{
+    let mut text = String::with_capacity(alloc, ROOM)?;
+    for word in words {
+        push_word(&mut text, word)?;
+    }
+    Ok(text)
+}
+
+/// Takes a dot and the word behind it away from the end of the text.
+fn pop_word(text: &mut String, word: &str)
+    requires { (front : List ℕ) × (string_bytes text.old ≡ front ++ names.called (word.now ∷ [])) }
+    ensures { (front : List ℕ) → string_bytes text.old ≡ front ++ names.called (word.now ∷ [])
+        → string_bytes text.new ≡ front }
+{
+    text.truncate(text.len() - word.len() - 1);
+}
+
+/// Appends a name to the text, as it would be written behind a dot.
+pub(crate) fn push_name(text: &mut String, name: &TypeName) -> Result<(), AllocError>
+    ensures { OnOk result (string_bytes text.new
+        ≡ string_bytes text.old ++ resolves.written (resolves.reference name.now)) }
+{
+    push_word(text, name.path.first.text.as_str())?;
+    for part in &name.path.more {
+        push_word(text, part.text.as_str())?;
+    }
+    Ok(())
+}
+
+/// The word of a name that is one word with no dot.
+fn only_word(name: &TypeName) -> Option<&str>
+    ensures { IfSome result (λ word. resolves.reference name.now ≡ spec.word_alone word.now) }
+{
+    if name.is_full || !name.path.more.is_empty() {
+        return None;
+    }
+    Some(name.path.first.text.as_str())
+}
+
+/// The names of all files, in the order in which they were first declared, and the places among
+/// them of the message types and of the enums.
+#[derive(Debug, Drop)]
+pub(crate) struct Index {
+    pub names: IndexMap<String, Named, TextKeys>,
+    pub messages: Vec<usize>,
+    pub enums: Vec<usize>,
+}
+
+impl Index {
+    /// What bears the name in the files that are seen.
+    pub(crate) fn seen(&self, visible: Option<Visible<'_>>, full: &str) -> Option<(&str, &Named)>
+        ensures borne { option_map (λ f. (f.0.now, f.1.now.kind)) result
+            ≡ resolves.borne (spec.names_seen self.now.names (spec.visible_of visible.entry))
+            full.now }
+        ensures held { IfSome result (λ f. get_by_text self.now.names full.now ≡ Some f.1.now) }
+    {
+        let (name, named) = self.names.get_key_value(full)?;
+        if is_seen(visible, named) {
+            Some((name.as_str(), named))
+        } else {
+            None
+        }
+    }
+
+    /// What bears the name in the files that are seen, where the search for a word ends at it. As
+    /// what it is declared is looked at first: a part of a package, which may stand in many files,
+    /// ends no such search.
+    fn seen_type(&self, visible: Option<Visible<'_>>, full: &str) -> Option<(&str, &Named)>
+        ensures borne { is_some result ≡ true
+            → option_map (λ f. (f.0.now, f.1.now.kind)) result
+            ≡ resolves.borne (spec.names_seen self.now.names (spec.visible_of visible.entry))
+            full.now }
+        ensures ends { is_some result ≡ names.bears
+            (spec.names_seen self.now.names (spec.visible_of visible.entry)) names.ends_word
+            full.now }
+        ensures held { IfSome result (λ f. get_by_text self.now.names f.0.now ≡ Some f.1.now) }
+    {
+        let (name, named) = self.names.get_key_value(full)?;
+        if named.kind.ends_word() && is_seen(visible, named) {
+            Some((name.as_str(), named))
+        } else {
+            None
+        }
+    }
+
+    /// Whether the search for the first part of a name ends at this full name.
+    fn ends(&self, visible: Option<Visible<'_>>, full: &str, parts: &[Name]) -> bool
+        ensures { result ≡ names.bears
+            (spec.names_seen self.now.names (spec.visible_of visible.entry))
+            (resolves.sought_among (resolves.part_words parts.now)) full.now }
+    {
+        match self.seen(visible, full) {
+            Some((_, named)) => ends_at(named.kind, parts),
+            None => false,
+        }
+    }
+
+    /// The full name of the innermost scope in which the search for a word ends.
+    pub(crate) fn innermost(
+        &self,
+        alloc: Global,
+        visible: Option<Visible<'_>>,
+        parts: &[Name],
+        word: &str,
+        scope: &[&str],
+    ) -> Result<Option<String>, AllocError>
+        ensures { IfOk result (λ outer. option_map string_bytes outer ≡ option_map names.called
+            (resolves.innermost (spec.names_seen self.now.names (spec.visible_of visible.entry))
+            (resolves.sought_among (resolves.part_words parts.now)) (names.called (word.now ∷ []))
+            (names.texts scope.now))) }
+    {
+        let mut full = called(alloc, scope)?;
+        let mut len = scope.len();
+        'scopes: loop {
+            push_word(&mut full, word)?;
+            let ends = self.ends(visible, full.as_str(), parts);
+            pop_word(&mut full, word);
+            if ends {
+                return Ok(Some(full));
+            }
+            if len == 0 {
+                return Ok(None);
+            }
+            len -= 1;
+            pop_word(&mut full, scope[len]);
+        }
+    }
+
+    /// The full name of the scope in which a name is looked up: it is that of no words where the
+    /// name has a dot in front.
+    fn scope_of(
+        &self,
+        alloc: Global,
+        visible: Option<Visible<'_>>,
+        scope: &[&str],
+        name: &TypeName,
+    ) -> Result<Option<String>, AllocError>
+        ensures { IfOk result (λ outer. option_map
+            (λ o. string_bytes o ++ resolves.written (resolves.reference name.now)) outer
+            ≡ resolves.meant
+            (spec.names_seen self.now.names (spec.visible_of visible.entry))
+            (names.texts scope.now) (resolves.reference name.now)) }
+    {
+        if name.is_full {
+            return Ok(Some(String::with_capacity(alloc, ROOM)?));
+        }
+        let path = &name.path;
+        self.innermost(alloc, visible, &path.more, path.first.text.as_str(), scope)
+    }
+
+    /// What a word names in a scope, of the files that are seen: what the search for it ends at.
+    fn found_word(
+        &self,
+        alloc: Global,
+        visible: Option<Visible<'_>>,
+        scope: &[&str],
+        word: &str,
+    ) -> Result<Option<(&str, &Named)>, AllocError>
+        ensures found { IfOk result (λ f. option_map (λ f. (f.0.now, f.1.now.kind)) f
+            ≡ resolves.found
+            (spec.names_seen self.now.names (spec.visible_of visible.entry))
+            (names.texts scope.now) (spec.word_alone word.now)) }
+        ensures held { IfOk result (λ f. IfSome f
+            (λ f. get_by_text self.now.names f.0.now ≡ Some f.1.now)) }
+    {
+        let mut full = called(alloc, scope)?;
+        let mut len = scope.len();
+        'scopes: loop {
+            push_word(&mut full, word)?;
+            let found = self.seen_type(visible, full.as_str());
+            pop_word(&mut full, word);
+            if found.is_some() {
+                return Ok(found);
+            }
+            if len == 0 {
+                return Ok(None);
+            }
+            len -= 1;
+            pop_word(&mut full, scope[len]);
+        }
+    }
+
+    /// What a name names in a scope, of the files that are seen. A word alone is looked for but
+    /// once in each scope.
+    pub(crate) fn found(
+        &self,
+        alloc: Global,
+        visible: Option<Visible<'_>>,
+        scope: &[&str],
+        name: &TypeName,
+    ) -> Result<Option<(&str, &Named)>, AllocError>
+        ensures found { IfOk result (λ f. option_map (λ f. (f.0.now, f.1.now.kind)) f
+            ≡ resolves.found
+            (spec.names_seen self.now.names (spec.visible_of visible.entry))
+            (names.texts scope.now) (resolves.reference name.now)) }
+        ensures held { IfOk result (λ f. IfSome f
+            (λ f. get_by_text self.now.names f.0.now ≡ Some f.1.now)) }
+    {
+        if let Some(word) = only_word(name) {
+            return self.found_word(alloc, visible, scope, word);
+        }
+        let Some(mut full) = self.scope_of(alloc, visible, scope, name)? else {
+            return Ok(None);
+        };
+        push_name(&mut full, name)?;
+        Ok(self.seen(visible, full.as_str()))
+    }
+}
