@@ -1,4 +1,4 @@
--- The number behind the E by which users know the error, and its place in a text.
+-- The number after the E by which users know the error, and its position in a source file.
 use Rattle.std.specs.Prelude.{ℕ, Option, Some, None}
 use Rattle.pg_lex.specs.Codes.{code_of as lex_code}
 use Rattle.pg_syntax.specs.Codes.{code_of as syntax_code}

@@ -10,13 +10,13 @@ use Rattle.pg_link.specs.names.Standing.{NoneTwice, all_standings}
 use Rattle.pg_link.specs.uses.Targets.{file_targets}
 use Rattle.pg_link.specs.walk.Walk.{Entry, IsParsed, outlines, path_of}
 
--- files, each behind those that it imports, and for each what its uses resolve to, in the order of its text
+-- files, each after those that it imports, and for each what its uses resolve to, in the order of its bytes
 pub record LinkedFiles : Type 0 where
   pub files : List Entry
   pub targets : List (List Target)
 
--- What holds of all linked files: each tree is that of its text, each path stands once, each file behind those that it
--- imports, no name stands twice, and each use of a file resolves to the target in its place.
+-- What holds of all linked files: each tree is that of its file's bytes, each path is there once, each file comes after
+-- those that it imports, no name is declared twice, and each use of a file resolves to its target.
 pub record IsLinkedUp (l : LinkedFiles) : Type 0 where
   pub parsed : All (λ e. IsParsed e.1.bytes.items e.1.tree) l.files
   pub in_order : InOrder (outlines l.files)
@@ -38,4 +38,5 @@ pub record IsDeclaredAt (files : List Entry) (full path : Text) (at_line at_colu
 
 -- no file declares the full name, here without its dot
 abbrev pub IsDeclaredNowhere : List Entry → Text → Type 0
-IsDeclaredNowhere files full = (file : Entry) (d : Declared) → IsAmong files file → IsAmong (file_names file.1.tree) d → d.name ≡ 46 ∷ full → ⊥
+IsDeclaredNowhere files full = (file : Entry) (d : Declared) → IsAmong files file
+    → IsAmong (file_names file.1.tree) d → d.name ≡ 46 ∷ full → ⊥

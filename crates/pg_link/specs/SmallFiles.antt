@@ -30,25 +30,28 @@ line path = record { path = path; is_public = false; at = 0 }
 abbrev pub public_line : Text → Import
 public_line path = record { path = path; is_public = true; at = 0 }
 
--- a file of this path that imports just these paths, wherever its words stand and whatever it declares
+-- a file of this path that imports just these paths, wherever its words are and whatever it declares
 pub record IsImporting (path : Text) (others : List Text) (f : File) : Type 0 where
   pub is_path : f.path ≡ path
   pub are_imports : import_paths f.imports ≡ others
 
 -- Files with such a one among them are never linked, whatever the source gives and whichever others are there.
 abbrev pub IsNeverLinked : Text → List Text → Type 0
-IsNeverLinked path others = (w : World) (entries : List Read) (f : File) → IsAmong (outlines entries) f → IsImporting path others f → IsLinked w entries → ⊥
+IsNeverLinked path others = (w : World) (entries : List Read) (f : File) → IsAmong (outlines entries) f
+    → IsImporting path others f → IsLinked w entries → ⊥
 
 -- two files, each of which imports just the other
 abbrev pub AreNeverLinked : Text → Text → Type 0
-AreNeverLinked path other = (w : World) (entries : List Read) (f g : File) → IsAmong (outlines entries) f → IsAmong (outlines entries) g
+AreNeverLinked path other = (w : World) (entries : List Read) (f g : File) → IsAmong (outlines entries) f
+    → IsAmong (outlines entries) g
     → IsImporting path (other ∷ []) f → IsImporting other (path ∷ []) g → IsLinked w entries → ⊥
 
 abbrev pub word : Text → Word
 word text = record { text = text; at = 0 }
 
 abbrev pub in_own_file : Declarations → List Word → Declarations → Names
-in_own_file front words behind = visible_names (file (codes "m.proto") [] (names_of_file front words behind) ∷ []) (codes "m.proto")
+in_own_file front words behind = visible_names
+    (file (codes "m.proto") [] (names_of_file front words behind) ∷ []) (codes "m.proto")
 
 -- package p; message A { message B { } } message C { message A { } }
 abbrev pub nested : Names
@@ -64,15 +67,18 @@ abbrev pub shadowed : Names
 shadowed = visible_names
     (file (codes "m.proto") (line (codes "a.proto") ∷ [])
     (names_of_file Done (word (codes "q") ∷ word (codes "p") ∷ []) (Within Message (word (codes "M")) Done Done))
-    ∷ file (codes "a.proto") [] (names_of_file Done (word (codes "p") ∷ []) (Within Message (word (codes "K")) Done Done)) ∷ []) (codes "m.proto")
+    ∷ file (codes "a.proto") [] (names_of_file Done (word (codes "p") ∷ [])
+    (Within Message (word (codes "K")) Done Done)) ∷ []) (codes "m.proto")
 
 -- package x.y; message M { } with these imports, of a.proto (package p; message K { }) and of c.proto (package x.p;)
 abbrev pub within_x : List Import → Names
 within_x imports = visible_names
     (file (codes "m.proto") imports
     (names_of_file Done (word (codes "x") ∷ word (codes "y") ∷ []) (Within Message (word (codes "M")) Done Done))
-    ∷ file (codes "a.proto") [] (names_of_file Done (word (codes "p") ∷ []) (Within Message (word (codes "K")) Done Done))
-    ∷ file (codes "c.proto") [] (names_of_file Done (word (codes "x") ∷ word (codes "p") ∷ []) Done) ∷ []) (codes "m.proto")
+    ∷ file (codes "a.proto") [] (names_of_file Done (word (codes "p") ∷ [])
+    (Within Message (word (codes "K")) Done Done))
+    ∷ file (codes "c.proto") [] (names_of_file Done (word (codes "x") ∷ word (codes "p") ∷ []) Done) ∷ [])
+    (codes "m.proto")
 
 abbrev pub in_x : List Text
 in_x = codes "x" ∷ codes "y" ∷ codes "M" ∷ []
@@ -104,7 +110,8 @@ file_d = file (codes "d.proto") [] []
 abbrev pub in_m : List Text
 in_m = codes "M" ∷ []
 
--- enum E { A = 0; } service S { rpc R } message M { int32 E = 1; map<int32, int32> foo_bar = 2; oneof o { int32 x = 3; } }
+-- enum E { A = 0; } service S { rpc R } message M { int32 E = 1; map<int32, int32> foo_bar = 2;
+-- oneof o { int32 x = 3; } }
 abbrev pub mixed_tree : Declarations
 mixed_tree = Beside Enum (word (codes "E")) (Alone Value (word (codes "A")) Done)
     (Within Service (word (codes "S")) (Alone Method (word (codes "R")) Done)
@@ -127,21 +134,30 @@ pub record SmallFiles : Type 0 where
   pub first_part_decides : found nested in_c (part (codes "A") (codes "B" ∷ [])) ≡ None
   pub leading_dot : found nested in_c (full (codes "p") (codes "A" ∷ codes "B" ∷ [])) ≡ Some (codes ".p.A.B", Message)
   pub leading_dot_seeks_no_scope : found nested in_c (full (codes "A") []) ≡ None
-  pub package_is_a_first_part : found nested in_c (part (codes "p") (codes "A" ∷ codes "B" ∷ [])) ≡ Some (codes ".p.A.B", Message)
+  pub package_is_a_first_part : found nested in_c (part (codes "p") (codes "A" ∷ codes "B" ∷ []))
+      ≡ Some (codes ".p.A.B", Message)
   pub package_is_no_word : found nested in_c (part (codes "p") []) ≡ None
   pub innermost_counts : found nested in_c (part (codes "A") []) ≡ Some (codes ".p.C.A", Message)
   pub outwards : found nested in_c (part (codes "C") (codes "A" ∷ [])) ≡ Some (codes ".p.C.A", Message)
   -- the inner package part shadows the outer one
   pub package_shadows : found shadowed (codes "q" ∷ codes "M" ∷ []) (part (codes "p") (codes "K" ∷ [])) ≡ None
-  pub leading_dot_sees_behind : found shadowed (codes "q" ∷ codes "M" ∷ []) (full (codes "p") (codes "K" ∷ [])) ≡ Some (codes ".p.K", Message)
+  pub leading_dot_sees_behind : found shadowed (codes "q" ∷ codes "M" ∷ []) (full (codes "p") (codes "K" ∷ []))
+      ≡ Some (codes ".p.K", Message)
   -- a package part of a file that isn't seen shadows nothing
-  pub unseen_package_shadows_nothing : found (within_x (line (codes "a.proto") ∷ [])) in_x (part (codes "p") (codes "K" ∷ [])) ≡ Some (codes ".p.K", Message)
-  pub seen_package_shadows : found (within_x (line (codes "a.proto") ∷ line (codes "c.proto") ∷ [])) in_x (part (codes "p") (codes "K" ∷ [])) ≡ None
-  pub import_is_not_handed_on : found (seen_by (codes "a.proto") (line (codes "c.proto"))) in_m (part (codes "K") []) ≡ None
-  pub another_file_has_it : found (all_names (chain (line (codes "c.proto")))) in_m (part (codes "K") []) ≡ Some (codes ".K", Message)
-  pub public_import_is_handed_on : found (seen_by (codes "a.proto") (public_line (codes "c.proto"))) in_m (part (codes "K") []) ≡ Some (codes ".K", Message)
-  pub through_two_files : found (seen_by (codes "a.proto") (public_line (codes "c.proto"))) in_m (part (codes "E") []) ≡ Some (codes ".E", Enum)
-  pub importers_are_not_seen : found (seen_by (codes "b.proto") (public_line (codes "c.proto"))) in_m (part (codes "M") []) ≡ None
+  pub unseen_package_shadows_nothing : found (within_x (line (codes "a.proto") ∷ [])) in_x
+      (part (codes "p") (codes "K" ∷ [])) ≡ Some (codes ".p.K", Message)
+  pub seen_package_shadows : found (within_x (line (codes "a.proto") ∷ line (codes "c.proto") ∷ [])) in_x
+      (part (codes "p") (codes "K" ∷ [])) ≡ None
+  pub import_is_not_handed_on : found (seen_by (codes "a.proto") (line (codes "c.proto"))) in_m
+      (part (codes "K") []) ≡ None
+  pub another_file_has_it : found (all_names (chain (line (codes "c.proto")))) in_m (part (codes "K") [])
+      ≡ Some (codes ".K", Message)
+  pub public_import_is_handed_on : found (seen_by (codes "a.proto") (public_line (codes "c.proto"))) in_m
+      (part (codes "K") []) ≡ Some (codes ".K", Message)
+  pub through_two_files : found (seen_by (codes "a.proto") (public_line (codes "c.proto"))) in_m
+      (part (codes "E") []) ≡ Some (codes ".E", Enum)
+  pub importers_are_not_seen : found (seen_by (codes "b.proto") (public_line (codes "c.proto"))) in_m
+      (part (codes "M") []) ≡ None
   pub seen : seen_paths (chain (public_line (codes "c.proto"))) (codes "a.proto")
       ≡ codes "a.proto" ∷ codes "b.proto" ∷ codes "c.proto" ∷ codes "d.proto" ∷ []
   pub each_stands_before_its_imports : InOrder (chain (line (codes "c.proto")))
@@ -169,10 +185,12 @@ pub record SmallFiles : Type 0 where
   pub entry_is_found : found mixed in_m (part (codes "FooBarEntry") []) ≡ Some (codes ".M.FooBarEntry", Entry)
   pub nothing_is_in_an_entry : found mixed in_m (part (codes "FooBarEntry") (codes "key" ∷ [])) ≡ None
   -- message A { } message A { }
-  pub message_twice : NoneTwice (names_in 0 (Within Message (word (codes "A")) Done (Within Message (word (codes "A")) Done Done)) []) → ⊥
+  pub message_twice : NoneTwice (names_in 0
+      (Within Message (word (codes "A")) Done (Within Message (word (codes "A")) Done Done)) []) → ⊥
   -- message p { } in one file and package p; in another, in either order; in one file the message is in the package
   pub package_behind_message : NoneTwice (names_in 0 message_p [] ++ names_in 1 Done (word (codes "p") ∷ [])) → ⊥
   pub message_behind_package : NoneTwice (names_in 0 Done (word (codes "p") ∷ []) ++ names_in 1 message_p []) → ⊥
   pub message_in_its_package : NoneTwice (names_in 0 message_p (word (codes "p") ∷ []))
   -- package p; in two files
-  pub package_of_two_files : NoneTwice (names_in 0 Done (word (codes "p") ∷ []) ++ names_in 1 Done (word (codes "p") ∷ []))
+  pub package_of_two_files : NoneTwice (names_in 0 Done (word (codes "p") ∷ [])
+      ++ names_in 1 Done (word (codes "p") ∷ []))

@@ -7,8 +7,8 @@ use pg_syntax::SyntaxError;
 use std::alloc::{AllocError, AllocFailed, Global};
 use thiserror::Error;
 
-/// A place in a file. The line and the column, which counts bytes, are from 1; both are 0 where the
-/// file as a whole is meant.
+/// A position in a file. The line and the column, which counts bytes, are from 1; both are 0
+/// where the file as a whole is meant.
 #[derive(Debug, PartialEq, Eq, Drop)]
 pub struct Place {
     pub file: String,
@@ -16,7 +16,7 @@ pub struct Place {
     pub column: usize,
 }
 
-/// The place of a byte of the file's text, which may be its end. Fails only where memory is
+/// The position of a byte of the file, which may be its end. Fails only where memory is
 /// refused.
 pub fn place_in(alloc: Global, file: &str, text: &[u8], at: usize) -> Result<Place, AllocError>
     ensures { IfOk result (λ place. spec.IsPlace place file.now text.now at) }
@@ -38,8 +38,8 @@ pub enum LinkError {
     /// E303: a file imports one path twice. At the second import.
     #[error("The import was listed twice.")]
     DuplicateImport(Place),
-    /// E304: a name stands twice, and not both times as a part of a package. At the later of the
-    /// two.
+    /// E304: a name is declared twice, not both times as a part of a package. At the later
+    /// of the two.
     #[error("The name is already defined.")]
     DuplicateName(Place),
     /// E305: a type's name that names nothing in its scope, in whichever files.
@@ -59,10 +59,10 @@ pub enum LinkError {
     /// E309: the source failed to give the file.
     #[error("The file could not be read.")]
     SourceFailed(Place),
-    /// E101 to E108: a text has no tokens.
+    /// E101 to E108: the bytes of a file have no tokens.
     #[error("{0}")]
     Lex(LexError, Place),
-    /// E201 to E207: the tokens of a text spell no file.
+    /// E201 to E207: the tokens of a file spell no tree.
     #[error("{0}")]
     Syntax(SyntaxError, Place),
     /// E001: a growth was refused. It may come in place of any other.
@@ -73,7 +73,7 @@ pub enum LinkError {
 impl LinkError {
     ghost use Rattle.pg_link.specs.Codes.{code_of, place_of};
 
-    /// The number behind the E by which users know the error.
+    /// The number after the E by which users know the error.
     pub fn code(&self) -> u16
         ensures { result ≡ code_of self.now }
     {
@@ -93,7 +93,7 @@ impl LinkError {
         }
     }
 
-    /// The place of the fault, but where memory was refused.
+    /// The position of the fault, but where memory was refused.
     pub fn place(self) -> Option<Place>
         ensures { result ≡ place_of self }
     {
@@ -125,7 +125,6 @@ impl From<AllocError> for LinkError {
 }
 
 impl<T: Drop> From<AllocFailed<T>> for LinkError {
-
     ghost from_gives = { λ _ error. error ≡ Memory };
 
     fn from(_error: AllocFailed<T>) -> LinkError {

@@ -4,8 +4,8 @@ ghost use Rattle.pg_link.specs.names.Files.{SeenPathsAreSeen};
 ghost use Rattle.pg_link.specs.SmallFiles.{SmallFiles};
 ghost use Rattle.pg_link.specs.names.Standing.{NoneTwiceIsOnce};
 
-/// No name stands twice, as the names are looked at one by one, exactly where of any two that are
-/// one both are parts of packages.
+/// No name is declared twice, as names are looked at one by one, exactly where of any two that
+/// are one both are parts of packages.
 pub fn none_twice_is_once_per_name()
     ensures { NoneTwiceIsOnce }
 {}
@@ -16,8 +16,8 @@ pub fn small_files()
     ensures { SmallFiles }
 {}
 
-/// Of files of which each stands before those that it imports, the paths that are computed are
-/// those that a file sees.
+/// Of files of which each is before those that it imports, the paths that are computed are
+/// those that are visible in a file.
 pub fn seen_paths_are_seen()
     ensures { SeenPathsAreSeen }
 {}

@@ -11,14 +11,14 @@ ghost use Rattle.pg_link.specs.uses.Targets.{file_places, file_targets};
 ghost use Rattle.pg_link.specs.uses.UseFaults.{IsNameFault, IsNoName};
 ghost use Rattle.pg_link.specs.walk.Walk.{Entry, outlines, path_of};
 
-use crate::names::declaring::index_names;
 use crate::error::{LinkError, Place};
 use crate::names::Named;
 use crate::names::index::{Index, Visible};
+use crate::names::indexing::index_names;
 use crate::names::resolve::Unresolved;
+use crate::names::visible_files::visible_files_of;
 use crate::uses::target::Target;
 use crate::uses::targets::{FileTargets, all_targets};
-use crate::names::visible_files::visible_files_of;
 use crate::walk::SourceFile;
 use indexmap::IndexMap;
 use pg_lex::place;
@@ -78,8 +78,8 @@ fn name_fault(alloc: Global, path: &str, why: Unresolved) -> LinkError
     }
 }
 
-/// Files whose imports, names and uses are settled. Contracts see the files, each behind those that
-/// it imports, and for each what its uses of type names resolve to.
+/// Files whose imports, names and uses are settled. Contracts see the files, each after those
+/// that it imports, and for each what its uses of type names resolve to.
 #[derive(Debug, Drop)]
 pub struct Linked {
     files: IndexMap<String, SourceFile>,
@@ -131,7 +131,7 @@ impl Linked {
         })
     }
 
-    /// The files by path, each with its text and its tree, each behind those that it imports.
+    /// The files by path, each with its bytes and its tree, each after those that it imports.
     pub fn files(&self) -> &IndexMap<String, SourceFile>
         ensures files { result.now.entries ≡ self.now.files }
         ensures linked { IsLinkedUp self.now }
@@ -139,7 +139,7 @@ impl Linked {
         &self.files
     }
 
-    /// What the uses of type names in a file resolve to, in the order of its text: the types of
+    /// What the uses of type names in a file resolve to, in the order of its bytes: the types of
     /// fields and of members of oneofs, keys and values of maps, what rpcs take and return. Scalar
     /// words in fields and maps are no uses. The file is given by its number.
     pub fn targets(&self, file: usize) -> &[Target]
@@ -151,11 +151,13 @@ impl Linked {
         &self.targets[file].targets
     }
 
-    /// The byte at which each use of a type name in a file begins, in the order of its text: each
-    /// belongs to what stands in its place among `targets`. The file is given by its number.
+    /// The byte at which each use of a type name in a file begins, in the order of its
+    /// bytes: each belongs to the element of `targets` with its index. The file is given by
+    /// its number.
     pub fn places(&self, file: usize) -> &[usize]
         requires { file < length self.now.files }
-        ensures { (e : Entry) → slice_get self.now.files file ≡ Some e → result.now ≡ file_places e }
+        ensures { (e : Entry) → slice_get self.now.files file ≡ Some e
+            → result.now ≡ file_places e }
     {
         &self.targets[file].places
     }

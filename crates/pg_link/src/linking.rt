@@ -12,8 +12,9 @@ use crate::linked::Linked;
 use crate::walk::follow_imports;
 use std::alloc::Global;
 
-/// Reads the roots and all that they import, each path once, and settles their names: which names
-/// each file sees, and what each use of a type name resolves to. `link_below` does so in a folder.
+/// Reads the roots and all that they import, each path once, and settles their names: which
+/// names are visible in each file, and what each use of a type name resolves to. `link_below`
+/// does so in a folder.
 ///
 /// Imports are followed depth first, in the order of their statements, and the bytes of a file are
 /// looked at before its imports. So files come in post-order of imports, begun at the roots in
@@ -41,7 +42,7 @@ pub fn link<S: Sources>(alloc: Global, source: &mut S, roots: &[&str]) -> Result
         spec.IsLinked (world_of S.Sources source.old (codes ".") (texts roots.now)) linked.files) }
     // No name is declared twice, and each use resolves to its target.
     ensures settled { IfOk result IsLinkedUp }
-    // Each refusal comes only where what it names is there, at its place: of names that are
+    // Each refusal comes only where what it names is there, at its position: of names that are
     // declared twice the first is reported, and where there is none the first use that resolves to
     // nothing.
     ensures refused { IfErr result (LinkRefuses
@@ -61,11 +62,11 @@ pub fn link<S: Sources>(alloc: Global, source: &mut S, roots: &[&str]) -> Result
 
 /// Reads the roots below the folder, and all that they import there, as `link` does: the source is
 /// asked for the folder, a slash and the path, or for the path alone where the folder is `.`.
-/// Places name paths without the folder.
+/// Positions name paths without the folder.
 ///
 /// # Errors
 ///
-/// Those of `link`, each when it comes there.
+/// The errors of `link`, each when it comes there.
 pub fn link_below<S: Sources>(
     alloc: Global,
     source: &mut S,
@@ -80,7 +81,7 @@ pub fn link_below<S: Sources>(
         spec.IsLinked (world_of S.Sources source.old folder.now (texts roots.now)) linked.files) }
     // No name is declared twice, and each use resolves to its target.
     ensures settled { IfOk result IsLinkedUp }
-    // Each refusal comes only where what it names is there, at its place: of names that are
+    // Each refusal comes only where what it names is there, at its position: of names that are
     // declared twice the first is reported, and where there is none the first use that resolves to
     // nothing.
     ensures refused { IfErr result (LinkRefuses

@@ -22,7 +22,7 @@ use std::rc::Rc;
 type Scope<'a> = Rc<Vec<&'a str>>;
 
 /// A type name that is used, with the words of its scope, which the uses in one scope share, and
-/// whether an enum may stand there.
+/// whether it may name an enum.
 #[derive(Drop)]
 pub(crate) struct Site<'a> {
     pub scope: Scope<'a>,
@@ -52,7 +52,7 @@ fn inner<'a>(alloc: Global, scope: &Scope<'a>, word: &'a str) -> Result<Scope<'a
     Ok(Rc::new(alloc, words)?)
 }
 
-/// The uses that are gathered, in the order of the text.
+/// The uses that are gathered, in the order of the file's bytes.
 #[derive(Drop)]
 struct UseList<'a> {
     alloc: Global,
@@ -258,7 +258,7 @@ fn words_of(alloc: Global, dotted: &Dotted) -> Result<Vec<&str>, AllocError>
     Ok(words)
 }
 
-/// The type names that a file uses, in the order of its text.
+/// The type names that a file uses, in the order of its bytes.
 pub(crate) fn uses_of(alloc: Global, file: &FileTree) -> Result<Vec<Site<'_>>, AllocError>
     ensures { IfOk result (λ uses. map use_of uses.items ≡ spec.file_uses file.now) }
 {

@@ -120,9 +120,9 @@ fn visit<S: Sources>(
     ensures sound { OnOk result ((roots : List (List ℕ))
         → walking.Follows (world_of S.Sources source.old folder.now roots) walk.old asking.entry
         path.now
-        → walking.IsSound (world_of S.Sources source.old folder.now roots) (walking.open_paths walk.old)
-        (walking.entries walk.new)) }
-    // Each refusal comes only where what it names is there, at its place.
+        → walking.IsSound (world_of S.Sources source.old folder.now roots)
+        (walking.open_paths walk.old) (walking.entries walk.new)) }
+    // Each refusal comes only where what it names is there, at its position.
     ensures refused { IfErr result (λ e. (roots : List (List ℕ))
         → walking.Follows (world_of S.Sources source.old folder.now roots) walk.old asking.entry
         path.now
@@ -136,7 +136,8 @@ fn visit<S: Sources>(
     // They come in post-order of imports.
     ensures lists { OnOk result
         (walking.VisitLists (walking.listed_paths walk.old) (path.now ∷ []) walk.new) }
-    ensures grows { OnOk result (length (walking.entries walk.old) ≤ length (walking.entries walk.new)) }
+    ensures grows { OnOk result (length (walking.entries walk.old)
+        ≤ length (walking.entries walk.new)) }
     // Whatever is answered, the source was asked for no path twice, and for none that was begun.
     ensures reads_new { ReadsNew folder.now (S.reads source.old) (S.reads source.new) walk.old }
     ensures reads_all { OnOk result (ReadsAll folder.now (S.reads source.old)
@@ -175,8 +176,8 @@ fn visit<S: Sources>(
 /// depth first, in the order of their statements; a file's own bytes are looked at before its
 /// imports. The files come in post-order of imports: each after those that it imports.
 ///
-/// E301 to E303, E308 and E309 are answered, and the faults of the files, at the place at which
-/// `LinkError` has them.
+/// E301 to E303, E308 and E309 are answered, and the faults of the files, at the position at
+/// which `LinkError` has them.
 pub(crate) fn follow_imports<S: Sources>(
     alloc: Global,
     source: &mut S,
@@ -189,7 +190,7 @@ pub(crate) fn follow_imports<S: Sources>(
     ensures linked { IfOk result (λ walk.
         spec.IsLinked (world_of S.Sources source.old folder.now (texts roots.now))
         (walking.entries walk)) }
-    // Each refusal comes only where what it names is there, at its place.
+    // Each refusal comes only where what it names is there, at its position.
     ensures refused { IfErr result (spec.Refuses
         (world_of S.Sources source.old folder.now (texts roots.now))) }
     // Whatever is answered, the source was asked for no path twice; and where all is read, for just

@@ -15,7 +15,8 @@ pub record IsDotted (name : tree.TypeName.TypeName) : Type 0 where
 
 -- the full name is that of the innermost scope that has the word
 abbrev pub IsFoundScope : Names → List Text → Text → Option (String Global) → Type 0
-IsFoundScope names scope word full = option_map string_bytes full ≡ option_map called (innermost names ends_part (called (word ∷ [])) scope)
+IsFoundScope names scope word full = option_map string_bytes full
+    ≡ option_map called (innermost names ends_part (called (word ∷ [])) scope)
 
 -- what was last found is so
 abbrev pub Recalls : Names → Option found_scopes.FoundScope → Type 0
@@ -29,7 +30,8 @@ pub record IsFor (last : Option found_scopes.FoundScope) (scope : List Text) (wo
   pub same_scope : texts outer.scope.value.items ≡ scope
   pub same_word : outer.word.now ≡ word
 
-pub record RecallsFor (names : Names) (scope : List Text) (word : Text) (last : Option found_scopes.FoundScope) : Type 0 where
+pub record RecallsFor (names : Names) (scope : List Text) (word : Text)
+    (last : Option found_scopes.FoundScope) : Type 0 where
   pub recalls : Recalls names last
   pub is_for : IsFor last scope word
 

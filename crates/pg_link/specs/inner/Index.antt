@@ -9,7 +9,7 @@ use Rattle.pg_link.specs.declared.names.Named as nameds
 use Rattle.pg_link.specs.names.Names.{Text, Names}
 use Rattle.pg_link.specs.names.Resolves.{Reference}
 
--- the marks of what a file sees
+-- the marks of what is visible in a file
 abbrev pub visible_of : Option visible_files.Visible → Option (List Bool)
 visible_of = option_map (λ visible. visible.marks.now)
 

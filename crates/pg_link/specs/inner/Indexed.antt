@@ -33,10 +33,11 @@ abbrev pub added : Standing → Option Bearer → Bearer
 added s None = record { kind = s.declared.kind; at = s.declared.at; files = s.file ∷ [] }
 added s (Some b) = record { kind = b.kind; at = b.at; files = b.files ++ s.file ∷ [] }
 
--- what is to stand under a name, or none where it stands twice
+-- what is to bear a name, or none where the name is declared twice
 abbrev pub Joins : {S : Type 0} → HashMap (String Global) nameds.Named S → Standing → Option nameds.Named → Type 0
 Joins index s None = (all : List Standing) → Holds index all → StandsTwice all s
-Joins index s (Some n) = (all : List Standing) → Holds index all → MayStand all s × (view n ≡ added s (bearer all s.declared.name))
+Joins index s (Some n) = (all : List Standing) → Holds index all
+    → MayStand all s × (view n ≡ added s (bearer all s.declared.name))
 
 abbrev pub one_if : Bool → ℕ
 one_if true = 1
@@ -53,7 +54,7 @@ target_by Message number = Some (targets.Message number)
 target_by Enum number = Some (targets.Enum number)
 target_by _ number = None
 
--- the same, where an enum may stand or may not
+-- the target of a kind, where an enum may be used or may not
 abbrev pub taken_by : Bool → Kind → ℕ → Option Target
 taken_by takes_enums Message number = Some (targets.Message number)
 taken_by true Enum number = Some (targets.Enum number)
@@ -70,24 +71,29 @@ declared_in = map (λ s. s.declared)
 pub record IsNumbered (index : indexes.Index) (all : List Standing) : Type 0 where
   pub messages : length index.messages.items ≡ length (message_names (declared_in all))
   pub enums : length index.enums.items ≡ length (enum_names (declared_in all))
-  pub each : (full : Text) (n : nameds.Named) → get_by_text index.names full ≡ Some n → numbered (declared_in all) true full n.kind ≡ target_of n
+  pub each : (full : Text) (n : nameds.Named) → get_by_text index.names full ≡ Some n
+      → numbered (declared_in all) true full n.kind ≡ target_of n
 
 -- an index holds just these names, numbered
 abbrev pub Lists : indexes.Index → List Standing → Type 0
 Lists index all = Holds index.names all × IsNumbered index all
 
--- the name was appended, or stands twice
+-- the name was appended, or is declared twice
 abbrev pub Adds : indexes.Index → indexes.Index → Standing → Bool → Type 0
 Adds old new s true = (all : List Standing) → Lists old all → MayStand all s × Lists new (all ++ s ∷ [])
 Adds old new s false = (all : List Standing) → Lists old all → StandsTwice all s
 
 -- the names were appended, none twice
 abbrev pub AddsAll : indexes.Index → indexes.Index → List Standing → Type 0
-AddsAll old new more = (all : List Standing) → Lists old all → Lists new (all ++ more) × (NoneTwice all → NoneTwice (all ++ more))
+AddsAll old new more = (all : List Standing) → Lists old all
+    → Lists new (all ++ more) × (NoneTwice all → NoneTwice (all ++ more))
 
--- one of the names stands twice, the first that does, at this place in the file
+-- one of the names is declared twice, the first that is, at this position in the file
 abbrev pub IsTwice : indexes.Index → ℕ → Text → Text → List Standing → errors.LinkError → Type 0
-IsTwice old number path text more (error.DuplicateName place) = (front back : List Standing) × (d : Declared) × (more ≡ front ++ standing number d ∷ back)
-    × IsPlace place path text d.at × ((all : List Standing) → Lists old all → StandsTwice (all ++ front) (standing number d) × (NoneTwice all → NoneTwice (all ++ front)))
+IsTwice old number path text more (error.DuplicateName place) = (front back : List Standing) × (d : Declared)
+    × (more ≡ front ++ standing number d ∷ back)
+    × IsPlace place path text d.at
+    × ((all : List Standing) → Lists old all
+    → StandsTwice (all ++ front) (standing number d) × (NoneTwice all → NoneTwice (all ++ front)))
 IsTwice old number path text more error.Memory = Unit {0}
 IsTwice old number path text more _ = ⊥

@@ -15,13 +15,18 @@ line_of l = record { path = string_bytes l.path; is_public = l.is_public; at = l
 abbrev pub declared_of : made.DeclaredName → Declared
 declared_of d = record { name = string_bytes d.name; kind = d.kind; at = d.at }
 
--- behind the old names stand those that are declared here
+-- after the old names come those that are declared here
 abbrev pub AddsNames : (old new : List made.DeclaredName) (more : List Declared) → Type 0
 AddsNames old new more = map declared_of new ≡ map declared_of old ++ more
 
 abbrev pub use_of : sites.Site → Use
-use_of s = record { scope = texts s.scope.value.items; name = reference s.name.now; at = s.name.now.span.from; takes_enums = s.takes_enums }
+use_of s = record {
+  scope = texts s.scope.value.items;
+  name = reference s.name.now;
+  at = s.name.now.span.from;
+  takes_enums = s.takes_enums;
+}
 
--- behind the old uses stand these
+-- after the old uses come these
 abbrev pub AddsUses : (old new : List sites.Site) (more : List Use) → Type 0
 AddsUses old new more = map use_of new ≡ map use_of old ++ more

@@ -20,8 +20,9 @@ pub record IsRead (files : List Entry) : Type 0 where
   pub apart : Differ (paths_of (outlines files))
   pub few : length files ≤ 1024
 
--- linked files, beside their index, what each of them sees, and where its uses begin
-pub record IsSettled (files : List Entry) (index : indexes.Index) (visible_files : List (List Bool)) (targets : List (List Target)) (places : List (List ℕ)) : Type 0 where
+-- linked files, next to their index, what is visible in each, and where its uses begin
+pub record IsSettled (files : List Entry) (index : indexes.Index) (visible_files : List (List Bool))
+    (targets : List (List Target)) (places : List (List ℕ)) : Type 0 where
   pub linked : IsLinkedUp (record { files = files; targets = targets })
   pub lists : Lists index (all_standings files)
   pub visible_length : length visible_files ≡ length files
@@ -36,8 +37,9 @@ pub record HasFirst (files : List Entry) (numbers : List ℕ) : Type 0 where
   pub is_first : numbers ≡ number ∷ others
   pub is_there : slice_get files number ≡ Some file
 
--- the first of these files, and the place of a byte of it
-pub record IsFirstPlace (files : List Entry) (numbers : List ℕ) (at : ℕ) (path : Text) (at_line at_column : ℕ) : Type 0 where
+-- the first of these files, and the position of a byte of it
+pub record IsFirstPlace (files : List Entry) (numbers : List ℕ) (at : ℕ) (path : Text)
+    (at_line at_column : ℕ) : Type 0 where
   pub number : ℕ
   pub others : List ℕ
   pub file : Entry

@@ -35,13 +35,14 @@ has_path walk path = is_path_of (paths_of (outlines (entries walk))) path
 abbrev pub Keeps : walks.Walk → walks.Walk → Type 0
 Keeps old new = (path : Text) → has_path old path ≡ true → has_path new path ≡ true
 
--- the files that were read are still there, behind those that have come
+-- the files that were read are still there, after those that have come
 abbrev pub Extends : walks.Walk → walks.Walk → Type 0
 Extends old new = (front : List File) × (outlines (entries new) ≡ front ++ outlines (entries old))
 
 -- the path comes to each file that has come, by what was read
 abbrev pub ComeBy : walks.Walk → walks.Walk → Text → Type 0
-ComeBy old new path = (other : Text) → has_path new other ≡ true → (has_path old other ≡ true) ⊎ ComesTo (outlines (entries new)) path other
+ComeBy old new path = (other : Text) → has_path new other ≡ true
+    → (has_path old other ≡ true) ⊎ ComesTo (outlines (entries new)) path other
 
 -- a visit of these paths, after those in front, lists all that was read
 abbrev pub VisitLists : (front visited : List Text) → walks.Walk → Type 0
@@ -58,17 +59,19 @@ Asks w [] (Some a) path = ⊥
 Asks w (p ∷ ps) None path = ⊥
 Asks w (p ∷ ps) (Some a) path = (a.file.now ≡ p) × ImportsAt w p a.text.now a.at path × Comes w ps p
 
--- a text's own fault
+-- a fault of the file's own bytes
 abbrev pub IsTextFault : Text → Text → errors.LinkError → Type 0
 IsTextFault path text (error.Lex e place) = IsPlace place path text (lex_place e) × HasNoTokens e text
 IsTextFault path text (error.Syntax e place) = IsPlace place path text (syntax_place e) × HasNoTree e text
 IsTextFault path text error.Memory = Unit {0}
 IsTextFault path text _ = ⊥
 
--- a fault of an import of this path, behind imports of these
+-- a fault of an import of this path, after imports of these
 abbrev pub IsImportFault : List Text → List Text → askings.Asking → Text → errors.LinkError → Type 0
-IsImportFault opened before a path (error.ImportCycle place) = IsPlace place a.file.now a.text.now a.at × (is_path_of opened path ≡ true)
-IsImportFault opened before a path (error.DuplicateImport place) = IsPlace place a.file.now a.text.now a.at × (is_path_of before path ≡ true)
+IsImportFault opened before a path (error.ImportCycle place) = IsPlace place a.file.now a.text.now a.at
+    × (is_path_of opened path ≡ true)
+IsImportFault opened before a path (error.DuplicateImport place) = IsPlace place a.file.now a.text.now a.at
+    × (is_path_of before path ≡ true)
 IsImportFault opened before a path error.Memory = Unit {0}
 IsImportFault opened before a path _ = ⊥
 
@@ -76,9 +79,10 @@ IsImportFault opened before a path _ = ⊥
 pub record ComesLast (old new : walks.Walk) (path : Text) (file : kept.SourceFile) : Type 0 where
   pub is_there : has_path new path ≡ true
   pub keeps : Keeps old new
-  pub is_last : has_path old path ≡ false → (name : String Global) × (string_bytes name ≡ path) × (entries new ≡ entries old ++ (name, file) ∷ [])
+  pub is_last : has_path old path ≡ false
+      → (name : String Global) × (string_bytes name ≡ path) × (entries new ≡ entries old ++ (name, file) ∷ [])
 
--- what was read is sound, and the path is asked for where the walk stands
+-- what was read is sound, and the path is asked for where the walk is
 pub record Follows (w : World) (walk : walks.Walk) (asking : Option askings.Asking) (path : Text) : Type 0 where
   pub is_sound : IsSound w (open_paths walk) (entries walk)
   pub asks : Asks w (open_paths walk) asking path

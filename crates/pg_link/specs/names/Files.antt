@@ -6,7 +6,7 @@ use Rattle.std.specs.Str.{bytes_eq}
 use Rattle.pg_link.specs.declared.names.Kind.{Kind}
 use Rattle.pg_link.specs.names.Names.{Text, Names}
 
--- a name that a file declares, in full, and the byte at which it stands
+-- a name that a file declares, in full, and the byte at which its word begins
 pub record Declared : Type 0 where
   pub name : Text
   pub kind : Kind
@@ -17,13 +17,13 @@ pub record Import : Type 0 where
   pub is_public : Bool
   pub at : ℕ
 
--- imports and names in the order in which the text has them
+-- imports and names in the order in which the source file has them
 pub record File : Type 0 where
   pub path : Text
   pub imports : List Import
   pub declared : List Declared
 
--- ---- what a file sees
+-- ---- what is visible in a file
 
 pub record Imports (files : List File) (path other : Text) : Type 0 where
   pub file : File
@@ -37,16 +37,17 @@ pub record ImportsPublicly (files : List File) (path other : Text) : Type 0 wher
   pub imports : Imports files path other
   pub is_public : imports.line.is_public ≡ true
 
--- whoever imports a file sees it and what it imports by `import public`, onwards
+-- in whatever imports a file, it and what it imports by `import public`, onwards, are visible
 pub data HandsOn (files : List File) : Text → Text → Type 0 where
   Itself : {path : Text} → HandsOn files path path
-  Onwards : {path next other : Text} → ImportsPublicly files path next → HandsOn files next other → HandsOn files path other
+  Onwards : {path next other : Text} → ImportsPublicly files path next → HandsOn files next other
+      → HandsOn files path other
 
--- a file sees itself, its imports, and what these hand on
+-- in a file, it and its imports and what these hand on are visible
 abbrev pub Sees : List File → Text → Text → Type 0
 Sees files path other = (path ≡ other) ⊎ ((next : Text) × Imports files path next × HandsOn files next other)
 
--- ---- the same, computed on files of which each stands before those that it imports
+-- ---- computed on files of which each is before those that it imports
 
 abbrev pub public_paths : List Import → List Text
 public_paths [] = []
@@ -55,13 +56,15 @@ public_paths (line ∷ lines) = if line.is_public then line.path ∷ public_path
 -- the paths that the file of this path hands on
 abbrev pub handed_on : List File → Text → List Text
 handed_on [] path = []
-handed_on (file ∷ files) path = if bytes_eq file.path path then path ∷ flat_map (λ next. handed_on files next) (public_paths file.imports)
+handed_on (file ∷ files) path = if bytes_eq file.path path
+    then path ∷ flat_map (λ next. handed_on files next) (public_paths file.imports)
     else handed_on files path
 
--- the paths that it sees
+-- the paths that are visible in it
 abbrev pub seen_paths : List File → Text → List Text
 seen_paths [] path = []
-seen_paths (file ∷ files) path = if bytes_eq file.path path then path ∷ flat_map (λ line. handed_on files line.path) file.imports
+seen_paths (file ∷ files) path = if bytes_eq file.path path
+    then path ∷ flat_map (λ line. handed_on files line.path) file.imports
     else seen_paths files path
 
 -- ---- the names in files
@@ -72,7 +75,7 @@ kind_in declared full = option_map (λ d. d.kind) (find (λ d. bytes_eq d.name f
 abbrev pub is_path_of : List Text → Text → Bool
 is_path_of paths path = list_any (bytes_eq path) paths
 
--- the names that stand in the files of these paths
+-- the names that are declared in the files of these paths
 abbrev pub names_at : List Text → List File → Names
 names_at paths files = kind_in (flat_map (λ file. file.declared) (filter (λ file. is_path_of paths file.path) files))
 
@@ -84,7 +87,7 @@ all_names files = kind_in (flat_map (λ file. file.declared) files)
 
 -- ---- the order of files
 
--- none stands twice
+-- none is there twice
 abbrev pub Differ : List Text → Type 0
 Differ [] = Unit {0}
 Differ (path ∷ paths) = (is_path_of paths path ≡ false) × Differ paths
@@ -95,7 +98,7 @@ paths_of = map (λ file. file.path)
 abbrev pub import_paths : List Import → List Text
 import_paths = map (λ line. line.path)
 
--- Each file imports no path twice, and stands before all that it imports.
+-- Each file imports no path twice, and is before all that it imports.
 abbrev pub InOrder : List File → Type 0
 InOrder [] = Unit {0}
 InOrder (file ∷ files) = All (λ path. is_path_of (paths_of files) path ≡ true) (import_paths file.imports)
@@ -109,7 +112,8 @@ pub data Leads (files : List File) : Text → Text → Type 0 where
 abbrev pub HasNoCycle : List File → Type 0
 HasNoCycle files = (path : Text) → Leads files path path → ⊥
 
--- Of files in order, what is computed is what a file sees, and nothing else.
+-- Of files in order, what is computed is what is visible in a file, and nothing else.
 abbrev pub SeenPathsAreSeen : Type 0
-SeenPathsAreSeen = (files : List File) → InOrder files → Differ (paths_of files) → (path : Text) → is_path_of (paths_of files) path ≡ true
+SeenPathsAreSeen = (files : List File) → InOrder files → Differ (paths_of files) → (path : Text)
+    → is_path_of (paths_of files) path ≡ true
     → (other : Text) → (is_path_of (seen_paths files path) other ≡ true) ↔ Sees files path other

@@ -7,7 +7,7 @@ use Rattle.pg_syntax.specs.declared.tree as tree
 use Rattle.pg_link.specs.declared.names.Kind.{Kind}
 use Rattle.pg_link.specs.names.Names.{Text, Names, called, bears, is_type, ends_word, ends_part}
 
--- a type name as it is written: whether a dot stands in front, its first part, and those behind it
+-- a type name as it is written: whether it has a dot in front, its first part, and those after it
 pub record Reference : Type 0 where
   pub is_full : Bool
   pub first : Text
@@ -17,7 +17,8 @@ abbrev pub part_words : List tree.Name.Name → List Text
 part_words = map (λ part. string_bytes part.text)
 
 abbrev pub reference : tree.TypeName.TypeName → Reference
-reference name = record { is_full = name.is_full; first = string_bytes name.path.first.text; more = part_words name.path.more.items }
+reference name =
+    record { is_full = name.is_full; first = string_bytes name.path.first.text; more = part_words name.path.more.items }
 
 -- the scope of these words and those around it, innermost first
 abbrev pub scopes : List Text → List (List Text)
@@ -28,12 +29,12 @@ scopes (word ∷ words) = map (λ inner. word ∷ inner) (scopes words) ++ [] �
 abbrev pub innermost : Names → (Kind → Bool) → Text → List Text → Option (List Text)
 innermost names test word scope = find (λ outer. bears names test (called outer ++ word)) (scopes scope)
 
--- what the first part of a name is sought among, by the parts behind it
+-- what the first part of a name is sought among, by the parts after it
 abbrev pub sought_among : List Text → Kind → Bool
 sought_among [] = ends_word
 sought_among (part ∷ parts) = ends_part
 
--- the parts of a name, each behind a dot
+-- the parts of a name, each after a dot
 abbrev pub written : Reference → Text
 written name = called (name.first ∷ name.more)
 

@@ -1,4 +1,4 @@
--- The names of all files, each where it stands (proto3 language specification, "Package", "Message definition").
+-- The names of all files, each with its file (proto3 language specification, "Package", "Message definition").
 use Rattle.std.specs.List.{filter}
 use Rattle.std.specs.Prelude.{◌≡◌, ◌⊎◌, ◌↔◌, ◌<◌, ◌&&◌, ℕ, Bool, true, false, List, [], ◌∷◌, ◌++◌, ◌+◌, slice_get, Option, Some, None, map, reverse}
 use Rattle.std.specs.Str.{bytes_eq}
@@ -16,7 +16,7 @@ pub record Standing : Type 0 where
   pub file : ℕ
   pub declared : Declared
 
--- what stands under one name: as what, at which byte of which file first, and in which files
+-- what bears one name: as what, at which byte of which file first, and in which files
 pub record Bearer : Type 0 where
   pub kind : Kind
   pub at : ℕ
@@ -28,7 +28,8 @@ bearers all full = filter (λ s. bytes_eq full s.declared.name) all
 
 abbrev pub first_of : List Standing → Option Bearer
 first_of [] = None
-first_of (s ∷ more) = Some (record { kind = s.declared.kind; at = s.declared.at; files = s.file ∷ map (λ t. t.file) more })
+first_of (s ∷ more) =
+    Some (record { kind = s.declared.kind; at = s.declared.at; files = s.file ∷ map (λ t. t.file) more })
 
 -- what bears a name
 abbrev pub bearer : List Standing → Text → Option Bearer
@@ -38,16 +39,18 @@ bearer all full = first_of (bearers all full)
 abbrev pub may_share : Kind → Kind → Bool
 may_share old new = is_package old && is_package new
 
--- A name may stand behind others where none of them has it, or where all that have it are parts of packages, as it is.
+-- A name may be declared after others where none of them has it, or where all that have it are
+-- parts of packages, as it is.
 abbrev pub MayStand : List Standing → Standing → Type 0
 MayStand before s = (bearer before s.declared.name ≡ None)
     ⊎ ((b : Bearer) × (bearer before s.declared.name ≡ Some b) × (may_share b.kind s.declared.kind ≡ true))
 
--- It stands twice: it is among those before it, and not both are parts of packages.
+-- The name is declared twice: it is among those before it, and not both are parts of packages.
 abbrev pub StandsTwice : List Standing → Standing → Type 0
-StandsTwice before s = (b : Bearer) × (bearer before s.declared.name ≡ Some b) × (may_share b.kind s.declared.kind ≡ false)
+StandsTwice before s = (b : Bearer) × (bearer before s.declared.name ≡ Some b)
+    × (may_share b.kind s.declared.kind ≡ false)
 
--- none stands twice, but for parts of packages; the last first
+-- none is declared twice, but for parts of packages; the last first
 abbrev pub AllMayStand : List Standing → Type 0
 AllMayStand [] = Unit {0}
 AllMayStand (s ∷ before) = MayStand (reverse before) s × AllMayStand before
@@ -60,7 +63,7 @@ abbrev pub OncePerName : List Standing → Type 0
 OncePerName all = (i j : ℕ) (s t : Standing) → i < j → slice_get all i ≡ Some s → slice_get all j ≡ Some t
     → s.declared.name ≡ t.declared.name → may_share s.declared.kind t.declared.kind ≡ true
 
--- One by one none stands twice exactly where this is so of any two.
+-- One by one none is declared twice exactly where this is so of any two.
 abbrev pub NoneTwiceIsOnce : Type 0
 NoneTwiceIsOnce = (all : List Standing) → NoneTwice all ↔ OncePerName all
 
@@ -73,7 +76,7 @@ standing file declared = record { file = file; declared = declared }
 abbrev pub standings : ℕ → tree.FileTree.FileTree → List Standing
 standings file t = map (standing file) (file_names t)
 
--- the first of the names that stands twice: none before it does
+-- the first of the names that is declared twice: none before it is
 pub record IsFirstTwice (all : List Standing) (s : Standing) : Type 0 where
   pub front : List Standing
   pub back : List Standing
@@ -89,8 +92,9 @@ standings_from number (e ∷ es) = standings number e.1.tree ++ standings_from (
 abbrev pub all_standings : List Entry → List Standing
 all_standings = standings_from 0
 
--- one of the names of the files stands twice, at its place: the first that does, in their order
+-- one of the names of the files is declared twice, at its position: the first that is, in their order
 abbrev pub IsTwiceIn : List Entry → errors.LinkError → Type 0
-IsTwiceIn entries (error.DuplicateName place) = (s : Standing) × IsFirstTwice (all_standings entries) s × ((e : Entry) × (slice_get entries s.file ≡ Some e) × IsPlace place (path_of e) e.1.bytes.items s.declared.at)
+IsTwiceIn entries (error.DuplicateName place) = (s : Standing) × IsFirstTwice (all_standings entries) s
+    × ((e : Entry) × (slice_get entries s.file ≡ Some e) × IsPlace place (path_of e) e.1.bytes.items s.declared.at)
 IsTwiceIn entries error.Memory = Unit {0}
 IsTwiceIn entries _ = ⊥

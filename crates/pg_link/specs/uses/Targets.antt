@@ -36,25 +36,26 @@ message_names = names_of is_message
 abbrev pub enum_names : List Declared → List Text
 enum_names = names_of is_enum
 
--- the place of a full name among those
+-- the index of a full name among those
 abbrev pub number_in : List Text → Text → Option ℕ
 number_in names full = position (bytes_eq full) names
 
--- the message type or enum of this name, where it may stand
+-- the message type or enum of this name, where it may be used
 abbrev pub numbered : List Declared → Bool → Text → Kind → Option Target
 numbered all takes_enums full Message = option_map targets.Message (number_in (message_names all) full)
 numbered all true full Enum = option_map targets.Enum (number_in (enum_names all) full)
 numbered all _ full _ = None
 
--- what a use resolves to, of all names and those that its file sees
+-- what a use resolves to, of all names and those that are visible in its file
 abbrev pub target_in : List Declared → Names → Use → Option Target
 target_in all visible u = option_and_then (λ f. numbered all u.takes_enums f.0 f.1) (found visible u.scope u.name)
 
 -- what the uses of a file resolve to, one by one
 abbrev pub file_targets : List FileEntry → FileEntry → List (Option Target)
-file_targets files file = map (target_in (all_declared files) (visible_names (outlines files) (path_of file))) (file_uses file.1.tree)
+file_targets files file = map (target_in (all_declared files) (visible_names (outlines files) (path_of file)))
+    (file_uses file.1.tree)
 
--- ---- by places
+-- ---- by offsets
 
 -- the bytes at which the uses of a file begin, one by one
 abbrev pub file_places : FileEntry → List ℕ
@@ -74,4 +75,5 @@ resolved_at resolve uses at = option_and_then resolve (use_at uses at)
 
 -- the same in a file
 abbrev pub target_at : List FileEntry → FileEntry → ℕ → Option Target
-target_at files file = resolved_at (target_in (all_declared files) (visible_names (outlines files) (path_of file))) (file_uses file.1.tree)
+target_at files file =
+    resolved_at (target_in (all_declared files) (visible_names (outlines files) (path_of file))) (file_uses file.1.tree)

@@ -17,11 +17,11 @@ pub record IsUnknown (visible all : Names) (scope : List Text) (name : Reference
   pub none_visible : found visible scope name ≡ None
   pub none : ResolvesToNone all scope name
 
--- what may stand where a name is used: message types, and enums but for rpcs
+-- what a use may name: message types, and enums but for rpcs
 abbrev pub may_stand : Bool → Kind → Bool
 may_stand takes_enums kind = if takes_enums then is_type kind else is_message kind
 
--- a use names what may not stand there
+-- a use names what it may not name
 pub record NamesNoTarget (names : Names) (u : Use) : Type 0 where
   pub full : Text
   pub kind : Kind

@@ -1,4 +1,4 @@
--- Uses that resolve to nothing, each at its place.
+-- Uses that resolve to nothing, each at its position.
 use Rattle.std.specs.List.{All}
 use Rattle.std.specs.Option.{IsSome}
 use Rattle.std.specs.Prelude.{◌≡◌, ◌⊎◌, List, ◌∷◌, ◌++◌}
@@ -15,8 +15,9 @@ use Rattle.pg_link.specs.uses.Unresolved.{IsHidden, IsUnknown, NamesNoTarget}
 use Rattle.pg_link.specs.uses.Uses.{Use, file_uses}
 use Rattle.pg_link.specs.walk.Walk.{Entry, IsLinked, IsPlace, IsWhole, Refuses, World, outlines, path_of}
 
--- a use of the file that this holds of, at its place; all uses before it resolve
-pub record IsAtUse (resolve : Resolution) (path text : Text) (file : tree.FileTree.FileTree) (place : places.Place) (P : Use → Type 0) : Type 0 where
+-- a use of the file that this holds of, at its position; all uses before it resolve
+pub record IsAtUse (resolve : Resolution) (path text : Text) (file : tree.FileTree.FileTree)
+    (place : places.Place) (P : Use → Type 0) : Type 0 where
   pub front : List Use
   pub u : Use
   pub back : List Use
@@ -25,11 +26,15 @@ pub record IsAtUse (resolve : Resolution) (path text : Text) (file : tree.FileTr
   pub is_place : IsPlace place path text u.at
   pub holds : P u
 
--- A use is unknown, names what may not stand there, or stands in a file that isn't seen: the first that doesn't resolve.
+-- A use is unknown, names what it may not name, or names what is declared in a file that isn't
+-- visible: the first that doesn't resolve.
 abbrev pub IsUseFault : Resolution → Names → Names → Text → Text → tree.FileTree.FileTree → errors.LinkError → Type 0
-IsUseFault resolve visible all path text file (error.UnknownName place) = IsAtUse resolve path text file place (λ u. IsUnknown visible all u.scope u.name)
-IsUseFault resolve visible all path text file (error.NotAType place) = IsAtUse resolve path text file place (NamesNoTarget visible)
-IsUseFault resolve visible all path text file (error.NotImported place) = IsAtUse resolve path text file place (λ u. IsHidden visible all u.scope u.name)
+IsUseFault resolve visible all path text file (error.UnknownName place) =
+    IsAtUse resolve path text file place (λ u. IsUnknown visible all u.scope u.name)
+IsUseFault resolve visible all path text file (error.NotAType place) =
+    IsAtUse resolve path text file place (NamesNoTarget visible)
+IsUseFault resolve visible all path text file (error.NotImported place) =
+    IsAtUse resolve path text file place (λ u. IsHidden visible all u.scope u.name)
 IsUseFault resolve visible all path text file error.Memory = Unit {0}
 IsUseFault resolve visible all path text file _ = ⊥
 
@@ -41,13 +46,15 @@ pub record IsUseFaultIn (files : List Entry) (e : errors.LinkError) : Type 0 whe
   pub splits : files ≡ front ++ file ∷ back
   pub before : All (λ f. All IsSome (file_targets files f)) front
   pub fault : IsUseFault (target_in (all_declared files) (visible_names (outlines files) (path_of file)))
-      (visible_names (outlines files) (path_of file)) (all_names (outlines files)) (path_of file) file.1.bytes.items file.1.tree e
+      (visible_names (outlines files) (path_of file)) (all_names (outlines files))
+      (path_of file) file.1.bytes.items file.1.tree e
 
--- a name of the files stands twice, or, where none does, a use is at fault
+-- a name of the files is declared twice, or, where none is, a use is at fault
 abbrev pub IsNameFault : List Entry → errors.LinkError → Type 0
 IsNameFault files e = (IsTwiceIn files e) ⊎ (NoneTwice (all_standings files) × IsUseFaultIn files e)
 
--- Each refusal comes only where what it names is there, at its place: on the way to the files of the roots, or in these.
+-- Each refusal comes only where what it names is there, at its position: on the way to the files of
+-- the roots, or in these.
 abbrev pub LinkRefuses : World → errors.LinkError → Type 0
 LinkRefuses w e = (Refuses w e) ⊎ ((files : List Entry) × IsLinked w files × IsNameFault files e)
 

@@ -1,4 +1,4 @@
--- The type names that a file uses, in the order of its text (proto3 language specification, "Normal field", "Oneof and
+-- The type names that a file uses, in the order of its bytes (proto3 language specification, "Normal field", "Oneof and
 -- oneof field", "Map field", "Service definition").
 use Rattle.std.specs.Prelude.{ℕ, Bool, true, false, List, [], ◌∷◌, ◌++◌, map, flat_map, is_some, string_bytes, if◌then◌else◌}
 use Rattle.pg_schema.specs.ScalarWords.{scalar_of}
@@ -12,7 +12,7 @@ use Rattle.pg_link.specs.names.Names.{Text}
 use Rattle.pg_link.specs.names.Outline.{package_words, statements_behind}
 use Rattle.pg_link.specs.names.Resolves.{Reference, reference}
 
--- A type name that is used: the words of its scope, its first byte, and whether an enum may stand there.
+-- A type name that is used: the words of its scope, its first byte, and whether it may name an enum.
 pub record Use : Type 0 where
   pub scope : List Text
   pub name : Reference
@@ -32,7 +32,8 @@ is_scalar name = if name.is_full then false else is_scalar_alone name.first name
 -- ---- uses, in the scope of these words
 
 abbrev pub use_in : List Text → Bool → tree.TypeName.TypeName → Use
-use_in scope takes_enums name = record { scope = scope; name = reference name; at = name.span.from; takes_enums = takes_enums }
+use_in scope takes_enums name =
+    record { scope = scope; name = reference name; at = name.span.from; takes_enums = takes_enums }
 
 abbrev pub in_field : List Text → tree.TypeName.TypeName → Use
 in_field scope = use_in scope true

@@ -39,14 +39,14 @@ pub record World : Type 0 where
 abbrev pub world : (Text → Text → Bool) → (Text → Bool) → Text → List Text → World
 world give lack folder roots = record { may_give = give; may_lack = lack; folder = folder; roots = roots }
 
--- the source may give this text for the path
+-- the source may give these bytes for the path
 abbrev pub Gives : World → Text → Text → Type 0
 Gives w path text = IsTrue (w.may_give (path_below w.folder path) text)
 
 abbrev pub Lacks : World → Text → Type 0
 Lacks w path = IsTrue (w.may_lack (path_below w.folder path))
 
--- the tree stands at the tokens of the text, which is no longer than a text may be
+-- the tree is one of the tokens of these bytes, which are no more than a source file may have
 pub record IsParsed (text : Text) (file : tree.FileTree.FileTree) : Type 0 where
   pub short : length text ≤ max_len
   pub tokens : List Placed
@@ -54,12 +54,12 @@ pub record IsParsed (text : Text) (file : tree.FileTree.FileTree) : Type 0 where
   pub derives : Derives (grammar.file 64) (view.file file)
   pub stands : Stands (view.file file) tokens
 
--- the path may have this text, and the text this tree
+-- the path may have these bytes, and these bytes this tree
 pub record MayBe (w : World) (path text : Text) (file : tree.FileTree.FileTree) : Type 0 where
   pub is_given : Gives w path text
   pub is_parsed : IsParsed text file
 
--- the path may have this text, which imports another path; the literal of that import begins at this byte
+-- the path may have these bytes, which import another path; the literal of that import begins at this byte
 pub record ImportsAt (w : World) (path text : Text) (at : ℕ) (other : Text) : Type 0 where
   pub file : tree.FileTree.FileTree
   pub may_be : MayBe w path text file
@@ -88,7 +88,7 @@ pub data MayLead (w : World) (path : Text) : Text → Type 0 where
 
 -- ---- what was read
 
--- a path, and the text and tree of its file
+-- a path, and the bytes and the tree of its file
 abbrev pub Entry : Type 0
 Entry = String Global × kept.SourceFile
 
@@ -114,9 +114,9 @@ IsEntry w e = MayBe w (path_of e) e.1.bytes.items e.1.tree × Reached w (path_of
 abbrev pub ComesTo : List File → Text → Text → Type 0
 ComesTo files path other = (path ≡ other) ⊎ Leads files path other
 
--- The files of the roots and of all that they import, and no others, each path once, at most 1,024. Each text is one that
--- the source may give for its path, and each tree is that of its text. The files are in post-order of imports, begun at the
--- roots in their order, and so each comes after those that it imports, none of them twice.
+-- The files of the roots and of all that they import, and no others, each path once, at most 1,024. The bytes of each
+-- are such as the source may give for its path, and each tree is that of its bytes. The files are in post-order of
+-- imports, begun at the roots in their order, and so each comes after those that it imports, none of them twice.
 pub record IsLinked (w : World) (entries : List Entry) : Type 0 where
   pub each : All (IsEntry w) entries
   pub in_post_order : IsPostOrder w.roots (files_in_order entries)
@@ -124,20 +124,22 @@ pub record IsLinked (w : World) (entries : List Entry) : Type 0 where
   pub apart : Differ (paths_of (outlines entries))
   pub few : length entries ≤ 1024
   pub has_roots : All (λ root. is_path_of (paths_of (outlines entries)) root ≡ true) w.roots
-  pub from_roots : (path : Text) → is_path_of (paths_of (outlines entries)) path ≡ true → (root : Text) × Contains w.roots root × ComesTo (outlines entries) root path
+  pub from_roots : (path : Text) → is_path_of (paths_of (outlines entries)) path ≡ true
+      → (root : Text) × Contains w.roots root × ComesTo (outlines entries) root path
   pub no_cycle : HasNoCycle (outlines entries)
 
--- ---- places
+-- ---- positions
 
--- the place of this byte of the text
+-- the position of this byte of the file
 abbrev pub IsPlace : places.Place → Text → Text → ℕ → Type 0
-IsPlace place path text at = (string_bytes place.file ≡ path) × (place.line ≡ line (take at text)) × (place.column ≡ column (take at text))
+IsPlace place path text at = (string_bytes place.file ≡ path) × (place.line ≡ line (take at text))
+    × (place.column ≡ column (take at text))
 
--- the place of the file as a whole
+-- the position that means the file as a whole
 abbrev pub IsWhole : places.Place → Text → Type 0
 IsWhole place path = (string_bytes place.file ≡ path) × (place.line ≡ 0) × (place.column ≡ 0)
 
--- the place at which a path is asked for
+-- the position at which a path is asked for
 abbrev pub IsAsked : places.Place → Option askings.Asking → Text → Type 0
 IsAsked place None path = IsWhole place path
 IsAsked place (Some a) path = IsPlace place a.file.now a.text.now a.at
@@ -158,7 +160,7 @@ pub record IsBeyond (w : World) (path : Text) : Type 0 where
   pub apart : Differ (path ∷ others)
   pub each : All (λ other. Reached w other × ((t : Text) × Gives w other t)) others
 
--- an import, at its place, of a path that this holds of
+-- an import, at its position, of a path that this holds of
 pub record StandsAt (w : World) (place : places.Place) (P : Text → Text → List Import → Type 0) : Type 0 where
   pub from : Text
   pub text : Text
@@ -169,7 +171,7 @@ pub record StandsAt (w : World) (place : places.Place) (P : Text → Text → Li
   pub is_place : IsPlace place from text at
   pub holds : P from path imports.front
 
--- a text that is read, with a byte in it
+-- a file that is read, with a byte of it
 pub record StandsIn (w : World) (place : places.Place) (at : ℕ) (P : Text → Type 0) : Type 0 where
   pub path : Text
   pub text : Text
@@ -178,7 +180,7 @@ pub record StandsIn (w : World) (place : places.Place) (at : ℕ) (P : Text → 
   pub is_place : IsPlace place path text at
   pub holds : P text
 
--- the byte at which the fault stands
+-- the byte at which the fault is
 abbrev pub syntax_place : SyntaxError → ℕ
 syntax_place syntax.Memory = 0
 syntax_place (syntax.NotProto3 at) = at
@@ -189,29 +191,32 @@ syntax_place (syntax.CustomOption at) = at
 syntax_place (syntax.WeakImport at) = at
 syntax_place (syntax.NestedTooDeep at) = at
 
--- the text has no tokens, for this reason; that memory ran out is none
+-- these bytes have no tokens, for this reason; that memory ran out is none
 abbrev pub HasNoTokens : LexError → Text → Type 0
 HasNoTokens e text = (e ≡ lex.Memory → ⊥) × LexRefuses e text
 
--- no tree spells the text's tokens, for this reason; that memory ran out is none
+-- no tree spells the tokens of these bytes, for this reason; that memory ran out is none
 abbrev pub HasNoTree : SyntaxError → Text → Type 0
-HasNoTree e text = (e ≡ syntax.Memory → ⊥) × ((tokens : List Placed) × lexes text tokens × Reports (grammar.file 64) (length text) tokens e)
+HasNoTree e text = (e ≡ syntax.Memory → ⊥)
+    × ((tokens : List Placed) × lexes text tokens × Reports (grammar.file 64) (length text) tokens e)
 
 -- a fault of reading a path
 abbrev pub IsReadFault : (Text → Bool) → Text → Option askings.Asking → Text → errors.LinkError → Type 0
-IsReadFault lack folder asking path (error.MissingFile place) = IsAsked place asking path × IsTrue (lack (path_below folder path))
+IsReadFault lack folder asking path (error.MissingFile place) = IsAsked place asking path
+    × IsTrue (lack (path_below folder path))
 IsReadFault lack folder asking path (error.SourceFailed place) = IsWhole place path
 IsReadFault lack folder asking path error.Memory = Unit {0}
 IsReadFault lack folder asking path _ = ⊥
 
--- Each refusal comes only where what it names is there, at its place.
+-- Each refusal comes only where what it names is there, at its position.
 abbrev pub Refuses : World → errors.LinkError → Type 0
 -- the source may lack a path that is asked for
 Refuses w (error.MissingFile place) = (path : Text) × IsAskedAt w place path × Lacks w path
 -- an import of a file that leads back to the one with the import
 Refuses w (error.ImportCycle place) = StandsAt w place (λ from path front. MayLead w path from)
 -- an import of a path that an import before it in its file has
-Refuses w (error.DuplicateImport place) = StandsAt w place (λ from path front. is_path_of (import_paths front) path ≡ true)
+Refuses w (error.DuplicateImport place) =
+    StandsAt w place (λ from path front. is_path_of (import_paths front) path ≡ true)
 Refuses w (error.TooManyFiles place) = (path : Text) × IsAskedAt w place path × IsBeyond w path
 Refuses w (error.SourceFailed place) = (path : Text) × Reached w path × IsWhole place path
 Refuses w (error.Lex e place) = StandsIn w place (lex_place e) (HasNoTokens e)

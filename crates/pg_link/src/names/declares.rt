@@ -5,8 +5,8 @@ ghost use Rattle.pg_link.specs.names.Declares as spec;
 ghost use Rattle.pg_link.specs.names.Outline as outline;
 ghost use Rattle.pg_link.specs.inner.Made as made;
 
-use crate::names::index::push_word;
 use crate::names::Kind;
+use crate::names::index::push_word;
 use pg_schema::entry_name;
 use pg_syntax::tree::{
     Dotted, Enum, EnumPart, FileTree, MapField, Message, Name, Oneof, OneofPart, Part, Service,
@@ -75,7 +75,7 @@ impl NameList {
         Ok(())
     }
 
-    /// Appends the names that an enum declares. Its values stand beside it.
+    /// Appends the names that an enum declares. Its values are next to it.
     fn add_enum(&mut self, scope: &str, enumeration: &Enum) -> Result<(), AllocError>
         ensures { OnOk result (made.AddsNames self.old.names.items self.new.names.items
             (spec.names_in scope.now (outline.of_enum enumeration.now spec.Done))) }
@@ -124,7 +124,7 @@ impl NameList {
         Ok(())
     }
 
-    /// Appends the names that a oneof declares. Its members stand beside it.
+    /// Appends the names that a oneof declares. Its members are next to it.
     fn add_oneof(&mut self, scope: &str, oneof: &Oneof) -> Result<(), AllocError>
         ensures { OnOk result (made.AddsNames self.old.names.items self.new.names.items
             (spec.names_in scope.now (outline.of_oneof oneof.now spec.Done))) }
@@ -147,7 +147,8 @@ impl NameList {
     /// Appends the names that the parts of a service declare.
     fn add_service_parts(&mut self, scope: &str, parts: &[ServicePart]) -> Result<(), AllocError>
         ensures { OnOk result (made.AddsNames self.old.names.items self.new.names.items
-            (spec.names_in scope.now (outline.all_of outline.of_service_part parts.now spec.Done))) }
+            (spec.names_in scope.now
+            (outline.all_of outline.of_service_part parts.now spec.Done))) }
     {
         for part in parts {
             self.add_service_part(scope, part)?;
@@ -155,7 +156,7 @@ impl NameList {
         Ok(())
     }
 
-    /// Appends the names that a service declares. Its methods stand in it.
+    /// Appends the names that a service declares. Its methods are in it.
     fn add_service(&mut self, scope: &str, service: &Service) -> Result<(), AllocError>
         ensures { OnOk result (made.AddsNames self.old.names.items self.new.names.items
             (spec.names_in scope.now (outline.of_service service.now spec.Done))) }
@@ -196,7 +197,7 @@ impl NameList {
         Ok(())
     }
 
-    /// Appends the names that a message declares. Its parts stand in it.
+    /// Appends the names that a message declares. Its parts are in it.
     #[cycle(messages)]
     fn add_message(&mut self, scope: &str, message: &Message) -> Result<(), AllocError>
         ensures { OnOk result (made.AddsNames self.old.names.items self.new.names.items
@@ -223,7 +224,8 @@ impl NameList {
     /// Appends the names that statements declare.
     fn add_statements(&mut self, scope: &str, statements: &[Statement]) -> Result<(), AllocError>
         ensures { OnOk result (made.AddsNames self.old.names.items self.new.names.items
-            (spec.names_in scope.now (outline.all_of outline.of_statement statements.now spec.Done))) }
+            (spec.names_in scope.now
+            (outline.all_of outline.of_statement statements.now spec.Done))) }
     {
         for statement in statements {
             self.add_statement(scope, statement)?;

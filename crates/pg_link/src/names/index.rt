@@ -6,20 +6,20 @@ ghost use Rattle.pg_link.specs.inner.Index as spec;
 ghost use Rattle.pg_link.specs.names.Names as names;
 ghost use Rattle.pg_link.specs.names.Resolves as resolves;
 
-use crate::names::{Kind, Named};
 use crate::names::text_keys::TextKeys;
+use crate::names::{Kind, Named};
 use indexmap::IndexMap;
 use pg_syntax::tree::{Name, TypeName};
 use std::alloc::{AllocError, Global};
 
-/// What a file sees: its own number, and for each file whether it sees it.
+/// What is visible in a file: its own number, and for each file whether it is visible.
 #[derive(Clone, Copy)]
 pub(crate) struct Visible<'a> {
     pub own: usize,
     pub marks: &'a [bool],
 }
 
-/// Whether the file that sees is one of these, and sees itself.
+/// Whether the file that asks is one of these, and is visible in itself.
 fn is_own(visible: Visible<'_>, files: &[usize]) -> bool
     ensures { result ≡ true → spec.sees_one visible.entry.marks.now files.now ≡ true }
 {
@@ -29,7 +29,7 @@ fn is_own(visible: Visible<'_>, files: &[usize]) -> bool
     }
 }
 
-/// Whether one of the files is seen. A part of a package may stand in all files, and mostly stands
+/// Whether one of the files is visible. A part of a package may be in all files, and mostly is
 /// in the one that asks, so that is looked at first.
 fn sees_one(visible: Visible<'_>, files: &[usize]) -> bool
     ensures { result ≡ spec.sees_one visible.entry.marks.now files.now }
@@ -58,7 +58,7 @@ fn is_seen(visible: Option<Visible<'_>>, named: &Named) -> bool
     sees_one(visible, &named.others)
 }
 
-/// Whether the search for the first part of a name ends at this kind, by the parts behind it.
+/// Whether the search for the first part of a name ends at this kind, by the parts after it.
 fn ends_at(kind: Kind, parts: &[Name]) -> bool
     ensures { result ≡ resolves.sought_among (resolves.part_words parts.now) kind }
 {
@@ -68,7 +68,7 @@ fn ends_at(kind: Kind, parts: &[Name]) -> bool
     }
 }
 
-/// Appends a dot and the word to the text.
+/// Appends a dot and the word to the name.
 pub(crate) fn push_word(text: &mut String, word: &str) -> Result<(), AllocError>
     ensures { OnOk result (string_bytes text.new
         ≡ string_bytes text.old ++ names.called (word.now ∷ [])) }
@@ -77,7 +77,7 @@ pub(crate) fn push_word(text: &mut String, word: &str) -> Result<(), AllocError>
     text.push_str(word)
 }
 
-/// As many bytes as most full names have, so that few texts of names grow twice.
+/// As many bytes as most full names have, so that few names grow twice.
 pub(crate) const ROOM: usize = 128;
 
 /// The full name of these words.
@@ -91,7 +91,7 @@ fn called(alloc: Global, words: &[&str]) -> Result<String, AllocError>
     Ok(text)
 }
 
-/// Takes a dot and the word behind it away from the end of the text.
+/// Takes a dot and the word after it away from the end of the name.
 fn pop_word(text: &mut String, word: &str)
     requires { (front : List ℕ) × (string_bytes text.old ≡ front ++ names.called (word.now ∷ [])) }
     ensures { (front : List ℕ) → string_bytes text.old ≡ front ++ names.called (word.now ∷ [])
@@ -100,7 +100,7 @@ fn pop_word(text: &mut String, word: &str)
     text.truncate(text.len() - word.len() - 1);
 }
 
-/// Appends a name to the text, as it would be written behind a dot.
+/// Appends a name to another, as it would be written after a dot.
 pub(crate) fn push_name(text: &mut String, name: &TypeName) -> Result<(), AllocError>
     ensures { OnOk result (string_bytes text.new
         ≡ string_bytes text.old ++ resolves.written (resolves.reference name.now)) }
@@ -122,7 +122,7 @@ fn only_word(name: &TypeName) -> Option<&str>
     Some(name.path.first.text.as_str())
 }
 
-/// The names of all files, in the order in which they were first declared, and the places among
+/// The names of all files, in the order in which they were first declared, and the indices among
 /// them of the message types and of the enums.
 #[derive(Debug, Drop)]
 pub(crate) struct Index {
@@ -148,7 +148,7 @@ impl Index {
     }
 
     /// What bears the name in the files that are seen, where the search for a word ends at it. As
-    /// what it is declared is looked at first: a part of a package, which may stand in many files,
+    /// what it is declared is looked at first: a part of a package, which may be in many files,
     /// ends no such search.
     fn seen_type(&self, visible: Option<Visible<'_>>, full: &str) -> Option<(&str, &Named)>
         ensures borne { is_some result ≡ true

@@ -5,19 +5,19 @@ use crate::walk::SourceFile;
 use indexmap::IndexMap;
 use std::hash::{BuildHasher, DefaultHasher, Hasher};
 
-/// Hashes each name behind the texts of all files. So names that collide can't be sought before the
-/// texts are written that hold them: another name makes other texts, and by these all names hash
+/// Hashes each name after the bytes of all files. So names that collide can't be sought before the
+/// files are written that hold them: another name makes other bytes, and by these all names hash
 /// otherwise. No clause speaks of hashes.
 #[derive(Clone, Copy, Debug)]
 pub(crate) struct TextKeys {
     texts: DefaultHasher,
 }
 
-/// What fills a text up to whole words, so that the names behind the texts are hashed by words too.
+/// What fills a file up to eight bytes, so that the names after the files are hashed by eights too.
 const FILLING: [u8; 8] = [0; 8];
 
 impl TextKeys {
-    /// The keys that the files' texts make.
+    /// The keys that the files' bytes make.
     pub(crate) fn of(files: &IndexMap<String, SourceFile>) -> TextKeys {
         let mut texts = DefaultHasher::new();
         for number in 0..files.len() {

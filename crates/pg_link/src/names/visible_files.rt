@@ -1,4 +1,4 @@
-//! Which files each file sees, file by file.
+//! Which files are visible in each file.
 ghost use Rattle.std.specs.Prelude.{◌≡◌, ◌<◌, ◌∷◌, ◌++◌, [], ℕ, Some, List, IfOk, false, get_or, length, map, nat_eq, flat_map, slice_get, take, true, ◌||◌};
 ghost use Rattle.std.specs.List.{All};
 ghost use Rattle.pg_link.specs.names.Files.{Differ, InOrder, handed_on, import_paths, is_path_of, paths_of, public_paths};
@@ -6,8 +6,8 @@ ghost use Rattle.pg_link.specs.inner.Made.{line_of};
 ghost use Rattle.pg_link.specs.inner.VisibleFiles as spec;
 ghost use Rattle.pg_link.specs.walk.Walk.{Entry, outlines, path_of};
 
-use crate::walk::imports::{ImportLine, imports_of};
 use crate::walk::SourceFile;
+use crate::walk::imports::{ImportLine, imports_of};
 use indexmap::IndexMap;
 use std::alloc::{AllocError, Global};
 
@@ -39,7 +39,7 @@ fn numbers_of(alloc: Global, marks: &[bool]) -> Result<Vec<usize>, AllocError>
     Ok(numbers)
 }
 
-/// A mark at this place, of so many.
+/// A mark at this index, of so many.
 fn one_mark(alloc: Global, count: usize, at: usize) -> Result<Vec<bool>, AllocError>
     requires { at < count }
     ensures same_length { IfOk result (λ marks. length marks.items ≡ count) }
@@ -135,7 +135,8 @@ fn add_imports(
     }
 }
 
-/// What a file hands on, or sees: itself and what its public imports, or all its imports, hand on.
+/// What a file hands on, or what is visible in it: itself and what its public imports, or all,
+/// hand on.
 fn marks_of(
     alloc: Global,
     files: &IndexMap<String, SourceFile>,
@@ -201,8 +202,8 @@ fn handed_of(
     Ok(numbers)
 }
 
-/// For each file, by its number, which files it sees: itself, its imports, and onwards by `import
-/// public`. `files` stand behind those that they import.
+/// For each file, by its number, which files are visible: itself, its imports, and onwards by
+/// `import public`. `files` come after those that they import.
 pub(crate) fn visible_files_of(
     alloc: Global,
     files: &IndexMap<String, SourceFile>,

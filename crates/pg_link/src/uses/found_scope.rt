@@ -8,8 +8,8 @@ ghost use Rattle.pg_link.specs.names.Names.{texts};
 ghost use Rattle.pg_link.specs.inner.FoundScope as spec;
 ghost use Rattle.pg_link.specs.names.Resolves.{found, reference};
 
-use crate::names::index::{Index, ROOM, Visible, push_name};
 use crate::names::Named;
+use crate::names::index::{Index, ROOM, Visible, push_name};
 use crate::uses::Site;
 use pg_syntax::tree::TypeName;
 use std::alloc::{AllocError, Global};

@@ -11,10 +11,10 @@ ghost use Rattle.pg_link.specs.uses.Targets.{target_in};
 ghost use Rattle.pg_link.specs.inner.Refusals.{Refuses, RefusesUse};
 
 use crate::names::index::{Index, Visible};
-use crate::names::{Kind, Named};
-use crate::uses::found_scope::FoundScope;
 use crate::names::resolve::Unresolved;
+use crate::names::{Kind, Named};
 use crate::uses::Site;
+use crate::uses::found_scope::FoundScope;
 use pg_syntax::tree::TypeName;
 use std::alloc::Global;
 
@@ -26,7 +26,7 @@ pub enum Target {
     Enum(usize),
 }
 
-/// What is named, where it is a message type, or an enum that may stand there.
+/// What is named, where it is a message type, or an enum that may be used there.
 fn target_of(named: &Named, takes_enums: bool) -> Option<Target>
     ensures { result ≡ taken_by takes_enums named.now.kind named.now.number }
 {

@@ -33,14 +33,14 @@ fn use_fault(alloc: Global, path: &str, text: &[u8], at: usize, why: Unresolved)
     }
 }
 
-/// What the uses of a file resolve to, in the order of its text, and the byte at which each begins.
+/// What the uses of a file resolve to, in order, and the byte at which each begins.
 #[derive(Debug, Drop)]
 pub(crate) struct FileTargets {
     pub targets: Vec<Target>,
     pub places: Vec<usize>,
 }
 
-/// What the uses of a file resolve to, in the order of its text.
+/// What the uses of a file resolve to, in the order of its bytes.
 fn targets_of(
     alloc: Global,
     index: &Index,
@@ -76,7 +76,7 @@ fn targets_of(
     Ok(FileTargets { targets, places })
 }
 
-/// What the uses of all files resolve to, file by file, by the names that each file sees.
+/// What the uses of all files resolve to, file by file, by the names that are visible in each.
 pub(crate) fn all_targets(
     alloc: Global,
     files: &IndexMap<String, SourceFile>,

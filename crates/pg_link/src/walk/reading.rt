@@ -1,4 +1,4 @@
-//! The bytes and the tree of a file, with the places of the faults in them.
+//! The bytes and the tree of a file, with the positions of the faults in them.
 ghost use Rattle.std.specs.Prelude.{◌≡◌, ◌≤◌, ◌+◌, ◌∷◌, [], IfErr, IfOk, IsTrue, OnOk, length};
 ghost use Rattle.pg_link.specs.walk.FolderPath.{path_below};
 ghost use Rattle.pg_lex.specs.Lexes.{lexes, max_len};
@@ -9,9 +9,9 @@ ghost use Rattle.pg_link.specs.Sources.{also, AtMostOne};
 ghost use Rattle.pg_link.specs.walk.Walk as spec;
 ghost use Rattle.pg_link.specs.inner.Walking as walking;
 
-use crate::walk::folder_path::read_below;
 use crate::error::{LinkError, Place, place_in};
 use crate::walk::Asking;
+use crate::walk::folder_path::read_below;
 use crate::{SourceError, Sources};
 use pg_lex::{LexError, Token};
 use pg_syntax::SyntaxError;
@@ -83,8 +83,8 @@ pub(crate) fn tree_of(alloc: Global, path: &str, text: &[u8]) -> Result<FileTree
     }
 }
 
-/// The place at which a path is asked for: the literal of the import, or the file as a whole where
-/// it is a root.
+/// The position at which a path is asked for: the literal of the import, or the file as a whole
+/// where it is a root.
 pub(crate) fn asked_at(
     alloc: Global,
     asking: Option<Asking<'_>>,
@@ -102,8 +102,8 @@ pub(crate) fn asked_at(
     }
 }
 
-/// The bytes of a file. Where the source fails, the place is the file as a whole, whoever asks for
-/// it.
+/// The bytes of a file. Where the source fails, the position is the file as a whole, whoever
+/// asks for it.
 pub(crate) fn text_of<S: Sources>(
     alloc: Global,
     source: &mut S,

@@ -199,7 +199,7 @@ pub none_bears : (bs : List Standing) (s : Standing) → first_of bs ≡ None �
 none_bears [] s none (i, (within, is)) = omega (arith, within)
 none_bears (t ∷ more) s none among = none_some _ (sym none)
 
--- one that stands before another of the name
+-- one that is before another of the name
 one_kind : (before : List Standing) (x t : Standing) → MayStand (reverse before) x → IsAmong before t → bytes_eq x.declared.name t.declared.name ≡ true
     → ((u : Standing) → IsAmong before u → bytes_eq x.declared.name u.declared.name ≡ true → u.declared.kind ≡ t.declared.kind) → x.declared.kind ≡ t.declared.kind
 one_kind before x t (inl none) among named same =
@@ -304,7 +304,7 @@ same_kinds es full once a b here there =
     kinds_same (reverse (all_standings es)) once full a b (among_reverse (all_standings es) a x.0) (among_reverse (all_standings es) b y.0)
     (same_text full a.declared.name x.1) (same_text full b.declared.name y.1)
 
--- a name of a file stands among all
+-- a name of a file is among all
 its_standing : (es : List Entry) (f : File) (d : Declared) → IsAmong (outlines es) f → IsAmong f.declared d
     → (i : ℕ) × (e : Entry) × (slice_get es i ≡ Some e) × (outline e ≡ f) × IsAmong (all_standings es) (standing i d)
 its_standing es f d among has =

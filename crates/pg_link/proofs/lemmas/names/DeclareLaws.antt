@@ -1,4 +1,4 @@
--- What stands one behind the other declares its names one behind the other.
+-- What comes one after the other declares its names one after the other.
 use Rattle.std.proofs.Common.{◌≡◌, ◌∙◌, ℕ, ◌+◌, ◌<◌, List, [], ◌∷◌, ◌++◌, length, refl, sym, ap, append_assoc, map, take, drop, drop-cons, add-one, slice_index_or, string_bytes}
 use Rattle.std.proofs.lemmas.List.{append-nil, map-append, map_more}
 use Rattle.pg_syntax.specs.declared.tree as tree
@@ -17,7 +17,7 @@ use Rattle.pg_link.specs.names.Names.{Text, called}
 use Rattle.pg_link.specs.names.Outline.{all_of, of_enum_part, of_oneof_part, of_service_part, of_part, of_row, of_message, of_statement, word}
 use Rattle.pg_link.proofs.lemmas.names.ResolvesLaws.{called-append}
 
--- what is behind a part is behind its names
+-- what comes after a part comes after its names
 beside_rest : (scope : Text) (kind : Kind) (w : Word) (inner rest : Declarations)
     → names_in scope (Beside kind w inner rest) ≡ names_in scope (Beside kind w inner Done) ++ names_in scope rest
 beside_rest scope kind w inner rest = ap (λ l. declared scope kind w ∷ (l ++ names_in scope rest)) (sym (append-nil (names_in scope inner)))

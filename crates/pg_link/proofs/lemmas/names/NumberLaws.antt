@@ -1,4 +1,4 @@
--- The numbers of message types and enums, one more behind the others.
+-- The numbers of message types and enums, with one more after the others.
 use Rattle.std.proofs.Common.{◌≡◌, ◌∙◌, ◌⊎◌, inl, inr, ℕ, suc, ◌<◌, ◌≤◌, ◌+◌, Bool, true, false, cond, List, [], ◌∷◌, ◌++◌, map, filter, length, refl, sym, ap, subst, true≢false, nat_lt, arith, Option, Some, None, position}
 use Rattle.std.proofs.lemmas.Bool.{lt-ltb, le-ltb, cases_lt, or_parts}
 use Rattle.std.proofs.lemmas.List.{length-append, map-append}
@@ -25,7 +25,7 @@ use Rattle.pg_link.proofs.lemmas.names.SeesLaws.{among_map}
 use Rattle.pg_link.proofs.lemmas.names.TextLaws.{same_text, text_same}
 use Rattle.pg_link.proofs.lemmas.names.VisibleLaws.{any_found}
 
--- ---- places
+-- ---- positions
 
 pub position_is : {X : Type 0} (p : X → Bool) (xs : List X) → position_or_len p xs < length xs → position p xs ≡ Some (position_or_len p xs)
 position_is p xs within = rw (lt-ltb (position_or_len p xs) (length xs) within) refl
@@ -46,7 +46,7 @@ front_by p x xs ys false fail rest within =
     let at = step_false p x xs fail in
     step_false p x (xs ++ ys) fail ∙ (ap (λ (n : ℕ). suc n) (rest (omega (arith, at, within))) ∙ sym at)
 
--- what stands in front stays
+-- what is in front stays
 in_front : {X : Type 0} (p : X → Bool) (xs ys : List X) → position_or_len p xs < length xs → position_or_len p (xs ++ ys) ≡ position_or_len p xs
 in_front p [] ys within = absurd (omega (arith, within))
 in_front p (x ∷ xs) ys within = front_by p x xs ys (p x) refl (in_front p xs ys) within
@@ -57,7 +57,7 @@ position_stays p xs ys k at =
     let same = in_front p xs ys h.1 in
     position_is p (xs ++ ys) (omega (arith, same, h.1, length-append xs ys)) ∙ ap (λ (n : ℕ). Some n) (same ∙ h.0)
 
--- what is new stands last
+-- what is new is last
 at_end : {X : Type 0} (p : X → Bool) (xs : List X) (x : X) → list_any p xs ≡ false → p x ≡ true → position_or_len p (xs ++ x ∷ []) ≡ length xs
 at_end p [] x none pass = step_true p x [] pass
 at_end p (y ∷ ys) x none pass =

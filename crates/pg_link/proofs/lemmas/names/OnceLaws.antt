@@ -1,4 +1,4 @@
--- No name stands twice exactly where any two that are one are parts of packages.
+-- No name is declared twice exactly where any two that are one are parts of packages.
 use Rattle.std.proofs.Common.{◌≡◌, ◌∙◌, inl, inr, ◌⊎◌, ℕ, zero, suc, ◌<◌, ◌≤◌, Bool, true, false, ◌&&◌, cond, List, [], ◌∷◌, ◌++◌, Some, None, map, reverse, length, refl, sym, ap, subst, slice_get, is_some, true≢false, arith}
 use Rattle.std.proofs.lemmas.List.{reverse-append, reverse-reverse}
 use Rattle.std.proofs.lemmas.Option.{same_Some}
@@ -35,7 +35,7 @@ stands (t ∷ before) s share =
     (λ is. share 0 t refl (sym ((bytes_eq-Decides s.declared.name t.declared.name).0 is)))
     (stands before s (λ i u at same. share (suc i) u at same))
 
--- the first that bears a name stands at this place or before it
+-- the first that bears a name is at this index or before it
 record Bears (before found : List Standing) (full : Text) (i : ℕ) : Type 0 where
   place : ℕ
   first : Standing
@@ -114,7 +114,7 @@ shares before s may once = λ i t at name. by i t at name (bears before s.declar
         later i b.place t b.first at b.is_at (b.is_name ∙ sym name) (same_or_before b.place i b.is_before)
         (subst (λ (k : Kind). may_share k s.declared.kind ≡ true) (ap (λ (x : Bearer). x.kind) same ∙ b.is_kind) share)
 
--- ---- one more behind the others
+-- ---- one more after the others
 
 get_within : (front : List Standing) (i : ℕ) (t : Standing) → slice_get front i ≡ Some t → i < length front
 get_within [] i t at = absurd (some_none t at)

@@ -72,7 +72,7 @@ pub is_borne : {S : Type 0} (index : HashMap (String Global) nameds.Named S) (vi
     → get_by_text index full ≡ Some named → is_seen visible (files_of named) ≡ true → full ≡ name → Some (name, named.kind) ≡ borne (names_seen index visible) full
 is_borne index visible full name named held seen same = rw (held, seen, same) refl
 
--- one more word behind a first one
+-- one more word after a first one
 pub called-behind : {X : Type 0} (first : Text) (f : X → Text) (xs : List X) (i : ℕ) (d : X) → i < length xs
     → called (first ∷ map f (take (i + 1) xs)) ≡ called (first ∷ map f (take i xs)) ++ called (f (slice_index_or xs i d) ∷ [])
 called-behind first f xs i d within = rw (map_more f xs i d within) (called-append (first ∷ map f (take i xs)) (f (slice_index_or xs i d) ∷ []))

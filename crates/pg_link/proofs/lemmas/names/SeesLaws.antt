@@ -1,4 +1,4 @@
--- The paths that are computed are those that a file sees, and no others.
+-- The paths that are computed are those that are visible in a file, and no others.
 use Rattle.std.proofs.Common.{◌≡◌, ◌∙◌, inl, inr, zero, suc, Bool, true, false, ◌||◌, cond, List, [], ◌∷◌, map, flat_map, refl, sym, ap, subst, true≢false, arith}
 use Rattle.std.proofs.lemmas.Bool.{or_left, or_right}
 use Rattle.std.specs.List.{list_any, IsAmong}

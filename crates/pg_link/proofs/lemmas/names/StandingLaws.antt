@@ -1,4 +1,4 @@
--- One more name behind the others.
+-- One more name after the others.
 use Rattle.std.proofs.Common.{◌≡◌, ◌∙◌, ℕ, Bool, true, false, cond, List, [], ◌∷◌, ◌++◌, Option, Some, None, String, map, refl, sym, ap, subst, true≢false, append_assoc, take, slice_get, is_some, zero, suc, ◌+◌, arith}
 use Rattle.std.proofs.lemmas.List.{map-append, reverse-append, reverse-reverse, append-nil}
 use Rattle.std.proofs.lemmas.List.Elements.{filter-append}

@@ -1,4 +1,4 @@
--- Texts that are the same, or differ.
+-- Lists of bytes that are the same, or differ.
 use Rattle.std.proofs.Common.{◌≡◌, ◌∙◌, Bool, true, false, refl, sym, true≢false}
 use Rattle.std.proofs.lemmas.Slice.Eq.{bytes_eq-Decides}
 use Rattle.std.specs.Str.{bytes_eq}
@@ -10,7 +10,7 @@ same_text a b is = (bytes_eq-Decides a b).0 is
 pub text_same : (a b : Text) → a ≡ b → bytes_eq a b ≡ true
 text_same a b is = (bytes_eq-Decides a b).1 is
 
--- texts differ either way
+-- they differ either way
 pub differ_turned : (a b : Text) → bytes_eq a b ≡ false → bytes_eq b a ≡ false
 differ_turned a b other = by (bytes_eq b a) refl
   where

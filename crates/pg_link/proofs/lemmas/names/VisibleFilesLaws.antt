@@ -50,7 +50,7 @@ each_unmap P f (x ∷ xs) each = (each.0, each_unmap P f xs each.1)
 
 -- ---- one file among others
 
--- the files that stand behind it, and those that it may import
+-- the files that come after it, and those that it may import
 pub split_outlines : (es : List Entry) (i : ℕ) (e : Entry) → slice_get es i ≡ Some e
     → outlines es ≡ reverse (map outline (drop (suc i) es)) ++ outline e ∷ outlines (take i es)
 split_outlines es i e at =

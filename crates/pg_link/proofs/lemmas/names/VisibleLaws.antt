@@ -1,4 +1,4 @@
--- What files hand on and see: computed on files of which each stands before those that it imports, it is what they do.
+-- What files hand on and what is visible in them: it is what is computed where each is before those that it imports.
 use Rattle.std.proofs.Common.{◌≡◌, ◌∙◌, zero, suc, Bool, true, false, ◌||◌, cond, List, [], ◌∷◌, ◌++◌, flat_map, refl, sym, ap, subst, true≢false, arith}
 use Rattle.std.proofs.lemmas.Bool.{or_left, or_right}
 use Rattle.std.proofs.lemmas.List.Folds.{list_any-append, flat_map-map}
@@ -10,7 +10,7 @@ use Rattle.pg_link.proofs.lemmas.names.TextLaws.{same_text, text_same}
 
 -- ---- lists
 
--- it holds of each, one behind the other
+-- it holds of each, one after the other
 abbrev pub Each : {X : Type 0} → (X → Type 0) → List X → Type 0
 Each P [] = Unit {0}
 Each P (x ∷ xs) = P x × Each P xs
@@ -60,7 +60,7 @@ flat_same : {X Y : Type 0} (f g : X → List Y) (xs : List X) → Each (λ x. f 
 flat_same f g [] each = refl
 flat_same f g (x ∷ xs) each = ap (λ l. l ++ flat_map f xs) each.0 ∙ ap (λ l. g x ++ l) (flat_same f g xs each.1)
 
--- ---- texts
+-- ---- bytes
 
 apart_by : (files : List File) (path first : Text) (b : Bool) → bytes_eq first path ≡ b → is_path_of (paths_of files) path ≡ true
     → is_path_of (paths_of files) first ≡ false → bytes_eq first path ≡ false
@@ -146,7 +146,7 @@ handed_on_is (f ∷ files) order apart file (suc i, (within, is)) =
 lines_flat : (files : List File) (lines : List Import) → flat_map (λ (l : Import). handed_on files l.path) lines ≡ flat_map (handed_on files) (import_paths lines)
 lines_flat files lines = sym (flat_map-map (handed_on files) (λ (l : Import). l.path) lines)
 
--- it sees itself, and what its imports hand on
+-- it and what its imports hand on are visible in it
 pub seen_paths_is : (files : List File) → InOrder files → Differ (paths_of files) → (file : File) → IsAmong files file
     → seen_paths files file.path ≡ file.path ∷ flat_map (handed_on files) (import_paths file.imports)
 seen_paths_is [] order apart file (i, (within, is)) = absurd (omega (arith, within))

@@ -1,4 +1,4 @@
--- Files of which each stands before those that it imports: none is on a circle.
+-- Files of which each is before those that it imports: none is on a circle.
 use Rattle.std.proofs.Common.{◌≡◌, ◌∙◌, ℕ, zero, suc, ◌<◌, ◌+◌, Bool, true, false, ◌||◌, cond, List, [], ◌∷◌, ◌++◌, refl, sym, ap, subst, true≢false, arith}
 use Rattle.std.proofs.lemmas.Bool.{or_left, or_parts, or_right}
 use Rattle.std.proofs.lemmas.List.Folds.{list_any-append}
@@ -29,7 +29,7 @@ line_in P [] line all (i, (within, is)) = absurd (omega (arith, within))
 line_in P (l ∷ lines) line all (zero, (within, is)) = subst P (ap (λ (x : Import). x.path) (sym is)) (all 0 [] (omega arith))
 line_in P (l ∷ lines) line all (suc i, (within, is)) = line_in P lines line (λ k d inside. all (suc k) d (omega (arith, inside))) (i, (omega (arith, within), is))
 
--- what a file imports stands behind it
+-- what a file imports comes after it
 imported : (files : List File) → InOrder files → (file : File) (line : Import) → IsAmong files file → IsAmong file.imports line
     → is_path_of (paths_of files) line.path ≡ true
 imported [] order file line (i, (within, is)) has = absurd (omega (arith, within))
@@ -40,12 +40,12 @@ imported (f ∷ files) order file line (suc i, (within, is)) has =
     or_right (bytes_eq line.path f.path) (is_path_of (paths_of files) line.path)
     (imported files order.2 file line (i, (omega (arith, within), is)) has)
 
--- how far behind the first file a path stands
+-- how far after the first file a path is
 abbrev behind : List File → Text → ℕ
 behind [] path = 0
 behind (f ∷ files) path = cond (bytes_eq path f.path) 0 (behind files path + 1)
 
--- a path that stands among the files isn't that of one before them
+-- a path that is among the files isn't that of one before them
 other_by : (b : Bool) (files : List File) (path first : Text) → bytes_eq path first ≡ b → is_path_of (paths_of files) path ≡ true
     → is_path_of (paths_of files) first ≡ false → bytes_eq path first ≡ false
 other_by true files path first same has none =
@@ -93,7 +93,7 @@ leads_back files order apart path next (Further {next = mid} i l) =
 pub no_cycle : (files : List File) → InOrder files → Differ (paths_of files) → HasNoCycle files
 no_cycle files order apart = λ path leads. absurd (omega (arith, leads_back files order apart path path leads))
 
--- ---- lists of which no element stands twice
+-- ---- lists of which no element is there twice
 
 pub apart_more : (xs : List Text) (x : Text) → Differ xs → is_path_of xs x ≡ false → Differ (xs ++ x ∷ [])
 apart_more [] x apart none = (refl, tt)

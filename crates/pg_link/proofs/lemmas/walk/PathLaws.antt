@@ -32,7 +32,7 @@ any-reverse test (x ∷ xs) =
     ap (list_any test) (reverse-append (x ∷ []) xs) ∙ (list_any-append test (reverse xs) (x ∷ [])
     ∙ (or_turned (list_any test (reverse xs)) (test x) ∙ ap (λ b. test x || b) (any-reverse test xs)))
 
--- the keys of a set hold a text
+-- the keys of a set hold these bytes
 pub among_keys : (path : Text) (keys : List (String Global)) → is_path_of (map string_bytes keys) path ≡ list_any (λ k. bytes_eq path (string_bytes k)) keys
 among_keys path keys = any-map (bytes_eq path) string_bytes keys
 

@@ -223,7 +223,7 @@ open_one w path ps es new sound same open_none none room =
     subst (λ (xs : List Entry). IsSound w (path ∷ ps) xs) (sym same)
     record { each = sound.each; in_order = sound.in_order; apart = apart_from w ps es path sound open_none none; few = omega (arith, room) }
 
--- ---- a file comes behind the others
+-- ---- a file comes after the others
 
 moved : (ps fs : List Text) (path : Text) → is_path_of (ps ++ fs) path ≡ false → Differ (ps ++ fs) → Differ (ps ++ path ∷ fs)
 moved [] fs path none apart = (none, apart)

@@ -17,7 +17,7 @@ use Rattle.pg_link.proofs.lemmas.names.LookLaws.{if_err, if_ok}
 use Rattle.pg_link.proofs.lemmas.uses.UseFaultLaws.{all_are, its_marks, visible_are}
 use Rattle.pg_link.proofs.linked.Linked.look_up.Goals as goal
 
--- what the file sees, through the index
+-- what is visible in the file, through the index
 its_names : (es now : List Entry) (index : indexes.Index) (visible_files : List (Vec Bool Global)) (targets : List (List Target)) (places : List (List ℕ)) (i : ℕ) (e : Entry) (v : Vec Bool Global) (visible : List Bool)
     → IsSettled es index (map (λ (m : Vec Bool Global). m.items) visible_files) targets places → es ≡ now → slice_get now i ≡ Some e → v ≡ get_or visible_files i v → visible ≡ v.items
     → names_seen index.names (Some visible) ≡ visible_names (outlines now) (path_of e)

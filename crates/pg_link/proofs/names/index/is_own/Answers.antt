@@ -11,7 +11,7 @@ by_first : (b c : Bool) → c ≡ true → cond b true c ≡ true
 by_first true c is = refl
 by_first false c is = is
 
--- what is seen at one place is seen
+-- what is visible at one index is visible
 sees_at : (marks : List Bool) (files : List ℕ) (i : ℕ) → i < length files → get_or marks (get_or files i 0) false ≡ true → sees_one marks files ≡ true
 sees_at marks [] i within is = absurd (omega arith)
 sees_at marks (f ∷ files) zero within is = ap (λ b. cond b true (sees_one marks files)) is

@@ -9,7 +9,7 @@ use Rattle.pg_link.specs.walk.Walk.{Entry, outlines, path_of}
 use Rattle.pg_link.proofs.lemmas.names.MaskLaws.{import_numbers, marks_both}
 use Rattle.pg_link.proofs.names.visible_files.add_import.Goals as goal
 
--- the numbers that stand there
+-- the numbers that are there
 its_numbers : (es : List Entry) (handed : List (Vec ℕ Global)) (path : List ℕ) (number : ℕ) (v : Vec ℕ Global) (numbers : List ℕ)
     → AreHanded es (map (λ (m : Vec ℕ Global). m.items) handed) → (e : Entry) × (slice_get es number ≡ Some e) × (path_of e ≡ path)
     → number < length handed → v ≡ get_or handed number v → numbers ≡ v.items → AreNumbers es (handed_on (outlines es) path) numbers

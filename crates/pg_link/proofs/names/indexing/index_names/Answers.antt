@@ -4,7 +4,7 @@ use Rattle.pg_link.specs.inner.Indexed.{Lists}
 use Rattle.pg_link.specs.names.Standing.{NoneTwice, all_standings}
 use Rattle.pg_link.specs.walk.Walk.{Entry}
 use Rattle.pg_link.proofs.lemmas.names.StandingLaws.{files_more, twice_in}
-use Rattle.pg_link.proofs.names.declaring.index_names.Goals as goal
+use Rattle.pg_link.proofs.names.indexing.index_names.Goals as goal
 
 pub loop-number-preserved : goal.loop-number-preserved
 loop-number-preserved c =

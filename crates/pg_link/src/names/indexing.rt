@@ -7,16 +7,16 @@ ghost use Rattle.pg_link.specs.names.Standing as spec;
 ghost use Rattle.pg_link.specs.inner.Indexed as indexed;
 ghost use Rattle.pg_link.specs.uses.Targets.{is_enum, is_message};
 
-use crate::names::declares::{DeclaredName, declared_names};
 use crate::error::{LinkError, place_in};
+use crate::names::declares::{DeclaredName, declared_names};
 use crate::names::index::Index;
-use crate::names::{Kind, Named};
 use crate::names::text_keys::TextKeys;
+use crate::names::{Kind, Named};
 use crate::walk::SourceFile;
 use indexmap::IndexMap;
 use std::alloc::{AllocError, Global};
 
-/// What stands under a name that this file declares first.
+/// What bears a name that this file declares first.
 fn first(alloc: Global, file: usize, declared: &DeclaredName, number: usize) -> Named
     ensures added { indexed.view result
         ≡ indexed.added (spec.standing file (declared_of declared.now)) None }
@@ -31,7 +31,7 @@ fn first(alloc: Global, file: usize, declared: &DeclaredName, number: usize) -> 
     }
 }
 
-/// What stands under a name once this file declares it too.
+/// What bears a name once this file declares it too.
 fn again(file: usize, named: Named, number: usize) -> Result<Named, AllocError>
     ensures added { IfOk result (λ n. (d : Declared)
         → indexed.view n ≡ indexed.added (spec.standing file d) (Some (indexed.view named))) }
@@ -67,7 +67,7 @@ impl Index {
         }
     }
 
-    /// Counts one more that is declared as this, whose name stands at this place.
+    /// Counts one more that is declared as this, whose name has this index.
     fn count(&mut self, kind: Kind, place: usize) -> Result<(), AllocError>
         ensures names { OnOk result (self.new.names ≡ self.old.names) }
         ensures messages { OnOk result
@@ -85,7 +85,7 @@ impl Index {
     }
 
     /// Appends a part of a package. The list of its files stays where it is and grows, however many
-    /// share the name. False where the name stands twice.
+    /// share the name. False where the name is declared twice.
     fn add_part(
         &mut self,
         alloc: Global,
@@ -117,8 +117,8 @@ impl Index {
         }
     }
 
-    /// Appends a name that no other may share, so that it is hashed once. False where it stands
-    /// twice.
+    /// Appends a name that no other may share, so that it is hashed once. False where it is
+    /// declared twice.
     fn add_alone(
         &mut self,
         alloc: Global,
@@ -140,7 +140,7 @@ impl Index {
         Ok(true)
     }
 
-    /// Appends a name that a file declares. False where the name stands twice.
+    /// Appends a name that a file declares. False where the name is declared twice.
     pub(crate) fn add(
         &mut self,
         alloc: Global,
@@ -186,8 +186,9 @@ impl Index {
     }
 }
 
-/// The names of all files, by their full names and in the order in which they are declared. `files`
-/// stand in the order in which their names are looked at; each is numbered by its place.
+/// The names of all files, by their full names and in the order in which they are declared.
+/// `files` are in the order in which their names are looked at; the number of each is its
+/// index.
 ///
 /// E304 where a name is declared twice, and not both times as a part of a package: at the later of
 /// the two.
@@ -195,14 +196,14 @@ pub(crate) fn index_names(
     alloc: Global,
     files: &IndexMap<String, SourceFile>,
 ) -> Result<Index, LinkError>
-    // The index holds just the names that the files declare, and none stands twice.
+    // The index holds just the names that the files declare, and none is declared twice.
     ensures holds { IfOk result (λ index. indexed.Holds index.names
         (spec.all_standings files.now.entries)) }
     ensures once { OnOk result (spec.NoneTwice (spec.all_standings files.now.entries)) }
     // Each message type and enum has its number.
     ensures numbered { IfOk result (λ index. indexed.IsNumbered index
         (spec.all_standings files.now.entries)) }
-    // A name is refused only where it is the first that stands twice, at its place.
+    // A name is refused only where it is the first that is declared twice, at its position.
     ensures twice { IfErr result (spec.IsTwiceIn files.now.entries) }
 {
     let mut index = Index {
