@@ -33,12 +33,6 @@ abbrev pub added : Standing → Option Bearer → Bearer
 added s None = record { kind = s.declared.kind; at = s.declared.at; files = s.file ∷ [] }
 added s (Some b) = record { kind = b.kind; at = b.at; files = b.files ++ s.file ∷ [] }
 
--- what is to bear a name, or none where the name is declared twice
-abbrev pub Joins : {S : Type 0} → HashMap (String Global) nameds.Named S → Standing → Option nameds.Named → Type 0
-Joins index s None = (all : List Standing) → Holds index all → StandsTwice all s
-Joins index s (Some n) = (all : List Standing) → Holds index all
-    → MayStand all s × (view n ≡ added s (bearer all s.declared.name))
-
 abbrev pub one_if : Bool → ℕ
 one_if true = 1
 one_if false = 0

@@ -6,7 +6,7 @@ use Rattle.pg_link.specs.declared.names.resolve.Unresolved.{Unresolved}
 use Rattle.pg_link.specs.declared.names.resolve.Unresolved.TheVariants as why
 use Rattle.pg_link.specs.declared.names.resolve.Unresolved.TheVariants.{Memory, UnknownName, NotAType, NotImported}
 use Rattle.pg_link.specs.names.Names.{Text, Names}
-use Rattle.pg_link.specs.names.Resolves.{Reference, NamesNoType, ResolvesToNone}
+use Rattle.pg_link.specs.names.Resolves.{Reference, NamesNoType}
 use Rattle.pg_link.specs.uses.Unresolved.{IsHidden, IsUnknown, NamesNoTarget}
 use Rattle.pg_link.specs.uses.Uses.{Use}
 use Rattle.pg_link.specs.walk.Walk.{IsPlace, IsWhole}
@@ -17,13 +17,6 @@ Refuses visible all scope name Memory = Unit {0}
 Refuses visible all scope name UnknownName = IsUnknown visible all scope name
 Refuses visible all scope name NotAType = NamesNoType visible scope name
 Refuses visible all scope name NotImported = IsHidden visible all scope name
-
--- memory aside, a refused name resolves to none
-abbrev pub LeavesNone : Names → List Text → Reference → Unresolved → Type 0
-LeavesNone visible scope name Memory = Unit {0}
-LeavesNone visible scope name UnknownName = ResolvesToNone visible scope name
-LeavesNone visible scope name NotAType = ResolvesToNone visible scope name
-LeavesNone visible scope name NotImported = ResolvesToNone visible scope name
 
 -- each refusal of a use comes only where what it names is there
 abbrev pub RefusesUse : Names → Names → Use → Unresolved → Type 0

@@ -3,7 +3,7 @@ ghost use Rattle.std.specs.Prelude.{◌≡◌, IfOk, IfErr, Some, None};
 ghost use Rattle.pg_link.specs.inner.Index.{names_seen};
 ghost use Rattle.pg_link.specs.names.Names.{texts};
 ghost use Rattle.pg_link.specs.names.Resolves.{Resolves, reference};
-ghost use Rattle.pg_link.specs.inner.Refusals.{Refuses, LeavesNone};
+ghost use Rattle.pg_link.specs.inner.Refusals.{Refuses};
 
 use crate::names::index::{Index, Visible};
 use pg_syntax::tree::TypeName;
@@ -46,11 +46,7 @@ impl Index {
         ensures resolves { IfOk result
             (λ full. Resolves (names_seen self.now.names (Some visible.entry.marks.now))
             (texts scope.now) (reference name.now) full.now) }
-        // Memory aside, a name is refused only where it resolves to none.
         ensures refused { IfErr result
-            (LeavesNone (names_seen self.now.names (Some visible.entry.marks.now)) (texts scope.now)
-            (reference name.now)) }
-        ensures cause { IfErr result
             (Refuses (names_seen self.now.names (Some visible.entry.marks.now))
             (names_seen self.now.names None) (texts scope.now) (reference name.now)) }
     {

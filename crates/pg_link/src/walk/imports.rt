@@ -34,11 +34,11 @@ fn add_import(
             })?;
             Ok(())
         }
-        Statement::Empty(_) => Ok(()),
-        Statement::Option(_) => Ok(()),
-        Statement::Message(_) => Ok(()),
-        Statement::Enum(_) => Ok(()),
-        Statement::Service(_) => Ok(()),
+        Statement::Empty(_)
+        | Statement::Option(_)
+        | Statement::Message(_)
+        | Statement::Enum(_)
+        | Statement::Service(_) => Ok(()),
     }
 }
 

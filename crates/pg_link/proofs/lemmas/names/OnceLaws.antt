@@ -1,15 +1,14 @@
 -- No name is declared twice exactly where any two that are one are parts of packages.
 use Rattle.std.proofs.Common.{◌≡◌, ◌∙◌, inl, inr, ◌⊎◌, ℕ, zero, suc, ◌<◌, ◌≤◌, Bool, true, false, ◌&&◌, cond, List, [], ◌∷◌, ◌++◌, Some, None, map, reverse, length, refl, sym, ap, subst, slice_get, is_some, true≢false, arith}
 use Rattle.std.proofs.lemmas.List.{reverse-append, reverse-reverse}
-use Rattle.std.proofs.lemmas.Option.{same_Some}
+use Rattle.std.proofs.lemmas.Option.{same_Some, slice_get_within}
 use Rattle.std.proofs.lemmas.Slice.Eq.{bytes_eq-Decides}
 use Rattle.std.specs.Str.{bytes_eq}
 use Rattle.pg_link.specs.declared.names.Kind.{Kind}
 use Rattle.pg_link.specs.names.Names.{Text, is_package}
 use Rattle.pg_link.specs.names.Standing.{Standing, Bearer, bearers, first_of, may_share, MayStand, AllMayStand, OncePerName, NoneTwiceIsOnce}
-
-some_none : {X : Type 0} (x : X) → None ≡ Some x → ⊥
-some_none x is = true≢false (sym (ap is_some is))
+use Rattle.pg_link.proofs.lemmas.names.MaskLaws.{none_some}
+use Rattle.pg_link.proofs.lemmas.names.VisibleFilesLaws.{push_cases}
 
 inner : {X : Type 0} {a b : X} → Some a ≡ Some b → a ≡ b
 inner {a = a} {b = b} is = same_Some a b is
@@ -76,7 +75,7 @@ bears_by false x before full (suc i) t is at name more =
     }
 
 bears : (before : List Standing) (full : Text) (i : ℕ) (t : Standing) → slice_get before i ≡ Some t → t.declared.name ≡ full → Bears before (bearers before full) full i
-bears [] full i t at name = absurd (some_none t at)
+bears [] full i t at name = absurd (none_some t at)
 bears (x ∷ before) full i t at name =
     bears_by (bytes_eq full x.declared.name) x before full i t refl at name (λ j there. bears before full j t there name)
 
@@ -108,7 +107,7 @@ shares before s may once = λ i t at name. by i t at name (bears before s.declar
 
     by : (i : ℕ) (t : Standing) → slice_get before i ≡ Some t → t.declared.name ≡ s.declared.name → Bears before (bearers before s.declared.name) s.declared.name i
         → MayStand before s → may_share t.declared.kind s.declared.kind ≡ true
-    by i t at name b (inl none) = absurd (some_none b.bearer (sym none ∙ b.is_first))
+    by i t at name b (inl none) = absurd (none_some b.bearer (sym none ∙ b.is_first))
     by i t at name b (inr (other, is, share)) =
         let same : other ≡ b.bearer = inner (sym is ∙ b.is_first) in
         later i b.place t b.first at b.is_at (b.is_name ∙ sym name) (same_or_before b.place i b.is_before)
@@ -116,13 +115,8 @@ shares before s may once = λ i t at name. by i t at name (bears before s.declar
 
 -- ---- one more after the others
 
-get_within : (front : List Standing) (i : ℕ) (t : Standing) → slice_get front i ≡ Some t → i < length front
-get_within [] i t at = absurd (some_none t at)
-get_within (x ∷ front) zero t at = omega arith
-get_within (x ∷ front) (suc i) t at = omega (arith, get_within front i t at)
-
 get_front : (front : List Standing) (s : Standing) (i : ℕ) (t : Standing) → slice_get front i ≡ Some t → slice_get (front ++ s ∷ []) i ≡ Some t
-get_front [] s i t at = absurd (some_none t at)
+get_front [] s i t at = absurd (none_some t at)
 get_front (x ∷ front) s zero t at = at
 get_front (x ∷ front) s (suc i) t at = get_front front s i t at
 
@@ -130,19 +124,8 @@ get_last : (front : List Standing) (s : Standing) → slice_get (front ++ s ∷ 
 get_last [] s = refl
 get_last (x ∷ front) s = get_last front s
 
-front_or_last : (front : List Standing) (s : Standing) (i : ℕ) (t : Standing) → slice_get (front ++ s ∷ []) i ≡ Some t
-    → (slice_get front i ≡ Some t) ⊎ ((i ≡ length front) × (s ≡ t))
-front_or_last [] s zero t at = inr (refl, inner at)
-front_or_last [] s (suc i) t at = absurd (some_none t at)
-front_or_last (x ∷ front) s zero t at = inl at
-front_or_last (x ∷ front) s (suc i) t at = more (front_or_last front s i t at)
-  where
-    more : (slice_get front i ≡ Some t) ⊎ ((i ≡ length front) × (s ≡ t)) → (slice_get front i ≡ Some t) ⊎ ((suc i ≡ suc (length front)) × (s ≡ t))
-    more (inl is) = inl is
-    more (inr is) = inr (ap suc is.0, is.1)
-
 once_push : (front : List Standing) (s : Standing) → OncePerName front → AllShare front s → OncePerName (front ++ s ∷ [])
-once_push front s once share = λ i j t u less at there name. by i j t u less name (front_or_last front s i t at) (front_or_last front s j u there)
+once_push front s once share = λ i j t u less at there name. by i j t u less name (push_cases front s i t at) (push_cases front s j u there)
   where
     by : (i j : ℕ) (t u : Standing) → i < j → t.declared.name ≡ u.declared.name → (slice_get front i ≡ Some t) ⊎ ((i ≡ length front) × (s ≡ t))
         → (slice_get front j ≡ Some u) ⊎ ((j ≡ length front) × (s ≡ u)) → may_share t.declared.kind u.declared.kind ≡ true
@@ -150,20 +133,20 @@ once_push front s once share = λ i j t u less at there name. by i j t u less na
     by i j t u less name (inl at) (inr last) =
         subst (λ (v : Standing). may_share t.declared.kind v.declared.kind ≡ true) last.1
         (share i t at (name ∙ ap (λ (v : Standing). v.declared.name) (sym last.1)))
-    by i j t u less name (inr last) (inl there) = absurd (omega (arith, less, last.0, get_within front j u there))
+    by i j t u less name (inr last) (inl there) = absurd (omega (arith, less, last.0, slice_get_within front j u there))
     by i j t u less name (inr last) (inr other) = absurd (omega (arith, less, last.0, other.0))
 
 once_front : (front : List Standing) (s : Standing) → OncePerName (front ++ s ∷ []) → OncePerName front
 once_front front s once = λ i j t u less at there name. once i j t u less (get_front front s i t at) (get_front front s j u there) name
 
 share_last : (front : List Standing) (s : Standing) → OncePerName (front ++ s ∷ []) → AllShare front s
-share_last front s once = λ i t at name. once i (length front) t s (get_within front i t at) (get_front front s i t at) (get_last front s) name
+share_last front s once = λ i t at name. once i (length front) t s (slice_get_within front i t at) (get_front front s i t at) (get_last front s) name
 
 pushed : (s : Standing) (before : List Standing) → reverse (s ∷ before) ≡ reverse before ++ s ∷ []
 pushed s before = reverse-append (s ∷ []) before
 
 once_of : (before : List Standing) → AllMayStand before → OncePerName (reverse before)
-once_of [] all = λ i j t u less at there name. absurd (some_none t at)
+once_of [] all = λ i j t u less at there name. absurd (none_some t at)
 once_of (s ∷ before) all =
     let front : OncePerName (reverse before) = once_of before all.1 in
     subst OncePerName (sym (pushed s before)) (once_push (reverse before) s front (shares (reverse before) s all.0 front))

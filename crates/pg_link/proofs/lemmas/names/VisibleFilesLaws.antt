@@ -81,27 +81,23 @@ lines_there es i e lines order at own =
 
 -- ---- one more mask
 
-masks_by : (es : List Entry) (paths : Text → List Text) (masks : List (List Bool)) (m : List Bool) (i : ℕ) (marks : List Bool) (e : Entry)
-    → AreMasks es paths masks → ((a : Entry) → slice_get es (length masks) ≡ Some a → IsMask es (paths (path_of a)) m)
-    → slice_get es i ≡ Some e → (slice_get masks i ≡ Some marks) ⊎ ((i ≡ length masks) × (m ≡ marks)) → IsMask es (paths (path_of e)) marks
-masks_by es paths masks m i marks e before here there (inl at) = before i marks e at there
-masks_by es paths masks m i marks e before here there (inr (same, is)) =
-    subst (IsMask es (paths (path_of e))) is (here e (subst (λ (n : ℕ). slice_get es n ≡ Some e) same there))
+-- what holds of each of the first files with its own, and of one more, holds of all these
+more_by : {X : Type 0} (P : Entry → X → Type 0) (es : List Entry) (xs : List X) (x : X) (i : ℕ) (y : X) (e : Entry)
+    → ((j : ℕ) (z : X) (a : Entry) → slice_get xs j ≡ Some z → slice_get es j ≡ Some a → P a z) → ((a : Entry) → slice_get es (length xs) ≡ Some a → P a x)
+    → slice_get es i ≡ Some e → (slice_get xs i ≡ Some y) ⊎ ((i ≡ length xs) × (x ≡ y)) → P e y
+more_by P es xs x i y e before here there (inl at) = before i y e at there
+more_by P es xs x i y e before here there (inr (same, is)) = subst (P e) is (here e (subst (λ (n : ℕ). slice_get es n ≡ Some e) same there))
 
 pub masks_more : (es : List Entry) (paths : Text → List Text) (masks : List (List Bool)) (m : List Bool) → AreMasks es paths masks
     → ((a : Entry) → slice_get es (length masks) ≡ Some a → IsMask es (paths (path_of a)) m) → AreMasks es paths (masks ++ m ∷ [])
-masks_more es paths masks m before here = λ i marks e at there. masks_by es paths masks m i marks e before here there (push_cases masks m i marks at)
-
-numbers_by : (es : List Entry) (handed : List (List ℕ)) (own : List ℕ) (i : ℕ) (numbers : List ℕ) (e : Entry)
-    → AreHanded es handed → ((a : Entry) → slice_get es (length handed) ≡ Some a → AreNumbers es (handed_on (outlines es) (path_of a)) own)
-    → slice_get es i ≡ Some e → (slice_get handed i ≡ Some numbers) ⊎ ((i ≡ length handed) × (own ≡ numbers)) → AreNumbers es (handed_on (outlines es) (path_of e)) numbers
-numbers_by es handed own i numbers e before here there (inl at) = before i numbers e at there
-numbers_by es handed own i numbers e before here there (inr (same, is)) =
-    subst (AreNumbers es (handed_on (outlines es) (path_of e))) is (here e (subst (λ (n : ℕ). slice_get es n ≡ Some e) same there))
+masks_more es paths masks m before here = λ i marks e at there.
+    more_by (λ (a : Entry) (l : List Bool). IsMask es (paths (path_of a)) l) es masks m i marks e before here there (push_cases masks m i marks at)
 
 numbers_more : (es : List Entry) (handed : List (List ℕ)) (own : List ℕ) → AreHanded es handed
     → ((a : Entry) → slice_get es (length handed) ≡ Some a → AreNumbers es (handed_on (outlines es) (path_of a)) own) → AreHanded es (handed ++ own ∷ [])
-numbers_more es handed own before here = λ i numbers e at there. numbers_by es handed own i numbers e before here there (push_cases handed own i numbers at)
+numbers_more es handed own before here = λ i numbers e at there.
+    more_by (λ (a : Entry) (l : List ℕ). AreNumbers es (handed_on (outlines es) (path_of a)) l) es handed own i numbers e before here there
+    (push_cases handed own i numbers at)
 
 pub handed_numbers : (es : List Entry) (i : ℕ) (e : Entry) (lines : List made.ImportLine) (numbers : List ℕ) → InOrder (outlines es) → Differ (paths_of (outlines es))
     → slice_get es i ≡ Some e → map line_of lines ≡ file_imports e.1.tree

@@ -58,4 +58,4 @@ returns-clause-refused c =
     (subst (λ (names : Names). Refuses names (names_seen index.names None) scope name why)
     (its_names es c.args.self.now.files index c.self.inside.visible_files.items _ _ c.args.file e c.index.result.now c.deref.result.now c.self.invariant same at
     c.index.ensures c.deref.ensures.value) refuses))
-    c.resolve.ensures.cause
+    c.resolve.ensures.refused
