@@ -12,7 +12,7 @@ use Rattle.pg_link.specs.declared.names.Kind.TheVariants.{Message, Package}
 use Rattle.pg_link.specs.walk.Walk.{outlines}
 use Rattle.pg_link.proofs.lemmas.names.OnceLaws.{none_twice_is_once}
 use Rattle.pg_link.proofs.lemmas.walk.PostOrderLaws.{visits_once}
-use Rattle.pg_link.proofs.lemmas.names.SeesLaws.{among_map}
+use Rattle.pg_link.proofs.lemmas.names.SeenPaths.{among_map}
 use Rattle.pg_link.proofs.lemmas.names.VisibleLaws.{first_among}
 
 -- a file that is there imports the first of its paths

@@ -1,4 +1,4 @@
-use Rattle.pg_link.proofs.lemmas.names.SeesLaws.{seen_paths_are}
+use Rattle.pg_link.proofs.lemmas.names.SeenPaths.{seen_paths_are}
 use Rattle.pg_link.proofs.laws.seen_paths_are_seen.Goals as goal
 
 pub returns : goal.returns

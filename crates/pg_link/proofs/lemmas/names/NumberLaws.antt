@@ -19,10 +19,10 @@ use Rattle.pg_link.specs.names.Names.{Text, is_package}
 use Rattle.pg_link.specs.names.Standing.{Standing, Bearer, MayStand, bearer, bearers}
 use Rattle.pg_link.specs.inner.Indexed.{IsNumbered, added, declared_in, next_number, one_if, target_by, target_of, view}
 use Rattle.pg_link.specs.uses.Targets.{enum_names, is_enum, is_message, message_names, names_of, number_in, numbered}
-use Rattle.pg_link.proofs.lemmas.names.BridgeLaws.{among_filter, both_true, filter_among, none_bears, package_is}
-use Rattle.pg_link.proofs.lemmas.names.MaskLaws.{none_some, step_false, step_true}
-use Rattle.pg_link.proofs.lemmas.names.SeesLaws.{among_map}
-use Rattle.pg_link.proofs.lemmas.names.TextLaws.{same_text, text_same}
+use Rattle.pg_link.proofs.lemmas.names.HeldNames.{among_filter, both_true, filter_among, none_bears, package_is}
+use Rattle.pg_link.proofs.lemmas.names.FileMarks.{none_some, step_false, step_true}
+use Rattle.pg_link.proofs.lemmas.names.SeenPaths.{among_map}
+use Rattle.pg_link.proofs.lemmas.names.SameBytes.{same_text, text_same}
 use Rattle.pg_link.proofs.lemmas.names.VisibleLaws.{any_found}
 
 -- ---- positions

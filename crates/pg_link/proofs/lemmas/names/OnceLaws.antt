@@ -7,7 +7,7 @@ use Rattle.std.specs.Str.{bytes_eq}
 use Rattle.pg_link.specs.declared.names.Kind.{Kind}
 use Rattle.pg_link.specs.names.Names.{Text, is_package}
 use Rattle.pg_link.specs.names.Standing.{Standing, Bearer, bearers, first_of, may_share, MayStand, AllMayStand, OncePerName, NoneTwiceIsOnce}
-use Rattle.pg_link.proofs.lemmas.names.MaskLaws.{none_some}
+use Rattle.pg_link.proofs.lemmas.names.FileMarks.{none_some}
 use Rattle.pg_link.proofs.lemmas.names.VisibleFilesLaws.{push_cases}
 
 inner : {X : Type 0} {a b : X} → Some a ≡ Some b → a ≡ b

@@ -16,11 +16,11 @@ use Rattle.pg_link.specs.names.Names.{Text}
 use Rattle.pg_link.specs.names.Standing.{Bearer, Standing, all_standings, bearers, first_of, standing}
 use Rattle.pg_link.specs.inner.Indexed.{Lists, view}
 use Rattle.pg_link.specs.walk.Walk.{Entry, path_of}
-use Rattle.pg_link.proofs.lemmas.names.BridgeLaws.{among_filter, filter_among, none_bears, standing_there, stands_of}
-use Rattle.pg_link.proofs.lemmas.names.MaskLaws.{none_some}
+use Rattle.pg_link.proofs.lemmas.names.HeldNames.{among_filter, filter_among, none_bears, standing_there, stands_of}
+use Rattle.pg_link.proofs.lemmas.names.FileMarks.{none_some}
 use Rattle.pg_link.proofs.lemmas.names.VisibleLaws.{first_among}
 use Rattle.pg_link.proofs.lemmas.names.StandingLaws.{none_held, one_held}
-use Rattle.pg_link.proofs.lemmas.names.TextLaws.{same_text, text_same}
+use Rattle.pg_link.proofs.lemmas.names.SameBytes.{same_text, text_same}
 use Rattle.pg_link.proofs.lemmas.uses.UseFaultLaws.{among_at}
 
 pub if_some : {X : Type 0} (P Q : X → Type 0) (o : Option X) → ((x : X) → P x → Q x) → IfSome o P → IfSome o Q

@@ -19,7 +19,7 @@ use Rattle.pg_link.specs.walk.Walk.{Entry, IsPlace, path_of}
 use Rattle.std.proofs.lemmas.Option.{same_Some}
 use Rattle.pg_link.specs.names.Standing.{Standing, Bearer, bearers, bearer, first_of, MayStand, NoneTwice, AllMayStand, StandsTwice, standing, standings, standings_from, all_standings, IsTwiceIn}
 use Rattle.pg_link.specs.inner.Indexed.{added, Adds, AddsAll, Holds, Lists, IsTwice, view}
-use Rattle.pg_link.proofs.lemmas.names.TextLaws.{same_text, differ_turned}
+use Rattle.pg_link.proofs.lemmas.names.SameBytes.{same_text, differ_turned}
 
 bearers-push : (all : List Standing) (s : Standing) (full : Text) → bearers (all ++ s ∷ []) full ≡ bearers all full ++ bearers (s ∷ []) full
 bearers-push all s full = filter-append (λ (t : Standing). bytes_eq full t.declared.name) all (s ∷ [])

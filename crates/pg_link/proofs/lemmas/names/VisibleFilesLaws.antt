@@ -11,7 +11,7 @@ use Rattle.pg_link.specs.names.Names.{Text}
 use Rattle.pg_link.specs.names.Outline.{file_imports}
 use Rattle.pg_link.specs.inner.VisibleFiles.{IsMask, AreMasks, AreNumbers, AreHanded, AreVisibleFiles, taken}
 use Rattle.pg_link.specs.walk.Walk.{Entry, outline, outlines, path_of}
-use Rattle.pg_link.proofs.lemmas.names.MaskLaws.{none_some}
+use Rattle.pg_link.proofs.lemmas.names.FileMarks.{none_some}
 use Rattle.pg_link.proofs.lemmas.names.VisibleLaws.{Each, each_of, first_among, later_among, handed_on_is, seen_paths_is}
 
 -- ---- lists

@@ -6,7 +6,7 @@ use Rattle.std.specs.List.{list_any, All, IsAmong}
 use Rattle.std.specs.Str.{bytes_eq}
 use Rattle.pg_link.specs.names.Files.{File, Import, InOrder, Differ, is_path_of, paths_of, import_paths, public_paths, handed_on, seen_paths}
 use Rattle.pg_link.specs.names.Names.{Text}
-use Rattle.pg_link.proofs.lemmas.names.TextLaws.{same_text, text_same}
+use Rattle.pg_link.proofs.lemmas.names.SameBytes.{same_text, text_same}
 
 -- ---- lists
 

@@ -15,7 +15,7 @@ use Rattle.pg_link.specs.inner.Indexed.{IsNumbered, declared_in, taken_by, targe
 use Rattle.pg_link.specs.uses.Targets.{numbered, target_in}
 use Rattle.pg_link.specs.uses.Unresolved.{NamesNoTarget, may_stand}
 use Rattle.pg_link.specs.uses.Uses.{Use}
-use Rattle.pg_link.proofs.lemmas.names.MaskLaws.{none_some}
+use Rattle.pg_link.proofs.lemmas.names.FileMarks.{none_some}
 
 taken_number : (ds : List Declared) (takes : Bool) (full : Text) (kind : Kind) (number : ℕ) → numbered ds true full kind ≡ target_by kind number
     → numbered ds takes full kind ≡ taken_by takes kind number

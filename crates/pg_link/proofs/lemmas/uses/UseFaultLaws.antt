@@ -24,7 +24,7 @@ use Rattle.pg_link.specs.inner.Refusals.{RefusesUse, Says}
 use Rattle.pg_link.specs.uses.UseFaults.{IsUseFault, IsUseFaultIn}
 use Rattle.pg_link.specs.uses.Uses.{Use, file_uses}
 use Rattle.pg_link.specs.walk.Walk.{Entry, outlines, path_of}
-use Rattle.pg_link.proofs.lemmas.names.BridgeLaws.{known_names, seen_names}
+use Rattle.pg_link.proofs.lemmas.names.HeldNames.{known_names, seen_names}
 
 -- ---- one use
 

@@ -15,7 +15,7 @@ use Rattle.pg_link.specs.names.Names.{Text}
 use Rattle.pg_link.specs.names.Outline.{file_imports}
 use Rattle.pg_link.specs.walk.Walk.{Entry, ComesTo, outline, outlines, path_of}
 use Rattle.pg_link.specs.inner.Walking.{ComeBy, Extends, entries, has_path}
-use Rattle.pg_link.proofs.lemmas.names.TextLaws.{same_text}
+use Rattle.pg_link.proofs.lemmas.names.SameBytes.{same_text}
 use Rattle.pg_link.proofs.lemmas.walk.WalkLaws.{line_path, outlines-push, paths_of_lines}
 
 itself : (a : Text) → bytes_eq a a ≡ true

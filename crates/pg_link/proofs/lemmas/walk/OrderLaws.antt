@@ -7,7 +7,7 @@ use Rattle.std.specs.List.{list_any, All, IsAmong}
 use Rattle.std.specs.Str.{bytes_eq}
 use Rattle.pg_link.specs.names.Files.{File, Import, Imports, Leads, Next, Further, HasNoCycle, InOrder, Differ, is_path_of, paths_of, import_paths}
 use Rattle.pg_link.specs.names.Names.{Text}
-use Rattle.pg_link.proofs.lemmas.names.TextLaws.{text_same, differ_turned}
+use Rattle.pg_link.proofs.lemmas.names.SameBytes.{text_same, differ_turned}
 
 -- one of the elements makes the test pass
 pub passes_at : {X : Type 0} (test : X → Bool) (xs : List X) (x : X) → IsAmong xs x → test x ≡ true → list_any test xs ≡ true

@@ -19,7 +19,7 @@ use Rattle.pg_link.specs.walk.PostOrder.{AreListed, Visits, all_visited, imports
 use Rattle.pg_link.specs.walk.Walk.{Entry, files_in_order, outline, outlines}
 use Rattle.pg_link.specs.inner.Walking.{Extends, VisitLists, entries, has_path, listed_paths}
 use Rattle.pg_link.proofs.lemmas.walk.PathLaws.{any-map, any-reverse}
-use Rattle.pg_link.proofs.lemmas.names.TextLaws.{text_same, differ_turned}
+use Rattle.pg_link.proofs.lemmas.names.SameBytes.{text_same, differ_turned}
 use Rattle.pg_link.proofs.lemmas.walk.WalkLaws.{line_path, paths_of_lines}
 
 -- ---- visits

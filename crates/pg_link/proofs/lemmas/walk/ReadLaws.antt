@@ -17,7 +17,7 @@ use Rattle.pg_link.specs.inner.Walking.{ReadsNew, ReadsAll, is_begun, entries, o
 use Rattle.pg_link.specs.Sources.{also, AtMostOne}
 use Rattle.pg_link.specs.walk.Walk.{Entry, World, outlines, path_of, world}
 use Rattle.pg_link.proofs.lemmas.walk.PathLaws.{any-map, among_entries}
-use Rattle.pg_link.proofs.lemmas.names.TextLaws.{same_text}
+use Rattle.pg_link.proofs.lemmas.names.SameBytes.{same_text}
 use Rattle.pg_link.proofs.lemmas.walk.WalkLaws.{outlines-push}
 
 -- ---- what reads leave of a source

@@ -24,7 +24,7 @@ use Rattle.pg_link.specs.walk.PostOrder.{IsPostOrder}
 use Rattle.pg_link.specs.walk.Walk.{World, Gives, MayBe, ImportsAt, Comes, Reached, MayLead, Stays, Onwards, Entry, IsEntry, outline, outlines, files_in_order, IsAsked, IsAskedAt, IsPlace, IsReadFault, IsLinked, ComesTo, Refuses}
 use Rattle.pg_link.specs.inner.Walking.{entries, open_paths, IsSound, Follows, Asks, IsTextFault, IsImportFault}
 use Rattle.pg_link.proofs.lemmas.walk.OrderLaws.{no_cycle}
-use Rattle.pg_link.proofs.lemmas.names.TextLaws.{same_text, differ_turned}
+use Rattle.pg_link.proofs.lemmas.names.SameBytes.{same_text, differ_turned}
 
 -- ---- who asks
 

@@ -1,7 +1,7 @@
 use Rattle.std.proofs.Common.{◌≡◌, ◌∙◌, ◌≢◌, ◌+◌, ℕ, List, [], ◌∷◌, ◌++◌, drop, length, ap, Bor, Option, Some, None}
 use Rattle.std.specs.Option.{MatchOption, unwrap_or}
 use Rattle.std.specs.Str.{IsCharBoundary}
-use Rattle.pg_link.proofs.lemmas.names.LookLaws.{stripped}
+use Rattle.pg_link.proofs.lemmas.names.FullNames.{stripped}
 use Rattle.pg_link.proofs.linked.behind_dot.Goals as goal
 
 abbrev Strips : List ℕ → Bor (List ℕ) → Type 0

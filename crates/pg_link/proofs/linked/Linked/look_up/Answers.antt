@@ -13,7 +13,7 @@ use Rattle.pg_link.specs.Linked.{LinkedFiles}
 use Rattle.pg_link.specs.names.Resolves.{Reference, Resolves, reference}
 use Rattle.pg_link.specs.inner.Refusals.{Refuses}
 use Rattle.pg_link.specs.walk.Walk.{Entry, outlines, path_of}
-use Rattle.pg_link.proofs.lemmas.names.LookLaws.{if_err, if_ok}
+use Rattle.pg_link.proofs.lemmas.names.FullNames.{if_err, if_ok}
 use Rattle.pg_link.proofs.lemmas.uses.UseFaultLaws.{all_are, its_marks, visible_are}
 use Rattle.pg_link.proofs.linked.Linked.look_up.Goals as goal
 

@@ -3,7 +3,7 @@ use Rattle.pg_link.specs.names.Files.{visible_names}
 use Rattle.pg_link.specs.names.Names.{texts, Text}
 use Rattle.pg_link.specs.names.Resolves.{Resolves, reference}
 use Rattle.pg_link.specs.walk.Walk.{outlines, path_of}
-use Rattle.pg_link.proofs.lemmas.names.LookLaws.{has_dot}
+use Rattle.pg_link.proofs.lemmas.names.FullNames.{has_dot}
 use Rattle.pg_link.proofs.linked.Linked.resolve.Goals as goal
 
 pub returns-in-Ok-clause-resolves : goal.returns-in-Ok-clause-resolves

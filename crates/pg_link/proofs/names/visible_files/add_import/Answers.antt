@@ -6,7 +6,7 @@ use Rattle.std.specs.Option.{option_map}
 use Rattle.pg_link.specs.names.Files.{handed_on}
 use Rattle.pg_link.specs.inner.VisibleFiles.{AreHanded, AreNumbers}
 use Rattle.pg_link.specs.walk.Walk.{Entry, outlines, path_of}
-use Rattle.pg_link.proofs.lemmas.names.MaskLaws.{import_numbers, marks_both}
+use Rattle.pg_link.proofs.lemmas.names.FileMarks.{import_numbers, marks_both}
 use Rattle.pg_link.proofs.names.visible_files.add_import.Goals as goal
 
 -- the numbers that are there

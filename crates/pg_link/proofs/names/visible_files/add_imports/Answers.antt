@@ -5,7 +5,7 @@ use Rattle.pg_link.specs.names.Files.{handed_on}
 use Rattle.pg_link.specs.inner.Made.{line_of}
 use Rattle.pg_link.specs.inner.VisibleFiles.{Marks, taken}
 use Rattle.pg_link.specs.walk.Walk.{outlines}
-use Rattle.pg_link.proofs.lemmas.names.MaskLaws.{one_more_line}
+use Rattle.pg_link.proofs.lemmas.names.FileMarks.{one_more_line}
 use Rattle.pg_link.proofs.names.visible_files.add_imports.Goals as goal
 
 pub loop-line-preserved : goal.loop-line-preserved

@@ -1,5 +1,5 @@
 use Rattle.pg_link.specs.inner.Made.{line_of}
-use Rattle.pg_link.proofs.lemmas.names.MaskLaws.{taken_line, untaken}
+use Rattle.pg_link.proofs.lemmas.names.FileMarks.{taken_line, untaken}
 use Rattle.pg_link.proofs.names.visible_files.add_line.Goals as goal
 
 pub returns-then-not-is_taken-clause-marked : goal.returns-then-not-is_taken-clause-marked

@@ -4,7 +4,7 @@ use Rattle.pg_link.specs.names.Files.{handed_on, public_paths}
 use Rattle.pg_link.specs.inner.Made.{line_of}
 use Rattle.pg_link.specs.inner.VisibleFiles.{AreNumbers, is_numbered}
 use Rattle.pg_link.specs.walk.Walk.{outlines, path_of}
-use Rattle.pg_link.proofs.lemmas.names.MaskLaws.{numbers_are, own_number}
+use Rattle.pg_link.proofs.lemmas.names.FileMarks.{numbers_are, own_number}
 use Rattle.pg_link.proofs.names.visible_files.handed_of.Goals as goal
 
 pub returns-then-not-has_public : goal.returns-then-not-has_public

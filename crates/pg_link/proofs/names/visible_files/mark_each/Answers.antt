@@ -1,6 +1,6 @@
 use Rattle.std.proofs.Common.{◌<◌, ℕ, Bool, List, get_or, length, refl, arith}
 use Rattle.std.proofs.lemmas.List.{length-set}
-use Rattle.pg_link.proofs.lemmas.names.MaskLaws.{one_more_mark}
+use Rattle.pg_link.proofs.lemmas.names.FileMarks.{one_more_mark}
 use Rattle.pg_link.proofs.names.visible_files.mark_each.Goals as goal
 
 pub loop-number-preserved : goal.loop-number-preserved

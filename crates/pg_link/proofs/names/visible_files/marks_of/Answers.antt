@@ -1,6 +1,6 @@
 use Rattle.std.proofs.Common.{◌∙◌, ◌∷◌, []}
 use Rattle.pg_link.specs.walk.Walk.{path_of}
-use Rattle.pg_link.proofs.lemmas.names.MaskLaws.{own_marks}
+use Rattle.pg_link.proofs.lemmas.names.FileMarks.{own_marks}
 use Rattle.pg_link.proofs.names.visible_files.marks_of.Goals as goal
 
 pub returns : goal.returns

@@ -1,6 +1,6 @@
 use Rattle.std.proofs.Common.{◌≡◌, ◌∙◌, ℕ, Some, slice_get, ap, sym, subst, arith}
 use Rattle.std.specs.Option.{unwrap_or}
-use Rattle.pg_link.proofs.lemmas.names.MaskLaws.{number_of}
+use Rattle.pg_link.proofs.lemmas.names.FileMarks.{number_of}
 use Rattle.pg_link.proofs.names.visible_files.number_of.Goals as goal
 
 pub returns : goal.returns

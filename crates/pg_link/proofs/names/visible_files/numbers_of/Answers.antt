@@ -2,7 +2,7 @@ use Rattle.std.proofs.Common.{◌≡◌, ◌<◌, ◌+◌, ℕ, List, Bool, fals
 use Rattle.std.proofs.lemmas.List.Elements.{All-push}
 use Rattle.std.specs.List.{All}
 use Rattle.pg_link.specs.inner.VisibleFiles.{is_numbered}
-use Rattle.pg_link.proofs.lemmas.names.MaskLaws.{below_more, no_more_number, one_more_number}
+use Rattle.pg_link.proofs.lemmas.names.FileMarks.{below_more, no_more_number, one_more_number}
 use Rattle.pg_link.proofs.names.visible_files.numbers_of.Goals as goal
 
 pub loop-number-preserved-then-not-mark : goal.loop-number-preserved-then-not-mark

@@ -5,7 +5,7 @@ use Rattle.std.specs.HashMap.{get_by_text}
 use Rattle.std.specs.Str.{bytes_eq}
 use Rattle.pg_link.specs.inner.Index as spec
 use Rattle.pg_link.proofs.lemmas.names.ResolvesLaws.{is_borne}
-use Rattle.pg_link.proofs.lemmas.names.TextLaws.{same_text}
+use Rattle.pg_link.proofs.lemmas.names.SameBytes.{same_text}
 use Rattle.pg_link.proofs.names.index.Index.seen_type.Goals as goal
 
 pub returns-then-is_seen-clause-borne : goal.returns-then-is_seen-clause-borne

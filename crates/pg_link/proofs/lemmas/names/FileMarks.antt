@@ -19,7 +19,7 @@ use Rattle.pg_link.specs.names.Names.{Text}
 use Rattle.pg_link.specs.inner.VisibleFiles.{Marks, IsMask, AreHanded, AreNumbers, is_numbered, taken}
 use Rattle.pg_link.specs.walk.Walk.{Entry, outline, outlines, path_of}
 use Rattle.pg_link.proofs.lemmas.walk.PathLaws.{among_entries, any-reverse}
-use Rattle.pg_link.proofs.lemmas.names.TextLaws.{same_text, text_same, differ_turned}
+use Rattle.pg_link.proofs.lemmas.names.SameBytes.{same_text, text_same, differ_turned}
 
 pub none_some : {X : Type 0} (x : X) → None ≡ Some x → ⊥
 none_some x is = true≢false (sym (ap is_some is))

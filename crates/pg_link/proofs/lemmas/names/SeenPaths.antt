@@ -5,7 +5,7 @@ use Rattle.std.specs.List.{list_any, IsAmong}
 use Rattle.std.specs.Str.{bytes_eq}
 use Rattle.pg_link.specs.names.Files.{File, Import, Imports, HandsOn, Itself, Onwards, Sees, InOrder, Differ, is_path_of, paths_of, import_paths, public_paths, handed_on, seen_paths, SeenPathsAreSeen}
 use Rattle.pg_link.specs.names.Names.{Text}
-use Rattle.pg_link.proofs.lemmas.names.TextLaws.{same_text, text_same}
+use Rattle.pg_link.proofs.lemmas.names.SameBytes.{same_text, text_same}
 use Rattle.pg_link.proofs.lemmas.names.VisibleLaws.{each_at, first_among, later_among, any_found, any_at, any_flat, imports_there, handed_on_is, seen_paths_is}
 
 -- ---- lists

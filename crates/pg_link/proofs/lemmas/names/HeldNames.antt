@@ -18,9 +18,9 @@ use Rattle.pg_link.specs.inner.VisibleFiles.{Marks}
 use Rattle.pg_link.specs.names.Standing.{Standing, Bearer, bearers, first_of, NoneTwice, AllMayStand, MayStand, standing, standings, standings_from, all_standings}
 use Rattle.pg_link.specs.inner.Indexed.{Holds, view}
 use Rattle.pg_link.specs.walk.Walk.{Entry, outline, outlines}
-use Rattle.pg_link.proofs.lemmas.names.MaskLaws.{none_some}
-use Rattle.pg_link.proofs.lemmas.names.SeesLaws.{among_map, map_among}
-use Rattle.pg_link.proofs.lemmas.names.TextLaws.{same_text, text_same}
+use Rattle.pg_link.proofs.lemmas.names.FileMarks.{none_some}
+use Rattle.pg_link.proofs.lemmas.names.SeenPaths.{among_map, map_among}
+use Rattle.pg_link.proofs.lemmas.names.SameBytes.{same_text, text_same}
 use Rattle.pg_link.proofs.lemmas.names.VisibleLaws.{any_at, any_found, first_among, later_among}
 use Rattle.pg_link.proofs.lemmas.names.VisibleFilesLaws.{among_outlines}
 

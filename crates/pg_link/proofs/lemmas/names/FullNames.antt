@@ -5,7 +5,7 @@ use Rattle.std.specs.Option.{option_map, option_and_then}
 use Rattle.pg_link.specs.declared.names.Kind.{Kind}
 use Rattle.pg_link.specs.names.Names.{Text, Names, called}
 use Rattle.pg_link.specs.names.Resolves.{Reference, Resolves, borne, innermost, meant, sought_among, written}
-use Rattle.pg_link.proofs.lemmas.names.MaskLaws.{none_some}
+use Rattle.pg_link.proofs.lemmas.names.FileMarks.{none_some}
 
 abbrev pub HasDot : Text → Type 0
 HasDot full = (rest : Text) × (full ≡ 46 ∷ rest)
