@@ -1,5 +1,5 @@
 -- From a field to the later ones that come into its new oneof.
-use Rattle.std.specs.Prelude.{◌≡◌, ℕ, suc, ◌≤◌, ◌<◌, nat_eq, ⊤, true, List, ◌++◌, map, length, drop, slice_index_or, Option, Some, None}
+use Rattle.std.specs.Prelude.{◌≡◌, ℕ, suc, ◌≤◌, ◌<◌, nat_eq, ⊤, true, false, List, ◌++◌, map, length, drop, slice_index_or, Option, Some, None}
 use Rattle.std.specs.Option.{unwrap_or}
 use Rattle.std.specs.HashMap.{HashMap, get}
 use Rattle.pg_schema.specs.declared.parts.field.Field.{Field}
@@ -32,11 +32,20 @@ IsAny a = ⊤
 abbrev pub IsBeside : Field → FieldShape → Type 0
 IsBeside f a = same_oneof a.oneof f.oneof ≡ true
 
+-- the field at the index, where there is one, isn't in the old oneof of that field
+abbrev pub IsOutside : List Field → Field → ℕ → Type 0
+IsOutside list f to =
+    (g : Field) → to < length list → g ≡ slice_index_or list to g → same_oneof f.oneof g.oneof ≡ false
+
+-- It leads from the field at the index to the next one of its new oneof, and to the next one there that isn't in its
+-- old oneof.
+pub record LeadsFrom (gs : List FieldShape) (list : List Field) (f : Field) (at : ℕ) (link : Link) : Type 0 where
+  pub next : Passes gs list (new_oneof gs (field_shape f)) IsAny (suc at) link.next
+  pub other : Passes gs list (new_oneof gs (field_shape f)) (IsBeside f) (suc at) link.other
+  pub outside : IsOutside list f link.other
+
 abbrev pub IsLink : List FieldShape → List Field → ℕ → Link → Type 0
-IsLink gs list at link =
-    (f : Field) → f ≡ slice_index_or list at f →
-    Passes gs list (new_oneof gs (field_shape f)) IsAny (suc at) link.next
-    × Passes gs list (new_oneof gs (field_shape f)) (IsBeside f) (suc at) link.other
+IsLink gs list at link = (f : Field) → f ≡ slice_index_or list at f → LeadsFrom gs list f at link
 
 -- the links of the fields from that index on
 pub record AreLinks (gs : List FieldShape) (list : List Field) (n : ℕ) (links : List Link) : Type 0 where

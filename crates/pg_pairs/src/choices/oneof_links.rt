@@ -5,7 +5,7 @@ ghost use Rattle.pg_schema.specs.Parts.{field_shape, shape_of};
 ghost use Rattle.pg_schema.specs.Shape.{FieldShape, fields};
 ghost use Rattle.pg_dyn.specs.reading.Content.{same_oneof};
 ghost use Rattle.pg_pairs.specs.choices.NewOneof.{new_oneof};
-ghost use Rattle.pg_pairs.specs.choices.OneofLinks.{AreLinks, IsAny, IsBeside, Passes, first_in};
+ghost use Rattle.pg_pairs.specs.choices.OneofLinks.{AreLinks, IsAny, IsBeside, IsOutside, Passes, first_in};
 
 use crate::choices::new_oneof::{new_oneof, same_oneof};
 use pg_schema::{Field, Schema, TypeId};
@@ -40,11 +40,15 @@ fn next_of(
 
 /// From the next field of a new oneof on the first field outside an old one. That is the next field
 /// itself or the one that follows it so.
+#[tactic(auto, using(crate::proofs::lemmas::choices::OneofLinks::outside_by,
+    crate::proofs::lemmas::choices::OneofLinks::outside_over))]
 fn other_from(list: &[Field], links: &[Link], field: &Field, next: usize) -> usize
     requires { length links.now ≡ length list.now }
-    ensures { (gs : List FieldShape) (n : ℕ) → AreLinks gs list.now n links.now → n ≤ next
+    ensures passes { (gs : List FieldShape) (n : ℕ) → AreLinks gs list.now n links.now → n ≤ next
         → Passes gs list.now (new_oneof gs (field_shape field.now)) IsAny n next
         → Passes gs list.now (new_oneof gs (field_shape field.now)) (IsBeside field.now) n result }
+    ensures outside { (gs : List FieldShape) (n : ℕ) → AreLinks gs list.now n links.now → n ≤ next
+        → IsOutside list.now field.now result }
 {
     if next >= list.len() {
         return next;

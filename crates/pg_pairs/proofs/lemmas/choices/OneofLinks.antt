@@ -11,7 +11,7 @@ use Rattle.pg_pairs.specs.declared.choices.oneof_links.Link.{Link}
 use Rattle.pg_pairs.specs.choices.Choices.{affordable, choice, in_one_oneof, joined_choices, joins}
 use Rattle.pg_pairs.specs.choices.Costs.{least_content}
 use Rattle.pg_pairs.specs.choices.NewOneof.{new_oneof}
-use Rattle.pg_pairs.specs.choices.OneofLinks.{joined_from, Passes, IsAny, IsBeside, IsLink, AreLinks}
+use Rattle.pg_pairs.specs.choices.OneofLinks.{joined_from, Passes, IsAny, IsBeside, IsOutside, LeadsFrom, IsLink, AreLinks}
 use Rattle.pg_pairs.proofs.lemmas.choices.LeastMembers.{joins_is}
 use Rattle.pg_pairs.proofs.lemmas.choices.OptionSteps.{affordable-append, drop_at, item_is}
 
@@ -22,6 +22,17 @@ one None q h = absurd (cc)
 
 turned : (o q : Option ℕ) → same_oneof o q ≡ true → same_oneof q o ≡ true
 turned o q h = subst₂ (λ x y. same_oneof x y ≡ true) (one o q h) (sym (one o q h)) h
+
+pub outside_by : (list : List Field) (f g : Field) (to : ℕ) → g ≡ slice_index_or list to g → same_oneof f.oneof g.oneof ≡ false → IsOutside list f to
+outside_by list f g to is apart = λ h inside h_is. subst (λ (x : Field). same_oneof f.oneof x.oneof ≡ false) (item_is list to g h inside is h_is) apart
+
+-- what isn't in the old oneof of the next field isn't in that of a field beside it there
+pub outside_over :
+    (gs : List FieldShape) (list : List Field) (links : List Link) (f g : Field) (n next : ℕ) (d : Link) → AreLinks gs list n links → n ≤ next → next < length list → g ≡ slice_index_or list next g → same_oneof f.oneof g.oneof ≡ true →
+    IsOutside list f (slice_index_or links next d).other
+outside_over gs list links f g n next d are from inside is old =
+    subst (λ o. (h : Field) → (slice_index_or links next d).other < length list → h ≡ slice_index_or list (slice_index_or links next d).other h → same_oneof o h.oneof ≡ false) (sym (one f.oneof g.oneof old))
+    (are.each next d from inside g is).outside
 
 module _ (gs : List FieldShape) (list : List Field) where
   abbrev meeting : FieldShape → FieldShape → List Choice
@@ -114,6 +125,6 @@ module _ (gs : List FieldShape) (list : List Field) where
         }
 
   -- one turn of the loop that goes down
-  pub linked : (n : ℕ) (f : Field) → n < length list → f ≡ slice_index_or list n f → (next other : ℕ) → Passes gs list (new_oneof gs (field_shape f)) IsAny (suc n) next → Passes gs list (new_oneof gs (field_shape f)) (IsBeside f) (suc n) other → IsLink gs list n (record { next = next; other = other })
-  linked n f inside is next other p q = λ g g_is.
-      subst (λ (x : Field). Passes gs list (new_oneof gs (field_shape x)) IsAny (suc n) next × Passes gs list (new_oneof gs (field_shape x)) (IsBeside x) (suc n) other) (item_is list n f g inside is g_is) (p, q)
+  pub linked : (n : ℕ) (f : Field) → n < length list → f ≡ slice_index_or list n f → (next other : ℕ) → Passes gs list (new_oneof gs (field_shape f)) IsAny (suc n) next → Passes gs list (new_oneof gs (field_shape f)) (IsBeside f) (suc n) other → IsOutside list f other →
+      IsLink gs list n (record { next = next; other = other })
+  linked n f inside is next other p q out = λ g g_is. subst (λ (x : Field). LeadsFrom gs list x n (record { next = next; other = other })) (item_is list n f g inside is g_is) (record { next = p; other = q; outside = out })

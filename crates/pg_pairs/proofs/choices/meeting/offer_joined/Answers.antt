@@ -18,7 +18,7 @@ loop-later-preserved-then-same_oneof c = λ gs are f f_is.
     let link = slice_index_or c.args.links.now later (record { next = 0; other = 0 }) in
     let old : same_oneof first.oneof second.oneof ≡ true = search rules in
     subst (λ (x : Field). Follows gs list (field_shape x) (c.args.choices.now.items ++ affordable (joined_from gs (field_shape x) list (suc c.args.at))) c.loop-later.choices.items link.other) (item_is list c.args.at first f c.requires.at c.index-list-at.is f_is)
-    (skips gs list (field_shape first) second _ c.loop-later.choices.items later there c.index-list-later.is (c.loop-later.invariant gs are first c.index-list-at.is) link.other old (are.each later (record { next = 0; other = 0 }) (omega arith) there second c.index-list-later.is).1)
+    (skips gs list (field_shape first) second _ c.loop-later.choices.items later there c.index-list-later.is (c.loop-later.invariant gs are first c.index-list-at.is) link.other old (are.each later (record { next = 0; other = 0 }) (omega arith) there second c.index-list-later.is).other)
 
 pub loop-later-preserved : goal.loop-later-preserved
 loop-later-preserved c = λ gs are f f_is.
@@ -30,4 +30,4 @@ loop-later-preserved c = λ gs are f f_is.
     let link = slice_index_or c.args.links.now later (record { next = 0; other = 0 }) in
     let apart : same_oneof first.oneof second.oneof ≡ false = search rules in
     subst (λ (x : Field). Follows gs list (field_shape x) (c.args.choices.now.items ++ affordable (joined_from gs (field_shape x) list (suc c.args.at))) c.offer_meeting.new.choices.items link.next) (item_is list c.args.at first f c.requires.at c.index-list-at.is f_is)
-    (offers gs list (field_shape first) second _ c.loop-later.choices.items later there c.index-list-later.is (c.loop-later.invariant gs are first c.index-list-at.is) link.next c.offer_meeting.new.choices.items apart (are.each later (record { next = 0; other = 0 }) (omega arith) there second c.index-list-later.is).0 c.in_ok-offer_meeting.ensures)
+    (offers gs list (field_shape first) second _ c.loop-later.choices.items later there c.index-list-later.is (c.loop-later.invariant gs are first c.index-list-at.is) link.next c.offer_meeting.new.choices.items apart (are.each later (record { next = 0; other = 0 }) (omega arith) there second c.index-list-later.is).next c.in_ok-offer_meeting.ensures)

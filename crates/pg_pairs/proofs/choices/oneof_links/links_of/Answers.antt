@@ -43,7 +43,8 @@ loop-at-preserved c =
           (subst (λ m. AreFirst gs list m c.loop-at.first) next c.loop-at.invariant.first (new_oneof gs (field_shape f))) in
           links_before gs list n c.loop-at.links.items _ inside are
           (linked gs list n f inside c.index-list-at.is c.in_ok-next.next c.other_from-other.result p
-          (c.other_from-other.ensures gs (suc n) (subst (AreLinks gs list (suc n)) (sym c.deref.ensures.value) are) p.later p));
+          (c.other_from-other.ensures.passes gs (suc n) (subst (AreLinks gs list (suc n)) (sym c.deref.ensures.value) are) p.later p)
+          (c.other_from-other.ensures.outside gs (suc n) (subst (AreLinks gs list (suc n)) (sym c.deref.ensures.value) are) p.later));
     }
 
 pub returns : goal.returns
