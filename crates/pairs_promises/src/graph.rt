@@ -10,7 +10,7 @@ ghost use Rattle.pg_pairs.specs.graph.Edges as prices;
 ghost use Rattle.pg_pairs.specs.graph.GraphView.{seen};
 ghost use Rattle.pg_pairs.specs.bounds.LeastCosts.{least_cost};
 ghost use Rattle.pg_pairs.specs.graph.Reached.{IsReachedFrom, IsReachedInOrder};
-ghost use Rattle.pg_pairs.specs.graph.Seen.{AreClosed};
+ghost use Rattle.pg_pairs.specs.graph.Walks.{AreClosed};
 ghost use Rattle.pg_pairs.specs.graph.Works.{opened_more, relaxed_more};
 
 use pg_pairs::{Edge, Pair, Priced, Prices, View, Work};

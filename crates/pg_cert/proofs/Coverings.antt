@@ -5,18 +5,18 @@ use Rattle.std.specs.Option.{option_or}
 use Rattle.std.proofs.lemmas.Bool.{and_parts, leb-true, le-leb}
 use Rattle.pg_schema.specs.Shape.{Shape}
 use Rattle.pg_dyn.proofs.Lists.{each_weaker}
-use Rattle.pg_pairs.specs.graph.EdgeChildren.{same_pair-true}
+use Rattle.pg_pairs.specs.laws.EdgeChildren.{same_pair-true}
 use Rattle.pg_pairs.specs.declared.choices.choice.Choice.{Choice}
 use Rattle.pg_pairs.specs.declared.choices.choice.Pair.{Pair}
 use Rattle.pg_pairs.specs.views.EnumView.{EnumView}
 use Rattle.pg_pairs.specs.choices.Choices.{Table, choices, cheapest}
-use Rattle.pg_pairs.specs.choices.CheapestLaws.{IsCheapest, CheapestIsLeast}
+use Rattle.pg_pairs.specs.laws.CheapestLaws.{IsCheapest, CheapestIsLeast}
 use Rattle.pg_pairs.specs.bounds.Covering.{same_pair, children, IsThere, IsWithin, IsCovered}
 use Rattle.pg_cert.specs.declared.bounds.PairBound.{PairBound}
 use Rattle.pg_cert.specs.declared.error.CertError.TheVariants.{RootMissing, PairMissing}
 use Rattle.pg_cert.specs.Certificate.{is_bound, bound_in, are_bounds}
 use Rattle.pg_cert.specs.Faults.{is_within, missing_child, cheaper_choice, too_high, pair_fault, first_pair_fault, root_fault}
-use Rattle.pg_cert.specs.Laws.{CoversWithoutFault}
+use Rattle.pg_cert.specs.laws.CertificateLaws.{CoversWithoutFault}
 use Rattle.pg_cert.proofs.Tables.{same_pair-refl, same_pair-sym}
 
 -- two answers of which the first counts

@@ -2,7 +2,7 @@
 use Rattle.std.proofs.Common.{◌≡◌, ℕ, ◌+◌, ◌-◌, ◌<◌, suc, nat_eq, nat_lt, Bool, not, true, false, cond, List, [], ◌∷◌, ◌++◌, take, drop, length, Option, Some, None, option_map, position, refl, ap, sym, ◌∙◌, subst, arith, add-one}
 use Rattle.std.specs.List.{position_or_len}
 use Rattle.std.proofs.lemmas.Bool.{and_parts, lt-ltb, eq-eqb}
-use Rattle.pg_cert.specs.Reading.{lacks}
+use Rattle.pg_cert.specs.inner.Reading.{lacks}
 
 not_not : (b : Bool) → not b ≡ true → b ≡ false
 not_not false h = refl

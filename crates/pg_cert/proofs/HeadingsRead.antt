@@ -4,7 +4,7 @@ use Rattle.pg_dyn.specs.declared.view_name.ViewName.{ViewName}
 use Rattle.pg_dyn.specs.declared.view_name.ViewName.TheVariants as views
 use Rattle.pg_cert.specs.declared.heading.Heading.{Heading}
 use Rattle.pg_cert.specs.declared.heading.Heading.TheVariants as headings
-use Rattle.pg_cert.specs.Reading.{front}
+use Rattle.pg_cert.specs.inner.Reading.{front}
 use Rattle.pg_cert.proofs.Fronts.{same_after}
 
 -- the versions differ in the byte after the first word

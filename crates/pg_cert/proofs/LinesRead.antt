@@ -5,7 +5,7 @@ use Rattle.std.specs.List.{AllByRecursion}
 use Rattle.pg_schema.specs.declared.parts.Parts.{Parts}
 use Rattle.pg_cert.specs.declared.bounds.PairBound.{PairBound}
 use Rattle.pg_cert.specs.Certificate.{is_bound, are_bounds}
-use Rattle.pg_cert.specs.Reading.{IsRest, IsLeft}
+use Rattle.pg_cert.specs.inner.Reading.{IsRest, IsLeft}
 use Rattle.pg_cert.specs.Text.{IsPairOf, names_of, lines_text, bound_word}
 use Rattle.pg_cert.proofs.Tables.{parts_of_bounds}
 

@@ -5,7 +5,7 @@ use Rattle.pg_dyn.specs.declared.view_name.ViewName.TheVariants as views
 use Rattle.pg_cert.specs.declared.heading.Heading.{Heading}
 use Rattle.pg_cert.specs.declared.heading.Heading.TheVariants as headings
 use Rattle.pg_cert.specs.Certificate.{Claim}
-use Rattle.pg_cert.specs.Laws.{IsTextIn, OneTextInEachVersion, version_of}
+use Rattle.pg_cert.specs.laws.CertificateLaws.{IsTextIn, OneTextInEachVersion, version_of}
 use Rattle.pg_cert.specs.Text.{names_of, text_of, view_of}
 
 one_heading : (a b : Heading) → version_of a ≡ version_of b → view_of a ≡ view_of b → a ≡ b

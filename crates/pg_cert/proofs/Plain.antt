@@ -10,7 +10,7 @@ use Rattle.pg_schema.specs.declared.parts.message_type.MessageType.{MessageType}
 use Rattle.pg_schema.specs.declared.parts.Parts.{Parts}
 use Rattle.pg_schema.specs.Invariant.{IsSchema}
 use Rattle.pg_schema.specs.Parts.{name_at}
-use Rattle.pg_cert.specs.Reading.{lacks, IsBlank}
+use Rattle.pg_cert.specs.inner.Reading.{lacks, IsBlank}
 use Rattle.pg_cert.specs.Text.{names_of}
 use Rattle.pg_cert.proofs.FullNames.{is_name_byte, is_clean, name_is_clean}
 

@@ -4,12 +4,12 @@ use Rattle.std.specs.Map.{lookup}
 use Rattle.std.proofs.lemmas.Bool.{and_parts, eq-eqb}
 use Rattle.std.proofs.lemmas.List.{take-append-drop}
 use Rattle.std.proofs.Math.Seq.{take-suc}
-use Rattle.pg_pairs.specs.graph.EdgeChildren.{same_pair-true}
+use Rattle.pg_pairs.specs.laws.EdgeChildren.{same_pair-true}
 use Rattle.pg_pairs.specs.declared.choices.choice.Pair.{Pair}
 use Rattle.pg_pairs.specs.bounds.Covering.{same_pair}
 use Rattle.pg_cert.specs.declared.bounds.PairBound.{PairBound}
 use Rattle.pg_cert.specs.Certificate.{is_bound, bound_in, are_bounds}
-use Rattle.pg_cert.specs.Entries.{bound_of}
+use Rattle.pg_cert.specs.inner.Entries.{bound_of}
 
 -- the entry of a pair is its bound
 pub lookup-bound : (entries : List ((ℕ × ℕ) × Option ℕ)) (pair : Pair) → lookup (λ (key : ℕ × ℕ). nat_eq pair.old.index key.0 && nat_eq pair.new.index key.1) entries ≡ bound_in (map bound_of entries) pair

@@ -14,9 +14,9 @@ use Rattle.pg_cert.specs.declared.error.CertError.{CertError}
 use Rattle.pg_cert.specs.declared.error.CertError.TheVariants as errors
 use Rattle.pg_cert.specs.Certificate.{are_bounds, bound_in, Claim, Holds, IsWitnessed, IsWitnessedIfThere}
 use Rattle.pg_cert.specs.Verdict.{bound_verdict, verdict_of, Says}
-use Rattle.pg_cert.specs.Checked.{IsChecked}
+use Rattle.pg_cert.specs.inner.Checked.{IsChecked}
 use Rattle.pg_cert.specs.Faults.{WitnessFault, WitnessFaultIfThere, first_fault}
-use Rattle.pg_cert.specs.Laws.{CoversWithoutFault, VerdictsAreTrue, WitnessFaultsAreReal}
+use Rattle.pg_cert.specs.laws.CertificateLaws.{CoversWithoutFault, VerdictsAreTrue, WitnessFaultsAreReal}
 
 module _ (covering : CoveringBounds) (compatible : NoneIsCompatible) (enum_view : EnumView) (old new : Shape) (view : ViewName) (root : Pair) (bounds : List PairBound) (is_enum_view : IsEnumView enum_view) (is_old : IsShape old) (is_new : IsShape new) where
   of_bound : (bound : Option (Option ℕ)) → bound_in bounds root ≡ bound → Covers enum_view old new (bound_in bounds) root → Says enum_view old new (record { view = view; root = root; bounds = bounds; witness = None }) (bound_verdict bound)

@@ -11,7 +11,7 @@ use Rattle.pg_cert.specs.declared.error.CertError.TheVariants.{Memory}
 use Rattle.pg_cert.specs.declared.heading.Heading.{Heading}
 use Rattle.pg_cert.specs.Certificate.{Claim}
 use Rattle.pg_cert.specs.Witness.{is_witness}
-use Rattle.pg_cert.specs.Reading.{IsRest, after_heading, front}
+use Rattle.pg_cert.specs.inner.Reading.{IsRest, after_heading, front}
 use Rattle.pg_cert.specs.Text.{Names, IsPairOf, IsClaimOf, HasTexts, heading_text, names_of, lines_text, last_text, text_of}
 use Rattle.pg_cert.proofs.Spelling.{text-row}
 use Rattle.pg_cert.proofs.WitnessRead.{last-row}

@@ -16,8 +16,8 @@ use Rattle.pg_pairs.specs.views.EnumView.{by_numbers}
 use Rattle.pg_cert.specs.declared.error.CertError.TheVariants.{Memory, BadText, RootMissing, PairMissing, BoundTooHigh, WitnessNotWritten, WitnessLength, WitnessKeeps}
 use Rattle.pg_cert.specs.Certificate.{IsWitnessed}
 use Rattle.pg_cert.specs.Witness.{IsWritten}
-use Rattle.pg_cert.specs.Laws.{WitnessFaultsAreReal}
-use Rattle.pg_cert.specs.Worked as worked
+use Rattle.pg_cert.specs.laws.CertificateLaws.{WitnessFaultsAreReal}
+use Rattle.pg_cert.specs.laws.Worked as worked
 
 pub witness_faults_are_real : WitnessFaultsAreReal
 witness_faults_are_real enum_view old new root bound bytes WitnessNotWritten fault is =

@@ -11,7 +11,7 @@ use Rattle.std.specs.Str.Parse.{ParsesUnsigned}
 use lib.Pointwise.{pointwise}
 use Rattle.pg_dyn.specs.encoding.Encoding.{cap}
 use Rattle.pg_cert.specs.Certificate.{is_bound}
-use Rattle.pg_cert.specs.Reading.{lacks}
+use Rattle.pg_cert.specs.inner.Reading.{lacks}
 use Rattle.pg_cert.specs.Text.{bound_word}
 
 -- a byte that is a decimal digit isn't a lower one

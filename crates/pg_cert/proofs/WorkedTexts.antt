@@ -14,10 +14,10 @@ use Rattle.pg_cert.specs.declared.heading.Heading.{Heading}
 use Rattle.pg_cert.specs.declared.heading.Heading.TheVariants as headings
 use Rattle.pg_cert.specs.Certificate.{are_bounds, Claim}
 use Rattle.pg_cert.specs.Witness.{AreBytes, is_witness}
-use Rattle.pg_cert.specs.Reading.{after_heading, front}
+use Rattle.pg_cert.specs.inner.Reading.{after_heading, front}
 use Rattle.pg_cert.specs.Text.{IsClaimOf, Names, last_text, lines_text, names_of, text_of, view_of, witness_word}
-use Rattle.pg_cert.specs.Worked.{by_names, child_witness, in_child, inner, minus_one, one_renamed, outer, to_unsigned, unchanged}
-use Rattle.pg_cert.specs.WorkedTexts.{AreNamed, IsNoText, IsNotTextOf, IsTextOf, WorkedTexts, m_and_n, only_m, only_n}
+use Rattle.pg_cert.specs.laws.Worked.{by_names, child_witness, in_child, inner, minus_one, one_renamed, outer, to_unsigned, unchanged}
+use Rattle.pg_cert.specs.laws.WorkedTexts.{AreNamed, IsNoText, IsNotTextOf, IsTextOf, WorkedTexts, m_and_n, only_m, only_n}
 use Rattle.pg_cert.proofs.WholeRead.{head-row}
 use Rattle.pg_cert.proofs.WitnessRead.{last-row}
 

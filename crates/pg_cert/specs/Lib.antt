@@ -1,13 +1,9 @@
-pub mod Entries
 pub mod Certificate
 pub mod Witness
 pub mod Verdict
 pub mod ClaimView
 pub mod Faults
-pub mod Laws
-pub mod Checked
-pub mod Worked
 pub mod Text
-pub mod WorkedTexts
-pub mod Reading
 pub mod Codes
+pub mod inner
+pub mod laws

@@ -3,7 +3,7 @@
 ghost use Rattle.std.specs.Prelude.{◌≡◌, true, false, length, map, nat_eq, slice_get, IfErr, IfOk, Option};
 ghost use Rattle.pg_cert.specs.declared.bounds.BoundsError.TheVariants.{Invariant};
 ghost use Rattle.pg_cert.specs.Certificate.{are_bounds, is_bound, bound_in};
-ghost use Rattle.pg_cert.specs.Entries.{bound_of};
+ghost use Rattle.pg_cert.specs.inner.Entries.{bound_of};
 
 use crate::pair_keys::PairKeys;
 use indexmap::IndexMap;
@@ -45,7 +45,7 @@ impl Model for Bounds {
     ghost Value = { List PairBound };
 
     ghost use Rattle.pg_cert.specs.Certificate.{are_bounds};
-    ghost use Rattle.pg_cert.specs.Entries.{bound_of};
+    ghost use Rattle.pg_cert.specs.inner.Entries.{bound_of};
 
     ghost view = { λ b. map bound_of b.entries.entries };
 

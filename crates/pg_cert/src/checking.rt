@@ -7,7 +7,7 @@ ghost use Rattle.pg_cert.specs.declared.error.CertError.TheVariants as errors;
 ghost use Rattle.pg_cert.specs.Certificate.{bound_in};
 ghost use Rattle.pg_cert.specs.Verdict.{bound_verdict, verdict_of};
 ghost use Rattle.pg_cert.specs.ClaimView.{HoldsOf, IsFirstFaultOf, SaysOf};
-ghost use Rattle.pg_cert.specs.Checked.{IsChecked};
+ghost use Rattle.pg_cert.specs.inner.Checked.{IsChecked};
 ghost use Rattle.pg_cert.specs.Faults.{cheaper_choice, first_fault, first_pair_fault, is_within, missing_child, pair_fault};
 
 use crate::bounds::{Bounds, PairBound};

@@ -1,8 +1,8 @@
 //! Laws about the definitions. Each is the contract of a function that does nothing.
 
-ghost use Rattle.pg_cert.specs.Laws.{CoversWithoutFault, OneSpelling, OneTextInEachVersion, VerdictsAreTrue, WitnessFaultsAreReal};
-ghost use Rattle.pg_cert.specs.Worked.{WorkedCertificates};
-ghost use Rattle.pg_cert.specs.WorkedTexts.{WorkedTexts};
+ghost use Rattle.pg_cert.specs.laws.CertificateLaws.{CoversWithoutFault, OneSpelling, OneTextInEachVersion, VerdictsAreTrue, WitnessFaultsAreReal};
+ghost use Rattle.pg_cert.specs.laws.Worked.{WorkedCertificates};
+ghost use Rattle.pg_cert.specs.laws.WorkedTexts.{WorkedTexts};
 
 use pg_dyn::laws::{reads_again, self_compatible, worked_examples};
 use pg_pairs::laws::{covering_bounds, none_is_compatible};

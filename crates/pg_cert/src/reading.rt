@@ -14,7 +14,7 @@ ghost use Rattle.pg_cert.specs.declared.heading.Heading.{Heading};
 ghost use Rattle.pg_cert.specs.declared.heading.Heading.TheVariants as headings;
 ghost use Rattle.pg_cert.specs.Certificate.{are_bounds, is_bound, Claim};
 ghost use Rattle.pg_cert.specs.Witness.{AreBytes, is_witness};
-ghost use Rattle.pg_cert.specs.Reading.{IsBlank, IsRest, after_heading, front, lacks};
+ghost use Rattle.pg_cert.specs.inner.Reading.{IsBlank, IsRest, after_heading, front, lacks};
 ghost use Rattle.pg_cert.specs.Text as spec;
 
 use crate::bounds::{Bounds, BoundsError, PairBound};

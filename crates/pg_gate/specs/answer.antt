@@ -6,4 +6,3 @@ pub mod Showing
 pub mod AllTypes
 pub mod Verified
 pub mod Grants
-pub mod Agreement

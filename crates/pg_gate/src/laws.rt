@@ -1,9 +1,9 @@
 //! Laws about what arguments call for, and about answers. Each is the contract of a function that
 //! does nothing.
 
-ghost use Rattle.pg_gate.specs.answer.Agreement.{AllSaysWhatGateSays};
+ghost use Rattle.pg_gate.specs.laws.Agreement.{AllSaysWhatGateSays};
 ghost use Rattle.pg_gate.specs.call.Call.{OneCall};
-ghost use Rattle.pg_gate.specs.call.WorkedCalls.{WorkedCalls};
+ghost use Rattle.pg_gate.specs.laws.WorkedCalls.{WorkedCalls};
 
 /// Arguments that `clap` takes are one call, wherever in memory the names of the views are.
 pub fn one_call()

@@ -15,11 +15,12 @@ use Rattle.pg_cert.specs.declared.bounds.PairBound.{PairBound}
 use Rattle.pg_cert.specs.Certificate.{are_bounds, bound_in, is_bound}
 use Rattle.pg_least.specs.declared.arcs.Arc.{Arc}
 use Rattle.pg_least.specs.Searched.{pairs_of}
-use Rattle.pg_least.specs.Graphs.{IsArc, arcs_by, arcs_to_numbers}
+use Rattle.pg_least.specs.inner.Graphs.{IsArc, arcs_by, arcs_to_numbers}
 use Rattle.pg_pairs.specs.graph.LeastOf.{cost_under, least_of, lesser_cost}
-use Rattle.pg_least.specs.Least.{IsLeastBound, edges_to_numbers, lines}
-use Rattle.pg_least.specs.Places.{IsPlaced}
-use Rattle.pg_least.specs.Relaxing.{IsBalanced, cost_at, offer}
+use Rattle.pg_least.specs.Least.{IsLeastBound, edges_to_numbers}
+use Rattle.pg_least.specs.inner.Graphs.{lines}
+use Rattle.pg_least.specs.inner.Places.{IsPlaced}
+use Rattle.pg_least.specs.inner.Relaxing.{IsBalanced, cost_at, offer}
 use Rattle.pg_least.proofs.Lists.{among_left, among_right}
 use Rattle.pg_least.proofs.Listed.{found_at, place_of}
 use Rattle.pg_least.proofs.Moved.{among_back, among_moved, as_many}

@@ -3,7 +3,7 @@ use Rattle.std.proofs.Common.{◌≡◌, ℕ, zero, suc, ◌+◌, ◌-◌, ◌<�
 use Rattle.std.proofs.lemmas.Bool.{leb-false, ltb-false}
 use Rattle.std.specs.List.Sorted.{IsPartitionPoint}
 use Rattle.pg_least.specs.declared.arcs.Arc.{Arc}
-use Rattle.pg_least.specs.Graphs.{arcs_to}
+use Rattle.pg_least.specs.inner.Graphs.{arcs_to}
 
 -- the arcs to an index are next to each other
 together : (xs : List Arc) (at s n : ℕ) → s + n ≤ length xs → ((k : ℕ) (d : Arc) → k < s → (get_or xs k d).child < at) → ((k : ℕ) (d : Arc) → s ≤ k → k < s + n → (get_or xs k d).child ≡ at)

@@ -15,7 +15,7 @@ use Rattle.pg_cert.proofs.Tables.{same_pair-refl}
 use Rattle.pg_cert.specs.declared.bounds.PairBound.{PairBound}
 use Rattle.pg_cert.specs.Certificate.{are_bounds, bound_in, is_bound, Claim, IsWitnessedIfThere}
 use Rattle.pg_cert.specs.Witness.{is_witness}
-use Rattle.pg_least.specs.Descent.{IsCarriedFrom, IsTableOf}
+use Rattle.pg_least.specs.inner.Descent.{IsCarriedFrom, IsTableOf}
 use Rattle.pg_least.specs.Searched.{BoundSays, IsSearched, pairs_of, CarriesWitness}
 
 -- the first of the pairs is there

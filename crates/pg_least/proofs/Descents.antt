@@ -11,11 +11,12 @@ use Rattle.pg_pairs.specs.views.EnumView.{EnumView}
 use Rattle.pg_pairs.specs.witness.Carried.{carried, choice_child}
 use Rattle.pg_pairs.specs.witness.CarriedChoices.{ChildGiven, ChildReached, ChildThere}
 use Rattle.pg_pairs.specs.choices.Choices.{cheapest, Table, number_for, choices}
-use Rattle.pg_pairs.specs.choices.CheapestLaws.{IsCheapest, CheapestIsLeast}
+use Rattle.pg_pairs.specs.laws.CheapestLaws.{IsCheapest, CheapestIsLeast}
 use Rattle.pg_pairs.specs.bounds.Covering.{IsWithin, IsAmong}
 use Rattle.pg_pairs.specs.bounds.Laws.{ReachedBy}
 use Rattle.pg_least.specs.declared.witness.PairChoice.{PairChoice}
-use Rattle.pg_least.specs.Descent.{IsCarriedFrom, IsExactTable, IsStep, IsPathDown, IsWholePath, first_step}
+use Rattle.pg_least.specs.inner.Descent.{IsCarriedFrom, IsStep, IsPathDown, IsWholePath, first_step}
+use Rattle.pg_least.specs.From.{IsExactTable}
 use Rattle.pg_least.specs.Searched.{IsPath, carried_along}
 
 -- the number of a pair's bound

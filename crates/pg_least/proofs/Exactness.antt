@@ -14,7 +14,8 @@ use Rattle.pg_pairs.specs.bounds.LeastCosts.{LeastCostsAreExact, least_cost}
 use Rattle.pg_pairs.specs.graph.Reached.{IsLedTo, LeadsTo, onwards}
 use Rattle.pg_cert.specs.declared.bounds.PairBound.{PairBound}
 use Rattle.pg_cert.specs.Certificate.{bound_in}
-use Rattle.pg_least.specs.Descent.{IsExactTable, IsTableOf}
+use Rattle.pg_least.specs.From.{IsExactTable}
+use Rattle.pg_least.specs.inner.Descent.{IsTableOf}
 use Rattle.pg_least.specs.Searched.{BoundSays, pairs_of}
 use Rattle.pg_least.specs.From.{AreBoundsFrom, IsSettledFrom}
 use Rattle.pg_least.specs.Least.{AllLeast, IsSettled}

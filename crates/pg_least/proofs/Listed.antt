@@ -1,7 +1,7 @@
 -- Tables as lists: what is at an index is found, and what is found is at one.
 use Rattle.std.proofs.Common.{◌≡◌, ℕ, zero, suc, List, [], ◌∷◌, slice_get, Bool, true, false, not, ◌&&◌, cond, find, is_some, option_map, Option, Some, None, inl, inr, ⊎_elim, refl, sym, subst}
 use Rattle.std.proofs.lemmas.Bool.{and_parts}
-use Rattle.pg_pairs.specs.graph.EdgeChildren.{same_pair-true}
+use Rattle.pg_pairs.specs.laws.EdgeChildren.{same_pair-true}
 use Rattle.pg_pairs.specs.declared.choices.choice.Pair.{Pair}
 use Rattle.pg_pairs.specs.bounds.Covering.{IsAmong, same_pair}
 use Rattle.pg_cert.proofs.Tables.{same_pair-refl}

@@ -10,7 +10,7 @@ use Rattle.pg_dyn.specs.Message.{Message, unknown_of}
 use Rattle.pg_dyn.specs.reading.Decoding.{dec}
 use Rattle.pg_pairs.specs.declared.choices.choice.Pair.{Pair}
 use Rattle.pg_least.specs.Loss.{IsLost, NewSees}
-use Rattle.pg_least.specs.LossLaws.{CompatibleIsSeen, LostMessagesBreak}
+use Rattle.pg_least.specs.laws.LossLaws.{CompatibleIsSeen, LostMessagesBreak}
 
 -- of two tests that both hold the second
 both_right : (a b : Bool) → (a && b) ≡ true → b ≡ true

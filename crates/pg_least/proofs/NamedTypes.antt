@@ -5,7 +5,7 @@ use Rattle.std.proofs.lemmas.List.{length-map}
 use Rattle.std.proofs.lemmas.Option.{slice_get_within}
 use Rattle.pg_schema.specs.declared.parts.message_type.MessageType.{MessageType}
 use Rattle.pg_schema.specs.Parts.{field_shape}
-use Rattle.pg_least.specs.LossLaws.{NamedTypesAreThere}
+use Rattle.pg_least.specs.laws.LossLaws.{NamedTypesAreThere}
 
 from_some : {X Y : Type 0} (f : X → Y) (o : Option X) (y : Y) → option_map f o ≡ Some y → (x : X) × (o ≡ Some x)
 from_some f None y mapped = absurd (cc)

@@ -7,8 +7,8 @@ use Rattle.pg_pairs.specs.declared.graph.edge.Edge.{Edge}
 use Rattle.pg_least.specs.declared.arcs.Arc.{Arc}
 use Rattle.pg_pairs.specs.bounds.Covering.{IsAmong}
 use Rattle.pg_pairs.specs.bounds.LeastCosts.{IsNoMore}
-use Rattle.pg_least.specs.Relaxing.{AreNumbers, IsBalanced, Stands, cost_at, is_set, offer, waits}
-use Rattle.pg_least.specs.Graphs.{arcs_by, arcs_to, arcs_to_settled, arcs_to_numbers, left}
+use Rattle.pg_least.specs.inner.Relaxing.{AreNumbers, IsBalanced, Stands, cost_at, is_set, offer, waits}
+use Rattle.pg_least.specs.inner.Graphs.{arcs_by, arcs_to, arcs_to_settled, arcs_to_numbers, left}
 use Rattle.pg_least.proofs.Lists.{among_left, among_right}
 use Rattle.pg_least.proofs.Steps.{no_more-same, place_cases, not_both}
 

@@ -1,6 +1,6 @@
 -- The laws that proofs of other crates cite. Each is the contract of the public function of its name.
-use Rattle.pg_least.specs.LossLaws.{CompatibleIsSeen, LostMessagesBreak, NamedTypesAreThere}
-use Rattle.pg_least.specs.Tables.{TablesByLines}
+use Rattle.pg_least.specs.laws.LossLaws.{CompatibleIsSeen, LostMessagesBreak, NamedTypesAreThere}
+use Rattle.pg_least.specs.laws.Tables.{TablesByLines}
 use Rattle.pg_least.proofs.Listed.{among_found, found_at, there_among}
 use Rattle.pg_least.proofs.Losses.{each_seen, lost_breaks}
 use Rattle.pg_least.proofs.NamedTypes.{named_there}

@@ -4,10 +4,10 @@ use Rattle.std.specs.declared.cmp.Reverse.{Reverse}
 use Rattle.std.proofs.lemmas.Bool.{and_parts}
 use Rattle.std.proofs.lemmas.List.Sorted.{All-permutation, list_any-IsPermutation}
 use Rattle.std.proofs.lemmas.List.Elements.{All-cons, All-tail}
-use Rattle.pg_least.specs.Queues.{entry, IsLeastTaken, IsOneMore}
+use Rattle.pg_least.specs.inner.Queues.{entry, IsLeastTaken, IsOneMore}
 use Rattle.pg_pairs.specs.bounds.Covering.{IsAmong}
 use Rattle.pg_pairs.specs.bounds.LeastCosts.{IsNoMore}
-use Rattle.pg_least.specs.Relaxing.{Arcs, cost_at, is_set, waits, offer, IsOffered, IsLess, IsRelaxed, Stands}
+use Rattle.pg_least.specs.inner.Relaxing.{Arcs, cost_at, is_set, waits, offer, IsOffered, IsLess, IsRelaxed, Stands}
 
 abbrev Entry : Type 0
 Entry = Reverse (ℕ × ℕ)

@@ -3,10 +3,10 @@ use Rattle.std.proofs.Common.{◌≡◌, ℕ, suc, ◌+◌, ◌<◌, ◌⊎◌, 
 use Rattle.std.specs.BTreeMap.{BTreeMap, get, Updates}
 use Rattle.pg_pairs.specs.declared.choices.choice.Pair.{Pair}
 use Rattle.pg_pairs.specs.bounds.Covering.{IsAmong, same_pair}
-use Rattle.pg_pairs.specs.graph.ByIndices.{by_indices, equal_same}
+use Rattle.pg_pairs.specs.laws.ByIndices.{by_indices, equal_same}
 use Rattle.pg_cert.proofs.Tables.{same_pair-refl}
-use Rattle.pg_least.specs.Places.{ArePlaces}
-use Rattle.pg_pairs.specs.graph.EdgeChildren.{same_pair-true}
+use Rattle.pg_least.specs.inner.Places.{ArePlaces}
+use Rattle.pg_pairs.specs.laws.EdgeChildren.{same_pair-true}
 use Rattle.pg_least.proofs.Steps.{place_cases}
 
 -- One pair more has a place.

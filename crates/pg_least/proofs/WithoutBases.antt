@@ -10,7 +10,7 @@ use Rattle.pg_pairs.specs.graph.LeastOf.{cost_under, least_of, lesser_cost}
 use Rattle.pg_pairs.specs.graph.Reached.{LeadsTo, itself, onwards}
 use Rattle.pg_least.specs.Least.{AllLeast}
 use Rattle.pg_least.proofs.Bounding.{among_map, map_among}
-use Rattle.pg_pairs.specs.graph.EdgeChildren.{same_pair-true}
+use Rattle.pg_pairs.specs.laws.EdgeChildren.{same_pair-true}
 use Rattle.pg_least.proofs.OneSolution.{least_among, number_is}
 
 both_none : (a b : Option ℕ) → lesser_cost a b ≡ None → (a ≡ None) × (b ≡ None)

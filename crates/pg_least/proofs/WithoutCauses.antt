@@ -12,10 +12,10 @@ use Rattle.pg_pairs.specs.declared.graph.edge.Edge.{Edge}
 use Rattle.pg_pairs.specs.views.EnumView.{EnumView}
 use Rattle.pg_pairs.specs.bounds.Covering.{IsAmong, IsWithin, children, distinct, IsExact}
 use Rattle.pg_pairs.specs.choices.Causes.{HasNoCause, causes}
-use Rattle.pg_pairs.specs.graph.CauseLaws.{PricesAreNear}
+use Rattle.pg_pairs.specs.laws.CauseLaws.{PricesAreNear}
 use Rattle.pg_pairs.specs.choices.Choices.{cheapest, Table, choices, no_bounds}
-use Rattle.pg_pairs.specs.choices.CheapestLaws.{CheapestIsLeast, IsCheapest}
-use Rattle.pg_pairs.specs.graph.EdgeChildren.{edge_leads}
+use Rattle.pg_pairs.specs.laws.CheapestLaws.{CheapestIsLeast, IsCheapest}
+use Rattle.pg_pairs.specs.laws.EdgeChildren.{edge_leads}
 use Rattle.pg_pairs.specs.graph.Edges.{LeastCostsByEdges, PairsLeadToPairs, SchemasArePriced, edge_price, edges, is_pair}
 use Rattle.pg_pairs.specs.bounds.LeastCosts.{least_cost}
 use Rattle.pg_pairs.specs.graph.Reached.{IsLedTo, LeadsTo, itself, onwards}

@@ -7,13 +7,13 @@ use Rattle.pg_pairs.specs.declared.choices.choice.Pair.{Pair}
 use Rattle.pg_pairs.specs.declared.graph.edge.Edge.{Edge}
 use Rattle.pg_pairs.specs.views.EnumView.{EnumView}
 use Rattle.pg_pairs.specs.views.ViewLaws.{IsEnumView}
-use Rattle.pg_pairs.specs.bounds.Covering.{IsAmong, children}
+use Rattle.pg_pairs.specs.bounds.Covering.{IsAmong, IsExact, children}
 use Rattle.pg_pairs.specs.choices.Causes.{HasNoCause}
+use Rattle.pg_pairs.specs.choices.Choices.{Table}
 use Rattle.pg_pairs.specs.graph.Edges.{is_pair}
 use Rattle.pg_pairs.specs.graph.Reached.{IsReachedFrom}
 use Rattle.pg_cert.specs.declared.bounds.PairBound.{PairBound}
 use Rattle.pg_cert.specs.Certificate.{bound_in}
-use Rattle.pg_least.specs.Descent.{IsExactTable}
 use Rattle.pg_least.specs.Searched.{BoundSays, pairs_of}
 use Rattle.pg_least.specs.Least.{AllLeast}
 
@@ -22,6 +22,11 @@ pub record IsSettledFrom (children : Pair → List Pair) (edges : Pair → List 
     (price : Edge → ℕ → Option ℕ) (roots : List Pair) (bounds : List PairBound) : Type 0 where
   pub reached : IsReachedFrom children roots (pairs_of bounds)
   pub least : AllLeast edges base price (bound_in bounds)
+
+-- each bound of the table is the least cost of its pair's choices
+abbrev pub IsExactTable : EnumView → Shape → Shape → Table → Type 0
+IsExactTable enum_view old new table =
+    (pair : Pair) (bound : Option ℕ) → table pair ≡ Some bound → IsExact enum_view old new table pair bound
 
 -- just the pairs that the roots lead to, in order, each with the least cost of its choices, which says the least length
 -- of the pair's breaking messages, or that there are none

@@ -1,5 +1,5 @@
 -- The least bounds of a graph.
-use Rattle.std.specs.Prelude.{◌≡◌, ℕ, ◌+◌, ◌<◌, ◌≤◌, true, List, [], ◌∷◌, length, map, filter, flat_map, is_some, Option, Some}
+use Rattle.std.specs.Prelude.{◌≡◌, ℕ, ◌<◌, ◌≤◌, true, List, ◌∷◌, length, map, filter, flat_map, is_some, Option, Some}
 use Rattle.pg_pairs.specs.declared.choices.choice.Pair.{Pair}
 use Rattle.pg_pairs.specs.declared.graph.edge.Edge.{Edge}
 use Rattle.pg_pairs.specs.declared.graph.work.Work.{Work}
@@ -33,15 +33,6 @@ pub record IsCounted (edges : Pair → List Edge) (bounds : List PairBound) (wor
   pub settled : work.settled ≡ length (filter (λ (b : PairBound). is_some b.bound) bounds)
   pub relaxed : work.relaxed ≡ length (edges_to_numbers (bound_in bounds) (flat_map edges (pairs_of bounds)))
   pub opened : work.opened ≡ length bounds
-
--- each pair with its cost
-abbrev pub lines : List Pair → List (Option ℕ) → List PairBound
-lines [] costs = []
-lines (p ∷ ps) [] = []
-lines (p ∷ ps) (c ∷ costs) = record { pair = p; bound = c } ∷ lines ps costs
-
-abbrev pub opened_by : ℕ → Work → Work
-opened_by n work = record { settled = work.settled; relaxed = work.relaxed; opened = work.opened + n }
 
 -- each bound of the table is the least of its pair's base and of what its edges cost under this table itself
 abbrev pub AllLeast : (Pair → List Edge) → (Pair → Option ℕ) → (Edge → ℕ → Option ℕ) → Table → Type 0

@@ -1,12 +1,7 @@
 pub mod Beside
-pub mod Descent
-pub mod Queues
-pub mod Relaxing
-pub mod Graphs
-pub mod Places
 pub mod Least
 pub mod From
 pub mod Loss
-pub mod LossLaws
-pub mod Tables
 pub mod Searched
+pub mod inner
+pub mod laws

@@ -7,11 +7,11 @@ ghost use Rattle.std.specs.List.Sorted.{IsPermutation};
 ghost use Rattle.pg_pairs.specs.declared.choices.choice.Pair.{Pair};
 ghost use Rattle.pg_pairs.specs.declared.graph.edge.Edge.{Edge};
 ghost use Rattle.pg_pairs.specs.bounds.Covering.{IsAmong};
-ghost use Rattle.pg_pairs.specs.graph.ByIndices.{by_indices};
-ghost use Rattle.pg_pairs.specs.graph.Seen.{AreClosed};
+ghost use Rattle.pg_pairs.specs.laws.ByIndices.{by_indices};
+ghost use Rattle.pg_pairs.specs.graph.Walks.{AreClosed};
 ghost use Rattle.pg_least.specs.declared.arcs.Arc.{Arc};
-ghost use Rattle.pg_least.specs.Graphs.{AreByChild, arcs_to};
-ghost use Rattle.pg_least.specs.Places.{ArePlaces, IsPlaced};
+ghost use Rattle.pg_least.specs.inner.Graphs.{AreByChild, arcs_to};
+ghost use Rattle.pg_least.specs.inner.Places.{ArePlaces, IsPlaced};
 
 use pg_pairs::{Edge, Pair, Prices};
 use std::alloc::{AllocError, Global};

@@ -2,8 +2,8 @@
 
 ghost use Rattle.pg_least.specs.From.{CompatibleWithoutCauses};
 ghost use Rattle.pg_least.specs.Least.{OneSolution};
-ghost use Rattle.pg_least.specs.LossLaws.{CompatibleIsSeen, LostMessagesBreak, NamedTypesAreThere};
-ghost use Rattle.pg_least.specs.Tables.{TablesByLines};
+ghost use Rattle.pg_least.specs.laws.LossLaws.{CompatibleIsSeen, LostMessagesBreak, NamedTypesAreThere};
+ghost use Rattle.pg_least.specs.laws.Tables.{TablesByLines};
 
 use pg_pairs::laws::{
     cheapest_is_least, least_costs_by_edges, pairs_lead_to_pairs, prices_are_near,

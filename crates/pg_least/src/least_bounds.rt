@@ -6,7 +6,8 @@ ghost use Rattle.pg_pairs.specs.bounds.Covering.{distinct};
 ghost use Rattle.pg_pairs.specs.graph.Works.{opened_more};
 ghost use Rattle.pg_cert.specs.Certificate.{is_bound};
 ghost use Rattle.pg_least.specs.From.{IsSettledFrom};
-ghost use Rattle.pg_least.specs.Least.{IsCounted, IsSettled, lines, opened_by};
+ghost use Rattle.pg_least.specs.Least.{IsCounted, IsSettled};
+ghost use Rattle.pg_least.specs.inner.Graphs.{lines, opened_by};
 
 use crate::arcs::arcs_of;
 use crate::relaxing::settle_all;

@@ -3,7 +3,7 @@
 ghost use Rattle.std.specs.Prelude.{◌≡◌, ◌+◌, [], IfSome, IfNone, OnOk, OnSome};
 ghost use Rattle.std.specs.BinaryHeap.{IsHeap, heap_items, heap_len};
 ghost use Rattle.std.proofs.Props.{props};
-ghost use Rattle.pg_least.specs.Queues.{by_cost, IsOneMore, IsLeastTaken};
+ghost use Rattle.pg_least.specs.inner.Queues.{by_cost, IsOneMore, IsLeastTaken};
 
 use std::alloc::{AllocError, Global};
 use std::cmp::Reverse;

@@ -7,8 +7,8 @@ ghost use Rattle.pg_pairs.specs.graph.Works.{relaxed_more};
 ghost use Rattle.pg_least.specs.declared.arcs.Arc.{Arc};
 ghost use Rattle.pg_pairs.specs.bounds.Covering.{IsAmong};
 ghost use Rattle.pg_pairs.specs.bounds.LeastCosts.{IsNoMore};
-ghost use Rattle.pg_least.specs.Relaxing.{Arcs, AreNumbers, IsBalanced, IsLess, IsRelaxed, Stands, cost_at, is_set, waits};
-ghost use Rattle.pg_least.specs.Graphs.{AreByChild, IsArc, arcs_by, arcs_to_numbers, relaxed_by};
+ghost use Rattle.pg_least.specs.inner.Relaxing.{Arcs, AreNumbers, IsBalanced, IsLess, IsRelaxed, Stands, cost_at, is_set, waits};
+ghost use Rattle.pg_least.specs.inner.Graphs.{AreByChild, IsArc, arcs_by, arcs_to_numbers, relaxed_by};
 
 use crate::arcs::{Arc, arcs_to};
 use crate::queue::Queue;

@@ -12,7 +12,7 @@ ghost use Rattle.pg_pairs.specs.views.EnumView.{by_numbers};
 ghost use Rattle.pg_pairs.specs.graph.GraphView.{seen};
 ghost use Rattle.pg_cert.specs.Certificate.{bound_in};
 ghost use Rattle.pg_least.specs.Beside.{IsBesideClaim};
-ghost use Rattle.pg_least.specs.Descent.{IsTableOf};
+ghost use Rattle.pg_least.specs.inner.Descent.{IsTableOf};
 ghost use Rattle.pg_least.specs.Searched.{IsSearched, CarriesWitness};
 ghost use Rattle.pg_least.specs.Least.{IsCounted};
 

@@ -9,7 +9,8 @@ ghost use Rattle.pg_pairs.specs.graph.GraphView.{seen};
 ghost use Rattle.pg_pairs.specs.bounds.Laws.{ReachedBy};
 ghost use Rattle.pg_cert.specs.Certificate.{bound_in};
 ghost use Rattle.pg_cert.specs.ClaimView.{view_in};
-ghost use Rattle.pg_least.specs.Descent.{IsCarriedFrom, IsExactTable, IsStep, IsWholePath, first_step};
+ghost use Rattle.pg_least.specs.inner.Descent.{IsCarriedFrom, IsStep, IsWholePath, first_step};
+ghost use Rattle.pg_least.specs.From.{IsExactTable};
 ghost use Rattle.pg_least.specs.Searched.{IsSearched, IsPath, carried_along};
 
 use pg_cert::{Bounds, Certificate};

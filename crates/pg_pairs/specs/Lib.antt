@@ -5,3 +5,5 @@ pub mod graph
 pub mod home
 pub mod views
 pub mod witness
+pub mod inner
+pub mod laws

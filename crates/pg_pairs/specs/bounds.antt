@@ -1,5 +1,3 @@
-pub mod Contents
 pub mod Covering
-pub mod FieldCosts
 pub mod Laws
 pub mod LeastCosts

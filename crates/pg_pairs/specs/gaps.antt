@@ -1,4 +1,3 @@
-pub mod ElementGaps
 pub mod Gaps
 pub mod Likeness
 pub mod TrueGaps

@@ -1,9 +1,6 @@
-pub mod ByIndices
-pub mod CauseLaws
-pub mod EdgeChildren
 pub mod Edges
 pub mod GraphView
 pub mod LeastOf
 pub mod Reached
-pub mod Seen
 pub mod Works
+pub mod Walks

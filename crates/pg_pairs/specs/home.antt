@@ -1,5 +1,2 @@
-pub mod ComesHome
 pub mod Home
-pub mod HomeExamples
-pub mod ReadBack
 pub mod Returns

@@ -1,5 +1,2 @@
 pub mod Carried
 pub mod CarriedChoices
-pub mod CarriedItems
-pub mod Comparing
-pub mod HeldItems

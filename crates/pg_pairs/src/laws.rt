@@ -1,20 +1,20 @@
 //! Laws about the definitions. Each is the contract of a function that does nothing.
 
 ghost use Rattle.pg_pairs.specs.witness.CarriedChoices.{EachChildCostsLess, EachChoiceIsCarried};
-ghost use Rattle.pg_pairs.specs.graph.CauseLaws.{CausesAreOwn, NamesAlone, PricesAreNear};
-ghost use Rattle.pg_pairs.specs.choices.CheapestLaws.{CheapestIsLeast};
-ghost use Rattle.pg_pairs.specs.home.ComesHome.{MessagesComeHome};
+ghost use Rattle.pg_pairs.specs.laws.CauseLaws.{CausesAreOwn, NamesAlone, PricesAreNear};
+ghost use Rattle.pg_pairs.specs.laws.CheapestLaws.{CheapestIsLeast};
+ghost use Rattle.pg_pairs.specs.laws.ComesHome.{MessagesComeHome};
 ghost use Rattle.pg_pairs.specs.graph.Edges.{LeastCostsByEdges, PairsLeadToPairs, SchemasArePriced};
-ghost use Rattle.pg_pairs.specs.gaps.ElementGaps.{ElementGaps, UnseenAreNotZero};
-ghost use Rattle.pg_pairs.specs.bounds.FieldCosts.{ChildrenCost, ListsCost, MapsCost, SingleScalarsCost};
+ghost use Rattle.pg_pairs.specs.laws.ElementGaps.{ElementGaps, UnseenAreNotZero};
+ghost use Rattle.pg_pairs.specs.laws.FieldCosts.{ChildrenCost, ListsCost, MapsCost, SingleScalarsCost};
 ghost use Rattle.pg_pairs.specs.gaps.TrueGaps.{GapTable};
-ghost use Rattle.pg_pairs.specs.home.HomeExamples.{HomeExamples};
+ghost use Rattle.pg_pairs.specs.laws.HomeExamples.{HomeExamples};
 ghost use Rattle.pg_pairs.specs.bounds.Laws.{CoveringBounds, ExactIsLeast, NoneIsCompatible};
 ghost use Rattle.pg_pairs.specs.bounds.LeastCosts.{LeastCostsAreExact};
 ghost use Rattle.pg_pairs.specs.views.ViewLaws.{IsEnumView, NumbersAreAlike};
-ghost use Rattle.pg_pairs.specs.home.ReadBack.{SeenItemsHaveOneBody};
-ghost use Rattle.pg_pairs.specs.graph.Seen.{FromOneRoot};
-ghost use Rattle.pg_pairs.specs.choices.SmallPairs.{SmallPairs};
+ghost use Rattle.pg_pairs.specs.laws.ReadBack.{SeenItemsHaveOneBody};
+ghost use Rattle.pg_pairs.specs.graph.Walks.{FromOneRoot};
+ghost use Rattle.pg_pairs.specs.laws.SmallPairs.{SmallPairs};
 ghost use Rattle.pg_pairs.specs.graph.GraphView.{seen};
 
 use crate::graph::priced::Priced;

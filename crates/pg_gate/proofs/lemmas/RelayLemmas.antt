@@ -10,7 +10,7 @@ use Rattle.pg_dyn.specs.Fits.{Fits}
 use Rattle.pg_dyn.specs.Kept.{Kept, message_of, type_of}
 use Rattle.pg_pairs.specs.declared.choices.choice.Pair.{Pair}
 use Rattle.pg_pairs.specs.home.Home.{home, comes_home}
-use Rattle.pg_pairs.specs.home.ComesHome.{MessagesComeHome}
+use Rattle.pg_pairs.specs.laws.ComesHome.{MessagesComeHome}
 use Rattle.pg_gate.specs.Relaying.{BringsHome}
 
 -- the old type reads a message that returns, and reads it back

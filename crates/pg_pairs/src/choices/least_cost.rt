@@ -6,7 +6,7 @@ ghost use Rattle.pg_schema.specs.declared.parts.field.Field.{Field};
 ghost use Rattle.pg_schema.specs.Parts.{field_shape, shape_of};
 ghost use Rattle.pg_schema.specs.Shape.{fields};
 ghost use Rattle.pg_pairs.specs.choices.Choices.{cheapest, affordable, all_choices, choices};
-ghost use Rattle.pg_pairs.specs.choices.CheapestLaws.{first_of};
+ghost use Rattle.pg_pairs.specs.laws.CheapestLaws.{first_of};
 ghost use Rattle.pg_pairs.specs.graph.GraphView.{seen};
 
 use crate::choices::choice::{Choice, Pair};

@@ -7,7 +7,7 @@ ghost use Rattle.pg_schema.specs.Parts.{field_shape};
 ghost use Rattle.pg_schema.specs.Shape.{FieldShape};
 ghost use Rattle.pg_pairs.specs.choices.Choices.{affordable, choice};
 ghost use Rattle.pg_pairs.specs.choices.Costs.{least_content};
-ghost use Rattle.pg_pairs.specs.choices.OneofLinks.{AreLinks, JoinsWith};
+ghost use Rattle.pg_pairs.specs.inner.OneofLinks.{AreLinks, JoinsWith};
 
 use crate::choices::case::Case;
 use crate::choices::choice::Choice;

@@ -110,7 +110,7 @@ fn cost_of(choice: Option<Choice>) -> Option<u32>
 impl<'a> Prices for Priced<'a> {
     ghost use Rattle.std.proofs.Math.Logic.{∥∥₁_elim};
     ghost use Rattle.std.proofs.Props.{props};
-    ghost use Rattle.pg_pairs.specs.graph.EdgeChildren.{edge_leads};
+    ghost use Rattle.pg_pairs.specs.laws.EdgeChildren.{edge_leads};
     ghost use Rattle.pg_pairs.specs.views.NamedView.{seen_under};
 
     ghost is_known = { λ it pair. is_pair (shape_of it.old.now) (shape_of it.new.now) pair };

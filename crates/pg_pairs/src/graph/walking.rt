@@ -4,7 +4,8 @@ ghost use Rattle.std.specs.Prelude.{◌≡◌, ◌++◌, true, IfOk, OnOk};
 ghost use Rattle.std.specs.List.{AllByRecursion};
 ghost use Rattle.pg_pairs.specs.bounds.Covering.{distinct};
 ghost use Rattle.pg_pairs.specs.graph.Reached.{IsReachedFrom, IsReachedInOrder};
-ghost use Rattle.pg_pairs.specs.graph.Seen.{AreClosed, AreSeen};
+ghost use Rattle.pg_pairs.specs.graph.Walks.{AreClosed};
+ghost use Rattle.pg_pairs.specs.inner.Seen.{AreSeen};
 
 use crate::choices::choice::Pair;
 use crate::graph::prices::Prices;

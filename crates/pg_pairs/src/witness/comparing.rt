@@ -13,7 +13,7 @@ ghost use Rattle.pg_dyn.specs.Comparison.{records_outside, unshared_bytes};
 ghost use Rattle.pg_dyn.specs.Fits.{Fits};
 ghost use Rattle.pg_dyn.specs.Kept.{message_of, of_number, type_of, unknown_of};
 ghost use Rattle.pg_dyn.specs.encoding.Writing.{bytes_of};
-ghost use Rattle.pg_pairs.specs.witness.Comparing.{all_match, HasEncoding, HeldFits, is_alike_leaf, is_same, is_same_beside, is_same_if, ItemHasEncoding, items_match, keyed, keyed_if, outside_record};
+ghost use Rattle.pg_pairs.specs.inner.Comparing.{all_match, HasEncoding, HeldFits, is_alike_leaf, is_same, is_same_beside, is_same_if, ItemHasEncoding, items_match, keyed, keyed_if, outside_record};
 
 use crate::choices::beside::Beside;
 use crate::graph::priced::Priced;

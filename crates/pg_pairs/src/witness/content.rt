@@ -10,7 +10,7 @@ ghost use Rattle.pg_dyn.specs.Message.{with_part};
 ghost use Rattle.pg_dyn.specs.ScalarItems.{IsItemOf};
 ghost use Rattle.pg_dyn.specs.Seen.{leaf_of, IsKey};
 ghost use Rattle.pg_pairs.specs.witness.Carried.{alone, apart_item, apart_leaf, broken_value, carried_field, entry_message, item_alone, item_by, key_alone, key_of, least_key, least_part, lost_onto, unlike_message};
-ghost use Rattle.pg_pairs.specs.witness.CarriedItems.{apart_small, content_alone, found_alone, IsChildOf, IsPlacedBy, IsTakenBy, leaf_by, Puts, value_item};
+ghost use Rattle.pg_pairs.specs.inner.CarriedItems.{apart_small, content_alone, found_alone, IsChildOf, IsPlacedBy, IsTakenBy, leaf_by, Puts, value_item};
 ghost use Rattle.pg_pairs.specs.gaps.Gaps.{gap_item};
 ghost use Rattle.pg_pairs.specs.graph.GraphView.{seen};
 

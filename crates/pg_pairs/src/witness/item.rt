@@ -10,7 +10,7 @@ ghost use Rattle.pg_dyn.specs.Message.{Bytes, Msg};
 ghost use Rattle.pg_pairs.specs.gaps.Gaps.{gap, gap_item, item_of};
 ghost use Rattle.pg_pairs.specs.graph.GraphView.{seen};
 ghost use Rattle.pg_pairs.specs.witness.Carried.{item_by};
-ghost use Rattle.pg_pairs.specs.witness.CarriedItems.{IsChildOf, leaf_by, value_item};
+ghost use Rattle.pg_pairs.specs.inner.CarriedItems.{IsChildOf, leaf_by, value_item};
 ghost use Rattle.pg_dyn.specs.Kept.{message_of};
 
 use crate::gaps::gap_kind::Gap;

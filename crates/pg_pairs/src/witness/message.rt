@@ -8,7 +8,7 @@ ghost use Rattle.pg_dyn.specs.Kept.{message_of, type_of};
 ghost use Rattle.pg_dyn.specs.setting.Setting.{IsSetTo};
 ghost use Rattle.pg_pairs.specs.witness.Carried.{carried, choice_child};
 ghost use Rattle.pg_pairs.specs.witness.CarriedChoices.{ChildGiven, ChildReached, IsChoiceOf};
-ghost use Rattle.pg_pairs.specs.witness.CarriedItems.{IsTakenBy};
+ghost use Rattle.pg_pairs.specs.inner.CarriedItems.{IsTakenBy};
 ghost use Rattle.pg_pairs.specs.choices.Choices.{Table, choices};
 ghost use Rattle.pg_pairs.specs.bounds.Laws.{ReachedBy};
 ghost use Rattle.pg_pairs.specs.bounds.Covering.{IsAmong};

@@ -10,8 +10,8 @@ ghost use Rattle.pg_dyn.specs.reading.Content.{leaf_bytes};
 ghost use Rattle.pg_dyn.specs.Borrowed.{IsKey, leaf_of};
 ghost use Rattle.pg_dyn.specs.BorrowedItems.{is_zero_value};
 ghost use Rattle.pg_dyn.specs.Message.{leaf_eq};
-ghost use Rattle.pg_pairs.specs.witness.Comparing.{IsSingle, keyed, keyed_if, keyed_shown};
-ghost use Rattle.pg_pairs.specs.witness.HeldItems.{item_value};
+ghost use Rattle.pg_pairs.specs.inner.Comparing.{IsSingle, keyed, keyed_if, keyed_shown};
+ghost use Rattle.pg_pairs.specs.inner.HeldItems.{item_value};
 
 use crate::choices::beside::Beside;
 use pg_dyn::{ContentRef, ValueRef};

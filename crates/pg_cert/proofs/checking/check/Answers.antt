@@ -1,7 +1,7 @@
 -- The graph is of the certificate's view and of the two schemas.
 use Rattle.std.proofs.Common.{◌∙◌}
 use Rattle.pg_schema.specs.Parts.{shape_of}
-use Rattle.pg_cert.specs.Checked.{IsChecked}
+use Rattle.pg_cert.specs.inner.Checked.{IsChecked}
 use Rattle.pg_cert.proofs.Graphs.{of_graph}
 use Rattle.pg_cert.proofs.checking.check.Goals as goal
 

@@ -12,7 +12,7 @@ use Rattle.pg_pairs.specs.bounds.Covering.{Covers}
 use Rattle.pg_cert.specs.declared.bounds.PairBound.{PairBound}
 use Rattle.pg_cert.specs.Certificate.{are_bounds, bound_in}
 use Rattle.pg_cert.specs.Faults.{first_fault}
-use Rattle.pg_cert.specs.Worked.{minus_one, signed, unsigned, tree, unchanged, to_unsigned, outer, inner}
+use Rattle.pg_cert.specs.laws.Worked.{minus_one, signed, unsigned, tree, unchanged, to_unsigned, outer, inner}
 use Rattle.pg_cert.proofs.Coverings.{covers_without_fault}
 use Rattle.pg_cert.proofs.Witnesses.{zero_not_written, same_is_kept}
 use Rattle.pg_cert.proofs.laws.worked_certificates.Goals as goal

@@ -1,7 +1,7 @@
 use Rattle.std.proofs.Common.{ℕ, List, length}
 use Rattle.std.specs.List.{AllByRecursion}
 use Rattle.pg_cert.specs.declared.bounds.PairBound.{PairBound}
-use Rattle.pg_cert.specs.Reading.{IsRest, IsLeft}
+use Rattle.pg_cert.specs.inner.Reading.{IsRest, IsLeft}
 use Rattle.pg_cert.specs.Text.{IsPairOf}
 use Rattle.pg_cert.proofs.reading.read_lines.Given as goal
 

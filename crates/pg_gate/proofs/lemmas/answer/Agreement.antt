@@ -13,7 +13,7 @@ use Rattle.pg_pairs.specs.views.NamedView.{seen_under}
 use Rattle.pg_least.specs.Loss.{AreRoots}
 use Rattle.pg_causes.specs.declared.overview.TypeLine.{TypeLine}
 use Rattle.pg_causes.specs.TypeLines.{GateSays, IsTypeLine}
-use Rattle.pg_gate.specs.answer.Agreement.{AllSaysWhatGateSays, bytes_to_break}
+use Rattle.pg_gate.specs.laws.Agreement.{AllSaysWhatGateSays, bytes_to_break}
 use Rattle.pg_gate.specs.answer.Answer.{IsAnswerBy}
 use Rattle.pg_gate.specs.declared.answer.gate.Answer.{Answer}
 use Rattle.pg_gate.specs.declared.answer.gate.Answer.TheVariants as answers

@@ -9,7 +9,7 @@ use Rattle.clap.specs.declared.error.ErrorKind.TheVariants as kind
 use Rattle.pg_dyn.specs.declared.view_name.ViewName.TheVariants as views
 use Rattle.pg_gate.specs.call.Call.{CallsFor, IsRefused, Request, request_in, types}
 use Rattle.pg_gate.specs.call.CommandLine.{whole_app}
-use Rattle.pg_gate.specs.call.WorkedCalls.{WorkedCalls, asked_all, asked_gate, gate_all_words, gate_by, gate_words, here}
+use Rattle.pg_gate.specs.laws.WorkedCalls.{WorkedCalls, asked_all, asked_gate, gate_all_words, gate_by, gate_words, here}
 
 -- some reference to the names of the views
 abbrev names : Bor (List (Bor Text))

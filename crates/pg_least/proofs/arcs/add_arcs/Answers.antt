@@ -2,7 +2,7 @@ use Rattle.std.proofs.Common.{◌≡◌, is_some, true}
 use Rattle.std.specs.BTreeMap.{get}
 use Rattle.pg_pairs.specs.declared.graph.edge.Edge.{Edge}
 use Rattle.pg_pairs.specs.declared.graph.edge.Part.TheVariants.{Whole}
-use Rattle.pg_pairs.specs.graph.ByIndices.{by_indices}
+use Rattle.pg_pairs.specs.laws.ByIndices.{by_indices}
 use Rattle.pg_least.proofs.Lists.{each_at}
 use Rattle.pg_least.proofs.arcs.add_arcs.Goals as goal
 

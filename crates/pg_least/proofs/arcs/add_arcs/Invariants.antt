@@ -3,7 +3,7 @@ use Rattle.std.specs.List.{AllByRecursion}
 use Rattle.pg_pairs.specs.declared.choices.choice.Pair.{Pair}
 use Rattle.pg_pairs.specs.declared.graph.edge.Edge.{Edge}
 use Rattle.pg_least.specs.declared.arcs.Arc.{Arc}
-use Rattle.pg_least.specs.Places.{ArePlaces, IsPlaced}
+use Rattle.pg_least.specs.inner.Places.{ArePlaces, IsPlaced}
 use Rattle.pg_least.proofs.arcs.add_arcs.Given as goal
 
 abbrev pub invariant-loop-edge : goal.invariant-loop-edge

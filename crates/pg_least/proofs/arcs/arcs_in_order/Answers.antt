@@ -8,7 +8,7 @@ use Rattle.pg_pairs.proofs.lemmas.graph.Grown.{take_more}
 use Rattle.pg_pairs.specs.declared.choices.choice.Pair.{Pair}
 use Rattle.pg_pairs.specs.declared.graph.edge.Edge.{Edge}
 use Rattle.pg_pairs.specs.bounds.Covering.{IsAmong}
-use Rattle.pg_pairs.specs.graph.ByIndices.{by_indices}
+use Rattle.pg_pairs.specs.laws.ByIndices.{by_indices}
 use Rattle.pg_least.proofs.Lists.{each_at}
 use Rattle.pg_least.proofs.Tables.{place_there, flat_map-end}
 use Rattle.pg_least.proofs.arcs.arcs_in_order.Goals as goal

@@ -1,7 +1,7 @@
 use Rattle.std.proofs.Common.{◌≡◌, map, flat_map, take}
 use Rattle.std.specs.List.{AllByRecursion}
 use Rattle.pg_least.specs.declared.arcs.Arc.{Arc}
-use Rattle.pg_least.specs.Places.{IsPlaced}
+use Rattle.pg_least.specs.inner.Places.{IsPlaced}
 use Rattle.pg_least.proofs.arcs.arcs_in_order.Given as goal
 
 abbrev pub invariant-loop-at : goal.invariant-loop-at

@@ -5,7 +5,7 @@ use Rattle.pg_pairs.proofs.lemmas.choices.Among.{among_each}
 use Rattle.pg_pairs.proofs.lemmas.graph.Reaching.{every_is_among}
 use Rattle.pg_pairs.specs.declared.graph.edge.Edge.{Edge}
 use Rattle.pg_least.specs.declared.arcs.Arc.{Arc}
-use Rattle.pg_least.specs.Places.{IsPlaced}
+use Rattle.pg_least.specs.inner.Places.{IsPlaced}
 use Rattle.pg_least.proofs.Moved.{among_back}
 use Rattle.pg_least.proofs.arcs.arcs_of.Goals as goal
 

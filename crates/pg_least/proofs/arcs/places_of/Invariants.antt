@@ -1,4 +1,4 @@
-use Rattle.pg_least.specs.Places.{ArePlaces}
+use Rattle.pg_least.specs.inner.Places.{ArePlaces}
 use Rattle.pg_least.proofs.arcs.places_of.Given as goal
 
 abbrev pub invariant-loop-at : goal.invariant-loop-at

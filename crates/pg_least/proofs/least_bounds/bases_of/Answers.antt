@@ -2,7 +2,7 @@ use Rattle.std.proofs.Common.{◌≡◌, ◌+◌, ℕ, ◌∷◌, [], ◌++◌, 
 use Rattle.pg_pairs.specs.declared.choices.choice.Pair.{Pair}
 use Rattle.pg_pairs.specs.declared.graph.work.Work.{Work}
 use Rattle.pg_pairs.specs.graph.Works.{opened_more}
-use Rattle.pg_least.specs.Least.{opened_by}
+use Rattle.pg_least.specs.inner.Graphs.{opened_by}
 use Rattle.pg_pairs.proofs.lemmas.graph.Grown.{take_more}
 use Rattle.pg_least.proofs.Tables.{map-end}
 use Rattle.pg_least.proofs.least_bounds.bases_of.Goals as goal

@@ -1,5 +1,5 @@
 use Rattle.std.proofs.Common.{◌≡◌, map, take}
-use Rattle.pg_least.specs.Least.{opened_by}
+use Rattle.pg_least.specs.inner.Graphs.{opened_by}
 use Rattle.pg_least.proofs.least_bounds.bases_of.Given as goal
 
 abbrev pub invariant-loop-pair : goal.invariant-loop-pair

@@ -12,11 +12,12 @@ use Rattle.pg_pairs.specs.graph.Reached.{IsReachedFrom}
 use Rattle.pg_cert.specs.declared.bounds.PairBound.{PairBound}
 use Rattle.pg_cert.specs.Certificate.{bound_in, is_bound}
 use Rattle.pg_least.specs.declared.arcs.Arc.{Arc}
-use Rattle.pg_least.specs.Graphs.{IsArc, arcs_by, arcs_to_numbers}
+use Rattle.pg_least.specs.inner.Graphs.{IsArc, arcs_by, arcs_to_numbers}
 use Rattle.pg_least.specs.From.{IsSettledFrom}
-use Rattle.pg_least.specs.Least.{IsCounted, edges_to_numbers, lines}
-use Rattle.pg_least.specs.Places.{IsPlaced}
-use Rattle.pg_least.specs.Relaxing.{IsBalanced, cost_at}
+use Rattle.pg_least.specs.Least.{IsCounted, edges_to_numbers}
+use Rattle.pg_least.specs.inner.Graphs.{lines}
+use Rattle.pg_least.specs.inner.Places.{IsPlaced}
+use Rattle.pg_least.specs.inner.Relaxing.{IsBalanced, cost_at}
 use Rattle.pg_least.proofs.Bounding.{arcs_are, bases_are_small, costs_are_bounds, least_bound, lines_long, numbers_of_lines, once_lines, pairs_of_lines, relaxed_count}
 use Rattle.pg_least.proofs.least_bounds.settle_from.Goals as goal
 

@@ -3,7 +3,7 @@ use Rattle.std.proofs.lemmas.List.{take_all}
 use Rattle.pg_pairs.specs.declared.choices.choice.Pair.{Pair}
 use Rattle.pg_cert.specs.declared.bounds.PairBound.{PairBound}
 use Rattle.pg_cert.specs.Certificate.{are_bounds}
-use Rattle.pg_least.specs.Least.{lines}
+use Rattle.pg_least.specs.inner.Graphs.{lines}
 use Rattle.pg_least.proofs.Bounding.{lines_more, once_lines, takes_long}
 use Rattle.pg_pairs.proofs.lemmas.graph.Grown.{take_more}
 use Rattle.pg_least.proofs.least_bounds.table_of.Goals as goal

@@ -1,5 +1,5 @@
 use Rattle.std.proofs.Common.{◌≡◌, take}
-use Rattle.pg_least.specs.Least.{lines}
+use Rattle.pg_least.specs.inner.Graphs.{lines}
 use Rattle.pg_least.proofs.least_bounds.table_of.Given as goal
 
 abbrev pub invariant-loop-at : goal.invariant-loop-at

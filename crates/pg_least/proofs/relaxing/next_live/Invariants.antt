@@ -1,7 +1,7 @@
 use Rattle.std.proofs.Common.{List, Option, ℕ}
 use Rattle.std.specs.BinaryHeap.{heap_items, heap_len}
 use Rattle.pg_least.specs.declared.arcs.Arc.{Arc}
-use Rattle.pg_least.specs.Relaxing.{Arcs, Stands}
+use Rattle.pg_least.specs.inner.Relaxing.{Arcs, Stands}
 use Rattle.pg_least.proofs.relaxing.next_live.Given as goal
 
 abbrev pub invariant-loop-cost : goal.invariant-loop-cost

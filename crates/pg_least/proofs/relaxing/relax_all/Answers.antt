@@ -6,8 +6,8 @@ use Rattle.pg_pairs.specs.declared.graph.work.Work.{Work}
 use Rattle.pg_pairs.specs.graph.Works.{relaxed_more}
 use Rattle.pg_least.specs.declared.arcs.Arc.{Arc}
 use Rattle.pg_pairs.specs.bounds.Covering.{IsAmong}
-use Rattle.pg_least.specs.Relaxing.{Stands, cost_at, is_set}
-use Rattle.pg_least.specs.Graphs.{IsArc, arcs_by, relaxed_by}
+use Rattle.pg_least.specs.inner.Relaxing.{Stands, cost_at, is_set}
+use Rattle.pg_least.specs.inner.Graphs.{IsArc, arcs_by, relaxed_by}
 use Rattle.pg_least.proofs.Lists.{each_at}
 use Rattle.pg_least.proofs.Steps.{relaxes}
 use Rattle.pg_least.proofs.relaxing.relax_all.Goals as goal

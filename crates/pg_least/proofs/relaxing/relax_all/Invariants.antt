@@ -3,8 +3,8 @@ use Rattle.std.specs.List.{AllByRecursion}
 use Rattle.std.specs.BinaryHeap.{heap_items}
 use Rattle.pg_least.specs.declared.arcs.Arc.{Arc}
 use Rattle.pg_pairs.specs.bounds.Covering.{IsAmong}
-use Rattle.pg_least.specs.Relaxing.{Stands, cost_at, is_set}
-use Rattle.pg_least.specs.Graphs.{arcs_by, relaxed_by}
+use Rattle.pg_least.specs.inner.Relaxing.{Stands, cost_at, is_set}
+use Rattle.pg_least.specs.inner.Graphs.{arcs_by, relaxed_by}
 use Rattle.pg_least.proofs.relaxing.relax_all.Given as goal
 
 abbrev pub invariant-loop-arc : goal.invariant-loop-arc

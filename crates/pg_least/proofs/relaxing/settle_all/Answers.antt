@@ -3,8 +3,8 @@ use Rattle.std.specs.List.{AllByRecursion}
 use Rattle.pg_pairs.specs.declared.graph.work.Work.{Work}
 use Rattle.pg_least.specs.declared.arcs.Arc.{Arc}
 use Rattle.pg_pairs.specs.bounds.Covering.{IsAmong}
-use Rattle.pg_least.specs.Relaxing.{Stands, cost_at, is_set}
-use Rattle.pg_least.specs.Graphs.{IsArc, arcs_by, arcs_to_settled, relaxed_by}
+use Rattle.pg_least.specs.inner.Relaxing.{Stands, cost_at, is_set}
+use Rattle.pg_least.specs.inner.Graphs.{IsArc, arcs_by, arcs_to_settled, relaxed_by}
 use Rattle.pg_least.proofs.Placing.{at_start, none_settled, none_counted, few_settled, each_to, each_to_new, done_on, long_none, one_less, one_more_settled, balanced, counted}
 use Rattle.pg_least.proofs.relaxing.settle_all.Goals as goal
 

@@ -1,8 +1,8 @@
 use Rattle.std.proofs.Common.{◌≡◌, ℕ, List, length, true, heap_items}
 use Rattle.pg_least.specs.declared.arcs.Arc.{Arc}
 use Rattle.pg_pairs.specs.bounds.Covering.{IsAmong}
-use Rattle.pg_least.specs.Relaxing.{Stands, is_set}
-use Rattle.pg_least.specs.Graphs.{arcs_by, arcs_to_settled, left, relaxed_by}
+use Rattle.pg_least.specs.inner.Relaxing.{Stands, is_set}
+use Rattle.pg_least.specs.inner.Graphs.{arcs_by, arcs_to_settled, left, relaxed_by}
 use Rattle.pg_least.proofs.relaxing.settle_all.Given as goal
 
 abbrev pub invariant-loop-bound : goal.invariant-loop-bound

@@ -1,7 +1,7 @@
 use Rattle.std.proofs.Common.{◌≡◌, ℕ, ◌+◌, ◌<◌, ⊎_elim, List, Option, Some, None, true, ap, sym, ◌∙◌, subst, subst₂, arith, heap_items}
 use Rattle.std.specs.declared.cmp.Reverse.{Reverse}
-use Rattle.pg_least.specs.Queues.{IsOneMore}
-use Rattle.pg_least.specs.Relaxing.{cost_at, waits}
+use Rattle.pg_least.specs.inner.Queues.{IsOneMore}
+use Rattle.pg_least.specs.inner.Relaxing.{cost_at, waits}
 use Rattle.pg_least.proofs.Steps.{inside, pushed_waits, pushed_itself, place_cases}
 use Rattle.pg_least.proofs.relaxing.waiting.Goals as goal
 use Rattle.pg_least.proofs.relaxing.waiting.Goals.{in-Some+in_ok-push, in_default}

@@ -1,5 +1,5 @@
 use Rattle.std.proofs.Common.{◌≡◌, ◌<◌, ℕ, true, Some, heap_items}
-use Rattle.pg_least.specs.Relaxing.{cost_at, waits}
+use Rattle.pg_least.specs.inner.Relaxing.{cost_at, waits}
 use Rattle.pg_least.proofs.relaxing.waiting.Given as goal
 
 abbrev pub invariant-loop-at : goal.invariant-loop-at

@@ -1,7 +1,7 @@
 use Rattle.std.proofs.Common.{[], ◌∷◌, ◌++◌, vec_len}
 use Rattle.pg_schema.specs.Parts.{shape_of}
 use Rattle.pg_pairs.specs.graph.GraphView.{seen}
-use Rattle.pg_least.specs.Descent.{first_step}
+use Rattle.pg_least.specs.inner.Descent.{first_step}
 use Rattle.pg_least.proofs.Descents.{IsInside}
 use Rattle.pg_least.proofs.witness.built.Given as goal
 

@@ -6,7 +6,8 @@ use Rattle.pg_pairs.specs.graph.GraphView.{seen}
 use Rattle.pg_cert.specs.Certificate.{bound_in}
 use Rattle.pg_cert.specs.declared.bounds.PairBound.{PairBound}
 use Rattle.pg_least.specs.declared.witness.PairChoice.{PairChoice}
-use Rattle.pg_least.specs.Descent.{IsExactTable, first_step}
+use Rattle.pg_least.specs.From.{IsExactTable}
+use Rattle.pg_least.specs.inner.Descent.{first_step}
 use Rattle.pg_least.specs.Searched.{IsPath}
 use Rattle.pg_least.proofs.Descents.{whole_is_path}
 use Rattle.pg_least.proofs.witness.path_with.Goals as goal

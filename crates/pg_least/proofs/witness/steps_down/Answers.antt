@@ -3,7 +3,7 @@ use Rattle.pg_schema.specs.Parts.{shape_of}
 use Rattle.pg_pairs.specs.witness.Carried.{choice_child}
 use Rattle.pg_pairs.specs.graph.GraphView.{seen}
 use Rattle.pg_cert.specs.Certificate.{bound_in}
-use Rattle.pg_least.specs.Descent.{IsPathDown, first_step}
+use Rattle.pg_least.specs.inner.Descent.{IsPathDown, first_step}
 use Rattle.pg_least.proofs.Descents.{child_number, costs_less, first_on, last_step, number_of, path_on}
 use Rattle.pg_least.proofs.witness.steps_down.Goals as goal
 

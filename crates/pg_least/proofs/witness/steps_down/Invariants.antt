@@ -2,7 +2,7 @@ use Rattle.std.proofs.Common.{◌≡◌}
 use Rattle.pg_schema.specs.Parts.{shape_of}
 use Rattle.pg_pairs.specs.graph.GraphView.{seen}
 use Rattle.pg_cert.specs.Certificate.{bound_in}
-use Rattle.pg_least.specs.Descent.{IsPathDown, first_step}
+use Rattle.pg_least.specs.inner.Descent.{IsPathDown, first_step}
 use Rattle.pg_least.proofs.witness.steps_down.Given as goal
 
 abbrev pub invariant-loop-child : goal.invariant-loop-child

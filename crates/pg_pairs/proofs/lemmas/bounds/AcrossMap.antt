@@ -21,7 +21,7 @@ use Rattle.pg_pairs.proofs.lemmas.bounds.Packed.{single_read}
 use Rattle.pg_dyn.proofs.Lists.{all_some-map_map, each_weaker, each-map, map_map}
 use Rattle.pg_dyn.specs.Bodies.{IsNestedLeaf, IsReadAs, entry_body, two_records}
 use Rattle.pg_dyn.specs.FieldLaws.{EntriesRise}
-use Rattle.pg_pairs.specs.bounds.Contents.{RisingKeys}
+use Rattle.pg_pairs.specs.inner.Contents.{RisingKeys}
 use Rattle.pg_pairs.proofs.lemmas.gaps.Likeness.{same_wire-true}
 use Rattle.pg_pairs.proofs.lemmas.bounds.Across.{Seen, Across}
 use Rattle.pg_dyn.proofs.PublicLaws.{entry_bodies_read, rising_entries_stay}

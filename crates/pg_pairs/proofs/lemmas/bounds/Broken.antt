@@ -24,7 +24,7 @@ use Rattle.pg_pairs.specs.gaps.Gaps.{body_length}
 use Rattle.pg_pairs.specs.gaps.TrueGaps.{is_alike_read, is_seen}
 use Rattle.pg_pairs.specs.choices.Costs.{one_item}
 use Rattle.pg_dyn.specs.ByComparands.{field_read, is_shown, is_field_kept}
-use Rattle.pg_pairs.specs.bounds.Contents.{total, passes, is_child_kept}
+use Rattle.pg_pairs.specs.inner.Contents.{total, passes, is_child_kept}
 use Rattle.pg_pairs.proofs.lemmas.gaps.GapItems.{IsLeafy}
 use Rattle.pg_pairs.proofs.lemmas.bounds.AcrossPlain.{plain_part, NotMap, IsUnpacked}
 use Rattle.pg_pairs.proofs.lemmas.choices.Costs.{length-item_record}

@@ -10,7 +10,7 @@ use Rattle.pg_dyn.specs.Comparison.{View, same_message, unshared_bytes, expected
 use Rattle.pg_dyn.specs.Breaking.{is_kept}
 use Rattle.pg_pairs.specs.choices.Choices.{child_pair}
 use Rattle.pg_pairs.specs.bounds.Covering.{field_children, has_children}
-use Rattle.pg_pairs.specs.bounds.Contents.{is_child_kept}
+use Rattle.pg_pairs.specs.inner.Contents.{is_child_kept}
 
 -- messages in both fields are children of the pair
 pub children_are : (f g : FieldShape) → has_children f.presence g.presence ≡ true → field_children f g ≡ option_to_list (child_pair f.element g.element)

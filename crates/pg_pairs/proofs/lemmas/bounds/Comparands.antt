@@ -26,7 +26,7 @@ use Rattle.pg_pairs.specs.gaps.Gaps.{body_length}
 use Rattle.pg_pairs.specs.gaps.TrueGaps.{is_seen}
 use Rattle.pg_pairs.specs.choices.Costs.{least_body, nonzero_body, entry_cost, one_item, least_content}
 use Rattle.pg_dyn.specs.ByComparands.{is_field_kept}
-use Rattle.pg_pairs.specs.bounds.Contents.{total, HoldsItem, Holds, passes, is_child_kept}
+use Rattle.pg_pairs.specs.inner.Contents.{total, HoldsItem, Holds, passes, is_child_kept}
 use Rattle.pg_pairs.proofs.lemmas.gaps.Lengths.{with_length_rises}
 use Rattle.pg_pairs.proofs.lemmas.gaps.Leaves.{seen_read, seen_alike}
 use Rattle.pg_pairs.proofs.lemmas.gaps.GapItems.{IsLeafy}

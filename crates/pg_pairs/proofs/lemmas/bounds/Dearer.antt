@@ -13,7 +13,7 @@ use Rattle.pg_pairs.proofs.lemmas.views.NamedViews.{none_differs}
 use Rattle.pg_pairs.specs.choices.Choices.{Table, all_choices, choices, field_choices}
 use Rattle.pg_pairs.specs.bounds.Covering.{same_pair, IsAmong}
 use Rattle.pg_pairs.specs.bounds.Laws.{IsReached}
-use Rattle.pg_pairs.specs.graph.EdgeChildren.{same_pair-true}
+use Rattle.pg_pairs.specs.laws.EdgeChildren.{same_pair-true}
 use Rattle.pg_pairs.proofs.lemmas.choices.Choosing.{field_allowed}
 use Rattle.pg_pairs.proofs.lemmas.witness.Reached.{choices_reached}
 use Rattle.pg_pairs.proofs.lemmas.graph.Reaching.{every_is_among}

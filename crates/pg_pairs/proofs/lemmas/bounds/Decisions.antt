@@ -20,7 +20,7 @@ use Rattle.pg_pairs.specs.gaps.Gaps.{body_length, gap_item}
 use Rattle.pg_pairs.specs.gaps.TrueGaps.{is_seen, ItemCounts, IsGapItem}
 use Rattle.pg_pairs.specs.choices.Costs.{with_length}
 use Rattle.pg_pairs.specs.choices.Choices.{Table, number_for, choice_of, gap_body, child_body}
-use Rattle.pg_pairs.specs.bounds.Contents.{HoldsItem, Holds, is_child_kept, ChildBound}
+use Rattle.pg_pairs.specs.inner.Contents.{HoldsItem, Holds, is_child_kept, ChildBound}
 use Rattle.pg_pairs.proofs.lemmas.gaps.Lengths.{with_length_rises}
 use Rattle.pg_pairs.proofs.lemmas.gaps.GapItems.{IsLeafy, gap_item_is}
 use Rattle.pg_pairs.proofs.lemmas.bounds.Across.{Seen}

@@ -26,12 +26,12 @@ use Rattle.pg_pairs.specs.declared.choices.choice.Choice.{Choice}
 use Rattle.pg_pairs.specs.views.EnumView.{EnumView}
 use Rattle.pg_pairs.specs.views.ViewLaws.{IsEnumView}
 use Rattle.pg_pairs.specs.gaps.Likeness.{like}
-use Rattle.pg_pairs.specs.home.ReadBack.{is_bool_of_zigzag, is_zigzag}
+use Rattle.pg_pairs.specs.laws.ReadBack.{is_bool_of_zigzag, is_zigzag}
 use Rattle.pg_pairs.specs.gaps.Gaps.{body_length}
 use Rattle.pg_pairs.specs.gaps.TrueGaps.{is_seen, ItemCounts}
 use Rattle.pg_pairs.specs.choices.Costs.{least_body, nonzero_body, entry_cost, one_item, least_content}
 use Rattle.pg_pairs.specs.choices.Choices.{Table, choice_of, zero_counts, unlike_cost, gap_body, child_body, singular_cost, plain_choices, map_choices, field_choices}
-use Rattle.pg_pairs.specs.bounds.Contents.{total, Holds, IsInOrder, ChildBound, IsContent}
+use Rattle.pg_pairs.specs.inner.Contents.{total, Holds, IsInOrder, ChildBound, IsContent}
 use Rattle.pg_pairs.specs.bounds.Covering.{has_children}
 use Rattle.pg_pairs.proofs.lemmas.gaps.GapItems.{IsLeafy, implicit_leafy, leafy_like}
 use Rattle.pg_pairs.proofs.lemmas.gaps.Leaves.{seen_read}

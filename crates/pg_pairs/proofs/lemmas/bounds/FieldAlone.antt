@@ -17,11 +17,11 @@ use Rattle.pg_pairs.specs.views.EnumView.{EnumView}
 use Rattle.pg_pairs.specs.views.ViewLaws.{IsEnumView}
 use Rattle.pg_pairs.specs.choices.Choices.{Table, field_choices, choices, cheapest}
 use Rattle.pg_pairs.specs.bounds.Covering.{IsThere, IsWithin, IsCovered, Covers, children, IsAmong}
-use Rattle.pg_pairs.specs.choices.CheapestLaws.{IsCheapest}
-use Rattle.pg_pairs.specs.bounds.Contents.{ChildBound, IsContent, total}
+use Rattle.pg_pairs.specs.laws.CheapestLaws.{IsCheapest}
+use Rattle.pg_pairs.specs.inner.Contents.{ChildBound, IsContent, total}
 use Rattle.pg_dyn.specs.ByComparands.{comparands_at, is_field_kept}
 use Rattle.pg_pairs.specs.witness.Carried.{alone}
-use Rattle.pg_pairs.specs.bounds.FieldCosts.{list_alone, map_alone, IsShared, CostsCheapest, SingleScalarsCost, ListsCost, MapsCost, ChildrenCost}
+use Rattle.pg_pairs.specs.laws.FieldCosts.{list_alone, map_alone, IsShared, CostsCheapest, SingleScalarsCost, ListsCost, MapsCost, ChildrenCost}
 use Rattle.pg_pairs.proofs.lemmas.choices.Among.{among_each}
 use Rattle.pg_pairs.proofs.lemmas.choices.Cheaper.{cheapest_is_least}
 use Rattle.pg_pairs.proofs.lemmas.gaps.GapItems.{IsLeafy}

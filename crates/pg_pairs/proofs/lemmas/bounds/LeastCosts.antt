@@ -19,7 +19,7 @@ use Rattle.pg_pairs.specs.declared.choices.choice.Pair.{Pair}
 use Rattle.pg_pairs.specs.views.EnumView.{EnumView}
 use Rattle.pg_pairs.specs.choices.Costs.{least_body, nonzero_body, entry_cost, one_item, least_content}
 use Rattle.pg_pairs.specs.choices.Choices.{Table, choice_of, zero_counts, unlike_cost, gap_body, child_body, singular_cost, all_choices, affordable, choices, cheapest}
-use Rattle.pg_pairs.specs.choices.CheapestLaws.{IsCheapest}
+use Rattle.pg_pairs.specs.laws.CheapestLaws.{IsCheapest}
 use Rattle.pg_pairs.specs.bounds.Covering.{IsWithin, IsAmong}
 use Rattle.pg_pairs.specs.bounds.LeastCosts.{least_cost, LeastCostsAreExact}
 use Rattle.pg_pairs.proofs.lemmas.choices.Among.{among_each}

@@ -25,7 +25,7 @@ use Rattle.pg_pairs.specs.choices.Costs.{least_content}
 use Rattle.pg_pairs.specs.choices.Choices.{child_pair, Table, number_for, all_choices}
 use Rattle.pg_pairs.specs.bounds.Covering.{IsWithin, IsThere, IsCovered}
 use Rattle.pg_dyn.specs.ByComparands.{comparands_at, is_field_kept}
-use Rattle.pg_pairs.specs.bounds.Contents.{total, is_child_kept, ChildBound, IsContent}
+use Rattle.pg_pairs.specs.inner.Contents.{total, is_child_kept, ChildBound, IsContent}
 use Rattle.pg_pairs.proofs.lemmas.bounds.ChildTests.{bytes_are, children_are, kept_is}
 use Rattle.pg_pairs.proofs.lemmas.bounds.Decisions.{each_or}
 use Rattle.pg_pairs.proofs.lemmas.bounds.OneField.{one_field}

@@ -18,7 +18,7 @@ use Rattle.pg_dyn.specs.Comparison.{View, Alike, Kept, Comparand, writes, compar
 use Rattle.pg_dyn.specs.ByComparands.{comparands_at}
 use Rattle.pg_dyn.proofs.Lists.{each_weaker, each-filter, each_at, filter-map}
 use Rattle.pg_dyn.specs.OwnParts.{Ordered}
-use Rattle.pg_pairs.specs.bounds.Contents.{HoldsItem, Holds, RisingKeys, IsInOrder}
+use Rattle.pg_pairs.specs.inner.Contents.{HoldsItem, Holds, RisingKeys, IsInOrder}
 use Rattle.pg_dyn.proofs.PublicLaws.{comparands_are_written, fields_are_found, own_parts_fit}
 
 -- Each comparand is one of its field.

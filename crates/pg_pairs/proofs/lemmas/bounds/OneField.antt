@@ -11,7 +11,7 @@ use Rattle.pg_pairs.specs.views.EnumView.{EnumView}
 use Rattle.pg_pairs.specs.views.ViewLaws.{IsEnumView}
 use Rattle.pg_pairs.specs.choices.Choices.{Table, field_choices}
 use Rattle.pg_pairs.specs.bounds.Covering.{IsAmong}
-use Rattle.pg_pairs.specs.bounds.Contents.{ContentsCost, total, Holds, IsContent}
+use Rattle.pg_pairs.specs.inner.Contents.{ContentsCost, total, Holds, IsContent}
 use Rattle.pg_pairs.proofs.lemmas.gaps.GapItems.{implicit_leafy}
 use Rattle.pg_pairs.proofs.lemmas.bounds.Across.{kept_across}
 use Rattle.pg_pairs.proofs.lemmas.gaps.Zeros.{zero_kept}

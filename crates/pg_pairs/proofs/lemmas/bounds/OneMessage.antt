@@ -18,7 +18,7 @@ use Rattle.pg_dyn.proofs.Lists.{each-filter, each_at, flat_map-append'}
 use Rattle.pg_pairs.specs.gaps.Gaps.{body_length}
 use Rattle.pg_pairs.specs.choices.Costs.{one_item, least_content}
 use Rattle.pg_pairs.specs.choices.Choices.{joins}
-use Rattle.pg_pairs.specs.bounds.Contents.{total, Holds, IsInOrder}
+use Rattle.pg_pairs.specs.inner.Contents.{total, Holds, IsInOrder}
 use Rattle.pg_pairs.proofs.lemmas.bounds.Comparands.{costs, least_cost}
 use Rattle.pg_pairs.proofs.lemmas.choices.Costs.{Costs}
 use Rattle.pg_pairs.proofs.lemmas.bounds.Messages.{each_holds, field_holds, field_written, field_in_order}

@@ -13,7 +13,7 @@ use Rattle.pg_dyn.specs.Comparison.{View, Comparand, writes, comparands}
 use Rattle.pg_dyn.specs.Breaking.{is_kept}
 use Rattle.pg_dyn.specs.ByComparands.{comparands_at, is_field_kept, EachFieldKept, NoComparandsMeet}
 use Rattle.pg_dyn.proofs.Lists.{each-map, each_weaker, filter_all, filter_none}
-use Rattle.pg_pairs.specs.bounds.Contents.{total}
+use Rattle.pg_pairs.specs.inner.Contents.{total}
 use Rattle.pg_pairs.proofs.lemmas.bounds.Comparands.{empty_kept}
 use Rattle.pg_pairs.proofs.lemmas.bounds.Messages.{one_found}
 use Rattle.pg_dyn.proofs.PublicLaws.{comparands_are_written, fields_are_found, kept_by_comparands, records_of_fields, siblings_mutual}

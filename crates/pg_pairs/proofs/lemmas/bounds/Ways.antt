@@ -16,8 +16,8 @@ use Rattle.pg_dyn.specs.Belonging.{MayBeZero}
 use Rattle.pg_dyn.specs.Comparison.{View, Comparand, writes}
 use Rattle.pg_dyn.proofs.Lists.{each_both}
 use Rattle.pg_pairs.specs.gaps.Likeness.{like}
-use Rattle.pg_pairs.specs.home.ReadBack.{is_bool_of_zigzag}
-use Rattle.pg_pairs.specs.bounds.Contents.{IsAtMostOne, RisingKeys}
+use Rattle.pg_pairs.specs.laws.ReadBack.{is_bool_of_zigzag}
+use Rattle.pg_pairs.specs.inner.Contents.{IsAtMostOne, RisingKeys}
 use Rattle.pg_pairs.proofs.lemmas.gaps.Likeness.{like_wire}
 use Rattle.pg_pairs.proofs.lemmas.gaps.GapItems.{IsLeafy}
 use Rattle.pg_pairs.proofs.lemmas.bounds.Across.{Seen, Across}

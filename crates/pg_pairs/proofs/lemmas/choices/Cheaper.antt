@@ -6,7 +6,7 @@ use Rattle.std.proofs.lemmas.Bool.{leb-true, leb-false, le-leb, lt-leb}
 use Rattle.pg_dyn.proofs.Lists.{each_weaker}
 use Rattle.pg_pairs.specs.declared.choices.choice.Choice.{Choice}
 use Rattle.pg_pairs.specs.choices.Choices.{cheaper, cheapest}
-use Rattle.pg_pairs.specs.choices.CheapestLaws.{first_of, IsCheapest, CheapestIsLeast}
+use Rattle.pg_pairs.specs.laws.CheapestLaws.{first_of, IsCheapest, CheapestIsLeast}
 
 among_least : (c : Choice) (cs : List Choice) (o : Option Choice) → IsCheapest o cs → IsCheapest (Some (cheaper c o)) (c ∷ cs)
 among_least c cs None none = (inl refl, (omega arith, subst (AllByRecursion (λ (d : Choice). c.cost ≤ d.cost)) (sym none) tt))

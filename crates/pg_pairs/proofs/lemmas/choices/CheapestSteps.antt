@@ -11,9 +11,9 @@ use Rattle.pg_pairs.specs.declared.choices.choice.Choice.{Choice}
 use Rattle.pg_pairs.specs.declared.choices.least_member.Two.{Two}
 use Rattle.pg_pairs.specs.views.EnumView.{EnumView}
 use Rattle.pg_pairs.specs.choices.Choices.{Table, choices_beside, joined_choices, all_choices, affordable, cheapest}
-use Rattle.pg_pairs.specs.choices.CheapestLaws.{first_of}
-use Rattle.pg_pairs.specs.choices.NewOneof.{new_oneof}
-use Rattle.pg_pairs.specs.choices.LeastMembers.{member_of, least_member, met_choices, beside, IsOrdered, KeepsLeast}
+use Rattle.pg_pairs.specs.laws.CheapestLaws.{first_of}
+use Rattle.pg_pairs.specs.inner.NewOneof.{new_oneof}
+use Rattle.pg_pairs.specs.inner.LeastMembers.{member_of, least_member, met_choices, beside, IsOrdered, KeepsLeast}
 use Rattle.pg_pairs.proofs.lemmas.choices.Cheaper.{same-below, cheapest-within}
 use Rattle.pg_pairs.proofs.lemmas.choices.LeastMembers.{cheapest-joined}
 use Rattle.pg_pairs.proofs.lemmas.choices.OptionSteps.{affordable-append, drop_at}

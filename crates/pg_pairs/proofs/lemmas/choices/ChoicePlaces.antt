@@ -8,7 +8,7 @@ use Rattle.pg_schema.specs.Shape.{FieldShape, is_map}
 use Rattle.pg_pairs.specs.declared.choices.case.Case.{Case}
 use Rattle.pg_pairs.specs.declared.choices.case.Case.TheVariants as cases
 use Rattle.pg_pairs.specs.declared.choices.choice.Choice.{Choice}
-use Rattle.pg_pairs.specs.witness.CarriedItems.{IsPlacedBy}
+use Rattle.pg_pairs.specs.inner.CarriedItems.{IsPlacedBy}
 use Rattle.pg_pairs.specs.views.EnumView.{EnumView}
 use Rattle.pg_pairs.specs.choices.Choices.{Table, choice_of, field_choices, map_key}
 use Rattle.pg_pairs.proofs.lemmas.choices.Offers.{each_own}

@@ -10,7 +10,7 @@ use Rattle.pg_pairs.specs.views.EnumView.{EnumView}
 use Rattle.pg_pairs.specs.choices.Costs.{least_content}
 use Rattle.pg_pairs.specs.choices.Choices.{Table, choice, field_choices, joins, joined_choices, choices_beside, all_choices}
 use Rattle.pg_pairs.specs.bounds.Covering.{field_children, children_beside, all_children, same_pair, distinct}
-use Rattle.pg_pairs.specs.graph.EdgeChildren.{same_pair-true}
+use Rattle.pg_pairs.specs.laws.EdgeChildren.{same_pair-true}
 use Rattle.pg_dyn.proofs.PublicLaws.{fields_are_found}
 use Rattle.pg_dyn.proofs.Lists.{each_at, each_before, each_after, each_unfiltered}
 

@@ -18,7 +18,7 @@ use Rattle.pg_dyn.proofs.Lists.{each_weaker, flat_map-map, map_map, each_within}
 use Rattle.pg_pairs.specs.gaps.Gaps.{body_length}
 use Rattle.pg_pairs.specs.choices.Costs.{with_length, least_of_wire, least_body, least_nonzero, nonzero_body, one_item}
 use Rattle.pg_dyn.specs.Comparison.{Comparand, writes}
-use Rattle.pg_pairs.specs.bounds.Contents.{total}
+use Rattle.pg_pairs.specs.inner.Contents.{total}
 use Rattle.pg_pairs.proofs.lemmas.gaps.Lengths.{with_length_rises}
 use Rattle.pg_pairs.proofs.lemmas.bounds.AcrossPlain.{IsUnpacked, IsPackedList}
 use Rattle.pg_dyn.proofs.PublicLaws.{bodies_read_again, packable_wires}

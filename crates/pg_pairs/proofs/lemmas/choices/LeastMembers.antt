@@ -10,8 +10,8 @@ use Rattle.pg_pairs.specs.declared.choices.least_member.Member.{Member}
 use Rattle.pg_pairs.specs.declared.choices.least_member.Two.{Two}
 use Rattle.pg_pairs.specs.choices.Costs.{least_content}
 use Rattle.pg_pairs.specs.choices.Choices.{choice, in_one_oneof, joins, joined_choices, cheaper, cheapest}
-use Rattle.pg_pairs.specs.choices.NewOneof.{new_oneof}
-use Rattle.pg_pairs.specs.choices.LeastMembers.{member_of, lesser, least_member, joined_with, met_choices, beside, IsOrdered, KeepsLeast}
+use Rattle.pg_pairs.specs.inner.NewOneof.{new_oneof}
+use Rattle.pg_pairs.specs.inner.LeastMembers.{member_of, lesser, least_member, joined_with, met_choices, beside, IsOrdered, KeepsLeast}
 
 -- a test of two numbers, the other way round
 turned : (j k : ℕ) (b : Bool) → nat_eq j k ≡ b → nat_eq k j ≡ b

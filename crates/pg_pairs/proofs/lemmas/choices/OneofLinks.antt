@@ -10,8 +10,8 @@ use Rattle.pg_pairs.specs.declared.choices.choice.Choice.{Choice}
 use Rattle.pg_pairs.specs.declared.choices.oneof_links.Link.{Link}
 use Rattle.pg_pairs.specs.choices.Choices.{affordable, choice, in_one_oneof, joined_choices, joins}
 use Rattle.pg_pairs.specs.choices.Costs.{least_content}
-use Rattle.pg_pairs.specs.choices.NewOneof.{new_oneof}
-use Rattle.pg_pairs.specs.choices.OneofLinks.{joined_from, Passes, IsAny, IsBeside, IsOutside, LeadsFrom, IsLink, AreLinks}
+use Rattle.pg_pairs.specs.inner.NewOneof.{new_oneof}
+use Rattle.pg_pairs.specs.inner.OneofLinks.{joined_from, Passes, IsAny, IsBeside, IsOutside, LeadsFrom, IsLink, AreLinks}
 use Rattle.pg_pairs.proofs.lemmas.choices.LeastMembers.{joins_is}
 use Rattle.pg_pairs.proofs.lemmas.choices.OptionSteps.{affordable-append, drop_at, item_is}
 

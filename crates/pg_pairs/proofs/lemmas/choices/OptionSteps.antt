@@ -13,7 +13,7 @@ use Rattle.pg_pairs.specs.declared.choices.choice.Choice.{Choice}
 use Rattle.pg_pairs.specs.declared.choices.choice.Pair.{Pair}
 use Rattle.pg_pairs.specs.views.EnumView.{EnumView}
 use Rattle.pg_pairs.specs.choices.Choices.{Table, all_choices, choices, choices_beside, affordable}
-use Rattle.pg_pairs.specs.choices.OneofLinks.{joined_from}
+use Rattle.pg_pairs.specs.inner.OneofLinks.{joined_from}
 use Rattle.pg_pairs.proofs.lemmas.graph.ChildSteps.{past}
 use Rattle.pg_dyn.proofs.PublicLaws.{fields_are_found}
 

@@ -7,7 +7,7 @@ use Rattle.pg_dyn.specs.Coding.{Form, Integer, Single, Double, Text, Raw, form, 
 use Rattle.pg_dyn.specs.Comparison.{View, alike_leaves}
 use Rattle.pg_pairs.specs.gaps.Likeness.{like_forms, like}
 use Rattle.pg_pairs.specs.gaps.TrueGaps.{is_seen}
-use Rattle.pg_pairs.specs.gaps.ElementGaps.{IsNoMessage, FindsZeroAlike, ElementGaps, UnseenAreNotZero}
+use Rattle.pg_pairs.specs.laws.ElementGaps.{IsNoMessage, FindsZeroAlike, ElementGaps, UnseenAreNotZero}
 use Rattle.pg_pairs.proofs.lemmas.gaps.GapItems.{IsLeafy, gap_item_is}
 use Rattle.pg_pairs.proofs.lemmas.gaps.Leaves.{seen_from}
 use Rattle.pg_dyn.proofs.PublicLaws.{equal_leaves}

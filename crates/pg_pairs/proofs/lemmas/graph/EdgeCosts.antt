@@ -19,7 +19,7 @@ use Rattle.pg_pairs.specs.views.EnumView.{EnumView}
 use Rattle.pg_pairs.specs.gaps.Likeness.{like}
 use Rattle.pg_pairs.specs.choices.Costs.{with_length, one_item, least_content}
 use Rattle.pg_pairs.specs.choices.Choices.{child_pair, Table, number_for, choice, choice_of, unlike_cost, child_body, plain_choices, map_choices, joined_choices, choices_beside, all_choices, affordable, no_bounds, choices_by, map_key, cheapest}
-use Rattle.pg_pairs.specs.choices.CheapestLaws.{first_of}
+use Rattle.pg_pairs.specs.laws.CheapestLaws.{first_of}
 use Rattle.pg_pairs.specs.bounds.Covering.{children_beside, children_by}
 use Rattle.pg_pairs.specs.graph.LeastOf.{cost_under, least_of, lesser_cost}
 use Rattle.pg_pairs.specs.graph.Edges.{LeastCostsByEdges, child_cost, edge_price, edge_to}

@@ -2,8 +2,8 @@
 use Rattle.std.proofs.Common.{◌≡◌, List, [], ◌∷◌, ◌++◌, filter, Bool, true, false, not, ◌||◌, cond, refl, ap, sym, ◌∙◌, subst, append-nil}
 use Rattle.pg_pairs.specs.declared.choices.choice.Pair.{Pair}
 use Rattle.pg_pairs.specs.bounds.Covering.{same_pair, distinct}
-use Rattle.pg_pairs.specs.graph.EdgeChildren.{same_pair-true}
-use Rattle.pg_pairs.specs.graph.Seen.{has_pair}
+use Rattle.pg_pairs.specs.laws.EdgeChildren.{same_pair-true}
+use Rattle.pg_pairs.specs.inner.Seen.{has_pair}
 
 -- a filter that drops no pair that is the same as p
 has-filter : (test : Pair → Bool) (p : Pair) → ((q : Pair) → same_pair q p ≡ true → test q ≡ true) → (ps : List Pair) → has_pair (filter test ps) p ≡ has_pair ps p

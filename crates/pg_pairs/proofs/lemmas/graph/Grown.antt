@@ -5,10 +5,10 @@ use Rattle.std.specs.List.{AllByRecursion}
 use Rattle.std.proofs.Math.Seq.{take-suc}
 use Rattle.pg_pairs.specs.declared.choices.choice.Pair.{Pair}
 use Rattle.pg_pairs.specs.bounds.Covering.{same_pair, distinct}
-use Rattle.pg_pairs.specs.graph.ByIndices.{by_indices, equal_same}
-use Rattle.pg_pairs.specs.graph.Seen.{has_pair, AreSeen}
+use Rattle.pg_pairs.specs.laws.ByIndices.{by_indices, equal_same}
+use Rattle.pg_pairs.specs.inner.Seen.{has_pair, AreSeen}
 use Rattle.pg_dyn.proofs.Lists.{each_filtered}
-use Rattle.pg_pairs.specs.graph.EdgeChildren.{same_pair-true}
+use Rattle.pg_pairs.specs.laws.EdgeChildren.{same_pair-true}
 use Rattle.pg_pairs.proofs.lemmas.graph.FirstSeen.{distinct-more}
 
 -- a list with one pair more, if it isn't there

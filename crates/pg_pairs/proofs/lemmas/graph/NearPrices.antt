@@ -12,9 +12,9 @@ use Rattle.pg_pairs.specs.bounds.Covering.{IsAmong, all_children, children, chil
 use Rattle.pg_pairs.specs.witness.Carried.{choice_child}
 use Rattle.pg_pairs.specs.witness.CarriedChoices.{ChildThere}
 use Rattle.pg_pairs.specs.choices.Causes.{causes}
-use Rattle.pg_pairs.specs.graph.CauseLaws.{CausesAreOwn, PricesAreNear}
+use Rattle.pg_pairs.specs.laws.CauseLaws.{CausesAreOwn, PricesAreNear}
 use Rattle.pg_pairs.specs.choices.Costs.{one_item, with_length}
-use Rattle.pg_pairs.specs.graph.EdgeChildren.{among_append, append_left, append_right}
+use Rattle.pg_pairs.specs.laws.EdgeChildren.{among_append, append_left, append_right}
 use Rattle.pg_pairs.specs.graph.Edges.{child_cost, edge_price, edge_to, edges, within_cap}
 use Rattle.pg_pairs.specs.choices.Choices.{no_bounds}
 use Rattle.pg_pairs.proofs.lemmas.choices.Among.{among_each}

@@ -4,10 +4,10 @@ use Rattle.std.specs.List.{AllByRecursion}
 use Rattle.std.proofs.lemmas.List.{take-append-le}
 use Rattle.std.proofs.lemmas.Option.{slice_get-get_or, slice_get_cases}
 use Rattle.pg_dyn.proofs.Lists.{each-append, each_weaker}
-use Rattle.pg_pairs.specs.graph.EdgeChildren.{among_distinct, append_left, append_right}
+use Rattle.pg_pairs.specs.laws.EdgeChildren.{among_distinct, append_left, append_right}
 use Rattle.pg_pairs.specs.declared.choices.choice.Pair.{Pair}
 use Rattle.pg_pairs.specs.bounds.Covering.{distinct, IsAmong}
-use Rattle.pg_pairs.specs.graph.Seen.{AreClosed, FromOneRoot}
+use Rattle.pg_pairs.specs.graph.Walks.{AreClosed, FromOneRoot}
 use Rattle.pg_pairs.specs.graph.Reached.{IsLedTo, IsReachedFrom, LeadsTo, itself, onwards}
 use Rattle.pg_pairs.proofs.lemmas.choices.Among.{among_each}
 use Rattle.pg_pairs.proofs.lemmas.graph.Grown.{distinct-again, distinct-front, grown_after, each_distinct}

@@ -19,9 +19,9 @@ use Rattle.pg_dyn.specs.Belonging.{MayBeZero}
 use Rattle.pg_dyn.specs.Comparison.{numbers, Comparand, writes}
 use Rattle.pg_dyn.proofs.Lists.{each_weaker, each_both, each-map, each_of_all}
 use Rattle.pg_pairs.specs.gaps.Likeness.{like}
-use Rattle.pg_pairs.specs.home.ReadBack.{is_bool_of_zigzag}
+use Rattle.pg_pairs.specs.laws.ReadBack.{is_bool_of_zigzag}
 use Rattle.pg_pairs.specs.gaps.Gaps.{body_length}
-use Rattle.pg_pairs.specs.bounds.Contents.{total, IsAtMostOne, RisingKeys}
+use Rattle.pg_pairs.specs.inner.Contents.{total, IsAtMostOne, RisingKeys}
 use Rattle.pg_pairs.proofs.lemmas.gaps.GapItems.{IsLeafy, implicit_leafy}
 use Rattle.pg_pairs.proofs.lemmas.bounds.Across.{Seen, Across, item_read}
 use Rattle.pg_pairs.proofs.lemmas.bounds.AcrossPlain.{IsNoMap}

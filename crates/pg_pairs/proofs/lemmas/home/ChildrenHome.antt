@@ -22,7 +22,7 @@ use Rattle.pg_pairs.specs.choices.Choices.{child_pair, no_bounds}
 use Rattle.pg_pairs.specs.graph.Reached.{LeadsTo, itself, onwards}
 use Rattle.pg_pairs.specs.home.Returns.{Returns, becomes_packed}
 use Rattle.pg_pairs.specs.home.Home.{home, home_message, homeward, message_eq}
-use Rattle.pg_pairs.specs.bounds.Contents.{ChildBound, is_child_kept}
+use Rattle.pg_pairs.specs.inner.Contents.{ChildBound, is_child_kept}
 use Rattle.pg_pairs.proofs.lemmas.bounds.Dearer.{CompatibleTo}
 use Rattle.pg_pairs.proofs.lemmas.home.HomeComparands.{home_comparands}
 use Rattle.pg_pairs.proofs.lemmas.home.Returned.{ComesBack}

@@ -16,7 +16,7 @@ use Rattle.pg_dyn.specs.Comparison.{Expected, Alike, Kept, Comparand, numbers, w
 use Rattle.pg_dyn.specs.ByComparands.{field_read, all_field_readable}
 use Rattle.pg_dyn.proofs.Lists.{each_weaker, filter_all, filter-filter_weaker, list_all_each, map_map}
 use Rattle.pg_pairs.specs.home.Home.{drops_zero, home_content}
-use Rattle.pg_pairs.specs.bounds.Contents.{Holds}
+use Rattle.pg_pairs.specs.inner.Contents.{Holds}
 use Rattle.pg_pairs.proofs.lemmas.gaps.GapItems.{IsLeafy}
 use Rattle.pg_pairs.proofs.lemmas.gaps.Leaves.{alike_equal, seen_from}
 use Rattle.pg_pairs.proofs.lemmas.bounds.Comparands.{leafy_seen, leafy_item}

@@ -13,7 +13,7 @@ use Rattle.pg_dyn.specs.Laws.{ReadsAgain}
 use Rattle.pg_dyn.specs.ViewNames.{KeptByNumber}
 use Rattle.pg_pairs.proofs.lemmas.bounds.Dearer.{CompatibleTo}
 use Rattle.pg_pairs.proofs.lemmas.home.ChildrenHome.{ComesHome, ChildrenComeHome}
-use Rattle.pg_pairs.specs.home.ComesHome.{MessagesComeHome}
+use Rattle.pg_pairs.specs.laws.ComesHome.{MessagesComeHome}
 use Rattle.pg_pairs.proofs.lemmas.home.HomeMessage.{comes}
 
 module _ (reads_again : ReadsAgain) (old new : Shape) (shape_old : IsShape old) (shape_new : IsShape new) where

@@ -14,10 +14,10 @@ use Rattle.pg_dyn.specs.Examples.{first, second, int32, tree}
 use Rattle.pg_pairs.specs.declared.choices.choice.Pair.{Pair}
 use Rattle.pg_pairs.specs.bounds.Covering.{IsAmong, children}
 use Rattle.pg_pairs.specs.graph.Reached.{itself, onwards}
-use Rattle.pg_pairs.specs.choices.SmallPairs.{both}
+use Rattle.pg_pairs.specs.laws.SmallPairs.{both}
 use Rattle.pg_pairs.specs.home.Returns.{Returns, packs}
 use Rattle.pg_pairs.specs.home.Home.{home, comes_home}
-use Rattle.pg_pairs.specs.home.HomeExamples.{HomeExamples, list_of_int32}
+use Rattle.pg_pairs.specs.laws.HomeExamples.{HomeExamples, list_of_int32}
 use Rattle.pg_pairs.proofs.lemmas.home.ReturnSteps.{led}
 
 -- a pair whose children are itself alone

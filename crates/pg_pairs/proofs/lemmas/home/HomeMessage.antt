@@ -22,7 +22,7 @@ use Rattle.pg_dyn.proofs.Lists.{each_weaker, each_both, map_map, each-filter, ea
 use Rattle.pg_pairs.specs.gaps.Likeness.{like}
 use Rattle.pg_pairs.specs.choices.Choices.{no_bounds}
 use Rattle.pg_pairs.specs.home.Home.{home_content, home_message, homeward}
-use Rattle.pg_pairs.specs.bounds.Contents.{total, ChildBound, Holds}
+use Rattle.pg_pairs.specs.inner.Contents.{total, ChildBound, Holds}
 use Rattle.pg_pairs.specs.bounds.Covering.{has_children}
 use Rattle.pg_pairs.proofs.lemmas.bounds.AcrossPlain.{IsNoMap}
 use Rattle.pg_pairs.proofs.lemmas.bounds.Across.{reads, item_read}

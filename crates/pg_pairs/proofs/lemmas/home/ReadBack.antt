@@ -10,7 +10,7 @@ use Rattle.pg_wire.specs.declared.record.WireType.TheVariants.{Varint}
 use Rattle.pg_dyn.specs.Message.{Leaf, Int, F32, F64, Bytes}
 use Rattle.pg_dyn.specs.Coding.{Whole, Form, Integer, int32, Text, Raw, InRange, body, leaf_in, scalar_form, word_bytes, word_in}
 use Rattle.pg_pairs.specs.gaps.Likeness.{like}
-use Rattle.pg_pairs.specs.home.ReadBack.{SeenItemsHaveOneBody, is_bool_of_zigzag}
+use Rattle.pg_pairs.specs.laws.ReadBack.{SeenItemsHaveOneBody, is_bool_of_zigzag}
 use Rattle.pg_wire.proofs.PublicLaws.{varint_read_again}
 
 -- Words.

@@ -15,7 +15,7 @@ use Rattle.pg_dyn.specs.OwnParts.{ChildrenShorter}
 use Rattle.pg_dyn.specs.Comparison.{numbers, Comparand, writes, Alike, alike_leaves, Kept}
 use Rattle.pg_dyn.proofs.Lists.{each_weaker, filter-map, map_map, map_same}
 use Rattle.pg_pairs.specs.gaps.Likeness.{like}
-use Rattle.pg_pairs.specs.home.ReadBack.{is_bool_of_zigzag}
+use Rattle.pg_pairs.specs.laws.ReadBack.{is_bool_of_zigzag}
 use Rattle.pg_pairs.proofs.lemmas.bounds.Across.{Seen, item_read, reads}
 use Rattle.pg_pairs.proofs.lemmas.home.ReadBack.{seen_items_have_one_body}
 use Rattle.pg_dyn.proofs.PublicLaws.{bodies_read_again, equal_leaves, fields_are_found}

@@ -10,7 +10,7 @@ use Rattle.std.proofs.lemmas.Bool.Decides.{Decides-int_eq}
 use Rattle.pg_schema.specs.declared.parts.enum_type.EnumValue.{EnumValue}
 use Rattle.pg_dyn.specs.ViewNames.{NamedNumber, named, declares, has_name}
 use Rattle.pg_pairs.specs.views.LeastNumbers.{number_word}
-use Rattle.pg_pairs.specs.views.MissingNames.{is_missing}
+use Rattle.pg_pairs.specs.inner.MissingNames.{is_missing}
 
 -- What none passes outside of a part passes in the part or nowhere.
 

@@ -13,7 +13,7 @@ use Rattle.pg_pairs.specs.views.ViewLaws.{Differs}
 use Rattle.pg_pairs.specs.views.LeastNumbers.{least_number, lesser, lesser_of, has_32_bits, number_counts}
 use Rattle.pg_pairs.proofs.lemmas.views.LeastNumberLaws.{least_of_those, one_least, least_of_both, lesser_of-some}
 use Rattle.pg_pairs.specs.views.NamedView.{differing}
-use Rattle.pg_pairs.specs.views.MissingNames.{is_missing, missing_numbers}
+use Rattle.pg_pairs.specs.inner.MissingNames.{is_missing, missing_numbers}
 use Rattle.pg_pairs.proofs.lemmas.views.NameLaws.{among_filter, filter_among, among_map, map_among, among_left, among_right, among_cases, counting, counted_so, unlike_parts, least_differing_is}
 
 -- A value of the former with a number that is missing among the latter shows that the number differs.

@@ -8,7 +8,7 @@ use Rattle.pg_dyn.specs.Coding.{form, zero_leaf}
 use Rattle.pg_pairs.specs.declared.witness.item.Small.TheVariants.{Zero, Far}
 use Rattle.pg_pairs.specs.gaps.Likeness.{like}
 use Rattle.pg_pairs.specs.witness.Carried.{far_leaf, apart_leaf, apart_item, item_by, alone}
-use Rattle.pg_pairs.specs.witness.CarriedItems.{leaf_by, apart_small}
+use Rattle.pg_pairs.specs.inner.CarriedItems.{leaf_by, apart_small}
 
 -- a key and a value beside others
 pub apart_made : (number : ℕ) (k l : Scalar) (e d : Element) → with_part number (Some (leaf_by (apart_small (elements.Scalar k) (elements.Scalar l)) (form (elements.Scalar k)))) (item_by (leaf_by (apart_small e d)) e) (ends []) ≡ alone number (Some (apart_leaf (elements.Scalar k) (elements.Scalar l))) (apart_item e d)

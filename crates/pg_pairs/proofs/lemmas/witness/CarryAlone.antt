@@ -25,7 +25,7 @@ use Rattle.pg_pairs.specs.choices.Costs.{with_length, one_item}
 use Rattle.pg_pairs.specs.choices.Choices.{zero_counts}
 use Rattle.pg_dyn.specs.ByComparands.{is_field_kept}
 use Rattle.pg_pairs.specs.bounds.Laws.{ReachedBy}
-use Rattle.pg_pairs.specs.bounds.Contents.{total}
+use Rattle.pg_pairs.specs.inner.Contents.{total}
 use Rattle.pg_pairs.proofs.lemmas.gaps.GapItems.{IsLeafy}
 use Rattle.pg_pairs.proofs.lemmas.bounds.AcrossPlain.{IsNoMap, not_map, IsUnpacked}
 use Rattle.pg_pairs.proofs.lemmas.bounds.ChildTests.{bytes_are, kept_is}

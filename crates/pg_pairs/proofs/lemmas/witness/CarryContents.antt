@@ -16,7 +16,7 @@ use Rattle.pg_pairs.specs.choices.Choices.{child_pair, Table, choices}
 use Rattle.pg_pairs.specs.bounds.Covering.{IsAmong}
 use Rattle.pg_pairs.specs.witness.Carried.{has_child, field_child, child_of, choice_child}
 use Rattle.pg_pairs.specs.witness.CarriedChoices.{ChildGiven}
-use Rattle.pg_pairs.specs.witness.CarriedItems.{IsChildOf, IsPlacedBy}
+use Rattle.pg_pairs.specs.inner.CarriedItems.{IsChildOf, IsPlacedBy}
 use Rattle.pg_pairs.proofs.lemmas.bounds.Messages.{one_found}
 use Rattle.pg_pairs.proofs.lemmas.witness.Reached.{choice_known}
 

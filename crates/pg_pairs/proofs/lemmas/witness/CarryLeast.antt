@@ -27,7 +27,7 @@ use Rattle.pg_pairs.specs.choices.Choices.{zero_counts}
 use Rattle.pg_dyn.specs.ByComparands.{is_field_kept}
 use Rattle.pg_pairs.specs.bounds.Laws.{ReachedBy}
 use Rattle.pg_pairs.specs.witness.Carried.{nonzero_leaf, least_key, least_part_of, least_part}
-use Rattle.pg_pairs.specs.bounds.Contents.{total, HoldsItem, Holds}
+use Rattle.pg_pairs.specs.inner.Contents.{total, HoldsItem, Holds}
 use Rattle.pg_pairs.proofs.lemmas.gaps.GapItems.{IsLeafy}
 use Rattle.pg_pairs.proofs.lemmas.bounds.AcrossPlain.{IsNoMap, NotMap, not_map, IsUnpacked}
 use Rattle.pg_pairs.proofs.lemmas.bounds.AcrossMap.{is_map}

@@ -29,7 +29,7 @@ use Rattle.pg_pairs.specs.gaps.TrueGaps.{is_alike_read, is_seen}
 use Rattle.pg_pairs.specs.choices.Costs.{with_length, least_body, one_item}
 use Rattle.pg_dyn.specs.ByComparands.{field_read}
 use Rattle.pg_pairs.specs.bounds.Laws.{ReachedBy}
-use Rattle.pg_pairs.specs.bounds.Contents.{total}
+use Rattle.pg_pairs.specs.inner.Contents.{total}
 use Rattle.pg_pairs.proofs.lemmas.gaps.GapItems.{IsLeafy}
 use Rattle.pg_pairs.proofs.lemmas.gaps.Likeness.{like_wire, same_wire-true, packable-from_wire}
 use Rattle.pg_pairs.proofs.lemmas.bounds.AcrossPlain.{IsNoMap, NotMap, plain_part, not_map}

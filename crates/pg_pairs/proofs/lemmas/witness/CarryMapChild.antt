@@ -22,7 +22,7 @@ use Rattle.pg_pairs.specs.gaps.TrueGaps.{is_seen, is_alike_read}
 use Rattle.pg_pairs.specs.choices.Costs.{with_length, least_body, one_item, entry_cost}
 use Rattle.pg_dyn.specs.ByComparands.{is_field_kept}
 use Rattle.pg_pairs.specs.bounds.Laws.{ReachedBy}
-use Rattle.pg_pairs.specs.bounds.Contents.{passes, is_child_kept}
+use Rattle.pg_pairs.specs.inner.Contents.{passes, is_child_kept}
 use Rattle.pg_pairs.proofs.lemmas.choices.Costs.{length-len_record}
 use Rattle.pg_pairs.proofs.lemmas.bounds.Comparands.{length-entry_bytes}
 use Rattle.pg_pairs.proofs.lemmas.bounds.Single.{single_length, single_broken}

@@ -36,7 +36,7 @@ use Rattle.pg_pairs.specs.bounds.Covering.{IsAmong}
 use Rattle.pg_pairs.specs.bounds.Laws.{ReachedBy}
 use Rattle.pg_pairs.specs.witness.Carried.{nonzero_leaf, apart_leaf, apart_item, item_by, least_leaf, least_key, least_part_of, least_part, alone, item_alone, lost_onto, key_of, key_alone, broken_value, carried_field, carried_two, carried_of, carried, field_child, child_of, choice_child}
 use Rattle.pg_pairs.specs.witness.CarriedChoices.{ChildGiven, ChildReached}
-use Rattle.pg_pairs.specs.witness.CarriedItems.{items_before, entries_before, content_before, content_alone, Puts, value_item}
+use Rattle.pg_pairs.specs.inner.CarriedItems.{items_before, entries_before, content_before, content_alone, Puts, value_item}
 use Rattle.pg_pairs.proofs.lemmas.witness.CarryContents.{child_there_is}
 use Rattle.pg_pairs.proofs.lemmas.witness.LeastContents.{nonzero_is}
 use Rattle.pg_pairs.proofs.lemmas.bounds.Messages.{one_found}

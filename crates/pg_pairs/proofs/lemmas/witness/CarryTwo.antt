@@ -19,7 +19,7 @@ use Rattle.pg_pairs.specs.gaps.Gaps.{body_length}
 use Rattle.pg_pairs.specs.choices.Costs.{least_body, one_item}
 use Rattle.pg_dyn.specs.ByComparands.{is_field_kept}
 use Rattle.pg_pairs.specs.bounds.Laws.{ReachedBy}
-use Rattle.pg_pairs.specs.bounds.Contents.{total}
+use Rattle.pg_pairs.specs.inner.Contents.{total}
 use Rattle.pg_pairs.proofs.lemmas.bounds.AcrossPlain.{not_map}
 use Rattle.pg_pairs.proofs.lemmas.choices.Costs.{length-item_record}
 use Rattle.pg_pairs.proofs.lemmas.bounds.Single.{single_length, single_broken}

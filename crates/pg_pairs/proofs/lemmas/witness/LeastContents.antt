@@ -17,7 +17,7 @@ use Rattle.pg_dyn.specs.encoding.Writing.{entry_bytes}
 use Rattle.pg_pairs.specs.gaps.Gaps.{body_length}
 use Rattle.pg_pairs.specs.choices.Costs.{with_length, least_body, nonzero_body, least_content}
 use Rattle.pg_dyn.specs.Comparison.{Comparand}
-use Rattle.pg_pairs.specs.bounds.Contents.{total}
+use Rattle.pg_pairs.specs.inner.Contents.{total}
 use Rattle.pg_pairs.specs.witness.Carried.{nonzero_leaf, least_leaf, least_key}
 use Rattle.pg_pairs.proofs.lemmas.gaps.GapItems.{IsLeafy, implicit_leafy}
 use Rattle.pg_pairs.proofs.lemmas.choices.Costs.{length-len_record}

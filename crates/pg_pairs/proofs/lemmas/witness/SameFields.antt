@@ -33,7 +33,7 @@ use Rattle.pg_dyn.specs.Comparison.{View, Expected, Alike, is_zero_expected, is_
 use Rattle.pg_dyn.specs.Comparison as comparison
 use Rattle.pg_dyn.specs.declared.view_name.ViewName.{ViewName}
 use Rattle.pg_dyn.specs.ViewNames.{view_named}
-use Rattle.pg_pairs.specs.witness.Comparing.{HeldFits, IsKeyIf, Keyed, keyed, keyed_if, keyed_shown, IsSingle, value_expected, item_lent, all_match, is_same_beside}
+use Rattle.pg_pairs.specs.inner.Comparing.{HeldFits, IsKeyIf, Keyed, keyed, keyed_if, keyed_shown, IsSingle, value_expected, item_lent, all_match, is_same_beside}
 use Rattle.pg_pairs.proofs.lemmas.witness.SameSteps.{list_if, part_with, seen_keyed, of_number_seen, pointwise-map, copied_fact}
 
 -- ---- contents that fit

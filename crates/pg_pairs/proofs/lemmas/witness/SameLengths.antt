@@ -23,7 +23,7 @@ use Rattle.pg_dyn.specs.Comparison.{unshared_bytes}
 use Rattle.pg_dyn.specs.OwnParts.{ChildrenShorter}
 use Rattle.pg_dyn.proofs.Lists.{each_filtered, flat_map-append'}
 use Rattle.pg_dyn.proofs.PublicLaws.{children_are_shorter}
-use Rattle.pg_pairs.specs.witness.Comparing.{Keyed, keyed, HasEncoding, ItemHasEncoding}
+use Rattle.pg_pairs.specs.inner.Comparing.{Keyed, keyed, HasEncoding, ItemHasEncoding}
 use Rattle.pg_pairs.proofs.lemmas.witness.SameSteps.{of_number_seen, seen_if}
 
 module _ (shape : Shape) where

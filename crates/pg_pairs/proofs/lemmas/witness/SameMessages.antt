@@ -22,7 +22,7 @@ use Rattle.pg_dyn.specs.encoding.Writing.{bytes_of}
 use Rattle.pg_dyn.specs.Comparison.{records_outside, unshared_bytes, same}
 use Rattle.pg_dyn.proofs.Lists.{each-append, each-flat_map, each-map, each_at, each_at_index, each_of_all, each_weaker, filter_none, list_all_each, list_all_true}
 use Rattle.pg_dyn.proofs.PublicLaws.{fields_are_found, unknown_is_kept}
-use Rattle.pg_pairs.specs.witness.Comparing.{Keyed, is_same, is_same_beside, is_same_if, keyed, outside_record}
+use Rattle.pg_pairs.specs.inner.Comparing.{Keyed, is_same, is_same_beside, is_same_if, keyed, outside_record}
 use Rattle.pg_pairs.proofs.lemmas.graph.Grown.{take_more}
 use Rattle.pg_pairs.proofs.lemmas.witness.SameFields.{beside_is, filled_keyed}
 use Rattle.pg_pairs.proofs.lemmas.witness.SameSteps.{content_keyed, is_list, part_with}

@@ -14,7 +14,7 @@ use Rattle.pg_dyn.specs.Kept as kept
 use Rattle.pg_dyn.specs.Borrowed.{leaf_of, item_part, entry_part, item_seen, content_seen}
 use Rattle.pg_dyn.specs.NumberLists.{numbers_in}
 use Rattle.pg_dyn.specs.BorrowedItems.{is_zero_value}
-use Rattle.pg_pairs.specs.witness.Comparing.{Keyed, keyed, keyed_if, keyed_shown}
+use Rattle.pg_pairs.specs.inner.Comparing.{Keyed, keyed, keyed_if, keyed_shown}
 
 -- ---- lists
 

@@ -14,7 +14,7 @@ use Rattle.pg_dyn.specs.Coding.{Text, Raw, form, InRange}
 use Rattle.pg_dyn.specs.Seen.{leaf_of, IsKey}
 use Rattle.pg_pairs.specs.declared.witness.item.Small.{Small}
 use Rattle.pg_pairs.specs.declared.witness.item.Small.TheVariants.{Zero, NotZero, Far}
-use Rattle.pg_pairs.specs.witness.CarriedItems.{leaf_by, value_item}
+use Rattle.pg_pairs.specs.inner.CarriedItems.{leaf_by, value_item}
 use Rattle.pg_pairs.proofs.lemmas.witness.CarryLists.{zero_in_range}
 use Rattle.pg_pairs.proofs.lemmas.witness.CarryUnlikeMaps.{far_in_range}
 use Rattle.pg_pairs.proofs.lemmas.gaps.GapItems.{IsLeafy}

@@ -2,7 +2,7 @@ use Rattle.std.proofs.Common.{◌++◌, map, drop, ap, ◌∙◌, arith}
 use Rattle.pg_schema.specs.Parts.{field_shape, shape_of}
 use Rattle.pg_schema.specs.Shape.{fields}
 use Rattle.pg_pairs.specs.choices.Choices.{affordable}
-use Rattle.pg_pairs.specs.choices.LeastMembers.{member_of, met_choices}
+use Rattle.pg_pairs.specs.inner.LeastMembers.{member_of, met_choices}
 use Rattle.pg_pairs.specs.graph.GraphView.{seen}
 use Rattle.pg_pairs.proofs.lemmas.choices.CheapestSteps.{none_at_end, kept_at_end, found_before, kept_before}
 use Rattle.pg_pairs.proofs.choices.least_cost.cheapest_of.Goals as goal

@@ -2,7 +2,7 @@ use Rattle.std.proofs.Common.{◌≡◌, ◌≤◌, length, map, drop}
 use Rattle.pg_schema.specs.Parts.{field_shape, shape_of}
 use Rattle.pg_schema.specs.Shape.{fields}
 use Rattle.pg_pairs.specs.choices.Choices.{cheapest, affordable, all_choices}
-use Rattle.pg_pairs.specs.choices.LeastMembers.{KeepsLeast}
+use Rattle.pg_pairs.specs.inner.LeastMembers.{KeepsLeast}
 use Rattle.pg_pairs.specs.graph.GraphView.{seen}
 use Rattle.pg_pairs.proofs.choices.least_cost.cheapest_of.Given as goal
 

@@ -1,6 +1,6 @@
 use Rattle.std.proofs.Common.{ap, sym, ◌∙◌}
 use Rattle.pg_schema.specs.Parts.{field_shape}
-use Rattle.pg_pairs.specs.choices.LeastMembers.{beside, least_member}
+use Rattle.pg_pairs.specs.inner.LeastMembers.{beside, least_member}
 use Rattle.pg_pairs.proofs.lemmas.choices.LeastMembers.{in_none, none_more, put}
 use Rattle.pg_pairs.proofs.choices.least_member.met_by.Goals as goal
 

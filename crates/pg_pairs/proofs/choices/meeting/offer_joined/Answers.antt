@@ -3,7 +3,7 @@ use Rattle.pg_schema.specs.declared.parts.field.Field.{Field}
 use Rattle.pg_schema.specs.Parts.{field_shape}
 use Rattle.pg_dyn.specs.reading.Content.{same_oneof}
 use Rattle.pg_pairs.specs.choices.Choices.{affordable}
-use Rattle.pg_pairs.specs.choices.OneofLinks.{joined_from}
+use Rattle.pg_pairs.specs.inner.OneofLinks.{joined_from}
 use Rattle.pg_pairs.proofs.lemmas.choices.OneofLinks.{Follows, skips, offers}
 use Rattle.pg_pairs.proofs.lemmas.choices.OptionSteps.{item_is}
 use Rattle.pg_pairs.proofs.choices.meeting.offer_joined.Goals as goal

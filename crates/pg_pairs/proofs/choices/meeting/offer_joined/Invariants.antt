@@ -3,7 +3,7 @@ use Rattle.pg_schema.specs.declared.parts.field.Field.{Field}
 use Rattle.pg_schema.specs.Parts.{field_shape}
 use Rattle.pg_schema.specs.Shape.{FieldShape}
 use Rattle.pg_pairs.specs.choices.Choices.{affordable}
-use Rattle.pg_pairs.specs.choices.OneofLinks.{AreLinks, joined_from}
+use Rattle.pg_pairs.specs.inner.OneofLinks.{AreLinks, joined_from}
 use Rattle.pg_pairs.proofs.lemmas.choices.OneofLinks.{Follows}
 use Rattle.pg_pairs.proofs.choices.meeting.offer_joined.Given as goal
 

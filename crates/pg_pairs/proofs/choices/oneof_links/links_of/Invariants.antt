@@ -1,7 +1,7 @@
 use Rattle.std.proofs.Common.{◌≡◌, ◌≤◌, length}
 use Rattle.pg_schema.specs.Parts.{shape_of}
 use Rattle.pg_schema.specs.Shape.{fields}
-use Rattle.pg_pairs.specs.choices.OneofLinks.{AreFirst, AreLinks}
+use Rattle.pg_pairs.specs.inner.OneofLinks.{AreFirst, AreLinks}
 use Rattle.pg_pairs.proofs.choices.oneof_links.links_of.Given as goal
 
 abbrev pub decreases-loop-at : goal.decreases-loop-at

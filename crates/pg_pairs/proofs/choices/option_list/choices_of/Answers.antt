@@ -3,7 +3,7 @@ use Rattle.pg_schema.specs.Parts.{field_shape, shape_of}
 use Rattle.pg_schema.specs.Shape.{fields}
 use Rattle.pg_pairs.specs.choices.Choices.{affordable, all_choices}
 use Rattle.pg_pairs.specs.graph.GraphView.{seen}
-use Rattle.pg_pairs.specs.choices.OneofLinks.{AreLinks}
+use Rattle.pg_pairs.specs.inner.OneofLinks.{AreLinks}
 use Rattle.pg_pairs.proofs.lemmas.choices.OptionSteps.{choices_after}
 use Rattle.pg_pairs.proofs.choices.option_list.choices_of.Goals as goal
 

@@ -1,7 +1,7 @@
 use Rattle.std.proofs.Common.{◌≡◌, true, false, List, get_or, ap, sym, ◌∙◌, subst}
 use Rattle.std.proofs.lemmas.Bool.{not-true, not-false}
 use Rattle.pg_pairs.specs.declared.choices.choice.Pair.{Pair}
-use Rattle.pg_pairs.specs.graph.Seen.{AreSeen, has_pair}
+use Rattle.pg_pairs.specs.inner.Seen.{AreSeen, has_pair}
 use Rattle.pg_pairs.proofs.lemmas.graph.Grown.{grown_new, grown_again, one_more, seen_new, seen_again}
 use Rattle.pg_pairs.proofs.graph.walking.add_unseen.Goals as goal
 use Rattle.pg_pairs.proofs.graph.walking.add_unseen.Goals.{then-branch+in_ok-push, else-branch}

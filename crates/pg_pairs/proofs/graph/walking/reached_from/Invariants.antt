@@ -2,7 +2,7 @@ use Rattle.std.proofs.Common.{◌≡◌, true, ◌++◌, flat_map, take}
 use Rattle.std.specs.List.{AllByRecursion}
 use Rattle.pg_pairs.specs.declared.choices.choice.Pair.{Pair}
 use Rattle.pg_pairs.specs.bounds.Covering.{distinct}
-use Rattle.pg_pairs.specs.graph.Seen.{AreSeen}
+use Rattle.pg_pairs.specs.inner.Seen.{AreSeen}
 use Rattle.pg_pairs.specs.graph.Reached.{IsLedTo}
 use Rattle.pg_pairs.proofs.graph.walking.reached_from.Given as goal
 

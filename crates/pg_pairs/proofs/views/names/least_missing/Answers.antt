@@ -4,7 +4,7 @@ use Rattle.std.proofs.lemmas.Bool.{and_from, and_left, and_right}
 use Rattle.std.proofs.lemmas.Int.{to_z-of_z}
 use Rattle.pg_dyn.specs.ViewNames.{NamedNumber, named}
 use Rattle.pg_pairs.specs.views.LeastNumbers.{least_number, lesser_of, number_counts}
-use Rattle.pg_pairs.specs.views.MissingNames.{is_missing, missing_numbers}
+use Rattle.pg_pairs.specs.inner.MissingNames.{is_missing, missing_numbers}
 use Rattle.pg_pairs.proofs.lemmas.views.LeastByName.{counted_step, left_out_step, next_left, passed_over_step}
 use Rattle.pg_pairs.proofs.views.names.least_missing.Goals.{then-counts+then-is_lesser+then-is_missing_beside, then-counts+then-is_lesser+else-is_missing_beside, else-counts, else-counts-via-then-counts+else-is_lesser, else-counts-via-else-counts}
 use Rattle.pg_pairs.proofs.views.names.least_missing.Goals as goal

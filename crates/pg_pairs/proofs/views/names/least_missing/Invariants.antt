@@ -1,7 +1,7 @@
 use Rattle.std.proofs.Common.{◌≡◌, map, drop}
 use Rattle.pg_dyn.specs.ViewNames.{named}
 use Rattle.pg_pairs.specs.views.LeastNumbers.{least_number, lesser_of}
-use Rattle.pg_pairs.specs.views.MissingNames.{missing_numbers}
+use Rattle.pg_pairs.specs.inner.MissingNames.{missing_numbers}
 use Rattle.pg_pairs.proofs.views.names.least_missing.Given as goal
 
 abbrev pub invariant-loop-value : goal.invariant-loop-value

@@ -6,7 +6,7 @@ use Rattle.std.proofs.lemmas.List.Sorted.{IsNonDecreasingBy-drop, IsNonDecreasin
 use Rattle.pg_schema.specs.declared.parts.enum_type.EnumValue.{EnumValue}
 use Rattle.pg_dyn.specs.ViewNames.{named}
 use Rattle.pg_pairs.specs.views.LeastNumbers.{number_word}
-use Rattle.pg_pairs.specs.views.MissingNames.{is_missing}
+use Rattle.pg_pairs.specs.inner.MissingNames.{is_missing}
 use Rattle.pg_pairs.proofs.lemmas.views.FoundValues.{cut}
 use Rattle.pg_pairs.proofs.views.names.values_beside.Goals as goal
 

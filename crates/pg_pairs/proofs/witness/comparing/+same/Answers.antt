@@ -11,8 +11,8 @@ use Rattle.pg_dyn.specs.Borrowed.{item_seen}
 use Rattle.std.proofs.lemmas.Result.{IfOk-weaker}
 use Rattle.pg_dyn.proofs.Lists.{list_all_each, each_from_take}
 use Rattle.pg_dyn.proofs.PublicLaws.{fields_are_found}
-use Rattle.pg_pairs.specs.witness.Comparing.{HeldFits, ItemHasEncoding, items_match, Keyed, keyed, keyed_if, keyed_match, keyed_shown}
-use Rattle.pg_pairs.specs.witness.HeldItems.{item_value}
+use Rattle.pg_pairs.specs.inner.Comparing.{HeldFits, ItemHasEncoding, items_match, Keyed, keyed, keyed_if, keyed_match, keyed_shown}
+use Rattle.pg_pairs.specs.inner.HeldItems.{item_value}
 use Rattle.pg_pairs.proofs.lemmas.witness.SameSteps.{both_go_on, each_got, held_weight, of_number_seen, shown_weight, total, total_got, weight_is}
 use Rattle.pg_pairs.proofs.lemmas.witness.SameFields.{beside_with, first_alone, hides_first, hides_second, key_lent, message_fits, second_alone, shown_filled, shown_fits, single_found}
 use Rattle.pg_pairs.proofs.lemmas.witness.SameLengths.{child_encoded, shown_encoded}

@@ -4,7 +4,7 @@ use Rattle.pg_schema.specs.Shape.{fields}
 use Rattle.pg_dyn.specs.Comparison.{records_outside}
 use Rattle.pg_dyn.specs.Kept.{unknown_of}
 use Rattle.pg_dyn.specs.encoding.Writing.{bytes_of}
-use Rattle.pg_pairs.specs.witness.Comparing.{outside_record}
+use Rattle.pg_pairs.specs.inner.Comparing.{outside_record}
 use Rattle.pg_pairs.proofs.lemmas.witness.SameMessages.{outside_all}
 use Rattle.pg_pairs.proofs.witness.comparing.outside_bytes.Goals as goal
 

@@ -2,7 +2,7 @@
 use Rattle.std.proofs.Common.{◌≡◌, flat_map, take}
 use Rattle.pg_schema.specs.Parts.{shape_of}
 use Rattle.pg_schema.specs.Shape.{fields}
-use Rattle.pg_pairs.specs.witness.Comparing.{outside_record}
+use Rattle.pg_pairs.specs.inner.Comparing.{outside_record}
 use Rattle.pg_pairs.proofs.witness.comparing.outside_bytes.Given as goal
 
 abbrev pub invariant-loop-found : goal.invariant-loop-found

@@ -2,7 +2,7 @@ use Rattle.std.proofs.Common.{[], Some, ap, ap₂, ◌∙◌}
 use Rattle.pg_dyn.specs.Coding.{scalar_form}
 use Rattle.pg_dyn.specs.Message.{ends, with_part}
 use Rattle.pg_pairs.specs.witness.Carried.{item_by}
-use Rattle.pg_pairs.specs.witness.CarriedItems.{leaf_by}
+use Rattle.pg_pairs.specs.inner.CarriedItems.{leaf_by}
 use Rattle.pg_pairs.proofs.lemmas.witness.CarriedParts.{apart_made}
 use Rattle.pg_pairs.proofs.lemmas.witness.TakenItems.{if_ok_map}
 use Rattle.pg_pairs.proofs.witness.content.apart_content.Goals as goal

@@ -1,5 +1,5 @@
 use Rattle.std.proofs.Common.{subst}
-use Rattle.pg_pairs.specs.witness.CarriedItems.{IsPlacedBy}
+use Rattle.pg_pairs.specs.inner.CarriedItems.{IsPlacedBy}
 use Rattle.pg_pairs.proofs.witness.content.broken_content.Goals as goal
 
 pub returns-in_ok-unlike_content-in-Unlike-clause-taken : goal.returns-in_ok-unlike_content-in-Unlike-clause-taken

@@ -2,7 +2,7 @@ use Rattle.std.proofs.Common.{◌≡◌, true, IfOk, option_map, refl, sym, ◌�
 use Rattle.pg_dyn.specs.Kept.{message_of}
 use Rattle.pg_dyn.specs.Message.{Msg}
 use Rattle.pg_pairs.specs.witness.Carried.{broken_value}
-use Rattle.pg_pairs.specs.witness.CarriedItems.{value_item}
+use Rattle.pg_pairs.specs.inner.CarriedItems.{value_item}
 use Rattle.pg_pairs.specs.gaps.Gaps.{gap_item}
 use Rattle.pg_pairs.specs.graph.GraphView.{seen}
 use Rattle.pg_pairs.proofs.lemmas.witness.TakenItems.{if_ok_map, plain_items}

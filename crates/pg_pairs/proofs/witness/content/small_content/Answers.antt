@@ -1,5 +1,5 @@
 use Rattle.std.proofs.Common.{subst, sym}
-use Rattle.pg_pairs.specs.witness.CarriedItems.{IsTakenBy}
+use Rattle.pg_pairs.specs.inner.CarriedItems.{IsTakenBy}
 use Rattle.pg_pairs.proofs.lemmas.witness.TakenItems.{if_ok_map, no_map}
 use Rattle.pg_pairs.proofs.witness.content.small_content.Goals as goal
 

@@ -5,7 +5,7 @@ use Rattle.pg_dyn.specs.Kept.{ends, message_of, type_of}
 use Rattle.pg_dyn.specs.setting.Setting.{IsSetTo}
 use Rattle.pg_pairs.specs.choices.Choices.{is_oneof}
 use Rattle.pg_pairs.specs.witness.Carried.{carried_field, least_part}
-use Rattle.pg_pairs.specs.witness.CarriedItems.{content_alone, found_alone, IsTakenBy, Puts}
+use Rattle.pg_pairs.specs.inner.CarriedItems.{content_alone, found_alone, IsTakenBy, Puts}
 use Rattle.pg_pairs.specs.bounds.Laws.{ReachedBy}
 use Rattle.pg_pairs.specs.graph.GraphView.{seen}
 use Rattle.pg_pairs.proofs.lemmas.witness.CarryContents.{given_is_child, placed_there}

@@ -1,6 +1,6 @@
 use Rattle.std.proofs.Common.{ap, sym, ◌∙◌}
 use Rattle.std.specs.Option.{option_copied}
-use Rattle.pg_pairs.specs.witness.Comparing.{keyed_if, keyed_shown}
+use Rattle.pg_pairs.specs.inner.Comparing.{keyed_if, keyed_shown}
 use Rattle.pg_pairs.proofs.lemmas.witness.SameSteps.{all_shown}
 use Rattle.pg_pairs.proofs.witness.same_contents.shown.Goals as goal
 

@@ -4,7 +4,7 @@ use Rattle.std.specs.declared.cmp.Reverse.{Reverse}
 use Rattle.std.specs.List.{All, list_any}
 use Rattle.pg_pairs.specs.bounds.Covering.{IsAmong}
 use Rattle.pg_pairs.specs.bounds.LeastCosts.{IsNoMore}
-use Rattle.pg_least.specs.Queues.{IsOneMore}
+use Rattle.pg_least.specs.inner.Queues.{IsOneMore}
 
 -- an arc leads from a place to its child's, and costs what the child's bound says
 pub record Arcs (A : Type 0) : Type 0 where

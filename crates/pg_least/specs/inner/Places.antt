@@ -2,7 +2,7 @@
 use Rattle.std.specs.Prelude.{◌≡◌, ℕ, ◌<◌, List, slice_get, is_some, true, Some}
 use Rattle.std.specs.BTreeMap.{BTreeMap, get}
 use Rattle.pg_pairs.specs.declared.choices.choice.Pair.{Pair}
-use Rattle.pg_pairs.specs.graph.ByIndices.{by_indices}
+use Rattle.pg_pairs.specs.laws.ByIndices.{by_indices}
 use Rattle.pg_least.specs.declared.arcs.Arc.{Arc}
 
 -- an index for each of the first pairs, and only that of the pair

@@ -8,7 +8,7 @@ use Rattle.pg_dyn.specs.declared.view_name.ViewName.TheVariants as views
 use Rattle.pg_dyn.specs.Examples.{first, second, field, scalar, of_fields, linked}
 use Rattle.pg_pairs.specs.declared.choices.choice.Pair.{Pair}
 use Rattle.pg_pairs.specs.views.EnumView.{by_numbers}
-use Rattle.pg_pairs.specs.choices.SmallPairs.{both}
+use Rattle.pg_pairs.specs.laws.SmallPairs.{both}
 use Rattle.pg_cert.specs.declared.bounds.PairBound.{PairBound}
 use Rattle.pg_cert.specs.declared.error.CertError.{CertError}
 use Rattle.pg_cert.specs.declared.error.CertError.TheVariants.{RootMissing, PairMissing, BoundTooHigh, WitnessNotWritten, WitnessLength, WitnessKeeps}

@@ -5,7 +5,7 @@ use Rattle.pg_schema.specs.declared.parts.message_type.MessageType.{MessageType}
 use Rattle.pg_schema.specs.declared.parts.Parts.{Parts}
 use Rattle.pg_cert.specs.Certificate.{Claim}
 use Rattle.pg_cert.specs.Text.{Certifies}
-use Rattle.pg_cert.specs.Worked.{by_names, child_witness, in_child, inner, one_renamed, outer, to_unsigned, unchanged}
+use Rattle.pg_cert.specs.laws.Worked.{by_names, child_witness, in_child, inner, one_renamed, outer, to_unsigned, unchanged}
 
 -- the full names of a schema's message types, in their order
 abbrev pub AreNamed : List (List ℕ) → Parts → Type 0

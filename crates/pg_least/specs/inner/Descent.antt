@@ -1,22 +1,18 @@
 -- How a witness goes down: from a pair by a choice to the choice's child, as long as there is one.
-use Rattle.std.specs.Prelude.{◌≡◌, ℕ, List, [], ◌∷◌, Option, Some, None}
+use Rattle.std.specs.Prelude.{◌≡◌, List, [], ◌∷◌, Some, None}
 use Rattle.pg_schema.specs.Shape.{Shape}
 use Rattle.pg_dyn.specs.Message.{Message}
 use Rattle.pg_pairs.specs.declared.choices.choice.Pair.{Pair}
 use Rattle.pg_pairs.specs.views.EnumView.{EnumView}
 use Rattle.pg_pairs.specs.witness.Carried.{choice_child}
 use Rattle.pg_pairs.specs.choices.Choices.{cheapest, Table, choices}
-use Rattle.pg_pairs.specs.bounds.Covering.{children, IsExact, IsAmong}
+use Rattle.pg_pairs.specs.bounds.Covering.{children, IsAmong}
 use Rattle.pg_cert.specs.declared.bounds.PairBound.{PairBound}
 use Rattle.pg_cert.specs.Certificate.{bound_in}
+use Rattle.pg_least.specs.From.{IsExactTable}
 use Rattle.pg_least.specs.Searched.{pairs_of, IsPath, carried_along}
 use Rattle.pg_pairs.specs.graph.Reached.{IsReachedInOrder}
 use Rattle.pg_least.specs.declared.witness.PairChoice.{PairChoice}
-
--- each bound of the table is the least cost of its pair's choices
-abbrev pub IsExactTable : EnumView → Shape → Shape → Table → Type 0
-IsExactTable enum_view old new table =
-    (pair : Pair) (bound : Option ℕ) → table pair ≡ Some bound → IsExact enum_view old new table pair bound
 
 -- Just the pairs that the root leads to, in order, each with the least cost of its choices.
 pub record IsTableOf (enum_view : EnumView) (old new : Shape) (root : Pair) (bounds : List PairBound) : Type 0 where

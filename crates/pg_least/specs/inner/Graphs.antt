@@ -1,12 +1,13 @@
--- Arcs of a graph.
+-- Arcs of a graph, and the table and the work of a search.
 use Rattle.std.specs.Prelude.{◌≡◌, ℕ, ◌+◌, ◌<◌, nat_eq, List, filter, [], ◌∷◌, suc, Bool, true, false, is_some, Option}
 use Rattle.std.specs.List.Sorted.{IsNonDecreasingBy}
 use Rattle.pg_pairs.specs.declared.choices.choice.Pair.{Pair}
 use Rattle.pg_pairs.specs.declared.graph.edge.Edge.{Edge}
 use Rattle.pg_pairs.specs.declared.graph.work.Work.{Work}
-use Rattle.pg_least.specs.declared.arcs.Arc.{Arc}
 use Rattle.pg_pairs.specs.bounds.Covering.{IsAmong}
-use Rattle.pg_least.specs.Relaxing.{Arcs, cost_at, is_set}
+use Rattle.pg_cert.specs.declared.bounds.PairBound.{PairBound}
+use Rattle.pg_least.specs.declared.arcs.Arc.{Arc}
+use Rattle.pg_least.specs.inner.Relaxing.{Arcs, cost_at, is_set}
 
 -- what an arc costs is what its edge does
 abbrev pub arcs_by : (Edge → ℕ → Option ℕ) → Arcs Arc
@@ -25,6 +26,15 @@ arcs_to arcs at = filter (λ (a : Arc). nat_eq a.child at) arcs
 -- the arcs to settled places
 abbrev pub arcs_to_numbers : List Arc → List (Option ℕ) → List Arc
 arcs_to_numbers arcs costs = filter (λ (a : Arc). is_some (cost_at costs a.child)) arcs
+
+-- each pair with its cost
+abbrev pub lines : List Pair → List (Option ℕ) → List PairBound
+lines [] costs = []
+lines (p ∷ ps) [] = []
+lines (p ∷ ps) (c ∷ costs) = record { pair = p; bound = c } ∷ lines ps costs
+
+abbrev pub opened_by : ℕ → Work → Work
+opened_by n work = record { settled = work.settled; relaxed = work.relaxed; opened = work.opened + n }
 
 abbrev pub relaxed_by : ℕ → Work → Work
 relaxed_by n work = record { settled = work.settled; relaxed = work.relaxed + n; opened = work.opened }

@@ -1,0 +1,5 @@
+pub mod Descent
+pub mod Graphs
+pub mod Places
+pub mod Queues
+pub mod Relaxing

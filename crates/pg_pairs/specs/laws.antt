@@ -1,0 +1,10 @@
+pub mod ByIndices
+pub mod CauseLaws
+pub mod CheapestLaws
+pub mod ComesHome
+pub mod EdgeChildren
+pub mod ElementGaps
+pub mod FieldCosts
+pub mod HomeExamples
+pub mod ReadBack
+pub mod SmallPairs
