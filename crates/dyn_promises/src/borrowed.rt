@@ -3,7 +3,8 @@
 ghost use Rattle.std.specs.Prelude.{◌≡◌, ◌↔◌, ◌<◌, [], map, length, slice_get};
 ghost use Rattle.std.specs.Prelude.{IfOk, IfSome, Some, IsTrue, MatchOption};
 ghost use Rattle.std.specs.List.{AllByRecursion};
-ghost use Rattle.pg_schema.specs.Shape.{FieldShape, IsShape, Shape, field_at, fields};
+ghost use Rattle.pg_schema.specs.Shape.{FieldShape, Shape, field_at, fields};
+ghost use Rattle.pg_schema.specs.ShapeRules.{IsShape};
 ghost use Rattle.pg_wire.specs.Reads.{seen_record};
 ghost use Rattle.pg_dyn.specs.Borrowed as borrowed;
 ghost use Rattle.pg_dyn.specs.Fits.{Fits};

@@ -3,7 +3,8 @@
 ghost use Rattle.std.specs.Prelude.{◌≡◌, ◌<◌, ◌↔◌, length, [], map, IfSome, Some, MatchOption, OnOk, IfOk, IfErr, IsTrue};
 ghost use Rattle.std.specs.List.{AllByRecursion};
 ghost use Rattle.pg_schema.specs.Parts.{shape_of};
-ghost use Rattle.pg_schema.specs.Shape.{FieldShape, IsShape, Shape, field_at, fields};
+ghost use Rattle.pg_schema.specs.Shape.{FieldShape, Shape, field_at, fields};
+ghost use Rattle.pg_schema.specs.ShapeRules.{IsShape};
 ghost use Rattle.pg_dyn.specs.declared.error.DynError.TheVariants as errors;
 ghost use Rattle.pg_dyn.specs.setting.ContentFaults.{ContentFault, ContentsFault, HasKeyTwice, HasNoEarlyFault, HasNoFault, MayRefuseFor};
 ghost use Rattle.pg_dyn.specs.ContentFits.{HoldsContent};

@@ -3,7 +3,8 @@ use Rattle.std.proofs.Common.{◌≡◌, ◌∙◌, ℕ, ◌<◌, List, [], ◌�
 use Rattle.std.specs.List.{AllByRecursion}
 use Rattle.pg_schema.specs.declared.parts.Parts.{Parts}
 use Rattle.pg_schema.specs.Parts.{name_at, shape_of}
-use Rattle.pg_schema.specs.Shape.{IsShape, Shape}
+use Rattle.pg_schema.specs.ShapeRules.{IsShape}
+use Rattle.pg_schema.specs.Shape.{Shape}
 use Rattle.pg_dyn.proofs.Lists.{each_weaker}
 use Rattle.pg_pairs.proofs.lemmas.graph.Reaching.{every_is_among}
 use Rattle.pg_pairs.specs.declared.choices.choice.Pair.{Pair}

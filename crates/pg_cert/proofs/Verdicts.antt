@@ -1,6 +1,7 @@
 -- What a certificate that holds shows is true.
 use Rattle.std.proofs.Common.{◌≡◌, ◌⊎◌, inl, inr, ℕ, List, length, true, Option, Some, None, Ok, Err, is_some, refl, ap, sym, ◌∙◌, subst, true≢false}
-use Rattle.pg_schema.specs.Shape.{Shape, IsShape}
+use Rattle.pg_schema.specs.Shape.{Shape}
+use Rattle.pg_schema.specs.ShapeRules.{IsShape}
 use Rattle.pg_dyn.specs.declared.view_name.ViewName.{ViewName}
 use Rattle.pg_pairs.specs.declared.choices.choice.Pair.{Pair}
 use Rattle.pg_pairs.specs.views.EnumView.{EnumView}

@@ -5,7 +5,7 @@ use Rattle.pg_wire.specs.Reading.{exactly, row}
 use Rattle.pg_wire.specs.Varint.{varint_at, varint}
 use Rattle.pg_wire.specs.Words.{signed, unzigzag}
 use Rattle.pg_wire.specs.Records.{tag_parts, record_at, records_of, tag, written}
-use Rattle.pg_schema.specs.Shape.{IsShape}
+use Rattle.pg_schema.specs.ShapeRules.{IsShape}
 use Rattle.pg_dyn.specs.Coding.{word_bytes, word_in}
 use Rattle.pg_dyn.specs.encoding.Encoding.{enc}
 use Rattle.pg_dyn.specs.reading.Decoding.{dec}

@@ -8,7 +8,8 @@ use Rattle.pg_schema.specs.declared.parts.field.Scalar.{Scalar}
 use Rattle.pg_schema.specs.declared.parts.field.Element.{Element}
 use Rattle.pg_schema.specs.declared.parts.field.Element.TheVariants as elements
 use Rattle.pg_schema.specs.declared.parts.field.Presence.{Presence}
-use Rattle.pg_schema.specs.Shape.{Shape, FieldShape, IsShape, IsType, Rising, fields, field_at, is_packable}
+use Rattle.pg_schema.specs.Shape.{Shape, FieldShape, fields, field_at, is_packable}
+use Rattle.pg_schema.specs.ShapeRules.{IsShape, IsType, Rising}
 use Rattle.pg_wire.specs.declared.record.WireType.TheVariants.{Len}
 use Rattle.pg_wire.specs.Records.{WireRecord}
 use Rattle.pg_dyn.specs.declared.message.Content.{Content}

@@ -82,7 +82,8 @@ impl<'a> Model for MessageRef<'a> {
 
 impl<'a> MessageRef<'a> {
     ghost use Rattle.std.specs.List.{AllByRecursion};
-    ghost use Rattle.pg_schema.specs.Shape.{FieldShape, IsShape, Shape, field_at, fields};
+    ghost use Rattle.pg_schema.specs.Shape.{FieldShape, Shape, field_at, fields};
+    ghost use Rattle.pg_schema.specs.ShapeRules.{IsShape};
     ghost use Rattle.pg_dyn.specs.Texts.{ItemKeepsTexts, KeepsTexts};
     ghost use Rattle.pg_wire.specs.Reads.{seen_record};
     ghost use Rattle.pg_dyn.specs.Fits.{Fits};

@@ -1,6 +1,7 @@
 -- Over two schemas settled bounds are exact.
 use Rattle.std.proofs.Common.{◌≡◌, ℕ, List, is_some, Option, Some, None, ap, sym, ◌∙◌, subst}
-use Rattle.pg_schema.specs.Shape.{Shape, IsShape}
+use Rattle.pg_schema.specs.Shape.{Shape}
+use Rattle.pg_schema.specs.ShapeRules.{IsShape}
 use Rattle.pg_pairs.proofs.lemmas.choices.Among.{among_each}
 use Rattle.pg_pairs.proofs.lemmas.graph.Reaching.{every_is_among}
 use Rattle.pg_pairs.specs.declared.choices.choice.Pair.{Pair}
@@ -14,10 +15,9 @@ use Rattle.pg_pairs.specs.bounds.LeastCosts.{LeastCostsAreExact, least_cost}
 use Rattle.pg_pairs.specs.graph.Reached.{IsLedTo, LeadsTo, onwards}
 use Rattle.pg_cert.specs.declared.bounds.PairBound.{PairBound}
 use Rattle.pg_cert.specs.Certificate.{bound_in}
-use Rattle.pg_least.specs.From.{IsExactTable}
+use Rattle.pg_least.specs.From.{IsExactTable, AreBoundsFrom, IsSettledFrom}
 use Rattle.pg_least.specs.inner.Descent.{IsTableOf}
 use Rattle.pg_least.specs.Searched.{BoundSays, pairs_of}
-use Rattle.pg_least.specs.From.{AreBoundsFrom, IsSettledFrom}
 use Rattle.pg_least.specs.Least.{AllLeast, IsSettled}
 use Rattle.pg_least.proofs.Listed.{among_found, there_among}
 

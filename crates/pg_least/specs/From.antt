@@ -1,7 +1,8 @@
 -- The least bounds of the pairs that several roots lead to.
 use Rattle.std.specs.Prelude.{◌≡◌, ℕ, ◌↔◌, true, List, Option, Some, None}
 use Rattle.std.specs.List.{AllByRecursion}
-use Rattle.pg_schema.specs.Shape.{Shape, IsShape}
+use Rattle.pg_schema.specs.Shape.{Shape}
+use Rattle.pg_schema.specs.ShapeRules.{IsShape}
 use Rattle.pg_dyn.specs.Breaking.{Compatible}
 use Rattle.pg_pairs.specs.declared.choices.choice.Pair.{Pair}
 use Rattle.pg_pairs.specs.declared.graph.edge.Edge.{Edge}

@@ -1,9 +1,7 @@
 pub mod DeclaredNames
 pub mod Enums
-pub mod Examples
 pub mod Fields
 pub mod Files
-pub mod LentTexts
 pub mod Messages
 pub mod Packages
 pub mod Pairs

@@ -6,7 +6,8 @@ use Rattle.std.proofs.lemmas.Bool.{eqb-true}
 use Rattle.pg_schema.specs.declared.parts.field.TypeId.{TypeId}
 use Rattle.pg_schema.specs.declared.parts.field.Element.{Element}
 use Rattle.pg_schema.specs.declared.parts.field.Element.TheVariants as elements
-use Rattle.pg_schema.specs.Shape.{Shape, FieldShape, fields, field_at, IsShape}
+use Rattle.pg_schema.specs.Shape.{Shape, FieldShape, fields, field_at}
+use Rattle.pg_schema.specs.ShapeRules.{IsShape}
 use Rattle.pg_wire.specs.Records.{WireRecord, records_of}
 use Rattle.pg_dyn.specs.Optional.{all_some}
 use Rattle.pg_dyn.specs.Message.{Leaf, Bytes, Plain, Msg, Message, ends, holds, nests, Part, parts, unknown_of, message_from, is_of}

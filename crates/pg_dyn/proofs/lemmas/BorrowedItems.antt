@@ -10,7 +10,8 @@ use Rattle.pg_schema.specs.declared.parts.field.Scalar.TheVariants.{Int32}
 use Rattle.pg_schema.specs.declared.parts.field.Element.{Element}
 use Rattle.pg_schema.specs.declared.parts.field.Element.TheVariants as elements
 use Rattle.pg_schema.specs.declared.parts.field.Presence.{Presence}
-use Rattle.pg_schema.specs.Shape.{Shape, FieldShape, is_key, is_repeated}
+use Rattle.pg_schema.specs.Shape.{Shape, FieldShape, is_repeated}
+use Rattle.pg_schema.specs.ShapeRules.{is_key}
 use Rattle.pg_dyn.specs.declared.message_ref.EntryRef.{EntryRef}
 use Rattle.pg_dyn.specs.declared.message_ref.ValueRef.{ValueRef}
 use Rattle.pg_dyn.specs.declared.message_ref.ValueRef.TheVariants as values

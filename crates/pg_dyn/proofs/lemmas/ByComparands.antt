@@ -3,7 +3,8 @@ use Rattle.std.proofs.Common.{◌≡◌, ℕ, ◌^◌, ◌<◌, List, [], ◌∷
 use Rattle.std.specs.List.{AllByRecursion, list_all, list_any}
 use Rattle.std.proofs.lemmas.Bool.{and_parts, and_from, and_right, cases_Bool, false_from_ne_true}
 use Rattle.pg_schema.specs.declared.parts.field.TypeId.{TypeId}
-use Rattle.pg_schema.specs.Shape.{Shape, FieldShape, IsShape, Rising, fields, field_at}
+use Rattle.pg_schema.specs.Shape.{Shape, FieldShape, fields, field_at}
+use Rattle.pg_schema.specs.ShapeRules.{IsShape, Rising}
 use Rattle.pg_wire.specs.Records.{WireRecord, records_of}
 use Rattle.pg_dyn.specs.Optional.{all_some, joined}
 use Rattle.pg_dyn.specs.Message.{Message, ends, holds, nests, Item, Part, is_of, parts, message_from, IsPlain}

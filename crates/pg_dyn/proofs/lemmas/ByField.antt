@@ -4,7 +4,8 @@ use Rattle.std.specs.List.{list_any, list_all}
 use Rattle.std.specs.Str.{bytes_eq}
 use Rattle.std.proofs.lemmas.Bool.{and_parts, and_from, or_from, eqb-true, false_from_ne_true}
 use Rattle.pg_schema.specs.declared.parts.field.TypeId.{TypeId}
-use Rattle.pg_schema.specs.Shape.{Shape, FieldShape, fields, field_at, IsShape}
+use Rattle.pg_schema.specs.Shape.{Shape, FieldShape, fields, field_at}
+use Rattle.pg_schema.specs.ShapeRules.{IsShape}
 use Rattle.pg_wire.specs.Records.{WireRecord, records_of}
 use Rattle.pg_dyn.specs.Message.{Leaf, Message, Part, parts, unknown_of, is_of, IsPlain}
 use Rattle.pg_dyn.specs.reading.Content.{takes, is_unknown}

@@ -8,7 +8,8 @@ use Rattle.pg_schema.specs.declared.parts.field.Element.{Element}
 use Rattle.pg_schema.specs.declared.parts.field.Element.TheVariants as elements
 use Rattle.pg_schema.specs.declared.parts.field.Presence.{Presence}
 use Rattle.pg_schema.specs.declared.parts.field.Presence.TheVariants as presences
-use Rattle.pg_schema.specs.Shape.{Shape, FieldShape, IsField, IsShape, ElementFits, fields, field_at, is_repeated}
+use Rattle.pg_schema.specs.Shape.{Shape, FieldShape, fields, field_at, is_repeated}
+use Rattle.pg_schema.specs.ShapeRules.{IsField, IsShape, ElementFits}
 use Rattle.pg_wire.specs.Records.{WireRecord}
 use Rattle.pg_dyn.specs.declared.message.Content.{Content}
 use Rattle.pg_dyn.specs.declared.message.Content.TheVariants as contents

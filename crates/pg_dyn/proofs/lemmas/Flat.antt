@@ -3,7 +3,8 @@ use Rattle.std.proofs.Common.{◌≡◌, ◌≢◌, ℕ, ◌+◌, ◌^◌, ◌<�
 use Rattle.std.specs.Bool.{⊤}
 use Rattle.std.specs.List.{AllByRecursion, list_any}
 use Rattle.std.proofs.lemmas.Bool.{eqb-true, and_parts, and_from, not_from_true, not-true}
-use Rattle.pg_schema.specs.Shape.{FieldShape, field_at, IsField, IsType}
+use Rattle.pg_schema.specs.Shape.{FieldShape, field_at}
+use Rattle.pg_schema.specs.ShapeRules.{IsField, IsType}
 use Rattle.pg_wire.specs.Records.{WireRecord, IsRecord, records_of}
 use Rattle.pg_wire.proofs.RecordLaws.{records_of_Spells}
 use Rattle.pg_dyn.specs.Optional.{after_last_of}

@@ -4,7 +4,8 @@ use Rattle.std.specs.Bool.{⊤}
 use Rattle.std.specs.List.{AllByRecursion}
 use Rattle.std.proofs.lemmas.Bool.{eqb-true, cases_eq}
 use Rattle.pg_schema.specs.declared.parts.field.TypeId.{TypeId}
-use Rattle.pg_schema.specs.Shape.{Shape, FieldShape, fields, field_at, Rising}
+use Rattle.pg_schema.specs.Shape.{Shape, FieldShape, fields, field_at}
+use Rattle.pg_schema.specs.ShapeRules.{Rising}
 use Rattle.pg_dyn.specs.Optional.{joined}
 use Rattle.pg_dyn.specs.Message.{Leaf, Message, ends, holds, nests, Part, Place, place_of, places, parts, is_of}
 use Rattle.pg_dyn.specs.Belonging.{MayFollow, IsPart, IsMessage}

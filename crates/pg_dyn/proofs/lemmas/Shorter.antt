@@ -7,7 +7,8 @@ use Rattle.pg_schema.specs.declared.parts.field.Element.{Element}
 use Rattle.pg_schema.specs.declared.parts.field.Element.TheVariants as elements
 use Rattle.pg_schema.specs.declared.parts.field.Presence.{Presence}
 use Rattle.pg_schema.specs.declared.parts.field.Presence.TheVariants as presences
-use Rattle.pg_schema.specs.Shape.{Shape, FieldShape, fields, field_at, is_packable, PresenceFits}
+use Rattle.pg_schema.specs.Shape.{Shape, FieldShape, fields, field_at, is_packable}
+use Rattle.pg_schema.specs.ShapeRules.{PresenceFits}
 use Rattle.pg_wire.specs.declared.record.WireType.TheVariants.{Len}
 use Rattle.pg_wire.specs.Records.{WireRecord, written}
 use Rattle.pg_dyn.specs.Message.{Leaf, Bytes, Message, ends, holds, nests, Part, is_of, unknown_of}

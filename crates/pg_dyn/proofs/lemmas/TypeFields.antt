@@ -7,7 +7,8 @@ use Rattle.pg_schema.specs.declared.parts.field.TypeId.{TypeId}
 use Rattle.pg_schema.specs.declared.parts.Parts.{Parts}
 use Rattle.pg_schema.specs.Parts.{shape_of}
 use Rattle.pg_schema.specs.Invariant.{IsSchema}
-use Rattle.pg_schema.specs.Shape.{Shape, FieldShape, IsField, IsType, fields, field_at, Rising}
+use Rattle.pg_schema.specs.Shape.{Shape, FieldShape, fields, field_at}
+use Rattle.pg_schema.specs.ShapeRules.{IsField, IsType, Rising}
 use Rattle.pg_wire.specs.Records.{WireRecord}
 use Rattle.pg_dyn.specs.reading.Content.{is_accepted, takes, is_unknown}
 use Rattle.pg_dyn.proofs.Lists.{each_at, each_weaker, list_any_none}

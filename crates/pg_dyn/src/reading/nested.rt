@@ -8,7 +8,8 @@ ghost use Rattle.pg_schema.specs.declared.parts.field.Element.TheVariants as ele
 ghost use Rattle.pg_schema.specs.declared.parts.field.Presence.TheVariants as presences;
 ghost use Rattle.pg_schema.specs.Invariant.{IsSchema};
 ghost use Rattle.pg_schema.specs.Parts.{field_shape, shape_of};
-ghost use Rattle.pg_schema.specs.Shape.{IsField, fields, is_repeated};
+ghost use Rattle.pg_schema.specs.ShapeRules.{IsField};
+ghost use Rattle.pg_schema.specs.Shape.{fields, is_repeated};
 ghost use Rattle.pg_wire.specs.Reads.{seen_record};
 ghost use Rattle.pg_wire.specs.Records.{IsRecord, WireRecord};
 ghost use Rattle.pg_dyn.specs.reading.ByFields.{AllCount, AreGood, AreOf, BodiesGood, HoldsOf, IsChildOf, IsEntryRead, RecordsGood, StopsFor};

@@ -29,7 +29,8 @@ pub(crate) struct OneofRuns {
 
 impl OneofRuns {
     ghost use Rattle.std.specs.Prelude.{List};
-    ghost use Rattle.pg_schema.specs.Shape.{FieldShape, Rising, field_at};
+    ghost use Rattle.pg_schema.specs.Shape.{FieldShape, field_at};
+    ghost use Rattle.pg_schema.specs.ShapeRules.{Rising};
     ghost use Rattle.pg_wire.specs.Records.{WireRecord};
     ghost use Rattle.pg_dyn.specs.reading.Content.{takes};
     ghost use Rattle.pg_dyn.specs.reading.Gathering.{AreOneofRuns};

@@ -4,7 +4,7 @@ use denote.Ref.{Bor}
 use Rattle.pg_schema.specs.declared.parts.field.Field.{Field}
 use Rattle.pg_schema.specs.declared.parts.field.TypeId.{TypeId}
 use Rattle.pg_schema.specs.declared.parts.Parts.{Parts}
-use Rattle.pg_schema.specs.Parts.{field_of}
+use Rattle.pg_schema.specs.Lookups.{field_of}
 use Rattle.pg_fds.specs.writing.Messages.{where_found}
 
 abbrev pub lent : {A : Type 0} → List (Bor A) → List A

@@ -4,7 +4,7 @@
 ghost use Rattle.std.specs.Prelude.{◌≡◌, ◌+◌, ◌<◌, ◌≤◌, ◌^◌, ◌++◌, IfOk, OnOk, Some, length, map};
 ghost use Rattle.std.specs.List.{AllByRecursion};
 ghost use Rattle.std.specs.String.{string_bytes};
-ghost use Rattle.pg_schema.specs.Parts.{type_at};
+ghost use Rattle.pg_schema.specs.Lookups.{type_at};
 ghost use Rattle.pg_fds.specs.writing.Drafts.{IsDraftOf, listed, put};
 ghost use Rattle.pg_fds.specs.writing.Fields.{fields_items};
 ghost use Rattle.pg_fds.specs.descriptor.Lent.{lent};

@@ -14,7 +14,8 @@ use Rattle.pg_pairs.specs.declared.choices.choice.Pair.{Pair}
 use Rattle.pg_schema.specs.declared.parts.field.Field.{Field}
 use Rattle.pg_schema.specs.declared.parts.field.TypeId.{TypeId}
 use Rattle.pg_schema.specs.declared.parts.Parts.{Parts}
-use Rattle.pg_schema.specs.Parts.{field_of, shape_of}
+use Rattle.pg_schema.specs.Lookups.{field_of}
+use Rattle.pg_schema.specs.Parts.{shape_of}
 use Rattle.pg_gate.specs.declared.answer.step.Step.{Step}
 
 -- a field by its number, and by its full names in the old and in the new type

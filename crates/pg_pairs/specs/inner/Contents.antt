@@ -9,7 +9,8 @@ use Rattle.pg_schema.specs.declared.parts.field.Element.{Element}
 use Rattle.pg_schema.specs.declared.parts.field.Element.TheVariants as elements
 use Rattle.pg_schema.specs.declared.parts.field.Presence.{Presence}
 use Rattle.pg_schema.specs.declared.parts.field.Presence.TheVariants as presences
-use Rattle.pg_schema.specs.Shape.{FieldShape, PresenceFits}
+use Rattle.pg_schema.specs.Shape.{FieldShape}
+use Rattle.pg_schema.specs.ShapeRules.{PresenceFits}
 use Rattle.pg_dyn.specs.Message.{Bytes, Message, key_cmp}
 use Rattle.pg_dyn.specs.Coding.{form, InRange}
 use Rattle.pg_dyn.specs.encoding.Writing.{key_of, field_records, bytes_of}

@@ -1,6 +1,7 @@
 -- The law that messages come home.
 use Rattle.std.specs.Prelude.{◌≡◌, ◌≤◌, length, true, Some}
-use Rattle.pg_schema.specs.Shape.{Shape, IsShape}
+use Rattle.pg_schema.specs.Shape.{Shape}
+use Rattle.pg_schema.specs.ShapeRules.{IsShape}
 use Rattle.pg_dyn.specs.Message.{Message, IsPlain}
 use Rattle.pg_dyn.specs.encoding.Encoding.{cap, enc}
 use Rattle.pg_dyn.specs.reading.Decoding.{dec}

@@ -1,7 +1,8 @@
 -- A message that breaks with the content of one field alone has at least the bytes of the field's cheapest choice: a
 -- law for each kind of field.
 use Rattle.std.specs.Prelude.{◌≡◌, ℕ, ◌≤◌, List, [], ◌∷◌, length, true, Option, Some, None}
-use Rattle.pg_schema.specs.Shape.{Shape, FieldShape, IsShape, fields, field_at, is_singular, is_repeated, is_map}
+use Rattle.pg_schema.specs.Shape.{Shape, FieldShape, fields, field_at, is_singular, is_repeated, is_map}
+use Rattle.pg_schema.specs.ShapeRules.{IsShape}
 use Rattle.pg_dyn.specs.Message.{Leaf, Item, Plain, Msg, Message, ends, with_part}
 use Rattle.pg_dyn.specs.encoding.Encoding.{enc}
 use Rattle.pg_dyn.specs.Breaking.{Breaks}

@@ -2,7 +2,8 @@
 
 ghost use Rattle.std.specs.Prelude.{◌≡◌, ℕ, length, true, false, option_map, Some, None, IfOk, IfSome};
 ghost use Rattle.pg_schema.specs.Parts.{field_shape};
-ghost use Rattle.pg_schema.specs.Shape.{ElementFits, Shape, is_map};
+ghost use Rattle.pg_schema.specs.ShapeRules.{ElementFits};
+ghost use Rattle.pg_schema.specs.Shape.{Shape, is_map};
 ghost use Rattle.pg_dyn.specs.Coding.{scalar_form, zero_leaf};
 ghost use Rattle.pg_dyn.specs.ContentFits.{ItemFits};
 ghost use Rattle.pg_dyn.specs.Kept.{message_of};

@@ -1,7 +1,8 @@
 //! Items that the messages of choices hold.
 
 ghost use Rattle.std.specs.Prelude.{◌≡◌, length, option_map, IfOk, IfSome};
-ghost use Rattle.pg_schema.specs.Shape.{ElementFits, Shape};
+ghost use Rattle.pg_schema.specs.ShapeRules.{ElementFits};
+ghost use Rattle.pg_schema.specs.Shape.{Shape};
 ghost use Rattle.pg_dyn.specs.ContentFits.{ItemFits};
 ghost use Rattle.pg_dyn.specs.ScalarItems.{IsItemOf};
 ghost use Rattle.pg_dyn.specs.Seen.{leaf_of, IsKey};

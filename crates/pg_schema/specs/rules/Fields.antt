@@ -4,7 +4,8 @@ use Rattle.pg_schema.specs.declared.parts.field.Element.{Element}
 use Rattle.pg_schema.specs.declared.parts.field.Element.TheVariants as elements
 use Rattle.pg_schema.specs.declared.parts.field.Presence.{Presence}
 use Rattle.pg_schema.specs.declared.parts.field.Presence.TheVariants as presences
-use Rattle.pg_schema.specs.Shape.{is_packable, is_key}
+use Rattle.pg_schema.specs.Shape.{is_packable}
+use Rattle.pg_schema.specs.ShapeRules.{is_key}
 
 -- proto3 language guide, "Assigning Field Numbers": 1 to 536,870,911 without 19,000 to 19,999
 abbrev pub is_field_number : ℕ → Bool

@@ -3,7 +3,7 @@
 ghost use Rattle.std.specs.Prelude.{◌≡◌, IfOk};
 ghost use Rattle.std.specs.List.{list_all};
 ghost use Rattle.pg_schema.specs.rules.Enums.{begins_with_zero, is_enum, is_value, value_names};
-ghost use Rattle.pg_schema.specs.rules.LentTexts.{lent};
+ghost use Rattle.pg_schema.specs.inner.LentTexts.{lent};
 ghost use Rattle.pg_schema.specs.rules.Uses.{is_value_range};
 
 use crate::parts::enum_type::{EnumType, EnumValue, ReservedValues};

@@ -2,7 +2,7 @@
 
 ghost use Rattle.std.specs.Prelude.{◌≡◌};
 ghost use Rattle.pg_schema.specs.rules.Fields.{has_presence, is_field_number, is_known, is_message, is_oneof, is_packed};
-ghost use Rattle.pg_schema.specs.Shape.{is_key};
+ghost use Rattle.pg_schema.specs.ShapeRules.{is_key};
 
 use crate::parts::field::{Element, Presence, Scalar};
 

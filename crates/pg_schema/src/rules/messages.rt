@@ -8,7 +8,7 @@ ghost use Rattle.std.specs.List.{list_all};
 ghost use Rattle.std.specs.String.{string_bytes};
 ghost use Rattle.pg_schema.specs.rules.Messages.{AreMarks, field_names, has_fields, has_oneofs, has_reserved, have_members, is_declared, is_field, is_message_type, IsNumberSet, json_names, numbers};
 ghost use Rattle.pg_schema.specs.rules.Pairs.{are_distinct, is_rising};
-ghost use Rattle.pg_schema.specs.rules.LentTexts.{lent};
+ghost use Rattle.pg_schema.specs.inner.LentTexts.{lent};
 ghost use Rattle.pg_schema.specs.rules.Uses.{is_reserved_range};
 ghost use Rattle.pg_schema.specs.rules.Words.{is_word};
 

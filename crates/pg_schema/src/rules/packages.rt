@@ -5,7 +5,7 @@ ghost use Rattle.std.specs.String.{string_bytes};
 ghost use Rattle.std.specs.List.{list_all};
 ghost use Rattle.pg_schema.specs.rules.Files.{is_file};
 ghost use Rattle.pg_schema.specs.rules.Packages.{are_free_of, is_free_of};
-ghost use Rattle.pg_schema.specs.rules.LentTexts.{has_lent, IsLentSetOf};
+ghost use Rattle.pg_schema.specs.inner.LentTexts.{has_lent, IsLentSetOf};
 ghost use Rattle.pg_schema.specs.rules.Words.{is_ascii};
 
 use crate::parts::file::File;

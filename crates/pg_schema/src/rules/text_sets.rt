@@ -4,7 +4,7 @@ ghost use Rattle.std.specs.Prelude.{◌≡◌, IfOk, IfSome, is_some, map, not};
 ghost use Rattle.std.specs.List.{list_all};
 ghost use Rattle.std.specs.String.{string_bytes};
 ghost use Rattle.pg_schema.specs.rules.Pairs.{are_distinct};
-ghost use Rattle.pg_schema.specs.rules.LentTexts.{has_lent, IsLentSetOf, lent};
+ghost use Rattle.pg_schema.specs.inner.LentTexts.{has_lent, IsLentSetOf, lent};
 ghost use Rattle.pg_schema.specs.rules.TextSets.{are_named_once};
 
 use std::alloc::{AllocError, Global};

@@ -2,8 +2,8 @@
 
 ghost use Rattle.std.specs.Prelude.{◌≡◌, ◌^◌, ◌<◌, length, IfOk, IfErr};
 ghost use Rattle.pg_schema.specs.declared.error.PartsError.TheVariants.{Invariant};
-ghost use Rattle.pg_schema.specs.schema.Names.{IsTable};
-ghost use Rattle.pg_schema.specs.Parts.{HasDistinctNames};
+ghost use Rattle.pg_schema.specs.inner.Names.{IsTable};
+ghost use Rattle.pg_schema.specs.Invariant.{HasDistinctNames};
 
 use crate::error::PartsError;
 use crate::parts::field::TypeId;

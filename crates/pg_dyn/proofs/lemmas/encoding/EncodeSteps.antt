@@ -10,7 +10,8 @@ use Rattle.pg_schema.specs.declared.parts.field.Element.{Element}
 use Rattle.pg_schema.specs.declared.parts.field.Element.TheVariants as elements
 use Rattle.pg_schema.specs.declared.parts.field.Presence.{Presence}
 use Rattle.pg_schema.specs.declared.parts.field.Presence.TheVariants as presences
-use Rattle.pg_schema.specs.Shape.{Shape, FieldShape, IsField, IsShape, PresenceFits, fields, field_at, is_map, is_packable}
+use Rattle.pg_schema.specs.Shape.{Shape, FieldShape, fields, field_at, is_map, is_packable}
+use Rattle.pg_schema.specs.ShapeRules.{IsField, IsShape, PresenceFits}
 use Rattle.pg_wire.specs.declared.record.WireType.{WireType}
 use Rattle.pg_wire.specs.declared.record.WireType.TheVariants.{Len}
 use Rattle.pg_wire.specs.Records.{WireRecord, length_before, tag, written}

@@ -7,7 +7,8 @@ use Rattle.pg_schema.specs.declared.parts.field.TypeId.{TypeId}
 use Rattle.pg_schema.specs.declared.parts.field.Element.{Element}
 use Rattle.pg_schema.specs.declared.parts.field.Presence.{Presence}
 use Rattle.pg_schema.specs.declared.parts.field.Presence.TheVariants as presences
-use Rattle.pg_schema.specs.Shape.{Shape, FieldShape, fields, field_at, Rising}
+use Rattle.pg_schema.specs.Shape.{Shape, FieldShape, fields, field_at}
+use Rattle.pg_schema.specs.ShapeRules.{Rising}
 use Rattle.pg_wire.specs.Records.{WireRecord}
 use Rattle.pg_dyn.specs.Message.{Leaf, Bytes, Item, Plain, Msg, Message, ends, Part, Place, place_of, is_of, message_from, places, with_part}
 use Rattle.pg_dyn.specs.Belonging.{KeyFits, MayFollow, ComesBefore, IsAlone, IsPart, IsMessage}

@@ -3,7 +3,8 @@ use Rattle.std.proofs.Common.{◌≡◌, ◌≢◌, ℕ, ◌<◌, ◌≤◌, Lis
 use Rattle.std.specs.List.{AllByRecursion, list_any}
 use Rattle.std.proofs.lemmas.Bool.{or_right, or_left, cases_eq}
 use Rattle.pg_schema.specs.declared.parts.field.TypeId.{TypeId}
-use Rattle.pg_schema.specs.Shape.{Shape, FieldShape, fields, field_at, Rising}
+use Rattle.pg_schema.specs.Shape.{Shape, FieldShape, fields, field_at}
+use Rattle.pg_schema.specs.ShapeRules.{Rising}
 use Rattle.pg_wire.specs.Records.{WireRecord}
 use Rattle.pg_dyn.specs.declared.message_ref.ContentRef.{ContentRef}
 use Rattle.pg_dyn.specs.reading.ByFields.{AllCount, HoldsOf}

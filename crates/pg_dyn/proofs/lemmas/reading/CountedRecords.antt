@@ -3,7 +3,8 @@ use Rattle.std.proofs.Common.{◌≡◌, ◌≢◌, ℕ, ◌+◌, ◌-◌, ◌<�
 use Rattle.std.specs.List.{AllByRecursion}
 use Rattle.std.proofs.lemmas.List.{map-append, take_all, take_more}
 use Rattle.std.proofs.Math.Seq.{drop-cons}
-use Rattle.pg_schema.specs.Shape.{Shape, FieldShape, field_at, Rising}
+use Rattle.pg_schema.specs.Shape.{Shape, FieldShape, field_at}
+use Rattle.pg_schema.specs.ShapeRules.{Rising}
 use Rattle.pg_wire.specs.declared.record.Record.{Record}
 use Rattle.pg_wire.specs.Reads.{seen_record}
 use Rattle.pg_wire.specs.Records.{IsRecord}

@@ -6,7 +6,8 @@ use Rattle.pg_schema.specs.declared.parts.field.TypeId.{TypeId}
 use Rattle.pg_schema.specs.declared.parts.field.Scalar.{Scalar}
 use Rattle.pg_schema.specs.declared.parts.field.Element.{Element}
 use Rattle.pg_schema.specs.declared.parts.field.Element.TheVariants as elements
-use Rattle.pg_schema.specs.Shape.{Shape, FieldShape, Rising, fields, field_at, is_map, is_packable}
+use Rattle.pg_schema.specs.Shape.{Shape, FieldShape, fields, field_at, is_map, is_packable}
+use Rattle.pg_schema.specs.ShapeRules.{Rising}
 use Rattle.pg_wire.specs.Reading.{row}
 use Rattle.pg_wire.specs.Records.{WireRecord}
 use Rattle.pg_wire.proofs.Results.{fault_of-error_at}

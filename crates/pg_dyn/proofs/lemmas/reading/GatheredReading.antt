@@ -2,7 +2,8 @@
 use Rattle.std.proofs.Common.{◌≡◌, ◌<◌, ℕ, List, [], ◌∷◌, length, map, filter, Bool, true, false, not, cond, nat_eq, Some, option_and_then, refl, ap, ap₂, sym, subst, ◌∙◌, eq-eqb}
 use Rattle.std.specs.List.{AllByRecursion}
 use Rattle.pg_schema.specs.declared.parts.field.TypeId.{TypeId}
-use Rattle.pg_schema.specs.Shape.{Shape, FieldShape, fields, field_at, Rising}
+use Rattle.pg_schema.specs.Shape.{Shape, FieldShape, fields, field_at}
+use Rattle.pg_schema.specs.ShapeRules.{Rising}
 use Rattle.pg_wire.specs.declared.record.Record.{Record}
 use Rattle.pg_wire.specs.Reads.{seen_record}
 use Rattle.pg_wire.specs.Records.{WireRecord, IsRecord}

@@ -1,7 +1,8 @@
 -- Records that have a reading and hold no message that stands too deep, one by one.
 use Rattle.std.proofs.Common.{◌≡◌, ℕ, List, Bool, true, false, not, ◌||◌, Option, Some, refl, ap, sym, subst, ◌∙◌, eqb-true}
 use Rattle.std.specs.List.{AllByRecursion, list_any, list_all}
-use Rattle.pg_schema.specs.Shape.{Shape, FieldShape, field_at, Rising}
+use Rattle.pg_schema.specs.Shape.{Shape, FieldShape, field_at}
+use Rattle.pg_schema.specs.ShapeRules.{Rising}
 use Rattle.pg_wire.specs.Records.{WireRecord}
 use Rattle.pg_dyn.specs.reading.ByFields.{RecordsGood}
 use Rattle.pg_dyn.specs.reading.Content.{takes, is_unknown}

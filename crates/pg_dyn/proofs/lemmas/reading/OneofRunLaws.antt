@@ -6,7 +6,8 @@ use Rattle.std.specs.declared.cmp.Ordering.TheVariants.{Less, Greater}
 use Rattle.std.specs.BTreeMap.{get, is_at}
 use Rattle.std.proofs.lemmas.Bool.{and_parts, and_from, cases_eq, le-leb, lt-leb, not-true}
 use Rattle.std.proofs.Math.Bool.{and-false}
-use Rattle.pg_schema.specs.Shape.{FieldShape, Rising, field_at}
+use Rattle.pg_schema.specs.Shape.{FieldShape, field_at}
+use Rattle.pg_schema.specs.ShapeRules.{Rising}
 use Rattle.pg_wire.specs.Records.{WireRecord}
 use Rattle.pg_dyn.specs.declared.reading.oneof_runs.OneofRun.{OneofRun}
 use Rattle.pg_dyn.specs.declared.reading.oneof_runs.OneofRuns.{OneofRuns}

@@ -2,7 +2,8 @@
 use Rattle.std.proofs.Common.{◌≡◌, ℕ, zero, suc, ◌<◌, List, [], ◌∷◌, length, get_or, Bool, true, false, not, Option, Some, None, refl, ap, sym, subst, ◌∙◌, arith, true≢false, ◌≢◌, filter, nat_eq, cond, ⊎_elim, eq-eqb, ne_eqb}
 use Rattle.std.specs.List.{AllByRecursion}
 use Rattle.std.proofs.lemmas.Bool.{and_parts, and_from, cases_eq, eqb-true}
-use Rattle.pg_schema.specs.Shape.{FieldShape, field_at, Rising}
+use Rattle.pg_schema.specs.Shape.{FieldShape, field_at}
+use Rattle.pg_schema.specs.ShapeRules.{Rising}
 use Rattle.pg_dyn.specs.declared.message.Content.{Content}
 use Rattle.pg_dyn.specs.reading.Content.{is_sibling, same_oneof}
 use Rattle.pg_dyn.specs.ContentFits.{AreApart, NoneSiblings}

@@ -5,7 +5,8 @@ use Rattle.pg_schema.specs.declared.parts.field.Element.{Element}
 use Rattle.pg_schema.specs.declared.parts.field.Element.TheVariants as elements
 use Rattle.pg_schema.specs.declared.parts.field.Presence.{Presence}
 use Rattle.pg_schema.specs.declared.parts.field.Presence.TheVariants as presences
-use Rattle.pg_schema.specs.Shape.{ElementFits, FieldShape, IsField, IsShape, IsType, PresenceFits, Rising, Shape}
+use Rattle.pg_schema.specs.ShapeRules.{ElementFits, IsField, IsShape, IsType, PresenceFits, Rising}
+use Rattle.pg_schema.specs.Shape.{FieldShape, Shape}
 use Rattle.pg_schema.proofs.lemmas.rules.PairLemmas.{and_left, and_right}
 use Rattle.pg_fds.specs.descriptor.Descriptor.{descriptor_shape}
 use Rattle.pg_fds.specs.writing.Building.{written_shape}

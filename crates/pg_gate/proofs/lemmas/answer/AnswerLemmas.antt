@@ -3,7 +3,7 @@ use Rattle.std.proofs.Common.{◌≡◌, ◌∙◌, ℕ, List, length, Bool, tru
 use Rattle.clap.specs.Words.{Text}
 use Rattle.pg_schema.specs.declared.parts.Parts.{Parts}
 use Rattle.pg_schema.specs.Parts.{shape_of}
-use Rattle.pg_schema.specs.Shape.{IsShape}
+use Rattle.pg_schema.specs.ShapeRules.{IsShape}
 use Rattle.pg_dyn.specs.encoding.Encoding.{enc}
 use Rattle.pg_dyn.specs.Kept.{Kept, message_of}
 use Rattle.pg_pairs.specs.declared.choices.choice.Pair.{Pair}

@@ -2,7 +2,8 @@
 use Rattle.std.proofs.Common.{length, ◌≡◌, ℕ, ◌<◌, ◌≤◌, Bool, true, false, nat_le, nat_eq, cond, if◌then◌else◌, Some, None, refl, subst, arith}
 use Rattle.std.specs.List.{AllByRecursion}
 use Rattle.std.proofs.lemmas.Bool.{leb-false}
-use Rattle.pg_schema.specs.Shape.{Shape, FieldShape, IsShape, fields, field_at}
+use Rattle.pg_schema.specs.Shape.{Shape, FieldShape, fields, field_at}
+use Rattle.pg_schema.specs.ShapeRules.{IsShape}
 use Rattle.pg_dyn.specs.encoding.Encoding.{cap, enc}
 use Rattle.pg_dyn.proofs.Lists.{each_unfiltered}
 use Rattle.pg_pairs.specs.declared.choices.choice.Choice.{Choice}

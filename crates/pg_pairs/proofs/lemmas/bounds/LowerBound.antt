@@ -6,7 +6,8 @@ use Rattle.std.proofs.lemmas.Bool.{cases_Bool, leb-false}
 use Rattle.pg_schema.specs.declared.parts.field.TypeId.{TypeId}
 use Rattle.pg_schema.specs.declared.parts.field.Element.{Element}
 use Rattle.pg_schema.specs.declared.parts.field.Element.TheVariants as elements
-use Rattle.pg_schema.specs.Shape.{Shape, FieldShape, IsType, IsShape, fields, field_at}
+use Rattle.pg_schema.specs.Shape.{Shape, FieldShape, fields, field_at}
+use Rattle.pg_schema.specs.ShapeRules.{IsType, IsShape}
 use Rattle.pg_dyn.specs.Message.{Bytes, Message, ends, holds, nests, IsPlain, unknown_of}
 use Rattle.pg_dyn.specs.reading.Content.{is_sibling}
 use Rattle.pg_dyn.specs.encoding.Writing.{records_in, bytes_of}

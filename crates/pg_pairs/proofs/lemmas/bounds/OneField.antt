@@ -2,7 +2,8 @@
 use Rattle.std.proofs.Common.{◌≡◌, ℕ, ◌≤◌, List, [], true, false, ◌⊎◌, ⊎_elim, sym, ◌∙◌, subst, arith}
 use Rattle.std.specs.List.{AllByRecursion}
 use Rattle.pg_schema.specs.declared.parts.field.Presence.TheVariants as presences
-use Rattle.pg_schema.specs.Shape.{FieldShape, PresenceFits}
+use Rattle.pg_schema.specs.Shape.{FieldShape}
+use Rattle.pg_schema.specs.ShapeRules.{PresenceFits}
 use Rattle.pg_dyn.specs.reading.Decoding.{Reader}
 use Rattle.pg_dyn.specs.Comparison.{View, Comparand}
 use Rattle.pg_dyn.specs.ByComparands.{is_field_kept}

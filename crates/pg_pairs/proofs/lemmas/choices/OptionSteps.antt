@@ -5,8 +5,10 @@ use Rattle.pg_schema.specs.declared.parts.field.Field.{Field}
 use Rattle.pg_schema.specs.declared.parts.field.TypeId.{TypeId}
 use Rattle.pg_schema.specs.declared.parts.message_type.MessageType.{MessageType}
 use Rattle.pg_schema.specs.declared.parts.Parts.{Parts}
-use Rattle.pg_schema.specs.Parts.{field_shape, shape_of, type_at}
-use Rattle.pg_schema.specs.Shape.{Shape, FieldShape, IsShape, IsField, field_at, fields}
+use Rattle.pg_schema.specs.Parts.{field_shape, shape_of}
+use Rattle.pg_schema.specs.Lookups.{type_at}
+use Rattle.pg_schema.specs.Shape.{Shape, FieldShape, field_at, fields}
+use Rattle.pg_schema.specs.ShapeRules.{IsShape, IsField}
 use Rattle.pg_dyn.specs.encoding.Encoding.{cap}
 use Rattle.pg_dyn.proofs.Lists.{each_weaker, filter-append'}
 use Rattle.pg_pairs.specs.declared.choices.choice.Choice.{Choice}

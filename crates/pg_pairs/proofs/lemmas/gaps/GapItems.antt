@@ -7,7 +7,7 @@ use Rattle.pg_schema.specs.declared.parts.field.Scalar.TheVariants as scalars
 use Rattle.pg_schema.specs.declared.parts.field.Element.{Element}
 use Rattle.pg_schema.specs.declared.parts.field.Element.TheVariants as elements
 use Rattle.pg_schema.specs.declared.parts.field.Presence.TheVariants as presences
-use Rattle.pg_schema.specs.Shape.{PresenceFits}
+use Rattle.pg_schema.specs.ShapeRules.{PresenceFits}
 use Rattle.pg_wire.specs.Words.{IsBetween}
 use Rattle.pg_dyn.specs.Message.{Leaf, Int, F32, F64, Bytes}
 use Rattle.pg_dyn.specs.Coding.{Integer, int32, form, scalar_form, body, leaf_in, word_bytes, InRange}

@@ -2,7 +2,8 @@
 use Rattle.std.proofs.Common.{◌≡◌, ℕ, List, [], ◌∷◌, map, None, zero, suc, get_or, slice_get, refl, ap}
 use Rattle.pg_schema.specs.declared.parts.message_type.MessageType.{MessageType}
 use Rattle.pg_schema.specs.declared.parts.Parts.{Parts}
-use Rattle.pg_schema.specs.Parts.{field_shape, shape_of, type_at}
+use Rattle.pg_schema.specs.Parts.{field_shape, shape_of}
+use Rattle.pg_schema.specs.Lookups.{type_at}
 use Rattle.pg_schema.specs.Shape.{Shape, fields}
 use Rattle.pg_pairs.specs.declared.choices.choice.Pair.{Pair}
 use Rattle.pg_pairs.specs.bounds.Covering.{all_children, children, distinct}

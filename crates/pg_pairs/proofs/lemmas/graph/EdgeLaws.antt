@@ -9,7 +9,8 @@ use Rattle.pg_schema.specs.declared.parts.field.Element.{Element}
 use Rattle.pg_schema.specs.declared.parts.field.Element.TheVariants as elements
 use Rattle.pg_schema.specs.declared.parts.field.Presence.{Presence}
 use Rattle.pg_schema.specs.declared.parts.field.Presence.TheVariants as presences
-use Rattle.pg_schema.specs.Shape.{Shape, FieldShape, ElementFits, IsField, IsShape, Rising, field_at, fields}
+use Rattle.pg_schema.specs.Shape.{Shape, FieldShape, field_at, fields}
+use Rattle.pg_schema.specs.ShapeRules.{ElementFits, IsField, IsShape, Rising}
 use Rattle.pg_wire.proofs.PublicLaws.{lengths_grow}
 use Rattle.pg_dyn.specs.encoding.Encoding.{cap}
 use Rattle.pg_dyn.proofs.Lists.{each_at, each-flat_map, each_weaker}

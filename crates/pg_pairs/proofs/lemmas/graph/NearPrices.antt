@@ -2,7 +2,8 @@
 use Rattle.std.proofs.Common.{◌≡◌, ℕ, ◌+◌, ◌≤◌, List, [], ◌∷◌, map, flat_map, Option, Some, None, option_and_then, inl, inr, ⊎_elim, refl, ap, ◌∙◌, arith}
 use Rattle.std.specs.List.{AllByRecursion}
 use Rattle.std.proofs.lemmas.Bool.{le-leb}
-use Rattle.pg_schema.specs.Shape.{Shape, FieldShape, IsShape, field_at, fields}
+use Rattle.pg_schema.specs.Shape.{Shape, FieldShape, field_at, fields}
+use Rattle.pg_schema.specs.ShapeRules.{IsShape}
 use Rattle.pg_dyn.specs.encoding.Encoding.{cap}
 use Rattle.pg_dyn.proofs.PublicLaws.{fields_are_found}
 use Rattle.pg_pairs.specs.declared.choices.choice.Choice.{Choice}

@@ -8,7 +8,8 @@ use Rattle.pg_schema.specs.declared.parts.field.Element.{Element}
 use Rattle.pg_schema.specs.declared.parts.field.Element.TheVariants as elements
 use Rattle.pg_schema.specs.declared.parts.field.Presence.{Presence}
 use Rattle.pg_schema.specs.declared.parts.field.Presence.TheVariants as presences
-use Rattle.pg_schema.specs.Shape.{Shape, FieldShape, PresenceFits, is_singular, is_implicit, is_repeated, is_packable}
+use Rattle.pg_schema.specs.Shape.{Shape, FieldShape, is_singular, is_implicit, is_repeated, is_packable}
+use Rattle.pg_schema.specs.ShapeRules.{PresenceFits}
 use Rattle.pg_dyn.specs.Message.{Leaf, Part, is_zero, key_cmp}
 use Rattle.pg_dyn.specs.Coding.{form, body, zero_leaf, InRange}
 use Rattle.pg_dyn.specs.Bodies.{IsReadAs}

@@ -5,7 +5,8 @@ use Rattle.pg_schema.specs.declared.parts.field.TypeId.{TypeId}
 use Rattle.pg_schema.specs.declared.parts.field.Element.{Element}
 use Rattle.pg_schema.specs.declared.parts.field.Element.TheVariants as elements
 use Rattle.pg_schema.specs.declared.parts.field.Presence.{Presence}
-use Rattle.pg_schema.specs.Shape.{Shape, FieldShape, IsShape, fields, field_at, is_singular}
+use Rattle.pg_schema.specs.Shape.{Shape, FieldShape, fields, field_at, is_singular}
+use Rattle.pg_schema.specs.ShapeRules.{IsShape}
 use Rattle.pg_dyn.specs.Message.{Leaf, Bytes, Message, ends, holds, nests, IsPlain, unknown_of}
 use Rattle.pg_dyn.specs.Coding.{form, InRange}
 use Rattle.pg_dyn.specs.encoding.Writing.{bytes_of, is_packed, records_in}

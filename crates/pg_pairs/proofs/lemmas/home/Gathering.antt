@@ -2,7 +2,8 @@
 use Rattle.std.proofs.Common.{◌≡◌, List, [], ◌∷◌, map, filter, Bool, true, false, not, ◌&&◌, ◌||◌, Option, Some, option_and_then, ◌⊎◌, ⊎_elim, refl, ap, sym, ◌∙◌, subst}
 use Rattle.std.specs.List.{AllByRecursion, list_all, list_any}
 use Rattle.std.proofs.lemmas.Bool.{and_right, cases_Bool, false_from_ne_true}
-use Rattle.pg_schema.specs.Shape.{FieldShape, Rising, field_at}
+use Rattle.pg_schema.specs.Shape.{FieldShape, field_at}
+use Rattle.pg_schema.specs.ShapeRules.{Rising}
 use Rattle.pg_wire.specs.Records.{WireRecord}
 use Rattle.pg_dyn.specs.Optional.{all_some, joined}
 use Rattle.pg_dyn.specs.Message.{Item, Message, Part, is_of, parts, message_from}

@@ -6,7 +6,8 @@ use Rattle.pg_schema.specs.declared.parts.field.Element.{Element}
 use Rattle.pg_schema.specs.declared.parts.field.Element.TheVariants as elements
 use Rattle.pg_schema.specs.declared.parts.field.Presence.{Presence}
 use Rattle.pg_schema.specs.declared.parts.field.Presence.TheVariants as presences
-use Rattle.pg_schema.specs.Shape.{Shape, FieldShape, PresenceFits, fields, field_at}
+use Rattle.pg_schema.specs.Shape.{Shape, FieldShape, fields, field_at}
+use Rattle.pg_schema.specs.ShapeRules.{PresenceFits}
 use Rattle.pg_wire.specs.Records.{WireRecord}
 use Rattle.pg_dyn.specs.Message.{Leaf, Bytes, Item, Message, Part, is_of, is_zero, parts, unknown_of}
 use Rattle.pg_dyn.specs.reading.Content.{takes, is_unknown}

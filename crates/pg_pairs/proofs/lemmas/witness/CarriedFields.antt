@@ -8,7 +8,8 @@ use Rattle.pg_schema.specs.declared.parts.field.Element.{Element}
 use Rattle.pg_schema.specs.declared.parts.field.Element.TheVariants as elements
 use Rattle.pg_schema.specs.declared.parts.field.Presence.{Presence}
 use Rattle.pg_schema.specs.declared.parts.field.Presence.TheVariants as presences
-use Rattle.pg_schema.specs.Shape.{Shape, FieldShape, PresenceFits, IsShape, fields, field_at, is_packable, is_singular}
+use Rattle.pg_schema.specs.Shape.{Shape, FieldShape, fields, field_at, is_packable, is_singular}
+use Rattle.pg_schema.specs.ShapeRules.{PresenceFits, IsShape}
 use Rattle.pg_wire.specs.Records.{tag}
 use Rattle.pg_dyn.specs.Message.{Leaf, Plain, Msg, Message, ends, holds, nests, with_part}
 use Rattle.pg_dyn.specs.Coding.{form, form_wire, zero_leaf, InRange}

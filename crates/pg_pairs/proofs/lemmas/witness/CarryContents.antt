@@ -3,7 +3,8 @@ use Rattle.std.proofs.Common.{◌≡◌, ℕ, length, true, false, if◌then◌e
 use Rattle.pg_schema.specs.declared.parts.field.Element.{Element}
 use Rattle.pg_schema.specs.declared.parts.field.Element.TheVariants as elements
 use Rattle.pg_schema.specs.declared.parts.field.TypeId.{TypeId}
-use Rattle.pg_schema.specs.Shape.{Shape, FieldShape, ElementFits, IsField, IsShape, fields, field_at}
+use Rattle.pg_schema.specs.Shape.{Shape, FieldShape, fields, field_at}
+use Rattle.pg_schema.specs.ShapeRules.{ElementFits, IsField, IsShape}
 use Rattle.pg_dyn.specs.Kept.{Kept}
 use Rattle.pg_dyn.proofs.Lists.{each_at}
 use Rattle.pg_dyn.proofs.PublicLaws.{fields_are_found}

@@ -8,7 +8,8 @@ use Rattle.pg_schema.specs.declared.parts.field.Element.{Element}
 use Rattle.pg_schema.specs.declared.parts.field.Element.TheVariants as elements
 use Rattle.pg_schema.specs.declared.parts.field.Presence.{Presence}
 use Rattle.pg_schema.specs.declared.parts.field.Presence.TheVariants as presences
-use Rattle.pg_schema.specs.Shape.{Shape, FieldShape, PresenceFits, IsField, IsShape, fields, field_at, is_packable, is_repeated}
+use Rattle.pg_schema.specs.Shape.{Shape, FieldShape, fields, field_at, is_packable, is_repeated}
+use Rattle.pg_schema.specs.ShapeRules.{PresenceFits, IsField, IsShape}
 use Rattle.pg_wire.specs.declared.record.WireType.TheVariants.{Len}
 use Rattle.pg_wire.specs.Records.{written}
 use Rattle.pg_dyn.specs.Message.{Leaf, Message, ends, holds, IsPlain, unknown_of}

@@ -7,7 +7,8 @@ use Rattle.pg_schema.specs.declared.parts.field.Element.TheVariants as elements
 use Rattle.pg_schema.specs.declared.parts.field.Presence.{Presence}
 use Rattle.pg_schema.specs.declared.parts.field.Presence.TheVariants as presences
 use Rattle.std.proofs.lemmas.Bool.{and_left, and_right, cases_Bool, lt-ltb, le-ltb}
-use Rattle.pg_schema.specs.Shape.{Shape, FieldShape, IsField, IsShape, PresenceFits, Rising, fields, field_at, is_repeated}
+use Rattle.pg_schema.specs.Shape.{Shape, FieldShape, fields, field_at, is_repeated}
+use Rattle.pg_schema.specs.ShapeRules.{IsField, IsShape, PresenceFits, Rising}
 use Rattle.pg_dyn.specs.declared.message.Content.{Content}
 use Rattle.pg_dyn.specs.declared.message.Content.TheVariants as contents
 use Rattle.pg_dyn.specs.declared.message.Value.{Value}

@@ -4,7 +4,8 @@ use Rattle.std.proofs.lemmas.Bool.{and_right}
 use Rattle.pg_schema.specs.declared.parts.field.TypeId.{TypeId}
 use Rattle.pg_schema.specs.declared.parts.field.Element.TheVariants as elements
 use Rattle.pg_schema.specs.declared.parts.field.Presence.TheVariants as presences
-use Rattle.pg_schema.specs.Shape.{Shape, FieldShape, IsShape, fields, field_at}
+use Rattle.pg_schema.specs.Shape.{Shape, FieldShape, fields, field_at}
+use Rattle.pg_schema.specs.ShapeRules.{IsShape}
 use Rattle.pg_wire.specs.Varint.{varint}
 use Rattle.pg_dyn.specs.Message.{Bytes, Message, ends, nests}
 use Rattle.pg_dyn.specs.Coding.{form}

@@ -8,7 +8,8 @@ use Rattle.pg_schema.specs.declared.parts.field.Element.{Element}
 use Rattle.pg_schema.specs.declared.parts.field.Element.TheVariants as elements
 use Rattle.pg_schema.specs.declared.parts.field.Presence.{Presence}
 use Rattle.pg_schema.specs.declared.parts.field.Presence.TheVariants as presences
-use Rattle.pg_schema.specs.Shape.{Shape, FieldShape, PresenceFits, IsField, IsShape, Rising, fields, field_at}
+use Rattle.pg_schema.specs.Shape.{Shape, FieldShape, fields, field_at}
+use Rattle.pg_schema.specs.ShapeRules.{PresenceFits, IsField, IsShape, Rising}
 use Rattle.pg_wire.specs.Records.{WireRecord}
 use Rattle.pg_dyn.specs.Optional.{all_some, after_last_of}
 use Rattle.pg_dyn.specs.Message.{Leaf, Bytes, Item, Message, ends, places, IsPlain, Part, is_of, is_zero, parts, unknown_of}

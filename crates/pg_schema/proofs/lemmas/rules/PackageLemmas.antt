@@ -13,7 +13,7 @@ use Rattle.std.specs.String.{string_bytes}
 use Rattle.pg_schema.specs.declared.parts.file.File.{File}
 use Rattle.pg_schema.specs.rules.Files.{is_file}
 use Rattle.pg_schema.specs.rules.Packages.{is_free_of, is_front}
-use Rattle.pg_schema.specs.rules.LentTexts.{has_lent, IsLentSetOf}
+use Rattle.pg_schema.specs.inner.LentTexts.{has_lent, IsLentSetOf}
 use Rattle.pg_schema.specs.rules.TextSets.{is_among}
 use Rattle.pg_schema.specs.rules.Words.{is_ascii, is_package, may_stand}
 use Rattle.pg_schema.proofs.lemmas.rules.PairLemmas.{and_both, and_false_right, and_left, and_right}

@@ -12,7 +12,7 @@ use Rattle.pg_schema.specs.declared.parts.message_type.MessageType.{MessageType}
 use Rattle.pg_schema.specs.declared.parts.Parts.{Parts}
 use Rattle.pg_schema.specs.rules.DeclaredNames.{declared_names, file_names, service_names, type_names}
 use Rattle.pg_schema.specs.rules.Pairs.{all_pairs, are_distinct, differ}
-use Rattle.pg_schema.specs.Parts.{HasDistinctNames}
+use Rattle.pg_schema.specs.Invariant.{HasDistinctNames}
 use Rattle.pg_schema.proofs.lemmas.schema.NameTables.{place, within_case}
 use Rattle.pg_schema.proofs.lemmas.rules.PairLemmas.{and_both, and_left, and_right}
 

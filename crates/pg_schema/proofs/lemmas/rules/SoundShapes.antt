@@ -15,7 +15,8 @@ use Rattle.pg_schema.specs.rules.Fields.{has_presence, is_field_number, is_known
 use Rattle.pg_schema.specs.rules.Messages.{has_fields, is_field, is_message_type, numbers}
 use Rattle.pg_schema.specs.rules.Pairs.{is_rising}
 use Rattle.pg_schema.specs.Parts.{field_shape, shape_of}
-use Rattle.pg_schema.specs.Shape.{ElementFits, FieldShape, IsField, IsShape, IsType, PresenceFits, Rising, is_key, is_packable}
+use Rattle.pg_schema.specs.ShapeRules.{ElementFits, IsField, IsShape, IsType, PresenceFits, Rising, is_key}
+use Rattle.pg_schema.specs.Shape.{FieldShape, is_packable}
 use Rattle.pg_schema.specs.rules.Sound.{IsSound}
 use Rattle.pg_schema.proofs.lemmas.rules.PairLemmas.{and_left, and_right}
 

@@ -11,7 +11,7 @@ use Rattle.std.specs.String.{string_bytes}
 use Rattle.std.proofs.lemmas.List.{map_more, map-append, take-append-drop}
 use Rattle.std.proofs.lemmas.Map.Text.{is_eq-slice_cmp}
 use Rattle.pg_schema.specs.rules.Pairs.{are_distinct}
-use Rattle.pg_schema.specs.rules.LentTexts.{has_lent, IsLentSetOf, lent}
+use Rattle.pg_schema.specs.inner.LentTexts.{has_lent, IsLentSetOf, lent}
 use Rattle.pg_schema.specs.rules.TextSets.{is_among, are_named_once}
 use Rattle.pg_schema.proofs.lemmas.rules.PairLemmas.{all_pairs_front, bytes_eq-sym, distinct_push, among_push, and_both}
 

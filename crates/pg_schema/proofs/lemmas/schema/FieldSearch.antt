@@ -8,7 +8,8 @@ use Rattle.std.specs.declared.cmp.Ordering.TheVariants.{Less, Equal, Greater}
 use Rattle.std.proofs.lemmas.Bool.Decides.{nat_tests}
 use Rattle.pg_schema.specs.declared.parts.field.Field.{Field}
 use Rattle.pg_schema.specs.Parts.{field_shape}
-use Rattle.pg_schema.specs.Shape.{FieldShape, field_at, Rising}
+use Rattle.pg_schema.specs.Shape.{FieldShape, field_at}
+use Rattle.pg_schema.specs.ShapeRules.{Rising}
 
 abbrev pub has_number : ℕ → Field → Bool
 has_number n f = nat_eq f.number n

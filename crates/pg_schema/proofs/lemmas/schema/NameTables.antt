@@ -11,8 +11,9 @@ use Rattle.std.proofs.lemmas.Option.{same_Some, none-some, slice_get_within}
 use Rattle.std.proofs.lemmas.Slice.Eq.{bytes_eq-Decides}
 use Rattle.pg_schema.specs.declared.parts.field.TypeId.{TypeId}
 use Rattle.pg_schema.specs.declared.parts.message_type.MessageType.{MessageType}
-use Rattle.pg_schema.specs.schema.Names.{IsTable}
-use Rattle.pg_schema.specs.Parts.{name_at, HasDistinctNames}
+use Rattle.pg_schema.specs.inner.Names.{IsTable}
+use Rattle.pg_schema.specs.Parts.{name_at}
+use Rattle.pg_schema.specs.Invariant.{HasDistinctNames}
 
 -- the table has each name of the first n types, with its place, and no other
 abbrev pub IsTableOfFirst : {Y : Type 0} → ℕ → List MessageType → BTreeMap (String Y) TypeId → Type 0

@@ -8,7 +8,8 @@ use Rattle.std.proofs.lemmas.Bool.Decides.{nat_tests}
 use Rattle.pg_schema.specs.declared.parts.field.Field.{Field}
 use Rattle.pg_schema.specs.declared.parts.message_type.MessageType.{MessageType}
 use Rattle.pg_schema.specs.Parts.{field_shape}
-use Rattle.pg_schema.specs.Shape.{FieldShape, IsType, IsShape, Rising, field_at}
+use Rattle.pg_schema.specs.Shape.{FieldShape, field_at}
+use Rattle.pg_schema.specs.ShapeRules.{IsType, IsShape, Rising}
 use Rattle.pg_schema.proofs.lemmas.schema.FieldSearch.{has_number, shape_found}
 
 abbrev pub shape_in : MessageType → List FieldShape

@@ -1,6 +1,6 @@
 use Rattle.std.proofs.Common.{◌≡◌, take}
 use Rattle.pg_schema.specs.rules.Messages.{json_names}
-use Rattle.pg_schema.specs.rules.LentTexts.{lent}
+use Rattle.pg_schema.specs.inner.LentTexts.{lent}
 use Rattle.pg_schema.proofs.rules.messages.json_names.Given as goal
 
 abbrev pub invariant-loop-field : goal.invariant-loop-field

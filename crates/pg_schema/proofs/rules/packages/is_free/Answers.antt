@@ -1,7 +1,7 @@
 use Rattle.std.proofs.Common.{◌++◌, ◌∷◌, [], not, get_or, sym, ◌∙◌, ap, refl}
 use Rattle.std.proofs.lemmas.List.{take_more}
 use Rattle.std.specs.String.{string_bytes}
-use Rattle.pg_schema.specs.rules.LentTexts.{has_lent}
+use Rattle.pg_schema.specs.inner.LentTexts.{has_lent}
 use Rattle.pg_schema.proofs.lemmas.rules.PackageLemmas.{beyond_more, dot_and_held, dot_not_held, front_end, part_held}
 use Rattle.pg_schema.proofs.rules.packages.is_free.Goals as goal
 

@@ -1,4 +1,4 @@
-use Rattle.pg_schema.specs.rules.LentTexts.{lent}
+use Rattle.pg_schema.specs.inner.LentTexts.{lent}
 use Rattle.pg_schema.proofs.lemmas.rules.TextSetLemmas.{named_once}
 use Rattle.pg_schema.proofs.rules.text_sets.are_named_once.Goals as goal
 

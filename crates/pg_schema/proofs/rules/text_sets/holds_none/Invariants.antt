@@ -1,7 +1,7 @@
 use Rattle.std.proofs.Common.{◌≡◌, true, take, not}
 use Rattle.std.specs.List.{list_all}
 use Rattle.std.specs.String.{string_bytes}
-use Rattle.pg_schema.specs.rules.LentTexts.{has_lent}
+use Rattle.pg_schema.specs.inner.LentTexts.{has_lent}
 use Rattle.pg_schema.proofs.rules.text_sets.holds_none.Given as goal
 
 abbrev pub invariant-loop-text : goal.invariant-loop-text

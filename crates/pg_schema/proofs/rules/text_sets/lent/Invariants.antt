@@ -1,6 +1,6 @@
 use Rattle.std.proofs.Common.{◌≡◌, map, take}
 use Rattle.std.specs.String.{string_bytes}
-use Rattle.pg_schema.specs.rules.LentTexts.{lent}
+use Rattle.pg_schema.specs.inner.LentTexts.{lent}
 use Rattle.pg_schema.proofs.rules.text_sets.lent.Given as goal
 
 abbrev pub invariant-loop-text : goal.invariant-loop-text

@@ -1,6 +1,6 @@
 use Rattle.std.proofs.Common.{◌≡◌, ◌+◌, Bor, ℕ, List, [], get_or, take, drop, not, true, false, sym, ap, ◌∙◌, subst}
 use Rattle.pg_schema.specs.rules.Pairs.{are_distinct}
-use Rattle.pg_schema.specs.rules.LentTexts.{IsLentSetOf, lent}
+use Rattle.pg_schema.specs.inner.LentTexts.{IsLentSetOf, lent}
 use Rattle.pg_schema.specs.rules.TextSets.{is_among}
 use Rattle.pg_schema.proofs.lemmas.rules.TextSetLemmas.{distinct_more, lent_more, lent_step, lent_whole, twice}
 use Rattle.pg_schema.proofs.rules.text_sets.set_of.Goals as goal

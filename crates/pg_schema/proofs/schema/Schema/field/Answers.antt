@@ -2,8 +2,10 @@ use Rattle.std.proofs.Common.{◌≡◌, Option, None, map, sym, ◌∙◌, ap, 
 use Rattle.std.specs.Option.{option_copied, option_map}
 use Rattle.pg_schema.specs.declared.parts.field.Field.{Field}
 use Rattle.pg_schema.specs.declared.parts.Parts.{Parts}
-use Rattle.pg_schema.specs.Parts.{field_of, field_shape, shape_of}
-use Rattle.pg_schema.specs.Shape.{fields, field_at, Rising}
+use Rattle.pg_schema.specs.Lookups.{field_of}
+use Rattle.pg_schema.specs.Parts.{field_shape, shape_of}
+use Rattle.pg_schema.specs.Shape.{fields, field_at}
+use Rattle.pg_schema.specs.ShapeRules.{Rising}
 use Rattle.pg_schema.proofs.lemmas.schema.TypeSearch.{rising_at, field_along, shape_along, no_field, type_found, no_type_found}
 use Rattle.pg_schema.proofs.schema.Schema.field.Goals as goal
 

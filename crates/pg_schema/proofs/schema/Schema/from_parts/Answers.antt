@@ -1,6 +1,5 @@
 use Rattle.std.proofs.Common.{subst, sym}
-use Rattle.pg_schema.specs.Invariant.{IsSchema}
-use Rattle.pg_schema.specs.Parts.{HasDistinctNames}
+use Rattle.pg_schema.specs.Invariant.{IsSchema, HasDistinctNames}
 use Rattle.pg_schema.proofs.lemmas.schema.NameTables.{distinct_from_table, table_along}
 use Rattle.pg_schema.proofs.lemmas.rules.SoundNames.{distinct_from_sound}
 use Rattle.pg_schema.proofs.lemmas.rules.SoundShapes.{shape_from_sound}

@@ -1,5 +1,5 @@
 use Rattle.std.proofs.Common.{subst, sym}
-use Rattle.pg_schema.specs.Parts.{HasDistinctNames}
+use Rattle.pg_schema.specs.Invariant.{HasDistinctNames}
 use Rattle.pg_schema.proofs.lemmas.schema.NameTables.{table_along}
 use Rattle.pg_schema.proofs.lemmas.rules.SoundNames.{distinct_from_sound}
 use Rattle.pg_schema.proofs.lemmas.rules.SoundShapes.{shape_from_sound}

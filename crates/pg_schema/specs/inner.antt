@@ -1,0 +1,2 @@
+pub mod LentTexts
+pub mod Names
