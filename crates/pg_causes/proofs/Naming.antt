@@ -13,7 +13,7 @@ use Rattle.pg_schema.specs.Parts.{name_at}
 use Rattle.pg_causes.specs.Names.{is_declared, name_of}
 use Rattle.pg_causes.proofs.Going.{map_more}
 
--- the name that is at a place is among the names
+-- the name at an index is among the names
 name_among : (types : List MessageType) (name : List ℕ) (at : ℕ) → option_map name_of (slice_get types at) ≡ Some name → list_any (bytes_eq name) (map name_of types) ≡ true
 name_among [] name at named = absurd (cc)
 name_among (t ∷ types) name zero named =
@@ -25,7 +25,7 @@ name_among (t ∷ types) name (suc at) named = of (bytes_eq name (name_of t)) (n
     of true later = refl
     of false later = later
 
--- a name among the names is at a place
+-- a name among the names is at an index
 name_placed : (types : List MessageType) (name : List ℕ) → list_any (bytes_eq name) (map name_of types) ≡ true → (at : ℕ) × (option_map name_of (slice_get types at) ≡ Some name)
 name_placed [] name among = absurd (cc)
 name_placed (t ∷ types) name among = of (bytes_eq name (name_of t)) refl (name_placed types name) among

@@ -12,7 +12,7 @@ use Rattle.pg_pairs.specs.views.EnumView.{EnumView}
 use Rattle.pg_least.specs.Loss.{IsLost, NewSees, OldWrites, AreRoots}
 use Rattle.pg_causes.specs.declared.overview.TypeLine.{TypeLine}
 
--- no message breaks: each one that the old writer encodes the new reader sees whole
+-- no message breaks: the new reader reads each one that the old writer encodes, and loses nothing of it
 pub record IsSeen (enum_view : EnumView) (old new : Shape) (pair : Pair) : Type 0 where
   pub each_is_seen : (message : Message) → OldWrites old pair message → NewSees enum_view.alike old new pair message
   pub compatible : Compatible enum_view.alike old new pair.old pair.new

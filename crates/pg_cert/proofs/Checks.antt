@@ -26,7 +26,7 @@ pub next_past : {X : Type 0} (xs : List X) (i : ℕ) → slice_get xs i ≡ None
 next_past xs i h = drop_past xs i h ∙ ap (λ n. drop n xs) (sym (add-one i))
 
 module _ (enum_view : EnumView) (old new : Shape) (table : Table) (bounds : List PairBound) (at : ℕ) where
-  -- the fault of the pair at the place, where it has one, is the first of those that are left
+  -- the fault of the pair at the index, where it has one, is the first of those that are left
   pub fault_here : (b : PairBound) (e : CertError) → slice_get bounds at ≡ Some b → pair_fault enum_view old new table b ≡ Some e → first_pair_fault enum_view old new table (drop at bounds) ≡ Some e
   fault_here b e found fault = ap (first_pair_fault enum_view old new table) (next_from bounds at b found) ∙ ap (λ o. option_or o (first_pair_fault enum_view old new table (drop (at + 1) bounds))) fault
 

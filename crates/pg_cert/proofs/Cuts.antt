@@ -1,4 +1,4 @@
--- Words cut off the front of a text.
+-- Words cut off the front of a string.
 use Rattle.std.proofs.Common.{◌≡◌, ℕ, ◌+◌, ◌-◌, ◌<◌, suc, nat_eq, nat_lt, Bool, not, true, false, cond, List, [], ◌∷◌, ◌++◌, take, drop, length, Option, Some, None, option_map, position, refl, ap, sym, ◌∙◌, subst, arith, add-one}
 use Rattle.std.specs.List.{position_or_len}
 use Rattle.std.proofs.lemmas.Bool.{and_parts, lt-ltb, eq-eqb}
@@ -48,7 +48,7 @@ whole_taken : (n : ℕ) (xs : List ℕ) → n ≡ length xs → take n xs ≡ xs
 whole_taken n [] h = rw h refl
 whole_taken n (x ∷ xs) h = rw h (ap (λ ys. x ∷ ys) (whole_taken (length xs) xs refl))
 
--- Of a text that begins with that word, what comes before and after the byte.
+-- Of a string that begins with that word, what comes before and after the byte.
 pub cut-found : (byte : ℕ) (text word rest : List ℕ) (at : ℕ) → position (λ b. nat_eq b byte) text ≡ Some at → lacks byte word ≡ true → text ≡ word ++ byte ∷ rest →
     ◌≡◌ {A = Option (List ℕ × List ℕ)} (Some (take at text, take (length text - (at + 1)) (drop (at + 1) text))) (Some (word, rest))
 cut-found byte text word rest at found h is =

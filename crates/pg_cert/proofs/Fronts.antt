@@ -1,4 +1,4 @@
--- Fronts of texts, and what follows them.
+-- Fronts of strings, and what follows them.
 use Rattle.std.specs.Borrow.{Bor}
 use Rattle.std.specs.Prelude.{MatchOption, IfSome}
 use Rattle.std.proofs.Common.{◌≡◌, ℕ, ◌+◌, eqb, true, false, List, [], ◌∷◌, ◌++◌, take, drop, length, Option, Some, None, refl, ap, sym, ◌∙◌, true≢false}
@@ -15,7 +15,7 @@ back_of : (front rest : List ℕ) → drop (length front) (front ++ rest) ≡ re
 back_of [] rest = refl
 back_of (x ∷ front) rest = back_of front rest
 
--- after one front two equal texts go on alike
+-- after one front two equal strings go on alike
 pub same_after : (front xs ys : List ℕ) → front ++ xs ≡ front ++ ys → xs ≡ ys
 same_after front xs ys h = sym (back_of front xs) ∙ ap (drop (length front)) h ∙ back_of front ys
 

@@ -115,7 +115,7 @@ clean_package : (bytes : List ℕ) → is_package bytes ≡ true → is_clean by
 clean_package [] h = refl
 clean_package (b ∷ bytes) h = clean_parts (b ∷ bytes) (all_words (parts_at_dots (b ∷ bytes)) h)
 
--- what holds of the types of a list holds of the one at that place
+-- what holds of the types of a list holds of the one at that index
 among : (test : TypeId → Bool) (k : ℕ) (ids : List TypeId) → list_any (nat_eq k) (type_places ids) ≡ true → list_all test ids ≡ true → test (record { index = k }) ≡ true
 among test k [] there h = absurd (cc)
 among test k (id ∷ ids) there h = of (nat_eq k id.index) refl there (λ u. among test k ids u parts.1)

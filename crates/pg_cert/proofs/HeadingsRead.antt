@@ -1,4 +1,4 @@
--- Reading the heading of a text.
+-- Reading the heading of a certificate.
 use Rattle.std.proofs.Common.{◌≡◌, ℕ, List, ◌++◌, slice_index, Option, Some, refl, ap, sym, ◌∙◌, arith}
 use Rattle.pg_dyn.specs.declared.view_name.ViewName.{ViewName}
 use Rattle.pg_dyn.specs.declared.view_name.ViewName.TheVariants as views
@@ -16,7 +16,7 @@ versions_apart views.Names r s is = let bad : ◌≡◌ {A = ℕ} 49 50 = ap (λ
 views_apart : (r s : List ℕ) → front (headings.Second views.Numbers) ++ r ≡ front (headings.Second views.Names) ++ s → ⊥
 views_apart r s is = let bad : ◌≡◌ {A = ℕ} 117 97 = ap (λ t. slice_index t 30) is in omega arith
 
--- a text has one heading
+-- a string has one heading
 pub same_heading : (h k : Heading) (r s : List ℕ) → front h ++ r ≡ front k ++ s → (h ≡ k) × (r ≡ s)
 same_heading headings.First headings.First r s is = (refl, same_after (front headings.First) r s is)
 same_heading headings.First (headings.Second view) r s is = absurd (versions_apart view r s is)
@@ -26,7 +26,7 @@ same_heading (headings.Second views.Numbers) (headings.Second views.Names) r s i
 same_heading (headings.Second views.Names) (headings.Second views.Numbers) r s is = absurd (views_apart s r (sym is))
 same_heading (headings.Second views.Names) (headings.Second views.Names) r s is = (refl, same_after (front (headings.Second views.Names)) r s is)
 
--- what a text of that heading is read as
+-- what a string of that heading is read as
 abbrev pub IsReadAs : Heading → List ℕ → Option (Heading × List ℕ) → Type 0
 IsReadAs heading text found = (rest : List ℕ) → text ≡ front heading ++ rest → found ≡ Some (heading, rest)
 

@@ -1,4 +1,4 @@
--- Two texts of a claim in one version are equal.
+-- Two strings that spell a claim in one version are equal.
 use Rattle.std.proofs.Common.{◌≡◌, ℕ, List, refl, ap, sym, ◌∙◌, arith}
 use Rattle.pg_schema.specs.declared.parts.Parts.{Parts}
 use Rattle.pg_dyn.specs.declared.view_name.ViewName.TheVariants as views

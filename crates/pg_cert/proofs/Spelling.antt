@@ -1,4 +1,4 @@
--- The text of a certificate, line by line.
+-- A certificate as it is written, line by line.
 use Rattle.std.specs.Prelude.{codes}
 use Rattle.std.proofs.Common.{◌≡◌, ℕ, ◌+◌, List, [], ◌∷◌, ◌++◌, drop, flat_map, map, Some, None, Option, slice_get, refl, ap, sym, ◌∙◌, append_assoc}
 use Rattle.pg_pairs.specs.declared.choices.choice.Pair.{Pair}
@@ -30,13 +30,13 @@ heading-row headings.First later = refl
 heading-row (headings.Second views.Numbers) later = refl
 heading-row (headings.Second views.Names) later = refl
 
--- the text in one row
+-- all lines in one row
 pub text-row : (heading : Heading) (old new : Names) (claim : Claim) → text_of heading old new claim ≡ heading_text heading ++ (line_of (root_words old new claim.root) ++ (lines_text old new claim.bounds ++ last_text claim.witness))
 text-row heading old new claim =
     heading-row heading (claim_lines old new claim)
     ∙ ap (λ t. heading_text heading ++ (line_of (root_words old new claim.root) ++ t)) (flat_map-lines old new claim.bounds (last_words claim.witness))
 
--- the text as it grows
+-- the string as it grows
 pub grown : (heading : Heading) (old new : Names) (claim : Claim) (t0 t1 t2 t3 t4 : List ℕ) (root : Pair) (bounds : List PairBound) (witness : Option (List ℕ)) → root ≡ claim.root → bounds ≡ claim.bounds → witness ≡ claim.witness →
     t0 ≡ heading_text heading ++ codes "root" → t1 ≡ t0 ++ pair_words old new root → t2 ≡ t1 ++ 10 ∷ [] → t3 ≡ t2 ++ lines_text old new bounds → t4 ≡ t3 ++ last_text witness → t4 ≡ text_of heading old new claim
 grown heading old new claim t0 t1 t2 t3 t4 root bounds witness is_root is_bounds is_witness a b d e f =

@@ -16,7 +16,7 @@ use Rattle.pg_cert.specs.Text.{Names, IsPairOf, IsClaimOf, HasTexts, heading_tex
 use Rattle.pg_cert.proofs.Spelling.{text-row}
 use Rattle.pg_cert.proofs.WitnessRead.{last-row}
 
--- the text after its first words
+-- the string after its first words
 pub head-row : (heading : Heading) (old new : Names) (claim : Claim) → text_of heading old new claim ≡ front heading ++ after_heading old new claim
 head-row heading old new claim =
     text-row heading old new claim

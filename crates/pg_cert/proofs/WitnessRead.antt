@@ -1,4 +1,4 @@
--- What the witness of a certificate's text is read as.
+-- What the witness of a written certificate is read as.
 use Rattle.std.specs.Prelude.{codes}
 use Rattle.std.proofs.Common.{◌≡◌, ℕ, ◌<◌, ◌^◌, ◌/◌, ◌%◌, zero, suc, nat_eq, not, true, List, [], ◌∷◌, ◌++◌, slice_index, Option, Some, None, Ok, refl, ap, sym, ◌∙◌, append_assoc, lit<}
 use Rattle.std.specs.List.{AllByRecursion}

@@ -54,7 +54,7 @@ pub bound_lacks : (bound : Option ℕ) → is_bound bound ≡ true → lacks 10 
 bound_lacks None h = refl
 bound_lacks (Some n) h = let small = bound_small n h in decimal-lacks n 10 (omega arith) (omega arith)
 
--- two texts that are equal byte by byte
+-- two strings that are equal byte by byte
 pub same_bytes : (xs ys : List ℕ) → pointwise eqb xs ys ≡ true → xs ≡ ys
 same_bytes [] [] h = refl
 same_bytes [] (y ∷ ys) h = absurd (cc)

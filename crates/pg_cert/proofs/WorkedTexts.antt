@@ -1,4 +1,4 @@
--- The texts of small certificates, by computation.
+-- Small certificates as they are written, by computation.
 use Rattle.std.specs.Prelude.{codes}
 use Rattle.std.specs.String.{string_bytes}
 use Rattle.std.specs.Fmt.{digits}
@@ -84,17 +84,17 @@ child_breaks : IsTextOf m_and_n (in_child (outer ∷ inner ∷ []) (Some child_w
 unfolding digits hex_on_literals
 child_breaks = text_is m_and_n (in_child (outer ∷ inner ∷ []) (Some child_witness)) headings.First _ of_both refl refl (lit< tt, (lit< tt, (lit< tt, (lit< tt, (lit< tt, (lit< tt, (lit< tt, (lit< tt, tt)))))))) refl refl
 
--- two texts with another byte at that offset
+-- two strings with another byte at that offset
 apart : (at a b : ℕ) (text other : List ℕ) → slice_index text at ≡ a → slice_index other at ≡ b → (a ≡ b → ⊥) → text ≡ other → ⊥
 apart at a b text other is_a is_b differ same = differ (sym is_a ∙ ap (λ t. slice_index t at) same ∙ is_b)
 
--- a text with that byte has the heading of version 1
+-- a string with that byte has the heading of version 1
 only_first : (text : List ℕ) → slice_index text 22 ≡ 49 → (heading : Heading) (later : List ℕ) → text ≡ front heading ++ later → heading ≡ headings.First
 only_first text byte headings.First later is = refl
 only_first text byte (headings.Second views.Numbers) later is = absurd (let bad : ◌≡◌ {A = ℕ} 49 50 = sym byte ∙ ap (λ t. slice_index t 22) is in omega arith)
 only_first text byte (headings.Second views.Names) later is = absurd (let bad : ◌≡◌ {A = ℕ} 49 50 = sym byte ∙ ap (λ t. slice_index t 22) is in omega arith)
 
--- another text in version 1
+-- another string in version 1
 another : (names : List (List ℕ)) (claim : Claim) (text other : List ℕ) → IsTextOf names claim text → slice_index text 22 ≡ 49 → slice_index other 22 ≡ 49 → (text ≡ other → ⊥) → IsNotTextOf names claim other
 another names claim text other is first other_first differ old new old_named new_named certifies =
     let one = is old new old_named new_named in
@@ -127,7 +127,7 @@ only_names (headings.Second views.Names) later is view = views_differ (sym view)
 another_view : IsNotTextOf only_m unchanged (codes "protogate-certificate 2\nview names\nroot M M\npair M M none\nwitness none\nend\n")
 another_view old new old_named new_named certifies = only_names certifies.heading _ (certifies.spelled ∙ head-row certifies.heading (names_of old) (names_of new) unchanged) certifies.viewed
 
--- the text begins with no heading
+-- the string begins with no heading
 no_text : (text : List ℕ) → ((heading : Heading) (later : List ℕ) → text ≡ front heading ++ later → ⊥) → IsNoText text
 no_text text differs old new claim certifies =
     differs certifies.heading (after_heading (names_of old) (names_of new) claim) (certifies.spelled ∙ head-row certifies.heading (names_of old) (names_of new) claim)
@@ -172,7 +172,7 @@ no_line-heading (headings.Second views.Names) later is = let bad : ◌≡◌ {A 
 no_line : IsNoText []
 no_line = no_text _ no_line-heading
 
--- the last bytes of each text
+-- the last bytes of each string
 abbrev Ends : List ℕ → Type 0
 Ends text = (front : List ℕ) × (text ≡ front ++ codes "end\n")
 

@@ -1,4 +1,4 @@
--- Certificates: tables of bounds, what a certificate claims, and when a claim holds (this profile's choice: what a
+-- Certificates: tables of bounds, what a certificate claims, and when a claim holds (this project's choice: what a
 -- reader of a certificate has to trust).
 use Rattle.std.specs.Prelude.{◌≡◌, ℕ, ⊤, nat_le, List, [], ◌∷◌, length, find, Bool, true, not, ◌&&◌, is_some, Option, Some, None, option_map}
 use Rattle.pg_schema.specs.Shape.{Shape}

@@ -1,4 +1,4 @@
--- What the view that a claim names sees between two schemas, and when the claim holds of them.
+-- What the view that a claim names finds alike between two schemas, and when the claim holds of them.
 use Rattle.pg_schema.specs.declared.parts.Parts.{Parts}
 use Rattle.pg_schema.specs.Parts.{shape_of}
 use Rattle.pg_pairs.specs.views.NamedView.{seen_under}

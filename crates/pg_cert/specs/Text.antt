@@ -1,4 +1,4 @@
--- The text of a certificate, by lines (this profile's choice). Texts are lists of bytes.
+-- How a certificate is written, by lines (this project's choice). Strings are lists of bytes.
 use Rattle.std.specs.Prelude.{◌≡◌, ℕ, ◌<◌, true, List, [], ◌∷◌, ◌++◌, map, flat_map, length, codes, decimal, Option, Some, None, unwrap_or}
 use Rattle.std.specs.List.{AllByRecursion}
 use Rattle.hex.specs.Hex.{encode_lower}
@@ -67,7 +67,7 @@ heading_text heading = flat_map line_of (heading_lines heading)
 abbrev pub last_words : Option (List ℕ) → List (List (List ℕ))
 last_words witness = (codes "witness" ∷ witness_word witness ∷ []) ∷ (codes "end" ∷ []) ∷ []
 
--- the text of the pairs' lines, and of the last ones
+-- the lines of the pairs, and the last ones
 abbrev pub lines_text : Names → Names → List PairBound → List ℕ
 lines_text old new bounds = flat_map (λ (b : PairBound). line_of (bound_words old new b)) bounds
 
@@ -79,7 +79,7 @@ abbrev pub claim_lines : Names → Names → Claim → List (List (List ℕ))
 claim_lines old new claim =
     root_words old new claim.root ∷ map (bound_words old new) claim.bounds ++ last_words claim.witness
 
--- its text under a heading
+-- the whole certificate under a heading
 abbrev pub text_of : Heading → Names → Names → Claim → List ℕ
 text_of heading old new claim = flat_map line_of (heading_lines heading ++ claim_lines old new claim)
 
@@ -100,14 +100,14 @@ pub record IsClaimOf (old new : Parts) (claim : Claim) : Type 0 where
   pub root : IsPairOf old new claim.root
   pub bounds : AllByRecursion (λ (b : PairBound). IsPairOf old new b.pair) claim.bounds
 
--- a claim of these schemas that has texts: what it holds is in range
+-- a claim of these schemas that can be written: what it holds is in range
 pub record HasTexts (old new : Parts) (claim : Claim) : Type 0 where
   pub of_schemas : IsClaimOf old new claim
   pub bounds : are_bounds claim.bounds ≡ true
   pub witness : is_witness claim.witness ≡ true
   pub bytes : AreBytes claim.witness
 
--- The text is the one spelling of the claim in its version: in version 1 only where the claim's view is that by
+-- The string is the one spelling of the claim in its version: in version 1 only where the claim's view is that by
 -- numbers.
 pub record Certifies (old new : Parts) (text : List ℕ) (claim : Claim) : Type 0 where
   pub has_texts : HasTexts old new claim
@@ -115,6 +115,6 @@ pub record Certifies (old new : Parts) (text : List ℕ) (claim : Claim) : Type 
   pub viewed : view_of heading ≡ claim.view
   pub spelled : text ≡ text_of heading (names_of old) (names_of new) claim
 
--- the text is the claim's in version 2
+-- the string spells the claim in version 2
 abbrev pub IsSecondText : Parts → Parts → List ℕ → Claim → Type 0
 IsSecondText old new text claim = text ≡ text_of (headings.Second claim.view) (names_of old) (names_of new) claim

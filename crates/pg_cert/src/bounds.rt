@@ -122,7 +122,7 @@ impl Bounds {
         self.entries.is_empty()
     }
 
-    /// The pair at the place, counted from 0, and its bound. `None` where there are not so many.
+    /// The pair at the index, counted from 0, and its bound. `None` where there are not so many.
     pub fn get(&self, at: usize) -> Option<PairBound>
         ensures { result ≡ slice_get self.now at }
     {

@@ -10,7 +10,7 @@ pub enum CertError {
     /// E001: memory was refused.
     #[error("Out of memory.")]
     Memory,
-    /// E801: the bytes are no certificate's text for these schemas.
+    /// E801: the bytes spell no certificate of these schemas.
     #[error("The bytes are not a certificate of these schemas.")]
     BadText,
     /// E802: the table lacks the root.

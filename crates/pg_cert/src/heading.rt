@@ -1,11 +1,11 @@
-//! The first lines of a certificate's text.
+//! The first lines of a written certificate.
 
 ghost use Rattle.std.specs.Prelude.{◌≡◌};
 ghost use Rattle.pg_cert.specs.Text.{view_of};
 
 use pg_dyn::ViewName;
 
-/// The lines that say a text's version and its view.
+/// The lines that say a certificate's version and its view.
 #[derive(Clone, Copy, Debug)]
 pub(crate) enum Heading {
     /// The lines of version 1, which means the view by numbers.

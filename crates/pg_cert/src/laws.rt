@@ -16,7 +16,7 @@ pub fn worked_certificates()
     self_compatible();
 }
 
-/// The texts of these certificates, and texts with a wrong line.
+/// How these certificates are written, and strings with a wrong line.
 pub fn worked_texts()
     ensures { WorkedTexts }
 {}
@@ -34,12 +34,12 @@ pub fn verdicts_are_true()
     none_is_compatible();
 }
 
-/// A text certifies one claim at most.
+/// A string certifies one claim at most.
 pub fn one_spelling()
     ensures { OneSpelling }
 {}
 
-/// A claim has one text in each version, and by names none in version 1.
+/// A claim has one spelling in each version, and by names none in version 1.
 pub fn one_text_in_each_version()
     ensures { OneTextInEachVersion }
 {}

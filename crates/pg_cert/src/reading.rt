@@ -157,7 +157,7 @@ fn read_bound(text: &[u8]) -> Option<(Option<u32>, &[u8])>
     Some((bound, rest))
 }
 
-/// What follows that front, where the text begins with it.
+/// What follows that front, where the string begins with it.
 fn after<'a>(text: &'a [u8], front: &[u8]) -> Option<&'a [u8]>
     ensures only { IfSome result (λ rest. text.now ≡ front.now ++ rest.now) }
     ensures found { (rest : List ℕ) → text.now ≡ front.now ++ rest
@@ -352,7 +352,7 @@ fn read_after(
     certificate_of(view, root, bounds, witness)
 }
 
-/// The heading and the certificate that the text spells, if it spells one.
+/// The heading and the certificate that the bytes spell, if they spell one.
 fn read(
     alloc: Global,
     old: &Schema,
@@ -373,7 +373,7 @@ fn read(
     Ok((heading, certificate))
 }
 
-/// Why a text is refused: memory was, or the text is no certificate's.
+/// Why bytes are refused: memory was, or they spell no certificate.
 fn text_fault(error: CertError) -> CertError
     ensures { ((error ≡ errors.Memory) × (result ≡ errors.Memory))
         ⊎ ((error ≡ errors.Memory → ⊥) × (result ≡ errors.BadText)) }
@@ -385,12 +385,12 @@ fn text_fault(error: CertError) -> CertError
 }
 
 /// The certificate that the bytes spell, for two schemas, in version 1 or 2
-/// (docs/CERTIFICATES.md). Version 1 means the view by numbers. There is one at most, and one text
-/// for each certificate in each version: what is read is written again, in the same version, and
-/// must be the same bytes.
+/// (docs/CERTIFICATES.md). Version 1 means the view by numbers. There is one at most, and one
+/// spelling for each certificate in each version: what is read is written again, in the same
+/// version, and must be the same bytes.
 ///
-/// Refused with `BadText` only where the bytes are no certificate's text for these schemas, and
-/// with `Memory` where memory was refused.
+/// Refused with `BadText` only where the bytes spell no certificate of these schemas, and with
+/// `Memory` where memory was refused.
 pub fn from_text(
     alloc: Global,
     old: &Schema,

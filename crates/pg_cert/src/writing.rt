@@ -115,7 +115,7 @@ fn push_last(alloc: Global, text: &mut String, witness: Option<&[u8]>) -> Result
     text.push_str("\nend\n")
 }
 
-/// The text of the certificate under a heading of its view.
+/// The certificate as it is written under a heading of its view.
 pub(crate) fn text_under(
     alloc: Global,
     old: &Schema,
@@ -138,8 +138,8 @@ pub(crate) fn text_under(
     Ok(text)
 }
 
-/// The text of the certificate in version 2, which names its view. Its pairs are pairs of the two
-/// schemas' types (docs/CERTIFICATES.md).
+/// The certificate as it is written in version 2, which names its view. Its pairs are pairs of the
+/// two schemas' types (docs/CERTIFICATES.md).
 ///
 /// Refused only where memory is.
 pub fn to_text(

@@ -1,4 +1,4 @@
--- From costs at places to bounds of pairs.
+-- From costs by index to bounds of pairs.
 use Rattle.std.proofs.Common.{◌≡◌, ℕ, zero, suc, ◌<◌, ◌≤◌, ◌⊎◌, List, [], ◌∷◌, ◌++◌, length, slice_get, take, map, flat_map, filter, nat_le, Bool, true, false, not, cond, is_some, option_map, option_and_then, Option, Some, None, IfSome, inl, inr, ⊎_elim, refl, ap, sym, ◌∙◌, subst, arith, leb-true, le-leb}
 use Rattle.std.specs.List.{AllByRecursion}
 use Rattle.std.specs.List.Sorted.{IsPermutation}
@@ -114,7 +114,7 @@ lines_more [] (d ∷ cs) p c long = absurd (omega arith)
 lines_more (q ∷ ps) [] p c long = absurd (omega arith)
 lines_more (q ∷ ps) (d ∷ cs) p c long = ap (λ bs. record { pair = q; bound = d } ∷ bs) (lines_more ps cs p c (omega arith))
 
--- Bounds of pairs by costs at places.
+-- Bounds of pairs by costs at their indices.
 
 pub among_map : {A B : Type 0} (f : A → B) (y : B) (xs : List A) → IsAmong y (map f xs) → (x : A) × IsAmong x xs × (f x ≡ y)
 among_map f y [] h = absurd h
@@ -158,7 +158,7 @@ module _ (edges : Pair → List Edge) (base : Pair → Option ℕ) (price : Edge
   abbrev table : Pair → Option (Option ℕ)
   table = bound_in (lines ps costs)
 
-  -- a pair's bound is the cost at its place
+  -- a pair's bound is the cost at its index
   bound_at : (i : ℕ) (p : Pair) → slice_get ps i ≡ Some p → table p ≡ Some (cost_at costs i)
   bound_at i p here = found_at (lines ps costs) i (record { pair = p; bound = cost_at costs i }) checked (line_at ps costs i p long here)
 

@@ -1,4 +1,4 @@
--- Arcs that rise by the places that they lead to.
+-- Arcs that rise by the indices that they lead to.
 use Rattle.std.proofs.Common.{◌≡◌, ℕ, zero, suc, ◌+◌, ◌-◌, ◌<◌, ◌≤◌, List, [], ◌∷◌, length, get_or, take, drop, length-drop, get_or-drop, true, false, ltb, leb, ltb-true, leb-true, eq-eqb, ne_eqb, ap, subst, refl, ◌∙◌, arith}
 use Rattle.std.proofs.lemmas.Bool.{leb-false, ltb-false}
 use Rattle.std.specs.List.Sorted.{IsPartitionPoint}

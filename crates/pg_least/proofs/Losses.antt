@@ -1,4 +1,4 @@
--- What the new reader sees of the old writer's messages, and what breaks.
+-- What the new reader reads of the old writer's messages, and what breaks.
 use Rattle.std.proofs.Common.{◌≡◌, Bool, true, false, ◌&&◌, Option, Some, None, refl}
 use Rattle.std.proofs.lemmas.Slice.Eq.{bytes_eq-Decides}
 use Rattle.pg_schema.specs.Shape.{Shape, fields}

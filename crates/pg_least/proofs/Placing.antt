@@ -1,4 +1,4 @@
--- Settling places one after the other: at the start, one more, and at the end.
+-- Settling indices one after the other: at the start, one more, and at the end.
 use Rattle.std.proofs.Common.{◌≡◌, ℕ, zero, suc, ◌+◌, ◌<◌, ◌≤◌, ◌⊎◌, nat_eq, eqb-true, eq-eqb, ne_eqb, List, [], ◌∷◌, ◌++◌, length, set, replicate, filter, Bool, true, false, cond, ◌||◌, is_some, Option, Some, None, inl, inr, ⊎_elim, refl, ap, ap₂, sym, ◌∙◌, subst, arith, get_or-set_same, get_or-set_other}
 use Rattle.std.specs.declared.cmp.Reverse.{Reverse}
 use Rattle.std.specs.List.{AllByRecursion}
@@ -46,7 +46,7 @@ kept_alike : {A : Type 0} (p q : A → Bool) (xs : List A) → ((x : A) → p x 
 kept_alike p q [] h = refl
 kept_alike p q (x ∷ xs) h = ap (λ b. cond b (x ∷ filter p xs) (filter p xs)) (h x) ∙ ap (λ ys. cond (q x) (x ∷ ys) ys) (kept_alike p q xs h)
 
--- Places that are settled.
+-- Indices that are settled.
 
 is_set-none : (n i : ℕ) → is_set (replicate n false) i ≡ false
 is_set-none zero i = refl
@@ -72,7 +72,7 @@ module _ (settled : List Bool) (at : ℕ) (within : at < length settled) (fresh 
   abbrev after : List Bool
   after = set settled at true
 
-  -- an arc leads to a place that is settled now if it led to one before, or leads to the new one
+  -- an arc leads to an index that is settled now if it led to one before, or leads to the new one
   three : (i : ℕ) → ((nat_eq i at ≡ true) × (is_set after i ≡ true) × (is_set settled i ≡ false)) ⊎ ((nat_eq i at ≡ false) × (is_set after i ≡ is_set settled i))
   three i =
       ⊎_elim (λ same. inl (eq-eqb i at same, ap (is_set after) same ∙ get_or-set_same settled at true false within, ap (is_set settled) same ∙ fresh))
@@ -129,14 +129,14 @@ few_settled arcs settled = few_kept (λ (a : Arc). is_set settled a.child) arcs
 pub each_to : (P : Arc → Type 0) (arcs : List Arc) (at : ℕ) → AllByRecursion P arcs → AllByRecursion P (arcs_to arcs at)
 each_to P arcs at each = each_kept (λ (a : Arc). nat_eq a.child at) P arcs (λ a among is. among_each P a arcs among each)
 
--- the arcs to a place that is settled now
+-- the arcs to an index that is settled now
 pub each_to_new : (arcs : List Arc) (costs : List (Option ℕ)) (settled : List Bool) (at bound : ℕ) → at < length settled → cost_at costs at ≡ Some bound
     → AllByRecursion (λ a. IsAmong a arcs × (is_set (set settled at true) a.child ≡ true) × (cost_at costs a.child ≡ Some bound)) (arcs_to arcs at)
 each_to_new arcs costs settled at bound within is =
     each_kept (λ (a : Arc). nat_eq a.child at) (λ a. IsAmong a arcs × (is_set (set settled at true) a.child ≡ true) × (cost_at costs a.child ≡ Some bound)) arcs
     (λ a among same. let here : a.child ≡ at = eqb-true a.child at same in (among, ap (is_set (set settled at true)) here ∙ get_or-set_same settled at true false within, ap (cost_at costs) here ∙ is))
 
--- an arc to a settled place is done
+-- an arc to a settled index is done
 pub done_on : (arcs done : List Arc) (settled : List Bool) (at : ℕ) → ((a : Arc) → IsAmong a arcs → is_set settled a.child ≡ true → IsAmong a done)
     → (a : Arc) → IsAmong a arcs → is_set (set settled at true) a.child ≡ true → IsAmong a (done ++ arcs_to arcs at)
 done_on arcs done settled at before a among h =

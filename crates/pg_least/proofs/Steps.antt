@@ -58,7 +58,7 @@ left_waits before after cost at moved c i h =
     ⊎_elim (λ same. inl (same_entry c i cost at same)) (λ later. inr later)
     (or_cases (nat_eq cost c && nat_eq at i) (waits after c i) (sym (list_any-IsPermutation (λ (e : Entry). nat_eq e.0.0 c && nat_eq e.0.1 i) before (entry cost at ∷ after) moved) ∙ h))
 
--- Places.
+-- Indices.
 
 pub not_both : {b : Bool} → b ≡ true → b ≡ false → ⊥
 not_both h k = let no : true ≡ false = sym h ∙ k in cc
@@ -70,7 +70,7 @@ place_cases i j = of (nat_eq i j) refl
     of true h = inl (eqb-true i j h)
     of false h = inr (λ same. not_both (eq-eqb i j same) h)
 
--- a place with a cost is one of the list
+-- an index with a cost is one of the list
 pub inside : (costs : List (Option ℕ)) (i c : ℕ) → cost_at costs i ≡ Some c → i < length costs
 inside [] i c h = absurd (cc)
 inside (x ∷ costs) zero c h = omega arith
@@ -94,7 +94,7 @@ module _ {A : Type 0} (g : Arcs A) (arcs : List A) (bases : List (Option ℕ)) w
     live = λ i c is fresh. ⊎_elim (λ same. absurd (stale (subst (λ k. is_set settled k ≡ false) (sym same.1) fresh) (subst₂ (λ k d. cost_at costs k ≡ Some d) (sym same.1) (sym same.0) is))) (λ later. later) (left_waits heap left cost at moved c i (s.live i c is fresh));
   }
 
-  -- A live entry of the least cost settles its place.
+  -- A live entry of the least cost settles its index.
   pub settles : (done : List A) (costs : List (Option ℕ)) (settled : List Bool) (heap left : List Entry) (level cost at : ℕ) → IsLeastTaken heap cost at left → at < length settled
       → is_set settled at ≡ false → cost_at costs at ≡ Some cost → Stands g arcs bases done costs settled heap level → Stands g arcs bases done costs (set settled at true) left cost
   settles done costs settled heap left level cost at taken within fresh is s = record {
@@ -120,7 +120,7 @@ module _ {A : Type 0} (g : Arcs A) (arcs : List A) (bases : List (Option ℕ)) w
       above : level ≤ cost
       above = All-permutation (λ (e : Entry). level ≤ e.0.0) heap (entry cost at ∷ left) taken.moved s.high 0 (entry cost at) (omega arith)
 
-  -- A place is relaxed by an arc whose child is settled at the level.
+  -- An index is relaxed by an arc whose child is settled at the level.
   module _ (done : List A) (costs : List (Option ℕ)) (settled : List Bool) (heap : List Entry) (level : ℕ) (s : Stands g arcs bases done costs settled heap level) (a : A) (among : IsAmong a arcs) (child : is_set settled (g.child a) ≡ true) (child_is : cost_at costs (g.child a) ≡ Some level) (dearer : (c : ℕ) → g.price a level ≡ Some c → level < c) (within : g.from a < length costs) where
     offer_is : offer g costs a ≡ g.price a level
     offer_is = ap (option_and_then (g.price a)) child_is
@@ -145,7 +145,7 @@ module _ {A : Type 0} (g : Arcs A) (arcs : List A) (bases : List (Option ℕ)) w
       numbers = s.numbers;
     }
 
-    -- the place costs less from now on
+    -- the index costs less from now on
     module _ (c : ℕ) (price : g.price a level ≡ Some c) (less : IsLess c (cost_at costs (g.from a))) (more : List Entry) (pushed : IsOneMore heap c (g.from a) more) where
       abbrev lower : List (Option ℕ)
       lower = set costs (g.from a) (Some c)
@@ -156,7 +156,7 @@ module _ {A : Type 0} (g : Arcs A) (arcs : List A) (bases : List (Option ℕ)) w
       lower_other : (i : ℕ) → (i ≢ g.from a) → cost_at lower i ≡ cost_at costs i
       lower_other i apart = get_or-set_other costs (g.from a) i (Some c) None apart
 
-      -- a settled place isn't the one that falls
+      -- a settled index isn't the one that falls
       apart : (i : ℕ) → is_set settled i ≡ true → (i ≡ g.from a) → ⊥
       apart i set_i same =
           let (d, here, below) = s.low i set_i in

@@ -1,4 +1,4 @@
--- Places of pairs.
+-- Indices of pairs.
 use Rattle.std.proofs.Common.{◌≡◌, ℕ, suc, ◌+◌, ◌<◌, ◌⊎◌, List, [], ◌∷◌, ◌++◌, length, slice_get, map, flat_map, Bool, true, false, cond, is_some, Some, inl, inr, ⊎_elim, refl, ap, sym, ◌∙◌, subst, arith, append-nil, append_assoc}
 use Rattle.std.specs.BTreeMap.{BTreeMap, get, Updates}
 use Rattle.pg_pairs.specs.declared.choices.choice.Pair.{Pair}
@@ -9,7 +9,7 @@ use Rattle.pg_least.specs.inner.Places.{ArePlaces}
 use Rattle.pg_pairs.specs.laws.EdgeChildren.{same_pair-true}
 use Rattle.pg_least.proofs.Steps.{place_cases}
 
--- One pair more has a place.
+-- One pair more has an index.
 pub placed_more : (pairs : List Pair) (at : ℕ) (q : Pair) (before after : BTreeMap (ℕ × ℕ) ℕ) → slice_get pairs at ≡ Some q → Updates by_indices before after (q.old.index, q.new.index) (Some at) → ArePlaces pairs at before → ArePlaces pairs (at + 1) after
 placed_more pairs at q before after here updates places = record {
   sound = λ p k is. sound_at p k (same_pair q p) refl (sym (place_after p) ∙ is);
@@ -38,7 +38,7 @@ pub flat_map-end : {A B : Type 0} (h : A → List B) (xs : List A) (x : A) → f
 flat_map-end h [] x = append-nil (h x)
 flat_map-end h (y ∷ xs) x = ap (λ zs. h y ++ zs) (flat_map-end h xs x) ∙ sym (append_assoc (h y) (flat_map h xs) (h x))
 
--- a pair of the list has a place in it
+-- a pair of the list has an index in it
 place_in : (p : Pair) (pairs : List Pair) → IsAmong p pairs → (at : ℕ) × (at < length pairs) × (slice_get pairs at ≡ Some p)
 place_in p [] h = absurd h
 place_in p (q ∷ pairs) h = ⊎_elim (λ same. (0, omega arith, ap Some (sym same))) (λ later. let (at, within, is) = place_in p pairs later in (suc at, omega arith, is)) h

@@ -1,5 +1,5 @@
--- The two message types of one full name, and whether the reader of the new one sees what the writer of the old one
--- writes. A view says which numbers of two enums are the same item.
+-- The two message types of one full name, and whether the reader of the new one reads what the writer of the old one
+-- meant. A view says which numbers of two enums are the same item.
 use Rattle.std.specs.Prelude.{◌≡◌, ◌≤◌, length, true, Some, ◌≢◌, ℕ, List}
 use Rattle.pg_schema.specs.Shape.{Shape, fields}
 use Rattle.pg_schema.specs.declared.parts.field.TypeId.{TypeId}
@@ -33,7 +33,7 @@ pub record OldWrites (old : Shape) (pair : Pair) (message : Message) : Type 0 wh
   pub is_plain : IsPlain message
   pub has_encoding : length (enc old pair.old message) ≤ cap
 
--- The new reader reads the old writer's bytes. It sees the same values in the fields of both types, at every depth,
+-- The new reader reads the old writer's bytes. It finds the same values in the fields of both types, at every depth,
 -- and gives back all others: among the records that it doesn't know, those of numbers that its type hasn't are the
 -- bytes that the writer wrote for them.
 pub record NewSees (view : View) (old new : Shape) (pair : Pair) (message : Message) : Type 0 where
@@ -43,7 +43,7 @@ pub record NewSees (view : View) (old new : Shape) (pair : Pair) (message : Mess
   pub gives_back : bytes_of (records_outside (fields new pair.new) (unknown_of read))
       ≡ unshared_bytes old pair.old (fields new pair.new) message
 
--- The old writer encodes the message, and the new reader doesn't see it so.
+-- The old writer encodes the message, and the new reader misreads it or loses a value.
 pub record IsLost (view : View) (old new : Shape) (pair : Pair) (message : Message) : Type 0 where
   pub written : OldWrites old pair message
   pub not_seen : NewSees view old new pair message → ⊥

@@ -1,4 +1,4 @@
-//! Edges between places.
+//! Edges between pairs, by the indices of the pairs in a list.
 
 ghost use Rattle.std.specs.Prelude.{◌≡◌, ◌<◌, ℕ, List, length, map, flat_map, slice_get, ◌++◌, is_some, true, Some, IfOk, OnOk};
 ghost use Rattle.std.specs.BTreeMap.{get};
@@ -17,7 +17,7 @@ use pg_pairs::{Edge, Pair, Prices};
 use std::alloc::{AllocError, Global};
 use std::collections::BTreeMap;
 
-/// An edge, with the places of its pairs.
+/// An edge, with the indices of its pairs.
 #[derive(Clone, Copy, Debug, PartialEq, Eq)]
 pub(crate) struct Arc {
     pub from: usize,
@@ -25,7 +25,7 @@ pub(crate) struct Arc {
     pub edge: Edge,
 }
 
-/// A place of each pair.
+/// An index of each pair.
 fn places_of(alloc: Global, pairs: &[Pair]) -> Result<BTreeMap<(u32, u32), usize>, AllocError>
     ensures { IfOk result (ArePlaces pairs.now (length pairs.now)) }
 {
@@ -37,7 +37,7 @@ fn places_of(alloc: Global, pairs: &[Pair]) -> Result<BTreeMap<(u32, u32), usize
     Ok(places)
 }
 
-/// The place of a pair that has one.
+/// The index of a pair that has one.
 fn place_of(places: &BTreeMap<(u32, u32), usize>, pair: Pair) -> usize
     requires { is_some (get by_indices places.now (pair.old.index, pair.new.index)) ≡ true }
     ensures { get by_indices places.now (pair.old.index, pair.new.index) ≡ Some result }
@@ -77,7 +77,7 @@ fn add_arcs(
     Ok(())
 }
 
-/// The edges of those pairs in their order, with the places of the pairs that they lead from and
+/// The edges of those pairs in their order, with the indices of the pairs that they lead from and
 /// to.
 fn arcs_in_order<G: Prices>(
     alloc: Global,
@@ -99,8 +99,8 @@ fn arcs_in_order<G: Prices>(
     Ok(arcs)
 }
 
-/// The edges of those pairs, with the places of the pairs that they lead from and to, by the places
-/// that they lead to.
+/// The edges of those pairs, with the indices of the pairs that they lead from and to, by the
+/// indices that they lead to.
 pub(crate) fn arcs_of<G: Prices>(
     alloc: Global,
     graph: &G,

@@ -1,4 +1,4 @@
-//! Places that wait, each with a cost, of which the least comes first.
+//! Indices of pairs that wait, each with a cost, of which the least comes first.
 
 ghost use Rattle.std.specs.Prelude.{◌≡◌, ◌+◌, [], IfSome, IfNone, OnOk, OnSome};
 ghost use Rattle.std.specs.BinaryHeap.{IsHeap, heap_items, heap_len};
@@ -9,7 +9,7 @@ use std::alloc::{AllocError, Global};
 use std::cmp::Reverse;
 use std::collections::BinaryHeap;
 
-/// Places with costs, the least cost first.
+/// Indices with costs, the least cost first.
 #[derive(Drop)]
 pub(crate) struct Queue {
     heap: BinaryHeap<Reverse<(u32, usize)>>,
@@ -26,7 +26,7 @@ impl Queue {
         }
     }
 
-    /// Adds a place.
+    /// Adds an index.
     pub(crate) fn push(&mut self, cost: u32, at: usize) -> Result<(), AllocError>
         ensures { OnOk result (IsOneMore (heap_items self.old.heap) cost at
             (heap_items self.new.heap)) }
@@ -35,7 +35,7 @@ impl Queue {
         Ok(())
     }
 
-    /// Takes a place of the least cost.
+    /// Takes an index of the least cost.
     pub(crate) fn pop(&mut self) -> Option<(u32, usize)>
         ensures len { OnSome result (heap_len self.new.heap + 1 ≡ heap_len self.old.heap) }
         ensures least { IfSome result

@@ -15,7 +15,7 @@ use crate::queue::Queue;
 use pg_pairs::{Prices, Work};
 use std::alloc::{AllocError, Global};
 
-/// How far settling has got: the places that wait, and the work so far.
+/// How far settling has got: the indices that wait, and the work so far.
 #[derive(Drop)]
 struct Progress {
     queue: Queue,
@@ -33,7 +33,7 @@ fn is_no_more(bound: Option<u32>, cost: u32) -> bool
     }
 }
 
-/// Lowers the cost of the arc's place to what the arc costs at that bound, where this is less.
+/// Lowers the cost of the arc's pair to what the arc costs at that bound, where this is less.
 fn relax<G: Prices>(
     graph: &G,
     arc: &Arc,
@@ -87,7 +87,7 @@ fn relax_all<G: Prices>(
     Ok(())
 }
 
-/// Whether a place of that cost still waits.
+/// Whether an index of that cost still waits.
 fn is_live(costs: &[Option<u32>], settled: &[bool], cost: u32, at: usize) -> bool
     requires { length settled.now ≡ length costs.now }
     ensures within { result ≡ true → at < length costs.now }
@@ -99,7 +99,7 @@ fn is_live(costs: &[Option<u32>], settled: &[bool], cost: u32, at: usize) -> boo
     at < costs.len() && !settled[at] && costs[at] == Some(cost)
 }
 
-/// Takes the place of the least cost out of those that wait.
+/// Takes the index of the least cost out of those that wait.
 fn next_live(queue: &mut Queue, costs: &[Option<u32>], settled: &[bool]) -> Option<(u32, usize)>
     requires { length settled.now ≡ length costs.now }
     ensures within { IfSome result (λ e. e.1 < length costs.now) }
@@ -123,7 +123,7 @@ fn next_live(queue: &mut Queue, costs: &[Option<u32>], settled: &[bool]) -> Opti
     None
 }
 
-/// All places that have a cost.
+/// All indices that have a cost.
 fn waiting(alloc: Global, costs: &[Option<u32>]) -> Result<Queue, AllocError>
     ensures { IfOk result (λ queue. (i c : ℕ) → cost_at costs.now i ≡ Some c
         → waits (heap_items queue.heap) c i ≡ true) }
@@ -137,9 +137,9 @@ fn waiting(alloc: Global, costs: &[Option<u32>]) -> Result<Queue, AllocError>
     Ok(queue)
 }
 
-/// Lowers the costs of places, which are those that they have without an arc, until each is the
-/// least of this and of what its arcs cost at the costs of their children. The arcs are in the
-/// order of the places that they lead to.
+/// Lowers the costs, which are those of the pairs without an arc, until each is the least of this
+/// and of what its arcs cost at the costs of their children. The arcs are in the order of the
+/// indices that they lead to.
 ///
 /// Refused only where memory is.
 pub(crate) fn settle_all<G: Prices>(

@@ -1,3 +1,3 @@
-//! What of a message comes home from a program with another type.
+//! What an old program reads back of a message that a new one relays.
 
 pub(crate) mod returning;

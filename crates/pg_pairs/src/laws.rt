@@ -25,7 +25,7 @@ pub fn small_pairs()
     ensures { SmallPairs }
 {}
 
-/// Small types, what a program with the new one relays, and what of it comes home.
+/// Small types, what a program with the new one relays, and what the old one reads back.
 pub fn home_examples()
     ensures { HomeExamples }
 {}
@@ -49,17 +49,18 @@ pub fn unseen_are_not_zero()
 {}
 
 /// An item that the reader of a like element reads as itself has one body in both, so that what the
-/// new type writes of it is read as itself once more; but for a zigzag number that is read as a bool.
+/// new type writes of it is read as itself once more. A zigzag number that is read as a bool is the
+/// one exception.
 pub fn seen_items_have_one_body()
     ensures { SeenItemsHaveOneBody }
 {}
 
-/// Between any two schemas the view by numbers sees by numbers.
+/// Between any two schemas the view by numbers compares enums by their numbers.
 pub fn numbers_are_alike()
     ensures { NumbersAreAlike }
 {}
 
-/// What the view of a graph sees between its schemas keeps the law of views, for enums that aren't
+/// The view of a graph keeps the law of views between the graph's schemas, for enums that aren't
 /// there too.
 pub fn sees(_graph: &Priced<'_>)
     ensures { IsEnumView (seen _graph.now) }
@@ -71,8 +72,8 @@ pub fn single_scalars_cost()
     ensures { SingleScalarsCost }
 {}
 
-/// A message that breaks with a list alone, of scalars or of children, has at least the bytes of the
-/// field's cheapest choice, under a table that covers the pair.
+/// A message that breaks with a list alone, of scalars or of children, has at least the bytes of
+/// the field's cheapest choice, under a table that covers the pair.
 pub fn lists_cost()
     ensures { ListsCost }
 {}
@@ -167,8 +168,8 @@ pub fn from_one_root()
 {}
 
 /// Where two types are compatible under a view and the pair returns, each plain message of the old
-/// type comes home: what the old type reads after a program with the new one has relayed it is
-/// home.
+/// type returns: what the old type reads, after a program with the new one has relayed the message,
+/// is what it should read back.
 pub fn messages_come_home()
     ensures { MessagesComeHome }
 {

@@ -1,4 +1,5 @@
--- The number behind the E by which users know the error; a broken rule has that of the rule, which the error doesn't say.
+-- The number after the E by which users know the error. A broken rule has that of the rule, which the error doesn't
+-- say.
 use Rattle.std.specs.Prelude.{ℕ, Option, Some, None}
 use Rattle.pg_schema.specs.declared.error.PartsError.{PartsError}
 use Rattle.pg_schema.specs.declared.error.PartsError.TheVariants as errors

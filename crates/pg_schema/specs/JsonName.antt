@@ -6,7 +6,7 @@ use Rattle.std.specs.Char.{to_ascii_uppercase}
 abbrev pub underscore : ℕ
 underscore = 95
 
--- each `_` is dropped, and the letter behind it is in upper case; behind one already or not
+-- each `_` is dropped, and the letter after it is in upper case; the flag says whether a `_` came before
 abbrev pub in_camel_case : Bool → List ℕ → List ℕ
 in_camel_case behind [] = []
 in_camel_case behind (b ∷ bs) =

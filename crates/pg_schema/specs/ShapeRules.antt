@@ -16,8 +16,8 @@ is_key scalars.Float = false
 is_key scalars.Bytes = false
 is_key s = true
 
--- implicit fields are singular scalars or enums outside a oneof; members of a oneof are explicit (proto3 language guide,
--- "Field Presence", "Oneof")
+-- implicit fields are singular scalars or enums outside a oneof; members of a oneof are explicit (proto3 language
+-- guide, "Field Presence", "Oneof")
 abbrev pub PresenceFits : Presence → Element → Option ℕ → Type 0
 PresenceFits presences.Implicit (elements.Scalar s) oneof = oneof ≡ None
 PresenceFits presences.Implicit (elements.Enum e) oneof = oneof ≡ None
@@ -26,7 +26,7 @@ PresenceFits presences.Explicit element oneof = ⊤
 PresenceFits (presences.Repeated packed) element oneof = (oneof ≡ None) × (packed ≡ true → is_packable element ≡ true)
 PresenceFits (presences.Map key) element oneof = (oneof ≡ None) × (is_key key ≡ true)
 
--- a message type stands among that many types
+-- a message type is one of that many types
 abbrev pub ElementFits : ℕ → Element → Type 0
 ElementFits types (elements.Scalar s) = ⊤
 ElementFits types (elements.Enum e) = ⊤

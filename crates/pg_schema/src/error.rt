@@ -19,7 +19,7 @@ impl PartsError {
     ghost use Rattle.std.specs.Prelude.{◌≡◌};
     ghost use Rattle.pg_schema.specs.Codes.{code_of};
 
-    /// The number behind the E by which users know the error. `Invariant` has none: it doesn't say
+    /// The number after the E by which users know the error. `Invariant` has none: it doesn't say
     /// which rule is broken, and each rule has a number of its own.
     pub fn code(self) -> Option<u16>
         ensures { result ≡ code_of self }

@@ -7,7 +7,7 @@ ghost use Rattle.pg_schema.specs.JsonName.{default_json_name, in_camel_case};
 
 use std::alloc::{AllocError, Global};
 
-/// The byte, in upper case where it stands behind a `_`.
+/// The byte, in upper case where it comes after a `_`.
 fn cased(is_behind: bool, byte: u8) -> u8
     ensures { result ≡ (if is_behind then to_ascii_uppercase byte else byte) }
 {
@@ -18,8 +18,8 @@ fn cased(is_behind: bool, byte: u8) -> u8
     }
 }
 
-/// The bytes of a name without its `_`, and the letter behind each of them in upper case; the first
-/// letter too, where one is said to stand in front.
+/// The bytes of a name without its `_`, and the letter after each of them in upper case; the first
+/// letter too, where one is said to come before it.
 fn cased_bytes(alloc: Global, is_behind: bool, name: &[u8]) -> Result<Vec<u8>, AllocError>
     ensures { IfOk result (λ bytes. bytes.items ≡ in_camel_case is_behind name.now) }
 {
@@ -36,8 +36,8 @@ fn cased_bytes(alloc: Global, is_behind: bool, name: &[u8]) -> Result<Vec<u8>, A
     Ok(bytes)
 }
 
-/// The name without its `_`, and the letter behind each of them in upper case; the first letter
-/// too, where one is said to stand in front.
+/// The name without its `_`, and the letter after each of them in upper case; the first letter
+/// too, where one is said to come before it.
 pub(crate) fn in_camel_case(
     alloc: Global,
     is_behind: bool,
@@ -53,7 +53,7 @@ pub(crate) fn in_camel_case(
 }
 
 /// The JSON name of a field of that name where none is stated: without its `_`, and the letter
-/// behind each of them in upper case (proto3 language guide, "JSON Mapping").
+/// after each of them in upper case (proto3 language guide, "JSON Mapping").
 ///
 /// Refused only where memory is.
 pub fn default_json_name(alloc: Global, name: &str) -> Result<String, AllocError>

@@ -18,10 +18,10 @@ use self::service::Service;
 pub struct Parts {
     /// The files, each after those that it imports.
     pub files: Vec<File>,
-    /// The message types of all files. A `TypeId` is a place here.
+    /// The message types of all files. A `TypeId` is an index here.
     pub types: Vec<MessageType>,
-    /// The enums of all files. An `EnumId` is a place here.
+    /// The enums of all files. An `EnumId` is an index here.
     pub enums: Vec<EnumType>,
-    /// The services of all files. A `ServiceId` is a place here.
+    /// The services of all files. A `ServiceId` is an index here.
     pub services: Vec<Service>,
 }

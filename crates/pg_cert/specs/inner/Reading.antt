@@ -1,4 +1,4 @@
--- What a reader finds at the front of a certificate's text.
+-- What a reader finds at the front of a written certificate.
 use Rattle.std.specs.Prelude.{◌≡◌, ℕ, ◌⊎◌, nat_eq, Bool, not, true, List, ◌∷◌, ◌++◌, codes, slice_index}
 use Rattle.std.specs.List.{AllByRecursion, list_all}
 use Rattle.pg_schema.specs.declared.parts.Parts.{Parts}
@@ -15,7 +15,7 @@ lacks byte word = list_all (λ b. not (nat_eq b byte)) word
 abbrev pub IsBlank : ℕ → Type 0
 IsBlank byte = (byte ≡ 32) ⊎ (byte ≡ 10)
 
--- the first lines of a text and the first word of the next, and what follows these
+-- the first lines of a certificate and the first word of the next, and what follows these
 abbrev pub front : Heading → List ℕ
 front heading = heading_text heading ++ codes "root "
 

@@ -42,13 +42,13 @@ abbrev pub version_of : Heading → ℕ
 version_of headings.First = 1
 version_of (headings.Second view) = 2
 
--- the text is one of the claim in that version
+-- the string spells the claim in that version
 pub record IsTextIn (version : ℕ) (old new : Parts) (text : List ℕ) (claim : Claim) : Type 0 where
   pub certifies : Certifies old new text claim
   pub version_is : version_of certifies.heading ≡ version
 
--- A claim that has texts has one in version 2, and by numbers one in version 1. It has no other, and by names none in
--- version 1.
+-- A claim that can be written has one spelling in version 2, and by numbers one in version 1. It has no other, and by
+-- names none in version 1.
 pub record OneTextInEachVersion : Type 0 where
   pub first : (old new : Parts) (claim : Claim) → HasTexts old new claim → claim.view ≡ views.Numbers
       → (text : List ℕ) × IsTextIn 1 old new text claim
@@ -59,7 +59,7 @@ pub record OneTextInEachVersion : Type 0 where
   pub none_by_names : (old new : Parts) (claim : Claim) (text : List ℕ) → claim.view ≡ views.Names
       → IsTextIn 1 old new text claim → ⊥
 
--- A text certifies one claim at most.
+-- A string certifies one claim at most.
 abbrev pub OneSpelling : Type 0
 OneSpelling =
     (old new : Parts) (text : List ℕ) (a b : Claim) → IsSchema old → IsSchema new → Certifies old new text a

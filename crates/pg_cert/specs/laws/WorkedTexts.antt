@@ -1,4 +1,4 @@
--- Texts of small certificates, spelled by hand, and texts that certify nothing.
+-- Small certificates, spelled by hand, and strings that certify nothing.
 use Rattle.std.specs.Prelude.{◌≡◌, ℕ, List, [], ◌∷◌, map, codes, Some}
 use Rattle.std.specs.String.{string_bytes}
 use Rattle.pg_schema.specs.declared.parts.message_type.MessageType.{MessageType}
@@ -11,16 +11,16 @@ use Rattle.pg_cert.specs.laws.Worked.{by_names, child_witness, in_child, inner, 
 abbrev pub AreNamed : List (List ℕ) → Parts → Type 0
 AreNamed names parts = map (λ (t : MessageType). string_bytes t.name) parts.types.items ≡ names
 
--- the text certifies the claim, of all schemas whose types have these names
+-- the string certifies the claim, of all schemas whose types have these names
 abbrev pub IsTextOf : List (List ℕ) → Claim → List ℕ → Type 0
 IsTextOf names claim text = (old new : Parts) → AreNamed names old → AreNamed names new → Certifies old new text claim
 
--- the text certifies another claim, if any
+-- the string certifies another claim, if any
 abbrev pub IsNotTextOf : List (List ℕ) → Claim → List ℕ → Type 0
 IsNotTextOf names claim text =
     (old new : Parts) → AreNamed names old → AreNamed names new → ¬ (Certifies old new text claim)
 
--- the text certifies no claim of any schemas
+-- the string certifies no claim of any schemas
 abbrev pub IsNoText : List ℕ → Type 0
 IsNoText text = (old new : Parts) (claim : Claim) → ¬ (Certifies old new text claim)
 

@@ -13,7 +13,7 @@ use Rattle.pg_least.specs.inner.Relaxing.{Arcs, cost_at, is_set}
 abbrev pub arcs_by : (Edge → ℕ → Option ℕ) → Arcs Arc
 arcs_by price = record { from = λ a. a.from; child = λ a. a.child; price = λ a. price a.edge }
 
--- an edge of a known pair, between two of the places
+-- an edge of a known pair, between two of the indices
 pub record IsArc (is_known : Pair → Bool) (edges_of : Pair → List Edge) (places : ℕ) (arc : Arc) : Type 0 where
   pub known : is_known arc.edge.from ≡ true
   pub edge : IsAmong arc.edge (edges_of arc.edge.from)
@@ -23,7 +23,7 @@ pub record IsArc (is_known : Pair → Bool) (edges_of : Pair → List Edge) (pla
 abbrev pub arcs_to : List Arc → ℕ → List Arc
 arcs_to arcs at = filter (λ (a : Arc). nat_eq a.child at) arcs
 
--- the arcs to settled places
+-- the arcs to indices that have a cost
 abbrev pub arcs_to_numbers : List Arc → List (Option ℕ) → List Arc
 arcs_to_numbers arcs costs = filter (λ (a : Arc). is_some (cost_at costs a.child)) arcs
 
@@ -46,7 +46,7 @@ AreByChild arcs = IsNonDecreasingBy (λ (a : Arc). a.child) arcs
 abbrev pub arcs_to_settled : List Arc → List Bool → List Arc
 arcs_to_settled arcs settled = filter (λ (a : Arc). is_set settled a.child) arcs
 
--- how many places are left
+-- how many indices are left
 abbrev pub left : List Bool → ℕ
 left [] = 0
 left (true ∷ settled) = left settled

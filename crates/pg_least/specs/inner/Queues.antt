@@ -1,4 +1,4 @@
--- Places that wait with costs.
+-- Indices that wait with costs.
 use Rattle.std.specs.Prelude.{ℕ, ◌≤◌, List, ◌∷◌, IsPermutation}
 use Rattle.std.specs.declared.cmp.Ordering.{Ordering}
 use Rattle.std.specs.declared.cmp.Reverse.{Reverse}

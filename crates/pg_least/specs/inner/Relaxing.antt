@@ -6,7 +6,7 @@ use Rattle.pg_pairs.specs.bounds.Covering.{IsAmong}
 use Rattle.pg_pairs.specs.bounds.LeastCosts.{IsNoMore}
 use Rattle.pg_least.specs.inner.Queues.{IsOneMore}
 
--- an arc leads from a place to its child's, and costs what the child's bound says
+-- an arc leads from an index to its child's, and costs what the child's bound says
 pub record Arcs (A : Type 0) : Type 0 where
   pub from : A → ℕ
   pub child : A → ℕ
@@ -52,7 +52,7 @@ abbrev pub IsLess : ℕ → Option ℕ → Type 0
 IsLess c None = ⊤
 IsLess c (Some d) = c < d
 
--- The place costs no more already, and all is as before; or it costs this from now on, which waits too.
+-- The index costs no more already, and all is as before; or it costs this from now on, which waits too.
 abbrev pub IsRelaxed : ℕ → Option ℕ → List (Option ℕ) → List (Reverse (ℕ × ℕ)) → List (Option ℕ)
     → List (Reverse (ℕ × ℕ)) → Type 0
 IsRelaxed at None costs heap lower more = (lower ≡ costs) × (more ≡ heap)
@@ -60,7 +60,7 @@ IsRelaxed at (Some c) costs heap lower more =
     (IsNoMore (cost_at costs at) (Some c) × (lower ≡ costs) × (more ≡ heap))
     ⊎ (IsLess c (cost_at costs at) × (lower ≡ set costs at (Some c)) × IsOneMore heap c at more)
 
--- Each cost is above 0, and the least of its place's base and of what its arcs cost under these costs; none where there
+-- Each cost is above 0, and the least of its index's base and of what its arcs cost under these costs; none where there
 -- is none.
 pub record IsBalanced {A : Type 0} (g : Arcs A) (arcs : List A) (bases costs : List (Option ℕ)) : Type 0 where
   pub below_base : (i : ℕ) → IsNoMore (cost_at costs i) (cost_at bases i)

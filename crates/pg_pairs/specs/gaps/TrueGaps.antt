@@ -16,7 +16,7 @@ abbrev pub is_alike_read : View → Element → Element → Leaf → Option Leaf
 is_alike_read view old new item (Some read) = alike_leaves view old new item read
 is_alike_read view old new item None = false
 
--- a reader of the new element sees an item of the old one in what was written of it
+-- a reader of the new element reads an item of the old one as itself in what was written of it
 abbrev pub is_seen : View → Element → Element → Leaf → Bool
 is_seen view old new item = is_alike_read view old new item (leaf_in (form new) (body (form old) item))
 

@@ -1,4 +1,4 @@
--- What the view of a graph sees between the graph's two schemas.
+-- How the view of a graph compares enums between the graph's two schemas.
 use Rattle.pg_pairs.specs.declared.graph.priced.Priced.{Priced}
 use Rattle.pg_pairs.specs.views.EnumView.{EnumView}
 use Rattle.pg_pairs.specs.views.NamedView.{seen_under}

@@ -1,4 +1,4 @@
--- What comes home of a message that a program with another type relays (this profile's choice).
+-- What an old program should read back of a message that a new one relays (this project's choice).
 use Rattle.std.specs.Prelude.{ℕ, List, [], ◌∷◌, Bool, false, ◌&&◌, nat_eq, if◌then◌else◌, Option, Some, None, is_some, option_map, option_and_then}
 use Rattle.std.specs.List.{list_all}
 use Rattle.std.specs.Str.{bytes_eq}
@@ -38,7 +38,7 @@ home_content f beside old come =
 abbrev pub home_message : List FieldShape → List FieldShape → List (Part Expected) → Message → Bool
 home_message fs gs old x = list_all (λ f. home_content f (field_at gs f.number) old (parts x)) fs
 
--- The parts of an old message as they must come home: children by their pair's types where the new type has the
+-- The parts of an old message as they must be read back: children by their pair's types where the new type has the
 -- field, and equal where it hasn't.
 abbrev pub homeward : Shape → Shape → TypeId → TypeId → Message → List (Part Expected)
 homeward old new a b (ends unknown) = []
@@ -54,11 +54,11 @@ homeward old new a b (nests number key child later) =
       item = Kept (λ x. if is_some (field_at (fields new b) number) then is_home x else message_eq child x);
     } ∷ homeward old new a b later
 
--- x is what the old type should have home of v
+-- x is what the old type should read back of v
 unfoldable pub home : Shape → Shape → TypeId → TypeId → Message → Message → Bool
 home old new a b v x = home_message (fields old a) (fields new b) (homeward old new a b v) x
 
--- What the old type reads of its message's bytes after the new one has relayed them is home.
+-- What the old type reads of its message's bytes, after the new one has relayed them, is what it should read back.
 unfoldable pub comes_home : Shape → Shape → TypeId → TypeId → Message → Bool
 comes_home old new a b v = is_home (option_and_then (dec old a) (relayed new b (enc old a v)))
   where

@@ -1,4 +1,4 @@
--- Types that a message may go through and come home from (Encoding guide, "Packed Repeated Fields"): what was
+-- Types that a message may go through and return from (Encoding guide, "Packed Repeated Fields"): what was
 -- singular isn't packed.
 use Rattle.std.specs.Prelude.{◌≡◌, Bool, false, ◌&&◌, Option, Some, None}
 use Rattle.std.specs.List.{list_any}

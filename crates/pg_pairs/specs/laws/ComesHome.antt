@@ -1,4 +1,4 @@
--- The law that messages come home.
+-- The law that messages return.
 use Rattle.std.specs.Prelude.{◌≡◌, ◌≤◌, length, true, Some}
 use Rattle.pg_schema.specs.Shape.{Shape}
 use Rattle.pg_schema.specs.ShapeRules.{IsShape}
@@ -12,9 +12,9 @@ use Rattle.pg_pairs.specs.declared.choices.choice.Pair.{Pair}
 use Rattle.pg_pairs.specs.home.Returns.{Returns}
 use Rattle.pg_pairs.specs.home.Home.{comes_home}
 
--- Where two types are compatible under a view and the pair returns, each plain message of the old type comes home: of
--- its bytes, where the new type reads them as a message that has an encoding, the old type's reader sees, after they
--- have been relayed, what is home.
+-- Where two types are compatible under a view and the pair returns, each plain message of the old type returns:
+-- where the new type reads its bytes as a message that has an encoding, the old type's reader finds in that encoding
+-- what it should read back.
 abbrev pub MessagesComeHome : Type 0
 MessagesComeHome =
     (view : View) (old new : Shape) (pair : Pair) → IsShape old → IsShape new →

@@ -1,4 +1,4 @@
--- Small types, what a program with the new one relays, and what of it comes home.
+-- Small types, what a program with the new one relays, and what the old one reads back.
 use Rattle.std.specs.Prelude.{◌≡◌, pos, true, false, List, [], ◌∷◌, Some, None}
 use Rattle.pg_schema.specs.declared.parts.field.Scalar.TheVariants.{Int32}
 use Rattle.pg_schema.specs.declared.parts.field.Scalar.TheVariants as scalars
@@ -37,7 +37,7 @@ abbrev pub holds_nothing : Message
 holds_nothing = nests 1 None (ends []) (ends [])
 
 pub record HomeExamples : Type 0 where
-  -- a field that the new type lacks comes after its own, and comes home
+  -- a field that the new type lacks comes after its own, and returns
   pub lacked_field_is_relayed : relayed int32 first (8 ∷ 5 ∷ 18 ∷ 1 ∷ 120 ∷ []) ≡ Some (8 ∷ 5 ∷ 18 ∷ 1 ∷ 120 ∷ [])
   pub unknown_records_stand_last : relayed int32 first (18 ∷ 1 ∷ 120 ∷ 8 ∷ 5 ∷ []) ≡ Some (8 ∷ 5 ∷ 18 ∷ 1 ∷ 120 ∷ [])
   pub lacked_field_is_home : comes_home with_bytes int32 first first

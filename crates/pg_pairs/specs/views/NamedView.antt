@@ -1,4 +1,4 @@
--- What the view of a name sees between two schemas.
+-- How the view of a name compares the enums of two schemas.
 use Rattle.std.specs.Prelude.{ℤ, Bool, Option, Some, None, List, map, filter, not, ◌&&◌}
 use Rattle.pg_schema.specs.declared.parts.enum_type.EnumType.{EnumType}
 use Rattle.pg_schema.specs.declared.parts.Parts.{Parts}

@@ -39,6 +39,6 @@ abbrev pub IsEnumView : EnumView → Type 0
 IsEnumView enum_view =
     (old new : EnumId) (zero : Bool) → IsLeastOf (enum_view.alike old new) zero (enum_view.least old new zero)
 
--- The view by numbers sees enums by their numbers, between any two schemas.
+-- The view by numbers compares enums by their numbers, between any two schemas.
 abbrev pub NumbersAreAlike : Type 0
 NumbersAreAlike = (old new : Parts) → seen_under views.Numbers old new ≡ by_numbers

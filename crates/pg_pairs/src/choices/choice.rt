@@ -3,7 +3,7 @@
 use crate::choices::case::Case;
 use pg_schema::TypeId;
 
-/// An old and a new message type, each by its position in its own schema.
+/// An old and a new message type, each by its index in its own schema.
 #[derive(Clone, Copy, Debug, PartialEq, Eq)]
 pub struct Pair {
     /// The type of the old schema, by which messages are written.

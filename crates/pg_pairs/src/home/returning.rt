@@ -1,4 +1,4 @@
-//! Whether what a new type relays comes home to the old one.
+//! Whether messages that a new type relays return to the old one.
 
 ghost use Rattle.std.specs.Prelude.{◌≡◌, ◌↔◌, IsTrue, IfOk};
 ghost use Rattle.std.specs.List.{list_any};
@@ -71,7 +71,7 @@ fn one_packs(old: &Schema, new: &Schema, pairs: &[Pair]) -> bool
     false
 }
 
-/// Whether a message of the pair's old type that a program with the new one relays can come home:
+/// Whether a message of the pair's old type that a program with the new one relays can return:
 /// neither in the pair nor in one that it leads to by children is a field singular in the old type
 /// and packed in the new one. A reader takes a packed record for a repeated field alone.
 ///

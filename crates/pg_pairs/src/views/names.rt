@@ -129,8 +129,8 @@ fn start_of(values: &[EnumValue], number: i32) -> usize {
 }
 
 /// The index of the value among the others, sought first after that index and then nearest to it;
-/// the index itself where they lack the value. A wrong answer would cost time alone, since the value
-/// at the index is compared before anything is said of it.
+/// the index itself where they lack the value. A wrong answer would cost time alone, since the
+/// value at the index is compared before anything is said of it.
 fn index_of(others: &[EnumValue], rise: bool, value: &EnumValue, index: usize) -> usize
     requires { rise ≡ true → RiseByWord others.now }
 {

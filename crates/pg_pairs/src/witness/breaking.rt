@@ -18,7 +18,7 @@ use std::alloc::{AllocError, Global};
 
 /// Whether the message breaks of which those bytes are the encoding: it is one of the pair's old
 /// type without unknown records, and the new type's reader, at any depth, can't read the bytes or
-/// sees something else in them than was meant. The message is one of the old schema; of another
+/// reads something else in them than was meant. The message is one of the old schema; of another
 /// type it doesn't break, nor where the new schema hasn't the pair's new type.
 ///
 /// Refused only where memory is.
@@ -86,7 +86,7 @@ pub fn breaks(
         Ok(lent) => Ok(breaks_as_written(alloc, graph, pair, &lent, written)?),
         Err(error) => match error {
             DynError::Memory => Err(error),
-            // What an encoding is read as.
+            // An encoding is read without a fault.
             _ => unreachable!(),
         },
     }

@@ -228,7 +228,8 @@ fn is_same_at(
     }
 }
 
-/// The same, where the field is known to be shown if the old message has a content of it.
+/// Whether the new type shows what the old type's field of the number means. It is known to, where
+/// the old message has a content of the field.
 #[cycle(same)]
 fn is_same_other(
     alloc: Global,
@@ -281,7 +282,8 @@ fn are_same_contents(
     Ok(true)
 }
 
-/// The same, where each field that the old message has a content of is known to be shown.
+/// Whether each old field whose number these contents have is shown as it is meant. Each is known
+/// to be, of which the old message has a content.
 #[cycle(same)]
 fn are_same_others(
     alloc: Global,

@@ -120,8 +120,8 @@ fn item_content(
     }
 }
 
-/// The content of a list that the new field doesn't keep: two zeros beside an explicit field, of which one is
-/// read, else one.
+/// The content of a list that the new field doesn't keep: two zeros beside an explicit field, of
+/// which one is read, else one.
 fn lost_items(alloc: Global, old: &Field, new: &Field) -> Result<Content, AllocError>
     ensures seen { IfOk result (λ content. content_alone old.now.number content
         ≡ lost_onto old.now.number old.now.presence new.now.presence

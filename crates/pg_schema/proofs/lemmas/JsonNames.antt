@@ -80,7 +80,7 @@ kept behind c rest other = elim (below_or_high c (nat_lt c 128) refl) [
   | inr high ↦ high_character behind c rest high ∙ ap (λ d. encode d ++ in_camel_case false rest) (sym (as_it_is behind c high))
 ]
 
--- ---- the name of a text is a text
+-- ---- the name of a string is a string
 
 one_text : (d : ℕ) → scalar d ≡ true → IsUtf8 (encode d)
 one_text d h = (d ∷ [], (and_both (scalar d) true h refl, append-nil (encode d)))

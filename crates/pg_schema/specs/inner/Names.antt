@@ -5,6 +5,7 @@ use Rattle.pg_schema.specs.declared.parts.field.TypeId.{TypeId}
 use Rattle.pg_schema.specs.declared.parts.message_type.MessageType.{MessageType}
 use Rattle.pg_schema.specs.Parts.{name_at}
 
--- the table has the name of each type, with its place, and no other
+-- the table has the name of each type, with its index, and no other
 abbrev pub IsTable : {Y : Type 0} → List MessageType → BTreeMap (String Y) TypeId → Type 0
-IsTable types table = (id : TypeId) (name : List ℕ) → (get_by_text table name ≡ Some id) ↔ (name_at types id ≡ Some name)
+IsTable types table =
+    (id : TypeId) (name : List ℕ) → (get_by_text table name ≡ Some id) ↔ (name_at types id ≡ Some name)

@@ -1,5 +1,5 @@
--- What the rules take and what they refuse, by small examples: a statement for each fact of a schema's invariant, of something
--- that keeps to it and of something that breaks it.
+-- What the rules take and what they refuse, by small examples: a statement for each fact of a schema's invariant, of
+-- something that keeps to it and of something that breaks it.
 use Rattle.std.specs.Prelude.{◌≡◌, ℕ, pos, negsuc, true, false, [], ◌∷◌, codes, Option, Some, None}
 use Rattle.std.specs.List.{list_all, list_any}
 use Rattle.pg_schema.specs.declared.parts.field.Element.{Element}
@@ -32,13 +32,14 @@ int32 = elements.Scalar scalars.Int32
 abbrev pub text : Element
 text = elements.Scalar scalars.String
 
--- the place of the first message type
+-- the index of the first message type
 abbrev pub first_type : TypeId
 first_type = record { index = 0 }
 
 -- a schema of one message type with one such field, numbered 1
 abbrev pub of_field : Presence → Element → Option ℕ → Shape
-of_field presence element oneof = (record { number = 1; presence = presence; element = element; oneof = oneof } ∷ []) ∷ []
+of_field presence element oneof =
+    (record { number = 1; presence = presence; element = element; oneof = oneof } ∷ []) ∷ []
 
 -- a field or value of that number
 abbrev pub one : ℕ → Use
@@ -99,7 +100,8 @@ pub record WorkedRules : Type 0 where
   pub name_reserved : are_named_once (codes "a" ∷ codes "b" ∷ []) (codes "b" ∷ []) ≡ false
   pub in_package : is_in (codes "p.q") (codes "p.q.M") ≡ true
   pub in_no_package : is_in [] (codes "M") ≡ true
-  pub not_in_package : list_any (is_in (codes "p")) (codes "pM" ∷ codes "p" ∷ codes "p." ∷ codes "q.M" ∷ codes "p.q.M" ∷ []) ≡ false
+  pub not_in_package :
+      list_any (is_in (codes "p")) (codes "pM" ∷ codes "p" ∷ codes "p." ∷ codes "q.M" ∷ codes "p.q.M" ∷ []) ≡ false
   pub each_once : are_each_once 2 (1 ∷ 0 ∷ []) ≡ true
   pub declared_twice : are_each_once 2 (0 ∷ 0 ∷ []) ≡ false
   pub declared_nowhere : are_each_once 2 (0 ∷ []) ≡ false
@@ -111,4 +113,5 @@ pub record WorkedRules : Type 0 where
   pub option_of_another_kind : is_of_kind 9 (options.Flag true) ≡ false
   pub option_unknown : is_of_kind 2 (options.Flag true) ≡ false
   pub part_of_a_package : list_all (λ name. is_front name (codes "p.q")) (codes "p" ∷ codes "p.q" ∷ []) ≡ true
-  pub no_part_of_a_package : list_any (λ name. is_front name (codes "p.q")) (codes "q" ∷ codes "pq" ∷ codes "p.q.r" ∷ []) ≡ false
+  pub no_part_of_a_package :
+      list_any (λ name. is_front name (codes "p.q")) (codes "q" ∷ codes "pq" ∷ codes "p.q.r" ∷ []) ≡ false

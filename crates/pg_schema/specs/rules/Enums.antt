@@ -28,6 +28,7 @@ is_value v = is_word (string_bytes v.name)
 -- false, is this profile's choice. No value has a reserved number or name.
 abbrev pub is_enum : EnumType → Bool
 is_enum e =
-    begins_with_zero e.values.items && list_all is_value e.values.items && list_all is_value_range e.reserved_numbers.items
+    begins_with_zero e.values.items && list_all is_value e.values.items
+    && list_all is_value_range e.reserved_numbers.items
     && are_named_once (value_names e.values.items) (map string_bytes e.reserved_names.items)
     && is_used_once (stated_or e.options.allow_alias false) (enum_uses e.values.items e.reserved_numbers.items)

@@ -21,7 +21,8 @@ is_message (elements.Message t) = true
 -- and no repeated or map field is a member or `optional`. "Maps": a key is of an integral type, bool or string.
 abbrev pub has_presence : Presence → Element → (member stated : Bool) → Bool
 has_presence presences.Implicit element member stated = not (is_message element || member || stated)
-has_presence presences.Explicit element member stated = (is_message element || member || stated) && not (member && stated)
+has_presence presences.Explicit element member stated =
+    (is_message element || member || stated) && not (member && stated)
 has_presence (presences.Repeated packed) element member stated = not (member || stated)
 has_presence (presences.Map key) element member stated = not (member || stated) && is_key key
 
@@ -33,7 +34,9 @@ stated_or (Some flag) default = flag
 -- proto3 language specification, "Fields", and Encoding guide, "Packed Repeated Fields": a repeated field of a packable
 -- element is packed unless `packed = false` is stated, and no other field is packed
 abbrev pub is_packed : Presence → Element → Option Bool → Bool
-is_packed (presences.Repeated packed) element stated = (cond packed (stated_or stated (is_packable element)) (not (stated_or stated (is_packable element)))) && (not packed || is_packable element)
+is_packed (presences.Repeated packed) element stated =
+    cond packed (stated_or stated (is_packable element)) (not (stated_or stated (is_packable element)))
+    && (not packed || is_packable element)
 is_packed presences.Implicit element stated = not (stated_or stated false)
 is_packed presences.Explicit element stated = not (stated_or stated false)
 is_packed (presences.Map key) element stated = not (stated_or stated false)

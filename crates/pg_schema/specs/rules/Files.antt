@@ -32,9 +32,10 @@ is_file_option o = is_of_kind o.number o.value
 abbrev pub option_numbers : List FileOption → List ℕ
 option_numbers options = map (λ (o : FileOption). o.number) options
 
--- proto3 language specification, "Package", "Option"; options of a file stand by rising number, each once
+-- proto3 language specification, "Package", "Option"; options of a file come by rising number, each once
 abbrev pub is_file : File → Bool
-is_file f = is_package (string_bytes f.package) && is_rising (0 ∷ option_numbers f.options.items) && list_all is_file_option f.options.items
+is_file f = is_package (string_bytes f.package) && is_rising (0 ∷ option_numbers f.options.items)
+    && list_all is_file_option f.options.items
 
 -- proto3 language specification, "Service definition": what a method sends and answers are of so many message types
 abbrev pub is_method : ℕ → Method → Bool

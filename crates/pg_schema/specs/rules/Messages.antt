@@ -1,4 +1,5 @@
--- What holds of each message type, taken by itself (proto3 language guide, "Message definition", "Oneof", "Reserved Fields").
+-- What holds of each message type, taken by itself (proto3 language guide, "Message definition", "Oneof", "Reserved
+-- Fields").
 use Rattle.std.specs.Prelude.{◌≡◌, ℕ, zero, suc, Bool, true, false, nat_eq, ◌&&◌, List, ◌∷◌, map, Option, Some, None, is_some, length, ◌<◌, slice_index_or}
 use Rattle.std.specs.List.{list_all, list_any}
 use Rattle.std.specs.BTreeSet.{BTreeSet, contains}
@@ -15,7 +16,8 @@ use Rattle.pg_schema.specs.rules.Words.{is_word}
 -- the field by itself, in a message with so many oneofs, among so many message types and enums
 abbrev pub is_field : (oneofs types enums : ℕ) → Field → Bool
 is_field oneofs types enums f =
-    is_field_number f.number && is_word (string_bytes f.name) && has_presence f.presence f.element (is_some f.oneof) f.states_optional
+    is_field_number f.number && is_word (string_bytes f.name)
+    && has_presence f.presence f.element (is_some f.oneof) f.states_optional
     && is_packed f.presence f.element f.options.packed && is_known types enums f.element && is_oneof oneofs f.oneof
 
 abbrev pub numbers : List Field → List ℕ
@@ -32,23 +34,24 @@ abbrev pub is_place : ℕ → Option ℕ → Bool
 is_place place None = false
 is_place place (Some other) = nat_eq other place
 
--- the field is a member of the oneof at that place
+-- the field is a member of the oneof at that index
 abbrev pub is_member : ℕ → Field → Bool
 is_member place f = is_place place f.oneof
 
--- the oneofs at the places below that have a member each
+-- the oneofs at the indices below that have a member each
 abbrev pub have_members : ℕ → List Field → Bool
 have_members zero fields = true
 have_members (suc place) fields = list_any (is_member place) fields && have_members place fields
 
--- the flag at each of so many places says whether the oneof there has a member
+-- the flag at each of so many indices says whether the oneof there has a member
 pub record AreMarks (fields : List Field) (oneofs : ℕ) (marks : List Bool) : Type 0 where
   pub all : length marks ≡ oneofs
   pub each : (place : ℕ) → place < oneofs → slice_index_or marks place false ≡ list_any (is_member place) fields
 
 -- the fields' numbers in order of declaration are as many as the fields, with that of each
 abbrev pub is_declared : List ℕ → List Field → Bool
-is_declared declared fields = nat_eq (length declared) (length fields) && list_all (λ (f : Field). list_any (nat_eq f.number) declared) fields
+is_declared declared fields =
+    nat_eq (length declared) (length fields) && list_all (λ (f : Field). list_any (nat_eq f.number) declared) fields
 
 -- the fields by themselves and in their order, by rising number from above 0
 abbrev pub has_fields : (types enums : ℕ) → MessageType → Bool
@@ -58,12 +61,14 @@ has_fields types enums t =
 
 -- each oneof is a word and has a member
 abbrev pub has_oneofs : MessageType → Bool
-has_oneofs t = list_all (λ text. is_word (string_bytes text)) t.oneofs.items && have_members (length t.oneofs.items) t.fields.items
+has_oneofs t =
+    list_all (λ text. is_word (string_bytes text)) t.oneofs.items && have_members (length t.oneofs.items) t.fields.items
 
 -- no number is used twice, and no name; no field has a reserved name
 abbrev pub has_reserved : MessageType → Bool
 has_reserved t =
-    list_all is_reserved_range t.reserved_numbers.items && is_used_once false (message_uses t.fields.items t.reserved_numbers.items)
+    list_all is_reserved_range t.reserved_numbers.items
+    && is_used_once false (message_uses t.fields.items t.reserved_numbers.items)
     && are_named_once (field_names t.fields.items) (map string_bytes t.reserved_names.items)
 
 -- That two fields of one JSON name are refused, given or default, byte by byte, is this profile's choice.

@@ -5,7 +5,7 @@ use Rattle.std.specs.List.{list_all}
 use Rattle.std.specs.String.{string_bytes}
 use Rattle.pg_schema.specs.declared.parts.file.File.{File}
 
--- the name is the package, or what stands before a dot of it
+-- the name is the package, or what comes before a dot of it
 abbrev pub is_front : (name text : List ℕ) → Bool
 is_front [] [] = true
 is_front [] (byte ∷ bytes) = nat_eq byte 46

@@ -15,7 +15,7 @@ is_rising = all_pairs nat_lt
 abbrev pub differ : List ℕ → List ℕ → Bool
 differ a b = not (bytes_eq a b)
 
--- no text stands twice; texts are compared byte by byte
+-- no string is there twice; strings are compared byte by byte
 abbrev pub are_distinct : List (List ℕ) → Bool
 are_distinct = all_pairs differ
 

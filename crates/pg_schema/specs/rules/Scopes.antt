@@ -1,5 +1,6 @@
--- Where message types, enums and services are declared (proto3 language specification, "Package", "Message definition").
--- Each is declared in one place, by a file or by a message type, and its full name is the name of that place and a word.
+-- Where message types, enums and services are declared (proto3 language specification, "Package", "Message
+-- definition"). Each is declared once, by a file or by a message type, and its full name is the name of that scope and
+-- a word.
 use Rattle.std.specs.Prelude.{ℕ, Bool, false, not, nat_eq, nat_lt, ◌&&◌, List, [], ◌∷◌, ◌++◌, map, length, take, drop, Option, Some, None, slice_get, flat_map, option_map}
 use Rattle.std.specs.List.{list_all}
 use Rattle.std.specs.Str.{bytes_eq}
@@ -22,7 +23,8 @@ is_dot_and_word (byte ∷ bytes) = nat_eq byte 46 && is_word bytes
 -- the name is that scope, a dot and a word; a word alone where the scope has no name
 abbrev pub is_in : (scope name : List ℕ) → Bool
 is_in [] name = is_word name
-is_in (byte ∷ bytes) name = bytes_eq (take (length (byte ∷ bytes)) name) (byte ∷ bytes) && is_dot_and_word (drop (length (byte ∷ bytes)) name)
+is_in (byte ∷ bytes) name =
+    bytes_eq (take (length (byte ∷ bytes)) name) (byte ∷ bytes) && is_dot_and_word (drop (length (byte ∷ bytes)) name)
 
 -- there is such a name, and it is in the scope
 abbrev pub is_named_in : List ℕ → Option (List ℕ) → Bool
@@ -50,17 +52,20 @@ are_services_in services scope ids = list_all (λ id. is_named_in scope (service
 -- what the message type declares is in it
 abbrev pub is_type_scope : List MessageType → List EnumType → MessageType → Bool
 is_type_scope types enums t =
-    are_types_in types (string_bytes t.name) t.nested_types.items && are_enums_in enums (string_bytes t.name) t.nested_enums.items
+    are_types_in types (string_bytes t.name) t.nested_types.items
+    && are_enums_in enums (string_bytes t.name) t.nested_enums.items
 
 -- what the file declares is in its package
 abbrev pub is_file_scope : List MessageType → List EnumType → List Service → File → Bool
 is_file_scope types enums services f =
-    are_types_in types (string_bytes f.package) f.types.items && are_enums_in enums (string_bytes f.package) f.enums.items
+    are_types_in types (string_bytes f.package) f.types.items
+    && are_enums_in enums (string_bytes f.package) f.enums.items
     && are_services_in services (string_bytes f.package) f.services.items
 
--- the places stand once each, and are all below a count
+-- the indices are there once each, and are all below a count
 abbrev pub are_each_once : ℕ → List ℕ → Bool
-are_each_once count places = nat_eq (length places) count && list_all (λ place. nat_lt place count) places && all_pairs (λ a b. not (nat_eq a b)) places
+are_each_once count places = nat_eq (length places) count && list_all (λ place. nat_lt place count) places
+    && all_pairs (λ a b. not (nat_eq a b)) places
 
 abbrev pub type_places : List TypeId → List ℕ
 type_places ids = map (λ (id : TypeId). id.index) ids
@@ -71,7 +76,7 @@ enum_places ids = map (λ (id : EnumId). id.index) ids
 abbrev pub service_places : List ServiceId → List ℕ
 service_places ids = map (λ (id : ServiceId). id.index) ids
 
--- the places of what files declare, and of what message types do
+-- the indices of what files declare, and of what message types do
 abbrev pub file_types : List File → List ℕ
 file_types files = flat_map (λ (f : File). type_places f.types.items) files
 
@@ -99,6 +104,6 @@ are_declared_once files types enums services =
     are_each_once (length types) (declared_types files types) && are_each_once enums (declared_enums files types)
     && are_each_once services (declared_services files)
 
--- a place, as a number that is used
+-- an index, as a number that is used
 abbrev pub place_use : ℕ → Use
 place_use place = record { first = place; last = place; is_reserved = false }

@@ -29,8 +29,8 @@ reserved_use r = record { first = r.first; last = r.last; is_reserved = true }
 abbrev pub message_uses : List Field → List ReservedFields → List Use
 message_uses fields reserved = map field_use fields ++ map reserved_use reserved
 
--- a reserved item of a message: its ends are field numbers' bounds at most, and it doesn't fall. That 19,000 to 19,999 may
--- be reserved, and that no end may lie out of bounds, is this profile's choice
+-- a reserved item of a message: its ends are field numbers' bounds at most, and it doesn't fall. That 19,000 to 19,999
+-- may be reserved, and that no end may lie out of bounds, is this profile's choice
 abbrev pub is_reserved_range : ReservedFields → Bool
 is_reserved_range r = nat_le 1 r.first && nat_le r.first r.last && nat_lt r.last (2 ^ 29)
 
@@ -56,6 +56,6 @@ is_value_range r = nat_le (from_lowest r.first) (from_lowest r.last)
 abbrev pub is_whole : Use → Bool
 is_whole u = nat_le u.first u.last && (u.is_reserved || nat_le u.last u.first)
 
--- one use stands before the other, or beside it as an alias
+-- one use comes before the other, or is an alias of it
 abbrev pub comes_before : Bool → Use → Use → Bool
 comes_before aliases a b = nat_lt a.last b.first || (are_aliases aliases a b && nat_le a.last b.first)

@@ -1,5 +1,5 @@
 -- Words and packages (proto3 language specification, "Identifiers", "Package"; that a word may begin with `_` is this
--- profile's choice). Texts are lists of bytes.
+-- profile's choice). Strings are lists of bytes.
 use Rattle.std.specs.Prelude.{ℕ, Bool, true, false, not, nat_le, nat_lt, ◌&&◌, ◌||◌, ◌==◌, List, [], ◌∷◌, if◌then◌else◌}
 use Rattle.std.specs.List.{list_all}
 
@@ -11,7 +11,7 @@ is_letter byte = (nat_le 65 byte && nat_le byte 90) || (nat_le 97 byte && nat_le
 abbrev pub is_digit : ℕ → Bool
 is_digit byte = nat_le 48 byte && nat_le byte 57
 
--- what may stand behind the first letter
+-- what may come after the first letter
 abbrev pub is_word_byte : ℕ → Bool
 is_word_byte byte = is_letter byte || is_digit byte
 
@@ -24,7 +24,7 @@ abbrev pub before_first : ℕ → List (List ℕ) → List (List ℕ)
 before_first byte [] = (byte ∷ []) ∷ []
 before_first byte (part ∷ parts) = (byte ∷ part) ∷ parts
 
--- what stands between the dots of a text
+-- what is between the dots of a string
 abbrev pub parts_at_dots : List ℕ → List (List ℕ)
 parts_at_dots [] = [] ∷ []
 parts_at_dots (byte ∷ bytes) = if byte == 46 then [] ∷ parts_at_dots bytes else before_first byte (parts_at_dots bytes)

@@ -22,7 +22,7 @@ pub struct EnumType {
 pub struct EnumValue {
     /// The name without its scope.
     pub name: String,
-    /// The number that stands in messages.
+    /// The number that messages have.
     pub number: i32,
     /// The options as stated.
     pub options: EnumValueOptions,

@@ -6,14 +6,14 @@ ghost use Rattle.pg_schema.specs.Shape.{is_map, is_packable, is_singular};
 
 use crate::parts::options::FieldOptions;
 
-/// The place of a message type in its schema.
+/// The index of a message type in its schema.
 #[derive(Clone, Copy, Debug, PartialEq, Eq)]
 pub struct TypeId {
     /// Counted from 0 in `Parts::types`.
     pub index: u32,
 }
 
-/// The place of an enum in its schema.
+/// The index of an enum in its schema.
 #[derive(Clone, Copy, Debug, PartialEq, Eq)]
 pub struct EnumId {
     /// Counted from 0 in `Parts::enums`.
@@ -49,7 +49,7 @@ pub enum Scalar {
     Sfixed64,
     /// `bool`: a varint, 0 or 1.
     Bool,
-    /// `string`: a text in UTF-8.
+    /// `string`: UTF-8.
     String,
     /// `bytes`: any bytes.
     Bytes,
@@ -122,7 +122,7 @@ pub enum Element {
 }
 
 impl Element {
-    /// Whether a list of such items can stand in one record: numbers, bool and enums, but no texts,
+    /// Whether a list of such items can be in one record: numbers, bool and enums, but no strings,
     /// bytes and messages (Encoding guide, "Packed Repeated Fields").
     pub fn is_packable(self) -> bool
         ensures { result ≡ is_packable self }
@@ -135,7 +135,7 @@ impl Element {
     }
 }
 
-/// How often a field's items stand in a message (proto3 language guide, "Specifying Field
+/// How many items of a field a message has (proto3 language guide, "Specifying Field
 /// Cardinality").
 #[derive(Clone, Copy, Debug, PartialEq, Eq)]
 pub enum Presence {
@@ -178,11 +178,11 @@ pub struct Field {
     pub number: u32,
     /// The name without its scope.
     pub name: String,
-    /// How often items stand.
+    /// How many items a message has.
     pub presence: Presence,
     /// What the items are.
     pub element: Element,
-    /// The oneof that the field is a member of, by its place in `MessageType::oneofs`.
+    /// The oneof that the field is a member of, by its index in `MessageType::oneofs`.
     pub oneof: Option<u32>,
     /// The JSON name, given or default.
     pub json_name: String,

@@ -4,7 +4,7 @@ use crate::parts::field::{EnumId, TypeId};
 use crate::parts::options::FileOption;
 use crate::parts::service::ServiceId;
 
-/// A file, with the places of what it declares outside of any message.
+/// A file, with the indices of what it declares outside of any message.
 #[derive(Debug, PartialEq, Eq, Drop)]
 pub struct File {
     /// The path by which it is imported.
@@ -13,9 +13,9 @@ pub struct File {
     pub package: String,
     /// The imports, in order.
     pub imports: Vec<Import>,
-    /// The message types that stand in no other, in order of declaration.
+    /// The message types that are nested in no other, in order of declaration.
     pub types: Vec<TypeId>,
-    /// The enums that stand in no message, in order of declaration.
+    /// The enums that are nested in no message, in order of declaration.
     pub enums: Vec<EnumId>,
     /// The services, in order of declaration.
     pub services: Vec<ServiceId>,

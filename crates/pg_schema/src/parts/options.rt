@@ -16,7 +16,7 @@ pub enum OptionValue {
     Flag(bool),
     /// The word of `optimize_for`.
     Mode(OptimizeMode),
-    /// A text.
+    /// A string.
     Text(String),
 }
 

@@ -3,7 +3,7 @@
 use crate::parts::field::TypeId;
 use crate::parts::options::{MethodOptions, ServiceOptions};
 
-/// The place of a service in its schema.
+/// The index of a service in its schema.
 #[derive(Clone, Copy, Debug, PartialEq, Eq)]
 pub struct ServiceId {
     /// Counted from 0 in `Parts::services`.

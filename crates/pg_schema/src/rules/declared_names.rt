@@ -35,7 +35,7 @@ pub fn full_name(alloc: Global, scope: &str, name: &str) -> Result<String, Alloc
 }
 
 /// The name of the message type of a map field's entries, for a field of this name: the field's
-/// name without its `_`, its first letter and each behind a `_` in upper case, and `Entry`
+/// name without its `_`, its first letter and each after a `_` in upper case, and `Entry`
 /// (descriptor.proto, `map_entry`).
 ///
 /// Refused only where memory is.
@@ -131,7 +131,7 @@ fn push_entry_names(
     Ok(())
 }
 
-/// Appends the full names of the values of the enum at that place.
+/// Appends the full names of the values of the enum at that index.
 fn push_values_of(
     alloc: Global,
     names: &mut Vec<String>,
@@ -149,7 +149,7 @@ fn push_values_of(
     }
 }
 
-/// Appends the full names of the values of the enums at these places.
+/// Appends the full names of the values of the enums at these indices.
 fn push_values_at(
     alloc: Global,
     names: &mut Vec<String>,

@@ -33,7 +33,7 @@ fn are_file_options(options: &[FileOption]) -> bool
     true
 }
 
-/// The options stand by rising number.
+/// The options come by rising number.
 fn are_in_order(options: &[FileOption]) -> bool
     ensures { result ≡ is_rising (0 ∷ option_numbers options.now) }
 {

@@ -51,7 +51,7 @@ pub(crate) fn are_fields(fields: &[Field], oneofs: usize, types: usize, enums: u
     true
 }
 
-/// Each text is a word.
+/// Each string is a word.
 pub(crate) fn are_words(texts: &[String]) -> bool
     ensures { result ≡ list_all (λ text. is_word (string_bytes text)) texts.now }
 {
@@ -75,7 +75,7 @@ pub(crate) fn are_reserved_ranges(ranges: &[ReservedFields]) -> bool
     true
 }
 
-/// The fields stand by rising number, from 1 on.
+/// The fields come by rising number, from 1 on.
 pub(crate) fn is_rising(fields: &[Field]) -> bool
     ensures { result ≡ is_rising (0 ∷ numbers fields.now) }
 {
@@ -89,7 +89,7 @@ pub(crate) fn is_rising(fields: &[Field]) -> bool
     true
 }
 
-/// Whether each oneof has a member, by its place.
+/// Whether each oneof has a member, by its index.
 fn members(alloc: Global, fields: &[Field], oneofs: usize) -> Result<Vec<bool>, AllocError>
     ensures { IfOk result (λ marks. AreMarks fields.now oneofs marks.items) }
 {
@@ -150,7 +150,7 @@ fn json_names(alloc: Global, fields: &[Field]) -> Result<Vec<&str>, AllocError>
     Ok(names)
 }
 
-/// No JSON name stands twice.
+/// No JSON name is there twice.
 pub(crate) fn have_distinct_json_names(alloc: Global, fields: &[Field]) -> Result<bool, AllocError>
     ensures { IfOk result (λ b. b ≡ are_distinct (json_names fields.now)) }
 {
@@ -193,7 +193,7 @@ fn are_declared(alloc: Global, declared: &[u32], fields: &[Field]) -> Result<boo
     Ok(has_numbers(&set, fields))
 }
 
-/// The fields keep to the rules of fields, and stand in order.
+/// The fields keep to the rules of fields, and are in order.
 fn has_fields(
     alloc: Global,
     message_type: &MessageType,

@@ -12,14 +12,14 @@ use crate::parts::file::File;
 use std::alloc::{AllocError, Global};
 use std::collections::BTreeSet;
 
-/// The byte is a dot, and what stands before it is in the set.
+/// The byte is a dot, and what comes before it is in the set.
 fn ends_part(set: &BTreeSet<&str>, front: &str, byte: u8) -> bool
     ensures { result ≡ (nat_eq byte 46 && has_lent set.now front.now) }
 {
     byte == b'.' && set.contains(front)
 }
 
-/// Appends the character to the text.
+/// Appends the character to the string.
 fn push_byte(text: &mut String, byte: u8) -> Result<(), AllocError>
     requires { byte < 128 }
     ensures { OnOk result (string_bytes text.new ≡ string_bytes text.old ++ byte ∷ []) }

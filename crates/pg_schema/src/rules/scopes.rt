@@ -67,7 +67,7 @@ fn is_service_in(services: &[Service], scope: &str, id: ServiceId) -> bool
     }
 }
 
-/// The message types at these places are in the scope.
+/// The message types at these indices are in the scope.
 fn are_types_in(types: &[MessageType], scope: &str, ids: &[TypeId]) -> bool
     ensures { result ≡ are_types_in types.now scope.now ids.now }
 {
@@ -79,7 +79,7 @@ fn are_types_in(types: &[MessageType], scope: &str, ids: &[TypeId]) -> bool
     true
 }
 
-/// The enums at these places are in the scope.
+/// The enums at these indices are in the scope.
 fn are_enums_in(enums: &[EnumType], scope: &str, ids: &[EnumId]) -> bool
     ensures { result ≡ are_enums_in enums.now scope.now ids.now }
 {
@@ -91,7 +91,7 @@ fn are_enums_in(enums: &[EnumType], scope: &str, ids: &[EnumId]) -> bool
     true
 }
 
-/// The services at these places are in the scope.
+/// The services at these indices are in the scope.
 fn are_services_in(services: &[Service], scope: &str, ids: &[ServiceId]) -> bool
     ensures { result ≡ are_services_in services.now scope.now ids.now }
 {
@@ -139,7 +139,7 @@ pub(crate) fn are_file_scopes(
     true
 }
 
-/// Appends the places of these message types.
+/// Appends the indices of these message types.
 fn push_type_places(places: &mut Vec<u32>, ids: &[TypeId]) -> Result<(), AllocError>
     ensures { OnOk result (places.new.items ≡ places.old.items ++ type_places ids.now) }
 {
@@ -149,7 +149,7 @@ fn push_type_places(places: &mut Vec<u32>, ids: &[TypeId]) -> Result<(), AllocEr
     Ok(())
 }
 
-/// Appends the places of these enums.
+/// Appends the indices of these enums.
 fn push_enum_places(places: &mut Vec<u32>, ids: &[EnumId]) -> Result<(), AllocError>
     ensures { OnOk result (places.new.items ≡ places.old.items ++ enum_places ids.now) }
 {
@@ -159,7 +159,7 @@ fn push_enum_places(places: &mut Vec<u32>, ids: &[EnumId]) -> Result<(), AllocEr
     Ok(())
 }
 
-/// Appends the places of these services.
+/// Appends the indices of these services.
 fn push_service_places(places: &mut Vec<u32>, ids: &[ServiceId]) -> Result<(), AllocError>
     ensures { OnOk result (places.new.items ≡ places.old.items ++ service_places ids.now) }
 {
@@ -169,7 +169,7 @@ fn push_service_places(places: &mut Vec<u32>, ids: &[ServiceId]) -> Result<(), A
     Ok(())
 }
 
-/// Appends the places of the message types that files declare.
+/// Appends the indices of the message types that files declare.
 fn push_file_types(places: &mut Vec<u32>, files: &[File]) -> Result<(), AllocError>
     ensures { OnOk result (places.new.items ≡ places.old.items ++ file_types files.now) }
 {
@@ -179,7 +179,7 @@ fn push_file_types(places: &mut Vec<u32>, files: &[File]) -> Result<(), AllocErr
     Ok(())
 }
 
-/// Appends the places of the message types that message types declare.
+/// Appends the indices of the message types that message types declare.
 fn push_nested_types(places: &mut Vec<u32>, types: &[MessageType]) -> Result<(), AllocError>
     ensures { OnOk result (places.new.items ≡ places.old.items ++ nested_types types.now) }
 {
@@ -189,7 +189,7 @@ fn push_nested_types(places: &mut Vec<u32>, types: &[MessageType]) -> Result<(),
     Ok(())
 }
 
-/// The places of the message types that files and message types declare.
+/// The indices of the message types that files and message types declare.
 fn declared_types(
     alloc: Global,
     files: &[File],
@@ -203,7 +203,7 @@ fn declared_types(
     Ok(places)
 }
 
-/// Appends the places of the enums that files declare.
+/// Appends the indices of the enums that files declare.
 fn push_file_enums(places: &mut Vec<u32>, files: &[File]) -> Result<(), AllocError>
     ensures { OnOk result (places.new.items ≡ places.old.items ++ file_enums files.now) }
 {
@@ -213,7 +213,7 @@ fn push_file_enums(places: &mut Vec<u32>, files: &[File]) -> Result<(), AllocErr
     Ok(())
 }
 
-/// Appends the places of the enums that message types declare.
+/// Appends the indices of the enums that message types declare.
 fn push_nested_enums(places: &mut Vec<u32>, types: &[MessageType]) -> Result<(), AllocError>
     ensures { OnOk result (places.new.items ≡ places.old.items ++ nested_enums types.now) }
 {
@@ -223,7 +223,7 @@ fn push_nested_enums(places: &mut Vec<u32>, types: &[MessageType]) -> Result<(),
     Ok(())
 }
 
-/// The places of the enums that files and message types declare.
+/// The indices of the enums that files and message types declare.
 fn declared_enums(
     alloc: Global,
     files: &[File],
@@ -237,7 +237,7 @@ fn declared_enums(
     Ok(places)
 }
 
-/// The places of the services that files declare.
+/// The indices of the services that files declare.
 fn declared_services(alloc: Global, files: &[File]) -> Result<Vec<u32>, AllocError>
     ensures { IfOk result (λ places. places.items ≡ declared_services files.now) }
 {
@@ -248,7 +248,7 @@ fn declared_services(alloc: Global, files: &[File]) -> Result<Vec<u32>, AllocErr
     Ok(places)
 }
 
-/// The places are below the count.
+/// The indices are below the count.
 fn are_below(count: usize, places: &[u32]) -> bool
     ensures { result ≡ list_all (λ place. nat_lt place count) places.now }
 {
@@ -260,7 +260,7 @@ fn are_below(count: usize, places: &[u32]) -> bool
     true
 }
 
-/// The places, each as a number that is used.
+/// The indices, each as a number that is used.
 fn place_uses(alloc: Global, places: &[u32]) -> Result<Vec<Use>, AllocError>
     ensures { IfOk result (λ uses. uses.items ≡ map place_use places.now) }
 {
@@ -275,7 +275,7 @@ fn place_uses(alloc: Global, places: &[u32]) -> Result<Vec<Use>, AllocError>
     Ok(uses)
 }
 
-/// The places are so many, all below that count, and each stands once.
+/// The indices are so many, all below that count, and each is there once.
 fn are_each_once(alloc: Global, count: usize, places: &[u32]) -> Result<bool, AllocError>
     ensures { IfOk result (λ b. b ≡ are_each_once count places.now) }
 {

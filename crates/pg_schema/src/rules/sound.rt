@@ -32,7 +32,7 @@ fn keep_rules(alloc: Global, parts: &Parts) -> Result<bool, AllocError>
     are_enums(alloc, &parts.enums)
 }
 
-/// Each message type, enum and service stands in one place, and is named by it.
+/// Each message type, enum and service is declared once, and its name begins with its scope's.
 fn are_placed(alloc: Global, parts: &Parts) -> Result<bool, AllocError>
     ensures { IfOk result (λ b. b ≡ are_placed parts.now) }
 {

@@ -1,4 +1,4 @@
-//! Sets of texts.
+//! Sets of strings.
 
 ghost use Rattle.std.specs.Prelude.{◌≡◌, IfOk, IfSome, is_some, map, not};
 ghost use Rattle.std.specs.List.{list_all};
@@ -10,7 +10,7 @@ ghost use Rattle.pg_schema.specs.rules.TextSets.{are_named_once};
 use std::alloc::{AllocError, Global};
 use std::collections::BTreeSet;
 
-/// The texts, lent.
+/// The strings, lent.
 pub(crate) fn lent(alloc: Global, texts: &[String]) -> Result<Vec<&str>, AllocError>
     ensures { IfOk result (λ found. lent found.items ≡ map string_bytes texts.now) }
 {
@@ -21,7 +21,7 @@ pub(crate) fn lent(alloc: Global, texts: &[String]) -> Result<Vec<&str>, AllocEr
     Ok(found)
 }
 
-/// The set of these texts. `None` where one stands twice.
+/// The set of these strings. `None` where one is there twice.
 pub(crate) fn set_of<'a>(
     alloc: Global,
     texts: &[&'a str],
@@ -39,7 +39,7 @@ pub(crate) fn set_of<'a>(
     Ok(Some(set))
 }
 
-/// None of the texts is in the set.
+/// None of the strings is in the set.
 pub(crate) fn holds_none(set: &BTreeSet<&str>, texts: &[String]) -> bool
     ensures { result ≡ list_all (λ text. not (has_lent set.now (string_bytes text))) texts.now }
 {
@@ -51,7 +51,7 @@ pub(crate) fn holds_none(set: &BTreeSet<&str>, texts: &[String]) -> bool
     true
 }
 
-/// Each name stands once, and none is reserved.
+/// Each name is there once, and none is reserved.
 pub(crate) fn are_named_once(
     alloc: Global,
     names: &[&str],

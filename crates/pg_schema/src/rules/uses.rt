@@ -125,7 +125,7 @@ pub(crate) fn enum_uses(
     Ok(uses)
 }
 
-/// One use stands before the other, or beside it where aliases are allowed.
+/// One use comes before the other, or is an alias of it where aliases are allowed.
 fn comes_before(aliases: bool, one: Use, other: Use) -> bool
     ensures { result ≡ comes_before aliases one other }
 {

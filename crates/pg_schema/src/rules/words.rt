@@ -11,14 +11,14 @@ fn is_letter(byte: u8) -> bool
     (b'A' <= byte && byte <= b'Z') || (b'a' <= byte && byte <= b'z') || byte == b'_'
 }
 
-/// The byte may stand in a word.
+/// The byte may be in a word.
 fn is_word_byte(byte: u8) -> bool
     ensures { result ≡ is_word_byte byte }
 {
     is_letter(byte) || (b'0' <= byte && byte <= b'9')
 }
 
-/// Each byte may stand in a word.
+/// Each byte may be in a word.
 fn are_word_bytes(bytes: &[u8]) -> bool
     ensures { result ≡ list_all is_word_byte bytes.now }
 {
@@ -30,7 +30,7 @@ fn are_word_bytes(bytes: &[u8]) -> bool
     true
 }
 
-/// The text is a word.
+/// The string is a word.
 pub(crate) fn is_word(text: &[u8]) -> bool
     ensures { result ≡ is_word text.now }
 {
@@ -40,7 +40,7 @@ pub(crate) fn is_word(text: &[u8]) -> bool
     }
 }
 
-/// The byte may stand here, where a word begins or in the midst of one. A dot ends a word.
+/// The byte may come here, where a word begins or in the midst of one. A dot ends a word.
 fn may_stand(begins: bool, byte: u8) -> bool
     ensures { result ≡ may_stand begins byte }
 {
@@ -53,7 +53,7 @@ fn may_stand(begins: bool, byte: u8) -> bool
     }
 }
 
-/// The text is words with one dot between.
+/// The string is words with one dot between.
 fn are_dotted_words(bytes: &[u8]) -> bool
     ensures { result ≡ list_all is_word (parts_at_dots bytes.now) }
 {
@@ -67,7 +67,7 @@ fn are_dotted_words(bytes: &[u8]) -> bool
     !begins
 }
 
-/// The text is a package: empty, or words with one dot between.
+/// The string is a package: empty, or words with one dot between.
 pub(crate) fn is_package(bytes: &[u8]) -> bool
     ensures { result ≡ is_package bytes.now }
 {

@@ -11,7 +11,7 @@ use crate::parts::message_type::MessageType;
 use std::alloc::Global;
 use std::collections::BTreeMap;
 
-/// The place of each message type by its full name.
+/// The index of each message type by its full name.
 pub(crate) type Names = BTreeMap<String, TypeId>;
 
 /// The table of the types' names. Refused where two types have one name.

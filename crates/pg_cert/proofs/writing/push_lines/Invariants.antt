@@ -3,7 +3,7 @@ use Rattle.std.specs.String.{string_bytes}
 use Rattle.pg_cert.specs.Text.{lines_text, names_of}
 use Rattle.pg_cert.proofs.writing.push_lines.Given as goal
 
--- with the lines that are left it is the whole text
+-- with the lines that are left it is the whole string
 abbrev pub invariant-loop-at : goal.invariant-loop-at
 invariant-loop-at l =
     string_bytes l.text ++ lines_text (names_of l.old) (names_of l.new) (drop l.at l.bounds)

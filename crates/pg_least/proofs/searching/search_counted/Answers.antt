@@ -1,4 +1,4 @@
--- The graph is of the view by numbers, which sees enums by their numbers, and of the two schemas.
+-- The graph is of the view by numbers, which compares enums by their numbers, and of the two schemas.
 use Rattle.std.proofs.Common.{◌<◌, length, subst, sym}
 use Rattle.pg_schema.specs.declared.parts.Parts.{Parts}
 use Rattle.pg_schema.specs.Parts.{shape_of}

@@ -1,4 +1,4 @@
--- The comparands of a field: what they hold, what they cost, and whether a reader sees them.
+-- The comparands of a field: what they hold, what they cost, and whether a reader reads them right.
 use Rattle.std.proofs.Common.{◌≡◌, ℕ, ◌+◌, ◌≤◌, List, [], length, map, flat_map, Bool, true, false, Option, Some, None, unwrap_or, refl, ap, sym, ◌∙◌, subst, arith, length-append}
 use Rattle.std.specs.List.{AllByRecursion}
 use Rattle.pg_schema.specs.declared.parts.field.TypeId.{TypeId}

@@ -89,7 +89,7 @@ module _ {S : Type 0} (gs : List FieldShape) (f : FieldShape) (fs : List FieldSh
           let test : same_oneof (Some k) (new_oneof gs f) ≡ nat_eq new k = ap (same_oneof (Some k)) found ∙ turned new k (nat_eq new k) refl in
           rw test (here k old (nat_eq new k) refl)
 
-  -- the same with what stood there before, as the call that makes the two says it
+  -- the same with what was there before, as the call that makes the two says it
   pub put : (new : ℕ) (m : Member) (later : Option Two) (two : Two) (after : HashMap ℕ Two S) → new_oneof gs f ≡ Some new → m ≡ member_of f → later ≡ get nat_eq kept new → Updates nat_eq kept after new (Some two) →
       (IsOrdered later → (old : Option ℕ) → beside (Some two) old ≡ (if not (same_oneof old m.oneof) then Some (lesser m (beside later old)) else beside later old)) →
       (IsOrdered later → IsOrdered (Some two)) → KeepsLeast gs (f ∷ fs) after

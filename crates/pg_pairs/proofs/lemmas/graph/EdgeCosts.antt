@@ -72,7 +72,7 @@ lesser_grouped (Some m) (Some n) (Some k) = of (nat_le m n) (nat_le n k) refl re
     of false true less later = rw (less, later) refl
     of false false less later = rw (later, lt-leb m k (let below = leb-false m n less in let above = leb-false n k later in omega arith)) refl
 
--- the last two change places
+-- the last two are exchanged
 lesser_last : (a b c : Option ℕ) → lesser_cost (lesser_cost a b) c ≡ lesser_cost (lesser_cost a c) b
 lesser_last a b c = lesser_grouped a b c ∙ ap (lesser_cost a) (lesser_turned b c) ∙ sym (lesser_grouped a c b)
 

@@ -1,4 +1,4 @@
--- The children of a message: the new type keeps them, and they come home.
+-- The children of a message: the new type keeps them, and they return.
 use Rattle.std.proofs.Common.{option_to_list, ◌≡◌, ℕ, ◌<◌, ◌≤◌, List, ◌++◌, length, Bool, true, false, ◌&&◌, nat_eq, if◌then◌else◌, Option, Some, is_some, refl, ap, ap₂, sym, ◌∙◌, subst, arith, eqb-true}
 use Rattle.std.specs.List.{AllByRecursion}
 use Rattle.pg_schema.specs.declared.parts.field.TypeId.{TypeId}
@@ -39,11 +39,11 @@ use Rattle.pg_dyn.proofs.PublicLaws.{fields_are_found}
 abbrev pub pair_of : TypeId → TypeId → Pair
 pair_of a b = record { old = a; new = b }
 
--- what the old type reads of what the new one writes again of the message is home
+-- what the old type reads of what the new one writes again of the message is what it should read back
 abbrev pub Comes : Shape → Shape → TypeId → TypeId → Message → Message → Type 0
 Comes old new a b v w = (x : Message) × (dec old a (enc new b w) ≡ Some x) × (home old new a b v x ≡ true)
 
--- The message comes home between types that are compatible up to its length.
+-- The message returns between types that are compatible up to its length.
 abbrev pub ComesHome : Shape → Shape → Message → Type 0
 ComesHome old new v =
     (a b : TypeId) → CompatibleTo (length (enc old a v)) old new a b → Returns old new (pair_of a b) → IsMessage old a v → IsPlain v →
@@ -197,7 +197,7 @@ module _ (old new : Shape) (shape_old : IsShape old) (shape_new : IsShape new) (
       each_weaker (λ c. IsBackComparand c × Fine c.written) (ComesBack old new (elements.Message s) (elements.Message t)) (λ c k. k.0 k.1) (comparands_at n (home_comparands old new a b v))
       (each_both IsBackComparand (λ c. Fine c.written) (comparands_at n (home_comparands old new a b v)) (at_number IsBackComparand (home_comparands old new a b v) (each_back returns m small v h plain shorter come)) fine)
 
--- A leaf of a field of no messages, as it must come home.
+-- A leaf of a field of no messages, as it must be read back.
 module _ (old new : Shape) (a b : TypeId) (f : FieldShape) (n : ℕ) (found : field_at (fields old a) n ≡ Some f) where
   leaf_back : (d : Element) (k : ℕ) (p : Presence) (e : Element) (o : Option ℕ) (c : Comparand) (leaf : Leaf) → c.written ≡ leaf → c.expected ≡ Alike leaf → LeafFits (record { number = k; presence = p; element = e; oneof = o }) leaf → ComesBack old new e d c
   leaf_back d k p (elements.Scalar s) o c leaf w so fits = (subst (InRange (form (elements.Scalar s))) (sym w) fits.0, so ∙ ap Alike (sym w))

@@ -1,4 +1,4 @@
--- One field of what comes home: the old type's reader makes of the records of its number what the field should show.
+-- One field of what is read back: the old type's reader makes of the records of its number what the field should show.
 use Rattle.std.proofs.Common.{◌≡◌, ℕ, List, [], ◌∷◌, map, filter, Bool, true, not, ◌&&◌, ◌||◌, Option, Some, refl, ap, sym, ◌∙◌, subst}
 use Rattle.std.specs.List.{AllByRecursion}
 use Rattle.std.proofs.lemmas.Bool.{and_from, and_parts, and_right, or_right}
@@ -57,7 +57,7 @@ meets_own f g h (Alike a) (Msg m) met = absurd (cc)
 meets_own f g h (Kept test) (Plain b) met = absurd (cc)
 meets_own f g h (Kept test) (Msg m) met = met
 
--- comparands that are seen are home
+-- comparands that are read right return
 seen_home : (child : Reader) (f g : FieldShape) (beside : Option FieldShape) (cs : List Comparand) → AllByRecursion (Seen numbers child g f) cs → home_content f beside (map expects cs) (map (reads child f.element) cs) ≡ true
 seen_home child f g beside cs h =
     filtered_pointwise (λ (p : Part Expected) (q : Part Item). same_key p.key q.key && matches numbers f f p.item q.item)

@@ -1,4 +1,4 @@
--- Messages come home: by induction over the message.
+-- Messages return: by induction over the message.
 use Rattle.std.proofs.Common.{◌≡◌, ℕ, length, true, Some, sym, ◌∙◌, true≢false}
 use Rattle.std.proofs.lemmas.Bool.{false_from_ne_true}
 use Rattle.pg_schema.specs.declared.parts.field.TypeId.{TypeId}

@@ -1,4 +1,4 @@
--- The parts of an old message as they are written and as they must come home.
+-- The parts of an old message as they are written and as they must be read back.
 use Rattle.std.proofs.Common.{◌≡◌, ℕ, map, filter, refl, ap, sym, ◌∙◌, List, [], ◌∷◌, ◌++◌, if◌then◌else◌, is_some}
 use Rattle.pg_schema.specs.declared.parts.field.TypeId.{TypeId}
 use Rattle.pg_schema.specs.Shape.{Shape, fields, field_at}
@@ -43,6 +43,6 @@ same_writes old new a b v n =
     ∙ ap (filter (is_of n)) (home_writes old new a b v ∙ sym (comparands_are_written numbers old new a b v))
     ∙ filter-map (is_of n) writes (comparands numbers old new a b v)
 
--- and expected as they must come home
+-- and expected as they must be read back
 pub home_expected : (old new : Shape) (a b : TypeId) (v : Message) (n : ℕ) → map expects (comparands_at n (home_comparands old new a b v)) ≡ filter (is_of n) (homeward old new a b v)
 home_expected old new a b v n = sym (filter-map (is_of n) expects (home_comparands old new a b v)) ∙ ap (filter (is_of n)) (home_expects old new a b v)

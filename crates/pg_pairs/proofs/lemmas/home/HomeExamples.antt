@@ -1,4 +1,4 @@
--- The examples of what comes home, by computation.
+-- The examples of what is read back, by computation.
 use Rattle.std.proofs.Common.{◌≡◌, true, false, inl, ⊎_elim, refl, sym, subst, true≢false}
 use Rattle.std.specs.Str.{is_utf8, chars}
 use Rattle.pg_schema.specs.declared.parts.field.Presence.TheVariants.{Repeated}

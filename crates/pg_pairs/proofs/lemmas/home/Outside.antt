@@ -1,4 +1,4 @@
--- A field that the new type lacks comes home as it was.
+-- A field that the new type lacks is read back as it was.
 use Rattle.std.proofs.Common.{◌≡◌, ℕ, List, ◌∷◌, Bool, true, false, nat_eq, ◌&&◌, if◌then◌else◌, None, is_some, refl, ap, sym, ◌∙◌, eqb-true, eq-eqb}
 use Rattle.std.specs.Str.{bytes_eq}
 use Rattle.std.proofs.lemmas.Bool.{and_from}
@@ -59,6 +59,6 @@ module _ (old new : Shape) (a b : TypeId) (f : FieldShape) (lacks : field_at (fi
       (ap (λ c. if c then home_message (fields old (child_type (fields old a) number)) (fields new (child_type (fields new b) number)) (homeward old new (child_type (fields old a) number) (child_type (fields new b) number) child) child else message_eq child child) (lacking number same) ∙ message_self child))
       (all_shown later)
 
-  -- the field's own parts are home
+  -- the field's own parts return
   pub outside_home : (v : Message) → home_content f None (homeward old new a b v) (parts v) ≡ true
   outside_home v = all_shown v

@@ -48,7 +48,7 @@ abbrev pub IsGood : Shape → TypeId → Item → Type 0
 IsGood new t (Plain leaf) = ⊤
 IsGood new t (Msg m) = IsMessage new t m × (length (enc new t m) ≤ cap)
 
--- a leaf in range, or a child whose message comes home
+-- a leaf in range, or a child whose message returns
 abbrev pub ComesBack : Shape → Shape → Element → Element → Comparand → Type 0
 ComesBack old new (elements.Scalar s) d h = InRange (form (elements.Scalar s)) h.written × (h.expected ≡ Alike h.written)
 ComesBack old new (elements.Enum s) d h = InRange (form (elements.Enum s)) h.written × (h.expected ≡ Alike h.written)

@@ -1,4 +1,4 @@
--- What the view of a name sees between two schemas is an enum view, for enums that aren't there too.
+-- What the view of a name finds between two schemas is an enum view, for enums that aren't there too.
 use Rattle.std.proofs.Common.{◌≡◌, ℤ, Bool, true, Option, Some, None, refl, true≢false}
 use Rattle.pg_schema.specs.declared.parts.enum_type.EnumType.{EnumType}
 use Rattle.pg_schema.specs.declared.parts.Parts.{Parts}

@@ -55,7 +55,7 @@ or_left : (a b : Bool) → a ≡ true → (a || b) ≡ true
 or_left true b h = refl
 or_left false b h = absurd (false≢true h)
 
--- no name is a front of the text
+-- no name is a front of the string
 none_front : (names : List (List ℕ)) (text : List ℕ) → ((name : List ℕ) → is_among names name ≡ true → is_front name text ≡ true → ⊥) → is_free_of names text ≡ true
 none_front [] text h = refl
 none_front (n ∷ ns) text h =
@@ -80,7 +80,7 @@ some_front (n ∷ ns) text name among front =
       | false ↦ λ e. tail_front n name text (is_free_of ns text) (some_front ns text name (sym (ap (λ r. r || is_among ns name) e) ∙ among) front)
     ] refl
 
--- what is a part of the text and held is that long at least
+-- a front of the string that is held has at least so many bytes
 abbrev pub AreBeyond : ℕ → BTreeSet (Bor (List ℕ)) → List ℕ → Type 0
 AreBeyond i set text = (names : List (List ℕ)) → IsLentSetOf names set → (name : List ℕ) → is_among names name ≡ true → is_front name text ≡ true → i ≤ length name
 

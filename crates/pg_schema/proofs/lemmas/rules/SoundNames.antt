@@ -1,4 +1,4 @@
--- Names that stand once in all files are those of one message type each.
+-- A name that is declared once in all files is that of one message type.
 use Rattle.std.proofs.Common.{◌≡◌, ℕ, zero, suc, Bool, true, not, List, [], ◌∷◌, ◌++◌, flat_map, map, Option, Some, sym, ◌∙◌, ap, refl}
 use Rattle.std.specs.List.{list_all, slice_get}
 use Rattle.std.specs.Option.{option_map}
@@ -60,7 +60,7 @@ module _ (enums : List EnumType) where
   one_place (s ∷ types) (suc i) zero t u h is_t is_u same = absurd (first_differs s types i t h is_t (ap name_of (same_Some s u is_u) ∙ sym same))
   one_place (s ∷ types) (suc i) (suc j) t u h is_t is_u same = ap suc (one_place types i j t u (pairs_behind differ (type_names enums s) (names_in types) h) is_t is_u same)
 
--- the names of message types stand before all others
+-- the names of message types come before all others
 first_names : (parts : Parts) → are_distinct (declared_names parts) ≡ true → all_pairs differ (names_in parts.enums.items parts.types.items) ≡ true
 first_names parts h =
     pairs_front differ (names_in parts.enums.items parts.types.items) (map (λ (e : EnumType). string_bytes e.name) parts.enums.items)

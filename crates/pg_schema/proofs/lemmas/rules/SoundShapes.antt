@@ -1,4 +1,4 @@
--- Sound parts have the shape that messages and bytes stand on.
+-- Sound parts have a shape that messages and bytes can rest on.
 use Rattle.std.proofs.Common.{◌≡◌, ℕ, ◌^◌, ◌≤◌, ◌<◌, ◌⊎◌, inl, inr, Bool, true, false, not, ◌&&◌, ◌||◌, nat_lt, cond, List, [], ◌∷◌, length, map, Option, Some, None, is_some, arith, sym, subst, refl}
 use Rattle.std.specs.List.{list_all, AllByRecursion}
 use Rattle.std.proofs.lemmas.Bool.{false≢true}

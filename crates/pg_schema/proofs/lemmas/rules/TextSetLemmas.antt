@@ -1,4 +1,4 @@
--- A set of texts, one text after the other.
+-- A set of strings, one string after the other.
 use Rattle.std.proofs.Common.{◌≡◌, ℕ, ◌+◌, ◌<◌, Bool, true, false, cond, not, ◌&&◌, ◌||◌, List, [], ◌∷◌, ◌++◌, String, length, map, take, drop, get_or, Option, Some, is_some, sym, ◌∙◌, ap, subst, refl}
 use Rattle.std.specs.Borrow.{Bor}
 use Rattle.std.specs.BTreeSet.{BTreeSet, Updates}
@@ -21,7 +21,7 @@ or_of true false = refl
 or_of false true = refl
 or_of false false = refl
 
--- one more text
+-- one more string
 pub lent_more : (done : List (List ℕ)) (key : Bor (List ℕ)) (old new : BTreeSet (Bor (List ℕ))) → Updates (λ (x : Bor (List ℕ)) (y : Bor (List ℕ)). slice_cmp nat_cmp x.now y.now) old new key true
     → IsLentSetOf done old → IsLentSetOf (done ++ key.now ∷ []) new
 lent_more done key old new h held text =
@@ -32,7 +32,7 @@ lent_more done key old new h held text =
 pub distinct_more : (done : List (List ℕ)) (key : List ℕ) → are_distinct done ≡ true → not (is_among done key) ≡ true → are_distinct (done ++ key ∷ []) ≡ true
 distinct_more done key h new = distinct_push done key ∙ and_both _ _ h new
 
--- a text that was there already stands twice
+-- a string that was there already is there twice
 pub twice : (done later : List (List ℕ)) (key : List ℕ) → not (is_among done key) ≡ false → are_distinct ((done ++ key ∷ []) ++ later) ≡ false
 twice done later key old = all_pairs_front _ (done ++ key ∷ []) later (distinct_push done key ∙ and_false (are_distinct done) _ old)
   where
@@ -40,7 +40,7 @@ twice done later key old = all_pairs_front _ (done ++ key ∷ []) later (distinc
     and_false true b h = h
     and_false false b h = refl
 
--- the texts up to a place and the one that stands there
+-- the strings below an index and the one at it
 pub lent_step : (texts : List (Bor (List ℕ))) (i : ℕ) (d : Bor (List ℕ)) → i < length texts → lent (take (i + 1) texts) ≡ lent (take i texts) ++ (get_or texts i d).now ∷ []
 lent_step texts i d h = map_more (λ (text : Bor (List ℕ)). text.now) texts i d h
 
@@ -50,7 +50,7 @@ lent_whole texts i d h =
     ap (λ ts. ts ++ lent (drop (i + 1) texts)) (sym (lent_step texts i d h))
     ∙ (sym (map-append (λ (text : Bor (List ℕ)). text.now) (take (i + 1) texts) (drop (i + 1) texts)) ∙ ap lent (take-append-drop (i + 1) texts))
 
--- none of the names is held, by the set or by the texts
+-- none of the names is held, by the set or by the strings
 pub free_of : {Y : Type 0} (names : List (List ℕ)) (set : BTreeSet (Bor (List ℕ))) (reserved : List (String Y)) → IsLentSetOf names set
     → list_all (λ t. not (has_lent set (string_bytes t))) reserved ≡ list_all (λ name. not (is_among names name)) (map string_bytes reserved)
 free_of names set [] held = refl

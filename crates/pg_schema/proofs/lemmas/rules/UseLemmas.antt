@@ -63,7 +63,7 @@ neighbours_from_pairs al (x ∷ y ∷ ys) whole up h =
     (fits_before al x y (and_left _ _ whole) (and_left (is_whole y) _ (and_right (is_whole x) _ whole)) (up 0 1 x (omega arith) (omega arith)) (and_left (fits al x y) _ (and_left (list_all (fits al x) (y ∷ ys)) _ h)))
     (neighbours_from_pairs al (y ∷ ys) (and_right (is_whole x) _ whole) (λ i j d le lt. up (suc i) (suc j) d (omega (arith, le)) (omega (arith, lt))) (and_right (list_all (fits al x) (y ∷ ys)) _ h))
 
--- the test holds of each two places
+-- the test holds of the items at each two indices
 abbrev EachTwo : (Use → Use → Bool) → List Use → Type 0
 EachTwo test xs = (i j : ℕ) (d : Use) → i < length xs → j < length xs → (i ≡ j → ⊥) → test (get_or xs i d) (get_or xs j d) ≡ true
 
@@ -90,7 +90,7 @@ pairs_from_each al (x ∷ xs) h =
     and_both _ _ (all_from (fits al x) xs (λ i d lt. h 0 (suc i) d (omega arith) (omega (arith, lt)) (λ e. absurd (omega (arith, e)))))
     (pairs_from_each al xs (λ i j d li lj ne. h (suc i) (suc j) d (omega (arith, li)) (omega (arith, lj)) (λ e. ne (omega (arith, e)))))
 
--- the place whose item comes to a place by a swap
+-- the index whose item comes to an index by a swap
 abbrev origin : ℕ → ℕ → ℕ → ℕ
 origin a b k = cond (nat_eq k a) b (cond (nat_eq k b) a k)
 
@@ -185,7 +185,7 @@ each_differs m (n ∷ ns) =
     ap (λ b. b && list_all (λ (u : Use). fits false (place_use m) u) (map place_use ns)) (places_differ m n)
     ∙ ap (λ b. not (nat_eq m n) && b) (each_differs m ns)
 
--- places are used once exactly where no two are equal
+-- indices are used once exactly where no two are equal
 pub places_once : (places : List ℕ) → is_used_once false (map place_use places) ≡ all_pairs (λ a b. not (nat_eq a b)) places
 places_once [] = refl
 places_once (n ∷ ns) =

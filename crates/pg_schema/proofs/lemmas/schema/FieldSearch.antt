@@ -32,7 +32,7 @@ index_rises a b n le = grind (arith, nat_tests)
 pub searchable : (fs : List Field) (n : ℕ) → Rising (map field_shape fs) → IsNonDecreasingBy (λ (f : Field). ordering_index (nat_cmp f.number n)) fs
 searchable fs n rising i j d le h = index_rises (get_or fs i d).number (get_or fs j d).number n (rises fs i j d rising le h)
 
--- the first that passes, and those behind it
+-- the first that passes, and those after it
 first_is : (p : Field → Bool) (f : Field) (fs : List Field) → p f ≡ true → find p (f ∷ fs) ≡ Some f
 first_is p f fs h = subst (λ b. cond b (Some f) (find p fs) ≡ Some f) (sym h) refl
 
@@ -75,7 +75,7 @@ greater_apart m n h e = grind (arith, nat_tests)
 below_or_from : (k i : ℕ) → (k < i) ⊎ (i ≤ k)
 below_or_from k i = elim (nat_lt k i) as (λ b. nat_lt k i ≡ b → (k < i) ⊎ (i ≤ k)) [ true ↦ λ t. inl (grind (arith, nat_tests)) | false ↦ λ f. inr (grind (arith, nat_tests)) ] refl
 
--- the fields below a place have lower numbers and the others higher ones
+-- the fields below an index have lower numbers and the others higher ones
 pub apart : (n i : ℕ) (fs : List Field) → AllWithin (λ (f : Field). nat_cmp f.number n ≡ Less) fs 0 i → AllWithin (λ (f : Field). nat_cmp f.number n ≡ Greater) fs i (length fs)
     → (k : ℕ) (d : Field) → k < length fs → (get_or fs k d).number ≡ n → ⊥
 apart n i fs less greater k d h e =

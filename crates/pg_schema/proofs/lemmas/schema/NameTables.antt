@@ -15,7 +15,7 @@ use Rattle.pg_schema.specs.inner.Names.{IsTable}
 use Rattle.pg_schema.specs.Parts.{name_at}
 use Rattle.pg_schema.specs.Invariant.{HasDistinctNames}
 
--- the table has each name of the first n types, with its place, and no other
+-- the table has each name of the first n types, with its index, and no other
 abbrev pub IsTableOfFirst : {Y : Type 0} → ℕ → List MessageType → BTreeMap (String Y) TypeId → Type 0
 IsTableOfFirst n types table = (id : TypeId) (name : List ℕ) → (get_by_text table name ≡ Some id) ↔ ((id.index < n) × (name_at types id ≡ Some name))
 
@@ -26,7 +26,7 @@ place i = record { index = i }
 pub named : (types : List MessageType) (i : ℕ) (t : MessageType) (key : List ℕ) → slice_get types i ≡ Some t → key ≡ string_bytes t.name → name_at types (place i) ≡ Some key
 named types i t key is name = ap (option_map (λ (s : MessageType). string_bytes s.name)) is ∙ ap (λ (n : List ℕ). Some n) (sym name)
 
--- a place that has a name is within
+-- an index that has a name is within
 pub within_case : (o : Option MessageType) (n : ℕ) (name : List ℕ) (P : Type 0) → ((t : MessageType) → o ≡ Some t → P) → option_map (λ (s : MessageType). string_bytes s.name) o ≡ Some name → P
 within_case None n name P f h = absurd (none-some name h)
 within_case (Some t) n name P f h = f t refl
@@ -34,7 +34,7 @@ within_case (Some t) n name P f h = f t refl
 named_within : (types : List MessageType) (id : TypeId) (name : List ℕ) → name_at types id ≡ Some name → id.index < length types
 named_within types id name h = within_case (slice_get types id.index) id.index name (id.index < length types) (λ t is. slice_get_within types id.index t is) h
 
--- a name's place, given that the table of the first i has not this one
+-- a name's index, given that the table of the first i hasn't this one
 abbrev Has : ℕ → List MessageType → List ℕ → TypeId → Option TypeId → Type 0
 Has n types name id found = (found ≡ Some id) ↔ ((id.index < n) × (name_at types id ≡ Some name))
 
@@ -79,7 +79,7 @@ table_more i types key old new here fresh step table id name =
           (λ same. absurd (cc (f, (bytes_eq-Decides key name).1 same))) here (table id name)
     ] refl)
 
--- a name that was there already stands twice
+-- a name that was there already is there twice
 pub name_twice : {Y : Type 0} (i : ℕ) (types : List MessageType) (key : List ℕ) (old : BTreeMap (String Y) TypeId) (id : TypeId) → name_at types (place i) ≡ Some key
     → get_by_text old key ≡ Some id → IsTableOfFirst i types old → HasDistinctNames types → ⊥
 name_twice i types key old id here found table distinct =

@@ -1,4 +1,4 @@
--- A message type at its place, and its fields as messages and bytes see them.
+-- A message type at its index, and its fields as messages and bytes depend on them.
 use Rattle.std.proofs.Common.{◌≡◌, ℕ, zero, suc, List, [], ◌∷◌, map, get_or, slice_get, find, length, nat_lt, true, false, arith, Option, Some, None, sym, ◌∙◌, ap, subst, refl}
 use Rattle.std.specs.Option.{option_map, option_and_then}
 use Rattle.std.specs.List.{AllByRecursion}
@@ -28,7 +28,7 @@ each_at P (s ∷ types) (suc i) t all is = each_at P types i t all.1 is
 pub rising_at : (types : List MessageType) (i : ℕ) (t : MessageType) → IsShape (map shape_in types) → slice_get types i ≡ Some t → Rising (shape_in t)
 rising_at types i t is at_place = (each_at (IsType _) types i t is.each at_place).rising
 
--- what is said of a type's fields, from the type at its place
+-- what is said of a type's fields, from the type at its index
 pub field_along : (types : List MessageType) (i n : ℕ) (t : MessageType) (fs : List Field) → slice_get types i ≡ Some t → fs ≡ t.fields.items
     → find (has_number n) fs ≡ option_and_then (λ (s : MessageType). find (has_number n) s.fields.items) (slice_get types i)
 field_along types i n t fs is same =
