@@ -1,4 +1,4 @@
--- What an error says of itself (this profile's choice).
+-- What an error says of itself (this project's choice).
 use Rattle.std.specs.Prelude.{ℕ, List, codes}
 use Rattle.pg_schema.specs.declared.error.PartsError.{PartsError}
 use Rattle.pg_schema.specs.declared.error.PartsError.TheVariants.{Memory, Invariant}

@@ -1,20 +1,12 @@
 -- What the shape of a schema keeps to (proto3 language specification, "Fields", "Map field").
-use Rattle.std.specs.Prelude.{◌≡◌, ℕ, ◌^◌, ◌<◌, ◌≤◌, ◌⊎◌, ⊤, Bool, true, false, List, [], ◌∷◌, length, Option, None}
+use Rattle.std.specs.Prelude.{◌≡◌, ℕ, ◌^◌, ◌<◌, ◌≤◌, ◌⊎◌, ⊤, true, List, [], ◌∷◌, length, Option, None}
 use Rattle.std.specs.List.{AllByRecursion}
 use Rattle.pg_schema.specs.declared.parts.field.Element.{Element}
 use Rattle.pg_schema.specs.declared.parts.field.Presence.{Presence}
-use Rattle.pg_schema.specs.declared.parts.field.Scalar.{Scalar}
 use Rattle.pg_schema.specs.declared.parts.field.Element.TheVariants as elements
 use Rattle.pg_schema.specs.declared.parts.field.Presence.TheVariants as presences
-use Rattle.pg_schema.specs.declared.parts.field.Scalar.TheVariants as scalars
 use Rattle.pg_schema.specs.Shape.{FieldShape, Shape, is_packable}
-
--- integral types, bool and string (proto3 language specification, "Map field")
-abbrev pub is_key : Scalar → Bool
-is_key scalars.Double = false
-is_key scalars.Float = false
-is_key scalars.Bytes = false
-is_key s = true
+use Rattle.pg_schema.specs.rules.Fields.{is_key}
 
 -- implicit fields are singular scalars or enums outside a oneof; members of a oneof are explicit (proto3 language
 -- guide, "Field Presence", "Oneof")
@@ -49,7 +41,7 @@ pub record IsType (types : ℕ) (fs : List FieldShape) : Type 0 where
   pub each : AllByRecursion (IsField types) fs
   pub rising : Rising fs
 
--- at most 4,096 types are this profile's choice
+-- at most 4,096 types are this project's choice
 pub record IsShape (shape : Shape) : Type 0 where
   pub few : length shape ≤ 4096
   pub each : AllByRecursion (IsType (length shape)) shape

@@ -12,10 +12,9 @@ use Rattle.pg_schema.specs.declared.parts.file.File.{File}
 use Rattle.pg_schema.specs.declared.parts.message_type.MessageType.{MessageType}
 use Rattle.pg_schema.specs.declared.parts.options.FileOption.{FileOption}
 use Rattle.pg_schema.specs.declared.parts.Parts.{Parts}
-use Rattle.pg_schema.specs.rules.Fields.{stated_or}
+use Rattle.pg_schema.specs.rules.Fields.{stated_or, is_key}
 use Rattle.pg_schema.specs.rules.Files.{is_file_option}
 use Rattle.pg_schema.specs.rules.Messages.{have_members}
-use Rattle.pg_schema.specs.ShapeRules.{is_key}
 use Rattle.pg_schema.specs.Shape.{is_packable, is_repeated, is_singular}
 use Rattle.pg_check.specs.declared.error.CheckError.{CheckError}
 use Rattle.pg_check.specs.declared.error.CheckError.TheVariants as errors

@@ -1,7 +1,7 @@
 //! Scalar types, and what type names name.
 
 ghost use Rattle.std.specs.Prelude.{◌≡◌};
-ghost use Rattle.pg_schema.specs.ShapeRules.{is_key};
+ghost use Rattle.pg_schema.specs.rules.Fields.{is_key};
 ghost use Rattle.pg_check.specs.parts.EnumPlaces.{target_in};
 ghost use Rattle.pg_check.specs.rules.Types as spec;
 

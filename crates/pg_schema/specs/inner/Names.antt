@@ -1,4 +1,4 @@
--- The table of full names (proto3 language specification, "Packages"; the table is this profile's choice).
+-- The table of full names (proto3 language specification, "Packages"; the table is this project's choice).
 use Rattle.std.specs.Prelude.{◌≡◌, ◌↔◌, ℕ, List, Some, String}
 use Rattle.std.specs.BTreeMap.{BTreeMap, get_by_text}
 use Rattle.pg_schema.specs.declared.parts.field.TypeId.{TypeId}

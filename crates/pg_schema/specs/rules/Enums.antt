@@ -25,7 +25,7 @@ abbrev pub is_value : EnumValue → Bool
 is_value v = is_word (string_bytes v.name)
 
 -- Of two values with one number only where `allow_alias = true` is stated; that it may be stated without need, or be
--- false, is this profile's choice. No value has a reserved number or name.
+-- false, is this project's choice. No value has a reserved number or name.
 abbrev pub is_enum : EnumType → Bool
 is_enum e =
     begins_with_zero e.values.items && list_all is_value e.values.items

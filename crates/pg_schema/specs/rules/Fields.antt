@@ -4,8 +4,9 @@ use Rattle.pg_schema.specs.declared.parts.field.Element.{Element}
 use Rattle.pg_schema.specs.declared.parts.field.Element.TheVariants as elements
 use Rattle.pg_schema.specs.declared.parts.field.Presence.{Presence}
 use Rattle.pg_schema.specs.declared.parts.field.Presence.TheVariants as presences
+use Rattle.pg_schema.specs.declared.parts.field.Scalar.{Scalar}
+use Rattle.pg_schema.specs.declared.parts.field.Scalar.TheVariants as scalars
 use Rattle.pg_schema.specs.Shape.{is_packable}
-use Rattle.pg_schema.specs.ShapeRules.{is_key}
 
 -- proto3 language guide, "Assigning Field Numbers": 1 to 536,870,911 without 19,000 to 19,999
 abbrev pub is_field_number : ℕ → Bool
@@ -15,6 +16,13 @@ abbrev pub is_message : Element → Bool
 is_message (elements.Scalar s) = false
 is_message (elements.Enum e) = false
 is_message (elements.Message t) = true
+
+-- integral types, bool and string (proto3 language specification, "Map field")
+abbrev pub is_key : Scalar → Bool
+is_key scalars.Double = false
+is_key scalars.Float = false
+is_key scalars.Bytes = false
+is_key s = true
 
 -- proto3 language guide, "Field Presence": a singular scalar or enum without `optional`, outside a oneof, is implicit;
 -- `optional` fields, members of a oneof and singular messages are explicit. "Oneof", "Maps": a member isn't `optional`,

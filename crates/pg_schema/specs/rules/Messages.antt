@@ -71,7 +71,7 @@ has_reserved t =
     && is_used_once false (message_uses t.fields.items t.reserved_numbers.items)
     && are_named_once (field_names t.fields.items) (map string_bytes t.reserved_names.items)
 
--- That two fields of one JSON name are refused, given or default, byte by byte, is this profile's choice.
+-- That two fields of one JSON name are refused, given or default, byte by byte, is this project's choice.
 abbrev pub is_message_type : (types enums : ℕ) → MessageType → Bool
 is_message_type types enums t =
     has_fields types enums t && has_oneofs t && has_reserved t && are_distinct (json_names t.fields.items)

@@ -1,5 +1,5 @@
 -- What holds of all that a schema declares, in the order of the proto3 language specification. That a schema has at
--- most 4,096 message types is this profile's choice.
+-- most 4,096 message types is this project's choice.
 use Rattle.std.specs.Prelude.{◌≡◌, ◌≤◌, Bool, true, ◌&&◌, length}
 use Rattle.std.specs.List.{list_all}
 use Rattle.pg_schema.specs.declared.parts.Parts.{Parts}

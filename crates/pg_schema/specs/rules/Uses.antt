@@ -30,7 +30,7 @@ abbrev pub message_uses : List Field → List ReservedFields → List Use
 message_uses fields reserved = map field_use fields ++ map reserved_use reserved
 
 -- a reserved item of a message: its ends are field numbers' bounds at most, and it doesn't fall. That 19,000 to 19,999
--- may be reserved, and that no end may lie out of bounds, is this profile's choice
+-- may be reserved, and that no end may lie out of bounds, is this project's choice
 abbrev pub is_reserved_range : ReservedFields → Bool
 is_reserved_range r = nat_le 1 r.first && nat_le r.first r.last && nat_lt r.last (2 ^ 29)
 

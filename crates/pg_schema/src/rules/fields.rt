@@ -1,8 +1,7 @@
 //! What holds of each field of a message type, taken by itself.
 
 ghost use Rattle.std.specs.Prelude.{◌≡◌};
-ghost use Rattle.pg_schema.specs.rules.Fields.{has_presence, is_field_number, is_known, is_message, is_oneof, is_packed};
-ghost use Rattle.pg_schema.specs.ShapeRules.{is_key};
+ghost use Rattle.pg_schema.specs.rules.Fields.{has_presence, is_field_number, is_known, is_message, is_oneof, is_packed, is_key};
 
 use crate::parts::field::{Element, Presence, Scalar};
 

@@ -9,7 +9,7 @@ use Rattle.pg_schema.specs.declared.parts.field.Element.{Element}
 use Rattle.pg_schema.specs.declared.parts.field.Presence.TheVariants as presences
 use Rattle.pg_schema.specs.declared.parts.field.Scalar.{Scalar}
 use Rattle.pg_schema.specs.rules.Fields as rules
-use Rattle.pg_schema.specs.ShapeRules.{is_key}
+use Rattle.pg_schema.specs.rules.Fields.{is_key}
 use Rattle.pg_schema.specs.Shape.{is_packable}
 use Rattle.pg_link.specs.declared.target.Target.{Target}
 use Rattle.pg_link.specs.declared.target.Target.TheVariants as targets_of

@@ -10,7 +10,8 @@ use Rattle.pg_schema.specs.declared.parts.field.Element.TheVariants as elements
 use Rattle.pg_schema.specs.declared.parts.field.Presence.{Presence}
 use Rattle.pg_schema.specs.declared.parts.field.Presence.TheVariants as presences
 use Rattle.pg_schema.specs.Shape.{Shape, FieldShape, field_at}
-use Rattle.pg_schema.specs.ShapeRules.{PresenceFits, is_key}
+use Rattle.pg_schema.specs.ShapeRules.{PresenceFits}
+use Rattle.pg_schema.specs.rules.Fields.{is_key}
 use Rattle.pg_wire.specs.declared.record.Record.{Record}
 use Rattle.pg_wire.specs.Reading.{Fault}
 use Rattle.pg_wire.specs.Reads.{seen_record}

@@ -9,7 +9,7 @@ use Rattle.pg_schema.specs.declared.parts.field.Element.{Element}
 use Rattle.pg_schema.specs.declared.parts.field.Presence.{Presence}
 use Rattle.pg_schema.specs.declared.parts.field.Presence.TheVariants as presences
 use Rattle.pg_schema.specs.Shape.{FieldShape, Shape}
-use Rattle.pg_schema.specs.ShapeRules.{is_key}
+use Rattle.pg_schema.specs.rules.Fields.{is_key}
 use Rattle.pg_wire.specs.Records.{WireRecord}
 use Rattle.pg_dyn.specs.declared.message_ref.EntryRef.{EntryRef}
 use Rattle.pg_dyn.specs.declared.message_ref.ContentRef.{ContentRef}

@@ -11,7 +11,8 @@ use Rattle.pg_schema.specs.declared.parts.Parts.{Parts}
 use Rattle.pg_schema.specs.Invariant.{IsSchema}
 use Rattle.pg_schema.specs.Parts.{shape_of}
 use Rattle.pg_schema.specs.Shape.{Shape, FieldShape, fields, field_at}
-use Rattle.pg_schema.specs.ShapeRules.{IsField, PresenceFits, is_key}
+use Rattle.pg_schema.specs.ShapeRules.{IsField, PresenceFits}
+use Rattle.pg_schema.specs.rules.Fields.{is_key}
 use Rattle.pg_wire.specs.Records.{WireRecord}
 use Rattle.pg_dyn.specs.declared.message.Content.{Content}
 use Rattle.pg_dyn.specs.declared.message.Content.TheVariants as contents

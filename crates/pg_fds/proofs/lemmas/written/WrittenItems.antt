@@ -15,8 +15,7 @@ use Rattle.pg_schema.specs.declared.parts.field.Presence.TheVariants as presence
 use Rattle.pg_schema.specs.declared.parts.field.Scalar.{Scalar}
 use Rattle.pg_schema.specs.declared.parts.field.Scalar.TheVariants as kinds
 use Rattle.pg_schema.specs.rules.DeclaredNames.{entry_name, within}
-use Rattle.pg_schema.specs.rules.Fields.{has_presence, is_known, is_message, is_packed, stated_or}
-use Rattle.pg_schema.specs.ShapeRules.{is_key}
+use Rattle.pg_schema.specs.rules.Fields.{has_presence, is_known, is_message, is_packed, stated_or, is_key}
 use Rattle.pg_schema.specs.Shape.{is_map, is_packable}
 use Rattle.pg_schema.proofs.lemmas.rules.PairLemmas.{and_both, and_left}
 use Rattle.pg_dyn.specs.Message.{Item, Message}

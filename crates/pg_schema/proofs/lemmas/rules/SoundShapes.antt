@@ -11,11 +11,11 @@ use Rattle.pg_schema.specs.declared.parts.field.Presence.{Presence}
 use Rattle.pg_schema.specs.declared.parts.field.Presence.TheVariants as presences
 use Rattle.pg_schema.specs.declared.parts.message_type.MessageType.{MessageType}
 use Rattle.pg_schema.specs.declared.parts.Parts.{Parts}
-use Rattle.pg_schema.specs.rules.Fields.{has_presence, is_field_number, is_known, is_packed, stated_or}
+use Rattle.pg_schema.specs.rules.Fields.{has_presence, is_field_number, is_known, is_packed, stated_or, is_key}
 use Rattle.pg_schema.specs.rules.Messages.{has_fields, is_field, is_message_type, numbers}
 use Rattle.pg_schema.specs.rules.Pairs.{is_rising}
 use Rattle.pg_schema.specs.Parts.{field_shape, shape_of}
-use Rattle.pg_schema.specs.ShapeRules.{ElementFits, IsField, IsShape, IsType, PresenceFits, Rising, is_key}
+use Rattle.pg_schema.specs.ShapeRules.{ElementFits, IsField, IsShape, IsType, PresenceFits, Rising}
 use Rattle.pg_schema.specs.Shape.{FieldShape, is_packable}
 use Rattle.pg_schema.specs.rules.Sound.{IsSound}
 use Rattle.pg_schema.proofs.lemmas.rules.PairLemmas.{and_left, and_right}
