@@ -6,7 +6,8 @@ use Rattle.pg_schema.specs.declared.parts.Parts.{Parts}
 use Rattle.pg_cert.specs.declared.bounds.PairBound.{PairBound}
 use Rattle.pg_cert.specs.Certificate.{is_bound, are_bounds}
 use Rattle.pg_cert.specs.inner.Reading.{IsRest, IsLeft}
-use Rattle.pg_cert.specs.Text.{IsPairOf, names_of, lines_text, bound_word}
+use Rattle.pg_cert.specs.Text.{IsPairOf, names_of, bound_word}
+use Rattle.pg_cert.specs.inner.Lines.{lines_text}
 use Rattle.pg_cert.proofs.Tables.{parts_of_bounds}
 
 each_front : {A : Type 0} (P : A → Type 0) (xs : List A) (x : A) (ys : List A) → AllByRecursion P (xs ++ x ∷ ys) → P x

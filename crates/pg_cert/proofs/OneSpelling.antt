@@ -13,7 +13,8 @@ use Rattle.pg_cert.specs.declared.bounds.PairBound.{PairBound}
 use Rattle.pg_cert.specs.Certificate.{is_bound, are_bounds}
 use Rattle.pg_cert.specs.Witness.{AreBytes}
 use Rattle.pg_cert.specs.inner.Reading.{lacks, IsBlank}
-use Rattle.pg_cert.specs.Text.{IsPairOf, names_of, lines_text, last_text, bound_word, view_of, witness_word}
+use Rattle.pg_cert.specs.Text.{IsPairOf, names_of, bound_word, view_of, witness_word}
+use Rattle.pg_cert.specs.inner.Lines.{lines_text, last_text}
 use Rattle.pg_cert.specs.laws.CertificateLaws.{OneSpelling}
 use Rattle.pg_cert.proofs.Cuts.{position-found, front-found, back-found}
 use Rattle.pg_cert.proofs.Fronts.{same_after}

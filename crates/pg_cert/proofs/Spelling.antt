@@ -7,7 +7,8 @@ use Rattle.pg_cert.specs.declared.bounds.PairBound.{PairBound}
 use Rattle.pg_cert.specs.declared.heading.Heading.{Heading}
 use Rattle.pg_cert.specs.declared.heading.Heading.TheVariants as headings
 use Rattle.pg_cert.specs.Certificate.{Claim}
-use Rattle.pg_cert.specs.Text.{Names, line_of, bound_words, claim_lines, heading_lines, heading_text, lines_text, last_words, last_text, text_of, pair_words, root_words}
+use Rattle.pg_cert.specs.Text.{Names, line_of, bound_words, claim_lines, heading_lines, last_words, text_of, root_words}
+use Rattle.pg_cert.specs.inner.Lines.{heading_text, lines_text, last_text, pair_words}
 use Rattle.pg_cert.proofs.Checks.{next_from, next_past}
 
 module _ (old new : Names) (bounds : List PairBound) (at : ℕ) (before after : List ℕ) where

@@ -12,7 +12,8 @@ use Rattle.pg_cert.specs.declared.heading.Heading.{Heading}
 use Rattle.pg_cert.specs.Certificate.{Claim}
 use Rattle.pg_cert.specs.Witness.{is_witness}
 use Rattle.pg_cert.specs.inner.Reading.{IsRest, after_heading, front}
-use Rattle.pg_cert.specs.Text.{Names, IsPairOf, IsClaimOf, HasTexts, heading_text, names_of, lines_text, last_text, text_of}
+use Rattle.pg_cert.specs.Text.{Names, IsPairOf, IsClaimOf, HasTexts, names_of, text_of}
+use Rattle.pg_cert.specs.inner.Lines.{heading_text, lines_text, last_text}
 use Rattle.pg_cert.proofs.Spelling.{text-row}
 use Rattle.pg_cert.proofs.WitnessRead.{last-row}
 

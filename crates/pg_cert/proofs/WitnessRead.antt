@@ -8,7 +8,8 @@ use Rattle.hex.proofs.HexLemmas.{decode_of-encode_lower}
 use Rattle.hex.proofs.OnLiterals.{hex_on_literals}
 use Rattle.pg_cert.specs.Witness.{AreBytes}
 use Rattle.pg_cert.specs.inner.Reading.{lacks}
-use Rattle.pg_cert.specs.Text.{witness_word, last_text}
+use Rattle.pg_cert.specs.Text.{witness_word}
+use Rattle.pg_cert.specs.inner.Lines.{last_text}
 
 is_bytes : (xs : List ℕ) → AllByRecursion (λ x. x < 2 ^ 8) xs → IsBytes xs
 is_bytes [] h i = lit< tt

@@ -13,7 +13,8 @@ use Rattle.pg_dyn.specs.Message.{Message, IsPlain, ends, holds, nests}
 use Rattle.pg_pairs.specs.declared.choices.choice.Pair.{Pair}
 use Rattle.pg_pairs.specs.views.EnumView.{EnumView}
 use Rattle.pg_cert.specs.Certificate.{HasLength, IsWitnessed}
-use Rattle.pg_cert.specs.Witness.{IsWritten, is_witness, IsWriting}
+use Rattle.pg_cert.specs.Witness.{IsWritten, is_witness}
+use Rattle.pg_cert.specs.inner.WitnessRead.{IsWriting}
 use Rattle.pg_dyn.proofs.PublicLaws.{plain_is_kept}
 
 past_end : (s : Shape) (i : ℕ) → (i < length s → ⊥) → get_or s i [] ≡ []

@@ -15,7 +15,8 @@ use Rattle.pg_cert.specs.declared.heading.Heading.TheVariants as headings
 use Rattle.pg_cert.specs.Certificate.{are_bounds, Claim}
 use Rattle.pg_cert.specs.Witness.{AreBytes, is_witness}
 use Rattle.pg_cert.specs.inner.Reading.{after_heading, front}
-use Rattle.pg_cert.specs.Text.{IsClaimOf, Names, last_text, lines_text, names_of, text_of, view_of, witness_word}
+use Rattle.pg_cert.specs.Text.{IsClaimOf, Names, names_of, text_of, view_of, witness_word}
+use Rattle.pg_cert.specs.inner.Lines.{last_text, lines_text}
 use Rattle.pg_cert.specs.laws.Worked.{by_names, child_witness, in_child, inner, minus_one, one_renamed, outer, to_unsigned, unchanged}
 use Rattle.pg_cert.specs.laws.WorkedTexts.{AreNamed, IsNoText, IsNotTextOf, IsTextOf, WorkedTexts, m_and_n, only_m, only_n}
 use Rattle.pg_cert.proofs.WholeRead.{head-row}

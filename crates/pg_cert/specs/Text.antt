@@ -61,18 +61,8 @@ abbrev pub heading_lines : Heading → List (List (List ℕ))
 heading_lines headings.First = version_words (codes "1") ∷ []
 heading_lines (headings.Second view) = version_words (codes "2") ∷ (codes "view" ∷ view_word view ∷ []) ∷ []
 
-abbrev pub heading_text : Heading → List ℕ
-heading_text heading = flat_map line_of (heading_lines heading)
-
 abbrev pub last_words : Option (List ℕ) → List (List (List ℕ))
 last_words witness = (codes "witness" ∷ witness_word witness ∷ []) ∷ (codes "end" ∷ []) ∷ []
-
--- the lines of the pairs, and the last ones
-abbrev pub lines_text : Names → Names → List PairBound → List ℕ
-lines_text old new bounds = flat_map (λ (b : PairBound). line_of (bound_words old new b)) bounds
-
-abbrev pub last_text : Option (List ℕ) → List ℕ
-last_text witness = flat_map line_of (last_words witness)
 
 -- the lines of a certificate after its heading
 abbrev pub claim_lines : Names → Names → Claim → List (List (List ℕ))
@@ -82,10 +72,6 @@ claim_lines old new claim =
 -- the whole certificate under a heading
 abbrev pub text_of : Heading → Names → Names → Claim → List ℕ
 text_of heading old new claim = flat_map line_of (heading_lines heading ++ claim_lines old new claim)
-
--- both types of a pair, each after a space
-abbrev pub pair_words : Names → Names → Pair → List ℕ
-pair_words old new pair = spaced_word (old pair.old) ++ spaced_word (new pair.new)
 
 -- the full names of a schema's message types
 abbrev pub names_of : Parts → Names

@@ -1,3 +1,5 @@
 pub mod Checked
 pub mod Entries
 pub mod Reading
+pub mod Lines
+pub mod WitnessRead

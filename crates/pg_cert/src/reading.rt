@@ -14,6 +14,7 @@ ghost use Rattle.pg_cert.specs.declared.heading.Heading.{Heading};
 ghost use Rattle.pg_cert.specs.declared.heading.Heading.TheVariants as headings;
 ghost use Rattle.pg_cert.specs.Certificate.{are_bounds, is_bound, Claim};
 ghost use Rattle.pg_cert.specs.Witness.{AreBytes, is_witness};
+ghost use Rattle.pg_cert.specs.inner.Lines.{last_text};
 ghost use Rattle.pg_cert.specs.inner.Reading.{IsBlank, IsRest, after_heading, front, lacks};
 ghost use Rattle.pg_cert.specs.Text as spec;
 
@@ -244,7 +245,7 @@ fn witness_of(alloc: Global, word: &[u8]) -> Result<Option<Vec<u8>>, CertError>
 
 /// The witness in the last lines.
 fn read_last(alloc: Global, text: &[u8]) -> Result<Option<Vec<u8>>, CertError>
-    ensures { (witness : Option (List ℕ)) → AreBytes witness → text.now ≡ spec.last_text witness →
+    ensures { (witness : Option (List ℕ)) → AreBytes witness → text.now ≡ last_text witness →
         MatchResult result (λ found. option_map (λ bytes. bytes.items) found ≡ witness)
         (λ e. e ≡ errors.Memory) }
 {

@@ -8,7 +8,8 @@ ghost use Rattle.pg_dyn.specs.Kept.{message_of, type_of};
 ghost use Rattle.pg_pairs.specs.graph.GraphView.{seen};
 ghost use Rattle.pg_cert.specs.declared.error.CertError.TheVariants as errors;
 ghost use Rattle.pg_cert.specs.Certificate.{HasLength, IsWitnessed};
-ghost use Rattle.pg_cert.specs.Witness.{IsReadBack, is_witness};
+ghost use Rattle.pg_cert.specs.inner.WitnessRead.{IsReadBack};
+ghost use Rattle.pg_cert.specs.Witness.{is_witness};
 ghost use Rattle.pg_cert.specs.Faults.{WitnessFault};
 
 use crate::error::CertError;

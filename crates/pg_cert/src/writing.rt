@@ -2,6 +2,7 @@
 
 ghost use Rattle.std.specs.Prelude.{◌≡◌, ◌++◌, ◌∷◌, [], OnOk, IfOk, codes, string_bytes};
 ghost use Rattle.std.specs.Option.{option_copied};
+ghost use Rattle.pg_cert.specs.inner.Lines.{heading_text, last_text, lines_text, pair_words};
 ghost use Rattle.pg_cert.specs.Text as spec;
 
 use crate::bounds::{Bounds, PairBound};
@@ -16,7 +17,7 @@ use std::alloc::{AllocError, Global};
 /// The lines of the heading, and the first word of the next.
 fn start_text(alloc: Global, heading: Heading) -> Result<String, AllocError>
     ensures { IfOk result (λ text. string_bytes text
-        ≡ spec.heading_text heading ++ codes "root") }
+        ≡ heading_text heading ++ codes "root") }
 {
     match heading {
         Heading::First => String::from_str(alloc, "protogate-certificate 1\nroot"),
@@ -44,7 +45,7 @@ fn push_name(text: &mut String, schema: &Schema, id: TypeId) -> Result<(), Alloc
 /// The names of both types, each after a space.
 fn push_pair(text: &mut String, old: &Schema, new: &Schema, pair: Pair) -> Result<(), AllocError>
     ensures { OnOk result (string_bytes text.new
-        ≡ string_bytes text.old ++ spec.pair_words (spec.names_of old.now)
+        ≡ string_bytes text.old ++ pair_words (spec.names_of old.now)
         (spec.names_of new.now) pair) }
 {
     push_name(text, old, pair.old)?;
@@ -91,7 +92,7 @@ fn push_lines(
     bounds: &Bounds,
 ) -> Result<(), AllocError>
     ensures { OnOk result (string_bytes text.new
-        ≡ string_bytes text.old ++ spec.lines_text (spec.names_of old.now)
+        ≡ string_bytes text.old ++ lines_text (spec.names_of old.now)
         (spec.names_of new.now) bounds.now) }
 {
     for at in 0..bounds.len() {
@@ -105,7 +106,7 @@ fn push_lines(
 /// The line of the witness, and the last one.
 fn push_last(alloc: Global, text: &mut String, witness: Option<&[u8]>) -> Result<(), AllocError>
     ensures { OnOk result (string_bytes text.new
-        ≡ string_bytes text.old ++ spec.last_text (option_copied witness.entry)) }
+        ≡ string_bytes text.old ++ last_text (option_copied witness.entry)) }
 {
     text.push_str("witness ")?;
     match witness {

@@ -5,7 +5,8 @@ use Rattle.pg_schema.specs.declared.parts.Parts.{Parts}
 use Rattle.pg_cert.specs.declared.bounds.PairBound.{PairBound}
 use Rattle.pg_cert.specs.declared.heading.Heading.{Heading}
 use Rattle.pg_cert.specs.Certificate.{are_bounds, Claim}
-use Rattle.pg_cert.specs.Text.{IsPairOf, Names, heading_text, last_text, lines_text, names_of}
+use Rattle.pg_cert.specs.Text.{IsPairOf, Names, names_of}
+use Rattle.pg_cert.specs.inner.Lines.{heading_text, last_text, lines_text}
 
 -- the byte isn't in the word
 abbrev pub lacks : ℕ → List ℕ → Bool

@@ -1,9 +1,7 @@
 -- What holds of each message type, taken by itself (proto3 language guide, "Message definition", "Oneof", "Reserved
 -- Fields").
-use Rattle.std.specs.Prelude.{◌≡◌, ℕ, zero, suc, Bool, true, false, nat_eq, ◌&&◌, List, ◌∷◌, map, Option, Some, None, is_some, length, ◌<◌, slice_index_or}
+use Rattle.std.specs.Prelude.{ℕ, zero, suc, Bool, true, false, nat_eq, ◌&&◌, List, ◌∷◌, map, Option, Some, None, is_some, length}
 use Rattle.std.specs.List.{list_all, list_any}
-use Rattle.std.specs.BTreeSet.{BTreeSet, contains}
-use Rattle.std.specs.Ordering.{nat_cmp}
 use Rattle.std.specs.String.{string_bytes}
 use Rattle.pg_schema.specs.declared.parts.field.Field.{Field}
 use Rattle.pg_schema.specs.declared.parts.message_type.MessageType.{MessageType}
@@ -43,11 +41,6 @@ abbrev pub have_members : ℕ → List Field → Bool
 have_members zero fields = true
 have_members (suc place) fields = list_any (is_member place) fields && have_members place fields
 
--- the flag at each of so many indices says whether the oneof there has a member
-pub record AreMarks (fields : List Field) (oneofs : ℕ) (marks : List Bool) : Type 0 where
-  pub all : length marks ≡ oneofs
-  pub each : (place : ℕ) → place < oneofs → slice_index_or marks place false ≡ list_any (is_member place) fields
-
 -- the fields' numbers in order of declaration are as many as the fields, with that of each
 abbrev pub is_declared : List ℕ → List Field → Bool
 is_declared declared fields =
@@ -75,7 +68,3 @@ has_reserved t =
 abbrev pub is_message_type : (types enums : ℕ) → MessageType → Bool
 is_message_type types enums t =
     has_fields types enums t && has_oneofs t && has_reserved t && are_distinct (json_names t.fields.items)
-
--- the set has these numbers and no other
-abbrev pub IsNumberSet : List ℕ → BTreeSet ℕ → Type 0
-IsNumberSet numbers set = (n : ℕ) → contains nat_cmp set n ≡ list_any (nat_eq n) numbers

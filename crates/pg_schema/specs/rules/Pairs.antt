@@ -18,9 +18,3 @@ differ a b = not (bytes_eq a b)
 -- no string is there twice; strings are compared byte by byte
 abbrev pub are_distinct : List (List ℕ) → Bool
 are_distinct = all_pairs differ
-
--- the test holds of each item and the next one
-abbrev pub all_neighbours : {A : Type 0} → (A → A → Bool) → List A → Bool
-all_neighbours test [] = true
-all_neighbours test (x ∷ []) = true
-all_neighbours test (x ∷ y ∷ ys) = test x y && all_neighbours test (y ∷ ys)

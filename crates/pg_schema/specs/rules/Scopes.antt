@@ -12,7 +12,6 @@ use Rattle.pg_schema.specs.declared.parts.file.File.{File}
 use Rattle.pg_schema.specs.declared.parts.message_type.MessageType.{MessageType}
 use Rattle.pg_schema.specs.declared.parts.service.Service.{Service}
 use Rattle.pg_schema.specs.declared.parts.service.ServiceId.{ServiceId}
-use Rattle.pg_schema.specs.declared.rules.uses.Use.{Use}
 use Rattle.pg_schema.specs.rules.Pairs.{all_pairs}
 use Rattle.pg_schema.specs.rules.Words.{is_word}
 
@@ -103,7 +102,3 @@ abbrev pub are_declared_once : List File → List MessageType → (enums service
 are_declared_once files types enums services =
     are_each_once (length types) (declared_types files types) && are_each_once enums (declared_enums files types)
     && are_each_once services (declared_services files)
-
--- an index, as a number that is used
-abbrev pub place_use : ℕ → Use
-place_use place = record { first = place; last = place; is_reserved = false }

@@ -51,11 +51,3 @@ enum_uses values reserved = map value_use values ++ map reserved_values_use rese
 -- a reserved item of an enum doesn't fall
 abbrev pub is_value_range : ReservedValues → Bool
 is_value_range r = nat_le (from_lowest r.first) (from_lowest r.last)
-
--- a use has a number, and that of a field or value has one only
-abbrev pub is_whole : Use → Bool
-is_whole u = nat_le u.first u.last && (u.is_reserved || nat_le u.last u.first)
-
--- one use comes before the other, or is an alias of it
-abbrev pub comes_before : Bool → Use → Use → Bool
-comes_before aliases a b = nat_lt a.last b.first || (are_aliases aliases a b && nat_le a.last b.first)

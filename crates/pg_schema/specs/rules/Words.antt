@@ -1,6 +1,6 @@
 -- Words and packages (proto3 language specification, "Identifiers", "Package"; that a word may begin with `_` is this
 -- profile's choice). Strings are lists of bytes.
-use Rattle.std.specs.Prelude.{ℕ, Bool, true, false, not, nat_le, nat_lt, ◌&&◌, ◌||◌, ◌==◌, List, [], ◌∷◌, if◌then◌else◌}
+use Rattle.std.specs.Prelude.{ℕ, Bool, true, false, nat_le, ◌&&◌, ◌||◌, ◌==◌, List, [], ◌∷◌, if◌then◌else◌}
 use Rattle.std.specs.List.{list_all}
 
 -- `A` to `Z`, `a` to `z`, `_`
@@ -33,11 +33,3 @@ parts_at_dots (byte ∷ bytes) = if byte == 46 then [] ∷ parts_at_dots bytes e
 abbrev pub is_package : List ℕ → Bool
 is_package [] = true
 is_package (byte ∷ bytes) = list_all is_word (parts_at_dots (byte ∷ bytes))
-
--- a dot ends a word; a word begins with a letter and goes on with letters and digits
-abbrev pub may_stand : (begins : Bool) → ℕ → Bool
-may_stand begins byte = if byte == 46 then not begins else (if begins then is_letter byte else is_word_byte byte)
-
--- a byte that is a character by itself
-abbrev pub is_ascii : ℕ → Bool
-is_ascii byte = nat_lt byte 128

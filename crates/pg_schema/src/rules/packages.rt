@@ -6,7 +6,7 @@ ghost use Rattle.std.specs.List.{list_all};
 ghost use Rattle.pg_schema.specs.rules.Files.{is_file};
 ghost use Rattle.pg_schema.specs.rules.Packages.{are_free_of, is_free_of};
 ghost use Rattle.pg_schema.specs.inner.LentTexts.{has_lent, IsLentSetOf};
-ghost use Rattle.pg_schema.specs.rules.Words.{is_ascii};
+ghost use Rattle.pg_schema.specs.inner.Steps.{is_ascii};
 
 use crate::parts::file::File;
 use std::alloc::{AllocError, Global};

@@ -2,7 +2,8 @@
 
 ghost use Rattle.std.specs.Prelude.{◌≡◌, ◌++◌, IfOk, OnOk, length, map, nat_lt};
 ghost use Rattle.std.specs.List.{list_all};
-ghost use Rattle.pg_schema.specs.rules.Scopes.{are_declared_once, are_each_once, are_enums_in, are_services_in, are_types_in, declared_enums, declared_services, declared_types, enum_places, enum_name, file_enums, file_types, is_dot_and_word, is_file_scope, is_in, is_named_in, is_type_scope, nested_enums, nested_types, place_use, service_name, type_name, service_places, type_places};
+ghost use Rattle.pg_schema.specs.rules.Scopes.{are_declared_once, are_each_once, are_enums_in, are_services_in, are_types_in, declared_enums, declared_services, declared_types, enum_places, enum_name, file_enums, file_types, is_dot_and_word, is_file_scope, is_in, is_named_in, is_type_scope, nested_enums, nested_types, service_name, type_name, service_places, type_places};
+ghost use Rattle.pg_schema.specs.inner.Steps.{place_use};
 
 use crate::parts::enum_type::EnumType;
 use crate::parts::field::{EnumId, TypeId};

@@ -3,7 +3,8 @@
 ghost use Rattle.std.specs.Prelude.{◌≡◌, ◌↔◌, IfOk, IsTrue, true};
 ghost use Rattle.std.specs.List.{list_all};
 ghost use Rattle.pg_schema.specs.rules.Files.{is_file};
-ghost use Rattle.pg_schema.specs.rules.Sound.{are_named_apart, are_placed, IsSound, keep_rules};
+ghost use Rattle.pg_schema.specs.inner.Checks.{are_named_apart, are_placed, keep_rules};
+ghost use Rattle.pg_schema.specs.rules.Sound.{IsSound};
 
 use crate::parts::Parts;
 use crate::rules::declared_names::declared_names;

@@ -2,8 +2,9 @@
 
 ghost use Rattle.std.specs.Prelude.{◌≡◌, ◌++◌, IfOk, OnOk, map, true};
 ghost use Rattle.std.specs.List.{list_all};
-ghost use Rattle.pg_schema.specs.rules.Pairs.{all_neighbours};
-ghost use Rattle.pg_schema.specs.rules.Uses.{comes_before, enum_uses, field_use, from_lowest, is_used_once, is_whole, message_uses, reserved_use, reserved_values_use, value_use};
+ghost use Rattle.pg_schema.specs.inner.Steps.{all_neighbours};
+ghost use Rattle.pg_schema.specs.inner.Steps.{comes_before, is_whole};
+ghost use Rattle.pg_schema.specs.rules.Uses.{enum_uses, field_use, from_lowest, is_used_once, message_uses, reserved_use, reserved_values_use, value_use};
 
 use crate::parts::enum_type::{EnumValue, ReservedValues};
 use crate::parts::field::Field;

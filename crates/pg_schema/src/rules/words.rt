@@ -1,7 +1,8 @@
 //! Words.
 
 ghost use Rattle.std.specs.Prelude.{◌≡◌};
-ghost use Rattle.pg_schema.specs.rules.Words.{is_letter, is_package, is_word, is_word_byte, may_stand, parts_at_dots};
+ghost use Rattle.pg_schema.specs.rules.Words.{is_letter, is_package, is_word, is_word_byte, parts_at_dots};
+ghost use Rattle.pg_schema.specs.inner.Steps.{may_stand};
 ghost use Rattle.std.specs.List.{list_all};
 
 /// The byte is a letter or `_`.

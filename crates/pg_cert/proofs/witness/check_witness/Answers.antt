@@ -2,7 +2,7 @@
 use Rattle.std.proofs.Common.{◌∙◌, inr, subst, sym, true≢false}
 use Rattle.pg_schema.specs.Parts.{shape_of}
 use Rattle.pg_pairs.specs.graph.GraphView.{seen}
-use Rattle.pg_cert.specs.Witness.{IsReadBack}
+use Rattle.pg_cert.specs.inner.WitnessRead.{IsReadBack}
 use Rattle.pg_cert.proofs.WitnessSteps.{keeps_of, own_within, own_written, witnessed_of, written_of}
 use Rattle.pg_cert.proofs.witness.check_witness.Goals as goal
 

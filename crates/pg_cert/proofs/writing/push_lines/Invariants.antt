@@ -1,6 +1,7 @@
 use Rattle.std.proofs.Common.{◌≡◌, ◌++◌, drop}
 use Rattle.std.specs.String.{string_bytes}
-use Rattle.pg_cert.specs.Text.{lines_text, names_of}
+use Rattle.pg_cert.specs.inner.Lines.{lines_text}
+use Rattle.pg_cert.specs.Text.{names_of}
 use Rattle.pg_cert.proofs.writing.push_lines.Given as goal
 
 -- with the lines that are left it is the whole string

@@ -9,7 +9,8 @@ use Rattle.pg_schema.specs.JsonName.{in_camel_case}
 use Rattle.pg_schema.specs.rules.DeclaredNames.{entry_name, within}
 use Rattle.pg_schema.specs.rules.Packages.{is_free_of, is_front}
 use Rattle.pg_schema.specs.rules.Pairs.{are_distinct, differ}
-use Rattle.pg_schema.specs.rules.Words.{is_digit, is_letter, is_package, is_word, is_word_byte, may_stand}
+use Rattle.pg_schema.specs.rules.Words.{is_digit, is_letter, is_package, is_word, is_word_byte}
+use Rattle.pg_schema.specs.inner.Steps.{may_stand}
 use Rattle.pg_schema.proofs.lemmas.rules.PairLemmas.{and_both, and_left, and_right}
 use Rattle.pg_schema.proofs.lemmas.rules.WordLemmas.{words_from, words_step}
 use Rattle.pg_fds.specs.stated.SetNames.{escaped, is_backslash, name_in, package_scope, quoted}

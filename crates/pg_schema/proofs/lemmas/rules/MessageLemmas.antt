@@ -8,7 +8,8 @@ use Rattle.std.proofs.lemmas.Bool.Decides.{nat_tests}
 use Rattle.pg_schema.specs.declared.parts.field.Field.{Field}
 use Rattle.std.specs.BTreeSet.{BTreeSet, contains}
 use Rattle.std.specs.Ordering.{is_eq, nat_cmp}
-use Rattle.pg_schema.specs.rules.Messages.{numbers, is_member, have_members, AreMarks, IsNumberSet}
+use Rattle.pg_schema.specs.rules.Messages.{numbers, is_member, have_members}
+use Rattle.pg_schema.specs.inner.Sets.{AreMarks, IsNumberSet}
 use Rattle.pg_schema.specs.rules.Pairs.{is_rising}
 
 all_above : (b n : ℕ) (ns : List ℕ) → b < n → list_all (nat_lt n) ns ≡ true → list_all (nat_lt b) ns ≡ true

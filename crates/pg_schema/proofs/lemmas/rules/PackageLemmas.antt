@@ -15,7 +15,8 @@ use Rattle.pg_schema.specs.rules.Files.{is_file}
 use Rattle.pg_schema.specs.rules.Packages.{is_free_of, is_front}
 use Rattle.pg_schema.specs.inner.LentTexts.{has_lent, IsLentSetOf}
 use Rattle.pg_schema.specs.rules.TextSets.{is_among}
-use Rattle.pg_schema.specs.rules.Words.{is_ascii, is_package, may_stand}
+use Rattle.pg_schema.specs.inner.Steps.{is_ascii, may_stand}
+use Rattle.pg_schema.specs.rules.Words.{is_package}
 use Rattle.pg_schema.proofs.lemmas.rules.PairLemmas.{and_both, and_false_right, and_left, and_right}
 use Rattle.pg_schema.proofs.lemmas.rules.WordLemmas.{words_from, words_step}
 

@@ -8,13 +8,15 @@ use Rattle.std.proofs.lemmas.List.Sorted.{IsPermutation-keeps, IsPermutation-sym
 use Rattle.std.proofs.lemmas.List.Edits.{length-swap}
 use Rattle.std.proofs.lemmas.Grind.{elements}
 use Rattle.pg_schema.specs.declared.rules.uses.Use.{Use}
-use Rattle.pg_schema.specs.rules.Pairs.{all_pairs, all_neighbours}
-use Rattle.pg_schema.specs.rules.Scopes.{place_use}
+use Rattle.pg_schema.specs.rules.Pairs.{all_pairs}
+use Rattle.pg_schema.specs.inner.Steps.{all_neighbours}
+use Rattle.pg_schema.specs.inner.Steps.{place_use}
 use Rattle.pg_schema.specs.declared.parts.enum_type.EnumValue.{EnumValue}
 use Rattle.pg_schema.specs.declared.parts.enum_type.ReservedValues.{ReservedValues}
 use Rattle.pg_schema.specs.declared.parts.field.Field.{Field}
 use Rattle.pg_schema.specs.declared.parts.message_type.ReservedFields.{ReservedFields}
-use Rattle.pg_schema.specs.rules.Uses.{are_apart, are_aliases, comes_before, enum_uses, field_use, from_lowest, is_reserved_range, is_used_once, is_value_range, is_whole, message_uses, reserved_use, reserved_values_use, value_use}
+use Rattle.pg_schema.specs.rules.Uses.{are_apart, are_aliases, enum_uses, field_use, from_lowest, is_reserved_range, is_used_once, is_value_range, message_uses, reserved_use, reserved_values_use, value_use}
+use Rattle.pg_schema.specs.inner.Steps.{comes_before, is_whole}
 use Rattle.pg_schema.proofs.lemmas.rules.PairLemmas.{and_left, and_right, and_both}
 
 abbrev pub fits : Bool → Use → Use → Bool

@@ -1,7 +1,8 @@
 -- Words with dots between, one byte after the other.
 use Rattle.std.proofs.Common.{◌≡◌, ℕ, Bool, true, false, not, cond, ◌&&◌, eqb, List, [], ◌∷◌, refl}
 use Rattle.std.specs.List.{list_all}
-use Rattle.pg_schema.specs.rules.Words.{before_first, is_letter, is_word, is_word_byte, may_stand, parts_at_dots}
+use Rattle.pg_schema.specs.rules.Words.{before_first, is_letter, is_word, is_word_byte, parts_at_dots}
+use Rattle.pg_schema.specs.inner.Steps.{may_stand}
 use Rattle.pg_schema.proofs.lemmas.rules.PairLemmas.{and_true_right}
 
 -- the rest of a word, and words

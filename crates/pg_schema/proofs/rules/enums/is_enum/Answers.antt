@@ -1,6 +1,7 @@
 use Rattle.std.proofs.Common.{◌≡◌, true, sym, ◌∙◌, ap}
 use Rattle.std.specs.List.{list_all}
-use Rattle.pg_schema.specs.rules.Uses.{is_value_range, is_whole}
+use Rattle.pg_schema.specs.rules.Uses.{is_value_range}
+use Rattle.pg_schema.specs.inner.Steps.{is_whole}
 use Rattle.pg_schema.proofs.lemmas.rules.UseLemmas.{enum_whole}
 use Rattle.pg_schema.proofs.rules.enums.is_enum.Goals as goal
 

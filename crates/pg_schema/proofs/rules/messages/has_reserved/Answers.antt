@@ -1,6 +1,7 @@
 use Rattle.std.proofs.Common.{◌≡◌, true, sym, ◌∙◌, ap}
 use Rattle.std.specs.List.{list_all}
-use Rattle.pg_schema.specs.rules.Uses.{is_reserved_range, is_whole}
+use Rattle.pg_schema.specs.rules.Uses.{is_reserved_range}
+use Rattle.pg_schema.specs.inner.Steps.{is_whole}
 use Rattle.pg_schema.proofs.lemmas.rules.UseLemmas.{message_whole}
 use Rattle.pg_schema.proofs.rules.messages.has_reserved.Goals as goal
 

@@ -1,5 +1,5 @@
 use Rattle.std.proofs.Common.{take}
-use Rattle.pg_schema.specs.rules.Messages.{AreMarks}
+use Rattle.pg_schema.specs.inner.Sets.{AreMarks}
 use Rattle.pg_schema.proofs.rules.messages.members.Given as goal
 
 abbrev pub invariant-loop-field : goal.invariant-loop-field

@@ -1,5 +1,5 @@
 use Rattle.std.proofs.Common.{take}
-use Rattle.pg_schema.specs.rules.Messages.{IsNumberSet}
+use Rattle.pg_schema.specs.inner.Sets.{IsNumberSet}
 use Rattle.pg_schema.proofs.rules.messages.number_set.Given as goal
 
 abbrev pub invariant-loop-number : goal.invariant-loop-number

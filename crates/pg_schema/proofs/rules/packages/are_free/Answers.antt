@@ -1,6 +1,6 @@
 use Rattle.std.proofs.Common.{◌∙◌, ap}
 use Rattle.std.specs.List.{list_all}
-use Rattle.pg_schema.specs.rules.Words.{is_ascii}
+use Rattle.pg_schema.specs.inner.Steps.{is_ascii}
 use Rattle.pg_schema.proofs.lemmas.rules.PackageLemmas.{file_ascii}
 use Rattle.pg_schema.proofs.rules.packages.are_free.Goals as goal
 

@@ -2,7 +2,8 @@ use Rattle.std.proofs.Common.{◌≡◌, not, true, false, nat_eq, nat_lt, lengt
 use Rattle.std.proofs.lemmas.Bool.Decides.{nat_tests}
 use Rattle.std.specs.List.{list_all}
 use Rattle.pg_schema.specs.rules.Pairs.{all_pairs}
-use Rattle.pg_schema.specs.rules.Uses.{is_used_once, is_whole}
+use Rattle.pg_schema.specs.rules.Uses.{is_used_once}
+use Rattle.pg_schema.specs.inner.Steps.{is_whole}
 use Rattle.pg_schema.proofs.lemmas.rules.UseLemmas.{all_three, places_once, places_whole}
 use Rattle.pg_schema.proofs.rules.scopes.are_each_once.Goals as goal
 

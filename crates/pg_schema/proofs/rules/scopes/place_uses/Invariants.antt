@@ -1,5 +1,5 @@
 use Rattle.std.proofs.Common.{◌≡◌, map, take}
-use Rattle.pg_schema.specs.rules.Scopes.{place_use}
+use Rattle.pg_schema.specs.inner.Steps.{place_use}
 use Rattle.pg_schema.proofs.rules.scopes.place_uses.Given as goal
 
 abbrev pub invariant-loop-place : goal.invariant-loop-place

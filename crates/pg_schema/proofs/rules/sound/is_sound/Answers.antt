@@ -1,5 +1,5 @@
 use Rattle.std.proofs.Common.{◌≡◌, true, sym, ◌∙◌}
-use Rattle.pg_schema.specs.rules.Sound.{keep_rules}
+use Rattle.pg_schema.specs.inner.Checks.{keep_rules}
 use Rattle.pg_schema.proofs.lemmas.rules.PairLemmas.{and_left}
 use Rattle.pg_schema.proofs.rules.sound.is_sound.Goals as goal
 

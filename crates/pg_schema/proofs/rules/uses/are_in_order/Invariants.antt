@@ -1,6 +1,6 @@
 use Rattle.std.proofs.Common.{◌≡◌, ◌∷◌, drop}
-use Rattle.pg_schema.specs.rules.Pairs.{all_neighbours}
-use Rattle.pg_schema.specs.rules.Uses.{comes_before}
+use Rattle.pg_schema.specs.inner.Steps.{all_neighbours}
+use Rattle.pg_schema.specs.inner.Steps.{comes_before}
 use Rattle.pg_schema.proofs.rules.uses.are_in_order.Given as goal
 
 -- all are in order exactly where those that are left are

@@ -1,8 +1,8 @@
 use Rattle.std.proofs.Common.{◌∙◌, ap, rules}
 use Rattle.std.proofs.lemmas.List.Sorted.{IsNonDecreasingBy-from_sort_by_key}
 use Rattle.pg_schema.specs.declared.rules.uses.Use.{Use}
-use Rattle.pg_schema.specs.rules.Pairs.{all_neighbours}
-use Rattle.pg_schema.specs.rules.Uses.{comes_before}
+use Rattle.pg_schema.specs.inner.Steps.{all_neighbours}
+use Rattle.pg_schema.specs.inner.Steps.{comes_before}
 use Rattle.pg_schema.proofs.lemmas.rules.UseLemmas.{used_once_is}
 use Rattle.pg_schema.proofs.rules.uses.is_used_once.Goals as goal
 
