@@ -11,8 +11,8 @@ use Rattle.pg_schema.specs.declared.parts.field.Scalar.{Scalar}
 use Rattle.pg_schema.specs.rules.Fields as rules
 use Rattle.pg_schema.specs.rules.Fields.{is_key}
 use Rattle.pg_schema.specs.Shape.{is_packable}
-use Rattle.pg_link.specs.declared.target.Target.{Target}
-use Rattle.pg_link.specs.declared.target.Target.TheVariants as targets_of
+use Rattle.pg_link.specs.declared.uses.target.Target.{Target}
+use Rattle.pg_link.specs.declared.uses.target.Target.TheVariants as targets_of
 use Rattle.pg_check.specs.rules.Enums.{is_true}
 use Rattle.pg_check.specs.rules.KeepsRules.{has_field_number, has_key, is_packed_rightly, may_be_member}
 use Rattle.pg_check.specs.parts.MadeFields.{MadeField, element, element_of, is_optional, key_or, labelled, made_field, oneof_of}
