@@ -125,6 +125,8 @@ impl From<AllocError> for LinkError {
 }
 
 impl<T: Drop> From<AllocFailed<T>> for LinkError {
+    ghost use Rattle.pg_link.specs.declared.error.LinkError.TheVariants.{Memory};
+
     ghost from_gives = { λ _ error. error ≡ Memory };
 
     fn from(_error: AllocFailed<T>) -> LinkError {
