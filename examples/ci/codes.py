@@ -159,7 +159,7 @@ ERRORS = {
         'Give it a value of the number 0.',
     ),
     'E415': (
-        'The parts are not a valid schema.',
+        'A name is not a valid identifier, or the descriptors do not fit together.',
         "Mend what made the set: source files can't break this rule.",
     ),
     'E501': (

@@ -1,4 +1,4 @@
--- The number behind the E by which users know the error, and its place in a text.
+-- The number after the E by which users know the error, and its position in a source file.
 use Rattle.std.specs.Prelude.{ℕ, Option, Some, None}
 use Rattle.pg_link.specs.declared.error.Place.{Place}
 use Rattle.pg_check.specs.declared.error.CheckError.{CheckError}

@@ -7,3 +7,4 @@ pub mod rules
 pub mod parts
 pub mod standing
 pub mod admitting
+pub mod inner

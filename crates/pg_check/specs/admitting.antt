@@ -1,3 +1,5 @@
-pub mod PartFaults
+pub mod DeclaredParts
+pub mod KeepsParts
+pub mod SoundParts
 pub mod PartErrors
 pub mod BrokenParts

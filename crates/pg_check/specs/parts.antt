@@ -10,3 +10,4 @@ pub mod MadeParts
 pub mod EnumPlaces
 pub mod Sources
 pub mod ResolvedTypes
+pub mod PackedFields

@@ -1,4 +1,4 @@
-//! From parts that come from no text to a checked schema.
+//! From parts that come from no source file to a checked schema.
 
 mod enum_part_faults;
 mod oneof_members;
@@ -31,11 +31,11 @@ fn refusal_of(alloc: Global, parts: &Parts) -> CheckError
     }
 }
 
-/// The schema of parts that come from no text, as those of a descriptor set.
+/// The schema of parts that come from no source file, as those of a descriptor set.
 ///
-/// It reports `Memory` where memory runs out, and a broken rule by its error at no place (no file,
-/// line and column 0): of the message types in their order, then the enums and the files, the first
-/// that breaks one, and of it the lowest code; more than 4,096 message types come before.
+/// It reports `Memory` where memory runs out, and a broken rule by its error, without a position (no
+/// file, line and column 0): of the message types in their order, then the enums and the files, the
+/// first that breaks one, and of it the lowest code; more than 4,096 message types come before.
 /// Parts that break no rule of these and are no schema all the same are `BadParts`. Refused parts
 /// are dropped (proto3 language guide, "Defining A Message Type" and "Enumerations").
 pub fn admit(alloc: Global, parts: Parts) -> Result<Schema, CheckError>

@@ -8,9 +8,10 @@ ghost use Rattle.pg_check.specs.Declares.{Declares};
 ghost use Rattle.pg_check.specs.parts.EnumPlaces as enums;
 ghost use Rattle.pg_check.specs.Errors as spec;
 ghost use Rattle.pg_check.specs.parts.ResolvedTypes.{AreResolved};
-ghost use Rattle.pg_check.specs.parts.Sources.{linked_sources, source};
+ghost use Rattle.pg_check.specs.parts.Sources.{linked_sources};
+ghost use Rattle.pg_check.specs.inner.Sources.{source};
 ghost use Rattle.pg_check.specs.rules.BrokenRules.{IsFirstBroken};
-ghost use Rattle.pg_check.specs.rules.FirstBroken.{first_broken};
+ghost use Rattle.pg_check.specs.inner.FirstBroken.{first_broken};
 ghost use Rattle.pg_check.specs.standing.StandingParts.{StandingParts};
 
 use crate::declare::{FileFault, Refusal, declare};
@@ -74,7 +75,7 @@ fn first_error(
 
 /// The schema that the files declare, whose parts are those of a schema where they break no rule.
 /// Refused where memory is, and where a file breaks a rule, with the first rule that the first of
-/// such files breaks at its place.
+/// such files breaks at its position.
 fn schema_of(alloc: Global, files: &[Source<'_>]) -> Result<Schema, CheckError>
     requires sound { (parts : Parts) → Declares (map source files.now) parts → IsSound parts }
     ensures built { IfOk result (λ schema. Declares (map source files.now) schema) }
@@ -94,19 +95,19 @@ fn schema_of(alloc: Global, files: &[Source<'_>]) -> Result<Schema, CheckError>
 /// declaration, enums scope by scope, those of the package before those of each message type.
 ///
 /// It reports `Memory` where memory runs out, and the first rule that is broken by its error at its
-/// place: of the files, each behind those that it imports, the first that breaks one; in it by
+/// position: of the files, each after those that it imports, the first that breaks one; in it by
 /// order of declaration, and of one declaration the lowest code. Files that break no rule are a
 /// schema: `BadParts` never comes.
 pub fn build(alloc: Global, linked: &Linked) -> Result<Schema, CheckError>
     // The schema has just what the files declare, which keep to the rules.
     ensures built { IfOk result (Declares (linked_sources linked.now.files)) }
-    // Files stand behind those that they import, messages nest at most 64 deep, and all is numbered
+    // Files come after those that they import, messages nest at most 64 deep, and all is numbered
     // in the order of a set.
     ensures stands { IfOk result StandingParts }
     // A field's element, and what an rpc takes and returns, has the full name that its type name
     // resolves to.
     ensures resolved { IfOk result (AreResolved linked.now.files) }
-    // Memory aside, a refusal names a rule that is broken in the files, the first, at its place.
+    // Memory aside, a refusal names a rule that is broken in the files, the first, at its position.
     ensures refused { IfErr result (spec.IsRefused (linked_sources linked.now.files)) }
 {
     let places = enum_places(alloc, linked)?;

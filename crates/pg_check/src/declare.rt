@@ -2,11 +2,10 @@
 
 ghost use Rattle.std.specs.Prelude.{◌≡◌, ◌-◌, IfErr, IfOk, length, map};
 ghost use Rattle.pg_check.specs.Declares.{Declares};
-ghost use Rattle.pg_check.specs.parts.EnumPlaces.{target_in};
-ghost use Rattle.pg_check.specs.rules.Files as files;
-ghost use Rattle.pg_check.specs.rules.FirstBroken as spec;
+ghost use Rattle.pg_check.specs.inner.Sources.{target_in, source};
+ghost use Rattle.pg_check.specs.inner.FileFaults as faults;
+ghost use Rattle.pg_check.specs.inner.FirstBroken as spec;
 ghost use Rattle.pg_check.specs.rules.Outline.{file_messages};
-ghost use Rattle.pg_check.specs.parts.Sources.{source};
 
 use crate::parts::made_parts::{Source, parts_of};
 use crate::rules::fault::Fault;
@@ -15,7 +14,7 @@ use crate::rules::outline::{file_enums, file_messages};
 use pg_schema::{MAX_MESSAGE_TYPES, Parts};
 use std::alloc::{AllocError, Global};
 
-/// A rule that one of the files breaks; the file is given by its place among them.
+/// A rule that one of the files breaks; the file is given by its index among them.
 #[derive(Clone, Copy, Debug, PartialEq, Eq)]
 pub(crate) struct FileFault {
     pub file: usize,
@@ -41,17 +40,17 @@ impl From<AllocError> for Refusal {
     }
 }
 
-/// What was found in a file, and how many more message types may stand behind it.
+/// What was found in a file, and how many more message types may come after it.
 #[derive(Clone, Copy)]
 struct Checked {
     fault: Option<Fault>,
     left: usize,
 }
 
-/// Looks for the first rule that a file breaks, where so many more message types may stand.
+/// Looks for the first rule that a file breaks, where so many more message types may come.
 fn look_at(alloc: Global, file: &Source<'_>, left: usize) -> Result<Checked, AllocError>
     ensures fault { IfOk result (λ c. c.fault
-        ≡ files.file_fault (target_in file.now.targets) left file.now.tree.now) }
+        ≡ faults.file_fault (target_in file.now.targets) left file.now.tree.now) }
     ensures left { IfOk result (λ c. c.left ≡ left - length (file_messages file.now.tree.now)) }
 {
     let messages = file_messages(alloc, file.tree)?;

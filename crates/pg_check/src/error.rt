@@ -8,12 +8,12 @@ use pg_link::Place;
 use std::alloc::{AllocError, Global};
 use thiserror::Error;
 
-/// Why files or parts declare no schema. Of parts that come from no text, and of `BadParts`, the
-/// place is none; else it is that of the declared name, or of the first token of an option or a
-/// reserved item (proto3 language specification; proto3 language guide).
+/// Why files or parts declare no schema. Of parts that come from no source file there is no
+/// position, as of `BadParts`. Else it is that of the declared name, or of the first token of an
+/// option or a reserved item (proto3 language specification; proto3 language guide).
 #[derive(Debug, PartialEq, Eq, Drop, Error)]
 pub enum CheckError {
-    /// E401: the number of a field, a value or a reserved item is none that may stand.
+    /// E401: the number of a field, a value or a reserved item is none that it may have.
     #[error("The number of the field, value or reserved item is out of range.")]
     BadNumber(Place),
     /// E402: a field has the number of another.
@@ -46,7 +46,7 @@ pub enum CheckError {
     /// E411: an option is unknown, of a wrong kind, or given twice.
     #[error("The option is unknown, has a value of the wrong kind, or was already set.")]
     BadOption(Place),
-    /// E412: `packed = true` stands on a field that can't be packed.
+    /// E412: `packed = true` is stated of a field that can't be packed.
     #[error("[packed = true] can only be specified for repeated primitive fields.")]
     PackedNotAllowed(Place),
     /// E413: there are more than 4,096 message types.
@@ -56,7 +56,7 @@ pub enum CheckError {
     #[error("Enums must contain at least one value.")]
     EnumEmpty(Place),
     /// E415: the parts break a rule of schemas that none of the others names.
-    #[error("The parts are not a valid schema.")]
+    #[error("A name is not a valid identifier, or the descriptors do not fit together.")]
     BadParts(Place),
     /// E001: a growth was refused. It may come in place of any other.
     #[error("Out of memory.")]
@@ -66,7 +66,7 @@ pub enum CheckError {
 impl CheckError {
     ghost use Rattle.pg_check.specs.Codes.{code_of, place_of};
 
-    /// The number behind the E by which users know the error.
+    /// The number after the E by which users know the error.
     pub fn code(&self) -> u16
         ensures { result ≡ code_of self.now }
     {
@@ -90,7 +90,7 @@ impl CheckError {
         }
     }
 
-    /// The place of the fault, but where memory was refused.
+    /// The position of the fault, but where memory was refused.
     pub fn place(self) -> Option<Place>
         ensures { result ≡ place_of self }
     {
@@ -125,7 +125,7 @@ impl From<AllocError> for CheckError {
     }
 }
 
-/// The error of a rule that is broken at that place.
+/// The error of a rule that is broken at that position.
 pub(crate) fn error_of(rule: Rule, place: Place) -> CheckError
     ensures { result ≡ spec.error_of rule place }
 {

@@ -7,13 +7,17 @@ ghost use Rattle.pg_schema.specs.declared.parts.Parts.{Parts};
 ghost use Rattle.pg_syntax.specs.declared.tree.TypeName.{TypeName};
 ghost use Rattle.pg_link.specs.Linked.{IsLinkedUp, LinkedFiles};
 ghost use Rattle.pg_link.specs.walk.Walk.{Entry};
-ghost use Rattle.pg_check.specs.admitting.BrokenParts.{IsFirstBrokenPart, KeepsAll};
+ghost use Rattle.pg_check.specs.admitting.BrokenParts.{IsFirstBrokenPart};
+ghost use Rattle.pg_check.specs.admitting.KeepsParts.{KeepsAll};
+ghost use Rattle.pg_check.specs.admitting.SoundParts.{HaveInt32s};
 ghost use Rattle.pg_check.specs.rules.BrokenRules.{IsFirstBroken};
 ghost use Rattle.pg_check.specs.Declares.{Declares};
 ghost use Rattle.pg_check.specs.Examples.{WorkedRules};
+ghost use Rattle.pg_check.specs.inner.Examples.{WorkedFaults};
 ghost use Rattle.pg_check.specs.rules.KeepsRules.{KeepsRules};
 ghost use Rattle.pg_check.specs.parts.MadeParts.{Source};
 ghost use Rattle.pg_check.specs.RuleCodes.{AreRuleCodes};
+ghost use Rattle.pg_check.specs.parts.PackedFields.{ArePackedByMeaning};
 ghost use Rattle.pg_check.specs.parts.ResolvedTypes.{AreResolved, ResolvesTo, full_name_of};
 ghost use Rattle.pg_check.specs.parts.Sources.{linked_sources};
 ghost use Rattle.pg_check.specs.standing.StandingParts.{StandingParts};
@@ -21,7 +25,8 @@ ghost use Rattle.pg_check.specs.declared.error.CheckError.{CheckError};
 
 /// What the rules take and what they refuse, by small examples.
 pub fn worked_rules()
-    ensures { WorkedRules }
+    ensures kept { WorkedRules }
+    ensures faults { WorkedFaults }
 {}
 
 /// Files that keep to the rules break none. So, memory aside, `build` answers a schema exactly
@@ -36,6 +41,12 @@ pub fn kept_rules()
 /// them.
 pub fn kept_part_rules()
     ensures { (parts : Parts) (e : CheckError) → KeepsAll parts → IsFirstBrokenPart parts e → ⊥ }
+{}
+
+/// The parts of a schema keep to the rules, where numbers of enums are `int32`, as in every program.
+/// So parts that break a rule are no schema: `admit` takes none of them.
+pub fn sound_parts_keep()
+    ensures { (parts : Parts) → IsSound parts → HaveInt32s parts → KeepsAll parts }
 {}
 
 /// The parts of linked files that keep to the rules are those of a schema: their names are words,
@@ -64,6 +75,12 @@ pub fn resolved_types()
         (name : TypeName) (one other : Element) → ResolvesTo files parts file scope name one
         → ResolvesTo files parts file scope name other
         → full_name_of parts one ≡ full_name_of parts other }
+{}
+
+/// A field of linked files may be packed, by the rules, where it is repeated and its type name means
+/// a number, bool or enum. So what E412 says by the byte of a type name is said of the field's type.
+pub fn packed_fields()
+    ensures { (linked : LinkedFiles) → IsLinkedUp linked → ArePackedByMeaning linked.files }
 {}
 
 /// The code in the fact that a rule is broken is the code of its error, of files and of parts

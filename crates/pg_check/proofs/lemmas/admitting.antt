@@ -1,6 +1,9 @@
 pub mod BrokenEnumTypes
 pub mod BrokenParts
 pub mod BrokenTypes
+pub mod KeptPartRules
+pub mod SoundParts
+pub mod SoundUses
 pub mod PartMembers
 pub mod PartRules
 pub mod PartShapes

@@ -38,3 +38,5 @@ pub mod PlacedNames
 pub mod FreePackages
 pub mod SoundParts
 pub mod CountableParts
+pub mod Numbering
+pub mod PackedFields

@@ -15,6 +15,7 @@ pub mod JudgedMessages
 pub mod JudgedFiles
 pub mod KeepingFiles
 pub mod SmallFiles
+pub mod SmallRules
 pub mod Halves
 pub mod InARow
 pub mod PlaceLaws

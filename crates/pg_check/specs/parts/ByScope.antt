@@ -1,36 +1,26 @@
--- What stands in which scope: message types and enums by their places, in order of declaration (proto3 language
+-- What is in which scope: message types and enums by their indexes, in order of declaration (proto3 language
 -- specification, "Message definition", "Package").
-use Rattle.std.specs.Prelude.{ℕ, ◌+◌, List, [], ◌∷◌, map, string_bytes, String}
 use Rattle.std.specs.List.{filter}
+use Rattle.std.specs.Prelude.{ℕ, ◌+◌, List, [], ◌∷◌, map}
 use Rattle.std.specs.Str.{bytes_eq}
-use Rattle.std.specs.declared.alloc.Global.{Global}
-use Rattle.std.specs.BTreeMap.{BTreeMap, get_by_text}
-use Rattle.std.specs.Option.{option_map_or}
-use Rattle.std.specs.Prelude.{Vec}
 use Rattle.pg_schema.specs.declared.parts.field.EnumId.{EnumId}
 use Rattle.pg_schema.specs.declared.parts.field.TypeId.{TypeId}
 use Rattle.pg_check.specs.parts.MadeNumbers.{index_of}
 
--- a scope that declares something, and the place of that in a schema
+-- a scope that declares something, and the index of that in a schema
 pub record Placed : Type 0 where
   pub scope : List ℕ
   pub index : ℕ
 
-abbrev pub placed : (String Global × ℕ) → Placed
-placed p = record { scope = string_bytes p.0; index = p.1 }
-
--- what these scopes declare one by one, where so many stand before
+-- what these scopes declare one by one, where so many come before
 abbrev pub placed_from : ℕ → List (List ℕ) → List Placed
 placed_from before [] = []
-placed_from before (scope ∷ scopes) = record { scope = scope; index = index_of before } ∷ placed_from (before + 1) scopes
+placed_from before (scope ∷ scopes) =
+    record { scope = scope; index = index_of before } ∷ placed_from (before + 1) scopes
 
--- the places of what the scope declares
+-- the indexes of what the scope declares
 abbrev pub places_in : List ℕ → List Placed → List ℕ
 places_in scope list = map (λ (p : Placed). p.index) (filter (λ (p : Placed). bytes_eq scope p.scope) list)
-
--- the places that are kept for the scope
-abbrev pub in_scope : BTreeMap (String Global) (Vec ℕ Global) → List ℕ → List ℕ
-in_scope by_scope scope = option_map_or (λ (g : Vec ℕ Global). g.items) (get_by_text by_scope scope) []
 
 abbrev pub type_id : ℕ → TypeId
 type_id index = record { index = index }

@@ -26,7 +26,7 @@ pub record MadeEnum : Type 0 where
   pub reserved_names : List (List ℕ)
   pub options : EnumOptions
 
--- ---- what stands in a schema
+-- ---- what a schema has
 
 abbrev pub value : EnumValue → MadeValue
 value v = record { name = string_bytes v.name; number = v.number; options = v.options }
@@ -72,7 +72,10 @@ abbrev pub reserved_numbers : List rules.Part → List ReservedValues
 reserved_numbers body = map value_range (rules.items body)
 
 abbrev pub enum_options : List rules.Part → EnumOptions
-enum_options body = record { allow_alias = body_flag (codes "allow_alias") body; deprecated = body_flag (codes "deprecated") body }
+enum_options body = record {
+  allow_alias = body_flag (codes "allow_alias") body;
+  deprecated = body_flag (codes "deprecated") body;
+}
 
 abbrev pub made_body : List ℕ → List rules.Part → MadeEnum
 made_body full body = record {

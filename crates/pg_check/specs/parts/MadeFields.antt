@@ -69,7 +69,10 @@ key_or (Some s) = s
 -- ---- presence
 
 abbrev pub options : DeclaredField → FieldOptions
-options m = record { packed = flag_of (codes "packed") (settings (settings_of m)); deprecated = flag_of (codes "deprecated") (settings (settings_of m)) }
+options m = record {
+  packed = flag_of (codes "packed") (settings (settings_of m));
+  deprecated = flag_of (codes "deprecated") (settings (settings_of m));
+}
 
 -- a singular message and a member of a oneof are explicit without `optional`
 abbrev pub labelled : Option Label → (member : Bool) → Element → Option Bool → Presence
@@ -78,7 +81,8 @@ labelled (Some labels.Optional) member element stated = presences.Explicit
 labelled None member element stated = if member || is_message element then presences.Explicit else presences.Implicit
 
 abbrev pub presence : (ℕ → Option Target) → DeclaredField → Presence
-presence targets (Plain f oneof) = labelled f.label (is_some oneof) (element targets f.type_name) (flag_of (codes "packed") (settings f.settings))
+presence targets (Plain f oneof) =
+    labelled f.label (is_some oneof) (element targets f.type_name) (flag_of (codes "packed") (settings f.settings))
 presence targets (Mapped m oneof) = presences.Map (key_or (scalar_named m.key.value))
 
 abbrev pub is_optional : Option Label → Bool

@@ -62,7 +62,9 @@ flag_option None = None
 flag_option (Some flag) = Some (Flag flag)
 
 abbrev pub mode_word : tree.Dotted.Dotted → Option MadeValue
-mode_word d = if is_word (codes "SPEED") d then Some (Mode modes.Speed) else (if is_word (codes "CODE_SIZE") d then Some (Mode modes.CodeSize)
+mode_word d =
+    if is_word (codes "SPEED") d then Some (Mode modes.Speed)
+    else (if is_word (codes "CODE_SIZE") d then Some (Mode modes.CodeSize)
     else (if is_word (codes "LITE_RUNTIME") d then Some (Mode modes.LiteRuntime) else None))
 
 -- the value, where it is of the kind

@@ -65,7 +65,8 @@ pub record AreFields (made : List MadeField) (fields : List schema.Field) : Type
   pub by_number : IsNonDecreasingBy (λ (f : schema.Field). f.number) fields
 
 -- the message type of this name and body, with these message types and enums in it
-pub record IsMessage (targets : ℕ → Option Target) (full : List ℕ) (body : List Part) (nested : List TypeId) (enums : List EnumId) (t : types.MessageType) : Type 0 where
+pub record IsMessage (targets : ℕ → Option Target) (full : List ℕ) (body : List Part) (nested : List TypeId)
+    (enums : List EnumId) (t : types.MessageType) : Type 0 where
   pub name : string_bytes t.name ≡ full
   pub fields : AreFields (made_fields targets body) t.fields.items
   pub declared : t.declared.items ≡ declared body

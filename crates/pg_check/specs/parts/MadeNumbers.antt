@@ -23,6 +23,6 @@ value_range r = record { first = value_number r.first; last = value_number r.las
 abbrev pub field_range : Numbers → ReservedFields
 field_range r = record { first = field_number r.first; last = field_number r.last }
 
--- a place of at most 32 bits
+-- an index of at most 32 bits
 abbrev pub index_of : ℕ → ℕ
 index_of place = if nat_lt place (2 ^ 32) then place else 0

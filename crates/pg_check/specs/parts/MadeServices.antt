@@ -105,7 +105,7 @@ service_in targets scope (statements.Service s) = made_service targets scope s �
 abbrev pub made_services : (ℕ → Option Target) → List ℕ → List tree.Statement.Statement → List MadeService
 made_services targets scope list = flat_map (service_in targets scope) list
 
--- the places of services, where so many stand before
+-- the indexes of services, where so many come before
 abbrev pub service_ids : ℕ → List MadeService → List ServiceId
 service_ids before [] = []
 service_ids before (s ∷ ss) = record { index = index_of before } ∷ service_ids (before + 1) ss

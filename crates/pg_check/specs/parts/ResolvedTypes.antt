@@ -64,7 +64,7 @@ rpc_in (service_parts.Rpc r) = r ∷ []
 -- ---- in a schema of linked files
 
 module _ (files : List Entry) (parts : Parts) where
-  -- the names that a file sees
+  -- the names that are visible in a file
   abbrev pub visible : Entry → Names
   visible file = visible_names (outlines files) (path_of file)
 

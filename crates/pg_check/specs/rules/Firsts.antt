@@ -9,7 +9,7 @@ pub record IsOneOf {X : Type 0} (xs : List X) (x : X) : Type 0 where
   pub after : List X
   pub is : xs ≡ before ++ x ∷ after
 
--- an item of a list, behind such alone as keep to a rule
+-- an item of a list, after such alone as keep to a rule
 pub record IsBehind {X : Type 0} (Keeps : X → Type 0) (xs : List X) (x : X) : Type 0 where
   pub before : List X
   pub after : List X

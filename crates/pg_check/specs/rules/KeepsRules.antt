@@ -50,7 +50,7 @@ is_free reserved k = not (numbers.is_reserved reserved k.key)
 abbrev pub is_free_name : List (List ℕ) → names.Named → Bool
 is_free_name reserved n = not (is_among reserved n.text)
 
--- ---- options: each is known and of its kind, and stands once
+-- ---- options: each is known and of its kind, and is there once
 
 abbrev pub is_right : OptionAt → Bool
 is_right o = o.is_right
@@ -82,7 +82,8 @@ may_be_member m = not (messages.is_bad_member m)
 
 -- no `packed = true`, but on a repeated field of numbers, bool or an enum
 abbrev pub is_packed_rightly : (ℕ → Option Target) → DeclaredField → Bool
-is_packed_rightly targets m = messages.may_be_packed targets m || list_all (λ s. not (messages.states_packed s)) (settings (settings_of m))
+is_packed_rightly targets m =
+    messages.may_be_packed targets m || list_all (λ s. not (messages.states_packed s)) (settings (settings_of m))
 
 abbrev pub member_options : DeclaredField → List OptionAt
 member_options m = in_settings owners.Field (settings_of m)

@@ -2,27 +2,21 @@
 -- "Message definition", "Oneof and oneof field", "Map field"; proto3 language guide, "JSON Mapping").
 use Rattle.std.specs.Prelude.{ℕ, ◌+◌, false, List, [], ◌∷◌, ◌++◌, flat_map, codes, Option, Some, None, string_bytes, if◌then◌else◌}
 use Rattle.pg_schema.specs.JsonName.{default_json_name}
-use Rattle.pg_check.specs.declared.rules.member.DeclaredField as code
-use Rattle.pg_check.specs.declared.rules.member.DeclaredField.TheVariants as codes_of
 use Rattle.pg_check.specs.declared.rules.numbers.Keyed.{Keyed}
-use Rattle.pg_check.specs.rules.Names.{Named}
-use Rattle.pg_check.specs.rules.Numbers.{rank}
-use Rattle.pg_check.specs.rules.Options.{is_word}
-use Rattle.pg_check.specs.rules.ReservedItems.{text_of}
 use Rattle.pg_syntax.specs.declared.tree as tree
 use Rattle.pg_syntax.specs.declared.tree.OneofPart.TheVariants as oneof_parts
 use Rattle.pg_syntax.specs.declared.tree.Part.{Part}
 use Rattle.pg_syntax.specs.declared.tree.Part.TheVariants as parts
 use Rattle.pg_syntax.specs.declared.tree.Value.TheVariants as values
+use Rattle.pg_check.specs.rules.Names.{Named}
+use Rattle.pg_check.specs.rules.Numbers.{rank}
+use Rattle.pg_check.specs.rules.Options.{is_word}
+use Rattle.pg_check.specs.rules.ReservedItems.{text_of}
 
--- a field or a map, with the place of its oneof among the message's
+-- a field or a map, with the index of its oneof among the message's
 pub data DeclaredField : Type 0 where
   Plain : tree.Field.Field → Option ℕ → DeclaredField
   Mapped : tree.MapField.MapField → Option ℕ → DeclaredField
-
-abbrev pub member : code.DeclaredField → DeclaredField
-member (codes_of.Field f oneof) = Plain f.now oneof
-member (codes_of.Map m oneof) = Mapped m.now oneof
 
 abbrev pub oneof_members_in : ℕ → tree.OneofPart.OneofPart → List DeclaredField
 oneof_members_in place (oneof_parts.Empty span) = []
@@ -33,7 +27,7 @@ oneof_members_in place (oneof_parts.Field f) = Plain f (Some place) ∷ []
 abbrev pub oneof_members : ℕ → List tree.OneofPart.OneofPart → List DeclaredField
 oneof_members place body = flat_map (oneof_members_in place) body
 
--- where so many oneofs stand before
+-- where so many oneofs come before
 abbrev pub members_in : ℕ → Part → List DeclaredField
 members_in place (parts.Empty span) = []
 members_in place (parts.Message' name shape row span) = []

@@ -1,18 +1,15 @@
 -- Options (proto3 language specification, "Option"; descriptor.proto, `FileOptions` and the like). Which are taken, that each
--- is stated once in its place, and that none stands in a oneof, is this profile's choice.
-use Rattle.std.specs.Prelude.{ℕ, Bool, true, false, not, ◌&&◌, ◌||◌, List, [], ◌∷◌, map, codes, Option, Some, None, string_bytes, if◌then◌else◌}
-use Rattle.std.specs.Borrow.{Bor}
+-- is stated once where it may be, and that none is in a oneof, is this profile's choice.
+use Rattle.std.specs.Prelude.{ℕ, Bool, true, false, ◌&&◌, ◌||◌, List, [], ◌∷◌, find, map, option_map, codes, Option, Some, None, string_bytes, if◌then◌else◌}
 use Rattle.std.specs.Str.{bytes_eq}
 use Rattle.pg_check.specs.declared.rules.options.Kind.{Kind}
 use Rattle.pg_check.specs.declared.rules.options.Kind.TheVariants as kinds
 use Rattle.pg_check.specs.declared.rules.options.Known.{Known}
 use Rattle.pg_check.specs.declared.rules.options.Owner.{Owner}
 use Rattle.pg_check.specs.declared.rules.options.Owner.TheVariants as owners
-use Rattle.pg_check.specs.declared.rules.options.Stated as code
-use Rattle.pg_check.specs.rules.Names.{Named, first_twice}
-use Rattle.pg_check.specs.rules.Numbers.{first_such, least}
 use Rattle.pg_syntax.specs.declared.tree as tree
 use Rattle.pg_syntax.specs.declared.tree.Value.TheVariants as values
+use Rattle.pg_check.specs.rules.Names.{Named}
 
 pub record Entry : Type 0 where
   pub name : List ℕ
@@ -20,9 +17,6 @@ pub record Entry : Type 0 where
 
 abbrev pub named : List ℕ → ℕ → Kind → Entry
 named name number kind = record { name = name; known = record { number = number; kind = kind } }
-
-abbrev pub entry : Bor (List ℕ) × ℕ × Kind → Entry
-entry o = named o.0.now o.1 o.2
 
 abbrev pub deprecated : ℕ → Entry
 deprecated number = named (codes "deprecated") number kinds.Flag
@@ -39,20 +33,17 @@ options_of owners.File = named (codes "java_package") 1 kinds.Text ∷ named (co
     ∷ named (codes "swift_prefix") 39 kinds.Text ∷ named (codes "php_class_prefix") 40 kinds.Text
     ∷ named (codes "php_namespace") 41 kinds.Text ∷ named (codes "ruby_package") 45 kinds.Text ∷ []
 options_of owners.Message = deprecated 3 ∷ []
-options_of owners.Field = named (codes "packed") 2 kinds.Flag ∷ deprecated 3 ∷ named (codes "json_name") 10 kinds.Text ∷ []
+options_of owners.Field =
+    named (codes "packed") 2 kinds.Flag ∷ deprecated 3 ∷ named (codes "json_name") 10 kinds.Text ∷ []
 options_of owners.Oneof = []
 options_of owners.Enum = named (codes "allow_alias") 2 kinds.Flag ∷ deprecated 3 ∷ []
 options_of owners.EnumValue = deprecated 1 ∷ []
 options_of owners.Service = deprecated 33 ∷ []
 options_of owners.Method = deprecated 33 ∷ []
 
-abbrev pub known_or : Bool → Known → Option Known → Option Known
-known_or true known others = Some known
-known_or false known others = others
-
+-- the option of the table that has this name
 abbrev pub known_among : List Entry → List ℕ → Option Known
-known_among [] name = None
-known_among (o ∷ os) name = known_or (bytes_eq name o.name) o.known (known_among os name)
+known_among table name = option_map (λ (o : Entry). o.known) (find (λ (o : Entry). bytes_eq name o.name) table)
 
 unfoldable pub option_named : Owner → List ℕ → Option Known
 option_named owner name = known_among (options_of owner) name
@@ -98,19 +89,16 @@ is_right owner s = is_of (known_by owner s.name) s.value
 
 -- ---- options as they are stated
 
--- an option by the first word of its name, whether it is a right one, and where it stands
+-- an option by the first identifier of its name, whether it is a right one, and where it is
 pub record OptionAt : Type 0 where
   pub name : List ℕ
   pub is_right : Bool
   pub at : ℕ
 
-abbrev pub stated : code.Stated → OptionAt
-stated s = record { name = s.name.now; is_right = s.is_right; at = s.at }
-
 abbrev pub option_at : Owner → ℕ → tree.Setting.Setting → OptionAt
 option_at owner at s = record { name = string_bytes s.name.first.text; is_right = is_right owner s; at = at }
 
--- in brackets an option stands where its name does
+-- in brackets an option is where its name is
 abbrev pub in_brackets : Owner → tree.Setting.Setting → OptionAt
 in_brackets owner s = option_at owner s.span.from s
 
@@ -118,17 +106,9 @@ abbrev pub in_settings : Owner → Option tree.Settings.Settings → List Option
 in_settings owner None = []
 in_settings owner (Some s) = in_brackets owner s.first.value ∷ map (in_brackets owner) s.more.items
 
--- as a statement it stands at the word `option`
+-- as a statement it is at the word `option`
 abbrev pub in_line : Owner → tree.OptionLine.OptionLine → OptionAt
 in_line owner o = option_at owner o.span.from o.setting
 
 abbrev pub name_of : OptionAt → Named
 name_of o = record { text = o.name; at = o.at }
-
--- the first that isn't right
-abbrev pub first_wrong : List OptionAt → Option ℕ
-first_wrong options = first_such (λ (o : OptionAt). not o.is_right) (λ (o : OptionAt). o.at) options
-
--- the first that isn't right, or was stated before
-abbrev pub first_bad : List OptionAt → Option ℕ
-first_bad options = least (first_wrong options) (first_twice (map name_of options))

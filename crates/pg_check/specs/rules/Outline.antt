@@ -2,8 +2,6 @@
 -- declaration, and enums also scope by scope (proto3 language specification, "Message definition", "Enum definition", "Package").
 use Rattle.std.specs.Prelude.{ℕ, List, [], ◌∷◌, ◌++◌, flat_map, Option, Some, None, string_bytes}
 use Rattle.pg_schema.specs.rules.DeclaredNames.{within}
-use Rattle.pg_check.specs.declared.rules.outline.FoundMessage as messages
-use Rattle.pg_check.specs.declared.rules.outline.FoundEnum as enums
 use Rattle.pg_syntax.specs.declared.tree as tree
 use Rattle.pg_syntax.specs.declared.tree.Part.{Part, Row_of-Part, end_of-Part, more_of-Part}
 use Rattle.pg_syntax.specs.declared.tree.Part.TheVariants as parts
@@ -20,12 +18,6 @@ pub record Enum : Type 0 where
   pub scope : List ℕ
   pub full : List ℕ
   pub tree : tree.Enum.Enum
-
-abbrev pub message : messages.FoundMessage → Message
-message f = record { scope = string_bytes f.scope; full = string_bytes f.full; name = f.tree.now.name; body = f.tree.now.parts.items }
-
-abbrev pub enumeration : enums.FoundEnum → Enum
-enumeration f = record { scope = string_bytes f.scope; full = string_bytes f.full; tree = f.tree.now }
 
 abbrev pub message_scope : Message → List ℕ
 message_scope m = m.scope
@@ -49,7 +41,8 @@ abbrev mutual
   pub messages_in : List ℕ → Part → List Message
   messages_in scope (parts.Empty span) = []
   messages_in scope (parts.Message' name shape row span) =
-      record { scope = scope; full = full_name scope name; name = name; body = row_list row } ∷ row_messages (full_name scope name) row
+      record { scope = scope; full = full_name scope name; name = name; body = row_list row }
+      ∷ row_messages (full_name scope name) row
   messages_in scope (parts.Enum e) = []
   messages_in scope (parts.Oneof o) = []
   messages_in scope (parts.Option o) = []
@@ -130,10 +123,13 @@ abbrev pub all_enums : List ℕ → List tree.Statement.Statement → List Enum
 all_enums scope statements = flat_map (statement_enums scope) statements
 
 abbrev pub file_messages : tree.FileTree.FileTree → List Message
-file_messages file = all_messages (package_of file) file.statements.items ++ all_messages (package_of file) (statements_behind file.packaged)
+file_messages file =
+    all_messages (package_of file) file.statements.items
+    ++ all_messages (package_of file) (statements_behind file.packaged)
 
 abbrev pub file_enums : tree.FileTree.FileTree → List Enum
-file_enums file = all_enums (package_of file) file.statements.items ++ all_enums (package_of file) (statements_behind file.packaged)
+file_enums file =
+    all_enums (package_of file) file.statements.items ++ all_enums (package_of file) (statements_behind file.packaged)
 
 -- ---- enums by their scopes
 
@@ -160,9 +156,11 @@ enum_stated scope (statements.Message m) = []
 enum_stated scope (statements.Enum e) = an_enum scope e
 enum_stated scope (statements.Service s) = []
 
--- those that stand outside of messages
+-- those that are outside of messages
 abbrev pub package_enums : tree.FileTree.FileTree → List Enum
-package_enums file = flat_map (enum_stated (package_of file)) file.statements.items ++ flat_map (enum_stated (package_of file)) (statements_behind file.packaged)
+package_enums file =
+    flat_map (enum_stated (package_of file)) file.statements.items
+    ++ flat_map (enum_stated (package_of file)) (statements_behind file.packaged)
 
 -- all of a file scope by scope: those of the package, and then those of each message type
 abbrev pub scoped_enums : tree.FileTree.FileTree → List Enum

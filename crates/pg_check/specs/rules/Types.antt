@@ -13,7 +13,8 @@ use Rattle.pg_syntax.specs.declared.tree as tree
 
 -- one word without a dot that is a scalar type's
 abbrev pub scalar_named : tree.TypeName.TypeName → Option Scalar
-scalar_named name = if not name.is_full && is_alone name.path.more.items then scalar_of (string_bytes name.path.first.text) else None
+scalar_named name =
+    if not name.is_full && is_alone name.path.more.items then scalar_of (string_bytes name.path.first.text) else None
 
 abbrev pub is_key_scalar : Option Scalar → Bool
 is_key_scalar None = false

@@ -1,4 +1,4 @@
--- How a schema's places are laid out where a set states it: file after file message types and services in order of declaration, enums scope by
+-- How a schema's indexes are laid out where a set states it: file after file message types and services in order of declaration, enums scope by
 -- scope, those of the package before those of each message type. That is this profile's choice.
 use Rattle.std.specs.Prelude.{◌≡◌, ℕ, zero, suc, List, [], ◌∷◌, ◌++◌, flat_map, length, Option, Some, None, slice_get}
 use Rattle.pg_schema.specs.declared.parts.field.TypeId.{TypeId}
@@ -12,10 +12,11 @@ abbrev pub inner_types : (List TypeId → List ℕ) → Option MessageType → L
 inner_types inside None = []
 inner_types inside (Some t) = inside t.nested_types.items
 
--- the places of message types, nested less deep than that: each before those inside it
+-- the indexes of message types, nested less deep than that: each before those inside it
 abbrev pub types_below : (depth : ℕ) → List MessageType → List TypeId → List ℕ
 types_below zero types ids = []
-types_below (suc depth) types ids = flat_map (λ (id : TypeId). id.index ∷ inner_types (types_below depth types) (slice_get types id.index)) ids
+types_below (suc depth) types ids =
+    flat_map (λ (id : TypeId). id.index ∷ inner_types (types_below depth types) (slice_get types id.index)) ids
 
 abbrev pub inner_enums : (List TypeId → List ℕ) → Option MessageType → List ℕ
 inner_enums inside None = []
@@ -24,7 +25,8 @@ inner_enums inside (Some t) = enum_places t.nested_enums.items ++ inside t.neste
 -- those of the enums in these: a type's own before those of the types inside it
 abbrev pub enums_below : (depth : ℕ) → List MessageType → List TypeId → List ℕ
 enums_below zero types ids = []
-enums_below (suc depth) types ids = flat_map (λ (id : TypeId). inner_enums (enums_below depth types) (slice_get types id.index)) ids
+enums_below (suc depth) types ids =
+    flat_map (λ (id : TypeId). inner_enums (enums_below depth types) (slice_get types id.index)) ids
 
 abbrev pub file_types : List MessageType → File → List ℕ
 file_types types f = types_below most_deep types f.types.items
@@ -32,7 +34,7 @@ file_types types f = types_below most_deep types f.types.items
 abbrev pub file_enums : List MessageType → File → List ℕ
 file_enums types f = enum_places f.enums.items ++ enums_below most_deep types f.types.items
 
--- each at the place that is the next where it is declared
+-- each at the index that is the next where it is declared
 pub record StandInOrder (parts : Parts) : Type 0 where
   pub types : flat_map (file_types parts.types.items) parts.files.items ≡ places_from 0 (length parts.types.items)
   pub enums : flat_map (file_enums parts.types.items) parts.files.items ≡ places_from 0 (length parts.enums.items)

@@ -10,12 +10,13 @@ abbrev pub holds_inside : (List TypeId → Bool) → Option MessageType → Bool
 holds_inside inside None = true
 holds_inside inside (Some t) = inside t.nested_types.items
 
--- the message types at these places are nested at most so deep
+-- the message types at these indexes are nested at most so deep
 abbrev pub nest_within : (depth : ℕ) → List MessageType → List TypeId → Bool
 nest_within zero types [] = true
 nest_within zero types (id ∷ ids) = false
-nest_within (suc depth) types ids = list_all (λ (id : TypeId). holds_inside (nest_within depth types) (slice_get types id.index)) ids
+nest_within (suc depth) types ids =
+    list_all (λ (id : TypeId). holds_inside (nest_within depth types) (slice_get types id.index)) ids
 
--- message types are nested at most 64 deep, as deep as texts may nest them
+-- message types are nested at most 64 deep, as deep as source files may nest them
 abbrev pub are_shallow : Parts → Bool
 are_shallow parts = list_all (λ (f : File). nest_within 64 parts.types.items f.types.items) parts.files.items

@@ -1,8 +1,9 @@
-//! The rules that enums break which come from no text.
+//! The rules that enums break which come from no source file.
 
 ghost use Rattle.std.specs.Prelude.{◌≡◌, IfOk, map};
-ghost use Rattle.pg_check.specs.rules.Names as names;
-ghost use Rattle.pg_check.specs.admitting.PartFaults as spec;
+ghost use Rattle.pg_check.specs.inner.NameFaults as names;
+ghost use Rattle.pg_check.specs.admitting.DeclaredParts as of_parts;
+ghost use Rattle.pg_check.specs.inner.PartFaults as spec;
 
 use crate::admitting::part_faults::NOWHERE;
 use crate::rules::enumeration::{DeclaredEnum, values_fault};
@@ -14,14 +15,14 @@ use std::alloc::{AllocError, Global};
 
 /// A value's number counted from -2^64.
 fn value_rank(number: i32) -> u128
-    ensures { result ≡ spec.value_rank number }
+    ensures { result ≡ of_parts.value_rank number }
 {
     rank(number < 0, u64::from(number.unsigned_abs()))
 }
 
 /// The values' numbers.
 fn keys_of(alloc: Global, values: &[EnumValue]) -> Result<Vec<Keyed>, AllocError>
-    ensures { IfOk result (λ keys. keys.items ≡ map spec.value_key values.now) }
+    ensures { IfOk result (λ keys. keys.items ≡ map of_parts.value_key values.now) }
 {
     let mut keys = Vec::new(alloc);
     for value in values {
@@ -35,7 +36,7 @@ fn keys_of(alloc: Global, values: &[EnumValue]) -> Result<Vec<Keyed>, AllocError
 
 /// The reserved numbers.
 fn items_of(alloc: Global, ranges: &[ReservedValues]) -> Result<Vec<Numbers>, AllocError>
-    ensures { IfOk result (λ items. items.items ≡ map spec.value_item ranges.now) }
+    ensures { IfOk result (λ items. items.items ≡ map of_parts.value_item ranges.now) }
 {
     let mut items = Vec::new(alloc);
     for range in ranges {
@@ -50,7 +51,7 @@ fn items_of(alloc: Global, ranges: &[ReservedValues]) -> Result<Vec<Numbers>, Al
 
 /// The values' names.
 fn names_of<'a>(alloc: Global, values: &'a [EnumValue]) -> Result<Vec<Called<'a>>, AllocError>
-    ensures { IfOk result (λ list. map names.called list.items ≡ map spec.value_name values.now) }
+    ensures { IfOk result (λ list. map names.called list.items ≡ map of_parts.value_name values.now) }
 {
     let mut list = Vec::new(alloc);
     for value in values {

@@ -3,13 +3,13 @@
 ghost use Rattle.std.specs.Prelude.{◌≡◌, IfOk, List};
 ghost use Rattle.pg_schema.specs.declared.parts.field.Field.{Field};
 ghost use Rattle.pg_schema.specs.rules.Messages.{have_members};
-ghost use Rattle.pg_check.specs.admitting.PartFaults.{IsPlaceSet};
+ghost use Rattle.pg_check.specs.inner.PartFaults.{IsPlaceSet};
 
 use pg_schema::Field;
 use std::alloc::{AllocError, Global};
 use std::collections::BTreeSet;
 
-/// The places of the oneofs that have a member.
+/// The indexes of the oneofs that have a member.
 fn places_of(alloc: Global, fields: &[Field]) -> Result<BTreeSet<usize>, AllocError>
     ensures { IfOk result (IsPlaceSet fields.now) }
 {
@@ -22,7 +22,7 @@ fn places_of(alloc: Global, fields: &[Field]) -> Result<BTreeSet<usize>, AllocEr
     Ok(places)
 }
 
-/// Each of so many oneofs is among the places.
+/// Each of so many oneofs is among the indexes.
 fn are_all_among(places: &BTreeSet<usize>, oneofs: usize) -> bool
     ensures { (fields : List Field) → IsPlaceSet fields places.now
         → result ≡ have_members oneofs fields }

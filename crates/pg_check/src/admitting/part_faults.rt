@@ -1,12 +1,13 @@
-//! The rules that parts break which come from no text.
+//! The rules that parts break which come from no source file.
 
 ghost use Rattle.std.specs.Prelude.{◌≡◌, IfOk, map, string_bytes};
 ghost use Rattle.std.specs.List.{list_any};
 ghost use Rattle.pg_schema.specs.rules.Files.{is_file_option};
-ghost use Rattle.pg_check.specs.rules.Faults.{first_fault};
-ghost use Rattle.pg_check.specs.rules.Messages as messages;
-ghost use Rattle.pg_check.specs.rules.Names as names;
-ghost use Rattle.pg_check.specs.admitting.PartFaults as spec;
+ghost use Rattle.pg_check.specs.inner.Faults.{first_fault};
+ghost use Rattle.pg_check.specs.inner.MessageFaults as messages;
+ghost use Rattle.pg_check.specs.inner.NameFaults as names;
+ghost use Rattle.pg_check.specs.admitting.DeclaredParts as of_parts;
+ghost use Rattle.pg_check.specs.inner.PartFaults as spec;
 
 use crate::admitting::enum_part_faults::enum_fault;
 use crate::admitting::oneof_members::have_members;
@@ -23,7 +24,7 @@ use std::alloc::{AllocError, Global};
 /// The one position of all that no source file declares.
 pub(crate) const NOWHERE: usize = 0;
 
-/// The fault of a rule that is broken at no place.
+/// The fault of a rule that is broken at no position.
 fn fault_if(rule: Rule, is_broken: bool) -> Option<Fault>
     ensures { result ≡ spec.fault_if rule is_broken }
 {
@@ -36,7 +37,7 @@ fn fault_if(rule: Rule, is_broken: bool) -> Option<Fault>
 
 /// The fields' numbers.
 fn keys_of(alloc: Global, fields: &[Field]) -> Result<Vec<Keyed>, AllocError>
-    ensures { IfOk result (λ keys. keys.items ≡ map spec.key_of fields.now) }
+    ensures { IfOk result (λ keys. keys.items ≡ map of_parts.key_of fields.now) }
 {
     let mut keys = Vec::new(alloc);
     for field in fields {
@@ -50,7 +51,7 @@ fn keys_of(alloc: Global, fields: &[Field]) -> Result<Vec<Keyed>, AllocError>
 
 /// The reserved numbers.
 fn items_of(alloc: Global, ranges: &[ReservedFields]) -> Result<Vec<Numbers>, AllocError>
-    ensures { IfOk result (λ items. items.items ≡ map spec.item_of ranges.now) }
+    ensures { IfOk result (λ items. items.items ≡ map of_parts.item_of ranges.now) }
 {
     let mut items = Vec::new(alloc);
     for range in ranges {
@@ -65,7 +66,7 @@ fn items_of(alloc: Global, ranges: &[ReservedFields]) -> Result<Vec<Numbers>, Al
 
 /// The fields' names.
 fn names_of<'a>(alloc: Global, fields: &'a [Field]) -> Result<Vec<Called<'a>>, AllocError>
-    ensures { IfOk result (λ list. map names.called list.items ≡ map spec.name_of fields.now) }
+    ensures { IfOk result (λ list. map names.called list.items ≡ map of_parts.name_of fields.now) }
 {
     let mut list = Vec::new(alloc);
     for field in fields {
@@ -79,7 +80,7 @@ fn names_of<'a>(alloc: Global, fields: &'a [Field]) -> Result<Vec<Called<'a>>, A
 
 /// The fields' JSON names.
 fn json_names_of(alloc: Global, fields: &[Field]) -> Result<Vec<Titled>, AllocError>
-    ensures { IfOk result (λ list. map names.titled list.items ≡ map spec.json_name_of fields.now) }
+    ensures { IfOk result (λ list. map names.titled list.items ≡ map of_parts.json_name_of fields.now) }
 {
     let mut list = Vec::new(alloc);
     for field in fields {
@@ -144,7 +145,7 @@ fn have_badly_packed(fields: &[Field]) -> bool
 fn names_fault(alloc: Global, one: &MessageType) -> Result<Option<Fault>, AllocError>
     ensures { IfOk result (λ fault. fault
         ≡ messages.names_fault (map string_bytes one.now.reserved_names.items)
-        (map spec.name_of one.now.fields.items) (map spec.json_name_of one.now.fields.items)) }
+        (map of_parts.name_of one.now.fields.items) (map of_parts.json_name_of one.now.fields.items)) }
 {
     let called = names_of(alloc, &one.fields)?;
     let among = first_among(alloc, &one.reserved_names, &called)?;
@@ -228,7 +229,7 @@ fn have_bad_option(options: &[FileOption]) -> bool
 
 /// The options' numbers.
 fn option_keys(alloc: Global, options: &[FileOption]) -> Result<Vec<Keyed>, AllocError>
-    ensures { IfOk result (λ keys. keys.items ≡ map spec.option_key options.now) }
+    ensures { IfOk result (λ keys. keys.items ≡ map of_parts.option_key options.now) }
 {
     let mut keys = Vec::new(alloc);
     for option in options {

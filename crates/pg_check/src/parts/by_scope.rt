@@ -1,8 +1,10 @@
-//! What stands in which scope.
+//! What is in which scope.
 
 ghost use Rattle.std.specs.Prelude.{◌≡◌, ℕ, List, IfOk, map};
 ghost use Rattle.pg_check.specs.parts.ByScope as spec;
+ghost use Rattle.pg_check.specs.inner.Grouped as kept;
 ghost use Rattle.pg_check.specs.rules.Outline as outline;
+ghost use Rattle.pg_check.specs.inner.CodeViews as views;
 
 use crate::parts::made_number::index_of;
 use crate::rules::outline::{FoundEnum, FoundMessage};
@@ -10,17 +12,17 @@ use pg_schema::{EnumId, TypeId};
 use std::alloc::{AllocError, Global};
 use std::collections::BTreeMap;
 
-/// The places of what each scope declares.
+/// The indexes of what each scope declares.
 pub(crate) type ByScope = BTreeMap<String, Vec<u32>>;
 
-/// The scopes of message types, with their places; so many stand before.
+/// The scopes of message types, with their indexes; so many come before.
 pub(crate) fn placed_messages(
     alloc: Global,
     before: usize,
     found: &[FoundMessage<'_>],
 ) -> Result<Vec<(String, u32)>, AllocError>
-    ensures { IfOk result (λ list. map spec.placed list.items
-        ≡ spec.placed_from before (map outline.message_scope (map outline.message found.now))) }
+    ensures { IfOk result (λ list. map kept.placed list.items
+        ≡ spec.placed_from before (map outline.message_scope (map views.message found.now))) }
 {
     let mut list = Vec::new(alloc);
     for (index, one) in found.iter().enumerate() {
@@ -30,14 +32,14 @@ pub(crate) fn placed_messages(
     Ok(list)
 }
 
-/// The scopes of enums, with their places; so many stand before.
+/// The scopes of enums, with their indexes; so many come before.
 pub(crate) fn placed_enums(
     alloc: Global,
     before: usize,
     found: &[FoundEnum<'_>],
 ) -> Result<Vec<(String, u32)>, AllocError>
-    ensures { IfOk result (λ list. map spec.placed list.items
-        ≡ spec.placed_from before (map outline.enum_scope (map outline.enumeration found.now))) }
+    ensures { IfOk result (λ list. map kept.placed list.items
+        ≡ spec.placed_from before (map outline.enum_scope (map views.enumeration found.now))) }
 {
     let mut list = Vec::new(alloc);
     for (index, one) in found.iter().enumerate() {
@@ -47,10 +49,10 @@ pub(crate) fn placed_enums(
     Ok(list)
 }
 
-/// The places by their scopes.
+/// The indexes by their scopes.
 pub(crate) fn grouped(alloc: Global, list: &[(String, u32)]) -> Result<ByScope, AllocError>
     ensures { IfOk result (λ by_scope. (scope : List ℕ)
-        → spec.in_scope by_scope scope ≡ spec.places_in scope (map spec.placed list.now)) }
+        → kept.in_scope by_scope scope ≡ spec.places_in scope (map kept.placed list.now)) }
 {
     let mut by_scope: ByScope = BTreeMap::new(alloc);
     for (scope, place) in list {
@@ -59,7 +61,7 @@ pub(crate) fn grouped(alloc: Global, list: &[(String, u32)]) -> Result<ByScope, 
     Ok(by_scope)
 }
 
-/// The message types at these places.
+/// The message types at these indexes.
 fn type_ids(alloc: Global, places: &[u32]) -> Result<Vec<TypeId>, AllocError>
     ensures { IfOk result (λ ids. ids.items ≡ map spec.type_id places.now) }
 {
@@ -70,7 +72,7 @@ fn type_ids(alloc: Global, places: &[u32]) -> Result<Vec<TypeId>, AllocError>
     Ok(ids)
 }
 
-/// The enums at these places.
+/// The enums at these indexes.
 fn enum_ids(alloc: Global, places: &[u32]) -> Result<Vec<EnumId>, AllocError>
     ensures { IfOk result (λ ids. ids.items ≡ map spec.enum_id places.now) }
 {
@@ -88,7 +90,7 @@ pub(crate) fn types_in(
     scope: &str,
 ) -> Result<Vec<TypeId>, AllocError>
     ensures { IfOk result (λ ids. ids.items
-        ≡ map spec.type_id (spec.in_scope by_scope.now scope.now)) }
+        ≡ map spec.type_id (kept.in_scope by_scope.now scope.now)) }
 {
     match by_scope.get(scope) {
         Some(places) => type_ids(alloc, places),
@@ -103,7 +105,7 @@ pub(crate) fn enums_in(
     scope: &str,
 ) -> Result<Vec<EnumId>, AllocError>
     ensures { IfOk result (λ ids. ids.items
-        ≡ map spec.enum_id (spec.in_scope by_scope.now scope.now)) }
+        ≡ map spec.enum_id (kept.in_scope by_scope.now scope.now)) }
 {
     match by_scope.get(scope) {
         Some(places) => enum_ids(alloc, places),

@@ -1,11 +1,11 @@
-//! Where enums stand in a schema, which has them scope by scope.
+//! Where enums are in a schema, which has them scope by scope.
 
 ghost use Rattle.std.specs.Prelude.{◌≡◌, ◌++◌, ℕ, IfOk, List, OnOk, flat_map, map, string_bytes};
 ghost use Rattle.std.specs.BTreeMap.{get_by_text};
 ghost use Rattle.std.specs.List.{position_from};
 ghost use Rattle.std.specs.Str.{bytes_eq};
 ghost use Rattle.pg_check.specs.parts.EnumPlaces as spec;
-ghost use Rattle.pg_check.specs.rules.Outline.{enumeration};
+ghost use Rattle.pg_check.specs.inner.CodeViews.{enumeration};
 
 use crate::rules::outline::{FoundEnum, file_enums, file_messages, scoped_enums};
 use indexmap::IndexMap;
@@ -63,7 +63,7 @@ fn scoped_names(
     Ok(names)
 }
 
-/// The place of each name, of its first one.
+/// The index of each name, of its first one.
 fn places_of(alloc: Global, mut names: Vec<String>) -> Result<BTreeMap<String, usize>, AllocError>
     ensures { IfOk result (λ places. (name : List ℕ)
         → get_by_text places name ≡ position_from (bytes_eq name) 0
@@ -76,7 +76,7 @@ fn places_of(alloc: Global, mut names: Vec<String>) -> Result<BTreeMap<String, u
     Ok(places)
 }
 
-/// For each enum in order of declaration its place scope by scope.
+/// For each enum in order of declaration its index scope by scope.
 pub(crate) fn enum_places(alloc: Global, linked: &Linked) -> Result<Vec<usize>, AllocError>
     ensures { IfOk result (λ places. places.items ≡ spec.enum_places linked.now.files) }
 {

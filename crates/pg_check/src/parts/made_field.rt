@@ -2,10 +2,10 @@
 
 ghost use Rattle.std.specs.Prelude.{◌≡◌, ℕ, IfOk, None, Option, map, option_map};
 ghost use Rattle.pg_link.specs.declared.uses.target.Target.{Target};
-ghost use Rattle.pg_check.specs.parts.EnumPlaces.{target_in};
+ghost use Rattle.pg_check.specs.inner.Sources.{target_in};
 ghost use Rattle.pg_check.specs.parts.MadeFields as spec;
 ghost use Rattle.pg_check.specs.parts.MadeNumbers.{index_of};
-ghost use Rattle.pg_check.specs.rules.Members.{member};
+ghost use Rattle.pg_check.specs.inner.CodeViews.{member};
 
 use crate::parts::made_number::{field_number, index_of};
 use crate::parts::made_option::bracket_flag;
@@ -62,7 +62,7 @@ fn options(one: &DeclaredField<'_>) -> FieldOptions
     }
 }
 
-/// How often the items of a field stand.
+/// How often a field's items may be there.
 fn labelled(
     label: Option<Label>,
     is_member: bool,
@@ -86,7 +86,7 @@ fn labelled(
     }
 }
 
-/// How often the member's items stand, which are of this element.
+/// How often the member's items may be there, which are of this element.
 fn presence(one: &DeclaredField<'_>, element: Element) -> Presence
     ensures { (targets : ℕ → Option Target) → element ≡ spec.element_in targets (member one.now)
         → result ≡ spec.presence targets (member one.now) }
@@ -114,7 +114,7 @@ fn states_optional(one: &DeclaredField<'_>) -> bool
     }
 }
 
-/// The place of the oneof among those of the message.
+/// The index of the oneof among those of the message.
 fn oneof_of(one: &DeclaredField<'_>) -> Option<u32>
     ensures { result ≡ option_map index_of (spec.oneof_of (member one.now)) }
 {

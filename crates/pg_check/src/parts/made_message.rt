@@ -1,7 +1,7 @@
 //! What a message declares, as a schema has it.
 
 ghost use Rattle.std.specs.Prelude.{◌≡◌, IfOk, map, string_bytes};
-ghost use Rattle.pg_check.specs.parts.EnumPlaces.{target_in};
+ghost use Rattle.pg_check.specs.inner.Sources.{target_in};
 ghost use Rattle.pg_check.specs.parts.MadeFields.{field};
 ghost use Rattle.pg_check.specs.parts.MadeMessages as spec;
 

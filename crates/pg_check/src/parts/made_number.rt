@@ -36,7 +36,7 @@ pub(crate) fn field_number(rank: u128) -> u32
     }
 }
 
-/// A place of at most 32 bits.
+/// An index of at most 32 bits.
 pub(crate) fn index_of(place: u128) -> u32
     ensures { result ≡ spec.index_of place }
 {

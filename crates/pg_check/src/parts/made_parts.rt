@@ -1,13 +1,15 @@
 //! What files declare, as a schema has it.
 
 ghost use Rattle.std.specs.Prelude.{◌≡◌, ◌++◌, ◌∷◌, [], ℕ, List, IfOk, OnOk, length, map};
-ghost use Rattle.pg_check.specs.parts.EnumPlaces.{target_in};
-ghost use Rattle.pg_check.specs.parts.ByScope.{in_scope, places_in};
+ghost use Rattle.pg_check.specs.inner.Sources.{target_in, IsMadeBy, source};
+ghost use Rattle.pg_check.specs.inner.Grouped.{in_scope};
+ghost use Rattle.pg_check.specs.parts.ByScope.{places_in};
 ghost use Rattle.pg_check.specs.parts.MadeEnums.{enumeration, made_enum};
 ghost use Rattle.pg_check.specs.parts.MadeParts as spec;
+ghost use Rattle.pg_check.specs.inner.Grouped as kept;
 ghost use Rattle.pg_check.specs.parts.MadeServices.{service};
 ghost use Rattle.pg_check.specs.rules.Outline as outline;
-ghost use Rattle.pg_check.specs.parts.Sources.{IsMadeBy, source};
+ghost use Rattle.pg_check.specs.inner.CodeViews as views;
 
 use crate::parts::by_scope::{ByScope, enums_in, grouped, placed_enums, placed_messages, types_in};
 use crate::parts::made_enum::made_enum;
@@ -22,7 +24,7 @@ use pg_schema::{EnumType, File, MessageType, Parts, Service, ServiceId};
 use pg_syntax::tree::FileTree;
 use std::alloc::{AllocError, Global};
 
-/// A file: its path, its text and tree, and what its type names name.
+/// A file: its path, its bytes and tree, and what its type names name.
 #[derive(Drop)]
 pub(crate) struct Source<'a> {
     pub path: &'a str,
@@ -31,14 +33,14 @@ pub(crate) struct Source<'a> {
     pub targets: Targets<'a>,
 }
 
-/// The message types of a file by the scopes that declare them; so many stand before.
+/// The message types of a file by the scopes that declare them; so many come before.
 fn message_groups(
     alloc: Global,
     before: usize,
     tree: &FileTree,
     found: &[FoundMessage<'_>],
 ) -> Result<ByScope, AllocError>
-    requires { map outline.message found.now ≡ outline.file_messages tree.now }
+    requires { map views.message found.now ≡ outline.file_messages tree.now }
     ensures { IfOk result (λ by_scope. (scope : List ℕ)
         → in_scope by_scope scope ≡ places_in scope (spec.placed_messages before tree.now)) }
 {
@@ -46,14 +48,14 @@ fn message_groups(
     grouped(alloc, &list)
 }
 
-/// The enums of a file by the scopes that declare them; so many stand before.
+/// The enums of a file by the scopes that declare them; so many come before.
 fn enum_groups(
     alloc: Global,
     before: usize,
     tree: &FileTree,
     found: &[FoundEnum<'_>],
 ) -> Result<ByScope, AllocError>
-    requires { map outline.enumeration found.now ≡ outline.scoped_enums tree.now }
+    requires { map views.enumeration found.now ≡ outline.scoped_enums tree.now }
     ensures { IfOk result (λ by_scope. (scope : List ℕ)
         → in_scope by_scope scope ≡ places_in scope (spec.placed_enums before tree.now)) }
 {
@@ -61,7 +63,7 @@ fn enum_groups(
     grouped(alloc, &list)
 }
 
-/// The message type, with what stands in it.
+/// The message type, with what is in it.
 fn made_type(
     alloc: Global,
     targets: &Targets<'_>,
@@ -70,8 +72,8 @@ fn made_type(
     one: &FoundMessage<'_>,
 ) -> Result<MessageType, AllocError>
     ensures { IfOk result (spec.IsTypeOf
-        (spec.grouped_tree (target_in targets.now) (in_scope types.now) (in_scope enums.now)
-        (outline.message one.now))) }
+        (kept.grouped_tree (target_in targets.now) (in_scope types.now) (in_scope enums.now)
+        (views.message one.now))) }
 {
     let full = one.full.as_str();
     let nested = types_in(alloc, types, full)?;
@@ -81,7 +83,7 @@ fn made_type(
     Ok(made)
 }
 
-/// The message types, with what stands in each.
+/// The message types, with what is in each.
 fn made_types(
     alloc: Global,
     targets: &Targets<'_>,
@@ -90,8 +92,8 @@ fn made_types(
     found: &[FoundMessage<'_>],
 ) -> Result<Vec<MessageType>, AllocError>
     ensures { IfOk result (λ made. spec.EachIs spec.IsTypeOf
-        (map (spec.grouped_tree (target_in targets.now) (in_scope types.now) (in_scope enums.now))
-        (map outline.message found.now)) made.items) }
+        (map (kept.grouped_tree (target_in targets.now) (in_scope types.now) (in_scope enums.now))
+        (map views.message found.now)) made.items) }
 {
     let mut made = Vec::new(alloc);
     for one in found {
@@ -104,7 +106,7 @@ fn made_types(
 /// The enums.
 fn made_enums(alloc: Global, found: &[FoundEnum<'_>]) -> Result<Vec<EnumType>, AllocError>
     ensures { IfOk result (λ made. map enumeration made.items
-        ≡ map made_enum (map outline.enumeration found.now)) }
+        ≡ map made_enum (map views.enumeration found.now)) }
 {
     let mut made = Vec::new(alloc);
     for one in found {
@@ -146,7 +148,7 @@ fn made_file(
     services: Vec<ServiceId>,
 ) -> Result<File, AllocError>
     ensures { IfOk result (spec.IsFileOf
-        (spec.grouped_shape (in_scope types.now) (in_scope enums.now) services.items
+        (kept.grouped_shape (in_scope types.now) (in_scope enums.now) services.items
         (source file.now))) }
 {
     let package = package_of(alloc, file.tree)?;
@@ -175,7 +177,7 @@ struct Made {
     file: File,
 }
 
-/// What a file declares, behind so many message types, enums and services.
+/// What a file declares, after so many message types, enums and services.
 fn made_by(
     alloc: Global,
     types: usize,

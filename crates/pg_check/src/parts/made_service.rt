@@ -1,7 +1,7 @@
 //! What a service declares, as a schema has it.
 
 ghost use Rattle.std.specs.Prelude.{◌≡◌, ◌++◌, IfOk, OnOk, length, map};
-ghost use Rattle.pg_check.specs.parts.EnumPlaces.{target_in};
+ghost use Rattle.pg_check.specs.inner.Sources.{target_in};
 ghost use Rattle.pg_check.specs.parts.MadeServices as spec;
 
 use crate::parts::made_number::index_of;
@@ -134,7 +134,7 @@ pub(crate) fn push_services(
     Ok(())
 }
 
-/// The places of the services from one place on.
+/// The indexes of the services from one index on.
 pub(crate) fn service_ids(
     alloc: Global,
     before: usize,

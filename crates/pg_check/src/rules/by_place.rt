@@ -2,7 +2,7 @@
 
 ghost use Rattle.std.specs.Prelude.{◌≡◌, true};
 ghost use Rattle.pg_schema.specs.rules.Pairs.{is_rising};
-ghost use Rattle.pg_check.specs.rules.ByPlace.{named_at};
+ghost use Rattle.pg_check.specs.inner.ByPlace.{named_at};
 
 use pg_link::Target;
 

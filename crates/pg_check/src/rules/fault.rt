@@ -1,14 +1,14 @@
 //! Rules of the proto3 language that are broken, and where.
 
 ghost use Rattle.std.specs.Prelude.{◌≡◌};
-ghost use Rattle.pg_check.specs.rules.Faults as spec;
+ghost use Rattle.pg_check.specs.inner.Faults as spec;
 
 /// A rule of the proto3 language, in the order in which the rules of one declaration are reported.
 #[derive(Clone, Copy, Debug, PartialEq, Eq)]
 pub(crate) enum Rule {
     /// E401: a number is one that a field, a value or a reserved item may have.
     BadNumber,
-    /// E402: a field's number stands once in its message.
+    /// E402: a field's number is once in its message.
     DuplicateNumber,
     /// E403: a field's or value's number isn't reserved.
     ReservedNumber,
@@ -16,7 +16,7 @@ pub(crate) enum Rule {
     ReservedName,
     /// E405: reserved ranges rise and don't overlap.
     RangeOverlap,
-    /// E406: a field's JSON name stands once in its message.
+    /// E406: a field's JSON name is once in its message.
     JsonNameClash,
     /// E407: a map's key is of an integral type, bool or string.
     BadMapKey,
@@ -37,7 +37,7 @@ pub(crate) enum Rule {
 }
 
 impl Rule {
-    /// The rule's place among all rules, which is the number of its code.
+    /// The rule's rank among all rules, which is the number of its code.
     pub(crate) fn order(self) -> u16
         ensures { result ≡ spec.order self }
     {
@@ -60,17 +60,17 @@ impl Rule {
     }
 }
 
-/// A rule that a file breaks. Places are bytes of the file.
+/// A rule that a file breaks, with offsets in the file.
 #[derive(Clone, Copy, Debug, PartialEq, Eq)]
 pub(crate) struct Fault {
     pub rule: Rule,
-    /// Where the declaration stands: its name, or the first token of an option or reserved item.
+    /// Where the declaration is: its name, or the first token of an option or reserved item.
     pub declared: usize,
     /// Where the fault is reported: there, or at an option of the declaration.
     pub at: usize,
 }
 
-/// One fault comes before another in the text, or at one declaration in the order of the rules.
+/// One fault comes before another in the file, or at one declaration in the order of the rules.
 fn is_before(one: Fault, other: Fault) -> bool
     ensures { result ≡ spec.is_before one other }
 {

@@ -2,8 +2,9 @@
 
 ghost use Rattle.std.specs.Prelude.{◌≡◌, ◌++◌, IfOk, OnOk, map, option_map, string_bytes};
 ghost use Rattle.pg_check.specs.rules.Members as spec;
-ghost use Rattle.pg_check.specs.rules.Names as names;
-ghost use Rattle.pg_check.specs.rules.TextKeys.{keyed, text_key};
+ghost use Rattle.pg_check.specs.inner.CodeViews as views;
+ghost use Rattle.pg_check.specs.inner.NameFaults as names;
+ghost use Rattle.pg_check.specs.inner.TextKeys.{keyed, text_key};
 
 use crate::rules::names::{Called, Titled};
 use crate::rules::numbers::{Keyed, rank};
@@ -13,7 +14,7 @@ use pg_schema::default_json_name;
 use pg_syntax::tree::{Field, MapField, Name, OneofPart, Part, Setting, Settings, Value};
 use std::alloc::{AllocError, Global};
 
-/// A field or a map, with the place of its oneof among the message's.
+/// A field or a map, with the index of its oneof among the message's.
 #[derive(Clone, Copy)]
 pub(crate) enum DeclaredField<'a> {
     Field(&'a Field, Option<usize>),
@@ -23,7 +24,7 @@ pub(crate) enum DeclaredField<'a> {
 impl<'a> DeclaredField<'a> {
     /// The name that the member declares.
     pub(crate) fn name(self) -> &'a Name
-        ensures { result.now ≡ spec.name_of (spec.member self.entry) }
+        ensures { result.now ≡ spec.name_of (views.member self.entry) }
     {
         match self {
             DeclaredField::Field(field, _) => &field.name,
@@ -33,7 +34,7 @@ impl<'a> DeclaredField<'a> {
 
     /// The field number as it is stated.
     pub(crate) fn number(self) -> u64
-        ensures { result ≡ spec.number_of (spec.member self.entry) }
+        ensures { result ≡ spec.number_of (views.member self.entry) }
     {
         match self {
             DeclaredField::Field(field, _) => field.number,
@@ -43,7 +44,7 @@ impl<'a> DeclaredField<'a> {
 
     /// The options in brackets.
     pub(crate) fn settings(self) -> &'a Option<Settings>
-        ensures { result.now ≡ spec.settings_of (spec.member self.entry) }
+        ensures { result.now ≡ spec.settings_of (views.member self.entry) }
     {
         match self {
             DeclaredField::Field(field, _) => &field.settings,
@@ -58,7 +59,7 @@ fn push_oneof<'a>(
     place: usize,
     body: &'a [OneofPart],
 ) -> Result<(), AllocError>
-    ensures { OnOk result (map spec.member members.new.items ≡ map spec.member members.old.items
+    ensures { OnOk result (map views.member members.new.items ≡ map views.member members.old.items
         ++ spec.oneof_members place body.now) }
 {
     for part in body {
@@ -77,7 +78,7 @@ pub(crate) fn members<'a>(
     alloc: Global,
     body: &'a [Part],
 ) -> Result<Vec<DeclaredField<'a>>, AllocError>
-    ensures { IfOk result (λ members. map spec.member members.items ≡ spec.members body.now) }
+    ensures { IfOk result (λ members. map views.member members.items ≡ spec.members body.now) }
 {
     let mut members = Vec::with_capacity(alloc, body.len())?;
     let mut oneofs = 0;
@@ -101,7 +102,7 @@ pub(crate) fn members<'a>(
 
 /// The members' numbers.
 pub(crate) fn keys(alloc: Global, members: &[DeclaredField<'_>]) -> Result<Vec<Keyed>, AllocError>
-    ensures { IfOk result (λ keys. keys.items ≡ map spec.key_of (map spec.member members.now)) }
+    ensures { IfOk result (λ keys. keys.items ≡ map spec.key_of (map views.member members.now)) }
 {
     let mut keys = Vec::with_capacity(alloc, members.len())?;
     for member in members {
@@ -119,7 +120,7 @@ pub(crate) fn names_of<'a>(
     members: &[DeclaredField<'a>],
 ) -> Result<Vec<Called<'a>>, AllocError>
     ensures { IfOk result (λ list. map names.called list.items
-        ≡ map spec.named (map spec.member members.now)) }
+        ≡ map spec.named (map views.member members.now)) }
 {
     let mut list = Vec::with_capacity(alloc, members.len())?;
     for member in members {
@@ -132,7 +133,7 @@ pub(crate) fn names_of<'a>(
     Ok(list)
 }
 
-/// The JSON name that the option gives, where it is `json_name` with a text.
+/// The JSON name that the option gives, where it is `json_name` with a string.
 fn json_text(alloc: Global, setting: &Setting) -> Result<Option<String>, AllocError>
     ensures { IfOk result (λ text. option_map string_bytes text ≡ spec.json_text setting.now) }
 {
@@ -176,7 +177,7 @@ fn given_json(alloc: Global, settings: &Option<Settings>) -> Result<Option<Strin
 
 /// The JSON name of a member, given or default.
 pub(crate) fn json_name(alloc: Global, member: DeclaredField<'_>) -> Result<String, AllocError>
-    ensures { IfOk result (λ text. string_bytes text ≡ spec.json_name (spec.member member.entry)) }
+    ensures { IfOk result (λ text. string_bytes text ≡ spec.json_name (views.member member.entry)) }
 {
     match given_json(alloc, member.settings())? {
         Some(text) => Ok(text),
@@ -190,7 +191,7 @@ pub(crate) fn json_names(
     members: &[DeclaredField<'_>],
 ) -> Result<Vec<Titled>, AllocError>
     ensures { IfOk result (λ list. map names.titled list.items
-        ≡ map spec.json_named (map spec.member members.now)) }
+        ≡ map spec.json_named (map views.member members.now)) }
 {
     let mut list = Vec::with_capacity(alloc, members.len())?;
     for member in members {
@@ -205,7 +206,7 @@ pub(crate) fn json_names(
 
 /// The key of the JSON name of a member, given or default.
 fn json_key(alloc: Global, member: DeclaredField<'_>) -> Result<u64, AllocError>
-    ensures { IfOk result (λ key. key ≡ text_key (spec.json_name (spec.member member.entry))) }
+    ensures { IfOk result (λ key. key ≡ text_key (spec.json_name (views.member member.entry))) }
 {
     match given_json(alloc, member.settings())? {
         Some(text) => Ok(text_key(text.as_bytes())),
@@ -219,7 +220,7 @@ pub(crate) fn json_keys(
     members: &[DeclaredField<'_>],
 ) -> Result<Vec<Keyed>, AllocError>
     ensures { IfOk result (λ keys. keys.items
-        ≡ map keyed (map spec.json_named (map spec.member members.now))) }
+        ≡ map keyed (map spec.json_named (map views.member members.now))) }
 {
     let mut keys = Vec::with_capacity(alloc, members.len())?;
     for member in members {

@@ -1,8 +1,8 @@
-//! Names that are reserved, and texts that stand twice.
+//! Names that are reserved, and names that are there twice.
 
 ghost use Rattle.std.specs.Prelude.{◌≡◌, IfOk, map, string_bytes};
 ghost use Rattle.pg_schema.specs.rules.TextSets.{IsSetOf};
-ghost use Rattle.pg_check.specs.rules.Names as spec;
+ghost use Rattle.pg_check.specs.inner.NameFaults as spec;
 
 use std::alloc::{AllocError, Global};
 use std::collections::BTreeSet;
@@ -21,7 +21,7 @@ pub(crate) struct Titled {
     pub at: usize,
 }
 
-/// The set of these texts.
+/// The set of these names.
 fn set_of(alloc: Global, texts: &[String]) -> Result<BTreeSet<String>, AllocError>
     ensures { IfOk result (λ set. IsSetOf (map string_bytes texts.now) set) }
 {
@@ -32,7 +32,7 @@ fn set_of(alloc: Global, texts: &[String]) -> Result<BTreeSet<String>, AllocErro
     Ok(set)
 }
 
-/// The place of the first name that is reserved.
+/// The offset of the first name that is reserved.
 pub(crate) fn first_among(
     alloc: Global,
     reserved: &[String],
@@ -50,7 +50,7 @@ pub(crate) fn first_among(
     Ok(None)
 }
 
-/// The place of the first text that stood before.
+/// The offset of the first name that came before.
 pub(crate) fn first_twice(alloc: Global, texts: &[Titled]) -> Result<Option<usize>, AllocError>
     ensures { IfOk result (λ place. place ≡ spec.first_twice (map spec.titled texts.now)) }
 {

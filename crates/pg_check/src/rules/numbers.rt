@@ -6,7 +6,8 @@ ghost use Rattle.std.specs.List.Sorted.{IsNonDecreasingBy, IsPermutation};
 ghost use Rattle.pg_check.specs.declared.rules.numbers.Keyed.{Keyed};
 ghost use Rattle.pg_check.specs.declared.rules.numbers.Numbers.{Numbers};
 ghost use Rattle.pg_check.specs.rules.Numbers as spec;
-ghost use Rattle.pg_check.specs.rules.Tops.{tops_from};
+ghost use Rattle.pg_check.specs.inner.NumberFaults as number_faults;
+ghost use Rattle.pg_check.specs.inner.Tops.{tops_from};
 
 use pg_syntax::tree::Number;
 use std::alloc::{AllocError, Global};
@@ -68,9 +69,9 @@ pub(crate) fn is_within(lowest: u128, highest: u128, number: u128) -> bool
     lowest <= number && number <= highest
 }
 
-/// The lower of two places.
+/// The lower of two offsets.
 pub(crate) fn least(one: Option<usize>, other: Option<usize>) -> Option<usize>
-    ensures { result ≡ spec.least one other }
+    ensures { result ≡ number_faults.least one other }
 {
     match (one, other) {
         (None, other) => other,
@@ -87,9 +88,9 @@ pub(crate) fn is_field_number(number: u128) -> bool
         && !is_within(ZERO + 19_000, ZERO + 19_999, number)
 }
 
-/// The place of the first number that doesn't lie between these two.
+/// The offset of the first number that doesn't lie between these two.
 pub(crate) fn first_outside(lowest: u128, highest: u128, keys: &[Keyed]) -> Option<usize>
-    ensures { result ≡ spec.first_outside lowest highest keys.now }
+    ensures { result ≡ number_faults.first_outside lowest highest keys.now }
 {
     for one in keys {
         if !is_within(lowest, highest, one.key) {
@@ -99,9 +100,9 @@ pub(crate) fn first_outside(lowest: u128, highest: u128, keys: &[Keyed]) -> Opti
     None
 }
 
-/// Whether each number lies above the one before, as most stand. Then none stands twice.
+/// Whether each number lies above the one before, as most do. Then none is there twice.
 fn rise(keys: &[Keyed]) -> bool
-    ensures { result ≡ true → spec.first_twice keys.now ≡ None }
+    ensures { result ≡ true → number_faults.first_twice keys.now ≡ None }
 {
     let mut below = 0;
     for one in keys {
@@ -128,9 +129,9 @@ fn is_among(key: u128, keys: &[Keyed]) -> bool
     false
 }
 
-/// The place of the first number that stood before, where there are few.
+/// The offset of the first number that came before, where there are few.
 fn first_of_few(keys: &[Keyed]) -> Option<usize>
-    ensures { result ≡ spec.first_twice keys.now }
+    ensures { result ≡ number_faults.first_twice keys.now }
 {
     for number in 0..keys.len() {
         let one = keys[number];
@@ -141,9 +142,9 @@ fn first_of_few(keys: &[Keyed]) -> Option<usize>
     None
 }
 
-/// The place of the first number that stood before.
+/// The offset of the first number that came before.
 pub(crate) fn first_twice(alloc: Global, keys: &[Keyed]) -> Result<Option<usize>, AllocError>
-    ensures { IfOk result (λ place. place ≡ spec.first_twice keys.now) }
+    ensures { IfOk result (λ place. place ≡ number_faults.first_twice keys.now) }
 {
     if rise(keys) {
         return Ok(None);
@@ -173,7 +174,7 @@ fn tops_of(alloc: Global, sorted: &[Numbers]) -> Result<Vec<u128>, AllocError>
     Ok(tops)
 }
 
-/// An item has the number; the items stand by rising first numbers.
+/// An item has the number; the items are sorted by first numbers.
 fn is_held(sorted: &[Numbers], tops: &[u128], number: u128) -> bool
     requires order { IsNonDecreasingBy (λ (r : Numbers). r.first) sorted.now }
     requires tops { tops.now ≡ tops_from 0 sorted.now }
@@ -197,11 +198,11 @@ pub(crate) fn by_first(alloc: Global, items: &[Numbers]) -> Result<Vec<Numbers>,
     Ok(sorted)
 }
 
-/// The place of the first number that an item has; the items stand by rising first numbers.
+/// The offset of the first number that an item has; the items are sorted by first numbers.
 fn first_held(sorted: &[Numbers], tops: &[u128], keys: &[Keyed]) -> Option<usize>
     requires order { IsNonDecreasingBy (λ (r : Numbers). r.first) sorted.now }
     requires tops { tops.now ≡ tops_from 0 sorted.now }
-    ensures { result ≡ spec.first_reserved sorted.now keys.now }
+    ensures { result ≡ number_faults.first_reserved sorted.now keys.now }
 {
     for one in keys {
         if is_held(sorted, tops, one.key) {
@@ -211,13 +212,13 @@ fn first_held(sorted: &[Numbers], tops: &[u128], keys: &[Keyed]) -> Option<usize
     None
 }
 
-/// The place of the first number that is reserved.
+/// The offset of the first number that is reserved.
 pub(crate) fn first_reserved(
     alloc: Global,
     reserved: &[Numbers],
     keys: &[Keyed],
 ) -> Result<Option<usize>, AllocError>
-    ensures { IfOk result (λ place. place ≡ spec.first_reserved reserved.now keys.now) }
+    ensures { IfOk result (λ place. place ≡ number_faults.first_reserved reserved.now keys.now) }
 {
     let sorted = by_first(alloc, reserved)?;
     let tops = tops_of(alloc, &sorted)?;

@@ -1,8 +1,9 @@
 //! Options.
 
 ghost use Rattle.std.specs.Prelude.{◌≡◌, ◌++◌, IfOk, OnOk, map};
-ghost use Rattle.pg_check.specs.rules.Names.{titled};
+ghost use Rattle.pg_check.specs.inner.NameFaults.{titled};
 ghost use Rattle.pg_check.specs.rules.Options as spec;
+ghost use Rattle.pg_check.specs.inner.OptionFaults as option_faults;
 
 use crate::rules::names::{Titled, first_twice};
 use crate::rules::numbers::least;
@@ -86,7 +87,7 @@ const SERVICE_OPTIONS: [(&str, u32, Kind); 1] = [("deprecated", 33, Kind::Flag)]
 
 /// The option of the table that has this name.
 fn known_among(mut table: &[(&str, u32, Kind)], name: &str) -> Option<Known>
-    ensures { result ≡ spec.known_among (map spec.entry table.entry.now) name.now }
+    ensures { result ≡ spec.known_among (map option_faults.entry table.entry.now) name.now }
 {
     while let [option, rest @ ..] = table {
         if name == option.0 {
@@ -160,7 +161,7 @@ fn is_right(owner: Owner, setting: &Setting) -> bool
 
 /// An option that is at that offset.
 pub(crate) fn option_at(owner: Owner, at: usize, setting: &Setting) -> Stated<'_>
-    ensures { spec.stated result ≡ spec.option_at owner at setting.now }
+    ensures { option_faults.stated result ≡ spec.option_at owner at setting.now }
 {
     Stated {
         name: &setting.name.first.text,
@@ -175,7 +176,7 @@ fn push_settings<'a>(
     owner: Owner,
     settings: &'a [Setting],
 ) -> Result<(), AllocError>
-    ensures { OnOk result (map spec.stated list.new.items ≡ map spec.stated list.old.items
+    ensures { OnOk result (map option_faults.stated list.new.items ≡ map option_faults.stated list.old.items
         ++ map (spec.in_brackets owner) settings.now) }
 {
     for setting in settings {
@@ -190,7 +191,7 @@ pub(crate) fn in_settings<'a>(
     owner: Owner,
     settings: &'a Option<Settings>,
 ) -> Result<Vec<Stated<'a>>, AllocError>
-    ensures { IfOk result (λ list. map spec.stated list.items
+    ensures { IfOk result (λ list. map option_faults.stated list.items
         ≡ spec.in_settings owner settings.now) }
 {
     let mut list = Vec::new(alloc);
@@ -205,7 +206,7 @@ pub(crate) fn in_settings<'a>(
 /// The names of the options.
 fn names_of(alloc: Global, options: &[Stated<'_>]) -> Result<Vec<Titled>, AllocError>
     ensures { IfOk result (λ names. map titled names.items
-        ≡ map spec.name_of (map spec.stated options.now)) }
+        ≡ map spec.name_of (map option_faults.stated options.now)) }
 {
     let mut names = Vec::new(alloc);
     for option in options {
@@ -220,7 +221,7 @@ fn names_of(alloc: Global, options: &[Stated<'_>]) -> Result<Vec<Titled>, AllocE
 
 /// The offset of the first option that isn't right.
 fn first_wrong(options: &[Stated<'_>]) -> Option<usize>
-    ensures { result ≡ spec.first_wrong (map spec.stated options.now) }
+    ensures { result ≡ option_faults.first_wrong (map option_faults.stated options.now) }
 {
     for option in options {
         if !option.is_right {
@@ -232,7 +233,7 @@ fn first_wrong(options: &[Stated<'_>]) -> Option<usize>
 
 /// The offset of the first option that isn't right, or was stated before.
 pub(crate) fn first_bad(alloc: Global, options: &[Stated<'_>]) -> Result<Option<usize>, AllocError>
-    ensures { IfOk result (λ place. place ≡ spec.first_bad (map spec.stated options.now)) }
+    ensures { IfOk result (λ place. place ≡ option_faults.first_bad (map option_faults.stated options.now)) }
 {
     if options.is_empty() {
         return Ok(None);

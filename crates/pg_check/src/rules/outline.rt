@@ -3,6 +3,7 @@
 ghost use Rattle.std.specs.Prelude.{◌≡◌, ◌++◌, [], ℕ, IfOk, List, OnOk, false, flat_map, map, string_bytes};
 ghost use Rattle.pg_schema.specs.rules.DeclaredNames.{within};
 ghost use Rattle.pg_check.specs.rules.Outline as spec;
+ghost use Rattle.pg_check.specs.inner.CodeViews as views;
 
 use pg_schema::full_name;
 use pg_syntax::tree::{Dotted, Enum, FileTree, Message, Part, Statement};
@@ -32,7 +33,7 @@ fn push_part<'a>(
     scope: &str,
     part: &'a Part,
 ) -> Result<(), AllocError>
-    ensures { OnOk result (map spec.message found.new.items ≡ map spec.message found.old.items
+    ensures { OnOk result (map views.message found.new.items ≡ map views.message found.old.items
         ++ spec.messages_in scope.now part.now) }
 {
     match part {
@@ -58,7 +59,7 @@ fn push_parts<'a>(
     scope: &str,
     body: &'a [Part],
 ) -> Result<(), AllocError>
-    ensures { OnOk result (map spec.message found.new.items ≡ map spec.message found.old.items
+    ensures { OnOk result (map views.message found.new.items ≡ map views.message found.old.items
         ++ flat_map (spec.messages_in scope.now) body.now) }
 {
     for part in body {
@@ -75,7 +76,7 @@ fn push_message<'a>(
     scope: &str,
     message: &'a Message,
 ) -> Result<(), AllocError>
-    ensures { OnOk result (map spec.message found.new.items ≡ map spec.message found.old.items
+    ensures { OnOk result (map views.message found.new.items ≡ map views.message found.old.items
         ++ spec.messages_of scope.now message.now) }
 {
     let full = full_name(alloc, scope, &message.name.text)?;
@@ -95,8 +96,8 @@ fn push_enum<'a>(
     scope: &str,
     tree: &'a Enum,
 ) -> Result<(), AllocError>
-    ensures { OnOk result (map spec.enumeration found.new.items
-        ≡ map spec.enumeration found.old.items ++ spec.an_enum scope.now tree.now) }
+    ensures { OnOk result (map views.enumeration found.new.items
+        ≡ map views.enumeration found.old.items ++ spec.an_enum scope.now tree.now) }
 {
     let full = full_name(alloc, scope, &tree.name.text)?;
     let scope = String::from_str(alloc, scope)?;
@@ -140,8 +141,8 @@ fn push_enums_in<'a>(
     scope: &str,
     part: &'a Part,
 ) -> Result<(), AllocError>
-    ensures { OnOk result (map spec.enumeration found.new.items
-        ≡ map spec.enumeration found.old.items ++ spec.enums_in scope.now part.now) }
+    ensures { OnOk result (map views.enumeration found.new.items
+        ≡ map views.enumeration found.old.items ++ spec.enums_in scope.now part.now) }
 {
     match part {
         Part::Message(message) => {
@@ -166,8 +167,8 @@ fn push_body_enums<'a>(
     scope: &str,
     body: &'a [Part],
 ) -> Result<(), AllocError>
-    ensures { OnOk result (map spec.enumeration found.new.items
-        ≡ map spec.enumeration found.old.items ++ flat_map (spec.enums_in scope.now) body.now) }
+    ensures { OnOk result (map views.enumeration found.new.items
+        ≡ map views.enumeration found.old.items ++ flat_map (spec.enums_in scope.now) body.now) }
 {
     for part in body {
         push_enums_in(alloc, found, scope, part)?;
@@ -183,8 +184,8 @@ fn push_enums_of<'a>(
     scope: &str,
     message: &'a Message,
 ) -> Result<(), AllocError>
-    ensures { OnOk result (map spec.enumeration found.new.items
-        ≡ map spec.enumeration found.old.items ++ spec.enums_of scope.now message.now) }
+    ensures { OnOk result (map views.enumeration found.new.items
+        ≡ map views.enumeration found.old.items ++ spec.enums_of scope.now message.now) }
 {
     if !may_have_enums(&message.parts) {
         return Ok(());
@@ -222,7 +223,7 @@ fn push_messages<'a>(
     scope: &str,
     statements: &'a [Statement],
 ) -> Result<(), AllocError>
-    ensures { OnOk result (map spec.message found.new.items ≡ map spec.message found.old.items
+    ensures { OnOk result (map views.message found.new.items ≡ map views.message found.old.items
         ++ spec.all_messages scope.now statements.now) }
 {
     for statement in statements {
@@ -240,8 +241,8 @@ fn push_enums<'a>(
     scope: &str,
     statements: &'a [Statement],
 ) -> Result<(), AllocError>
-    ensures { OnOk result (map spec.enumeration found.new.items
-        ≡ map spec.enumeration found.old.items ++ spec.all_enums scope.now statements.now) }
+    ensures { OnOk result (map views.enumeration found.new.items
+        ≡ map views.enumeration found.old.items ++ spec.all_enums scope.now statements.now) }
 {
     for statement in statements {
         match statement {
@@ -263,8 +264,8 @@ fn push_own_enums<'a>(
     scope: &str,
     body: &'a [Part],
 ) -> Result<(), AllocError>
-    ensures { OnOk result (map spec.enumeration found.new.items
-        ≡ map spec.enumeration found.old.items ++ flat_map (spec.enum_in scope.now) body.now) }
+    ensures { OnOk result (map views.enumeration found.new.items
+        ≡ map views.enumeration found.old.items ++ flat_map (spec.enum_in scope.now) body.now) }
 {
     for part in body {
         if let Part::Enum(tree) = part {
@@ -280,9 +281,9 @@ fn push_inner_enums<'a>(
     found: &mut Vec<FoundEnum<'a>>,
     messages: &[FoundMessage<'a>],
 ) -> Result<(), AllocError>
-    ensures { OnOk result (map spec.enumeration found.new.items
-        ≡ map spec.enumeration found.old.items
-        ++ flat_map spec.own_enums (map spec.message messages.now)) }
+    ensures { OnOk result (map views.enumeration found.new.items
+        ≡ map views.enumeration found.old.items
+        ++ flat_map spec.own_enums (map views.message messages.now)) }
 {
     for one in messages {
         let body = one.tree.parts.as_slice();
@@ -298,8 +299,8 @@ fn push_outer_enums<'a>(
     scope: &str,
     statements: &'a [Statement],
 ) -> Result<(), AllocError>
-    ensures { OnOk result (map spec.enumeration found.new.items
-        ≡ map spec.enumeration found.old.items
+    ensures { OnOk result (map views.enumeration found.new.items
+        ≡ map views.enumeration found.old.items
         ++ flat_map (spec.enum_stated scope.now) statements.now) }
 {
     for statement in statements {
@@ -310,7 +311,7 @@ fn push_outer_enums<'a>(
     Ok(())
 }
 
-/// The statements behind the package's; none where no package is stated.
+/// The statements after the package's; none where no package is stated.
 pub(crate) fn statements_behind(file: &FileTree) -> &[Statement]
     ensures { result.now ≡ spec.statements_behind file.now.packaged }
 {
@@ -325,7 +326,7 @@ pub(crate) fn file_messages<'a>(
     alloc: Global,
     file: &'a FileTree,
 ) -> Result<Vec<FoundMessage<'a>>, AllocError>
-    ensures { IfOk result (λ list. map spec.message list.items ≡ spec.file_messages file.now) }
+    ensures { IfOk result (λ list. map views.message list.items ≡ spec.file_messages file.now) }
 {
     let package = package_of(alloc, file)?;
     let mut found = Vec::new(alloc);
@@ -339,7 +340,7 @@ pub(crate) fn file_enums<'a>(
     alloc: Global,
     file: &'a FileTree,
 ) -> Result<Vec<FoundEnum<'a>>, AllocError>
-    ensures { IfOk result (λ list. map spec.enumeration list.items ≡ spec.file_enums file.now) }
+    ensures { IfOk result (λ list. map views.enumeration list.items ≡ spec.file_enums file.now) }
 {
     let package = package_of(alloc, file)?;
     let mut found = Vec::new(alloc);
@@ -348,15 +349,15 @@ pub(crate) fn file_enums<'a>(
     Ok(found)
 }
 
-/// The enums of a file scope by scope: those that stand outside of messages, and then those of each
+/// The enums of a file scope by scope: those that are outside of messages, and then those of each
 /// of its message types.
 pub(crate) fn scoped_enums<'a>(
     alloc: Global,
     file: &'a FileTree,
     messages: &[FoundMessage<'a>],
 ) -> Result<Vec<FoundEnum<'a>>, AllocError>
-    requires { map spec.message messages.now ≡ spec.file_messages file.now }
-    ensures { IfOk result (λ list. map spec.enumeration list.items ≡ spec.scoped_enums file.now) }
+    requires { map views.message messages.now ≡ spec.file_messages file.now }
+    ensures { IfOk result (λ list. map views.enumeration list.items ≡ spec.scoped_enums file.now) }
 {
     let package = package_of(alloc, file)?;
     let mut found = Vec::new(alloc);

@@ -4,7 +4,8 @@ ghost use Rattle.std.specs.Prelude.{◌≡◌, None, IfOk};
 ghost use Rattle.std.specs.List.{filter};
 ghost use Rattle.pg_check.specs.rules.KeepsRules as keeps;
 ghost use Rattle.pg_check.specs.rules.ReservedItems as spec;
-ghost use Rattle.pg_check.specs.rules.Rows.{follow};
+ghost use Rattle.pg_check.specs.inner.ItemFaults as item_faults;
+ghost use Rattle.pg_check.specs.inner.Rows.{follow};
 
 use crate::rules::numbers::{Numbers, by_first};
 use std::alloc::{AllocError, Global};
@@ -22,7 +23,7 @@ fn rising_of(alloc: Global, items: &[Numbers]) -> Result<Vec<Numbers>, AllocErro
     Ok(rising)
 }
 
-/// Each of the items begins behind the one before it.
+/// Each of the items begins after the one before it.
 fn are_in_a_row(items: &[Numbers]) -> bool
     ensures { result ≡ follow None items.now }
 {
@@ -47,13 +48,13 @@ fn are_apart(alloc: Global, items: &[Numbers]) -> Result<bool, AllocError>
     Ok(are_in_a_row(&sorted))
 }
 
-/// The place of the first item that has a number of one before it. The fewest items with two that
+/// The offset of the first item that has a number of one before it. The fewest items with two that
 /// have a number in common are found by halves.
 pub(crate) fn first_overlapping(
     alloc: Global,
     items: &[Numbers],
 ) -> Result<Option<usize>, AllocError>
-    ensures { IfOk result (λ place. place ≡ spec.first_overlapping items.now) }
+    ensures { IfOk result (λ place. place ≡ item_faults.first_overlapping items.now) }
 {
     if are_apart(alloc, items)? {
         return Ok(None);

@@ -2,6 +2,7 @@
 
 ghost use Rattle.std.specs.Prelude.{◌≡◌, ◌++◌, IfOk, OnOk, map, string_bytes};
 ghost use Rattle.pg_check.specs.rules.ReservedItems as spec;
+ghost use Rattle.pg_check.specs.inner.ItemFaults as item_faults;
 
 use crate::rules::fault::{Fault, Rule, broken, earlier};
 use crate::rules::numbers::{Numbers, is_within, rank_of};
@@ -59,7 +60,7 @@ pub(crate) fn push_numbers(
     }
 }
 
-/// Appends the texts.
+/// Appends the names.
 fn push_texts(alloc: Global, names: &mut Vec<String>, texts: &[Text]) -> Result<(), AllocError>
     ensures { OnOk result (map string_bytes names.new.items ≡ map string_bytes names.old.items
         ++ map spec.text_of texts.now) }
@@ -88,9 +89,9 @@ pub(crate) fn push_names(
     }
 }
 
-/// The place of the first item with an end that doesn't lie between these two.
+/// The offset of the first item with an end that doesn't lie between these two.
 fn first_beyond(lowest: u128, highest: u128, items: &[Numbers]) -> Option<usize>
-    ensures { result ≡ spec.first_beyond lowest highest items.now }
+    ensures { result ≡ item_faults.first_beyond lowest highest items.now }
 {
     for item in items {
         if !(is_within(lowest, highest, item.first) && is_within(lowest, highest, item.last)) {
@@ -100,9 +101,9 @@ fn first_beyond(lowest: u128, highest: u128, items: &[Numbers]) -> Option<usize>
     None
 }
 
-/// The place of the first item that ends before it begins.
+/// The offset of the first item that ends before it begins.
 fn first_falling(items: &[Numbers]) -> Option<usize>
-    ensures { result ≡ spec.first_falling items.now }
+    ensures { result ≡ item_faults.first_falling items.now }
 {
     for item in items {
         if item.last < item.first {
@@ -119,7 +120,7 @@ pub(crate) fn items_fault(
     highest: u128,
     items: &[Numbers],
 ) -> Result<Option<Fault>, AllocError>
-    ensures { IfOk result (λ fault. fault ≡ spec.items_fault lowest highest items.now) }
+    ensures { IfOk result (λ fault. fault ≡ item_faults.items_fault lowest highest items.now) }
 {
     let beyond = broken(Rule::BadNumber, first_beyond(lowest, highest, items));
     let falling = broken(Rule::RangeOverlap, first_falling(items));

@@ -1,21 +1,21 @@
-//! Numbers that tell texts apart: those that are the same have the same number.
+//! Numbers that tell names apart: those that are the same have the same number.
 
 ghost use Rattle.std.specs.Prelude.{◌≡◌, if◌then◌else◌};
 ghost use Rattle.std.specs.Char.{to_ascii_uppercase};
 ghost use Rattle.pg_schema.specs.JsonName.{default_json_name};
-ghost use Rattle.pg_check.specs.rules.TextKeys as spec;
+ghost use Rattle.pg_check.specs.inner.TextKeys as spec;
 
-/// An odd factor with its bits spread, which few texts of a message meet with the same number.
+/// An odd factor with its bits spread, which few names of a message meet with the same number.
 const FACTOR: u64 = 0x9E37_79B9_7F4A_7C15;
 
-/// The key of a text that is longer by a byte.
+/// The key of a name that is longer by a byte.
 fn next_key(key: u64, byte: u8) -> u64
     ensures { result ≡ spec.next_key key byte }
 {
     key.wrapping_add(u64::from(byte)).wrapping_mul(FACTOR)
 }
 
-/// The key of a text.
+/// The key of a name.
 pub(crate) fn text_key(text: &[u8]) -> u64
     ensures { result ≡ spec.text_key text.now }
 {
@@ -26,7 +26,7 @@ pub(crate) fn text_key(text: &[u8]) -> u64
     key
 }
 
-/// The byte, in upper case where it stands behind a `_`.
+/// The byte, in upper case where it comes after a `_`.
 fn cased(is_behind: bool, byte: u8) -> u8
     ensures { result ≡ (if is_behind then to_ascii_uppercase byte else byte) }
 {

@@ -2,7 +2,7 @@
 
 ghost use Rattle.std.specs.Prelude.{◌≡◌};
 ghost use Rattle.pg_schema.specs.rules.Fields.{is_key};
-ghost use Rattle.pg_check.specs.parts.EnumPlaces.{target_in};
+ghost use Rattle.pg_check.specs.inner.Sources.{target_in};
 ghost use Rattle.pg_check.specs.rules.Types as spec;
 
 use crate::rules::by_place::ByPlace;
@@ -11,7 +11,7 @@ use pg_schema::{Element, Scalar};
 use pg_syntax::tree::TypeName;
 
 /// What the type names of a file name, by the byte at which each begins; and for each enum, in
-/// order of declaration, its place in the schema.
+/// order of declaration, its index in the schema.
 #[derive(Drop)]
 pub(crate) struct Targets<'a> {
     pub found: ByPlace<'a>,
@@ -73,7 +73,7 @@ fn is_enum(targets: &Targets<'_>, at: usize) -> bool
     }
 }
 
-/// A list of such items can stand in one record.
+/// A list of such items can be in one record.
 pub(crate) fn is_packable_type(targets: &Targets<'_>, name: &TypeName) -> bool
     ensures { result ≡ spec.is_packable_type (target_in targets.now) name.now }
 {

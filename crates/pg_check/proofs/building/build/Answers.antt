@@ -3,7 +3,8 @@ use Rattle.std.proofs.lemmas.Result.{IfOk-weaker}
 use Rattle.pg_check.specs.Declares.{Declares}
 use Rattle.pg_check.specs.parts.MadeParts.{Source}
 use Rattle.pg_check.specs.parts.ResolvedTypes.{AreResolved}
-use Rattle.pg_check.specs.parts.Sources.{linked_sources, source}
+use Rattle.pg_check.specs.parts.Sources.{linked_sources}
+use Rattle.pg_check.specs.inner.Sources.{source}
 use Rattle.pg_check.specs.standing.StandingParts.{StandingParts}
 use Rattle.pg_check.proofs.lemmas.parts.ResolvedTypes.{resolved_types}
 use Rattle.pg_check.proofs.lemmas.parts.SoundParts.{linked_sound}

@@ -1,6 +1,6 @@
 use Rattle.std.proofs.Common.{Some, sym, ◌∙◌, ap, option_map}
 use Rattle.std.proofs.lemmas.Option.{slice_get-get_or, slice_get-map}
-use Rattle.pg_check.specs.parts.Sources.{source}
+use Rattle.pg_check.specs.inner.Sources.{source}
 use Rattle.pg_check.proofs.lemmas.rules.BrokenFiles.{reported}
 use Rattle.pg_check.proofs.building.first_error.Goals as goal
 

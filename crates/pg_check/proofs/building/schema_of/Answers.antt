@@ -1,7 +1,7 @@
 use Rattle.std.proofs.Common.{◌≡◌, ◌+◌, ◌<◌, Some, length, map, subst, arith}
 use Rattle.std.proofs.lemmas.List.{length-map}
-use Rattle.pg_check.specs.rules.FirstBroken.{IsBroken, first_broken}
-use Rattle.pg_check.specs.parts.Sources.{source}
+use Rattle.pg_check.specs.inner.FirstBroken.{IsBroken, first_broken}
+use Rattle.pg_check.specs.inner.Sources.{source}
 use Rattle.pg_check.proofs.lemmas.rules.FileFaults.{fault_within}
 use Rattle.pg_check.proofs.building.schema_of.Goals as goal
 

@@ -5,7 +5,7 @@ use Rattle.pg_link.specs.uses.Uses.{file_uses}
 use Rattle.pg_link.specs.walk.Walk.{Entry, outlines, path_of}
 use Rattle.pg_check.specs.parts.EnumPlaces.{by_scope, enum_places}
 use Rattle.pg_schema.specs.rules.Pairs.{is_rising}
-use Rattle.pg_check.specs.rules.ByPlace.{named_at}
+use Rattle.pg_check.specs.inner.ByPlace.{named_at}
 use Rattle.pg_check.proofs.lemmas.parts.Linking.{one_more_source, scoped}
 use Rattle.pg_check.proofs.lemmas.parts.UsesRise.{places_rise}
 use Rattle.pg_check.proofs.lemmas.rules.PlaceLaws.{resolved_places}

@@ -1,5 +1,6 @@
 use Rattle.std.proofs.Common.{◌≡◌, map, take}
-use Rattle.pg_check.specs.parts.Sources.{linked_source, source}
+use Rattle.pg_check.specs.parts.Sources.{linked_source}
+use Rattle.pg_check.specs.inner.Sources.{source}
 use Rattle.pg_check.proofs.building.sources_of.Given as goal
 
 abbrev pub invariant-loop-number : goal.invariant-loop-number

@@ -1,5 +1,5 @@
 use Rattle.std.proofs.Common.{◌∙◌, map, sym}
-use Rattle.pg_check.specs.parts.Sources.{source}
+use Rattle.pg_check.specs.inner.Sources.{source}
 use Rattle.pg_check.proofs.lemmas.rules.KeepingFiles.{none_broken}
 use Rattle.pg_check.proofs.declare.declare.Goals as goal
 

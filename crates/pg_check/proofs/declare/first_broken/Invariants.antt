@@ -1,6 +1,6 @@
 use Rattle.std.proofs.Common.{◌≡◌, map, drop}
-use Rattle.pg_check.specs.rules.FirstBroken.{files_fault, first_broken}
-use Rattle.pg_check.specs.parts.Sources.{source}
+use Rattle.pg_check.specs.inner.FirstBroken.{files_fault, first_broken}
+use Rattle.pg_check.specs.inner.Sources.{source}
 use Rattle.pg_check.proofs.declare.first_broken.Given as goal
 
 abbrev pub invariant-loop-index : goal.invariant-loop-index

@@ -1,4 +1,4 @@
--- What is reported of parts that come from no text is the first rule that they break, and of one part the lowest code.
+-- What is reported of parts that come from no source file is the first rule that they break, and of one part the lowest code.
 use Rattle.std.proofs.Common.{◌≡◌, ◌≤◌, ◌<◌, inl, inr, ℕ, Bool, true, false, not, nat_le, List, [], ◌∷◌, ◌++◌, length, map, Option, Some, None, sym, ap, subst, refl, arith}
 use Rattle.std.specs.List.{list_any, AllByRecursion}
 use Rattle.std.proofs.lemmas.Bool.Decides.{nat_tests}
@@ -12,13 +12,16 @@ use Rattle.pg_check.specs.declared.error.CheckError.{CheckError}
 use Rattle.pg_check.specs.declared.rules.fault.Fault.{Fault}
 use Rattle.pg_check.specs.declared.rules.fault.Rule.{Rule}
 use Rattle.pg_check.specs.declared.rules.fault.Rule.TheVariants as rules
-use Rattle.pg_check.specs.admitting.BrokenParts.{BreaksFilePart, BreaksFirst, IsFirstBrokenPart, IsNowhere, KeepsAll, KeepsEnumType, KeepsFilePart, KeepsType, bad_option, in_enum, in_file, in_type, option_again, too_many_types}
+use Rattle.pg_check.specs.admitting.BrokenParts.{BreaksFilePart, BreaksFirst, IsFirstBrokenPart, IsNowhere, bad_option, in_enum, in_file, in_type, option_again, too_many_types}
 use Rattle.pg_check.specs.Errors.{error_of}
 use Rattle.pg_check.specs.declared.rules.numbers.Keyed.{Keyed}
-use Rattle.pg_check.specs.rules.Faults.{broken, broken_at, first_fault, or_else, order}
+use Rattle.pg_check.specs.inner.Faults.{broken, broken_at, first_fault, or_else, order}
 use Rattle.pg_check.specs.rules.Firsts.{IsBehind, IsFirstAgain, IsNotAfter}
 use Rattle.pg_check.specs.rules.Numbers as numbers
-use Rattle.pg_check.specs.admitting.PartFaults as faults
+use Rattle.pg_check.specs.inner.NumberFaults as number_faults
+use Rattle.pg_check.specs.admitting.DeclaredParts as declared
+use Rattle.pg_check.specs.admitting.KeepsParts.{KeepsAll, KeepsEnumType, KeepsFilePart, KeepsType}
+use Rattle.pg_check.specs.inner.PartFaults as faults
 use Rattle.pg_check.proofs.lemmas.rules.FirstFaults.{IsFound, Meets, earlier_meets, first_meets, found_left, found_right}
 use Rattle.pg_check.proofs.lemmas.rules.Judged.{again}
 use Rattle.pg_check.proofs.lemmas.rules.JudgedEnums.{values_judged}
@@ -26,12 +29,13 @@ use Rattle.pg_check.proofs.lemmas.rules.NoneLaws.{first_fault_none}
 use Rattle.pg_check.proofs.lemmas.admitting.PartRules.{At, one_of, test_meets, test_found}
 use Rattle.pg_check.proofs.lemmas.admitting.PartShapes.{some_one, any_one, of_not}
 use Rattle.pg_check.proofs.lemmas.admitting.BrokenTypes.{type_meets, type_found}
+use Rattle.pg_check.proofs.lemmas.admitting.KeptPartRules.{fault_if_none, file_part_keeps, kept_file_part, kept_type, type_keeps}
 use Rattle.pg_check.proofs.lemmas.admitting.BrokenEnumTypes.{enum_type_meets, enum_type_found}
 
 -- ---- all parts
 
-option_at : (f : File) (k : Keyed) → IsFirstAgain numbers.is_same (map faults.option_key f.options.items) k → k.at ≡ 0
-option_at f k first = one_of faults.option_key numbers.at (λ o. refl) f.options.items first.before first.after k first.is
+option_at : (f : File) (k : Keyed) → IsFirstAgain numbers.is_same (map declared.option_key f.options.items) k → k.at ≡ 0
+option_at f k first = one_of declared.option_key number_faults.at (λ o. refl) f.options.items first.before first.after k first.is
 
 file_part_meets : (f : File) (place : Place) → Meets (At (BreaksFilePart f place) place) (faults.file_fault f)
 file_part_meets f place =
@@ -40,7 +44,7 @@ file_part_meets f place =
     (test_meets B place rules.BadOption (list_any faults.is_bad_option f.options.items) (λ h.
     let (o, (one, is)) = some_one faults.is_bad_option f.options.items h in
     bad_option o one (of_not (is_file_option o) is)))
-    (λ g h. let (k, first, is) = (again rules.BadOption numbers.is_same numbers.at (map faults.option_key f.options.items)).meets g h in
+    (λ g h. let (k, first, is) = (again rules.BadOption numbers.is_same number_faults.at (map declared.option_key f.options.items)).meets g h in
     subst (At B place) (sym is) (option_at f k first, option_again k first))
 
 file_part_found : (f : File) (place : Place) (error : CheckError) (c : ℕ) → BreaksFilePart f place error c → IsFound (faults.file_fault f) 0 c
@@ -48,10 +52,10 @@ file_part_found f place error c (bad_option o one is) =
     found_left (faults.fault_if rules.BadOption (list_any faults.is_bad_option f.options.items)) _ 0 411
     (test_found rules.BadOption (list_any faults.is_bad_option f.options.items) (any_one faults.is_bad_option f.options.items o one (ap not is)))
 file_part_found f place error c (option_again k first) =
-    let keys = map faults.option_key f.options.items in
-    let twice = broken rules.BadOption (numbers.first_twice keys) in
+    let keys = map declared.option_key f.options.items in
+    let twice = broken rules.BadOption (number_faults.first_twice keys) in
     found_right (faults.fault_if rules.BadOption (list_any faults.is_bad_option f.options.items)) twice 0 411
-    (subst (λ n. IsFound twice n 411) (option_at f k first) ((again rules.BadOption numbers.is_same numbers.at keys).found (broken_at rules.BadOption k.at) (k, first, refl)))
+    (subst (λ n. IsFound twice n 411) (option_at f k first) ((again rules.BadOption numbers.is_same number_faults.at keys).found (broken_at rules.BadOption k.at) (k, first, refl)))
 
 code_low : (declared code other : ℕ) → declared ≡ 0 → IsNotAfter declared code 0 other → code ≤ other
 code_low declared code other zero (inl h) = absurd (omega (arith, h))
@@ -60,14 +64,8 @@ code_low declared code other zero (inr h) = h.1
 lowest : (o : Option Fault) (f : Fault) (c : ℕ) → o ≡ Some f → f.declared ≡ 0 → IsFound o 0 c → order f.rule ≤ c
 lowest o f c is zero h = code_low f.declared (order f.rule) c zero (subst (λ p. IsFound p 0 c) is h)
 
-type_keeps : (t : MessageType) → faults.message_fault t ≡ None → KeepsType t
-type_keeps t none place e c b = subst (λ o. IsFound o 0 c) none (type_found t place e c b)
-
 enum_type_keeps : (e : EnumType) → faults.enum_fault e ≡ None → KeepsEnumType e
-enum_type_keeps e = (values_judged 0 (faults.declared_enum e)).none.0
-
-file_part_keeps : (f : File) → faults.file_fault f ≡ None → KeepsFilePart f
-file_part_keeps f none place error c b = subst (λ o. IsFound o 0 c) none (file_part_found f place error c b)
+enum_type_keeps e = (values_judged 0 (declared.declared_enum e)).none.0
 
 all_keep : {X : Type 0} (P Q : X → Type 0) → ((x : X) → P x → Q x) → (xs : List X) → AllByRecursion P xs → AllByRecursion Q xs
 all_keep P Q k [] h = tt
@@ -131,10 +129,6 @@ or_none : (a b : Option Fault) → or_else a b ≡ None → (a ≡ None) × (b �
 or_none None b h = (refl, h)
 or_none (Some f) b h = absurd (cc)
 
-fault_if_none : (rule : Rule) (b : Bool) → faults.fault_if rule b ≡ None → b ≡ false
-fault_if_none rule true h = absurd (cc)
-fault_if_none rule false h = refl
-
 pub none_broken : (parts : Parts) → faults.parts_fault parts ≡ None → KeepsAll parts
 none_broken parts none =
     let (of_types, others) = or_none (faults.types_fault parts.types.items) _ none in
@@ -159,12 +153,12 @@ kept_there Keeps xs x keep behind = kept_at Keeps behind.before behind.after x (
 none_first : (parts : Parts) (place : Place) (e : CheckError) → KeepsAll parts → BreaksFirst parts place e → ⊥
 none_first parts place e keep (too_many_types more) = let small = keep.few_types in omega (arith, more, small)
 none_first parts place e keep (in_type t error code small behind breaks low) =
-    kept_there KeepsType parts.types.items t keep.types behind place error code breaks
+    kept_type t place error code (kept_there KeepsType parts.types.items t keep.types behind) breaks
 none_first parts place e keep (in_enum n error code small types behind breaks low) =
     let keeps = kept_there KeepsEnumType parts.enums.items n keep.enums behind in
-    subst (λ o. IsFound o 0 code) ((values_judged 0 (faults.declared_enum n)).none.1 keeps) (enum_type_found n place error code breaks)
+    subst (λ o. IsFound o 0 code) ((values_judged 0 (declared.declared_enum n)).none.1 keeps) (enum_type_found n place error code breaks)
 none_first parts place e keep (in_file f error code small types enumerations behind breaks) =
-    kept_there KeepsFilePart parts.files.items f keep.files behind place error code breaks
+    kept_file_part f place error code (kept_there KeepsFilePart parts.files.items f keep.files behind) breaks
 
 -- they break none
 pub kept_unbroken : (parts : Parts) (e : CheckError) → KeepsAll parts → IsFirstBrokenPart parts e → ⊥

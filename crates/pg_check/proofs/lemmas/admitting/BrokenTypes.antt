@@ -9,36 +9,38 @@ use Rattle.pg_check.specs.declared.rules.numbers.Keyed.{Keyed}
 use Rattle.pg_check.specs.Errors.{error_of}
 use Rattle.pg_check.specs.admitting.BrokenParts.{BreaksType, bad_map_key, bad_oneof_member, empty_oneof, packed_not_allowed}
 use Rattle.pg_check.specs.admitting.BrokenParts as broken_parts
-use Rattle.pg_check.specs.admitting.PartFaults as faults
+use Rattle.pg_check.specs.admitting.DeclaredParts as declared
+use Rattle.pg_check.specs.inner.PartFaults as faults
 use Rattle.pg_check.specs.rules.BrokenRules.{BreaksFields, bad_field_item, bad_field_number, duplicate_number, json_name_clash, reserved_field_name, reserved_field_number}
-use Rattle.pg_check.specs.rules.Faults.{order}
-use Rattle.pg_check.specs.rules.Messages.{fields_fault}
-use Rattle.pg_check.specs.rules.Names as names
+use Rattle.pg_check.specs.inner.Faults.{order}
+use Rattle.pg_check.specs.inner.MessageFaults.{fields_fault}
+use Rattle.pg_check.specs.inner.NameFaults as names
 use Rattle.pg_check.specs.rules.Numbers as numbers
+use Rattle.pg_check.specs.inner.NumberFaults as number_faults
 use Rattle.pg_check.proofs.lemmas.rules.FirstFaults.{IsFound, Meets, earlier_meets, found_left, found_right}
 use Rattle.pg_check.proofs.lemmas.rules.JudgedMessages.{fields_judged, fields_tell, fields_broken}
 use Rattle.pg_check.proofs.lemmas.admitting.PartRules.{At, item_at, one_of, test_meets, test_found}
 use Rattle.pg_check.proofs.lemmas.admitting.PartShapes.{any_one, key_is_bad, key_breaks, oneof_breaks, oneof_is_bad, oneof_is_empty, packed_is_bad, packed_breaks}
 
 module _ (t : MessageType) (place : Place) where
-  at_key : (before after : List Keyed) (k : Keyed) → map faults.key_of t.fields.items ≡ before ++ k ∷ after → numbers.at k ≡ 0
-  at_key = one_of faults.key_of numbers.at (λ f. refl) t.fields.items
+  at_key : (before after : List Keyed) (k : Keyed) → map declared.key_of t.fields.items ≡ before ++ k ∷ after → number_faults.at k ≡ 0
+  at_key = one_of declared.key_of number_faults.at (λ f. refl) t.fields.items
 
-  nowhere : (error : CheckError) (c d a : ℕ) → BreaksFields (faults.declared_message t) place error c d a → (d ≡ 0) × (a ≡ 0)
+  nowhere : (error : CheckError) (c d a : ℕ) → BreaksFields (declared.declared_message t) place error c d a → (d ≡ 0) × (a ≡ 0)
   nowhere error c d a (bad_field_number k first) = let at = at_key first.before first.after k first.is in (at, at)
   nowhere error c d a (duplicate_number k first) = let at = at_key first.before first.after k first.is in (at, at)
   nowhere error c d a (reserved_field_number k first) = let at = at_key first.before first.after k first.is in (at, at)
   nowhere error c d a (reserved_field_name n first) =
-      let at = one_of faults.name_of names.at (λ f. refl) t.fields.items first.before first.after n first.is in (at, at)
+      let at = one_of declared.name_of names.at (λ f. refl) t.fields.items first.before first.after n first.is in (at, at)
   nowhere error c d a (bad_field_item e1 c1 a1 h) =
-      let at = item_at faults.item_of (λ r. refl) t.reserved_numbers.items numbers.lowest_field numbers.highest_field place e1 c1 a1 h in (at, at)
+      let at = item_at declared.item_of (λ r. refl) t.reserved_numbers.items numbers.lowest_field numbers.highest_field place e1 c1 a1 h in (at, at)
   nowhere error c d a (json_name_clash n first) =
-      let at = one_of faults.json_name_of names.at (λ f. refl) t.fields.items first.before first.after n first.is in (at, at)
+      let at = one_of declared.json_name_of names.at (λ f. refl) t.fields.items first.before first.after n first.is in (at, at)
 
-  fields_meet : Meets (At (BreaksType t place) place) (fields_fault (faults.declared_message t))
+  fields_meet : Meets (At (BreaksType t place) place) (fields_fault (declared.declared_message t))
   fields_meet f h =
-      let B = BreaksFields (faults.declared_message t) place (error_of f.rule place) (order f.rule) in
-      let tells = fields_tell (faults.declared_message t) place f ((fields_judged (faults.declared_message t)).meets f h) in
+      let B = BreaksFields (declared.declared_message t) place (error_of f.rule place) (order f.rule) in
+      let tells = fields_tell (declared.declared_message t) place f ((fields_judged (declared.declared_message t)).meets f h) in
       let (d, a) = nowhere (error_of f.rule place) (order f.rule) f.declared f.at tells in
       (d, broken_parts.in_fields (error_of f.rule place) (order f.rule) (subst (λ n. B n 0) d (subst (B f.declared) a tells)))
 
@@ -46,7 +48,7 @@ module _ (t : MessageType) (place : Place) where
   type_meets =
       let B = BreaksType t place in
       let P = At B place in
-      earlier_meets P (fields_fault (faults.declared_message t)) (faults.shapes_fault t) fields_meet
+      earlier_meets P (fields_fault (declared.declared_message t)) (faults.shapes_fault t) fields_meet
       (earlier_meets P (faults.fault_if rules.BadMapKey (list_any faults.field_has_bad_key t.fields.items)) _
       (test_meets B place rules.BadMapKey (list_any faults.field_has_bad_key t.fields.items) (key_breaks t place))
       (earlier_meets P (faults.fault_if rules.BadOneofMember (faults.has_bad_oneof t)) (faults.fault_if rules.PackedNotAllowed (list_any faults.field_badly_packed t.fields.items))
@@ -54,7 +56,7 @@ module _ (t : MessageType) (place : Place) where
       (test_meets B place rules.PackedNotAllowed (list_any faults.field_badly_packed t.fields.items) (packed_breaks t place))))
 
   in_shapes : (c : ℕ) → IsFound (faults.shapes_fault t) 0 c → IsFound (faults.message_fault t) 0 c
-  in_shapes c h = found_right (fields_fault (faults.declared_message t)) (faults.shapes_fault t) 0 c h
+  in_shapes c h = found_right (fields_fault (declared.declared_message t)) (faults.shapes_fault t) 0 c h
 
   bad_oneof_found : faults.has_bad_oneof t ≡ true → IsFound (faults.message_fault t) 0 408
   bad_oneof_found h =
@@ -63,8 +65,8 @@ module _ (t : MessageType) (place : Place) where
 
   pub type_found : (e : CheckError) (c : ℕ) → BreaksType t place e c → IsFound (faults.message_fault t) 0 c
   type_found e c (broken_parts.in_fields e1 c1 h) =
-      found_left (fields_fault (faults.declared_message t)) (faults.shapes_fault t) 0 c
-      (fields_broken (IsFound (fields_fault (faults.declared_message t))) (faults.declared_message t) place (fields_judged (faults.declared_message t)).found e c 0 0 h)
+      found_left (fields_fault (declared.declared_message t)) (faults.shapes_fault t) 0 c
+      (fields_broken (IsFound (fields_fault (declared.declared_message t))) (declared.declared_message t) place (fields_judged (declared.declared_message t)).found e c 0 0 h)
   type_found e c (bad_map_key f key one is bad) =
       in_shapes 407 (found_left (faults.fault_if rules.BadMapKey (list_any faults.field_has_bad_key t.fields.items)) _ 0 407
       (test_found rules.BadMapKey (list_any faults.field_has_bad_key t.fields.items) (any_one faults.field_has_bad_key t.fields.items f one (key_is_bad f.presence key is bad))))

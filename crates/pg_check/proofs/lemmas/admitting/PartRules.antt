@@ -6,10 +6,10 @@ use Rattle.pg_check.specs.declared.rules.fault.Fault.{Fault}
 use Rattle.pg_check.specs.declared.rules.fault.Rule.{Rule}
 use Rattle.pg_check.specs.declared.rules.numbers.Numbers.{Numbers}
 use Rattle.pg_check.specs.Errors.{error_of}
-use Rattle.pg_check.specs.admitting.PartFaults as faults
+use Rattle.pg_check.specs.inner.PartFaults as faults
 use Rattle.pg_check.specs.rules.BrokenRules.{BreaksItems, beyond, falling, overlapping}
-use Rattle.pg_check.specs.rules.Faults.{order}
-use Rattle.pg_check.specs.rules.ReservedItems as reserved
+use Rattle.pg_check.specs.inner.Faults.{order}
+use Rattle.pg_check.specs.inner.ItemFaults as reserved
 use Rattle.pg_check.proofs.lemmas.rules.FirstFaults.{IsFound, Meets, broken_found, broken_meets}
 
 abbrev pub At : (CheckError → ℕ → Type 0) → Place → Fault → Type 0

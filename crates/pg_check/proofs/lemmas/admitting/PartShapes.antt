@@ -17,7 +17,7 @@ use Rattle.pg_check.specs.declared.rules.fault.Rule.TheVariants as rules
 use Rattle.pg_check.specs.admitting.BrokenParts.{BreaksType, bad_map_key, bad_oneof_member, empty_oneof, packed_not_allowed}
 use Rattle.pg_check.specs.Errors.{error_of}
 use Rattle.pg_check.specs.rules.Firsts.{IsOneOf}
-use Rattle.pg_check.specs.admitting.PartFaults as faults
+use Rattle.pg_check.specs.inner.PartFaults as faults
 use Rattle.pg_check.proofs.lemmas.rules.FirstFaults.{one_more}
 
 -- ---- one of a list that a test finds

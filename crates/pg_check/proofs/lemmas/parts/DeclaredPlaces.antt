@@ -1,4 +1,4 @@
--- What files and message types declare by place, as sums over all that is declared, one by one.
+-- What files and message types declare by index, as sums over all that is declared, one by one.
 use Rattle.std.proofs.Common.{◌≡◌, ◌∙◌, ℕ, suc, ◌+◌, ◌^◌, ◌<◌, ◌≤◌, cond, nat_lt, List, [], ◌∷◌, ◌++◌, length, map, flat_map, Some, slice_get, sym, ap, refl, arith, length-append}
 use Rattle.std.specs.List.{AllByRecursion}
 use Rattle.std.proofs.lemmas.Bool.Decides.{nat_tests}
@@ -32,7 +32,7 @@ placed_joined before (x ∷ xs) ys =
 abbrev of_place : (List ℕ → ℕ → ℕ) → Placed → ℕ
 of_place h p = h p.scope p.index
 
--- what stands at its place is what is looked up there
+-- what is at its index is what is looked up there
 pub looked_up : {X : Type 0} (scope_of : X → List ℕ) (h : List ℕ → ℕ → ℕ) (w : X → ℕ) (before : ℕ) (xs : List X) → before + length xs ≤ 2 ^ 32
     → ((i : ℕ) (x : X) → slice_get xs i ≡ Some x → h (scope_of x) (before + i) ≡ w x) → total (λ (p : Placed). h p.scope p.index) (placed_from before (map scope_of xs)) ≡ total w xs
 looked_up scope_of h w before [] few at = refl

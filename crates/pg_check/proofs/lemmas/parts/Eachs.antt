@@ -30,7 +30,7 @@ pub each_mapped : {A B : Type 0} (P : B → Type 0) (f : A → B) (xs : List A) 
 each_mapped P f [] h = tt
 each_mapped P f (x ∷ xs) h = (h.0, each_mapped P f xs h.1)
 
--- what follows of each from the one in its place
+-- what follows of each from the one at its index
 pub each_all : {A B : Type 0} (is : A → B → Type 0) (P : A → Type 0) (Q : B → Type 0) → ((x : A) (y : B) → is x y → P x → Q y)
     → (xs : List A) (ys : List B) → EachIs is xs ys → AllByRecursion P xs → AllByRecursion Q ys
 each_all is P Q so [] [] h k = tt

@@ -44,7 +44,7 @@ turned a b = by (bytes_eq a b) (bytes_eq b a) refl refl
     by true false is other = absurd (false≢true (sym other ∙ (bytes_eq-Decides b a).1 (sym ((bytes_eq-Decides a b).0 is))))
     by false true is other = absurd (false≢true (sym is ∙ (bytes_eq-Decides a b).1 (sym ((bytes_eq-Decides b a).0 other))))
 
--- the names from a place on have their places, each its first one
+-- the names from an index on have their indexes, each its first one
 pub record HavePlaces (all left : List (String Global)) (places : BTreeMap (String Global) ℕ) : Type 0 where
   pub left_of : left ≡ take (length left) all
   pub there : (name : List ℕ) → get_by_text places name ≡ position_from (bytes_eq name) (length left) (map string_bytes (drop (length left) all))

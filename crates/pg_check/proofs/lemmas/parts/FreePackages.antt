@@ -100,7 +100,7 @@ none_empty ss h =
 
 -- ---- all packages
 
--- what fails the test stands nowhere
+-- what fails the test is nowhere
 none_fails : (test : List ℕ → Bool) (xs : List (List ℕ)) → ((y : List ℕ) → test y ≡ true → times y xs ≡ 0) → list_all (λ y. not (test y)) xs ≡ true
 none_fails test [] h = refl
 none_fails test (x ∷ xs) h = by (test x) refl (none_fails test xs (λ y k. let none : times y (x ∷ xs) ≡ 0 = h y k in omega (arith, none)))

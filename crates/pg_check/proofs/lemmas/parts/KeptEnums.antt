@@ -35,7 +35,7 @@ use Rattle.pg_syntax.specs.declared.tree as tree
 use Rattle.pg_syntax.specs.declared.tree.EnumPart.TheVariants as parts
 use Rattle.pg_syntax.specs.declared.tree.Value.TheVariants as values
 
--- ---- lists of what stands in a body
+-- ---- lists of what a body has
 
 pub map_out : {A B P : Type 0} (f : A → B) (g : P → List A) (ps : List P) → flat_map (λ p. map f (g p)) ps ≡ map f (flat_map g ps)
 map_out f g [] = refl

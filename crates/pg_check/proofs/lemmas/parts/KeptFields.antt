@@ -136,7 +136,7 @@ bare_repeated : (e : Element) (stated : Option Bool) → (stated ≡ Some true �
     → (rules.has_presence (presences.Repeated (rules.stated_or stated (is_packable e))) e false false ≡ true) × (rules.is_packed (presences.Repeated (rules.stated_or stated (is_packable e))) e stated ≡ true)
 bare_repeated e stated h = (refl, list_packed e stated h)
 
--- `packed = true` stands only where the element may be packed
+-- `packed = true` is only where the element may be packed
 rightly : (b : Bool) (list : List tree.Setting.Setting) → (b || list_all (λ s. not (messages.states_packed s)) list) ≡ true → flag_of packed_word list ≡ Some true → b ≡ true
 rightly true list h e = refl
 rightly false list h e = absurd (unpacked list h e)

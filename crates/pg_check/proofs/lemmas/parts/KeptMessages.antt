@@ -41,7 +41,7 @@ use Rattle.pg_syntax.specs.declared.tree.Part.TheVariants as parts
 
 -- ---- what holds of all fields as they are declared
 
--- a test of fields as they are made, of the fields as they stand
+-- a test of fields as they are made, of the fields as they are sorted
 moved_test : (test : MadeField → Bool) (made : List MadeField) (fields : List Field) → IsPermutation made (map field fields) → list_all test made ≡ true → list_all (λ f. test (field f)) fields ≡ true
 moved_test test made fields moved h = sym (list_all-map test field fields) ∙ all_moved test made (map field fields) moved h
 

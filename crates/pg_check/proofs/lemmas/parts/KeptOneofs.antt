@@ -92,7 +92,7 @@ member_here start (oneof_parts.Option o ∷ ps) lt h = member_here start ps lt h
 member_here start (oneof_parts.Map m ∷ ps) lt h = or_first (nat_eq (index_of start) start) _ (own_place start lt)
 member_here start (oneof_parts.Field f ∷ ps) lt h = or_first (nat_eq (index_of start) start) _ (own_place start lt)
 
--- the oneof at each place has one
+-- the oneof at each index has one
 member_there : (start place : ℕ) (body : List Part) → start ≤ place → place < start + oneof_count body → place < 2 ^ 32 → list_all oneof_keeps (oneofs body) ≡ true → list_any (stands_in place) (members_from start body) ≡ true
 member_there start place [] low high lt h = absurd (omega (arith, low, high))
 member_there start place (p ∷ ps) low high lt h =
@@ -124,7 +124,7 @@ member_there start place (p ∷ ps) low high lt h =
     by (parts.Map m) top k others = later (parts.Map m) refl top others
     by (parts.Field f) top k others = later (parts.Field f) refl top others
 
--- ---- of the fields as they stand
+-- ---- of the fields as they are sorted
 
 any_of_map : {A B : Type 0} (test : B → Bool) (f : A → B) (xs : List A) → list_any test (map f xs) ≡ list_any (λ x. test (f x)) xs
 any_of_map test f [] = refl

@@ -1,5 +1,5 @@
 -- Options of files that keep to the rules: each of its kind, by rising numbers.
-use Rattle.std.proofs.Common.{◌≡◌, ◌∙◌, ℕ, Bool, true, false, cond, not, ◌&&◌, ◌||◌, nat_lt, nat_eq, List, [], ◌∷◌, ◌++◌, map, flat_map, Option, Some, None, codes, string_bytes, arith, sym, ap, subst, refl}
+use Rattle.std.proofs.Common.{◌≡◌, ◌∙◌, ℕ, Bool, true, false, cond, not, ◌&&◌, ◌||◌, nat_lt, nat_eq, List, [], ◌∷◌, ◌++◌, find, map, flat_map, option_map, Option, Some, None, codes, string_bytes, arith, sym, ap, subst, refl}
 use Rattle.std.specs.List.{list_all, list_any}
 use Rattle.std.specs.Str.{bytes_eq}
 use Rattle.std.proofs.lemmas.Bool.{false≢true}
@@ -24,7 +24,7 @@ use Rattle.pg_check.specs.rules.KeepsRules.{OptionsKeep, are_apart, is_right}
 use Rattle.pg_check.specs.parts.MadeFiles.{AreOptions, MadeOption, MadeValue, Flag, Mode, Text, file_option, flag_option, known_option, made_options, made_value, numbered, option_in, option_value, setting_option}
 use Rattle.pg_check.specs.rules.Names.{Named, is_same}
 use Rattle.pg_check.specs.rules.Options as rules
-use Rattle.pg_check.specs.rules.Options.{Entry, known_among, known_by, known_or, name_of, option_named, options_of}
+use Rattle.pg_check.specs.rules.Options.{Entry, known_among, known_by, name_of, option_named, options_of}
 use Rattle.pg_check.specs.rules.Outline.{statements_behind}
 use Rattle.pg_check.proofs.lemmas.parts.Moved.{all_moved, all_weaker}
 use Rattle.pg_check.proofs.lemmas.rules.NoneLaws.{and_both, and_left, and_right}
@@ -41,11 +41,15 @@ fits n kinds.Flag = list_any (nat_eq n) flag_options && nat_lt 0 n
 fits n kinds.Mode = nat_eq n 9 && nat_lt 0 n
 fits n kinds.Text = list_any (nat_eq n) text_options && nat_lt 0 n
 
+-- what a name comes to, where the test of the first entry is this and the others give that
+abbrev known_or : Bool → Entry → List Entry → List ℕ → Option Known
+known_or b e es name = option_map (λ (o : Entry). o.known) (cond b (Some e) (find (λ (o : Entry). bytes_eq name o.name) es))
+
 known_has : (p : Known → Bool) (es : List Entry) (name : List ℕ) (k : Known) → list_all (λ (e : Entry). p e.known) es ≡ true → known_among es name ≡ Some k → p k ≡ true
 known_has p [] name k h is = absurd (cc (is))
 known_has p (e ∷ es) name k h is = by (bytes_eq name e.name) is (known_has p es name k (and_right (p e.known) _ h))
   where
-    by : (b : Bool) → known_or b e.known (known_among es name) ≡ Some k → (known_among es name ≡ Some k → p k ≡ true) → p k ≡ true
+    by : (b : Bool) → known_or b e es name ≡ Some k → (known_among es name ≡ Some k → p k ≡ true) → p k ≡ true
     by true i others = subst (λ q. p q ≡ true) (same_Some e.known k i) (and_left _ _ h)
     by false i others = others i
 
@@ -63,7 +67,7 @@ one_name (e ∷ es) m n j k h is_j is_k same = by (bytes_eq m e.name) (bytes_eq 
     others_differ : list_all (λ (d : Entry). not (nat_eq d.known.number e.known.number)) es ≡ true
     others_differ = and_left _ _ h
 
-    by : (b c : Bool) → bytes_eq m e.name ≡ b → bytes_eq n e.name ≡ c → known_or b e.known (known_among es m) ≡ Some j → known_or c e.known (known_among es n) ≡ Some k
+    by : (b c : Bool) → bytes_eq m e.name ≡ b → bytes_eq n e.name ≡ c → known_or b e es m ≡ Some j → known_or c e es n ≡ Some k
         → (known_among es m ≡ Some j → known_among es n ≡ Some k → m ≡ n) → m ≡ n
     by true true is_m is_n a b both = (bytes_eq-Decides m e.name).0 is_m ∙ sym ((bytes_eq-Decides n e.name).0 is_n)
     by true false is_m is_n a b both =

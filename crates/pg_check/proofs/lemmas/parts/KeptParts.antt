@@ -1,6 +1,6 @@
 -- What the parts of files have in common where the files keep to the rules: of all that holds of a schema, what follows
 -- from the rules alone (proto3 language guide, "Enumerations", "Reserved Values"). That names are words, that what is named
--- is there, and that each is declared once in its place, follows from the grammar and from names that are linked.
+-- is there, and that each is declared once at its index, follows from the grammar and from names that are linked.
 use Rattle.std.specs.Prelude.{◌≡◌, ◌≤◌, ℕ, Bool, true, false, not, ◌&&◌, ◌∷◌, map, length, is_some}
 use Rattle.std.specs.List.{list_all, AllByRecursion}
 use Rattle.std.specs.String.{string_bytes}

@@ -7,13 +7,14 @@ use Rattle.pg_link.specs.declared.uses.target.Target.{Target}
 use Rattle.pg_link.specs.uses.Targets.{target_at}
 use Rattle.pg_link.specs.walk.Walk.{Entry, path_of}
 use Rattle.pg_check.specs.declared.parts.made_parts.Source as code
-use Rattle.pg_check.specs.parts.EnumPlaces.{by_scope, enum_places, target_in}
-use Rattle.pg_check.specs.parts.Sources.{linked_source, source}
+use Rattle.pg_check.specs.parts.EnumPlaces.{by_scope, enum_places}
+use Rattle.pg_check.specs.inner.Sources.{target_in, source}
+use Rattle.pg_check.specs.parts.Sources.{linked_source}
 
 same_functions : {A B : Type 0} (f g : A → B) → ((x : A) → f x ≡ g x) → f ≡ g
 same_functions f g h = λ i x. h x i
 
--- what a type name names, an enum by its place scope by scope
+-- what a type name names, an enum by its index scope by scope
 abbrev pub scoped : List Entry → Entry → ℕ → Option Target
 scoped files e at = option_map (by_scope (enum_places files)) (target_at files e at)
 

@@ -1,4 +1,4 @@
--- What holds of each item of a list, and of each two, in whatever order they stand.
+-- What holds of each item of a list, and of each two, in whatever order they are.
 use Rattle.std.proofs.Common.{◌≡◌, ◌∙◌, ℕ, zero, suc, ◌<◌, Bool, true, ◌&&◌, nat_eq, cond, List, [], ◌∷◌, ◌++◌, length, map, get_or, arith, sym, ap, subst, refl}
 use Rattle.std.specs.List.{list_all, swap}
 use Rattle.std.specs.List.Sorted.{IsPermutation}
@@ -21,7 +21,7 @@ all_from : {A : Type 0} (test : A → Bool) (xs : List A) → ((i : ℕ) (d : A)
 all_from test [] h = refl
 all_from test (x ∷ xs) h = and_both _ _ (h 0 x (omega arith)) (all_from test xs (λ i d lt. h (suc i) d (omega (arith, lt))))
 
--- the place whose item comes to a place by a swap
+-- the index whose item comes to an index by a swap
 abbrev origin : ℕ → ℕ → ℕ → ℕ
 origin a b k = cond (nat_eq k a) b (cond (nat_eq k b) a k)
 
@@ -47,7 +47,7 @@ all_moved test xs ys moved h = IsPermutation-keeps xs (λ zs. list_all test zs �
 abbrev pub IsSymmetric : {A : Type 0} → (A → A → Bool) → Type 0
 IsSymmetric {A} test = (a b : A) → test a b ≡ true → test b a ≡ true
 
--- the test holds of each two places
+-- the test holds of each two indexes
 abbrev EachTwo : {A : Type 0} → (A → A → Bool) → List A → Type 0
 EachTwo {A} test xs = (i j : ℕ) (d : A) → i < length xs → j < length xs → (i ≡ j → ⊥) → test (get_or xs i d) (get_or xs j d) ≡ true
 

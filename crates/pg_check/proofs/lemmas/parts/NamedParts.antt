@@ -1,5 +1,5 @@
 -- What is left of a schema's facts beside those that follow from the rules: names that are words, what is named, and where it
--- stands (proto3 language specification, "Identifiers", "Packages").
+-- has (proto3 language specification, "Identifiers", "Packages").
 use Rattle.std.specs.Prelude.{◌≡◌, ℕ, Bool, true, ◌&&◌, length}
 use Rattle.std.specs.List.{list_all, AllByRecursion}
 use Rattle.std.specs.String.{string_bytes}

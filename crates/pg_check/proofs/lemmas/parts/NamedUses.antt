@@ -23,7 +23,8 @@ use Rattle.pg_link.specs.names.Resolves.{Resolves, found, part_words, reference}
 use Rattle.pg_link.specs.uses.Targets.{all_declared, enum_names, message_names, number_in, numbered, target_at, target_in, use_at}
 use Rattle.pg_link.specs.uses.Uses.{Use, field_uses, file_uses, in_field, in_rpc, is_scalar, is_scalar_alone}
 use Rattle.pg_link.specs.walk.Walk.{Entry, outlines, path_of}
-use Rattle.pg_check.specs.parts.EnumPlaces.{AreNumbered, by_scope, declared_messages, declared_names, enum_places, scoped_names}
+use Rattle.pg_check.proofs.lemmas.parts.Numbering.{AreNumbered, declared_messages}
+use Rattle.pg_check.specs.parts.EnumPlaces.{by_scope, declared_names, enum_places, scoped_names}
 use Rattle.pg_check.specs.parts.MadeFields.{element_of}
 use Rattle.pg_check.specs.parts.MadeNumbers.{index_of}
 use Rattle.pg_check.specs.parts.MadeServices.{message_at}
@@ -74,13 +75,22 @@ pub record IsMet (files : List Entry) (parts : Parts) : Type 0 where
   pub types_are : map (λ (t : MessageType). string_bytes t.name) parts.types.items ≡ declared_messages files
   pub enums_are : map (λ (e : EnumType). string_bytes e.name) parts.enums.items ≡ scoped_names files
 
+-- what is no scalar type here is no scalar word there
+not_scalar : (b : Bool) (w : Text) (more : List tree.Name.Name) → cond (not b && is_alone more) (scalar_of w) None ≡ None → cond b false (is_scalar_alone w (part_words more)) ≡ false
+not_scalar true w more h = refl
+not_scalar false w [] h = ap is_some h
+not_scalar false w (x ∷ xs) h = refl
+
+pub no_scalar : (name : tree.TypeName.TypeName) → scalar_named name ≡ None → is_scalar (reference name) ≡ false
+no_scalar name is = not_scalar name.is_full (string_bytes name.path.first.text) name.path.more.items is
+
 -- ---- what a use resolves to
 
 module _ (files : List Entry) (parts : Parts) (met : IsMet files parts) where
   abbrev all : List Declared
   all = all_declared files
 
-  -- the number is that of the full name; where no enum may stand it is a message type's
+  -- the number is that of the full name; where no enum may be it is a message type's
   abbrev pub HasName : Bool → Text → Target → Type 0
   HasName takes full (targets.Message n) = HasNumber (declared_messages files) full n
   HasName true full (targets.Enum n) = HasNumber (declared_names files) full n
@@ -204,12 +214,6 @@ module _ (files : List Entry) (parts : Parts) (met : IsMet files parts) where
       subst (λ (o : Option Target). ResolvesTo files parts e scope name (elements.Message (message_at (option_map (by_scope (enum_places files)) o)))) (sym h.at)
       (resolves_to e scope name h.full (elements.Message (message_at (Some (by_scope (enum_places files) h.target)))) h.resolves (method_full h.full h.target h.has_name))
 
-  -- what is no scalar type here is no scalar word there
-  not_scalar : (b : Bool) (w : Text) (more : List tree.Name.Name) → cond (not b && is_alone more) (scalar_of w) None ≡ None → cond b false (is_scalar_alone w (part_words more)) ≡ false
-  not_scalar true w more h = refl
-  not_scalar false w [] h = ap is_some h
-  not_scalar false w (x ∷ xs) h = refl
-
   -- the element that is made for a type name
   pub element_named : (e : Entry) (scope : List ℕ) (name : tree.TypeName.TypeName) → AllByRecursion (Here e) (field_uses (words_of scope) name)
       → IsScalarOr (ResolvesTo files parts e scope name (element_of (scalar_named name) (targets_of e name.span.from))) (scalar_named name) (element_of (scalar_named name) (targets_of e name.span.from))
@@ -218,5 +222,4 @@ module _ (files : List Entry) (parts : Parts) (met : IsMet files parts) where
       by : (o : Option Scalar) → scalar_named name ≡ o → IsScalarOr (ResolvesTo files parts e scope name (element_of o (targets_of e name.span.from))) o (element_of o (targets_of e name.span.from))
       by (Some s) is = refl
       by None is =
-          let none : is_scalar (reference name) ≡ false = not_scalar name.is_full (string_bytes name.path.first.text) name.path.more.items is in
-          field_resolves e scope name (subst (λ b. AllByRecursion (Here e) (cond b [] (in_field (words_of scope) name ∷ []))) none h).0
+          field_resolves e scope name (subst (λ b. AllByRecursion (Here e) (cond b [] (in_field (words_of scope) name ∷ []))) (no_scalar name is) h).0

@@ -17,7 +17,8 @@ use Rattle.pg_link.specs.names.Outline.{all_of, file_names, of_enum, of_enum_par
 use Rattle.pg_link.specs.uses.Targets.{all_declared, enum_names, is_enum, is_message, message_names, names_of}
 use Rattle.pg_link.specs.walk.Walk.{Entry, IsParsed}
 use Rattle.pg_schema.specs.rules.Words.{is_word}
-use Rattle.pg_check.specs.parts.EnumPlaces.{AreNumbered, declared_messages, declared_names, enum_full, message_full, place_among, scoped_names}
+use Rattle.pg_check.proofs.lemmas.parts.Numbering.{AreNumbered, declared_messages, message_full}
+use Rattle.pg_check.specs.parts.EnumPlaces.{declared_names, enum_full, place_among, scoped_names}
 use Rattle.pg_check.specs.rules.Outline.{Enum, Message, all_enums, an_enum, all_messages, enums_in, file_enums, file_messages, full_name, messages_in, package_of, row_enums, row_list, row_messages, scoped_enums, statement_enums, statement_messages, statements_behind}
 use Rattle.pg_check.proofs.lemmas.parts.DeclaredTotals.{behind_dot, package_scope_is, scope_is, within_is}
 use Rattle.pg_check.proofs.lemmas.parts.ScopedEnums.{scoped_total}
@@ -211,9 +212,9 @@ all_lists (e ∷ es) h =
       here.1 ∙ (ap (λ ns. dotted_names enum_full (file_enums file) ++ ns) others.1 ∙ sym (map-append dot (map enum_full (file_enums file)) (declared_names es))),
     )
 
--- ---- the place of a name
+-- ---- the index of a name
 
--- a name stands scope by scope as often as in order of declaration
+-- a name is there scope by scope as often as in order of declaration
 as_often : (x : List ℕ) (files : List Entry) → times x (scoped_names files) ≡ times x (declared_names files)
 as_often x [] = refl
 as_often x (e ∷ es) =
@@ -226,7 +227,7 @@ as_often x (e ∷ es) =
     let right : times x (map enum_full stated ++ declared_names es) ≡ times x (map enum_full stated) + times x (declared_names es) = total_joined (one x) (map enum_full stated) (declared_names es) in
     omega (arith, rest, here, left, right)
 
--- a name of the list is found in its place
+-- a name of the list is found at its index
 abbrev Found : (x : List ℕ) (i : ℕ) (front xs : List (List ℕ)) → Type 0
 Found x i front xs = slice_get (front ++ xs) (unwrap_or (position_from (bytes_eq x) i xs) 0) ≡ Some x
 

@@ -1,4 +1,4 @@
--- Each message type, enum and service of linked files stands in one place, and in its scope.
+-- Each message type, enum and service of linked files has one index, and is in its scope.
 use Rattle.std.proofs.Common.{◌≡◌, ◌∙◌, ℕ, zero, suc, ◌+◌, ◌^◌, ◌≤◌, Bool, true, false, not, ◌&&◌, List, [], ◌∷◌, ◌++◌, length, take, drop, map, flat_map, Option, Some, slice_get, option_map, string_bytes, sym, ap, ap₂, subst, refl, arith, append_assoc}
 use Rattle.std.proofs.Math.Seq.{drop-append_seam, take-append_seam}
 use Rattle.std.specs.List.{list_all, AllByRecursion}
@@ -116,7 +116,7 @@ in_scope (b ∷ bs) w h =
     and_both (bytes_eq (take (length (b ∷ bs)) ((b ∷ bs) ++ 46 ∷ w)) (b ∷ bs)) (is_dot_and_word (drop (length (b ∷ bs)) ((b ∷ bs) ++ 46 ∷ w)))
     ((bytes_eq-Decides (take (length (b ∷ bs)) ((b ∷ bs) ++ 46 ∷ w)) (b ∷ bs)).1 front) (ap is_dot_and_word back ∙ h)
 
--- a name that stands there under its scope
+-- a name that is there under its scope
 pub record IsUnder (scope full : List ℕ) : Type 0 where
   pub word : List ℕ
   pub is_a_word : is_word word ≡ true
@@ -146,7 +146,7 @@ each_name (w ∷ ws) (t ∷ ts) h = ap (λ n. n ∷ map (λ (u : MessageType). s
 pub type_names_are : (ss : List Source) (parts : Parts) → ArePartsOf ss parts → map (λ (t : MessageType). string_bytes t.name) parts.types.items ≡ map full_of (flat_map source_messages ss)
 type_names_are ss parts are = each_name (with_files nothing ss).types parts.types.items are.types ∙ tree_names nothing ss
 
--- what is found at a place of equal lists
+-- what is found at an index of equal lists
 pub at_place : {A B C : Type 0} (f : A → C) (g : B → C) (xs : List A) (ys : List B) → map f xs ≡ map g ys → (i : ℕ) (y : B) → slice_get ys i ≡ Some y → option_map f (slice_get xs (0 + i)) ≡ Some (g y)
 at_place f g xs ys same i y at =
     let none : 0 + i ≡ i = omega arith in
@@ -185,7 +185,7 @@ both_pass p q (x ∷ xs) h k = by (p x) (q x) h k (both_pass p q xs)
 
 -- ---- the facts
 
--- what linked files that keep to the rules have, each as it stands
+-- what linked files that keep to the rules have, each as it is
 pub record IsSettledSource (s : Source) : Type 0 where
   pub good : IsGoodFile s.tree
   pub scoped : IsScoped s.tree
@@ -265,7 +265,7 @@ services_are d (s ∷ ss) =
 
 -- ---- one kind of what is declared
 
--- places that files and message types declare come to as many numbers, from 0 on
+-- indexes that files and message types declare come to as many numbers, from 0 on
 places_come : {I : Type 0} (index : I → ℕ) (in_file : File → List I) (in_type : MessageType → List I) (files : List File) (types : List MessageType) (g : ℕ → ℕ)
     (scopes : List (List ℕ)) (count : ℕ) → length scopes ≡ count → count ≤ 2 ^ 32
     → total (λ (f : File). total (λ id. g (index id)) (in_file f)) files + total (λ (t : MessageType). total (λ id. g (index id)) (in_type t)) types
@@ -280,11 +280,11 @@ places_come {I} index in_file in_type files types g scopes count long few summed
     each ids [] = refl
     each ids (x ∷ xs) = total_joined g (map index (ids x)) (flat_map (λ y. map index (ids y)) xs) ∙ ap₂ (λ m n. m + n) (total_map g index (ids x)) (each ids xs)
 
--- what a place says whose name is not in the scope
+-- what an index says whose name is not in the scope
 abbrev name_fails : {A : Type 0} → (A → List ℕ) → List A → List ℕ → ℕ → ℕ
 name_fails name ts scope i = as_one (not (is_named_in scope (option_map name (slice_get ts i))))
 
--- no place does, where each has the name of what is declared
+-- no index does, where each has the name of what is declared
 none_fails : {A X : Type 0} (name : A → List ℕ) (full scope : X → List ℕ) (ts : List A) (xs : List X) → map name ts ≡ map full xs
     → AllByRecursion (λ x. IsUnder (scope x) (full x)) xs → length xs ≤ 2 ^ 32 → total (λ (p : Placed). name_fails name ts p.scope p.index) (placed_from 0 (map scope xs)) ≡ 0
 none_fails {A} {X} name full scope ts xs same under few =
@@ -336,7 +336,7 @@ module _ (ss : List Source) (parts : Parts) (are : ArePartsOf ss parts) (settled
   abbrev scoped : AllByRecursion (λ (s : Source). IsScoped s.tree) ss
   scoped = scoped_all ss settled
 
-  -- places
+  -- indexes
 
   types_placed : (g : ℕ → ℕ) → total g (declared_types parts.files.items types) ≡ total g (count_from 0 (length types))
   types_placed g =

@@ -7,14 +7,15 @@ use Rattle.pg_link.specs.declared.uses.target.Target.{Target}
 use Rattle.pg_check.specs.declared.parts.made_parts.Made.{Made}
 use Rattle.pg_check.specs.parts.ByScope.{Placed, places_in, type_id, enum_id}
 use Rattle.pg_check.specs.parts.MadeEnums.{enumeration}
-use Rattle.pg_check.specs.parts.MadeParts.{Declared, EachIs, IsFileOf, IsTypeOf, Source, States, file_shape, grouped_shape, grouped_tree, placed_enums, placed_messages, type_tree, type_trees, with_file, with_files}
+use Rattle.pg_check.specs.parts.MadeParts.{Declared, EachIs, IsFileOf, IsTypeOf, Source, States, file_shape, placed_enums, placed_messages, type_tree, type_trees, with_file, with_files}
+use Rattle.pg_check.specs.inner.Grouped.{grouped_shape, grouped_tree}
 use Rattle.pg_check.specs.parts.MadeServices.{service}
 use Rattle.pg_check.specs.rules.Outline.{Message, package_of}
-use Rattle.pg_check.specs.parts.Sources.{IsMadeBy}
+use Rattle.pg_check.specs.inner.Sources.{IsMadeBy}
 use Rattle.pg_check.proofs.lemmas.parts.Eachs.{each-append, each-length}
 use Rattle.pg_check.proofs.lemmas.rules.FirstLaws.{take_item}
 
--- places that are kept for scopes are those of the scopes
+-- indexes that are kept for scopes are those of the scopes
 pub tree_is : (targets : ℕ → Option Target) (types enums : List ℕ → List ℕ) (in_types in_enums : List Placed) → ((scope : List ℕ) → types scope ≡ places_in scope in_types) → ((scope : List ℕ) → enums scope ≡ places_in scope in_enums)
     → (m : Message) → grouped_tree targets types enums m ≡ type_tree targets in_types in_enums m
 tree_is targets types enums in_types in_enums h k m =

@@ -1,4 +1,4 @@
--- Of a schema's facts, where its files are linked and keep to the rules, those on places and full names.
+-- Of a schema's facts, where its files are linked and keep to the rules, those on indexes and full names.
 use Rattle.std.proofs.Common.{◌≡◌, ◌≤◌, ◌^◌, true, length}
 use Rattle.std.specs.List.{list_all, AllByRecursion}
 use Rattle.pg_schema.specs.declared.parts.enum_type.EnumType.{EnumType}
@@ -20,7 +20,7 @@ pub record PlacedParts (parts : Parts) : Type 0 where
   pub names : are_distinct (declared_names parts) ≡ true
   pub free_packages : are_free_of (declared_names parts) parts.files.items ≡ true
 
--- places of 32 bits are enough for the enums and the services
+-- indexes of 32 bits are enough for the enums and the services
 pub record IsCountable (parts : Parts) : Type 0 where
   pub enums : length parts.enums.items ≤ 2 ^ 32
   pub services : length parts.services.items ≤ 2 ^ 32

@@ -1,9 +1,10 @@
--- Places by their scopes.
+-- Indexes by their scopes.
 use Rattle.std.proofs.Common.{◌≡◌, ℕ, Bool, true, false, cond, List, [], ◌∷◌, map, string_bytes, String, refl, ap}
 use Rattle.std.specs.List.{filter}
 use Rattle.std.specs.Str.{bytes_eq}
 use Rattle.std.specs.declared.alloc.Global.{Global}
-use Rattle.pg_check.specs.parts.ByScope.{Placed, placed, places_in}
+use Rattle.pg_check.specs.parts.ByScope.{Placed, places_in}
+use Rattle.pg_check.specs.inner.Grouped.{placed}
 
 kept : (b : Bool) (p : String Global × ℕ) (ps : List (String Global × ℕ)) (qs : List Placed) → map (λ (p : String Global × ℕ). p.1) ps ≡ map (λ (q : Placed). q.index) qs
     → map (λ (p : String Global × ℕ). p.1) (cond b (p ∷ ps) ps) ≡ map (λ (q : Placed). q.index) (cond b (placed p ∷ qs) qs)

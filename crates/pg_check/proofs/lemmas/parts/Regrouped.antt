@@ -29,7 +29,7 @@ all_once : (h : List ℕ → ℕ → ℕ) (ss : List (List ℕ)) (ps : List Plac
 all_once h ss [] k = tt
 all_once h ss (p ∷ ps) k = (once_there (λ s. h s p.index) p.scope ss k.0, all_once h ss ps k.1)
 
--- where each scope stands once among these
+-- where each scope is once among these
 pub regrouped : (h : List ℕ → ℕ → ℕ) (ss : List (List ℕ)) (ps : List Placed) → AllByRecursion (λ (p : Placed). times p.scope ss ≡ 1) ps
     → total (λ s. total (h s) (places_in s ps)) ss ≡ total (λ (p : Placed). h p.scope p.index) ps
 regrouped h ss ps once =
@@ -37,7 +37,7 @@ regrouped h ss ps once =
     ∙ (total_turned (λ s (p : Placed). cond (bytes_eq s p.scope) (h s p.index) 0) ss ps
     ∙ total_same (λ (p : Placed). total (λ s. cond (bytes_eq s p.scope) (h s p.index) 0) ss) (λ (p : Placed). h p.scope p.index) ps (all_once h ss ps once))
 
--- ---- places from one on
+-- ---- indexes from one on
 
 -- so many numbers, from one on
 abbrev pub count_from : ℕ → ℕ → List ℕ
@@ -55,7 +55,7 @@ placed_total g before (s ∷ ss) few =
     small : (n : ℕ) → n < 2 ^ 32 → cond (nat_lt n (2 ^ 32)) n 0 ≡ n
     small n h = grind (arith, nat_tests)
 
--- ---- each place once
+-- ---- each index once
 
 abbrev as_one : Bool → ℕ
 as_one true = 1
@@ -143,7 +143,7 @@ all_apart (p ∷ ps) h =
     same : (n : ℕ) → nat_eq n n ≡ true
     same n = grind (arith, nat_tests)
 
--- places that come to the same sums as so many numbers stand once each
+-- indexes that come to the same sums as so many numbers are there once each
 pub each_once : (count : ℕ) (places : List ℕ) → ((g : ℕ → ℕ) → total g places ≡ total g (count_from 0 count)) → are_each_once count places ≡ true
 each_once count places same =
     let long : length places ≡ count = sym (lengths places) ∙ (same (λ k. 1) ∙ counted 0 count) in

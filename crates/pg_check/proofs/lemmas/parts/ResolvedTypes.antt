@@ -26,7 +26,8 @@ use Rattle.pg_link.specs.walk.Walk.{Entry, IsParsed, outlines, path_of}
 use Rattle.pg_link.proofs.lemmas.names.VisibleLaws.{first_among, later_among}
 use Rattle.pg_check.specs.Declares.{Declares}
 use Rattle.pg_check.specs.parts.ByScope.{Placed}
-use Rattle.pg_check.specs.parts.EnumPlaces.{declared_messages, enum_full, scoped_names}
+use Rattle.pg_check.proofs.lemmas.parts.Numbering.{declared_messages}
+use Rattle.pg_check.specs.parts.EnumPlaces.{enum_full, scoped_names}
 use Rattle.pg_check.specs.parts.MadeEnums.{MadeEnum, enumeration, made_enum}
 use Rattle.pg_check.specs.parts.MadeFields.{MadeField, element_in, field, made_field}
 use Rattle.pg_check.specs.parts.MadeMessages.{made_fields}
@@ -57,7 +58,7 @@ each_among (x ∷ xs) = (first_among x xs, each_weaker (IsAmong xs) (IsAmong (x 
 
 -- ---- uses that are resolved
 
-abbrev HasTarget : (Use → Option Target) → Use → Type 0
+abbrev pub HasTarget : (Use → Option Target) → Use → Type 0
 HasTarget resolve u = (t : Target) × (resolve u ≡ Some t)
 
 uses_resolve : (resolve : Use → Option Target) (ts : List Target) (us : List Use) → map (λ (t : Target). Some t) ts ≡ map resolve us → AllByRecursion (HasTarget resolve) us
@@ -68,10 +69,10 @@ uses_resolve resolve (t ∷ ts) (u ∷ us) is =
     let others : map (λ (x : Target). Some x) ts ≡ map resolve us = cc (is) in
     ((t, sym one), uses_resolve resolve ts us others)
 
-abbrev resolve_in : List Entry → Entry → Use → Option Target
+abbrev pub resolve_in : List Entry → Entry → Use → Option Target
 resolve_in files e = target_in (all_declared files) (visible_names (outlines files) (path_of e))
 
-files_resolve : (all files : List Entry) (ts : List (List Target)) → map (map (λ (t : Target). Some t)) ts ≡ map (file_targets all) files
+pub files_resolve : (all files : List Entry) (ts : List (List Target)) → map (map (λ (t : Target). Some t)) ts ≡ map (file_targets all) files
     → AllByRecursion (λ e. AllByRecursion (HasTarget (resolve_in all e)) (file_uses e.1.tree)) files
 files_resolve all [] ts is = tt
 files_resolve all (e ∷ es) [] is = absurd (cc (is))

@@ -1,4 +1,4 @@
--- Items that stand by their numbers, no two of one number.
+-- Items that are sorted by their numbers, no two of one number.
 use Rattle.std.proofs.Common.{◌≡◌, ℕ, suc, ◌<◌, ◌≤◌, true, nat_lt, List, [], ◌∷◌, length, map, get_or, arith, refl}
 use Rattle.std.specs.List.{list_all}
 use Rattle.std.specs.List.Sorted.{IsPermutation, IsNonDecreasingBy}

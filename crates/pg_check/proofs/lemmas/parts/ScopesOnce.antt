@@ -1,4 +1,4 @@
--- Each message type and enum of a file stands in one scope: the file's package, or one of its message types.
+-- Each message type and enum of a file is in one scope: the file's package, or one of its message types.
 use Rattle.std.proofs.Common.{◌≡◌, ◌∙◌, ◌⊎◌, inl, inr, ℕ, ◌+◌, ◌≤◌, Bool, true, false, ◌&&◌, nat_eq, List, [], ◌∷◌, ◌++◌, length, map, flat_map, Option, Some, None, string_bytes, sym, ap, subst, refl, arith, append_assoc}
 use Rattle.std.specs.List.{list_all, AllByRecursion}
 use Rattle.std.specs.Str.{bytes_eq}
@@ -230,7 +230,7 @@ package_front file p y good is front =
 pub one_behind : (x y : List ℕ) → one (46 ∷ x) (46 ∷ y) ≡ one x y
 one_behind x y = refl
 
--- names that stand once
+-- names that are there once
 abbrev pub NamesOnce : List Declared → Type 0
 NamesOnce ds = (x : Text) → IsOnce (weight (one x)) (part (one x)) ds
 

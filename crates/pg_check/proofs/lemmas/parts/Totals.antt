@@ -1,4 +1,4 @@
--- Sums over lists, and how often a text stands in one.
+-- Sums over lists, and how often a name is in one.
 use Rattle.std.proofs.Common.{◌≡◌, ◌∙◌, ℕ, ◌+◌, ◌≤◌, Bool, true, false, cond, not, List, [], ◌∷◌, ◌++◌, map, flat_map, sym, ap, subst, refl, arith}
 use Rattle.std.specs.List.{list_all, sum_by, AllByRecursion}
 use Rattle.std.specs.List.Sorted.{IsPermutation}
@@ -51,7 +51,7 @@ total_turned {X} {Y} f [] ys = sym (total_none ys)
 total_turned f (x ∷ xs) ys =
     ap (λ n. total (f x) ys + n) (total_turned f xs ys) ∙ sym (total_both (f x) (λ y. total (λ z. f z y) xs) ys)
 
--- ---- texts
+-- ---- names
 
 abbrev pub as_one : Bool → ℕ
 as_one true = 1
@@ -73,7 +73,7 @@ one_from x y other = by (bytes_eq x y) refl
     by true is = absurd (other ((bytes_eq-Decides x y).0 is))
     by false is = refl
 
--- a text that stands nowhere differs from each
+-- a name that is nowhere differs from each
 absent : (x : List ℕ) (ys : List (List ℕ)) → times x ys ≡ 0 → list_all (differ x) ys ≡ true
 absent x [] h = refl
 absent x (y ∷ ys) h = by (bytes_eq x y) refl (λ none. absent x ys none)
@@ -93,9 +93,9 @@ distinct_from_times (y ∷ ys) h =
     let none : times y ys ≡ 0 = omega (arith, here, few) in
     and_both (list_all (differ y) ys) (are_distinct ys) (absent y ys none) (distinct_from_times ys (λ x. let all : times x (y ∷ ys) ≤ 1 = h x in omega (arith, all)))
 
--- ---- what belongs to a text of a list
+-- ---- what belongs to a name of a list
 
--- of the list's texts this one alone counts
+-- of the list's names this one alone counts
 abbrev pub at_text : (List ℕ → ℕ) → List ℕ → List ℕ → ℕ
 at_text f q s = cond (bytes_eq s q) (f s) 0
 

@@ -1,4 +1,4 @@
--- Numbers that are declared and numbers that are reserved, as a schema has them: none stands twice.
+-- Numbers that are declared and numbers that are reserved, as a schema has them: none is there twice.
 use Rattle.std.proofs.Common.{◌≡◌, ◌∙◌, ℕ, ◌+◌, Bool, true, false, not, ◌&&◌, ◌||◌, nat_lt, nat_le, nat_eq, List, [], ◌∷◌, ◌++◌, map, sym, arith, refl}
 use Rattle.std.specs.List.{list_all, list_any}
 use Rattle.std.proofs.lemmas.Bool.{false≢true}

@@ -1,4 +1,4 @@
--- Parts that keep to the rules and whose names stand are those of a schema.
+-- Parts that keep to the rules and whose names are right are those of a schema.
 use Rattle.std.proofs.Common.{◌≡◌, ℕ, Bool, true, false, not, ◌&&◌, List, [], ◌∷◌, map, length, is_some, refl}
 use Rattle.std.specs.List.{list_all, AllByRecursion}
 use Rattle.std.specs.String.{string_bytes}

@@ -1,4 +1,4 @@
--- The names in a tree that stands at the tokens of a text are words.
+-- The names in a tree that is at the tokens of a source file are words.
 use Rattle.std.proofs.Common.{◌≡◌, ◌⊎◌, inl, inr, ℕ, Bool, true, false, ◌&&◌, ◌||◌, ◌==◌, nat_le, List, [], ◌∷◌, ◌++◌, Option, Some, None, string_bytes, subst, refl}
 use Rattle.std.specs.List.{list_all, AllByRecursion}
 use Rattle.std.proofs.lemmas.Bool.{false≢true}
@@ -73,7 +73,7 @@ tokens_good text ts h = by h.1
 
 -- ---- trees
 
--- each word in the tree is a word of the text
+-- each word in the tree is a word of the source file
 abbrev pub IsGood : Tree → Type 0
 IsGood Empty = Unit {0}
 IsGood (Leaf s) = IsGoodSymbol s

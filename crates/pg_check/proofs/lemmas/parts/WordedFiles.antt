@@ -197,7 +197,7 @@ before_joined : (b : ℕ) (ps qs : List (List ℕ)) → HasFirst ps → before_f
 before_joined b ps qs h =
     ap (λ rs. before_first b (rs ++ qs)) h.is ∙ sym (ap (λ rs. before_first b rs ++ qs) h.is)
 
--- a dot parts what stands before it from what stands behind
+-- a dot parts what is before it from what is after it
 pub parted : (a b : List ℕ) → parts_at_dots (a ++ 46 ∷ b) ≡ parts_at_dots a ++ parts_at_dots b
 parted [] b = refl
 parted (x ∷ xs) b = by (x == 46) (parted xs b)

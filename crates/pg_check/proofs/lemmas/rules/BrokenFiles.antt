@@ -6,10 +6,10 @@ use Rattle.pg_check.specs.declared.declare.FileFault.{FileFault}
 use Rattle.pg_check.specs.declared.error.CheckError.{CheckError}
 use Rattle.pg_check.specs.declared.rules.fault.Fault.{Fault}
 use Rattle.pg_check.specs.rules.BrokenRules.{BreaksFile, IsFirstBroken, left_behind}
-use Rattle.pg_check.specs.rules.FirstBroken.{files_fault, first_broken, in_file}
+use Rattle.pg_check.specs.inner.FirstBroken.{files_fault, first_broken, in_file}
 use Rattle.pg_check.specs.Errors.{error_of}
-use Rattle.pg_check.specs.rules.Faults.{order}
-use Rattle.pg_check.specs.rules.Files as files
+use Rattle.pg_check.specs.inner.Faults.{order}
+use Rattle.pg_check.specs.inner.FileFaults as files
 use Rattle.pg_check.specs.rules.KeepsRules.{KeepsRules, source_messages}
 use Rattle.pg_check.specs.parts.MadeParts.{Source}
 use Rattle.pg_check.specs.rules.Outline.{file_messages}

@@ -3,14 +3,14 @@ use Rattle.std.proofs.Common.{◌≡◌, ◌∙◌, ℕ, suc, arith, ◌+◌, �
 use Rattle.pg_check.specs.declared.declare.FileFault.{FileFault}
 use Rattle.pg_check.specs.declared.rules.fault.Fault.{Fault}
 use Rattle.pg_check.specs.declared.parts.made_parts.Source as code
-use Rattle.pg_check.specs.rules.FirstBroken.{files_fault, in_file}
-use Rattle.pg_check.specs.rules.Files.{file_fault}
+use Rattle.pg_check.specs.inner.FirstBroken.{files_fault, in_file}
+use Rattle.pg_check.specs.inner.FileFaults.{file_fault}
 use Rattle.pg_check.specs.parts.MadeParts.{Source}
 use Rattle.pg_check.specs.rules.Outline.{file_messages}
-use Rattle.pg_check.specs.parts.Sources.{source}
+use Rattle.pg_check.specs.inner.Sources.{source}
 use Rattle.pg_check.proofs.lemmas.rules.FirstLaws.{item_and_rest}
 
--- the fault of the next file, and those behind it
+-- the fault of the next file, and those after it
 step : (left place : ℕ) (files : List code.Source) (i : ℕ) (x : code.Source) (f : Option Fault) (whole : Option FileFault) → i < length files → x ≡ get_or files i x
     → f ≡ file_fault (source x).targets left (source x).tree → files_fault left place (map source (drop i files)) ≡ whole
     → in_file place f (files_fault (left - length (file_messages (source x).tree)) (place + 1) (map source (drop (i + 1) files))) ≡ whole

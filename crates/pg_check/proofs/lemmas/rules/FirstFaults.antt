@@ -6,9 +6,9 @@ use Rattle.std.proofs.lemmas.Bool.Decides.{nat_tests}
 use Rattle.std.proofs.lemmas.List.{append-nil, append_assoc}
 use Rattle.pg_check.specs.declared.rules.fault.Fault.{Fault}
 use Rattle.pg_check.specs.declared.rules.fault.Rule.{Rule}
-use Rattle.pg_check.specs.rules.Faults.{broken, broken_at, chosen, earlier, earliest, first_fault, is_before, option_fault, or_else, order, declared_fault}
+use Rattle.pg_check.specs.inner.Faults.{broken, broken_at, chosen, earlier, earliest, first_fault, is_before, option_fault, or_else, order, declared_fault}
 use Rattle.pg_check.specs.rules.Firsts.{IsBehind, IsFirst, IsFirstAgain, IsNotAfter, IsOneOf}
-use Rattle.pg_check.specs.rules.Numbers.{first_again, first_such}
+use Rattle.pg_check.specs.inner.NumberFaults.{first_again, first_such}
 use Rattle.pg_check.proofs.lemmas.rules.FirstLaws.{new_item, old_item}
 use Rattle.pg_check.proofs.lemmas.rules.NoneLaws.{and_both, and_left, and_right, none_again}
 

@@ -2,7 +2,7 @@
 use Rattle.std.proofs.Common.{◌≡◌, ℕ, ◌+◌, ◌<◌, Bool, true, false, not, List, [], ◌∷◌, ◌++◌, length, map, take, drop, get_or, Option, Some, add-one, sym, ◌∙◌, ap, refl}
 use Rattle.std.specs.List.{list_any}
 use Rattle.std.proofs.Math.Seq.{drop-cons, take-suc}
-use Rattle.pg_check.specs.rules.Numbers.{first_again, first_such}
+use Rattle.pg_check.specs.inner.NumberFaults.{first_again, first_such}
 
 pub item_and_rest : {A : Type 0} (xs : List A) (i : ℕ) (d : A) → i < length xs → drop i xs ≡ get_or xs i d ∷ drop (i + 1) xs
 item_and_rest xs i d h = rw (add-one, drop-cons xs i d h) refl

@@ -8,9 +8,9 @@ use Rattle.std.proofs.lemmas.List.Folds.{list_all-append}
 use Rattle.std.proofs.lemmas.List.Sorted.{IsPermutation-sym}
 use Rattle.pg_check.specs.declared.rules.numbers.Numbers.{Numbers}
 use Rattle.pg_check.specs.rules.KeepsRules.{are_apart, rises}
-use Rattle.pg_check.specs.rules.Numbers.{first_again}
+use Rattle.pg_check.specs.inner.NumberFaults.{first_again}
 use Rattle.pg_check.specs.rules.ReservedItems.{overlap}
-use Rattle.pg_check.specs.rules.Rows.{follow, is_behind}
+use Rattle.pg_check.specs.inner.Rows.{follow, is_behind}
 use Rattle.pg_check.proofs.lemmas.rules.FirstLaws.{again_found, again_more, take_item}
 use Rattle.pg_check.proofs.lemmas.parts.Moved.{IsSymmetric, all_moved, all_weaker, pairs_moved}
 use Rattle.pg_check.proofs.lemmas.rules.NoneLaws.{and_both, and_left, and_right}
@@ -162,7 +162,7 @@ is_any true true h k = refl
 is_any true false h k = absurd (false≢true (sym h))
 is_any false b h k = absurd (false≢true k)
 
--- up to a place before which all are apart none was the same
+-- up to an item before which all are apart none was the same
 goes_on : {X : Type 0} (same : X → X → Bool) (place : X → ℕ) (xs : List X) (k : ℕ) (d : X) → k ≤ length xs → are_apart same (take k xs) ≡ true → first_again same place (take k xs) (drop k xs) ≡ first_again same place [] xs
 goes_on same place xs zero d h apart = refl
 goes_on same place xs (suc k) d h apart =

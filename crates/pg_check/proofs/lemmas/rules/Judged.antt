@@ -4,10 +4,10 @@ use Rattle.std.proofs.Common.{◌≡◌, ◌⊎◌, ◌↔◌, inl, inr, ℕ, Bo
 use Rattle.std.specs.List.{list_all, AllByRecursion}
 use Rattle.pg_check.specs.declared.rules.fault.Fault.{Fault}
 use Rattle.pg_check.specs.declared.rules.fault.Rule.{Rule}
-use Rattle.pg_check.specs.rules.Faults.{broken, broken_at, declared_fault, earlier, earliest, first_fault, option_fault, order}
+use Rattle.pg_check.specs.inner.Faults.{broken, broken_at, declared_fault, earlier, earliest, first_fault, option_fault, order}
 use Rattle.pg_check.specs.rules.Firsts.{IsBehind, IsFirst, IsFirstAgain, IsOneOf}
 use Rattle.pg_check.specs.rules.KeepsRules.{are_apart}
-use Rattle.pg_check.specs.rules.Numbers.{first_again, first_such}
+use Rattle.pg_check.specs.inner.NumberFaults.{first_again, first_such}
 use Rattle.pg_check.proofs.lemmas.rules.FirstFaults.{IsFound, Meets, again_reported, again_there, earlier_meets, earliest_found, earliest_meets, first_found, first_meets, found_left, found_right, none_meets, such_reported, such_there}
 use Rattle.pg_check.proofs.lemmas.rules.NoneLaws.{all_iff, earlier_none, earliest_none, first_fault_none, none_again, such_kept, tests_iff}
 

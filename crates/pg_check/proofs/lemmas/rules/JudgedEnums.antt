@@ -11,12 +11,16 @@ use Rattle.pg_check.specs.declared.rules.numbers.Keyed.{Keyed}
 use Rattle.pg_check.specs.Errors.{error_of}
 use Rattle.pg_check.specs.rules.BrokenRules.{BreaksEnum, BreaksService, BreaksValues, IsFirstBadOption, alias, bad_enum_option, bad_method_option, bad_service_option, bad_value_item, bad_value_number, bad_value_option, empty_enum, first_not_zero, in_values, reserved_value_name, reserved_value_number}
 use Rattle.pg_check.specs.rules.Enums as enums
-use Rattle.pg_check.specs.rules.Faults.{broken, broken_at, option_fault, order}
+use Rattle.pg_check.specs.inner.EnumFaults as enum_faults
+use Rattle.pg_check.specs.inner.Faults.{broken, broken_at, option_fault, order}
 use Rattle.pg_check.specs.rules.Files as files
+use Rattle.pg_check.specs.inner.FileFaults as file_faults
 use Rattle.pg_check.specs.rules.Firsts.{IsBehind, IsFirst, IsFirstAgain}
 use Rattle.pg_check.specs.rules.KeepsRules.{EnumKeeps, OptionsKeep, ServiceKeeps, ValuesKeep, are_apart, begins_with_zero, has_some, has_value_number, is_free, is_free_name, method_options, value_options}
 use Rattle.pg_check.specs.rules.Names as names
+use Rattle.pg_check.specs.inner.NameFaults as name_faults
 use Rattle.pg_check.specs.rules.Numbers as numbers
+use Rattle.pg_check.specs.inner.NumberFaults as number_faults
 use Rattle.pg_check.proofs.lemmas.rules.FirstFaults.{again_reported, again_there}
 use Rattle.pg_check.proofs.lemmas.rules.Judged.{Judged, at_one, both, each, kept_as, nothing, such, broken_as}
 use Rattle.pg_check.proofs.lemmas.rules.JudgedItems.{ItemsFault, OptionFault, OptionFaultOf, items_judged, items_tell, items_broken, options_judged, own_options_judged}
@@ -30,18 +34,18 @@ use Rattle.pg_syntax.specs.declared.tree.ServicePart.TheVariants as service_part
 abbrev pub EmptyFault : ℕ → List Keyed → Fault → Type 0
 EmptyFault at keys f = (n : ℕ) × ((has_some keys ≡ false) × (n ≡ at)) × (f ≡ broken_at rules.EnumEmpty n)
 
-empty_judged : (at : ℕ) (keys : List Keyed) → Judged (broken rules.EnumEmpty (enums.empty_at at keys)) (has_some keys ≡ true) (EmptyFault at keys)
-empty_judged at keys = at_one rules.EnumEmpty (enums.empty_at at keys) (iff keys) (is keys) (there keys)
+empty_judged : (at : ℕ) (keys : List Keyed) → Judged (broken rules.EnumEmpty (enum_faults.empty_at at keys)) (has_some keys ≡ true) (EmptyFault at keys)
+empty_judged at keys = at_one rules.EnumEmpty (enum_faults.empty_at at keys) (iff keys) (is keys) (there keys)
   where
-    iff : (ks : List Keyed) → (enums.empty_at at ks ≡ None) ↔ (has_some ks ≡ true)
+    iff : (ks : List Keyed) → (enum_faults.empty_at at ks ≡ None) ↔ (has_some ks ≡ true)
     iff [] = ((λ h. absurd (cc (h))), λ h. absurd (false≢true h))
     iff (k ∷ ks) = ((λ h. refl), λ h. refl)
 
-    is : (ks : List Keyed) (n : ℕ) → enums.empty_at at ks ≡ Some n → (has_some ks ≡ false) × (n ≡ at)
+    is : (ks : List Keyed) (n : ℕ) → enum_faults.empty_at at ks ≡ Some n → (has_some ks ≡ false) × (n ≡ at)
     is [] n h = let same : at ≡ n = cc (h) in (refl, sym same)
     is (k ∷ ks) n h = absurd (cc (h))
 
-    there : (ks : List Keyed) (n : ℕ) → (has_some ks ≡ false) × (n ≡ at) → enums.empty_at at ks ≡ Some n
+    there : (ks : List Keyed) (n : ℕ) → (has_some ks ≡ false) × (n ≡ at) → enum_faults.empty_at at ks ≡ Some n
     there [] n h = ap Some (sym h.1)
     there (k ∷ ks) n h = absurd (false≢true (sym h.0))
 
@@ -50,10 +54,10 @@ empty_judged at keys = at_one rules.EnumEmpty (enums.empty_at at keys) (iff keys
 abbrev pub BeginsAt : List Keyed → ℕ → Type 0
 BeginsAt keys n = (k : Keyed) × (more : List Keyed) × (keys ≡ k ∷ more) × (nat_eq k.key (numbers.rank false 0) ≡ false) × (n ≡ k.at)
 
-zero_judged : (keys : List Keyed) → Judged (broken rules.EnumFirstNotZero (enums.first_not_zero keys)) (begins_with_zero keys ≡ true) (λ f. (n : ℕ) × BeginsAt keys n × (f ≡ broken_at rules.EnumFirstNotZero n))
-zero_judged keys = at_one rules.EnumFirstNotZero (enums.first_not_zero keys) (iff keys) (is keys) (there keys)
+zero_judged : (keys : List Keyed) → Judged (broken rules.EnumFirstNotZero (enum_faults.first_not_zero keys)) (begins_with_zero keys ≡ true) (λ f. (n : ℕ) × BeginsAt keys n × (f ≡ broken_at rules.EnumFirstNotZero n))
+zero_judged keys = at_one rules.EnumFirstNotZero (enum_faults.first_not_zero keys) (iff keys) (is keys) (there keys)
   where
-    iff : (ks : List Keyed) → (enums.first_not_zero ks ≡ None) ↔ (begins_with_zero ks ≡ true)
+    iff : (ks : List Keyed) → (enum_faults.first_not_zero ks ≡ None) ↔ (begins_with_zero ks ≡ true)
     iff [] = ((λ h. refl), λ h. refl)
     iff (k ∷ ks) = by (nat_eq k.key (numbers.rank false 0))
       where
@@ -61,7 +65,7 @@ zero_judged keys = at_one rules.EnumFirstNotZero (enums.first_not_zero keys) (if
         by true = ((λ h. refl), λ h. refl)
         by false = ((λ h. absurd (cc (h))), λ h. absurd (false≢true h))
 
-    is : (ks : List Keyed) (n : ℕ) → enums.first_not_zero ks ≡ Some n → BeginsAt ks n
+    is : (ks : List Keyed) (n : ℕ) → enum_faults.first_not_zero ks ≡ Some n → BeginsAt ks n
     is [] n h = absurd (cc (h))
     is (k ∷ ks) n h = by (nat_eq k.key (numbers.rank false 0)) refl h
       where
@@ -69,8 +73,8 @@ zero_judged keys = at_one rules.EnumFirstNotZero (enums.first_not_zero keys) (if
         by true e g = absurd (cc (g))
         by false e g = let same : k.at ≡ n = cc (g) in (k, ks, refl, e, sym same)
 
-    there : (ks : List Keyed) (n : ℕ) → BeginsAt ks n → enums.first_not_zero ks ≡ Some n
-    there ks n (k, more, same, fails, at) = ap enums.first_not_zero same ∙ (ap (λ b. cond b None (Some k.at)) fails ∙ ap Some (sym at))
+    there : (ks : List Keyed) (n : ℕ) → BeginsAt ks n → enum_faults.first_not_zero ks ≡ Some n
+    there ks n (k, more, same, fails, at) = ap enum_faults.first_not_zero same ∙ (ap (λ b. cond b None (Some k.at)) fails ∙ ap Some (sym at))
 
 -- ---- a number twice, without `allow_alias`
 
@@ -78,20 +82,20 @@ abbrev pub AliasAt : Bool → List Keyed → ℕ → Type 0
 AliasAt aliases keys n = (k : Keyed) × (aliases ≡ false) × IsFirstAgain numbers.is_same keys k × (n ≡ k.at)
 
 alias_judged : (aliases : Bool) (keys : List Keyed)
-    → Judged (broken rules.EnumAlias (enums.first_alias aliases keys)) ((aliases || are_apart numbers.is_same keys) ≡ true) (λ f. (n : ℕ) × AliasAt aliases keys n × (f ≡ broken_at rules.EnumAlias n))
-alias_judged aliases keys = at_one rules.EnumAlias (enums.first_alias aliases keys) (iff aliases) (is aliases) (there aliases)
+    → Judged (broken rules.EnumAlias (enum_faults.first_alias aliases keys)) ((aliases || are_apart numbers.is_same keys) ≡ true) (λ f. (n : ℕ) × AliasAt aliases keys n × (f ≡ broken_at rules.EnumAlias n))
+alias_judged aliases keys = at_one rules.EnumAlias (enum_faults.first_alias aliases keys) (iff aliases) (is aliases) (there aliases)
   where
-    iff : (b : Bool) → (enums.first_alias b keys ≡ None) ↔ ((b || are_apart numbers.is_same keys) ≡ true)
+    iff : (b : Bool) → (enum_faults.first_alias b keys ≡ None) ↔ ((b || are_apart numbers.is_same keys) ≡ true)
     iff true = ((λ h. refl), λ h. refl)
-    iff false = none_again numbers.is_same numbers.at keys
+    iff false = none_again numbers.is_same number_faults.at keys
 
-    is : (b : Bool) (n : ℕ) → enums.first_alias b keys ≡ Some n → AliasAt b keys n
+    is : (b : Bool) (n : ℕ) → enum_faults.first_alias b keys ≡ Some n → AliasAt b keys n
     is true n h = absurd (cc (h))
-    is false n h = again_reported (AliasAt false keys) numbers.is_same numbers.at keys (λ k first. (k, refl, first, refl)) n h
+    is false n h = again_reported (AliasAt false keys) numbers.is_same number_faults.at keys (λ k first. (k, refl, first, refl)) n h
 
-    there : (b : Bool) (n : ℕ) → AliasAt b keys n → enums.first_alias b keys ≡ Some n
+    there : (b : Bool) (n : ℕ) → AliasAt b keys n → enum_faults.first_alias b keys ≡ Some n
     there b n (k, denied, first, at) =
-        ap (λ c. enums.first_alias c keys) denied ∙ (again_there numbers.is_same numbers.at keys k first ∙ ap Some (sym at))
+        ap (λ c. enum_faults.first_alias c keys) denied ∙ (again_there numbers.is_same number_faults.at keys k first ∙ ap Some (sym at))
 
 -- ---- values and reserved items
 
@@ -105,12 +109,12 @@ ValuesFault at d f =
     ⊎ (((n : ℕ) × BeginsAt d.keys n × (f ≡ broken_at rules.EnumFirstNotZero n))
     ⊎ ((n : ℕ) × AliasAt d.has_aliases d.keys n × (f ≡ broken_at rules.EnumAlias n)))))))
 
-pub values_judged : (at : ℕ) (d : enums.DeclaredEnum) → Judged (enums.values_fault at d) (ValuesKeep d) (ValuesFault at d)
+pub values_judged : (at : ℕ) (d : enums.DeclaredEnum) → Judged (enum_faults.values_fault at d) (ValuesKeep d) (ValuesFault at d)
 values_judged at d =
     kept_as (both _ _ (empty_judged at d.keys)
-    (both _ _ (such rules.BadNumber (λ (k : Keyed). not (has_value_number k)) has_value_number numbers.at (λ k. not_not (has_value_number k)) d.keys)
-    (both _ _ (such rules.ReservedNumber (λ (k : Keyed). numbers.is_reserved d.items k.key) (is_free d.items) numbers.at (λ k. refl) d.keys)
-    (both _ _ (such rules.ReservedName (λ (n : names.Named). is_among d.reserved_names n.text) (is_free_name d.reserved_names) names.at (λ n. refl) d.names)
+    (both _ _ (such rules.BadNumber (λ (k : Keyed). not (has_value_number k)) has_value_number number_faults.at (λ k. not_not (has_value_number k)) d.keys)
+    (both _ _ (such rules.ReservedNumber (λ (k : Keyed). numbers.is_reserved d.items k.key) (is_free d.items) number_faults.at (λ k. refl) d.keys)
+    (both _ _ (such rules.ReservedName (λ (n : names.Named). is_among d.reserved_names n.text) (is_free_name d.reserved_names) name_faults.at (λ n. refl) d.names)
     (both _ _ (items_judged numbers.lowest_value numbers.highest_value d.items)
     (both _ _ (zero_judged d.keys) (alias_judged d.has_aliases d.keys))))))) (
       (λ h. record {
@@ -158,7 +162,7 @@ values_broken P at d place k e c dd a (alias x denied first) = k (broken_at rule
 abbrev pub ValueFault : enums.Part → Fault → Type 0
 ValueFault p f = (v : tree.EnumValue.EnumValue) × (p ≡ enum_parts.Value v) × OptionFaultOf v.name.span.from (value_options p) f
 
-value_judged : (p : enums.Part) → Judged (enums.part_option p) (OptionsKeep (value_options p)) (ValueFault p)
+value_judged : (p : enums.Part) → Judged (enum_faults.part_option p) (OptionsKeep (value_options p)) (ValueFault p)
 value_judged (enum_parts.Empty span) = nothing (record { right = refl; once = refl }) (λ f h. let is = h.1 in cc (is))
 value_judged (enum_parts.Option o) = nothing (record { right = refl; once = refl }) (λ f h. let is = h.1 in cc (is))
 value_judged (enum_parts.Reserved r) = nothing (record { right = refl; once = refl }) (λ f h. let is = h.1 in cc (is))
@@ -174,10 +178,10 @@ EnumFault e f =
     ⊎ (OptionFault (enums.lines e.parts.items) f
     ⊎ ((p : enums.Part) × IsBehind (λ p. OptionsKeep (value_options p)) e.parts.items p × ValueFault p f))
 
-pub enum_judged : (e : tree.Enum.Enum) → Judged (enums.enum_fault e) (EnumKeeps e.parts.items) (EnumFault e)
+pub enum_judged : (e : tree.Enum.Enum) → Judged (enum_faults.enum_fault e) (EnumKeeps e.parts.items) (EnumFault e)
 enum_judged e =
     kept_as (both _ _ (values_judged e.name.span.from (enums.declared e.parts.items))
-    (both _ _ (options_judged (enums.lines e.parts.items)) (each enums.part_option (λ p. OptionsKeep (value_options p)) ValueFault value_judged e.parts.items)))
+    (both _ _ (options_judged (enums.lines e.parts.items)) (each enum_faults.part_option (λ p. OptionsKeep (value_options p)) ValueFault value_judged e.parts.items)))
     ((λ h. record { values = h.0; options = h.1.0; value_options = h.1.1 }), λ k. (k.values, (k.options, k.value_options)))
 
 abbrev pub TellsEnum : tree.Enum.Enum → Place → Fault → Type 0
@@ -202,7 +206,7 @@ enum_broken P e place k error c d a (bad_value_option v at behind first) =
 abbrev pub MethodFault : tree.ServicePart.ServicePart → Fault → Type 0
 MethodFault p f = (r : tree.Rpc.Rpc) × (p ≡ service_parts.Rpc r) × OptionFault (method_options p) f
 
-method_judged : (p : tree.ServicePart.ServicePart) → Judged (files.part_fault p) (OptionsKeep (method_options p)) (MethodFault p)
+method_judged : (p : tree.ServicePart.ServicePart) → Judged (file_faults.part_fault p) (OptionsKeep (method_options p)) (MethodFault p)
 method_judged (service_parts.Empty span) = nothing (record { right = refl; once = refl }) (λ f h. let is = h.1 in cc (is))
 method_judged (service_parts.Option o) = nothing (record { right = refl; once = refl }) (λ f h. let is = h.1 in cc (is))
 method_judged (service_parts.Rpc r) = broken_as (options_judged (method_options (service_parts.Rpc r))) (λ f h. (r, refl, h)) (λ f h. h.2)
@@ -212,9 +216,9 @@ ServiceFault body f =
     OptionFault (files.service_lines body) f
     ⊎ ((p : tree.ServicePart.ServicePart) × IsBehind (λ p. OptionsKeep (method_options p)) body p × MethodFault p f)
 
-pub service_judged : (s : tree.Service.Service) → Judged (files.service_fault s) (ServiceKeeps s.parts.items) (ServiceFault s.parts.items)
+pub service_judged : (s : tree.Service.Service) → Judged (file_faults.service_fault s) (ServiceKeeps s.parts.items) (ServiceFault s.parts.items)
 service_judged s =
-    kept_as (both _ _ (options_judged (files.service_lines s.parts.items)) (each files.part_fault (λ p. OptionsKeep (method_options p)) MethodFault method_judged s.parts.items))
+    kept_as (both _ _ (options_judged (files.service_lines s.parts.items)) (each file_faults.part_fault (λ p. OptionsKeep (method_options p)) MethodFault method_judged s.parts.items))
     ((λ h. record { options = h.0; method_options = h.1 }), λ k. (k.options, k.method_options))
 
 abbrev pub TellsService : List tree.ServicePart.ServicePart → Place → Fault → Type 0

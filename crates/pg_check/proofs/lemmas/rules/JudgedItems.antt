@@ -9,13 +9,16 @@ use Rattle.pg_check.specs.declared.rules.fault.Rule.TheVariants as rules
 use Rattle.pg_check.specs.declared.rules.numbers.Numbers.{Numbers}
 use Rattle.pg_check.specs.Errors.{error_of}
 use Rattle.pg_check.specs.rules.BrokenRules.{BreaksItems, IsBadOption, IsFirstBadOption, again as given_again, beyond, falling, overlapping, wrong}
-use Rattle.pg_check.specs.rules.Faults.{broken, broken_at, declared_fault, option_fault, order}
+use Rattle.pg_check.specs.inner.Faults.{broken, broken_at, declared_fault, option_fault, order}
 use Rattle.pg_check.specs.rules.Firsts.{IsFirst, IsFirstAgain}
 use Rattle.pg_check.specs.rules.KeepsRules.{ItemsKeep, OptionsKeep, is_right, lies_within, rises}
 use Rattle.pg_check.specs.rules.Names as names
-use Rattle.pg_check.specs.rules.Numbers as numbers
-use Rattle.pg_check.specs.rules.Options.{OptionAt, first_bad, first_wrong, name_of}
+use Rattle.pg_check.specs.inner.NameFaults as name_faults
+use Rattle.pg_check.specs.inner.NumberFaults as numbers
+use Rattle.pg_check.specs.rules.Options.{OptionAt, name_of}
+use Rattle.pg_check.specs.inner.OptionFaults.{first_bad, first_wrong}
 use Rattle.pg_check.specs.rules.ReservedItems as reserved
+use Rattle.pg_check.specs.inner.ItemFaults as item_faults
 use Rattle.pg_check.proofs.lemmas.rules.FirstFaults.{again_reported, again_there, such_reported, such_there}
 use Rattle.pg_check.proofs.lemmas.rules.Judged.{Judged, again, at_one, at_option, both, kept_as, such}
 use Rattle.pg_check.proofs.lemmas.rules.NoneLaws.{least_none, none_again, not_not, such_kept}
@@ -24,18 +27,18 @@ use Rattle.pg_check.proofs.lemmas.rules.NoneLaws.{least_none, none_again, not_no
 
 options_keep : (options : List OptionAt) → (first_bad options ≡ None) ↔ OptionsKeep options
 options_keep options =
-    let two = least_none (first_wrong options) (names.first_twice (map name_of options)) in
+    let two = least_none (first_wrong options) (name_faults.first_twice (map name_of options)) in
     let right = such_kept (λ (o : OptionAt). not o.is_right) is_right (λ (o : OptionAt). o.at) (λ o. not_not o.is_right) options in
-    let once = none_again names.is_same names.at (map name_of options) in
+    let once = none_again names.is_same name_faults.at (map name_of options) in
     ((λ h. let e = two.0 h in record { right = right.0 e.0; once = once.0 e.1 }), λ k. two.1 (right.1 k.right, once.1 k.once))
 
-option_reported : (options : List OptionAt) (n : ℕ) → (first_wrong options ≡ Some n) ⊎ (names.first_twice (map name_of options) ≡ Some n) → IsBadOption options n
+option_reported : (options : List OptionAt) (n : ℕ) → (first_wrong options ≡ Some n) ⊎ (name_faults.first_twice (map name_of options) ≡ Some n) → IsBadOption options n
 option_reported options n (inl h) = such_reported (IsBadOption options) (λ (o : OptionAt). not o.is_right) is_right (λ (o : OptionAt). o.at) (λ o. not_not o.is_right) options (λ o first. wrong o first) n h
-option_reported options n (inr h) = again_reported (IsBadOption options) names.is_same names.at (map name_of options) (λ o first. given_again o first) n h
+option_reported options n (inr h) = again_reported (IsBadOption options) names.is_same name_faults.at (map name_of options) (λ o first. given_again o first) n h
 
-option_there : (options : List OptionAt) (n : ℕ) → IsBadOption options n → (first_wrong options ≡ Some n) ⊎ (names.first_twice (map name_of options) ≡ Some n)
+option_there : (options : List OptionAt) (n : ℕ) → IsBadOption options n → (first_wrong options ≡ Some n) ⊎ (name_faults.first_twice (map name_of options) ≡ Some n)
 option_there options n (wrong o first) = inl (such_there (λ (o : OptionAt). not o.is_right) is_right (λ (o : OptionAt). o.at) (λ o. not_not o.is_right) options o first)
-option_there options n (given_again o first) = inr (again_there names.is_same names.at (map name_of options) o first)
+option_there options n (given_again o first) = inr (again_there names.is_same name_faults.at (map name_of options) o first)
 
 least_is : (w t : Option ℕ) (at : ℕ) → numbers.least w t ≡ Some at → (w ≡ Some at) ⊎ (t ≡ Some at)
 least_is None t at h = inr h
@@ -63,8 +66,8 @@ least_below (Some a) (Some b) at n h k = below k (cond (nat_lt b a) b a) refl
 
 bad_reported : (options : List OptionAt) (at : ℕ) → first_bad options ≡ Some at → IsFirstBadOption options at
 bad_reported options at h = record {
-  is = option_reported options at (least_is (first_wrong options) (names.first_twice (map name_of options)) at h);
-  is_first = λ n bad. least_below (first_wrong options) (names.first_twice (map name_of options)) at n h (option_there options n bad);
+  is = option_reported options at (least_is (first_wrong options) (name_faults.first_twice (map name_of options)) at h);
+  is_first = λ n bad. least_below (first_wrong options) (name_faults.first_twice (map name_of options)) at n h (option_there options n bad);
 }
 
 none_bad : (w t : Option ℕ) (n : ℕ) → numbers.least w t ≡ None → (w ≡ Some n) ⊎ (t ≡ Some n) → ⊥
@@ -75,7 +78,7 @@ bad_there : (options : List OptionAt) (at : ℕ) → IsFirstBadOption options at
 bad_there options at h = by (first_bad options) refl
   where
     by : (o : Option ℕ) → first_bad options ≡ o → first_bad options ≡ Some at
-    by None e = absurd (none_bad (first_wrong options) (names.first_twice (map name_of options)) at e (option_there options at h.is))
+    by None e = absurd (none_bad (first_wrong options) (name_faults.first_twice (map name_of options)) at e (option_there options at h.is))
     by (Some n) e =
         let first = bad_reported options n e in
         let above : n ≤ at = first.is_first at h.is in
@@ -104,11 +107,11 @@ ItemsFault lowest highest items f =
     ⊎ (((r : Numbers) × IsFirst rises items r × (f ≡ broken_at rules.RangeOverlap r.at))
     ⊎ ((r : Numbers) × IsFirstAgain reserved.overlap items r × (f ≡ broken_at rules.RangeOverlap r.at)))
 
-pub items_judged : (lowest highest : ℕ) (items : List Numbers) → Judged (reserved.items_fault lowest highest items) (ItemsKeep lowest highest items) (ItemsFault lowest highest items)
+pub items_judged : (lowest highest : ℕ) (items : List Numbers) → Judged (item_faults.items_fault lowest highest items) (ItemsKeep lowest highest items) (ItemsFault lowest highest items)
 items_judged lowest highest items =
-    kept_as (both _ _ (such rules.BadNumber (λ (r : Numbers). not (lies_within lowest highest r)) (lies_within lowest highest) reserved.at (λ r. not_not (lies_within lowest highest r)) items)
-    (both _ _ (such rules.RangeOverlap (λ (r : Numbers). nat_lt r.last r.first) rises reserved.at (λ r. refl) items)
-    (again rules.RangeOverlap reserved.overlap reserved.at items)))
+    kept_as (both _ _ (such rules.BadNumber (λ (r : Numbers). not (lies_within lowest highest r)) (lies_within lowest highest) item_faults.at (λ r. not_not (lies_within lowest highest r)) items)
+    (both _ _ (such rules.RangeOverlap (λ (r : Numbers). nat_lt r.last r.first) rises item_faults.at (λ r. refl) items)
+    (again rules.RangeOverlap reserved.overlap item_faults.at items)))
     ((λ h. record { within = h.0; rising = h.1.0; apart = h.1.1 }), λ k. (k.within, (k.rising, k.apart)))
 
 -- what is reported, in the words of what is broken

@@ -12,13 +12,16 @@ use Rattle.pg_check.specs.declared.rules.numbers.Keyed.{Keyed}
 use Rattle.pg_check.specs.declared.rules.numbers.Numbers.{Numbers}
 use Rattle.pg_check.specs.Errors.{error_of}
 use Rattle.pg_check.specs.rules.BrokenRules.{BreaksFields, BreaksMessage, bad_field_item, bad_field_number, bad_field_option, bad_map_key, bad_message_option, bad_oneof_member, duplicate_number, empty_oneof, in_fields, json_name_clash, oneof_option, packed_not_allowed, reserved_field_name, reserved_field_number}
-use Rattle.pg_check.specs.rules.Faults.{broken, broken_at, declared_fault, first_fault, option_fault, or_else, order}
+use Rattle.pg_check.specs.inner.Faults.{broken, broken_at, declared_fault, first_fault, option_fault, or_else, order}
 use Rattle.pg_check.specs.rules.Firsts.{IsBehind, IsFirst, IsFirstAgain}
 use Rattle.pg_check.specs.rules.KeepsRules.{FieldsKeep, MessageKeeps, OptionsKeep, has_field_number, has_key, is_free, is_free_name, is_no_option, is_packed_rightly, may_be_member, member_options, oneof_keeps}
 use Rattle.pg_check.specs.rules.Members.{DeclaredField, members, place_of, settings, settings_of}
 use Rattle.pg_check.specs.rules.Messages as messages
+use Rattle.pg_check.specs.inner.MessageFaults as message_faults
 use Rattle.pg_check.specs.rules.Names as names
+use Rattle.pg_check.specs.inner.NameFaults as name_faults
 use Rattle.pg_check.specs.rules.Numbers as numbers
+use Rattle.pg_check.specs.inner.NumberFaults as number_faults
 use Rattle.pg_check.proofs.lemmas.rules.FirstFaults.{IsFound}
 use Rattle.pg_check.proofs.lemmas.rules.Judged.{Judged, again, both, each, each_test, kept_as, nothing, such, such_at_option, broken_as}
 use Rattle.pg_check.proofs.lemmas.rules.JudgedItems.{ItemsFault, OptionFault, OptionFaultOf, items_judged, items_tell, items_broken, options_judged, own_options_judged}
@@ -34,7 +37,7 @@ PackedFault targets m f =
     (messages.may_be_packed targets m ≡ false)
     × ((s : tree.Setting.Setting) × IsFirst (λ s. not (messages.states_packed s)) (settings (settings_of m)) s × (f ≡ option_fault rules.PackedNotAllowed (place_of m) s.span.from))
 
-packed_judged : (targets : ℕ → Option Target) (m : DeclaredField) → Judged (messages.member_packed targets m) (is_packed_rightly targets m ≡ true) (PackedFault targets m)
+packed_judged : (targets : ℕ → Option Target) (m : DeclaredField) → Judged (message_faults.member_packed targets m) (is_packed_rightly targets m ≡ true) (PackedFault targets m)
 packed_judged targets m = by (messages.may_be_packed targets m)
   where
     list : List tree.Setting.Setting
@@ -43,11 +46,11 @@ packed_judged targets m = by (messages.may_be_packed targets m)
     at : tree.Setting.Setting → ℕ
     at s = s.span.from
 
-    stated : Judged (declared_fault rules.PackedNotAllowed (place_of m) (messages.first_packed list)) (list_all (λ s. not (messages.states_packed s)) list ≡ true)
+    stated : Judged (declared_fault rules.PackedNotAllowed (place_of m) (message_faults.first_packed list)) (list_all (λ s. not (messages.states_packed s)) list ≡ true)
         (λ f. (s : tree.Setting.Setting) × IsFirst (λ s. not (messages.states_packed s)) list s × (f ≡ option_fault rules.PackedNotAllowed (place_of m) s.span.from))
     stated = such_at_option rules.PackedNotAllowed (place_of m) messages.states_packed (λ s. not (messages.states_packed s)) at (λ s. refl) list
 
-    by : (b : Bool) → Judged (cond b None (declared_fault rules.PackedNotAllowed (place_of m) (messages.first_packed list))) ((b || list_all (λ s. not (messages.states_packed s)) list) ≡ true)
+    by : (b : Bool) → Judged (cond b None (declared_fault rules.PackedNotAllowed (place_of m) (message_faults.first_packed list))) ((b || list_all (λ s. not (messages.states_packed s)) list) ≡ true)
         (λ f. (b ≡ false) × ((s : tree.Setting.Setting) × IsFirst (λ s. not (messages.states_packed s)) list s × (f ≡ option_fault rules.PackedNotAllowed (place_of m) s.span.from)))
     by true = nothing refl (λ f h. false≢true (sym h.0))
     by false = broken_as stated (λ f h. (refl, h)) (λ f h. h.1)
@@ -57,7 +60,7 @@ packed_judged targets m = by (messages.may_be_packed targets m)
 abbrev pub LineFault : tree.OneofPart.OneofPart → Fault → Type 0
 LineFault p f = (line : tree.OptionLine.OptionLine) × (p ≡ oneof_parts.Option line) × (f ≡ broken_at rules.BadOption line.span.from)
 
-line_judged : (p : tree.OneofPart.OneofPart) → Judged (messages.oneof_option p) (is_no_option p ≡ true) (LineFault p)
+line_judged : (p : tree.OneofPart.OneofPart) → Judged (message_faults.oneof_option p) (is_no_option p ≡ true) (LineFault p)
 line_judged (oneof_parts.Empty span) = nothing refl (λ f h. let is = h.1 in cc (is))
 line_judged (oneof_parts.Option o) = record {
   none = ((λ h. absurd (cc (h))), λ h. absurd (false≢true h));
@@ -80,14 +83,14 @@ OneofFault o f =
     ⊎ ((messages.has_member o.parts.items ≡ true)
     × ((p : tree.OneofPart.OneofPart) × IsBehind (λ p. is_no_option p ≡ true) o.parts.items p × LineFault p f))
 
-oneof_judged : (o : tree.Oneof.Oneof) → Judged (messages.oneof_fault o) (oneof_keeps o ≡ true) (OneofFault o)
+oneof_judged : (o : tree.Oneof.Oneof) → Judged (message_faults.oneof_fault o) (oneof_keeps o ≡ true) (OneofFault o)
 oneof_judged o = by (messages.has_member o.parts.items)
   where
-    lines : Judged (first_fault messages.oneof_option o.parts.items) (list_all is_no_option o.parts.items ≡ true)
+    lines : Judged (first_fault message_faults.oneof_option o.parts.items) (list_all is_no_option o.parts.items ≡ true)
         (λ f. (p : tree.OneofPart.OneofPart) × IsBehind (λ p. is_no_option p ≡ true) o.parts.items p × LineFault p f)
-    lines = each_test messages.oneof_option is_no_option LineFault line_judged o.parts.items
+    lines = each_test message_faults.oneof_option is_no_option LineFault line_judged o.parts.items
 
-    by : (b : Bool) → Judged (or_else (broken rules.BadOneofMember (cond b None (Some o.name.span.from))) (first_fault messages.oneof_option o.parts.items))
+    by : (b : Bool) → Judged (or_else (broken rules.BadOneofMember (cond b None (Some o.name.span.from))) (first_fault message_faults.oneof_option o.parts.items))
         ((b && list_all is_no_option o.parts.items) ≡ true)
         (λ f. ((b ≡ false) × (f ≡ broken_at rules.BadOneofMember o.name.span.from))
         ⊎ ((b ≡ true) × ((p : tree.OneofPart.OneofPart) × IsBehind (λ p. is_no_option p ≡ true) o.parts.items p × LineFault p f)))
@@ -123,15 +126,15 @@ FieldsFault d f =
     ⊎ (((n : names.Named) × IsFirst (is_free_name d.reserved_names) d.names n × (f ≡ broken_at rules.ReservedName n.at))
     ⊎ ((n : names.Named) × IsFirstAgain names.is_same d.json_names n × (f ≡ broken_at rules.JsonNameClash n.at)))
 
-pub fields_judged : (d : messages.DeclaredMessage) → Judged (messages.fields_fault d) (FieldsKeep d) (FieldsFault d)
+pub fields_judged : (d : messages.DeclaredMessage) → Judged (message_faults.fields_fault d) (FieldsKeep d) (FieldsFault d)
 fields_judged d =
     kept_as (both _ _
-    (both _ _ (such rules.BadNumber (λ (k : Keyed). not (numbers.is_field_number k.key)) has_field_number numbers.at (λ k. not_not (numbers.is_field_number k.key)) d.keys)
-    (both _ _ (again rules.DuplicateNumber numbers.is_same numbers.at d.keys)
-    (both _ _ (such rules.ReservedNumber (λ (k : Keyed). numbers.is_reserved d.items k.key) (is_free d.items) numbers.at (λ k. refl) d.keys)
+    (both _ _ (such rules.BadNumber (λ (k : Keyed). not (numbers.is_field_number k.key)) has_field_number number_faults.at (λ k. not_not (numbers.is_field_number k.key)) d.keys)
+    (both _ _ (again rules.DuplicateNumber numbers.is_same number_faults.at d.keys)
+    (both _ _ (such rules.ReservedNumber (λ (k : Keyed). numbers.is_reserved d.items k.key) (is_free d.items) number_faults.at (λ k. refl) d.keys)
     (items_judged numbers.lowest_field numbers.highest_field d.items))))
-    (both _ _ (such rules.ReservedName (λ (n : names.Named). is_among d.reserved_names n.text) (is_free_name d.reserved_names) names.at (λ n. refl) d.names)
-    (again rules.JsonNameClash names.is_same names.at d.json_names))) (
+    (both _ _ (such rules.ReservedName (λ (n : names.Named). is_among d.reserved_names n.text) (is_free_name d.reserved_names) name_faults.at (λ n. refl) d.names)
+    (again rules.JsonNameClash names.is_same name_faults.at d.json_names))) (
       (λ h. record {
         numbers_fit = h.0.0;
         numbers_once = h.0.1.0;
@@ -178,16 +181,16 @@ PartsFault body f = OptionFault (messages.lines body) f ⊎ ((o : tree.Oneof.One
 abbrev pub MessageFault : (ℕ → Option Target) → List Part → Fault → Type 0
 MessageFault targets body f = FieldsFault (messages.declared body) f ⊎ (ShapesFault targets (members body) f ⊎ PartsFault body f)
 
-pub message_judged : (targets : ℕ → Option Target) (body : List Part) → Judged (messages.body_fault targets body) (MessageKeeps targets body) (MessageFault targets body)
+pub message_judged : (targets : ℕ → Option Target) (body : List Part) → Judged (message_faults.body_fault targets body) (MessageKeeps targets body) (MessageFault targets body)
 message_judged targets body =
     let ms = members body in
     kept_as (both _ _ (fields_judged (messages.declared body))
     (both _ _
     (both _ _ (such rules.BadMapKey messages.has_bad_key has_key place_of (λ m. refl) ms)
     (both _ _ (such rules.BadOneofMember messages.is_bad_member may_be_member place_of (λ m. refl) ms)
-    (both _ _ (each messages.member_option (λ m. OptionsKeep (member_options m)) (λ m. OptionFaultOf (place_of m) (member_options m)) (λ m. own_options_judged (place_of m) (member_options m)) ms)
-    (each_test (messages.member_packed targets) (is_packed_rightly targets) (PackedFault targets) (packed_judged targets) ms))))
-    (both _ _ (options_judged (messages.lines body)) (each_test messages.oneof_fault oneof_keeps OneofFault oneof_judged (messages.oneofs body))))) (
+    (both _ _ (each message_faults.member_option (λ m. OptionsKeep (member_options m)) (λ m. OptionFaultOf (place_of m) (member_options m)) (λ m. own_options_judged (place_of m) (member_options m)) ms)
+    (each_test (message_faults.member_packed targets) (is_packed_rightly targets) (PackedFault targets) (packed_judged targets) ms))))
+    (both _ _ (options_judged (messages.lines body)) (each_test message_faults.oneof_fault oneof_keeps OneofFault oneof_judged (messages.oneofs body))))) (
       (λ h. let (fs, (ss, ps)) = h in record {
         fields = fs;
         map_keys = ss.0;

@@ -3,8 +3,8 @@ use Rattle.std.proofs.Common.{◌≡◌, ◌↔◌, ◌+◌, ◌-◌, ◌≤◌,
 use Rattle.std.specs.List.{AllByRecursion}
 use Rattle.pg_check.specs.declared.declare.FileFault.{FileFault}
 use Rattle.pg_check.specs.declared.rules.fault.Fault.{Fault}
-use Rattle.pg_check.specs.rules.Files as files
-use Rattle.pg_check.specs.rules.FirstBroken.{files_fault, first_broken, in_file}
+use Rattle.pg_check.specs.inner.FileFaults as files
+use Rattle.pg_check.specs.inner.FirstBroken.{files_fault, first_broken, in_file}
 use Rattle.pg_check.specs.rules.KeepsRules.{FileKeeps, KeepsRules, source_messages}
 use Rattle.pg_check.specs.parts.MadeParts.{Source}
 use Rattle.pg_check.specs.rules.Outline.{file_messages}

@@ -5,9 +5,9 @@ use Rattle.std.proofs.lemmas.Bool.{false≢true}
 use Rattle.std.proofs.lemmas.List.Folds.{list_any-append}
 use Rattle.pg_check.specs.declared.rules.fault.Fault.{Fault}
 use Rattle.pg_check.specs.declared.rules.fault.Rule.{Rule}
-use Rattle.pg_check.specs.rules.Faults.{broken, earlier, earliest, first_fault, or_else, declared_fault}
+use Rattle.pg_check.specs.inner.Faults.{broken, earlier, earliest, first_fault, or_else, declared_fault}
 use Rattle.pg_check.specs.rules.KeepsRules.{are_apart}
-use Rattle.pg_check.specs.rules.Numbers.{first_again, first_such, least}
+use Rattle.pg_check.specs.inner.NumberFaults.{first_again, first_such, least}
 
 -- ---- tests that both hold
 

@@ -1,4 +1,4 @@
--- What is named at a place, among places that rise and others.
+-- What is named at an offset, among offsets that rise and others.
 use Rattle.std.proofs.Common.{◌≡◌, ◌∙◌, ◌==◌, ◌<◌, ◌≤◌, ℕ, zero, suc, Bool, true, false, cond, List, [], ◌∷◌, Option, Some, None, length, map, get_or, slice_get, nat_lt, refl, sym, ap, arith}
 use Rattle.std.specs.List.{list_all}
 use Rattle.std.specs.Borrow.{Bor}
@@ -10,7 +10,7 @@ use Rattle.pg_link.specs.uses.Targets.{Resolution, resolved_at, use_at}
 use Rattle.pg_link.specs.uses.Uses.{Use}
 use Rattle.pg_schema.specs.rules.Pairs.{is_rising}
 use Rattle.pg_schema.proofs.lemmas.rules.PairLemmas.{and_left, and_right}
-use Rattle.pg_check.specs.rules.ByPlace.{named_at}
+use Rattle.pg_check.specs.inner.ByPlace.{named_at}
 
 abbrev first_of : {X : Type 0} → X → List X → X
 first_of d [] = d
@@ -20,7 +20,7 @@ abbrev rest_of : {X : Type 0} → List X → List X
 rest_of [] = []
 rest_of (x ∷ xs) = xs
 
--- what stands in front of others
+-- what is in front of others
 by_test : (resolve : Resolution) (u : Use) (others : Option Use) (b : Bool) (t : Target) (old : Option Target) → resolve u ≡ Some t → old ≡ option_and_then resolve others
     → cond b (Some t) old ≡ option_and_then resolve (cond b (Some u) others)
 by_test resolve u others true t old is before = sym is
@@ -34,12 +34,12 @@ resolved_uses resolve (u ∷ us) (t ∷ ts) same at =
     by_test resolve u (use_at us at) (u.at == at) t (named_at (map (λ (v : Use). v.at) us) ts at) (sym (ap (first_of None) same))
     (resolved_uses resolve us ts (ap rest_of same) at)
 
--- the targets of uses, by the places of these
+-- the targets of uses, by the offsets of these
 pub resolved_places : (resolve : Resolution) (us : List Use) (places : List ℕ) (targets : List Target) → map (λ (t : Target). Some t) targets ≡ map resolve us
     → places ≡ map (λ (u : Use). u.at) us → (at : ℕ) → named_at places targets at ≡ resolved_at resolve us at
 resolved_places resolve us places targets same are at = ap (λ (ps : List ℕ). named_at ps targets at) are ∙ resolved_uses resolve us targets same at
 
--- ---- where places rise
+-- ---- where offsets rise
 
 above : (p : ℕ) (ps : List ℕ) (i : ℕ) → list_all (nat_lt p) ps ≡ true → i < length ps → p < get_or ps i 0
 above p [] i h lt = absurd (omega (arith, lt))
@@ -59,7 +59,7 @@ is_same p at e = grind (arith, nat_tests)
 is_other : (p at : ℕ) → (p ≡ at → ⊥) → (p == at) ≡ false
 is_other p at e = grind (arith, nat_tests)
 
--- what stands at one of the places
+-- what is at one of the offsets
 pub found_there : (ps : List ℕ) (ts : List Target) (i at : ℕ) → is_rising ps ≡ true → i < length ps → get_or ps i 0 ≡ at → named_at ps ts at ≡ slice_get ts i
 found_there [] ts i at h lt is = absurd (omega (arith, lt))
 found_there (p ∷ ps) [] i at h lt is = sym (slice_get_past [] i (omega arith))
@@ -69,7 +69,7 @@ found_there (p ∷ ps) (t ∷ ts) (suc i) at h lt is =
     ap (λ (b : Bool). cond b (Some t) (named_at ps ts at)) (is_other p at (λ e. omega (arith, more, is, e)))
     ∙ found_there ps ts i at (and_right (list_all (nat_lt p) ps) (is_rising ps) h) (omega (arith, lt)) is
 
--- none of the places is that one
+-- none of the offsets is that one
 pub found_nowhere : (ps : List ℕ) (ts : List Target) (at : ℕ) → ((i : ℕ) → i < length ps → get_or ps i 0 ≡ at → ⊥) → named_at ps ts at ≡ None
 found_nowhere [] ts at none = refl
 found_nowhere (p ∷ ps) [] at none = refl

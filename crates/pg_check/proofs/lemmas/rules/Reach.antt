@@ -1,4 +1,4 @@
--- Numbers among reserved items that stand by rising first numbers.
+-- Numbers among reserved items that are sorted by first numbers.
 use Rattle.std.proofs.Common.{◌≡◌, ◌∙◌, ℕ, zero, suc, ◌<◌, ◌≤◌, max, Bool, true, false, cond, Some, ◌&&◌, ◌||◌, nat_le, List, [], ◌∷◌, length, take, get_or, sym, ap, refl, arith}
 use Rattle.std.specs.List.{list_any}
 use Rattle.std.specs.List.Sorted.{IsNonDecreasingBy, IsPartitionedBy, IsPartitionPoint, IsPermutation}
@@ -6,8 +6,9 @@ use Rattle.std.proofs.lemmas.Bool.Decides.{nat_tests}
 use Rattle.std.proofs.lemmas.List.Sorted.{list_any-IsPermutation}
 use Rattle.pg_check.specs.declared.rules.numbers.Keyed.{Keyed}
 use Rattle.pg_check.specs.declared.rules.numbers.Numbers.{Numbers}
-use Rattle.pg_check.specs.rules.Numbers.{first_such, first_reserved, is_in, is_reserved, at}
-use Rattle.pg_check.specs.rules.Tops.{tops_from, highest}
+use Rattle.pg_check.specs.inner.NumberFaults.{first_such, first_reserved, at}
+use Rattle.pg_check.specs.rules.Numbers.{is_in, is_reserved}
+use Rattle.pg_check.specs.inner.Tops.{tops_from, highest}
 
 or_max : (n a b : ℕ) → (nat_le n a || nat_le n b) ≡ nat_le n (max a b)
 or_max n a b = grind (arith, nat_tests)

@@ -4,10 +4,10 @@ use Rattle.std.specs.List.{list_all, AllByRecursion}
 use Rattle.std.proofs.lemmas.Bool.{false≢true}
 use Rattle.pg_link.specs.declared.uses.target.Target.{Target}
 use Rattle.pg_check.specs.declared.rules.options.Owner.TheVariants as owners
-use Rattle.pg_check.specs.Examples.{HasOneMessage, IsFieldA, field}
+use Rattle.pg_check.specs.Examples.{HasOneMessage, IsFieldA, WorkedFiles, field}
 use Rattle.pg_check.specs.parts.MadeParts.{Source}
 use Rattle.pg_check.specs.rules.Files.{file_line, file_lines}
-use Rattle.pg_check.specs.rules.KeepsRules.{EnumKeeps, KeepsRules, MessageKeeps, OptionsKeep, StatementKeeps, has_field_number, is_free_name}
+use Rattle.pg_check.specs.rules.KeepsRules.{EnumKeeps, KeepsRules, MessageKeeps, OptionsKeep, StatementKeeps, has_field_number, is_free_name, source_messages}
 use Rattle.pg_check.specs.rules.Members.{settings}
 use Rattle.pg_check.specs.rules.Messages as messages
 use Rattle.pg_check.specs.rules.Names as names
@@ -75,7 +75,7 @@ kept_body targets f is = record {
   packed = unlabelled f.label is.no_label _ (is_packable_type targets f.type_name) (unpacked f.settings is.no_options);
 }
 
-pub kept_file : (s : Source) (f : tree.Field.Field) → IsFieldA f → HasOneMessage s (parts.Field f ∷ []) → KeepsRules (s ∷ [])
+kept_file : (s : Source) (f : tree.Field.Field) → IsFieldA f → HasOneMessage s (parts.Field f ∷ []) → KeepsRules (s ∷ [])
 kept_file s f is one =
     let here = messages_are s (parts.Field f ∷ []) one in
     let count : length (messages_in_all s (parts.Field f ∷ []) one (parts.Field f ∷ []) ++ []) ≡ 1 = refl in record {
@@ -92,12 +92,26 @@ kept_file s f is one =
       );
     }
 
-pub reserved_name_in_file : (s : Source) (f : tree.Field.Field) (r : tree.Reserved.Reserved) → IsFieldA f → names_in r.items ≡ codes "a" ∷ []
+message_in_file : (s : Source) (body : List Part) → HasOneMessage s body → KeepsRules (s ∷ []) → MessageKeeps s.targets body
+message_in_file s body one keep = (subst (AllByRecursion (λ (m : Message). MessageKeeps s.targets m.body)) (messages_are s body one) keep.each.0.messages).0
+
+reserved_name_in_file : (s : Source) (f : tree.Field.Field) (r : tree.Reserved.Reserved) → IsFieldA f → names_in r.items ≡ codes "a" ∷ []
     → HasOneMessage s (parts.Field f ∷ parts.Reserved r ∷ []) → KeepsRules (s ∷ []) → ⊥
 reserved_name_in_file s f r is reserves one keep =
-    let body : List Part = parts.Field f ∷ parts.Reserved r ∷ [] in
-    let of_body = (subst (AllByRecursion (λ (m : Message). MessageKeeps s.targets m.body)) (messages_are s body one) keep.each.0.messages).0 in
+    let of_body = message_in_file s (parts.Field f ∷ parts.Reserved r ∷ []) one keep in
     let named : List ℕ → names.Named = λ text. record { text = text; at = f.name.span.from } in
     let free : list_all (is_free_name (codes "a" ∷ [])) (named (string_bytes f.name.text) ∷ []) ≡ true =
     subst (λ (ns : List (List ℕ)). list_all (is_free_name (ns ++ [])) (named (string_bytes f.name.text) ∷ []) ≡ true) reserves of_body.fields.names_free in
     false≢true (subst (λ text. list_all (is_free_name (codes "a" ∷ [])) (named text ∷ []) ≡ true) is.is_named free)
+
+too_many_types : (files : List Source) → length (flat_map source_messages files) ≡ 4097 → KeepsRules files → ⊥
+too_many_types files many keep = let few = keep.few_types in omega (arith, few, many)
+
+pub worked_files : WorkedFiles
+worked_files = record {
+  no_file = record { few_types = omega arith; each = tt };
+  kept_file = kept_file;
+  reserved_name_in_file = reserved_name_in_file;
+  message_in_file = message_in_file;
+  too_many_types = too_many_types;
+}

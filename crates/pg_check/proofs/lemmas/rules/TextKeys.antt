@@ -1,4 +1,4 @@
--- Texts that their keys tell apart stand once each.
+-- Names that their keys tell apart are there once each.
 use Rattle.std.proofs.Common.{◌≡◌, ◌∙◌, ℕ, Bool, true, false, ◌||◌, List, [], ◌∷◌, ◌++◌, map, nat_eq, Option, Some, None, arith, sym, ap, refl}
 use Rattle.std.specs.List.{list_any}
 use Rattle.std.specs.Str.{bytes_eq}
@@ -7,10 +7,12 @@ use Rattle.std.proofs.lemmas.Bool.Decides.{nat_tests}
 use Rattle.std.proofs.lemmas.List.{map-append}
 use Rattle.std.proofs.lemmas.Slice.Eq.{bytes_eq-Decides}
 use Rattle.pg_check.specs.rules.Names as names
+use Rattle.pg_check.specs.inner.NameFaults as name_faults
 use Rattle.pg_check.specs.rules.Names.{Named}
 use Rattle.pg_check.specs.rules.Numbers as numbers
-use Rattle.pg_check.specs.rules.Numbers.{first_again}
-use Rattle.pg_check.specs.rules.TextKeys.{keyed, text_key}
+use Rattle.pg_check.specs.inner.NumberFaults as number_faults
+use Rattle.pg_check.specs.inner.NumberFaults.{first_again}
+use Rattle.pg_check.specs.inner.TextKeys.{keyed, text_key}
 use Rattle.pg_check.proofs.lemmas.rules.FirstLaws.{new_item, old_item}
 
 left_false : (a b : Bool) → (a || b) ≡ false → a ≡ false
@@ -42,21 +44,21 @@ none_same n (m ∷ ms) other =
 not_both : (o : Option ℕ) (x : ℕ) → o ≡ Some x → o ≡ None → ⊥
 not_both o x found none = cc (found, none)
 
--- behind a list of texts that none of these is the same as
+-- after a list of names that none of these is the same as
 abbrev StandOnce : (before ns : List Named) → Type 0
-StandOnce before ns = first_again numbers.is_same numbers.at (map keyed before) (map keyed ns) ≡ None → first_again names.is_same names.at before ns ≡ None
+StandOnce before ns = first_again numbers.is_same number_faults.at (map keyed before) (map keyed ns) ≡ None → first_again names.is_same name_faults.at before ns ≡ None
 
 one_more : (before ns : List Named) (n : Named) (t : Bool) → list_any (numbers.is_same (keyed n)) (map keyed before) ≡ t → StandOnce (before ++ n ∷ []) ns → StandOnce before (n ∷ ns)
-one_more before ns n true e rest h = absurd (not_both _ (keyed n).at (old_item numbers.is_same numbers.at (map keyed before) (keyed n) (map keyed ns) e) h)
+one_more before ns n true e rest h = absurd (not_both _ (keyed n).at (old_item numbers.is_same number_faults.at (map keyed before) (keyed n) (map keyed ns) e) h)
 one_more before ns n false e rest h =
-    new_item names.is_same names.at before n ns (none_same n before e)
-    ∙ rest (ap (λ ks. first_again numbers.is_same numbers.at ks (map keyed ns)) (map-append keyed before (n ∷ []))
-    ∙ (sym (new_item numbers.is_same numbers.at (map keyed before) (keyed n) (map keyed ns) e) ∙ h))
+    new_item names.is_same name_faults.at before n ns (none_same n before e)
+    ∙ rest (ap (λ ks. first_again numbers.is_same number_faults.at ks (map keyed ns)) (map-append keyed before (n ∷ []))
+    ∙ (sym (new_item numbers.is_same number_faults.at (map keyed before) (keyed n) (map keyed ns) e) ∙ h))
 
 once_behind : (before ns : List Named) → StandOnce before ns
 once_behind before [] h = refl
 once_behind before (n ∷ ns) h = one_more before ns n (list_any (numbers.is_same (keyed n)) (map keyed before)) refl (once_behind (before ++ n ∷ []) ns) h
 
--- texts whose keys stand once each stand once each
-pub all_once : (ns : List Named) → numbers.first_twice (map keyed ns) ≡ None → names.first_twice ns ≡ None
+-- names whose keys are there once each are there once each
+pub all_once : (ns : List Named) → number_faults.first_twice (map keyed ns) ≡ None → name_faults.first_twice ns ≡ None
 all_once ns h = once_behind [] ns h

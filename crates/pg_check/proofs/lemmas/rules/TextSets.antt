@@ -1,4 +1,4 @@
--- A set of texts, one text after the other.
+-- A set of names, one name after the other.
 use Rattle.std.proofs.Common.{◌≡◌, ℕ, ◌+◌, ◌<◌, Bool, true, false, cond, ◌||◌, List, [], ◌∷◌, ◌++◌, String, length, map, take, get_or, sym, ◌∙◌, ap, refl}
 use Rattle.std.specs.Borrow.{Bor}
 use Rattle.std.specs.BTreeSet.{BTreeSet, contains_by, contains_text, Updates}
@@ -12,7 +12,8 @@ use Rattle.std.proofs.lemmas.List.Folds.{list_any-append}
 use Rattle.std.proofs.lemmas.Map.Text.{is_eq-slice_cmp}
 use Rattle.std.proofs.lemmas.Slice.Eq.{bytes_eq-Decides}
 use Rattle.std.proofs.lemmas.Bool.{false≢true}
-use Rattle.pg_check.specs.rules.Names.{Named, is_same, text_of}
+use Rattle.pg_check.specs.rules.Names.{Named, is_same}
+use Rattle.pg_check.specs.inner.NameFaults.{text_of}
 use Rattle.pg_schema.specs.rules.TextSets.{is_among, IsSetOf}
 
 or_of : (a b : Bool) → cond b true a ≡ (a || b)
@@ -39,7 +40,7 @@ bytes_eq-sym a b =
 among_push : (xs : List (List ℕ)) (y z : List ℕ) → is_among (xs ++ y ∷ []) z ≡ (is_among xs z || bytes_eq z y)
 among_push xs y z = list_any-append (bytes_eq z) xs (y ∷ []) ∙ ap (λ b. is_among xs z || b) (or_false_right (bytes_eq z y))
 
--- one more text, however the texts are held
+-- one more name, however the names are held
 more_held : (done : List (List ℕ)) (key : List ℕ) (old new : List ℕ → Bool) → ((cs : List ℕ) → new cs ≡ cond (bytes_eq key cs) true (old cs))
     → ((text : List ℕ) → old text ≡ is_among done text) → (text : List ℕ) → new text ≡ is_among (done ++ key ∷ []) text
 more_held done key old new step held text =
@@ -52,24 +53,24 @@ set_more done key old new step held = more_held done key (contains_text old) (co
 abbrev pub has_lent : BTreeSet (Bor (List ℕ)) → List ℕ → Bool
 has_lent set text = contains_by (λ (k : Bor (List ℕ)). slice_cmp nat_cmp text k.now) set
 
--- the set of texts that are lent has these and no other
+-- the set of names that are lent has these and no other
 abbrev pub IsLentSetOf : List (List ℕ) → BTreeSet (Bor (List ℕ)) → Type 0
 IsLentSetOf texts set = (text : List ℕ) → has_lent set text ≡ is_among texts text
 
--- one more text that is lent
+-- one more name that is lent
 pub lent_more : (done : List (List ℕ)) (key : Bor (List ℕ)) (old new : BTreeSet (Bor (List ℕ))) → Updates (λ (x : Bor (List ℕ)) (y : Bor (List ℕ)). slice_cmp nat_cmp x.now y.now) old new key true
     → IsLentSetOf done old → IsLentSetOf (done ++ key.now ∷ []) new
 lent_more done key old new h held =
     more_held done key.now (has_lent old) (has_lent new)
     (λ cs. h.0 (record { ref_ptr = (0, 0); now = cs }) ∙ ap (λ b. cond b true (has_lent old cs)) (is_eq-slice_cmp key.now cs)) held
 
--- the texts up to a place and the one that stands there
+-- the names up to an index and the one that is there
 pub texts_step : {Y : Type 0} (texts : List (String Y)) (i : ℕ) (x : String Y) (key : List ℕ) → i < length texts → x ≡ get_or texts i x → key ≡ string_bytes x
     → map string_bytes (take (i + 1) texts) ≡ map string_bytes (take i texts) ++ key ∷ []
 texts_step texts i x key h is same =
     map_more string_bytes texts i x h ∙ (ap (λ y. map string_bytes (take i texts) ++ string_bytes y ∷ []) (sym is) ∙ ap (λ k. map string_bytes (take i texts) ++ k ∷ []) (sym same))
 
--- a text stood before where it is among the texts before
+-- a name came before where it is among the names before
 pub same_among : (x : Named) (names : List Named) → list_any (is_same x) names ≡ is_among (map text_of names) x.text
 same_among x [] = refl
 same_among x (n ∷ ns) = ap (λ b. bytes_eq x.text n.text || b) (same_among x ns)

@@ -1,12 +1,13 @@
--- Texts with their places, one after the other.
+-- Names with their offsets, one after the other.
 use Rattle.std.proofs.Common.{◌≡◌, ℕ, ◌+◌, ◌<◌, Bool, true, false, List, [], ◌∷◌, ◌++◌, length, map, take, drop, get_or, Option, Some, sym, ◌∙◌, ap, subst}
 use Rattle.std.specs.List.{list_any}
 use Rattle.std.specs.String.{string_bytes}
 use Rattle.std.proofs.lemmas.List.{get_or-map, length-map, map_more}
 use Rattle.pg_schema.specs.rules.TextSets.{is_among}
 use Rattle.pg_check.specs.declared.rules.names.Titled.{Titled}
-use Rattle.pg_check.specs.rules.Names.{at, is_same, text_of, titled}
-use Rattle.pg_check.specs.rules.Numbers.{first_again}
+use Rattle.pg_check.specs.inner.NameFaults.{at, text_of, titled}
+use Rattle.pg_check.specs.rules.Names.{is_same}
+use Rattle.pg_check.specs.inner.NumberFaults.{first_again}
 use Rattle.pg_check.proofs.lemmas.rules.FirstLaws.{again_more, again_found}
 use Rattle.pg_check.proofs.lemmas.rules.TextSets.{same_among}
 

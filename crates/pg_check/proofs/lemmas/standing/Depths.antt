@@ -1,4 +1,4 @@
--- Message types of linked files are nested at most 64 deep, as deep as the grammar lets messages be nested in their texts.
+-- Message types of linked files are nested at most 64 deep, as deep as the grammar lets messages be nested in source files.
 use Rattle.std.proofs.Common.{◌≡◌, ◌∙◌, ℕ, zero, suc, ◌+◌, ◌^◌, ◌≤◌, Bool, true, false, cond, List, [], ◌∷◌, ◌++◌, filter, length, map, Option, Some, slice_get, sym, ap, subst, refl, arith, append_assoc, length-append}
 use Rattle.std.specs.List.{list_all, AllByRecursion}
 use Rattle.std.specs.Str.{bytes_eq}
@@ -29,7 +29,7 @@ use Rattle.pg_check.proofs.lemmas.standing.TypesInOrder.{later_types, types_decl
 -- ---- the message types of a file
 
 module _ (types : List MessageType) where
-  -- from a place on the message types are those of the trees
+  -- from an index on the message types are those of the trees
   abbrev AreFrom : ℕ → List TypeTree → Type 0
   AreFrom place [] = Unit {0}
   AreFrom place (w ∷ ws) = ((t : MessageType) × (slice_get types place ≡ Some t) × IsTypeOf w t) × AreFrom (place + 1) ws
@@ -61,7 +61,7 @@ module _ (types : List MessageType) where
       found [] = refl
       found (u ∷ us) = found us
 
--- Messages, behind so many, whose full names have at most so many words: the more words a scope has, the fewer levels stand in it.
+-- Messages, after so many, whose full names have at most so many words: the more words a scope has, the fewer levels are in it.
 module _ (types : List MessageType) (targets : ℕ → Option Target) (before : ℕ) (enums : List Placed) (ms : List Message) (top : ℕ) where
   abbrev places : ℕ → List Message → List Placed
   places place rest = placed_from place (map message_scope rest)
@@ -72,7 +72,7 @@ module _ (types : List MessageType) (targets : ℕ → Option Target) (before : 
   same_scope : (a b : List ℕ) → bytes_eq a b ≡ true → words_in a ≡ words_in b
   same_scope a b h = ap words_in ((bytes_eq-Decides a b).0 h)
 
-  -- the places of a scope's message types, where the first of some messages is one of them or not
+  -- the indexes of a scope's message types, where the first of some messages is one of them or not
   abbrev ids : Bool → (place : ℕ) → Message → List Placed → List TypeId
   ids is_one place m found = map type_id (map (λ (p : Placed). p.index) (cond is_one (record { scope = m.scope; index = index_of place } ∷ found) found))
 

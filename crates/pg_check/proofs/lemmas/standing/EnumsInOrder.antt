@@ -1,4 +1,4 @@
--- The enums of texts stand scope by scope, file after file.
+-- The enums of source files come scope by scope, file after file.
 use Rattle.std.proofs.Common.{◌≡◌, ◌∙◌, ℕ, zero, suc, ◌+◌, ◌^◌, ◌≤◌, Bool, true, false, cond, not, ◌&&◌, ◌||◌, List, [], ◌∷◌, ◌++◌, map, flat_map, length, Option, Some, None, slice_get, refl, sym, ap, ap₂, subst, arith, length-append}
 use Rattle.std.specs.List.{AllByRecursion, filter, list_all}
 use Rattle.std.specs.Str.{bytes_eq}
@@ -96,7 +96,7 @@ none_found s k (b ∷ bs) differs =
     was_not true is = absurd (false≢true is)
     was_not false is = refl
 
--- behind one scope the others find what is theirs
+-- after one scope the others find what is theirs
 others_found : (n : ℕ) (s : List ℕ) (k : ℕ) (rest : List (List ℕ)) (cs : List Block) → list_all (differ s) (scopes cs) ≡ true
     → flat_map (λ (c : Block). found c.0 k (repeated n s ++ rest)) cs ≡ flat_map (λ (c : Block). found c.0 (k + n) rest) cs
 others_found n s k rest [] differs = refl
@@ -104,7 +104,7 @@ others_found n s k rest (c ∷ cs) differs =
     ap₂ (λ xs ys. xs ++ ys) (other_found n c.0 s k rest (turned s c.0 (and_left (differ s c.0) (list_all (differ s) (scopes cs)) differs)))
     (others_found n s k rest cs (and_right (differ s c.0) (list_all (differ s) (scopes cs)) differs))
 
--- scope by scope, one place after the other
+-- scope by scope, one index after the other
 in_order : (k : ℕ) (bs : List Block) → are_distinct (scopes bs) ≡ true → k + length (rows bs) ≤ 2 ^ 32
     → flat_map (λ (b : Block). found b.0 k (rows bs)) bs ≡ places_from k (length (rows bs))
 in_order k [] once few = refl
@@ -236,7 +236,7 @@ module _ (types : List MessageType) where
 abbrev type_enums : MessageType → List ℕ
 type_enums t = enum_places t.nested_enums.items
 
--- those of the message types that stand from a place on
+-- those of the message types that are from an index on
 taken_from : (front own back : List MessageType) → flat_map (enums_at (front ++ (own ++ back))) (places_from (length front) (length own)) ≡ flat_map type_enums own
 taken_from front [] back = refl
 taken_from front (t ∷ own) back =
@@ -319,7 +319,7 @@ enums_declared d (s ∷ ss) =
     let both : length (found ++ later_enums ss) ≡ length found + length (later_enums ss) = length-append found (later_enums ss) in
     omega (arith, rest, more, both)
 
--- enums of texts stand scope by scope, where message types are nested no deeper than that
+-- enums of source files come scope by scope, where message types are nested no deeper than that
 pub enums_in_order : (depth : ℕ) (sources : List Source) (parts : Parts) → ArePartsOf sources parts → IsSound parts → length parts.enums.items ≤ 2 ^ 32
     → list_all (λ (f : File). nest_within depth parts.types.items f.types.items) parts.files.items ≡ true
     → flat_map (in_scopes depth parts.types.items) parts.files.items ≡ places_from 0 (length parts.enums.items)

@@ -1,4 +1,4 @@
--- Files of texts: each imports no path twice, and stands behind those that it imports.
+-- Linked files: each imports no path twice, and comes after those that it imports.
 use Rattle.std.proofs.Common.{◌≡◌, ◌∙◌, ℕ, Bool, true, false, not, ◌||◌, List, [], ◌∷◌, ◌++◌, map, flat_map, length, reverse, Option, Some, None, refl, sym, ap, ap₂, subst}
 use Rattle.std.specs.Bool.{⊤}
 use Rattle.std.specs.List.{AllByRecursion, list_all, list_any}
@@ -77,13 +77,13 @@ among_turned (f ∷ files) path =
     ∙ (or_turned (is_among (paths_of (map outline_importer (reverse files))) path) (bytes_eq path f.path)
     ∙ ap (λ b. bytes_eq path f.path || b) (among_turned files path))))
 
--- the file behind those of these names
+-- the file after those of these names
 record Follows (names : List (List ℕ)) (i : Importer) : Type 0 where
   pub imports_once : are_distinct i.imports ≡ true
   pub imports_there : list_all (is_among names) i.imports ≡ true
   pub is_new : is_among names i.path ≡ false
 
--- each file behind those of these names and the ones before it
+-- each file after those of these names and the ones before it
 abbrev AreListed : List (List ℕ) → List Importer → Type 0
 AreListed names [] = ⊤
 AreListed names (i ∷ is) = Follows names i × AreListed (names ++ i.path ∷ []) is
@@ -195,10 +195,10 @@ all_behind names [] listed = tt
 all_behind names (f ∷ fs) listed =
     (sym (list_all-map (is_among names) import_path f.imports.items) ∙ listed.0.imports_there, listed.0.is_new, all_behind (names ++ file_name f ∷ []) fs listed.1)
 
--- no file of texts imports a path twice
+-- no linked file imports a path twice
 pub texts_import_once : (linked : LinkedFiles) (parts : Parts) → IsLinkedUp linked → Declares (linked_sources linked.files) parts → list_all imports_apart parts.files.items ≡ true
 texts_import_once linked parts up h = all_once [] parts.files.items (texts_listed linked parts up h)
 
--- files of texts have names of their own, and each stands behind those that it imports
+-- linked files have names of their own, and each comes after those that it imports
 pub texts_stand_behind : (linked : LinkedFiles) (parts : Parts) → IsLinkedUp linked → Declares (linked_sources linked.files) parts → AreBehind [] parts.files.items
 texts_stand_behind linked parts up h = all_behind [] parts.files.items (texts_listed linked parts up h)

@@ -1,4 +1,4 @@
--- Messages of a text stand at most 64 levels below its package: the full name of each has one word more than that of its scope.
+-- Messages of a source file are at most 64 levels below its package: the full name of each has one word more than that of its scope.
 use Rattle.std.proofs.Common.{◌≡◌, ◌∙◌, inl, inr, ◌⊎◌, ℕ, zero, suc, ◌+◌, ◌≤◌, Bool, true, false, cond, ◌==◌, List, [], ◌∷◌, ◌++◌, flat_map, codes, Option, Some, None, string_bytes, sym, refl, arith}
 use Rattle.std.specs.List.{list_all, AllByRecursion}
 use Rattle.std.proofs.lemmas.Bool.{false≢true}
@@ -30,7 +30,7 @@ abbrev dots : List ℕ → ℕ
 dots [] = 0
 dots (b ∷ bs) = dot b + dots bs
 
--- how many words stand in a full name; none where it is empty
+-- how many words a full name has; none where it is empty
 abbrev pub words_in : List ℕ → ℕ
 words_in [] = 0
 words_in (b ∷ bs) = 1 + dots (b ∷ bs)

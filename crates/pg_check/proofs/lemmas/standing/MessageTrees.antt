@@ -1,4 +1,4 @@
--- The message types of a text as trees: each before those in it.
+-- The message types of a source file as trees: each before those in it.
 use Rattle.std.proofs.Common.{◌≡◌, ◌∙◌, ℕ, List, [], ◌∷◌, ◌++◌, flat_map, refl, sym, ap, ap₂}
 use Rattle.std.specs.Bool.{⊤}
 use Rattle.std.proofs.lemmas.List.{append-nil, append_assoc}
@@ -17,7 +17,7 @@ abbrev pub flat : Trees → List Message
 flat Bare = []
 flat (Grown m inside others) = m ∷ flat inside ++ flat others
 
--- those at the roots stand in this scope, and each other one in the one that it grows on
+-- those at the roots are in this scope, and each other one in the one that it grows on
 abbrev pub IsIn : List ℕ → Trees → Type 0
 IsIn scope Bare = ⊤
 IsIn scope (Grown m inside others) = (m.scope ≡ scope) × IsIn m.full inside × IsIn scope others

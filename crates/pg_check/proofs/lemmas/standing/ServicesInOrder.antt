@@ -1,4 +1,4 @@
--- The services of texts stand in order of declaration, file after file.
+-- The services of source files come in order of declaration, file after file.
 use Rattle.std.proofs.Common.{◌≡◌, ◌∙◌, ℕ, suc, ◌+◌, ◌^◌, ◌≤◌, List, [], ◌∷◌, ◌++◌, flat_map, length, refl, sym, ap, ap₂, arith}
 use Rattle.std.proofs.lemmas.Grind.{flat_map-append}
 use Rattle.std.proofs.lemmas.List.{append-nil, length-map}
@@ -11,9 +11,9 @@ use Rattle.pg_check.specs.parts.MadeServices.{MadeService, service, service_ids}
 use Rattle.pg_check.specs.standing.Places.{places_from}
 use Rattle.pg_check.proofs.lemmas.standing.TreePlaces.{index_is}
 
--- ---- places of services
+-- ---- indexes of services
 
--- those of so many services that stand behind others
+-- those of so many services that come after others
 abbrev numbered : ℕ → List MadeService → List ℕ
 numbered before ss = service_places (service_ids before ss)
 
@@ -34,7 +34,7 @@ in_order before (s ∷ ss) few =
 abbrev shape_places : FileShape → List ℕ
 shape_places w = service_places w.services
 
--- what is declared so far stands in order
+-- what is declared so far is in order
 abbrev AreNumbered : Declared → Type 0
 AreNumbered d = flat_map shape_places d.files ≡ numbered 0 d.services
 
@@ -56,7 +56,7 @@ files_places [] (f ∷ fs) each = absurd each
 files_places (w ∷ ws) [] each = absurd each
 files_places (w ∷ ws) (f ∷ fs) each = ap₂ (λ xs ys. xs ++ ys) (ap service_places each.0.services) (files_places ws fs each.1)
 
--- services of linked files stand in order
+-- services of linked files are in order
 pub services_in_order : (sources : List Source) (parts : Parts) → ArePartsOf sources parts → length parts.services.items ≤ 2 ^ 32
     → declared_services parts.files.items ≡ places_from 0 (length parts.services.items)
 services_in_order sources parts are few =

@@ -1,4 +1,4 @@
--- The parts of linked files stand in the order of a schema that a set states.
+-- The parts of linked files are in the order of a schema that a set states.
 use Rattle.std.proofs.Common.{◌≡◌, true, arith}
 use Rattle.std.specs.List.{list_all}
 use Rattle.pg_schema.specs.declared.parts.file.File.{File}

@@ -1,4 +1,4 @@
--- Places of message types that stand as trees: those of a scope are the roots of its trees, and a walk from them comes to one after the other.
+-- Indexes of message types as trees: those of a scope are the roots of its trees, and a walk from them comes to one after the other.
 use Rattle.std.proofs.Common.{◌≡◌, ◌∙◌, ◌⊎◌, inl, inr, ℕ, suc, ◌+◌, ◌^◌, ◌<◌, ◌≤◌, Bool, true, false, cond, nat_lt, List, [], ◌∷◌, ◌++◌, map, length, refl, sym, ap, ap₂, subst, arith, length-append}
 use Rattle.std.specs.Bool.{⊤}
 use Rattle.std.specs.List.{filter}
@@ -14,12 +14,12 @@ use Rattle.pg_check.proofs.lemmas.standing.MessageTrees.{Trees, Bare, Grown, IsI
 abbrev pub size : Trees → ℕ
 size f = length (flat f)
 
--- the places of the roots, where the first one stands here
+-- the indexes of the roots, where the first one is here
 abbrev pub roots : ℕ → Trees → List ℕ
 roots k Bare = []
 roots k (Grown m inside others) = k ∷ roots (suc k + size inside) others
 
--- ---- the places of what a scope declares
+-- ---- the indexes of what a scope declares
 
 abbrev pub places_of : List ℕ → ℕ → List Message → List ℕ
 places_of scope k ms = places_in scope (placed_from k (map message_scope ms))
@@ -55,7 +55,7 @@ places_joined scope k (x ∷ xs) ys =
     ∙ (cond_joined (bytes_eq scope x.scope) (index_of k) (places_of scope (k + 1) xs) (places_of scope (k + length (x ∷ xs)) ys)
     ∙ ap (λ ns. ns ++ places_of scope (k + length (x ∷ xs)) ys) (sym (first_place scope k x xs))))
 
--- a place of 32 bits is itself
+-- an index of 32 bits is itself
 pub index_is : (n : ℕ) → n < 2 ^ 32 → index_of n ≡ n
 index_is n less = small n less
   where
@@ -73,7 +73,7 @@ found_is scope k (Grown m inside others) few =
     ∙ ap₂ (λ xs ys. xs ++ ys) (found_is scope (suc k) inside (omega (arith, few, long))) (found_is scope (suc k + size inside) others (omega (arith, few, long)))) in
     first_place scope k m (flat inside ++ flat others) ∙ ap₂ (λ n ns. cond (bytes_eq scope m.scope) (n ∷ ns) ns) here later
 
--- ---- of names that stand once, those of each scope are its roots
+-- ---- of names that are there once, those of each scope are its roots
 
 -- the name is one of these
 abbrev pub Names : List ℕ → Trees → Type 0
@@ -159,7 +159,7 @@ each_found scope k (Grown m inside others) own none once = (
         ∙ (ap (λ xs. xs ++ found name behind others)
         (none_found name m.full (suc k) inside own.1 (λ same. once.1 (subst (λ n. Names n others) same names)) (λ again. once.2 name again names)) ∙ is))
 
--- ---- the same of the places that are looked up by scope
+-- ---- the indexes that are looked up by scope
 
 pub roots_held : (scope : List ℕ) (k : ℕ) (f : Trees) → IsIn scope f → (Names scope f → ⊥) → k + size f ≤ 2 ^ 32 → places_of scope k (flat f) ≡ roots k f
 roots_held scope k f own none few = found_is scope k f few ∙ roots_found scope k f own none

@@ -1,4 +1,4 @@
--- The message types of texts stand in order of declaration, file after file.
+-- The message types of source files come in order of declaration, file after file.
 use Rattle.std.proofs.Common.{◌≡◌, ◌∙◌, ℕ, suc, ◌+◌, ◌^◌, ◌≤◌, true, false, List, [], ◌∷◌, ◌++◌, map, flat_map, length, Option, Some, slice_get, refl, sym, ap, ap₂, subst, arith, length-append}
 use Rattle.std.specs.List.{AllByRecursion, list_all}
 use Rattle.std.specs.String.{string_bytes}
@@ -104,7 +104,7 @@ module _ (depth : ℕ) (types : List MessageType) (few : length types ≤ 2 ^ 32
             (ap (λ ns. is_among ns (string_bytes f.package)) (sym names) ∙ free),
       )
 
-  -- behind the message types in front those of the file stand in order
+  -- after the message types in front those of the file are in order
   pub file_in_order : (front own back : List MessageType) (d : Declared) (s : Source) (f : File) → types ≡ front ++ (own ++ back) → length front ≡ length d.types
       → EachIs IsTypeOf (type_trees (length d.types) (length d.enums) s) own → IsFileOf (file_shape (length d.types) (length d.enums) (length d.services) s) f
       → IsUncalled (map type_name types) f → nest_within depth types f.types.items ≡ true → in_file depth types f ≡ places_from (length d.types) (length own)
@@ -145,7 +145,7 @@ module _ (depth : ℕ) (types : List MessageType) (few : length types ≤ 2 ^ 32
       ∙ (from_joined (length d.types) (length parts.front) (length parts.back)
       ∙ ap (places_from (length d.types)) (sym (ap length parts.splits ∙ length-append parts.front parts.back)))
 
--- message types of texts stand in order, where they are nested no deeper than that
+-- message types of source files are in order, where they are nested no deeper than that
 pub types_in_order : (depth : ℕ) (sources : List Source) (parts : Parts) → ArePartsOf sources parts → IsSound parts
     → list_all (λ (f : File). nest_within depth parts.types.items f.types.items) parts.files.items ≡ true
     → flat_map (in_file depth parts.types.items) parts.files.items ≡ places_from 0 (length parts.types.items)

@@ -1,4 +1,4 @@
--- Names that stand once: among the full names of a sound schema's message types none stands twice, and none is a file's package.
+-- Names that are there once: among the full names of a sound schema's message types none is there twice, and none is a file's package.
 use Rattle.std.proofs.Common.{◌≡◌, ◌∙◌, ℕ, Bool, true, false, not, nat_eq, ◌&&◌, ◌||◌, List, [], ◌∷◌, ◌++◌, map, flat_map, refl, sym, ap, subst, arith}
 use Rattle.std.specs.List.{AllByRecursion, list_all}
 use Rattle.std.specs.Str.{bytes_eq}
@@ -19,7 +19,7 @@ use Rattle.pg_schema.specs.rules.Sound.{IsSound}
 use Rattle.pg_schema.specs.rules.TextSets.{is_among}
 use Rattle.pg_schema.proofs.lemmas.rules.PairLemmas.{and_both, and_left, and_right}
 
--- ---- names of which none stands twice
+-- ---- names of which none is there twice
 
 pub not_among : (name : List ℕ) (xs : List (List ℕ)) → list_all (differ name) xs ≡ true → is_among xs name ≡ true → ⊥
 not_among name [] all among = false≢true among

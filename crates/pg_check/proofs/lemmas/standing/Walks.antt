@@ -1,4 +1,4 @@
--- Where each message type lists the places of those that its scope declares, a walk from a scope comes to one place after the other.
+-- Where each message type lists the indexes of those that its scope declares, a walk from a scope comes to one index after the other.
 use Rattle.std.proofs.Common.{◌≡◌, ◌∙◌, ◌⊎◌, inl, inr, ℕ, zero, suc, ◌+◌, ◌^◌, ◌≤◌, Bool, true, false, ◌&&◌, ◌||◌, List, [], ◌∷◌, ◌++◌, map, length, Some, slice_get, refl, sym, ap, ap₂, subst, arith, length-append, true≢false}
 use Rattle.std.specs.Bool.{⊤}
 use Rattle.std.specs.List.{list_all}
@@ -30,7 +30,7 @@ from_joined k (suc a) b =
 -- ---- a walk over trees
 
 module _ (types : List MessageType) where
-  -- the message type in this place lists these
+  -- the message type at this index lists these
   pub record ListsInside (k : ℕ) (places : List ℕ) : Type 0 where
     pub type : MessageType
     pub there : slice_get types k ≡ Some type
@@ -62,7 +62,7 @@ module _ (types : List MessageType) where
 
   -- ---- message types that list what their scopes declare
 
-  -- those from this place on are these
+  -- those from this index on are these
   abbrev pub AreTyped : List Placed → ℕ → List Message → Type 0
   AreTyped all k [] = ⊤
   AreTyped all k (m ∷ ms) = ListsInside k (places_in m.full all) × AreTyped all (suc k) ms
@@ -86,7 +86,7 @@ module _ (types : List MessageType) where
         list_roots all (suc k + size inside) others parts.1 held.2,
       )
 
--- ---- names that stand once
+-- ---- names that are there once
 
 abbrev pub full_of : Message → List ℕ
 full_of m = m.full
@@ -138,7 +138,7 @@ named_apart (Grown m inside others) once = (
 
 -- ---- the message types of a scope
 
--- they stand here one after the other, and a walk that begins at the scope comes to them so
+-- they are here one after the other, and a walk that begins at the scope comes to them so
 abbrev WalkInOrder : List MessageType → (depth : ℕ) → List ℕ → ℕ → List Message → Type 0
 WalkInOrder types depth scope k ms =
     are_distinct (map full_of ms) ≡ true → is_among (map full_of ms) scope ≡ false → k + length ms ≤ 2 ^ 32

@@ -1,5 +1,5 @@
 use Rattle.std.proofs.Common.{◌≡◌, map, take}
-use Rattle.pg_check.specs.admitting.PartFaults.{value_key}
+use Rattle.pg_check.specs.admitting.DeclaredParts.{value_key}
 use Rattle.pg_check.proofs.admitting.enum_part_faults.keys_of.Given as goal
 
 abbrev pub invariant-loop-value : goal.invariant-loop-value

@@ -1,6 +1,6 @@
 use Rattle.std.proofs.Common.{◌≡◌, map, take}
-use Rattle.pg_check.specs.rules.Names.{called}
-use Rattle.pg_check.specs.admitting.PartFaults.{value_name}
+use Rattle.pg_check.specs.inner.NameFaults.{called}
+use Rattle.pg_check.specs.admitting.DeclaredParts.{value_name}
 use Rattle.pg_check.proofs.admitting.enum_part_faults.names_of.Given as goal
 
 abbrev pub invariant-loop-value : goal.invariant-loop-value

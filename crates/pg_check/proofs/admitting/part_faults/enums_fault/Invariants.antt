@@ -1,6 +1,6 @@
 use Rattle.std.proofs.Common.{◌≡◌, drop}
-use Rattle.pg_check.specs.rules.Faults.{first_fault}
-use Rattle.pg_check.specs.admitting.PartFaults.{enum_fault}
+use Rattle.pg_check.specs.inner.Faults.{first_fault}
+use Rattle.pg_check.specs.inner.PartFaults.{enum_fault}
 use Rattle.pg_check.proofs.admitting.part_faults.enums_fault.Given as goal
 
 abbrev pub invariant-loop-one : goal.invariant-loop-one

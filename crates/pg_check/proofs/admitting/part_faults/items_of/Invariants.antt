@@ -1,5 +1,5 @@
 use Rattle.std.proofs.Common.{◌≡◌, map, take}
-use Rattle.pg_check.specs.admitting.PartFaults.{item_of}
+use Rattle.pg_check.specs.admitting.DeclaredParts.{item_of}
 use Rattle.pg_check.proofs.admitting.part_faults.items_of.Given as goal
 
 abbrev pub invariant-loop-range : goal.invariant-loop-range

@@ -1,6 +1,6 @@
 use Rattle.std.proofs.Common.{◌≡◌, map, take}
-use Rattle.pg_check.specs.rules.Names.{titled}
-use Rattle.pg_check.specs.admitting.PartFaults.{json_name_of}
+use Rattle.pg_check.specs.inner.NameFaults.{titled}
+use Rattle.pg_check.specs.admitting.DeclaredParts.{json_name_of}
 use Rattle.pg_check.proofs.admitting.part_faults.json_names_of.Given as goal
 
 abbrev pub invariant-loop-field : goal.invariant-loop-field

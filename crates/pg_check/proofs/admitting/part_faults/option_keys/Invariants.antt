@@ -1,5 +1,5 @@
 use Rattle.std.proofs.Common.{◌≡◌, map, take}
-use Rattle.pg_check.specs.admitting.PartFaults.{option_key}
+use Rattle.pg_check.specs.admitting.DeclaredParts.{option_key}
 use Rattle.pg_check.proofs.admitting.part_faults.option_keys.Given as goal
 
 abbrev pub invariant-loop-option : goal.invariant-loop-option

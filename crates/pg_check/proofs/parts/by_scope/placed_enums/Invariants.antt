@@ -1,6 +1,8 @@
 use Rattle.std.proofs.Common.{◌≡◌, ◌+◌, ◌++◌, map, drop}
-use Rattle.pg_check.specs.parts.ByScope.{placed, placed_from}
-use Rattle.pg_check.specs.rules.Outline.{enumeration, enum_scope}
+use Rattle.pg_check.specs.inner.Grouped.{placed}
+use Rattle.pg_check.specs.parts.ByScope.{placed_from}
+use Rattle.pg_check.specs.inner.CodeViews.{enumeration}
+use Rattle.pg_check.specs.rules.Outline.{enum_scope}
 use Rattle.pg_check.proofs.parts.by_scope.placed_enums.Given as goal
 
 abbrev pub invariant-loop-index : goal.invariant-loop-index

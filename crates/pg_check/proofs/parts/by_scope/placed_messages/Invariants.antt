@@ -1,6 +1,8 @@
 use Rattle.std.proofs.Common.{◌≡◌, ◌+◌, ◌++◌, map, drop}
-use Rattle.pg_check.specs.parts.ByScope.{placed, placed_from}
-use Rattle.pg_check.specs.rules.Outline.{message, message_scope}
+use Rattle.pg_check.specs.inner.Grouped.{placed}
+use Rattle.pg_check.specs.parts.ByScope.{placed_from}
+use Rattle.pg_check.specs.inner.CodeViews.{message}
+use Rattle.pg_check.specs.rules.Outline.{message_scope}
 use Rattle.pg_check.proofs.parts.by_scope.placed_messages.Given as goal
 
 abbrev pub invariant-loop-index : goal.invariant-loop-index

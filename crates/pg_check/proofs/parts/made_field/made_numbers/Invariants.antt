@@ -1,5 +1,5 @@
 use Rattle.std.proofs.Common.{◌≡◌, map, take}
-use Rattle.pg_check.specs.rules.Members.{member}
+use Rattle.pg_check.specs.inner.CodeViews.{member}
 use Rattle.pg_check.specs.parts.MadeFields.{made_number}
 use Rattle.pg_check.proofs.parts.made_field.made_numbers.Given as goal
 

@@ -1,10 +1,11 @@
 use Rattle.std.proofs.Common.{◌∙◌, map, ap, subst}
-use Rattle.pg_check.specs.parts.ByScope.{in_scope}
+use Rattle.pg_check.specs.inner.Grouped.{in_scope, grouped_tree}
 use Rattle.pg_check.specs.parts.MadeEnums.{made_enum}
-use Rattle.pg_check.specs.parts.MadeParts.{EachIs, IsFileOf, IsTypeOf, grouped_tree, placed_enums, placed_messages}
+use Rattle.pg_check.specs.parts.MadeParts.{EachIs, IsFileOf, IsTypeOf, placed_enums, placed_messages}
 use Rattle.pg_check.specs.parts.MadeServices.{service, service_ids}
 use Rattle.pg_check.specs.rules.Outline as outline
-use Rattle.pg_check.specs.parts.Sources.{source}
+use Rattle.pg_check.specs.inner.CodeViews as views
+use Rattle.pg_check.specs.inner.Sources.{source}
 use Rattle.pg_check.proofs.lemmas.parts.PartsLaws.{shape_is, trees_are}
 use Rattle.pg_check.proofs.parts.made_parts.made_by.Goals as goal
 
@@ -15,11 +16,11 @@ returns c =
     let in_enums = placed_enums c.args.enums s.tree in
     let types = in_scope c.in_ok-in_types.in_types in
     let enums = in_scope c.in_ok-in_enums.in_enums in
-    let trees = ap (map (grouped_tree s.targets types enums)) (ap (map outline.message) c.deref-4.ensures.value ∙ c.in_ok-messages.ensures)
+    let trees = ap (map (grouped_tree s.targets types enums)) (ap (map views.message) c.deref-4.ensures.value ∙ c.in_ok-messages.ensures)
     ∙ trees_are s.targets types enums in_types in_enums c.in_ok-in_types.ensures c.in_ok-in_enums.ensures (outline.file_messages s.tree) in
     record {
       of_types = subst (λ ts. EachIs IsTypeOf ts c.in_ok-types.types.items) trees c.in_ok-types.ensures;
-      of_enums = c.in_ok-enums.ensures ∙ ap (map made_enum) (ap (map outline.enumeration) c.deref-5.ensures.value ∙ c.in_ok-found.ensures);
+      of_enums = c.in_ok-enums.ensures ∙ ap (map made_enum) (ap (map views.enumeration) c.deref-5.ensures.value ∙ c.in_ok-found.ensures);
       of_services = c.in_ok-made.ensures;
       of_file = subst (λ w. IsFileOf w c.in_ok-file.file) (shape_is types enums c.args.types c.args.enums c.args.services c.in_ok-ids.ids.items c.in_ok-ids.ids.items s
           c.in_ok-in_types.ensures c.in_ok-in_enums.ensures

@@ -1,9 +1,9 @@
-use Rattle.pg_check.specs.parts.ByScope.{in_scope}
-use Rattle.pg_check.specs.parts.MadeParts.{IsTypeOf, grouped_tree}
-use Rattle.pg_check.specs.rules.Outline.{message}
+use Rattle.pg_check.specs.inner.Grouped.{in_scope, grouped_tree}
+use Rattle.pg_check.specs.parts.MadeParts.{IsTypeOf}
+use Rattle.pg_check.specs.inner.CodeViews.{message}
 use Rattle.pg_check.proofs.lemmas.parts.Eachs.{each-more}
 use Rattle.pg_check.proofs.parts.made_parts.made_types.Goals as goal
-use Rattle.pg_check.specs.parts.EnumPlaces.{target_in}
+use Rattle.pg_check.specs.inner.Sources.{target_in}
 
 pub loop-one-preserved : goal.loop-one-preserved
 loop-one-preserved c =

@@ -1,6 +1,6 @@
 use Rattle.std.proofs.Common.{map, sym, subst, take}
 use Rattle.pg_check.specs.parts.MadeParts.{States, nothing, with_files}
-use Rattle.pg_check.specs.parts.Sources.{source}
+use Rattle.pg_check.specs.inner.Sources.{source}
 use Rattle.pg_check.proofs.lemmas.parts.PartsLaws.{with_more}
 use Rattle.pg_check.proofs.parts.made_parts.parts_of.Goals as goal
 

@@ -1,5 +1,5 @@
 use Rattle.std.proofs.Common.{◌≡◌, length, ap, subst}
-use Rattle.pg_check.specs.parts.Sources.{IsMadeBy, source}
+use Rattle.pg_check.specs.inner.Sources.{IsMadeBy, source}
 use Rattle.pg_check.proofs.lemmas.parts.PartsLaws.{one_more_file}
 use Rattle.pg_check.proofs.parts.made_parts.push_file.Goals as goal
 

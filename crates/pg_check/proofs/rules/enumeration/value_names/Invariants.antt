@@ -1,5 +1,5 @@
 use Rattle.std.proofs.Common.{◌≡◌, map, take}
-use Rattle.pg_check.specs.rules.Names.{called}
+use Rattle.pg_check.specs.inner.NameFaults.{called}
 use Rattle.pg_check.specs.rules.Enums.{value_names}
 use Rattle.pg_check.proofs.rules.enumeration.value_names.Given as goal
 

@@ -1,6 +1,6 @@
 use Rattle.std.proofs.Common.{◌≡◌, drop}
-use Rattle.pg_check.specs.rules.Faults.{first_fault}
-use Rattle.pg_check.specs.rules.Enums.{part_option}
+use Rattle.pg_check.specs.inner.Faults.{first_fault}
+use Rattle.pg_check.specs.inner.EnumFaults.{part_option}
 use Rattle.pg_check.proofs.rules.enumeration.value_options.Given as goal
 
 abbrev pub invariant-loop-part : goal.invariant-loop-part

@@ -1,7 +1,7 @@
 use Rattle.std.proofs.Common.{◌≡◌, None, map, drop}
-use Rattle.pg_check.specs.rules.Faults.{earliest}
-use Rattle.pg_check.specs.rules.Files.{found_fault}
-use Rattle.pg_check.specs.rules.Outline.{enumeration}
+use Rattle.pg_check.specs.inner.Faults.{earliest}
+use Rattle.pg_check.specs.inner.FileFaults.{found_fault}
+use Rattle.pg_check.specs.inner.CodeViews.{enumeration}
 use Rattle.pg_check.proofs.rules.file.enums_fault.Given as goal
 
 abbrev pub invariant-loop-found : goal.invariant-loop-found

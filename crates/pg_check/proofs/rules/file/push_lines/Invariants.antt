@@ -1,5 +1,5 @@
 use Rattle.std.proofs.Common.{◌≡◌, ◌++◌, flat_map, map, take}
-use Rattle.pg_check.specs.rules.Options.{stated}
+use Rattle.pg_check.specs.inner.OptionFaults.{stated}
 use Rattle.pg_check.specs.rules.Files.{file_line}
 use Rattle.pg_check.proofs.rules.file.push_lines.Given as goal
 

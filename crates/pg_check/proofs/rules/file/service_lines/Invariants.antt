@@ -1,5 +1,5 @@
 use Rattle.std.proofs.Common.{◌≡◌, map, take}
-use Rattle.pg_check.specs.rules.Options.{stated}
+use Rattle.pg_check.specs.inner.OptionFaults.{stated}
 use Rattle.pg_check.specs.rules.Files.{service_lines}
 use Rattle.pg_check.proofs.rules.file.service_lines.Given as goal
 

@@ -1,6 +1,6 @@
 use Rattle.std.proofs.Common.{◌≡◌, drop}
-use Rattle.pg_check.specs.rules.Faults.{first_fault}
-use Rattle.pg_check.specs.rules.Files.{statement_fault}
+use Rattle.pg_check.specs.inner.Faults.{first_fault}
+use Rattle.pg_check.specs.inner.FileFaults.{statement_fault}
 use Rattle.pg_check.proofs.rules.file.services_fault.Given as goal
 
 abbrev pub invariant-loop-statement : goal.invariant-loop-statement

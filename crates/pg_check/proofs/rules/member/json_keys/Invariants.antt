@@ -1,6 +1,7 @@
 use Rattle.std.proofs.Common.{◌≡◌, map, take}
-use Rattle.pg_check.specs.rules.Members.{json_named, member}
-use Rattle.pg_check.specs.rules.TextKeys.{keyed}
+use Rattle.pg_check.specs.rules.Members.{json_named}
+use Rattle.pg_check.specs.inner.CodeViews.{member}
+use Rattle.pg_check.specs.inner.TextKeys.{keyed}
 use Rattle.pg_check.proofs.rules.member.json_keys.Given as goal
 
 abbrev pub invariant-loop-member : goal.invariant-loop-member

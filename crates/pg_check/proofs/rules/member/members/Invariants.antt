@@ -1,5 +1,6 @@
 use Rattle.std.proofs.Common.{◌≡◌, ◌++◌, ◌≤◌, map, drop}
-use Rattle.pg_check.specs.rules.Members.{member, members, members_from}
+use Rattle.pg_check.specs.inner.CodeViews.{member}
+use Rattle.pg_check.specs.rules.Members.{members, members_from}
 use Rattle.pg_check.proofs.rules.member.members.Given as goal
 
 abbrev pub invariant-loop-part : goal.invariant-loop-part

@@ -1,6 +1,7 @@
 use Rattle.std.proofs.Common.{◌≡◌, map, take}
-use Rattle.pg_check.specs.rules.Names.{called}
-use Rattle.pg_check.specs.rules.Members.{member, named}
+use Rattle.pg_check.specs.inner.NameFaults.{called}
+use Rattle.pg_check.specs.inner.CodeViews.{member}
+use Rattle.pg_check.specs.rules.Members.{named}
 use Rattle.pg_check.proofs.rules.member.names_of.Given as goal
 
 abbrev pub invariant-loop-member : goal.invariant-loop-member

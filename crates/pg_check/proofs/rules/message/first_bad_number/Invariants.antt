@@ -1,5 +1,5 @@
 use Rattle.std.proofs.Common.{◌≡◌, drop}
-use Rattle.pg_check.specs.rules.Messages.{first_bad_number}
+use Rattle.pg_check.specs.inner.MessageFaults.{first_bad_number}
 use Rattle.pg_check.proofs.rules.message.first_bad_number.Given as goal
 
 abbrev pub invariant-loop-one : goal.invariant-loop-one

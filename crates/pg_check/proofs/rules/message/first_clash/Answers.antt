@@ -1,6 +1,7 @@
 use Rattle.std.proofs.Common.{◌≡◌, ◌∙◌, ℕ, Bool, true, false, not, map, Option, Some, None, is_some, sym, ap, refl}
-use Rattle.pg_check.specs.rules.Members.{json_named, member}
-use Rattle.pg_check.specs.rules.Numbers as numbers
+use Rattle.pg_check.specs.rules.Members.{json_named}
+use Rattle.pg_check.specs.inner.CodeViews.{member}
+use Rattle.pg_check.specs.inner.NumberFaults as numbers
 use Rattle.pg_check.proofs.lemmas.rules.TextKeys.{all_once}
 use Rattle.pg_check.proofs.rules.message.first_clash.Goals as goal
 

@@ -1,6 +1,6 @@
 use Rattle.std.proofs.Common.{◌≡◌, drop}
-use Rattle.pg_check.specs.rules.Faults.{first_fault}
-use Rattle.pg_check.specs.rules.Messages.{oneof_option}
+use Rattle.pg_check.specs.inner.Faults.{first_fault}
+use Rattle.pg_check.specs.inner.MessageFaults.{oneof_option}
 use Rattle.pg_check.proofs.rules.message.oneof_option.Given as goal
 
 abbrev pub invariant-loop-part : goal.invariant-loop-part

@@ -1,5 +1,5 @@
 use Rattle.std.proofs.Common.{◌≡◌, drop}
-use Rattle.pg_check.specs.rules.Messages.{first_packed}
+use Rattle.pg_check.specs.inner.MessageFaults.{first_packed}
 use Rattle.pg_check.proofs.rules.message.packed_in.Given as goal
 
 abbrev pub invariant-loop-setting : goal.invariant-loop-setting

@@ -2,7 +2,8 @@ use Rattle.std.proofs.Common.{map, sym, ◌∙◌, get_or, []}
 use Rattle.std.specs.String.{string_bytes}
 use Rattle.pg_schema.specs.rules.TextSets.{is_among}
 use Rattle.pg_check.specs.declared.rules.names.Called.{Called}
-use Rattle.pg_check.specs.rules.Names.{Named, at, called}
+use Rattle.pg_check.specs.rules.Names.{Named}
+use Rattle.pg_check.specs.inner.NameFaults.{at, called}
 use Rattle.pg_check.proofs.lemmas.rules.FirstLaws.{such_more}
 use Rattle.pg_check.proofs.rules.names.first_among.Goals as goal
 

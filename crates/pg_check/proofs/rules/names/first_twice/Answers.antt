@@ -1,6 +1,6 @@
 use Rattle.std.proofs.Common.{◌≡◌, true, false, map, take, sym, ◌∙◌, ap, subst}
 use Rattle.pg_schema.specs.rules.TextSets.{is_among}
-use Rattle.pg_check.specs.rules.Names.{text_of, titled}
+use Rattle.pg_check.specs.inner.NameFaults.{text_of, titled}
 use Rattle.pg_check.proofs.lemmas.rules.FirstLaws.{was_new, was_old}
 use Rattle.pg_check.proofs.lemmas.rules.TextSets.{IsLentSetOf, lent_more}
 use Rattle.pg_check.proofs.lemmas.rules.Titles.{title_found, title_left, titles_step}

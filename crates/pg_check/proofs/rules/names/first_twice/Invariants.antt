@@ -1,6 +1,7 @@
 use Rattle.std.proofs.Common.{◌≡◌, map, take, drop}
-use Rattle.pg_check.specs.rules.Names.{at, first_twice, is_same, text_of, titled}
-use Rattle.pg_check.specs.rules.Numbers.{first_again}
+use Rattle.pg_check.specs.inner.NameFaults.{at, first_twice, text_of, titled}
+use Rattle.pg_check.specs.rules.Names.{is_same}
+use Rattle.pg_check.specs.inner.NumberFaults.{first_again}
 use Rattle.pg_check.proofs.lemmas.rules.TextSets.{IsLentSetOf}
 use Rattle.pg_check.proofs.rules.names.first_twice.Given as goal
 

@@ -1,5 +1,6 @@
 use Rattle.std.proofs.Common.{◌≡◌, take, drop}
-use Rattle.pg_check.specs.rules.Numbers.{at, first_again, first_twice, is_same}
+use Rattle.pg_check.specs.inner.NumberFaults.{at, first_again, first_twice}
+use Rattle.pg_check.specs.rules.Numbers.{is_same}
 use Rattle.pg_check.proofs.rules.numbers.first_of_few.Given as goal
 
 abbrev pub invariant-loop-number : goal.invariant-loop-number

@@ -1,5 +1,5 @@
 use Rattle.std.proofs.Common.{◌≡◌, drop}
-use Rattle.pg_check.specs.rules.Numbers.{first_outside}
+use Rattle.pg_check.specs.inner.NumberFaults.{first_outside}
 use Rattle.pg_check.proofs.rules.numbers.first_outside.Given as goal
 
 abbrev pub invariant-loop-one : goal.invariant-loop-one

@@ -1,5 +1,5 @@
 use Rattle.std.proofs.Common.{ap, ◌∙◌}
-use Rattle.pg_check.specs.rules.Numbers.{first_reserved}
+use Rattle.pg_check.specs.inner.NumberFaults.{first_reserved}
 use Rattle.pg_check.proofs.lemmas.rules.Reach.{reserved_moved}
 use Rattle.pg_check.proofs.rules.numbers.first_reserved.Goals as goal
 

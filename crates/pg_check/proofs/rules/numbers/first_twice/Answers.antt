@@ -1,7 +1,8 @@
 use Rattle.std.proofs.Common.{get_or, arith, ap}
 use Rattle.std.proofs.lemmas.Grind.{common_steps}
 use Rattle.pg_check.specs.declared.rules.numbers.Keyed.{Keyed}
-use Rattle.pg_check.specs.rules.Numbers.{at, is_same}
+use Rattle.pg_check.specs.inner.NumberFaults.{at}
+use Rattle.pg_check.specs.rules.Numbers.{is_same}
 use Rattle.pg_check.proofs.lemmas.rules.FirstLaws.{again_more, again_found, was_new, was_old}
 use Rattle.pg_check.proofs.rules.numbers.first_twice.Goals as goal
 

@@ -3,7 +3,8 @@ use Rattle.std.specs.BTreeSet.{contains}
 use Rattle.std.specs.List.{list_any}
 use Rattle.std.specs.Ordering.{nat_cmp}
 use Rattle.pg_check.specs.declared.rules.numbers.Keyed.{Keyed}
-use Rattle.pg_check.specs.rules.Numbers.{at, first_again, first_twice, is_same}
+use Rattle.pg_check.specs.inner.NumberFaults.{at, first_again, first_twice}
+use Rattle.pg_check.specs.rules.Numbers.{is_same}
 use Rattle.pg_check.proofs.rules.numbers.first_twice.Given as goal
 
 abbrev pub invariant-loop-one : goal.invariant-loop-one

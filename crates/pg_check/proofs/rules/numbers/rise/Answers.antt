@@ -3,7 +3,8 @@ use Rattle.std.specs.List.{list_any}
 use Rattle.std.proofs.lemmas.Bool.Decides.{nat_tests}
 use Rattle.std.proofs.lemmas.List.Folds.{list_any-append}
 use Rattle.pg_check.specs.declared.rules.numbers.Keyed.{Keyed}
-use Rattle.pg_check.specs.rules.Numbers.{at, is_same}
+use Rattle.pg_check.specs.inner.NumberFaults.{at}
+use Rattle.pg_check.specs.rules.Numbers.{is_same}
 use Rattle.pg_check.proofs.lemmas.rules.FirstLaws.{again_more, take_item}
 use Rattle.pg_check.proofs.rules.numbers.rise.Goals as goal
 

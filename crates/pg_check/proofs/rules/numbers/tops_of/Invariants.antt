@@ -1,5 +1,5 @@
 use Rattle.std.proofs.Common.{◌≡◌, ◌++◌, drop}
-use Rattle.pg_check.specs.rules.Tops.{tops_from}
+use Rattle.pg_check.specs.inner.Tops.{tops_from}
 use Rattle.pg_check.proofs.rules.numbers.tops_of.Given as goal
 
 abbrev pub invariant-loop-item : goal.invariant-loop-item

@@ -1,5 +1,5 @@
 use Rattle.std.proofs.Common.{◌≡◌, map, drop}
-use Rattle.pg_check.specs.rules.Options.{first_wrong, stated}
+use Rattle.pg_check.specs.inner.OptionFaults.{first_wrong, stated}
 use Rattle.pg_check.proofs.rules.options.first_wrong.Given as goal
 
 abbrev pub invariant-loop-option : goal.invariant-loop-option

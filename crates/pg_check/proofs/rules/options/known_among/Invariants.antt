@@ -1,5 +1,6 @@
 use Rattle.std.proofs.Common.{◌≡◌, length, map}
-use Rattle.pg_check.specs.rules.Options.{entry, known_among}
+use Rattle.pg_check.specs.inner.OptionFaults.{entry}
+use Rattle.pg_check.specs.rules.Options.{known_among}
 use Rattle.pg_check.proofs.rules.options.known_among.Given as goal
 
 abbrev pub invariant-loop-table : goal.invariant-loop-table

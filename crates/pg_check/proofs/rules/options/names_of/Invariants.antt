@@ -1,6 +1,7 @@
 use Rattle.std.proofs.Common.{◌≡◌, map, take}
-use Rattle.pg_check.specs.rules.Names.{titled}
-use Rattle.pg_check.specs.rules.Options.{name_of, stated}
+use Rattle.pg_check.specs.inner.NameFaults.{titled}
+use Rattle.pg_check.specs.rules.Options.{name_of}
+use Rattle.pg_check.specs.inner.OptionFaults.{stated}
 use Rattle.pg_check.proofs.rules.options.names_of.Given as goal
 
 abbrev pub invariant-loop-option : goal.invariant-loop-option

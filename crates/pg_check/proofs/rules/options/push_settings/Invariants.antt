@@ -1,5 +1,6 @@
 use Rattle.std.proofs.Common.{◌≡◌, ◌++◌, map, take}
-use Rattle.pg_check.specs.rules.Options.{in_brackets, stated}
+use Rattle.pg_check.specs.rules.Options.{in_brackets}
+use Rattle.pg_check.specs.inner.OptionFaults.{stated}
 use Rattle.pg_check.proofs.rules.options.push_settings.Given as goal
 
 abbrev pub invariant-loop-setting : goal.invariant-loop-setting

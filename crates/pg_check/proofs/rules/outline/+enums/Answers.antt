@@ -1,5 +1,6 @@
 use Rattle.std.proofs.Common.{◌∙◌, ◌++◌, append-nil, flat_map, map, sym, ap}
-use Rattle.pg_check.specs.rules.Outline.{enumeration, enums_in, full_name}
+use Rattle.pg_check.specs.inner.CodeViews.{enumeration}
+use Rattle.pg_check.specs.rules.Outline.{enums_in, full_name}
 use Rattle.pg_check.proofs.lemmas.rules.Outlines.{part_enums}
 use Rattle.pg_check.proofs.rules.outline.+enums.Goals as goal
 

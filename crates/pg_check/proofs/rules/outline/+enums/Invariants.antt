@@ -1,5 +1,6 @@
 use Rattle.std.proofs.Common.{◌≡◌, ◌++◌, flat_map, map, take}
-use Rattle.pg_check.specs.rules.Outline.{enumeration, enums_in}
+use Rattle.pg_check.specs.inner.CodeViews.{enumeration}
+use Rattle.pg_check.specs.rules.Outline.{enums_in}
 use Rattle.pg_check.proofs.rules.outline.+enums.Given as goal
 
 abbrev pub invariant-push_body_enums-loop-part : goal.invariant-push_body_enums-loop-part

@@ -1,5 +1,6 @@
 use Rattle.std.proofs.Common.{◌∙◌, ◌++◌, map, sym, ap}
-use Rattle.pg_check.specs.rules.Outline.{message, messages_in}
+use Rattle.pg_check.specs.inner.CodeViews.{message}
+use Rattle.pg_check.specs.rules.Outline.{messages_in}
 use Rattle.pg_check.proofs.lemmas.rules.Outlines.{part_messages}
 use Rattle.pg_check.proofs.rules.outline.+messages.Goals as goal
 

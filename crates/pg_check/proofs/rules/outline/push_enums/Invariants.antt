@@ -1,5 +1,6 @@
 use Rattle.std.proofs.Common.{◌≡◌, ◌++◌, map, take}
-use Rattle.pg_check.specs.rules.Outline.{all_enums, enumeration}
+use Rattle.pg_check.specs.rules.Outline.{all_enums}
+use Rattle.pg_check.specs.inner.CodeViews.{enumeration}
 use Rattle.pg_check.proofs.rules.outline.push_enums.Given as goal
 
 abbrev pub invariant-loop-statement : goal.invariant-loop-statement

@@ -1,5 +1,6 @@
 use Rattle.std.proofs.Common.{◌≡◌, ◌++◌, flat_map, map, take}
-use Rattle.pg_check.specs.rules.Outline.{enumeration, message, own_enums}
+use Rattle.pg_check.specs.inner.CodeViews.{enumeration, message}
+use Rattle.pg_check.specs.rules.Outline.{own_enums}
 use Rattle.pg_check.proofs.rules.outline.push_inner_enums.Given as goal
 
 abbrev pub invariant-loop-one : goal.invariant-loop-one

@@ -1,5 +1,6 @@
 use Rattle.std.proofs.Common.{◌≡◌, ◌++◌, map, take}
-use Rattle.pg_check.specs.rules.Outline.{all_messages, message}
+use Rattle.pg_check.specs.rules.Outline.{all_messages}
+use Rattle.pg_check.specs.inner.CodeViews.{message}
 use Rattle.pg_check.proofs.rules.outline.push_messages.Given as goal
 
 abbrev pub invariant-loop-statement : goal.invariant-loop-statement

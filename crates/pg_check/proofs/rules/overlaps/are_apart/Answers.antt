@@ -1,5 +1,5 @@
 use Rattle.std.proofs.Common.{◌∙◌, None, ap}
-use Rattle.pg_check.specs.rules.Rows.{follow}
+use Rattle.pg_check.specs.inner.Rows.{follow}
 use Rattle.pg_check.proofs.lemmas.rules.InARow.{row_is}
 use Rattle.pg_check.proofs.rules.overlaps.are_apart.Goals as goal
 

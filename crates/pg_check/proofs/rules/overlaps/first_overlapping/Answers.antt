@@ -1,6 +1,7 @@
 use Rattle.std.proofs.Common.{◌≡◌, ◌∙◌, ◌+◌, ◌-◌, ◌<◌, ◌≤◌, false, take, length, sym, subst, arith}
 use Rattle.pg_check.specs.rules.KeepsRules.{are_apart}
-use Rattle.pg_check.specs.rules.ReservedItems.{at, overlap}
+use Rattle.pg_check.specs.inner.ItemFaults.{at}
+use Rattle.pg_check.specs.rules.ReservedItems.{overlap}
 use Rattle.pg_check.proofs.lemmas.rules.InARow.{first_is}
 use Rattle.pg_check.proofs.lemmas.rules.NoneLaws.{none_again}
 use Rattle.pg_check.proofs.rules.overlaps.first_overlapping.Goals as goal

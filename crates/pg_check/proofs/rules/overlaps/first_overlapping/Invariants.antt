@@ -1,4 +1,4 @@
--- The items before the one place are apart, and those before the other aren't.
+-- The items before the one index are apart, and those before the other aren't.
 use Rattle.std.proofs.Common.{◌-◌}
 use Rattle.pg_check.proofs.lemmas.rules.Halves.{AreHalves}
 use Rattle.pg_check.proofs.rules.overlaps.first_overlapping.Given as goal

@@ -1,5 +1,5 @@
 use Rattle.std.proofs.Common.{◌≡◌, drop}
-use Rattle.pg_check.specs.rules.ReservedItems.{first_beyond}
+use Rattle.pg_check.specs.inner.ItemFaults.{first_beyond}
 use Rattle.pg_check.proofs.rules.reserved.first_beyond.Given as goal
 
 abbrev pub invariant-loop-item : goal.invariant-loop-item

@@ -1,6 +1,6 @@
 use Rattle.std.proofs.Common.{◌≡◌, drop}
 use Rattle.pg_schema.specs.JsonName.{default_json_name, in_camel_case}
-use Rattle.pg_check.specs.rules.TextKeys.{key_from, text_key}
+use Rattle.pg_check.specs.inner.TextKeys.{key_from, text_key}
 use Rattle.pg_check.proofs.rules.text_keys.default_json_key.Given as goal
 
 abbrev pub invariant-loop-byte : goal.invariant-loop-byte

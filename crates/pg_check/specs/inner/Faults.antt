@@ -1,4 +1,4 @@
--- Rules that are broken, and which of them is reported. That it is the first in the text, and of one declaration the one that
+-- Rules that are broken, and which of them is reported. That it is the first in the file, and of one declaration the one that
 -- comes first among the rules, is this profile's choice.
 use Rattle.std.specs.Prelude.{ℕ, Bool, true, false, nat_lt, nat_le, nat_eq, ◌&&◌, ◌||◌, List, [], ◌∷◌, Option, Some, None}
 use Rattle.std.specs.Option.{option_map}
@@ -37,7 +37,7 @@ earlier None other = other
 earlier (Some f) None = Some f
 earlier (Some f) (Some g) = Some (chosen (is_before f g) f g)
 
--- the rule is broken by the declaration whose name stands there
+-- the rule is broken by the declaration whose name is there
 abbrev pub broken_at : Rule → ℕ → Fault
 broken_at rule at = record { rule = rule; declared = at; at = at }
 
@@ -60,7 +60,7 @@ abbrev pub first_fault : {X : Type 0} → (X → Option Fault) → List X → Op
 first_fault fault [] = None
 first_fault fault (x ∷ xs) = or_else (fault x) (first_fault fault xs)
 
--- the first in the text of a fault that was found and those of a list
+-- the first in the file of a fault that was found and those of a list
 abbrev pub earliest : {X : Type 0} → (X → Option Fault) → Option Fault → List X → Option Fault
 earliest fault found [] = found
 earliest fault found (x ∷ xs) = earliest fault (earlier found (fault x)) xs

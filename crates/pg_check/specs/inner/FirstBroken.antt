@@ -6,7 +6,7 @@ use Rattle.pg_check.specs.declared.declare.Refusal.{Refusal}
 use Rattle.pg_check.specs.declared.declare.Refusal.TheVariants.{Memory, Broken}
 use Rattle.pg_check.specs.declared.rules.fault.Fault.{Fault}
 use Rattle.pg_check.specs.parts.MadeParts.{Source}
-use Rattle.pg_check.specs.rules.Files.{file_fault}
+use Rattle.pg_check.specs.inner.FileFaults.{file_fault}
 use Rattle.pg_check.specs.rules.Outline.{file_messages}
 
 -- a fault of the file with that index comes before those of others

@@ -1,44 +1,33 @@
--- The rules that parts break which come from no text: those of files, all of them at no place. Reported is the first that breaks
+-- The rules that parts break which come from no source file: those of files, all at no position. Reported is the first that breaks
 -- one of the message types in their order, then the enums and the files, and of it the rule of the lowest code. More message
 -- types than may be come before all. That is this profile's choice.
-use Rattle.std.specs.Prelude.{◌≡◌, ℕ, suc, ℤ, pos, negsuc, Bool, true, false, not, nat_le, ◌&&◌, ◌||◌, List, map, length, Option, Some, None, is_some, string_bytes}
+use Rattle.std.specs.Prelude.{◌≡◌, ℕ, Bool, true, false, not, nat_le, ◌&&◌, ◌||◌, List, map, length, Option, Some, None, is_some}
 use Rattle.std.specs.BTreeSet.{BTreeSet, contains}
 use Rattle.std.specs.List.{list_any}
 use Rattle.std.specs.Ordering.{nat_cmp}
 use Rattle.pg_schema.specs.declared.parts.enum_type.EnumType.{EnumType}
-use Rattle.pg_schema.specs.declared.parts.enum_type.EnumValue.{EnumValue}
-use Rattle.pg_schema.specs.declared.parts.enum_type.ReservedValues.{ReservedValues}
 use Rattle.pg_schema.specs.declared.parts.field.Element.{Element}
 use Rattle.pg_schema.specs.declared.parts.field.Field.{Field}
 use Rattle.pg_schema.specs.declared.parts.field.Presence.{Presence}
 use Rattle.pg_schema.specs.declared.parts.field.Presence.TheVariants as presences
 use Rattle.pg_schema.specs.declared.parts.file.File.{File}
 use Rattle.pg_schema.specs.declared.parts.message_type.MessageType.{MessageType}
-use Rattle.pg_schema.specs.declared.parts.message_type.ReservedFields.{ReservedFields}
 use Rattle.pg_schema.specs.declared.parts.options.FileOption.{FileOption}
 use Rattle.pg_schema.specs.declared.parts.Parts.{Parts}
 use Rattle.pg_schema.specs.rules.Fields.{stated_or, is_key}
 use Rattle.pg_schema.specs.rules.Files.{is_file_option}
 use Rattle.pg_schema.specs.rules.Messages.{have_members, is_member}
 use Rattle.pg_schema.specs.Shape.{is_packable, is_singular}
+use Rattle.pg_check.specs.admitting.DeclaredParts.{declared_enum, declared_message, nowhere, option_key}
 use Rattle.pg_check.specs.declared.rules.fault.Fault.{Fault}
 use Rattle.pg_check.specs.declared.rules.fault.Rule.{Rule}
 use Rattle.pg_check.specs.declared.rules.fault.Rule.TheVariants as rules
-use Rattle.pg_check.specs.declared.rules.numbers.Keyed.{Keyed}
-use Rattle.pg_check.specs.declared.rules.numbers.Numbers.{Numbers}
-use Rattle.pg_check.specs.rules.Enums as enums
-use Rattle.pg_check.specs.rules.Faults.{broken, earlier, first_fault, or_else}
-use Rattle.pg_check.specs.rules.Messages as messages
-use Rattle.pg_check.specs.rules.Names as names
-use Rattle.pg_check.specs.rules.Numbers as numbers
-use Rattle.pg_check.specs.rules.Numbers.{rank}
-use Rattle.pg_check.specs.rules.ReservedItems.{items_fault}
+use Rattle.pg_check.specs.inner.EnumFaults as enums
+use Rattle.pg_check.specs.inner.Faults.{broken, earlier, first_fault, or_else}
+use Rattle.pg_check.specs.inner.MessageFaults as messages
+use Rattle.pg_check.specs.inner.NumberFaults as numbers
 
--- the one position of all that no source file declares
-abbrev pub nowhere : ℕ
-nowhere = 0
-
--- the rule is broken, at no place
+-- the rule is broken, at no position
 abbrev pub where_broken : Bool → Option ℕ
 where_broken true = Some nowhere
 where_broken false = None
@@ -47,18 +36,6 @@ abbrev pub fault_if : Rule → Bool → Option Fault
 fault_if rule is_broken = broken rule (where_broken is_broken)
 
 -- ---- message types
-
-abbrev pub key_of : Field → Keyed
-key_of f = record { key = rank false f.number; at = nowhere }
-
-abbrev pub item_of : ReservedFields → Numbers
-item_of r = record { first = rank false r.first; last = rank false r.last; at = nowhere }
-
-abbrev pub name_of : Field → names.Named
-name_of f = record { text = string_bytes f.name; at = nowhere }
-
-abbrev pub json_name_of : Field → names.Named
-json_name_of f = record { text = string_bytes f.json_name; at = nowhere }
 
 -- a key of no integral type, bool or string
 abbrev pub has_bad_key : Presence → Bool
@@ -79,22 +56,13 @@ abbrev pub is_badly_packed : Presence → Element → Option Bool → Bool
 is_badly_packed presences.Implicit element stated = stated_or stated false
 is_badly_packed presences.Explicit element stated = stated_or stated false
 is_badly_packed (presences.Map key) element stated = stated_or stated false
-is_badly_packed (presences.Repeated packed) element stated = (packed || stated_or stated false) && not (is_packable element)
+is_badly_packed (presences.Repeated packed) element stated =
+    (packed || stated_or stated false) && not (is_packable element)
 
 abbrev pub field_badly_packed : Field → Bool
 field_badly_packed f = is_badly_packed f.presence f.element f.options.packed
 
--- the fields as the rules see them
-abbrev pub declared_message : MessageType → messages.DeclaredMessage
-declared_message t = record {
-  keys = map key_of t.fields.items;
-  items = map item_of t.reserved_numbers.items;
-  names = map name_of t.fields.items;
-  reserved_names = map string_bytes t.reserved_names.items;
-  json_names = map json_name_of t.fields.items;
-}
-
--- the set has the places of just those oneofs that have a member
+-- the set has the indexes of just those oneofs that have a member
 abbrev pub IsPlaceSet : List Field → BTreeSet ℕ → Type 0
 IsPlaceSet fields set = (place : ℕ) → contains nat_cmp set place ≡ list_any (is_member place) fields
 
@@ -105,44 +73,18 @@ has_bad_oneof t = list_any is_bad_member t.fields.items || not (have_members (le
 abbrev pub shapes_fault : MessageType → Option Fault
 shapes_fault t =
     earlier (fault_if rules.BadMapKey (list_any field_has_bad_key t.fields.items))
-    (earlier (fault_if rules.BadOneofMember (has_bad_oneof t)) (fault_if rules.PackedNotAllowed (list_any field_badly_packed t.fields.items)))
+    (earlier (fault_if rules.BadOneofMember (has_bad_oneof t))
+    (fault_if rules.PackedNotAllowed (list_any field_badly_packed t.fields.items)))
 
 abbrev pub message_fault : MessageType → Option Fault
 message_fault t = earlier (messages.fields_fault (declared_message t)) (shapes_fault t)
 
 -- ---- enums
 
--- counted from -2^64
-abbrev pub value_rank : ℤ → ℕ
-value_rank (pos n) = rank false n
-value_rank (negsuc n) = rank true (suc n)
-
-abbrev pub value_key : EnumValue → Keyed
-value_key v = record { key = value_rank v.number; at = nowhere }
-
-abbrev pub value_item : ReservedValues → Numbers
-value_item r = record { first = value_rank r.first; last = value_rank r.last; at = nowhere }
-
-abbrev pub value_name : EnumValue → names.Named
-value_name v = record { text = string_bytes v.name; at = nowhere }
-
--- an enum as the rules see it
-abbrev pub declared_enum : EnumType → enums.DeclaredEnum
-declared_enum e = record {
-  keys = map value_key e.values.items;
-  names = map value_name e.values.items;
-  items = map value_item e.reserved_numbers.items;
-  reserved_names = map string_bytes e.reserved_names.items;
-  has_aliases = stated_or e.options.allow_alias false;
-}
-
 abbrev pub enum_fault : EnumType → Option Fault
 enum_fault e = enums.values_fault nowhere (declared_enum e)
 
 -- ---- files
-
-abbrev pub option_key : FileOption → Keyed
-option_key o = record { key = o.number; at = nowhere }
 
 abbrev pub is_bad_option : FileOption → Bool
 is_bad_option o = not (is_file_option o)
@@ -150,13 +92,17 @@ is_bad_option o = not (is_file_option o)
 -- an option that is unknown, of a wrong kind, or given twice
 abbrev pub file_fault : File → Option Fault
 file_fault f =
-    earlier (fault_if rules.BadOption (list_any is_bad_option f.options.items)) (broken rules.BadOption (numbers.first_twice (map option_key f.options.items)))
+    earlier (fault_if rules.BadOption (list_any is_bad_option f.options.items))
+    (broken rules.BadOption (numbers.first_twice (map option_key f.options.items)))
 
 -- ---- all parts
 
 abbrev pub types_fault : List MessageType → Option Fault
-types_fault types = or_else (fault_if rules.TooManyTypes (not (nat_le (length types) 4096))) (first_fault message_fault types)
+types_fault types =
+    or_else (fault_if rules.TooManyTypes (not (nat_le (length types) 4096))) (first_fault message_fault types)
 
 -- the first rule that the parts break
 abbrev pub parts_fault : Parts → Option Fault
-parts_fault parts = or_else (types_fault parts.types.items) (or_else (first_fault enum_fault parts.enums.items) (first_fault file_fault parts.files.items))
+parts_fault parts =
+    or_else (types_fault parts.types.items)
+    (or_else (first_fault enum_fault parts.enums.items) (first_fault file_fault parts.files.items))

@@ -1,4 +1,4 @@
--- Keys of texts, by which texts that stand once each are mostly seen to (this profile's way to look for JSON names that clash).
+-- Keys of names, by which most names that are there once are told (this profile's way to look for JSON names that clash).
 use Rattle.std.specs.Prelude.{ℕ, ◌+◌, ◌*◌, ◌^◌, ◌%◌, List, [], ◌∷◌}
 use Rattle.pg_check.specs.declared.rules.numbers.Keyed.{Keyed}
 use Rattle.pg_check.specs.rules.Names.{Named}
@@ -10,7 +10,7 @@ abbrev pub key_from : ℕ → List ℕ → ℕ
 key_from key [] = key
 key_from key (b ∷ bs) = key_from (next_key key b) bs
 
--- the same of texts that are the same
+-- the key of a name; names that are the same have the same
 abbrev pub text_key : List ℕ → ℕ
 text_key text = key_from 0 text
 

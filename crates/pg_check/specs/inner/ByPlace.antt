@@ -2,7 +2,7 @@
 use Rattle.std.specs.Prelude.{◌==◌, ℕ, List, [], ◌∷◌, Option, Some, None, if◌then◌else◌}
 use Rattle.pg_link.specs.declared.uses.target.Target.{Target}
 
--- what stands beside the first of these places that is this one
+-- what is next to the first of these offsets that is this one
 abbrev pub named_at : (places : List ℕ) (targets : List Target) (at : ℕ) → Option Target
 named_at [] targets at = None
 named_at (place ∷ places) [] at = None

@@ -1,0 +1,143 @@
+-- What the rules say of a type name by its first byte, of linked files, is what it means.
+use Rattle.std.proofs.Common.{◌≡◌, ◌∙◌, ◌↔◌, ℕ, Bool, true, false, cond, ◌&&◌, List, [], ◌∷◌, map, Option, Some, None, option_map, sym, ap, subst, refl}
+use Rattle.std.specs.List.{AllByRecursion}
+use Rattle.std.specs.Option.{option_and_then}
+use Rattle.std.proofs.lemmas.Bool.{false≢true}
+use Rattle.std.proofs.lemmas.List.Elements.{recursion_from_All}
+use Rattle.pg_schema.specs.declared.parts.field.Element.TheVariants as elements
+use Rattle.pg_schema.specs.declared.parts.field.Scalar.{Scalar}
+use Rattle.pg_schema.specs.Shape.{is_packable}
+use Rattle.pg_link.specs.declared.names.Kind.{Kind}
+use Rattle.pg_link.specs.declared.names.Kind.TheVariants as kinds
+use Rattle.pg_link.specs.declared.uses.target.Target.{Target}
+use Rattle.pg_link.specs.declared.uses.target.Target.TheVariants as targets
+use Rattle.pg_link.specs.names.Files.{Declared, visible_names}
+use Rattle.pg_link.specs.Linked.{IsLinkedUp, LinkedFiles}
+use Rattle.pg_link.specs.names.Names.{Text}
+use Rattle.pg_link.specs.names.Resolves.{found, reference}
+use Rattle.pg_link.specs.uses.Targets.{all_declared, number_in, enum_names, message_names, numbered, target_at, target_in, use_at}
+use Rattle.pg_link.specs.uses.Uses.{Use, field_uses, file_uses, in_field, is_scalar}
+use Rattle.pg_link.specs.walk.Walk.{Entry, IsParsed, outlines, path_of}
+use Rattle.pg_check.specs.parts.EnumPlaces.{by_scope, enum_places}
+use Rattle.pg_check.specs.parts.PackedFields.{ArePackedByMeaning, IsPackable, IsPackedByMeaning, MayBePacked, ResolvesToEnum}
+use Rattle.pg_check.specs.parts.ResolvedTypes.{messages_of, words_of}
+use Rattle.pg_check.specs.rules.Members.{DeclaredField, Mapped, Plain, members}
+use Rattle.pg_check.specs.rules.Messages.{is_repeated}
+use Rattle.pg_check.specs.rules.Outline.{Message, file_messages}
+use Rattle.pg_check.specs.rules.Types.{is_enum, is_packable as may_be, scalar_named}
+use Rattle.pg_check.proofs.lemmas.parts.Eachs.{each_mapped, each_weaker, joined_all}
+use Rattle.pg_check.proofs.lemmas.parts.NamedUses.{no_scalar}
+use Rattle.pg_check.proofs.lemmas.parts.ResolvedTypes.{HasTarget, files_resolve, resolve_in, targets_of}
+use Rattle.pg_check.proofs.lemmas.parts.ResolvedUses.{MemberHolds, MessageHolds, messages_resolved}
+use Rattle.pg_check.proofs.lemmas.parts.UsesRise.{uses_found}
+use Rattle.pg_check.proofs.lemmas.parts.WordTrees.{file_good}
+use Rattle.pg_check.proofs.lemmas.parts.WordedFiles.{IsGoodFile, good_file}
+use Rattle.pg_check.proofs.lemmas.rules.NoneLaws.{and_both, and_left, and_right}
+use Rattle.pg_syntax.specs.declared.tree as tree
+
+made_of : (make : ℕ → Target) (o : Option ℕ) (t : Target) → option_map make o ≡ Some t → (n : ℕ) × (make n ≡ t)
+made_of make None t h = absurd (cc (h))
+made_of make (Some n) t h = let same : make n ≡ t = cc (h) in (n, same)
+
+module _ (files : List Entry) where
+  abbrev all : List Declared
+  all = all_declared files
+
+  abbrev here : Target → Option Target
+  here t = Some (by_scope (enum_places files) t)
+
+  -- an enum's number is that of an enum's name
+  kind_says : (full : Text) (k : Kind) (t : Target) → numbered all true full k ≡ Some t → (is_enum (here t) ≡ true) ↔ (k ≡ kinds.Enum)
+  kind_says full kinds.Enum t is =
+      let (n, same) = made_of targets.Enum (number_in (enum_names all) full) t is in
+      ((λ h. refl), λ h. ap (λ s. is_enum (here s)) (sym same))
+  kind_says full kinds.Message t is =
+      let (n, same) = made_of targets.Message (number_in (message_names all) full) t is in
+      ((λ h. absurd (false≢true (ap (λ s. is_enum (here s)) same ∙ h))), λ h. absurd (cc (h)))
+  kind_says full kinds.Entry t is = absurd (cc (is))
+  kind_says full kinds.Package t is = absurd (cc (is))
+  kind_says full kinds.Value t is = absurd (cc (is))
+  kind_says full kinds.Field t is = absurd (cc (is))
+  kind_says full kinds.Oneof t is = absurd (cc (is))
+  kind_says full kinds.Service t is = absurd (cc (is))
+  kind_says full kinds.Method t is = absurd (cc (is))
+
+  -- what a use means, and what is found at its byte
+  pub record IsMeant (e : Entry) (u : Use) : Type 0 where
+    pub target : Target
+    pub at : target_at files e u.at ≡ Some target
+    pub full : Text
+    pub kind : Kind
+    pub is_found : found (visible_names (outlines files) (path_of e)) u.scope u.name ≡ Some (full, kind)
+    pub is_numbered : numbered all u.takes_enums full kind ≡ Some target
+
+  is_meant : (e : Entry) (u : Use) (t : Target) → resolve_in files e u ≡ Some t → use_at (file_uses e.1.tree) u.at ≡ Some u → IsMeant e u
+  is_meant e u t is first = by (found (visible_names (outlines files) (path_of e)) u.scope u.name) refl is
+    where
+      by : (o : Option (Text × Kind)) → found (visible_names (outlines files) (path_of e)) u.scope u.name ≡ o
+          → option_and_then (λ (f : Text × Kind). numbered all u.takes_enums f.0 f.1) o ≡ Some t → IsMeant e u
+      by None at none = absurd (cc (none))
+      by (Some f) at some = record {
+        target = t;
+        at = ap (option_and_then (target_in all (visible_names (outlines files) (path_of e)))) first ∙ is;
+        full = f.0;
+        kind = f.1;
+        is_found = at;
+        is_numbered = some;
+      }
+
+  all_meant : (e : Entry) (us : List Use) → AllByRecursion (HasTarget (resolve_in files e)) us → AllByRecursion (λ u. use_at (file_uses e.1.tree) u.at ≡ Some u) us → AllByRecursion (IsMeant e) us
+  all_meant e [] h k = tt
+  all_meant e (u ∷ us) h k = (is_meant e u h.0.0 h.0.1 k.0, all_meant e us h.1 k.1)
+
+  -- ---- a field
+
+  name_says : (e : Entry) (scope : List ℕ) (name : tree.TypeName.TypeName) → IsMeant e (in_field (words_of scope) name) → (is_enum (targets_of files e name.span.from) ≡ true) ↔ ResolvesToEnum files e scope name
+  name_says e scope name h =
+      let says = kind_says h.full h.kind h.target h.is_numbered in
+      let there : is_enum (targets_of files e name.span.from) ≡ is_enum (here h.target) = ap (λ o. is_enum (option_map (by_scope (enum_places files)) o)) h.at in (
+        (λ is. record { full = h.full; is_enum = subst (λ k. found (visible_names (outlines files) (path_of e)) (words_of scope) (reference name) ≡ Some (h.full, k)) (says.0 (sym there ∙ is)) h.is_found }),
+        λ r. there ∙ says.1 (let same : Some (h.full, h.kind) ≡ Some (r.full, kinds.Enum) = sym h.is_found ∙ r.is_enum in kind_of h.kind h.full r.full same),
+      )
+    where
+      kind_of : (k : Kind) (full other : Text) → Some (full, k) ≡ Some (other, kinds.Enum) → k ≡ kinds.Enum
+      kind_of k full other same = let both : (full, k) ≡ (other, kinds.Enum) = cc (same) in ap (λ m. m.1) both
+
+  type_says : (e : Entry) (scope : List ℕ) (name : tree.TypeName.TypeName) → AllByRecursion (IsMeant e) (field_uses (words_of scope) name)
+      → (may_be (scalar_named name) (targets_of files e name.span.from) ≡ true) ↔ IsPackable (scalar_named name) (ResolvesToEnum files e scope name)
+  type_says e scope name h = by (scalar_named name) refl
+    where
+      by : (o : Option Scalar) → scalar_named name ≡ o → (may_be o (targets_of files e name.span.from) ≡ true) ↔ IsPackable o (ResolvesToEnum files e scope name)
+      by (Some s) is = ((λ k. k), λ k. k)
+      by None is = name_says e scope name (subst (λ b. AllByRecursion (IsMeant e) (cond b [] (in_field (words_of scope) name ∷ []))) (no_scalar name is) h).0
+
+  member_says : (e : Entry) (scope : List ℕ) (m : DeclaredField) → MemberHolds (IsMeant e) (words_of scope) m → IsPackedByMeaning files e scope m
+  member_says e scope (Plain f oneof) h =
+      let says = type_says e scope f.type_name h in (
+        (λ k. (and_left _ _ k, says.0 (and_right (is_repeated f.label) _ k))),
+        λ k. and_both _ _ k.0 (says.1 k.1),
+      )
+  member_says e scope (Mapped m oneof) h = ((λ k. false≢true k), λ k. absurd k)
+
+  -- ---- files
+
+  abbrev IsSaid : Entry × Message → Type 0
+  IsSaid x = AllByRecursion (IsPackedByMeaning files x.0 x.1.full) (members x.1.body)
+
+  file_says : (e : Entry) → IsParsed e.1.bytes.items e.1.tree → AllByRecursion (HasTarget (resolve_in files e)) (file_uses e.1.tree) → AllByRecursion IsSaid (map (λ (m : Message). (e, m)) (file_messages e.1.tree))
+  file_says e parsed resolved =
+      let good : IsGoodFile e.1.tree = good_file e.1.tree (file_good e.1.bytes.items e.1.tree parsed) in
+      let meant = all_meant e (file_uses e.1.tree) resolved (uses_found e.1.bytes.items e.1.tree parsed) in
+      each_mapped IsSaid (λ (m : Message). (e, m)) (file_messages e.1.tree)
+      (each_weaker (MessageHolds (IsMeant e)) (λ m. IsSaid (e, m)) (λ m h. each_weaker (MemberHolds (IsMeant e) (words_of m.full)) (IsPackedByMeaning files e m.full) (member_says e m.full) (members m.body) h)
+      (file_messages e.1.tree) (messages_resolved (IsMeant e) e.1.tree good meant))
+
+  files_say : (es : List Entry) → AllByRecursion (λ (e : Entry). IsParsed e.1.bytes.items e.1.tree) es → AllByRecursion (λ e. AllByRecursion (HasTarget (resolve_in files e)) (file_uses e.1.tree)) es
+      → AllByRecursion IsSaid (messages_of es)
+  files_say [] parsed resolved = tt
+  files_say (e ∷ es) parsed resolved =
+      joined_all IsSaid (map (λ (m : Message). (e, m)) (file_messages e.1.tree)) (messages_of es) (file_says e parsed.0 resolved.0) (files_say es parsed.1 resolved.1)
+
+pub packed_fields : (l : LinkedFiles) → IsLinkedUp l → ArePackedByMeaning l.files
+packed_fields l up =
+    files_say l.files l.files (recursion_from_All (λ (e : Entry). IsParsed e.1.bytes.items e.1.tree) l.files up.parsed) (files_resolve l.files l.files l.targets up.resolved)
