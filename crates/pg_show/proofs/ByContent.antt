@@ -1,4 +1,4 @@
--- The lines of a message are those of its contents, one behind the other.
+-- The lines of a message are those of its contents, one after the other.
 use Rattle.std.proofs.Common.{◌≡◌, ℕ, List, [], ◌∷◌, ◌++◌, flat_map, map, Option, Some, None, Bool, true, false, refl, ap, ap₂, sym, ◌∙◌, append-nil, append_assoc}
 use Rattle.pg_schema.specs.declared.parts.field.TypeId.{TypeId}
 use Rattle.pg_schema.specs.declared.parts.Parts.{Parts}

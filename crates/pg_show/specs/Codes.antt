@@ -1,4 +1,4 @@
--- The number behind the E by which users know the error.
+-- The number after the E in the code that users see.
 use Rattle.std.specs.Prelude.{ℕ}
 use Rattle.pg_show.specs.declared.error.HexError.{HexError}
 use Rattle.pg_show.specs.declared.error.HexError.TheVariants as errors

@@ -9,7 +9,7 @@ abbrev pub hex_of : List ℕ → List ℕ
 hex_of [] = codes "-"
 hex_of (byte ∷ bytes) = encode_lower (byte ∷ bytes)
 
--- The bytes of a word, which is `-` or two digits a byte, in either case.
+-- The bytes of an argument, which is `-` or two digits a byte, in either case.
 abbrev pub bytes_in : List ℕ → Option (List ℕ)
 bytes_in word = if bytes_eq word (codes "-") then Some [] else result_ok (decode_of word)
 

@@ -1,4 +1,4 @@
--- The lines by which a message is shown (this profile's choice). Texts are lists of bytes.
+-- The lines by which a message is shown, as lists of bytes (this profile's choice).
 use Rattle.std.specs.Prelude.{ℕ, List, [], ◌∷◌, ◌++◌, flat_map, codes, decimal, Option, Some, None}
 use Rattle.std.specs.Fmt.{signed_decimal}
 use Rattle.std.specs.Int.{w32, w64, to_be_bytes}
@@ -17,7 +17,7 @@ use Rattle.pg_show.specs.Hex.{hex_of}
 abbrev pub Text : Type 0
 Text = List ℕ
 
--- how a field of a message type is called, by its number
+-- what a field of a message type is called, by its number
 abbrev pub Names : Type 0
 Names = TypeId → ℕ → Text
 
@@ -29,7 +29,7 @@ line_end = 10 ∷ []
 
 -- ---- an item
 
--- whether bytes are a text says their field
+-- the field of bytes says whether they are a string
 abbrev pub kind : Element → Text
 kind (elements.Scalar s) = of s
   where
@@ -39,7 +39,8 @@ kind (elements.Scalar s) = of s
 kind (elements.Enum e) = codes "bytes "
 kind (elements.Message t) = codes "bytes "
 
--- A number in decimal; the bits of a float as a number of 8 digits, those of a double of 16; and the bytes of a text, or bytes.
+-- A number in decimal; the bits of a float as a number of 8 digits, those of a double of 16; the bytes of a string or
+-- of bytes.
 abbrev pub item : Element → Leaf → Text
 item element (Int n) = codes "int " ++ signed_decimal n
 item element (F32 bits) = codes "f32 " ++ encode_lower (to_be_bytes w32 bits)
@@ -48,7 +49,7 @@ item element (Bytes bytes) = kind element ++ hex_of bytes
 
 -- ---- a line
 
--- in a map `key ITEM value `; a key is a number or a text
+-- in a map `key ITEM value `; a key is a number or a string
 abbrev pub key_words : Option Leaf → Text
 key_words None = []
 key_words (Some key) = codes "key " ++ (item (elements.Scalar scalars.String) key ++ codes " value ")
@@ -77,11 +78,14 @@ element_of fs number = of (field_at fs number)
 abbrev pub inner : Text → Text
 inner indent = codes "  " ++ indent
 
--- A line for each item, by rising number and key; behind a message's line its own lines, further in; and then the unknown records.
+-- A line for each item, by rising number and key; after a nested message's line its own lines, further in; then the
+-- unknown records.
 abbrev pub lines : Names → Shape → TypeId → Text → Message → Text
 lines names shape type indent (ends unknown) = flat_map (unknown_line indent) unknown
 lines names shape type indent (holds number key leaf later) =
-    line indent number (names type number) key (item (element_of (fields shape type) number) leaf) ++ lines names shape type indent later
+    line indent number (names type number) key (item (element_of (fields shape type) number) leaf)
+    ++ lines names shape type indent later
 lines names shape type indent (nests number key child later) =
     line indent number (names type number) key (codes "msg")
-    ++ (lines names shape (element_type (element_of (fields shape type) number)) (inner indent) child ++ lines names shape type indent later)
+    ++ (lines names shape (element_type (element_of (fields shape type) number)) (inner indent) child
+    ++ lines names shape type indent later)

@@ -1,4 +1,4 @@
--- The text by which bytes are shown, and when they are refused.
+-- The lines by which bytes are shown, and when they are refused.
 use Rattle.std.specs.Prelude.{◌≡◌, ℕ, ◌<◌, List, [], ◌++◌, length, codes, Option, Some, None, string_bytes}
 use Rattle.pg_schema.specs.declared.parts.field.Field.{Field}
 use Rattle.pg_schema.specs.declared.parts.field.TypeId.{TypeId}
@@ -30,7 +30,7 @@ again_line bytes = codes "again " ++ (hex_of bytes ++ line_end)
 abbrev pub shown : Names → Shape → TypeId → Message → Text
 shown names shape type m = lines names shape type [] m ++ again_line (enc shape type m)
 
--- the text is that of the message that the bytes are read as
+-- the lines are those of the message that the bytes are read as
 pub record Shows (names : Names) (shape : Shape) (type : TypeId) (bytes : List ℕ) (text : Text) : Type 0 where
   pub message : Message
   pub read : dec shape type bytes ≡ Some message
@@ -42,11 +42,11 @@ pub record IsTooLong (shape : Shape) (type : TypeId) (bytes : List ℕ) : Type 0
   pub read : dec shape type bytes ≡ Some message
   pub too_long : cap < length (enc shape type message)
 
--- messages may be nested that deep; the root has depth 1
+-- how deep messages may be nested; the root has depth 1
 abbrev pub most_levels : ℕ
 most_levels = 100
 
--- as reading refuses; and where the message's encoding is too long
+-- bytes are refused as reading refuses them, and where the message's encoding is too long
 abbrev pub Refuses : Shape → TypeId → List ℕ → DynError → Type 0
 Refuses shape type bytes errors.TooLong = IsTooLong shape type bytes
 Refuses shape type bytes e = MayRefuse shape type most_levels bytes e

@@ -1,4 +1,4 @@
--- Worked examples: small types, bytes, and the text by which they are shown; and hexadecimal words.
+-- Worked examples: small types, bytes, and the lines by which they are shown; and hexadecimal arguments.
 use Rattle.std.specs.Prelude.{◌≡◌, ℕ, ◌-◌, List, [], ◌∷◌, ◌++◌, flat_map, get_or, codes, true, Some, None}
 use Rattle.pg_schema.specs.declared.parts.field.Element.TheVariants as elements
 use Rattle.pg_schema.specs.declared.parts.field.Presence.TheVariants.{Implicit, Explicit, Repeated, Map}
@@ -28,7 +28,7 @@ ShowsLines names shape bytes texts = Shows (named names) shape first bytes (join
 abbrev pub only_a : List Text
 only_a = codes "a" ∷ []
 
--- a message of the same type, and a number
+-- a type that nests itself, with a number
 abbrev pub child_and_number : Shape
 child_and_number = of_fields (field 1 Explicit (elements.Message first) ∷ scalar 2 Implicit Int32 ∷ [])
 
@@ -42,47 +42,74 @@ abbrev pub children_by_number : Shape
 children_by_number = of_fields (field 1 (Map Int32) (elements.Message first) ∷ [])
 
 abbrev pub UnknownRecord : Type 0
-UnknownRecord = ShowsLines only_a int32 (8 ∷ 5 ∷ 18 ∷ 1 ∷ 120 ∷ []) (codes "1 a int 5" ∷ codes "unknown 120178" ∷ codes "again 0805120178" ∷ [])
+UnknownRecord =
+    ShowsLines only_a int32 (8 ∷ 5 ∷ 18 ∷ 1 ∷ 120 ∷ [])
+    (codes "1 a int 5" ∷ codes "unknown 120178" ∷ codes "again 0805120178" ∷ [])
 
 abbrev pub Zero : Type 0
 Zero = ShowsLines only_a int32 (8 ∷ 0 ∷ []) (codes "again -" ∷ [])
 
 abbrev pub PackedList : Type 0
-PackedList = ShowsLines only_a (of_fields (scalar 1 (Repeated true) Int32 ∷ [])) (8 ∷ 1 ∷ 10 ∷ 2 ∷ 2 ∷ 3 ∷ 8 ∷ 4 ∷ []) (codes "1 a int 1" ∷ codes "1 a int 2" ∷ codes "1 a int 3" ∷ codes "1 a int 4" ∷ codes "again 0a0401020304" ∷ [])
+PackedList =
+    ShowsLines only_a (of_fields (scalar 1 (Repeated true) Int32 ∷ [])) (8 ∷ 1 ∷ 10 ∷ 2 ∷ 2 ∷ 3 ∷ 8 ∷ 4 ∷ [])
+    (codes "1 a int 1" ∷ codes "1 a int 2" ∷ codes "1 a int 3" ∷ codes "1 a int 4" ∷ codes "again 0a0401020304" ∷ [])
 
 abbrev pub Child : Type 0
-Child = ShowsLines child_names child_and_number (10 ∷ 2 ∷ 16 ∷ 5 ∷ 10 ∷ 0 ∷ []) (codes "1 m msg" ∷ codes "  2 a int 5" ∷ codes "again 0a021005" ∷ [])
+Child =
+    ShowsLines child_names child_and_number (10 ∷ 2 ∷ 16 ∷ 5 ∷ 10 ∷ 0 ∷ [])
+    (codes "1 m msg" ∷ codes "  2 a int 5" ∷ codes "again 0a021005" ∷ [])
 
--- the child's unknown record stands among its own lines
+-- the child's unknown record is among its own lines
 abbrev pub ChildWithUnknown : Type 0
-ChildWithUnknown = ShowsLines child_names child_and_number (10 ∷ 4 ∷ 10 ∷ 2 ∷ 24 ∷ 1 ∷ 16 ∷ 3 ∷ []) (codes "1 m msg" ∷ codes "  1 m msg" ∷ codes "    unknown 1801" ∷ codes "2 a int 3" ∷ codes "again 0a040a0218011003" ∷ [])
+ChildWithUnknown =
+    ShowsLines child_names child_and_number (10 ∷ 4 ∷ 10 ∷ 2 ∷ 24 ∷ 1 ∷ 16 ∷ 3 ∷ [])
+    (codes "1 m msg" ∷ codes "  1 m msg" ∷ codes "    unknown 1801" ∷ codes "2 a int 3"
+    ∷ codes "again 0a040a0218011003" ∷ [])
 
 abbrev pub EntryTwice : Type 0
-EntryTwice = ShowsLines only_a numbers_by_number (10 ∷ 4 ∷ 8 ∷ 1 ∷ 16 ∷ 2 ∷ 10 ∷ 4 ∷ 8 ∷ 1 ∷ 16 ∷ 3 ∷ []) (codes "1 a key int 1 value int 3" ∷ codes "again 0a0408011003" ∷ [])
+EntryTwice =
+    ShowsLines only_a numbers_by_number (10 ∷ 4 ∷ 8 ∷ 1 ∷ 16 ∷ 2 ∷ 10 ∷ 4 ∷ 8 ∷ 1 ∷ 16 ∷ 3 ∷ [])
+    (codes "1 a key int 1 value int 3" ∷ codes "again 0a0408011003" ∷ [])
 
 abbrev pub EmptyEntry : Type 0
-EmptyEntry = ShowsLines only_a numbers_by_number (10 ∷ 0 ∷ []) (codes "1 a key int 0 value int 0" ∷ codes "again 0a0408001000" ∷ [])
+EmptyEntry =
+    ShowsLines only_a numbers_by_number (10 ∷ 0 ∷ [])
+    (codes "1 a key int 0 value int 0" ∷ codes "again 0a0408001000" ∷ [])
 
 abbrev pub EntryOfAMessage : Type 0
-EntryOfAMessage = ShowsLines only_a children_by_number (10 ∷ 4 ∷ 8 ∷ 1 ∷ 18 ∷ 0 ∷ []) (codes "1 a key int 1 value msg" ∷ codes "again 0a0408011200" ∷ [])
+EntryOfAMessage =
+    ShowsLines only_a children_by_number (10 ∷ 4 ∷ 8 ∷ 1 ∷ 18 ∷ 0 ∷ [])
+    (codes "1 a key int 1 value msg" ∷ codes "again 0a0408011200" ∷ [])
 
 abbrev pub LastOfAOneof : Type 0
-LastOfAOneof = ShowsLines (codes "a" ∷ codes "b" ∷ []) (of_fields (member 1 Int32 ∷ member 2 Int32 ∷ [])) (8 ∷ 1 ∷ 16 ∷ 2 ∷ []) (codes "2 b int 2" ∷ codes "again 1002" ∷ [])
+LastOfAOneof =
+    ShowsLines (codes "a" ∷ codes "b" ∷ []) (of_fields (member 1 Int32 ∷ member 2 Int32 ∷ [])) (8 ∷ 1 ∷ 16 ∷ 2 ∷ [])
+    (codes "2 b int 2" ∷ codes "again 1002" ∷ [])
 
 abbrev pub BelowZero : Type 0
-BelowZero = ShowsLines only_a (of_fields (scalar 1 Implicit scalars.Sint32 ∷ [])) (8 ∷ 3 ∷ []) (codes "1 a int -2" ∷ codes "again 0803" ∷ [])
+BelowZero =
+    ShowsLines only_a (of_fields (scalar 1 Implicit scalars.Sint32 ∷ [])) (8 ∷ 3 ∷ [])
+    (codes "1 a int -2" ∷ codes "again 0803" ∷ [])
 
 abbrev pub OneAsAFloat : Type 0
-OneAsAFloat = ShowsLines only_a (of_fields (scalar 1 Implicit scalars.Float ∷ [])) (13 ∷ 0 ∷ 0 ∷ 128 ∷ 63 ∷ []) (codes "1 a f32 3f800000" ∷ codes "again 0d0000803f" ∷ [])
+OneAsAFloat =
+    ShowsLines only_a (of_fields (scalar 1 Implicit scalars.Float ∷ [])) (13 ∷ 0 ∷ 0 ∷ 128 ∷ 63 ∷ [])
+    (codes "1 a f32 3f800000" ∷ codes "again 0d0000803f" ∷ [])
 
 abbrev pub OneAsADouble : Type 0
-OneAsADouble = ShowsLines only_a (of_fields (scalar 1 Implicit scalars.Double ∷ [])) (9 ∷ 0 ∷ 0 ∷ 0 ∷ 0 ∷ 0 ∷ 0 ∷ 240 ∷ 63 ∷ []) (codes "1 a f64 3ff0000000000000" ∷ codes "again 09000000000000f03f" ∷ [])
+OneAsADouble =
+    ShowsLines only_a (of_fields (scalar 1 Implicit scalars.Double ∷ [])) (9 ∷ 0 ∷ 0 ∷ 0 ∷ 0 ∷ 0 ∷ 0 ∷ 240 ∷ 63 ∷ [])
+    (codes "1 a f64 3ff0000000000000" ∷ codes "again 09000000000000f03f" ∷ [])
 
 abbrev pub EmptyText : Type 0
-EmptyText = ShowsLines only_a (of_fields (scalar 1 Explicit scalars.String ∷ [])) (10 ∷ 0 ∷ []) (codes "1 a text -" ∷ codes "again 0a00" ∷ [])
+EmptyText =
+    ShowsLines only_a (of_fields (scalar 1 Explicit scalars.String ∷ [])) (10 ∷ 0 ∷ [])
+    (codes "1 a text -" ∷ codes "again 0a00" ∷ [])
 
 abbrev pub SomeBytes : Type 0
-SomeBytes = ShowsLines only_a (of_fields (scalar 1 Implicit scalars.Bytes ∷ [])) (10 ∷ 1 ∷ 255 ∷ []) (codes "1 a bytes ff" ∷ codes "again 0a01ff" ∷ [])
+SomeBytes =
+    ShowsLines only_a (of_fields (scalar 1 Implicit scalars.Bytes ∷ [])) (10 ∷ 1 ∷ 255 ∷ [])
+    (codes "1 a bytes ff" ∷ codes "again 0a01ff" ∷ [])
 
 pub record WorkedRows : Type 0 where
   pub unknown_record : UnknownRecord
@@ -103,7 +130,7 @@ pub record WorkedRows : Type 0 where
   pub cut_off : Refuses text first (10 ∷ 5 ∷ 97 ∷ []) (Wire (Truncated 0))
   pub varint_too_long : Refuses int32 first (8 ∷ too_long (1 ∷ [])) (Wire (VarintTooLong 0))
   pub group : Refuses int32 first (11 ∷ []) (Wire (Group 0))
-  -- words
+  -- hexadecimal arguments
   pub both_cases : bytes_in (codes "0aBf") ≡ Some (10 ∷ 191 ∷ [])
   pub no_bytes : bytes_in (codes "-") ≡ Some []
   pub empty_word : bytes_in [] ≡ Some []

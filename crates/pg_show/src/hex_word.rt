@@ -8,8 +8,8 @@ use crate::error::HexError;
 use hex::FromHexError;
 use std::alloc::{AllocError, Global};
 
-/// The bytes of a word of hexadecimal digits: two digits a byte, in either case. `-` and the empty
-/// word are no bytes.
+/// The bytes of a hexadecimal argument: two digits a byte, in either case. `-` and the empty
+/// argument are no bytes.
 ///
 /// The errors are `BadHex`, for an odd number of digits or another character, and `Memory`.
 pub fn bytes_of_hex(alloc: Global, word: &str) -> Result<Vec<u8>, HexError>

@@ -25,7 +25,7 @@ pub(crate) fn type_of(element: Element) -> TypeId
     }
 }
 
-// The word before the bytes of a text, or before bytes.
+/// What is before the bytes of a string, or before bytes.
 fn kind(element: Element) -> &'static str
     ensures { result.now ≡ spec.kind element }
 {
@@ -35,7 +35,7 @@ fn kind(element: Element) -> &'static str
     }
 }
 
-// The bytes of a text, or bytes; of another item none.
+/// The bytes of a string, or bytes; of another item none.
 fn bytes_of<'b>(value: &'b ValueRef<'_>) -> &'b [u8]
     ensures { result.now ≡ leaf_bytes (leaf_of value.now) }
 {
@@ -46,7 +46,7 @@ fn bytes_of<'b>(value: &'b ValueRef<'_>) -> &'b [u8]
     }
 }
 
-// Adds a number in decimal.
+/// Adds a number in decimal.
 fn push_int(text: &mut String, number: i128) -> Result<(), AllocError>
     ensures { OnOk result (string_bytes text.new ≡ string_bytes text.old ++ signed_decimal number) }
 {
@@ -54,7 +54,7 @@ fn push_int(text: &mut String, number: i128) -> Result<(), AllocError>
     text.push_str(buffer.format(number))
 }
 
-// Adds bytes as digits alone.
+/// Adds bytes as digits alone.
 fn push_digits(alloc: Global, text: &mut String, bytes: &[u8]) -> Result<(), AllocError>
     ensures { OnOk result (string_bytes text.new
         ≡ string_bytes text.old ++ encode_lower bytes.now) }
@@ -92,7 +92,7 @@ pub(crate) fn push_item(
     }
 }
 
-/// Adds the words of a map's key, if there is one.
+/// Adds a map's key as its line has it, if there is one.
 pub(crate) fn push_key(
     alloc: Global,
     text: &mut String,

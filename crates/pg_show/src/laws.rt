@@ -5,7 +5,7 @@ ghost use Rattle.pg_show.specs.Worked.{WorkedRows};
 
 use pg_dyn::laws::fault_examples;
 
-/// Small messages and their lines, and words and their bytes.
+/// Small messages and their lines, and hexadecimal arguments and their bytes.
 pub fn worked_rows()
     ensures { WorkedRows }
 {

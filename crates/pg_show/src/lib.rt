@@ -1,4 +1,4 @@
-//! The text by which a message is shown by its schema, and the bytes of a hexadecimal word.
+//! How a message is shown by its schema, and the bytes of a hexadecimal argument.
 #![tactic(auto)]
 
 mod error;

@@ -18,7 +18,7 @@ use pg_schema::{Element, Scalar, Schema, TypeId};
 use pg_wire::Record;
 use std::alloc::{AllocError, Global};
 
-/// By which type a message is shown, and how far in its lines stand.
+/// By which type a message is shown, and how far its lines are indented.
 #[derive(Clone, Copy)]
 pub(crate) struct Level<'a> {
     pub alloc: Global,
@@ -38,7 +38,7 @@ struct Row<'a> {
     element: Element,
 }
 
-// The name of the field of the number.
+/// The name of the field of the number.
 fn name_of(schema: &Schema, type_id: TypeId, number: u32) -> &str
     ensures { result.now ≡ names_of schema.now type_id number }
 {
@@ -48,7 +48,7 @@ fn name_of(schema: &Schema, type_id: TypeId, number: u32) -> &str
     }
 }
 
-// What the items of the field of the number are.
+/// What the items of the field of the number are.
 fn element_of(schema: &Schema, type_id: TypeId, number: u32) -> Element
     ensures { result ≡ element_of (fields (shape_of schema.now) type_id) number }
 {
@@ -58,7 +58,7 @@ fn element_of(schema: &Schema, type_id: TypeId, number: u32) -> Element
     }
 }
 
-// The indent of the lines of a message inside.
+/// The indent of the lines of a nested message.
 fn further_in(alloc: Global, indent: &str) -> Result<String, AllocError>
     ensures { IfOk result (λ further. string_bytes further ≡ inner indent.now) }
 {
@@ -67,7 +67,7 @@ fn further_in(alloc: Global, indent: &str) -> Result<String, AllocError>
     Ok(further)
 }
 
-// Adds the front of a line, up to the item.
+/// Adds the front of a line, up to the item.
 fn push_front(
     text: &mut String,
     row: &Row<'_>,
@@ -86,7 +86,7 @@ fn push_front(
     push_key(row.alloc, text, key)
 }
 
-// Adds the lines of unknown records.
+/// Adds the lines of unknown records.
 fn push_unknown(
     alloc: Global,
     text: &mut String,
@@ -105,7 +105,7 @@ fn push_unknown(
     Ok(())
 }
 
-// Adds the line of an item, and behind it those of a message.
+/// Adds the line of an item, and after it the lines of a nested message.
 #[cycle(lines)]
 fn push_value(
     text: &mut String,
@@ -137,7 +137,7 @@ fn push_value(
     }
 }
 
-// Adds the lines of the items of a list.
+/// Adds the lines of the items of a list.
 #[cycle(lines)]
 fn push_list(text: &mut String, row: &Row<'_>, values: &[ValueRef<'_>]) -> Result<(), AllocError>
     ensures { OnOk result (string_bytes text.new
@@ -151,7 +151,7 @@ fn push_list(text: &mut String, row: &Row<'_>, values: &[ValueRef<'_>]) -> Resul
     Ok(())
 }
 
-// Adds the lines of the numbers of a list.
+/// Adds the lines of the numbers of a list.
 #[cycle(lines)]
 fn push_numbers(text: &mut String, row: &Row<'_>, numbers: &NumberList) -> Result<(), AllocError>
     ensures { OnOk result (string_bytes text.new
@@ -166,7 +166,7 @@ fn push_numbers(text: &mut String, row: &Row<'_>, numbers: &NumberList) -> Resul
     Ok(())
 }
 
-// Adds the lines of the entries of a map.
+/// Adds the lines of the entries of a map.
 #[cycle(lines)]
 fn push_entries(
     text: &mut String,
@@ -184,7 +184,7 @@ fn push_entries(
     Ok(())
 }
 
-// Adds the lines of a content of the field of the number.
+/// Adds the lines of a content of the field of the number.
 #[cycle(lines)]
 fn push_content(
     text: &mut String,
@@ -212,7 +212,7 @@ fn push_content(
     }
 }
 
-/// Adds the lines of a message: of each field by rising number, of the messages inside further in,
+/// Adds the lines of a message: of each field by rising number, of nested messages further in,
 /// and then of the unknown records.
 #[cycle(lines)]
 pub(crate) fn push_message(

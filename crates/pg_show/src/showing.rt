@@ -14,7 +14,7 @@ use pg_dyn::{DEFAULT_DEPTH_LIMIT, DynError, decode_ref, encode_ref};
 use pg_schema::{Schema, TypeId};
 use std::alloc::{AllocError, Global};
 
-// Adds the line of the message's encoding.
+/// Adds the line of the message's encoding.
 fn push_again(alloc: Global, text: &mut String, bytes: &[u8]) -> Result<(), AllocError>
     ensures { OnOk result (string_bytes text.new ≡ string_bytes text.old ++ again_line bytes.now) }
 {
@@ -23,8 +23,8 @@ fn push_again(alloc: Global, text: &mut String, bytes: &[u8]) -> Result<(), Allo
     text.push_str("\n")
 }
 
-/// The message that bytes are read as, by the type, which the schema has, as text: a line for each
-/// item, by rising number and in a map by rising key; of a message inside its own lines, two spaces
+/// The lines of the message that bytes are read as, by a type of the schema: a line for each item,
+/// by rising number and in a map by rising key; after a nested message its own lines, two spaces
 /// further in; the unknown records; and at the end the message's encoding.
 ///
 /// A line is `NUMBER NAME ITEM`, in a map `NUMBER NAME key ITEM value ITEM`. `ITEM` is `int` and
