@@ -143,7 +143,7 @@ numbers_apart p q drawn_p drawn_q apart =
     let old_p = eqb-true p.old.index 0 (and_parts (nat_eq p.old.index 0) (nat_lt p.new.index 9) drawn_p).0 in
     let old_q = eqb-true q.old.index 0 (and_parts (nat_eq q.old.index 0) (nat_lt q.new.index 9) drawn_q).0 in
     let alike : same_pair p q ≡ true =
-        rw (eq-eqb p.old.index q.old.index (old_p ∙ sym old_q), eq-eqb p.new.index q.new.index same) refl in
+    rw (eq-eqb p.old.index q.old.index (old_p ∙ sym old_q), eq-eqb p.new.index q.new.index same) refl in
     let no : true ≡ false = sym alike ∙ apart in cc)
 
 each_apart : (p : Pair) (qs : List Pair) → is_drawn p ≡ true → AllByRecursion (λ q. is_drawn q ≡ true) qs
@@ -197,9 +197,10 @@ numbers_distinct : (ps : List Pair) → AllByRecursion (λ p. is_drawn p ≡ tru
     → IsDistinct eqb (map number (distinct ps))
 unfolding IsDistinct
 numbers_distinct [] each = tt
-numbers_distinct (p ∷ ps) each =
-    (each_apart p (distinct ps) each.0 (each_distinct ps each.1),
-    kept_distinct (λ q. not (same_pair p q)) (distinct ps) (numbers_distinct ps each.1))
+numbers_distinct (p ∷ ps) each = (
+  each_apart p (distinct ps) each.0 (each_distinct ps each.1),
+  kept_distinct (λ q. not (same_pair p q)) (distinct ps) (numbers_distinct ps each.1),
+)
 
 numbers_below : (ps : List Pair) → AllByRecursion (λ p. is_drawn p ≡ true) ps → (k : ℕ)
     → list_any (eqb k) (map number ps) ≡ true → k < 16777216
@@ -218,6 +219,6 @@ pub drawn_are_few : (ps : List Pair) → distinct ps ≡ ps → AllByRecursion (
     → length ps ≤ 2 ^ 24
 drawn_are_few ps once drawn =
     let apart : IsDistinct eqb (map number ps) =
-        subst (λ qs. IsDistinct eqb (map number qs)) once (numbers_distinct ps drawn) in
+    subst (λ qs. IsDistinct eqb (map number qs)) once (numbers_distinct ps drawn) in
     let few = length-le_from_distinct_below (map number ps) 16777216 apart (numbers_below ps drawn) in
     subst (λ n. n ≤ 16777216) (length-map ps number) few

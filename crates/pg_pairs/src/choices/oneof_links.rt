@@ -40,8 +40,7 @@ fn next_of(
 
 /// From the next field of a new oneof on the first field outside an old one. That is the next field
 /// itself or the one that follows it so.
-#[tactic(auto, using(crate::proofs::lemmas::choices::OneofLinks::outside_by,
-    crate::proofs::lemmas::choices::OneofLinks::outside_over))]
+#[tactic(auto, using(crate::proofs::lemmas::choices::OneofLinks::outside_by, crate::proofs::lemmas::choices::OneofLinks::outside_over))]
 fn other_from(list: &[Field], links: &[Link], field: &Field, next: usize) -> usize
     requires { length links.now ≡ length list.now }
     ensures passes { (gs : List FieldShape) (n : ℕ) → AreLinks gs list.now n links.now → n ≤ next
