@@ -33,9 +33,9 @@ fn refusal_of(alloc: Global, parts: &Parts) -> CheckError
 
 /// The schema of parts that come from no source file, as those of a descriptor set.
 ///
-/// It reports `Memory` where memory runs out, and a broken rule by its error, without a position (no
-/// file, line and column 0): of the message types in their order, then the enums and the files, the
-/// first that breaks one, and of it the lowest code; more than 4,096 message types come before.
+/// It reports `Memory` where memory runs out, and a broken rule by its error, without a position
+/// (no file, line and column 0): of the message types in their order, then the enums and the files,
+/// the first that breaks one, and of it the lowest code; more than 4,096 message types come before.
 /// Parts that break no rule of these and are no schema all the same are `BadParts`. Refused parts
 /// are dropped (proto3 language guide, "Defining A Message Type" and "Enumerations").
 pub fn admit(alloc: Global, parts: Parts) -> Result<Schema, CheckError>

@@ -43,8 +43,8 @@ pub fn kept_part_rules()
     ensures { (parts : Parts) (e : CheckError) → KeepsAll parts → IsFirstBrokenPart parts e → ⊥ }
 {}
 
-/// The parts of a schema keep to the rules, where numbers of enums are `int32`, as in every program.
-/// So parts that break a rule are no schema: `admit` takes none of them.
+/// The parts of a schema keep to the rules, where numbers of enums are `int32`, as in every
+/// program. So parts that break a rule are no schema: `admit` takes none of them.
 pub fn sound_parts_keep()
     ensures { (parts : Parts) → IsSound parts → HaveInt32s parts → KeepsAll parts }
 {}
@@ -77,8 +77,9 @@ pub fn resolved_types()
         → full_name_of parts one ≡ full_name_of parts other }
 {}
 
-/// A field of linked files may be packed, by the rules, where it is repeated and its type name means
-/// a number, bool or enum. So what E412 says by the byte of a type name is said of the field's type.
+/// A field of linked files may be packed, by the rules, where it is repeated and its type name
+/// means a number, bool or enum. So what E412 says by the byte of a type name is said of the
+/// field's type.
 pub fn packed_fields()
     ensures { (linked : LinkedFiles) → IsLinkedUp linked → ArePackedByMeaning linked.files }
 {}

@@ -51,7 +51,8 @@ fn items_of(alloc: Global, ranges: &[ReservedValues]) -> Result<Vec<Numbers>, Al
 
 /// The values' names.
 fn names_of<'a>(alloc: Global, values: &'a [EnumValue]) -> Result<Vec<Called<'a>>, AllocError>
-    ensures { IfOk result (λ list. map names.called list.items ≡ map of_parts.value_name values.now) }
+    ensures { IfOk result (λ list. map names.called list.items
+        ≡ map of_parts.value_name values.now) }
 {
     let mut list = Vec::new(alloc);
     for value in values {

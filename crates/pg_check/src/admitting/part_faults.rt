@@ -80,7 +80,8 @@ fn names_of<'a>(alloc: Global, fields: &'a [Field]) -> Result<Vec<Called<'a>>, A
 
 /// The fields' JSON names.
 fn json_names_of(alloc: Global, fields: &[Field]) -> Result<Vec<Titled>, AllocError>
-    ensures { IfOk result (λ list. map names.titled list.items ≡ map of_parts.json_name_of fields.now) }
+    ensures { IfOk result (λ list. map names.titled list.items
+        ≡ map of_parts.json_name_of fields.now) }
 {
     let mut list = Vec::new(alloc);
     for field in fields {
@@ -145,7 +146,8 @@ fn have_badly_packed(fields: &[Field]) -> bool
 fn names_fault(alloc: Global, one: &MessageType) -> Result<Option<Fault>, AllocError>
     ensures { IfOk result (λ fault. fault
         ≡ messages.names_fault (map string_bytes one.now.reserved_names.items)
-        (map of_parts.name_of one.now.fields.items) (map of_parts.json_name_of one.now.fields.items)) }
+        (map of_parts.name_of one.now.fields.items)
+        (map of_parts.json_name_of one.now.fields.items)) }
 {
     let called = names_of(alloc, &one.fields)?;
     let among = first_among(alloc, &one.reserved_names, &called)?;

@@ -2,7 +2,7 @@
 
 ghost use Rattle.std.specs.Prelude.{◌≡◌, IfOk, map, string_bytes};
 ghost use Rattle.pg_check.specs.rules.Enums as spec;
-ghost use Rattle.pg_check.specs.inner.EnumFaults as enum_faults;
+ghost use Rattle.pg_check.specs.inner.EnumFaults as faults;
 ghost use Rattle.pg_check.specs.inner.Faults.{first_fault};
 ghost use Rattle.pg_check.specs.inner.NameFaults.{called};
 ghost use Rattle.pg_check.specs.inner.OptionFaults.{stated};
@@ -123,7 +123,7 @@ fn has_aliases(body: &[EnumPart]) -> bool
 
 /// The offset of the first value, where it isn't 0.
 fn first_not_zero(keys: &[Keyed]) -> Option<usize>
-    ensures { result ≡ enum_faults.first_not_zero keys.now }
+    ensures { result ≡ faults.first_not_zero keys.now }
 {
     match keys {
         [first, ..] => {
@@ -143,7 +143,7 @@ fn first_alias(
     has_aliases: bool,
     keys: &[Keyed],
 ) -> Result<Option<usize>, AllocError>
-    ensures { IfOk result (λ place. place ≡ enum_faults.first_alias has_aliases keys.now) }
+    ensures { IfOk result (λ place. place ≡ faults.first_alias has_aliases keys.now) }
 {
     if has_aliases {
         Ok(None)
@@ -154,7 +154,7 @@ fn first_alias(
 
 /// The offset of the enum, where it has no value.
 fn empty_at(place: usize, keys: &[Keyed]) -> Option<usize>
-    ensures { result ≡ enum_faults.empty_at place keys.now }
+    ensures { result ≡ faults.empty_at place keys.now }
 {
     match keys {
         [_, ..] => None,
@@ -164,7 +164,7 @@ fn empty_at(place: usize, keys: &[Keyed]) -> Option<usize>
 
 /// The first option of a value that isn't right, or was stated before.
 fn value_option(alloc: Global, value: &EnumValue) -> Result<Option<Fault>, AllocError>
-    ensures { IfOk result (λ fault. fault ≡ enum_faults.value_option value.now) }
+    ensures { IfOk result (λ fault. fault ≡ faults.value_option value.now) }
 {
     let options = in_settings(alloc, Owner::EnumValue, &value.settings)?;
     let place = first_bad(alloc, &options)?;
@@ -173,7 +173,7 @@ fn value_option(alloc: Global, value: &EnumValue) -> Result<Option<Fault>, Alloc
 
 /// The first rule that the values' options break.
 fn value_options(alloc: Global, body: &[EnumPart]) -> Result<Option<Fault>, AllocError>
-    ensures { IfOk result (λ fault. fault ≡ first_fault enum_faults.part_option body.now) }
+    ensures { IfOk result (λ fault. fault ≡ first_fault faults.part_option body.now) }
 {
     for part in body {
         if let EnumPart::Value(value) = part {
@@ -203,7 +203,7 @@ pub(crate) fn values_fault(
     at: usize,
     declared: &DeclaredEnum<'_>,
 ) -> Result<Option<Fault>, AllocError>
-    ensures { IfOk result (λ fault. fault ≡ enum_faults.values_fault at (enum_faults.seen declared.now)) }
+    ensures { IfOk result (λ fault. fault ≡ faults.values_fault at (faults.seen declared.now)) }
 {
     let keys = declared.keys;
     let outside = first_outside(LOWEST_VALUE, HIGHEST_VALUE, keys);
@@ -224,7 +224,7 @@ pub(crate) fn values_fault(
 
 /// The first rule that the options of the enum and of its values break.
 fn options_fault(alloc: Global, body: &[EnumPart]) -> Result<Option<Fault>, AllocError>
-    ensures { IfOk result (λ fault. fault ≡ enum_faults.options_fault body.now) }
+    ensures { IfOk result (λ fault. fault ≡ faults.options_fault body.now) }
 {
     let lines = lines(alloc, body)?;
     let place = first_bad(alloc, &lines)?;
@@ -234,7 +234,7 @@ fn options_fault(alloc: Global, body: &[EnumPart]) -> Result<Option<Fault>, Allo
 
 /// The first rule that the values and the reserved items in a body break.
 fn body_fault(alloc: Global, at: usize, body: &[EnumPart]) -> Result<Option<Fault>, AllocError>
-    ensures { IfOk result (λ fault. fault ≡ enum_faults.values_fault at (spec.declared body.now)) }
+    ensures { IfOk result (λ fault. fault ≡ faults.values_fault at (spec.declared body.now)) }
 {
     let keys = keys(alloc, body)?;
     let names = value_names(alloc, body)?;
@@ -252,7 +252,7 @@ fn body_fault(alloc: Global, at: usize, body: &[EnumPart]) -> Result<Option<Faul
 
 /// The first rule that an enum breaks.
 pub(crate) fn enum_fault(alloc: Global, enumeration: &Enum) -> Result<Option<Fault>, AllocError>
-    ensures { IfOk result (λ fault. fault ≡ enum_faults.enum_fault enumeration.now) }
+    ensures { IfOk result (λ fault. fault ≡ faults.enum_fault enumeration.now) }
 {
     let body = &enumeration.parts;
     let values = body_fault(alloc, enumeration.name.span.from, body)?;

@@ -4,7 +4,7 @@ ghost use Rattle.std.specs.Prelude.{◌≡◌, ◌++◌, IfOk, None, OnOk, flat_
 ghost use Rattle.pg_check.specs.inner.Sources.{target_in};
 ghost use Rattle.pg_check.specs.inner.Faults.{earliest, first_fault};
 ghost use Rattle.pg_check.specs.rules.Files as spec;
-ghost use Rattle.pg_check.specs.inner.FileFaults as file_faults;
+ghost use Rattle.pg_check.specs.inner.FileFaults as faults;
 ghost use Rattle.pg_check.specs.inner.OptionFaults.{stated};
 ghost use Rattle.pg_check.specs.inner.CodeViews.{enumeration, message};
 ghost use Rattle.pg_check.specs.rules.Outline.{file_enums, file_messages};
@@ -33,7 +33,7 @@ fn rpc_lines<'a>(alloc: Global, body: &'a [RpcPart]) -> Result<Vec<Stated<'a>>, 
 
 /// The first option of an rpc that isn't right, or was stated before.
 fn rpc_fault(alloc: Global, rpc: &Rpc) -> Result<Option<Fault>, AllocError>
-    ensures { IfOk result (λ fault. fault ≡ file_faults.rpc_fault rpc.now) }
+    ensures { IfOk result (λ fault. fault ≡ faults.rpc_fault rpc.now) }
 {
     match &rpc.body {
         Some(body) => {
@@ -46,7 +46,7 @@ fn rpc_fault(alloc: Global, rpc: &Rpc) -> Result<Option<Fault>, AllocError>
 
 /// The first rule that the rpcs break.
 fn rpcs_fault(alloc: Global, body: &[ServicePart]) -> Result<Option<Fault>, AllocError>
-    ensures { IfOk result (λ fault. fault ≡ first_fault file_faults.part_fault body.now) }
+    ensures { IfOk result (λ fault. fault ≡ first_fault faults.part_fault body.now) }
 {
     for part in body {
         if let ServicePart::Rpc(rpc) = part {
@@ -74,7 +74,7 @@ fn service_lines<'a>(alloc: Global, body: &'a [ServicePart]) -> Result<Vec<State
 
 /// The first rule that a service breaks.
 fn service_fault(alloc: Global, service: &Service) -> Result<Option<Fault>, AllocError>
-    ensures { IfOk result (λ fault. fault ≡ file_faults.service_fault service.now) }
+    ensures { IfOk result (λ fault. fault ≡ faults.service_fault service.now) }
 {
     let lines = service_lines(alloc, &service.parts)?;
     let own = broken(Rule::BadOption, first_bad(alloc, &lines)?);
@@ -84,7 +84,7 @@ fn service_fault(alloc: Global, service: &Service) -> Result<Option<Fault>, Allo
 
 /// The first rule that the services break.
 fn services_fault(alloc: Global, statements: &[Statement]) -> Result<Option<Fault>, AllocError>
-    ensures { IfOk result (λ fault. fault ≡ first_fault file_faults.statement_fault statements.now) }
+    ensures { IfOk result (λ fault. fault ≡ first_fault faults.statement_fault statements.now) }
 {
     for statement in statements {
         if let Statement::Service(service) = statement {
@@ -125,7 +125,7 @@ fn file_lines<'a>(alloc: Global, file: &'a FileTree) -> Result<Vec<Stated<'a>>, 
 
 /// The first rule that the services and options of a file break.
 fn statements_fault(alloc: Global, file: &FileTree) -> Result<Option<Fault>, AllocError>
-    ensures { IfOk result (λ fault. fault ≡ file_faults.statements_fault file.now) }
+    ensures { IfOk result (λ fault. fault ≡ faults.statements_fault file.now) }
 {
     let lines = file_lines(alloc, file)?;
     let own = broken(Rule::BadOption, first_bad(alloc, &lines)?);
@@ -136,7 +136,7 @@ fn statements_fault(alloc: Global, file: &FileTree) -> Result<Option<Fault>, All
 
 /// The message type after so many.
 fn too_many(left: usize, messages: &[FoundMessage<'_>]) -> Option<usize>
-    ensures { result ≡ file_faults.too_many left (map message messages.now) }
+    ensures { result ≡ faults.too_many left (map message messages.now) }
 {
     match messages.get(left) {
         Some(found) => Some(found.tree.name.span.from),
@@ -151,7 +151,7 @@ fn messages_fault(
     messages: &[FoundMessage<'_>],
 ) -> Result<Option<Fault>, AllocError>
     ensures { IfOk result (λ fault. fault
-        ≡ earliest (file_faults.message_fault (target_in targets.now)) None (map message messages.now)) }
+        ≡ earliest (faults.message_fault (target_in targets.now)) None (map message messages.now)) }
 {
     let mut fault = None;
     for found in messages {
@@ -164,7 +164,7 @@ fn messages_fault(
 /// The first rule in the file that an enum breaks.
 fn enums_fault(alloc: Global, enums: &[FoundEnum<'_>]) -> Result<Option<Fault>, AllocError>
     ensures { IfOk result (λ fault. fault
-        ≡ earliest file_faults.found_fault None (map enumeration enums.now)) }
+        ≡ earliest faults.found_fault None (map enumeration enums.now)) }
 {
     let mut fault = None;
     for found in enums {
@@ -186,7 +186,8 @@ pub(crate) fn file_fault(
 ) -> Result<Option<Fault>, AllocError>
     requires messages { map message messages.now ≡ file_messages file.now }
     requires enums { map enumeration enums.now ≡ file_enums file.now }
-    ensures { IfOk result (λ fault. fault ≡ file_faults.file_fault (target_in targets.now) left file.now) }
+    ensures { IfOk result (λ fault. fault
+        ≡ faults.file_fault (target_in targets.now) left file.now) }
 {
     let too_many = broken(Rule::TooManyTypes, too_many(left, messages));
     let of_messages = messages_fault(alloc, targets, messages)?;

@@ -7,7 +7,7 @@ ghost use Rattle.pg_check.specs.rules.Members.{json_named, named};
 ghost use Rattle.pg_check.specs.inner.CodeViews.{member};
 ghost use Rattle.pg_check.specs.rules.Members as members;
 ghost use Rattle.pg_check.specs.rules.Messages as spec;
-ghost use Rattle.pg_check.specs.inner.MessageFaults as message_faults;
+ghost use Rattle.pg_check.specs.inner.MessageFaults as faults;
 ghost use Rattle.pg_check.specs.inner.NameFaults as name_faults;
 ghost use Rattle.pg_check.specs.inner.OptionFaults.{stated};
 
@@ -80,7 +80,7 @@ fn has_member(body: &[OneofPart]) -> bool
 
 /// The first option in a oneof.
 fn oneof_option(body: &[OneofPart]) -> Option<Fault>
-    ensures { result ≡ first_fault message_faults.oneof_option body.now }
+    ensures { result ≡ first_fault faults.oneof_option body.now }
 {
     for part in body {
         if let OneofPart::Option(line) = part {
@@ -92,7 +92,7 @@ fn oneof_option(body: &[OneofPart]) -> Option<Fault>
 
 /// The first rule that a oneof breaks by itself.
 fn oneof_fault(oneof: &Oneof) -> Option<Fault>
-    ensures { result ≡ message_faults.oneof_fault oneof.now }
+    ensures { result ≡ faults.oneof_fault oneof.now }
 {
     if !has_member(&oneof.parts) {
         return broken(Rule::BadOneofMember, Some(oneof.name.span.from));
@@ -102,7 +102,7 @@ fn oneof_fault(oneof: &Oneof) -> Option<Fault>
 
 /// The first rule that the oneofs break by themselves.
 fn oneofs_fault(body: &[Part]) -> Option<Fault>
-    ensures { result ≡ first_fault message_faults.oneof_fault (spec.oneofs body.now) }
+    ensures { result ≡ first_fault faults.oneof_fault (spec.oneofs body.now) }
 {
     for part in body {
         if let Part::Oneof(oneof) = part {
@@ -127,7 +127,7 @@ fn is_bad_member(one: &DeclaredField<'_>) -> bool
 
 /// The first member of a oneof that may not be one.
 fn first_bad_member(list: &[DeclaredField<'_>]) -> Option<usize>
-    ensures { result ≡ message_faults.first_member spec.is_bad_member (map member list.now) }
+    ensures { result ≡ faults.first_member spec.is_bad_member (map member list.now) }
 {
     for one in list {
         if is_bad_member(one) {
@@ -139,7 +139,7 @@ fn first_bad_member(list: &[DeclaredField<'_>]) -> Option<usize>
 
 /// The first number that no field may have.
 fn first_bad_number(keys: &[Keyed]) -> Option<usize>
-    ensures { result ≡ message_faults.first_bad_number keys.now }
+    ensures { result ≡ faults.first_bad_number keys.now }
 {
     for one in keys {
         if !is_field_number(one.key) {
@@ -161,7 +161,7 @@ fn has_bad_key(one: &DeclaredField<'_>) -> bool
 
 /// The first map with a key that may not be one.
 fn first_bad_key(list: &[DeclaredField<'_>]) -> Option<usize>
-    ensures { result ≡ message_faults.first_member spec.has_bad_key (map member list.now) }
+    ensures { result ≡ faults.first_member spec.has_bad_key (map member list.now) }
 {
     for one in list {
         if has_bad_key(one) {
@@ -173,7 +173,7 @@ fn first_bad_key(list: &[DeclaredField<'_>]) -> Option<usize>
 
 /// The first option of a member that isn't right, or was stated before.
 fn member_option(alloc: Global, one: DeclaredField<'_>) -> Result<Option<Fault>, AllocError>
-    ensures { IfOk result (λ fault. fault ≡ message_faults.member_option (member one.entry)) }
+    ensures { IfOk result (λ fault. fault ≡ faults.member_option (member one.entry)) }
 {
     let options = in_settings(alloc, Owner::Field, one.settings())?;
     let place = first_bad(alloc, &options)?;
@@ -182,7 +182,8 @@ fn member_option(alloc: Global, one: DeclaredField<'_>) -> Result<Option<Fault>,
 
 /// The first rule that the members' options break.
 fn member_options(alloc: Global, list: &[DeclaredField<'_>]) -> Result<Option<Fault>, AllocError>
-    ensures { IfOk result (λ fault. fault ≡ first_fault message_faults.member_option (map member list.now)) }
+    ensures { IfOk result (λ fault. fault
+        ≡ first_fault faults.member_option (map member list.now)) }
 {
     for one in list {
         let fault = member_option(alloc, *one)?;
@@ -215,7 +216,7 @@ fn states_packed(setting: &Setting) -> bool
 
 /// The first `packed = true`.
 fn packed_in(settings: &[Setting]) -> Option<usize>
-    ensures { result ≡ message_faults.first_packed settings.now }
+    ensures { result ≡ faults.first_packed settings.now }
 {
     for setting in settings {
         if states_packed(setting) {
@@ -227,7 +228,7 @@ fn packed_in(settings: &[Setting]) -> Option<usize>
 
 /// The first `packed = true` in brackets.
 fn first_packed(settings: &Option<Settings>) -> Option<usize>
-    ensures { result ≡ message_faults.first_packed (members.settings settings.now) }
+    ensures { result ≡ faults.first_packed (members.settings settings.now) }
 {
     match settings {
         Some(settings) => {
@@ -243,7 +244,7 @@ fn first_packed(settings: &Option<Settings>) -> Option<usize>
 
 /// The member states `packed = true` and may not.
 fn member_packed(targets: &Targets<'_>, one: &DeclaredField<'_>) -> Option<Fault>
-    ensures { result ≡ message_faults.member_packed (target_in targets.now) (member one.now) }
+    ensures { result ≡ faults.member_packed (target_in targets.now) (member one.now) }
 {
     if may_be_packed(targets, one) {
         return None;
@@ -254,7 +255,7 @@ fn member_packed(targets: &Targets<'_>, one: &DeclaredField<'_>) -> Option<Fault
 
 /// The first member that states `packed = true` and may not.
 fn members_packed(targets: &Targets<'_>, list: &[DeclaredField<'_>]) -> Option<Fault>
-    ensures { result ≡ first_fault (message_faults.member_packed (target_in targets.now))
+    ensures { result ≡ first_fault (faults.member_packed (target_in targets.now))
         (map member list.now) }
 {
     for one in list {
@@ -272,7 +273,7 @@ pub(crate) fn numbers_fault(
     keys: &[Keyed],
     items: &[Numbers],
 ) -> Result<Option<Fault>, AllocError>
-    ensures { IfOk result (λ fault. fault ≡ message_faults.numbers_fault keys.now items.now) }
+    ensures { IfOk result (λ fault. fault ≡ faults.numbers_fault keys.now items.now) }
 {
     let twice = first_twice(alloc, keys)?;
     let reserved = broken(Rule::ReservedNumber, first_reserved(alloc, items, keys)?);
@@ -302,7 +303,7 @@ fn names_fault(
     reserved: &[String],
     list: &[DeclaredField<'_>],
 ) -> Result<Option<Fault>, AllocError>
-    ensures { IfOk result (λ fault. fault ≡ message_faults.names_fault (map string_bytes reserved.now)
+    ensures { IfOk result (λ fault. fault ≡ faults.names_fault (map string_bytes reserved.now)
         (map named (map member list.now)) (map json_named (map member list.now))) }
 {
     let called = names_of(alloc, list)?;
@@ -321,7 +322,7 @@ fn shapes_fault(
     list: &[DeclaredField<'_>],
 ) -> Result<Option<Fault>, AllocError>
     ensures { IfOk result (λ fault. fault
-        ≡ message_faults.shapes_fault (target_in targets.now) (map member list.now)) }
+        ≡ faults.shapes_fault (target_in targets.now) (map member list.now)) }
 {
     let options = member_options(alloc, list)?;
     let packed = members_packed(targets, list);
@@ -336,7 +337,7 @@ pub(crate) fn body_fault(
     targets: &Targets<'_>,
     body: &[Part],
 ) -> Result<Option<Fault>, AllocError>
-    ensures { IfOk result (λ fault. fault ≡ message_faults.body_fault (target_in targets.now) body.now) }
+    ensures { IfOk result (λ fault. fault ≡ faults.body_fault (target_in targets.now) body.now) }
 {
     let list = members(alloc, body)?;
     let keys = keys(alloc, &list)?;

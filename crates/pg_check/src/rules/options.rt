@@ -3,7 +3,7 @@
 ghost use Rattle.std.specs.Prelude.{◌≡◌, ◌++◌, IfOk, OnOk, map};
 ghost use Rattle.pg_check.specs.inner.NameFaults.{titled};
 ghost use Rattle.pg_check.specs.rules.Options as spec;
-ghost use Rattle.pg_check.specs.inner.OptionFaults as option_faults;
+ghost use Rattle.pg_check.specs.inner.OptionFaults as faults;
 
 use crate::rules::names::{Titled, first_twice};
 use crate::rules::numbers::least;
@@ -87,7 +87,7 @@ const SERVICE_OPTIONS: [(&str, u32, Kind); 1] = [("deprecated", 33, Kind::Flag)]
 
 /// The option of the table that has this name.
 fn known_among(mut table: &[(&str, u32, Kind)], name: &str) -> Option<Known>
-    ensures { result ≡ spec.known_among (map option_faults.entry table.entry.now) name.now }
+    ensures { result ≡ spec.known_among (map faults.entry table.entry.now) name.now }
 {
     while let [option, rest @ ..] = table {
         if name == option.0 {
@@ -161,7 +161,7 @@ fn is_right(owner: Owner, setting: &Setting) -> bool
 
 /// An option that is at that offset.
 pub(crate) fn option_at(owner: Owner, at: usize, setting: &Setting) -> Stated<'_>
-    ensures { option_faults.stated result ≡ spec.option_at owner at setting.now }
+    ensures { faults.stated result ≡ spec.option_at owner at setting.now }
 {
     Stated {
         name: &setting.name.first.text,
@@ -176,7 +176,7 @@ fn push_settings<'a>(
     owner: Owner,
     settings: &'a [Setting],
 ) -> Result<(), AllocError>
-    ensures { OnOk result (map option_faults.stated list.new.items ≡ map option_faults.stated list.old.items
+    ensures { OnOk result (map faults.stated list.new.items ≡ map faults.stated list.old.items
         ++ map (spec.in_brackets owner) settings.now) }
 {
     for setting in settings {
@@ -191,7 +191,7 @@ pub(crate) fn in_settings<'a>(
     owner: Owner,
     settings: &'a Option<Settings>,
 ) -> Result<Vec<Stated<'a>>, AllocError>
-    ensures { IfOk result (λ list. map option_faults.stated list.items
+    ensures { IfOk result (λ list. map faults.stated list.items
         ≡ spec.in_settings owner settings.now) }
 {
     let mut list = Vec::new(alloc);
@@ -206,7 +206,7 @@ pub(crate) fn in_settings<'a>(
 /// The names of the options.
 fn names_of(alloc: Global, options: &[Stated<'_>]) -> Result<Vec<Titled>, AllocError>
     ensures { IfOk result (λ names. map titled names.items
-        ≡ map spec.name_of (map option_faults.stated options.now)) }
+        ≡ map spec.name_of (map faults.stated options.now)) }
 {
     let mut names = Vec::new(alloc);
     for option in options {
@@ -221,7 +221,7 @@ fn names_of(alloc: Global, options: &[Stated<'_>]) -> Result<Vec<Titled>, AllocE
 
 /// The offset of the first option that isn't right.
 fn first_wrong(options: &[Stated<'_>]) -> Option<usize>
-    ensures { result ≡ option_faults.first_wrong (map option_faults.stated options.now) }
+    ensures { result ≡ faults.first_wrong (map faults.stated options.now) }
 {
     for option in options {
         if !option.is_right {
@@ -233,7 +233,7 @@ fn first_wrong(options: &[Stated<'_>]) -> Option<usize>
 
 /// The offset of the first option that isn't right, or was stated before.
 pub(crate) fn first_bad(alloc: Global, options: &[Stated<'_>]) -> Result<Option<usize>, AllocError>
-    ensures { IfOk result (λ place. place ≡ option_faults.first_bad (map option_faults.stated options.now)) }
+    ensures { IfOk result (λ place. place ≡ faults.first_bad (map faults.stated options.now)) }
 {
     if options.is_empty() {
         return Ok(None);

@@ -112,7 +112,6 @@ packed_kept (presences.Map key) e stated h = none_packed (schema_fields.stated_o
 
 -- ---- message types
 
-
 abbrev holds : {A : Type 0} → A → Bool
 holds a = true
 

@@ -3,7 +3,7 @@ use Rattle.std.proofs.lemmas.Option.{same_Some, slice_get-map, slice_get_read}
 use Rattle.std.proofs.lemmas.List.{length-map}
 use Rattle.std.specs.Option.{option_map}
 use Rattle.pg_link.specs.declared.uses.target.Target.{Target}
-use Rattle.pg_link.specs.declared.targets.FileTargets.{FileTargets}
+use Rattle.pg_link.specs.declared.uses.targets.FileTargets.{FileTargets}
 use Rattle.pg_link.specs.Linked.{LinkedFiles}
 use Rattle.pg_link.specs.uses.Targets.{file_targets}
 use Rattle.pg_link.specs.walk.Walk.{Entry}

@@ -2,7 +2,7 @@ use Rattle.std.proofs.Common.{◌≡◌, ◌∙◌, ◌+◌, ◌++◌, ◌∷◌
 use Rattle.std.proofs.lemmas.List.{map-append, map_more}
 use Rattle.std.proofs.lemmas.Option.{get_or_from_slice_get, slice_get_within}
 use Rattle.std.proofs.lemmas.Result.{err_from_is_err_and}
-use Rattle.pg_link.specs.declared.targets.FileTargets.{FileTargets}
+use Rattle.pg_link.specs.declared.uses.targets.FileTargets.{FileTargets}
 use Rattle.pg_link.specs.names.Files.{seen_paths}
 use Rattle.pg_link.specs.inner.VisibleFiles.{Marks}
 use Rattle.pg_link.specs.uses.Targets.{file_places, file_targets}

@@ -1,5 +1,5 @@
 use Rattle.std.proofs.Common.{◌≡◌, Some, map, take}
-use Rattle.pg_link.specs.declared.targets.FileTargets.{FileTargets}
+use Rattle.pg_link.specs.declared.uses.targets.FileTargets.{FileTargets}
 use Rattle.pg_link.specs.uses.Targets.{file_places, file_targets}
 use Rattle.pg_link.proofs.uses.targets.all_targets.Given as goal
 
