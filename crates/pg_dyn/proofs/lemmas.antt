@@ -29,8 +29,6 @@ pub mod KeyLaws
 pub mod Leaves
 pub mod NoSiblings
 pub mod NumberLaws
-pub mod NumbersFit
-pub mod NumbersMade
 pub mod OneofLaws
 pub mod OneofWalks
 pub mod Order

@@ -16,7 +16,6 @@ use Rattle.pg_dyn.specs.declared.message.Value.TheVariants as values
 use Rattle.pg_dyn.specs.KeyOrder.{Rise}
 use Rattle.pg_dyn.specs.Message.{is_zero}
 use Rattle.pg_dyn.specs.Kept.{type_of}
-use Rattle.pg_dyn.specs.NumberLists.{values_in}
 use Rattle.pg_dyn.specs.Seen.{leaf_of}
 use Rattle.pg_dyn.specs.reading.Content.{is_sibling}
 use Rattle.pg_dyn.specs.Belonging.{IsUnknown}
@@ -44,7 +43,6 @@ abbrev pub ContentFits : Shape → Presence → Element → Content → Type 0
 ContentFits shape presences.Implicit e (contents.One v) = ItemFits shape e v × (is_zero_value v ≡ false)
 ContentFits shape presences.Explicit e (contents.One v) = ItemFits shape e v
 ContentFits shape (presences.Repeated packed) e (contents.Many vs) = AllByRecursion (ItemFits shape e) vs.items
-ContentFits shape (presences.Repeated packed) e (contents.Numbers ns) = AllByRecursion (ItemFits shape e) (values_in ns)
 ContentFits shape (presences.Map key) e (contents.Map es) =
     AllByRecursion (λ (x : Value × Value). IsItemOf key x.0 × ItemFits shape e x.1) es.items × KeysRise es.items
 ContentFits shape p e c = ⊥

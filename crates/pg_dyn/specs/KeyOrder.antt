@@ -59,4 +59,3 @@ abbrev pub KeysAlike : Content → Type 0
 KeysAlike (contents.One value) = ⊤
 KeysAlike (contents.Many vs) = ⊤
 KeysAlike (contents.Map es) = AreAlike es.items
-KeysAlike (contents.Numbers ns) = ⊤

@@ -1,10 +1,7 @@
--- Lists of numbers, as messages keep them: the words that were read (Encoding guide, "Packed Repeated Fields").
+-- Lists of numbers, as a message that borrows keeps them: the words that were read (Encoding guide, "Packed Repeated Fields").
 use Rattle.std.specs.Prelude.{ℕ, pos, ◌%◌, ◌^◌, List, map, ⊤}
-use Rattle.pg_schema.specs.declared.parts.field.Scalar.{Scalar}
 use Rattle.pg_wire.specs.declared.record.WireType.{WireType}
 use Rattle.pg_wire.specs.declared.record.WireType.TheVariants.{Varint, I64, Len, I32}
-use Rattle.pg_dyn.specs.declared.message.Value.{Value}
-use Rattle.pg_dyn.specs.declared.message.Value.TheVariants as owned
 use Rattle.pg_dyn.specs.declared.message_ref.ValueRef.{ValueRef}
 use Rattle.pg_dyn.specs.declared.message_ref.ValueRef.TheVariants as values
 use Rattle.pg_dyn.specs.declared.number_list.Number.{Number}
@@ -36,19 +33,6 @@ item_of (numbers.F64 bits) = values.F64 bits
 -- the numbers of a list, as items
 abbrev pub numbers_in : NumberList → List ValueRef
 numbers_in ns = map (number_item (scalar_form ns.scalar)) ns.words.items
-
--- the number, that of a word, and those of a list, as items of a message that owns its parts
-abbrev pub value_of : ValueRef → Value
-value_of (values.Int n) = owned.Int n
-value_of (values.F32 bits) = owned.F32 bits
-value_of (values.F64 bits) = owned.F64 bits
-value_of value = owned.F32 0
-
-abbrev pub word_value : Scalar → ℕ → Value
-word_value s word = value_of (number_item (scalar_form s) word)
-
-abbrev pub values_in : NumberList → List Value
-values_in ns = map (word_value ns.scalar) ns.words.items
 
 -- the item is a number
 abbrev pub IsNumber : ValueRef → Type 0

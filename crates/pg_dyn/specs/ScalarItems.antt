@@ -1,5 +1,5 @@
 -- Items of scalar fields, as the program holds them.
-use Rattle.std.specs.Prelude.{◌≡◌, ◌⊎◌, ℕ, ⊤, List, length}
+use Rattle.std.specs.Prelude.{◌≡◌, ℕ, ⊤, List, length}
 use Rattle.std.specs.Str.{IsValidUpTo}
 use Rattle.pg_schema.specs.declared.parts.field.Scalar.{Scalar}
 use Rattle.pg_schema.specs.declared.parts.field.Scalar.TheVariants as scalars
@@ -65,14 +65,3 @@ IsFaultOf s value errors.WrongKind = IsKindOf (scalar_form s) value → ⊥
 IsFaultOf s value errors.OutOfRange = IsOutOfRange s value
 IsFaultOf s value (errors.NotUtf8 at) = IsNoText s at value
 IsFaultOf s value e = ⊥
-
--- a number, as lists of numbers hold
-abbrev pub IsListed : Value → Type 0
-IsListed (values.Int n) = ⊤
-IsListed (values.F32 bits) = ⊤
-IsListed (values.F64 bits) = ⊤
-IsListed value = ⊥
-
--- the item isn't added to a list of numbers of the scalar: memory was refused, or it is none
-abbrev pub MayNotPush : Scalar → Value → DynError → Type 0
-MayNotPush s value e = (e ≡ errors.Memory) ⊎ (IsFaultOf s value e ⊎ ((e ≡ errors.WrongKind) × (IsListed value → ⊥)))

@@ -10,16 +10,13 @@ ghost use Rattle.pg_dyn.specs.reading.Content.{is_unknown};
 ghost use Rattle.pg_dyn.specs.ContentFits.{ContentFits, ItemFits, KeysRise};
 ghost use Rattle.pg_dyn.specs.Fits.{Fits};
 ghost use Rattle.pg_dyn.specs.Message.{key_cmp};
-ghost use Rattle.pg_dyn.specs.NumberLists.{word_value};
 ghost use Rattle.pg_dyn.specs.ScalarItems.{IsItemOf};
 ghost use Rattle.pg_dyn.specs.Seen.{IsKey, leaf_of, record_seen};
 ghost use Rattle.pg_dyn.specs.setting.Reported.{EntryFits};
 
 use crate::accept::accepts;
 use crate::message::{Content, Message, UnknownRecord, Value};
-use crate::number_list::{NumberList, word_number};
 use crate::oneofs::none_siblings;
-use crate::reading::elements::scalar_of;
 use crate::setting::check::check_item;
 use pg_schema::{Element, Field, Presence, Scalar, Schema, TypeId};
 use std::cmp::Ordering;
@@ -32,7 +29,7 @@ impl Value {
         ensures { result ≡ key_cmp (leaf_of self.now) (leaf_of other.now) }
     {
         match (self, other) {
-            (Value::Int(first), Value::Int(second)) => first.get().cmp(&second.get()),
+            (Value::Int(first), Value::Int(second)) => first.cmp(second),
             (Value::Text(first), Value::Text(second)) => first.as_bytes().cmp(second.as_bytes()),
             (Value::Text(first), Value::Bytes(second)) => first.as_bytes().cmp(second.as_slice()),
             (Value::Bytes(first), Value::Text(second)) => first.as_slice().cmp(second.as_bytes()),
@@ -119,21 +116,6 @@ impl Value {
     }
 }
 
-impl NumberList {
-    // Whether each number is one of the scalar.
-    fn are_items(&self, scalar: Scalar) -> bool
-        ensures { IsTrue result ↔ AllByRecursion
-            (λ word. IsItemOf scalar (word_value self.now.scalar word)) self.now.words.items }
-    {
-        for word in &self.words {
-            if !is_item(scalar, &word_number(self.scalar, *word).to_value()) {
-                return false;
-            }
-        }
-        true
-    }
-}
-
 impl Content {
     // Whether each item of a list is one of the element.
     #[cycle(fits)]
@@ -188,9 +170,6 @@ impl Content {
             (Presence::Explicit, Content::One(value)) => value.fits(schema, field.element),
             (Presence::Repeated { .. }, Content::Many(values)) => {
                 Content::are_items(schema, field.element, values)
-            }
-            (Presence::Repeated { .. }, Content::Numbers(numbers)) => {
-                numbers.are_items(scalar_of(field.element))
             }
             (Presence::Map { key }, Content::Map(entries)) => {
                 Content::are_entries(schema, key, field.element, entries) && keys_rise(entries)

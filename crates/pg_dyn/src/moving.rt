@@ -20,7 +20,7 @@ impl<'a> ValueRef<'a> {
         ensures { IfOk result (IsItemCopy self.entry) }
     {
         match self {
-            ValueRef::Int(number) => Ok(Value::Int(number)),
+            ValueRef::Int(number) => Ok(Value::Int(number.get())),
             ValueRef::F32(bits) => Ok(Value::F32(bits)),
             ValueRef::F64(bits) => Ok(Value::F64(bits)),
             ValueRef::Text(text) => Ok(Value::Text(String::from_str(alloc, text)?)),
@@ -81,7 +81,7 @@ impl<'a> ContentRef<'a> {
             ContentRef::One(value) => Ok(Content::One(value.into_value(alloc)?)),
             ContentRef::Many(values) => Ok(Content::Many(ContentRef::into_values(values, alloc)?)),
             ContentRef::Map(entries) => Ok(Content::Map(ContentRef::into_entries(entries, alloc)?)),
-            ContentRef::Numbers(numbers) => Ok(Content::Numbers(numbers)),
+            ContentRef::Numbers(numbers) => Ok(Content::Many(numbers.to_values(alloc)?)),
         }
     }
 }

@@ -1,26 +1,22 @@
-//! Lists of numbers, as messages keep them.
+//! Lists of numbers, as a message that borrows keeps them.
 
-ghost use Rattle.std.specs.Prelude.{◌≡◌, ◌<◌, ◌++◌, [], ◌∷◌, length, slice_get, IfErr, IfSome, MatchOption, OnOk, OnErr, Some};
+ghost use Rattle.std.specs.Prelude.{◌≡◌, ◌<◌, length, slice_get, Some};
 ghost use Rattle.pg_dyn.specs.Coding.{scalar_form};
 ghost use Rattle.pg_dyn.specs.encoding.Lending.{bare_leaf, leaf_lent, lent_item};
-ghost use Rattle.pg_dyn.specs.NumberLists.{IsNumber, item_of, low_bits, number_item, numbers_in, value_of, values_in, word_value};
-ghost use Rattle.pg_dyn.specs.ScalarItems.{IsItemOf, IsListed, MayNotPush};
+ghost use Rattle.pg_dyn.specs.NumberLists.{IsNumber, item_of, low_bits, number_item, numbers_in};
 ghost use Rattle.pg_dyn.specs.WordOf.{HasBits};
 
 use crate::encoding::body::wire_type_of;
 use crate::encoding::lending::LeafRef;
-use crate::error::DynError;
 use crate::integer::Integer;
-use crate::message::Value;
 use crate::message_ref::ValueRef;
-use crate::setting::check::check_item;
-use crate::word::{number_of, word_of};
+use crate::word::number_of;
 use pg_schema::Scalar;
 use pg_wire::WireType;
 use std::alloc::Global;
 
-/// A list of numbers. Each is kept as the word that is read or written of it, of which the scalar
-/// type makes the number.
+/// A list of numbers. Each is kept as the word that was read, of which the scalar type makes the
+/// number.
 #[derive(Drop)]
 pub struct NumberList {
     pub(crate) scalar: Scalar,
@@ -45,18 +41,6 @@ impl Number {
             Number::Int(number) => LeafRef::Int(number),
             Number::F32(bits) => LeafRef::F32(bits),
             Number::F64(bits) => LeafRef::F64(bits),
-        }
-    }
-
-    // The number as an item that a message owns.
-    #[inline(always)]
-    pub(crate) fn to_value(self) -> Value
-        ensures { result ≡ value_of (item_of self) }
-    {
-        match self {
-            Number::Int(number) => Value::Int(Integer::new(number)),
-            Number::F32(bits) => Value::F32(bits),
-            Number::F64(bits) => Value::F64(bits),
         }
     }
 
@@ -99,50 +83,7 @@ pub(crate) fn word_number(scalar: Scalar, word: u64) -> Number
     }
 }
 
-// The word of a number of the scalar type; `None` of a text, bytes or a message.
-#[tactic(auto, using(crate::proofs::lemmas::NumbersMade::int_is, crate::proofs::lemmas::NumbersMade::int_made, crate::proofs::lemmas::NumbersMade::float_made, crate::proofs::lemmas::NumbersMade::bits_made))]
-fn word_for(scalar: Scalar, value: &Value) -> Option<u64>
-    requires { IsItemOf scalar value.now }
-    ensures word { IfSome result (λ word. word_value scalar word ≡ value.now) }
-    ensures listed { MatchOption result (IsListed value.now → ⊥) (λ word. IsListed value.now) }
-{
-    match value {
-        Value::Int(number) => Some(word_of(scalar, number.get())),
-        Value::F32(bits) => Some(u64::from(*bits)),
-        Value::F64(bits) => Some(*bits),
-        Value::Text(_) | Value::Bytes(_) | Value::Msg(_) => None,
-    }
-}
-
 impl NumberList {
-    /// The empty list of numbers of the scalar type. One of texts or bytes stays empty.
-    pub fn new(alloc: Global, scalar: Scalar) -> NumberList
-        ensures scalar { result.scalar ≡ scalar }
-        ensures none { values_in result ≡ [] }
-    {
-        NumberList {
-            scalar,
-            words: Vec::new(alloc),
-        }
-    }
-
-    /// Adds a number at the end. The errors are `WrongKind` where the item is no number of the
-    /// list's scalar type, `OutOfRange` and `Memory`; the list is then unchanged.
-    pub fn push(&mut self, value: &Value) -> Result<(), DynError>
-        ensures scalar { self.new.scalar ≡ self.old.scalar }
-        ensures ok { OnOk result (values_in self.new ≡ values_in self.old ++ value.now ∷ []) }
-        ensures item { OnOk result (IsItemOf self.old.scalar value.now × IsListed value.now) }
-        ensures same { OnErr result (values_in self.new ≡ values_in self.old) }
-        ensures refused { IfErr result (MayNotPush self.old.scalar value.now) }
-    {
-        check_item(self.scalar, value)?;
-        let Some(word) = word_for(self.scalar, value) else {
-            return Err(DynError::WrongKind);
-        };
-        self.words.push(word)?;
-        Ok(())
-    }
-
     /// How many numbers there are.
     pub fn len(&self) -> usize
         ensures { result ≡ length (numbers_in self.now) }

@@ -6,12 +6,12 @@ ghost use Rattle.pg_wire.specs.Reads.{seen_record};
 ghost use Rattle.pg_wire.specs.Records.{IsRecord};
 ghost use Rattle.pg_dyn.specs.Copies.{AreEntryCopies, IsContentCopy, IsEntryCopy, IsItemCopy};
 ghost use Rattle.pg_dyn.specs.Borrowed as borrowed;
-ghost use Rattle.pg_dyn.specs.NumberLists.{numbers_in};
+ghost use Rattle.pg_dyn.specs.NumberLists.{item_of, numbers_in};
 ghost use Rattle.pg_dyn.specs.Seen.{HasBody, item_seen, record_seen};
 
 use crate::message::{Content, Message, UnknownRecord, Value};
 use crate::message_ref::{ContentRef, EntryRef, MessageRef, ValueRef};
-use crate::number_list::NumberList;
+use crate::number_list::{Number, NumberList, word_number};
 use pg_wire::Record;
 use std::alloc::{AllocError, Global};
 
@@ -46,17 +46,33 @@ pub(crate) fn owned_records(
     Ok(owned)
 }
 
+impl Number {
+    // The number as an item that a message owns.
+    #[inline(always)]
+    fn to_value(self) -> Value
+        ensures { IsItemCopy (item_of self) result }
+    {
+        match self {
+            Number::Int(number) => Value::Int(number),
+            Number::F32(bits) => Value::F32(bits),
+            Number::F64(bits) => Value::F64(bits),
+        }
+    }
+}
+
 impl NumberList {
-    // The same list once more. Not inlined, so that a level of messages takes no more of the stack
+    // The same of each number. Not inlined, so that a level of messages takes no more of the stack
     // for it.
     #[inline(never)]
-    fn copied(&self, alloc: Global) -> Result<NumberList, AllocError>
-        ensures { IfOk result (λ copy. numbers_in copy ≡ numbers_in self.now) }
+    pub(crate) fn to_values(&self, alloc: Global) -> Result<Vec<Value>, AllocError>
+        ensures { IfOk result (λ owned. map (item_seen true) owned.items
+            ≡ map (borrowed.item_seen true) (numbers_in self.now)) }
     {
-        Ok(NumberList {
-            scalar: self.scalar,
-            words: Vec::from_slice(alloc, &self.words)?,
-        })
+        let mut owned = Vec::with_capacity(alloc, self.words.len())?;
+        for word in &self.words {
+            owned.push(word_number(self.scalar, *word).to_value())?;
+        }
+        Ok(owned)
     }
 }
 
@@ -69,7 +85,7 @@ impl<'a> ValueRef<'a> {
         ensures { IfOk result (IsItemCopy self.now) }
     {
         match self {
-            ValueRef::Int(number) => Ok(Value::Int(*number)),
+            ValueRef::Int(number) => Ok(Value::Int(number.get())),
             ValueRef::F32(bits) => Ok(Value::F32(*bits)),
             ValueRef::F64(bits) => Ok(Value::F64(*bits)),
             ValueRef::Text(text) => Ok(Value::Text(String::from_str(alloc, text)?)),
@@ -129,7 +145,7 @@ impl<'a> ContentRef<'a> {
             ContentRef::One(value) => Ok(Content::One(value.to_value(alloc)?)),
             ContentRef::Many(values) => Ok(Content::Many(ContentRef::to_values(values, alloc)?)),
             ContentRef::Map(entries) => Ok(Content::Map(ContentRef::to_entries(entries, alloc)?)),
-            ContentRef::Numbers(numbers) => Ok(Content::Numbers(numbers.copied(alloc)?)),
+            ContentRef::Numbers(numbers) => Ok(Content::Many(numbers.to_values(alloc)?)),
         }
     }
 }

@@ -29,8 +29,7 @@ impl Message {
     /// in a field without presence, an empty list and an empty map take the content out. Setting a
     /// member of a oneof takes out the other members (proto3 language guide, "Field Presence",
     /// "Oneof"). Texts and bytes are one kind here: a text field takes bytes that are UTF-8 and
-    /// keeps them as text, and a bytes field takes a text and keeps it as bytes. Of a list of
-    /// numbers each is looked at by itself, whatever scalar type the list is of. A map's entries
+    /// keeps them as text, and a bytes field takes a text and keeps it as bytes. A map's entries
     /// may come in any order, and are kept by rising key.
     ///
     /// Refused, the message is unchanged and the content comes back as it was handed in. The errors

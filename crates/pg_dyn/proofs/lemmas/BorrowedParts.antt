@@ -16,7 +16,7 @@ use Rattle.pg_dyn.specs.declared.message_ref.EntryRef.{EntryRef}
 use Rattle.pg_dyn.specs.declared.message_ref.ValueRef.{ValueRef}
 use Rattle.pg_dyn.specs.declared.message_ref.ValueRef.TheVariants as values
 use Rattle.pg_dyn.specs.declared.number_list.NumberList.{NumberList}
-use Rattle.pg_dyn.specs.NumberLists.{numbers_in, values_in}
+use Rattle.pg_dyn.specs.NumberLists.{numbers_in}
 use Rattle.pg_dyn.specs.Borrowed.{all_seen, content_seen, entry_part, fields_onto, item_part}
 use Rattle.pg_dyn.specs.Borrowed as borrowed
 use Rattle.pg_dyn.specs.Copies.{AreEntryCopies, IsContentCopy, IsEntryCopy, IsItemCopy}
@@ -26,7 +26,6 @@ use Rattle.pg_dyn.specs.Message.{Leaf, Bytes, Part, is_of}
 use Rattle.pg_dyn.specs.Replacing.{kept_onto}
 use Rattle.pg_dyn.specs.Seen.{HasKeys, IsFilled, IsMapKey, Rises, item_seen}
 use Rattle.pg_dyn.specs.Seen as seen
-use Rattle.pg_dyn.proofs.lemmas.NumberLaws.{values_seen}
 use Rattle.pg_dyn.proofs.lemmas.KeptParts.{at_index}
 use Rattle.pg_dyn.proofs.Lists.{each-append, each-map, each_after, each_before, each_of_all, each_weaker, filter_all, filter_none, filter-append', flat_map-append', map_map}
 use Rattle.pg_dyn.proofs.lemmas.ReplacingLaws as whole
@@ -164,7 +163,7 @@ no_nil f g [] (y ∷ ys) same some e = cc
 no_nil f g (x ∷ xs) ys same some e = cc
 
 -- the parts of a list's copy are those of the list
-pub list_parts : (rs : List ValueRef) (vs : List Value) → map (item_seen true) vs ≡ map (borrowed.item_seen true) rs
+list_parts : (rs : List ValueRef) (vs : List Value) → map (item_seen true) vs ≡ map (borrowed.item_seen true) rs
     → (n : ℕ) → map (λ value. record { number = n; key = None; item = item_seen true value }) vs ≡ map (item_part n true) rs
 list_parts rs vs same n =
     sym (map_map (λ (item : KeptItem). record { number = n; key = None; item = item }) (item_seen true) vs)
@@ -178,14 +177,12 @@ list_copied rs vs same = record {
   keys = λ h. tt;
 }
 
-pub numbers_copied : (ns made : NumberList) → numbers_in made ≡ numbers_in ns → IsContentCopy (contents.Numbers ns) (held.Numbers made)
-numbers_copied ns made is =
-    let same : map (item_seen true) (values_in made) ≡ map (borrowed.item_seen true) (numbers_in ns) = values_seen made ∙ ap (map (borrowed.item_seen true)) is in
-    record {
-      parts = list_parts (numbers_in ns) (values_in made) same;
-      filled = no_nil (item_seen true) (borrowed.item_seen true) (values_in made) (numbers_in ns) same;
-      keys = λ h. tt;
-    }
+pub numbers_copied : (ns : NumberList) (vs : Vec Value Global) → map (item_seen true) vs.items ≡ map (borrowed.item_seen true) (numbers_in ns) → IsContentCopy (contents.Numbers ns) (held.Many vs)
+numbers_copied ns vs same = record {
+  parts = list_parts (numbers_in ns) vs.items same;
+  filled = no_nil (item_seen true) (borrowed.item_seen true) vs.items (numbers_in ns) same;
+  keys = λ h. tt;
+}
 
 pub map_copied : (rs : Vec EntryRef Global) (es : Vec (Value × Value) Global) → AreEntryCopies rs.items es.items → IsContentCopy (contents.Map rs) (held.Map es)
 map_copied rs es same = record {

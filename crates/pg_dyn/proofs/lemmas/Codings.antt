@@ -16,7 +16,7 @@ use Rattle.pg_dyn.specs.Bodies.{BodyShape, IsReadAs}
 use Rattle.pg_dyn.specs.Coding.{Whole, Form, Integer, Single, Double, Text, Raw, int32, scalar_form, form, word_bytes, word_in, body, InRange}
 
 -- the word fits a body of the wire type
-abbrev pub WordFits : WireType → ℕ → Type 0
+abbrev WordFits : WireType → ℕ → Type 0
 WordFits Varint word = word < 2 ^ 64
 WordFits I64 word = word < 2 ^ 64
 WordFits I32 word = word < 2 ^ 32
@@ -37,10 +37,10 @@ BodyShape-word_bytes I32 word h = refl
 BodyShape-word_bytes Len word h = tt
 
 -- each number in range is read again from its word
-abbrev pub IsSoundWhole : Whole → Type 0
+abbrev IsSoundWhole : Whole → Type 0
 IsSoundWhole w = (n : ℤ) → IsBetween w.below w.above n → WordFits w.wire (w.word n) × (w.number (w.word n) ≡ n)
 
-abbrev pub IsSound : Form → Type 0
+abbrev IsSound : Form → Type 0
 IsSound (Integer w) = IsSoundWhole w
 IsSound Single = ⊤
 IsSound Double = ⊤
@@ -86,7 +86,7 @@ bool_sound (pos (suc zero)) h = (omega arith, refl)
 bool_sound (pos (suc (suc n))) h = absurd (omega arith)
 bool_sound (negsuc n) h = absurd (omega arith)
 
-pub form_sound : (s : Scalar) → IsSound (scalar_form s)
+form_sound : (s : Scalar) → IsSound (scalar_form s)
 form_sound scalars.Double = tt
 form_sound scalars.Float = tt
 form_sound scalars.Int32 = int32_sound

@@ -15,12 +15,10 @@ use Rattle.pg_dyn.specs.declared.message.Content.{Content}
 use Rattle.pg_dyn.specs.declared.message.Content.TheVariants as contents
 use Rattle.pg_dyn.specs.declared.message.Value.{Value}
 use Rattle.pg_dyn.specs.declared.message.Value.TheVariants as values
-use Rattle.pg_dyn.specs.declared.number_list.NumberList.{NumberList}
 use Rattle.pg_dyn.specs.Message.{Leaf, Part, Place, places, key_cmp}
 use Rattle.pg_dyn.specs.reading.Content.{is_sibling}
 use Rattle.pg_dyn.specs.encoding.Encoding.{child_type}
 use Rattle.pg_dyn.specs.Kept.{Kept, KeptItem, ends, holds, type_of, message_of}
-use Rattle.pg_dyn.specs.NumberLists.{values_in}
 use Rattle.pg_dyn.specs.Seen.{leaf_of, manner, content_seen, item_seen, value_onto, items_onto, entries_onto, content_onto, fields_onto, Rises, IsFilled, IsKey, IsMapKey, HasKeys}
 use Rattle.pg_dyn.specs.Belonging.{KeyFits, MayFollow, ComesBefore, IsPart, IsUnknown, IsMessage}
 use Rattle.pg_dyn.specs.Fits.{Fits, PartsAgree, is_listed, is_listed_by}
@@ -134,19 +132,6 @@ module _ (shape : Shape) (type : TypeId) where
   many_takes (presences.Repeated packed) e vs listed h = h
   many_takes (presences.Map key) e vs listed h = absurd (cc)
 
-  -- of a list of numbers the same as of one of items
-  numbers_gives : (p : Presence) (e : Element) (ns : NumberList) → ContentFits shape p e (contents.Numbers ns) → (is_repeated p ≡ true) × AllByRecursion (ItemFits shape e) (values_in ns)
-  numbers_gives presences.Implicit e ns h = absurd h
-  numbers_gives presences.Explicit e ns h = absurd h
-  numbers_gives (presences.Repeated packed) e ns h = (refl, h)
-  numbers_gives (presences.Map key) e ns h = absurd h
-
-  numbers_takes : (p : Presence) (e : Element) (ns : NumberList) → is_repeated p ≡ true → AllByRecursion (ItemFits shape e) (values_in ns) → ContentFits shape p e (contents.Numbers ns)
-  numbers_takes presences.Implicit e ns listed h = absurd (cc)
-  numbers_takes presences.Explicit e ns listed h = absurd (cc)
-  numbers_takes (presences.Repeated packed) e ns listed h = h
-  numbers_takes (presences.Map key) e ns listed h = absurd (cc)
-
   abbrev pub EntryFits : Scalar → Element → Value × Value → Type 0
   EntryFits key e x = IsItemOf key x.0 × ItemFits shape e x.1
 
@@ -238,7 +223,6 @@ module _ (shape : Shape) (type : TypeId) where
         let k = one_gives f.presence f.element v h in
         record { each = (one_part None false v k.0 k.1 k.2 k.3, tt); in_order = (tt, tt) }
     content_holds (contents.Many vs) h = let k = many_gives f.presence f.element (contents.Many vs) vs refl h in items_hold k.0 vs.items k.1
-    content_holds (contents.Numbers ns) h = let k = numbers_gives f.presence f.element ns h in items_hold k.0 (values_in ns) k.1
     content_holds (contents.Map es) h = let k = map_gives f.presence f.element (contents.Map es) es refl h in entries_hold k.0 k.1 es.items k.2 k.3
 
   holds_parts : (c : ℕ × Content) → HoldsContent shape type c → HoldsParts content_seen shape type c
@@ -253,19 +237,15 @@ module _ (shape : Shape) (type : TypeId) where
 
   -- each of the contents' numbers has a place
   module _ (Q : ℕ → Type 0) where
-    items_off : (n : ℕ) (vs : List Value) (later : Kept) → vs ≢ [] → AllByRecursion (λ (p : Place). Q p.number) (places (message_of (items_onto n vs later))) → Q n × AllByRecursion (λ (p : Place). Q p.number) (places (message_of later))
-    items_off n vs later some h =
-        let k = subst (AllByRecursion (λ (p : Place). Q p.number)) (places-items_onto n vs later) h in
-        (first vs some (each_before (λ (p : Place). Q p.number) (map (λ (x : Value). place_at n None) vs) (places (message_of later)) k), each_after (λ (p : Place). Q p.number) (map (λ (x : Value). place_at n None) vs) (places (message_of later)) k)
+    places_off : (n : ℕ) (c : Content) (later : Kept) → IsFilled c → AllByRecursion (λ (p : Place). Q p.number) (places (message_of (content_onto n c later))) → Q n × AllByRecursion (λ (p : Place). Q p.number) (places (message_of later))
+    places_off n (contents.One v) later filled h = let k = subst (AllByRecursion (λ (p : Place). Q p.number)) (places-value_onto n None false v later) h in (k.0, k.1)
+    places_off n (contents.Many vs) later filled h =
+        let k = subst (AllByRecursion (λ (p : Place). Q p.number)) (places-items_onto n vs.items later) h in
+        (first vs.items filled (each_before (λ (p : Place). Q p.number) (map (λ (x : Value). place_at n None) vs.items) (places (message_of later)) k), each_after (λ (p : Place). Q p.number) (map (λ (x : Value). place_at n None) vs.items) (places (message_of later)) k)
       where
         first : (xs : List Value) → xs ≢ [] → AllByRecursion (λ (p : Place). Q p.number) (map (λ (x : Value). place_at n None) xs) → Q n
         first [] some k = absurd (some refl)
         first (x ∷ xs) some k = k.0
-
-    places_off : (n : ℕ) (c : Content) (later : Kept) → IsFilled c → AllByRecursion (λ (p : Place). Q p.number) (places (message_of (content_onto n c later))) → Q n × AllByRecursion (λ (p : Place). Q p.number) (places (message_of later))
-    places_off n (contents.One v) later filled h = let k = subst (AllByRecursion (λ (p : Place). Q p.number)) (places-value_onto n None false v later) h in (k.0, k.1)
-    places_off n (contents.Many vs) later filled h = items_off n vs.items later filled h
-    places_off n (contents.Numbers ns) later filled h = items_off n (values_in ns) later filled h
     places_off n (contents.Map es) later filled h =
         let k = subst (AllByRecursion (λ (p : Place). Q p.number)) (places-entries_onto n es.items later) h in
         (first es.items filled (each_before (λ (p : Place). Q p.number) (map (key_place n) es.items) (places (message_of later)) k), each_after (λ (p : Place). Q p.number) (map (key_place n) es.items) (places (message_of later)) k)
@@ -351,9 +331,6 @@ module _ (shape : Shape) (type : TypeId) where
     content_back n (contents.Many vs) later same filled keys h =
         let k = items_back n vs.items later same filled h in
         (k.0, k.1, many_takes k.0.presence k.0.element vs k.2 k.3, k.4, k.5)
-    content_back n (contents.Numbers ns) later same filled keys h =
-        let k = items_back n (values_in ns) later same filled h in
-        (k.0, k.1, numbers_takes k.0.presence k.0.element ns k.2 k.3, k.4, k.5)
     content_back n (contents.Map es) later same filled keys h =
         let k =
         entries_back n es.items later same filled (each_weaker (λ (e : Value × Value). IsMapKey e.0) (λ (e : Value × Value). IsKey e.0) (λ e. map_key_is_key e.0) es.items keys) h in

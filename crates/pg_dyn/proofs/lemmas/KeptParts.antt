@@ -11,7 +11,6 @@ use Rattle.pg_dyn.specs.declared.message.Value.{Value}
 use Rattle.pg_dyn.specs.declared.message.Value.TheVariants as values
 use Rattle.pg_dyn.specs.Message.{Leaf, Part, is_of}
 use Rattle.pg_dyn.specs.Kept.{Kept, ends, KeptItem, parts_of, unknown_of, type_of, of_number}
-use Rattle.pg_dyn.specs.NumberLists.{values_in}
 use Rattle.pg_dyn.specs.Seen.{leaf_of, item_seen, content_seen, value_onto, items_onto, entries_onto, content_onto, fields_onto, Rises}
 
 pub parts_of-value_onto : (number : ℕ) (key : Option Leaf) (listed : Bool) (v : Value) (later : Kept) → parts_of (value_onto number key listed v later) ≡ record { number = number; key = key; item = item_seen listed v } ∷ parts_of later
@@ -41,7 +40,6 @@ pub parts_of-content_onto : (number : ℕ) (c : Content) (later : Kept) → part
 parts_of-content_onto number (contents.One v) later = parts_of-value_onto number None false v later
 parts_of-content_onto number (contents.Many vs) later = parts_of-items_onto number vs.items later
 parts_of-content_onto number (contents.Map es) later = parts_of-entries_onto number es.items later
-parts_of-content_onto number (contents.Numbers ns) later = parts_of-items_onto number (values_in ns) later
 
 -- all parts of a content are of its number
 module _ {A : Type 0} (number : ℕ) (f : A → Part KeptItem) (is : (x : A) → (f x).number ≡ number) where
@@ -57,13 +55,11 @@ pub own_content : (number : ℕ) (c : Content) → filter (is_of number) (conten
 own_content number (contents.One v) = own number (item_part number false) (λ x. refl) (v ∷ [])
 own_content number (contents.Many vs) = own number (item_part number true) (λ x. refl) vs.items
 own_content number (contents.Map es) = own number (entry_part number) (λ x. refl) es.items
-own_content number (contents.Numbers ns) = own number (item_part number true) (λ x. refl) (values_in ns)
 
 pub other_content : (number m : ℕ) (c : Content) → number ≢ m → filter (is_of m) (content_seen number c) ≡ []
 other_content number m (contents.One v) apart = others number (item_part number false) (λ x. refl) m apart (v ∷ [])
 other_content number m (contents.Many vs) apart = others number (item_part number true) (λ x. refl) m apart vs.items
 other_content number m (contents.Map es) apart = others number (entry_part number) (λ x. refl) m apart es.items
-other_content number m (contents.Numbers ns) apart = others number (item_part number true) (λ x. refl) m apart (values_in ns)
 
 -- the parts of a number, field by field
 of_number-content : (number m : ℕ) (c : Content) (later : Kept) → of_number m (content_onto number c later) ≡ filter (is_of m) (content_seen number c) ++ of_number m later
@@ -115,7 +111,6 @@ pub unknown_of-content : (number : ℕ) (c : Content) (later : Kept) → (unknow
 unknown_of-content number (contents.One v) later = value_keeps number None false v later
 unknown_of-content number (contents.Many vs) later = unknown_of-items number vs.items later
 unknown_of-content number (contents.Map es) later = unknown_of-entries number es.items later
-unknown_of-content number (contents.Numbers ns) later = unknown_of-items number (values_in ns) later
 
 pub fields_keep : (fs : List (ℕ × Content)) (later : Kept) → (unknown_of (fields_onto fs later) ≡ unknown_of later) × (type_of (fields_onto fs later) ≡ type_of later)
 fields_keep [] later = (refl, refl)

@@ -1,5 +1,5 @@
 -- Words as numbers.
-use Rattle.std.proofs.Common.{◌≡◌, ℕ, ◌*◌, ◌^◌, ◌%◌, ◌<◌, List, [], ◌∷◌, map, pos, nat_eq, Bool, true, false, cond, Some, refl, ap, ap₂, sym, subst, ◌∙◌, arith}
+use Rattle.std.proofs.Common.{◌≡◌, ℕ, ◌*◌, ◌^◌, ◌%◌, ◌<◌, List, [], ◌∷◌, map, pos, nat_eq, Bool, true, false, cond, Some, refl, ap, sym, subst, ◌∙◌, arith}
 use Rattle.std.specs.Prelude.{⊤}
 use Rattle.std.specs.List.{AllByRecursion}
 use Rattle.pg_schema.specs.declared.parts.field.Scalar.{Scalar}
@@ -10,16 +10,12 @@ use Rattle.pg_wire.specs.declared.record.WireType.{WireType}
 use Rattle.pg_wire.specs.declared.record.WireType.TheVariants.{Varint, I64, Len, I32}
 use Rattle.pg_wire.specs.Words.{IsBetween, signed}
 use Rattle.pg_wire.proofs.Words.{IsBetween-signed, IsBetween-unzigzag}
-use Rattle.pg_dyn.specs.declared.message.Value.{Value}
 use Rattle.pg_dyn.specs.declared.message_ref.ValueRef.{ValueRef}
-use Rattle.pg_dyn.specs.declared.message_ref.ValueRef.TheVariants as values
 use Rattle.pg_dyn.specs.declared.number_list.NumberList.{NumberList}
-use Rattle.pg_dyn.specs.Borrowed as borrowed
 use Rattle.pg_dyn.specs.Borrowed.{leaf_of}
 use Rattle.pg_dyn.specs.BorrowedItems.{IsItemKept}
 use Rattle.pg_dyn.specs.Coding.{Form, Integer, Single, Double, Text, Raw, form_wire, leaf_in, scalar_form, word_in}
-use Rattle.pg_dyn.specs.NumberLists.{IsNumber, low_bits, number_item, numbers_in, value_of, values_in, word_value}
-use Rattle.pg_dyn.specs.Seen.{item_seen}
+use Rattle.pg_dyn.specs.NumberLists.{IsNumber, low_bits, number_item, numbers_in}
 use Rattle.pg_dyn.specs.WordOf.{HasBits, IsWord}
 use Rattle.pg_dyn.proofs.Lists.{each-map, each_of_all}
 
@@ -33,22 +29,6 @@ number_is Raw word = tt
 
 pub numbers_are : (ns : NumberList) → AllByRecursion IsNumber (numbers_in ns)
 numbers_are ns = each-map IsNumber (number_item (scalar_form ns.scalar)) ns.words.items (each_of_all (λ w. IsNumber (number_item (scalar_form ns.scalar) w)) (number_is (scalar_form ns.scalar)) ns.words.items)
-
--- a number shows the same, whether the message borrows or owns it
-value_seen : (listed : Bool) (v : ValueRef) → IsNumber v → item_seen listed (value_of v) ≡ borrowed.item_seen listed v
-value_seen listed (values.Int n) h = refl
-value_seen listed (values.F32 n) h = refl
-value_seen listed (values.F64 n) h = refl
-value_seen listed (values.Text n) h = absurd h
-value_seen listed (values.Bytes n) h = absurd h
-value_seen listed (values.Msg n) h = absurd h
-
-words_seen : (s : Scalar) (words : List ℕ) → map (item_seen true) (map (word_value s) words) ≡ map (borrowed.item_seen true) (map (number_item (scalar_form s)) words)
-words_seen s [] = refl
-words_seen s (w ∷ words) = ap₂ (λ x xs. x ∷ xs) (value_seen true (number_item (scalar_form s) w) (number_is (scalar_form s) w)) (words_seen s words)
-
-pub values_seen : (ns : NumberList) → map (item_seen true) (values_in ns) ≡ map (borrowed.item_seen true) (numbers_in ns)
-values_seen ns = words_seen ns.scalar ns.words.items
 
 -- a word of the wire type's bits is all kept
 low_same : (wire : WireType) (word : ℕ) → HasBits wire word → low_bits wire word ≡ word

@@ -1,20 +1,14 @@
 -- Whether a message is plain, level by level.
 use Rattle.std.proofs.Common.{◌≡◌, ◌↔◌, ℕ, List, [], ◌∷◌, map, length, Vec, Global, Bool, IsTrue, eqb, vec_len, true, false, Option, Some, None, refl, ap, sym, ◌∙◌, arith, eq-eqb, eqb-true}
 use Rattle.std.specs.List.{AllByRecursion}
-use Rattle.std.specs.Prelude.{⊤}
-use Rattle.pg_schema.specs.declared.parts.field.Scalar.{Scalar}
 use Rattle.pg_schema.specs.declared.parts.field.TypeId.{TypeId}
 use Rattle.pg_dyn.specs.declared.message.UnknownRecord.{UnknownRecord}
 use Rattle.pg_dyn.specs.declared.message.Content.{Content}
 use Rattle.pg_dyn.specs.declared.message.Content.TheVariants as contents
 use Rattle.pg_dyn.specs.declared.message.Value.{Value}
 use Rattle.pg_dyn.specs.declared.message.Value.TheVariants as values
-use Rattle.pg_dyn.specs.declared.message_ref.ValueRef.{ValueRef}
-use Rattle.pg_dyn.specs.declared.message_ref.ValueRef.TheVariants as lent
-use Rattle.pg_dyn.specs.Coding.{scalar_form}
 use Rattle.pg_dyn.specs.Message.{Leaf}
 use Rattle.pg_dyn.specs.Kept.{Kept, ends, IsPlain, IsPlainItem}
-use Rattle.pg_dyn.specs.NumberLists.{number_item, value_of, word_value}
 use Rattle.pg_dyn.specs.Seen.{leaf_of, item_seen, record_seen, value_onto, items_onto, entries_onto, content_onto, fields_onto, ArePlain}
 
 value_plain : (n : ℕ) (k : Option Leaf) (l : Bool) (v : Value) (later : Kept) → (IsPlainItem (item_seen false v) × IsPlain later) ↔ IsPlain (value_onto n k l v later)
@@ -39,27 +33,10 @@ entries_plain n (v ∷ vs) later =
     let rest = entries_plain n vs later in
     ((λ e. first.0 (e.0.0, rest.0 (e.0.1, e.1))), λ e. let k = first.1 e in let r = rest.1 k.1 in ((k.0, r.0), r.1))
 
--- numbers are always plain
-number_plain : (n : ℕ) (v : ValueRef) (later : Kept) → IsPlain later ↔ IsPlain (value_onto n None true (value_of v) later)
-number_plain n (lent.Int x) later = ((λ e. e), λ e. e)
-number_plain n (lent.F32 x) later = ((λ e. e), λ e. e)
-number_plain n (lent.F64 x) later = ((λ e. e), λ e. e)
-number_plain n (lent.Text x) later = ((λ e. e), λ e. e)
-number_plain n (lent.Bytes x) later = ((λ e. e), λ e. e)
-number_plain n (lent.Msg x) later = ((λ e. e), λ e. e)
-
-numbers_plain : (n : ℕ) (s : Scalar) (words : List ℕ) (later : Kept) → (⊤ × IsPlain later) ↔ IsPlain (items_onto n (map (word_value s) words) later)
-numbers_plain n s [] later = ((λ e. e.1), λ e. (tt, e))
-numbers_plain n s (w ∷ words) later =
-    let first = number_plain n (number_item (scalar_form s) w) (items_onto n (map (word_value s) words) later) in
-    let rest = numbers_plain n s words later in
-    ((λ e. first.0 (rest.0 e)), λ e. rest.1 (first.1 e))
-
 content_plain : (n : ℕ) (c : Content) (later : Kept) → (ArePlain c × IsPlain later) ↔ IsPlain (content_onto n c later)
 content_plain n (contents.One v) later = value_plain n None false v later
 content_plain n (contents.Many vs) later = items_plain n vs.items later
 content_plain n (contents.Map es) later = entries_plain n es.items later
-content_plain n (contents.Numbers ns) later = numbers_plain n ns.scalar ns.words.items later
 
 fields_plain : (fs : List (ℕ × Content)) (later : Kept) → (AllByRecursion (λ (f : ℕ × Content). ArePlain f.1) fs × IsPlain later) ↔ IsPlain (fields_onto fs later)
 fields_plain [] later = ((λ e. e.1), λ e. (tt, e))

@@ -13,7 +13,6 @@ use Rattle.pg_dyn.specs.declared.message.Value.TheVariants as values
 use Rattle.pg_dyn.specs.Message.{Leaf, Part, Item, Message, message_from}
 use Rattle.pg_dyn.specs.Message as model
 use Rattle.pg_dyn.specs.Kept.{Kept, ends, holds, nests, KeptItem, Plain, Msg, type_of, parts_of, unknown_of, message_of}
-use Rattle.pg_dyn.specs.NumberLists.{values_in}
 use Rattle.pg_dyn.specs.Seen.{leaf_of, item_seen, content_seen, value_onto, items_onto, entries_onto, content_onto, fields_onto}
 use Rattle.pg_dyn.specs.FieldList.{fields_below, fields_above, put_field, remove_field}
 use Rattle.pg_dyn.specs.reading.Content.{is_sibling}
@@ -46,7 +45,6 @@ content_part : (n : ℕ) (c : Content) (later : Kept) → content_onto n c later
 content_part n (contents.One v) later = value_part n None false v later
 content_part n (contents.Many vs) later = items_part n vs.items later
 content_part n (contents.Map es) later = entries_part n es.items later
-content_part n (contents.Numbers ns) later = items_part n (values_in ns) later
 
 pub kept_onto-append : (ps qs : List (Part KeptItem)) (later : Kept) → kept_onto (ps ++ qs) later ≡ kept_onto ps (kept_onto qs later)
 kept_onto-append [] qs later = refl
@@ -116,7 +114,6 @@ pub content_number : (n : ℕ) (c : Content) → AllByRecursion (λ (p : Part Ke
 content_number n (contents.One v) = (refl, tt)
 content_number n (contents.Many vs) = each-map (λ (p : Part KeptItem). p.number ≡ n) (λ value. record { number = n; key = None; item = item_seen true value }) vs.items (each_of_all (λ v. n ≡ n) (λ v. refl) vs.items)
 content_number n (contents.Map es) = each-map (λ (p : Part KeptItem). p.number ≡ n) (λ (e : Value × Value). record { number = n; key = Some (leaf_of e.0); item = item_seen false e.1 }) es.items (each_of_all (λ (e : Value × Value). n ≡ n) (λ e. refl) es.items)
-content_number n (contents.Numbers ns) = each-map (λ (p : Part KeptItem). p.number ≡ n) (λ value. record { number = n; key = None; item = item_seen true value }) (values_in ns) (each_of_all (λ v. n ≡ n) (λ v. refl) (values_in ns))
 
 -- a test of numbers goes over fields as over parts
 module _ (test : ℕ → Bool) where

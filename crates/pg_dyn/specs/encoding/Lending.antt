@@ -6,8 +6,6 @@ use Rattle.pg_schema.specs.declared.parts.field.TypeId.{TypeId}
 use Rattle.pg_schema.specs.Shape.{Shape, FieldShape, fields, field_at}
 use Rattle.pg_dyn.specs.declared.encoding.lending.LeafRef.{LeafRef}
 use Rattle.pg_dyn.specs.declared.encoding.lending.LeafRef.TheVariants as leaves
-use Rattle.pg_dyn.specs.declared.message.Content.{Content}
-use Rattle.pg_dyn.specs.declared.message.Content.TheVariants as owned_contents
 use Rattle.pg_dyn.specs.declared.message.Value.{Value}
 use Rattle.pg_dyn.specs.declared.message.Value.TheVariants as owned
 use Rattle.pg_dyn.specs.declared.message_ref.ContentRef.{ContentRef}
@@ -72,13 +70,7 @@ entry_part item key value number e = record { number = number; key = Some (bare_
 abbrev pub all_parts : {C : Type 0} → (ℕ → C → List (Part KeptItem)) → List (ℕ × C) → List (Part KeptItem)
 all_parts {C} parts cs = flat_map (λ (c : ℕ × C). parts c.0 c.1) cs
 
--- the content isn't kept as a list of numbers
-abbrev pub OwnsValues : Content → Type 0
-OwnsValues (owned_contents.One value) = ⊤
-OwnsValues (owned_contents.Many vs) = ⊤
-OwnsValues (owned_contents.Map es) = ⊤
-OwnsValues (owned_contents.Numbers ns) = ⊥
-
+-- the content is no list of numbers
 abbrev pub HasValues : ContentRef → Type 0
 HasValues (contents.One value) = ⊤
 HasValues (contents.Many vs) = ⊤

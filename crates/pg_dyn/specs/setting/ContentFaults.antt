@@ -17,7 +17,6 @@ use Rattle.pg_dyn.specs.declared.message.Value.TheVariants as values
 use Rattle.pg_dyn.specs.Message.{Leaf, leaf_eq}
 use Rattle.pg_dyn.specs.reading.Content.{same_oneof}
 use Rattle.pg_dyn.specs.Kept.{type_of}
-use Rattle.pg_dyn.specs.NumberLists.{values_in}
 use Rattle.pg_dyn.specs.Seen.{leaf_of}
 use Rattle.pg_dyn.specs.Fits.{Fits}
 use Rattle.pg_dyn.specs.ScalarItems.{IsFaultOf}
@@ -27,7 +26,6 @@ abbrev pub HasPresence : Presence → Content → Type 0
 HasPresence presences.Implicit (contents.One value) = ⊤
 HasPresence presences.Explicit (contents.One value) = ⊤
 HasPresence (presences.Repeated packed) (contents.Many vs) = ⊤
-HasPresence (presences.Repeated packed) (contents.Numbers ns) = ⊤
 HasPresence (presences.Map key) (contents.Map es) = ⊤
 HasPresence presence content = ⊥
 
@@ -42,7 +40,6 @@ abbrev pub items_in : FieldShape → Content → List (Element × Value)
 items_in f (contents.One value) = (f.element, value) ∷ []
 items_in f (contents.Many vs) = map (λ value. (f.element, value)) vs.items
 items_in f (contents.Map es) = flat_map (λ (e : Value × Value). (key_element f.presence, e.0) ∷ (f.element, e.1) ∷ []) es.items
-items_in f (contents.Numbers ns) = map (λ value. (f.element, value)) (values_in ns)
 
 -- what is no message of the type that fits
 abbrev pub IsNotOf : Shape → TypeId → Value → Type 0
@@ -100,7 +97,6 @@ abbrev pub HasKeyTwice : Content → Type 0
 HasKeyTwice (contents.One value) = ⊥
 HasKeyTwice (contents.Many vs) = ⊥
 HasKeyTwice (contents.Map es) = HasEntryTwice es.items
-HasKeyTwice (contents.Numbers ns) = ⊥
 
 -- the content of a field has what the error names
 abbrev pub FieldFault : Shape → FieldShape → Content → DynError → Type 0

@@ -18,7 +18,6 @@ use Rattle.pg_dyn.specs.setting.ContentFaults.{ElementFault, FirstFault, code, I
 use Rattle.pg_dyn.specs.ContentFits.{ItemFits, is_zero_value}
 use Rattle.pg_dyn.specs.Kept.{KeptItem}
 use Rattle.pg_dyn.specs.Message.{Leaf}
-use Rattle.pg_dyn.specs.NumberLists.{values_in}
 use Rattle.pg_dyn.specs.Seen.{item_seen, leaf_of}
 use Rattle.pg_dyn.specs.ScalarItems.{IsItemOf}
 use Rattle.pg_dyn.specs.Texts.{kept_item}
@@ -45,7 +44,6 @@ abbrev pub ItemsFit : Shape → Presence → Element → Content → Type 0
 ItemsFit shape presences.Implicit element (contents.One value) = ItemFits shape element value
 ItemsFit shape presences.Explicit element (contents.One value) = ItemFits shape element value
 ItemsFit shape (presences.Repeated packed) element (contents.Many vs) = AllByRecursion (ItemFits shape element) vs.items
-ItemsFit shape (presences.Repeated packed) element (contents.Numbers ns) = AllByRecursion (ItemFits shape element) (values_in ns)
 ItemsFit shape (presences.Map key) element (contents.Map es) = AllByRecursion (EntryFits shape key element) es.items
 ItemsFit shape presence element content = ⊥
 
@@ -75,7 +73,6 @@ is_nothing presences.Implicit (contents.One value) = is_zero_value value
 is_nothing presence (contents.One value) = false
 is_nothing presence (contents.Many vs) = nat_eq (length vs.items) 0
 is_nothing presence (contents.Map es) = nat_eq (length es.items) 0
-is_nothing presence (contents.Numbers ns) = nat_eq (length (values_in ns)) 0
 
 -- the content of a number is one of its field, but for keys twice
 abbrev pub TakesContent : Shape → TypeId → ℕ × Content → Type 0

@@ -107,7 +107,7 @@ pub(crate) trait Lends {
 }
 
 impl Lends for Message {
-    ghost use Rattle.pg_dyn.specs.encoding.Lending.{OwnsValues, owned_item};
+    ghost use Rattle.pg_dyn.specs.encoding.Lending.{owned_item};
     ghost use Rattle.pg_dyn.specs.Seen.{content_seen, record_seen};
 
     type Value = Value;
@@ -128,7 +128,7 @@ impl Lends for Message {
 
     ghost parts = { content_seen };
 
-    ghost has_values = { OwnsValues };
+    ghost has_values = { λ _. ⊤ };
 
     ghost record_of = { record_seen };
 
@@ -149,11 +149,8 @@ impl Lends for Message {
     }
 
     #[inline(always)]
-    fn numbers<'b>(content: &'b Content) -> Option<&'b NumberList> {
-        match content {
-            Content::Numbers(numbers) => Some(numbers),
-            Content::One(_) | Content::Many(_) | Content::Map(_) => None,
-        }
+    fn numbers<'b>(_content: &'b Content) -> Option<&'b NumberList> {
+        None
     }
 
     #[inline(always)]
@@ -162,7 +159,6 @@ impl Lends for Message {
             Content::One(value) => std::slice::from_ref(value),
             Content::Many(values) => values,
             Content::Map(_) => &[],
-            Content::Numbers(_) => &[],
         }
     }
 
@@ -170,7 +166,7 @@ impl Lends for Message {
     fn entries<'b>(content: &'b Content) -> &'b [(Value, Value)] {
         match content {
             Content::Map(entries) => entries,
-            Content::One(_) | Content::Many(_) | Content::Numbers(_) => &[],
+            Content::One(_) | Content::Many(_) => &[],
         }
     }
 
@@ -195,7 +191,7 @@ impl Lends for Message {
     #[inline(always)]
     fn leaf<'b>(value: &'b Value) -> LeafRef<'b> {
         match value {
-            Value::Int(number) => LeafRef::Int(number.get()),
+            Value::Int(number) => LeafRef::Int(*number),
             Value::F32(bits) => LeafRef::F32(*bits),
             Value::F64(bits) => LeafRef::F64(*bits),
             Value::Text(text) => LeafRef::Bytes(text.as_bytes()),

@@ -10,14 +10,12 @@ ghost use Rattle.pg_dyn.specs.Coding.{InRange, Text, scalar_form};
 ghost use Rattle.pg_dyn.specs.setting.ContentFaults.{code, ContentFault, ElementFault, FieldFault, FirstOf, IsLowest};
 ghost use Rattle.pg_dyn.specs.ContentFits.{ItemFits};
 ghost use Rattle.pg_dyn.specs.Message.{Bytes, F32, F64};
-ghost use Rattle.pg_dyn.specs.NumberLists.{values_in};
 ghost use Rattle.pg_dyn.specs.ScalarItems.{HoldsBytes, IsFaultOf, IsItemOf};
 ghost use Rattle.pg_dyn.specs.setting.Reported.{EntryFault, EntryFits, IsTaken, ItemsFit, Reports, reported_code};
 ghost use Rattle.pg_dyn.specs.WordOf.{IsInteger, IsIntegerOf};
 
 use crate::error::DynError;
 use crate::message::{Content, Value};
-use crate::number_list::{NumberList, word_number};
 use pg_schema::{Element, Field, Presence, Scalar, Schema, TypeId};
 
 // Whether the scalar's items are integers.
@@ -102,7 +100,7 @@ pub(crate) fn check_item(scalar: Scalar, value: &Value) -> Result<(), DynError>
     ensures fault { IfErr result (IsFaultOf scalar value.now) }
 {
     match value {
-        Value::Int(number) if is_in_range(scalar, number.get()) => Ok(()),
+        Value::Int(number) if is_in_range(scalar, *number) => Ok(()),
         Value::Int(_) if is_integer(scalar) => Err(DynError::OutOfRange),
         Value::F32(bits) if is_single(scalar, *bits) => Ok(()),
         Value::F64(bits) if is_double(scalar, *bits) => Ok(()),
@@ -167,21 +165,6 @@ fn check_values(schema: &Schema, element: Element, values: &[Value]) -> Result<(
     reported
 }
 
-// The same of all numbers of a list that is kept as numbers.
-fn check_numbers(schema: &Schema, element: Element, numbers: &NumberList) -> Result<(), DynError>
-    requires { IsSchema schema.now }
-    ensures { Reports
-        (AllByRecursion (ItemFits (shape_of schema.now) element) (values_in numbers.now))
-        (FirstOf (ElementFault (shape_of schema.now) element) (values_in numbers.now)) result }
-{
-    let mut reported = Ok(());
-    for word in &numbers.words {
-        let value = word_number(numbers.scalar, *word).to_value();
-        reported = lower(reported, check_element(schema, element, &value));
-    }
-    reported
-}
-
 // The same of the key and the value of an entry.
 fn check_entry(
     schema: &Schema,
@@ -226,9 +209,6 @@ fn check_field(schema: &Schema, field: &Field, content: &Content) -> Result<(), 
         (Presence::Explicit, Content::One(value)) => check_element(schema, field.element, value),
         (Presence::Repeated { .. }, Content::Many(values)) => {
             check_values(schema, field.element, values)
-        }
-        (Presence::Repeated { .. }, Content::Numbers(numbers)) => {
-            check_numbers(schema, field.element, numbers)
         }
         (Presence::Map { key }, Content::Map(entries)) => {
             check_entries(schema, key, field.element, entries)

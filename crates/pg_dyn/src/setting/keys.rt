@@ -21,7 +21,7 @@ impl Value {
         ensures { result ≡ number_in (leaf_of self.now) }
     {
         match self {
-            Value::Int(number) => number.get(),
+            Value::Int(number) => *number,
             _ => 0,
         }
     }

@@ -118,7 +118,6 @@ impl Content {
             (_, Content::One(_)) => false,
             (_, Content::Many(values)) => values.is_empty(),
             (_, Content::Map(entries)) => entries.is_empty(),
-            (_, Content::Numbers(numbers)) => numbers.words.is_empty(),
         }
     }
 
@@ -147,8 +146,6 @@ impl Content {
             }
             // Only a map field has entries.
             (_, Content::Map(entries)) => Content::Map(entries),
-            // The numbers of no field are texts.
-            (_, Content::Numbers(numbers)) => Content::Numbers(numbers),
         }
     }
 }

@@ -16,11 +16,9 @@ use Rattle.pg_dyn.specs.Borrowed as borrowed
 use Rattle.pg_dyn.specs.Kept.{Kept, KeptItem, ends, type_of, unknown_of}
 use Rattle.pg_dyn.specs.encoding.Lending.{AreKeyed, AreKeyless, all_parts, bare_leaf, entry_part, in_list, item_part, lent_item, owned_item}
 use Rattle.pg_dyn.specs.Message.{Leaf, Part}
-use Rattle.pg_dyn.specs.NumberLists.{numbers_in, values_in}
+use Rattle.pg_dyn.specs.NumberLists.{numbers_in}
 use Rattle.pg_dyn.specs.Replacing.{kept_onto}
 use Rattle.pg_dyn.specs.Seen.{IsFilled, content_seen, fields_onto, item_seen, leaf_of}
-use Rattle.pg_dyn.proofs.lemmas.BorrowedParts.{list_parts}
-use Rattle.pg_dyn.proofs.lemmas.NumberLaws.{values_seen}
 use Rattle.pg_dyn.proofs.lemmas.ReplacingLaws.{fields_from, type_of-kept_onto, unknown_of-kept_onto}
 
 -- a message is its parts, its type and its unknown records
@@ -83,31 +81,26 @@ pub owned_filled : (n : ℕ) (c : Content) → IsFilled c → content_seen n c �
 owned_filled n (owned.One v) filled e = absurd (cc)
 owned_filled n (owned.Many vs) filled e = some_of (λ v. record { number = n; key = None; item = item_seen true v }) vs.items filled e
 owned_filled n (owned.Map es) filled e = some_of (owned_entry_part n) es.items filled e
-owned_filled n (owned.Numbers ns) filled e = some_of (λ v. record { number = n; key = None; item = item_seen true v }) (values_in ns) filled e
 
 abbrev pub owned_items : Content → List Value
 owned_items (owned.One v) = v ∷ []
 owned_items (owned.Many vs) = vs.items
 owned_items (owned.Map es) = []
-owned_items (owned.Numbers ns) = values_in ns
 
 abbrev pub owned_entries : Content → List (Value × Value)
 owned_entries (owned.One v) = []
 owned_entries (owned.Many vs) = []
 owned_entries (owned.Map es) = es.items
-owned_entries (owned.Numbers ns) = []
 
 pub owned_items_are : (n : ℕ) (c : Content) → AreKeyless (content_seen n c) → (l : Bool) × (content_seen n c ≡ map (item_part owned_item n l) (owned_items c))
 owned_items_are n (owned.One v) keyless = (false, ap (λ p. p ∷ []) (owned_item_part n false v))
 owned_items_are n (owned.Many vs) keyless = (true, map_as (λ v. record { number = n; key = None; item = item_seen true v }) (item_part owned_item n true) (owned_item_part n true) vs.items)
 owned_items_are n (owned.Map es) keyless = (false, no_keys (owned_entry_part n) (λ (e : Value × Value). leaf_of e.0) (λ e. refl) es.items keyless)
-owned_items_are n (owned.Numbers ns) keyless = (true, map_as (λ v. record { number = n; key = None; item = item_seen true v }) (item_part owned_item n true) (owned_item_part n true) (values_in ns))
 
 pub owned_entries_are : (n : ℕ) (c : Content) → AreKeyed (content_seen n c) → content_seen n c ≡ map (entry_part owned_item (λ (x : Value × Value). x.0) (λ (x : Value × Value). x.1) n) (owned_entries c)
 owned_entries_are n (owned.One v) keyed = absurd (keyed.0 refl)
 owned_entries_are n (owned.Many vs) keyed = all_keys (λ v. record { number = n; key = None; item = item_seen true v }) (λ v. refl) vs.items keyed
 owned_entries_are n (owned.Map es) keyed = map_as (owned_entry_part n) (entry_part owned_item (λ (x : Value × Value). x.0) (λ (x : Value × Value). x.1) n) (owned_entry_is n) es.items
-owned_entries_are n (owned.Numbers ns) keyed = all_keys (λ v. record { number = n; key = None; item = item_seen true v }) (λ v. refl) (values_in ns) keyed
 
 -- Messages that borrow.
 
@@ -141,10 +134,6 @@ lent_filled n (lent.Numbers ns) filled e = some_of (borrowed.item_part n true) (
 
 pub lent_numbers : (n : ℕ) (ns : NumberList) → map (borrowed.item_part n true) (numbers_in ns) ≡ map (item_part lent_item n true) (numbers_in ns)
 lent_numbers n ns = map_as (borrowed.item_part n true) (item_part lent_item n true) (lent_item_part n true) (numbers_in ns)
-
--- so are those of a list that is owned
-pub owned_numbers : (n : ℕ) (ns : NumberList) → content_seen n (owned.Numbers ns) ≡ map (item_part lent_item n true) (numbers_in ns)
-owned_numbers n ns = list_parts (numbers_in ns) (values_in ns) (values_seen ns) n ∙ lent_numbers n ns
 
 abbrev pub lent_items : ContentRef → List ValueRef
 lent_items (lent.One v) = v ∷ []

@@ -18,17 +18,14 @@ use Rattle.pg_dyn.specs.declared.message.Content.{Content}
 use Rattle.pg_dyn.specs.declared.message.Content.TheVariants as contents
 use Rattle.pg_dyn.specs.declared.message.Value.{Value}
 use Rattle.pg_dyn.specs.declared.message.Value.TheVariants as values
-use Rattle.pg_dyn.specs.declared.number_list.NumberList.{NumberList}
 use Rattle.pg_dyn.specs.Coding.{Form, Integer, Single, Double, Text, Raw, InRange, scalar_form}
 use Rattle.pg_dyn.specs.Message.{Int}
-use Rattle.pg_dyn.specs.NumberLists.{values_in}
 use Rattle.pg_dyn.specs.WordOf.{IsInteger, IsIntegerOf}
 use Rattle.pg_dyn.specs.Seen.{leaf_of, IsKey}
 use Rattle.pg_dyn.specs.ScalarItems.{IsItemOf, IsKindOf, IsOutOfRange, IsNoText, IsFaultOf}
 use Rattle.pg_dyn.specs.setting.ContentFaults.{ElementFault, FirstFault, FirstOf, HasPresence, HasItemFault, HasKeyTwice, FieldFault, ContentFault, items_in, code, IsLowest, HasNoFault, HasNoEarlyFault}
 use Rattle.pg_dyn.specs.ContentFits.{ItemFits}
 use Rattle.pg_dyn.specs.setting.Reported.{Reports, EntryFits, EntryFault, ItemsFit, TakesContent}
-use Rattle.pg_dyn.proofs.Lists.{each-map}
 use Rattle.pg_dyn.proofs.lemmas.setting.LowestFault.{none_first, reported_so}
 
 -- Of several faults.
@@ -277,12 +274,6 @@ first_back F f [] e k = k
 first_back F f (x ∷ xs) e (inl k) = inl k
 first_back F f (x ∷ xs) e (inr k) = inr (k.0, first_back F f xs e k.1)
 
--- so it is reported of what they stand for
-pub reported_through : {A B : Type 0} (P : B → Type 0) (F : B → DynError → Type 0) (f : A → B) (xs : List A) (r : Result (Unit {0}) DynError) → Reports (AllByRecursion (λ x. P (f x)) xs) (FirstOf (λ x. F (f x)) xs) r
-    → Reports (AllByRecursion P (map f xs)) (FirstOf F (map f xs)) r
-reported_through P F f xs r h =
-    reported_so (AllByRecursion (λ x. P (f x)) xs) (AllByRecursion P (map f xs)) (FirstOf (λ x. F (f x)) xs) (FirstOf F (map f xs)) (each-map P f xs) (first_to F f xs) (λ e early k. first_back F f xs e k) r h
-
 -- of two elements for each one
 first_two : {A B : Type 0} (F : B → DynError → Type 0) (f g : A → B) (xs : List A) (e : DynError) → FirstOf (λ x. FirstFault (F (f x)) (F (g x))) xs e → FirstOf F (flat_map (λ x. f x ∷ g x ∷ []) xs) e
 first_two F f g [] e k = k
@@ -345,11 +336,6 @@ module _ (shape : Shape) (n : ℕ) (element : Element) (oneof : Option ℕ) (r :
       of_items (presences.Repeated packed) (contents.Many vs) (AllByRecursion (ItemFits shape element) vs.items) (FirstOf (ElementFault shape element) vs.items) tt (λ k. k)
       (first_to (λ (x : Element × Value). ElementFault shape x.0 x.1) (λ (v : Value). (element, v)) vs.items) (first_back (λ (x : Element × Value). ElementFault shape x.0 x.1) (λ (v : Value). (element, v)) vs.items) h
 
-  pub reported_numbers : (packed : Bool) (ns : NumberList) → Reports (AllByRecursion (ItemFits shape element) (values_in ns)) (FirstOf (ElementFault shape element) (values_in ns)) r → TellsField (presences.Repeated packed) (contents.Numbers ns)
-  reported_numbers packed ns h =
-      of_items (presences.Repeated packed) (contents.Numbers ns) (AllByRecursion (ItemFits shape element) (values_in ns)) (FirstOf (ElementFault shape element) (values_in ns)) tt (λ k. k)
-      (first_to (λ (x : Element × Value). ElementFault shape x.0 x.1) (λ (v : Value). (element, v)) (values_in ns)) (first_back (λ (x : Element × Value). ElementFault shape x.0 x.1) (λ (v : Value). (element, v)) (values_in ns)) h
-
   pub reported_map : (key : Scalar) (es : Vec (Value × Value) Global) → Reports (AllByRecursion (EntryFits shape key element) es.items) (FirstOf (EntryFault shape key element) es.items) r → TellsField (presences.Map key) (contents.Map es)
   reported_map key es h =
       of_items (presences.Map key) (contents.Map es) (AllByRecursion (EntryFits shape key element) es.items) (FirstOf (EntryFault shape key element) es.items) tt (λ k. k)
@@ -365,25 +351,18 @@ module _ (shape : Shape) (n : ℕ) (element : Element) (oneof : Option ℕ) wher
       none_first (ItemFits shape element) (ElementFault shape element) (item_right shape element) vs.items h e early
       (first_back (λ (x : Element × Value). ElementFault shape x.0 x.1) (λ (v : Value). (element, v)) vs.items e
       (from_field shape (record { number = n; presence = presences.Repeated packed; element = element; oneof = oneof }) (contents.Many vs) tt e early k))
-  items_right (presences.Repeated packed) (contents.Numbers ns) h e early k =
-      none_first (ItemFits shape element) (ElementFault shape element) (item_right shape element) (values_in ns) h e early
-      (first_back (λ (x : Element × Value). ElementFault shape x.0 x.1) (λ (v : Value). (element, v)) (values_in ns) e
-      (from_field shape (record { number = n; presence = presences.Repeated packed; element = element; oneof = oneof }) (contents.Numbers ns) tt e early k))
   items_right (presences.Map key) (contents.Map es) h e early k =
       none_first (EntryFits shape key element) (EntryFault shape key element) (entry_right shape key element) es.items h e early
       (two_back (λ (x : Element × Value). ElementFault shape x.0 x.1) (λ (x : Value × Value). (elements.Scalar key, x.0)) (λ (x : Value × Value). (element, x.1)) es.items e
       (from_field shape (record { number = n; presence = presences.Map key; element = element; oneof = oneof }) (contents.Map es) tt e early k))
   items_right presences.Implicit (contents.Many vs) h e early k = absurd h
   items_right presences.Implicit (contents.Map es) h e early k = absurd h
-  items_right presences.Implicit (contents.Numbers ns) h e early k = absurd h
   items_right presences.Explicit (contents.Many vs) h e early k = absurd h
   items_right presences.Explicit (contents.Map es) h e early k = absurd h
-  items_right presences.Explicit (contents.Numbers ns) h e early k = absurd h
   items_right (presences.Repeated packed) (contents.One v) h e early k = absurd h
   items_right (presences.Repeated packed) (contents.Map es) h e early k = absurd h
   items_right (presences.Map key) (contents.One v) h e early k = absurd h
   items_right (presences.Map key) (contents.Many vs) h e early k = absurd h
-  items_right (presences.Map key) (contents.Numbers ns) h e early k = absurd h
 
 -- Under a number of a type.
 

@@ -9,13 +9,10 @@ use Rattle.pg_schema.specs.Shape.{Shape}
 use Rattle.pg_schema.specs.rules.Fields.{is_key}
 use Rattle.pg_dyn.specs.declared.message.Value.{Value}
 use Rattle.pg_dyn.specs.declared.message.Value.TheVariants as values
-use Rattle.pg_dyn.specs.declared.message_ref.ValueRef.{ValueRef}
-use Rattle.pg_dyn.specs.declared.message_ref.ValueRef.TheVariants as lent
 use Rattle.pg_dyn.specs.Coding.{InRange, scalar_form}
 use Rattle.pg_dyn.specs.ContentFits.{ItemFits}
 use Rattle.pg_dyn.specs.Kept.{KeptItem, Plain}
 use Rattle.pg_dyn.specs.Message.{Leaf, Bytes}
-use Rattle.pg_dyn.specs.NumberLists.{number_item, value_of, word_value}
 use Rattle.pg_dyn.specs.ScalarItems.{IsItemOf, IsKeptAs}
 use Rattle.pg_dyn.specs.Seen.{IsMapKey, item_seen, leaf_of}
 use Rattle.pg_dyn.specs.setting.Reported.{EntryFits, entry_kept, entry_seen}
@@ -128,53 +125,6 @@ map_key s (values.Msg x) key item kept = absurd item
 pub values_same : (shape : Shape) (e : Element) (vs : List Value) → holds_bytes e ≡ false → AllByRecursion (ItemFits shape e) vs → map (item_seen true) vs ≡ map (λ v. kept_item e (item_seen true v)) vs
 values_same shape e [] h fit = refl
 values_same shape e (v ∷ vs) h fit = ap₂ (λ i is. i ∷ is) (same_kept shape e v true h fit.0) (values_same shape e vs h fit.1)
-
--- numbers are of no string field, so they are kept as they are
-
-no_string : (v : ValueRef) → IsItemOf scalars.String (value_of v) → ⊥
-no_string (lent.Int x) item = item
-no_string (lent.F32 x) item = item
-no_string (lent.F64 x) item = item
-no_string (lent.Text x) item = item
-no_string (lent.Bytes x) item = item
-no_string (lent.Msg x) item = item
-
-number_scalar : (s : Scalar) (v : ValueRef) → IsItemOf s (value_of v) → is_string (elements.Scalar s) ≡ false
-number_scalar scalars.Int32 v item = refl
-number_scalar scalars.Int64 v item = refl
-number_scalar scalars.Uint32 v item = refl
-number_scalar scalars.Uint64 v item = refl
-number_scalar scalars.Sint32 v item = refl
-number_scalar scalars.Sint64 v item = refl
-number_scalar scalars.Fixed32 v item = refl
-number_scalar scalars.Fixed64 v item = refl
-number_scalar scalars.Sfixed32 v item = refl
-number_scalar scalars.Sfixed64 v item = refl
-number_scalar scalars.Bool v item = refl
-number_scalar scalars.Float v item = refl
-number_scalar scalars.Double v item = refl
-number_scalar scalars.Bytes v item = refl
-number_scalar scalars.String v item = absurd (no_string v item)
-
-number_element : (shape : Shape) (e : Element) (v : ValueRef) → ItemFits shape e (value_of v) → is_string e ≡ false
-number_element shape (elements.Scalar s) v item = number_scalar s v item
-number_element shape (elements.Enum x) v item = refl
-number_element shape (elements.Message t) v item = refl
-
-number_same : (e : Element) (v : ValueRef) → is_string e ≡ false → item_seen true (value_of v) ≡ kept_item e (item_seen true (value_of v))
-number_same e (lent.Int x) not_text = no_text e true _ not_text
-number_same e (lent.F32 x) not_text = no_text e true _ not_text
-number_same e (lent.F64 x) not_text = no_text e true _ not_text
-number_same e (lent.Text x) not_text = no_text e true _ not_text
-number_same e (lent.Bytes x) not_text = no_text e true _ not_text
-number_same e (lent.Msg x) not_text = no_text e true _ not_text
-
-pub words_same : (shape : Shape) (e : Element) (s : Scalar) (words : List ℕ) → AllByRecursion (ItemFits shape e) (map (word_value s) words)
-    → map (item_seen true) (map (word_value s) words) ≡ map (λ v. kept_item e (item_seen true v)) (map (word_value s) words)
-words_same shape e s [] fit = refl
-words_same shape e s (w ∷ words) fit =
-    let v = number_item (scalar_form s) w in
-    ap₂ (λ i is. i ∷ is) (number_same e v (number_element shape e v fit.0)) (words_same shape e s words fit.1)
 
 neither : (a b : Bool) → (a || b) ≡ false → (a ≡ false) × (b ≡ false)
 neither true b h = absurd (cc)

@@ -1,5 +1,5 @@
 -- The lowest fault of a row, one element after the other.
-use Rattle.std.proofs.Common.{◌≡◌, ◌≤◌, ◌<◌, ◌+◌, ℕ, zero, suc, List, [], ◌∷◌, ◌++◌, length, take, get_or, Result, Ok, Err, ◌⊎◌, inl, inr, ⊎_elim, refl, ap, sym, subst, ◌∙◌, arith, add-one}
+use Rattle.std.proofs.Common.{◌≡◌, ◌≤◌, ◌<◌, ◌+◌, ℕ, zero, suc, List, [], ◌∷◌, ◌++◌, length, take, get_or, Result, Ok, Err, ◌⊎◌, inl, inr, ⊎_elim, ap, sym, subst, ◌∙◌, arith, add-one}
 use Rattle.std.specs.List.{AllByRecursion}
 use Rattle.std.proofs.lemmas.List.{take_all}
 use Rattle.pg_dyn.specs.declared.error.DynError.{DynError}
@@ -73,12 +73,6 @@ take_more xs i x inside is = ap (λ n. take n xs) (add-one i) ∙ more xs i x in
     more [] k y inside is = absurd (omega arith)
     more (z ∷ ys) zero y inside is = ap (λ w. w ∷ []) (sym is)
     more (z ∷ ys) (suc k) y inside is = ap (λ ws. z ∷ ws) (more ys k y (omega arith) is)
-
--- what stands at a place stands there, whatever stands for a missing one
-pub found_there : {X : Type 0} (xs : List X) (i : ℕ) (d : X) → i < length xs → get_or xs i d ≡ get_or xs i (get_or xs i d)
-found_there [] i d inside = absurd (omega arith)
-found_there (x ∷ xs) zero d inside = refl
-found_there (x ∷ xs) (suc i) d inside = found_there xs i d (omega arith)
 
 module _ {A : Type 0} (P : A → Type 0) (F : A → DynError → Type 0) (p : (x : A) → P x → HasNoEarlyFault (F x)) where
   -- what is reported of the elements of a row

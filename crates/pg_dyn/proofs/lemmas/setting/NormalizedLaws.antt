@@ -14,20 +14,17 @@ use Rattle.pg_dyn.specs.declared.message.Content.{Content}
 use Rattle.pg_dyn.specs.declared.message.Content.TheVariants as contents
 use Rattle.pg_dyn.specs.declared.message.Value.{Value}
 use Rattle.pg_dyn.specs.declared.message.Value.TheVariants as values
-use Rattle.pg_dyn.specs.declared.number_list.NumberList.{NumberList}
 use Rattle.pg_dyn.specs.setting.ContentFaults.{HasEntryTwice}
 use Rattle.pg_dyn.specs.ContentFits.{ContentFits, ItemFits, KeysRise, is_zero_value}
 use Rattle.pg_dyn.specs.Kept.{KeptItem, Plain, Msg}
 use Rattle.pg_dyn.specs.KeyOrder.{AreAlike}
 use Rattle.pg_dyn.specs.Message.{Leaf, Part, key_cmp}
-use Rattle.pg_dyn.specs.NumberLists.{values_in}
 use Rattle.pg_dyn.specs.Seen.{content_seen, item_seen, leaf_of}
 use Rattle.pg_dyn.specs.setting.Setting.{by_rising_key, is_zero_kept, normalized_by}
 use Rattle.pg_dyn.specs.setting.Reported.{EntryFits, entry_kept, entry_seen, is_nothing, ItemsFit}
 use Rattle.pg_dyn.specs.Texts.{kept_in, kept_item}
 use Rattle.pg_dyn.proofs.lemmas.setting.KeySorting.{entry_part, sorted_is}
 use Rattle.pg_dyn.proofs.Lists.{each-append, map_map}
-use Rattle.pg_dyn.proofs.lemmas.setting.KeptVariants.{words_same}
 
 first_same : {A : Type 0} {x y : A} {xs ys : List A} → x ∷ xs ≡ y ∷ ys → x ≡ y
 first_same e = cc
@@ -108,15 +105,6 @@ zero_seen l (values.Text x) = refl
 zero_seen l (values.Bytes x) = refl
 zero_seen l (values.Msg x) = refl
 
--- items that show what is kept of others
-items_seen : (e : Element) (vs ws : List Value) (n : ℕ) → map (item_seen true) ws ≡ map (λ v. kept_item e (item_seen true v)) vs
-    → map (λ v. record { number = n; key = None; item = item_seen true v }) ws ≡ map (kept_in e) (map (λ v. record { number = n; key = None; item = item_seen true v }) vs)
-items_seen e vs ws n seen =
-    sym (map_map (λ (k : KeptItem). record { number = n; key = None; item = k }) (item_seen true) ws)
-    ∙ ap (map (λ (k : KeptItem). record { number = n; key = None; item = k })) seen
-    ∙ map_map (λ (k : KeptItem). record { number = n; key = None; item = k }) (λ v. kept_item e (item_seen true v)) vs
-    ∙ sym (map_map (kept_in e) (λ v. record { number = n; key = None; item = item_seen true v }) vs)
-
 module _ (shape : Shape) where
   pub one_fits : (p : Presence) (e : Element) (v w : Value) → ItemsFit shape p e (contents.One v) → is_nothing p (contents.One v) ≡ false → ItemFits shape e w → item_seen false w ≡ kept_item e (item_seen false v)
       → ContentFits shape p e (contents.One w)
@@ -138,21 +126,12 @@ module _ (shape : Shape) where
       → map (λ v. record { number = n; key = None; item = item_seen true v }) ws ≡ map (kept_in e) (normalized_by p (content_seen n (contents.Many vs)))
   list_seen presences.Implicit e vs ws n items seen = absurd items
   list_seen presences.Explicit e vs ws n items seen = absurd items
-  list_seen (presences.Repeated packed) e vs ws n items seen = items_seen e vs.items ws n seen
+  list_seen (presences.Repeated packed) e vs ws n items seen =
+      sym (map_map (λ (k : KeptItem). record { number = n; key = None; item = k }) (item_seen true) ws)
+      ∙ ap (map (λ (k : KeptItem). record { number = n; key = None; item = k })) seen
+      ∙ map_map (λ (k : KeptItem). record { number = n; key = None; item = k }) (λ v. kept_item e (item_seen true v)) vs.items
+      ∙ sym (map_map (kept_in e) (λ v. record { number = n; key = None; item = item_seen true v }) vs.items)
   list_seen (presences.Map key) e vs ws n items seen = absurd items
-
-  pub numbers_seen : (p : Presence) (e : Element) (ns : NumberList) (n : ℕ) → ItemsFit shape p e (contents.Numbers ns)
-      → content_seen n (contents.Numbers ns) ≡ map (kept_in e) (normalized_by p (content_seen n (contents.Numbers ns)))
-  numbers_seen presences.Implicit e ns n items = absurd items
-  numbers_seen presences.Explicit e ns n items = absurd items
-  numbers_seen (presences.Repeated packed) e ns n items = items_seen e (values_in ns) (values_in ns) n (words_same shape e ns.scalar ns.words.items items)
-  numbers_seen (presences.Map key) e ns n items = absurd items
-
-  pub numbers_fit : (p : Presence) (e : Element) (ns : NumberList) → ItemsFit shape p e (contents.Numbers ns) → ContentFits shape p e (contents.Numbers ns)
-  numbers_fit presences.Implicit e ns items = absurd items
-  numbers_fit presences.Explicit e ns items = absurd items
-  numbers_fit (presences.Repeated packed) e ns items = items
-  numbers_fit (presences.Map key) e ns items = absurd items
 
   pub map_items : (p : Presence) (e : Element) (key : Scalar) (c : Content) (es : Vec (Value × Value) Global) → p ≡ presences.Map key → c ≡ contents.Map es → ItemsFit shape p e c → AllByRecursion (EntryFits shape key e) es.items
   map_items p e key c es is_p is_c h = subst (λ x. ItemsFit shape (presences.Map key) e x) is_c (subst (λ x. ItemsFit shape x e c) is_p h)
@@ -187,7 +166,3 @@ as_long e ks fs seen = sym (length-map ks entry_seen) ∙ ap length seen ∙ len
 
 pub none_left : (es ks : List (Value × Value)) → length ks ≡ length es → nat_eq (length es) 0 ≡ false → ks ≡ [] → ⊥
 none_left es ks same some none = absurd (let zero_long : length es ≡ 0 = sym same ∙ ap length none in true≢false (sym (eq-eqb (length es) 0 zero_long) ∙ some))
-
-pub some_left : {A : Type 0} (xs : List A) → nat_eq (length xs) 0 ≡ false → xs ≡ [] → ⊥
-some_left [] some none = absurd (cc)
-some_left (x ∷ xs) some none = absurd (cc)

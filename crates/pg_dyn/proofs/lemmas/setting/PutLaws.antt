@@ -28,7 +28,6 @@ use Rattle.pg_dyn.specs.KeyOrder.{AreAlike, IsNumber, IsText, KeysAlike}
 use Rattle.pg_dyn.specs.Message.{Part, F32, F64}
 use Rattle.pg_dyn.specs.Replacing.{kept_from, with_parts, is_sibling_number, without_siblings}
 use Rattle.pg_dyn.specs.ScalarItems.{IsItemOf}
-use Rattle.pg_dyn.specs.NumberLists.{values_in}
 use Rattle.pg_dyn.specs.Seen.{content_seen, item_seen, leaf_of, Rises, IsFilled, HasKeys}
 use Rattle.pg_dyn.specs.setting.Setting.{normalized, normalized_by}
 use Rattle.pg_dyn.specs.Texts.{kept_in}
@@ -88,7 +87,6 @@ module _ (shape : Shape) (e : Element) (es : List (Value × Value)) where
 pub alike_by : (shape : Shape) (p : Presence) (e : Element) (o : Option ℕ) (c : Content) → PresenceFits p e o → ItemsFit shape p e c → KeysAlike c
 alike_by shape p e o (contents.One v) fits h = tt
 alike_by shape p e o (contents.Many vs) fits h = tt
-alike_by shape p e o (contents.Numbers ns) fits h = tt
 alike_by shape presences.Implicit e o (contents.Map es) fits h = absurd h
 alike_by shape presences.Explicit e o (contents.Map es) fits h = absurd h
 alike_by shape (presences.Repeated packed) e o (contents.Map es) fits h = absurd h
@@ -132,7 +130,6 @@ nothing_left (presences.Map key) (contents.One v) n h = absurd (cc)
 nothing_left p (contents.Many vs) n h = ap (λ (xs : List Value). normalized_by p (map (λ value. record { number = n; key = None; item = item_seen true value }) xs)) (empty_list vs.items h) ∙ normalized_none p
 nothing_left p (contents.Map es) n h =
     ap (λ (xs : List (Value × Value)). normalized_by p (map (λ (e : Value × Value). record { number = n; key = Some (leaf_of e.0); item = item_seen false e.1 }) xs)) (empty_list es.items h) ∙ normalized_none p
-nothing_left p (contents.Numbers ns) n h = ap (λ (xs : List Value). normalized_by p (map (λ value. record { number = n; key = None; item = item_seen true value }) xs)) (empty_list (values_in ns) h) ∙ normalized_none p
 
 pub nothing_normalized : (f : FieldShape) (c : Content) (n : ℕ) → is_nothing f.presence c ≡ true → normalized f (content_seen n c) ≡ []
 nothing_normalized f c n h = ap (map (kept_in f.element)) (nothing_left f.presence c n h)

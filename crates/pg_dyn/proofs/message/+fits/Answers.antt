@@ -1,25 +1,21 @@
 -- A content fits where it has its field's shape and each of its items fits, and a message where each of its contents does.
-use Rattle.std.proofs.Common.{arith, ap, ◌≡◌, ◌↔◌, IsTrue, List, true, map, refl, sym, subst, ◌∙◌, true≢false}
+use Rattle.std.proofs.Common.{arith, ap, ◌≡◌, List, true, map, refl, sym, subst, ◌∙◌, true≢false}
 use denote.Param.Weighed.{most}
 use Rattle.pg_dyn.specs.declared.message.Message.TheDeep.{deep-Content, deep-Value}
 use Rattle.pg_dyn.specs.declared.message.Message.TheShapes.{weighed-Content-Map-0-at-2}
 use Rattle.pg_dyn.specs.declared.message.Content.{Content}
 use Rattle.std.specs.List.{AllByRecursion}
-use Rattle.pg_schema.specs.declared.parts.field.Scalar.{Scalar}
 use Rattle.pg_schema.specs.Parts.{field_shape, shape_of}
 use Rattle.pg_schema.specs.Shape.{FieldShape, fields}
 use Rattle.pg_dyn.specs.declared.message.UnknownRecord.{UnknownRecord}
 use Rattle.pg_dyn.specs.declared.message.Value.{Value}
 use Rattle.pg_dyn.specs.ContentFits.{ContentFits, HoldsContent, NoneSiblings}
-use Rattle.pg_dyn.specs.NumberLists.{word_value}
 use Rattle.pg_dyn.specs.reading.Content.{is_unknown}
-use Rattle.pg_dyn.specs.ScalarItems.{IsItemOf}
 use Rattle.pg_dyn.specs.setting.Reported.{EntryFits}
 use Rattle.pg_dyn.specs.Seen.{IsKey, Rises, record_seen}
 use Rattle.pg_dyn.proofs.lemmas.FitsByContents.{fits_from_contents, contents_from_fits}
 use Rattle.pg_dyn.proofs.lemmas.ItemLeaves.{item_is_key}
 use Rattle.pg_dyn.proofs.lemmas.FitsChecks.{same_field, all_unknown, none_accepted}
-use Rattle.pg_dyn.proofs.lemmas.NumbersFit.{list_fits}
 use Rattle.pg_dyn.proofs.lemmas.FitsSteps.{each_more, some_not_none}
 use Rattle.pg_dyn.proofs.Lists.{each_weaker, each_at_index, each_from_take}
 use Rattle.pg_dyn.proofs.message.+fits.Goals as goal
@@ -116,13 +112,6 @@ Message::is_one_of-returns t c =
           let by = contents_from_fits (shape_of c.args.schema.now) a.type_id a.fields.items (map record_seen a.unknown.items) c.args.self.now c.self.view_is c.requires.shape c.self.invariant.filled c.self.invariant.keys fits in
           c.unknown_fit.ensures.1 (subst (λ (us : List UnknownRecord). AllByRecursion (λ (u : UnknownRecord). is_unknown (fields (shape_of c.args.schema.now) a.type_id) (record_seen u) ≡ true) us) (sym c.deref-2.ensures.value) (none_accepted (fields (shape_of c.args.schema.now) a.type_id) a.unknown.items by.unknown)),
     )
-
-pub Content::fits-returns-in-Repeated-Numbers : goal.Content::fits-returns-in-Repeated-Numbers
-Content::fits-returns-in-Repeated-Numbers t c =
-    let ns = c.in-Repeated-Numbers.numbers in
-    let by = list_fits (shape_of c.args.schema.now) c.args.field.now.presence c.in-Repeated-Numbers.packed-0 c.args.field.now.element c.args.self.now ns c.in-Repeated-Numbers.is-0 c.in-Repeated-Numbers.is-1 in
-    let are = subst (λ (s : Scalar). IsTrue c.are_items-in-Repeated-Numbers.result ↔ AllByRecursion (λ w. IsItemOf s (word_value c.in-Repeated-Numbers.numbers.scalar w)) c.in-Repeated-Numbers.numbers.words.items) c.scalar_of.ensures c.are_items-in-Repeated-Numbers.ensures in
-    ((λ e. by.0 (are.0 e)), λ fits. are.1 (by.1 fits))
 
 pub Content::fits-are_items-requires : goal.Content::fits-are_items-requires
 Content::fits-are_items-requires t c = (omega (arith, c.decreases, ap (most (λ (v : Value). deep-Value v)) c.deref.ensures.value, ap (λ (x : Content). deep-Content x) c.in-Repeated-Many.is-1), c.requires)

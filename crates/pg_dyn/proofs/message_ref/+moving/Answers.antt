@@ -1,5 +1,5 @@
 -- Each part has its copy.
-use Rattle.std.proofs.Common.{ℕ, List, map, refl, ap, sym, subst, ◌∙◌}
+use Rattle.std.proofs.Common.{ℕ, List, map, ap, sym, subst, ◌∙◌}
 use Rattle.std.specs.List.{AllByRecursion}
 use Rattle.std.specs.Vec.Iter.{into_iter_items}
 use Rattle.pg_wire.specs.Reads.{seen_record}
@@ -32,9 +32,10 @@ ContentRef::into_content-returns-in_ok-into_entries-in-Map t c =
     subst (λ (r : ContentRef). IsContentCopy r (held.Map c.in_ok-into_entries-in-Map.field-0)) (sym c.in-Map.is)
     (map_copied c.in-Map.entries c.in_ok-into_entries-in-Map.field-0 c.in_ok-into_entries-in-Map.ensures)
 
-pub ContentRef::into_content-returns-in-Numbers : goal.ContentRef::into_content-returns-in-Numbers
-ContentRef::into_content-returns-in-Numbers t c =
-    subst (λ (r : ContentRef). IsContentCopy r (held.Numbers c.in-Numbers.numbers)) (sym c.in-Numbers.is) (numbers_copied c.in-Numbers.numbers c.in-Numbers.numbers refl)
+pub ContentRef::into_content-returns-in_ok-to_values-in-Numbers : goal.ContentRef::into_content-returns-in_ok-to_values-in-Numbers
+ContentRef::into_content-returns-in_ok-to_values-in-Numbers t c =
+    subst (λ (r : ContentRef). IsContentCopy r (held.Many c.in_ok-to_values-in-Numbers.field-0)) (sym c.in-Numbers.is)
+    (numbers_copied c.in-Numbers.numbers c.in_ok-to_values-in-Numbers.field-0 c.in_ok-to_values-in-Numbers.ensures)
 
 pub MessageRef::into_message-loop-number-preserved : goal.MessageRef::into_message-loop-number-preserved
 MessageRef::into_message-loop-number-preserved t c =

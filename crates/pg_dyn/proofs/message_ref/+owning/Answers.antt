@@ -42,9 +42,10 @@ ContentRef::to_content-returns-in_ok-to_entries-in-Map t c =
     subst (λ (r : ContentRef). IsContentCopy r (held.Map c.in_ok-to_entries-in-Map.field-0)) (sym c.in-Map.is)
     (map_copied c.in-Map.entries c.in_ok-to_entries-in-Map.field-0 (subst (λ (es : List EntryRef). AreEntryCopies es c.in_ok-to_entries-in-Map.field-0.items) c.deref-in-Map.ensures.value c.in_ok-to_entries-in-Map.ensures))
 
-pub ContentRef::to_content-returns-in_ok-copied-in-Numbers : goal.ContentRef::to_content-returns-in_ok-copied-in-Numbers
-ContentRef::to_content-returns-in_ok-copied-in-Numbers t c =
-    subst (λ (r : ContentRef). IsContentCopy r (held.Numbers c.in_ok-copied-in-Numbers.field-0)) (sym c.in-Numbers.is) (numbers_copied c.in-Numbers.numbers c.in_ok-copied-in-Numbers.field-0 c.in_ok-copied-in-Numbers.ensures)
+pub ContentRef::to_content-returns-in_ok-to_values-in-Numbers : goal.ContentRef::to_content-returns-in_ok-to_values-in-Numbers
+ContentRef::to_content-returns-in_ok-to_values-in-Numbers t c =
+    subst (λ (r : ContentRef). IsContentCopy r (held.Many c.in_ok-to_values-in-Numbers.field-0)) (sym c.in-Numbers.is)
+    (numbers_copied c.in-Numbers.numbers c.in_ok-to_values-in-Numbers.field-0 c.in_ok-to_values-in-Numbers.ensures)
 
 pub MessageRef::to_message-loop-number-preserved : goal.MessageRef::to_message-loop-number-preserved
 MessageRef::to_message-loop-number-preserved t c =

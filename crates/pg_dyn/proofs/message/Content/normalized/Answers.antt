@@ -9,7 +9,6 @@ use Rattle.pg_dyn.specs.declared.message.Value.{Value}
 use Rattle.pg_dyn.specs.setting.ContentFaults.{HasKeyTwice}
 use Rattle.pg_dyn.specs.ContentFits.{ContentFits}
 use Rattle.pg_dyn.specs.KeyOrder.{KeysAlike}
-use Rattle.pg_dyn.specs.NumberLists.{values_in}
 use Rattle.pg_dyn.specs.Seen.{content_seen, IsMapKey}
 use Rattle.pg_dyn.specs.setting.Setting.{normalized, normalized_by}
 use Rattle.pg_dyn.specs.setting.Reported.{EntryFits, is_nothing, ItemsFit, MayHoldKeys}
@@ -18,7 +17,7 @@ use Rattle.pg_dyn.specs.Texts.{kept_in}
 use Rattle.pg_dyn.proofs.lemmas.KeyLaws.{each_moved}
 use Rattle.pg_dyn.proofs.Lists.{each_both, each_weaker}
 use Rattle.pg_dyn.proofs.lemmas.setting.KeptVariants.{map_key}
-use Rattle.pg_dyn.proofs.lemmas.setting.NormalizedLaws.{as_long, keys_rise, list_seen, map_items, map_seen, none_left, numbers_fit, numbers_seen, one_fits, one_seen, some_left}
+use Rattle.pg_dyn.proofs.lemmas.setting.NormalizedLaws.{as_long, keys_rise, list_seen, map_items, map_seen, none_left, one_fits, one_seen}
 use Rattle.pg_dyn.proofs.message.Content.normalized.Goals as goal
 
 pub returns-in_default-One-clause-fits : goal.returns-in_default-One-clause-fits
@@ -44,25 +43,6 @@ returns-in_default-Many-clause-seen c =
     let p = c.args.field.now.presence in
     let e = c.args.field.now.element in
     list_seen shape p e c.in_default-Many.values c.kept_values.result.items n (subst (ItemsFit shape p e) c.in_default-Many.is-1 c.requires.items) c.kept_values.ensures.seen ∙ ap (λ (x : Content). normalized (field_shape c.args.field.now) (content_seen n x)) (sym c.in_default-Many.is-1)
-
-pub returns-in_default-Numbers-clause-seen : goal.returns-in_default-Numbers-clause-seen
-returns-in_default-Numbers-clause-seen c =
-    λ n.
-    let shape = shape_of c.args.schema.now in
-    let p = c.args.field.now.presence in
-    let e = c.args.field.now.element in
-    numbers_seen shape p e c.in_default-Numbers.numbers n (subst (ItemsFit shape p e) c.in_default-Numbers.is-1 c.requires.items) ∙ ap (λ (x : Content). normalized (field_shape c.args.field.now) (content_seen n x)) (sym c.in_default-Numbers.is-1)
-
-pub returns-in_default-Numbers-clause-fits : goal.returns-in_default-Numbers-clause-fits
-returns-in_default-Numbers-clause-fits c =
-    let shape = shape_of c.args.schema.now in
-    let p = c.args.field.now.presence in
-    let e = c.args.field.now.element in
-    numbers_fit shape p e c.in_default-Numbers.numbers (subst (ItemsFit shape p e) c.in_default-Numbers.is-1 c.requires.items)
-
-pub returns-in_default-Numbers-clause-filled : goal.returns-in_default-Numbers-clause-filled
-returns-in_default-Numbers-clause-filled c =
-    some_left (values_in c.in_default-Numbers.numbers) (subst (λ (x : Content). is_nothing c.args.field.now.presence x ≡ false) c.in_default-Numbers.is-1 c.requires.something)
 
 pub kept_entries-requires : goal.kept_entries-requires
 kept_entries-requires c =

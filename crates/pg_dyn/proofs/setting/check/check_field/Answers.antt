@@ -9,7 +9,7 @@ use Rattle.pg_dyn.specs.declared.message.Value.{Value}
 use Rattle.pg_dyn.specs.setting.ContentFaults.{ElementFault, FieldFault, FirstOf}
 use Rattle.pg_dyn.specs.ContentFits.{ItemFits}
 use Rattle.pg_dyn.specs.setting.Reported.{EntryFault, EntryFits, ItemsFit, Reports}
-use Rattle.pg_dyn.proofs.lemmas.setting.ContentChecks.{reported_list, reported_map, reported_numbers}
+use Rattle.pg_dyn.proofs.lemmas.setting.ContentChecks.{reported_list, reported_map}
 use Rattle.pg_dyn.proofs.setting.check.check_field.Goals as goal
 
 pub returns-in-Repeated-Many : goal.returns-in-Repeated-Many
@@ -22,14 +22,6 @@ returns-in-Repeated-Many c =
     let here = reported_list shape f.number f.element f.oneof r c.in-Repeated-Many.packed-0 vs reported in
     let at_content = subst (λ (x : Content). Reports (ItemsFit (shape_of c.args.schema.now) (presences.Repeated c.in-Repeated-Many.packed-0) c.args.field.now.element x) (FieldFault (shape_of c.args.schema.now) (record { number = c.args.field.now.number; presence = presences.Repeated c.in-Repeated-Many.packed-0; element = c.args.field.now.element; oneof = c.args.field.now.oneof }) x) c.check_values.result) (sym c.in-Repeated-Many.is-1) here in
     subst (λ (p : Presence). Reports (ItemsFit (shape_of c.args.schema.now) p c.args.field.now.element c.args.content.now) (FieldFault (shape_of c.args.schema.now) (record { number = c.args.field.now.number; presence = p; element = c.args.field.now.element; oneof = c.args.field.now.oneof }) c.args.content.now) c.check_values.result) (sym c.in-Repeated-Many.is-0) at_content
-
-pub returns-in-Repeated-Numbers : goal.returns-in-Repeated-Numbers
-returns-in-Repeated-Numbers c =
-    let shape = shape_of c.args.schema.now in
-    let f = field_shape c.args.field.now in
-    let here = reported_numbers shape f.number f.element f.oneof c.check_numbers.result c.in-Repeated-Numbers.packed-0 c.in-Repeated-Numbers.numbers c.check_numbers.ensures in
-    let at_content = subst (λ (x : Content). Reports (ItemsFit (shape_of c.args.schema.now) (presences.Repeated c.in-Repeated-Numbers.packed-0) c.args.field.now.element x) (FieldFault (shape_of c.args.schema.now) (record { number = c.args.field.now.number; presence = presences.Repeated c.in-Repeated-Numbers.packed-0; element = c.args.field.now.element; oneof = c.args.field.now.oneof }) x) c.check_numbers.result) (sym c.in-Repeated-Numbers.is-1) here in
-    subst (λ (p : Presence). Reports (ItemsFit (shape_of c.args.schema.now) p c.args.field.now.element c.args.content.now) (FieldFault (shape_of c.args.schema.now) (record { number = c.args.field.now.number; presence = p; element = c.args.field.now.element; oneof = c.args.field.now.oneof }) c.args.content.now) c.check_numbers.result) (sym c.in-Repeated-Numbers.is-0) at_content
 
 pub returns-in-Map-Map : goal.returns-in-Map-Map
 returns-in-Map-Map c =

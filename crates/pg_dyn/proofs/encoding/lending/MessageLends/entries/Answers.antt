@@ -6,7 +6,7 @@ use Rattle.pg_dyn.proofs.encoding.lending.MessageLends.entries.Goals as goal
 
 pub returns-in-One : goal.returns-in-One
 returns-in-One c = λ n keyed.
-    let none : owned_entries c.args.content.now ≡ [] = ⊎_elim (λ k. ap owned_entries k.1) (λ more. ⊎_elim (λ k. ap owned_entries k.1) (λ k. ap owned_entries k.1) more) c.in-One.is in
+    let none : owned_entries c.args.content.now ≡ [] = ⊎_elim (λ k. ap owned_entries k.1) (λ k. ap owned_entries k.1) c.in-One.is in
     owned_entries_are n c.args.content.now keyed ∙ ap (map (entry_part owned_item (λ (x : Value × Value). x.0) (λ (x : Value × Value). x.1) n)) none
 
 pub returns-in-Map : goal.returns-in-Map

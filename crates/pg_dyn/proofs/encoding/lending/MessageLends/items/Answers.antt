@@ -1,5 +1,5 @@
-use Rattle.std.proofs.Common.{map, sym, ap, subst, ◌∙◌}
-use Rattle.pg_dyn.specs.encoding.Lending.{OwnsValues, item_part, owned_item}
+use Rattle.std.proofs.Common.{map, sym, ap, ◌∙◌}
+use Rattle.pg_dyn.specs.encoding.Lending.{item_part, owned_item}
 use Rattle.pg_dyn.proofs.lemmas.encoding.LentParts.{owned_items, owned_items_are}
 use Rattle.pg_dyn.proofs.encoding.lending.MessageLends.items.Goals as goal
 
@@ -17,6 +17,3 @@ pub returns-in-Map : goal.returns-in-Map
 returns-in-Map c = λ n values keyless.
     let are = owned_items_are n c.args.content.now keyless in
     (are.0, are.1 ∙ ap (map (item_part owned_item n are.0)) (ap owned_items c.in-Map.is))
-
-pub returns-in-Numbers : goal.returns-in-Numbers
-returns-in-Numbers c = λ n values keyless. absurd (subst OwnsValues c.in-Numbers.is values)
