@@ -14,7 +14,6 @@ use Rattle.pg_dyn.specs.Message.{Leaf, Item, Plain, Msg, Message, ends, with_par
 use Rattle.pg_dyn.specs.Coding.{Form, zero_leaf}
 use Rattle.pg_dyn.specs.Fits.{Fits}
 use Rattle.pg_dyn.specs.Kept.{Kept, message_of, type_of}
-use Rattle.pg_dyn.specs.NumberLists.{values_in}
 use Rattle.pg_dyn.specs.Seen.{leaf_of}
 use Rattle.pg_pairs.specs.declared.choices.case.Case.{Case}
 use Rattle.pg_pairs.specs.declared.choices.case.Case.TheVariants as cases
@@ -48,7 +47,6 @@ abbrev pub content_before : ℕ → Content → Message → Message
 content_before number (contents.One value) later = with_part number None (value_item value) later
 content_before number (contents.Many vs) later = items_before number vs.items later
 content_before number (contents.Map es) later = entries_before number es.items later
-content_before number (contents.Numbers ns) later = items_before number (values_in ns) later
 
 -- the content puts so much before the later parts of a message
 abbrev pub Puts : ℕ → Content → (Message → Message) → Type 0

@@ -18,7 +18,7 @@ use crate::gaps::gap_kind::Gap;
 use crate::gaps::scalar_gap::gap;
 use crate::graph::priced::Priced;
 use crate::views::view::View;
-use pg_dyn::{Integer, Message, Value};
+use pg_dyn::{Message, Value};
 use pg_schema::{Element, EnumId, Scalar};
 use std::alloc::{AllocError, Global};
 
@@ -60,7 +60,7 @@ pub(crate) fn small_leaf(alloc: Global, scalar: Scalar, small: Small) -> Result<
         Scalar::Double => Ok(Value::F64(u64::from(bits))),
         Scalar::String => Ok(Value::Bytes(small_bytes(alloc, small)?)),
         Scalar::Bytes => Ok(Value::Bytes(small_bytes(alloc, small)?)),
-        _ => Ok(Value::Int(Integer::new(integer))),
+        _ => Ok(Value::Int(integer)),
     }
 }
 
@@ -106,7 +106,7 @@ fn scalar_gap_item(alloc: Global, old: Scalar, new: Scalar) -> Result<Option<Val
             Scalar::String | Scalar::Bytes => {
                 Ok(Some(Value::Bytes(Vec::from_slice(alloc, &[0x80])?)))
             }
-            _ => Ok(Some(Value::Int(Integer::new(value)))),
+            _ => Ok(Some(Value::Int(value))),
         },
     }
 }
@@ -123,7 +123,7 @@ fn enum_gap_item(graph: &Priced<'_>, zero: bool, pair: (EnumId, EnumId)) -> Opti
         return None;
     };
     let number = graph.view.least(from, to, zero)?;
-    Some(Value::Int(Integer::new(i128::from(number))))
+    Some(Value::Int(i128::from(number)))
 }
 
 /// The item of the gap between two elements, where there is one: one that counts, with the least
