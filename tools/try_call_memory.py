@@ -108,8 +108,6 @@ CALLS = [
          lent=[back("{3:1 1:0}", record(2, 7))]),
     Rows("Message::set", "bytes_rows", ["a text and bytes are one key"], lent=[back("{'k:# #6b:#}", record(2, 7))]),
     Rows("Message::set", "bytes_rows", ["bytes are set as a text"], lent=[back("#61")]),
-    # The numbers stay. A list of words begins with room for four.
-    Line("NumberList::push", "bytes_rows", "push 1 2 3 4 =1+int32", "1 2 3 4 7", ["1 2 3 4"]),
     Rows("Message::whole", "bytes_rows", ["messages in a list, a map and a field, and an explicit zero"]),
     Rows("Message::whole", "bytes_rows", ["a map by falling keys is written by rising ones"]),
     Rows("decode decode_ref encode encode_ref", "bytes_rows", ["a message in two parts, each with contents of all shapes"]),

@@ -7,7 +7,7 @@ use pg_wire::Record;
 /// Of a message inside the type alone is looked at: what it holds shows when both are written.
 fn is_value(lent: &ValueRef<'_>, owned: &Value) -> bool {
     match (lent, owned) {
-        (ValueRef::Int(first), Value::Int(second)) => first.get() == second.get(),
+        (ValueRef::Int(first), Value::Int(second)) => first.get() == *second,
         (ValueRef::F32(first), Value::F32(second)) => first == second,
         (ValueRef::F64(first), Value::F64(second)) => first == second,
         (ValueRef::Text(first), Value::Text(second)) => *first == second.as_str(),
@@ -34,21 +34,12 @@ fn are_values(lent: &[ValueRef<'_>], owned: &[Value]) -> bool {
     true
 }
 
-fn is_same_number(first: &ValueRef<'_>, second: &ValueRef<'_>) -> bool {
-    match (first, second) {
-        (ValueRef::Int(first), ValueRef::Int(second)) => first.get() == second.get(),
-        (ValueRef::F32(first), ValueRef::F32(second)) => first == second,
-        (ValueRef::F64(first), ValueRef::F64(second)) => first == second,
-        _ => false,
-    }
-}
-
-fn are_numbers(lent: &NumberList, owned: &NumberList) -> bool {
+fn are_numbers(lent: &NumberList, owned: &[Value]) -> bool {
     if lent.len() != owned.len() {
         return false;
     }
     for at in 0..lent.len() {
-        if !is_same_number(&lent.get(at), &owned.get(at)) {
+        if !is_value(&lent.get(at), &owned[at]) {
             return false;
         }
     }
@@ -71,7 +62,7 @@ fn is_content(lent: &ContentRef<'_>, owned: &Content) -> bool {
     match (lent, owned) {
         (ContentRef::One(first), Content::One(second)) => is_value(first, second),
         (ContentRef::Many(first), Content::Many(second)) => are_values(first, second),
-        (ContentRef::Numbers(first), Content::Numbers(second)) => are_numbers(first, second),
+        (ContentRef::Numbers(first), Content::Many(second)) => are_numbers(first, second),
         (ContentRef::Map(first), Content::Map(second)) => are_entries(first, second),
         _ => false,
     }

@@ -1,5 +1,5 @@
 //! How messages and their contents are spelled.
-use pg_dyn::{Content, DynError, Message, NumberList, UnknownRecord, Value, ValueRef};
+use pg_dyn::{Content, DynError, Message, UnknownRecord, Value};
 use rows::debug;
 use std::alloc::{AllocError, Global};
 
@@ -20,7 +20,7 @@ pub(crate) fn name_of(alloc: Global, error: DynError) -> Result<String, AllocErr
 /// a message.
 fn spelled_value(alloc: Global, value: &Value) -> Result<String, AllocError> {
     match value {
-        Value::Int(number) => format!(in alloc; "{}", number.get()),
+        Value::Int(number) => format!(in alloc; "{number}"),
         Value::F32(bits) => format!(in alloc; "f{bits}"),
         Value::F64(bits) => format!(in alloc; "d{bits}"),
         Value::Text(text) => format!(in alloc; "'{text}"),
@@ -49,27 +49,6 @@ fn spelled_list(alloc: Global, values: &[Value]) -> Result<String, AllocError> {
     joined(alloc, &pieces)
 }
 
-/// A number, as it is spelled as a value.
-fn spelled_number(alloc: Global, number: &ValueRef<'_>) -> Result<String, AllocError> {
-    match number {
-        ValueRef::Int(number) => format!(in alloc; "{}", number.get()),
-        ValueRef::F32(bits) => format!(in alloc; "f{bits}"),
-        ValueRef::F64(bits) => format!(in alloc; "d{bits}"),
-        ValueRef::Text(_) | ValueRef::Bytes(_) | ValueRef::Msg(_) => {
-            String::from_str(alloc, "no number")
-        }
-    }
-}
-
-/// The numbers as they are spelled as values.
-pub(crate) fn spelled_numbers(alloc: Global, numbers: &NumberList) -> Result<String, AllocError> {
-    let mut pieces = Vec::new(alloc);
-    for at in 0..numbers.len() {
-        pieces.push(spelled_number(alloc, &numbers.get(at))?)?;
-    }
-    joined(alloc, &pieces)
-}
-
 fn spelled_entry(alloc: Global, key: &Value, value: &Value) -> Result<String, AllocError> {
     let key = spelled_value(alloc, key)?;
     let value = spelled_value(alloc, value)?;
@@ -90,7 +69,6 @@ pub(crate) fn spelled_content(alloc: Global, content: &Content) -> Result<String
         Content::One(value) => spelled_value(alloc, value),
         Content::Many(values) => format!(in alloc; "[{}]", spelled_list(alloc, values)?),
         Content::Map(entries) => format!(in alloc; "{{{}}}", spelled_entries(alloc, entries)?),
-        Content::Numbers(numbers) => format!(in alloc; "[{}]", spelled_numbers(alloc, numbers)?),
     }
 }
 

@@ -1,11 +1,10 @@
 //! Contents that are spelled by words, each of which takes what the words before it left: a value,
 //! as `contents` spells it, or `M` and `N` for a message of the first and the second type with
-//! nothing in it; `=5` makes the last value the content of field 5, `=5*` all values a list,
-//! `=5+sint32` a list of numbers of that scalar type, and `=5:` a map; and `message` makes a
-//! message of the last content alone, which is a value.
+//! nothing in it; `=5` makes the last value the content of field 5, `=5*` all values a list, and
+//! `=5:` a map; and `message` makes a message of the last content alone, which is a value.
 use crate::types::{FIRST, SECOND};
-use pg_dyn::{Content, DynError, Integer, Message, NumberList, Value};
-use pg_schema::{Scalar, Schema, TypeId};
+use pg_dyn::{Content, DynError, Message, Value};
+use pg_schema::{Schema, TypeId};
 use pg_show::{HexError, bytes_of_hex};
 use std::alloc::{AllocError, Global};
 use std::mem::replace;
@@ -35,7 +34,7 @@ fn bytes(alloc: Global, digits: &str) -> Result<Value, DynError> {
 
 fn number(spelled: &str) -> Result<Value, DynError> {
     match spelled.parse::<i128>() {
-        Ok(number) => Ok(Value::Int(Integer::new(number))),
+        Ok(number) => Ok(Value::Int(number)),
         Err(_) => Err(UNSPELLED),
     }
 }
@@ -90,18 +89,6 @@ fn paired(alloc: Global, values: Vec<Value>) -> Result<Content, DynError> {
     Ok(Content::Map(entries))
 }
 
-/// The values as a list of numbers of the scalar type with that name.
-fn numbers(alloc: Global, values: &[Value], name: &str) -> Result<Content, DynError> {
-    let Some(scalar) = Scalar::named(name) else {
-        return Err(UNSPELLED);
-    };
-    let mut list = NumberList::new(alloc, scalar);
-    for value in values {
-        list.push(value)?;
-    }
-    Ok(Content::Numbers(list))
-}
-
 fn whole(
     alloc: Global,
     schema: &Schema,
@@ -115,9 +102,6 @@ fn whole(
 
 /// The content that a word makes of the values.
 fn content(alloc: Global, values: &mut Vec<Value>, spelled: &str) -> Result<Content, DynError> {
-    if let Some((_, name)) = spelled.split_once('+') {
-        return numbers(alloc, &replace(values, Vec::new(alloc)), name);
-    }
     if spelled.ends_with("*") {
         return Ok(Content::Many(replace(values, Vec::new(alloc))));
     }
@@ -137,8 +121,7 @@ fn put_content(
     spelled: &str,
 ) -> Result<(), DynError> {
     let content = content(alloc, values, spelled)?;
-    let (field, _) = spelled.split_once('+').unwrap_or((spelled, ""));
-    match field
+    match spelled
         .trim_end_matches("*")
         .trim_end_matches(":")
         .parse::<u32>()

@@ -1,5 +1,4 @@
 //! Rows that are answered again where memory is refused.
-mod numbers;
 mod setting;
 
 use crate::row::{by_type, spelled};
@@ -18,13 +17,12 @@ fn again(rt: &HostRuntime, types: &Types, call: &str, input: &str) -> io::Result
 }
 
 /// What is printed of `CALL INPUT`, with what comes in front of the answer (`rows::retry`): of
-/// `set` and `push` these calls alone are made again.
+/// `set` this call alone is made again.
 pub(crate) fn answer(rt: &HostRuntime, types: &Types, input: &str) -> io::Result<String> {
     let input = unrolled(rt.alloc(), input)?;
     let (call, input) = input.split_once(' ').unwrap_or((&input, ""));
     match call {
         "set" => setting::answer(rt, &types.own, input),
-        "push" => numbers::answer(rt, &types.own, input),
         _ => again(rt, types, call, input),
     }
 }
