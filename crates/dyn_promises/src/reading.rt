@@ -8,7 +8,7 @@ ghost use Rattle.pg_dyn.specs.reading.Decoding.{dec};
 ghost use Rattle.pg_dyn.specs.Fits.{Fits};
 ghost use Rattle.pg_dyn.specs.Kept.{message_of, type_of};
 ghost use Rattle.pg_dyn.specs.reading.Refusals.{MayRefuse, MayRefuseUnlimited};
-ghost use Rattle.pg_dyn.specs.reading.TooDeep.{TooDeepIn};
+ghost use Rattle.pg_dyn.specs.reading.Faults.{TooDeepIn};
 ghost use Rattle.pg_dyn.specs.Texts.{KeepsTexts};
 ghost use Rattle.pg_dyn.specs.declared.error.DynError.TheVariants as errors;
 

@@ -12,4 +12,3 @@ pub mod Normalized
 pub mod ReadingOn
 pub mod Refusals
 pub mod Steps
-pub mod TooDeep

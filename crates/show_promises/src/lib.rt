@@ -6,7 +6,7 @@ ghost use Rattle.std.specs.Prelude.{◌≡◌, ◌<◌, ◌⊎◌, ℕ, length, 
 ghost use Rattle.pg_schema.specs.Parts.{shape_of};
 ghost use Rattle.pg_schema.specs.Shape.{fields};
 ghost use Rattle.pg_dyn.specs.reading.Decoding.{dec};
-ghost use Rattle.pg_dyn.specs.reading.TooDeep.{TooDeepIn};
+ghost use Rattle.pg_dyn.specs.reading.Faults.{TooDeepIn};
 ghost use Rattle.pg_dyn.specs.declared.error.DynError.TheVariants as errors;
 ghost use Rattle.pg_show.specs.Codes.{code_of};
 ghost use Rattle.pg_show.specs.Shown.{Refuses, Shows, most_levels, names_of};

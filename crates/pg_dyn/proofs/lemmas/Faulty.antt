@@ -1,5 +1,5 @@
 -- What has a fault has no reading.
-use Rattle.std.proofs.Common.{◌≡◌, ℕ, ◌≤◌, List, [], ◌∷◌, ◌++◌, length, true, false, not, ◌&&◌, ◌||◌, cond, Option, Some, None, is_some, option_and_then, Result, Ok, Err, refl, ap, ap₂, sym, ◌∙◌, subst, arith, append_assoc, length-append, nat_eq, ⊎_elim, true≢false}
+use Rattle.std.proofs.Common.{◌≡◌, ◌≢◌, ℕ, suc, ◌≤◌, List, [], ◌∷◌, ◌++◌, length, true, false, not, ◌&&◌, ◌||◌, cond, Option, Some, None, is_some, option_and_then, Result, Ok, Err, refl, ap, ap₂, sym, ◌∙◌, subst, arith, append_assoc, length-append, nat_eq, ⊎_elim, true≢false}
 use Rattle.std.specs.List.{AllByRecursion, list_all}
 use Rattle.std.specs.Str.{is_utf8}
 use Rattle.std.proofs.lemmas.Bool.{and_parts, or_cases}
@@ -15,13 +15,19 @@ use Rattle.pg_wire.proofs.Bind.{ok_pair}
 use Rattle.pg_wire.proofs.RecordLaws.{record_at-append, record_at_takes, length-IsRecord, Spells_from_records_of}
 use Rattle.pg_dyn.specs.Message.{Message}
 use Rattle.pg_dyn.specs.Coding.{Text, form, form_wire, element_at}
-use Rattle.pg_dyn.specs.reading.Content.{same_wire, own_wire, is_accepted, takes, leaves_in, option_from, key_field, value_field}
+use Rattle.pg_dyn.specs.reading.Content.{same_wire, own_wire, is_accepted, takes, leaves_in, option_from, entry_fields}
 use Rattle.pg_dyn.specs.encoding.Writing.{bytes_of}
 use Rattle.pg_dyn.specs.reading.Decoding.{Reader, is_child, is_plain_readable, all_plain_readable, is_readable, all_readable, dec}
-use Rattle.pg_dyn.specs.reading.Faults.{Code, IsFront, FaultIn, no_record, in_record, FaultOf, not_text, bad_element, in_child, in_entry}
+use Rattle.pg_dyn.specs.reading.Faults.{AreRecords, Code, FirstFault, FirstFaultOf, HasFault, FaultOf, NotUtf8, TooDeep, Wire, no_record, in_record, the_root, not_text, bad_element, the_child, in_child, in_entry, missing_value}
 use Rattle.pg_dyn.proofs.lemmas.Fields.{field_of}
 use Rattle.pg_dyn.proofs.lemmas.Joining.{implied, readable_from_dec}
 use Rattle.pg_dyn.proofs.Lists.{each_at, list_all_true}
+
+pub text_not_deep : NotUtf8 ≢ TooDeep
+text_not_deep e = cc
+
+pub wire_not_deep : (fault : Fault) → Wire fault ≢ TooDeep
+wire_not_deep fault e = cc
 
 -- the first record of bytes, and the others
 pub record First (bytes : List ℕ) (rs : List WireRecord) : Type 0 where
@@ -111,19 +117,19 @@ plain_readable child number (presences.Map key) e oneof r h = absurd (cc)
 
 module _ (shape : Shape) where
   -- what the reading of all records says of the one at the back
-  back_readable : (fs : List FieldShape) (bytes front back rest : List ℕ) (r : WireRecord) (f : FieldShape) (rs : List WireRecord) → IsFront shape fs bytes front back → record_at back ≡ Ok (r, rest) → field_at fs r.number ≡ Some f → takes f r ≡ true → records_of bytes ≡ Ok rs → all_readable (dec shape) fs rs ≡ true → is_readable (dec shape) f r ≡ true
-  back_readable fs bytes front back rest r f rs is_front read found taken records readable =
-      let parts = split_at bytes front back is_front.records rs is_front.joined is_front.spelled records in
+  back_readable : (fs : List FieldShape) (bytes front back rest : List ℕ) (r : WireRecord) (f : FieldShape) (fr rs : List WireRecord) → bytes ≡ front ++ back → Spells front fr → record_at back ≡ Ok (r, rest) → field_at fs r.number ≡ Some f → takes f r ≡ true → records_of bytes ≡ Ok rs → all_readable (dec shape) fs rs ≡ true → is_readable (dec shape) f r ≡ true
+  back_readable fs bytes front back rest r f fr rs joined spelled read found taken records readable =
+      let parts = split_at bytes front back fr rs joined spelled records in
       let head = first_of back parts.others parts.spelled (nonempty back r rest read) in
       let same = ok_pair head.first r (bytes_of head.others) rest (sym head.read ∙ read) in
-      let are : rs ≡ is_front.records ++ r ∷ head.others = parts.are ∙ ap (λ xs. is_front.records ++ xs) (head.are ∙ ap (λ x. x ∷ head.others) same.0) in
-      let each = list_all_true (λ s. list_all (λ g. not (takes g s) || is_readable (dec shape) g s) fs) (is_front.records ++ r ∷ head.others) (subst (λ xs. all_readable (dec shape) fs xs ≡ true) are readable) in
-      let one = each_mid (λ s. list_all (λ g. not (takes g s) || is_readable (dec shape) g s) fs ≡ true) is_front.records r head.others each in
+      let are : rs ≡ fr ++ r ∷ head.others = parts.are ∙ ap (λ xs. fr ++ xs) (head.are ∙ ap (λ x. x ∷ head.others) same.0) in
+      let each = list_all_true (λ s. list_all (λ g. not (takes g s) || is_readable (dec shape) g s) fs) (fr ++ r ∷ head.others) (subst (λ xs. all_readable (dec shape) fs xs ≡ true) are readable) in
+      let one = each_mid (λ s. list_all (λ g. not (takes g s) || is_readable (dec shape) g s) fs ≡ true) fr r head.others each in
       implied (takes f r) (is_readable (dec shape) f r) (each_at (λ g. (not (takes g r) || is_readable (dec shape) g r) ≡ true) fs r.number f found (list_all_true (λ g. not (takes g r) || is_readable (dec shape) g r) fs one)) taken
 
-  no_back : (fs : List FieldShape) (bytes front back : List ℕ) (fault : Fault) (rs : List WireRecord) → IsFront shape fs bytes front back → 1 ≤ length back → record_at back ≡ Err fault → records_of bytes ≡ Ok rs → ⊥
-  no_back fs bytes front back fault rs is_front some read records =
-      let parts = split_at bytes front back is_front.records rs is_front.joined is_front.spelled records in
+  no_back : (bytes front back : List ℕ) (fault : Fault) (fr rs : List WireRecord) → bytes ≡ front ++ back → Spells front fr → 1 ≤ length back → record_at back ≡ Err fault → records_of bytes ≡ Ok rs → ⊥
+  no_back bytes front back fault fr rs joined spelled some read records =
+      let parts = split_at bytes front back fr rs joined spelled records in
       let head = first_of back parts.others parts.spelled some in
       let clash = sym head.read ∙ read in cc
 
@@ -143,31 +149,59 @@ module _ (shape : Shape) where
       true≢false (sym some ∙ ap is_some none)
 
   mutual
-    pub fault_unreadable : (fs : List FieldShape) (bytes : List ℕ) (code : Code) (place : ℕ) → FaultIn shape fs bytes code place → (rs : List WireRecord) → records_of bytes ≡ Ok rs → all_readable (dec shape) fs rs ≡ true → ⊥
-    fault_unreadable fs bytes code place (no_record _ _ front back fault is_front some read) rs records readable = no_back fs bytes front back fault rs is_front some read records
-    fault_unreadable fs bytes code place (in_record _ _ front back rest r f _ inner is_front read found taken fault) rs records readable =
-        record_unreadable f r code inner fault taken (back_readable fs bytes front back rest r f rs is_front read found taken records readable)
+    pub fault_unreadable : (limit : ℕ) (fs : List FieldShape) (bytes : List ℕ) (code : Code) (place : ℕ) → HasFault shape limit fs bytes code place → code ≢ TooDeep
+        → (rs : List WireRecord) → records_of bytes ≡ Ok rs → all_readable (dec shape) fs rs ≡ true → ⊥
+    fault_unreadable _ fs bytes code place (the_root _ _) other rs records readable = other refl
+    fault_unreadable _ fs bytes code place (no_record levels _ _ front back fault joined before some read) other rs records readable =
+        no_back bytes front back fault before.0 rs joined before.1 some read records
+    fault_unreadable _ fs bytes code place (in_record levels _ _ front back rest r f _ inner joined before read found taken fault) other rs records readable =
+        record_unreadable levels f r code inner fault other taken (back_readable fs bytes front back rest r f before.0 rs joined before.1 read found taken records readable)
 
-    record_unreadable : (f : FieldShape) (r : WireRecord) (code : Code) (place : ℕ) → FaultOf shape f r code place → takes f r ≡ true → is_readable (dec shape) f r ≡ true → ⊥
-    record_unreadable f r code place (not_text _ _ no_map is bad) taken readable = text_unreadable f r no_map is bad taken readable
-    record_unreadable f r code place (bad_element _ _ fault no_map other bad) taken readable = element_unreadable f r fault no_map other bad readable
-    record_unreadable f r code place (in_child _ _ t _ inner no_map is fault) taken readable =
+    record_unreadable : (levels : ℕ) (f : FieldShape) (r : WireRecord) (code : Code) (place : ℕ) → FaultOf shape AreRecords levels f r code place → code ≢ TooDeep
+        → takes f r ≡ true → is_readable (dec shape) f r ≡ true → ⊥
+    record_unreadable levels f r code place (not_text _ _ _ no_map is bad) other taken readable = text_unreadable f r no_map is bad taken readable
+    record_unreadable levels f r code place (bad_element _ _ _ fault no_map packed bad) other taken readable = element_unreadable f r fault no_map packed bad readable
+    record_unreadable _ f r code place (the_child _ _ t no_map is) other taken readable = other refl
+    record_unreadable _ f r code place (in_child levels _ _ t _ inner no_map is fault) other taken readable =
         let plain = sym (plain_readable (dec shape) f.number f.presence f.element f.oneof r no_map) ∙ readable in
         let child = (and_parts (is_some (leaves_in f r)) (is_child (dec shape) f.element r.body) plain).1 in
         let some : is_some (dec shape t r.body) ≡ true = subst (λ e. is_child (dec shape) e r.body ≡ true) is child in
         let inside = readable_from_dec shape t r.body some in
-        fault_unreadable (fields shape t) r.body code inner fault inside.0 inside.1 inside.2
-    record_unreadable f r code place (in_entry _ _ key _ inner is fault) taken readable =
+        fault_unreadable (suc levels) (fields shape t) r.body code inner fault other inside.0 inside.1 inside.2
+    record_unreadable levels f r code place (in_entry _ _ _ key _ inner is fault) other taken readable =
         let entry = subst (λ p. is_readable (dec shape) (field_of f.number p f.element f.oneof) r ≡ true) is readable in
-        let inside = entry_records_of (dec shape) (key_field key ∷ value_field f.element ∷ []) r.body entry in
-        fault_unreadable (key_field key ∷ value_field f.element ∷ []) r.body code inner fault inside.0 inside.1 inside.2
+        let inside = entry_records_of (dec shape) (entry_fields key f.element) r.body entry in
+        fault_unreadable (suc levels) (entry_fields key f.element) r.body code inner fault other inside.0 inside.1 inside.2
+    record_unreadable _ f r code place (missing_value _ _ key t rs is message spelled none before) other taken readable = other refl
 
-  -- Bytes that have a fault have no reading.
-  pub dec_of_fault : (type : TypeId) (bytes : List ℕ) (code : Code) (place : ℕ) → FaultIn shape (fields shape type) bytes code place → dec shape type bytes ≡ None
-  dec_of_fault type bytes code place fault = of (dec shape type bytes) refl
+  mutual
+    -- The first fault is one.
+    pub first_is_fault : (limit : ℕ) (fs : List FieldShape) (bytes : List ℕ) (code : Code) (place : ℕ) → FirstFault shape limit fs bytes code place
+        → HasFault shape limit fs bytes code place
+    first_is_fault _ fs bytes _ _ (the_root _ _) = the_root fs bytes
+    first_is_fault _ fs bytes _ _ (no_record levels _ _ front back fault joined before some read) =
+        no_record levels fs bytes front back fault joined before.0 some read
+    first_is_fault _ fs bytes _ _ (in_record levels _ _ front back rest r f code place joined before read found taken fault) =
+        in_record levels fs bytes front back rest r f code place joined before.0 read found taken (first_of_record levels f r code place fault)
+
+    first_of_record : (levels : ℕ) (f : FieldShape) (r : WireRecord) (code : Code) (place : ℕ) → FirstFaultOf shape levels f r code place
+        → FaultOf shape AreRecords levels f r code place
+    first_of_record levels f r _ _ (not_text _ _ _ no_map is bad) = not_text levels f r no_map is bad
+    first_of_record levels f r _ _ (bad_element _ _ _ fault no_map packed bad) = bad_element levels f r fault no_map packed bad
+    first_of_record _ f r _ _ (the_child _ _ t no_map is) = the_child f r t no_map is
+    first_of_record _ f r _ _ (in_child levels _ _ t code place no_map is fault) =
+        in_child levels f r t code place no_map is (first_is_fault (suc levels) (fields shape t) r.body code place fault)
+    first_of_record levels f r _ _ (in_entry _ _ _ key code place is fault) =
+        in_entry levels f r key code place is (first_is_fault (suc levels) (entry_fields key f.element) r.body code place fault)
+    first_of_record _ f r _ _ (missing_value _ _ key t rs is message spelled none before) = missing_value f r key t rs is message spelled none before.0
+
+  -- Bytes that have a fault, other than a message too deep, have no reading.
+  pub dec_of_fault : (type : TypeId) (limit : ℕ) (bytes : List ℕ) (code : Code) (place : ℕ) → HasFault shape limit (fields shape type) bytes code place → code ≢ TooDeep
+      → dec shape type bytes ≡ None
+  dec_of_fault type limit bytes code place fault other = of (dec shape type bytes) refl
     where
       of : (o : Option Message) → dec shape type bytes ≡ o → dec shape type bytes ≡ None
       of None is = is
       of (Some m) is =
           let inside = readable_from_dec shape type bytes (ap is_some is) in
-          absurd (fault_unreadable (fields shape type) bytes code place fault inside.0 inside.1 inside.2)
+          absurd (fault_unreadable limit (fields shape type) bytes code place fault other inside.0 inside.1 inside.2)

@@ -97,6 +97,9 @@ key_field key = record { number = 1; presence = presences.Explicit; element = el
 abbrev pub value_field : Element → FieldShape
 value_field element = record { number = 2; presence = presences.Explicit; element = element; oneof = None }
 
+abbrev pub entry_fields : Scalar → Element → List FieldShape
+entry_fields key element = key_field key ∷ value_field element ∷ []
+
 -- a missing key or value is its default
 abbrev pub entry_part : FieldShape → List WireRecord → Option Leaf
 entry_part f rs = option_map (first_or (zero_leaf (form f.element))) (plain_content f (filter (takes f) rs))

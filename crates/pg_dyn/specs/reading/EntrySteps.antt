@@ -14,10 +14,6 @@ use Rattle.pg_dyn.specs.reading.Decoding.{read_item, dec}
 use Rattle.pg_dyn.specs.Borrowed.{item_seen}
 use Rattle.pg_dyn.specs.reading.Steps.{item_of}
 
--- the fields of an entry
-abbrev pub entry_fields : Scalar → Element → List FieldShape
-entry_fields key element = key_field key ∷ value_field element ∷ []
-
 abbrev pub IsMessageOf : Element → Type 0
 IsMessageOf (elements.Scalar s) = ⊥
 IsMessageOf (elements.Enum e) = ⊥

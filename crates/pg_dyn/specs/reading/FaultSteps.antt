@@ -5,9 +5,8 @@ use Rattle.pg_schema.specs.declared.parts.field.Element.{Element}
 use Rattle.pg_schema.specs.declared.parts.field.Scalar.{Scalar}
 use Rattle.pg_schema.specs.Shape.{Shape, FieldShape, is_map}
 use Rattle.pg_wire.specs.Records.{WireRecord, records_of}
-use Rattle.pg_dyn.specs.reading.Content.{takes, value_field}
+use Rattle.pg_dyn.specs.reading.Content.{takes, value_field, entry_fields}
 use Rattle.pg_dyn.specs.reading.Decoding.{all_readable, dec}
-use Rattle.pg_dyn.specs.reading.EntrySteps.{entry_fields}
 use Rattle.pg_dyn.specs.reading.Steps.{FieldReads}
 
 -- A record of an element's own wire type has a reading, whichever field that is no map has the element.

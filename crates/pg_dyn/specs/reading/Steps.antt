@@ -23,8 +23,7 @@ use Rattle.pg_dyn.specs.reading.Decoding.{is_readable, dec}
 use Rattle.pg_dyn.specs.Kept.{KeptItem, Plain, Msg, message_of}
 use Rattle.pg_dyn.specs.Borrowed.{HasKeys, IsFilled, content_seen, leaf_of}
 use Rattle.pg_dyn.specs.PartsFit.{FieldHolds, IsElementKept}
-use Rattle.pg_dyn.specs.reading.Faults.{Code, Wire, NotUtf8, FaultIn, FaultOf}
-use Rattle.pg_dyn.specs.reading.TooDeep.{TooDeepIn, TooDeepOf}
+use Rattle.pg_dyn.specs.reading.Faults.{Code, Wire, NotUtf8, TooDeep, FirstFault, FirstFaultOf, TooDeepIn, TooDeepOf}
 
 -- what a field holds, as parts of a message
 abbrev pub item_of : KeptItem → Item
@@ -46,23 +45,23 @@ HeldFits shape f (Some content) = FieldHolds shape f (content_seen f.number cont
     × AllByRecursion (λ (p : Part KeptItem). IsElementKept shape f.element p.item) (content_seen f.number content)
 
 -- Why reading is refused: memory was, or what the error names stands that many bytes behind a place.
-abbrev pub RefusedBy : (Code → ℕ → Type 0) → (ℕ → Type 0) → ℕ → DynError → Type 0
-RefusedBy HasFault IsDeep at errors.Memory = ⊤
-RefusedBy HasFault IsDeep at (errors.NotUtf8 there) = (place : ℕ) × (there ≡ at + place) × HasFault NotUtf8 place
-RefusedBy HasFault IsDeep at (errors.TooDeep there) = (place : ℕ) × (there ≡ at + place) × IsDeep place
-RefusedBy HasFault IsDeep at (errors.Wire e) = (place : ℕ) × (place_of e ≡ at + place) × HasFault (Wire (fault_of e)) place
-RefusedBy HasFault IsDeep at errors.NoSuchField = ⊥
-RefusedBy HasFault IsDeep at errors.WrongKind = ⊥
-RefusedBy HasFault IsDeep at errors.OutOfRange = ⊥
-RefusedBy HasFault IsDeep at errors.OneofTwice = ⊥
-RefusedBy HasFault IsDeep at errors.DuplicateKey = ⊥
-RefusedBy HasFault IsDeep at errors.TooLong = ⊥
+abbrev pub RefusedBy : (Code → ℕ → Type 0) → ℕ → DynError → Type 0
+RefusedBy IsFirst at errors.Memory = ⊤
+RefusedBy IsFirst at (errors.NotUtf8 there) = (place : ℕ) × (there ≡ at + place) × IsFirst NotUtf8 place
+RefusedBy IsFirst at (errors.TooDeep there) = (place : ℕ) × (there ≡ at + place) × IsFirst TooDeep place
+RefusedBy IsFirst at (errors.Wire e) = (place : ℕ) × (place_of e ≡ at + place) × IsFirst (Wire (fault_of e)) place
+RefusedBy IsFirst at errors.NoSuchField = ⊥
+RefusedBy IsFirst at errors.WrongKind = ⊥
+RefusedBy IsFirst at errors.OutOfRange = ⊥
+RefusedBy IsFirst at errors.OneofTwice = ⊥
+RefusedBy IsFirst at errors.DuplicateKey = ⊥
+RefusedBy IsFirst at errors.TooLong = ⊥
 
 -- Of a record that the field takes, of one that some field takes, and of bytes: refused, and no message stands too deep. Below the
 -- message there may be as many levels.
 
 abbrev pub RefusedOf : Shape → ℕ → FieldShape → WireRecord → ℕ → DynError → Type 0
-RefusedOf shape levels f r at e = RefusedBy (FaultOf shape f r) (TooDeepOf shape levels f r) at e
+RefusedOf shape levels f r at e = RefusedBy (FirstFaultOf shape levels f r) at e
 
 abbrev pub IsShallow : Shape → ℕ → FieldShape → WireRecord → Type 0
 IsShallow shape levels f r = (place : ℕ) → TooDeepOf shape levels f r place → ⊥
@@ -74,13 +73,13 @@ pub record Taken (fs : List FieldShape) (r : WireRecord) (f : FieldShape) : Type
 
 abbrev pub RefusedRecord : Shape → ℕ → List FieldShape → WireRecord → ℕ → DynError → Type 0
 RefusedRecord shape levels fs r at e =
-    RefusedBy (λ code place. (f : FieldShape) × Taken fs r f × FaultOf shape f r code place) (λ place. (f : FieldShape) × Taken fs r f × TooDeepOf shape levels f r place) at e
+    RefusedBy (λ code place. (f : FieldShape) × Taken fs r f × FirstFaultOf shape levels f r code place) at e
 
 abbrev pub IsShallowRecord : Shape → ℕ → List FieldShape → WireRecord → Type 0
 IsShallowRecord shape levels fs r = (f : FieldShape) → Taken fs r f → IsShallow shape levels f r
 
 abbrev pub RefusedIn : Shape → ℕ → List FieldShape → List ℕ → ℕ → DynError → Type 0
-RefusedIn shape limit fs bytes at e = RefusedBy (FaultIn shape fs bytes) (TooDeepIn shape limit fs bytes) at e
+RefusedIn shape limit fs bytes at e = RefusedBy (FirstFault shape limit fs bytes) at e
 
 abbrev pub IsShallowIn : Shape → ℕ → List FieldShape → List ℕ → Type 0
 IsShallowIn shape limit fs bytes = (place : ℕ) → TooDeepIn shape limit fs bytes place → ⊥

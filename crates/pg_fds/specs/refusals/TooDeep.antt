@@ -1,7 +1,7 @@
 -- How deep the messages of a set may stand (that they are read 100 deep is this profile's choice).
 use Rattle.std.specs.Prelude.{ℕ, List}
 use Rattle.pg_schema.specs.Shape.{fields}
-use Rattle.pg_dyn.specs.reading.TooDeep.{TooDeepIn}
+use Rattle.pg_dyn.specs.reading.Faults.{TooDeepIn}
 use Rattle.pg_check.specs.standing.Places.{most_deep}
 use Rattle.pg_fds.specs.writing.Building.{written_shape}
 use Rattle.pg_fds.specs.descriptor.Descriptor.{file_set}

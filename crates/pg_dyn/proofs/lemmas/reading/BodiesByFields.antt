@@ -17,8 +17,8 @@ use Rattle.pg_dyn.specs.reading.Decoding.{all_readable, dec, is_readable, read_r
 use Rattle.pg_dyn.specs.reading.Gathering.{AreGathered}
 use Rattle.pg_dyn.specs.Message.{Message}
 use Rattle.pg_dyn.specs.reading.Steps.{IsShallowIn, IsShallowRecord}
-use Rattle.pg_dyn.specs.reading.TooDeep.{TooDeepIn, TooDeepOf}
-use Rattle.pg_dyn.specs.reading.TooDeep as deep
+use Rattle.pg_dyn.specs.reading.Faults.{TooDeep, TooDeepIn, TooDeepOf}
+use Rattle.pg_dyn.specs.reading.Faults as faults
 use Rattle.pg_dyn.specs.encoding.Writing.{bytes_of}
 use Rattle.pg_dyn.proofs.lemmas.Depth.{dec_is}
 use Rattle.pg_dyn.proofs.lemmas.Faulty.{each_mid, first_of, nonempty, split_at}
@@ -43,10 +43,10 @@ module _ (shape : Shape) (levels : ℕ) (fs : List FieldShape) (bytes : List ℕ
   shallow_from_records shallow place h = of (suc levels) bytes place h refl refl
     where
       of : (limit : ℕ) (bs : List ℕ) (p : ℕ) → TooDeepIn shape limit fs bs p → limit ≡ suc levels → bs ≡ bytes → ⊥
-      of limit bs p (deep.the_root gs cs) is same = absurd (omega arith)
-      of limit bs p (deep.in_record l gs cs front back rest before r f q spells joined read found taken too_deep) is same =
+      of limit bs p (faults.the_root gs cs) is same = absurd (omega arith)
+      of limit bs p (faults.in_record l gs cs front back rest r f code q joined before read found taken too_deep) is same =
           let lower : l ≡ levels = omega arith in
-          one_shallow shallow front back rest before r (sym same ∙ joined) spells read f (record { found = found; taken = taken }) q
+          one_shallow shallow front back rest before.0 r (sym same ∙ joined) before.1 read f (record { found = found; taken = taken }) q
           (subst (λ n. TooDeepOf shape n f r q) lower too_deep)
 
   rest_shallow : IsShallowIn shape (suc levels) fs bytes → (front : List ℕ) (before later : List WireRecord) → Spells front before
@@ -55,7 +55,7 @@ module _ (shape : Shape) (levels : ℕ) (fs : List FieldShape) (bytes : List ℕ
   rest_shallow shallow front before [] spells are joined = tt
   rest_shallow shallow front before (r ∷ later) spells are joined = (
     λ f taken place too_deep. shallow (length front + place)
-        (deep.in_record levels fs bytes front (bytes_of (r ∷ later)) (bytes_of later) before r f place spells joined
+        (faults.in_record levels fs bytes front (bytes_of (r ∷ later)) (bytes_of later) r f TooDeep place joined (before, spells)
         (record_at-append r (bytes_of later) are.0) taken.found taken.taken too_deep),
     rest_shallow shallow (front ++ r.bytes) (before ++ r ∷ []) later (Spells-more front before r spells are.0) are.1
         (joined ∙ sym (append_assoc front r.bytes (bytes_of later))),

@@ -21,8 +21,8 @@ use Rattle.pg_dyn.specs.Message.{Bytes, Item, Leaf, Msg, Part}
 use Rattle.pg_dyn.specs.Optional.{all_some, joined}
 use Rattle.pg_dyn.specs.Borrowed.{item_seen}
 use Rattle.pg_dyn.specs.reading.Steps.{FieldReads, IsShallow, IsShallowIn, item_of, part_of}
-use Rattle.pg_dyn.specs.reading.TooDeep.{TooDeepOf}
-use Rattle.pg_dyn.specs.reading.TooDeep as deep
+use Rattle.pg_dyn.specs.reading.Faults.{TooDeep, TooDeepOf}
+use Rattle.pg_dyn.specs.reading.Faults as faults
 use Rattle.pg_dyn.proofs.lemmas.reading.BodiesByFields.{OneAt, bodies_of, one_at, one_holds}
 use Rattle.pg_dyn.proofs.lemmas.reading.PlainFields.{content_plain, one_body, readable_child, readable_is}
 use Rattle.pg_dyn.proofs.lemmas.Joining.{is_some_found}
@@ -44,7 +44,7 @@ module _ (shape : Shape) (f : FieldShape) (t : TypeId) (is_message : f.element �
       (readable_child f t is_message no_map (dec shape) r alone taken read, body_shallow shape f t is_message no_map levels r some h.1)
 
   pub some_levels : (levels : ℕ) (r : WireRecord) → IsShallow shape levels f r → levels ≡ 0 → ⊥
-  some_levels levels r shallow none = shallow 0 (subst (λ n. TooDeepOf shape n f r 0) (sym none) (deep.the_child f r t no_map is_message))
+  some_levels levels r shallow none = shallow 0 (subst (λ n. TooDeepOf shape n f r 0) (sym none) (faults.the_child f r t no_map is_message))
 
   good_child : (levels : ℕ) (r : WireRecord) → FieldReads shape f r × IsShallow shape levels f r → BodyGood levels r
   good_child levels r h =
@@ -54,7 +54,7 @@ module _ (shape : Shape) (f : FieldShape) (t : TypeId) (is_message : f.element �
     where
       below : (l : ℕ) → IsShallow shape l f r → IsShallowIn shape l (fields shape t) r.body
       below zero shallow = absurd (some_levels zero r shallow refl)
-      below (suc l) shallow = λ place x. shallow _ (deep.in_child l f r t place no_map is_message x)
+      below (suc l) shallow = λ place x. shallow _ (faults.in_child l f r t TooDeep place no_map is_message x)
 
   pub good_from_bodies : (levels : ℕ) (rs : List WireRecord) → AreOf f rs → BodiesGood shape levels t rs → AreGood shape levels f rs
   good_from_bodies levels [] are good = tt

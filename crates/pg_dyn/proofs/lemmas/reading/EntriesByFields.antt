@@ -22,19 +22,19 @@ use Rattle.pg_dyn.specs.declared.message_ref.ValueRef.{ValueRef}
 use Rattle.pg_dyn.specs.declared.reading.parts.Parts.{Parts}
 use Rattle.pg_dyn.specs.reading.ByFields.{AreGood, AreOf, BodiesGood, IsChildOf, IsEntryRead}
 use Rattle.pg_dyn.specs.Coding.{form, zero_leaf}
-use Rattle.pg_dyn.specs.reading.Content.{entry_part, is_accepted, key_field, leaves_in, merged, option_from, takes, value_field}
+use Rattle.pg_dyn.specs.reading.Content.{entry_part, is_accepted, key_field, leaves_in, merged, option_from, takes, value_field, entry_fields}
 use Rattle.pg_dyn.specs.BorrowedItems.{ItemKept}
 use Rattle.pg_dyn.specs.reading.Decoding.{all_plain_readable, dec, entry_records, is_plain_readable, is_readable}
 use Rattle.pg_dyn.specs.reading.EntryParts.{AreParts, AreReadable, ScalarsGood}
-use Rattle.pg_dyn.specs.reading.EntrySteps.{IsMessageOf, IsReadFrom, PartFits, PartRead, WholeItem, entry_fields}
+use Rattle.pg_dyn.specs.reading.EntrySteps.{IsMessageOf, IsReadFrom, PartFits, PartRead, WholeItem}
 use Rattle.pg_dyn.specs.Message.{Bytes, Item, Leaf, Plain}
 use Rattle.pg_dyn.specs.Optional.{first_or}
 use Rattle.pg_dyn.specs.reading.ReadingOn.{IsNoMessage}
 use Rattle.pg_dyn.specs.BorrowedItems.{IsItemKept}
 use Rattle.pg_dyn.specs.Borrowed.{leaf_of}
 use Rattle.pg_dyn.specs.reading.Steps.{FieldReads, IsShallow, IsShallowIn, IsShallowRecord, Taken, item_of}
-use Rattle.pg_dyn.specs.reading.TooDeep.{TooDeepOf}
-use Rattle.pg_dyn.specs.reading.TooDeep as deep
+use Rattle.pg_dyn.specs.reading.Faults.{TooDeep, TooDeepOf}
+use Rattle.pg_dyn.specs.reading.Faults as faults
 use Rattle.pg_dyn.proofs.lemmas.reading.BodiesByFields.{bodies_of, records_shallow, seen_at, shallow_from_records}
 use Rattle.pg_dyn.proofs.lemmas.reading.ChildrenByFields as children
 use Rattle.pg_dyn.proofs.lemmas.reading.PlainFields.{no_child}
@@ -167,7 +167,7 @@ module _ (shape : Shape) (f : FieldShape) (key : Scalar) (of_map : f.presence �
   has_room_for levels rs t spells shallow good is none = of (own (value_field f.element) rs) refl good
     where
       of : (ss : List WireRecord) → own (value_field f.element) rs ≡ ss → AreGood shape levels (value_field f.element) ss → ⊥
-      of [] empty h = shallow 0 (subst (λ n. TooDeepOf shape n f r 0) (sym none) (deep.missing_value f r key t rs of_map is spells empty))
+      of [] empty h = shallow 0 (subst (λ n. TooDeepOf shape n f r 0) (sym none) (faults.missing_value f r key t rs of_map is spells empty (rs, spells)))
       of (s ∷ ss) some h = children.some_levels shape (value_field f.element) t is refl levels s h.0.1 none
 
   -- the records of a good entry are good
@@ -177,7 +177,7 @@ module _ (shape : Shape) (f : FieldShape) (key : Scalar) (of_map : f.presence �
       let some : is_some (entry_records (dec shape) key f.element r) ≡ true =
       subst (λ p. is_readable (dec shape) (record { number = f.number; presence = p; element = f.element; oneof = f.oneof }) r ≡ true) of_map good.0.0 in
       let (rs, records, readable) = entry_records_of (dec shape) (entry_fields key f.element) r.body some in
-      let below : IsShallowIn shape (suc levels) (entry_fields key f.element) r.body = λ place x. good.0.1 _ (deep.in_entry levels f r key place of_map x) in
+      let below : IsShallowIn shape (suc levels) (entry_fields key f.element) r.body = λ place x. good.0.1 _ (faults.in_entry levels f r key TooDeep place of_map x) in
       let test : WireRecord → Bool = λ s. list_all (λ g. not (takes g s) || is_plain_readable (dec shape) g s) (entry_fields key f.element) in
       let tested =
       each_both (λ s. test s ≡ true) (IsShallowRecord shape levels (entry_fields key f.element)) rs (list_all_true test rs readable)

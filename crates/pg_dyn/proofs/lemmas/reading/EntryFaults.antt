@@ -16,16 +16,14 @@ use Rattle.pg_wire.specs.Records.{WireRecord}
 use Rattle.pg_wire.proofs.RecordLaws.{Spells_unique, Spells_from_records_of}
 use Rattle.pg_dyn.specs.declared.error.DynError.{DynError}
 use Rattle.pg_dyn.specs.declared.error.DynError.TheVariants as errors
-use Rattle.pg_dyn.specs.reading.Content.{takes, key_field, value_field}
+use Rattle.pg_dyn.specs.reading.Content.{takes, key_field, value_field, entry_fields}
 use Rattle.pg_dyn.specs.reading.Decoding.{all_readable, dec}
-use Rattle.pg_dyn.specs.reading.EntrySteps.{IsMessageOf, entry_fields}
-use Rattle.pg_dyn.specs.reading.Faults.{FaultIn, FaultOf, body_start}
+use Rattle.pg_dyn.specs.reading.EntrySteps.{IsMessageOf}
+use Rattle.pg_dyn.specs.reading.Faults.{FirstFault, FirstFaultOf, body_start}
 use Rattle.pg_dyn.specs.reading.Faults as faults
 use Rattle.pg_dyn.specs.reading.FaultSteps.{EntryReads}
 use Rattle.pg_dyn.specs.reading.Steps.{RefusedIn, RefusedOf, Taken, IsShallowIn, IsShallowRecord, IsShallow}
-use Rattle.pg_dyn.specs.reading.TooDeep.{TooDeepIn, TooDeepOf}
-use Rattle.pg_dyn.specs.reading.TooDeep as deep
-use Rattle.pg_dyn.proofs.lemmas.reading.Ahead.{Ahead, refused_on}
+use Rattle.pg_dyn.proofs.lemmas.reading.Ahead.{Ahead, faultless, refused_on}
 use Rattle.pg_dyn.proofs.lemmas.reading.Ahead as ahead
 use Rattle.pg_dyn.proofs.lemmas.reading.FaultSteps.{is_own}
 use Rattle.pg_dyn.proofs.lemmas.reading.ShallowRecords.{entry_shallow}
@@ -116,17 +114,23 @@ module _ (shape : Shape) (levels : ℕ) (f : FieldShape) (r : WireRecord) (key :
   pub entry_refused : (at start : ℕ) (e : DynError) → start ≡ at + body_start r
       → RefusedIn shape (suc levels) (entry_fields key f.element) r.body start e → RefusedOf shape levels f r at e
   entry_refused at start e there h =
-      refused_on (FaultIn shape (entry_fields key f.element) r.body) (FaultOf shape f r)
-      (TooDeepIn shape (suc levels) (entry_fields key f.element) r.body) (TooDeepOf shape levels f r) at (body_start r) start there
-      (λ code p x. faults.in_entry f r key code p is x) (λ p x. deep.in_entry levels f r key p is x) e h
+      refused_on (FirstFault shape (suc levels) (entry_fields key f.element) r.body) (FirstFaultOf shape levels f r) at (body_start r) start there
+      (λ code p x. faults.in_entry levels f r key code p is x) e h
 
-  pub value_missing : (has_value : Bool) (at : ℕ) → EntryReads shape key f.element r.body has_value → has_value ≡ false → levels ≡ 0
+  pub value_missing : (has_value : Bool) (at : ℕ) → EntryReads shape key f.element r.body has_value
+      → IsShallowIn shape (suc levels) (entry_fields key f.element) r.body → has_value ≡ false → levels ≡ 0
       → IsMessageOf f.element → RefusedOf shape levels f r at (errors.TooDeep at)
-  value_missing has_value at read none low message =
+  value_missing has_value at read below none low message =
       let t = type_in f.element message in
       let spelled = Spells_from_records_of r.body read.records read.are in
       let without = none_kept (takes (value_field f.element)) read.records (sym read.value ∙ none) in
-      (0, omega arith, subst (λ n. TooDeepOf shape n f r 0) (sym low) (deep.missing_value f r key t.0 read.records is t.1 spelled without))
+      let lowest = subst (λ n. IsShallowIn shape (suc n) (entry_fields key f.element) r.body) low below in
+      let before = faultless shape 1 (entry_fields key f.element) r.body read.records spelled read.readable lowest in (
+        0,
+        omega arith,
+        subst (λ n. FirstFaultOf shape n f r faults.TooDeep 0) (sym low)
+            (faults.missing_value f r key t.0 read.records is t.1 spelled without before),
+      )
 
 pub whole_shallow : (shape : Shape) (levels : ℕ) (f : FieldShape) (r : WireRecord) (key : Scalar) (has_value : Bool) → f.presence ≡ presences.Map key
     → EntryReads shape key f.element r.body has_value

@@ -16,15 +16,13 @@ use Rattle.pg_dyn.specs.declared.error.DynError.TheVariants as errors
 use Rattle.pg_dyn.specs.Coding.{Text, form, form_wire, element_at, leaf_in, scalar_form}
 use Rattle.pg_dyn.specs.reading.Content.{same_wire, is_accepted, is_unknown, leaves_in, packed_leaves}
 use Rattle.pg_dyn.specs.reading.Decoding.{is_child, all_readable, dec}
-use Rattle.pg_dyn.specs.reading.Faults.{Wire, FaultIn, FaultOf, body_start}
+use Rattle.pg_dyn.specs.reading.Faults.{Wire, FirstFault, FirstFaultOf, body_start}
 use Rattle.pg_dyn.specs.reading.Faults as faults
 use Rattle.pg_dyn.specs.reading.FaultSteps.{ItemReads}
 use Rattle.pg_dyn.specs.reading.Held.{read_as}
 use Rattle.pg_dyn.specs.Message.{Leaf}
 use Rattle.pg_dyn.specs.reading.ReadingOn.{IsNoMessage}
 use Rattle.pg_dyn.specs.reading.Steps.{FieldReads, RefusedOf, RefusedIn, RefusedItem, RefusedRecord, RowRefused, Taken, IsShallow, IsShallowIn, IsShallowItem}
-use Rattle.pg_dyn.specs.reading.TooDeep.{TooDeepIn, TooDeepOf}
-use Rattle.pg_dyn.specs.reading.TooDeep as deep
 use Rattle.pg_dyn.proofs.lemmas.reading.Ahead.{refused_on}
 use Rattle.pg_dyn.proofs.lemmas.TypeFields.{takes_it}
 use Rattle.pg_dyn.proofs.lemmas.reading.PlainFields.{readable_is, no_child}
@@ -64,7 +62,7 @@ pub text_refused : (shape : Shape) (levels : ℕ) (f : FieldShape) (r : WireReco
     → form f.element ≡ scalar_form s
     → (e ≡ errors.NotUtf8 at) × (scalar_form s ≡ Text) × (is_utf8 r.body ≡ false) → RefusedOf shape levels f r at e
 text_refused shape levels f r at e s no_map same h =
-    subst (RefusedOf shape levels f r at) (sym h.0) (0, omega arith, faults.not_text f r no_map (same ∙ h.1) h.2)
+    subst (RefusedOf shape levels f r at) (sym h.0) (0, omega arith, faults.not_text levels f r no_map (same ∙ h.1) h.2)
 
 -- what a test of an item that is no message reports
 pub record ScalarChecked (shape : Shape) (levels : ℕ) (e : Element) (r : WireRecord) (at : ℕ) (result : Result ⊤ DynError) : Type 0 where
@@ -111,14 +109,13 @@ pub child_refused : (shape : Shape) (levels l : ℕ) (t : TypeId) (r : WireRecor
     → RefusedItem shape levels (elements.Message t) r at e
 child_refused shape levels l t r at start e up there h f no_map is =
     subst (λ n. RefusedOf shape n f r at e) (sym up)
-    (refused_on (FaultIn shape (fields shape t) r.body) (FaultOf shape f r)
-    (TooDeepIn shape (suc l) (fields shape t) r.body) (TooDeepOf shape (suc l) f r) at (body_start r) start there
-    (λ code p x. faults.in_child f r t code p no_map is x) (λ p x. deep.in_child l f r t p no_map is x) e h)
+    (refused_on (FirstFault shape (suc l) (fields shape t) r.body) (FirstFaultOf shape (suc l) f r) at (body_start r) start there
+    (λ code p x. faults.in_child l f r t code p no_map is x) e h)
 
 pub too_deep : (shape : Shape) (levels : ℕ) (t : TypeId) (r : WireRecord) (at : ℕ) → levels ≡ 0
     → RefusedItem shape levels (elements.Message t) r at (errors.TooDeep at)
 too_deep shape levels t r at none f no_map is =
-    (0, omega arith, subst (λ n. TooDeepOf shape n f r 0) (sym none) (deep.the_child f r t no_map is))
+    (0, omega arith, subst (λ n. FirstFaultOf shape n f r faults.TooDeep 0) (sym none) (faults.the_child f r t no_map is))
 
 -- Packed lists.
 
@@ -139,7 +136,7 @@ module _ (shape : Shape) (f : FieldShape) (r : WireRecord) (no_map : is_map f.pr
       let k = fault_of-error_at bad.0 at in
       let broken = ap (λ x. row (element_at (form_wire x)) r.body) (form_as f.element) ∙ bad.2 in
       subst (RefusedOf shape levels f r at) (sym bad.1)
-      (0, (let p = k.1 in omega arith), subst (λ x. FaultOf shape f r (Wire x) 0) (sym k.0) (faults.bad_element f r bad.0 no_map other broken))) h
+      (0, (let p = k.1 in omega arith), subst (λ x. FirstFaultOf shape levels f r (Wire x) 0) (sym k.0) (faults.bad_element levels f r bad.0 no_map other broken))) h
 
 -- The field that takes a record.
 
@@ -149,10 +146,8 @@ taken_here fs r f is accepted = record { found = sym is; taken = takes_it f r (f
 pub taken_refused : (shape : Shape) (levels : ℕ) (fs : List FieldShape) (r : WireRecord) (f : FieldShape) (at : ℕ) (e : DynError) → Taken fs r f
     → RefusedOf shape levels f r at e → RefusedRecord shape levels fs r at e
 taken_refused shape levels fs r f at e taken h =
-    refused_on (FaultOf shape f r) (λ code p. (g : FieldShape) × Taken fs r g × FaultOf shape g r code p)
-    (TooDeepOf shape levels f r) (λ p. (g : FieldShape) × Taken fs r g × TooDeepOf shape levels g r p) at 0 at (omega arith)
-    (λ code p x. (f, taken, subst (λ n. FaultOf shape f r code n) (sym (zero-add p)) x))
-    (λ p x. (f, taken, subst (λ n. TooDeepOf shape levels f r n) (sym (zero-add p)) x)) e h
+    refused_on (FirstFaultOf shape levels f r) (λ code p. (g : FieldShape) × Taken fs r g × FirstFaultOf shape levels g r code p) at 0 at (omega arith)
+    (λ code p x. (f, taken, subst (λ n. FirstFaultOf shape levels f r code n) (sym (zero-add p)) x)) e h
 
 pub taken_reads : (shape : Shape) (fs : List FieldShape) (r : WireRecord) (f : FieldShape) → Rising fs → Taken fs r f → FieldReads shape f r
     → all_readable (dec shape) fs (r ∷ []) ≡ true

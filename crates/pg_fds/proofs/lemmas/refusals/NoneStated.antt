@@ -1,5 +1,5 @@
 -- What is refused only where no schema is stated.
-use Rattle.std.proofs.Common.{◌≡◌, ℕ, true, false, ◌&&◌, List, Option, Some, None, ap, ap₂, sym, subst, ◌∙◌}
+use Rattle.std.proofs.Common.{◌≡◌, ◌≢◌, ℕ, true, false, ◌&&◌, List, Option, Some, None, ap, ap₂, sym, subst, ◌∙◌}
 use Rattle.std.proofs.lemmas.Option.{none-some, same_Some}
 use Rattle.std.specs.Prelude.{IsSomeAnd}
 use Rattle.std.specs.List.{list_all}
@@ -11,10 +11,11 @@ use Rattle.pg_wire.specs.Errors.{fault_of, place_of}
 use Rattle.pg_dyn.specs.declared.error.DynError.{DynError}
 use Rattle.pg_dyn.specs.declared.error.DynError.TheVariants as messages
 use Rattle.pg_dyn.specs.reading.Decoding.{dec}
-use Rattle.pg_dyn.specs.reading.Faults.{Code, FaultIn, NotUtf8, Wire}
+use Rattle.pg_dyn.specs.reading.Faults.{Code, FirstFault, NotUtf8, TooDeep, Wire}
 use Rattle.pg_dyn.specs.Laws.{FaultsAreReal}
 use Rattle.pg_dyn.specs.reading.Refusals.{MayRefuse}
 use Rattle.pg_dyn.specs.Message.{Message}
+use Rattle.pg_dyn.proofs.lemmas.Faulty.{text_not_deep, wire_not_deep}
 use Rattle.pg_check.specs.standing.Places.{most_deep}
 use Rattle.pg_fds.specs.declared.error.FdsError.{FdsError}
 use Rattle.pg_fds.specs.declared.error.FdsError.TheVariants as errors
@@ -37,21 +38,22 @@ both_said (Some x) P Q apart h k = apart x h k
 
 -- ---- the bytes
 
-unread : (real : FaultsAreReal) (bytes : List ℕ) (code : Code) (place : ℕ) → FaultIn written_shape (fields written_shape file_set) bytes code place → StatesNone bytes
-unread real bytes code place fault parts sound reads =
-    subst (λ o. IsSomeAnd o (λ set. stated set ≡ Some (parts_view parts))) (real written_shape file_set bytes code place fault) reads
+unread : (real : FaultsAreReal) (bytes : List ℕ) (code : Code) (place : ℕ) → code ≢ TooDeep
+    → FirstFault written_shape most_deep (fields written_shape file_set) bytes code place → StatesNone bytes
+unread real bytes code place other fault parts sound reads =
+    subst (λ o. IsSomeAnd o (λ set. stated set ≡ Some (parts_view parts))) (real written_shape file_set most_deep bytes code place fault other) reads
 
 bytes_unread : (real : FaultsAreReal) (bytes : List ℕ) (e : DynError) → MayRefuse written_shape file_set most_deep bytes e → NoneIsStated bytes (errors.Bytes e)
 bytes_unread real bytes messages.Memory fault = tt
 bytes_unread real bytes messages.NoSuchField fault = absurd fault
 bytes_unread real bytes messages.WrongKind fault = absurd fault
 bytes_unread real bytes messages.OutOfRange fault = absurd fault
-bytes_unread real bytes (messages.NotUtf8 at) fault = unread real bytes NotUtf8 at fault
+bytes_unread real bytes (messages.NotUtf8 at) fault = unread real bytes NotUtf8 at text_not_deep fault
 bytes_unread real bytes messages.OneofTwice fault = absurd fault
 bytes_unread real bytes messages.DuplicateKey fault = absurd fault
 bytes_unread real bytes messages.TooLong fault = absurd fault
 bytes_unread real bytes (messages.TooDeep at) fault = tt
-bytes_unread real bytes (messages.Wire e) fault = unread real bytes (Wire (fault_of e)) (place_of e) fault
+bytes_unread real bytes (messages.Wire e) fault = unread real bytes (Wire (fault_of e)) (place_of e) (wire_not_deep (fault_of e)) fault
 
 -- ---- the message
 

@@ -19,7 +19,7 @@ use Rattle.pg_dyn.specs.reading.Content.{is_unknown, takes}
 use Rattle.pg_dyn.specs.encoding.Encoding.{cap, child_type, enc, encoded_parts}
 use Rattle.pg_dyn.specs.Laws.{EncodingSpells, WritingSplits, of_number}
 use Rattle.pg_dyn.specs.Message.{Bytes, Leaf, Message, Part, ends, holds, is_of, nests, unknown_of}
-use Rattle.pg_dyn.specs.reading.TooDeep.{TooDeepIn, TooDeepOf, in_child, in_entry, in_record, missing_value, the_child, the_root}
+use Rattle.pg_dyn.specs.reading.Faults.{TooDeepIn, TooDeepOf, in_child, in_entry, in_record, missing_value, the_child, the_root}
 use Rattle.pg_dyn.specs.encoding.Writing.{field_records, item_record, records_in}
 use Rattle.pg_dyn.proofs.lemmas.Belonging.{child_type_is, fields-IsType}
 use Rattle.pg_dyn.proofs.lemmas.Faulty.{first_of, nonempty, split_at}
@@ -106,17 +106,17 @@ record InRecord (shape : Shape) (limit : ℕ) (fs : List FieldShape) (bytes : Li
 
 in_of : (shape : Shape) (limit : ℕ) (fs : List FieldShape) (bytes : List ℕ) (place : ℕ) → TooDeepIn shape limit fs bytes place → (limit ≡ 0) ⊎ ((l : ℕ) × (limit ≡ suc l) × InRecord shape l fs bytes)
 in_of shape _ fs bytes _ (the_root _ _) = inl refl
-in_of shape _ fs bytes _ (in_record limit _ _ front back rest rs r f place spelled joined read found taken deep) =
-    inr (limit, refl, record { front = front; back = back; rest = rest; before = rs; first = r; field = f; place = place; spelled = spelled; joined = joined; read = read; found = found; taken = taken; deep = deep })
+in_of shape _ fs bytes _ (in_record limit _ _ front back rest r f _ place joined spelled read found taken deep) =
+    inr (limit, refl, record { front = front; back = back; rest = rest; before = spelled.0; first = r; field = f; place = place; spelled = spelled.1; joined = joined; read = read; found = found; taken = taken; deep = deep })
 
 abbrev InChild : Shape → ℕ → FieldShape → WireRecord → Type 0
 InChild shape limit f r = (t : TypeId) × (f.element ≡ elements.Message t) × ((limit ≡ 0) ⊎ ((place : ℕ) × TooDeepIn shape limit (fields shape t) r.body place))
 
 of_of : (shape : Shape) (limit : ℕ) (f : FieldShape) (r : WireRecord) (place : ℕ) → TooDeepOf shape limit f r place → InChild shape limit f r ⊎ (is_map f.presence ≡ true)
 of_of shape _ f r _ (the_child _ _ t no_map message) = inl (t, message, inl refl)
-of_of shape _ f r _ (in_child limit _ _ t place no_map message deep) = inl (t, message, inr (place, deep))
-of_of shape limit f r _ (in_entry _ _ _ key place is deep) = inr (ap is_map is)
-of_of shape _ f r _ (missing_value _ _ key t rs is message spelled none) = inr (ap is_map is)
+of_of shape _ f r _ (in_child limit _ _ t _ place no_map message deep) = inl (t, message, inr (place, deep))
+of_of shape limit f r _ (in_entry _ _ _ key _ place is deep) = inr (ap is_map is)
+of_of shape _ f r _ (missing_value _ _ key t rs is message spelled none before) = inr (ap is_map is)
 
 -- ---- the record's message
 

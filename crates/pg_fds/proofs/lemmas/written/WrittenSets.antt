@@ -11,7 +11,7 @@ use Rattle.pg_dyn.specs.reading.Decoding.{dec}
 use Rattle.pg_dyn.specs.encoding.Encoding.{cap}
 use Rattle.pg_dyn.specs.Laws.{EncodingSpells, ReadsAgain, WritingSplits}
 use Rattle.pg_dyn.specs.Message.{Message}
-use Rattle.pg_dyn.specs.reading.TooDeep.{TooDeepIn}
+use Rattle.pg_dyn.specs.reading.Faults.{TooDeepIn}
 use Rattle.pg_check.specs.standing.Nesting.{are_shallow}
 use Rattle.pg_check.specs.standing.Places.{most_deep}
 use Rattle.pg_fds.specs.again.Again.{IsReadable}

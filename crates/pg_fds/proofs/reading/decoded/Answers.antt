@@ -4,7 +4,7 @@ use Rattle.pg_dyn.specs.reading.Decoding.{dec}
 use Rattle.pg_dyn.specs.Fits.{Fits}
 use Rattle.pg_dyn.specs.Kept.{message_of}
 use Rattle.pg_dyn.specs.reading.Refusals.{MayRefuse}
-use Rattle.pg_dyn.specs.reading.TooDeep.{TooDeepIn}
+use Rattle.pg_dyn.specs.reading.Faults.{TooDeepIn}
 use Rattle.pg_dyn.specs.Texts.{KeepsTexts}
 use Rattle.pg_fds.specs.writing.Building.{written_shape}
 use Rattle.pg_fds.specs.descriptor.Descriptor.{file_set}

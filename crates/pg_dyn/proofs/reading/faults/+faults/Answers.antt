@@ -11,8 +11,8 @@ use Rattle.pg_wire.specs.Reads.{seen, seen_record}
 use Rattle.pg_dyn.specs.declared.error.DynError.{DynError}
 use Rattle.pg_dyn.specs.declared.error.DynError.TheVariants as errors
 use Rattle.pg_dyn.specs.Coding.{form, form_wire, scalar_form}
-use Rattle.pg_dyn.specs.reading.Content.{packed_leaves, same_wire, key_field, value_field}
-use Rattle.pg_dyn.specs.reading.EntrySteps.{IsMessageOf, entry_fields}
+use Rattle.pg_dyn.specs.reading.Content.{packed_leaves, same_wire, key_field, value_field, entry_fields}
+use Rattle.pg_dyn.specs.reading.EntrySteps.{IsMessageOf}
 use Rattle.pg_dyn.specs.reading.Steps.{RefusedIn, RefusedOf, RefusedRecord, RowRefused}
 use Rattle.pg_dyn.proofs.lemmas.reading.Ahead as ahead
 use Rattle.pg_dyn.proofs.lemmas.TypeFields.{on_ok_map, rising}
@@ -120,7 +120,7 @@ check_entry-returns-then-matches-clause-err t c =
       | check_entry-in_default w ↦ absurd (true≢false (sym c.if-matches.true ∙ w.matches-is))
     ] in
     entries.value_missing shape c.args.levels f r c.args.key c.requires.of_map c.in_ok-has_value.has_value c.args.at c.in_ok-has_value.ensures.readable
-    c.if-not-has_value.true c.if-levels-eq0.true message
+    c.in_ok-has_value.ensures.shallow c.if-not-has_value.true c.if-levels-eq0.true message
 
 pub check_entry-returns-clause-shallow : goal.check_entry-returns-clause-shallow
 check_entry-returns-clause-shallow t c =

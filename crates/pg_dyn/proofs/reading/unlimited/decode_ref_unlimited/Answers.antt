@@ -6,7 +6,7 @@ use Rattle.pg_dyn.proofs.reading.unlimited.decode_ref_unlimited.Goals as goal
 
 pub returns-clause-refused : goal.returns-clause-refused
 returns-clause-refused c =
-    of_error c.decode_ref.result (λ e h. refused_unlimited (shape_of c.args.schema.now) c.args.type_id (length c.args.bytes.now + 1) c.args.bytes.now e (omega arith) h) c.decode_ref.ensures.refused
+    of_error c.decode_ref.result (λ e h. refused_unlimited (shape_of c.args.schema.now) c.args.type_id c.args.bytes.now e h) c.decode_ref.ensures.refused
 
 pub returns-clause-unread : goal.returns-clause-unread
 returns-clause-unread c =
