@@ -27,7 +27,7 @@ pub record IsReadAs (f : Form) (bytes : List ℕ) (leaf : Leaf) : Type 0 where
   pub read : leaf_in f bytes ≡ Some leaf
   pub shape : BodyShape (form_wire f) bytes
 
--- the bytes of a child stand as Bytes
+-- the bytes of a child are Bytes
 abbrev pub IsNestedLeaf : Element → Leaf → Type 0
 IsNestedLeaf (elements.Message t) leaf = leaf ≡ Bytes (leaf_bytes leaf)
 IsNestedLeaf (elements.Scalar s) leaf = ⊤

@@ -58,14 +58,14 @@ fields_onto fs later = kept_onto (all_seen fs) later
 abbrev pub kept_seen : Inside → Kept
 kept_seen a = fields_onto a.fields.items (ends a.type_id (map seen_record a.unknown.items))
 
--- What holds of every message: the numbers of its fields rise, no content is empty, the keys of its maps are numbers or texts, and
+-- What holds of every message: the numbers of its fields rise, no content is empty, the keys of its maps are numbers or strings, and
 -- each of its unknown records is one.
 
 abbrev pub IsKey : ValueRef → Type 0
 IsKey (values.Msg child) = ⊥
 IsKey value = ⊤
 
--- a map's key is a number or a text, since no map has keys of type bytes
+-- a map's key is a number or a string, since no map has keys of type bytes
 abbrev pub IsMapKey : ValueRef → Type 0
 IsMapKey (values.Msg child) = ⊥
 IsMapKey (values.Bytes bytes) = ⊥

@@ -19,7 +19,7 @@ IsItemOf s value = IsScalarItem s (item_seen false value)
 abbrev pub ItemFits : Shape → Element → ValueRef → Type 0
 ItemFits shape element value = IsElementItem shape element (item_seen false value)
 
--- so are they, and texts where the scalar or element is string
+-- so are they, and strings where the scalar or element is string
 abbrev pub IsItemKept : Scalar → ValueRef → Type 0
 IsItemKept s value = IsScalarKept s (item_seen false value)
 
@@ -39,7 +39,7 @@ KeysRise es = Rise key_of es
 abbrev pub ranks_below : EntryRef → EntryRef → Bool
 ranks_below a b = is_lt (rank_cmp (key_of a) (key_of b))
 
--- the keys are all numbers, or all texts
+-- the keys are all numbers, or all strings
 abbrev pub AreAlike : List EntryRef → Type 0
 AreAlike es = (kind : Bool) × AllByRecursion (λ (e : EntryRef). IsOfKind kind (key_of e)) es
 

@@ -31,12 +31,12 @@ abbrev pub is_shown : View → FieldShape → FieldShape → List Comparand → 
 is_shown view f g cs (Some ps) = same_content view f g (map expects cs) ps
 is_shown view f g cs None = false
 
--- the new field's reader sees the old field's content, with these parts
+-- the new field's reader reads the old field's content, with these parts
 abbrev pub is_field_kept : View → Reader → FieldShape → FieldShape → List Comparand → Bool
 is_field_kept view child f g cs =
     all_field_readable child g (field_records f (map writes cs)) && is_shown view f g cs (field_read child g (field_records f (map writes cs)))
 
--- the new type's field of each number that both types have sees the old one's content
+-- the new type's field of each number that both types have reads the old one's content
 abbrev pub EachFieldKept : View → Reader → List FieldShape → List FieldShape → List Comparand → Type 0
 EachFieldKept view child fs gs cs =
     (f g : FieldShape) → field_at fs f.number ≡ Some f → field_at gs f.number ≡ Some g → is_field_kept view child f g (comparands_at f.number cs) ≡ true

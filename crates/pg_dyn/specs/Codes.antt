@@ -1,5 +1,5 @@
--- The number behind the E by which users know the error, and the place that it names, if it names one: a byte of the input, or the
--- length of a text's front.
+-- The number after the E by which users know the error, and the offset that it names, if it names one: a byte of the input, or the
+-- length of a string's front.
 use Rattle.std.specs.Prelude.{ℕ, Option, Some, None}
 use Rattle.pg_dyn.specs.declared.error.DynError.{DynError}
 use Rattle.pg_dyn.specs.declared.error.DynError.TheVariants as errors

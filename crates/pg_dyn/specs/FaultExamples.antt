@@ -9,11 +9,11 @@ use Rattle.pg_wire.specs.Reading.{VarintTooLong, Truncated, BadTag, Group, BadWi
 use Rattle.pg_dyn.specs.reading.Faults.{Code, Wire, NotUtf8, TooDeep, FirstFault}
 use Rattle.pg_dyn.specs.Examples.{first, field, scalar, member, of_fields, int32}
 
--- that is the first fault in bytes of the first type, whose messages may stand so deep
+-- that is the first fault in bytes of the first type, whose messages may be so deep
 abbrev pub IsFirstWithin : ℕ → Shape → List ℕ → Code → ℕ → Type 0
 IsFirstWithin limit shape bytes code place = FirstFault shape limit (fields shape first) bytes code place
 
--- where none stands too deep
+-- where none is too deep
 abbrev pub IsFirst : Shape → List ℕ → Code → ℕ → Type 0
 IsFirst = IsFirstWithin 100
 
@@ -29,11 +29,11 @@ packed = of_fields (scalar 1 (Repeated true) Int32 ∷ [])
 abbrev pub packed_of_four : Shape
 packed_of_four = of_fields (scalar 1 (Repeated true) Fixed32 ∷ [])
 
--- a message with a message of its own type, and a text
+-- a message with a message of its own type, and a string
 abbrev pub child_and_text : Shape
 child_and_text = of_fields (field 1 Explicit (elements.Message first) ∷ scalar 2 Implicit scalars.String ∷ [])
 
--- a message with a map from texts to messages of its own type
+-- a message with a map from strings to messages of its own type
 abbrev pub children_by_text : Shape
 children_by_text = of_fields (field 1 (Map scalars.String) (elements.Message first) ∷ [])
 
@@ -44,18 +44,18 @@ too_long later = 128 ∷ 128 ∷ 128 ∷ 128 ∷ 128 ∷ 128 ∷ 128 ∷ 128 ∷
 pub record FaultExamples : Type 0 where
   pub varint_too_long : IsFirst int32 (8 ∷ too_long (1 ∷ [])) (Wire VarintTooLong) 0
   pub body_cut_off : IsFirst text (10 ∷ 5 ∷ 97 ∷ []) (Wire Truncated) 0
-  -- behind a record that has a reading
+  -- after a record that has a reading
   pub no_field_number : IsFirst int32 (8 ∷ 5 ∷ 0 ∷ []) (Wire BadTag) 2
   pub group : IsFirst int32 (11 ∷ []) (Wire Group) 0
   pub unknown_wire_type : IsFirst int32 (14 ∷ []) (Wire BadWireType) 0
   pub not_text : IsFirst text (10 ∷ 1 ∷ 255 ∷ []) NotUtf8 0
   -- a record that wouldn't count, since one of another member follows, is still read
   pub not_text_before_another_member : IsFirst text_or_number (10 ∷ 1 ∷ 255 ∷ 16 ∷ 1 ∷ []) NotUtf8 0
-  -- a fault within a packed list stands at the list's record
+  -- a fault within a packed list is at the list's record
   pub element_too_long : IsFirst packed (10 ∷ 10 ∷ too_long []) (Wire VarintTooLong) 0
   pub element_cut_off : IsFirst packed (10 ∷ 2 ∷ 1 ∷ 128 ∷ []) (Wire Truncated) 0
   pub element_of_three_bytes : IsFirst packed_of_four (10 ∷ 3 ∷ 0 ∷ 0 ∷ 0 ∷ []) (Wire Truncated) 0
-  -- places count on into children and entries
+  -- offsets count on into children and entries
   pub not_text_in_child : IsFirst child_and_text (10 ∷ 3 ∷ 18 ∷ 1 ∷ 255 ∷ []) NotUtf8 2
   pub cut_off_in_child : IsFirst child_and_text (10 ∷ 3 ∷ 18 ∷ 2 ∷ 97 ∷ []) (Wire Truncated) 2
   pub group_in_child : IsFirst child_and_text (10 ∷ 1 ∷ 11 ∷ []) (Wire Group) 2

@@ -72,7 +72,7 @@ abbrev pub EntriesRise : List (Leaf × Leaf) → Type 0
 EntriesRise [] = ⊤
 EntriesRise (e ∷ es) = AllByRecursion (λ (x : Leaf × Leaf). key_cmp e.0 x.0 ≡ Less) es × EntriesRise es
 
--- Entries whose keys rise are kept as they stand.
+-- Entries whose keys rise are kept as they are.
 abbrev pub RisingEntriesStay : Type 0
 RisingEntriesStay = (es : List (Leaf × Leaf)) → EntriesRise es → by_key es ≡ es
 
@@ -83,7 +83,7 @@ PartsKeepTypes =
     × ((n : ℕ) (ps : List (Part KeptItem)) (m : Kept) → type_of (with_parts n ps m) ≡ type_of m)
     × ((fs : List FieldShape) (f : FieldShape) (m : Kept) → type_of (without_siblings fs f m) ≡ type_of m)
 
--- The parts of a content have the number under which it stands, an item of a scalar is no message, and parts mean the same in front of a
+-- The parts of a content have the number of its field, an item of a scalar is no message, and parts mean the same in front of a
 -- message where they are kept as an element's.
 abbrev pub ContentsAreSeen : Type 0
 ContentsAreSeen =

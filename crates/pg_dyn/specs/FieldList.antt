@@ -10,7 +10,7 @@ fields_below {A} number fields = filter (λ (f : ℕ × A). nat_lt f.0 number) f
 abbrev pub fields_above : {A : Type 0} → ℕ → List (ℕ × A) → List (ℕ × A)
 fields_above {A} number fields = filter (λ (f : ℕ × A). nat_lt number f.0) fields
 
--- with this content under the number, whatever stood there
+-- with this content under the number, whatever was there
 abbrev pub put_field : {A : Type 0} → ℕ → A → List (ℕ × A) → List (ℕ × A)
 put_field number content fields = fields_below number fields ++ (number, content) ∷ fields_above number fields
 
@@ -18,6 +18,6 @@ put_field number content fields = fields_below number fields ++ (number, content
 abbrev pub remove_field : {A : Type 0} → ℕ → List (ℕ × A) → List (ℕ × A)
 remove_field number fields = fields_below number fields ++ fields_above number fields
 
--- a content can be put under the number without memory: one stands there, or there is room for one more
+-- a content can be put under the number without memory: one is there, or there is room for one more
 abbrev pub HasRoom : ℕ → Vec (ℕ × Content) Global → Type 0
 HasRoom number fields = AllByRecursion (λ (f : ℕ × Content). f.0 ≢ number) fields.items → vec_len fields < vec_capacity fields

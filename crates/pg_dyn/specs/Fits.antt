@@ -5,7 +5,7 @@ use Rattle.pg_dyn.specs.Kept.{Kept, ends, holds, nests, type_of, message_of}
 use Rattle.pg_dyn.specs.encoding.Encoding.{child_type}
 use Rattle.pg_dyn.specs.Belonging.{IsMessage}
 
--- whether the items of the field with the number stand in a list
+-- whether the items of the field with the number are a list
 abbrev pub is_listed_by : Option FieldShape → Bool
 is_listed_by (Some f) = is_repeated f.presence
 is_listed_by None = false

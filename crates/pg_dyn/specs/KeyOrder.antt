@@ -1,4 +1,4 @@
--- The order by which a map's entries are sorted, and by which equal keys stand side by side: numbers by value, texts by bytes.
+-- The order by which a map's entries are sorted, and by which equal keys are side by side: numbers by value, strings by bytes.
 use Rattle.std.specs.Prelude.{◌≡◌, ℤ, pos, ⊤, ◌⊎◌, List, [], ◌∷◌, Bool, true, false}
 use Rattle.std.specs.List.{AllByRecursion}
 use Rattle.std.specs.declared.cmp.Ordering.{Ordering}
@@ -18,7 +18,7 @@ abbrev pub Rise : {A : Type 0} → (A → Leaf) → List A → Type 0
 Rise key [] = ⊤
 Rise {A} key (x ∷ xs) = AllByRecursion (λ (y : A). key_cmp (key x) (key y) ≡ Less) xs × Rise key xs
 
--- the number of a key, which is 0 of a text
+-- the number of a key, which is 0 of a string
 abbrev pub number_in : Leaf → ℤ
 number_in (Int n) = n
 number_in leaf = pos 0
@@ -29,20 +29,20 @@ rank_cmp k l = ordering_then (int_cmp (number_in k) (number_in l)) (slice_cmp na
 abbrev pub ranks_below : Value × Value → Value × Value → Bool
 ranks_below a b = is_lt (rank_cmp (leaf_of a.0) (leaf_of b.0))
 
--- two numbers, or two texts
+-- two numbers, or two strings
 abbrev pub AreSame : Leaf → Leaf → Type 0
 AreSame (Int m) (Int n) = ⊤
 AreSame (Bytes a) (Bytes b) = ⊤
 AreSame k l = ⊥
 
--- a key that is a number, or one that is a text
+-- a key that is a number, or one that is a string
 abbrev pub IsOfKind : Bool → Leaf → Type 0
 IsOfKind true (Int n) = ⊤
 IsOfKind true leaf = ⊥
 IsOfKind false (Bytes bytes) = ⊤
 IsOfKind false leaf = ⊥
 
--- the keys are all numbers, or all texts
+-- the keys are all numbers, or all strings
 abbrev pub IsNumber : Value → Type 0
 IsNumber (values.Int n) = ⊤
 IsNumber value = ⊥

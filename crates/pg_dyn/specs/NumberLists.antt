@@ -16,7 +16,7 @@ low_bits Varint word = word
 low_bits I64 word = word
 low_bits Len word = word
 
--- the item that a word says; no list of texts or bytes is kept as words
+-- the item that a word says; no list of strings or bytes is kept as words
 abbrev pub number_item : Form → ℕ → ValueRef
 number_item (Integer whole) word = values.Int (whole.number (low_bits whole.wire word))
 number_item Single word = values.F32 (low_bits I32 word)

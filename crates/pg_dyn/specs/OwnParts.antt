@@ -71,7 +71,7 @@ Ordered p (q ∷ qs) = AllByRecursion (λ r. MayFollow p q.key r.key) qs × Orde
 abbrev pub ShortBodies : List WireRecord → Type 0
 ShortBodies rs = AllByRecursion (λ r. length r.body < 2 ^ 64) rs
 
--- The parts of a field fit it, and stand in order.
+-- The parts of a field fit it, and are in order.
 abbrev pub OwnPartsFit : Type 0
 OwnPartsFit =
     (shape : Shape) (type : TypeId) (m : Message) (f : FieldShape) → IsShape shape → IsMessage shape type m → field_at (fields shape type) f.number ≡ Some f →

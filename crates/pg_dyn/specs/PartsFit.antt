@@ -15,7 +15,7 @@ use Rattle.pg_dyn.specs.Kept.{KeptItem, Plain, Msg, type_of}
 use Rattle.pg_dyn.specs.Message.{Part}
 use Rattle.pg_dyn.specs.Texts.{KeepsTexts, is_string}
 
--- the item is one of the scalar: of its kind, in its range, a text UTF-8
+-- the item is one of the scalar: of its kind, in its range, a string UTF-8
 abbrev pub IsScalarItem : Scalar → KeptItem → Type 0
 IsScalarItem s (Plain listed leaf) = InRange (scalar_form s) leaf
 IsScalarItem s (Msg listed child) = ⊥
@@ -27,7 +27,7 @@ IsElementItem shape (elements.Enum e) item = IsScalarItem Int32 item
 IsElementItem shape (elements.Message t) (Plain listed leaf) = ⊥
 IsElementItem shape (elements.Message t) (Msg listed child) = Fits shape child × (type_of child ≡ t)
 
--- so is it, and it is a text just where the scalar is string
+-- so is it, and it is kept as a string just where the scalar is string
 abbrev pub IsScalarKept : Scalar → KeptItem → Type 0
 IsScalarKept s (Plain manner leaf) = InRange (scalar_form s) leaf × (manner.text ≡ is_string (elements.Scalar s))
 IsScalarKept s (Msg listed child) = ⊥

@@ -21,18 +21,18 @@ HasShape I64 body = length body ≡ 8
 HasShape I32 body = length body ≡ 4
 HasShape Len body = ⊤
 
--- the item is one of the scalar: of its kind, in its range, a text UTF-8
+-- the item is one of the scalar: of its kind, in its range, a string UTF-8
 abbrev pub IsItemOf : Scalar → Value → Type 0
 IsItemOf s (values.Msg child) = ⊥
 IsItemOf s value = InRange (scalar_form s) (leaf_of value)
 
--- of the two variants for bytes, the one that a field of the scalar keeps: texts in a string field, bytes in others
+-- of the two variants for bytes, the one that a field of the scalar keeps: `Text` in a string field, `Bytes` in others
 abbrev pub IsKeptAs : Scalar → Value → Type 0
 IsKeptAs scalars.String (values.Bytes bytes) = ⊥
 IsKeptAs scalars.Bytes (values.Text text) = ⊥
 IsKeptAs s value = ⊤
 
--- texts and bytes are one kind
+-- strings and bytes are one kind
 abbrev pub HoldsBytes : Form → Type 0
 HoldsBytes (Integer whole) = ⊥
 HoldsBytes Single = ⊥
@@ -40,7 +40,7 @@ HoldsBytes Double = ⊥
 HoldsBytes Text = ⊤
 HoldsBytes Raw = ⊤
 
--- the item is of the scalar's kind, whatever its range; texts and bytes are one kind
+-- the item is of the scalar's kind, whatever its range; strings and bytes are one kind
 abbrev pub IsKindOf : Form → Value → Type 0
 IsKindOf (Integer whole) (values.Int n) = ⊤
 IsKindOf Single (values.F32 bits) = ⊤
@@ -54,12 +54,12 @@ abbrev pub IsOutOfRange : Scalar → Value → Type 0
 IsOutOfRange s (values.Int n) = IsInteger (scalar_form s) × (IsIntegerOf (scalar_form s) n → ⊥)
 IsOutOfRange s value = ⊥
 
--- bytes for a text of which just the first so many are the longest front that is UTF-8
+-- bytes for a string of which just the first so many are the longest front that is UTF-8
 abbrev pub IsNoText : Scalar → ℕ → Value → Type 0
 IsNoText s at (values.Bytes bytes) = (scalar_form s ≡ Text) × IsValidUpTo bytes.items at
 IsNoText s at value = ⊥
 
--- What is wrong with an item, by the error: its kind; of a right kind the number's range; the bytes of a text.
+-- What is wrong with an item, by the error: its kind; of a right kind the number's range; the bytes of a string.
 abbrev pub IsFaultOf : Scalar → Value → DynError → Type 0
 IsFaultOf s value errors.WrongKind = IsKindOf (scalar_form s) value → ⊥
 IsFaultOf s value errors.OutOfRange = IsOutOfRange s value

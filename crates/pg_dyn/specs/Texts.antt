@@ -17,7 +17,7 @@ is_string (elements.Scalar s) = of s
 is_string (elements.Enum e) = false
 is_string (elements.Message t) = false
 
--- items of the element are held as texts or as bytes
+-- items of the element are held as strings or as bytes
 abbrev pub holds_bytes : Element → Bool
 holds_bytes (elements.Scalar s) = of s
   where

@@ -58,7 +58,7 @@ pub(crate) fn map_key(presence: Presence) -> Option<Scalar>
     }
 }
 
-/// Whether the items of a field stand in one record.
+/// Whether the items of a field are in one record.
 pub(crate) fn is_packed(presence: Presence) -> bool
     ensures { result ≡ is_packed presence }
 {

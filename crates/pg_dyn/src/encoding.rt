@@ -121,7 +121,7 @@ fn write_item<'a, M: Lends>(
     }
 }
 
-// The same of items, each of a field of that number.
+// Writes items, each of a field of that number.
 #[cycle(write)]
 #[inline(always)]
 fn write_items<'a, M: Lends>(
@@ -150,7 +150,7 @@ fn write_items<'a, M: Lends>(
     Ok(left)
 }
 
-// The same of an entry of a map.
+// Writes an entry of a map.
 #[cycle(write)]
 #[inline(always)]
 fn write_entry<'a, M: Lends>(
@@ -189,7 +189,7 @@ fn write_entry<'a, M: Lends>(
     write_item::<M>(item, out, schema, 2, element, lengths)
 }
 
-// The same of a map's entries.
+// Does so for a map's entries.
 #[cycle(write)]
 #[inline(always)]
 fn write_entries<'a, M: Lends>(
@@ -315,7 +315,7 @@ fn encode_lent<M: Lends>(alloc: Global, schema: &Schema, message: &M) -> Result<
     if len > MAX_ENCODING_LEN {
         return Err(DynError::TooLong);
     }
-    // With room for the longest varint where the last byte stands, so that none makes it grow.
+    // With room for the longest varint after the last byte, so that none makes it grow.
     let mut out = Vec::with_capacity(alloc, len + 9)?;
     write_message(message, &mut out, schema, &lengths)?;
     Ok(out)

@@ -19,9 +19,9 @@ pub enum DynError {
     /// E603: an integer is out of the range of its field's type.
     #[error("The number is out of range.")]
     OutOfRange,
-    /// E604: the bytes of a text aren't UTF-8. In bytes that are read, `at` is the first byte of
-    /// the record that holds the text; of contents that are set, the length of the longest front of
-    /// the text that is UTF-8, of several such texts of the first one.
+    /// E604: the bytes of a string aren't UTF-8. In bytes that are read, `at` is the first byte of
+    /// the record that holds the string; of contents that are set, the length of the longest front
+    /// of the string that is UTF-8, of several such strings of the first one.
     #[error("The string is not UTF-8.")]
     NotUtf8 { at: usize },
     /// E605: two contents are of one field, or of two members of one oneof.
@@ -33,7 +33,7 @@ pub enum DynError {
     /// E607: the encoding has more than 2,147,483,647 bytes.
     #[error("The encoding has more than 2,147,483,647 bytes.")]
     TooLong,
-    /// E608: a message stands deeper than the limit; `at` is the first byte of its record, and 0
+    /// E608: a message is deeper than the limit; `at` is the first byte of its record, and 0
     /// for the root.
     #[error("The message at byte {at} is nested too deep.")]
     TooDeep { at: usize },
@@ -47,7 +47,7 @@ impl DynError {
     ghost use Rattle.pg_dyn.specs.setting.ContentFaults.{code};
     ghost use Rattle.pg_dyn.specs.Codes.{code_of, place_of};
 
-    /// The number behind the E by which users know the error.
+    /// The number after the E by which users know the error.
     pub fn code(self) -> u16
         ensures { result ≡ code_of self }
     {
@@ -65,7 +65,7 @@ impl DynError {
         }
     }
 
-    // The place of the error in the order of a content's faults.
+    // The position of the error in the order of a content's faults.
     pub(crate) fn rank(self) -> u16
         ensures { result ≡ code self }
     {
@@ -83,8 +83,8 @@ impl DynError {
         }
     }
 
-    /// The place that the error names, if it names one: a byte of the input, or of contents that
-    /// are set the length of a text's front.
+    /// The offset that the error names, if it names one: a byte of the input, or of contents that
+    /// are set the length of a string's front.
     pub fn at(self) -> Option<usize>
         ensures { result ≡ place_of self }
     {

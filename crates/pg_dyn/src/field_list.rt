@@ -25,7 +25,7 @@ pub(crate) fn place_of<C>(fields: &[(u32, C)], number: u32) -> usize
     }
 }
 
-/// Whether a content stands under the number.
+/// Whether there is a content under the number.
 pub(crate) fn holds(fields: &[(u32, Content)], number: u32) -> bool
     requires { Rises fields.now }
     ensures { IsTrue result → (place : ℕ) × (place < length fields.now)
@@ -35,7 +35,7 @@ pub(crate) fn holds(fields: &[(u32, Content)], number: u32) -> bool
     place < fields.len() && fields[place].0 == number
 }
 
-/// Makes room for a content under the number, where none stands there.
+/// Makes room for a content under the number, where there is none.
 pub(crate) fn reserve(fields: &mut Vec<(u32, Content)>, number: u32) -> Result<(), AllocError>
     requires { Rises fields.old.items }
     ensures items { fields.new.items ≡ fields.old.items }
@@ -51,7 +51,7 @@ pub(crate) fn reserve(fields: &mut Vec<(u32, Content)>, number: u32) -> Result<(
     fields.reserve(1)
 }
 
-/// Puts a content under the number, in place of the one that stands there.
+/// Puts a content under the number, in place of the one that is there.
 pub(crate) fn put(fields: &mut Vec<(u32, Content)>, number: u32, content: Content)
     requires rises { Rises fields.old.items }
     requires room { HasRoom number fields.old }

@@ -22,7 +22,7 @@ use pg_schema::{Element, Field, Presence, Scalar, Schema, TypeId};
 use std::cmp::Ordering;
 
 impl Value {
-    // The order of two keys of one type: numbers by value, texts by bytes.
+    // The order of two keys of one type: numbers by value, strings by bytes.
     pub(crate) fn order(&self, other: &Value) -> Ordering
         requires first { IsKey self.now }
         requires second { IsKey other.now }

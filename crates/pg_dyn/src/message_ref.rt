@@ -11,7 +11,7 @@ use pg_wire::Record;
 use std::alloc::Global;
 use std::marker::Model;
 
-/// An item of a field; texts and bytes are those of the input.
+/// An item of a field; strings and bytes are those of the input.
 #[cycle(message_ref)]
 #[derive(Drop)]
 pub enum ValueRef<'a> {
@@ -39,7 +39,7 @@ pub struct EntryRef<'a> {
 #[derive(Drop)]
 pub enum ContentRef<'a> {
     One(ValueRef<'a>),
-    /// A list of texts, bytes or messages.
+    /// A list of strings, bytes or messages.
     Many(Vec<ValueRef<'a>>),
     /// Entries by rising key.
     Map(Vec<EntryRef<'a>>),
@@ -48,7 +48,7 @@ pub enum ContentRef<'a> {
 }
 
 /// A message of a type: its fields' contents by rising number, and its unknown records in the order
-/// read. Its texts, bytes and unknown records are those of the input.
+/// read. Its strings, bytes and unknown records are those of the input.
 #[cycle(message_ref)]
 #[derive(Drop)]
 pub struct MessageRef<'a> {

@@ -12,7 +12,7 @@ use crate::owning::owned_records;
 use std::alloc::{AllocError, Global};
 
 impl<'a> ValueRef<'a> {
-    // The item with a text, bytes or a message of its own. Inlined, so that numbers are moved
+    // The item with a string, bytes or a message of its own. Inlined, so that numbers are moved
     // without a call.
     #[cycle(moving)]
     #[inline(always)]
@@ -31,7 +31,7 @@ impl<'a> ValueRef<'a> {
 }
 
 impl<'a> EntryRef<'a> {
-    // The same of an entry's key and value.
+    // The entry with a key and a value of its own.
     #[cycle(moving)]
     fn into_entry(self, alloc: Global) -> Result<(Value, Value), AllocError>
         ensures { IfOk result (IsEntryCopy self.entry) }
@@ -44,7 +44,7 @@ impl<'a> EntryRef<'a> {
 }
 
 impl<'a> ContentRef<'a> {
-    // The same of each item of a list.
+    // The items of a list, each with parts of its own.
     #[cycle(moving)]
     fn into_values(values: Vec<ValueRef<'a>>, alloc: Global) -> Result<Vec<Value>, AllocError>
         ensures { IfOk result (λ owned. map (item_seen true) owned.items
@@ -57,7 +57,7 @@ impl<'a> ContentRef<'a> {
         Ok(owned)
     }
 
-    // The same of each entry of a map.
+    // The entries of a map, each with parts of its own.
     #[cycle(moving)]
     fn into_entries(
         entries: Vec<EntryRef<'a>>,
@@ -72,7 +72,7 @@ impl<'a> ContentRef<'a> {
         Ok(owned)
     }
 
-    // The same of all items of a content.
+    // The content with items of its own.
     #[cycle(moving)]
     fn into_content(self, alloc: Global) -> Result<Content, AllocError>
         ensures { IfOk result (IsContentCopy self.entry) }
@@ -87,7 +87,7 @@ impl<'a> ContentRef<'a> {
 }
 
 impl<'a> MessageRef<'a> {
-    // The same of a message in its box. Not inlined, as the copy of an item is.
+    // The message in its box, with parts of its own. Not inlined, as the copy of an item is.
     #[cycle(moving)]
     #[inline(never)]
     fn into_boxed(child: Box<MessageRef<'a>>, alloc: Global) -> Result<Box<Message>, AllocError>
@@ -97,7 +97,7 @@ impl<'a> MessageRef<'a> {
         Ok(Box::new(alloc, owned)?)
     }
 
-    /// The message with texts, bytes, messages and unknown records of its own.
+    /// The message with strings, bytes, messages and unknown records of its own.
     #[cycle(moving)]
     pub(crate) fn into_message(self, alloc: Global) -> Result<Message, AllocError>
         ensures { IfOk result (λ owned. owned ≡ self.entry) }

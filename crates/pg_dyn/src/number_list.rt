@@ -91,7 +91,7 @@ impl NumberList {
         self.words.len()
     }
 
-    /// The number at a place, as an item.
+    /// The number at an index, as an item.
     pub fn get<'a>(&self, at: usize) -> ValueRef<'a>
         requires { at < length (numbers_in self.now) }
         ensures item { slice_get (numbers_in self.now) at ≡ Some result }

@@ -29,7 +29,7 @@ fn owned_record(alloc: Global, found: &Record<'_>) -> Result<UnknownRecord, Allo
     })
 }
 
-// The same of each record.
+// The records, each with bytes of its own.
 pub(crate) fn owned_records(
     alloc: Global,
     records: &[Record<'_>],
@@ -61,8 +61,8 @@ impl Number {
 }
 
 impl NumberList {
-    // The same of each number. Not inlined, so that a level of messages takes no more of the stack
-    // for it.
+    // The items of the list's numbers. Not inlined, so that a level of messages takes no more of
+    // the stack for it.
     #[inline(never)]
     pub(crate) fn to_values(&self, alloc: Global) -> Result<Vec<Value>, AllocError>
         ensures { IfOk result (λ owned. map (item_seen true) owned.items
@@ -77,7 +77,7 @@ impl NumberList {
 }
 
 impl<'a> ValueRef<'a> {
-    // The item with a text, bytes or a message of its own. Inlined, so that numbers are copied
+    // The item with a string, bytes or a message of its own. Inlined, so that numbers are copied
     // without a call.
     #[cycle(owning)]
     #[inline(always)]
@@ -96,7 +96,7 @@ impl<'a> ValueRef<'a> {
 }
 
 impl<'a> EntryRef<'a> {
-    // The same of an entry's key and value.
+    // The entry with a key and a value of its own.
     #[cycle(owning)]
     fn to_entry(&self, alloc: Global) -> Result<(Value, Value), AllocError>
         ensures { IfOk result (IsEntryCopy self.now) }
@@ -108,7 +108,7 @@ impl<'a> EntryRef<'a> {
 }
 
 impl<'a> ContentRef<'a> {
-    // The same of each item of a list.
+    // The items of a list, each with parts of its own.
     #[cycle(owning)]
     fn to_values(values: &[ValueRef<'a>], alloc: Global) -> Result<Vec<Value>, AllocError>
         ensures { IfOk result (λ owned. map (item_seen true) owned.items
@@ -121,7 +121,7 @@ impl<'a> ContentRef<'a> {
         Ok(owned)
     }
 
-    // The same of each entry of a map.
+    // The entries of a map, each with parts of its own.
     #[cycle(owning)]
     fn to_entries(
         entries: &[EntryRef<'a>],
@@ -136,7 +136,7 @@ impl<'a> ContentRef<'a> {
         Ok(owned)
     }
 
-    // The same of all items of a content.
+    // The content with items of its own.
     #[cycle(owning)]
     fn to_content(&self, alloc: Global) -> Result<Content, AllocError>
         ensures { IfOk result (IsContentCopy self.now) }
@@ -161,7 +161,7 @@ impl<'a> MessageRef<'a> {
         Ok(Box::new(alloc, owned)?)
     }
 
-    /// The message with texts, bytes, messages and unknown records of its own.
+    /// The message with strings, bytes, messages and unknown records of its own.
     #[cycle(owning)]
     pub fn to_message(&self, alloc: Global) -> Result<Message, AllocError>
         ensures { IfOk result (λ owned. owned ≡ self.now) }

@@ -25,12 +25,13 @@ use crate::message::{Content, Message};
 use pg_schema::{Field, Schema};
 
 impl Message {
-    /// Sets the content of the field with the number, in place of the one that stands there. A zero
+    /// Sets the content of the field with the number, in place of the one that is there. A zero
     /// in a field without presence, an empty list and an empty map take the content out. Setting a
     /// member of a oneof takes out the other members (proto3 language guide, "Field Presence",
-    /// "Oneof"). Texts and bytes are one kind here: a text field takes bytes that are UTF-8 and
-    /// keeps them as text, and a bytes field takes a text and keeps it as bytes. A map's entries
-    /// may come in any order, and are kept by rising key.
+    /// "Oneof"). `Text` and `Bytes` are one kind here: a string field takes bytes that are UTF-8
+    /// and keeps them as `Text`, and a bytes field takes a string and keeps it as `Bytes`. A map's
+    /// entries may come in any order, and are kept by rising key. A message inside has to fit as it
+    /// is: it holds a string just where its field is one of strings.
     ///
     /// Refused, the message is unchanged and the content comes back as it was handed in. The errors
     /// are `NoSuchField`, `WrongKind`, `OutOfRange`, `NotUtf8`, `DuplicateKey`, of several the
@@ -81,8 +82,8 @@ impl Message {
     ghost use Rattle.pg_dyn.specs.setting.Setting.{normalized};
     ghost use Rattle.pg_dyn.specs.setting.Reported.{ItemsFit};
 
-    /// Puts a content that is one of the field, in place of the one that stands there, whatever
-    /// stands in other members of the field's oneof. Where memory is refused, the content comes
+    /// Puts a content that is one of the field, in place of the one that is there, whatever
+    /// is in other members of the field's oneof. Where memory is refused, the content comes
     /// back as it was handed in.
     pub(crate) fn put_content(
         &mut self,

@@ -77,7 +77,7 @@ module _ (child : Reader) (shape : Shape) (type : TypeId) where
   leaf_child number p (elements.Scalar s) oneof leaf h = tt
   leaf_child number p (elements.Enum e) oneof leaf h = tt
 
-  -- each child that stands in a field is read
+  -- each child in a field is read
   children_read : (f : FieldShape) → field_at (fields shape type) f.number ≡ Some f → (m : Message) → IsMessage shape type m → ChildrenAgain m → AllByRecursion (λ (q : Part Leaf). ChildReads child f.element q.item) (filter (is_of f.number) (encoded_parts shape type m))
   unfolding enc
   children_read f known (ends unknown) h again = tt

@@ -1,4 +1,4 @@
--- What a message of a type says of its parts with the bytes of each child in its place.
+-- What a message of a type says of its parts with the bytes of each child for it.
 use Rattle.std.proofs.Common.{◌≡◌, ℕ, zero, suc, ◌^◌, ◌<◌, List, [], ◌∷◌, map, get_or, length, Option, Some, refl, ap, sym, subst, arith, length-append}
 use Rattle.std.specs.List.{AllByRecursion}
 use Rattle.pg_schema.specs.declared.parts.field.TypeId.{TypeId}

@@ -34,6 +34,6 @@ not_utf8 bytes h = of (is_utf8 bytes) refl
     of true e = absurd (h (IsUtf8-from_is_utf8 bytes e))
     of false e = refl
 
--- a text is its bytes
+-- a string is its bytes
 pub text_read : (body bytes : List ℕ) → is_utf8 body ≡ true → body ≡ bytes → leaf_in Text body ≡ Some (Bytes bytes)
 text_read body bytes h same = rw h (ap (λ b. Some (Bytes b)) same)

@@ -74,7 +74,7 @@ leaf_holds shape f (elements.Scalar s) how leaf is h zero = rw is (h.0, zero)
 leaf_holds shape f (elements.Enum x) how leaf is h zero = rw is (h.0, zero)
 leaf_holds shape f (elements.Message t) how leaf is h zero = absurd h
 
--- the item at a place of a field, listed or not
+-- an item of a field, listed or not
 pub value_holds : (shape : Shape) (f : FieldShape) (listed : Bool) (v : ValueRef) → is_repeated f.presence ≡ listed → ItemKept shape f.element v
     → LeafMayBeZero f.presence (item_seen false v) → HoldsItem shape f (item_seen listed v)
 value_holds shape f listed (values.Int x) is h zero = (is, leaf_holds shape f f.element (manner false (values.Int x)) _ refl h zero)

@@ -97,7 +97,7 @@ record_at (r ∷ rs) (suc i) d inside h = record_at rs i d (omega arith) h.1
 
 -- Copies.
 
--- whether an item is a text
+-- whether an item is a string
 abbrev shown_text : KeptItem → Bool
 shown_text (Plain manner leaf) = manner.text
 shown_text (Msg listed child) = false

@@ -84,7 +84,7 @@ nonempty back r rest h =
     let taken = record_at_takes back r rest h in
     omega (arith, ap length taken.1, length-append r.bytes rest, length-IsRecord r taken.0)
 
--- a text is taken from records of LEN alone
+-- a string is taken from records of LEN alone
 text_wire : (number : ℕ) (p : Presence) (e : Element) (oneof : Option ℕ) (r : WireRecord) → form e ≡ Text → is_accepted (field_of number p e oneof) r ≡ true → same_wire r.wire Len ≡ true
 text_wire number p e oneof r is h =
     ⊎_elim (λ own. own_len p own) (λ packed. (and_parts (same_wire r.wire Len) _ (rest packed)).0)

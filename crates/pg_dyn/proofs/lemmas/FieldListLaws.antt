@@ -1,4 +1,4 @@
--- Fields by rising number, around a place.
+-- Fields by rising number, around an index.
 use Rattle.std.proofs.Common.{Bool, Result, Ok, Err, is_ok, OnErr, cond, if◌then◌else◌, ◌≡◌, ◌≢◌, ℕ, zero, suc, ◌+◌, ◌-◌, ◌<◌, ◌≤◌, List, [], ◌∷◌, ◌++◌, length, filter, take, drop, get_or, slice_set, nat_lt, ltb, true, false, refl, ap, sym, ◌∙◌, subst, arith, add-one, lt-ltb, le-ltb}
 use Rattle.pg_dyn.proofs.lemmas.KeptParts.{at_index}
 use Rattle.std.proofs.lemmas.List.{append-nil, take-append-drop, take-set, drop-set, drop_all}
@@ -36,7 +36,7 @@ above_all {A} n ys h = filter_all (λ (f : ℕ × A). nat_lt n f.0) ys (each_wea
 above_head : {A : Type 0} (n : ℕ) (y : ℕ × A) (ys : List (ℕ × A)) → y.0 ≡ n → AllAbove n ys → fields_above n (y ∷ ys) ≡ ys
 above_head {A} n y ys same h = let not_above : y.0 ≤ n = omega arith in rw (le-ltb n y.0 not_above, above_all n ys h)
 
--- what stands below and above, where the fields are split at the number
+-- what is below and above, where the fields are split at the number
 module _ {A : Type 0} (n : ℕ) (xs ys : List (ℕ × A)) (low : AllBelow n xs) (high : AllFrom n ys) where
   pub split_below : fields_below n (xs ++ ys) ≡ xs
   split_below = filter-append' (λ (f : ℕ × A). nat_lt f.0 n) xs ys ∙ ap (λ zs. zs ++ fields_below n ys) (below_all n xs low) ∙ rw (below_none n ys high) (append-nil xs)
@@ -63,7 +63,7 @@ module _ {A : Type 0} (fs : List (ℕ × A)) (i n : ℕ) (rises : Rises fs) (low
   above_is : fields_above n fs ≡ fields_above n (drop i fs)
   above_is = ap (fields_above n) (sym (take-append-drop i fs)) ∙ split_above n (take i fs) (drop i fs) low high
 
-  -- where the field of the number stands at the place
+  -- where the field of the number is at the index
   module _ (inside : i < length fs) (d : ℕ × A) (here : (get_or fs i d).0 ≡ n) where
     above_here : fields_above n fs ≡ drop (i + 1) fs
     above_here =
@@ -92,7 +92,7 @@ module _ {A : Type 0} (fs : List (ℕ × A)) (i n : ℕ) (rises : Rises fs) (low
     pub nothing_removed : fs ≡ remove_field n fs
     nothing_removed = sym (take-append-drop i fs) ∙ ap (λ xs. xs ++ drop i fs) (sym below_is) ∙ ap (λ ys. fields_below n fs ++ ys) (sym above_rest)
 
--- the place is past the end, or the field there has another number
+-- the index is past the end, or the field there has another number
 pub apart_past_end : {A : Type 0} (fs : List (ℕ × A)) (i n : ℕ) → length fs ≤ i → (y : ℕ × A) (zs : List (ℕ × A)) → drop i fs ≡ y ∷ zs → y.0 ≢ n
 apart_past_end {A} fs i n past y zs e = absurd (let none : drop i fs ≡ [] = drop_all i fs past in let bad : ◌≡◌ {A = List (ℕ × A)} (y ∷ zs) [] = sym e ∙ none in cons_not_nil y zs bad)
   where
@@ -142,7 +142,7 @@ all_below_last {A} fs n x rises last low =
     let number = ap (λ (f : ℕ × A). f.0) (last d) in
     omega arith)
 
--- whether a field of the number stands there
+-- whether a field of the number is there
 pub none_there : {A : Type 0} (fs : List (ℕ × A)) (i n : ℕ) → Rises fs → AllBelow n (take i fs) → AllFrom n (drop i fs) → ((y : ℕ × A) (zs : List (ℕ × A)) → drop i fs ≡ y ∷ zs → y.0 ≢ n) → AllByRecursion (λ (f : ℕ × A). f.0 ≢ n) fs
 none_there {A} fs i n rises low high apart =
     subst (AllByRecursion (λ (f : ℕ × A). f.0 ≢ n)) (take-append-drop i fs)

@@ -34,7 +34,7 @@ use Rattle.pg_dyn.proofs.lemmas.PartsToFits.{HoldsParts, contents_whole}
 use Rattle.pg_dyn.proofs.lemmas.ReplacingLaws.{fields_from}
 use Rattle.pg_dyn.proofs.lemmas.Splitting.{found_number}
 
--- Where parts stand.
+-- Where parts are.
 
 abbrev place_at : ℕ → Option Leaf → Place
 place_at n k = record { number = n; key = k }
@@ -235,7 +235,7 @@ module _ (shape : Shape) (type : TypeId) where
   abbrev shown : List (ℕ × Content) → List WireRecord → Kept
   shown ms us = fields_onto ms (ends type us)
 
-  -- each of the contents' numbers has a place
+  -- each of the contents' numbers has a part
   module _ (Q : ℕ → Type 0) where
     places_off : (n : ℕ) (c : Content) (later : Kept) → IsFilled c → AllByRecursion (λ (p : Place). Q p.number) (places (message_of (content_onto n c later))) → Q n × AllByRecursion (λ (p : Place). Q p.number) (places (message_of later))
     places_off n (contents.One v) later filled h = let k = subst (AllByRecursion (λ (p : Place). Q p.number)) (places-value_onto n None false v later) h in (k.0, k.1)

@@ -1,4 +1,4 @@
--- The parts of a message, with the bytes of each child in its place, are read again from the records that are written of them.
+-- The parts of a message, with the bytes of each child for it, are read again from the records that are written of them.
 use Rattle.std.proofs.Common.{◌≡◌, ◌≢◌, ℕ, ◌+◌, ◌^◌, ◌<◌, ◌≤◌, ◌⊎◌, inl, inr, ⊎_elim, List, [], ◌∷◌, ◌++◌, map, filter, flat_map, length, Bool, true, false, not, ◌&&◌, cond, nat_eq, Option, Some, None, Ok, refl, ap, ap₂, sym, ◌∙◌, subst, arith, eq-eqb, ne_eqb, append-nil, length-append}
 use Rattle.std.specs.Bool.{⊤}
 use Rattle.std.specs.List.{AllByRecursion, list_any}
@@ -18,7 +18,7 @@ use Rattle.pg_dyn.specs.OwnParts.{FitsField, Ordered, ShortBodies}
 use Rattle.pg_dyn.proofs.lemmas.Fields.{IsOwn, each_own, content_again}
 use Rattle.pg_dyn.proofs.lemmas.Splitting.{each_found, field_records_none, records_of_number, takes_number}
 
--- a part of a field of this type, before those later places
+-- a part of a field of this type, before those later parts
 pub record FlatPart (fs : List FieldShape) (p : Part Leaf) (later : List Place) : Type 0 where
   pub field : FieldShape
   pub found : field_at fs p.number ≡ Some field

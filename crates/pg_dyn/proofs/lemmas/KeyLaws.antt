@@ -266,7 +266,7 @@ at_most_one (e ∷ es) key rise = of (leaf_eq (leaf_of e.0) key) refl (at_most_o
         omega (arith, ap length none)
     of false is rest = rest
 
--- in rising entries each key stands once
+-- in rising entries each key is there once
 pub rising_once : (es : List (Value × Value)) → KeysRise es → HasEntryTwice es → ⊥
 rising_once es rise (key, two) = absurd (let one = at_most_one es key rise in omega arith)
 
@@ -278,7 +278,7 @@ later_twice e es (key, two) = (key, of (leaf_eq (leaf_of e.0) key))
     of true = omega (arith, two)
     of false = two
 
--- Entries behind references.
+-- Entries by references.
 
 some_in : {A : Type 0} (xs : List A) → 0 < length xs → A
 some_in [] inside = absurd (omega arith)

@@ -50,7 +50,7 @@ module _ {A : Type 0} where
       let apart : q.number ≢ n = omega (arith, h.0) in
       rw (ne_eqb q.number n apart) (none_below n p ps below h.1)
 
-  -- a part in front stands first among the parts of its field
+  -- a part in front is first among the parts of its field
   of_each-cons : (fs : List FieldShape) (g : FieldShape) (p : Part A) (ps : List (Part A)) → Rising fs → field_at fs p.number ≡ Some g → AllByRecursion (λ (q : Place). p.number ≤ q.number) (map place_of ps) → of_each fs (p ∷ ps) ≡ p ∷ of_each fs ps
   of_each-cons [] g p ps rising found h = absurd (cc)
   of_each-cons (f ∷ fs) g p ps rising found h =

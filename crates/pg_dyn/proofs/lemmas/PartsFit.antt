@@ -19,7 +19,7 @@ use Rattle.pg_dyn.proofs.Lists.{each_at}
 use Rattle.pg_dyn.proofs.lemmas.ReplacingLaws.{kept_whole, type_of-kept_onto}
 
 module _ (shape : Shape) (type : TypeId) (is_shape : IsShape shape) where
-  -- the part in front, and those behind it
+  -- the part in front, and those after it
   one_part : (n : ℕ) (k : Option Leaf) (item : KeptItem) (later : Kept) → type_of later ≡ type → Whole shape type (kept_part n k item later)
       → HoldsPart shape type (record { number = n; key = k; item = item }) × Whole shape type later
   one_part n k (Plain listed leaf) later same h =

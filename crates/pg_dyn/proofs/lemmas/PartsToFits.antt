@@ -1,4 +1,4 @@
--- A message fits where its parts fit their fields, stand in order, and no two are of members of one oneof.
+-- A message fits where its parts fit their fields, are in order, and no two are of members of one oneof.
 use Rattle.std.proofs.Common.{◌≡◌, ℕ, ◌<◌, ◌⊎◌, List, [], ◌∷◌, ◌++◌, length, map, flat_map, Bool, false, Option, Some, not, ◌&&◌, refl, ap, sym, subst, ◌∙◌, arith, ⊎_elim, inl, inr, eq-eqb}
 use Rattle.std.specs.List.{AllByRecursion}
 use Rattle.std.proofs.Math.Bool.{and-false}
@@ -21,7 +21,7 @@ use Rattle.pg_dyn.proofs.Lists.{each-append, each-map, each_both, each_weaker}
 use Rattle.pg_dyn.proofs.lemmas.ReplacingLaws.{kept_onto-append, type_of-kept_onto}
 use Rattle.pg_dyn.proofs.lemmas.Splitting.{found_number}
 
--- Where parts stand.
+-- Where parts are.
 
 first_place : (n : ℕ) (k : Option Leaf) (item : KeptItem) (later : Kept)
     → places (message_of (kept_part n k item later)) ≡ record { number = n; key = k } ∷ places (message_of later)
@@ -61,7 +61,7 @@ module _ (shape : Shape) (type : TypeId) where
         (listed_is n listed later part.field same part.found item.0, agrees, fits.parts_agree, whole.1),
       )
 
-  -- The places behind a part: of its own field, or of a later one that is no sibling.
+  -- The parts after a part: of its own field, or of a later one that is no sibling.
 
   abbrev NotSibling : FieldShape → ℕ → Type 0
   NotSibling f number = (g : FieldShape) → field_at (fields shape type) number ≡ Some g → is_sibling f g ≡ false

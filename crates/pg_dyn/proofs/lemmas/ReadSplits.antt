@@ -16,7 +16,7 @@ use Rattle.pg_dyn.specs.reading.Decoding.{Reader, read_item, read_part, field_pa
 use Rattle.pg_dyn.proofs.Lists.{each-map, each_of_all, filter_all, filter_none, filter-append', each_weaker, option_map_some, and_then_some}
 use Rattle.pg_dyn.proofs.lemmas.Fields.{field_of}
 
--- each of a list gives the one at its place in another
+-- each of a list gives the one at its index in another
 abbrev pub Gives : {A B : Type 0} → (A → Option B) → List A → List B → Type 0
 Gives g [] [] = ⊤
 Gives g [] (y ∷ ys) = ⊥

@@ -1,4 +1,4 @@
--- A type sees in its own messages just what was written.
+-- A type reads in its own messages just what was written.
 use Rattle.std.proofs.Common.{◌≡◌, ℕ, ◌^◌, ◌<◌, List, [], ◌∷◌, length, Bool, true, false, not, ◌&&◌, cond, nat_eq, Option, Some, None, is_none, refl, ap, ap₂, sym, ◌∙◌, arith, eq-eqb, int_eq, true≢false}
 use Rattle.std.specs.Bool.{⊤}
 use Rattle.std.specs.Str.{bytes_eq}

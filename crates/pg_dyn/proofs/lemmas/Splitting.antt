@@ -126,7 +126,7 @@ module _ (ps : List (Part Leaf)) where
       differ : nat_eq g.number n ≡ false → g.number ≡ n → ⊥
       differ e at = let k = eq-eqb g.number n at in cc
 
--- What stands after the last item of a test can be filtered first, where the filter keeps each item of the test.
+-- What is after the last item of a test can be filtered first, where the filter keeps each item of the test.
 
 module _ {A : Type 0} (keep test : A → Bool) (kept : (x : A) → test x ≡ true → keep x ≡ true) where
   not_dropped : (x : A) → test x ≡ true → keep x ≡ false → ⊥

@@ -51,7 +51,7 @@ module _ (view : View) (old new : Shape) (a b : TypeId) (n : ℕ) where
   no_comparands (holds number key leaf later) h = none_kept (nat_eq number n) _ _ _ _ (no_comparands later) h
   no_comparands (nests number key child later) h = none_kept (nat_eq number n) _ _ _ _ (no_comparands later) h
 
--- what holds of all places holds of those of one field
+-- what holds of all parts holds of those of one field
 each-only : (P : Place → Type 0) (n : ℕ) (v : Message) → AllByRecursion P (places v) → AllByRecursion P (places (only n v))
 each-only P n (ends unknown) h = tt
 each-only P n (holds number key leaf later) h =

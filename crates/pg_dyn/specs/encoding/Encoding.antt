@@ -21,7 +21,7 @@ child_type fs number = of (field_at fs number)
     of (Some f) = element_type f.element
     of None = record { index = 0 }
 
--- the parts of a message, with the encoding of each child in the child's place
+-- the parts of a message, with the encoding of each child for the child
 abbrev pub encoded_parts : Shape → TypeId → Message → List (Part Leaf)
 encoded_parts shape type (ends unknown) = []
 encoded_parts shape type (holds number key leaf later) =

@@ -1,4 +1,4 @@
--- How an encoding grows by a part that is put behind the others.
+-- How an encoding grows by a part that is put after the others.
 use Rattle.std.specs.Prelude.{◌≡◌, ℕ, ◌<◌, ◌⊎◌, List, [], ◌∷◌, ◌++◌, false, Some, None}
 use Rattle.std.specs.List.{AllByRecursion}
 use Rattle.pg_schema.specs.declared.parts.field.TypeId.{TypeId}
@@ -26,12 +26,12 @@ IsOfField shape f (Msg m) = (of : TypeId) × (f.element ≡ elements.Message of)
 abbrev pub keyless : ℕ → Item → Part Item
 keyless number item = record { number = number; key = None; item = item }
 
--- A part of the field may come behind these: they have smaller numbers, or the field is a list and they are its items.
+-- A part of the field may come after these: they have smaller numbers, or the field is a list and they are its items.
 abbrev pub ComesLast : FieldShape → List (Part Item) → Type 0
 ComesLast f ps =
     AllByRecursion (λ (p : Part Item). (p.number < f.number) ⊎ ((p.number ≡ f.number) × (f.presence ≡ presences.Repeated false))) ps
 
--- A part that is put behind the others adds its record: of a field with presence or of a list that isn't packed, in no oneof.
+-- A part that is put after the others adds its record: of a field with presence or of a list that isn't packed, in no oneof.
 abbrev pub EncodingGrows : Type 0
 EncodingGrows =
     (shape : Shape) (type : TypeId) (f : FieldShape) (ps : List (Part Item)) (item : Item) → IsShape shape →

@@ -20,7 +20,7 @@ use Rattle.pg_dyn.specs.NumberLists.{number_item}
 use Rattle.pg_dyn.specs.PartsFit.{IsPartOf}
 use Rattle.pg_dyn.specs.Seen.{is_text, leaf_of}
 
--- An item, whether or not it stands in a list. A leaf says whether it is a text.
+-- An item, whether or not it is in a list. A leaf says whether it is a string.
 pub data Bare : Type 0 where
   Lone : Bool → Leaf → Bare
   Child : Kept → Bare

@@ -13,7 +13,7 @@ use Rattle.pg_wire.specs.Records.{WireRecord, written}
 use Rattle.pg_dyn.specs.Message.{Leaf, Part, is_of}
 use Rattle.pg_dyn.specs.Coding.{form, form_wire, body, zero_leaf}
 
--- whether the items of a field stand in one record
+-- whether the items of a field are in one record
 abbrev pub is_packed : Presence → Bool
 is_packed presences.Implicit = false
 is_packed presences.Explicit = false

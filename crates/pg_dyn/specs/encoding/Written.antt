@@ -154,7 +154,7 @@ field_lengths shape f ps = lengths_by shape (Some f) ps
 abbrev pub parts_lengths : Shape → TypeId → ℕ → List (Part KeptItem) → List ℕ
 parts_lengths shape type number ps = lengths_by shape (field_at (fields shape type) number) ps
 
--- Where the lengths begin with those that were noted, the bytes are added behind those before, and the other lengths are left.
+-- Where the lengths begin with those that were noted, the bytes are added after those before, and the other lengths are left.
 abbrev pub Adds : List ℕ → List ℕ → List ℕ → List ℕ → List ℕ → List ℕ → Type 0
 Adds lengths noted before bytes after left = (rest : List ℕ) → lengths ≡ noted ++ rest → (after ≡ before ++ bytes) × (left ≡ rest)
 

@@ -34,7 +34,7 @@ abbrev pub HoldsOf : Shape → FieldShape → List WireRecord → Option Content
 HoldsOf shape f rs held =
     option_and_then (λ ps. all_some (map (read_part (dec shape) f.element) ps)) (content f rs) ≡ Some (map part_of (parts_held f.number held))
 
--- each record that the field accepts has a reading, and holds no message that stands too deep
+-- each record that the field accepts has a reading, and holds no message that is too deep
 abbrev pub AreGood : Shape → ℕ → FieldShape → List WireRecord → Type 0
 AreGood shape levels f rs = AllByRecursion (λ r. FieldReads shape f r × IsShallow shape levels f r) rs
 
@@ -47,7 +47,7 @@ abbrev pub IsChildOf : Shape → TypeId → List WireRecord → ValueRef → Typ
 IsChildOf shape type rs (values.Msg child) = dec shape type (flat_map (λ (r : WireRecord). r.body) rs) ≡ Some (message_of child.value)
 IsChildOf shape type rs value = ⊥
 
--- each body is read as a message, and none in it, nor itself, stands too deep
+-- each body is read as a message, and none in it, nor itself, is too deep
 abbrev pub BodiesGood : Shape → ℕ → TypeId → List WireRecord → Type 0
 BodiesGood shape levels type rs =
     (levels ≡ 0 → ⊥) × AllByRecursion (λ (r : WireRecord). (is_some (dec shape type r.body) ≡ true) × IsShallowIn shape levels (fields shape type) r.body) rs
@@ -57,7 +57,7 @@ abbrev pub IsEntryRead : Shape → Scalar → Element → WireRecord → EntryRe
 IsEntryRead shape key element r e =
     (leaf : Leaf) × (entry_in key element r ≡ Some (leaf_of e.key, leaf)) × IsReadFrom shape element leaf e.value × IsItemKept key e.key × ItemKept shape element e.value
 
--- each record that a field accepts has a reading, and holds no message that stands too deep
+-- each record that a field accepts has a reading, and holds no message that is too deep
 abbrev pub RecordsGood : Shape → ℕ → List FieldShape → List WireRecord → Type 0
 RecordsGood shape levels fs rs = (all_readable (dec shape) fs rs ≡ true) × AllByRecursion (IsShallowRecord shape levels fs) rs
 

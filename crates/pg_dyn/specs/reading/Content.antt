@@ -109,7 +109,7 @@ entry_in key element r =
     option_and_then (λ rs. option_and_then (λ k. option_map (λ v. (k, v)) (entry_part (value_field element) rs)) (entry_part (key_field key) rs))
     (option_from (records_of r.body))
 
--- the entry in its place by rising key, or in that of the one of its key
+-- the entry by rising key, instead of the one of its key
 abbrev pub put : Leaf × Leaf → List (Leaf × Leaf) → List (Leaf × Leaf)
 put entry [] = entry ∷ []
 put entry (e ∷ es) = at (key_cmp entry.0 e.0) (put entry es)
@@ -119,7 +119,7 @@ put entry (e ∷ es) = at (key_cmp entry.0 e.0) (put entry es)
     at Equal later = entry ∷ es
     at Greater later = e ∷ later
 
--- entries by rising key: each is put in behind those before it
+-- entries by rising key: each is put in after those before it
 abbrev pub by_key : List (Leaf × Leaf) → List (Leaf × Leaf)
 by_key entries = fold (λ placed entry. put entry placed) [] entries
 

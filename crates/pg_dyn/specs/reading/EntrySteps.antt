@@ -19,7 +19,7 @@ IsMessageOf (elements.Scalar s) = ⊥
 IsMessageOf (elements.Enum e) = ⊥
 IsMessageOf (elements.Message t) = ⊤
 
--- the item is that of what stands in the bytes
+-- the item is that of what is in the bytes
 abbrev pub IsReadFrom : Shape → Element → Leaf → ValueRef → Type 0
 IsReadFrom shape element leaf value = read_item (dec shape) element leaf ≡ Some (item_of (item_seen false value))
 

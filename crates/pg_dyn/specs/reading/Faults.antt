@@ -13,7 +13,7 @@ use Rattle.pg_wire.specs.Records.{WireRecord, Spells, record_at}
 use Rattle.pg_dyn.specs.Coding.{Text, form, form_wire, element_at}
 use Rattle.pg_dyn.specs.reading.Content.{same_wire, takes, value_field, entry_fields}
 
--- the bytes aren't records, a string isn't UTF-8, or a message stands deeper than a limit
+-- the bytes aren't records, a string isn't UTF-8, or a message is deeper than a limit
 pub data Code : Type 0 where
   Wire : Fault → Code
   NotUtf8 : Code
@@ -24,7 +24,7 @@ abbrev pub body_start : WireRecord → ℕ
 body_start r = length r.bytes - length r.body
 
 mutual
-  -- Bytes of a message with these fields, which may have as many levels, have the fault of that code at that place. `Before` is asked
+  -- Bytes of a message with these fields, which may have as many levels, have the fault of that code at that offset. `Before` is asked
   -- of the bytes before the record that has it.
   pub data FaultIn (shape : Shape) (Before : ℕ → List FieldShape → List ℕ → Type 0) : ℕ → List FieldShape → List ℕ → Code → ℕ → Type 0 where
     the_root : (fs : List FieldShape) (bytes : List ℕ) → FaultIn shape Before 0 fs bytes TooDeep 0
@@ -35,7 +35,7 @@ mutual
         bytes ≡ front ++ back → Before (suc levels) fs front → record_at back ≡ Ok (r, rest) → field_at fs r.number ≡ Some f → takes f r ≡ true →
         FaultOf shape Before levels f r code place → FaultIn shape Before (suc levels) fs bytes code (length front + place)
 
-  -- An accepted record of the field, whose message may have as many levels below its own, has the fault, at that place from the
+  -- An accepted record of the field, whose message may have as many levels below its own, has the fault, at that offset from the
   -- record's first byte on. A value is missing once all of the entry is read.
   pub data FaultOf (shape : Shape) (Before : ℕ → List FieldShape → List ℕ → Type 0) : ℕ → FieldShape → WireRecord → Code → ℕ → Type 0 where
     not_text : (levels : ℕ) (f : FieldShape) (r : WireRecord) → is_map f.presence ≡ false → form f.element ≡ Text → is_utf8 r.body ≡ false →
@@ -58,11 +58,11 @@ mutual
 abbrev pub AreRecords : ℕ → List FieldShape → List ℕ → Type 0
 AreRecords limit fs bytes = (rs : List WireRecord) × Spells bytes rs
 
--- a fault of the bytes, whatever stands before it
+-- a fault of the bytes, whatever is before it
 abbrev pub HasFault : Shape → ℕ → List FieldShape → List ℕ → Code → ℕ → Type 0
 HasFault shape = FaultIn shape AreRecords
 
--- a message stands deeper than the limit, at that place
+-- a message is deeper than the limit, at that offset
 abbrev pub TooDeepIn : Shape → ℕ → List FieldShape → List ℕ → ℕ → Type 0
 TooDeepIn shape limit fs bytes place = HasFault shape limit fs bytes TooDeep place
 

@@ -14,12 +14,12 @@ use Rattle.pg_dyn.specs.declared.reading.oneof_runs.OneofRun.{OneofRun}
 use Rattle.pg_dyn.specs.declared.reading.oneof_runs.OneofRuns.{OneofRuns}
 use Rattle.pg_dyn.specs.reading.Content.{counted, is_unknown, takes}
 
--- the elements that pass the test, which gets their places
+-- the elements that pass the test, which gets their indexes
 abbrev pub filter_at : {A : Type 0} → (ℕ → A → Bool) → ℕ → List A → List A
 filter_at test place [] = []
 filter_at test place (x ∷ xs) = if test place x then x ∷ filter_at test (suc place) xs else filter_at test (suc place) xs
 
--- whether a record of the field that stands at the place is of the last run of its oneof
+-- whether a record of the field, at that index, is of the last run of its oneof
 abbrev pub counts_at : OneofRuns → FieldShape → ℕ → Bool
 counts_at oneof_runs f place = of f.oneof
   where
@@ -53,7 +53,7 @@ abbrev pub NumbersRise : List Record → Type 0
 NumbersRise [] = ⊤
 NumbersRise (r ∷ rs) = AllByRecursion (λ (s : Record). r.number ≤ s.number) rs × NumbersRise rs
 
--- The records stand by rising number, those of each number in their order.
+-- The records are by rising number, those of each number in their order.
 pub record AreByNumber (old new : List Record) : Type 0 where
   pub rise : NumbersRise new
   pub same : (number : ℕ) → filter (λ (r : Record). nat_eq r.number number) new ≡ filter (λ (r : Record). nat_eq r.number number) old

@@ -1,5 +1,5 @@
--- What a field holds as parts of a message, why bytes are refused, and where no message stands too deep (Encoding guide, "Message
--- Structure"). Places are counted from the first byte of what is gone over.
+-- What a field holds as parts of a message, why bytes are refused, and where no message is too deep (Encoding guide, "Message
+-- Structure"). Offsets are counted from the first byte of what is gone over.
 use Rattle.std.specs.Prelude.{◌≡◌, ◌⊎◌, ℕ, ◌+◌, ⊤, true, false, List, [], ◌++◌, map, Option, Some, None, Ok, Err}
 use Rattle.std.specs.List.{AllByRecursion}
 use Rattle.pg_schema.specs.declared.parts.field.Scalar.{Scalar}
@@ -37,14 +37,14 @@ abbrev pub parts_held : ℕ → Option ContentRef → List (Part KeptItem)
 parts_held number None = []
 parts_held number (Some content) = content_seen number content
 
--- the field holds nothing, or a content of such parts that isn't empty, whose keys are numbers or texts and whose items are texts where
+-- the field holds nothing, or a content of such parts that isn't empty, whose keys are numbers or strings and whose items are texts where
 -- the field is of type string
 abbrev pub HeldFits : Shape → FieldShape → Option ContentRef → Type 0
 HeldFits shape f None = ⊤
 HeldFits shape f (Some content) = FieldHolds shape f (content_seen f.number content) × IsFilled content × HasKeys content
     × AllByRecursion (λ (p : Part KeptItem). IsElementKept shape f.element p.item) (content_seen f.number content)
 
--- Why reading is refused: memory was, or what the error names stands that many bytes behind a place.
+-- Why reading is refused: memory was, or what the error names is that many bytes after an offset.
 abbrev pub RefusedBy : (Code → ℕ → Type 0) → ℕ → DynError → Type 0
 RefusedBy IsFirst at errors.Memory = ⊤
 RefusedBy IsFirst at (errors.NotUtf8 there) = (place : ℕ) × (there ≡ at + place) × IsFirst NotUtf8 place
@@ -57,7 +57,7 @@ RefusedBy IsFirst at errors.OneofTwice = ⊥
 RefusedBy IsFirst at errors.DuplicateKey = ⊥
 RefusedBy IsFirst at errors.TooLong = ⊥
 
--- Of a record that the field takes, of one that some field takes, and of bytes: refused, and no message stands too deep. Below the
+-- Of a record that the field takes, of one that some field takes, and of bytes: refused, and no message is too deep. Below the
 -- message there may be as many levels.
 
 abbrev pub RefusedOf : Shape → ℕ → FieldShape → WireRecord → ℕ → DynError → Type 0
@@ -98,12 +98,12 @@ FieldReads shape f r = is_readable (dec shape) f r ≡ true
 abbrev pub IsRow : WireType → List ℕ → Type 0
 IsRow wire body = (bodies : List (List ℕ)) × (row (element_at wire) body ≡ Ok bodies)
 
--- the words of a packed list are read behind others
+-- the words of a packed list are read after others
 abbrev pub WordsRead : WireType → List ℕ → List ℕ → List ℕ → Type 0
 WordsRead wire body old new =
     (bodies : List (List ℕ)) × (row (element_at wire) body ≡ Ok bodies) × (new ≡ old ++ map (word_in wire) bodies) × AllByRecursion (λ b. IsWord wire (word_in wire b)) bodies
 
--- A packed list of numbers is read behind words, and why it isn't.
+-- A packed list of numbers is read after words, and why it isn't.
 abbrev pub RowReads : Scalar → List ℕ → List ℕ → List ℕ → Type 0
 RowReads s body old new =
     (words : List ℕ) × (new ≡ old ++ words) × (packed_leaves (scalar_form s) body ≡ Some (map leaf_of (map (number_item (scalar_form s)) words)))

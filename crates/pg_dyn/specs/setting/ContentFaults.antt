@@ -56,7 +56,7 @@ ElementFault shape (elements.Scalar s) value e = IsFaultOf s value e
 ElementFault shape (elements.Enum enum) value e = IsFaultOf Int32 value e
 ElementFault shape (elements.Message t) value e = ChildFault shape t value e
 
--- The order of faults: by the number after the E. What bytes are refused for is never the fault of a content, and stands above all.
+-- The order of faults: by the number after the E. What bytes are refused for is never the fault of a content, and is above all.
 abbrev pub code : DynError → ℕ
 code errors.Memory = 1
 code errors.NoSuchField = 601

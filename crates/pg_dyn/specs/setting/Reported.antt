@@ -1,4 +1,4 @@
--- What a test of contents reports: nothing, or of what is wrong the error of the lowest code. A key that stands twice is found by a test
+-- What a test of contents reports: nothing, or of what is wrong the error of the lowest code. A key that is there twice is found by a test
 -- of its own, since two contents of one oneof are reported before it.
 use Rattle.std.specs.Prelude.{◌≡◌, ℕ, ◌<◌, ⊤, Bool, true, false, length, nat_eq, Some, Result, Ok, Err}
 use Rattle.std.specs.List.{AllByRecursion}

@@ -30,8 +30,8 @@ abbrev pub by_rising_key : List (Part KeptItem) → List (Part KeptItem)
 by_rising_key [] = []
 by_rising_key (p ∷ ps) = put_entry p (by_rising_key ps)
 
--- what of a content a field holds: a zero in an implicit field is none, a map's entries stand by rising key, and the items of a
--- string field are texts, those of a bytes field none
+-- what of a content a field holds: a zero in an implicit field is none, a map's entries are by rising key, and the items of a
+-- string field are `Text`, those of a bytes field `Bytes`
 abbrev pub normalized_by : Presence → List (Part KeptItem) → List (Part KeptItem)
 normalized_by presences.Implicit ps = filter (λ p. not (is_zero_kept p.item)) ps
 normalized_by presences.Explicit ps = ps

@@ -151,7 +151,7 @@ fn packed_len<M: Lends>(element: Element, values: &[M::Value]) -> usize
 }
 
 // How many bytes the record of a packed list takes, which an empty one doesn't have. The length of
-// its body comes behind the others.
+// its body comes after the others.
 fn count_packed<M: Lends>(
     number: u32,
     element: Element,
@@ -196,7 +196,7 @@ fn unknown_len<M: Lends>(records: &[M::Unknown]) -> usize
     total
 }
 
-// How many bytes the item's body takes. The lengths of the messages in it come behind the others.
+// How many bytes the item's body takes. The lengths of the messages in it come after the others.
 #[cycle(count)]
 fn count_item<M: Lends>(
     value: &M::Value,
@@ -225,7 +225,7 @@ fn count_item<M: Lends>(
     }
 }
 
-// The same of the records of items, each of a field of that number.
+// Counts the records of items, each of a field of that number.
 #[cycle(count)]
 #[inline(always)]
 fn count_items<M: Lends>(
@@ -255,7 +255,7 @@ fn count_items<M: Lends>(
     Ok(total)
 }
 
-// The same of a map's entries.
+// Does so for a map's entries.
 #[cycle(count)]
 #[inline(always)]
 fn count_entries<M: Lends>(
@@ -290,7 +290,7 @@ fn count_entries<M: Lends>(
 }
 
 /// How many bytes the records of a field's content take. The lengths of the messages in it, or of
-/// the body of a packed list, come behind the others.
+/// the body of a packed list, come after the others.
 #[cycle(count)]
 pub(crate) fn count_content<M: Lends>(
     content: &M::Content,
@@ -331,7 +331,7 @@ pub(crate) fn count_content<M: Lends>(
 }
 
 /// How many bytes the encoding of a message that fits takes. The lengths of the messages in it and
-/// of the bodies of its packed lists come behind the others, in the order in which they are
+/// of the bodies of its packed lists come after the others, in the order in which they are
 /// written.
 #[cycle(count)]
 pub(crate) fn count_message<M: Lends>(

@@ -16,7 +16,7 @@ use crate::number_list::NumberList;
 use pg_schema::TypeId;
 use pg_wire::Record;
 
-/// An item that is no message; texts and bytes are one kind.
+/// An item that is no message; strings and bytes are one kind.
 #[derive(Clone, Copy)]
 pub(crate) enum LeafRef<'b> {
     Int(i128),

@@ -30,7 +30,7 @@ fn words_len(scalar: Scalar, from: Scalar, words: &[u64]) -> usize
     total
 }
 
-// The same of words of the scalar type itself, by a loop for each whose bodies are varints.
+// Does so for words of the scalar type itself, by a loop for each whose bodies are varints.
 fn own_len(scalar: Scalar, words: &[u64]) -> usize
     requires { LeavesFit (word_item scalar) (elements.Scalar scalar) words.now }
     ensures { result
@@ -68,7 +68,7 @@ fn bodies_len(scalar: Scalar, numbers: &NumberList) -> usize
 }
 
 // How many bytes the record of a packed list takes, which an empty one doesn't have. The length of
-// its body comes behind the others.
+// its body comes after the others.
 fn count_packed(
     number: u32,
     scalar: Scalar,
@@ -107,7 +107,7 @@ fn records_len(number: u32, scalar: Scalar, from: Scalar, words: &[u64]) -> usiz
 }
 
 /// How many bytes the records of a list of numbers take, packed or not. The length of a packed
-/// body comes behind the others. Not inlined, so that a level of messages takes no more of the
+/// body comes after the others. Not inlined, so that a level of messages takes no more of the
 /// stack for it.
 #[inline(never)]
 pub(crate) fn count_numbers(
@@ -148,7 +148,7 @@ fn push_words(
     Ok(())
 }
 
-// The same of words of the scalar type itself, by a loop for each.
+// Does so for words of the scalar type itself, by a loop for each.
 fn push_own(out: &mut Vec<u8>, scalar: Scalar, words: &[u64]) -> Result<(), AllocError>
     requires { LeavesFit (word_item scalar) (elements.Scalar scalar) words.now }
     ensures ok { OnOk result (out.new.items

@@ -73,7 +73,7 @@ pub(crate) fn push_record(
     push_body(out, scalar, leaf)
 }
 
-// The same of a lent item. Not inlined, so that a level of messages takes no more of the stack for
+// Writes a lent item. Not inlined, so that a level of messages takes no more of the stack for
 // it.
 #[inline(never)]
 pub(crate) fn push_item<M: Lends>(
@@ -121,7 +121,7 @@ fn push_each<M: Lends>(
     Ok(())
 }
 
-// The same of items of a scalar type.
+// Writes items of a scalar type.
 #[inline(always)]
 fn push_scalars<M: Lends>(
     out: &mut Vec<u8>,

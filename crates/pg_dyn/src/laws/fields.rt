@@ -32,7 +32,7 @@ pub fn packable_wires()
     ensures { PackableWires }
 {}
 
-/// Entries of a map whose keys rise are kept as they stand.
+/// Entries of a map whose keys rise are kept as they are.
 pub fn rising_entries_stay()
     ensures { RisingEntriesStay }
 {}
@@ -42,7 +42,7 @@ pub fn parts_keep_types()
     ensures { PartsKeepTypes }
 {}
 
-/// The parts of a content have the number under which it stands, an item of a scalar is no message,
+/// The parts of a content have the number of its field, an item of a scalar is no message,
 /// and parts mean the same where they are kept as an element's.
 pub fn contents_are_seen()
     ensures { ContentsAreSeen }

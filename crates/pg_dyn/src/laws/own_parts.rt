@@ -2,7 +2,7 @@
 
 ghost use Rattle.pg_dyn.specs.OwnParts.{ComparandsAreWritten, ChildrenAreShorter, OneIsEmpty, OwnPartsFit, SiblingsMutual};
 
-/// The parts of a field fit it, and stand in order.
+/// The parts of a field fit it, and are in order.
 pub fn own_parts_fit()
     ensures { OwnPartsFit }
 {}

@@ -25,15 +25,15 @@ use std::alloc::Global;
 pub const DEFAULT_DEPTH_LIMIT: usize = 100;
 
 /// The message that bytes are read as, by the type, which the schema has (Protocol Buffers encoding
-/// guide, "Message Structure", "Last One Wins", "Packed Repeated Fields", "Maps"). Its texts, bytes
-/// and unknown records are those of the bytes; none is copied. Records that no field of the type
-/// accepts are kept as they stand. Messages nested deeper than `limit` are refused; the message
+/// guide, "Message Structure", "Last One Wins", "Packed Repeated Fields", "Maps"). Its strings,
+/// bytes and unknown records are those of the bytes; none is copied. Records that no field of the
+/// type accepts are kept as they are. Messages nested deeper than `limit` are refused; the message
 /// itself has depth 1, a message inside one more than the message that holds it, and the entry of a
 /// map adds nothing.
 ///
-/// The errors are `Wire` and `NotUtf8`, with the place of the record that has the fault itself, of
-/// several the first in the bytes; `TooDeep`, with the place of the record whose message stands too
-/// deep; and, where the bytes have neither, `Memory`.
+/// The errors are `Wire`, `NotUtf8` and `TooDeep`, of several the one of the first record in byte
+/// order that has one, with the offset of that record, which has the fault itself; and, where the
+/// bytes have none, `Memory`.
 pub fn decode_ref<'a>(
     alloc: Global,
     schema: &Schema,
@@ -74,7 +74,7 @@ pub fn decode_ref<'a>(
     }
 }
 
-/// The message that bytes are read as, as `decode_ref` reads it, with texts, bytes and unknown
+/// The message that bytes are read as, as `decode_ref` reads it, with strings, bytes and unknown
 /// records of its own.
 ///
 /// The errors are those of `decode_ref`.

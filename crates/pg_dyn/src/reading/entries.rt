@@ -39,7 +39,7 @@ fn place_of_key<'a>(entries: &[EntryRef<'a>], key: &ValueRef<'a>) -> usize
     low
 }
 
-// Whether the entry at the place has the key.
+// Whether the entry at the index has the key.
 fn has_key<'a>(entries: &[EntryRef<'a>], place: usize, key: &ValueRef<'a>) -> bool
     requires { IsAlike (leaf_of key.now) entries.now }
     ensures here { IsTrue result → (place < length entries.now)
@@ -54,7 +54,7 @@ fn has_key<'a>(entries: &[EntryRef<'a>], place: usize, key: &ValueRef<'a>) -> bo
     false
 }
 
-/// Puts the entry in its place by rising key, or in that of the one of its key.
+/// Puts the entry by rising key, instead of the one of its key.
 pub(crate) fn put_in<'a>(
     entries: &mut Vec<EntryRef<'a>>,
     entry: EntryRef<'a>,

@@ -23,7 +23,7 @@ use crate::reading::packed::check_packed;
 use pg_schema::{Element, Field, Presence, Scalar, Schema, TypeId};
 use pg_wire::{Record, Records};
 
-// Where a record's body begins, if the record stands at that place.
+// Where a record's body begins, if the record begins at that offset.
 fn body_place(found: &Record<'_>, at: usize) -> usize
     requires record { IsRecord (seen_record found.now) }
     requires room { at + length found.now.bytes.now < 2 ^ 64 }
@@ -33,7 +33,7 @@ fn body_place(found: &Record<'_>, at: usize) -> usize
     at + (found.bytes.len() - found.body.len())
 }
 
-// Refuses a text that isn't UTF-8, whose record stands at that place.
+// Refuses a string that isn't UTF-8, whose record begins at that offset.
 fn check_scalar(scalar: Scalar, found: &Record<'_>, at: usize) -> Result<(), DynError>
     ensures readable { OnOk result (is_some (leaf_in (scalar_form scalar) found.now.body.now)
         ≡ true) }
@@ -117,7 +117,7 @@ fn check_part(
     Ok(false)
 }
 
-// Refuses an entry whose records, which begin at that place, have a fault. Answers whether one is
+// Refuses an entry whose records, which begin at that offset, have a fault. Answers whether one is
 // of its value.
 #[cycle(faults)]
 fn check_parts(
@@ -240,8 +240,8 @@ fn check_record(
     }
 }
 
-/// Refuses bytes, which begin at that place, that have a fault, or a message that stands more than
-/// as many levels below theirs: the fault with its place, of several the first in the bytes.
+/// Refuses bytes, which begin at that offset, that have a fault, or a message that is more than
+/// as many levels below theirs: the fault with its offset, of several the first in the bytes.
 #[cycle(faults)]
 pub(crate) fn find_fault(
     schema: &Schema,

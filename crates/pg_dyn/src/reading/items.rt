@@ -48,7 +48,7 @@ pub(crate) fn list_left<'a>(values: Vec<ValueRef<'a>>) -> Option<ContentRef<'a>>
     Some(ContentRef::Many(values))
 }
 
-// The same of a list of numbers of the scalar type, by their words.
+// Does so for a list of numbers of the scalar type, by their words.
 pub(crate) fn numbers_left<'a>(scalar: Scalar, words: Vec<u64>) -> Option<ContentRef<'a>>
     ensures { IsHeldList (map (number_item (scalar_form scalar)) words.items) result }
 {

@@ -1,4 +1,4 @@
-//! Keys of maps, and their order: numbers by value, texts by bytes.
+//! Keys of maps, and their order: numbers by value, strings by bytes.
 
 ghost use Rattle.std.specs.Prelude.{◌≡◌, ◌↔◌, IsTrue};
 ghost use Rattle.std.specs.declared.cmp.Ordering.TheVariants.{Less};
@@ -12,7 +12,7 @@ use crate::message_ref::{EntryRef, ValueRef};
 use std::cmp::Ordering;
 
 impl<'a> ValueRef<'a> {
-    // The number that a key is; a text counts as 0.
+    // The number that a key is; a string counts as 0.
     fn number(&self) -> i128
         ensures { result ≡ number_in (leaf_of self.now) }
     {

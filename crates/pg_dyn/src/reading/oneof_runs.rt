@@ -1,4 +1,4 @@
-//! Which records of a oneof's members count: those behind the last of another member (Protocol
+//! Which records of a oneof's members count: those after the last of another member (Protocol
 //! Buffers language guide, "Oneof").
 
 ghost use Rattle.std.specs.Prelude.{◌≡◌, ◌∷◌, ◌++◌, [], true, length, Some, OnOk, IfErr};
@@ -11,7 +11,7 @@ use pg_schema::Field;
 use std::alloc::Global;
 use std::collections::BTreeMap;
 
-/// The last records of a oneof that are of one member: its number, and the place of the first of
+/// The last records of a oneof that are of one member: its number, and the index of the first of
 /// them.
 #[derive(Clone, Copy, Debug, Drop)]
 pub(crate) struct OneofRun {
@@ -45,7 +45,7 @@ impl OneofRuns {
         }
     }
 
-    /// Notes a record that the field accepts, which stands at that place among all that some field
+    /// Notes a record that the field accepts, which has that index among all that some field
     /// accepts.
     pub(crate) fn note(&mut self, field: &Field, place: usize) -> Result<(), Stop>
         ensures ok { OnOk result ((fs : List FieldShape) (rs : List WireRecord) (r : WireRecord)
@@ -71,7 +71,7 @@ impl OneofRuns {
         Ok(())
     }
 
-    /// Whether the record of the field that stands at that place counts.
+    /// Whether the record of the field at that index counts.
     pub(crate) fn counts(&self, field: &Field, place: usize) -> bool
         ensures { result ≡ counts_at self.now (field_shape field.now) place }
     {

@@ -1,4 +1,4 @@
-//! Entries of maps that stand as they were read are put in order.
+//! Entries of maps that are as they were read are put in order.
 
 ghost use Rattle.std.specs.Prelude.{◌≡◌, [], IfOk};
 ghost use Rattle.pg_dyn.specs.BorrowedItems.{AreAlike, key_of};
@@ -9,8 +9,8 @@ use crate::reading::entries::put_in;
 use crate::reading::keys::keys_rise;
 use std::alloc::{AllocError, Global};
 
-// The entries, each put in its place or in that of the one of its key. Entries by rising key come
-// behind all others at once.
+// The entries, each put in by its key, in place of the one of that key. Entries by rising key come
+// after all others at once.
 fn put_all<'a>(alloc: Global, entries: Vec<EntryRef<'a>>) -> Result<Vec<EntryRef<'a>>, AllocError>
     requires { AreAlike entries.items }
     ensures { IfOk result (λ v. v.items ≡ placed key_of [] entries.entry.items) }

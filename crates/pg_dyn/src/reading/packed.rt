@@ -77,7 +77,7 @@ fn row_len(wire_type: WireType, body: &[u8]) -> usize {
     }
 }
 
-// Reads a packed list behind the words. Inlined, so that there is a loop for each wire type.
+// Reads a packed list after the words. Inlined, so that there is a loop for each wire type.
 #[inline(always)]
 fn push_words(wire_type: WireType, words: &mut Vec<u64>, body: &[u8]) -> Result<(), Stop>
     ensures ok { OnOk result (WordsRead wire_type body.now words.old.items words.new.items) }
@@ -108,7 +108,7 @@ fn push_row(wire_type: WireType, words: &mut Vec<u64>, body: &[u8]) -> Result<()
     }
 }
 
-/// Reads a packed list of numbers of the scalar type behind the words (Protocol Buffers encoding
+/// Reads a packed list of numbers of the scalar type after the words (Protocol Buffers encoding
 /// guide, "Packed Repeated Fields"). Room for all of them is made at once. Not inlined, so that a
 /// level of messages takes no more of the stack for it.
 #[inline(never)]
@@ -123,7 +123,7 @@ pub(crate) fn push_packed(scalar: Scalar, words: &mut Vec<u64>, body: &[u8]) -> 
     push_row(wire_type, words, body)
 }
 
-/// Refuses a packed list that isn't one, which stands in the record at that place.
+/// Refuses a packed list that isn't one, of the record at that offset.
 pub(crate) fn check_packed(scalar: Scalar, body: &[u8], at: usize) -> Result<(), DynError>
     requires { is_packable (elements.Scalar scalar) ≡ true }
     ensures readable { OnOk result (is_some (packed_leaves (scalar_form scalar) body.now) ≡ true) }

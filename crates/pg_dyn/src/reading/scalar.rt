@@ -18,7 +18,7 @@ use crate::reading::stop::Stop;
 use pg_schema::Scalar;
 use pg_wire::{WireType, read_varint};
 
-/// The word that stands in a body of the wire type.
+/// The word in a body of the wire type.
 #[tactic(auto, unfolding(crate::specs::Coding::word_in))]
 pub(crate) fn body_word(wire_type: WireType, body: &[u8]) -> u64
     requires { HasShape wire_type body.now }
@@ -42,7 +42,7 @@ pub(crate) fn body_word(wire_type: WireType, body: &[u8]) -> u64
     }
 }
 
-// The item that a reader makes of a word, which is no text and no bytes.
+// The item that a reader makes of a word, which is no string and no bytes.
 fn word_item<'a>(scalar: Scalar, word: u64) -> ValueRef<'a>
     requires packable { is_packable (elements.Scalar scalar) ≡ true }
     requires bits { HasBits (form_wire (scalar_form scalar)) word }

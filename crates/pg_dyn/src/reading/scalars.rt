@@ -55,7 +55,7 @@ pub(crate) fn read_last<'a>(
     })
 }
 
-// The items of the records, which are texts or bytes.
+// The items of the records, which are strings or bytes.
 fn read_items<'a>(
     alloc: Global,
     field: &Field,

@@ -34,7 +34,7 @@ pub(crate) fn by_number(records: Vec<Record<'_>>) -> Result<Vec<Record<'_>>, All
     Ok(sorted)
 }
 
-/// Where the records end that have the number of the one at the place.
+/// Where the records end that have the number of the one at the index.
 pub(crate) fn run_end(records: &[Record<'_>], place: usize) -> usize
     requires { place < length records.now }
     ensures later { place < result }

@@ -3,7 +3,7 @@
 use std::alloc::{AllocError, AllocFailed};
 
 /// Why bytes aren't read as a message: memory was refused, or they have a fault, of which
-/// `find_fault` finds the place.
+/// `find_fault` finds the offset.
 #[derive(Clone, Copy, Debug, PartialEq, Eq, Drop)]
 pub(crate) enum Stop {
     Memory,

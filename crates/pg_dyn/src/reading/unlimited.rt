@@ -16,7 +16,7 @@ use pg_schema::{Schema, TypeId};
 use std::alloc::Global;
 
 /// The message that bytes are read as, by the type, which the schema has, however deep its messages
-/// are nested. Its texts, bytes and unknown records are those of the bytes; none is copied.
+/// are nested. Its strings, bytes and unknown records are those of the bytes; none is copied.
 ///
 /// The errors are `Wire` and `NotUtf8`, of bytes that have no reading, as `decode_ref` reports
 /// them; and, of bytes that have one, `Memory`.
@@ -38,6 +38,6 @@ pub fn decode_ref_unlimited<'a>(
     ensures lacking { IfErr result (λ e. e ≡ errors.Memory
         → is_some (dec (shape_of schema.now) type_id bytes.now) ≡ true) }
 {
-    // No message stands deeper than the bytes are many.
+    // No message is deeper than the bytes are many.
     decode_ref(alloc, schema, type_id, bytes, bytes.len() + 1)
 }

@@ -60,7 +60,7 @@ fn is_double(scalar: Scalar, bits: u64) -> bool
     matches!(scalar, Scalar::Double)
 }
 
-// Whether bytes are an item of the scalar: any are bytes, and UTF-8 is a text.
+// Whether bytes are an item of the scalar: any are bytes, and UTF-8 is a string.
 fn check_bytes(scalar: Scalar, bytes: &[u8]) -> Result<(), DynError>
     ensures fits { IsOk result ↔ InRange (scalar_form scalar) (Bytes bytes.now) }
     ensures fault { IfErr result (λ e.
@@ -80,7 +80,7 @@ fn check_bytes(scalar: Scalar, bytes: &[u8]) -> Result<(), DynError>
     }
 }
 
-// Whether a text is an item of the scalar.
+// Whether a string is an item of the scalar.
 fn check_text(scalar: Scalar, text: &str) -> Result<(), DynError>
     ensures fits { IsOk result ↔ InRange (scalar_form scalar) (Bytes text.now) }
     ensures fault { IfErr result (λ e. (e ≡ errors.WrongKind)
@@ -93,8 +93,8 @@ fn check_text(scalar: Scalar, text: &str) -> Result<(), DynError>
     }
 }
 
-/// Whether an item is one of the scalar: of its kind, in its range, and a text UTF-8. The error is
-/// the first of these that fails.
+/// Whether an item is one of the scalar: of its kind, in its range, and a string UTF-8. The error
+/// is the first of these that fails.
 pub(crate) fn check_item(scalar: Scalar, value: &Value) -> Result<(), DynError>
     ensures fits { IsOk result ↔ IsItemOf scalar value.now }
     ensures fault { IfErr result (IsFaultOf scalar value.now) }
@@ -152,7 +152,7 @@ fn check_element(schema: &Schema, element: Element, value: &Value) -> Result<(),
     }
 }
 
-// The same of all items of a list.
+// Whether all items of a list are of the element.
 fn check_values(schema: &Schema, element: Element, values: &[Value]) -> Result<(), DynError>
     requires { IsSchema schema.now }
     ensures { Reports (AllByRecursion (ItemFits (shape_of schema.now) element) values.now)
@@ -165,7 +165,7 @@ fn check_values(schema: &Schema, element: Element, values: &[Value]) -> Result<(
     reported
 }
 
-// The same of the key and the value of an entry.
+// Whether the key and the value of an entry are of the map.
 fn check_entry(
     schema: &Schema,
     key: Scalar,
@@ -180,7 +180,7 @@ fn check_entry(
     lower(of_key, check_element(schema, element, &entry.1))
 }
 
-// The same of all entries of a map.
+// Whether all entries of a map are.
 fn check_entries(
     schema: &Schema,
     key: Scalar,
@@ -198,7 +198,7 @@ fn check_entries(
     reported
 }
 
-// Whether the content is one of the field, but for keys that stand twice.
+// Whether the content is one of the field, but for keys that are there twice.
 fn check_field(schema: &Schema, field: &Field, content: &Content) -> Result<(), DynError>
     requires { IsSchema schema.now }
     ensures { Reports (ItemsFit (shape_of schema.now) field.now.presence field.now.element
@@ -218,7 +218,7 @@ fn check_field(schema: &Schema, field: &Field, content: &Content) -> Result<(), 
 }
 
 /// The field of the number, of which the content is to be one. The error is the first of what is
-/// wrong with the content, but for keys that stand twice.
+/// wrong with the content, but for keys that are there twice.
 pub(crate) fn check_content<'a>(
     schema: &'a Schema,
     type_id: TypeId,

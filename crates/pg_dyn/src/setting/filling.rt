@@ -22,7 +22,7 @@ use crate::setting::keys::check_keys;
 use pg_schema::{Schema, TypeId};
 use std::alloc::Global;
 
-// What is wrong with one content, but for keys that stand twice.
+// What is wrong with one content, but for keys that are there twice.
 fn check_one(schema: &Schema, type_id: TypeId, one: &(u32, Content)) -> Result<(), DynError>
     requires { IsSchema schema.now }
     ensures { Reports (TakesContent (shape_of schema.now) type_id one.now)
@@ -52,7 +52,7 @@ fn check_contents(
     reported
 }
 
-// Whether no key stands twice in one of the contents.
+// Whether no key is twice in one of the contents.
 fn check_all_keys(
     alloc: Global,
     schema: &Schema,
@@ -95,7 +95,7 @@ impl Message {
     ghost use Rattle.pg_dyn.specs.Seen.{content_seen};
     ghost use Rattle.pg_dyn.specs.setting.Setting.{normalized};
 
-    // Puts a content that its field takes; none may stand in another member of the field's oneof.
+    // Puts a content that its field takes; none may be in another member of the field's oneof.
     fn add(&mut self, schema: &Schema, number: u32, content: Content) -> Result<(), DynError>
         requires is_schema { IsSchema schema.now }
         requires taken { TakesContent (shape_of schema.now) (type_of self.old) (number, content) }
@@ -150,8 +150,8 @@ impl Message {
     }
 
     /// The message of the type with just these contents, each with the number of its field, in any
-    /// order. A zero in a field without presence, an empty list and an empty map leave none, texts
-    /// and bytes are one kind, and a map's entries may come in any order, as for `set`.
+    /// order. A zero in a field without presence, an empty list and an empty map leave none,
+    /// strings and bytes are one kind, and a map's entries may come in any order, as for `set`.
     ///
     /// The errors are `NoSuchField`, `WrongKind`, `OutOfRange`, `NotUtf8`, `OneofTwice` where two
     /// contents are of one number or of members of one oneof (proto3 language guide, "Oneof"),

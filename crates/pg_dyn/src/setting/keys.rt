@@ -1,4 +1,4 @@
-//! Keys of maps: their order, and whether one stands twice.
+//! Keys of maps: their order, and whether one is there twice.
 
 ghost use Rattle.std.specs.Prelude.{◌≡◌, ◌⊎◌, map, false, IfErr, IfOk, IsTrue, OnOk};
 ghost use Rattle.std.specs.List.Sorted.{IsPermutation, IsSortedBy};
@@ -16,7 +16,7 @@ use std::alloc::{AllocError, Global};
 use std::cmp::Ordering;
 
 impl Value {
-    // The number that a key is; a text counts as 0.
+    // The number that a key is; a string counts as 0.
     fn number(&self) -> i128
         ensures { result ≡ number_in (leaf_of self.now) }
     {
@@ -37,8 +37,8 @@ impl Value {
         }
     }
 
-    // An order of all items, which of keys of one type is that of a map: numbers by value, texts by
-    // bytes.
+    // An order of all items, which of keys of one type is that of a map: numbers by value, strings
+    // by bytes.
     pub(crate) fn rank(&self, other: &Value) -> Ordering
         ensures { result ≡ rank_cmp (leaf_of self.now) (leaf_of other.now) }
     {
@@ -48,7 +48,7 @@ impl Value {
     }
 }
 
-// The entries, each behind a reference, in the order of their keys.
+// The entries, each by a reference, in the order of their keys.
 fn in_order<'a>(
     alloc: Global,
     entries: &'a [(Value, Value)],
@@ -79,8 +79,8 @@ fn has_equal_neighbours(sorted: &[&(Value, Value)]) -> bool
     false
 }
 
-/// Whether no key stands twice in the content. The error is `DuplicateKey`, or `Memory`: keys out
-/// of order are sorted behind references, since the content may have to be handed back as it is.
+/// Whether no key is twice in the content. The error is `DuplicateKey`, or `Memory`: keys out
+/// of order are sorted by references, since the content may have to be handed back as it is.
 pub(crate) fn check_keys(alloc: Global, content: &Content) -> Result<(), DynError>
     requires { KeysAlike content.now }
     ensures ok { OnOk result (HasKeyTwice content.now → ⊥) }

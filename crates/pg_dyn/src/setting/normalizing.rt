@@ -19,7 +19,8 @@ use pg_schema::{Element, Field, Presence, Scalar, Schema};
 use std::mem;
 
 impl Value {
-    // The item as a field of the element keeps it: text in a string field, bytes in a bytes field.
+    // The item as a field of the element keeps it: `Text` in a string field, `Bytes` in a bytes
+    // field.
     fn kept_for(self, schema: &Schema, element: Element) -> Value
         requires { ItemFits (shape_of schema.now) element self }
         ensures fits { ItemFits (shape_of schema.now) element result }
@@ -33,7 +34,7 @@ impl Value {
     }
 }
 
-// Whether items of the element come as text and as bytes.
+// Whether items of the element come as `Text` and as `Bytes`.
 fn is_text(element: Element) -> bool
     ensures { result ≡ holds_bytes element }
 {
@@ -121,7 +122,7 @@ impl Content {
         }
     }
 
-    /// The content as the field holds it: texts and bytes as the field's kind, a map's entries by
+    /// The content as the field holds it: strings and bytes as the field's kind, a map's entries by
     /// rising key. Takes no memory.
     pub(crate) fn normalized(self, schema: &Schema, field: &Field) -> Content
         requires items { ItemsFit (shape_of schema.now) field.now.presence field.now.element self }

@@ -26,7 +26,7 @@ fn last_set_member(last_set: &[u32], field: &Field) -> Option<u32> {
     None
 }
 
-/// The other member of the field's oneof that was noted last, where a content stands under its
+/// The other member of the field's oneof that was noted last, where a content is under its
 /// number.
 pub(crate) fn last_set_sibling(
     contents: &[(u32, Content)],

@@ -1,4 +1,4 @@
--- The numbers rise, so those below the given one stand in front.
+-- The numbers rise, so those below the given one are in front.
 use Rattle.std.proofs.Common.{◌<◌, ◌≤◌, ltb, sym, rules}
 use Rattle.std.proofs.lemmas.List.Sorted.{IsPartitionPoint-from_clause, IsPartitionedBy-ltb}
 use Rattle.pg_dyn.proofs.lemmas.FieldListLaws.{non_decreasing, take_all_within, drop_all_within, all_below_last, ltb-less, ltb-not_less}

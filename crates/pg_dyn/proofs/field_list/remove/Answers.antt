@@ -1,4 +1,4 @@
--- The place of the number is that of its field, or one where none of it stands.
+-- The index of the number is that of its field, or one where there is none of it.
 use Rattle.std.proofs.Common.{◌≡◌, ◌<◌, ◌≢◌, ℕ, List, ◌∷◌, take, drop, length, ap, ◌∙◌, subst, arith}
 use Rattle.pg_dyn.specs.declared.message.Content.{Content}
 use Rattle.pg_dyn.proofs.lemmas.FieldListLaws.{AllBelow, AllFrom, removed_there, nothing_removed, apart_past_end, apart_there, number_at}

@@ -123,7 +123,7 @@ module _ {X : Type 0} (b k : X → List ℕ) where
       let within : length (b x) ≤ length (flat_map b ys) = each_at_index (λ y. length (b y) ≤ length (flat_map b ys)) xs ys i x same inside is (each_within b ys) in
       longer (length (b x)) (length (flat_map b ys)) e within (why (flat_map k (drop (i + 1) xs) ++ rest) ahead)
 
--- the first of the lengths, and those behind it
+-- the first of the lengths, and those after it
 pub first_is : (ls : List ℕ) (x : ℕ) (later : List ℕ) → ls ≡ x ∷ later → get_or ls 0 0 ≡ x
 first_is ls x later e = ap (λ l. get_or l 0 0) e
 

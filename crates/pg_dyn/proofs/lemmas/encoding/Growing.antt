@@ -1,4 +1,4 @@
--- An encoding grows by one record where a part is put behind the others.
+-- An encoding grows by one record where a part is put after the others.
 use Rattle.std.proofs.Common.{◌≡◌, ◌≢◌, ℕ, ◌<◌, ◌≤◌, ◌⊎◌, inl, inr, ⊎_elim, List, [], ◌∷◌, ◌++◌, map, filter, true, false, Option, Some, None, refl, ap, ap₂, sym, ◌∙◌, subst, arith, eq-eqb, ne_eqb, append-nil, append_assoc}
 use Rattle.std.specs.List.{AllByRecursion}
 use Rattle.std.proofs.lemmas.Bool.{cases_eq}
@@ -26,7 +26,7 @@ use Rattle.pg_dyn.proofs.lemmas.Splitting.{field_records_none, found_first, foun
 
 -- The records of fields.
 
--- of a field whose items stand in a record each
+-- of a field whose items are in a record each
 field_grows : (number : ℕ) (p : Presence) (e : Element) (oneof : Option ℕ) (qs : List (Part Leaf)) (q : Part Leaf) → (p ≡ presences.Explicit) ⊎ (p ≡ presences.Repeated false)
     → field_records (field_of number p e oneof) (qs ++ q ∷ []) ≡ field_records (field_of number p e oneof) qs ++ item_record number e q.item ∷ []
 field_grows number presences.Explicit e oneof qs q h = map-append (λ (x : Part Leaf). item_record number e x.item) qs (q ∷ [])
@@ -81,7 +81,7 @@ module _ (f : FieldShape) (qs : List (Part Leaf)) (q : Part Leaf) (at : q.number
           ap₂ (λ xs ys. field_records g xs ++ ys) (others_stay g.number apart) (later (found_later g f fs f.number apart found))
           ∙ sym (append_assoc (field_records g (filter (is_of g.number) qs)) (records_in fs qs) new)
 
--- The parts of a message, with the bytes of each child in its place.
+-- The parts of a message, with the bytes of each child for it.
 
 module _ (shape : Shape) (type : TypeId) where
   abbrev leaf_there : ℕ → Item → Leaf

@@ -1,4 +1,4 @@
--- What stands in a message weighs less than it, whoever owns its parts.
+-- What is in a message weighs less than it, whoever owns its parts.
 use Rattle.std.proofs.Common.{◌≡◌, ℕ, zero, suc, ◌+◌, ◌<◌, ◌≤◌, List, [], ◌∷◌, ◌++◌, length, map, get_or, Bool, false, Option, refl, ap, ap₂, arith}
 use Rattle.pg_dyn.specs.Kept.{Kept, KeptItem, Plain, Msg, ends, type_of, unknown_of, weight}
 use Rattle.pg_dyn.specs.encoding.Lending.{Bare, Lone, Child, all_parts, bare, entry_part, item_part}

@@ -72,7 +72,7 @@ module _ (shape : Shape) (fs : List FieldShape) where
   abbrev noted : List (Part KeptItem) → List ℕ
   noted ps = flat_map (λ (p : Part KeptItem). item_lengths shape (bare p.item)) ps
 
-  -- Of what comes later the lengths are the same, whether an item stands before it or none.
+  -- Of what comes later the lengths are the same, whether an item is before it or none.
 
   parts_inner : (n : ℕ) (ps : List (Part KeptItem)) (later : Kept) (after : List ℕ) (before : ℕ) → AreOf n ps → NoRow before n → lengths_behind shape fs before later ≡ after → lengths_behind shape fs n later ≡ after
       → lengths_behind shape fs before (kept_onto ps later) ≡ noted ps ++ after

@@ -21,7 +21,7 @@ use Rattle.pg_dyn.proofs.lemmas.Joining.{list_all-append}
 use Rattle.pg_dyn.proofs.Lists.{each-append}
 use Rattle.pg_dyn.proofs.lemmas.reading.RecordFronts.{Front, all_read, behind, further, next_inside, next_is_record, next_read, none_yet, one_read}
 
--- What is refused of a part is refused of the whole, where the part stands.
+-- What is refused of a part is refused of the whole, where the part is.
 module _ (HasPart HasWhole : Code → ℕ → Type 0) (base k at : ℕ) (there : at ≡ base + k) where
   pub refused_on : ((code : Code) (p : ℕ) → HasPart code p → HasWhole code (k + p)) → (e : DynError)
       → RefusedBy HasPart at e → RefusedBy HasWhole base e
@@ -36,7 +36,7 @@ module _ (HasPart HasWhole : Code → ℕ → Type 0) (base k at : ℕ) (there :
   refused_on fault errors.DuplicateKey h = absurd h
   refused_on fault errors.TooLong h = absurd h
 
--- Bytes whose records are readable, and in which nothing stands too deep, have no fault.
+-- Bytes whose records are readable, and in which nothing is too deep, have no fault.
 pub faultless : (shape : Shape) (limit : ℕ) (fs : List FieldShape) (bytes : List ℕ) (rs : List WireRecord) → Spells bytes rs
     → all_readable (dec shape) fs rs ≡ true → IsShallowIn shape limit fs bytes → AreFaultless shape limit fs bytes
 faultless shape limit fs bytes rs spelled readable shallow = ((rs, spelled), none)
@@ -46,7 +46,7 @@ faultless shape limit fs bytes rs spelled readable shallow = ((rs, spelled), non
     none NotUtf8 place fault = fault_unreadable shape limit fs bytes NotUtf8 place fault text_not_deep rs (records_of_Spells bytes rs spelled) readable
     none (Wire w) place fault = fault_unreadable shape limit fs bytes (Wire w) place fault (wire_not_deep w) rs (records_of_Spells bytes rs spelled) readable
 
--- The bytes from a start, of which a front is gone over: its records are readable, and nothing in them stands too deep.
+-- The bytes from a start, of which a front is gone over: its records are readable, and nothing in them is too deep.
 pub record Ahead (shape : Shape) (levels : ℕ) (fs : List FieldShape) (bytes : List ℕ) (start at : ℕ) (left : List (Result WireRecord WireError)) : Type 0 where
   pub records : List WireRecord
   pub seen : Front bytes left records

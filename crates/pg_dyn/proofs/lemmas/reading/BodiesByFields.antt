@@ -28,7 +28,7 @@ use Rattle.pg_dyn.proofs.Lists.{each-append, each_after, each_before, flat_map-a
 ok_records : (rs ss : List WireRecord) → ◌≡◌ {A = Result (List WireRecord) Fault} (Ok rs) (Ok ss) → rs ≡ ss
 ok_records rs ss e = cc
 
--- Nothing stands too deep in bytes where nothing does in any of their records.
+-- Nothing is too deep in bytes where nothing does in any of their records.
 module _ (shape : Shape) (levels : ℕ) (fs : List FieldShape) (bytes : List ℕ) (rs : List WireRecord) (spelled : records_of bytes ≡ Ok rs) where
   one_shallow : AllByRecursion (IsShallowRecord shape levels fs) rs → (front back rest : List ℕ) (before : List WireRecord) (r : WireRecord)
       → bytes ≡ front ++ back → Spells front before → record_at back ≡ Ok (r, rest) → IsShallowRecord shape levels fs r
@@ -66,7 +66,7 @@ module _ (shape : Shape) (levels : ℕ) (fs : List FieldShape) (bytes : List ℕ
       let spells = Spells_from_records_of bytes rs spelled in
       rest_shallow shallow [] [] rs (record { joined = refl; each = tt }) spells.each spells.joined
 
--- Bytes are read, and nothing stands too deep, exactly where that is so of their records.
+-- Bytes are read, and nothing is too deep, exactly where that is so of their records.
 module _ (shape : Shape) (levels : ℕ) (type : TypeId) (bytes : List ℕ) (rs : List WireRecord) (spelled : records_of bytes ≡ Ok rs) where
   pub bytes_good : RecordsGood shape levels (fields shape type) rs
       → (is_some (dec shape type bytes) ≡ true) × IsShallowIn shape (suc levels) (fields shape type) bytes
@@ -150,7 +150,7 @@ pub record AreOpened (shape : Shape) (type : TypeId) (bs : List WireRecord) (g :
   pub spelled : AllByRecursion IsSpelled bs
   pub gathered : AreGathered shape type (flat_map own_records bs) g
 
--- the records of bytes were gathered behind those before them
+-- the records of bytes were gathered after those before them
 abbrev pub Gathers : Shape → TypeId → List ℕ → Gathered → Gathered → Type 0
 Gathers shape type bytes old new =
     (rs : List WireRecord) × (records_of bytes ≡ Ok rs)
@@ -209,7 +209,7 @@ module _ (shape : Shape) (type : TypeId) (run : List Record) (place : ℕ) where
       let read = readable_from_dec shape type (seen_record (get_or run place d)).body one.0 in
       (read.0, read.1)
 
--- The record at a place, as a run of its own.
+-- The record at an index, as a run of its own.
 pub record OneAt (run : List Record) (place : ℕ) : Type 0 where
   pub one : Record
   pub behind : List Record

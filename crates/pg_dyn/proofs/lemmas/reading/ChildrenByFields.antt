@@ -96,7 +96,7 @@ child_item shape t rs listed (values.F64 x) h = absurd h
 child_item shape t rs listed (values.Text x) h = absurd h
 child_item shape t rs listed (values.Bytes x) h = absurd h
 
--- each record's body is read as the message at its place
+-- each record's body is read as the message at its index
 abbrev pub AreChildren : Shape → TypeId → List WireRecord → List ValueRef → Type 0
 AreChildren shape t [] [] = ⊤
 AreChildren shape t [] (v ∷ vs) = ⊥

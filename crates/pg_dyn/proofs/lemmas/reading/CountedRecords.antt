@@ -21,7 +21,7 @@ use Rattle.pg_dyn.proofs.Lists.{each-append, each_after, each_before}
 one_cut : {A : Type 0} (xs : List A) (i : ℕ) (d : A) → i < length xs → take (i + 1 - i) (drop i xs) ≡ get_or xs i d ∷ []
 one_cut xs i d inside = let one : i + 1 - i ≡ 1 = omega arith in ap (λ n. take n (drop i xs)) one ∙ ap (take 1) (drop-cons xs i d inside)
 
--- Of the records before the place these count, and where they are good, so are all before it.
+-- Of the records before the index these count, and where they are good, so are all before it.
 pub record CountedUpTo (shape : Shape) (levels : ℕ) (fs : List FieldShape) (oneof_runs : OneofRuns) (known : List Record) (place : ℕ)
     (left : List Record) : Type 0 where
   pub counted : CountedSoFar fs oneof_runs known place left
@@ -64,7 +64,7 @@ module _ (shape : Shape) (levels : ℕ) (fs : List FieldShape) (rising : Rising 
             tt,
           )
 
-      -- where all before the place and the one there are good, so are all before the next
+      -- where all before the index and the one there are good, so are all before the next
       more_good : RecordsGood shape levels fs (map seen_record (take place known)) → IsGood shape levels fs (seen_record (get_or known place d))
           → RecordsGood shape levels fs (map seen_record (take (place + 1) known))
       more_good h one =

@@ -135,7 +135,7 @@ module _ (shape : Shape) (levels : ℕ) (key : Scalar) (e : Element) where
       filtered (GoodFor (value_field e)) (takes (value_field e)) rs
       (each_weaker IsTested (λ s. takes (value_field e) s ≡ true → GoodFor (value_field e) s) (λ s k. good_for_value s k.0 k.1) rs h)
 
--- What makes an entry good: its records are, and a message that stands for a missing value doesn't stand too deep.
+-- What makes an entry good: its records are, and a message that stands for a missing value isn't too deep.
 pub record EntryGood (shape : Shape) (levels : ℕ) (key : Scalar) (e : Element) (rs : List WireRecord) : Type 0 where
   pub key_good : AreGood shape levels (key_field key) (own (key_field key) rs)
   pub value_good : AreGood shape levels (value_field e) (own (value_field e) rs)

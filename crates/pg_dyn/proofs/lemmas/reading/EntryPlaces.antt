@@ -1,4 +1,4 @@
--- Where an entry stands among entries of rising keys.
+-- Where an entry is among entries of rising keys.
 use Rattle.std.proofs.Common.{◌≡◌, ℕ, zero, suc, ◌<◌, ◌≤◌, List, [], ◌∷◌, ◌++◌, length, take, drop, get_or, slice_set, refl, ap, sym, ◌∙◌, arith}
 use Rattle.std.specs.List.{AllByRecursion, insert}
 use Rattle.std.proofs.lemmas.List.{take-append-drop}
@@ -51,7 +51,7 @@ module _ {A : Type 0} (key : A → Leaf) where
       (h, each_weaker (λ x. key_cmp (key e) (key x) ≡ Less) (NotBelow k) (λ x above low. h (key_trans (key e) (key x) k above low)) es rise.0)
   not_below_from (e ∷ es) k (suc i) d rise inside h = not_below_from es k i d rise.1 (omega arith) h
 
-  -- The entry put in its place.
+  -- The entry put in by its key.
 
   pub behind : (e : A) (low high : List A) → AllByRecursion (Below (key e)) low → place key e (low ++ high) ≡ low ++ place key e high
   behind e [] high h = refl

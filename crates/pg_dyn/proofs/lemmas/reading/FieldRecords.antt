@@ -63,7 +63,7 @@ reads_scalar shape f r leaves no_map scalar read =
 
 -- Packed lists.
 
--- a record of another wire type is taken where a packed list can stand
+-- a record of another wire type is taken where a packed list can be
 pub packable_of : (f : FieldShape) (r : WireRecord) → takes f r ≡ true → is_map f.presence ≡ false → same_wire r.wire (form_wire (form f.element)) ≡ false
     → is_packable f.element ≡ true
 packable_of f r taken no_map other =

@@ -43,7 +43,7 @@ each_mapped : {A B : Type 0} (P : B → Type 0) (h : A → B) (xs : List A) → 
 each_mapped P h [] e = tt
 each_mapped P h (x ∷ xs) e = (e.0, each_mapped P h xs e.1)
 
--- in records by rising number, those from a place on where the number is another have greater numbers than the first
+-- in records by rising number, those from an index on where the number is another have greater numbers than the first
 greater : (n k : ℕ) (rs : List Record) → NumbersRise rs → AllByRecursion (λ (s : Record). n ≤ s.number) rs
     → ((d : Record) → k < length rs → (get_or rs k d).number ≢ n)
     → AllByRecursion (λ (s : Record). n < s.number) (drop k rs)
@@ -85,7 +85,7 @@ module _ (shape : Shape) (levels : ℕ) (type : TypeId) (sorted : List Record) w
   abbrev Below : ℕ → Record → Type 0
   Below place r = AllByRecursion (λ (s : Record). r.number < s.number) (drop place sorted)
 
-  -- The contents are what the records before the place say, and those from the place on have greater numbers.
+  -- The contents are what the records before the index say, and those from the index on have greater numbers.
   pub record ReadUpTo (place : ℕ) (cs : List (ℕ × ContentRef)) : Type 0 where
     pub inside : place ≤ length sorted
     pub below : AllByRecursion (Below place) (take place sorted)
@@ -94,7 +94,7 @@ module _ (shape : Shape) (levels : ℕ) (type : TypeId) (sorted : List Record) w
 
   module _ (rising : Rising (fields shape type)) (rise : NumbersRise sorted) (all : AllCount (fields shape type) (map seen_record sorted)) (place : ℕ)
       (here : place < length sorted) where
-    -- some field takes the record at the place
+    -- some field takes the record at the index
     pub field_there : (d : Record) → Known (get_or sorted place d)
     field_there d = of sorted place here (each_mapped (λ r. (f : FieldShape) × Taken (fields shape type) r f) seen_record sorted all.known)
       where

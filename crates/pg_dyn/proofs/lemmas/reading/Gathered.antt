@@ -199,7 +199,7 @@ pub sorted_all_count : (fs : List FieldShape) → Rising fs → (ks : List WireR
     → IsCounted fs ks (map seen_record left) → AreByNumber left new → AllCount fs (map seen_record new)
 sorted_all_count fs rising ks left new h sorted = counted_all_count fs rising ks (map seen_record new) (sorted_counted fs rising ks left new h sorted)
 
--- Records are counted one by one: of those before the place these count.
+-- Records are counted one by one: of those before the index these count.
 pub record CountedSoFar (fs : List FieldShape) (oneof_runs : OneofRuns) (known : List Record) (place : ℕ) (left : List Record) : Type 0 where
   pub are_records : AllByRecursion IsRecord (map seen_record left)
   pub are_known : AllByRecursion (λ r. is_unknown fs r ≡ false) (map seen_record left)

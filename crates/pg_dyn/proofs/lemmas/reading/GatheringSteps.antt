@@ -62,7 +62,7 @@ module _ (shape : Shape) (type : TypeId) (rs : List WireRecord) (old new : Gathe
             (subst (AreOneofRuns fs (known_of fs rs)) (sym oneof_runs) h.oneof_runs);
       }
 
--- The records of bytes are gathered behind others.
+-- The records of bytes are gathered after others.
 
 pub record GatheringAhead (shape : Shape) (type : TypeId) (bytes : List ℕ) (old now : Gathered) (left : List (Result WireRecord WireError)) : Type 0 where
   pub records : List WireRecord

@@ -1,4 +1,4 @@
--- Records that have a reading and hold no message that stands too deep, one by one.
+-- Records that have a reading and hold no message that is too deep, one by one.
 use Rattle.std.proofs.Common.{◌≡◌, ℕ, List, Bool, true, false, not, ◌||◌, Option, Some, refl, ap, sym, subst, ◌∙◌, eqb-true}
 use Rattle.std.specs.List.{AllByRecursion, list_any, list_all}
 use Rattle.pg_schema.specs.Shape.{Shape, FieldShape, field_at}

@@ -1,4 +1,4 @@
--- Entries that are put in their places one by one: their keys rise, and of each key the last is there.
+-- Entries that are put in one by one: their keys rise, and of each key the last is there.
 use Rattle.std.proofs.Common.{◌≡◌, List, [], ◌∷◌, filter, Bool, true, false, cond, ◌⊎◌, inl, inr, ⊎_elim, refl, ap, ap₂, sym, subst, ◌∙◌}
 use Rattle.std.specs.List.{AllByRecursion}
 use Rattle.std.specs.declared.cmp.Ordering.{Ordering}

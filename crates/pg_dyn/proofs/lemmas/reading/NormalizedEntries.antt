@@ -48,7 +48,7 @@ pub normalized_some : (es : List EntryRef) → es ≢ [] → normalized es ≢ [
 normalized_some [] h none = h refl
 normalized_some (e ∷ es) h none = absurd (let some = some_before (e ∷ []) es (omega arith) in omega (arith, some, ap length none))
 
--- Rising entries stand as they are.
+-- Rising entries stay as they are.
 
 at_most : (k : Leaf) (es : List EntryRef) → Rise key_of es → last_of (filter (has_key key_of k) es) ≡ filter (has_key key_of k) es
 at_most k [] h = refl

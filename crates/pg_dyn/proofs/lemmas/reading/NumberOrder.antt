@@ -12,7 +12,7 @@ use Rattle.pg_dyn.proofs.Lists.{each-append, each_weaker}
 abbrev has_number : ℕ → Record → Bool
 has_number n r = nat_eq r.number n
 
--- One more record behind the others.
+-- One more record after the others.
 
 pub rise_more : (rs : List Record) (r : Record) (last : ℕ) → NumbersRise rs → AllByRecursion (λ (x : Record). x.number ≤ last) rs → last ≤ r.number
     → NumbersRise (rs ++ r ∷ [])

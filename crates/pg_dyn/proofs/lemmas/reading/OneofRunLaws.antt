@@ -18,7 +18,7 @@ use Rattle.pg_dyn.proofs.Lists.{each_weaker, filter-append', list_any_at, list_a
 use Rattle.pg_dyn.proofs.lemmas.reading.ReadsOn.{counted-append}
 use Rattle.pg_dyn.proofs.lemmas.Splitting.{each_found, takes_number}
 
--- Filters by place.
+-- Filters by index.
 
 pub filter_at-append : {A : Type 0} (test : ℕ → A → Bool) (place end : ℕ) (xs : List A) (x : A) → place + length xs ≡ end
     → filter_at test place (xs ++ x ∷ []) ≡ filter_at test place xs ++ cond (test end x) (x ∷ []) []

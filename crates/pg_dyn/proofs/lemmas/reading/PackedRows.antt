@@ -105,7 +105,7 @@ element_shortens I64 bytes a rest h = let taken = exactly_takes 8 bytes a rest h
 element_shortens I32 bytes a rest h = let taken = exactly_takes 4 bytes a rest h in omega (arith, ap length taken.1, length-append a rest, taken.0)
 element_shortens Len bytes a rest h = absurd (cc)
 
--- the words that are read of a packed list up to a place
+-- the words that are read of a packed list up to an index
 pub record RowSoFar (wire : WireType) (body : List ℕ) (start : ℕ) (old now : List ℕ) : Type 0 where
   pub inside : start ≤ length body
   pub done : List (List ℕ)
@@ -198,7 +198,7 @@ pub if_short : (wire : WireType) (len : ℕ) (bytes : List ℕ) → element_at w
     → (fault : Fault) × (element_at wire bytes ≡ Err fault) × (error_at Truncated 0 ≡ error_at fault 0)
 if_short wire len bytes is h = (Truncated, is ∙ exact_err len bytes h, refl)
 
--- an error of what stands first, that many bytes further
+-- an error of what is first, that many bytes further
 pub error_after : (f : Fault) (e : WireError) (at : ℕ) → e ≡ error_at f 0 → error_at (fault_of e) (place_of e + at) ≡ error_at f at
 error_after f e at is =
     let k = fault_of-error_at f 0 in

@@ -15,7 +15,7 @@ use Rattle.pg_dyn.specs.reading.Content.{takes, counted, leaves_in, last_item, p
 use Rattle.pg_dyn.specs.reading.ReadingOn.{clears, replaced, IsNoMessage}
 use Rattle.pg_dyn.proofs.Lists.{filter-append', option_map_some}
 
--- what stands behind the last element of a kind, with one more element
+-- what is after the last element of a kind, with one more element
 one_more : {A : Type 0} (a b c : Bool) (xs front more : List A) (y x : A) → more ≡ cond c [] (front ++ x ∷ [])
     → cond (a || (b || c)) more (y ∷ (xs ++ x ∷ [])) ≡ cond c [] (cond (a || b) front (y ∷ xs) ++ x ∷ [])
 one_more true b true xs front more y x h = h

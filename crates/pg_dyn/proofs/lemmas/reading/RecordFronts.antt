@@ -34,7 +34,7 @@ module _ (bytes : List ℕ) (left : List (Result WireRecord WireError)) (rs : Li
       let clash = sym head.read ∙ step.read in cc
 
   module _ (r : WireRecord) (later : List (Result WireRecord WireError)) (h : left ≡ Ok r ∷ later) where
-    -- the bytes behind the record
+    -- the bytes after the record
     abbrev pub behind : List ℕ
     behind = (ok_step (length a.front) a.rest r later (sym a.left_is ∙ h)).later
 

@@ -49,7 +49,7 @@ whole_row s bytes = row (first s) bytes
 shortens : (s : Scalar) (bytes a rest : List ℕ) → first s bytes ≡ Ok (a, rest) → length rest < length bytes
 shortens s = element_shortens (form_wire (scalar_form s))
 
--- the elements up to a place are there
+-- the elements up to an index are there
 pub record RowUpTo (s : Scalar) (body : List ℕ) (start : ℕ) : Type 0 where
   pub inside : start ≤ length body
   pub done : List (List ℕ)

@@ -1,4 +1,4 @@
--- Records in which no message stands too deep, by the kind of the field that takes them.
+-- Records in which no message is too deep, by the kind of the field that takes them.
 use Rattle.std.proofs.Common.{◌≡◌, ℕ, suc, List, [], filter, false, refl, sym, subst, ◌∙◌}
 use Rattle.pg_schema.specs.declared.parts.field.TypeId.{TypeId}
 use Rattle.pg_schema.specs.declared.parts.field.Scalar.{Scalar}
@@ -21,7 +21,7 @@ scalar_shallow shape levels e r scalar f no_map is place (faults.in_child l g q 
 scalar_shallow shape levels e r scalar f no_map is place (faults.in_entry l g q key c p k x) = map_clash f.presence key k no_map
 scalar_shallow shape levels e r scalar f no_map is place (faults.missing_value g q key t rs k x s y z) = map_clash f.presence key k no_map
 
--- a record of a message, in whose body none stands too deep
+-- a record of a message, in whose body none is too deep
 pub body_shallow : (shape : Shape) (f : FieldShape) (t : TypeId) → f.element ≡ elements.Message t → is_map f.presence ≡ false → (levels : ℕ) (r : WireRecord)
     → (levels ≡ 0 → ⊥) → IsShallowIn shape levels (fields shape t) r.body → IsShallow shape levels f r
 body_shallow shape f t is no_map levels r some below place (faults.the_child g q u m k) = some refl
@@ -30,7 +30,7 @@ body_shallow shape f t is no_map levels r some below place (faults.in_child l g 
 body_shallow shape f t is no_map levels r some below place (faults.in_entry l g q key c p k x) = map_clash f.presence key k no_map
 body_shallow shape f t is no_map levels r some below place (faults.missing_value g q key u rs k x s y z) = map_clash f.presence key k no_map
 
--- a record of an entry, in whose body none stands too deep, nor does one that stands for a missing value
+-- a record of an entry, in whose body none is too deep, nor is one that stands for a missing value
 pub entry_shallow : (shape : Shape) (f : FieldShape) (key : Scalar) → f.presence ≡ presences.Map key → (levels : ℕ) (r : WireRecord)
     → IsShallowIn shape (suc levels) (entry_fields key f.element) r.body
     → ((rs : List WireRecord) (t : TypeId) → f.element ≡ elements.Message t → levels ≡ 0 → Spells r.body rs

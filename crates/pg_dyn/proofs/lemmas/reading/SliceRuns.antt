@@ -7,14 +7,14 @@ use Rattle.pg_wire.specs.declared.record.WireType.TheVariants.{Varint}
 use Rattle.pg_wire.specs.Reads.{seen_record}
 use Rattle.pg_wire.specs.Records.{WireRecord}
 
--- the record at a place inside, as goals write it
+-- the record at an index inside, as goals write it
 abbrev blank : Record
 blank = record { number = 0; wire_type = Varint; body = record { ref_ptr = (0, 0); now = [] }; bytes = record { ref_ptr = (0, 0); now = [] } }
 
 abbrev pub record_in : List Record → ℕ → WireRecord
 record_in run i = seen_record (get_or run i blank)
 
--- what holds of each record holds of the one at a place
+-- what holds of each record holds of the one at an index
 pub holds_in : (P : WireRecord → Type 0) (run : List Record) (i : ℕ) → i < length run → AllByRecursion P (map seen_record run) → P (record_in run i)
 holds_in P [] i inside each = absurd (omega arith)
 holds_in P (x ∷ xs) zero inside each = each.0

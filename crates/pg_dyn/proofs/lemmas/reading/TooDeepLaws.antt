@@ -1,4 +1,4 @@
--- Where a message stands deeper than a limit, the bytes are at least as many: each message inside another has a byte more around it.
+-- Where a message is deeper than a limit, the bytes are at least as many: each message inside another has a byte more around it.
 use Rattle.std.proofs.Common.{◌≡◌, ◌≢◌, ℕ, suc, ◌+◌, ◌≤◌, ◌<◌, List, ◌++◌, length, None, Result, Ok, Err, IfErr, refl, ap, sym, arith, length-append}
 use Rattle.pg_schema.specs.declared.parts.field.TypeId.{TypeId}
 use Rattle.pg_schema.specs.Shape.{Shape, FieldShape, fields}
@@ -34,7 +34,7 @@ module _ (shape : Shape) where
     deep_record _ f r _ is (in_entry levels _ _ key _ place map deep) = omega (arith, body_shorter r is, deep_bytes (suc levels) _ r.body place deep)
     deep_record _ f r _ is (missing_value _ _ key t rs map message spelled none before) = omega (arith, length-IsRecord r is)
 
--- Within a limit above the length no message stands too deep.
+-- Within a limit above the length no message is too deep.
 not_deep : (shape : Shape) (type : TypeId) (limit : ℕ) (bytes : List ℕ) (place : ℕ) → length bytes < limit
     → FirstFault shape limit (fields shape type) bytes TooDeep place → ⊥
 not_deep shape type limit bytes place short h =

@@ -1,4 +1,4 @@
--- Which variant a field keeps of a text or bytes.
+-- Which variant a field keeps of a string or bytes.
 use Rattle.std.proofs.Common.{◌≡◌, ℕ, List, [], ◌∷◌, map, Bool, true, false, ◌||◌, refl, ap₂}
 use Rattle.std.specs.List.{AllByRecursion}
 use Rattle.pg_schema.specs.declared.parts.field.Element.{Element}
@@ -93,7 +93,7 @@ same_kept shape (elements.Message t) (values.Text x) listed h item = absurd item
 same_kept shape (elements.Message t) (values.Bytes x) listed h item = absurd item
 same_kept shape (elements.Message t) (values.Msg x) listed h item = refl
 
--- A map's key that is kept as its scalar keeps it is a number or a text.
+-- A map's key that is kept as its scalar keeps it is a number or a string.
 
 bytes_key : (s : Scalar) (bytes : _) → is_key s ≡ true → IsItemOf s (values.Bytes bytes) → IsKeptAs s (values.Bytes bytes) → ⊥
 bytes_key scalars.Int32 bytes key item kept = item

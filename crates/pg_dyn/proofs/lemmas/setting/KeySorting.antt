@@ -144,7 +144,7 @@ sort_rises (e ∷ es) alike once =
     (all_in (Apart e) (sort es) (λ f there. let here = in_sort f es there in (one_in (λ (x : Entry). AreSame (leaf_of x.0) (leaf_of e.0)) f es same here, first_alone e f es once here)))
     (sort_rises es rest (λ twice. once (later_twice e es twice)))
 
--- Rising entries are known by what stands among them.
+-- Rising entries are known by what is among them.
 
 not_below_self : (x : Entry) (ys : List Entry) → AllByRecursion (Below x) ys → StandsIn x ys → ⊥
 not_below_self x ys below h = key_less_self (leaf_of x.0) (one_in (Below x) x ys below h)

@@ -16,7 +16,7 @@ use Rattle.pg_dyn.specs.Seen.{Rises}
 use Rattle.pg_dyn.proofs.lemmas.FieldListLaws.{below_none, rises-filter}
 use Rattle.pg_dyn.proofs.Lists.{each_weaker, each_of_all, filter_all}
 
--- Tests one behind the other.
+-- Tests one after the other.
 
 filter-both : {A : Type 0} (p q : A → Bool) (xs : List A) → filter q (filter p xs) ≡ filter (λ x. p x && q x) xs
 filter-both p q [] = refl

@@ -62,7 +62,7 @@ module _ {A : Type 0} where
 -- Elements replaced one by one, each by what shows what is kept of it.
 
 module _ {A B : Type 0} (view : A → B) (keep : B → B) (once : (b : B) → keep (keep b) ≡ keep b) where
-  -- up to a place they are kept, and all show what is kept of the old ones
+  -- up to an index they are kept, and all show what is kept of the old ones
   pub record KeptUpTo (old items : List A) (i : ℕ) : Type 0 where
     pub shown : map (λ x. keep (view x)) items ≡ map (λ x. keep (view x)) old
     pub done : AllByRecursion (λ x. view x ≡ keep (view x)) (take i items)

@@ -23,7 +23,7 @@ use Rattle.pg_dyn.proofs.lemmas.setting.LowestFault.{any_of_first, none_first}
 use Rattle.pg_dyn.proofs.lemmas.Standing.{StandsIn, all_in, passes_once}
 use Rattle.pg_dyn.proofs.lemmas.setting.WholeSteps.{of_field, Takes}
 
--- Numbers that stand once.
+-- Numbers that are there once.
 
 rising_once : (xs : List (ℕ × Content)) (n : ℕ) → Rises xs → length (filter (of_field n) xs) ≤ 1
 rising_once [] n h = omega arith

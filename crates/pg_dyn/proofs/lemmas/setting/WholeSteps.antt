@@ -54,7 +54,7 @@ module _ {A : Type 0} (t u : A → Bool) where
       of true false ux tx rest = ap (λ b. cond b (x ∷ filter t (filter u xs)) (filter t (filter u xs))) tx ∙ rest
       of false d ux tx rest = rest
 
--- What stands under each number, with other parts under one of them.
+-- What is under each number, with other parts under one of them.
 
 parts_with : (n : ℕ) (ps : List (Part KeptItem)) (m : Kept)
     → parts_of (with_parts n ps m) ≡ filter (λ (p : Part KeptItem). nat_lt p.number n) (parts_of m) ++ (ps ++ filter (λ (p : Part KeptItem). nat_lt n p.number) (parts_of m))
@@ -245,7 +245,7 @@ rises_from (g ∷ gs) order apart = (
     over : (a b c : ℕ) → a ≤ b → a ≢ b → b ≤ c → a < c
     over a b c le apart then = omega (arith, apart)
 
--- A stable sort by number keeps what stands under each number.
+-- A stable sort by number keeps what is under each number.
 
 less : (a b : ℕ) → a < b → is_lt (nat_cmp a b) ≡ true
 less a b lt = ap is_lt (sym (nat_cmp_is a b Less lt))

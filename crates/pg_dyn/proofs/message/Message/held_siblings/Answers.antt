@@ -25,7 +25,7 @@ use Rattle.pg_dyn.proofs.lemmas.Splitting.{found_number}
 use Rattle.pg_dyn.proofs.lemmas.setting.WithoutSiblings.{cleared_shown, sibling_found}
 use Rattle.pg_dyn.proofs.message.Message.held_siblings.Goals as goal
 
--- a content stands under the number
+-- there is a content under the number
 abbrev Holds : ℕ → List (ℕ × Content) → Type 0
 Holds n cs = (i : ℕ) × (i < length cs) × ((d : ℕ × Content) → (get_or cs i d).0 ≡ n)
 

@@ -1,4 +1,4 @@
--- The place of the number is that of its field, or one where none of it stands.
+-- The index of the number is that of its field, or one where there is none of it.
 use Rattle.std.proofs.Common.{◌≡◌, ◌<◌, ◌≢◌, ℕ, List, ◌∷◌, take, drop, length, map, sym, ap, subst, ◌∙◌, arith}
 use Rattle.std.specs.List.{AllByRecursion}
 use Rattle.pg_wire.specs.Reads.{seen_record}

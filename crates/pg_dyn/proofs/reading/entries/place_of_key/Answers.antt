@@ -1,4 +1,4 @@
--- The keys rise, so those below the given one stand in front.
+-- The keys rise, so those below the given one are in front.
 use Rattle.std.proofs.Common.{Bool, true, false, ℕ, ◌≡◌, ◌+◌, ◌-◌, ◌/◌, ◌<◌, suc, take, drop, length, sym, subst, arith, add-one}
 use Rattle.std.specs.List.{AllByRecursion}
 use Rattle.pg_dyn.specs.Borrowed.{leaf_of}

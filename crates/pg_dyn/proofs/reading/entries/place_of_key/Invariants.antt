@@ -1,4 +1,4 @@
--- The entries before the first place are below the key, and those from the second on aren't.
+-- The entries before the first index are below the key, and those from the second on aren't.
 use Rattle.std.proofs.Common.{◌-◌}
 use Rattle.pg_dyn.specs.Borrowed.{leaf_of}
 use Rattle.pg_dyn.specs.BorrowedItems.{key_of}

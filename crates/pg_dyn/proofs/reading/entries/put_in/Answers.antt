@@ -1,4 +1,4 @@
--- The entry takes the place of the one of its key, or stands between its neighbours.
+-- The entry takes the place of the one of its key, or is put between its neighbours.
 use Rattle.std.proofs.Common.{List, ◌≡◌, ◌<◌, take, drop, length, get_or, subst, ◌∙◌}
 use Rattle.std.specs.declared.cmp.Ordering.TheVariants.{Equal}
 use Rattle.std.specs.List.{AllByRecursion}

@@ -1,4 +1,4 @@
--- Each step finds a fault where it stands, or that there is none.
+-- Each step finds a fault where it is, or that there is none.
 use Rattle.std.proofs.Common.{◌≡◌, suc, ◌-◌, ◌∷◌, true, false, not, option_map, is_some, Result, Ok, Err, OnOk, IfErr, true≢false, refl, ap, sym, subst, ◌∙◌, arith}
 use Rattle.std.specs.Option.{option_copied}
 use Rattle.std.proofs.lemmas.Result.{err_from_is_err_and}

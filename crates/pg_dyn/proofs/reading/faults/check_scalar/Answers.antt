@@ -1,4 +1,4 @@
--- A text is UTF-8, or is refused.
+-- A string is UTF-8, or is refused.
 use Rattle.std.proofs.Common.{◌≡◌, true, is_some, refl, ap, sym, subst}
 use Rattle.std.proofs.lemmas.Str.{is_utf8-from_IsUtf8}
 use Rattle.pg_dyn.specs.Coding.{leaf_in, scalar_form}

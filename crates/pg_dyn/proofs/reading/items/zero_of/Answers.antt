@@ -1,4 +1,4 @@
--- The empty text is UTF-8.
+-- The empty string is UTF-8.
 use Rattle.std.proofs.Common.{◌≡◌, [], true, refl, sym, subst}
 use Rattle.std.proofs.lemmas.Str.{IsUtf8-nil, is_utf8-from_IsUtf8}
 use Rattle.pg_schema.specs.declared.parts.field.Element.TheVariants as elements

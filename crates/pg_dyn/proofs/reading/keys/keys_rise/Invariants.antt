@@ -1,4 +1,4 @@
--- Each key before the next is below the one behind it.
+-- Each key before the next is below the one after it.
 use Rattle.std.proofs.Common.{ℕ, ◌<◌, ◌+◌, get_or}
 use Rattle.pg_dyn.specs.declared.message_ref.EntryRef.{EntryRef}
 use Rattle.pg_dyn.specs.BorrowedItems.{key_of}

@@ -1,4 +1,4 @@
--- Entries that rise stand as they are, and sorted ones normalize alike.
+-- Entries that rise stay as they are, and sorted ones normalize alike.
 use Rattle.std.proofs.Common.{◌≡◌, [], Result, Ok, Err, IfOk, sym, subst, ◌∙◌, rules}
 use Rattle.std.specs.Ordering.{is_lt}
 use Rattle.std.proofs.lemmas.List.Sorted.{answers_always}

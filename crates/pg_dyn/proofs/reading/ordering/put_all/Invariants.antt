@@ -1,4 +1,4 @@
--- the entries so far are normalized, and the rest is put in behind them
+-- the entries so far are normalized, and the rest is put in after them
 use Rattle.pg_dyn.proofs.lemmas.reading.NormalizedEntries.{NormalizesTo}
 use Rattle.pg_dyn.proofs.reading.ordering.put_all.Given as goal
 

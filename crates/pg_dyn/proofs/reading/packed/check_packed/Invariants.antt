@@ -1,4 +1,4 @@
--- The elements up to the place are there.
+-- The elements up to the index are there.
 use Rattle.std.proofs.Common.{◌-◌, length}
 use Rattle.pg_dyn.proofs.lemmas.reading.RowFaults.{RowUpTo}
 use Rattle.pg_dyn.proofs.reading.packed.check_packed.Given as goal

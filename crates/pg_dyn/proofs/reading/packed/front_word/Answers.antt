@@ -1,4 +1,4 @@
--- The word stands at the front, or doesn't.
+-- The word is at the front, or isn't.
 use Rattle.std.proofs.Common.{◌≡◌, take, IfOk, ap, sym, subst, arith}
 use Rattle.pg_wire.specs.declared.record.WireType.{WireType}
 use Rattle.pg_dyn.specs.Coding.{element_at, word_in}

@@ -1,4 +1,4 @@
--- The words before the place are read.
+-- The words before the index are read.
 use Rattle.std.proofs.Common.{◌-◌, length}
 use Rattle.pg_dyn.proofs.lemmas.reading.PackedRows.{RowSoFar}
 use Rattle.pg_dyn.proofs.reading.packed.push_words.Given as goal

@@ -43,7 +43,7 @@ returns-then-is_packable-clause-good c =
     λ shape levels. items_good f (lists_no_map f.presence c.requires.repeated) c.requires.no_message shape levels
     (map seen_record c.args.run.now) (map (number_item (scalar_form (read_as c.args.field.now.element))) c.in_ok-words.words.items) c.in_ok-words.ensures.ok
 
--- A list of texts or bytes.
+-- A list of strings or bytes.
 
 pub returns-in_err-read_items-clause-err : goal.returns-in_err-read_items-clause-err
 returns-in_err-read_items-clause-err c =

@@ -1,4 +1,4 @@
--- A record that is no lower than the last comes behind the others.
+-- A record that is no lower than the last comes after the others.
 use Rattle.std.proofs.Common.{◌≤◌, get_or, take, sym, subst, []}
 use Rattle.std.proofs.lemmas.List.{take_all, take_more}
 use Rattle.std.specs.List.{AllByRecursion}

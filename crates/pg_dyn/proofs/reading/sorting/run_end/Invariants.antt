@@ -1,4 +1,4 @@
--- The records up to the place have the number.
+-- The records up to the index have the number.
 use Rattle.std.proofs.Common.{◌≡◌, ◌-◌, ◌<◌, ◌≤◌, length, take, drop}
 use Rattle.std.specs.List.{AllByRecursion}
 use Rattle.pg_wire.specs.declared.record.Record.{Record}

@@ -1,4 +1,4 @@
--- No message stands deeper than the bytes are many, and what is refused, memory aside, has no reading.
+-- No message is deeper than the bytes are many, and what is refused, memory aside, has no reading.
 use Rattle.std.proofs.Common.{◌+◌, length, sym, arith}
 use Rattle.pg_schema.specs.Parts.{shape_of}
 use Rattle.pg_dyn.proofs.lemmas.reading.TooDeepLaws.{of_error, refused_unlimited, refused_unread}

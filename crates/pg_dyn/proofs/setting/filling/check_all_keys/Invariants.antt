@@ -1,4 +1,4 @@
--- no key stands twice in one of the contents so far
+-- no key is twice in one of the contents so far
 use Rattle.std.proofs.Common.{ℕ, take}
 use Rattle.std.specs.List.{AllByRecursion}
 use Rattle.pg_dyn.specs.declared.message.Content.{Content}

@@ -1,4 +1,4 @@
--- Keys that rise stand once each; others are looked at in order.
+-- Keys that rise are there once each; others are looked at in order.
 use Rattle.std.proofs.Common.{List, inr, refl, sym, subst}
 use Rattle.std.specs.List.Sorted.{IsPermutation}
 use Rattle.pg_dyn.specs.declared.message.Value.{Value}

@@ -1,4 +1,4 @@
--- The references are sorted by what stands behind them.
+-- The references are sorted by what they refer to.
 use Rattle.std.proofs.Common.{◌≡◌, List, subst, ◌∙◌, rules}
 use Rattle.std.specs.List.Sorted.{IsPermutation}
 use Rattle.std.specs.Ordering.{is_lt}

@@ -1,4 +1,4 @@
--- the entries so far, each behind its reference
+-- the entries so far, each by its reference
 use Rattle.std.proofs.Common.{◌≡◌, map, take, Bor}
 use Rattle.pg_dyn.specs.declared.message.Value.{Value}
 use Rattle.pg_dyn.proofs.setting.keys.in_order.Given as goal

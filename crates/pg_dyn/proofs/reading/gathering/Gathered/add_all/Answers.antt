@@ -1,4 +1,4 @@
--- Each record is gathered behind those before it.
+-- Each record is gathered after those before it.
 use Rattle.std.proofs.Common.{◌∷◌, ap, ◌∙◌}
 use Rattle.pg_schema.specs.Parts.{shape_of}
 use Rattle.pg_wire.specs.Reads.{seen, seen_record}
