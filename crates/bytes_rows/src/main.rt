@@ -4,7 +4,8 @@
 //!
 //! `type SCHEMA` and `other SCHEMA` make schemas, as `tiny_schemas` reads them. Bytes and contents
 //! in later lines are of the first type of `type`'s schema. `fits` and `outside` compare with the
-//! first type of `other`'s schema, and `across` writes by it.
+//! first type of `other`'s schema, `across` writes by it, and `inside` sets the message in field 1
+//! of an empty one of it.
 //!
 //! With `retry ` in front, the row is answered again where it lacks memory (`rows::retry`).
 //! `rows::unrolled` says how a line spells repeats. For any other row that runs out of memory,

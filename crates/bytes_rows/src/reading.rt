@@ -1,10 +1,11 @@
 //! What is made of bytes by a type.
 use crate::beside::is_alike;
 use crate::contents::{spelled_message, word};
+use crate::setting::set;
 use crate::types::{FIRST, Types};
 use pg_dyn::{
-    DynError, Message, MessageRef, decode, decode_ref, decode_ref_unlimited, encode, encode_ref,
-    encode_unshared_ref, fits,
+    Content, DynError, Message, MessageRef, Value, decode, decode_ref, decode_ref_unlimited,
+    encode, encode_ref, encode_unshared_ref, fits,
 };
 use pg_schema::Schema;
 use pg_show::{HexError, bytes_of_hex, show};
@@ -216,6 +217,20 @@ fn across(
     Ok(word(alloc, &found)?)
 }
 
+/// What the other schema writes of an empty message in whose field 1 the message is set.
+fn inside(
+    alloc: Global,
+    schema: &Schema,
+    other: &Schema,
+    bytes: &[u8],
+) -> Result<String, DynError> {
+    let child = read(alloc, schema, bytes, 100)?;
+    let content = Content::One(Value::Msg(Box::new(alloc, child)?));
+    let mut message = Message::empty(alloc, FIRST);
+    let found = set(other, &mut message, 1, content);
+    crate::setting::shown(alloc, other, &message, found)
+}
+
 /// What the other type doesn't have of a message.
 fn outside(
     alloc: Global,
@@ -262,6 +277,7 @@ fn found(
         "unlimited" => unlimited(alloc, schema, bytes),
         "fits" => of_both(alloc, schema, other, bytes),
         "across" => across(alloc, schema, other, bytes),
+        "inside" => inside(alloc, schema, other, bytes),
         "outside" => outside(alloc, schema, other, bytes),
         _ => shown(alloc, schema, bytes),
     }

@@ -26,6 +26,7 @@ pub(crate) fn by_type(
         | "unlimited"
         | "fits"
         | "across"
+        | "inside"
         | "outside"
         | "show" => answer_of_bytes(alloc, types, call, input),
         _ => answer_of_wire(alloc, call, input),

@@ -3,8 +3,7 @@
 ghost use Rattle.std.specs.Prelude.{◌≡◌, ◌↔◌, ◌<◌, [], map, length, slice_get};
 ghost use Rattle.std.specs.Prelude.{IfOk, IfSome, Some, IsTrue, MatchOption};
 ghost use Rattle.std.specs.List.{AllByRecursion};
-ghost use Rattle.pg_schema.specs.Shape.{FieldShape, Shape, field_at, fields};
-ghost use Rattle.pg_schema.specs.ShapeRules.{IsShape};
+ghost use Rattle.pg_schema.specs.Shape.{IsShape, Shape};
 ghost use Rattle.pg_wire.specs.Reads.{seen_record};
 ghost use Rattle.pg_dyn.specs.Borrowed as borrowed;
 ghost use Rattle.pg_dyn.specs.Fits.{Fits};
@@ -12,7 +11,6 @@ ghost use Rattle.pg_dyn.specs.PartsFit.{HoldsPart};
 ghost use Rattle.pg_dyn.specs.Kept.{IsPlain, ends, of_number, type_of, unknown_of};
 ghost use Rattle.pg_dyn.specs.NumberLists.{IsNumber, numbers_in};
 ghost use Rattle.pg_dyn.specs.Seen.{Rises};
-ghost use Rattle.pg_dyn.specs.Texts.{ItemKeepsTexts, KeepsTexts};
 
 use pg_dyn::{ContentRef, Message, MessageRef, NumberList, ValueRef};
 use pg_schema::TypeId;
@@ -35,11 +33,6 @@ pub fn get<'m, 'a>(message: &'m MessageRef<'a>, number: u32) -> Option<&'m Conte
     ensures fits { IfSome result (λ content. (shape : Shape) → IsShape shape
         → Fits shape message.now
         → AllByRecursion (HoldsPart shape (type_of message.now))
-        (borrowed.content_seen number content.now)) }
-    ensures texts { IfSome result (λ content. (shape : Shape) (field : FieldShape)
-        → KeepsTexts shape message.now
-        → field_at (fields shape (type_of message.now)) number ≡ Some field
-        → AllByRecursion (λ p. ItemKeepsTexts shape field.element p.item)
         (borrowed.content_seen number content.now)) }
 {
     message.get(number)

@@ -1,10 +1,9 @@
 //! What messages hold, and how contents are set.
 
-ghost use Rattle.std.specs.Prelude.{◌≡◌, ◌<◌, ◌↔◌, length, [], map, IfSome, Some, MatchOption, OnOk, IfOk, IfErr, IsTrue};
+ghost use Rattle.std.specs.Prelude.{◌≡◌, ◌<◌, ◌↔◌, length, [], map, IfSome, MatchOption, OnOk, IfOk, IfErr, IsTrue};
 ghost use Rattle.std.specs.List.{AllByRecursion};
 ghost use Rattle.pg_schema.specs.Parts.{shape_of};
-ghost use Rattle.pg_schema.specs.Shape.{FieldShape, Shape, field_at, fields};
-ghost use Rattle.pg_schema.specs.ShapeRules.{IsShape};
+ghost use Rattle.pg_schema.specs.Shape.{IsShape, Shape};
 ghost use Rattle.pg_dyn.specs.declared.error.DynError.TheVariants as errors;
 ghost use Rattle.pg_dyn.specs.setting.ContentFaults.{ContentFault, ContentsFault, HasKeyTwice, HasNoEarlyFault, HasNoFault, MayRefuseFor};
 ghost use Rattle.pg_dyn.specs.ContentFits.{HoldsContent};
@@ -13,7 +12,6 @@ ghost use Rattle.pg_dyn.specs.Kept.{IsPlain, ends, of_number, type_of, unknown_o
 ghost use Rattle.pg_dyn.specs.Seen.{HasBody, HasKeys, IsFilled, Rises, content_seen, fields_onto, record_seen};
 ghost use Rattle.pg_dyn.specs.setting.Setting.{IsSetTo, IsWhole};
 ghost use Rattle.pg_dyn.specs.setting.Reported.{TakesContent};
-ghost use Rattle.pg_dyn.specs.Texts.{ItemKeepsTexts, KeepsTexts};
 
 use pg_dyn::{Content, DynError, Message, UnknownRecord};
 use pg_schema::{Schema, TypeId};
@@ -41,11 +39,6 @@ pub fn get(message: &Message, number: u32) -> Option<&Content>
     ensures keys { IfSome result (λ content. HasKeys content.now) }
     ensures fits { IfSome result (λ content. (shape : Shape) → IsShape shape
         → Fits shape message.now → HoldsContent shape (type_of message.now) (number, content.now)) }
-    ensures texts { IfSome result (λ content. (shape : Shape) (field : FieldShape)
-        → KeepsTexts shape message.now
-        → field_at (fields shape (type_of message.now)) number ≡ Some field
-        → AllByRecursion (λ p. ItemKeepsTexts shape field.element p.item)
-        (content_seen number content.now)) }
 {
     message.get(number)
 }

@@ -9,7 +9,6 @@ ghost use Rattle.pg_dyn.specs.Fits.{Fits};
 ghost use Rattle.pg_dyn.specs.Kept.{message_of, type_of};
 ghost use Rattle.pg_dyn.specs.reading.Refusals.{MayRefuse, MayRefuseUnlimited};
 ghost use Rattle.pg_dyn.specs.reading.Faults.{TooDeepIn};
-ghost use Rattle.pg_dyn.specs.Texts.{KeepsTexts};
 ghost use Rattle.pg_dyn.specs.declared.error.DynError.TheVariants as errors;
 
 use pg_dyn::{DynError, Message, MessageRef};
@@ -28,7 +27,6 @@ pub fn decode_ref<'a>(
     ensures message { IfOk result (λ m. dec (shape_of schema.now) type_id bytes.now
         ≡ Some (message_of m)) }
     ensures fits { IfOk result (λ m. Fits (shape_of schema.now) m × (type_of m ≡ type_id)) }
-    ensures texts { IfOk result (KeepsTexts (shape_of schema.now)) }
     ensures within { OnOk result ((place : ℕ)
         → TooDeepIn (shape_of schema.now) limit
         (fields (shape_of schema.now) type_id) bytes.now place → ⊥) }
@@ -54,7 +52,6 @@ pub fn decode(
     ensures message { IfOk result (λ m. dec (shape_of schema.now) type_id bytes.now
         ≡ Some (message_of m)) }
     ensures fits { IfOk result (λ m. Fits (shape_of schema.now) m × (type_of m ≡ type_id)) }
-    ensures texts { IfOk result (KeepsTexts (shape_of schema.now)) }
     ensures within { OnOk result ((place : ℕ)
         → TooDeepIn (shape_of schema.now) limit
         (fields (shape_of schema.now) type_id) bytes.now place → ⊥) }
@@ -79,7 +76,6 @@ pub fn decode_ref_unlimited<'a>(
     ensures message { IfOk result (λ m. dec (shape_of schema.now) type_id bytes.now
         ≡ Some (message_of m)) }
     ensures fits { IfOk result (λ m. Fits (shape_of schema.now) m × (type_of m ≡ type_id)) }
-    ensures texts { IfOk result (KeepsTexts (shape_of schema.now)) }
     ensures refused { IfErr result (λ e.
         MayRefuseUnlimited (shape_of schema.now) type_id bytes.now e) }
     ensures unread { IfErr result (λ e. (e ≡ errors.Memory → ⊥)

@@ -14,7 +14,6 @@ use Rattle.pg_dyn.specs.OwnParts.{ComparandsAreWritten, ChildrenAreShorter, OneI
 use Rattle.pg_dyn.specs.FieldLaws.{ContentsAreSeen, EntriesRise, EqualLeaves, FieldsAreFound, LastItems, OwnContents, PackableWires, PartsKeepTypes, PlainIsKept, RecordsOfFields, RisingEntriesStay, UnknownIsKept}
 use Rattle.pg_dyn.specs.Laws.{DecodingIs, EncodingSpells, KeptByField, MessageSplits, WritingSplits}
 use Rattle.pg_dyn.specs.ByComparands.{KeptByComparands}
-use Rattle.pg_dyn.specs.TextLaws.{SetKeepsTexts, WholeKeepsTexts}
 use Rattle.pg_dyn.proofs.Lists.{each_of_all, each_weaker}
 use Rattle.pg_dyn.proofs.lemmas.Codings.{Reads-from_range}
 use Rattle.pg_dyn.proofs.lemmas.Plain as Plain
@@ -34,7 +33,6 @@ use Rattle.pg_dyn.proofs.lemmas.ItemLeaves.{item_is_key}
 use Rattle.pg_dyn.proofs.lemmas.ReplacingLaws.{content_number, kept_means, type_of-kept_onto, unknown-message_of, type_of-with_parts, type_of-without_siblings}
 use Rattle.pg_dyn.proofs.lemmas.SelfSame.{plain_unknown}
 use Rattle.pg_dyn.proofs.lemmas.encoding.Growing as Growing
-use Rattle.pg_dyn.proofs.lemmas.setting.SetTexts as SetTexts
 use Rattle.pg_dyn.proofs.lemmas.Leaves.{leaf_eq_self, same_leaf}
 
 -- ---- bytes and their messages
@@ -153,12 +151,6 @@ kept_plain (kept.ends type []) h = tt
 kept_plain (kept.ends type (r ∷ rs)) h = h
 kept_plain (kept.holds number key listed leaf later) h = kept_plain later h
 kept_plain (kept.nests number key listed child later) h = (kept_plain child h.0, kept_plain later h.1)
-
-pub set_keeps_texts : SetKeepsTexts
-set_keeps_texts = SetTexts.set_keeps_texts
-
-pub whole_keeps_texts : WholeKeepsTexts
-whole_keeps_texts = SetTexts.whole_keeps_texts
 
 pub plain_is_kept : PlainIsKept
 plain_is_kept = λ m. (plain_kept m, kept_plain m)

@@ -24,7 +24,6 @@ pub mod Flat
 pub mod ItemLeaves
 pub mod Joining
 pub mod KeptParts
-pub mod KeptTexts
 pub mod KeyLaws
 pub mod Leaves
 pub mod NoSiblings

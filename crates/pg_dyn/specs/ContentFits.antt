@@ -2,6 +2,7 @@
 use Rattle.std.specs.Prelude.{◌≡◌, ℕ, ◌<◌, ⊤, Bool, false, List, [], ◌∷◌, length, Option, Some, None}
 use Rattle.std.specs.List.{AllByRecursion}
 use Rattle.pg_schema.specs.declared.parts.field.TypeId.{TypeId}
+use Rattle.pg_schema.specs.declared.parts.field.Scalar.{Scalar}
 use Rattle.pg_schema.specs.declared.parts.field.Scalar.TheVariants.{Int32}
 use Rattle.pg_schema.specs.declared.parts.field.Element.{Element}
 use Rattle.pg_schema.specs.declared.parts.field.Element.TheVariants as elements
@@ -16,10 +17,10 @@ use Rattle.pg_dyn.specs.declared.message.Value.TheVariants as values
 use Rattle.pg_dyn.specs.KeyOrder.{Rise}
 use Rattle.pg_dyn.specs.Message.{is_zero}
 use Rattle.pg_dyn.specs.Kept.{type_of}
-use Rattle.pg_dyn.specs.Seen.{leaf_of}
+use Rattle.pg_dyn.specs.Seen.{is_text, leaf_of}
 use Rattle.pg_dyn.specs.reading.Content.{is_sibling}
 use Rattle.pg_dyn.specs.Belonging.{IsUnknown}
-use Rattle.pg_dyn.specs.Fits.{Fits}
+use Rattle.pg_dyn.specs.Fits.{Fits, is_string}
 use Rattle.pg_dyn.specs.ScalarItems.{IsItemOf}
 
 -- a message is never zero
@@ -34,17 +35,24 @@ ItemFits shape (elements.Enum e) value = IsItemOf Int32 value
 ItemFits shape (elements.Message t) (values.Msg child) = Fits shape child.value × (type_of child.value ≡ t)
 ItemFits shape (elements.Message t) value = ⊥
 
+-- so is it, as a field of the element holds it: `Text` just where the element is string
+abbrev pub ItemKept : Shape → Element → Value → Type 0
+ItemKept shape e value = ItemFits shape e value × (is_text value ≡ is_string e)
+
+abbrev pub EntryKept : Shape → Scalar → Element → Value × Value → Type 0
+EntryKept shape key e x = IsItemOf key x.0 × ItemKept shape e x.1
+
 -- each key is below all later ones
 abbrev pub KeysRise : List (Value × Value) → Type 0
 KeysRise es = Rise (λ (e : Value × Value). leaf_of e.0) es
 
--- the content has the shape of the presence, each item is one of the element, and an implicit field holds no zero
+-- the content has the shape of the presence, each item is one of the element, as its field holds it, and an implicit field holds no zero
 abbrev pub ContentFits : Shape → Presence → Element → Content → Type 0
-ContentFits shape presences.Implicit e (contents.One v) = ItemFits shape e v × (is_zero_value v ≡ false)
-ContentFits shape presences.Explicit e (contents.One v) = ItemFits shape e v
-ContentFits shape (presences.Repeated packed) e (contents.Many vs) = AllByRecursion (ItemFits shape e) vs.items
+ContentFits shape presences.Implicit e (contents.One v) = ItemKept shape e v × (is_zero_value v ≡ false)
+ContentFits shape presences.Explicit e (contents.One v) = ItemKept shape e v
+ContentFits shape (presences.Repeated packed) e (contents.Many vs) = AllByRecursion (ItemKept shape e) vs.items
 ContentFits shape (presences.Map key) e (contents.Map es) =
-    AllByRecursion (λ (x : Value × Value). IsItemOf key x.0 × ItemFits shape e x.1) es.items × KeysRise es.items
+    AllByRecursion (EntryKept shape key e) es.items × KeysRise es.items
 ContentFits shape p e c = ⊥
 
 -- the content fits the field of its number

@@ -1,5 +1,9 @@
 -- Messages that fit a schema.
-use Rattle.std.specs.Prelude.{◌≡◌, ℕ, ◌<◌, ⊤, Bool, false, length, List, Option, Some, None}
+use Rattle.std.specs.Prelude.{◌≡◌, ℕ, ◌<◌, ⊤, Bool, true, false, length, List, Option, Some, None}
+use Rattle.pg_schema.specs.declared.parts.field.Element.{Element}
+use Rattle.pg_schema.specs.declared.parts.field.Element.TheVariants as elements
+use Rattle.pg_schema.specs.declared.parts.field.Scalar.{Scalar}
+use Rattle.pg_schema.specs.declared.parts.field.Scalar.TheVariants as scalars
 use Rattle.pg_schema.specs.Shape.{Shape, FieldShape, fields, field_at, is_repeated}
 use Rattle.pg_dyn.specs.Kept.{Kept, ends, holds, nests, type_of, message_of}
 use Rattle.pg_dyn.specs.encoding.Encoding.{child_type}
@@ -13,10 +17,27 @@ is_listed_by None = false
 abbrev pub is_listed : List FieldShape → ℕ → Bool
 is_listed fs number = is_listed_by (field_at fs number)
 
--- just the items of repeated fields stand in lists, and each message inside says that it is of the type of its field
+abbrev pub is_string : Element → Bool
+is_string (elements.Scalar s) = of s
+  where
+    of : Scalar → Bool
+    of scalars.String = true
+    of s = false
+is_string (elements.Enum e) = false
+is_string (elements.Message t) = false
+
+-- whether the items of the field are strings (proto3 language guide, "Scalar Value Types")
+abbrev pub is_string_by : Option FieldShape → Bool
+is_string_by (Some f) = is_string f.element
+is_string_by None = false
+
+-- just the items of repeated fields are in lists, just those of string fields are strings, and each message inside says that it is of
+-- the type of its field
 abbrev pub PartsAgree : Shape → Kept → Type 0
 PartsAgree shape (ends type unknown) = ⊤
-PartsAgree shape (holds number key manner leaf later) = (is_listed (fields shape (type_of later)) number ≡ manner.listed) × PartsAgree shape later
+PartsAgree shape (holds number key manner leaf later) =
+    (is_listed (fields shape (type_of later)) number ≡ manner.listed)
+    × (manner.text ≡ is_string_by (field_at (fields shape (type_of later)) number)) × PartsAgree shape later
 PartsAgree shape (nests number key listed child later) =
     (is_listed (fields shape (type_of later)) number ≡ listed) × (child_type (fields shape (type_of later)) number ≡ type_of child) × PartsAgree shape child
     × PartsAgree shape later

@@ -10,10 +10,9 @@ use Rattle.pg_schema.specs.declared.parts.field.Presence.{Presence}
 use Rattle.pg_schema.specs.Shape.{Shape, FieldShape, fields, field_at, is_repeated}
 use Rattle.pg_dyn.specs.Belonging.{KeyFits, LeafFits, MayFollow}
 use Rattle.pg_dyn.specs.Coding.{InRange, scalar_form}
-use Rattle.pg_dyn.specs.Fits.{Fits}
+use Rattle.pg_dyn.specs.Fits.{Fits, is_string}
 use Rattle.pg_dyn.specs.Kept.{KeptItem, Plain, Msg, type_of}
 use Rattle.pg_dyn.specs.Message.{Part}
-use Rattle.pg_dyn.specs.Texts.{KeepsTexts, is_string}
 
 -- the item is one of the scalar: of its kind, in its range, a string UTF-8
 abbrev pub IsScalarItem : Scalar → KeptItem → Type 0
@@ -32,16 +31,17 @@ abbrev pub IsScalarKept : Scalar → KeptItem → Type 0
 IsScalarKept s (Plain manner leaf) = InRange (scalar_form s) leaf × (manner.text ≡ is_string (elements.Scalar s))
 IsScalarKept s (Msg listed child) = ⊥
 
--- the same of the element, at any depth
+-- the same of the element
 abbrev pub IsElementKept : Shape → Element → KeptItem → Type 0
 IsElementKept shape (elements.Scalar s) item = IsScalarKept s item
 IsElementKept shape (elements.Enum e) item = IsScalarKept Int32 item
 IsElementKept shape (elements.Message t) (Plain manner leaf) = ⊥
-IsElementKept shape (elements.Message t) (Msg listed child) = Fits shape child × (type_of child ≡ t) × KeepsTexts shape child
+IsElementKept shape (elements.Message t) (Msg listed child) = Fits shape child × (type_of child ≡ t)
 
--- the item is one of the field: in a list just where the field is repeated, and a leaf of its element, or a message of its type that fits
+-- the item is one of the field: in a list just where the field is repeated, and a leaf of its element, kept as a string just where that
+-- is string, or a message of its type that fits
 abbrev pub HoldsItem : Shape → FieldShape → KeptItem → Type 0
-HoldsItem shape f (Plain manner leaf) = (is_repeated f.presence ≡ manner.listed) × LeafFits f leaf
+HoldsItem shape f (Plain manner leaf) = (is_repeated f.presence ≡ manner.listed) × (manner.text ≡ is_string f.element) × LeafFits f leaf
 HoldsItem shape f (Msg listed child) = (is_repeated f.presence ≡ listed) × Fits shape child × (f.element ≡ elements.Message (type_of child))
 
 -- the part fits the field of its number

@@ -3,16 +3,16 @@
 ghost use Rattle.std.specs.Prelude.{◌≡◌, ◌↔◌, true, false, None, IsTrue};
 ghost use Rattle.std.specs.List.{AllByRecursion};
 ghost use Rattle.std.specs.declared.cmp.Ordering.TheVariants.{Less};
+ghost use Rattle.pg_schema.specs.declared.parts.field.Element.TheVariants as elements;
 ghost use Rattle.pg_schema.specs.Invariant.{IsSchema};
 ghost use Rattle.pg_schema.specs.Parts.{shape_of};
 ghost use Rattle.pg_schema.specs.Shape.{fields};
 ghost use Rattle.pg_dyn.specs.reading.Content.{is_unknown};
-ghost use Rattle.pg_dyn.specs.ContentFits.{ContentFits, ItemFits, KeysRise};
-ghost use Rattle.pg_dyn.specs.Fits.{Fits};
+ghost use Rattle.pg_dyn.specs.ContentFits.{ContentFits, EntryKept, ItemKept, KeysRise};
+ghost use Rattle.pg_dyn.specs.Fits.{Fits, is_string};
 ghost use Rattle.pg_dyn.specs.Message.{key_cmp};
 ghost use Rattle.pg_dyn.specs.ScalarItems.{IsItemOf};
-ghost use Rattle.pg_dyn.specs.Seen.{IsKey, leaf_of, record_seen};
-ghost use Rattle.pg_dyn.specs.setting.Reported.{EntryFits};
+ghost use Rattle.pg_dyn.specs.Seen.{IsKey, is_text, leaf_of, record_seen};
 
 use crate::accept::accepts;
 use crate::message::{Content, Message, UnknownRecord, Value};
@@ -48,7 +48,29 @@ fn is_item(scalar: Scalar, value: &Value) -> bool
     check_item(scalar, value).is_ok()
 }
 
+// Whether items of the element are strings.
+fn is_string(element: Element) -> bool
+    ensures { result ≡ is_string element }
+{
+    matches!(element, Element::Scalar(Scalar::String))
+}
+
 impl Value {
+    // Whether the item is a string.
+    fn is_text(&self) -> bool
+        ensures { result ≡ is_text self.now }
+    {
+        matches!(self, Value::Text(_))
+    }
+
+    // Whether the item is `Text` just where the scalar is string.
+    fn is_text_for(&self, scalar: Scalar) -> bool
+        ensures { IsTrue result ↔ (is_text self.now ≡ is_string (elements.Scalar scalar)) }
+    {
+        let string = is_string(Element::Scalar(scalar));
+        if self.is_text() { string } else { !string }
+    }
+
     // Whether the key is below the other one of its type.
     pub(crate) fn is_below(&self, other: &Value) -> bool
         requires first { IsKey self.now }
@@ -99,18 +121,18 @@ fn unknown_fit(schema: &Schema, type_id: TypeId, unknown: &[UnknownRecord]) -> b
 }
 
 impl Value {
-    // Whether the item is one of the element.
+    // Whether the item is one of the element, and `Text` just where that is string.
     #[cycle(fits)]
     pub(crate) fn fits(&self, schema: &Schema, element: Element) -> bool
         requires { IsSchema schema.now }
-        ensures { IsTrue result ↔ ItemFits (shape_of schema.now) element self.now }
+        ensures { IsTrue result ↔ ItemKept (shape_of schema.now) element self.now }
     {
         match (element, self) {
             (Element::Message(type_id), Value::Msg(child)) => {
                 child.type_id() == type_id && child.is_one_of(schema)
             }
             (Element::Message(_), _) => false,
-            (Element::Scalar(scalar), _) => is_item(scalar, self),
+            (Element::Scalar(scalar), _) => is_item(scalar, self) && self.is_text_for(scalar),
             (Element::Enum(_), _) => is_item(Scalar::Int32, self),
         }
     }
@@ -122,7 +144,7 @@ impl Content {
     fn are_items(schema: &Schema, element: Element, values: &[Value]) -> bool
         requires { IsSchema schema.now }
         ensures { IsTrue result
-            ↔ AllByRecursion (ItemFits (shape_of schema.now) element) values.now }
+            ↔ AllByRecursion (ItemKept (shape_of schema.now) element) values.now }
     {
         for value in values {
             if !value.fits(schema, element) {
@@ -142,7 +164,7 @@ impl Content {
     ) -> bool
         requires { IsSchema schema.now }
         ensures { IsTrue result
-            ↔ AllByRecursion (EntryFits (shape_of schema.now) key element) entries.now }
+            ↔ AllByRecursion (EntryKept (shape_of schema.now) key element) entries.now }
     {
         for (entry_key, value) in entries {
             if !is_item(key, entry_key) {
@@ -205,10 +227,10 @@ impl Message {
 }
 
 /// Whether the message is one of this schema: of a type that the schema has, each content one of a
-/// field of that type, of that field's shape and not empty, each item in its range, each text
-/// UTF-8, at most one member of each oneof, no zero in a field without presence, each message
-/// inside one of its field's type, and no unknown record that a field accepts (proto3 language
-/// guide, "Field Presence", "Oneof", "Unknown Fields"). It takes no memory.
+/// field of that type, of that field's shape and not empty, each item in its range, just those of
+/// string fields `Text`, at most one member of each oneof, no zero in a field without presence,
+/// each message inside one of its field's type, and no unknown record that a field accepts (proto3
+/// language guide, "Field Presence", "Oneof", "Unknown Fields"). It takes no memory.
 pub fn fits(schema: &Schema, message: &Message) -> bool
     ensures { IsTrue result ↔ Fits (shape_of schema.now) message.now }
 {

@@ -82,9 +82,7 @@ impl<'a> Model for MessageRef<'a> {
 
 impl<'a> MessageRef<'a> {
     ghost use Rattle.std.specs.List.{AllByRecursion};
-    ghost use Rattle.pg_schema.specs.Shape.{FieldShape, Shape, field_at, fields};
-    ghost use Rattle.pg_schema.specs.ShapeRules.{IsShape};
-    ghost use Rattle.pg_dyn.specs.Texts.{ItemKeepsTexts, KeepsTexts};
+    ghost use Rattle.pg_schema.specs.Shape.{IsShape, Shape};
     ghost use Rattle.pg_wire.specs.Reads.{seen_record};
     ghost use Rattle.pg_dyn.specs.Fits.{Fits};
     ghost use Rattle.pg_dyn.specs.PartsFit.{HoldsPart};
@@ -108,11 +106,6 @@ impl<'a> MessageRef<'a> {
         ensures fits { IfSome result
             (λ content. (shape : Shape) → IsShape shape → Fits shape self.now
             → AllByRecursion (HoldsPart shape (type_of self.now))
-            (borrowed.content_seen number content.now)) }
-        ensures texts { IfSome result (λ content. (shape : Shape) (field : FieldShape)
-            → KeepsTexts shape self.now
-            → field_at (fields shape (type_of self.now)) number ≡ Some field
-            → AllByRecursion (λ p. ItemKeepsTexts shape field.element p.item)
             (borrowed.content_seen number content.now)) }
     {
         let place = place_of(&self.fields, number);

@@ -22,8 +22,8 @@ use Rattle.pg_dyn.specs.Coding.{Form, Integer, Single, Double, Text, Raw, InRang
 use Rattle.pg_dyn.specs.Kept.{Kept, KeptItem, Manner, Plain, Msg}
 use Rattle.pg_dyn.specs.KeyOrder.{IsOfKind}
 use Rattle.pg_dyn.specs.Message.{Leaf, Int, F32, F64, Bytes, is_zero}
-use Rattle.pg_dyn.specs.PartsFit.{HoldsItem, IsElementKept, IsScalarKept}
-use Rattle.pg_dyn.specs.Texts.{is_string}
+use Rattle.pg_dyn.specs.PartsFit.{HoldsItem, IsElementKept}
+use Rattle.pg_dyn.specs.Fits.{is_string}
 use Rattle.pg_dyn.proofs.lemmas.KeyLaws.{rank_total}
 use Rattle.pg_dyn.proofs.Lists.{each_weaker}
 
@@ -74,14 +74,20 @@ leaf_holds shape f (elements.Scalar s) how leaf is h zero = rw is (h.0, zero)
 leaf_holds shape f (elements.Enum x) how leaf is h zero = rw is (h.0, zero)
 leaf_holds shape f (elements.Message t) how leaf is h zero = absurd h
 
+leaf_text : (shape : Shape) (f : FieldShape) (e : Element) (how : Manner) (leaf : Leaf) → f.element ≡ e → IsElementKept shape e (Plain how leaf)
+    → how.text ≡ is_string f.element
+leaf_text shape f (elements.Scalar s) how leaf is h = h.1 ∙ sym (ap is_string is)
+leaf_text shape f (elements.Enum x) how leaf is h = h.1 ∙ sym (ap is_string is)
+leaf_text shape f (elements.Message t) how leaf is h = absurd h
+
 -- an item of a field, listed or not
 pub value_holds : (shape : Shape) (f : FieldShape) (listed : Bool) (v : ValueRef) → is_repeated f.presence ≡ listed → ItemKept shape f.element v
     → LeafMayBeZero f.presence (item_seen false v) → HoldsItem shape f (item_seen listed v)
-value_holds shape f listed (values.Int x) is h zero = (is, leaf_holds shape f f.element (manner false (values.Int x)) _ refl h zero)
-value_holds shape f listed (values.F32 x) is h zero = (is, leaf_holds shape f f.element (manner false (values.F32 x)) _ refl h zero)
-value_holds shape f listed (values.F64 x) is h zero = (is, leaf_holds shape f f.element (manner false (values.F64 x)) _ refl h zero)
-value_holds shape f listed (values.Text x) is h zero = (is, leaf_holds shape f f.element (manner false (values.Text x)) _ refl h zero)
-value_holds shape f listed (values.Bytes x) is h zero = (is, leaf_holds shape f f.element (manner false (values.Bytes x)) _ refl h zero)
+value_holds shape f listed (values.Int x) is h zero = (is, leaf_text shape f f.element (manner false (values.Int x)) _ refl h, leaf_holds shape f f.element (manner false (values.Int x)) _ refl h zero)
+value_holds shape f listed (values.F32 x) is h zero = (is, leaf_text shape f f.element (manner false (values.F32 x)) _ refl h, leaf_holds shape f f.element (manner false (values.F32 x)) _ refl h zero)
+value_holds shape f listed (values.F64 x) is h zero = (is, leaf_text shape f f.element (manner false (values.F64 x)) _ refl h, leaf_holds shape f f.element (manner false (values.F64 x)) _ refl h zero)
+value_holds shape f listed (values.Text x) is h zero = (is, leaf_text shape f f.element (manner false (values.Text x)) _ refl h, leaf_holds shape f f.element (manner false (values.Text x)) _ refl h zero)
+value_holds shape f listed (values.Bytes x) is h zero = (is, leaf_text shape f f.element (manner false (values.Bytes x)) _ refl h, leaf_holds shape f f.element (manner false (values.Bytes x)) _ refl h zero)
 value_holds shape f listed (values.Msg x) is h zero = child_item_holds shape f f.element listed x.value refl is h
   where
     child_item_holds : (shape : Shape) (f : FieldShape) (e : Element) (listed : Bool) (child : Kept) → f.element ≡ e → is_repeated f.presence ≡ listed
@@ -89,26 +95,6 @@ value_holds shape f listed (values.Msg x) is h zero = child_item_holds shape f f
     child_item_holds shape f (elements.Scalar s) listed child is repeated h = absurd h
     child_item_holds shape f (elements.Enum x) listed child is repeated h = absurd h
     child_item_holds shape f (elements.Message t) listed child is repeated h = (repeated, h.0, is ∙ ap elements.Message (sym h.1))
-
--- An item is kept alike in a list.
-
-scalar_listed : (listed : Bool) (s : Scalar) (v : ValueRef) → IsItemKept s v → IsScalarKept s (item_seen listed v)
-scalar_listed listed s (values.Int x) h = h
-scalar_listed listed s (values.F32 x) h = h
-scalar_listed listed s (values.F64 x) h = h
-scalar_listed listed s (values.Text x) h = h
-scalar_listed listed s (values.Bytes x) h = h
-scalar_listed listed s (values.Msg x) h = absurd h
-
-pub kept_listed : (listed : Bool) (shape : Shape) (e : Element) (v : ValueRef) → ItemKept shape e v → IsElementKept shape e (item_seen listed v)
-kept_listed listed shape (elements.Scalar s) v h = scalar_listed listed s v h
-kept_listed listed shape (elements.Enum x) v h = scalar_listed listed Int32 v h
-kept_listed listed shape (elements.Message t) (values.Int x) h = absurd h
-kept_listed listed shape (elements.Message t) (values.F32 x) h = absurd h
-kept_listed listed shape (elements.Message t) (values.F64 x) h = absurd h
-kept_listed listed shape (elements.Message t) (values.Text x) h = absurd h
-kept_listed listed shape (elements.Message t) (values.Bytes x) h = absurd h
-kept_listed listed shape (elements.Message t) (values.Msg x) h = h
 
 -- Entries and their keys.
 

@@ -19,12 +19,11 @@ use Rattle.pg_dyn.specs.Message.{Leaf, Part, Place, places, key_cmp}
 use Rattle.pg_dyn.specs.reading.Content.{is_sibling}
 use Rattle.pg_dyn.specs.encoding.Encoding.{child_type}
 use Rattle.pg_dyn.specs.Kept.{Kept, KeptItem, ends, holds, type_of, message_of}
-use Rattle.pg_dyn.specs.Seen.{leaf_of, manner, content_seen, item_seen, value_onto, items_onto, entries_onto, content_onto, fields_onto, Rises, IsFilled, IsKey, IsMapKey, HasKeys}
+use Rattle.pg_dyn.specs.Seen.{is_text, leaf_of, manner, content_seen, item_seen, value_onto, items_onto, entries_onto, content_onto, fields_onto, Rises, IsFilled, IsKey, IsMapKey, HasKeys}
 use Rattle.pg_dyn.specs.Belonging.{KeyFits, MayFollow, ComesBefore, IsPart, IsUnknown, IsMessage}
-use Rattle.pg_dyn.specs.Fits.{Fits, PartsAgree, is_listed, is_listed_by}
+use Rattle.pg_dyn.specs.Fits.{Fits, PartsAgree, is_listed, is_listed_by, is_string, is_string_by}
 use Rattle.pg_dyn.specs.PartsFit.{FieldHolds, HoldsItem, IsPartOf}
-use Rattle.pg_dyn.specs.ScalarItems.{IsItemOf}
-use Rattle.pg_dyn.specs.ContentFits.{ItemFits, KeysRise, ContentFits, HoldsContent, AreApart, NoneSiblings, FitsByContents}
+use Rattle.pg_dyn.specs.ContentFits.{EntryKept, ItemKept, KeysRise, ContentFits, HoldsContent, AreApart, NoneSiblings, FitsByContents}
 use Rattle.pg_dyn.proofs.lemmas.Belonging.{child_type_is, fields-IsType}
 use Rattle.pg_dyn.proofs.lemmas.KeptParts.{unknown_of-items, unknown_of-entries, fields_keep}
 use Rattle.pg_dyn.proofs.Lists.{each_weaker, each_at, each_before, each_after}
@@ -72,16 +71,19 @@ module _ (shape : Shape) (type : TypeId) where
 
   abbrev Here : ℕ → Option Leaf → Bool → Value → Kept → Type 0
   Here n k l v later =
-      (part : IsPart (fields shape type) n k (places (message_of later))) × (is_repeated part.field.presence ≡ l) × ItemFits shape part.field.element v × ZeroFits part.field.presence v
+      (part : IsPart (fields shape type) n k (places (message_of later))) × (is_repeated part.field.presence ≡ l) × ItemKept shape part.field.element v × ZeroFits part.field.presence v
 
   listed_back : (n : ℕ) (l : Bool) (later : Kept) (f : FieldShape) → type_of later ≡ type → field_at (fields shape type) n ≡ Some f → is_listed (fields shape (type_of later)) n ≡ l → is_repeated f.presence ≡ l
   listed_back n l later f same found is = sym (ap (λ t. is_listed (fields shape t) n) same ∙ ap is_listed_by found) ∙ is
+
+  text_back : (n : ℕ) (text : Bool) (later : Kept) (f : FieldShape) → type_of later ≡ type → field_at (fields shape type) n ≡ Some f → text ≡ is_string_by (field_at (fields shape (type_of later)) n) → text ≡ is_string f.element
+  text_back n text later f same found is = is ∙ ap (λ t. is_string_by (field_at (fields shape t) n)) same ∙ ap is_string_by found
 
   leaf_off : (n : ℕ) (k : Option Leaf) (l : Bool) (v : Value) (later : Kept) → IsKey v → type_of later ≡ type → Whole (holds n k (manner l v) (leaf_of v) later) → Here n k l v later × Whole later
   leaf_off n k l v later key same h =
       let part = h.0.0 in
       let fits = leaf_back shape part.field.number part.field.presence part.field.element part.field.oneof v key h.0.1 in
-      ((part, listed_back n l later part.field same part.found h.1.0, fits.0, fits.1), (h.0.2, h.1.1))
+      ((part, listed_back n l later part.field same part.found h.1.0, (fits.0, text_back n (is_text v) later part.field same part.found h.1.1), fits.1), (h.0.2, h.1.2))
 
   pub value_back : IsShape shape → (n : ℕ) (k : Option Leaf) (l : Bool) (v : Value) (later : Kept) → type_of later ≡ type → Whole (value_onto n k l v later) → Here n k l v later × Whole later
   value_back is_shape n k l (values.Int x) later same h = leaf_off n k l (values.Int x) later tt same h
@@ -100,7 +102,7 @@ module _ (shape : Shape) (type : TypeId) where
         is_message = subst (λ x. IsMessage shape x (message_of child.value)) (sym of_type) h.0.3;
         parts_agree = h.1.2;
       } in (
-        (part, listed_back n l later part.field same part.found h.1.0, subst (λ e. ItemFits shape e (values.Msg child)) (sym is) (fits, of_type), zero_of_child part.field.presence (values.Msg child) refl),
+        (part, listed_back n l later part.field same part.found h.1.0, subst (λ e. ItemKept shape e (values.Msg child)) (sym is) ((fits, of_type), refl), zero_of_child part.field.presence (values.Msg child) refl),
         (h.0.4, h.1.3),
       )
 
@@ -108,40 +110,37 @@ module _ (shape : Shape) (type : TypeId) where
   NotSibling f number = (g : FieldShape) → field_at (fields shape type) number ≡ Some g → is_sibling f g ≡ false
 
   -- what each shape of a content says of its field's presence
-  one_gives : (p : Presence) (e : Element) (v : Value) → ContentFits shape p e (contents.One v) → KeyFits p None × (is_repeated p ≡ false) × ItemFits shape e v × ZeroFits p v
+  one_gives : (p : Presence) (e : Element) (v : Value) → ContentFits shape p e (contents.One v) → KeyFits p None × (is_repeated p ≡ false) × ItemKept shape e v × ZeroFits p v
   one_gives presences.Implicit e v h = (refl, refl, h.0, h.1)
   one_gives presences.Explicit e v h = (refl, refl, h, tt)
   one_gives (presences.Repeated packed) e v h = absurd h
   one_gives (presences.Map key) e v h = absurd h
 
-  one_takes : (p : Presence) (e : Element) (v : Value) → KeyFits p None → is_repeated p ≡ false → ItemFits shape e v → ZeroFits p v → ContentFits shape p e (contents.One v)
+  one_takes : (p : Presence) (e : Element) (v : Value) → KeyFits p None → is_repeated p ≡ false → ItemKept shape e v → ZeroFits p v → ContentFits shape p e (contents.One v)
   one_takes presences.Implicit e v key listed item zero = (item, zero)
   one_takes presences.Explicit e v key listed item zero = item
   one_takes (presences.Repeated packed) e v key listed item zero = absurd (cc)
   one_takes (presences.Map k) e v key listed item zero = absurd key
 
-  many_gives : (p : Presence) (e : Element) (c : Content) (vs : Vec Value Global) → c ≡ contents.Many vs → ContentFits shape p e c → (is_repeated p ≡ true) × AllByRecursion (ItemFits shape e) vs.items
+  many_gives : (p : Presence) (e : Element) (c : Content) (vs : Vec Value Global) → c ≡ contents.Many vs → ContentFits shape p e c → (is_repeated p ≡ true) × AllByRecursion (ItemKept shape e) vs.items
   many_gives presences.Implicit e c vs is h = absurd (subst (ContentFits shape presences.Implicit e) is h)
   many_gives presences.Explicit e c vs is h = absurd (subst (ContentFits shape presences.Explicit e) is h)
   many_gives (presences.Repeated packed) e c vs is h = (refl, subst (ContentFits shape (presences.Repeated packed) e) is h)
   many_gives (presences.Map key) e c vs is h = absurd (subst (ContentFits shape (presences.Map key) e) is h)
 
-  many_takes : (p : Presence) (e : Element) (vs : Vec Value Global) → is_repeated p ≡ true → AllByRecursion (ItemFits shape e) vs.items → ContentFits shape p e (contents.Many vs)
+  many_takes : (p : Presence) (e : Element) (vs : Vec Value Global) → is_repeated p ≡ true → AllByRecursion (ItemKept shape e) vs.items → ContentFits shape p e (contents.Many vs)
   many_takes presences.Implicit e vs listed h = absurd (cc)
   many_takes presences.Explicit e vs listed h = absurd (cc)
   many_takes (presences.Repeated packed) e vs listed h = h
   many_takes (presences.Map key) e vs listed h = absurd (cc)
 
-  abbrev pub EntryFits : Scalar → Element → Value × Value → Type 0
-  EntryFits key e x = IsItemOf key x.0 × ItemFits shape e x.1
-
-  map_gives : (p : Presence) (e : Element) (c : Content) (es : Vec (Value × Value) Global) → c ≡ contents.Map es → ContentFits shape p e c → (key : Scalar) × (p ≡ presences.Map key) × AllByRecursion (EntryFits key e) es.items × KeysRise es.items
+  map_gives : (p : Presence) (e : Element) (c : Content) (es : Vec (Value × Value) Global) → c ≡ contents.Map es → ContentFits shape p e c → (key : Scalar) × (p ≡ presences.Map key) × AllByRecursion (EntryKept shape key e) es.items × KeysRise es.items
   map_gives presences.Implicit e c es is h = absurd (subst (ContentFits shape presences.Implicit e) is h)
   map_gives presences.Explicit e c es is h = absurd (subst (ContentFits shape presences.Explicit e) is h)
   map_gives (presences.Repeated packed) e c es is h = absurd (subst (ContentFits shape (presences.Repeated packed) e) is h)
   map_gives (presences.Map key) e c es is h = let k = subst (ContentFits shape (presences.Map key) e) is h in (key, refl, k.0, k.1)
 
-  map_takes : (p : Presence) (e : Element) (es : Vec (Value × Value) Global) (key : Scalar) → p ≡ presences.Map key → AllByRecursion (EntryFits key e) es.items → KeysRise es.items → ContentFits shape p e (contents.Map es)
+  map_takes : (p : Presence) (e : Element) (es : Vec (Value × Value) Global) (key : Scalar) → p ≡ presences.Map key → AllByRecursion (EntryKept shape key e) es.items → KeysRise es.items → ContentFits shape p e (contents.Map es)
   map_takes p e es key is each rise = subst (λ x. ContentFits shape x e (contents.Map es)) (sym is) (each, rise)
 
   keyless : (p : Presence) → is_repeated p ≡ true → KeyFits p None
@@ -164,18 +163,18 @@ module _ (shape : Shape) (type : TypeId) where
 
   -- From the contents to the message.
 
-  item_holds : (n : ℕ) (p : Presence) (e : Element) (o : Option ℕ) (l : Bool) (v : Value) → is_repeated p ≡ l → ItemFits shape e v → ZeroFits p v
+  item_holds : (n : ℕ) (p : Presence) (e : Element) (o : Option ℕ) (l : Bool) (v : Value) → is_repeated p ≡ l → ItemKept shape e v → ZeroFits p v
       → HoldsItem shape (field_of n p e o) (item_seen l v)
-  item_holds n p e o l (values.Int x) listed item zero = (listed, leaf_to shape n p e o (values.Int x) tt item zero)
-  item_holds n p e o l (values.F32 x) listed item zero = (listed, leaf_to shape n p e o (values.F32 x) tt item zero)
-  item_holds n p e o l (values.F64 x) listed item zero = (listed, leaf_to shape n p e o (values.F64 x) tt item zero)
-  item_holds n p e o l (values.Text x) listed item zero = (listed, leaf_to shape n p e o (values.Text x) tt item zero)
-  item_holds n p e o l (values.Bytes x) listed item zero = (listed, leaf_to shape n p e o (values.Bytes x) tt item zero)
+  item_holds n p e o l (values.Int x) listed item zero = (listed, item.1, leaf_to shape n p e o (values.Int x) tt item.0 zero)
+  item_holds n p e o l (values.F32 x) listed item zero = (listed, item.1, leaf_to shape n p e o (values.F32 x) tt item.0 zero)
+  item_holds n p e o l (values.F64 x) listed item zero = (listed, item.1, leaf_to shape n p e o (values.F64 x) tt item.0 zero)
+  item_holds n p e o l (values.Text x) listed item zero = (listed, item.1, leaf_to shape n p e o (values.Text x) tt item.0 zero)
+  item_holds n p e o l (values.Bytes x) listed item zero = (listed, item.1, leaf_to shape n p e o (values.Bytes x) tt item.0 zero)
   item_holds n p e o l (values.Msg child) listed item zero =
-      let (t, is, fits, of_type) = child_of shape e child item in (listed, fits, is ∙ ap elements.Message (sym of_type))
+      let (t, is, fits, of_type) = child_of shape e child item.0 in (listed, fits, is ∙ ap elements.Message (sym of_type))
 
   module _ (n : ℕ) (f : FieldShape) (number : n ≡ f.number) where
-    one_part : (k : Option Leaf) (l : Bool) (v : Value) → KeyFits f.presence k → is_repeated f.presence ≡ l → ItemFits shape f.element v
+    one_part : (k : Option Leaf) (l : Bool) (v : Value) → KeyFits f.presence k → is_repeated f.presence ≡ l → ItemKept shape f.element v
         → ZeroFits f.presence v → IsPartOf shape f (record { number = n; key = k; item = item_seen l v })
     one_part k l v key listed item zero = record {
       number_is = number;
@@ -183,7 +182,7 @@ module _ (shape : Shape) (type : TypeId) where
       item = item_holds f.number f.presence f.element f.oneof l v listed item zero;
     }
 
-    items_hold : is_repeated f.presence ≡ true → (vs : List Value) → AllByRecursion (ItemFits shape f.element) vs
+    items_hold : is_repeated f.presence ≡ true → (vs : List Value) → AllByRecursion (ItemKept shape f.element) vs
         → FieldHolds shape f (map (λ value. record { number = n; key = None; item = item_seen true value }) vs)
     items_hold listed [] h = record { each = tt; in_order = tt }
     items_hold listed (v ∷ vs) h =
@@ -198,7 +197,7 @@ module _ (shape : Shape) (type : TypeId) where
         behind [] = tt
         behind (x ∷ xs) = (follows f.presence listed, behind xs)
 
-    entries_hold : (key : Scalar) → f.presence ≡ presences.Map key → (es : List (Value × Value)) → AllByRecursion (EntryFits key f.element) es → KeysRise es
+    entries_hold : (key : Scalar) → f.presence ≡ presences.Map key → (es : List (Value × Value)) → AllByRecursion (EntryKept shape key f.element) es → KeysRise es
         → FieldHolds shape f (map (λ (e : Value × Value). record { number = n; key = Some (leaf_of e.0); item = item_seen false e.1 }) es)
     entries_hold key is [] h rise = record { each = tt; in_order = tt }
     entries_hold key is (e ∷ es) h rise =
@@ -271,15 +270,15 @@ module _ (shape : Shape) (type : TypeId) where
     Back n c later =
         (f : FieldShape) × (field_at (fields shape type) n ≡ Some f) × ContentFits shape f.presence f.element c × AllByRecursion (λ (p : Place). NotSibling f p.number) (places (message_of later)) × Whole later
 
-    items_each : (n : ℕ) (f : FieldShape) → field_at (fields shape type) n ≡ Some f → (vs : List Value) (later : Kept) → type_of later ≡ type → Whole (items_onto n vs later) → AllByRecursion (ItemFits shape f.element) vs × Whole later
+    items_each : (n : ℕ) (f : FieldShape) → field_at (fields shape type) n ≡ Some f → (vs : List Value) (later : Kept) → type_of later ≡ type → Whole (items_onto n vs later) → AllByRecursion (ItemKept shape f.element) vs × Whole later
     items_each n f found [] later same h = (tt, h)
     items_each n f found (v ∷ vs) later same h =
         let (here, rest) = value_back is_shape n None true v (items_onto n vs later) ((unknown_of-items n vs later).1 ∙ same) h in
         let more = items_each n f found vs later same rest in
-        ((subst (λ (g : FieldShape). ItemFits shape g.element v) (same_found n here.0.field f here.0.found found) here.2, more.0), more.1)
+        ((subst (λ (g : FieldShape). ItemKept shape g.element v) (same_found n here.0.field f here.0.found found) here.2, more.0), more.1)
 
     items_back : (n : ℕ) (vs : List Value) (later : Kept) → type_of later ≡ type → vs ≢ [] → Whole (items_onto n vs later)
-        → (f : FieldShape) × (field_at (fields shape type) n ≡ Some f) × (is_repeated f.presence ≡ true) × AllByRecursion (ItemFits shape f.element) vs × AllByRecursion (λ (p : Place). NotSibling f p.number) (places (message_of later)) × Whole later
+        → (f : FieldShape) × (field_at (fields shape type) n ≡ Some f) × (is_repeated f.presence ≡ true) × AllByRecursion (ItemKept shape f.element) vs × AllByRecursion (λ (p : Place). NotSibling f p.number) (places (message_of later)) × Whole later
     items_back n [] later same some h = absurd (some refl)
     items_back n (v ∷ vs) later same some h =
         let (here, rest) = value_back is_shape n None true v (items_onto n vs later) ((unknown_of-items n vs later).1 ∙ same) h in
@@ -295,7 +294,7 @@ module _ (shape : Shape) (type : TypeId) where
     map_of (presences.Map key) k h = (key, refl)
 
     entries_each : (n : ℕ) (f : FieldShape) → field_at (fields shape type) n ≡ Some f → (key : Scalar) → f.presence ≡ presences.Map key → (es : List (Value × Value)) (later : Kept) → type_of later ≡ type
-        → AllByRecursion (λ (e : Value × Value). IsKey e.0) es → Whole (entries_onto n es later) → AllByRecursion (EntryFits key f.element) es × KeysRise es × Whole later
+        → AllByRecursion (λ (e : Value × Value). IsKey e.0) es → Whole (entries_onto n es later) → AllByRecursion (EntryKept shape key f.element) es × KeysRise es × Whole later
     entries_each n f found key is [] later same keys h = (tt, tt, h)
     entries_each n f found key is (e ∷ es) later same keys h =
         let (here, rest) = value_back is_shape n (Some (leaf_of e.0)) false e.1 (entries_onto n es later) ((unknown_of-entries n es later).1 ∙ same) h in
@@ -306,7 +305,7 @@ module _ (shape : Shape) (type : TypeId) where
         let item = item_of_range key e.0 keys.0 (subst (λ p. KeyFits p (Some (leaf_of e.0))) map_here part.key_fits) in
         let number = found_number (fields shape type) n part.field part.found in
         let before = subst (ComesBefore part.field (Some (leaf_of e.0))) (places-entries_onto n es later) part.before in
-        (((item, subst (λ (g : FieldShape). ItemFits shape g.element e.1) is_f here.2), more.0), (rising part.field number map_here (leaf_of e.0) es (places (message_of later)) before, more.1), more.2)
+        (((item, subst (λ (g : FieldShape). ItemKept shape g.element e.1) is_f here.2), more.0), (rising part.field number map_here (leaf_of e.0) es (places (message_of later)) before, more.1), more.2)
       where
         rising : (g : FieldShape) → g.number ≡ n → g.presence ≡ presences.Map key → (k : Leaf) (xs : List (Value × Value)) (ps : List Place) → ComesBefore g (Some k) (map (key_place n) xs ++ ps) → AllByRecursion (λ (x : Value × Value). key_cmp k (leaf_of x.0) ≡ Less) xs
         rising g number map_here k [] ps h' = tt
@@ -314,7 +313,7 @@ module _ (shape : Shape) (type : TypeId) where
             (⊎_elim (λ low. absurd (omega (arith, low, number))) (λ own. subst (λ p. MayFollow p (Some k) (Some (leaf_of x.0))) map_here own.1) h'.0, rising g number map_here k xs ps h'.1)
 
     entries_back : (n : ℕ) (es : List (Value × Value)) (later : Kept) → type_of later ≡ type → es ≢ [] → AllByRecursion (λ (e : Value × Value). IsKey e.0) es → Whole (entries_onto n es later)
-        → (f : FieldShape) × (field_at (fields shape type) n ≡ Some f) × ((key : Scalar) × (f.presence ≡ presences.Map key) × AllByRecursion (EntryFits key f.element) es × KeysRise es) × AllByRecursion (λ (p : Place). NotSibling f p.number) (places (message_of later)) × Whole later
+        → (f : FieldShape) × (field_at (fields shape type) n ≡ Some f) × ((key : Scalar) × (f.presence ≡ presences.Map key) × AllByRecursion (EntryKept shape key f.element) es × KeysRise es) × AllByRecursion (λ (p : Place). NotSibling f p.number) (places (message_of later)) × Whole later
     entries_back n [] later same some keys h = absurd (some refl)
     entries_back n (e ∷ es) later same some keys h =
         let (here, rest) = value_back is_shape n (Some (leaf_of e.0)) false e.1 (entries_onto n es later) ((unknown_of-entries n es later).1 ∙ same) h in

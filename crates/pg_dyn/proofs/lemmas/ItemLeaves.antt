@@ -1,5 +1,5 @@
 -- Items as leaves.
-use Rattle.std.proofs.Common.{Box, Global, ◌≡◌, ℕ, false, Option, refl, sym, ◌∙◌}
+use Rattle.std.proofs.Common.{Box, Global, ◌≡◌, ℕ, Bool, false, Option, refl, ap, sym, ◌∙◌}
 use Rattle.std.specs.Prelude.{⊤}
 use Rattle.pg_schema.specs.declared.parts.field.Scalar.{Scalar}
 use Rattle.pg_schema.specs.declared.parts.field.Scalar.TheVariants.{Int32}
@@ -12,14 +12,15 @@ use Rattle.pg_schema.specs.Shape.{Shape}
 use Rattle.pg_dyn.specs.declared.message.Message.{Message}
 use Rattle.pg_dyn.specs.declared.message.Value.{Value}
 use Rattle.pg_dyn.specs.declared.message.Value.TheVariants as values
-use Rattle.pg_dyn.specs.Message.{is_zero}
+use Rattle.pg_dyn.specs.Message.{Leaf, is_zero}
 use Rattle.pg_dyn.specs.Coding.{InRange, scalar_form}
-use Rattle.pg_dyn.specs.Kept.{Plain, type_of}
-use Rattle.pg_dyn.specs.Seen.{leaf_of, item_seen, manner, IsKey, IsMapKey}
+use Rattle.pg_dyn.specs.Kept.{Kept, KeptItem, Manner, Plain, Msg, type_of}
+use Rattle.pg_dyn.specs.Seen.{is_text, leaf_of, item_seen, manner, IsKey, IsMapKey}
 use Rattle.pg_dyn.specs.Belonging.{LeafFits, MayBeZero}
-use Rattle.pg_dyn.specs.Fits.{Fits}
+use Rattle.pg_dyn.specs.Fits.{Fits, is_string}
 use Rattle.pg_dyn.specs.ScalarItems.{IsItemOf}
 use Rattle.pg_dyn.specs.ContentFits.{is_zero_value, ItemFits}
+use Rattle.pg_dyn.specs.Texts.{kept_item}
 use Rattle.pg_dyn.proofs.lemmas.Fields.{field_of}
 
 pub in_range : (s : Scalar) (v : Value) → IsItemOf s v → InRange (scalar_form s) (leaf_of v)
@@ -119,3 +120,35 @@ pub child_of : (shape : Shape) (e : Element) (child : Box Message Global) → It
 child_of shape (elements.Scalar s) child h = absurd h
 child_of shape (elements.Enum e) child h = absurd h
 child_of shape (elements.Message t) child h = (t, refl, h.0, h.1)
+
+-- an item of a message field is no string
+pub child_text : (shape : Shape) (e : Element) (t : TypeId) → e ≡ elements.Message t → (v : Value) → ItemFits shape e v → is_text v ≡ is_string e
+child_text shape (elements.Scalar s) t is v h = absurd (cc)
+child_text shape (elements.Enum x) t is v h = absurd (cc)
+child_text shape (elements.Message u) t is (values.Msg child) h = refl
+child_text shape (elements.Message u) t is (values.Int x) h = absurd h
+child_text shape (elements.Message u) t is (values.F32 x) h = absurd h
+child_text shape (elements.Message u) t is (values.F64 x) h = absurd h
+child_text shape (elements.Message u) t is (values.Text x) h = absurd h
+child_text shape (elements.Message u) t is (values.Bytes x) h = absurd h
+
+-- An item that is shown as its field keeps it is a string just where the field's element is string.
+
+abbrev text_of : KeptItem → Bool
+text_of (Plain how leaf) = how.text
+text_of (Msg listed child) = false
+
+no_leaf_shown : (how : Manner) (leaf : Leaf) (listed : Bool) (child : Kept) → ◌≡◌ {A = KeptItem} (Plain how leaf) (Msg listed child) → ⊥
+no_leaf_shown how leaf listed child e = cc
+
+shown_text : (e : Element) (how : Manner) (leaf : Leaf) (x : KeptItem) → Plain how leaf ≡ kept_item e x → how.text ≡ is_string e
+shown_text e how leaf (Plain other same) is = ap text_of is
+shown_text e how leaf (Msg listed child) is = absurd (no_leaf_shown how leaf listed child is)
+
+pub kept_text : (shape : Shape) (e : Element) (l : Bool) (w : Value) (x : KeptItem) → ItemFits shape e w → item_seen l w ≡ kept_item e x → is_text w ≡ is_string e
+kept_text shape e l (values.Int n) x item is = shown_text e (manner l (values.Int n)) _ x is
+kept_text shape e l (values.F32 n) x item is = shown_text e (manner l (values.F32 n)) _ x is
+kept_text shape e l (values.F64 n) x item is = shown_text e (manner l (values.F64 n)) _ x is
+kept_text shape e l (values.Text n) x item is = shown_text e (manner l (values.Text n)) _ x is
+kept_text shape e l (values.Bytes n) x item is = shown_text e (manner l (values.Bytes n)) _ x is
+kept_text shape e l (values.Msg child) x item is = let found = child_of shape e child item in child_text shape e found.0 found.1 (values.Msg child) item

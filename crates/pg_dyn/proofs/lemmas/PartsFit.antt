@@ -4,11 +4,10 @@ use Rattle.std.specs.List.{AllByRecursion}
 use Rattle.pg_schema.specs.declared.parts.field.TypeId.{TypeId}
 use Rattle.pg_schema.specs.declared.parts.field.Element.{Element}
 use Rattle.pg_schema.specs.declared.parts.field.Element.TheVariants as elements
-use Rattle.pg_schema.specs.Shape.{Shape, fields}
-use Rattle.pg_schema.specs.ShapeRules.{ElementFits, IsField, IsShape}
+use Rattle.pg_schema.specs.Shape.{Shape, ElementFits, IsField, IsShape, field_at, fields}
 use Rattle.pg_dyn.specs.Belonging.{IsMessage}
 use Rattle.pg_dyn.specs.encoding.Encoding.{child_type}
-use Rattle.pg_dyn.specs.Fits.{Fits, is_listed, is_listed_by}
+use Rattle.pg_dyn.specs.Fits.{Fits, is_listed, is_listed_by, is_string_by}
 use Rattle.pg_dyn.specs.Kept.{Kept, ends, KeptItem, Plain, Msg, message_of, parts_of, type_of, unknown_of}
 use Rattle.pg_dyn.specs.Message.{Leaf, Part}
 use Rattle.pg_dyn.specs.PartsFit.{HoldsPart}
@@ -25,7 +24,8 @@ module _ (shape : Shape) (type : TypeId) (is_shape : IsShape shape) where
   one_part n k (Plain listed leaf) later same h =
       let part = h.0.0 in
       let list = sym (ap (λ t. is_listed (fields shape t) n) same ∙ ap is_listed_by part.found) ∙ h.1.0 in
-      (record { field = part.field; found = part.found; key = part.key_fits; item = (list, h.0.1) }, (h.0.2, h.1.1))
+      let text = h.1.1 ∙ ap (λ t. is_string_by (field_at (fields shape t) n)) same ∙ ap is_string_by part.found in
+      (record { field = part.field; found = part.found; key = part.key_fits; item = (list, text, h.0.1) }, (h.0.2, h.1.2))
   one_part n k (Msg listed child) later same h =
       let part = h.0.0 in
       let t = h.0.1 in

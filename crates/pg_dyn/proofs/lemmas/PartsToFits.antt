@@ -9,7 +9,7 @@ use Rattle.pg_dyn.specs.Belonging.{ComesBefore, IsAlone, IsMessage, IsPart, IsUn
 use Rattle.pg_dyn.specs.reading.Content.{is_sibling, same_oneof}
 use Rattle.pg_dyn.specs.ContentFits.{AreApart, NoneSiblings}
 use Rattle.pg_dyn.specs.encoding.Encoding.{child_type}
-use Rattle.pg_dyn.specs.Fits.{Fits, PartsAgree, is_listed, is_listed_by}
+use Rattle.pg_dyn.specs.Fits.{Fits, PartsAgree, is_listed, is_listed_by, is_string, is_string_by}
 use Rattle.pg_dyn.specs.Kept.{Kept, ends, KeptItem, Plain, Msg, message_of, type_of}
 use Rattle.pg_dyn.specs.Message.{Leaf, Part, Place, place_of, places}
 use Rattle.pg_dyn.specs.PartsFit.{FieldHolds, HoldsItem, IsPartOf}
@@ -48,11 +48,17 @@ module _ (shape : Shape) (type : TypeId) where
       → is_repeated f.presence ≡ l → is_listed (fields shape (type_of later)) n ≡ l
   listed_is n l later f same found is = ap (λ t. is_listed (fields shape t) n) same ∙ ap is_listed_by found ∙ is
 
+  text_is : (n : ℕ) (text : Bool) (later : Kept) (f : FieldShape) → type_of later ≡ type → field_at (fields shape type) n ≡ Some f
+      → text ≡ is_string f.element → text ≡ is_string_by (field_at (fields shape (type_of later)) n)
+  text_is n text later f same found is = is ∙ sym (ap (λ t. is_string_by (field_at (fields shape t) n)) same ∙ ap is_string_by found)
+
   part_to : (n : ℕ) (k : Option Leaf) (item : KeptItem) (later : Kept) → type_of later ≡ type
       → (part : IsPart (fields shape type) n k (places (message_of later))) → HoldsItem shape part.field item → Whole later
       → Whole (kept_part n k item later)
-  part_to n k (Plain manner leaf) later same part item whole =
-      ((part, item.1, whole.0), (listed_is n manner.listed later part.field same part.found item.0, whole.1))
+  part_to n k (Plain manner leaf) later same part item whole = (
+    (part, item.2, whole.0),
+    (listed_is n manner.listed later part.field same part.found item.0, text_is n manner.text later part.field same part.found item.1, whole.1),
+  )
   part_to n k (Msg listed child) later same part item whole =
       let fits : Fits shape child = item.1 in
       let agrees : child_type (fields shape (type_of later)) n ≡ type_of child =
@@ -125,7 +131,7 @@ module _ (shape : Shape) (type : TypeId) where
   swapped : (n : ℕ) (k : Option Leaf) (item : KeptItem) (a b : Kept) → type_of a ≡ type_of b → places (message_of a) ≡ places (message_of b)
       → (Whole a → Whole b) → Whole (kept_part n k item a) → Whole (kept_part n k item b)
   swapped n k (Plain manner leaf) a b same at rest h =
-      let later = rest (h.0.2, h.1.1) in
+      let later = rest (h.0.2, h.1.2) in
       let part = h.0.0 in (
         (
           record {
@@ -138,7 +144,11 @@ module _ (shape : Shape) (type : TypeId) where
           h.0.1,
           later.0,
         ),
-        (subst (λ t. is_listed (fields shape t) n ≡ manner.listed) same h.1.0, later.1),
+        (
+          subst (λ t. is_listed (fields shape t) n ≡ manner.listed) same h.1.0,
+          subst (λ t. manner.text ≡ is_string_by (field_at (fields shape t) n)) same h.1.1,
+          later.1,
+        ),
       )
   swapped n k (Msg listed child) a b same at rest h =
       let later = rest (h.0.4, h.1.3) in

@@ -8,7 +8,6 @@ pub mod NormalizedLaws
 pub mod NormalizedParts
 pub mod PutLaws
 pub mod SetSteps
-pub mod SetTexts
 pub mod WholeFaults
 pub mod WholeSteps
 pub mod WithoutSiblings

@@ -8,7 +8,7 @@ use Rattle.pg_wire.specs.Records.{WireRecord}
 use Rattle.pg_dyn.specs.declared.message_ref.ValueRef.{ValueRef}
 use Rattle.pg_dyn.specs.Message.{Leaf}
 use Rattle.pg_dyn.specs.Coding.{form, zero_leaf}
-use Rattle.pg_dyn.specs.reading.Content.{takes, plain_content, key_field, value_field}
+use Rattle.pg_dyn.specs.reading.Content.{takes, plain_content}
 use Rattle.pg_dyn.specs.BorrowedItems.{ItemKept}
 use Rattle.pg_dyn.specs.reading.Decoding.{read_item, dec}
 use Rattle.pg_dyn.specs.Borrowed.{item_seen}

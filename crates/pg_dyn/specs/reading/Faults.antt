@@ -1,7 +1,7 @@
 -- Why bytes can't be read, and where: the first byte of the record that has the fault itself, and of several faults that of the first
 -- record in byte order that has one. The root has depth 1, a message inside one more than the message that holds it; the entry of a
 -- map adds nothing, and where it lacks a value that is a message, the empty message stands for it (this profile's choice).
-use Rattle.std.specs.Prelude.{◌≡◌, ℕ, suc, ◌+◌, ◌-◌, ◌≤◌, true, false, List, [], ◌∷◌, ◌++◌, length, filter, Some, Ok, Err}
+use Rattle.std.specs.Prelude.{◌≡◌, ℕ, suc, ◌+◌, ◌-◌, ◌≤◌, true, false, List, [], ◌++◌, length, filter, Some, Ok, Err}
 use Rattle.std.specs.Str.{is_utf8}
 use Rattle.pg_schema.specs.declared.parts.field.TypeId.{TypeId}
 use Rattle.pg_schema.specs.declared.parts.field.Scalar.{Scalar}

@@ -22,7 +22,7 @@ use Rattle.pg_dyn.specs.BorrowedItems.{IsItemKept}
 use Rattle.pg_dyn.specs.reading.Decoding.{is_readable, dec}
 use Rattle.pg_dyn.specs.Kept.{KeptItem, Plain, Msg, message_of}
 use Rattle.pg_dyn.specs.Borrowed.{HasKeys, IsFilled, content_seen, leaf_of}
-use Rattle.pg_dyn.specs.PartsFit.{FieldHolds, IsElementKept}
+use Rattle.pg_dyn.specs.PartsFit.{FieldHolds}
 use Rattle.pg_dyn.specs.reading.Faults.{Code, Wire, NotUtf8, TooDeep, FirstFault, FirstFaultOf, TooDeepIn, TooDeepOf}
 
 -- what a field holds, as parts of a message
@@ -37,12 +37,10 @@ abbrev pub parts_held : ℕ → Option ContentRef → List (Part KeptItem)
 parts_held number None = []
 parts_held number (Some content) = content_seen number content
 
--- the field holds nothing, or a content of such parts that isn't empty, whose keys are numbers or strings and whose items are texts where
--- the field is of type string
+-- the field holds nothing, or a content of such parts that isn't empty, whose keys are numbers or strings
 abbrev pub HeldFits : Shape → FieldShape → Option ContentRef → Type 0
 HeldFits shape f None = ⊤
 HeldFits shape f (Some content) = FieldHolds shape f (content_seen f.number content) × IsFilled content × HasKeys content
-    × AllByRecursion (λ (p : Part KeptItem). IsElementKept shape f.element p.item) (content_seen f.number content)
 
 -- Why reading is refused: memory was, or what the error names is that many bytes after an offset.
 abbrev pub RefusedBy : (Code → ℕ → Type 0) → ℕ → DynError → Type 0

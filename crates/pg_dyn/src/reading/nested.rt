@@ -22,7 +22,6 @@ ghost use Rattle.pg_dyn.specs.Kept.{ends, message_of, type_of};
 ghost use Rattle.pg_dyn.specs.Borrowed.{HasKeys, IsFilled, fields_onto};
 ghost use Rattle.pg_dyn.specs.Seen.{Rises};
 ghost use Rattle.pg_dyn.specs.reading.Steps.{HeldFits, IsShallowIn};
-ghost use Rattle.pg_dyn.specs.Texts.{KeepsTexts};
 
 use crate::message_ref::{ContentRef, EntryRef, MessageRef, ValueRef};
 use crate::reading::elements::scalar_of;
@@ -274,8 +273,6 @@ fn read_contents<'a>(
         ≡ Some (message_of (fields_onto contents.items (ends type_id [])))) }
     ensures fits { IfOk result (λ contents. Fits (shape_of schema.now)
         (fields_onto contents.items (ends type_id []))) }
-    ensures texts { IfOk result (λ contents. (unknown : List WireRecord)
-        → KeepsTexts (shape_of schema.now) (fields_onto contents.items (ends type_id unknown))) }
     ensures kept { IfOk result (λ contents. Rises contents.items
         × AllByRecursion (λ c. IsFilled c.1) contents.items
         × AllByRecursion (λ c. HasKeys c.1) contents.items) }
@@ -323,7 +320,6 @@ fn read_gathered<'a>(
         → read_records (dec (shape_of schema.now)) (fields (shape_of schema.now) type_id) rs
         ≡ Some (message_of m)) }
     ensures fits { IfOk result (λ m. Fits (shape_of schema.now) m × (type_of m ≡ type_id)) }
-    ensures texts { IfOk result (KeepsTexts (shape_of schema.now)) }
     ensures good { OnOk result ((rs : List WireRecord)
         → AreGathered (shape_of schema.now) type_id rs gathered.entry
         → RecordsGood (shape_of schema.now) levels (fields (shape_of schema.now) type_id) rs) }
@@ -365,7 +361,6 @@ pub(crate) fn read_message<'a>(
     ensures ok { IfOk result (λ m. dec (shape_of schema.now) type_id bytes.now
         ≡ Some (message_of m)) }
     ensures fits { IfOk result (λ m. Fits (shape_of schema.now) m × (type_of m ≡ type_id)) }
-    ensures texts { IfOk result (KeepsTexts (shape_of schema.now)) }
     ensures shallow { OnOk result (IsShallowIn (shape_of schema.now) (suc levels)
         (fields (shape_of schema.now) type_id) bytes.now) }
     ensures err { IfErr result (StopsFor

@@ -177,11 +177,11 @@ leaf_of_element n p (elements.Enum t) o leaf h = h.0
 leaf_of_element n p (elements.Message t) o leaf h = absurd h
 
 bare_of : (shape : Shape) (f : FieldShape) (l : Bool) (x : Bare) → HoldsItem shape f (in_list l x) → BareFits shape f.element x
-bare_of shape f l (Lone text leaf) h = leaf_of_element f.number f.presence f.element f.oneof leaf h.1
+bare_of shape f l (Lone text leaf) h = leaf_of_element f.number f.presence f.element f.oneof leaf h.2
 bare_of shape f l (Child m) h = (h.1, h.2)
 
 bare_held : (shape : Shape) (f : FieldShape) (item : KeptItem) → HoldsItem shape f item → BareFits shape f.element (bare item)
-bare_held shape f (Plain l leaf) h = leaf_of_element f.number f.presence f.element f.oneof leaf h.1
+bare_held shape f (Plain l leaf) h = leaf_of_element f.number f.presence f.element f.oneof leaf h.2
 bare_held shape f (Msg l m) h = (h.1, h.2)
 
 -- an item of what can be packed is no message

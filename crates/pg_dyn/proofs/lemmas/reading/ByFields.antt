@@ -18,8 +18,6 @@ use Rattle.pg_dyn.specs.Optional.{after_last_of, all_some}
 use Rattle.pg_dyn.specs.Seen.{Rises}
 use Rattle.pg_dyn.specs.Borrowed.{HasKeys, IsFilled, content_seen, fields_onto}
 use Rattle.pg_dyn.specs.reading.Steps.{HeldFits, Taken, part_of, parts_held}
-use Rattle.pg_dyn.specs.Texts.{KeepsTexts}
-use Rattle.pg_dyn.proofs.lemmas.KeptTexts.{KeepsPart, keeps_onto, parts_keep}
 use Rattle.pg_dyn.proofs.lemmas.Flat.{is_sibling_sym}
 use Rattle.pg_dyn.proofs.lemmas.reading.GoodRecords.{known_is, same_found}
 use Rattle.pg_dyn.proofs.lemmas.BorrowedParts.{content_number}
@@ -178,7 +176,6 @@ module _ (shape : Shape) (type : TypeId) where
     pub rises : Rises cs
     pub filled : AllByRecursion (λ (c : ℕ × ContentRef). IsFilled c.1) cs
     pub keys : AllByRecursion (λ (c : ℕ × ContentRef). HasKeys c.1) cs
-    pub texts : AllByRecursion (KeepsPart shape type) (all_seen cs)
 
   -- The records of one field more, whose number is above those of all before.
   module _ (rs more : List WireRecord) (cs : List (ℕ × ContentRef)) (was : ReadSoFar rs cs) (f : FieldShape)
@@ -256,17 +253,6 @@ module _ (shape : Shape) (type : TypeId) where
     last_keys None h = tt
     last_keys (Some c) h = (h.2, tt)
 
-    last_texts : (o : Option ContentRef) → HeldFits shape f o → AllByRecursion (KeepsPart shape type) (parts_held f.number o)
-    last_texts None h = tt
-    last_texts (Some c) h = parts_keep shape type f found (content_seen f.number c) h.0.each h.3
-
-    next_texts : AllByRecursion (KeepsPart shape type) (all_seen (cs ++ with_held f.number held))
-    next_texts =
-        subst (AllByRecursion (KeepsPart shape type))
-        (sym (flat_map-append' (λ (c : ℕ × ContentRef). content_seen c.0 c.1) cs (with_held f.number held)
-        ∙ ap (λ ps. all_seen cs ++ ps) (seen_held f.number held)))
-        (each-append (KeepsPart shape type) (all_seen cs) (parts_held f.number held) was.texts (last_texts held fits))
-
     pub one_field : ReadSoFar (rs ++ more) (cs ++ with_held f.number held)
     one_field = record {
       each = each_next;
@@ -275,7 +261,6 @@ module _ (shape : Shape) (type : TypeId) where
       rises = rises_end f.number held cs lower was.rises;
       filled = each-append (λ (c : ℕ × ContentRef). IsFilled c.1) cs (with_held f.number held) was.filled (last_filled held fits);
       keys = each-append (λ (c : ℕ × ContentRef). HasKeys c.1) cs (with_held f.number held) was.keys (last_keys held fits);
-      texts = next_texts;
     }
 
   -- All records, which all count.
@@ -301,9 +286,6 @@ module _ (shape : Shape) (type : TypeId) where
 
     pub whole_fits : type.index < length shape → Fits shape (fields_onto cs (ends type []))
     whole_fits there = fits_of_contents content_seen shape type cs [] there was.rises holding (none_siblings cs was.backed) tt
-
-    pub whole_texts : (us : List WireRecord) → KeepsTexts shape (fields_onto cs (ends type us))
-    whole_texts us = keeps_onto shape type (all_seen cs) (ends type us) refl was.texts tt
 
     message_is : message_of (fields_onto cs (ends type [])) ≡ message_from (map part_of (all_seen cs)) []
     message_is = message_of-kept_from type (all_seen cs) []

@@ -18,8 +18,7 @@ use Rattle.pg_dyn.specs.reading.Gathering.{NumbersRise}
 use Rattle.pg_dyn.specs.Kept.{ends, message_of}
 use Rattle.pg_dyn.specs.Borrowed.{fields_onto}
 use Rattle.pg_dyn.specs.reading.Steps.{FieldReads, HeldFits, IsShallow, Taken}
-use Rattle.pg_dyn.specs.Texts.{KeepsTexts}
-use Rattle.pg_dyn.proofs.lemmas.reading.ByFields.{ReadSoFar, one_field, whole_fits, whole_read, whole_texts, with_held}
+use Rattle.pg_dyn.proofs.lemmas.reading.ByFields.{ReadSoFar, one_field, whole_fits, whole_read, with_held}
 use Rattle.pg_dyn.proofs.lemmas.reading.GoodRecords.{IsGood, each_good, good_by_field, good_each, good_of_field, same_found}
 use Rattle.pg_dyn.proofs.Lists.{each-append, each-map, each_both, each_weaker}
 use Rattle.pg_dyn.proofs.lemmas.Splitting.{found_number}
@@ -237,15 +236,12 @@ module _ (shape : Shape) (levels : ℕ) (type : TypeId) (sorted : List Record) w
     all_read : read_records (dec shape) (fields shape type) (map seen_record sorted) ≡ Some (message_of (fields_onto cs (ends type [])))
     all_read = whole_read shape type (map seen_record sorted) cs rising all whole all_good.0
 
-    all_texts : (us : List WireRecord) → KeepsTexts shape (fields_onto cs (ends type us))
-    all_texts = whole_texts shape type (map seen_record sorted) cs rising all whole
-
     all_fit : type.index < length shape → Fits shape (fields_onto cs (ends type []))
     all_fit there = whole_fits shape type (map seen_record sorted) cs rising all whole there
 
-    -- what is read, that it fits and keeps its texts, and that all records are good
+    -- what is read, that it fits, and that all records are good
     pub all_are : type.index < length shape
         → (read_records (dec shape) (fields shape type) (map seen_record sorted) ≡ Some (message_of (fields_onto cs (ends type []))))
-        × Fits shape (fields_onto cs (ends type [])) × ((us : List WireRecord) → KeepsTexts shape (fields_onto cs (ends type us)))
+        × Fits shape (fields_onto cs (ends type []))
         × RecordsGood shape levels (fields shape type) (map seen_record sorted)
-    all_are there = (all_read, all_fit there, all_texts, all_good)
+    all_are there = (all_read, all_fit there, all_good)

@@ -20,9 +20,9 @@ use Rattle.pg_dyn.specs.BorrowedItems.{IsItemKept, ItemKept, KeysRise, key_of}
 use Rattle.pg_dyn.specs.Kept.{KeptItem, Plain, Msg}
 use Rattle.pg_dyn.specs.Message.{Part, key_cmp}
 use Rattle.pg_dyn.specs.NumberLists.{numbers_in}
-use Rattle.pg_dyn.specs.PartsFit.{FieldHolds, InOrder, IsElementKept, IsPartOf}
+use Rattle.pg_dyn.specs.PartsFit.{FieldHolds, InOrder, IsPartOf}
 use Rattle.pg_dyn.specs.reading.Steps.{HeldFits}
-use Rattle.pg_dyn.proofs.lemmas.BorrowedItems.{LeafMayBeZero, in_range, kept_listed, map_key, value_holds}
+use Rattle.pg_dyn.proofs.lemmas.BorrowedItems.{LeafMayBeZero, in_range, map_key, value_holds}
 use Rattle.pg_dyn.proofs.Lists.{each-map, each_weaker}
 
 keyless : (p : Presence) → is_map p ≡ false → KeyFits p None
@@ -90,7 +90,6 @@ module _ (shape : Shape) (f : FieldShape) where
     },
     tt,
     tt,
-    (fits, tt),
   )
 
   list_fits : (vs : List ValueRef) → is_repeated f.presence ≡ true → AllByRecursion (ItemKept shape f.element) vs → FieldHolds shape f (map (item_part f.number true) vs)
@@ -107,18 +106,13 @@ module _ (shape : Shape) (f : FieldShape) where
         item = value_holds shape f true v repeated h (list_zero f.presence (item_seen false v) repeated);
       }
 
-  list_kept : (vs : List ValueRef) → AllByRecursion (ItemKept shape f.element) vs → AllByRecursion (λ (p : Part KeptItem). IsElementKept shape f.element p.item) (map (item_part f.number true) vs)
-  list_kept vs fit =
-      each-map (λ (p : Part KeptItem). IsElementKept shape f.element p.item) (item_part f.number true) vs
-      (each_weaker (ItemKept shape f.element) (λ v. IsElementKept shape f.element (item_seen true v)) (kept_listed true shape f.element) vs fit)
-
   pub list_held : (vs : Vec ValueRef Global) → is_repeated f.presence ≡ true → AllByRecursion (ItemKept shape f.element) vs.items → vs.items ≢ []
       → HeldFits shape f (Some (contents.Many vs))
-  list_held vs repeated fit some = (list_fits vs.items repeated fit, some, tt, list_kept vs.items fit)
+  list_held vs repeated fit some = (list_fits vs.items repeated fit, some, tt)
 
   pub numbers_held : (ns : NumberList) → is_repeated f.presence ≡ true → AllByRecursion (ItemKept shape f.element) (numbers_in ns) → numbers_in ns ≢ []
       → HeldFits shape f (Some (contents.Numbers ns))
-  numbers_held ns repeated fit some = (list_fits (numbers_in ns) repeated fit, some, tt, list_kept (numbers_in ns) fit)
+  numbers_held ns repeated fit some = (list_fits (numbers_in ns) repeated fit, some, tt)
 
   -- an entry is one of the map
   abbrev pub EntryFits : Scalar → EntryRef → Type 0
@@ -134,8 +128,6 @@ module _ (shape : Shape) (f : FieldShape) where
     },
     some,
     each_weaker (EntryFits key) (λ (e : EntryRef). IsMapKey e.key) (λ e h. map_key key e.key keyed h.0) es.items fit,
-    each-map (λ (p : Part KeptItem). IsElementKept shape f.element p.item) (entry_part f.number) es.items
-        (each_weaker (EntryFits key) (λ (e : EntryRef). IsElementKept shape f.element (item_seen false e.value)) (λ e h. h.1) es.items fit),
   )
     where
       one : (e : EntryRef) → EntryFits key e → IsPartOf shape f (entry_part f.number e)

@@ -16,7 +16,8 @@ use Rattle.pg_dyn.specs.Message.{Leaf, Bytes}
 use Rattle.pg_dyn.specs.ScalarItems.{IsItemOf, IsKeptAs}
 use Rattle.pg_dyn.specs.Seen.{IsMapKey, item_seen, leaf_of}
 use Rattle.pg_dyn.specs.setting.Reported.{EntryFits, entry_kept, entry_seen}
-use Rattle.pg_dyn.specs.Texts.{holds_bytes, is_string, kept_item}
+use Rattle.pg_dyn.specs.Fits.{is_string}
+use Rattle.pg_dyn.specs.Texts.{holds_bytes, kept_item}
 
 -- Of a scalar whose items are numbers.
 

@@ -15,7 +15,7 @@ use Rattle.pg_dyn.specs.declared.message.Content.TheVariants as contents
 use Rattle.pg_dyn.specs.declared.message.Value.{Value}
 use Rattle.pg_dyn.specs.declared.message.Value.TheVariants as values
 use Rattle.pg_dyn.specs.setting.ContentFaults.{HasEntryTwice}
-use Rattle.pg_dyn.specs.ContentFits.{ContentFits, ItemFits, KeysRise, is_zero_value}
+use Rattle.pg_dyn.specs.ContentFits.{ContentFits, EntryKept, ItemFits, ItemKept, KeysRise, is_zero_value}
 use Rattle.pg_dyn.specs.Kept.{KeptItem, Plain, Msg}
 use Rattle.pg_dyn.specs.KeyOrder.{AreAlike}
 use Rattle.pg_dyn.specs.Message.{Leaf, Part, key_cmp}
@@ -23,6 +23,7 @@ use Rattle.pg_dyn.specs.Seen.{content_seen, item_seen, leaf_of}
 use Rattle.pg_dyn.specs.setting.Setting.{by_rising_key, is_zero_kept, normalized_by}
 use Rattle.pg_dyn.specs.setting.Reported.{EntryFits, entry_kept, entry_seen, is_nothing, ItemsFit}
 use Rattle.pg_dyn.specs.Texts.{kept_in, kept_item}
+use Rattle.pg_dyn.proofs.lemmas.ItemLeaves.{kept_text}
 use Rattle.pg_dyn.proofs.lemmas.setting.KeySorting.{entry_part, sorted_is}
 use Rattle.pg_dyn.proofs.Lists.{each-append, map_map}
 
@@ -108,10 +109,33 @@ zero_seen l (values.Msg x) = refl
 module _ (shape : Shape) where
   pub one_fits : (p : Presence) (e : Element) (v w : Value) → ItemsFit shape p e (contents.One v) → is_nothing p (contents.One v) ≡ false → ItemFits shape e w → item_seen false w ≡ kept_item e (item_seen false v)
       → ContentFits shape p e (contents.One w)
-  one_fits presences.Implicit e v w items some fits seen = (fits, sym (zero_seen false w) ∙ ap is_zero_kept seen ∙ kept_zero e (item_seen false v) ∙ zero_seen false v ∙ some)
-  one_fits presences.Explicit e v w items some fits seen = fits
+  one_fits presences.Implicit e v w items some fits seen = ((fits, kept_text shape e false w (item_seen false v) fits seen), sym (zero_seen false w) ∙ ap is_zero_kept seen ∙ kept_zero e (item_seen false v) ∙ zero_seen false v ∙ some)
+  one_fits presences.Explicit e v w items some fits seen = (fits, kept_text shape e false w (item_seen false v) fits seen)
   one_fits (presences.Repeated packed) e v w items some fits seen = absurd items
   one_fits (presences.Map key) e v w items some fits seen = absurd items
+
+  each_kept : (e : Element) (ws vs : List Value) → AllByRecursion (ItemFits shape e) ws → map (item_seen true) ws ≡ map (λ v. kept_item e (item_seen true v)) vs → AllByRecursion (ItemKept shape e) ws
+  each_kept e [] vs fit seen = tt
+  each_kept e (w ∷ ws) [] fit seen = absurd (cc)
+  each_kept e (w ∷ ws) (v ∷ vs) fit seen =
+      let head : item_seen true w ≡ kept_item e (item_seen true v) = first_same seen in
+      let tail : map (item_seen true) ws ≡ map (λ v. kept_item e (item_seen true v)) vs = rest_same seen in
+      ((fit.0, kept_text shape e true w (item_seen true v) fit.0 head), each_kept e ws vs fit.1 tail)
+
+  pub list_fits : (p : Presence) (e : Element) (vs ws : Vec Value Global) → ItemsFit shape p e (contents.Many vs) → AllByRecursion (ItemFits shape e) ws.items
+      → map (item_seen true) ws.items ≡ map (λ v. kept_item e (item_seen true v)) vs.items → ContentFits shape p e (contents.Many ws)
+  list_fits presences.Implicit e vs ws items fit seen = absurd items
+  list_fits presences.Explicit e vs ws items fit seen = absurd items
+  list_fits (presences.Repeated packed) e vs ws items fit seen = each_kept e ws.items vs.items fit seen
+  list_fits (presences.Map key) e vs ws items fit seen = absurd items
+
+  pub entries_kept : (key : Scalar) (e : Element) (ks fs : List (Value × Value)) → AllByRecursion (EntryFits shape key e) ks → map entry_seen ks ≡ map (entry_kept e) fs → AllByRecursion (EntryKept shape key e) ks
+  entries_kept key e [] fs fit seen = tt
+  entries_kept key e (k ∷ ks) [] fit seen = absurd (cc)
+  entries_kept key e (k ∷ ks) (f ∷ fs) fit seen =
+      let head : entry_seen k ≡ entry_kept e f = first_same seen in
+      let tail : map entry_seen ks ≡ map (entry_kept e) fs = rest_same seen in
+      ((fit.0.0, (fit.0.1, kept_text shape e false k.1 (item_seen false f.1) fit.0.1 (ap (λ (x : Leaf × KeptItem). x.1) head))), entries_kept key e ks fs fit.1 tail)
 
   pub one_seen : (p : Presence) (e : Element) (v w : Value) (n : ℕ) → is_nothing p (contents.One v) ≡ false → item_seen false w ≡ kept_item e (item_seen false v)
       → content_seen n (contents.One w) ≡ map (kept_in e) (normalized_by p (content_seen n (contents.One v)))

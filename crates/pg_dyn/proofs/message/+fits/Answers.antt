@@ -9,9 +9,8 @@ use Rattle.pg_schema.specs.Parts.{field_shape, shape_of}
 use Rattle.pg_schema.specs.Shape.{FieldShape, fields}
 use Rattle.pg_dyn.specs.declared.message.UnknownRecord.{UnknownRecord}
 use Rattle.pg_dyn.specs.declared.message.Value.{Value}
-use Rattle.pg_dyn.specs.ContentFits.{ContentFits, HoldsContent, NoneSiblings}
+use Rattle.pg_dyn.specs.ContentFits.{ContentFits, EntryKept, HoldsContent, NoneSiblings}
 use Rattle.pg_dyn.specs.reading.Content.{is_unknown}
-use Rattle.pg_dyn.specs.setting.Reported.{EntryFits}
 use Rattle.pg_dyn.specs.Seen.{IsKey, Rises, record_seen}
 use Rattle.pg_dyn.proofs.lemmas.FitsByContents.{fits_from_contents, contents_from_fits}
 use Rattle.pg_dyn.proofs.lemmas.ItemLeaves.{item_is_key}
@@ -22,7 +21,7 @@ use Rattle.pg_dyn.proofs.message.+fits.Goals as goal
 
 pub Content::fits-keys_rise-requires : goal.Content::fits-keys_rise-requires
 Content::fits-keys_rise-requires t c =
-    let Fits = EntryFits (shape_of c.args.schema.now) c.in-Map-Map.key c.args.field.now.element in
+    let Fits = EntryKept (shape_of c.args.schema.now) c.in-Map-Map.key c.args.field.now.element in
     subst (AllByRecursion (λ (e : Value × Value). IsKey e.0)) (sym c.deref-then-are_entries.ensures.value)
     (each_weaker Fits (λ (e : Value × Value). IsKey e.0) (λ e h. item_is_key c.in-Map-Map.key e.0 h.0) c.in-Map-Map.entries.items (subst (AllByRecursion Fits) c.deref-in-Map-Map.ensures.value (c.are_entries.ensures.0 c.if-are_entries.true)))
 
@@ -66,7 +65,7 @@ pub Content::are_entries-returns-then-not-is_item : goal.Content::are_entries-re
 Content::are_entries-returns-then-not-is_item t c = (
   (λ e. absurd (true≢false (sym e))),
   λ each.
-      let one = each_at_index (EntryFits (shape_of c.args.schema.now) c.args.key c.args.element) _ _ c.loop-entry_key.entry_key-index c.loop-entry_key-item.result refl c.loop-entry_key-test.true c.loop-entry_key-item.is each in
+      let one = each_at_index (EntryKept (shape_of c.args.schema.now) c.args.key c.args.element) _ _ c.loop-entry_key.entry_key-index c.loop-entry_key-item.result refl c.loop-entry_key-test.true c.loop-entry_key-item.is each in
       absurd (true≢false (sym (c.is_item.ensures.1 one.0) ∙ c.if-not-is_item.true)),
 )
 
@@ -74,13 +73,13 @@ pub Content::are_entries-returns-then-not-fits : goal.Content::are_entries-retur
 Content::are_entries-returns-then-not-fits t c = (
   (λ e. absurd (true≢false (sym e))),
   λ each.
-      let one = each_at_index (EntryFits (shape_of c.args.schema.now) c.args.key c.args.element) _ _ c.loop-entry_key.entry_key-index c.loop-entry_key-item.result refl c.loop-entry_key-test.true c.loop-entry_key-item.is each in
+      let one = each_at_index (EntryKept (shape_of c.args.schema.now) c.args.key c.args.element) _ _ c.loop-entry_key.entry_key-index c.loop-entry_key-item.result refl c.loop-entry_key-test.true c.loop-entry_key-item.is each in
       absurd (true≢false (sym (c.fits.ensures.1 one.1) ∙ c.if-not-fits.true)),
 )
 
 pub Content::are_entries-loop-entry_key-preserved : goal.Content::are_entries-loop-entry_key-preserved
 Content::are_entries-loop-entry_key-preserved t c =
-    each_more (EntryFits (shape_of c.args.schema.now) c.args.key c.args.element) c.args.entries.now c.loop-entry_key.entry_key-index c.loop-entry_key-item.result c.loop-entry_key-test.true c.loop-entry_key-item.is c.loop-entry_key.invariant
+    each_more (EntryKept (shape_of c.args.schema.now) c.args.key c.args.element) c.args.entries.now c.loop-entry_key.entry_key-index c.loop-entry_key-item.result c.loop-entry_key-test.true c.loop-entry_key-item.is c.loop-entry_key.invariant
     (c.is_item.ensures.0 c.if-not-is_item.false, c.fits.ensures.0 c.if-not-fits.false)
 
 pub Message::is_one_of-none_siblings-requires : goal.Message::is_one_of-none_siblings-requires

@@ -6,8 +6,7 @@ use Rattle.pg_dyn.specs.declared.message.Message.TheDeep.{deep-Value}
 use Rattle.pg_dyn.specs.declared.message.Message.TheShapes.{weighed-Content-Map-0-at-2}
 use Rattle.std.specs.List.{AllByRecursion}
 use Rattle.pg_schema.specs.Parts.{shape_of}
-use Rattle.pg_dyn.specs.ContentFits.{ItemFits, HoldsContent}
-use Rattle.pg_dyn.specs.setting.Reported.{EntryFits}
+use Rattle.pg_dyn.specs.ContentFits.{EntryKept, ItemKept, HoldsContent}
 use Rattle.pg_dyn.proofs.message.+fits.Given as goal
 
 abbrev pub decreases-Content::are_items : goal.decreases-Content::are_items
@@ -26,10 +25,10 @@ abbrev pub decreases-Value::fits : goal.decreases-Value::fits
 decreases-Value::fits l = 2 * goal.size-Value::fits l
 
 abbrev pub invariant-Content::are_items-loop-value : goal.invariant-Content::are_items-loop-value
-invariant-Content::are_items-loop-value l = AllByRecursion (ItemFits (shape_of l.schema) l.element) (take l.value-index l.values)
+invariant-Content::are_items-loop-value l = AllByRecursion (ItemKept (shape_of l.schema) l.element) (take l.value-index l.values)
 
 abbrev pub invariant-Content::are_entries-loop-entry_key : goal.invariant-Content::are_entries-loop-entry_key
-invariant-Content::are_entries-loop-entry_key l = AllByRecursion (EntryFits (shape_of l.schema) l.key l.element) (take l.entry_key-index l.entries)
+invariant-Content::are_entries-loop-entry_key l = AllByRecursion (EntryKept (shape_of l.schema) l.key l.element) (take l.entry_key-index l.entries)
 
 abbrev pub invariant-Message::is_one_of-loop-number : goal.invariant-Message::is_one_of-loop-number
 invariant-Message::is_one_of-loop-number l = AllByRecursion (HoldsContent (shape_of l.schema) l.self-inside.type_id) (take l.number-index l.number-items)

@@ -21,12 +21,11 @@ use Rattle.pg_dyn.specs.declared.message_ref.ValueRef.TheVariants as values
 use Rattle.pg_dyn.specs.Belonging.{IsMessage, LeafFits}
 use Rattle.pg_dyn.specs.Coding.{InRange, scalar_form}
 use Rattle.pg_dyn.specs.encoding.Encoding.{child_type}
-use Rattle.pg_dyn.specs.Fits.{Fits, PartsAgree}
+use Rattle.pg_dyn.specs.Fits.{Fits, PartsAgree, is_string, is_string_by}
 use Rattle.pg_dyn.specs.Kept.{Kept, KeptItem, Plain, Msg, ends, holds, nests, message_of, of_number, parts_of, type_of}
 use Rattle.pg_dyn.specs.Message.{Bytes, F32, F64, Int, Part, is_of}
 use Rattle.pg_dyn.specs.Borrowed.{content_seen, entry_part, item_part, item_seen}
 use Rattle.pg_dyn.specs.NumberLists.{numbers_in}
-use Rattle.pg_dyn.specs.Texts.{KeepsTexts, is_string, is_string_by}
 use Rattle.pg_fds.specs.writing.Building.{written_shape}
 use Rattle.pg_fds.specs.descriptor.Descriptor.{descriptor_shape}
 use Rattle.pg_fds.specs.reading.Held.{AreSaid, IsHeldMessage, IsSaid}
@@ -178,25 +177,25 @@ module _ (shape : Shape) (known : list_all are_known shape ≡ true) where
   known_at : (type : TypeId) (number : ℕ) (f : FieldShape) → field_at (fields shape type) number ≡ Some f → is_known_field f ≡ true
   known_at type number f found = field_known (fields shape type) number f found (type_known shape type.index known)
 
-  message_held : (m : Kept) → IsMessage shape (type_of m) (message_of m) → PartsAgree shape m → KeepsTexts shape m → IsHeldMessage m
-  message_held (ends type unknown) is agree keeps = tt
-  message_held (holds number key manner (Int n) later) is agree keeps =
-      let f = is.0.field in (number_held f f.element n (known_at (type_of later) number f is.0.found) is.1, message_held later is.2 agree.1 keeps.1)
-  message_held (holds number key manner (F32 bits) later) is agree keeps =
+  message_held : (m : Kept) → IsMessage shape (type_of m) (message_of m) → PartsAgree shape m → IsHeldMessage m
+  message_held (ends type unknown) is agree = tt
+  message_held (holds number key manner (Int n) later) is agree =
+      let f = is.0.field in (number_held f f.element n (known_at (type_of later) number f is.0.found) is.1, message_held later is.2 agree.2)
+  message_held (holds number key manner (F32 bits) later) is agree =
       let f = is.0.field in no_float f f.element bits (known_at (type_of later) number f is.0.found) is.1
-  message_held (holds number key manner (F64 bits) later) is agree keeps =
+  message_held (holds number key manner (F64 bits) later) is agree =
       let f = is.0.field in no_double f f.element bits (known_at (type_of later) number f is.0.found) is.1
-  message_held (holds number key manner (Bytes bytes) later) is agree keeps =
+  message_held (holds number key manner (Bytes bytes) later) is agree =
       let f = is.0.field in
       let string = of_string f f.element bytes (known_at (type_of later) number f is.0.found) is.1 in
-      (keeps.0 ∙ ap is_string_by is.0.found ∙ string, message_held later is.2 agree.1 keeps.1)
-  message_held (nests number key listed child later) is agree keeps =
+      (agree.1 ∙ ap is_string_by is.0.found ∙ string, message_held later is.2 agree.2)
+  message_held (nests number key listed child later) is agree =
       let same : is.1 ≡ type_of child = sym (child_is (fields shape (type_of later)) number is.0.field is.1 is.0.found is.2) ∙ agree.1 in
-      (message_held child (subst (λ t. IsMessage shape t (message_of child)) same is.3) agree.2 keeps.0, message_held later is.4 agree.3 keeps.1)
+      (message_held child (subst (λ t. IsMessage shape t (message_of child)) same is.3) agree.2, message_held later is.4 agree.3)
 
-pub set_held : (set : Kept) → Fits written_shape set → KeepsTexts written_shape set → IsHeldMessage set
+pub set_held : (set : Kept) → Fits written_shape set → IsHeldMessage set
 unfolding written_shape
-set_held set fits keeps = message_held descriptor_shape refl set fits.is_message fits.parts_agree keeps
+set_held set fits = message_held descriptor_shape refl set fits.is_message fits.parts_agree
 
 -- ---- items
 

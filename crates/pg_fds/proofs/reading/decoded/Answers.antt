@@ -5,7 +5,6 @@ use Rattle.pg_dyn.specs.Fits.{Fits}
 use Rattle.pg_dyn.specs.Kept.{message_of}
 use Rattle.pg_dyn.specs.reading.Refusals.{MayRefuse}
 use Rattle.pg_dyn.specs.reading.Faults.{TooDeepIn}
-use Rattle.pg_dyn.specs.Texts.{KeepsTexts}
 use Rattle.pg_fds.specs.writing.Building.{written_shape}
 use Rattle.pg_fds.specs.descriptor.Descriptor.{file_set}
 use Rattle.pg_fds.proofs.lemmas.descriptor.HeldFits.{set_held}
@@ -21,7 +20,7 @@ returns-in-Ok-clause-message c = subst (位 s. dec s file_set c.args.bytes.now 鈮
 pub returns-in-Ok-clause-texts : goal.returns-in-Ok-clause-texts
 unfolding written_shape
 returns-in-Ok-clause-texts c =
-    set_held c.in-Ok.set (subst (位 s. Fits s c.in-Ok.set) c.in_ok-table.ensures.shape c.in-Ok.ensures.fits.0) (subst (位 s. KeepsTexts s c.in-Ok.set) c.in_ok-table.ensures.shape c.in-Ok.ensures.texts)
+    set_held c.in-Ok.set (subst (位 s. Fits s c.in-Ok.set) c.in_ok-table.ensures.shape c.in-Ok.ensures.fits.0)
 
 pub returns-in-Ok-clause-level : goal.returns-in-Ok-clause-level
 unfolding written_shape

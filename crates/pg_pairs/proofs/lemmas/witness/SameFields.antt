@@ -47,11 +47,11 @@ leaf_item shape n p (elements.Enum t) o how leaf h = h.0
 leaf_item shape n p (elements.Message t) o how leaf h = absurd h
 
 item_fits : (shape : Shape) (f : FieldShape) (listed : Bool) (v : ValueRef) → HoldsItem shape f (item_seen listed v) → ItemFits shape f.element v
-item_fits shape f listed (values.Int n) h = leaf_item shape f.number f.presence f.element f.oneof (manner false (values.Int n)) (leaf_of (values.Int n)) h.1
-item_fits shape f listed (values.F32 n) h = leaf_item shape f.number f.presence f.element f.oneof (manner false (values.F32 n)) (leaf_of (values.F32 n)) h.1
-item_fits shape f listed (values.F64 n) h = leaf_item shape f.number f.presence f.element f.oneof (manner false (values.F64 n)) (leaf_of (values.F64 n)) h.1
-item_fits shape f listed (values.Text n) h = leaf_item shape f.number f.presence f.element f.oneof (manner false (values.Text n)) (leaf_of (values.Text n)) h.1
-item_fits shape f listed (values.Bytes n) h = leaf_item shape f.number f.presence f.element f.oneof (manner false (values.Bytes n)) (leaf_of (values.Bytes n)) h.1
+item_fits shape f listed (values.Int n) h = leaf_item shape f.number f.presence f.element f.oneof (manner false (values.Int n)) (leaf_of (values.Int n)) h.2
+item_fits shape f listed (values.F32 n) h = leaf_item shape f.number f.presence f.element f.oneof (manner false (values.F32 n)) (leaf_of (values.F32 n)) h.2
+item_fits shape f listed (values.F64 n) h = leaf_item shape f.number f.presence f.element f.oneof (manner false (values.F64 n)) (leaf_of (values.F64 n)) h.2
+item_fits shape f listed (values.Text n) h = leaf_item shape f.number f.presence f.element f.oneof (manner false (values.Text n)) (leaf_of (values.Text n)) h.2
+item_fits shape f listed (values.Bytes n) h = leaf_item shape f.number f.presence f.element f.oneof (manner false (values.Bytes n)) (leaf_of (values.Bytes n)) h.2
 item_fits shape f listed (values.Msg child) h = subst (λ (e : Element). IsElementItem shape e (kept.Msg false child.value)) (sym h.2) (h.1, refl)
 
 -- a map's key is no message

@@ -34,7 +34,7 @@ module _ (shape : Shape) where
 
   parts_encoded : (m : Kept) (n : ℕ) → n ≤ cap → PartsAgree shape m → ChildrenShorter shape (type_of m) n (message_of m) → AllByRecursion (λ (p : Part KeptItem). PartHasEncoding p.item) (parts_of m)
   parts_encoded (ends type unknown) n within agree shorter = tt
-  parts_encoded (holds number key listed leaf later) n within agree shorter = (tt, parts_encoded later n within agree.1 shorter)
+  parts_encoded (holds number key listed leaf later) n within agree shorter = (tt, parts_encoded later n within agree.2 shorter)
   parts_encoded (nests number key listed child later) n within agree shorter =
       let less = subst (λ t. length (enc shape t (message_of child)) < n) agree.1 shorter.0 in
       (omega (arith, less, within), parts_encoded later n within agree.3 shorter.1)

@@ -17,7 +17,7 @@ use Rattle.pg_dyn.specs.Texts.{kept_in}
 use Rattle.pg_dyn.proofs.lemmas.KeyLaws.{each_moved}
 use Rattle.pg_dyn.proofs.Lists.{each_both, each_weaker}
 use Rattle.pg_dyn.proofs.lemmas.setting.KeptVariants.{map_key}
-use Rattle.pg_dyn.proofs.lemmas.setting.NormalizedLaws.{as_long, keys_rise, list_seen, map_items, map_seen, none_left, one_fits, one_seen}
+use Rattle.pg_dyn.proofs.lemmas.setting.NormalizedLaws.{as_long, entries_kept, keys_rise, list_fits, list_seen, map_items, map_seen, none_left, one_fits, one_seen}
 use Rattle.pg_dyn.proofs.message.Content.normalized.Goals as goal
 
 pub returns-in_default-One-clause-fits : goal.returns-in_default-One-clause-fits
@@ -35,6 +35,13 @@ returns-in_default-One-clause-seen c =
     let e = c.args.field.now.element in
     one_seen (shape_of c.args.schema.now) p e c.in_default-One.value c.kept_for.result n (subst (λ (x : Content). is_nothing c.args.field.now.presence x ≡ false) c.in_default-One.is-1 c.requires.something) (c.kept_for.ensures.seen false)
     ∙ ap (λ (x : Content). normalized (field_shape c.args.field.now) (content_seen n x)) (sym c.in_default-One.is-1)
+
+pub returns-in_default-Many-clause-fits : goal.returns-in_default-Many-clause-fits
+returns-in_default-Many-clause-fits c =
+    let shape = shape_of c.args.schema.now in
+    let p = c.args.field.now.presence in
+    let e = c.args.field.now.element in
+    list_fits shape p e c.in_default-Many.values c.kept_values.result (subst (ItemsFit shape p e) c.in_default-Many.is-1 c.requires.items) c.kept_values.ensures.fit c.kept_values.ensures.seen
 
 pub returns-in_default-Many-clause-seen : goal.returns-in_default-Many-clause-seen
 returns-in_default-Many-clause-seen c =
@@ -61,7 +68,7 @@ returns-in-Map-Map-clause-seen c =
 pub returns-in-Map-Map-clause-fits : goal.returns-in-Map-Map-clause-fits
 returns-in-Map-Map-clause-fits c =
     subst (λ (p : Presence). ContentFits (shape_of c.args.schema.now) p c.args.field.now.element (contents.Map c.kept_entries.result)) (sym c.in-Map-Map.is-0)
-    (c.kept_entries.ensures.fit, keys_rise c.args.field.now.element c.kept_entries.result.items c.sorted.result.items c.kept_entries.ensures.seen c.sorted.ensures.rise)
+    (entries_kept (shape_of c.args.schema.now) c.in-Map-Map.key c.args.field.now.element c.kept_entries.result.items c.sorted.result.items c.kept_entries.ensures.fit c.kept_entries.ensures.seen, keys_rise c.args.field.now.element c.kept_entries.result.items c.sorted.result.items c.kept_entries.ensures.seen c.sorted.ensures.rise)
 
 pub returns-in-Map-Map-clause-filled : goal.returns-in-Map-Map-clause-filled
 returns-in-Map-Map-clause-filled c =

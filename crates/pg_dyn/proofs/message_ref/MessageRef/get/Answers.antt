@@ -4,13 +4,11 @@ use Rattle.std.specs.List.{AllByRecursion}
 use Rattle.pg_wire.specs.Reads.{seen_record}
 use Rattle.pg_dyn.specs.declared.message_ref.ContentRef.{ContentRef}
 use Rattle.pg_dyn.specs.Borrowed.{HasKeys, IsFilled}
-use Rattle.pg_dyn.specs.Kept.{KeptItem, of_number, parts_of, type_of}
-use Rattle.pg_dyn.specs.Message.{Part, is_of}
+use Rattle.pg_dyn.specs.Kept.{of_number, parts_of, type_of}
+use Rattle.pg_dyn.specs.Message.{is_of}
 use Rattle.pg_dyn.specs.PartsFit.{HoldsPart}
-use Rattle.pg_dyn.specs.Texts.{ItemKeepsTexts}
 use Rattle.pg_dyn.proofs.lemmas.BorrowedParts.{found_field, of_number_none}
 use Rattle.pg_dyn.proofs.lemmas.FieldListLaws.{AllBelow, AllFrom, apart_past_end, apart_there, none_there, same_at}
-use Rattle.pg_dyn.proofs.lemmas.KeptTexts.{number_keeps}
 use Rattle.pg_dyn.proofs.lemmas.KeptParts.{found_fact}
 use Rattle.pg_dyn.proofs.Lists.{each_filtered}
 use Rattle.pg_dyn.proofs.lemmas.PartsFit.{parts_hold}
@@ -43,11 +41,6 @@ returns-then-index-number-clause-fits c shape is_shape fits =
     let m = c.args.self.now in
     subst (AllByRecursion (HoldsPart shape (type_of c.args.self.now))) (returns-then-index-number-clause-content c)
     (each_filtered (HoldsPart shape (type_of m)) (is_of c.args.number) (parts_of m) (parts_hold shape m is_shape fits))
-
-pub returns-then-index-number-clause-texts : goal.returns-then-index-number-clause-texts
-returns-then-index-number-clause-texts c shape f keeps found =
-    subst (AllByRecursion (λ (p : Part KeptItem). ItemKeepsTexts shape f.element p.item)) (returns-then-index-number-clause-content c)
-    (number_keeps shape c.args.self.now c.args.number f keeps found)
 
 pub returns-clause-content : goal.returns-clause-content
 returns-clause-content c =

@@ -4,7 +4,7 @@ use Rattle.std.proofs.lemmas.Str.{IsUtf8-nil, is_utf8-from_IsUtf8}
 use Rattle.pg_schema.specs.declared.parts.field.Element.TheVariants as elements
 use Rattle.pg_dyn.specs.Coding.{InRange, scalar_form}
 use Rattle.pg_dyn.specs.Message.{Bytes}
-use Rattle.pg_dyn.specs.Texts.{is_string}
+use Rattle.pg_dyn.specs.Fits.{is_string}
 use Rattle.pg_dyn.proofs.reading.items.zero_of.Goals as goal
 
 pub returns-in-String-clause-item : goal.returns-in-String-clause-item

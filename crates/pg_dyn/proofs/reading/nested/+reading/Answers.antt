@@ -240,7 +240,7 @@ read_contents-returns t c =
     (rising c.args.schema.now c.requires.is_schema c.args.type_id) c.requires.count l.place l.contents.items l.invariant c.loop-place-test.false
     c.requires.type_id in
     let read = l.invariant.read in
-    record { ok = all.0; fits = all.1; texts = all.2; kept = (read.rises, read.filled, read.keys); good = all.3; err = tt }
+    record { ok = all.0; fits = all.1; kept = (read.rises, read.filled, read.keys); good = all.2; err = tt }
 
 pub read_contents-loop-place-preserved-in_ok-push : goal.read_contents-loop-place-preserved-in_ok-push
 read_contents-loop-place-preserved-in_ok-push t c =
@@ -412,7 +412,6 @@ read_gathered-returns t c =
         gathered.fits_of_all shape c.args.levels c.args.type_id rs c.args.gathered are cs c.requires.type_id c.in_ok-fields.ensures.fits,
         type_of-kept_onto (all_seen cs) (ends c.args.type_id unknown),
       );
-      texts = c.in_ok-fields.ensures.texts unknown;
       good = λ rs are. gathered.good_after shape c.args.levels c.args.type_id rs c.args.gathered are up left c.deref-2.result.now (is_left rs are) by
           c.in_ok-fields.ensures.good;
       err = tt;

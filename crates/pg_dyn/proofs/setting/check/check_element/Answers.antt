@@ -7,6 +7,7 @@ use Rattle.pg_dyn.specs.setting.ContentFaults.{ElementFault}
 use Rattle.pg_dyn.specs.ContentFits.{ItemFits}
 use Rattle.pg_dyn.specs.setting.Reported.{Reports}
 use Rattle.pg_dyn.specs.declared.error.DynError.TheVariants as errors
+use Rattle.pg_dyn.proofs.lemmas.ItemLeaves.{child_text}
 use Rattle.pg_dyn.proofs.lemmas.setting.ContentChecks.{reported_scalar, reported_other}
 use Rattle.pg_dyn.proofs.setting.check.check_element.Goals as goal
 
@@ -22,6 +23,7 @@ returns-in-Enum c =
 
 pub returns-else-fits : goal.returns-else-fits
 returns-else-fits c =
-    let none = λ (h : ItemFits (shape_of c.args.schema.now) c.args.element c.args.value.now). absurd (true≢false (sym (c.fits.ensures.1 h) ∙ c.if-fits.false)) in
+    let none = λ (h : ItemFits (shape_of c.args.schema.now) c.args.element c.args.value.now).
+    absurd (true≢false (sym (c.fits.ensures.1 (h, child_text (shape_of c.args.schema.now) c.args.element _ c.in-Message.is c.args.value.now h)) ∙ c.if-fits.false)) in
     subst (λ (e : Element). Reports (ItemFits (shape_of c.args.schema.now) e c.args.value.now) (ElementFault (shape_of c.args.schema.now) e c.args.value.now) (Err errors.WrongKind)) (sym c.in-Message.is)
     (reported_other (shape_of c.args.schema.now) _ c.args.value.now (subst (λ (e : Element). ItemFits (shape_of c.args.schema.now) e c.args.value.now → ⊥) c.in-Message.is none))
