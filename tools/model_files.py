@@ -21,7 +21,7 @@ import sys
 
 TOP = os.path.dirname(os.path.dirname(os.path.realpath(__file__)))
 ROOTS = {
-    "a message breaks": ["crates/pg_dyn/specs/Breaking.antt"],
+    "a message breaks": ["crates/pg_dyn/specs/views/Breaking.antt"],
     "what `gate` promises": ["crates/pg_gate/specs/answer/Answer.antt"],
     "what `gate_with` promises": ["crates/pg_gate/specs/answer/ViewAnswer.antt"],
     "what `relay` promises": ["crates/pg_gate/specs/Relaying.antt"],

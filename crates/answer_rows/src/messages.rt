@@ -1,7 +1,7 @@
 //! The messages of choices, and messages that break.
 ghost use Rattle.std.specs.Prelude.{IfOk, IfSome};
 ghost use Rattle.pg_schema.specs.Parts.{shape_of};
-ghost use Rattle.pg_dyn.specs.Fits.{Fits};
+ghost use Rattle.pg_dyn.specs.fitting.Fits.{Fits};
 ghost use Rattle.pg_pairs.specs.witness.CarriedChoices.{IsChoiceOf};
 ghost use Rattle.pg_pairs.specs.graph.GraphView.{seen};
 

@@ -3,14 +3,16 @@
 ghost use Rattle.std.specs.Prelude.{◌≡◌, ◌↔◌, ◌<◌, [], map, length, slice_get};
 ghost use Rattle.std.specs.Prelude.{IfOk, IfSome, Some, IsTrue, MatchOption};
 ghost use Rattle.std.specs.List.{AllByRecursion};
-ghost use Rattle.pg_schema.specs.Shape.{IsShape, Shape};
+ghost use Rattle.pg_schema.specs.Shape.{Shape};
+ghost use Rattle.pg_schema.specs.ShapeRules.{IsShape};
 ghost use Rattle.pg_wire.specs.Reads.{seen_record};
-ghost use Rattle.pg_dyn.specs.Borrowed as borrowed;
-ghost use Rattle.pg_dyn.specs.Fits.{Fits};
-ghost use Rattle.pg_dyn.specs.PartsFit.{HoldsPart};
-ghost use Rattle.pg_dyn.specs.Kept.{IsPlain, ends, of_number, type_of, unknown_of};
-ghost use Rattle.pg_dyn.specs.NumberLists.{IsNumber, numbers_in};
-ghost use Rattle.pg_dyn.specs.Seen.{Rises};
+ghost use Rattle.pg_dyn.specs.message_ref.Borrowed as borrowed;
+ghost use Rattle.pg_dyn.specs.fitting.Fits.{Fits};
+ghost use Rattle.pg_dyn.specs.fitting.PartsFit.{HoldsPart};
+ghost use Rattle.pg_dyn.specs.message.KeptParts.{IsPlain, of_number, unknown_of};
+ghost use Rattle.pg_dyn.specs.message.Kept.{ends, type_of};
+ghost use Rattle.pg_dyn.specs.word.NumberLists.{IsNumber, numbers_in};
+ghost use Rattle.pg_dyn.specs.message.Seen.{Rises};
 
 use pg_dyn::{ContentRef, Message, MessageRef, NumberList, ValueRef};
 use pg_schema::TypeId;

@@ -1,7 +1,7 @@
 //! The codes and offsets of errors.
 
 ghost use Rattle.std.specs.Prelude.{◌≡◌};
-ghost use Rattle.pg_dyn.specs.Codes.{code_of, place_of};
+ghost use Rattle.pg_dyn.specs.error.Codes.{code_of, place_of};
 ghost use Rattle.pg_dyn.specs.declared.error.DynError.TheVariants as errors;
 
 use pg_dyn::DynError;

@@ -3,13 +3,15 @@
 ghost use Rattle.std.specs.Prelude.{◌≡◌, ◌<◌, ◌↔◌, length, [], map, IfSome, MatchOption, OnOk, IfOk, IfErr, IsTrue};
 ghost use Rattle.std.specs.List.{AllByRecursion};
 ghost use Rattle.pg_schema.specs.Parts.{shape_of};
-ghost use Rattle.pg_schema.specs.Shape.{IsShape, Shape};
+ghost use Rattle.pg_schema.specs.Shape.{Shape};
+ghost use Rattle.pg_schema.specs.ShapeRules.{IsShape};
 ghost use Rattle.pg_dyn.specs.declared.error.DynError.TheVariants as errors;
 ghost use Rattle.pg_dyn.specs.setting.ContentFaults.{ContentFault, ContentsFault, HasKeyTwice, HasNoEarlyFault, HasNoFault, MayRefuseFor};
-ghost use Rattle.pg_dyn.specs.ContentFits.{HoldsContent};
-ghost use Rattle.pg_dyn.specs.Fits.{Fits};
-ghost use Rattle.pg_dyn.specs.Kept.{IsPlain, ends, of_number, type_of, unknown_of};
-ghost use Rattle.pg_dyn.specs.Seen.{HasBody, HasKeys, IsFilled, Rises, content_seen, fields_onto, record_seen};
+ghost use Rattle.pg_dyn.specs.fitting.ContentFits.{HoldsContent};
+ghost use Rattle.pg_dyn.specs.fitting.Fits.{Fits};
+ghost use Rattle.pg_dyn.specs.message.KeptParts.{IsPlain, of_number, unknown_of};
+ghost use Rattle.pg_dyn.specs.message.Kept.{ends, type_of};
+ghost use Rattle.pg_dyn.specs.message.Seen.{HasBody, HasKeys, IsFilled, Rises, content_seen, fields_onto, record_seen};
 ghost use Rattle.pg_dyn.specs.setting.Setting.{IsSetTo, IsWhole};
 ghost use Rattle.pg_dyn.specs.setting.Reported.{TakesContent};
 

@@ -1,7 +1,7 @@
 //! What is written of single items.
 
 ghost use Rattle.std.specs.Prelude.{◌≡◌, ◌^◌};
-ghost use Rattle.pg_dyn.specs.Coding.{form, form_wire};
+ghost use Rattle.pg_dyn.specs.word.Coding.{form, form_wire};
 ghost use Rattle.pg_wire.specs.Words.{IsBetween, twos_complement};
 
 use pg_dyn::Integer;

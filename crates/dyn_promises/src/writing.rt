@@ -3,10 +3,10 @@
 ghost use Rattle.std.specs.Prelude.{◌≡◌, ◌≤◌, length, IfOk, IfErr};
 ghost use Rattle.pg_schema.specs.Parts.{shape_of};
 ghost use Rattle.pg_schema.specs.Shape.{fields};
-ghost use Rattle.pg_dyn.specs.Comparison.{unshared_bytes};
+ghost use Rattle.pg_dyn.specs.views.Comparison.{unshared_bytes};
 ghost use Rattle.pg_dyn.specs.encoding.Encoding.{cap, enc};
-ghost use Rattle.pg_dyn.specs.Fits.{Fits};
-ghost use Rattle.pg_dyn.specs.Kept.{message_of, type_of};
+ghost use Rattle.pg_dyn.specs.fitting.Fits.{Fits};
+ghost use Rattle.pg_dyn.specs.message.Kept.{message_of, type_of};
 ghost use Rattle.pg_dyn.specs.encoding.Written.{MayNotWrite};
 
 use pg_dyn::{DynError, Message, MessageRef};

@@ -2,7 +2,7 @@
 
 ghost use Rattle.std.specs.Prelude.{◌≡◌};
 ghost use Rattle.pg_dyn.specs.declared.view_name.ViewName.TheVariants as views;
-ghost use Rattle.pg_dyn.specs.ViewNames.{alike_under, named_numbers, same_names};
+ghost use Rattle.pg_dyn.specs.views.ViewNames.{alike_under, named_numbers, same_names};
 ghost use Rattle.pg_pairs.specs.views.NamedView as by_name;
 ghost use Rattle.pg_pairs.specs.views.NamedView.{least_under};
 ghost use Rattle.pg_pairs.specs.views.ViewLaws.{IsLeastOf};

@@ -4,8 +4,8 @@ ghost use Rattle.std.specs.Prelude.{◌≡◌, ◌≤◌, [], length, map, flat_
 ghost use Rattle.std.specs.List.{AllByRecursion};
 ghost use Rattle.pg_schema.specs.Parts.{shape_of};
 ghost use Rattle.pg_dyn.specs.encoding.Encoding.{cap, enc};
-ghost use Rattle.pg_dyn.specs.Fits.{Fits};
-ghost use Rattle.pg_dyn.specs.Kept.{message_of, type_of};
+ghost use Rattle.pg_dyn.specs.fitting.Fits.{Fits};
+ghost use Rattle.pg_dyn.specs.message.Kept.{message_of, type_of};
 ghost use Rattle.pg_pairs.specs.bounds.Covering.{IsAmong};
 ghost use Rattle.pg_pairs.specs.choices.Causes.{causes};
 ghost use Rattle.pg_pairs.specs.graph.GraphView.{seen};

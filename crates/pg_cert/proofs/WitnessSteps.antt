@@ -2,14 +2,14 @@
 use Rattle.std.proofs.Common.{◌≡◌, ◌<◌, ◌≤◌, ℕ, zero, suc, List, [], ◌∷◌, length, get_or, true, Option, Some, None, refl, ap, sym, ◌∙◌, subst, arith}
 use Rattle.pg_schema.specs.Shape.{Shape, FieldShape, fields, field_at}
 use Rattle.pg_schema.specs.ShapeRules.{IsShape}
-use Rattle.pg_dyn.specs.Belonging.{IsMessage}
-use Rattle.pg_dyn.specs.Breaking.{Breaks}
+use Rattle.pg_dyn.specs.fitting.Belonging.{IsMessage}
+use Rattle.pg_dyn.specs.views.Breaking.{Breaks}
 use Rattle.pg_dyn.specs.reading.Decoding.{dec}
 use Rattle.pg_dyn.specs.encoding.Encoding.{cap, enc}
-use Rattle.pg_dyn.specs.Kept.{Kept, message_of, type_of}
-use Rattle.pg_dyn.specs.Kept as kept
-use Rattle.pg_dyn.specs.Laws.{ReadsAgain}
-use Rattle.pg_dyn.specs.Message.{Message, IsPlain, ends, holds, nests}
+use Rattle.pg_dyn.specs.message.Kept.{Kept, message_of, type_of}
+use Rattle.pg_dyn.specs.message.KeptParts as kept_parts
+use Rattle.pg_dyn.specs.laws.Laws.{ReadsAgain}
+use Rattle.pg_dyn.specs.message.Message.{Message, IsPlain, ends, holds, nests}
 use Rattle.pg_pairs.specs.declared.choices.choice.Pair.{Pair}
 use Rattle.pg_pairs.specs.views.EnumView.{EnumView}
 use Rattle.pg_cert.specs.Certificate.{HasLength, IsWitnessed}
@@ -46,7 +46,7 @@ module _ (old : Shape) (root : Pair) (bytes : List ℕ) where
     message_is : (v : Message) (is : IsWritten old root bytes) → dec old root.old bytes ≡ Some v → is.message ≡ v
     message_is v is read = let both : ◌≡◌ {A = Option Message} (Some is.message) (Some v) = sym (read_of is) ∙ read in cc
 
-    pub not_plain : (m : Kept) → dec old root.old bytes ≡ Some (message_of m) → (kept.IsPlain m → ⊥) → IsWritten old root bytes → ⊥
+    pub not_plain : (m : Kept) → dec old root.old bytes ≡ Some (message_of m) → (kept_parts.IsPlain m → ⊥) → IsWritten old root bytes → ⊥
     not_plain m read unplain is = unplain ((plain_is_kept m).1 (subst IsPlain (message_is (message_of m) is read) is.is_plain))
 
     pub not_read : dec old root.old bytes ≡ None → IsWritten old root bytes → ⊥

@@ -6,12 +6,12 @@ use Rattle.pg_wire.specs.Varint.{varint_at, varint}
 use Rattle.pg_wire.specs.Words.{signed, unzigzag}
 use Rattle.pg_wire.specs.Records.{tag_parts, record_at, records_of, tag, written}
 use Rattle.pg_schema.specs.ShapeRules.{IsShape}
-use Rattle.pg_dyn.specs.Coding.{word_bytes, word_in}
+use Rattle.pg_dyn.specs.word.Coding.{word_bytes, word_in}
 use Rattle.pg_dyn.specs.encoding.Encoding.{enc}
 use Rattle.pg_dyn.specs.reading.Decoding.{dec}
-use Rattle.pg_dyn.specs.Examples.{first, one, SameType}
-use Rattle.pg_dyn.specs.Laws.{ReadsAgain, SelfCompatible}
-use Rattle.pg_dyn.specs.Message.{Int}
+use Rattle.pg_dyn.specs.laws.Examples.{first, one, SameType}
+use Rattle.pg_dyn.specs.laws.Laws.{ReadsAgain, SelfCompatible}
+use Rattle.pg_dyn.specs.message.Message.{Int}
 use Rattle.pg_pairs.specs.views.EnumView.{by_numbers}
 use Rattle.pg_cert.specs.declared.error.CertError.TheVariants.{Memory, BadText, RootMissing, PairMissing, BoundTooHigh, WitnessNotWritten, WitnessLength, WitnessKeeps}
 use Rattle.pg_cert.specs.Certificate.{IsWitnessed}

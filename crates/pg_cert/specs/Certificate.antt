@@ -3,9 +3,9 @@
 use Rattle.std.specs.Prelude.{◌≡◌, ℕ, ⊤, nat_le, List, [], ◌∷◌, length, find, Bool, true, not, ◌&&◌, is_some, Option, Some, None, option_map}
 use Rattle.pg_schema.specs.Shape.{Shape}
 use Rattle.pg_dyn.specs.declared.view_name.ViewName.{ViewName}
-use Rattle.pg_dyn.specs.Message.{Message}
+use Rattle.pg_dyn.specs.message.Message.{Message}
 use Rattle.pg_dyn.specs.encoding.Encoding.{enc, cap}
-use Rattle.pg_dyn.specs.Breaking.{Breaks}
+use Rattle.pg_dyn.specs.views.Breaking.{Breaks}
 use Rattle.pg_pairs.specs.declared.choices.choice.Pair.{Pair}
 use Rattle.pg_pairs.specs.views.EnumView.{EnumView}
 use Rattle.pg_pairs.specs.bounds.Covering.{Covers, same_pair}

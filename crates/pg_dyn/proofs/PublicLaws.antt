@@ -3,37 +3,38 @@ use Rattle.std.proofs.Common.{◌≡◌, ℕ, ◌<◌, ◌^◌, List, [], ◌∷
 use Rattle.std.specs.Bool.{⊤}
 use Rattle.std.specs.declared.cmp.Ordering.TheVariants.{Less, Greater}
 use Rattle.pg_schema.specs.Shape.{fields}
-use Rattle.pg_dyn.specs.Kept.{Kept, message_of}
-use Rattle.pg_dyn.specs.Kept as kept
-use Rattle.pg_dyn.specs.Message.{Leaf, key_cmp, leaf_eq}
-use Rattle.pg_dyn.specs.Message as model
-use Rattle.pg_dyn.specs.Bodies.{BodiesReadAgain, EntryBodiesRead, PackedBodiesRead, SingleBodiesRead}
+use Rattle.pg_dyn.specs.message.Kept.{Kept, message_of}
+use Rattle.pg_dyn.specs.message.Kept as kept
+use Rattle.pg_dyn.specs.message.KeptParts as kept_parts
+use Rattle.pg_dyn.specs.message.Message.{Leaf, key_cmp, leaf_eq}
+use Rattle.pg_dyn.specs.message.Message as model
+use Rattle.pg_dyn.specs.laws.Bodies.{BodiesReadAgain, EntryBodiesRead, PackedBodiesRead, SingleBodiesRead}
 use Rattle.pg_dyn.specs.encoding.Encoding.{enc, encoded_parts}
 use Rattle.pg_dyn.specs.encoding.Growing.{EncodingGrows}
-use Rattle.pg_dyn.specs.OwnParts.{ComparandsAreWritten, ChildrenAreShorter, OneIsEmpty, OwnPartsFit, SiblingsMutual}
-use Rattle.pg_dyn.specs.FieldLaws.{ContentsAreSeen, EntriesRise, EqualLeaves, FieldsAreFound, LastItems, OwnContents, PackableWires, PartsKeepTypes, PlainIsKept, RecordsOfFields, RisingEntriesStay, UnknownIsKept}
-use Rattle.pg_dyn.specs.Laws.{DecodingIs, EncodingSpells, KeptByField, MessageSplits, WritingSplits}
-use Rattle.pg_dyn.specs.ByComparands.{KeptByComparands}
+use Rattle.pg_dyn.specs.laws.OwnParts.{ComparandsAreWritten, ChildrenAreShorter, OneIsEmpty, OwnPartsFit, SiblingsMutual}
+use Rattle.pg_dyn.specs.laws.FieldLaws.{ContentsAreSeen, EntriesRise, EqualLeaves, FieldsAreFound, LastItems, OwnContents, PackableWires, PartsKeepTypes, PlainIsKept, RecordsOfFields, RisingEntriesStay, UnknownIsKept}
+use Rattle.pg_dyn.specs.laws.Laws.{DecodingIs, EncodingSpells, KeptByField, MessageSplits, WritingSplits}
+use Rattle.pg_dyn.specs.laws.ByComparands.{KeptByComparands}
 use Rattle.pg_dyn.proofs.Lists.{each_of_all, each_weaker}
-use Rattle.pg_dyn.proofs.lemmas.Codings.{Reads-from_range}
-use Rattle.pg_dyn.proofs.lemmas.Plain as Plain
-use Rattle.pg_dyn.proofs.lemmas.Entries.{entry_read, records_of_entry}
-use Rattle.pg_dyn.proofs.lemmas.Fields as Fields
-use Rattle.pg_dyn.proofs.lemmas.Splitting as Splitting
-use Rattle.pg_dyn.proofs.lemmas.Flat as Flat
-use Rattle.pg_dyn.proofs.lemmas.Belonging.{child_type_is, fields-IsType, flat_parts, is_flat}
-use Rattle.pg_dyn.proofs.lemmas.Shorter.{children_shorter}
-use Rattle.pg_dyn.proofs.lemmas.Again.{records_of-enc}
-use Rattle.pg_dyn.proofs.lemmas.ReadSplits.{reading_of, field_split, no_field_split, unknown_split}
-use Rattle.pg_dyn.proofs.lemmas.Depth.{dec_is}
-use Rattle.pg_dyn.proofs.lemmas.ByField as ByField
-use Rattle.pg_dyn.proofs.lemmas.ByComparands as ByComparands
-use Rattle.pg_dyn.proofs.lemmas.RecordsRead.{content_none}
-use Rattle.pg_dyn.proofs.lemmas.ItemLeaves.{item_is_key}
-use Rattle.pg_dyn.proofs.lemmas.ReplacingLaws.{content_number, kept_means, type_of-kept_onto, unknown-message_of, type_of-with_parts, type_of-without_siblings}
-use Rattle.pg_dyn.proofs.lemmas.SelfSame.{plain_unknown}
+use Rattle.pg_dyn.proofs.lemmas.word.Codings.{Reads-from_range}
+use Rattle.pg_dyn.proofs.lemmas.message.Plain as Plain
+use Rattle.pg_dyn.proofs.lemmas.reading.Entries.{entry_read, records_of_entry}
+use Rattle.pg_dyn.proofs.lemmas.reading.Fields as Fields
+use Rattle.pg_dyn.proofs.lemmas.reading.Splitting as Splitting
+use Rattle.pg_dyn.proofs.lemmas.laws.Flat as Flat
+use Rattle.pg_dyn.proofs.lemmas.fitting.Belonging.{child_type_is, fields-IsType, flat_parts, is_flat}
+use Rattle.pg_dyn.proofs.lemmas.laws.Shorter.{children_shorter}
+use Rattle.pg_dyn.proofs.lemmas.laws.Again.{records_of-enc}
+use Rattle.pg_dyn.proofs.lemmas.reading.ReadSplits.{reading_of, field_split, no_field_split, unknown_split}
+use Rattle.pg_dyn.proofs.lemmas.reading.Depth.{dec_is}
+use Rattle.pg_dyn.proofs.lemmas.views.ByField as ByField
+use Rattle.pg_dyn.proofs.lemmas.views.ByComparands as ByComparands
+use Rattle.pg_dyn.proofs.lemmas.reading.RecordsRead.{content_none}
+use Rattle.pg_dyn.proofs.lemmas.fitting.ItemLeaves.{item_is_key}
+use Rattle.pg_dyn.proofs.lemmas.message.ReplacingLaws.{content_number, kept_means, type_of-kept_onto, unknown-message_of, type_of-with_parts, type_of-without_siblings}
+use Rattle.pg_dyn.proofs.lemmas.views.SelfSame.{plain_unknown}
 use Rattle.pg_dyn.proofs.lemmas.encoding.Growing as Growing
-use Rattle.pg_dyn.proofs.lemmas.Leaves.{leaf_eq_self, same_leaf}
+use Rattle.pg_dyn.proofs.lemmas.word.Leaves.{leaf_eq_self, same_leaf}
 
 -- ---- bytes and their messages
 
@@ -140,13 +141,13 @@ parts_keep_types = (type_of-kept_onto, type_of-with_parts, type_of-without_sibli
 pub contents_are_seen : ContentsAreSeen
 contents_are_seen = (content_number, item_is_key, kept_means)
 
-plain_kept : (m : Kept) → kept.IsPlain m → model.IsPlain (message_of m)
+plain_kept : (m : Kept) → kept_parts.IsPlain m → model.IsPlain (message_of m)
 plain_kept (kept.ends type []) h = tt
 plain_kept (kept.ends type (r ∷ rs)) h = h
 plain_kept (kept.holds number key listed leaf later) h = plain_kept later h
 plain_kept (kept.nests number key listed child later) h = (plain_kept child h.0, plain_kept later h.1)
 
-kept_plain : (m : Kept) → model.IsPlain (message_of m) → kept.IsPlain m
+kept_plain : (m : Kept) → model.IsPlain (message_of m) → kept_parts.IsPlain m
 kept_plain (kept.ends type []) h = tt
 kept_plain (kept.ends type (r ∷ rs)) h = h
 kept_plain (kept.holds number key listed leaf later) h = kept_plain later h

@@ -9,6 +9,7 @@ pub mod Gathering
 pub mod Held
 pub mod ItemRuns
 pub mod Normalized
+pub mod Optional
 pub mod ReadingOn
 pub mod Refusals
 pub mod Steps

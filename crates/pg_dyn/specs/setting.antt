@@ -1,3 +1,3 @@
 pub mod ContentFaults
-pub mod Setting
 pub mod Reported
+pub mod Setting

@@ -4,7 +4,7 @@ ghost use Rattle.std.specs.Prelude.{◌≡◌, ◌&&◌, ◌||◌, false, MatchO
 ghost use Rattle.pg_schema.specs.declared.parts.field.Presence.TheVariants as presences;
 ghost use Rattle.pg_schema.specs.Parts.{field_shape};
 ghost use Rattle.pg_schema.specs.Shape.{is_map, is_packable, is_repeated};
-ghost use Rattle.pg_dyn.specs.Coding.{form, form_wire};
+ghost use Rattle.pg_dyn.specs.word.Coding.{form, form_wire};
 ghost use Rattle.pg_dyn.specs.reading.Content.{own_wire, same_wire};
 ghost use Rattle.pg_dyn.specs.encoding.Writing.{is_packed};
 ghost use Rattle.pg_wire.specs.declared.record.WireType.TheVariants.{Len};

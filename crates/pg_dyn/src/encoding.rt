@@ -13,12 +13,12 @@ ghost use Rattle.pg_schema.specs.Invariant.{IsSchema};
 ghost use Rattle.pg_schema.specs.Parts.{field_shape, shape_of};
 ghost use Rattle.pg_wire.specs.declared.record.WireType.TheVariants.{Len};
 ghost use Rattle.pg_wire.specs.Records.{written};
-ghost use Rattle.pg_dyn.specs.Coding.{InRange, scalar_form};
+ghost use Rattle.pg_dyn.specs.word.Coding.{InRange, scalar_form};
 ghost use Rattle.pg_dyn.specs.encoding.Encoding.{cap, enc};
-ghost use Rattle.pg_dyn.specs.Fits.{Fits};
-ghost use Rattle.pg_dyn.specs.Kept.{message_of, type_of};
+ghost use Rattle.pg_dyn.specs.fitting.Fits.{Fits};
+ghost use Rattle.pg_dyn.specs.message.Kept.{message_of, type_of};
 ghost use Rattle.pg_dyn.specs.encoding.Lending.{Child, bare_leaf};
-ghost use Rattle.pg_dyn.specs.PartsFit.{IsPartOf};
+ghost use Rattle.pg_dyn.specs.fitting.PartsFit.{IsPartOf};
 ghost use Rattle.pg_dyn.specs.encoding.Written.{Adds, BareFits, CanBePacked, MayNotAdd, MayNotWrite, capped, entry_record, field_lengths, field_written, inner_lengths, item_body, item_bytes, item_lengths, own_bytes};
 
 use self::counting::{MAX_ENCODING_LEN, body_len, count_message, entry_len, saturated_len};

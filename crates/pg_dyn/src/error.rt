@@ -45,7 +45,7 @@ pub enum DynError {
 impl DynError {
     ghost use Rattle.std.specs.Prelude.{◌≡◌};
     ghost use Rattle.pg_dyn.specs.setting.ContentFaults.{code};
-    ghost use Rattle.pg_dyn.specs.Codes.{code_of, place_of};
+    ghost use Rattle.pg_dyn.specs.error.Codes.{code_of, place_of};
 
     /// The number after the E by which users know the error.
     pub fn code(self) -> u16

@@ -3,8 +3,8 @@
 ghost use Rattle.std.specs.Prelude.{◌≡◌, ◌<◌, ◌≤◌, ℕ, get_or, length, take, drop, IsTrue, OnOk};
 ghost use Rattle.std.specs.List.{AllByRecursion};
 ghost use Rattle.pg_dyn.specs.declared.message.Content.{Content as TheContent};
-ghost use Rattle.pg_dyn.specs.FieldList.{HasRoom, put_field, remove_field};
-ghost use Rattle.pg_dyn.specs.Seen.{Rises};
+ghost use Rattle.pg_dyn.specs.message.FieldList.{HasRoom, put_field, remove_field};
+ghost use Rattle.pg_dyn.specs.message.Seen.{Rises};
 
 use crate::message::Content;
 use std::alloc::AllocError;

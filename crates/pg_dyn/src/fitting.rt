@@ -8,11 +8,11 @@ ghost use Rattle.pg_schema.specs.Invariant.{IsSchema};
 ghost use Rattle.pg_schema.specs.Parts.{shape_of};
 ghost use Rattle.pg_schema.specs.Shape.{fields};
 ghost use Rattle.pg_dyn.specs.reading.Content.{is_unknown};
-ghost use Rattle.pg_dyn.specs.ContentFits.{ContentFits, EntryKept, ItemKept, KeysRise};
-ghost use Rattle.pg_dyn.specs.Fits.{Fits, is_string};
-ghost use Rattle.pg_dyn.specs.Message.{key_cmp};
-ghost use Rattle.pg_dyn.specs.ScalarItems.{IsItemOf};
-ghost use Rattle.pg_dyn.specs.Seen.{IsKey, is_text, leaf_of, record_seen};
+ghost use Rattle.pg_dyn.specs.fitting.ContentFits.{ContentFits, EntryKept, ItemKept, KeysRise};
+ghost use Rattle.pg_dyn.specs.fitting.Fits.{Fits, is_string};
+ghost use Rattle.pg_dyn.specs.message.Message.{key_cmp};
+ghost use Rattle.pg_dyn.specs.fitting.ScalarItems.{IsItemOf};
+ghost use Rattle.pg_dyn.specs.message.Seen.{IsKey, is_text, leaf_of, record_seen};
 
 use crate::accept::accepts;
 use crate::message::{Content, Message, UnknownRecord, Value};

@@ -16,7 +16,7 @@ impl Model for Integer {
 
     ghost Value = { ℤ };
 
-    ghost use Rattle.pg_dyn.specs.Integers.{AreWords, integer_of, words_of, words_of_integer};
+    ghost use Rattle.pg_dyn.specs.word.Integers.{AreWords, integer_of, words_of, words_of_integer};
 
     ghost view = { integer_of };
 

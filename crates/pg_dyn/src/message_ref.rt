@@ -1,7 +1,7 @@
 //! Messages that borrow from the bytes that they are read from.
 
 ghost use Rattle.std.specs.Prelude.{◌≡◌, ◌↔◌, [], map, false, Some, IfSome, IsTrue, MatchOption};
-ghost use Rattle.pg_dyn.specs.Borrowed as borrowed;
+ghost use Rattle.pg_dyn.specs.message_ref.Borrowed as borrowed;
 
 use crate::field_list::place_of;
 use crate::integer::Integer;
@@ -58,36 +58,38 @@ pub struct MessageRef<'a> {
 }
 
 impl<'a> Model for MessageRef<'a> {
-    ghost use Rattle.pg_dyn.specs.Kept.{Kept};
-    ghost use Rattle.pg_dyn.specs.KeptCode.{kept_code};
+    ghost use Rattle.pg_dyn.specs.message.Kept.{Kept};
+    ghost use Rattle.pg_dyn.specs.inner.KeptCode.{kept_code};
 
     ghost Value = { Kept };
 
     ghost coded = { kept_code };
 
-    ghost use Rattle.pg_dyn.specs.Borrowed.{kept_seen, IsWellKept};
+    ghost use Rattle.pg_dyn.specs.message_ref.Borrowed.{kept_seen, IsWellKept};
 
     ghost view = { kept_seen };
 
     ghost invariant = { IsWellKept };
 
-    ghost use Rattle.pg_dyn.specs.Kept.{weight};
+    ghost use Rattle.pg_dyn.specs.inner.Weights.{weight};
 
     ghost size = { weight };
 
-    ghost use Rattle.pg_dyn.specs.BorrowedDepth.{message_deep};
+    ghost use Rattle.pg_dyn.specs.inner.BorrowedDepth.{message_deep};
 
     ghost size_decreases = { message_deep };
 }
 
 impl<'a> MessageRef<'a> {
     ghost use Rattle.std.specs.List.{AllByRecursion};
-    ghost use Rattle.pg_schema.specs.Shape.{IsShape, Shape};
+    ghost use Rattle.pg_schema.specs.Shape.{Shape};
+    ghost use Rattle.pg_schema.specs.ShapeRules.{IsShape};
     ghost use Rattle.pg_wire.specs.Reads.{seen_record};
-    ghost use Rattle.pg_dyn.specs.Fits.{Fits};
-    ghost use Rattle.pg_dyn.specs.PartsFit.{HoldsPart};
-    ghost use Rattle.pg_dyn.specs.Kept.{ends, type_of, of_number, unknown_of};
-    ghost use Rattle.pg_dyn.specs.Seen.{Rises};
+    ghost use Rattle.pg_dyn.specs.fitting.Fits.{Fits};
+    ghost use Rattle.pg_dyn.specs.fitting.PartsFit.{HoldsPart};
+    ghost use Rattle.pg_dyn.specs.message.Kept.{ends, type_of};
+    ghost use Rattle.pg_dyn.specs.message.KeptParts.{of_number, unknown_of};
+    ghost use Rattle.pg_dyn.specs.message.Seen.{Rises};
 
     /// The type of the message.
     pub fn type_id(&self) -> TypeId
@@ -136,7 +138,7 @@ impl<'a> MessageRef<'a> {
 }
 
 impl<'a> ValueRef<'a> {
-    ghost use Rattle.pg_dyn.specs.Kept.{IsPlainItem};
+    ghost use Rattle.pg_dyn.specs.message.KeptParts.{IsPlainItem};
 
     #[cycle(is_plain)]
     fn is_plain(&self) -> bool
@@ -151,7 +153,7 @@ impl<'a> ValueRef<'a> {
 
 impl<'a> ContentRef<'a> {
     ghost use Rattle.std.specs.List.{AllByRecursion};
-    ghost use Rattle.pg_dyn.specs.Kept.{IsPlainItem};
+    ghost use Rattle.pg_dyn.specs.message.KeptParts.{IsPlainItem};
 
     // Whether each item of a list is plain.
     #[cycle(is_plain)]
@@ -195,7 +197,7 @@ impl<'a> ContentRef<'a> {
 }
 
 impl<'a> MessageRef<'a> {
-    ghost use Rattle.pg_dyn.specs.Kept.{IsPlain};
+    ghost use Rattle.pg_dyn.specs.message.KeptParts.{IsPlain};
 
     /// Whether there are no unknown records in the message and in every message inside it.
     #[cycle(is_plain)]

@@ -2,9 +2,9 @@
 //! copied, and a list or a map once all its items are, so that its memory serves what comes after.
 
 ghost use Rattle.std.specs.Prelude.{◌≡◌, map, true, IfOk};
-ghost use Rattle.pg_dyn.specs.Copies.{AreEntryCopies, IsContentCopy, IsEntryCopy, IsItemCopy};
-ghost use Rattle.pg_dyn.specs.Borrowed as borrowed;
-ghost use Rattle.pg_dyn.specs.Seen.{item_seen};
+ghost use Rattle.pg_dyn.specs.inner.Copies.{AreEntryCopies, IsContentCopy, IsEntryCopy, IsItemCopy};
+ghost use Rattle.pg_dyn.specs.message_ref.Borrowed as borrowed;
+ghost use Rattle.pg_dyn.specs.message.Seen.{item_seen};
 
 use crate::message::{Content, Message, Value};
 use crate::message_ref::{ContentRef, EntryRef, MessageRef, ValueRef};

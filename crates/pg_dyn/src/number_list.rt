@@ -1,10 +1,10 @@
 //! Lists of numbers, as a message that borrows keeps them.
 
 ghost use Rattle.std.specs.Prelude.{◌≡◌, ◌<◌, length, slice_get, Some};
-ghost use Rattle.pg_dyn.specs.Coding.{scalar_form};
+ghost use Rattle.pg_dyn.specs.word.Coding.{scalar_form};
 ghost use Rattle.pg_dyn.specs.encoding.Lending.{bare_leaf, leaf_lent, lent_item};
-ghost use Rattle.pg_dyn.specs.NumberLists.{IsNumber, item_of, low_bits, number_item, numbers_in};
-ghost use Rattle.pg_dyn.specs.WordOf.{HasBits};
+ghost use Rattle.pg_dyn.specs.word.NumberLists.{IsNumber, item_of, low_bits, number_item, numbers_in};
+ghost use Rattle.pg_dyn.specs.word.WordOf.{HasBits};
 
 use crate::encoding::body::wire_type_of;
 use crate::encoding::lending::LeafRef;

@@ -5,8 +5,8 @@ ghost use Rattle.pg_schema.specs.Parts.{shape_of};
 ghost use Rattle.pg_schema.specs.Shape.{field_at, fields};
 ghost use Rattle.pg_dyn.specs.reading.Content.{same_oneof};
 ghost use Rattle.pg_dyn.specs.setting.ContentFaults.{members};
-ghost use Rattle.pg_dyn.specs.ContentFits.{NoneSiblings};
-ghost use Rattle.pg_dyn.specs.Seen.{Rises};
+ghost use Rattle.pg_dyn.specs.fitting.ContentFits.{NoneSiblings};
+ghost use Rattle.pg_dyn.specs.message.Seen.{Rises};
 
 use crate::message::Content;
 use pg_schema::{Schema, TypeId};

@@ -4,10 +4,10 @@ ghost use Rattle.std.specs.Prelude.{◌≡◌, map, true, IfOk};
 ghost use Rattle.std.specs.List.{AllByRecursion};
 ghost use Rattle.pg_wire.specs.Reads.{seen_record};
 ghost use Rattle.pg_wire.specs.Records.{IsRecord};
-ghost use Rattle.pg_dyn.specs.Copies.{AreEntryCopies, IsContentCopy, IsEntryCopy, IsItemCopy};
-ghost use Rattle.pg_dyn.specs.Borrowed as borrowed;
-ghost use Rattle.pg_dyn.specs.NumberLists.{item_of, numbers_in};
-ghost use Rattle.pg_dyn.specs.Seen.{HasBody, item_seen, record_seen};
+ghost use Rattle.pg_dyn.specs.inner.Copies.{AreEntryCopies, IsContentCopy, IsEntryCopy, IsItemCopy};
+ghost use Rattle.pg_dyn.specs.message_ref.Borrowed as borrowed;
+ghost use Rattle.pg_dyn.specs.word.NumberLists.{item_of, numbers_in};
+ghost use Rattle.pg_dyn.specs.message.Seen.{HasBody, item_seen, record_seen};
 
 use crate::message::{Content, Message, UnknownRecord, Value};
 use crate::message_ref::{ContentRef, EntryRef, MessageRef, ValueRef};

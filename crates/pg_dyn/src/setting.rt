@@ -13,8 +13,8 @@ ghost use Rattle.pg_schema.specs.Parts.{field_shape, shape_of};
 ghost use Rattle.pg_schema.specs.Shape.{field_at, fields};
 ghost use Rattle.pg_dyn.specs.declared.error.DynError.TheVariants as errors;
 ghost use Rattle.pg_dyn.specs.setting.ContentFaults.{ContentFault, HasKeyTwice, HasNoEarlyFault, HasNoFault, MayRefuseFor};
-ghost use Rattle.pg_dyn.specs.Fits.{Fits};
-ghost use Rattle.pg_dyn.specs.Kept.{type_of};
+ghost use Rattle.pg_dyn.specs.fitting.Fits.{Fits};
+ghost use Rattle.pg_dyn.specs.message.Kept.{type_of};
 ghost use Rattle.pg_dyn.specs.setting.Setting.{IsSetTo};
 
 use self::check::check_content;
@@ -77,8 +77,8 @@ impl Message {
 
 impl Message {
     ghost use Rattle.pg_schema.specs.Invariant.{IsSchema};
-    ghost use Rattle.pg_dyn.specs.Replacing.{with_parts, without_siblings};
-    ghost use Rattle.pg_dyn.specs.Seen.{content_seen};
+    ghost use Rattle.pg_dyn.specs.message.Replacing.{with_parts, without_siblings};
+    ghost use Rattle.pg_dyn.specs.message.Seen.{content_seen};
     ghost use Rattle.pg_dyn.specs.setting.Setting.{normalized};
     ghost use Rattle.pg_dyn.specs.setting.Reported.{ItemsFit};
 

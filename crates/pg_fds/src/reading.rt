@@ -25,7 +25,7 @@ ghost use Rattle.pg_schema.specs.rules.Sound.{IsSound};
 ghost use Rattle.pg_check.specs.admitting.PartErrors.{IsRefusedOf};
 ghost use Rattle.pg_dyn.specs.reading.Decoding.{dec};
 ghost use Rattle.pg_dyn.specs.reading.Refusals.{MayRefuse};
-ghost use Rattle.pg_dyn.specs.Kept.{message_of};
+ghost use Rattle.pg_dyn.specs.message.Kept.{message_of};
 ghost use Rattle.pg_check.specs.standing.Places.{most_deep};
 ghost use Rattle.pg_fds.specs.declared.error.Unstated.TheVariants.{Memory};
 ghost use Rattle.pg_fds.specs.writing.Building.{written_shape};

@@ -6,11 +6,11 @@ use Rattle.pg_dyn.specs.declared.error.DynError.{DynError}
 use Rattle.pg_dyn.specs.declared.error.DynError.TheVariants as errors
 use Rattle.pg_dyn.specs.reading.Decoding.{dec}
 use Rattle.pg_dyn.specs.encoding.Encoding.{cap, enc}
-use Rattle.pg_dyn.specs.Message.{Message, IsPlain}
+use Rattle.pg_dyn.specs.message.Message.{Message, IsPlain}
 use Rattle.pg_dyn.specs.reading.Refusals.{MayRefuseUnlimited}
-use Rattle.pg_dyn.specs.Belonging.{IsMessage}
-use Rattle.pg_dyn.specs.Breaking.{Compatible}
-use Rattle.pg_dyn.specs.Comparison.{View}
+use Rattle.pg_dyn.specs.fitting.Belonging.{IsMessage}
+use Rattle.pg_dyn.specs.views.Breaking.{Compatible}
+use Rattle.pg_dyn.specs.views.Comparison.{View}
 use Rattle.pg_pairs.specs.declared.choices.choice.Pair.{Pair}
 use Rattle.pg_pairs.specs.home.Home.{home}
 use Rattle.pg_pairs.specs.home.Returns.{Returns}

@@ -1,9 +1,9 @@
 -- The path down of a witness, by the cheapest choices.
 use Rattle.std.proofs.Common.{◌≡◌, ℕ, ◌<◌, ◌≤◌, List, [], ◌∷◌, ◌++◌, length, true, is_some, option_and_then, option_map, Option, Some, None, refl, ap, ap₂, sym, ◌∙◌, subst, subst₂, arith, append_assoc}
 use Rattle.pg_schema.specs.Shape.{Shape}
-use Rattle.pg_dyn.specs.Message.{Message}
-use Rattle.pg_dyn.specs.Fits.{Fits}
-use Rattle.pg_dyn.specs.Kept.{Kept, message_of, type_of}
+use Rattle.pg_dyn.specs.message.Message.{Message}
+use Rattle.pg_dyn.specs.fitting.Fits.{Fits}
+use Rattle.pg_dyn.specs.message.Kept.{Kept, message_of, type_of}
 use Rattle.pg_pairs.proofs.lemmas.choices.Among.{among_each}
 use Rattle.pg_pairs.specs.declared.choices.choice.Choice.{Choice}
 use Rattle.pg_pairs.specs.declared.choices.choice.Pair.{Pair}

@@ -2,11 +2,11 @@
 use Rattle.std.proofs.Common.{◌≡◌, Bool, true, false, ◌&&◌, Option, Some, None, refl}
 use Rattle.std.proofs.lemmas.Slice.Eq.{bytes_eq-Decides}
 use Rattle.pg_schema.specs.Shape.{Shape, fields}
-use Rattle.pg_dyn.specs.Breaking.{Breaks, is_kept}
-use Rattle.pg_dyn.specs.Comparison.{View, records_outside, same, unshared_bytes}
+use Rattle.pg_dyn.specs.views.Breaking.{Breaks, is_kept}
+use Rattle.pg_dyn.specs.views.Comparison.{View, records_outside, same, unshared_bytes}
 use Rattle.pg_dyn.specs.encoding.Encoding.{enc}
 use Rattle.pg_dyn.specs.encoding.Writing.{bytes_of}
-use Rattle.pg_dyn.specs.Message.{Message, unknown_of}
+use Rattle.pg_dyn.specs.message.Message.{Message, unknown_of}
 use Rattle.pg_dyn.specs.reading.Decoding.{dec}
 use Rattle.pg_pairs.specs.declared.choices.choice.Pair.{Pair}
 use Rattle.pg_least.specs.Loss.{IsLost, NewSees}

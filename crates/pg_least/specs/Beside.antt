@@ -1,10 +1,10 @@
 -- The message beside what a search answers.
 use Rattle.std.specs.Prelude.{◌≡◌, Option, Some, None}
 use Rattle.pg_schema.specs.Shape.{Shape}
-use Rattle.pg_dyn.specs.Breaking.{Breaks}
+use Rattle.pg_dyn.specs.views.Breaking.{Breaks}
 use Rattle.pg_dyn.specs.encoding.Encoding.{enc}
-use Rattle.pg_dyn.specs.Fits.{Fits}
-use Rattle.pg_dyn.specs.Kept.{Kept, message_of, type_of}
+use Rattle.pg_dyn.specs.fitting.Fits.{Fits}
+use Rattle.pg_dyn.specs.message.Kept.{Kept, message_of, type_of}
 use Rattle.pg_pairs.specs.views.EnumView.{EnumView}
 use Rattle.pg_cert.specs.Certificate.{Claim}
 

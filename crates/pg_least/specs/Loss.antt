@@ -5,11 +5,11 @@ use Rattle.pg_schema.specs.Shape.{Shape, fields}
 use Rattle.pg_schema.specs.declared.parts.field.TypeId.{TypeId}
 use Rattle.pg_schema.specs.declared.parts.Parts.{Parts}
 use Rattle.pg_schema.specs.Parts.{name_at}
-use Rattle.pg_dyn.specs.Belonging.{IsMessage}
-use Rattle.pg_dyn.specs.Comparison.{View, records_outside, same, unshared_bytes}
+use Rattle.pg_dyn.specs.fitting.Belonging.{IsMessage}
+use Rattle.pg_dyn.specs.views.Comparison.{View, records_outside, same, unshared_bytes}
 use Rattle.pg_dyn.specs.reading.Decoding.{dec}
 use Rattle.pg_dyn.specs.encoding.Encoding.{cap, enc}
-use Rattle.pg_dyn.specs.Message.{IsPlain, Message, unknown_of}
+use Rattle.pg_dyn.specs.message.Message.{IsPlain, Message, unknown_of}
 use Rattle.pg_dyn.specs.encoding.Writing.{bytes_of}
 use Rattle.pg_pairs.specs.declared.choices.choice.Pair.{Pair}
 

@@ -1,9 +1,9 @@
 -- What a search answers: a claim, the path of its witness, and the message that this path carries.
 use Rattle.std.specs.Prelude.{◌≡◌, ℕ, List, map, is_some, Option, Some, None, [], ◌∷◌, option_map, IfSome}
 use Rattle.pg_schema.specs.Shape.{Shape}
-use Rattle.pg_dyn.specs.Breaking.{Compatible, Least}
+use Rattle.pg_dyn.specs.views.Breaking.{Compatible, Least}
 use Rattle.pg_dyn.specs.encoding.Encoding.{enc}
-use Rattle.pg_dyn.specs.Message.{Message}
+use Rattle.pg_dyn.specs.message.Message.{Message}
 use Rattle.pg_pairs.specs.declared.choices.choice.Pair.{Pair}
 use Rattle.pg_pairs.specs.views.EnumView.{EnumView}
 use Rattle.pg_pairs.specs.choices.Choices.{number_for, Table, choices, cheapest}

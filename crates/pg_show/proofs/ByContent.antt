@@ -11,12 +11,13 @@ use Rattle.pg_dyn.specs.declared.message_ref.ContentRef.TheVariants as contents
 use Rattle.pg_dyn.specs.declared.message_ref.EntryRef.{EntryRef}
 use Rattle.pg_dyn.specs.declared.message_ref.ValueRef.{ValueRef}
 use Rattle.pg_dyn.specs.declared.message_ref.ValueRef.TheVariants as values
-use Rattle.pg_dyn.specs.Borrowed.{all_seen, content_seen, entry_part, fields_onto, item_part, item_seen, leaf_of}
-use Rattle.pg_dyn.specs.NumberLists.{numbers_in}
-use Rattle.pg_dyn.specs.Message.{Leaf, Part}
-use Rattle.pg_dyn.specs.Kept.{Kept, KeptItem, Plain, Msg, ends}
+use Rattle.pg_dyn.specs.message_ref.Borrowed.{all_seen, content_seen, entry_part, fields_onto, item_part, item_seen, leaf_of}
+use Rattle.pg_dyn.specs.word.NumberLists.{numbers_in}
+use Rattle.pg_dyn.specs.message.Message.{Leaf, Part}
+use Rattle.pg_dyn.specs.message.Kept.{Kept, ends}
+use Rattle.pg_dyn.specs.message.KeptParts.{KeptItem, Plain, Msg}
 use Rattle.pg_dyn.specs.encoding.Encoding.{element_type}
-use Rattle.pg_dyn.specs.Replacing.{kept_onto, kept_part}
+use Rattle.pg_dyn.specs.message.Replacing.{kept_onto, kept_part}
 use Rattle.pg_dyn.proofs.Lists.{flat_map-append'}
 use Rattle.pg_show.specs.Lines.{Text, element_of, inner, item, line}
 use Rattle.pg_show.specs.Shown.{names_of}

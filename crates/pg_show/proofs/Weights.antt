@@ -6,11 +6,13 @@ use Rattle.pg_dyn.specs.declared.message_ref.ContentRef.TheVariants as contents
 use Rattle.pg_dyn.specs.declared.message_ref.EntryRef.{EntryRef}
 use Rattle.pg_dyn.specs.declared.message_ref.ValueRef.{ValueRef}
 use Rattle.pg_dyn.specs.declared.message_ref.ValueRef.TheVariants as values
-use Rattle.pg_dyn.specs.Borrowed.{all_seen, content_seen, entry_part, fields_onto, item_part, item_seen, leaf_of}
-use Rattle.pg_dyn.specs.NumberLists.{numbers_in}
-use Rattle.pg_dyn.specs.Message.{Leaf, Part}
-use Rattle.pg_dyn.specs.Kept.{Kept, KeptItem, ends, holds, nests, weight}
-use Rattle.pg_dyn.specs.Replacing.{kept_onto, kept_part}
+use Rattle.pg_dyn.specs.message_ref.Borrowed.{all_seen, content_seen, entry_part, fields_onto, item_part, item_seen, leaf_of}
+use Rattle.pg_dyn.specs.word.NumberLists.{numbers_in}
+use Rattle.pg_dyn.specs.message.Message.{Leaf, Part}
+use Rattle.pg_dyn.specs.message.Kept.{Kept, ends, holds, nests}
+use Rattle.pg_dyn.specs.message.KeptParts.{KeptItem}
+use Rattle.pg_dyn.specs.inner.Weights.{weight}
+use Rattle.pg_dyn.specs.message.Replacing.{kept_onto, kept_part}
 
 abbrev pub value_weight : ValueRef → ℕ
 value_weight (values.Msg child) = weight child.value

@@ -9,11 +9,11 @@ use Rattle.pg_wire.specs.Varint.{varint_at, varint}
 use Rattle.pg_wire.specs.Words.{signed, unzigzag}
 use Rattle.pg_wire.specs.Records.{tag_parts, record_at, records_of, tag, written}
 use Rattle.pg_wire.specs.declared.record.WireType.TheVariants.{Varint, Len}
-use Rattle.pg_dyn.specs.Coding.{word_bytes, word_in}
+use Rattle.pg_dyn.specs.word.Coding.{word_bytes, word_in}
 use Rattle.pg_dyn.specs.encoding.Encoding.{enc}
 use Rattle.pg_dyn.specs.reading.Decoding.{dec}
-use Rattle.pg_dyn.specs.Message.{ends, holds, nests, Int, F32, F64, Bytes}
-use Rattle.pg_dyn.specs.FaultExamples.{FaultExamples}
+use Rattle.pg_dyn.specs.message.Message.{ends, holds, nests, Int, F32, F64, Bytes}
+use Rattle.pg_dyn.specs.laws.FaultExamples.{FaultExamples}
 use Rattle.pg_show.specs.Worked as worked
 
 unknown_record : worked.UnknownRecord

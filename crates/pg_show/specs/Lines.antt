@@ -10,7 +10,7 @@ use Rattle.pg_schema.specs.declared.parts.field.Scalar.{Scalar}
 use Rattle.pg_schema.specs.declared.parts.field.Scalar.TheVariants as scalars
 use Rattle.pg_schema.specs.Shape.{Shape, FieldShape, fields, field_at}
 use Rattle.pg_wire.specs.Records.{WireRecord}
-use Rattle.pg_dyn.specs.Message.{Leaf, Int, F32, F64, Bytes, Message, ends, holds, nests}
+use Rattle.pg_dyn.specs.message.Message.{Leaf, Int, F32, F64, Bytes, Message, ends, holds, nests}
 use Rattle.pg_dyn.specs.encoding.Encoding.{element_type}
 use Rattle.pg_show.specs.Hex.{hex_of}
 

@@ -7,8 +7,8 @@ use Rattle.pg_schema.specs.declared.parts.field.Scalar.TheVariants as scalars
 use Rattle.pg_schema.specs.Shape.{Shape}
 use Rattle.pg_wire.specs.declared.error.WireError.TheVariants.{VarintTooLong, Truncated, Group}
 use Rattle.pg_dyn.specs.declared.error.DynError.TheVariants.{Wire}
-use Rattle.pg_dyn.specs.Examples.{first, field, scalar, member, of_fields, int32}
-use Rattle.pg_dyn.specs.FaultExamples.{text, too_long}
+use Rattle.pg_dyn.specs.laws.Examples.{first, field, scalar, member, of_fields, int32}
+use Rattle.pg_dyn.specs.laws.FaultExamples.{text, too_long}
 use Rattle.pg_show.specs.Hex.{bytes_in, hex_of}
 use Rattle.pg_show.specs.Lines.{Names, Text, line_end}
 use Rattle.pg_show.specs.Shown.{Refuses, Shows}

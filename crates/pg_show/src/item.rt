@@ -6,7 +6,7 @@ ghost use Rattle.std.specs.Option.{option_copied};
 ghost use Rattle.hex.specs.Hex.{encode_lower};
 ghost use Rattle.pg_dyn.specs.reading.Content.{leaf_bytes};
 ghost use Rattle.pg_dyn.specs.encoding.Encoding.{element_type};
-ghost use Rattle.pg_dyn.specs.Borrowed.{leaf_of};
+ghost use Rattle.pg_dyn.specs.message_ref.Borrowed.{leaf_of};
 ghost use Rattle.pg_show.specs.Lines as spec;
 
 use crate::hex_word::push_hex;

@@ -2,8 +2,8 @@
 
 ghost use Rattle.std.specs.Prelude.{◌≡◌, ◌++◌, flat_map, IfOk, OnOk, None, option_map, string_bytes};
 ghost use Rattle.std.specs.Option.{option_copied};
-ghost use Rattle.pg_dyn.specs.Borrowed.{leaf_of};
-ghost use Rattle.pg_dyn.specs.NumberLists.{numbers_in};
+ghost use Rattle.pg_dyn.specs.message_ref.Borrowed.{leaf_of};
+ghost use Rattle.pg_dyn.specs.word.NumberLists.{numbers_in};
 ghost use Rattle.pg_schema.specs.Parts.{shape_of};
 ghost use Rattle.pg_schema.specs.Shape.{fields};
 ghost use Rattle.pg_show.specs.Lines.{element_of, front, inner};

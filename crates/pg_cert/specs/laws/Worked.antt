@@ -5,7 +5,7 @@ use Rattle.pg_schema.specs.declared.parts.field.Element.TheVariants as elements
 use Rattle.pg_schema.specs.declared.parts.field.Presence.TheVariants.{Implicit, Explicit, Repeated}
 use Rattle.pg_schema.specs.Shape.{Shape}
 use Rattle.pg_dyn.specs.declared.view_name.ViewName.TheVariants as views
-use Rattle.pg_dyn.specs.Examples.{first, second, field, scalar, of_fields, linked}
+use Rattle.pg_dyn.specs.laws.Examples.{first, second, field, scalar, of_fields, linked}
 use Rattle.pg_pairs.specs.declared.choices.choice.Pair.{Pair}
 use Rattle.pg_pairs.specs.views.EnumView.{by_numbers}
 use Rattle.pg_pairs.specs.laws.SmallPairs.{both}

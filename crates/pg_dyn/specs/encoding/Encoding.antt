@@ -5,7 +5,7 @@ use Rattle.pg_schema.specs.declared.parts.field.TypeId.{TypeId}
 use Rattle.pg_schema.specs.declared.parts.field.Element.{Element}
 use Rattle.pg_schema.specs.declared.parts.field.Element.TheVariants as elements
 use Rattle.pg_schema.specs.Shape.{Shape, FieldShape, fields, field_at}
-use Rattle.pg_dyn.specs.Message.{Leaf, Bytes, Message, ends, holds, nests, Part, unknown_of}
+use Rattle.pg_dyn.specs.message.Message.{Leaf, Bytes, Message, ends, holds, nests, Part, unknown_of}
 use Rattle.pg_dyn.specs.encoding.Writing.{records_in, bytes_of}
 
 -- the message type of a field; the first type where the field isn't one of messages

@@ -7,8 +7,8 @@ use Rattle.pg_schema.specs.declared.parts.field.Element.TheVariants as elements
 use Rattle.pg_schema.specs.declared.parts.field.Presence.TheVariants as presences
 use Rattle.pg_schema.specs.Shape.{Shape, FieldShape, fields, field_at}
 use Rattle.pg_schema.specs.ShapeRules.{IsShape}
-use Rattle.pg_dyn.specs.Message.{Leaf, Bytes, Item, Plain, Msg, Part, message_from}
-use Rattle.pg_dyn.specs.Belonging.{IsMessage, LeafFits}
+use Rattle.pg_dyn.specs.message.Message.{Leaf, Bytes, Item, Plain, Msg, Part, message_from}
+use Rattle.pg_dyn.specs.fitting.Belonging.{IsMessage, LeafFits}
 use Rattle.pg_dyn.specs.encoding.Writing.{item_record}
 use Rattle.pg_dyn.specs.encoding.Encoding.{element_type, enc}
 

@@ -12,13 +12,14 @@ use Rattle.pg_dyn.specs.declared.message_ref.ContentRef.{ContentRef}
 use Rattle.pg_dyn.specs.declared.message_ref.ContentRef.TheVariants as contents
 use Rattle.pg_dyn.specs.declared.message_ref.ValueRef.{ValueRef}
 use Rattle.pg_dyn.specs.declared.message_ref.ValueRef.TheVariants as lent
-use Rattle.pg_dyn.specs.Borrowed as borrowed
-use Rattle.pg_dyn.specs.Coding.{scalar_form}
-use Rattle.pg_dyn.specs.Kept.{Kept, KeptItem, Plain, Msg}
-use Rattle.pg_dyn.specs.Message.{Leaf, Int, F32, F64, Bytes, Part}
-use Rattle.pg_dyn.specs.NumberLists.{number_item}
-use Rattle.pg_dyn.specs.PartsFit.{IsPartOf}
-use Rattle.pg_dyn.specs.Seen.{is_text, leaf_of}
+use Rattle.pg_dyn.specs.message_ref.Borrowed as borrowed
+use Rattle.pg_dyn.specs.word.Coding.{scalar_form}
+use Rattle.pg_dyn.specs.message.Kept.{Kept}
+use Rattle.pg_dyn.specs.message.KeptParts.{KeptItem, Plain, Msg}
+use Rattle.pg_dyn.specs.message.Message.{Leaf, Int, F32, F64, Bytes, Part}
+use Rattle.pg_dyn.specs.word.NumberLists.{number_item}
+use Rattle.pg_dyn.specs.fitting.PartsFit.{IsPartOf}
+use Rattle.pg_dyn.specs.message.Seen.{is_text, leaf_of}
 
 -- An item, whether or not it is in a list. A leaf says whether it is a string.
 pub data Bare : Type 0 where

@@ -10,8 +10,8 @@ use Rattle.pg_schema.specs.declared.parts.field.Presence.TheVariants as presence
 use Rattle.pg_schema.specs.Shape.{FieldShape}
 use Rattle.pg_wire.specs.declared.record.WireType.TheVariants.{Len}
 use Rattle.pg_wire.specs.Records.{WireRecord, written}
-use Rattle.pg_dyn.specs.Message.{Leaf, Part, is_of}
-use Rattle.pg_dyn.specs.Coding.{form, form_wire, body, zero_leaf}
+use Rattle.pg_dyn.specs.message.Message.{Leaf, Part, is_of}
+use Rattle.pg_dyn.specs.word.Coding.{form, form_wire, body, zero_leaf}
 
 -- whether the items of a field are in one record
 abbrev pub is_packed : Presence → Bool

@@ -14,11 +14,12 @@ use Rattle.pg_wire.specs.Records.{WireRecord, written}
 use Rattle.pg_dyn.specs.declared.error.DynError.{DynError}
 use Rattle.pg_dyn.specs.declared.error.DynError.TheVariants as errors
 use Rattle.pg_dyn.specs.declared.number_list.NumberList.{NumberList}
-use Rattle.pg_dyn.specs.Message.{Leaf, Bytes, Part}
-use Rattle.pg_dyn.specs.Coding.{InRange, body, form}
-use Rattle.pg_dyn.specs.Fits.{Fits}
-use Rattle.pg_dyn.specs.NumberLists.{numbers_in}
-use Rattle.pg_dyn.specs.Kept.{Kept, ends, holds, nests, KeptItem, type_of, message_of}
+use Rattle.pg_dyn.specs.message.Message.{Leaf, Bytes, Part}
+use Rattle.pg_dyn.specs.word.Coding.{InRange, body, form}
+use Rattle.pg_dyn.specs.fitting.Fits.{Fits}
+use Rattle.pg_dyn.specs.word.NumberLists.{numbers_in}
+use Rattle.pg_dyn.specs.message.Kept.{Kept, ends, holds, nests, type_of, message_of}
+use Rattle.pg_dyn.specs.message.KeptParts.{KeptItem}
 use Rattle.pg_dyn.specs.encoding.Lending.{Bare, Lone, Child, bare, bare_leaf, lent_item}
 use Rattle.pg_dyn.specs.encoding.Writing.{bytes_of, entry_bytes, field_records, is_packed, item_record}
 use Rattle.pg_dyn.specs.encoding.Encoding.{cap, enc}

@@ -13,15 +13,15 @@ use Rattle.pg_dyn.specs.declared.message_ref.ValueRef.{ValueRef}
 use Rattle.pg_dyn.specs.declared.message_ref.ValueRef.TheVariants as values
 use Rattle.pg_dyn.specs.declared.reading.stop.Stop.{Stop}
 use Rattle.pg_dyn.specs.declared.reading.stop.Stop.TheVariants as stops
-use Rattle.pg_dyn.specs.Optional.{all_some}
-use Rattle.pg_dyn.specs.Message.{Leaf}
+use Rattle.pg_dyn.specs.reading.Optional.{all_some}
+use Rattle.pg_dyn.specs.message.Message.{Leaf}
 use Rattle.pg_dyn.specs.reading.Content.{content, counted, entry_in, takes}
-use Rattle.pg_dyn.specs.BorrowedItems.{ItemKept}
+use Rattle.pg_dyn.specs.message_ref.BorrowedItems.{ItemKept}
 use Rattle.pg_dyn.specs.reading.Decoding.{all_readable, dec, read_part}
 use Rattle.pg_dyn.specs.reading.EntrySteps.{IsReadFrom}
-use Rattle.pg_dyn.specs.Kept.{message_of}
-use Rattle.pg_dyn.specs.BorrowedItems.{IsItemKept}
-use Rattle.pg_dyn.specs.Borrowed.{leaf_of}
+use Rattle.pg_dyn.specs.message.Kept.{message_of}
+use Rattle.pg_dyn.specs.message_ref.BorrowedItems.{IsItemKept}
+use Rattle.pg_dyn.specs.message_ref.Borrowed.{leaf_of}
 use Rattle.pg_dyn.specs.reading.Steps.{FieldReads, IsShallow, IsShallowIn, IsShallowRecord, Taken, part_of, parts_held}
 
 -- why reading stops of what should be so: memory was refused, or it isn't so

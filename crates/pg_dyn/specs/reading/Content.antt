@@ -15,9 +15,9 @@ use Rattle.pg_wire.specs.declared.record.WireType.{WireType}
 use Rattle.pg_wire.specs.declared.record.WireType.TheVariants.{Len}
 use Rattle.pg_wire.specs.Reading.{Fault, row}
 use Rattle.pg_wire.specs.Records.{WireRecord, records_of, wire_code}
-use Rattle.pg_dyn.specs.Optional.{all_some, after_last_of, last_of, first_or, joined}
-use Rattle.pg_dyn.specs.Message.{Leaf, Bytes, Part, is_zero, key_cmp}
-use Rattle.pg_dyn.specs.Coding.{Form, form, form_wire, leaf_in, element_at, zero_leaf}
+use Rattle.pg_dyn.specs.reading.Optional.{all_some, after_last_of, last_of, first_or, joined}
+use Rattle.pg_dyn.specs.message.Message.{Leaf, Bytes, Part, is_zero, key_cmp}
+use Rattle.pg_dyn.specs.word.Coding.{Form, form, form_wire, leaf_in, element_at, zero_leaf}
 
 abbrev pub same_wire : WireType → WireType → Bool
 same_wire a b = nat_eq (wire_code a) (wire_code b)

@@ -10,8 +10,8 @@ use Rattle.pg_schema.specs.declared.parts.field.Presence.{Presence}
 use Rattle.pg_schema.specs.declared.parts.field.Presence.TheVariants as presences
 use Rattle.pg_schema.specs.Shape.{Shape, FieldShape, fields}
 use Rattle.pg_wire.specs.Records.{WireRecord, records_of}
-use Rattle.pg_dyn.specs.Optional.{all_some, joined}
-use Rattle.pg_dyn.specs.Message.{Leaf, Item, Plain, Msg, Message, Part, message_from}
+use Rattle.pg_dyn.specs.reading.Optional.{all_some, joined}
+use Rattle.pg_dyn.specs.message.Message.{Leaf, Item, Plain, Msg, Message, Part, message_from}
 use Rattle.pg_dyn.specs.reading.Content.{takes, is_unknown, counted, option_from, leaves_in, leaf_bytes, key_field, value_field, content}
 
 -- how the bytes of a child message are read

@@ -6,12 +6,12 @@ use Rattle.pg_schema.specs.declared.parts.field.Element.TheVariants as elements
 use Rattle.pg_schema.specs.Shape.{Shape, FieldShape}
 use Rattle.pg_wire.specs.Records.{WireRecord}
 use Rattle.pg_dyn.specs.declared.message_ref.ValueRef.{ValueRef}
-use Rattle.pg_dyn.specs.Message.{Leaf}
-use Rattle.pg_dyn.specs.Coding.{form, zero_leaf}
+use Rattle.pg_dyn.specs.message.Message.{Leaf}
+use Rattle.pg_dyn.specs.word.Coding.{form, zero_leaf}
 use Rattle.pg_dyn.specs.reading.Content.{takes, plain_content}
-use Rattle.pg_dyn.specs.BorrowedItems.{ItemKept}
+use Rattle.pg_dyn.specs.message_ref.BorrowedItems.{ItemKept}
 use Rattle.pg_dyn.specs.reading.Decoding.{read_item, dec}
-use Rattle.pg_dyn.specs.Borrowed.{item_seen}
+use Rattle.pg_dyn.specs.message_ref.Borrowed.{item_seen}
 use Rattle.pg_dyn.specs.reading.Steps.{item_of}
 
 abbrev pub IsMessageOf : Element → Type 0

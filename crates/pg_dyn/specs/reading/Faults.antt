@@ -10,7 +10,7 @@ use Rattle.pg_schema.specs.declared.parts.field.Presence.TheVariants as presence
 use Rattle.pg_schema.specs.Shape.{Shape, FieldShape, field_at, fields, is_map}
 use Rattle.pg_wire.specs.Reading.{Fault, row}
 use Rattle.pg_wire.specs.Records.{WireRecord, Spells, record_at}
-use Rattle.pg_dyn.specs.Coding.{Text, form, form_wire, element_at}
+use Rattle.pg_dyn.specs.word.Coding.{Text, form, form_wire, element_at}
 use Rattle.pg_dyn.specs.reading.Content.{same_wire, takes, value_field, entry_fields}
 
 -- the bytes aren't records, a string isn't UTF-8, or a message is deeper than a limit

@@ -10,8 +10,8 @@ use Rattle.pg_dyn.specs.declared.message_ref.EntryRef.{EntryRef}
 use Rattle.pg_dyn.specs.declared.message_ref.ContentRef.{ContentRef}
 use Rattle.pg_dyn.specs.declared.message_ref.ContentRef.TheVariants as contents
 use Rattle.pg_dyn.specs.declared.message_ref.ValueRef.{ValueRef}
-use Rattle.pg_dyn.specs.BorrowedItems.{is_zero_value}
-use Rattle.pg_dyn.specs.NumberLists.{numbers_in}
+use Rattle.pg_dyn.specs.message_ref.BorrowedItems.{is_zero_value}
+use Rattle.pg_dyn.specs.word.NumberLists.{numbers_in}
 
 -- what a singular field holds after an item: no zero where it is implicit
 abbrev pub item_left : Presence → ValueRef → Option ContentRef

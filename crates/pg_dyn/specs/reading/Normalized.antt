@@ -2,7 +2,7 @@
 use Rattle.std.specs.Prelude.{List, [], ◌∷◌, fold}
 use Rattle.std.specs.declared.cmp.Ordering.{Ordering}
 use Rattle.std.specs.declared.cmp.Ordering.TheVariants.{Less, Equal, Greater}
-use Rattle.pg_dyn.specs.Message.{Leaf, key_cmp}
+use Rattle.pg_dyn.specs.message.Message.{Leaf, key_cmp}
 
 -- an entry by rising key, instead of the one of its key
 abbrev pub place : {A : Type 0} → (A → Leaf) → A → List A → List A

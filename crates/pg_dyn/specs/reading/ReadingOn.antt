@@ -7,7 +7,7 @@ use Rattle.pg_schema.specs.declared.parts.field.Element.TheVariants as elements
 use Rattle.pg_schema.specs.declared.parts.field.Presence.{Presence}
 use Rattle.pg_schema.specs.Shape.{FieldShape, is_implicit}
 use Rattle.pg_wire.specs.Records.{WireRecord}
-use Rattle.pg_dyn.specs.Message.{Leaf, is_zero}
+use Rattle.pg_dyn.specs.message.Message.{Leaf, is_zero}
 use Rattle.pg_dyn.specs.reading.Content.{takes, is_sibling}
 
 -- an accepted record of another member of the field's oneof

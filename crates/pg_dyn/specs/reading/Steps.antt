@@ -12,17 +12,18 @@ use Rattle.pg_wire.specs.Records.{WireRecord}
 use Rattle.pg_dyn.specs.declared.error.DynError.{DynError}
 use Rattle.pg_dyn.specs.declared.error.DynError.TheVariants as errors
 use Rattle.pg_dyn.specs.declared.message_ref.ContentRef.{ContentRef}
-use Rattle.pg_dyn.specs.Message.{Item, Part}
-use Rattle.pg_dyn.specs.Message as model
-use Rattle.pg_dyn.specs.Coding.{element_at, form_wire, scalar_form, word_in}
-use Rattle.pg_dyn.specs.NumberLists.{number_item}
-use Rattle.pg_dyn.specs.WordOf.{IsWord}
+use Rattle.pg_dyn.specs.message.Message.{Item, Part}
+use Rattle.pg_dyn.specs.message.Message as model
+use Rattle.pg_dyn.specs.word.Coding.{element_at, form_wire, scalar_form, word_in}
+use Rattle.pg_dyn.specs.word.NumberLists.{number_item}
+use Rattle.pg_dyn.specs.word.WordOf.{IsWord}
 use Rattle.pg_dyn.specs.reading.Content.{packed_leaves, takes}
-use Rattle.pg_dyn.specs.BorrowedItems.{IsItemKept}
+use Rattle.pg_dyn.specs.message_ref.BorrowedItems.{IsItemKept}
 use Rattle.pg_dyn.specs.reading.Decoding.{is_readable, dec}
-use Rattle.pg_dyn.specs.Kept.{KeptItem, Plain, Msg, message_of}
-use Rattle.pg_dyn.specs.Borrowed.{HasKeys, IsFilled, content_seen, leaf_of}
-use Rattle.pg_dyn.specs.PartsFit.{FieldHolds}
+use Rattle.pg_dyn.specs.message.KeptParts.{KeptItem, Plain, Msg}
+use Rattle.pg_dyn.specs.message.Kept.{message_of}
+use Rattle.pg_dyn.specs.message_ref.Borrowed.{HasKeys, IsFilled, content_seen, leaf_of}
+use Rattle.pg_dyn.specs.fitting.PartsFit.{FieldHolds}
 use Rattle.pg_dyn.specs.reading.Faults.{Code, Wire, NotUtf8, TooDeep, FirstFault, FirstFaultOf, TooDeepIn, TooDeepOf}
 
 -- what a field holds, as parts of a message

@@ -14,12 +14,12 @@ use Rattle.pg_dyn.specs.declared.message.Content.{Content}
 use Rattle.pg_dyn.specs.declared.message.Content.TheVariants as contents
 use Rattle.pg_dyn.specs.declared.message.Value.{Value}
 use Rattle.pg_dyn.specs.declared.message.Value.TheVariants as values
-use Rattle.pg_dyn.specs.Message.{Leaf, leaf_eq}
+use Rattle.pg_dyn.specs.message.Message.{Leaf, leaf_eq}
 use Rattle.pg_dyn.specs.reading.Content.{same_oneof}
-use Rattle.pg_dyn.specs.Kept.{type_of}
-use Rattle.pg_dyn.specs.Seen.{leaf_of}
-use Rattle.pg_dyn.specs.Fits.{Fits}
-use Rattle.pg_dyn.specs.ScalarItems.{IsFaultOf}
+use Rattle.pg_dyn.specs.message.Kept.{type_of}
+use Rattle.pg_dyn.specs.message.Seen.{leaf_of}
+use Rattle.pg_dyn.specs.fitting.Fits.{Fits}
+use Rattle.pg_dyn.specs.fitting.ScalarItems.{IsFaultOf}
 
 -- the content has the shape that its field's presence asks: one item, a list, or entries
 abbrev pub HasPresence : Presence → Content → Type 0

@@ -15,12 +15,12 @@ use Rattle.pg_dyn.specs.declared.message.Content.{Content}
 use Rattle.pg_dyn.specs.declared.message.Content.TheVariants as contents
 use Rattle.pg_dyn.specs.declared.message.Value.{Value}
 use Rattle.pg_dyn.specs.setting.ContentFaults.{ElementFault, FirstFault, code, IsLowest}
-use Rattle.pg_dyn.specs.ContentFits.{ItemFits, is_zero_value}
-use Rattle.pg_dyn.specs.Kept.{KeptItem}
-use Rattle.pg_dyn.specs.Message.{Leaf}
-use Rattle.pg_dyn.specs.Seen.{item_seen, leaf_of}
-use Rattle.pg_dyn.specs.ScalarItems.{IsItemOf}
-use Rattle.pg_dyn.specs.Texts.{kept_item}
+use Rattle.pg_dyn.specs.fitting.ContentFits.{ItemFits, is_zero_value}
+use Rattle.pg_dyn.specs.message.KeptParts.{KeptItem}
+use Rattle.pg_dyn.specs.message.Message.{Leaf}
+use Rattle.pg_dyn.specs.message.Seen.{item_seen, leaf_of}
+use Rattle.pg_dyn.specs.fitting.ScalarItems.{IsItemOf}
+use Rattle.pg_dyn.specs.fitting.Texts.{kept_item}
 
 -- all is right, or the error is the lowest fault, and not that of a key twice
 abbrev pub Reports : Type 0 → (DynError → Type 0) → Result (Unit {0}) DynError → Type 0

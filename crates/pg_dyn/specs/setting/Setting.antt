@@ -6,11 +6,12 @@ use Rattle.pg_schema.specs.declared.parts.field.Presence.{Presence}
 use Rattle.pg_schema.specs.declared.parts.field.Presence.TheVariants as presences
 use Rattle.pg_schema.specs.Shape.{Shape, FieldShape, fields, field_at}
 use Rattle.pg_dyn.specs.declared.message.Content.{Content}
-use Rattle.pg_dyn.specs.Message.{Leaf, Part, is_zero, key_cmp}
-use Rattle.pg_dyn.specs.Kept.{Kept, KeptItem, Plain, Msg, type_of, of_number, unknown_of}
-use Rattle.pg_dyn.specs.Seen.{content_seen}
-use Rattle.pg_dyn.specs.Replacing.{with_content}
-use Rattle.pg_dyn.specs.Texts.{kept_in}
+use Rattle.pg_dyn.specs.message.Message.{Leaf, Part, is_zero, key_cmp}
+use Rattle.pg_dyn.specs.message.Kept.{Kept, type_of}
+use Rattle.pg_dyn.specs.message.KeptParts.{KeptItem, Plain, Msg, of_number, unknown_of}
+use Rattle.pg_dyn.specs.message.Seen.{content_seen}
+use Rattle.pg_dyn.specs.message.Replacing.{with_content}
+use Rattle.pg_dyn.specs.fitting.Texts.{kept_in}
 
 abbrev pub is_zero_kept : KeptItem → Bool
 is_zero_kept (Plain listed leaf) = is_zero leaf

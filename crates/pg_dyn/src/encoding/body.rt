@@ -3,9 +3,9 @@
 ghost use Rattle.std.specs.Prelude.{◌≡◌, ◌++◌, ◌+◌, ◌<◌, ◌≤◌, vec_len, OnOk, OnErr};
 ghost use Rattle.std.specs.Vec.{vec_capacity};
 ghost use Rattle.pg_wire.specs.Varint.{varint};
-ghost use Rattle.pg_dyn.specs.Coding.{InRange, body, form_wire, scalar_form, word_bytes};
+ghost use Rattle.pg_dyn.specs.word.Coding.{InRange, body, form_wire, scalar_form, word_bytes};
 ghost use Rattle.pg_dyn.specs.encoding.Lending.{leaf_lent};
-ghost use Rattle.pg_dyn.specs.WordOf.{HasBits};
+ghost use Rattle.pg_dyn.specs.word.WordOf.{HasBits};
 
 use crate::encoding::lending::LeafRef;
 use crate::word::word_of;
@@ -55,7 +55,7 @@ fn push_fixed(out: &mut Vec<u8>, bytes: &[u8]) -> Result<(), AllocError>
 // Adds a word at the end, as a body of this wire type. Inlined, as `push_body` is, where the scalar
 // of a list is known.
 #[inline(always)]
-#[tactic(auto, unfolding(crate::specs::Coding::word_bytes))]
+#[tactic(auto, unfolding(crate::specs::word::Coding::word_bytes))]
 fn push_word(out: &mut Vec<u8>, wire_type: WireType, word: u64) -> Result<(), AllocError>
     requires { HasBits wire_type word }
     ensures ok { OnOk result (out.new.items ≡ out.old.items ++ word_bytes wire_type word) }

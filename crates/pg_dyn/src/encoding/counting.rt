@@ -8,11 +8,11 @@ ghost use Rattle.pg_schema.specs.Parts.{field_shape, shape_of};
 ghost use Rattle.pg_schema.specs.Shape.{is_packable};
 ghost use Rattle.pg_wire.specs.declared.record.WireType.TheVariants.{Len};
 ghost use Rattle.pg_wire.specs.Records.{length_before, written};
-ghost use Rattle.pg_dyn.specs.Coding.{InRange, body, form, scalar_form, word_bytes};
-ghost use Rattle.pg_dyn.specs.Fits.{Fits};
+ghost use Rattle.pg_dyn.specs.word.Coding.{InRange, body, form, scalar_form, word_bytes};
+ghost use Rattle.pg_dyn.specs.fitting.Fits.{Fits};
 ghost use Rattle.pg_dyn.specs.encoding.Lending.{bare_leaf, leaf_lent};
-ghost use Rattle.pg_dyn.specs.PartsFit.{IsPartOf};
-ghost use Rattle.pg_dyn.specs.WordOf.{HasBits};
+ghost use Rattle.pg_dyn.specs.fitting.PartsFit.{IsPartOf};
+ghost use Rattle.pg_dyn.specs.word.WordOf.{HasBits};
 ghost use Rattle.pg_dyn.specs.encoding.Writing.{item_record};
 ghost use Rattle.pg_dyn.specs.encoding.Written.{BareFits, CanBePacked, LeafFits, LeavesFit, capped, entry_record, field_lengths, field_written, inner_lengths, item_body, item_bytes, item_lengths, own_bytes, packed_body, packed_bytes, packed_lengths};
 ghost use Rattle.pg_schema.specs.declared.parts.field.Element.TheVariants as elements;
@@ -49,7 +49,7 @@ pub(crate) fn add(first: usize, second: usize) -> usize
 }
 
 // How many bytes a word takes as a body.
-#[tactic(auto, unfolding(crate::specs::Coding::word_bytes))]
+#[tactic(auto, unfolding(crate::specs::word::Coding::word_bytes))]
 fn word_len(wire_type: WireType, word: u64) -> usize
     requires { HasBits wire_type word }
     ensures { result ≡ length (word_bytes wire_type word) }

@@ -3,12 +3,13 @@
 ghost use Rattle.std.specs.Prelude.{◌≡◌, ◌≢◌, [], ℕ, List, Bool, true, ⊤, map, MatchOption};
 ghost use Rattle.std.specs.List.{AllByRecursion};
 ghost use Rattle.pg_wire.specs.Records.{WireRecord};
-ghost use Rattle.pg_dyn.specs.Kept.{Kept, KeptItem, ends, type_of, unknown_of};
+ghost use Rattle.pg_dyn.specs.message.Kept.{Kept, ends, type_of};
+ghost use Rattle.pg_dyn.specs.message.KeptParts.{KeptItem, unknown_of};
 ghost use Rattle.pg_dyn.specs.encoding.Lending.{AreKeyed, AreKeyless, AreOf, Bare, Child, IsLone, all_parts, bare_leaf, entry_part, item_part, leaf_lent, lent_item};
-ghost use Rattle.pg_dyn.specs.NumberLists.{numbers_in};
-ghost use Rattle.pg_dyn.specs.Message.{Part};
-ghost use Rattle.pg_dyn.specs.Replacing.{kept_onto};
-ghost use Rattle.pg_dyn.specs.Seen.{Rises};
+ghost use Rattle.pg_dyn.specs.word.NumberLists.{numbers_in};
+ghost use Rattle.pg_dyn.specs.message.Message.{Part};
+ghost use Rattle.pg_dyn.specs.message.Replacing.{kept_onto};
+ghost use Rattle.pg_dyn.specs.message.Seen.{Rises};
 
 use crate::message::{Content, Message, UnknownRecord, Value};
 use crate::message_ref::{ContentRef, EntryRef, MessageRef, ValueRef};
@@ -108,7 +109,7 @@ pub(crate) trait Lends {
 
 impl Lends for Message {
     ghost use Rattle.pg_dyn.specs.encoding.Lending.{owned_item};
-    ghost use Rattle.pg_dyn.specs.Seen.{content_seen, record_seen};
+    ghost use Rattle.pg_dyn.specs.message.Seen.{content_seen, record_seen};
 
     type Value = Value;
 
@@ -202,7 +203,7 @@ impl Lends for Message {
 }
 
 impl<'a> Lends for MessageRef<'a> {
-    ghost use Rattle.pg_dyn.specs.Borrowed.{content_seen};
+    ghost use Rattle.pg_dyn.specs.message_ref.Borrowed.{content_seen};
     ghost use Rattle.pg_dyn.specs.encoding.Lending.{HasValues};
     ghost use Rattle.pg_wire.specs.Reads.{seen_record};
 

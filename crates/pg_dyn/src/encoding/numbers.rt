@@ -2,7 +2,7 @@
 
 ghost use Rattle.std.specs.Prelude.{◌≡◌, ◌++◌, ◌^◌, ◌<◌, length, IfOk, IfErr, OnOk};
 ghost use Rattle.pg_schema.specs.declared.parts.field.Element.TheVariants as elements;
-ghost use Rattle.pg_dyn.specs.NumberLists.{numbers_in};
+ghost use Rattle.pg_dyn.specs.word.NumberLists.{numbers_in};
 ghost use Rattle.pg_dyn.specs.encoding.Lending.{lent_item, word_item};
 ghost use Rattle.pg_dyn.specs.encoding.Written.{Adds, LeavesFit, MayNotAdd, capped, number_bytes, number_lengths, packed_body, packed_bytes, packed_lengths, single_bytes};
 

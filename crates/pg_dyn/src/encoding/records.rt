@@ -4,7 +4,7 @@ ghost use Rattle.std.specs.Prelude.{◌≡◌, ℕ, ◌<◌, ◌++◌, List, len
 ghost use Rattle.pg_schema.specs.declared.parts.field.Element.TheVariants as elements;
 ghost use Rattle.pg_wire.specs.declared.record.WireType.TheVariants.{Len};
 ghost use Rattle.pg_wire.specs.Records.{length_before, tag, wire_code};
-ghost use Rattle.pg_dyn.specs.Coding.{InRange, body, form, scalar_form};
+ghost use Rattle.pg_dyn.specs.word.Coding.{InRange, body, form, scalar_form};
 ghost use Rattle.pg_dyn.specs.encoding.Lending.{bare_leaf, leaf_lent};
 ghost use Rattle.pg_dyn.specs.encoding.Writing.{item_record};
 ghost use Rattle.pg_dyn.specs.encoding.Written.{Adds, LeafFits, LeavesFit, MayNotAdd, MayNotWrite, capped, packed_body, packed_bytes, packed_lengths};

@@ -4,9 +4,9 @@ ghost use Rattle.std.specs.Prelude.{◌≡◌, ◌++◌, length, OnOk, IfOk, IfE
 ghost use Rattle.pg_schema.specs.Invariant.{IsSchema};
 ghost use Rattle.pg_schema.specs.Parts.{shape_of};
 ghost use Rattle.pg_schema.specs.Shape.{fields};
-ghost use Rattle.pg_dyn.specs.Comparison.{unshared_bytes};
-ghost use Rattle.pg_dyn.specs.Fits.{Fits};
-ghost use Rattle.pg_dyn.specs.Kept.{message_of, type_of};
+ghost use Rattle.pg_dyn.specs.views.Comparison.{unshared_bytes};
+ghost use Rattle.pg_dyn.specs.fitting.Fits.{Fits};
+ghost use Rattle.pg_dyn.specs.message.Kept.{message_of, type_of};
 ghost use Rattle.pg_dyn.specs.encoding.Unshared.{outside_written};
 ghost use Rattle.pg_dyn.specs.encoding.Lending.{HoldsParts};
 ghost use Rattle.pg_dyn.specs.encoding.Written.{MayNotWrite, parts_written};

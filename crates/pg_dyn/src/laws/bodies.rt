@@ -1,7 +1,7 @@
 //! Laws of bodies that are read as items, whichever element's writer made them. Each is the
 //! contract of a function that does nothing.
 
-ghost use Rattle.pg_dyn.specs.Bodies.{BodiesReadAgain, EntryBodiesRead, PackedBodiesRead, SingleBodiesRead};
+ghost use Rattle.pg_dyn.specs.laws.Bodies.{BodiesReadAgain, EntryBodiesRead, PackedBodiesRead, SingleBodiesRead};
 
 /// An item in the range of its element is read again from its own body.
 pub fn bodies_read_again()

@@ -1,6 +1,6 @@
 //! Laws of the parts of a message of a type. Each is the contract of a function that does nothing.
 
-ghost use Rattle.pg_dyn.specs.OwnParts.{ComparandsAreWritten, ChildrenAreShorter, OneIsEmpty, OwnPartsFit, SiblingsMutual};
+ghost use Rattle.pg_dyn.specs.laws.OwnParts.{ComparandsAreWritten, ChildrenAreShorter, OneIsEmpty, OwnPartsFit, SiblingsMutual};
 
 /// The parts of a field fit it, and are in order.
 pub fn own_parts_fit()

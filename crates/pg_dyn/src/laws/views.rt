@@ -1,6 +1,6 @@
 //! What the views by which enums are compared have to do with each other.
 
-ghost use Rattle.pg_dyn.specs.ViewNames.{KeptByNumber, NamedRows, NamesAreStricter};
+ghost use Rattle.pg_dyn.specs.views.ViewNames.{KeptByNumber, NamedRows, NamesAreStricter};
 
 /// Small enums, and which of their numbers are alike by name.
 pub fn named_rows()

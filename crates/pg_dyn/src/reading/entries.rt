@@ -4,9 +4,9 @@ ghost use Rattle.std.specs.Prelude.{◌≡◌, ◌<◌, ◌≤◌, false, get_or
 ghost use Rattle.std.specs.List.{AllByRecursion};
 ghost use Rattle.std.specs.declared.cmp.Ordering.TheVariants.{Equal, Less};
 ghost use Rattle.pg_dyn.specs.declared.message_ref.EntryRef.{EntryRef as TheEntry};
-ghost use Rattle.pg_dyn.specs.Borrowed.{leaf_of};
-ghost use Rattle.pg_dyn.specs.BorrowedItems.{IsAlike, KeysRise, key_of};
-ghost use Rattle.pg_dyn.specs.Message.{key_cmp};
+ghost use Rattle.pg_dyn.specs.message_ref.Borrowed.{leaf_of};
+ghost use Rattle.pg_dyn.specs.message_ref.BorrowedItems.{IsAlike, KeysRise, key_of};
+ghost use Rattle.pg_dyn.specs.message.Message.{key_cmp};
 ghost use Rattle.pg_dyn.specs.reading.Normalized.{place};
 
 use crate::message_ref::{EntryRef, ValueRef};

@@ -8,7 +8,7 @@ ghost use Rattle.pg_schema.specs.Shape.{fields};
 ghost use Rattle.pg_schema.specs.declared.parts.field.Presence.TheVariants as presences;
 ghost use Rattle.pg_wire.specs.Reads.{seen_record};
 ghost use Rattle.pg_wire.specs.Records.{IsRecord};
-ghost use Rattle.pg_dyn.specs.Coding.{Text, form, form_wire, leaf_in, scalar_form};
+ghost use Rattle.pg_dyn.specs.word.Coding.{Text, form, form_wire, leaf_in, scalar_form};
 ghost use Rattle.pg_dyn.specs.reading.Content.{same_wire, takes, value_field, entry_fields};
 ghost use Rattle.pg_dyn.specs.reading.Decoding.{all_readable, dec};
 ghost use Rattle.pg_dyn.specs.reading.Faults.{body_start};

@@ -1,10 +1,10 @@
 //! What a field holds after the items that are read, and the zero of each scalar.
 
 ghost use Rattle.std.specs.Prelude.{◌≡◌, map};
-ghost use Rattle.pg_dyn.specs.Borrowed.{leaf_of};
-ghost use Rattle.pg_dyn.specs.BorrowedItems.{IsItemKept, is_zero_value};
-ghost use Rattle.pg_dyn.specs.Coding.{scalar_form, zero_leaf};
-ghost use Rattle.pg_dyn.specs.NumberLists.{number_item};
+ghost use Rattle.pg_dyn.specs.message_ref.Borrowed.{leaf_of};
+ghost use Rattle.pg_dyn.specs.message_ref.BorrowedItems.{IsItemKept, is_zero_value};
+ghost use Rattle.pg_dyn.specs.word.Coding.{scalar_form, zero_leaf};
+ghost use Rattle.pg_dyn.specs.word.NumberLists.{number_item};
 ghost use Rattle.pg_dyn.specs.reading.Held.{IsHeldList, item_left};
 
 use crate::integer::Integer;

@@ -2,11 +2,11 @@
 
 ghost use Rattle.std.specs.Prelude.{◌≡◌, ◌↔◌, IsTrue};
 ghost use Rattle.std.specs.declared.cmp.Ordering.TheVariants.{Less};
-ghost use Rattle.pg_dyn.specs.Borrowed.{leaf_of};
-ghost use Rattle.pg_dyn.specs.BorrowedItems.{AreAlike, KeysRise};
+ghost use Rattle.pg_dyn.specs.message_ref.Borrowed.{leaf_of};
+ghost use Rattle.pg_dyn.specs.message_ref.BorrowedItems.{AreAlike, KeysRise};
 ghost use Rattle.pg_dyn.specs.reading.Content.{leaf_bytes};
-ghost use Rattle.pg_dyn.specs.KeyOrder.{AreSame, number_in, rank_cmp};
-ghost use Rattle.pg_dyn.specs.Message.{key_cmp};
+ghost use Rattle.pg_dyn.specs.message.KeyOrder.{AreSame, number_in, rank_cmp};
+ghost use Rattle.pg_dyn.specs.message.Message.{key_cmp};
 
 use crate::message_ref::{EntryRef, ValueRef};
 use std::cmp::Ordering;

@@ -14,13 +14,13 @@ ghost use Rattle.pg_wire.specs.Reads.{seen_record};
 ghost use Rattle.pg_wire.specs.Records.{IsRecord, WireRecord};
 ghost use Rattle.pg_dyn.specs.reading.ByFields.{AllCount, AreGood, AreOf, BodiesGood, HoldsOf, IsChildOf, IsEntryRead, RecordsGood, StopsFor};
 ghost use Rattle.pg_dyn.specs.reading.Content.{is_unknown};
-ghost use Rattle.pg_dyn.specs.BorrowedItems.{ItemKept};
+ghost use Rattle.pg_dyn.specs.message_ref.BorrowedItems.{ItemKept};
 ghost use Rattle.pg_dyn.specs.reading.Decoding.{dec, read_records};
-ghost use Rattle.pg_dyn.specs.Fits.{Fits};
+ghost use Rattle.pg_dyn.specs.fitting.Fits.{Fits};
 ghost use Rattle.pg_dyn.specs.reading.Gathering.{AreGathered, AreOneofRuns, IsCounted, NumbersRise};
-ghost use Rattle.pg_dyn.specs.Kept.{ends, message_of, type_of};
-ghost use Rattle.pg_dyn.specs.Borrowed.{HasKeys, IsFilled, fields_onto};
-ghost use Rattle.pg_dyn.specs.Seen.{Rises};
+ghost use Rattle.pg_dyn.specs.message.Kept.{ends, message_of, type_of};
+ghost use Rattle.pg_dyn.specs.message_ref.Borrowed.{HasKeys, IsFilled, fields_onto};
+ghost use Rattle.pg_dyn.specs.message.Seen.{Rises};
 ghost use Rattle.pg_dyn.specs.reading.Steps.{HeldFits, IsShallowIn};
 
 use crate::message_ref::{ContentRef, EntryRef, MessageRef, ValueRef};

@@ -1,7 +1,7 @@
 //! Entries of maps that are as they were read are put in order.
 
 ghost use Rattle.std.specs.Prelude.{◌≡◌, [], IfOk};
-ghost use Rattle.pg_dyn.specs.BorrowedItems.{AreAlike, key_of};
+ghost use Rattle.pg_dyn.specs.message_ref.BorrowedItems.{AreAlike, key_of};
 ghost use Rattle.pg_dyn.specs.reading.Normalized.{placed};
 
 use crate::message_ref::EntryRef;

@@ -7,11 +7,11 @@ ghost use Rattle.pg_wire.specs.Errors.{error_at};
 ghost use Rattle.pg_wire.specs.Reading.{Fault};
 ghost use Rattle.pg_wire.specs.declared.error.WireError.TheVariants as wire_errors;
 ghost use Rattle.pg_dyn.specs.reading.ByFields.{StopsFor};
-ghost use Rattle.pg_dyn.specs.Coding.{element_at, form_wire, scalar_form, word_in};
+ghost use Rattle.pg_dyn.specs.word.Coding.{element_at, form_wire, scalar_form, word_in};
 ghost use Rattle.pg_dyn.specs.reading.Content.{packed_leaves};
 ghost use Rattle.pg_dyn.specs.declared.error.DynError.TheVariants as errors;
 ghost use Rattle.pg_dyn.specs.reading.Steps.{IsRow, RowReads, RowRefused, WordsRead};
-ghost use Rattle.pg_dyn.specs.WordOf.{HasBits};
+ghost use Rattle.pg_dyn.specs.word.WordOf.{HasBits};
 
 use crate::encoding::body::wire_type_of;
 use crate::error::DynError;
@@ -21,7 +21,7 @@ use pg_wire::{WireError, WireType, read_varint};
 
 // The word at the front of a packed list, and how many bytes it takes.
 #[inline(always)]
-#[tactic(auto, unfolding(crate::specs::Coding::word_in))]
+#[tactic(auto, unfolding(crate::specs::word::Coding::word_in))]
 fn front_word(wire_type: WireType, bytes: &[u8]) -> Result<(u64, usize), WireError>
     ensures ok { IfOk result (λ read.
         (element_at wire_type bytes.now ≡ Ok (take read.1 bytes.now, drop read.1 bytes.now))

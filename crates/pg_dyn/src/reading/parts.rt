@@ -5,7 +5,7 @@ ghost use Rattle.pg_schema.specs.declared.parts.field.Element.{Element as TheEle
 ghost use Rattle.pg_schema.specs.Shape.{Shape};
 ghost use Rattle.pg_wire.specs.Records.{WireRecord, records_of};
 ghost use Rattle.pg_dyn.specs.reading.ByFields.{StopsFor};
-ghost use Rattle.pg_dyn.specs.BorrowedItems.{ItemKept};
+ghost use Rattle.pg_dyn.specs.message_ref.BorrowedItems.{ItemKept};
 ghost use Rattle.pg_dyn.specs.reading.EntryParts.{AreParts, ScalarsGood};
 ghost use Rattle.pg_dyn.specs.reading.EntrySteps.{PartFits, WholeItem};
 ghost use Rattle.pg_dyn.specs.reading.Held.{read_as};

@@ -3,13 +3,13 @@
 ghost use Rattle.std.specs.Prelude.{◌≡◌, ◌<◌, ℕ, List, true, Some, IfOk, IfErr, is_some};
 ghost use Rattle.pg_schema.specs.declared.parts.field.Element.TheVariants as elements;
 ghost use Rattle.pg_schema.specs.Shape.{is_packable};
-ghost use Rattle.pg_dyn.specs.Coding.{Text, form_wire, leaf_in, scalar_form, word_in};
+ghost use Rattle.pg_dyn.specs.word.Coding.{Text, form_wire, leaf_in, scalar_form, word_in};
 ghost use Rattle.pg_dyn.specs.declared.error.DynError.TheVariants as errors;
-ghost use Rattle.pg_dyn.specs.ScalarItems.{HasShape};
-ghost use Rattle.pg_dyn.specs.Borrowed.{leaf_of};
-ghost use Rattle.pg_dyn.specs.BorrowedItems.{IsItemKept};
+ghost use Rattle.pg_dyn.specs.fitting.ScalarItems.{HasShape};
+ghost use Rattle.pg_dyn.specs.message_ref.Borrowed.{leaf_of};
+ghost use Rattle.pg_dyn.specs.message_ref.BorrowedItems.{IsItemKept};
 ghost use Rattle.pg_dyn.specs.reading.ByFields.{StopsFor};
-ghost use Rattle.pg_dyn.specs.WordOf.{HasBits};
+ghost use Rattle.pg_dyn.specs.word.WordOf.{HasBits};
 
 use crate::encoding::body::wire_type_of;
 use crate::message_ref::ValueRef;
@@ -19,7 +19,7 @@ use pg_schema::Scalar;
 use pg_wire::{WireType, read_varint};
 
 /// The word in a body of the wire type.
-#[tactic(auto, unfolding(crate::specs::Coding::word_in))]
+#[tactic(auto, unfolding(crate::specs::word::Coding::word_in))]
 pub(crate) fn body_word(wire_type: WireType, body: &[u8]) -> u64
     requires { HasShape wire_type body.now }
     ensures word { result ≡ word_in wire_type body.now }

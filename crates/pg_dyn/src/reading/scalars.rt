@@ -4,8 +4,8 @@ ghost use Rattle.std.specs.Prelude.{◌≡◌, ◌≢◌, ℕ, [], map, true, fa
 ghost use Rattle.pg_schema.specs.Parts.{field_shape};
 ghost use Rattle.pg_schema.specs.Shape.{Shape, is_map, is_packable, is_repeated};
 ghost use Rattle.pg_wire.specs.Reads.{seen_record};
-ghost use Rattle.pg_dyn.specs.Coding.{scalar_form};
-ghost use Rattle.pg_dyn.specs.NumberLists.{number_item};
+ghost use Rattle.pg_dyn.specs.word.Coding.{scalar_form};
+ghost use Rattle.pg_dyn.specs.word.NumberLists.{number_item};
 ghost use Rattle.pg_dyn.specs.reading.Held.{read_as};
 ghost use Rattle.pg_dyn.specs.reading.ByFields.{AreGood, AreOf, HoldsOf, StopsFor};
 ghost use Rattle.pg_dyn.specs.reading.ItemRuns.{AllRead, AreItemsOf};

@@ -3,8 +3,8 @@
 ghost use Rattle.std.specs.Prelude.{◌≡◌, ◌<◌, length, true, is_some, None, Some, IfErr, IfOk};
 ghost use Rattle.pg_schema.specs.Parts.{shape_of};
 ghost use Rattle.pg_dyn.specs.reading.Decoding.{dec};
-ghost use Rattle.pg_dyn.specs.Fits.{Fits};
-ghost use Rattle.pg_dyn.specs.Kept.{message_of, type_of};
+ghost use Rattle.pg_dyn.specs.fitting.Fits.{Fits};
+ghost use Rattle.pg_dyn.specs.message.Kept.{message_of, type_of};
 ghost use Rattle.pg_dyn.specs.reading.Refusals.{MayRefuseUnlimited};
 ghost use Rattle.pg_dyn.specs.declared.error.DynError.TheVariants as errors;
 

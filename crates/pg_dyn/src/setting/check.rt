@@ -6,13 +6,13 @@ ghost use Rattle.std.specs.Str.{IsValidUpTo};
 ghost use Rattle.pg_schema.specs.Invariant.{IsSchema};
 ghost use Rattle.pg_schema.specs.Parts.{field_shape, shape_of};
 ghost use Rattle.pg_dyn.specs.declared.error.DynError.TheVariants as errors;
-ghost use Rattle.pg_dyn.specs.Coding.{InRange, Text, scalar_form};
+ghost use Rattle.pg_dyn.specs.word.Coding.{InRange, Text, scalar_form};
 ghost use Rattle.pg_dyn.specs.setting.ContentFaults.{code, ContentFault, ElementFault, FieldFault, FirstOf, IsLowest};
-ghost use Rattle.pg_dyn.specs.ContentFits.{ItemFits};
-ghost use Rattle.pg_dyn.specs.Message.{Bytes, F32, F64};
-ghost use Rattle.pg_dyn.specs.ScalarItems.{HoldsBytes, IsFaultOf, IsItemOf};
+ghost use Rattle.pg_dyn.specs.fitting.ContentFits.{ItemFits};
+ghost use Rattle.pg_dyn.specs.message.Message.{Bytes, F32, F64};
+ghost use Rattle.pg_dyn.specs.fitting.ScalarItems.{HoldsBytes, IsFaultOf, IsItemOf};
 ghost use Rattle.pg_dyn.specs.setting.Reported.{EntryFault, EntryFits, IsTaken, ItemsFit, Reports, reported_code};
-ghost use Rattle.pg_dyn.specs.WordOf.{IsInteger, IsIntegerOf};
+ghost use Rattle.pg_dyn.specs.word.WordOf.{IsInteger, IsIntegerOf};
 
 use crate::error::DynError;
 use crate::message::{Content, Value};

@@ -8,9 +8,9 @@ ghost use Rattle.pg_schema.specs.Parts.{shape_of};
 ghost use Rattle.pg_schema.specs.Shape.{field_at, fields};
 ghost use Rattle.pg_dyn.specs.declared.error.DynError.TheVariants as errors;
 ghost use Rattle.pg_dyn.specs.setting.ContentFaults.{AnyOf, ContentFault, ContentsFault, FirstOf, HasKeyTwice, HasNoEarlyFault, HasNoFault, MayRefuseFor, PassTwice};
-ghost use Rattle.pg_dyn.specs.ContentFits.{NoneSiblings};
-ghost use Rattle.pg_dyn.specs.Fits.{Fits};
-ghost use Rattle.pg_dyn.specs.Seen.{Rises};
+ghost use Rattle.pg_dyn.specs.fitting.ContentFits.{NoneSiblings};
+ghost use Rattle.pg_dyn.specs.fitting.Fits.{Fits};
+ghost use Rattle.pg_dyn.specs.message.Seen.{Rises};
 ghost use Rattle.pg_dyn.specs.setting.Setting.{IsWhole};
 ghost use Rattle.pg_dyn.specs.setting.Reported.{TakesContent, Reports};
 
@@ -90,9 +90,9 @@ fn has_number_twice(contents: &[(u32, Content)]) -> bool
 impl Message {
     ghost use Rattle.std.specs.Prelude.{Some};
     ghost use Rattle.pg_schema.specs.Shape.{FieldShape};
-    ghost use Rattle.pg_dyn.specs.Kept.{type_of};
-    ghost use Rattle.pg_dyn.specs.Replacing.{with_parts, without_siblings};
-    ghost use Rattle.pg_dyn.specs.Seen.{content_seen};
+    ghost use Rattle.pg_dyn.specs.message.Kept.{type_of};
+    ghost use Rattle.pg_dyn.specs.message.Replacing.{with_parts, without_siblings};
+    ghost use Rattle.pg_dyn.specs.message.Seen.{content_seen};
     ghost use Rattle.pg_dyn.specs.setting.Setting.{normalized};
 
     // Puts a content that its field takes; none may be in another member of the field's oneof.

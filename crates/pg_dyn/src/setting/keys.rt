@@ -5,9 +5,9 @@ ghost use Rattle.std.specs.List.Sorted.{IsPermutation, IsSortedBy};
 ghost use Rattle.pg_dyn.specs.declared.error.DynError.TheVariants.{DuplicateKey, Memory};
 ghost use Rattle.pg_dyn.specs.reading.Content.{leaf_bytes};
 ghost use Rattle.pg_dyn.specs.setting.ContentFaults.{HasEntryTwice, HasKeyTwice};
-ghost use Rattle.pg_dyn.specs.ContentFits.{KeysRise};
-ghost use Rattle.pg_dyn.specs.KeyOrder.{AreAlike, KeysAlike, number_in, rank_cmp, ranks_below};
-ghost use Rattle.pg_dyn.specs.Seen.{leaf_of};
+ghost use Rattle.pg_dyn.specs.fitting.ContentFits.{KeysRise};
+ghost use Rattle.pg_dyn.specs.message.KeyOrder.{AreAlike, KeysAlike, number_in, rank_cmp, ranks_below};
+ghost use Rattle.pg_dyn.specs.message.Seen.{leaf_of};
 
 use crate::error::DynError;
 use crate::fitting::keys_rise;

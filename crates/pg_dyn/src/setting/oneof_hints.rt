@@ -5,8 +5,8 @@ ghost use Rattle.std.specs.Prelude.{◌≡◌, ◌<◌, ℕ, true, get_or, lengt
 ghost use Rattle.pg_schema.specs.Parts.{field_shape, shape_of};
 ghost use Rattle.pg_schema.specs.Shape.{fields};
 ghost use Rattle.pg_dyn.specs.declared.message.Content.{Content as TheContent};
-ghost use Rattle.pg_dyn.specs.Replacing.{is_sibling_number};
-ghost use Rattle.pg_dyn.specs.Seen.{Rises};
+ghost use Rattle.pg_dyn.specs.message.Replacing.{is_sibling_number};
+ghost use Rattle.pg_dyn.specs.message.Seen.{Rises};
 
 use crate::field_list::holds;
 use crate::message::Content;

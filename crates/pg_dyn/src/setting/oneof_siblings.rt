@@ -4,8 +4,8 @@ ghost use Rattle.std.specs.Prelude.{◌≡◌, filter, map, not};
 ghost use Rattle.pg_schema.specs.Parts.{field_shape, shape_of};
 ghost use Rattle.pg_schema.specs.Shape.{fields};
 ghost use Rattle.pg_dyn.specs.reading.Content.{is_sibling};
-ghost use Rattle.pg_dyn.specs.Replacing.{is_sibling_number};
-ghost use Rattle.pg_dyn.specs.Seen.{Rises};
+ghost use Rattle.pg_dyn.specs.message.Replacing.{is_sibling_number};
+ghost use Rattle.pg_dyn.specs.message.Seen.{Rises};
 
 use crate::field_list::{holds, remove};
 use crate::message::{Content, Message};
@@ -89,9 +89,9 @@ impl Message {
     ghost use Rattle.std.specs.Prelude.{Some, IfSome};
     ghost use Rattle.pg_schema.specs.Invariant.{IsSchema};
     ghost use Rattle.pg_schema.specs.Shape.{field_at};
-    ghost use Rattle.pg_dyn.specs.Fits.{Fits};
-    ghost use Rattle.pg_dyn.specs.Kept.{type_of};
-    ghost use Rattle.pg_dyn.specs.Replacing.{without_siblings};
+    ghost use Rattle.pg_dyn.specs.fitting.Fits.{Fits};
+    ghost use Rattle.pg_dyn.specs.message.Kept.{type_of};
+    ghost use Rattle.pg_dyn.specs.message.Replacing.{without_siblings};
 
     /// Takes out the contents of the other members of the field's oneof (proto3 language guide,
     /// "Oneof"). Where the field is in none, that costs nothing.

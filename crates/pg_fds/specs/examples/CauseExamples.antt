@@ -1,6 +1,6 @@
 -- Small sets with a bad reference, each with its cause.
 use Rattle.std.specs.Prelude.{◌≡◌, ℕ, pos, true, false, List, [], ◌∷◌, codes, None, is_some}
-use Rattle.pg_dyn.specs.Message.{Bytes, Int, Message, ends, holds, nests}
+use Rattle.pg_dyn.specs.message.Message.{Bytes, Int, Message, ends, holds, nests}
 use Rattle.pg_fds.specs.refusals.BadReferences.{HasBadType, IsBadReference, means_in}
 use Rattle.pg_fds.specs.declared.descriptor.proto.TheConstants as proto
 use Rattle.pg_fds.specs.stated.Stated.{stated_of}

@@ -1,6 +1,6 @@
 -- What names of small files mean, and which files' declarations may stand in one table: names that stand twice are asked scope by scope.
 use Rattle.std.specs.Prelude.{◌≡◌, ℕ, true, false, List, [], ◌∷◌, ◌++◌, codes, flat_map, Some, None, is_some}
-use Rattle.pg_dyn.specs.Message.{Bytes, Message, ends, holds, nests}
+use Rattle.pg_dyn.specs.message.Message.{Bytes, Message, ends, holds, nests}
 use Rattle.pg_fds.specs.stated.Declarations.{package_parts}
 use Rattle.pg_fds.specs.stated.Outlines.{file_enums, file_types}
 use Rattle.pg_fds.specs.declared.descriptor.proto.TheConstants as proto

@@ -5,7 +5,7 @@ use Rattle.pg_schema.specs.declared.parts.field.Element.TheVariants as elements
 use Rattle.pg_schema.specs.declared.parts.field.Presence.TheVariants as presences
 use Rattle.pg_schema.specs.declared.parts.field.Scalar.TheVariants as scalars
 use Rattle.pg_schema.specs.declared.parts.field.TypeId.{TypeId}
-use Rattle.pg_dyn.specs.Message.{Bytes, Int, Message, ends, holds, nests}
+use Rattle.pg_dyn.specs.message.Message.{Bytes, Int, Message, ends, holds, nests}
 use Rattle.pg_fds.specs.declared.descriptor.proto.TheConstants as proto
 use Rattle.pg_fds.specs.stated.Stated.{stated}
 use Rattle.pg_fds.specs.stated.Views.{EnumView, FieldView, FileView, MethodView, PartsView, ServiceView, TypeView}

@@ -7,10 +7,10 @@ use Rattle.pg_dyn.specs.declared.message_ref.ContentRef.TheVariants as contents
 use Rattle.pg_dyn.specs.declared.message_ref.EntryRef.{EntryRef}
 use Rattle.pg_dyn.specs.declared.message_ref.ValueRef.{ValueRef}
 use Rattle.pg_dyn.specs.declared.message_ref.ValueRef.TheVariants as values
-use Rattle.pg_dyn.specs.Borrowed.{leaf_of}
-use Rattle.pg_dyn.specs.Kept.{Kept, ends, holds, message_of, nests}
-use Rattle.pg_dyn.specs.Message.{Int, F32, F64, Bytes, Item, Plain, Msg}
-use Rattle.pg_dyn.specs.NumberLists.{numbers_in}
+use Rattle.pg_dyn.specs.message_ref.Borrowed.{leaf_of}
+use Rattle.pg_dyn.specs.message.Kept.{Kept, ends, holds, message_of, nests}
+use Rattle.pg_dyn.specs.message.Message.{Int, F32, F64, Bytes, Item, Plain, Msg}
+use Rattle.pg_dyn.specs.word.NumberLists.{numbers_in}
 
 -- what is kept of the message is so, and so is every message inside it
 abbrev pub IsHeldMessage : Kept → Type 0

@@ -1,6 +1,6 @@
 -- How many fields of a message type name each of its oneofs.
 use Rattle.std.specs.Prelude.{◌≡◌, ℕ, ◌<◌, ℤ, Bool, true, List, length, Option, None, Some, slice_index}
-use Rattle.pg_dyn.specs.Message.{Message}
+use Rattle.pg_dyn.specs.message.Message.{Message}
 use Rattle.pg_fds.specs.declared.descriptor.proto.TheConstants as proto
 use Rattle.pg_fds.specs.stated.Said.{maybe_number_at}
 use Rattle.pg_fds.specs.stated.SaidFiles.{is_place}

@@ -2,8 +2,8 @@
 -- are counted in the order of their rows.
 use Rattle.std.specs.Prelude.{ℕ, zero, suc, ◌+◌, List, [], ◌∷◌, ◌++◌, filter, length}
 use Rattle.pg_schema.specs.rules.Scopes.{enum_places, service_places, type_places}
-use Rattle.pg_dyn.specs.Kept.{message_of}
-use Rattle.pg_dyn.specs.Message.{Message}
+use Rattle.pg_dyn.specs.message.Kept.{message_of}
+use Rattle.pg_dyn.specs.message.Message.{Message}
 use Rattle.pg_check.specs.standing.Places.{places_from}
 use Rattle.pg_fds.specs.declared.reading.outline.Outline.{Outline}
 use Rattle.pg_fds.specs.declared.reading.outline.OutlinedFile.{OutlinedFile}

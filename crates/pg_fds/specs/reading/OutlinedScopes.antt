@@ -1,6 +1,6 @@
 -- What an outline has more, once what a scope, a file or all files declare is in it.
 use Rattle.std.specs.Prelude.{◌≡◌, ◌+◌, ◌≤◌, ◌^◌, ◌++◌, ◌∷◌, [], ℕ, List, filter, flat_map, length, map}
-use Rattle.pg_dyn.specs.Message.{Message}
+use Rattle.pg_dyn.specs.message.Message.{Message}
 use Rattle.pg_fds.specs.declared.reading.outline.Outline.{Outline}
 use Rattle.pg_fds.specs.stated.Declarations.{Adds, file_declared, types_declared}
 use Rattle.pg_fds.specs.reading.OutlinedPlaces.{Counts, counts_of, file_places, inside_file, no_counts, placed_file, placed_files, placed_type, placed_types, types_of_files}

@@ -3,8 +3,8 @@ use Rattle.std.specs.Prelude.{ℕ, List, Option, String, option_map}
 use Rattle.std.specs.BTreeMap.{BTreeMap}
 use Rattle.std.specs.BTreeMap as tree
 use Rattle.std.specs.HashMap.{get_by_text}
-use Rattle.pg_dyn.specs.Kept.{Kept, message_of}
-use Rattle.pg_dyn.specs.Message.{Message}
+use Rattle.pg_dyn.specs.message.Kept.{Kept, message_of}
+use Rattle.pg_dyn.specs.message.Message.{Message}
 use Rattle.pg_fds.specs.stated.Declarations.{NameTable}
 use Rattle.pg_fds.specs.declared.reading.made_fields.Scope.{Scope}
 use Rattle.pg_fds.specs.stated.StatedFields.{Owner}

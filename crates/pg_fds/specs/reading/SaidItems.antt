@@ -1,6 +1,6 @@
 -- What an item of a set's message says.
-use Rattle.pg_dyn.specs.Kept.{message_of}
-use Rattle.pg_dyn.specs.Message.{Int, Bytes, Item, Plain, Msg}
+use Rattle.pg_dyn.specs.message.Kept.{message_of}
+use Rattle.pg_dyn.specs.message.Message.{Int, Bytes, Item, Plain, Msg}
 use Rattle.pg_fds.specs.declared.descriptor.access.SaidItem.{SaidItem}
 use Rattle.pg_fds.specs.declared.descriptor.access.SaidItem.TheVariants as items
 

@@ -7,7 +7,7 @@ use Rattle.pg_check.specs.declared.error.CheckError.{CheckError}
 use Rattle.pg_check.specs.declared.error.CheckError.TheVariants as rules
 use Rattle.pg_check.specs.admitting.PartErrors.{IsRefusedOf}
 use Rattle.pg_dyn.specs.reading.Decoding.{dec}
-use Rattle.pg_dyn.specs.Message.{Message}
+use Rattle.pg_dyn.specs.message.Message.{Message}
 use Rattle.pg_dyn.specs.declared.error.DynError.TheVariants as messages
 use Rattle.pg_dyn.specs.reading.Refusals.{MayRefuse}
 use Rattle.pg_check.specs.standing.Places.{most_deep}

@@ -2,8 +2,8 @@
 use Rattle.std.specs.Prelude.{◌≡◌, ℕ, ◌≤◌, ◌^◌, zero, suc, true, List, [], ◌∷◌, ◌++◌, map, flat_map, filter, filter_map, length, slice_get}
 use Rattle.std.specs.List.{AllByRecursion, list_all}
 use Rattle.std.specs.String.{string_bytes}
-use Rattle.pg_dyn.specs.Kept.{message_of}
-use Rattle.pg_dyn.specs.Message.{Message}
+use Rattle.pg_dyn.specs.message.Kept.{message_of}
+use Rattle.pg_dyn.specs.message.Message.{Message}
 use Rattle.pg_fds.specs.declared.reading.outline.Outlined.{Outlined}
 use Rattle.pg_fds.specs.declared.reading.outline.OutlinedType.{OutlinedType}
 use Rattle.pg_fds.specs.stated.Said.{children_at}

@@ -4,7 +4,7 @@ use Rattle.std.specs.List.{list_all}
 use Rattle.std.specs.Str.{bytes_eq}
 use Rattle.pg_link.specs.walk.PostOrder.{Visits}
 use Rattle.pg_schema.specs.rules.Pairs.{are_distinct}
-use Rattle.pg_dyn.specs.Message.{Message}
+use Rattle.pg_dyn.specs.message.Message.{Message}
 use Rattle.pg_fds.specs.declared.descriptor.proto.TheConstants as proto
 use Rattle.pg_fds.specs.stated.Said.{text_at, texts_at}
 use Rattle.pg_fds.specs.stated.SaidFiles.{is_descriptor}

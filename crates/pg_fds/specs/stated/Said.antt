@@ -3,7 +3,7 @@
 use Rattle.std.specs.Prelude.{ℕ, ◌^◌, nat_lt, ℤ, pos, negsuc, Bool, false, not, List, [], map, filter, filter_map, Option, Some, None, option_map, slice_get, if◌then◌else◌}
 use Rattle.std.specs.Option.{unwrap_or}
 use Rattle.std.specs.Ordering.{int_eq}
-use Rattle.pg_dyn.specs.Message.{Int, F32, F64, Bytes, Item, Plain, Msg, Message, ends, Part, parts, is_of}
+use Rattle.pg_dyn.specs.message.Message.{Int, F32, F64, Bytes, Item, Plain, Msg, Message, ends, Part, parts, is_of}
 
 -- the items of a field
 abbrev pub items_at : ℕ → Message → List Item

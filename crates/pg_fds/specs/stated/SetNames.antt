@@ -3,7 +3,7 @@
 -- the way from the outermost scope they have a dot and the name. So that names of two scopes differ, whatever text a name is, a backslash
 -- stands in front of each dot and each backslash in one.
 use Rattle.std.specs.Prelude.{◌≡◌, ℕ, zero, suc, Bool, ◌||◌, nat_eq, List, [], ◌∷◌, ◌++◌, map, flat_map, filter, if◌then◌else◌}
-use Rattle.pg_dyn.specs.Message.{Message}
+use Rattle.pg_dyn.specs.message.Message.{Message}
 use Rattle.pg_fds.specs.writing.Fields.{dotted}
 use Rattle.pg_fds.specs.stated.Said.{children_at, text_at}
 use Rattle.pg_fds.specs.stated.SaidTypes.{is_entry, is_no_entry, real_oneofs, synthetic_places}

@@ -3,7 +3,7 @@
 use Rattle.std.specs.Prelude.{Bool, ◌&&◌, List, flat_map, map, Option, option_map}
 use Rattle.std.specs.List.{list_all}
 use Rattle.std.specs.Option.{option_and_then}
-use Rattle.pg_dyn.specs.Message.{Message}
+use Rattle.pg_dyn.specs.message.Message.{Message}
 use Rattle.pg_check.specs.standing.Places.{most_deep}
 use Rattle.pg_fds.specs.stated.Codes.{file_has_types}
 use Rattle.pg_fds.specs.reading.OutlinedPlaces.{PlacedFile, PlacedType, no_counts, placed_files, types_of_files}

@@ -8,7 +8,7 @@ use Rattle.pg_schema.specs.declared.parts.field.Element.{Element}
 use Rattle.pg_schema.specs.declared.parts.field.Element.TheVariants as elements
 use Rattle.pg_schema.specs.declared.parts.field.Scalar.{Scalar}
 use Rattle.pg_schema.specs.declared.parts.field.Scalar.TheVariants as kinds
-use Rattle.pg_dyn.specs.Message.{Message, parts}
+use Rattle.pg_dyn.specs.message.Message.{Message, parts}
 use Rattle.pg_fds.specs.stated.Codes.{scalars}
 use Rattle.pg_fds.specs.writing.Fields.{element_code, scalar_code}
 use Rattle.pg_fds.specs.declared.descriptor.proto.TheConstants as proto

@@ -1,7 +1,7 @@
 -- The enums that a set states, as a function of its messages (descriptor.proto, `EnumDescriptorProto`).
 use Rattle.std.specs.Prelude.{map}
 use Rattle.pg_schema.specs.declared.parts.enum_type.ReservedValues.{ReservedValues}
-use Rattle.pg_dyn.specs.Message.{Message}
+use Rattle.pg_dyn.specs.message.Message.{Message}
 use Rattle.pg_fds.specs.stated.Outlines.{Row}
 use Rattle.pg_fds.specs.declared.descriptor.proto.TheConstants as proto
 use Rattle.pg_fds.specs.stated.Said.{children_at, maybe_flag_at, number_at, options_at, text_at, texts_at}

@@ -7,7 +7,7 @@ use Rattle.pg_schema.specs.declared.parts.options.OptimizeMode.TheVariants as mo
 use Rattle.pg_schema.specs.declared.parts.options.OptionValue.{OptionValue}
 use Rattle.pg_schema.specs.declared.parts.options.OptionValue.TheVariants as values
 use Rattle.pg_schema.specs.declared.parts.service.ServiceId.{ServiceId}
-use Rattle.pg_dyn.specs.Message.{Bytes, F32, F64, Int, Item, Message, Msg, Plain}
+use Rattle.pg_dyn.specs.message.Message.{Bytes, F32, F64, Int, Item, Message, Msg, Plain}
 use Rattle.pg_fds.specs.reading.OutlinedPlaces.{PlacedFile}
 use Rattle.pg_fds.specs.declared.descriptor.proto.TheConstants as proto
 use Rattle.pg_fds.specs.stated.Said.{item_at, numbers_at, options_at, text_at, texts_at}

@@ -2,7 +2,7 @@
 -- `proto3_optional`).
 use Rattle.std.specs.Prelude.{◌≡◌, ℕ, ◌<◌, ◌^◌, ℤ, pos, negsuc, Bool, true, false, not, nat_eq, nat_lt, List, filter, length, map, take, Option, Some, None, option_map, slice_get, slice_index, if◌then◌else◌}
 use Rattle.std.specs.Option.{option_and_then}
-use Rattle.pg_dyn.specs.Message.{Message}
+use Rattle.pg_dyn.specs.message.Message.{Message}
 use Rattle.pg_check.specs.standing.Places.{places_from}
 use Rattle.pg_fds.specs.stated.SaidTypes.{is_marked, is_optional, members_at, synthetic_places}
 use Rattle.pg_fds.specs.declared.descriptor.proto.TheConstants as proto

@@ -5,7 +5,7 @@ use Rattle.std.specs.Option.{option_and_then}
 use Rattle.std.specs.Str.{bytes_eq}
 use Rattle.pg_schema.specs.rules.Pairs.{are_distinct}
 use Rattle.pg_schema.specs.rules.TextSets.{is_among}
-use Rattle.pg_dyn.specs.Message.{Message}
+use Rattle.pg_dyn.specs.message.Message.{Message}
 use Rattle.pg_fds.specs.stated.PostOrder.{Importer, importer_of, imports_at, imports_once, paths_of}
 use Rattle.pg_fds.specs.declared.descriptor.proto.TheConstants as proto
 use Rattle.pg_fds.specs.stated.Said.{text_at}

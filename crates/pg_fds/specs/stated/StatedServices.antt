@@ -2,7 +2,7 @@
 -- names is no message type.
 use Rattle.std.specs.Prelude.{List, Option, option_map}
 use Rattle.pg_schema.specs.declared.parts.field.TypeId.{TypeId}
-use Rattle.pg_dyn.specs.Message.{Message}
+use Rattle.pg_dyn.specs.message.Message.{Message}
 use Rattle.pg_fds.specs.stated.Outlines.{Row}
 use Rattle.pg_fds.specs.declared.descriptor.proto.TheConstants as proto
 use Rattle.pg_fds.specs.stated.Said.{children_at, flag_at, maybe_flag_at, maybe_text_at, options_at, text_at}

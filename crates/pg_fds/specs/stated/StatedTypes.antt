@@ -4,7 +4,7 @@ use Rattle.std.specs.Str.{bytes_eq}
 use Rattle.pg_schema.specs.declared.parts.field.EnumId.{EnumId}
 use Rattle.pg_schema.specs.declared.parts.field.TypeId.{TypeId}
 use Rattle.pg_schema.specs.declared.parts.message_type.ReservedFields.{ReservedFields}
-use Rattle.pg_dyn.specs.Message.{Message}
+use Rattle.pg_dyn.specs.message.Message.{Message}
 use Rattle.pg_fds.specs.reading.OutlinedPlaces.{PlacedType}
 use Rattle.pg_fds.specs.stated.Outlines.{Row}
 use Rattle.pg_fds.specs.declared.descriptor.proto.TheConstants as proto

@@ -2,10 +2,10 @@
 use Rattle.std.specs.Prelude.{◌≡◌, ℕ, false, [], ◌∷◌, Option, refl}
 use Rattle.std.proofs.Common.{ap, ap₂, ◌∙◌}
 use Rattle.std.specs.Coded.{Coded, code_by}
-use Rattle.pg_dyn.specs.Kept.{Kept, Manner, ends, holds, nests, message_of}
-use Rattle.pg_dyn.specs.KeptCode.{kept_code}
-use Rattle.pg_dyn.specs.Message.{Item, Leaf, Message, Msg, Plain, message_from, parts, with_part}
-use Rattle.pg_dyn.specs.Message as model
+use Rattle.pg_dyn.specs.message.Kept.{Kept, Manner, ends, holds, nests, message_of}
+use Rattle.pg_dyn.specs.inner.KeptCode.{kept_code}
+use Rattle.pg_dyn.specs.message.Message.{Item, Leaf, Message, Msg, Plain, message_from, parts, with_part}
+use Rattle.pg_dyn.specs.message.Message as model
 use Rattle.pg_fds.specs.writing.Items.{Items}
 
 abbrev alone : Manner

@@ -5,9 +5,9 @@ use Rattle.std.specs.Global.{Global}
 use Rattle.std.specs.List.{AllByRecursion}
 use Rattle.pg_schema.specs.declared.parts.field.Element.{Element}
 use Rattle.pg_schema.specs.declared.parts.field.TypeId.{TypeId}
-use Rattle.pg_dyn.specs.Belonging.{IsMessage}
+use Rattle.pg_dyn.specs.fitting.Belonging.{IsMessage}
 use Rattle.pg_dyn.specs.encoding.Encoding.{enc}
-use Rattle.pg_dyn.specs.Message.{message_from, parts}
+use Rattle.pg_dyn.specs.message.Message.{message_from, parts}
 use Rattle.pg_dyn.specs.reading.Decoding.{dec}
 use Rattle.pg_fds.specs.writing.Building.{HasMany, HasOne, written_shape}
 use Rattle.pg_fds.specs.writing.DraftCode.{items_code}

@@ -1,6 +1,6 @@
 -- Parts of a message by kind, as the rows of a descriptor's table need them.
 use Rattle.std.specs.Prelude.{ℕ, ℤ, pos, Bool, true, false, List, [], ◌∷◌, map, Option, Some, None}
-use Rattle.pg_dyn.specs.Message.{Int, Bytes, Item, Plain, Msg, Part, message_from}
+use Rattle.pg_dyn.specs.message.Message.{Int, Bytes, Item, Plain, Msg, Part, message_from}
 
 -- what stands in a message: parts by rising number
 abbrev pub Items : Type 0

@@ -12,7 +12,7 @@ use Rattle.pg_schema.specs.declared.parts.service.Method.{Method}
 use Rattle.pg_schema.specs.declared.parts.service.Service.{Service}
 use Rattle.pg_schema.specs.declared.parts.service.ServiceId.{ServiceId}
 use Rattle.pg_schema.specs.rules.Scopes.{type_name}
-use Rattle.pg_dyn.specs.Message.{Message, message_from}
+use Rattle.pg_dyn.specs.message.Message.{Message, message_from}
 use Rattle.pg_dyn.specs.encoding.Encoding.{cap, enc}
 use Rattle.pg_schema.specs.declared.parts.Parts.{Parts}
 use Rattle.pg_fds.specs.writing.Places.{Declared, declared_in}

@@ -8,10 +8,11 @@ ghost use Rattle.std.specs.Prelude.{◌≡◌, [], ◌<◌, false, pos, true, Fi
 ghost use Rattle.std.specs.Int.{w32};
 ghost use Rattle.std.specs.List.{AllByRecursion};
 ghost use Rattle.std.specs.Option.{option_copied};
-ghost use Rattle.pg_dyn.specs.Kept.{message_of, of_number};
-ghost use Rattle.pg_dyn.specs.Borrowed.{IsFilled, content_seen};
-ghost use Rattle.pg_dyn.specs.Message.{Int, Plain};
-ghost use Rattle.pg_dyn.specs.NumberLists.{IsNumber, numbers_in};
+ghost use Rattle.pg_dyn.specs.message.Kept.{message_of};
+ghost use Rattle.pg_dyn.specs.message.KeptParts.{of_number};
+ghost use Rattle.pg_dyn.specs.message_ref.Borrowed.{IsFilled, content_seen};
+ghost use Rattle.pg_dyn.specs.message.Message.{Int, Plain};
+ghost use Rattle.pg_dyn.specs.word.NumberLists.{IsNumber, numbers_in};
 ghost use Rattle.pg_fds.specs.descriptor.Lent.{lent};
 ghost use Rattle.pg_fds.specs.stated.Said.{child_in, children_at, flag_at, item_at, items_at, maybe_flag_at, maybe_number_at, maybe_text_at, natural, number_at, number_of, numbers_at, options_at, text_at, text_of, texts_at};
 ghost use Rattle.pg_fds.specs.stated.SaidFiles.{is_place};
@@ -31,8 +32,8 @@ pub(crate) struct Said<'b, 'a> {
 }
 
 impl<'b, 'a> Model for Said<'b, 'a> {
-    ghost use Rattle.pg_dyn.specs.Kept.{Kept};
-    ghost use Rattle.pg_dyn.specs.KeptCode.{kept_code};
+    ghost use Rattle.pg_dyn.specs.message.Kept.{Kept};
+    ghost use Rattle.pg_dyn.specs.inner.KeptCode.{kept_code};
     ghost use Rattle.pg_fds.specs.reading.Held.{IsHeldMessage};
 
     ghost Value = { Kept };
@@ -46,8 +47,9 @@ impl<'b, 'a> Model for Said<'b, 'a> {
 
 impl<'b, 'a> Said<'b, 'a> {
     ghost use Rattle.std.specs.Prelude.{◌≡◌};
-    ghost use Rattle.pg_dyn.specs.Kept.{ends, type_of, unknown_of};
-    ghost use Rattle.pg_dyn.specs.Borrowed.{fields_onto};
+    ghost use Rattle.pg_dyn.specs.message.Kept.{ends, type_of};
+    ghost use Rattle.pg_dyn.specs.message.KeptParts.{unknown_of};
+    ghost use Rattle.pg_dyn.specs.message_ref.Borrowed.{fields_onto};
     ghost use Rattle.pg_fds.specs.reading.Held.{IsHeldMessage};
 
     /// What is said by such a message.

@@ -3,7 +3,7 @@
 ghost use Rattle.std.specs.Prelude.{◌≡◌, ◌&&◌, pos, IfOk, find, map};
 ghost use Rattle.std.specs.List.{list_all, list_any};
 ghost use Rattle.std.specs.Ordering.{int_eq};
-ghost use Rattle.pg_dyn.specs.Kept.{message_of};
+ghost use Rattle.pg_dyn.specs.message.Kept.{message_of};
 ghost use Rattle.pg_fds.specs.stated.Codes.{file_has_types, have_types, is_taken, label_codes, scalars, type_codes};
 ghost use Rattle.pg_fds.specs.writing.Fields.{scalar_code};
 ghost use Rattle.pg_fds.specs.declared.descriptor.proto.TheConstants as proto;

@@ -3,7 +3,7 @@
 
 ghost use Rattle.std.specs.Prelude.{◌≡◌, ◌∷◌, [], false, IfErr, IfOk, OnOk, length, map};
 ghost use Rattle.std.specs.String.{string_bytes};
-ghost use Rattle.pg_dyn.specs.Kept.{message_of};
+ghost use Rattle.pg_dyn.specs.message.Kept.{message_of};
 ghost use Rattle.pg_fds.specs.stated.Declarations.{Adds, CannotAdd, all_named, is_package, named_in, package_declared, package_part};
 ghost use Rattle.pg_fds.specs.stated.SetNames.{qualified};
 ghost use Rattle.pg_fds.specs.stated.SaidTypes.{AreMarked, real_oneofs};

@@ -1,7 +1,7 @@
 //! The messages inside a message type: its entry types, and its other message types.
 
 ghost use Rattle.std.specs.Prelude.{◌≡◌, IfOk, filter, map};
-ghost use Rattle.pg_dyn.specs.Kept.{message_of};
+ghost use Rattle.pg_dyn.specs.message.Kept.{message_of};
 ghost use Rattle.pg_fds.specs.stated.SaidTypes.{is_entry, is_no_entry};
 
 use crate::descriptor::access::{Said, option};

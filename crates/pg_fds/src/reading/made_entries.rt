@@ -2,10 +2,10 @@
 
 ghost use Rattle.std.specs.Prelude.{◌≡◌, [], None, IfOk, OnErr, OnOk, option_map, map};
 ghost use Rattle.pg_schema.specs.declared.parts.field.Element.TheVariants.{Scalar as ScalarElement};
-ghost use Rattle.pg_dyn.specs.Kept.{message_of};
+ghost use Rattle.pg_dyn.specs.message.Kept.{message_of};
 ghost use Rattle.pg_fds.specs.declared.descriptor.proto.TheConstants as proto;
 ghost use Rattle.pg_fds.specs.reading.Owners.{means_of};
-ghost use Rattle.pg_dyn.specs.Message.{parts};
+ghost use Rattle.pg_dyn.specs.message.Message.{parts};
 ghost use Rattle.pg_fds.specs.stated.Said.{item_at, items_at, number_at, options_at};
 ghost use Rattle.pg_fds.specs.stated.StatedEntries.{element, entry, has_fields_alone, is_entry_field, key_and_value, key_of, may_say, named_element, of_code, pair_of, says, scalar_of};
 ghost use Rattle.pg_fds.specs.stated.StatedNames.{element_of_named};

@@ -4,7 +4,7 @@ ghost use Rattle.std.specs.Prelude.{◌≡◌, ◌⊎◌, None, Some, ◌||◌, 
 ghost use Rattle.std.specs.String.{string_bytes};
 ghost use Rattle.pg_schema.specs.rules.DeclaredNames.{entry_name};
 ghost use Rattle.pg_schema.specs.rules.Fields.{is_message};
-ghost use Rattle.pg_dyn.specs.Kept.{message_of};
+ghost use Rattle.pg_dyn.specs.message.Kept.{message_of};
 ghost use Rattle.pg_fds.specs.declared.error.Unstated.TheVariants.{Memory};
 ghost use Rattle.pg_fds.specs.reading.Owners.{means_of, owner_of};
 ghost use Rattle.pg_fds.specs.declared.descriptor.proto.TheConstants as proto;

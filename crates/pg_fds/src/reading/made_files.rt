@@ -2,8 +2,8 @@
 
 ghost use Rattle.std.specs.Prelude.{◌≡◌, ◌⊎◌, [], true, None, Some, IfErr, IfOk, OnOk, length, map, option_map};
 ghost use Rattle.std.specs.Option.{unwrap_or};
-ghost use Rattle.pg_dyn.specs.Kept.{message_of};
-ghost use Rattle.pg_dyn.specs.Message.{ends};
+ghost use Rattle.pg_dyn.specs.message.Kept.{message_of};
+ghost use Rattle.pg_dyn.specs.message.Message.{ends};
 ghost use Rattle.pg_fds.specs.declared.error.Unstated.TheVariants.{Memory};
 ghost use Rattle.pg_fds.specs.descriptor.Lent.{lent};
 ghost use Rattle.pg_fds.specs.stated.StatedFiles.{file, has_public_places, mode_of, numbered, option_value, options_under};

@@ -1,7 +1,7 @@
 //! What the names in a set's messages mean.
 
 ghost use Rattle.std.specs.Prelude.{◌≡◌, Some};
-ghost use Rattle.pg_dyn.specs.Kept.{message_of};
+ghost use Rattle.pg_dyn.specs.message.Kept.{message_of};
 ghost use Rattle.pg_fds.specs.reading.Owners.{means_of};
 ghost use Rattle.pg_fds.specs.stated.Said.{maybe_text_at};
 ghost use Rattle.pg_fds.specs.stated.StatedNames.{may_name, meant, type_meant};

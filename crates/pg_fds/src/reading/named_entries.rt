@@ -5,7 +5,7 @@ ghost use Rattle.std.specs.BTreeMap.{get_by_text};
 ghost use Rattle.std.specs.List.{list_all};
 ghost use Rattle.std.specs.Str.{bytes_eq};
 ghost use Rattle.std.specs.String.{string_bytes};
-ghost use Rattle.pg_dyn.specs.Kept.{message_of};
+ghost use Rattle.pg_dyn.specs.message.Kept.{message_of};
 ghost use Rattle.pg_fds.specs.reading.NamedEntries.{KeepsOnce, is_kept_once};
 ghost use Rattle.pg_fds.specs.declared.descriptor.proto.TheConstants as proto;
 ghost use Rattle.pg_fds.specs.stated.Said.{text_at};

@@ -5,7 +5,7 @@ ghost use Rattle.std.specs.Prelude.{◌≡◌, ◌⊎◌, ◌+◌, ◌<◌, ◌�
 ghost use Rattle.std.specs.List.{AllByRecursion};
 ghost use Rattle.std.specs.String.{string_bytes};
 ghost use Rattle.pg_schema.specs.rules.Scopes.{enum_places, type_places};
-ghost use Rattle.pg_dyn.specs.Kept.{message_of};
+ghost use Rattle.pg_dyn.specs.message.Kept.{message_of};
 ghost use Rattle.pg_fds.specs.declared.error.Unstated.TheVariants.{Memory};
 ghost use Rattle.pg_fds.specs.stated.Declarations.{Adds, CannotAdd, file_declared, members_declared, package_declared, type_declared, types_declared};
 ghost use Rattle.pg_fds.specs.stated.Outlines.{NameOneofs, NamesOneofs, StayFew, enum_rows, file_enums, file_types, files_at, type_row, type_rows};

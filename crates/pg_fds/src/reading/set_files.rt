@@ -2,7 +2,7 @@
 
 ghost use Rattle.std.specs.Prelude.{◌≡◌, ◌&&◌, IfOk, filter, map, not};
 ghost use Rattle.std.specs.List.{list_any};
-ghost use Rattle.pg_dyn.specs.Kept.{message_of};
+ghost use Rattle.pg_dyn.specs.message.Kept.{message_of};
 ghost use Rattle.pg_fds.specs.stated.SaidFiles.{is_descriptor, is_proto3, is_skipped};
 
 use crate::descriptor::access::{Said, text};

@@ -4,7 +4,7 @@ use Rattle.pg_cert.specs.Certificate.{Claim}
 use Rattle.pg_cert.specs.Text.{Certifies, IsSecondText}
 use Rattle.pg_dyn.specs.declared.view_name.ViewName.{ViewName}
 use Rattle.pg_dyn.specs.encoding.Encoding.{enc}
-use Rattle.pg_dyn.specs.Kept.{Kept}
+use Rattle.pg_dyn.specs.message.Kept.{Kept}
 use Rattle.pg_least.specs.Searched.{CarriesWitness, carried_along}
 use Rattle.pg_least.specs.Loss.{Lacks}
 use Rattle.pg_pairs.specs.views.EnumView.{by_numbers}

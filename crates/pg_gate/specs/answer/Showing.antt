@@ -1,6 +1,6 @@
 -- What is shown of bytes, and why nothing is; and what is shown of a message that breaks.
 use Rattle.std.specs.Prelude.{◌≡◌, ◌⊎◌, ℕ, Bool, true, false, Option, Some, None, string_bytes}
-use Rattle.pg_link.specs.Names.{Text}
+use Rattle.pg_link.specs.names.Names.{Text}
 use Rattle.pg_dyn.specs.reading.Faults.{TooDeepIn}
 use Rattle.pg_dyn.specs.declared.error.DynError.{DynError}
 use Rattle.pg_dyn.specs.declared.error.DynError.TheVariants as messages

@@ -5,7 +5,7 @@ use Rattle.pg_schema.specs.Invariant.{IsSchema}
 use Rattle.pg_schema.specs.Parts.{shape_of}
 use Rattle.pg_dyn.specs.declared.view_name.ViewName.{ViewName}
 use Rattle.pg_dyn.specs.encoding.Encoding.{enc}
-use Rattle.pg_dyn.specs.Kept.{message_of}
+use Rattle.pg_dyn.specs.message.Kept.{message_of}
 use Rattle.pg_pairs.specs.bounds.Covering.{IsAmong}
 use Rattle.pg_causes.specs.declared.overview.Overview.{Overview}
 use Rattle.pg_causes.specs.declared.overview.TypeLine.{TypeLine}

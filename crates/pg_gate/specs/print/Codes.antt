@@ -2,7 +2,7 @@
 use Rattle.std.specs.Prelude.{ℕ}
 use Rattle.pg_cert.specs.Codes.{code_of as claim_code}
 use Rattle.pg_check.specs.Codes.{code_of as rule_code}
-use Rattle.pg_dyn.specs.Codes.{code_of as message_code}
+use Rattle.pg_dyn.specs.error.Codes.{code_of as message_code}
 use Rattle.pg_fds.specs.refusals.ErrorCodes.{code_of as set_code}
 use Rattle.pg_link.specs.Codes.{code_of as link_code}
 use Rattle.pg_show.specs.Codes.{code_of as word_code}

@@ -2,7 +2,7 @@
 use Rattle.std.specs.Prelude.{ℕ, Bool, true, false, nat_eq, Option, Some, None, option_map}
 use Rattle.pg_check.specs.Codes.{place_of as rule_place}
 use Rattle.pg_dyn.specs.declared.error.DynError.{DynError}
-use Rattle.pg_dyn.specs.Codes.{code_of as message_code, place_of as message_place}
+use Rattle.pg_dyn.specs.error.Codes.{code_of as message_code, place_of as message_place}
 use Rattle.pg_fds.specs.refusals.ErrorCodes.{place_of as set_place}
 use Rattle.pg_link.specs.Codes.{place_of as link_place}
 use Rattle.pg_link.specs.declared.error.Place.{Place}

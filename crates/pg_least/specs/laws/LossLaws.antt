@@ -4,9 +4,9 @@ use Rattle.pg_schema.specs.declared.parts.field.TypeId.{TypeId}
 use Rattle.pg_schema.specs.declared.parts.Parts.{Parts}
 use Rattle.pg_schema.specs.Parts.{shape_of}
 use Rattle.pg_schema.specs.Shape.{Shape}
-use Rattle.pg_dyn.specs.Breaking.{Breaks, Compatible}
-use Rattle.pg_dyn.specs.Comparison.{View}
-use Rattle.pg_dyn.specs.Message.{Message}
+use Rattle.pg_dyn.specs.views.Breaking.{Breaks, Compatible}
+use Rattle.pg_dyn.specs.views.Comparison.{View}
+use Rattle.pg_dyn.specs.message.Message.{Message}
 use Rattle.pg_pairs.specs.declared.choices.choice.Pair.{Pair}
 use Rattle.pg_least.specs.Loss.{IsLost, NewSees, OldWrites, IsNamed}
 

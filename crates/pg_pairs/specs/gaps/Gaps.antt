@@ -5,8 +5,8 @@ use Rattle.pg_schema.specs.declared.parts.field.Scalar.TheVariants as scalars
 use Rattle.pg_schema.specs.declared.parts.field.Element.{Element}
 use Rattle.pg_schema.specs.declared.parts.field.Element.TheVariants as elements
 use Rattle.pg_wire.specs.Records.{length_before}
-use Rattle.pg_dyn.specs.Message.{Leaf, Int, Bytes}
-use Rattle.pg_dyn.specs.Coding.{Form, Text, Raw, form, form_wire, scalar_form, body}
+use Rattle.pg_dyn.specs.message.Message.{Leaf, Int, Bytes}
+use Rattle.pg_dyn.specs.word.Coding.{Form, Text, Raw, form, form_wire, scalar_form, body}
 use Rattle.pg_pairs.specs.declared.gaps.gap_kind.Gap.{Gap}
 use Rattle.pg_pairs.specs.declared.gaps.gap_kind.Gap.TheVariants as gaps
 use Rattle.pg_pairs.specs.views.EnumView.{EnumView}

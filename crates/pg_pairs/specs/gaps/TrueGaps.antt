@@ -3,9 +3,9 @@ use Rattle.std.specs.Prelude.{◌≡◌, ◌≤◌, ⊤, Bool, true, false, Opti
 use Rattle.pg_schema.specs.declared.parts.field.Scalar.{Scalar}
 use Rattle.pg_schema.specs.declared.parts.field.Element.{Element}
 use Rattle.pg_schema.specs.declared.parts.field.Element.TheVariants as elements
-use Rattle.pg_dyn.specs.Message.{Leaf, is_zero}
-use Rattle.pg_dyn.specs.Coding.{form, scalar_form, body, leaf_in, InRange}
-use Rattle.pg_dyn.specs.Comparison.{View, numbers, alike_leaves}
+use Rattle.pg_dyn.specs.message.Message.{Leaf, is_zero}
+use Rattle.pg_dyn.specs.word.Coding.{form, scalar_form, body, leaf_in, InRange}
+use Rattle.pg_dyn.specs.views.Comparison.{View, numbers, alike_leaves}
 use Rattle.pg_pairs.specs.declared.gaps.gap_kind.Gap.{Gap}
 use Rattle.pg_pairs.specs.declared.gaps.gap_kind.Gap.TheVariants as gaps
 use Rattle.pg_pairs.specs.gaps.Likeness.{like}

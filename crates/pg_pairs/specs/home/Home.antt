@@ -5,11 +5,11 @@ use Rattle.std.specs.Str.{bytes_eq}
 use lib.Pointwise.{pointwise}
 use Rattle.pg_schema.specs.declared.parts.field.TypeId.{TypeId}
 use Rattle.pg_schema.specs.Shape.{Shape, FieldShape, fields, field_at, is_singular, is_implicit}
-use Rattle.pg_dyn.specs.Message.{Item, Message, ends, holds, nests, Part, parts, leaf_eq}
+use Rattle.pg_dyn.specs.message.Message.{Item, Message, ends, holds, nests, Part, parts, leaf_eq}
 use Rattle.pg_dyn.specs.encoding.Writing.{bytes_of}
 use Rattle.pg_dyn.specs.encoding.Encoding.{child_type, enc}
 use Rattle.pg_dyn.specs.reading.Decoding.{dec}
-use Rattle.pg_dyn.specs.Comparison.{Expected, Alike, Kept, is_zero_expected, is_zero_item, shown, numbers, same_key, matches}
+use Rattle.pg_dyn.specs.views.Comparison.{Expected, Alike, Kept, is_zero_expected, is_zero_item, shown, numbers, same_key, matches}
 
 -- what a program with that type writes again of the bytes that it reads
 abbrev pub relayed : Shape → TypeId → List ℕ → Option (List ℕ)

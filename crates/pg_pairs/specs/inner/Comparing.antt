@@ -14,15 +14,15 @@ use Rattle.pg_dyn.specs.declared.message_ref.ContentRef.TheVariants as contents
 use Rattle.pg_dyn.specs.declared.message_ref.EntryRef.{EntryRef}
 use Rattle.pg_dyn.specs.declared.message_ref.ValueRef.{ValueRef}
 use Rattle.pg_dyn.specs.declared.message_ref.ValueRef.TheVariants as values
-use Rattle.pg_dyn.specs.Borrowed.{IsKey, leaf_of}
-use Rattle.pg_dyn.specs.NumberLists.{numbers_in}
-use Rattle.pg_dyn.specs.BorrowedItems.{ItemFits, is_zero_value}
-use Rattle.pg_dyn.specs.Message.{Leaf, Int, Item, Plain, Msg, parts}
-use Rattle.pg_dyn.specs.Kept.{Kept, type_of, message_of}
+use Rattle.pg_dyn.specs.message_ref.Borrowed.{IsKey, leaf_of}
+use Rattle.pg_dyn.specs.word.NumberLists.{numbers_in}
+use Rattle.pg_dyn.specs.message_ref.BorrowedItems.{ItemFits, is_zero_value}
+use Rattle.pg_dyn.specs.message.Message.{Leaf, Int, Item, Plain, Msg, parts}
+use Rattle.pg_dyn.specs.message.Kept.{Kept, type_of, message_of}
 use Rattle.pg_dyn.specs.encoding.Encoding.{cap, element_type, enc}
-use Rattle.pg_dyn.specs.Comparison.{Expected, Alike, same_content, same_key, matches, expected, same}
-use Rattle.pg_dyn.specs.Comparison as comparison
-use Rattle.pg_dyn.specs.ViewNames.{view_named}
+use Rattle.pg_dyn.specs.views.Comparison.{Expected, Alike, same_content, same_key, matches, expected, same}
+use Rattle.pg_dyn.specs.views.Comparison as comparison
+use Rattle.pg_dyn.specs.views.ViewNames.{view_named}
 
 -- a value that is lent as an item of a message
 abbrev pub item_lent : ValueRef → Item

@@ -11,17 +11,17 @@ use Rattle.pg_schema.specs.declared.parts.field.Presence.{Presence}
 use Rattle.pg_schema.specs.declared.parts.field.Presence.TheVariants as presences
 use Rattle.pg_schema.specs.Shape.{FieldShape}
 use Rattle.pg_schema.specs.ShapeRules.{PresenceFits}
-use Rattle.pg_dyn.specs.Message.{Bytes, Message, key_cmp}
-use Rattle.pg_dyn.specs.Coding.{form, InRange}
+use Rattle.pg_dyn.specs.message.Message.{Bytes, Message, key_cmp}
+use Rattle.pg_dyn.specs.word.Coding.{form, InRange}
 use Rattle.pg_dyn.specs.encoding.Writing.{key_of, field_records, bytes_of}
 use Rattle.pg_dyn.specs.reading.Decoding.{Reader}
-use Rattle.pg_dyn.specs.Belonging.{KeyFits, MayBeZero}
-use Rattle.pg_dyn.specs.Comparison.{Alike, Kept, Comparand, writes}
+use Rattle.pg_dyn.specs.fitting.Belonging.{KeyFits, MayBeZero}
+use Rattle.pg_dyn.specs.views.Comparison.{Alike, Kept, Comparand, writes}
 use Rattle.pg_pairs.specs.declared.choices.choice.Choice.{Choice}
 use Rattle.pg_pairs.specs.views.EnumView.{EnumView}
 use Rattle.pg_pairs.specs.views.ViewLaws.{IsEnumView}
 use Rattle.pg_pairs.specs.choices.Choices.{Table, number_for, field_choices}
-use Rattle.pg_dyn.specs.ByComparands.{is_field_kept}
+use Rattle.pg_dyn.specs.laws.ByComparands.{is_field_kept}
 use Rattle.pg_pairs.specs.bounds.Covering.{IsAmong, has_children}
 
 -- the bytes of the content's records

@@ -2,7 +2,7 @@
 use Rattle.std.specs.Prelude.{ℤ, List, map, filter, Bool, not, ◌&&◌}
 use Rattle.std.specs.List.Sorted.{IsNonDecreasingBy}
 use Rattle.pg_schema.specs.declared.parts.enum_type.EnumValue.{EnumValue}
-use Rattle.pg_dyn.specs.ViewNames.{NamedNumber, declares, has_name}
+use Rattle.pg_dyn.specs.views.ViewNames.{NamedNumber, declares, has_name}
 use Rattle.pg_pairs.specs.views.LeastNumbers.{number_counts, number_word}
 
 -- the other values have the number of this one, but none of them has its name too

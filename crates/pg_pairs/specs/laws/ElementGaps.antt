@@ -3,9 +3,9 @@
 use Rattle.std.specs.Prelude.{◌≡◌, ⊤, pos, Bool, true, false}
 use Rattle.pg_schema.specs.declared.parts.field.Element.{Element}
 use Rattle.pg_schema.specs.declared.parts.field.Element.TheVariants as elements
-use Rattle.pg_dyn.specs.Message.{Leaf, is_zero}
-use Rattle.pg_dyn.specs.Coding.{form, InRange}
-use Rattle.pg_dyn.specs.Comparison.{View}
+use Rattle.pg_dyn.specs.message.Message.{Leaf, is_zero}
+use Rattle.pg_dyn.specs.word.Coding.{form, InRange}
+use Rattle.pg_dyn.specs.views.Comparison.{View}
 use Rattle.pg_pairs.specs.views.EnumView.{EnumView}
 use Rattle.pg_pairs.specs.views.ViewLaws.{IsEnumView}
 use Rattle.pg_pairs.specs.gaps.Likeness.{like}

@@ -3,9 +3,9 @@
 use Rattle.std.specs.Prelude.{◌≡◌, ℕ, ◌≤◌, List, [], ◌∷◌, length, true, Option, Some, None}
 use Rattle.pg_schema.specs.Shape.{Shape, FieldShape, fields, field_at, is_singular, is_repeated, is_map}
 use Rattle.pg_schema.specs.ShapeRules.{IsShape}
-use Rattle.pg_dyn.specs.Message.{Leaf, Item, Plain, Msg, Message, ends, with_part}
+use Rattle.pg_dyn.specs.message.Message.{Leaf, Item, Plain, Msg, Message, ends, with_part}
 use Rattle.pg_dyn.specs.encoding.Encoding.{enc}
-use Rattle.pg_dyn.specs.Breaking.{Breaks}
+use Rattle.pg_dyn.specs.views.Breaking.{Breaks}
 use Rattle.pg_pairs.specs.declared.choices.choice.Choice.{Choice}
 use Rattle.pg_pairs.specs.declared.choices.choice.Pair.{Pair}
 use Rattle.pg_pairs.specs.views.EnumView.{EnumView}

@@ -6,8 +6,8 @@ use Rattle.pg_schema.specs.declared.parts.field.Element.TheVariants as elements
 use Rattle.pg_schema.specs.declared.parts.field.Presence.{Presence}
 use Rattle.pg_schema.specs.declared.parts.field.Presence.TheVariants.{Implicit, Explicit, Repeated}
 use Rattle.pg_schema.specs.Shape.{Shape, FieldShape}
-use Rattle.pg_dyn.specs.Message.{Int, Bytes, Message, ends, holds, nests}
-use Rattle.pg_dyn.specs.Examples.{first, second, field, scalar, of_fields, int32, one, tree}
+use Rattle.pg_dyn.specs.message.Message.{Int, Bytes, Message, ends, holds, nests}
+use Rattle.pg_dyn.specs.laws.Examples.{first, second, field, scalar, of_fields, int32, one, tree}
 use Rattle.pg_pairs.specs.laws.SmallPairs.{both}
 use Rattle.pg_pairs.specs.home.Returns.{packs, Returns}
 use Rattle.pg_pairs.specs.home.Home.{home, comes_home, relayed}

@@ -4,8 +4,8 @@ use Rattle.pg_schema.specs.declared.parts.field.Scalar.{Scalar}
 use Rattle.pg_schema.specs.declared.parts.field.Scalar.TheVariants as scalars
 use Rattle.pg_schema.specs.declared.parts.field.Element.{Element}
 use Rattle.pg_schema.specs.declared.parts.field.Element.TheVariants as elements
-use Rattle.pg_dyn.specs.Message.{Leaf}
-use Rattle.pg_dyn.specs.Coding.{InRange, body, form, leaf_in}
+use Rattle.pg_dyn.specs.message.Message.{Leaf}
+use Rattle.pg_dyn.specs.word.Coding.{InRange, body, form, leaf_in}
 use Rattle.pg_pairs.specs.gaps.Likeness.{like}
 
 abbrev pub is_zigzag : Scalar → Bool

@@ -7,7 +7,7 @@ use Rattle.pg_schema.specs.declared.parts.field.Scalar.TheVariants as scalars
 use Rattle.pg_schema.specs.declared.parts.field.Element.TheVariants as elements
 use Rattle.pg_schema.specs.declared.parts.field.Presence.TheVariants.{Implicit, Explicit, Repeated, Map}
 use Rattle.pg_schema.specs.Shape.{FieldShape}
-use Rattle.pg_dyn.specs.Examples.{first, second, field, scalar, member, of_fields, linked}
+use Rattle.pg_dyn.specs.laws.Examples.{first, second, field, scalar, member, of_fields, linked}
 use Rattle.pg_pairs.specs.declared.choices.case.Case.TheVariants as cases
 use Rattle.pg_pairs.specs.declared.choices.choice.Choice.{Choice}
 use Rattle.pg_pairs.specs.declared.choices.choice.Pair.{Pair}

@@ -5,7 +5,7 @@ use Rattle.pg_schema.specs.declared.parts.Parts.{Parts}
 use Rattle.pg_schema.specs.Parts.{enum_at}
 use Rattle.pg_dyn.specs.declared.view_name.ViewName.{ViewName}
 use Rattle.pg_dyn.specs.declared.view_name.ViewName.TheVariants as views
-use Rattle.pg_dyn.specs.ViewNames.{view_named, NamedNumber, named_numbers, same_names, alike_under}
+use Rattle.pg_dyn.specs.views.ViewNames.{view_named, NamedNumber, named_numbers, same_names, alike_under}
 use Rattle.pg_pairs.specs.views.EnumView.{EnumView}
 use Rattle.pg_pairs.specs.views.LeastNumbers.{least_number, number_counts}
 

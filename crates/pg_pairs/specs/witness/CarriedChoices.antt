@@ -2,9 +2,9 @@
 use Rattle.std.specs.Prelude.{◌≡◌, ℕ, ◌<◌, ⊤, Option, Some, None}
 use Rattle.pg_schema.specs.Shape.{Shape}
 use Rattle.pg_schema.specs.ShapeRules.{IsShape}
-use Rattle.pg_dyn.specs.Message.{Message}
-use Rattle.pg_dyn.specs.Fits.{Fits}
-use Rattle.pg_dyn.specs.Kept.{Kept, type_of}
+use Rattle.pg_dyn.specs.message.Message.{Message}
+use Rattle.pg_dyn.specs.fitting.Fits.{Fits}
+use Rattle.pg_dyn.specs.message.Kept.{Kept, type_of}
 use Rattle.pg_pairs.specs.declared.choices.choice.Choice.{Choice}
 use Rattle.pg_pairs.specs.declared.choices.choice.Pair.{Pair}
 use Rattle.pg_pairs.specs.views.EnumView.{EnumView}

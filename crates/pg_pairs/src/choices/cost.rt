@@ -8,7 +8,7 @@ ghost use Rattle.pg_wire.specs.declared.record.WireType.{WireType};
 ghost use Rattle.pg_wire.specs.Varint.{varint};
 ghost use Rattle.pg_wire.specs.Records.{tag};
 ghost use Rattle.pg_wire.specs.declared.record.WireType.TheVariants.{Len};
-ghost use Rattle.pg_dyn.specs.Coding.{form, form_wire};
+ghost use Rattle.pg_dyn.specs.word.Coding.{form, form_wire};
 ghost use Rattle.pg_pairs.specs.choices.Costs.{entry_cost, least_body, least_content, nonzero_body, one_item, with_length};
 
 use pg_dyn::element_wire_type;

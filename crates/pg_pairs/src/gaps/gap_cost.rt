@@ -4,7 +4,7 @@ ghost use Rattle.std.specs.Prelude.{◌≡◌, ◌<◌, ◌≤◌, ◌^◌, leng
 ghost use Rattle.pg_wire.specs.Varint.{varint};
 ghost use Rattle.pg_wire.specs.Words.{twos_complement};
 ghost use Rattle.pg_schema.specs.declared.parts.enum_type.EnumType.{EnumType};
-ghost use Rattle.pg_dyn.specs.Coding.{scalar_form};
+ghost use Rattle.pg_dyn.specs.word.Coding.{scalar_form};
 ghost use Rattle.pg_pairs.specs.choices.Choices.{child_body, gap_body};
 ghost use Rattle.pg_pairs.specs.gaps.Gaps.{body_length, gap, item_of};
 ghost use Rattle.pg_pairs.specs.graph.GraphView.{seen};
@@ -40,7 +40,7 @@ fn number_bytes(number: i32) -> u64
 }
 
 /// The body of the least number that isn't alike in two enums.
-#[tactic(auto, unfolding(pg_dyn::specs::Coding::word_bytes))]
+#[tactic(auto, unfolding(pg_dyn::specs::word::Coding::word_bytes))]
 fn enum_gap_body(graph: &Priced<'_>, zero: bool, pair: (EnumId, EnumId)) -> Option<u64>
     ensures body { result ≡ gap_body (seen graph.now) zero
         (Element.Enum pair.0) (Element.Enum pair.1) }

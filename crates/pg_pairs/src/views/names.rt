@@ -4,7 +4,7 @@ ghost use Rattle.std.specs.Prelude.{◌≡◌, ◌&&◌, map, true, false, Some}
 ghost use Rattle.std.specs.Ordering.{int_eq};
 ghost use Rattle.std.specs.Str.{bytes_eq};
 ghost use Rattle.std.specs.String.{string_bytes};
-ghost use Rattle.pg_dyn.specs.ViewNames.{declares, has_name, named, names_within};
+ghost use Rattle.pg_dyn.specs.views.ViewNames.{declares, has_name, named, names_within};
 ghost use Rattle.pg_pairs.specs.views.LeastNumbers.{least_number, lesser_of, number_counts, number_word};
 ghost use Rattle.pg_pairs.specs.inner.MissingNames.{RiseByWord, is_missing, missing_numbers};
 

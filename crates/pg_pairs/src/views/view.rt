@@ -2,7 +2,7 @@
 
 ghost use Rattle.std.specs.Prelude.{◌≡◌};
 ghost use Rattle.pg_dyn.specs.declared.view_name.ViewName.{ViewName};
-ghost use Rattle.pg_dyn.specs.ViewNames.{alike_under};
+ghost use Rattle.pg_dyn.specs.views.ViewNames.{alike_under};
 ghost use Rattle.pg_pairs.specs.views.NamedView.{least_under};
 ghost use Rattle.pg_pairs.specs.views.ViewLaws.{IsLeastOf};
 

@@ -3,10 +3,10 @@
 ghost use Rattle.std.specs.Prelude.{◌≡◌, ◌↔◌, ◌⊎◌, ◌<◌, ◌≤◌, length, IsTrue, IfErr, IfOk, OnOk};
 ghost use Rattle.pg_schema.specs.Parts.{shape_of};
 ghost use Rattle.pg_dyn.specs.declared.error.DynError.TheVariants as errors;
-ghost use Rattle.pg_dyn.specs.Breaking.{Breaks};
+ghost use Rattle.pg_dyn.specs.views.Breaking.{Breaks};
 ghost use Rattle.pg_dyn.specs.encoding.Encoding.{cap, enc};
-ghost use Rattle.pg_dyn.specs.Fits.{Fits};
-ghost use Rattle.pg_dyn.specs.Kept.{message_of, type_of};
+ghost use Rattle.pg_dyn.specs.fitting.Fits.{Fits};
+ghost use Rattle.pg_dyn.specs.message.Kept.{message_of, type_of};
 ghost use Rattle.pg_pairs.specs.graph.GraphView.{seen};
 
 use crate::choices::choice::Pair;

@@ -7,11 +7,12 @@ ghost use Rattle.std.specs.Str.{bytes_eq};
 ghost use Rattle.pg_schema.specs.Invariant.{IsSchema};
 ghost use Rattle.pg_schema.specs.Parts.{field_shape, shape_of};
 ghost use Rattle.pg_schema.specs.Shape.{field_at, fields};
-ghost use Rattle.pg_dyn.specs.Borrowed.{IsKey, leaf_of};
-ghost use Rattle.pg_dyn.specs.BorrowedItems.{ItemFits};
-ghost use Rattle.pg_dyn.specs.Comparison.{records_outside, unshared_bytes};
-ghost use Rattle.pg_dyn.specs.Fits.{Fits};
-ghost use Rattle.pg_dyn.specs.Kept.{message_of, of_number, type_of, unknown_of};
+ghost use Rattle.pg_dyn.specs.message_ref.Borrowed.{IsKey, leaf_of};
+ghost use Rattle.pg_dyn.specs.message_ref.BorrowedItems.{ItemFits};
+ghost use Rattle.pg_dyn.specs.views.Comparison.{records_outside, unshared_bytes};
+ghost use Rattle.pg_dyn.specs.fitting.Fits.{Fits};
+ghost use Rattle.pg_dyn.specs.message.Kept.{message_of, type_of};
+ghost use Rattle.pg_dyn.specs.message.KeptParts.{of_number, unknown_of};
 ghost use Rattle.pg_dyn.specs.encoding.Writing.{bytes_of};
 ghost use Rattle.pg_pairs.specs.inner.Comparing.{all_match, HasEncoding, HeldFits, is_alike_leaf, is_same, is_same_beside, is_same_if, ItemHasEncoding, items_match, keyed, keyed_if, outside_record};
 

@@ -4,12 +4,12 @@ ghost use Rattle.std.specs.Prelude.{◌≡◌, ℕ, length, true, false, option_
 ghost use Rattle.pg_schema.specs.Parts.{field_shape};
 ghost use Rattle.pg_schema.specs.ShapeRules.{ElementFits};
 ghost use Rattle.pg_schema.specs.Shape.{Shape, is_map};
-ghost use Rattle.pg_dyn.specs.Coding.{scalar_form, zero_leaf};
-ghost use Rattle.pg_dyn.specs.ContentFits.{ItemFits};
-ghost use Rattle.pg_dyn.specs.Kept.{message_of};
-ghost use Rattle.pg_dyn.specs.Message.{with_part};
-ghost use Rattle.pg_dyn.specs.ScalarItems.{IsItemOf};
-ghost use Rattle.pg_dyn.specs.Seen.{leaf_of, IsKey};
+ghost use Rattle.pg_dyn.specs.word.Coding.{scalar_form, zero_leaf};
+ghost use Rattle.pg_dyn.specs.fitting.ContentFits.{ItemFits};
+ghost use Rattle.pg_dyn.specs.message.Kept.{message_of};
+ghost use Rattle.pg_dyn.specs.message.Message.{with_part};
+ghost use Rattle.pg_dyn.specs.fitting.ScalarItems.{IsItemOf};
+ghost use Rattle.pg_dyn.specs.message.Seen.{leaf_of, IsKey};
 ghost use Rattle.pg_pairs.specs.witness.Carried.{alone, apart_item, apart_leaf, broken_value, carried_field, entry_message, item_alone, item_by, key_alone, key_of, least_key, least_part, lost_onto, unlike_message};
 ghost use Rattle.pg_pairs.specs.inner.CarriedItems.{apart_small, content_alone, found_alone, IsChildOf, IsPlacedBy, IsTakenBy, leaf_by, Puts, value_item};
 ghost use Rattle.pg_pairs.specs.gaps.Gaps.{gap_item};

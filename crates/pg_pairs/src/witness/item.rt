@@ -3,16 +3,16 @@
 ghost use Rattle.std.specs.Prelude.{◌≡◌, length, option_map, IfOk, IfSome};
 ghost use Rattle.pg_schema.specs.ShapeRules.{ElementFits};
 ghost use Rattle.pg_schema.specs.Shape.{Shape};
-ghost use Rattle.pg_dyn.specs.ContentFits.{ItemFits};
-ghost use Rattle.pg_dyn.specs.ScalarItems.{IsItemOf};
-ghost use Rattle.pg_dyn.specs.Seen.{leaf_of, IsKey};
-ghost use Rattle.pg_dyn.specs.Coding.{scalar_form, Raw};
-ghost use Rattle.pg_dyn.specs.Message.{Bytes, Msg};
+ghost use Rattle.pg_dyn.specs.fitting.ContentFits.{ItemFits};
+ghost use Rattle.pg_dyn.specs.fitting.ScalarItems.{IsItemOf};
+ghost use Rattle.pg_dyn.specs.message.Seen.{leaf_of, IsKey};
+ghost use Rattle.pg_dyn.specs.word.Coding.{scalar_form, Raw};
+ghost use Rattle.pg_dyn.specs.message.Message.{Bytes, Msg};
 ghost use Rattle.pg_pairs.specs.gaps.Gaps.{gap, gap_item, item_of};
 ghost use Rattle.pg_pairs.specs.graph.GraphView.{seen};
 ghost use Rattle.pg_pairs.specs.witness.Carried.{item_by};
 ghost use Rattle.pg_pairs.specs.inner.CarriedItems.{IsChildOf, leaf_by, value_item};
-ghost use Rattle.pg_dyn.specs.Kept.{message_of};
+ghost use Rattle.pg_dyn.specs.message.Kept.{message_of};
 
 use crate::gaps::gap_kind::Gap;
 use crate::gaps::scalar_gap::gap;

@@ -4,8 +4,8 @@ ghost use Rattle.std.specs.Prelude.{◌≡◌, length, true, is_some, option_map
 ghost use Rattle.pg_schema.specs.Parts.{field_shape, shape_of};
 ghost use Rattle.pg_schema.specs.ShapeRules.{ElementFits};
 ghost use Rattle.pg_schema.specs.Shape.{field_at, fields};
-ghost use Rattle.pg_dyn.specs.Fits.{Fits};
-ghost use Rattle.pg_dyn.specs.Kept.{message_of, type_of};
+ghost use Rattle.pg_dyn.specs.fitting.Fits.{Fits};
+ghost use Rattle.pg_dyn.specs.message.Kept.{message_of, type_of};
 ghost use Rattle.pg_dyn.specs.setting.Setting.{IsSetTo};
 ghost use Rattle.pg_pairs.specs.witness.Carried.{carried, choice_child};
 ghost use Rattle.pg_pairs.specs.witness.CarriedChoices.{ChildGiven, ChildReached, IsChoiceOf};

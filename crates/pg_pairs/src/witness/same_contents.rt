@@ -5,11 +5,11 @@ ghost use Rattle.std.specs.Option.{option_copied};
 ghost use Rattle.pg_schema.specs.Parts.{field_shape};
 ghost use Rattle.pg_schema.specs.Shape.{is_implicit};
 ghost use Rattle.std.specs.Str.{bytes_eq};
-ghost use Rattle.pg_dyn.specs.Comparison.{hides_zero, same_key};
+ghost use Rattle.pg_dyn.specs.views.Comparison.{hides_zero, same_key};
 ghost use Rattle.pg_dyn.specs.reading.Content.{leaf_bytes};
-ghost use Rattle.pg_dyn.specs.Borrowed.{IsKey, leaf_of};
-ghost use Rattle.pg_dyn.specs.BorrowedItems.{is_zero_value};
-ghost use Rattle.pg_dyn.specs.Message.{leaf_eq};
+ghost use Rattle.pg_dyn.specs.message_ref.Borrowed.{IsKey, leaf_of};
+ghost use Rattle.pg_dyn.specs.message_ref.BorrowedItems.{is_zero_value};
+ghost use Rattle.pg_dyn.specs.message.Message.{leaf_eq};
 ghost use Rattle.pg_pairs.specs.inner.Comparing.{IsSingle, keyed, keyed_if, keyed_shown};
 ghost use Rattle.pg_pairs.specs.inner.HeldItems.{item_value};
 

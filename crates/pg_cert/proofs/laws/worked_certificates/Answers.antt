@@ -3,9 +3,9 @@ use Rattle.pg_schema.specs.declared.parts.field.Scalar.TheVariants.{Int32, Uint3
 use Rattle.pg_schema.specs.Shape.{Shape}
 use Rattle.pg_wire.specs.Records.{tag}
 use Rattle.pg_wire.specs.Varint.{varint}
-use Rattle.pg_dyn.specs.Coding.{word_bytes}
-use Rattle.pg_dyn.specs.Message.{Int, ends, nests}
-use Rattle.pg_dyn.specs.Examples.{linked, one}
+use Rattle.pg_dyn.specs.word.Coding.{word_bytes}
+use Rattle.pg_dyn.specs.message.Message.{Int, ends, nests}
+use Rattle.pg_dyn.specs.laws.Examples.{linked, one}
 use Rattle.pg_pairs.specs.declared.choices.choice.Pair.{Pair}
 use Rattle.pg_pairs.specs.views.EnumView.{by_numbers}
 use Rattle.pg_pairs.specs.bounds.Covering.{Covers}

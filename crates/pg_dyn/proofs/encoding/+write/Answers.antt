@@ -4,24 +4,25 @@ use Rattle.std.proofs.lemmas.Result.{IfErr-weaker, err_from_is_err_and}
 use Rattle.std.specs.List.{AllByRecursion}
 use Rattle.pg_schema.specs.declared.parts.field.Element.TheVariants as elements
 use Rattle.pg_schema.specs.declared.parts.field.Scalar.{Scalar}
-use Rattle.pg_dyn.specs.NumberLists.{numbers_in}
+use Rattle.pg_dyn.specs.word.NumberLists.{numbers_in}
 use Rattle.pg_dyn.proofs.lemmas.encoding.NumberWords.{numbers_fit, numbers_noted, numbers_written}
 use Rattle.pg_schema.specs.Parts.{field_shape, shape_of}
 use Rattle.pg_schema.specs.Shape.{fields, field_at}
 use Rattle.pg_wire.specs.declared.record.WireType.TheVariants.{Len}
 use Rattle.pg_wire.specs.Records.{written}
-use Rattle.pg_dyn.specs.Coding.{InRange, scalar_form}
-use Rattle.pg_dyn.specs.Kept.{type_of, unknown_of}
+use Rattle.pg_dyn.specs.word.Coding.{InRange, scalar_form}
+use Rattle.pg_dyn.specs.message.Kept.{type_of}
+use Rattle.pg_dyn.specs.message.KeptParts.{unknown_of}
 use Rattle.pg_dyn.specs.encoding.Lending.{HoldsParts, bare_leaf, item_part, lent_item}
-use Rattle.pg_dyn.specs.PartsFit.{IsPartOf}
+use Rattle.pg_dyn.specs.fitting.PartsFit.{IsPartOf}
 use Rattle.pg_dyn.specs.encoding.Writing.{bytes_of, item_record}
 use Rattle.pg_dyn.specs.encoding.Written.{BareFits, LeavesFit, capped, entry_body, entry_record, field_lengths, field_written, item_body, item_bytes, item_lengths, number_bytes, number_lengths, own_bytes}
 use Rattle.pg_dyn.proofs.lemmas.encoding.EncodeSteps.{adds_as, at_the_end, content_bytes, contents_held, entries_fit, entries_noted, entries_written, entry_in_turn, field_bytes, field_fits, first_is, if_ok, values_fit, items_noted, items_written, keyed, keyless, keys_fit, later_is, leaves_fit, longer, may_not_as, on_the_way, own_is, packable, packed_noted, packed_written, packs, record_in_turn, record_size, records_are, stopped_on_the_way}
-use Rattle.pg_dyn.proofs.lemmas.FitsSteps.{some_not_none}
+use Rattle.pg_dyn.proofs.lemmas.fitting.FitsSteps.{some_not_none}
 use Rattle.pg_dyn.proofs.lemmas.encoding.LentWeights.{content_lighter, entries_weigh, item_lighter, items_weigh, parts_weight}
 use Rattle.pg_dyn.proofs.Lists.{each_at_index}
 use Rattle.pg_dyn.proofs.lemmas.encoding.NotedLengths.{content_lengths, field_noted, inner_is}
-use Rattle.pg_dyn.proofs.lemmas.Splitting.{found_number}
+use Rattle.pg_dyn.proofs.lemmas.reading.Splitting.{found_number}
 use Rattle.pg_dyn.proofs.encoding.+write.Goals as goal
 
 -- Items, one after the other.

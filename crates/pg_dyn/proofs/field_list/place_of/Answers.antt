@@ -1,7 +1,7 @@
 -- The numbers rise, so those below the given one are in front.
 use Rattle.std.proofs.Common.{◌<◌, ◌≤◌, ltb, sym, rules}
 use Rattle.std.proofs.lemmas.List.Sorted.{IsPartitionPoint-from_clause, IsPartitionedBy-ltb}
-use Rattle.pg_dyn.proofs.lemmas.FieldListLaws.{non_decreasing, take_all_within, drop_all_within, all_below_last, ltb-less, ltb-not_less}
+use Rattle.pg_dyn.proofs.lemmas.message.FieldListLaws.{non_decreasing, take_all_within, drop_all_within, all_below_last, ltb-less, ltb-not_less}
 use Rattle.pg_dyn.proofs.field_list.place_of.Goals as goal
 
 pub returns-in_default-clause-below : goal.returns-in_default-clause-below

@@ -1,7 +1,7 @@
 -- The index of the number is that of its field, or one where there is none of it.
 use Rattle.std.proofs.Common.{◌≡◌, ◌<◌, ◌≢◌, ℕ, List, ◌∷◌, take, drop, length, ap, ◌∙◌, subst, arith}
 use Rattle.pg_dyn.specs.declared.message.Content.{Content}
-use Rattle.pg_dyn.proofs.lemmas.FieldListLaws.{AllBelow, AllFrom, put_there, inserted, apart_past_end, apart_there, none_there, number_at, with_room}
+use Rattle.pg_dyn.proofs.lemmas.message.FieldListLaws.{AllBelow, AllFrom, put_there, inserted, apart_past_end, apart_there, none_there, number_at, with_room}
 use Rattle.pg_dyn.proofs.field_list.put.Goals.{else-place-len-via-then-place-len+else-index-number, else-place-len-via-else-place-len}
 use Rattle.pg_dyn.proofs.field_list.put.Goals as goal
 

@@ -1,7 +1,7 @@
 -- The index of the number is that of its field, or one where there is none of it.
 use Rattle.std.proofs.Common.{◌≡◌, ◌<◌, ◌≢◌, ℕ, List, ◌∷◌, take, drop, length, ap, ◌∙◌, subst, arith}
 use Rattle.pg_dyn.specs.declared.message.Content.{Content}
-use Rattle.pg_dyn.proofs.lemmas.FieldListLaws.{AllBelow, AllFrom, removed_there, nothing_removed, apart_past_end, apart_there, number_at}
+use Rattle.pg_dyn.proofs.lemmas.message.FieldListLaws.{AllBelow, AllFrom, removed_there, nothing_removed, apart_past_end, apart_there, number_at}
 use Rattle.pg_dyn.proofs.field_list.remove.Goals.{else-place-len-via-then-place-len+else-index-number, else-place-len-via-else-place-len}
 use Rattle.pg_dyn.proofs.field_list.remove.Goals as goal
 

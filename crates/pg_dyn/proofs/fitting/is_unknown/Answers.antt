@@ -1,7 +1,7 @@
 use Rattle.std.proofs.Common.{not, ap, sym, ◌∙◌}
 use Rattle.pg_schema.specs.Parts.{field_shape}
-use Rattle.pg_dyn.specs.Seen.{record_seen}
-use Rattle.pg_dyn.proofs.lemmas.FitsChecks.{unknown_by_field, unknown_without_field}
+use Rattle.pg_dyn.specs.message.Seen.{record_seen}
+use Rattle.pg_dyn.proofs.lemmas.fitting.FitsChecks.{unknown_by_field, unknown_without_field}
 use Rattle.pg_dyn.proofs.fitting.is_unknown.Goals as goal
 
 pub returns-in-Some : goal.returns-in-Some

@@ -1,6 +1,6 @@
 use Rattle.std.proofs.Common.{◌≡◌, suc, ◌+◌, ◌-◌, get_or, refl, sym, subst, ◌∙◌, true≢false, arith, add-one, ⊎_elim}
 use Rattle.std.proofs.lemmas.Bool.{cases_eq}
-use Rattle.pg_dyn.proofs.lemmas.FitsSteps.{IsBelow, rises_from, adjacent, same_default, key_at}
+use Rattle.pg_dyn.proofs.lemmas.fitting.FitsSteps.{IsBelow, rises_from, adjacent, same_default, key_at}
 use Rattle.pg_dyn.proofs.fitting.keys_rise.Goals as goal
 
 pub is_below-requires-clause-first : goal.is_below-requires-clause-first

@@ -5,7 +5,7 @@ use Rattle.pg_schema.specs.Parts.{shape_of}
 use Rattle.pg_schema.specs.Shape.{fields}
 use Rattle.pg_dyn.specs.declared.message.UnknownRecord.{UnknownRecord}
 use Rattle.pg_dyn.specs.reading.Content.{is_unknown}
-use Rattle.pg_dyn.specs.Seen.{record_seen}
+use Rattle.pg_dyn.specs.message.Seen.{record_seen}
 use Rattle.pg_dyn.proofs.fitting.unknown_fit.Given as goal
 
 abbrev pub invariant-loop-found : goal.invariant-loop-found

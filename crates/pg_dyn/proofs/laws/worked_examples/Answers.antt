@@ -1,4 +1,4 @@
-use Rattle.pg_dyn.proofs.lemmas.Examples as Examples
+use Rattle.pg_dyn.proofs.lemmas.laws.Examples as Examples
 use Rattle.pg_dyn.proofs.laws.worked_examples.Goals as goal
 
 pub returns : goal.returns

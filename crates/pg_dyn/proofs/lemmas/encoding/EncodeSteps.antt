@@ -16,26 +16,27 @@ use Rattle.pg_wire.specs.declared.record.WireType.{WireType}
 use Rattle.pg_wire.specs.declared.record.WireType.TheVariants.{Len}
 use Rattle.pg_wire.specs.Records.{WireRecord, length_before, tag, written}
 use Rattle.pg_dyn.specs.declared.error.DynError.{DynError}
-use Rattle.pg_dyn.specs.Message.{Leaf, Part}
-use Rattle.pg_dyn.specs.Belonging.{KeyFits}
-use Rattle.pg_dyn.specs.Belonging as belonging
-use Rattle.pg_dyn.specs.Coding.{InRange, body, form, scalar_form}
+use Rattle.pg_dyn.specs.message.Message.{Leaf, Part}
+use Rattle.pg_dyn.specs.fitting.Belonging.{KeyFits}
+use Rattle.pg_dyn.specs.fitting.Belonging as belonging
+use Rattle.pg_dyn.specs.word.Coding.{InRange, body, form, scalar_form}
 use Rattle.pg_dyn.specs.encoding.Encoding.{enc}
-use Rattle.pg_dyn.specs.Fits.{Fits}
-use Rattle.pg_dyn.specs.Kept.{Kept, KeptItem, Plain, Msg, ends, message_of, parts_of, type_of, unknown_of}
+use Rattle.pg_dyn.specs.fitting.Fits.{Fits}
+use Rattle.pg_dyn.specs.message.Kept.{Kept, ends, message_of, type_of}
+use Rattle.pg_dyn.specs.message.KeptParts.{KeptItem, Plain, Msg, parts_of, unknown_of}
 use Rattle.pg_dyn.specs.encoding.Lending.{AreKeyed, AreKeyless, AreOf, Bare, Child, HoldsParts, IsLone, Lone, all_parts, bare, bare_leaf, entry_part, in_list, item_part}
-use Rattle.pg_dyn.specs.PartsFit.{HoldsItem, HoldsPart, IsPartOf}
-use Rattle.pg_dyn.specs.Replacing.{kept_onto}
-use Rattle.pg_dyn.specs.Seen.{Rises}
+use Rattle.pg_dyn.specs.fitting.PartsFit.{HoldsItem, HoldsPart, IsPartOf}
+use Rattle.pg_dyn.specs.message.Replacing.{kept_onto}
+use Rattle.pg_dyn.specs.message.Seen.{Rises}
 use Rattle.pg_dyn.specs.encoding.Writing.{bytes_of, field_records, is_packed, item_record}
 use Rattle.pg_dyn.specs.encoding.Written.{Adds, BareFits, CanBePacked, LeafFits, LeavesFit, MayNotAdd, MayNotWrite, capped, entry_record, field_lengths, field_written, item_bytes, item_leaf, item_lengths, own_bytes, packed_body, packed_bytes, packed_lengths, parts_written, records_by, written_part}
-use Rattle.pg_dyn.proofs.lemmas.Belonging.{fields-IsType}
+use Rattle.pg_dyn.proofs.lemmas.fitting.Belonging.{fields-IsType}
 use Rattle.pg_dyn.proofs.lemmas.encoding.EncodedFields.{by_fields, encodes_by_fields, written_row}
-use Rattle.pg_dyn.proofs.lemmas.FitsChecks.{same_field}
+use Rattle.pg_dyn.proofs.lemmas.fitting.FitsChecks.{same_field}
 use Rattle.pg_dyn.proofs.Lists.{each_after, each_at, each_at_index, each_before, each_weaker, each_within, flat_map-append', flat_map-map, flat_map_same, each_of_all}
-use Rattle.pg_dyn.proofs.lemmas.PartsFit.{parts_hold}
-use Rattle.pg_dyn.proofs.lemmas.ReplacingLaws.{parts_of-kept_onto}
-use Rattle.pg_dyn.proofs.lemmas.Splitting.{found_number}
+use Rattle.pg_dyn.proofs.lemmas.fitting.PartsFit.{parts_hold}
+use Rattle.pg_dyn.proofs.lemmas.message.ReplacingLaws.{parts_of-kept_onto}
+use Rattle.pg_dyn.proofs.lemmas.reading.Splitting.{found_number}
 
 -- a record's bytes are its tag, its length and its body
 pub record_is : (n : ℕ) (w : WireType) (b : List ℕ) → (written n w b).bytes ≡ (tag n w ++ length_before w b) ++ b

@@ -7,21 +7,23 @@ use Rattle.pg_schema.specs.declared.parts.field.TypeId.{TypeId}
 use Rattle.pg_schema.specs.Shape.{Shape, FieldShape, fields, field_at}
 use Rattle.pg_schema.specs.ShapeRules.{Rising}
 use Rattle.pg_wire.specs.Records.{WireRecord}
-use Rattle.pg_dyn.specs.Message.{Leaf, Bytes, Part, is_of}
-use Rattle.pg_dyn.specs.Message as model
-use Rattle.pg_dyn.specs.Kept.{Kept, KeptItem, Plain, Msg, message_of, type_of}
-use Rattle.pg_dyn.specs.Kept as kept
+use Rattle.pg_dyn.specs.message.Message.{Leaf, Bytes, Part, is_of}
+use Rattle.pg_dyn.specs.message.Message as model
+use Rattle.pg_dyn.specs.message.Kept.{Kept, message_of, type_of}
+use Rattle.pg_dyn.specs.message.KeptParts.{KeptItem, Plain, Msg}
+use Rattle.pg_dyn.specs.message.Kept as kept
+use Rattle.pg_dyn.specs.message.KeptParts as kept_parts
 use Rattle.pg_dyn.specs.encoding.Lending.{AreOf, HoldsParts, all_parts}
-use Rattle.pg_dyn.specs.PartsFit.{HoldsItem, IsPartOf}
-use Rattle.pg_dyn.specs.Replacing.{kept_onto, kept_part}
-use Rattle.pg_dyn.specs.Seen.{Rises}
+use Rattle.pg_dyn.specs.fitting.PartsFit.{HoldsItem, IsPartOf}
+use Rattle.pg_dyn.specs.message.Replacing.{kept_onto, kept_part}
+use Rattle.pg_dyn.specs.message.Seen.{Rises}
 use Rattle.pg_dyn.specs.encoding.Writing.{field_records, records_in, bytes_of}
 use Rattle.pg_dyn.specs.encoding.Encoding.{encoded_parts, enc}
 use Rattle.pg_dyn.specs.encoding.Written.{records_by, written_part}
-use Rattle.pg_dyn.proofs.lemmas.Belonging.{child_type_is}
+use Rattle.pg_dyn.proofs.lemmas.fitting.Belonging.{child_type_is}
 use Rattle.pg_dyn.proofs.Lists.{each-map, each_weaker, filter-append', filter_all, filter_none}
-use Rattle.pg_dyn.proofs.lemmas.ReplacingLaws.{kept_onto-append, unknown_of-kept_onto}
-use Rattle.pg_dyn.proofs.lemmas.Splitting.{found_later, found_number, field_records_none, records_in_none}
+use Rattle.pg_dyn.proofs.lemmas.message.ReplacingLaws.{kept_onto-append, unknown_of-kept_onto}
+use Rattle.pg_dyn.proofs.lemmas.reading.Splitting.{found_later, found_number, field_records_none, records_in_none}
 
 module _ (shape : Shape) (type : TypeId) where
   abbrev shown : Kept → List (Part Leaf)
@@ -129,7 +131,7 @@ module _ {C : Type 0} (row : ℕ × C → List (Part Leaf)) where
           ap (λ ps. field_records f ps ++ records_in fs (flat_map row (m ∷ ms))) (none_of f.number (m ∷ ms) above numbered) ∙ ap (λ rs. rs ++ records_in fs (flat_map row (m ∷ ms))) (field_records_none f)
           ∙ rest (later_found f fs (m ∷ ms) above found) ∙ sym (later_fields f fs (m ∷ ms) above)
 
-unknown_of-message_of : (m : Kept) → model.unknown_of (message_of m) ≡ kept.unknown_of m
+unknown_of-message_of : (m : Kept) → model.unknown_of (message_of m) ≡ kept_parts.unknown_of m
 unknown_of-message_of (kept.ends type us) = refl
 unknown_of-message_of (kept.holds n k b l later) = unknown_of-message_of later
 unknown_of-message_of (kept.nests n k b c later) = unknown_of-message_of later

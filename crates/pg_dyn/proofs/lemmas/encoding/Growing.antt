@@ -10,19 +10,19 @@ use Rattle.pg_schema.specs.declared.parts.field.Presence.TheVariants as presence
 use Rattle.pg_schema.specs.Shape.{Shape, FieldShape, fields, field_at}
 use Rattle.pg_schema.specs.ShapeRules.{Rising}
 use Rattle.pg_wire.specs.Records.{WireRecord}
-use Rattle.pg_dyn.specs.Message.{Leaf, Bytes, Item, Plain, Msg, Message, ends, Part, Place, place_of, is_of, message_from, places, with_part}
-use Rattle.pg_dyn.specs.Belonging.{KeyFits, MayFollow, ComesBefore, IsAlone, IsPart, IsMessage}
+use Rattle.pg_dyn.specs.message.Message.{Leaf, Bytes, Item, Plain, Msg, Message, ends, Part, Place, place_of, is_of, message_from, places, with_part}
+use Rattle.pg_dyn.specs.fitting.Belonging.{KeyFits, MayFollow, ComesBefore, IsAlone, IsPart, IsMessage}
 use Rattle.pg_dyn.specs.reading.Content.{is_sibling}
 use Rattle.pg_dyn.specs.encoding.Writing.{item_record, field_records, records_in, bytes_of}
 use Rattle.pg_dyn.specs.encoding.Encoding.{child_type, element_type, encoded_parts, enc}
 use Rattle.pg_dyn.specs.encoding.Growing.{leaf_for, IsOfField, keyless, ComesLast, EncodingGrows}
 use Rattle.pg_dyn.proofs.Lists.{each_weaker, each-append, each-map, filter-append', filter_all, filter_none, flat_map-append'}
-use Rattle.pg_dyn.proofs.lemmas.Belonging.{child_type_is, fields-IsType}
-use Rattle.pg_dyn.proofs.lemmas.Fields.{field_of}
-use Rattle.pg_dyn.proofs.lemmas.ReadSplits.{parts-message_from}
-use Rattle.pg_dyn.proofs.lemmas.NoSiblings.{no_sibling_behind}
-use Rattle.pg_dyn.proofs.lemmas.Order.{places-parts}
-use Rattle.pg_dyn.proofs.lemmas.Splitting.{field_records_none, found_first, found_later, found_number}
+use Rattle.pg_dyn.proofs.lemmas.fitting.Belonging.{child_type_is, fields-IsType}
+use Rattle.pg_dyn.proofs.lemmas.reading.Fields.{field_of}
+use Rattle.pg_dyn.proofs.lemmas.reading.ReadSplits.{parts-message_from}
+use Rattle.pg_dyn.proofs.lemmas.fitting.NoSiblings.{no_sibling_behind}
+use Rattle.pg_dyn.proofs.lemmas.laws.Order.{places-parts}
+use Rattle.pg_dyn.proofs.lemmas.reading.Splitting.{field_records_none, found_first, found_later, found_number}
 
 -- The records of fields.
 

@@ -12,14 +12,15 @@ use Rattle.pg_dyn.specs.declared.message_ref.EntryRef.{EntryRef}
 use Rattle.pg_dyn.specs.declared.message_ref.ValueRef.{ValueRef}
 use Rattle.pg_dyn.specs.declared.message_ref.ValueRef.TheVariants as borrows
 use Rattle.pg_dyn.specs.declared.number_list.NumberList.{NumberList}
-use Rattle.pg_dyn.specs.Borrowed as borrowed
-use Rattle.pg_dyn.specs.Kept.{Kept, KeptItem, ends, type_of, unknown_of}
+use Rattle.pg_dyn.specs.message_ref.Borrowed as borrowed
+use Rattle.pg_dyn.specs.message.Kept.{Kept, ends, type_of}
+use Rattle.pg_dyn.specs.message.KeptParts.{KeptItem, unknown_of}
 use Rattle.pg_dyn.specs.encoding.Lending.{AreKeyed, AreKeyless, all_parts, bare_leaf, entry_part, in_list, item_part, lent_item, owned_item}
-use Rattle.pg_dyn.specs.Message.{Leaf, Part}
-use Rattle.pg_dyn.specs.NumberLists.{numbers_in}
-use Rattle.pg_dyn.specs.Replacing.{kept_onto}
-use Rattle.pg_dyn.specs.Seen.{IsFilled, content_seen, fields_onto, item_seen, leaf_of}
-use Rattle.pg_dyn.proofs.lemmas.ReplacingLaws.{fields_from, type_of-kept_onto, unknown_of-kept_onto}
+use Rattle.pg_dyn.specs.message.Message.{Leaf, Part}
+use Rattle.pg_dyn.specs.word.NumberLists.{numbers_in}
+use Rattle.pg_dyn.specs.message.Replacing.{kept_onto}
+use Rattle.pg_dyn.specs.message.Seen.{IsFilled, content_seen, fields_onto, item_seen, leaf_of}
+use Rattle.pg_dyn.proofs.lemmas.message.ReplacingLaws.{fields_from, type_of-kept_onto, unknown_of-kept_onto}
 
 -- a message is its parts, its type and its unknown records
 pub lent_whole : {C : Type 0} (parts : ℕ → C → List (Part KeptItem)) (ms : List (ℕ × C)) (type : TypeId) (us : List WireRecord) (m : Kept) → kept_onto (all_parts parts ms) (ends type us) ≡ m

@@ -1,9 +1,11 @@
 -- What is in a message weighs less than it, whoever owns its parts.
 use Rattle.std.proofs.Common.{◌≡◌, ℕ, zero, suc, ◌+◌, ◌<◌, ◌≤◌, List, [], ◌∷◌, ◌++◌, length, map, get_or, Bool, false, Option, refl, ap, ap₂, arith}
-use Rattle.pg_dyn.specs.Kept.{Kept, KeptItem, Plain, Msg, ends, type_of, unknown_of, weight}
+use Rattle.pg_dyn.specs.message.Kept.{Kept, ends, type_of}
+use Rattle.pg_dyn.specs.message.KeptParts.{KeptItem, Plain, Msg, unknown_of}
+use Rattle.pg_dyn.specs.inner.Weights.{weight}
 use Rattle.pg_dyn.specs.encoding.Lending.{Bare, Lone, Child, all_parts, bare, entry_part, item_part}
-use Rattle.pg_dyn.specs.Message.{Leaf, Part}
-use Rattle.pg_dyn.specs.Replacing.{kept_onto, kept_part}
+use Rattle.pg_dyn.specs.message.Message.{Leaf, Part}
+use Rattle.pg_dyn.specs.message.Replacing.{kept_onto, kept_part}
 use Rattle.pg_dyn.proofs.lemmas.encoding.EncodeSteps.{bare_seen}
 
 abbrev pub bare_weight : Bare → ℕ

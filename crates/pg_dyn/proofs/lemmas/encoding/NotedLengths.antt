@@ -7,19 +7,20 @@ use Rattle.pg_schema.specs.declared.parts.field.Element.{Element}
 use Rattle.pg_schema.specs.Shape.{Shape, FieldShape, fields, field_at}
 use Rattle.pg_schema.specs.ShapeRules.{IsShape}
 use Rattle.pg_wire.specs.Records.{WireRecord}
-use Rattle.pg_dyn.specs.Message.{Leaf, Part}
-use Rattle.pg_dyn.specs.Coding.{body, form}
-use Rattle.pg_dyn.specs.Kept.{Kept, ends, holds, KeptItem, Plain, Msg, type_of, unknown_of}
+use Rattle.pg_dyn.specs.message.Message.{Leaf, Part}
+use Rattle.pg_dyn.specs.word.Coding.{body, form}
+use Rattle.pg_dyn.specs.message.Kept.{Kept, ends, holds, type_of}
+use Rattle.pg_dyn.specs.message.KeptParts.{KeptItem, Plain, Msg, unknown_of}
 use Rattle.pg_dyn.specs.encoding.Lending.{AreOf, HoldsParts, IsLone, all_parts, bare, bare_leaf}
-use Rattle.pg_dyn.specs.Replacing.{kept_onto, kept_part}
-use Rattle.pg_dyn.specs.Seen.{Rises}
+use Rattle.pg_dyn.specs.message.Replacing.{kept_onto, kept_part}
+use Rattle.pg_dyn.specs.message.Seen.{Rises}
 use Rattle.pg_dyn.specs.encoding.Writing.{is_packed}
 use Rattle.pg_dyn.specs.encoding.Written.{capped, field_lengths, front_bodies, inner_lengths, item_lengths, lengths_behind, lengths_by, packed_body, packed_lengths, parts_lengths, row_behind, row_by}
 use Rattle.pg_dyn.proofs.lemmas.encoding.EncodedFields.{held_numbered}
 use Rattle.pg_dyn.proofs.lemmas.encoding.EncodeSteps.{HeldContents, field_is, lone_of_part, packable, packed_no_lengths, packs}
 use Rattle.pg_dyn.proofs.Lists.{each_weaker}
-use Rattle.pg_dyn.proofs.lemmas.ReplacingLaws.{kept_onto-append}
-use Rattle.pg_dyn.proofs.lemmas.Splitting.{found_number}
+use Rattle.pg_dyn.proofs.lemmas.message.ReplacingLaws.{kept_onto-append}
+use Rattle.pg_dyn.proofs.lemmas.reading.Splitting.{found_number}
 
 if_same : (b : Bool) → ◌≡◌ {A = List ℕ} (cond b [] []) []
 if_same true = refl

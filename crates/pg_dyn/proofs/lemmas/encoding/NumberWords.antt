@@ -7,14 +7,14 @@ use Rattle.pg_schema.specs.Shape.{FieldShape, Shape, is_map, is_packable}
 use Rattle.pg_dyn.specs.declared.message_ref.ValueRef.{ValueRef}
 use Rattle.pg_dyn.specs.declared.message_ref.ValueRef.TheVariants as values
 use Rattle.pg_dyn.specs.declared.number_list.NumberList.{NumberList}
-use Rattle.pg_dyn.specs.Coding.{body, form, scalar_form}
+use Rattle.pg_dyn.specs.word.Coding.{body, form, scalar_form}
 use Rattle.pg_dyn.specs.encoding.Lending.{IsLone, bare_leaf, item_part, lent_item, word_item}
 use Rattle.pg_dyn.specs.encoding.Written.{BareFits, CanBePacked, LeafFits, LeavesFit, field_lengths, field_written, item_bytes, item_lengths, number_bytes, number_lengths, packed_body, packed_bytes, packed_lengths, single_bytes}
 use Rattle.pg_dyn.specs.encoding.Writing.{is_packed, item_record}
-use Rattle.pg_dyn.specs.NumberLists.{IsNumber, number_item, numbers_in}
+use Rattle.pg_dyn.specs.word.NumberLists.{IsNumber, number_item, numbers_in}
 use Rattle.pg_dyn.specs.reading.Held.{read_as}
 use Rattle.pg_dyn.proofs.lemmas.encoding.EncodeSteps.{items_noted, items_written, lone_fits, packable, packed_no_lengths, packed_noted, packed_written}
-use Rattle.pg_dyn.proofs.lemmas.NumberLaws.{numbers_are}
+use Rattle.pg_dyn.proofs.lemmas.word.NumberLaws.{numbers_are}
 use Rattle.pg_dyn.proofs.Lists.{each_weaker, flat_map-map}
 
 each_unmapped : {A B : Type 0} (P : B → Type 0) (h : A → B) (xs : List A) → AllByRecursion P (map h xs) → AllByRecursion (λ x. P (h x)) xs

@@ -4,8 +4,8 @@ use Rattle.std.specs.List.{AllByRecursion}
 use Rattle.pg_schema.specs.declared.parts.field.Element.{Element}
 use Rattle.pg_schema.specs.declared.parts.field.Element.TheVariants as elements
 use Rattle.pg_wire.specs.declared.record.WireType.TheVariants.{I64, I32}
-use Rattle.pg_dyn.specs.Message.{Leaf, Int, F32, F64, Bytes}
-use Rattle.pg_dyn.specs.Coding.{Form, Integer, Single, Double, Text, Raw, InRange, body, form, form_wire, word_bytes}
+use Rattle.pg_dyn.specs.message.Message.{Leaf, Int, F32, F64, Bytes}
+use Rattle.pg_dyn.specs.word.Coding.{Form, Integer, Single, Double, Text, Raw, InRange, body, form, form_wire, word_bytes}
 use Rattle.pg_dyn.specs.encoding.Lending.{Bare, bare_leaf}
 use Rattle.pg_dyn.specs.encoding.Written.{LeafFits, LeavesFit, packed_body}
 use Rattle.pg_dyn.proofs.Lists.{each_weaker}

@@ -5,19 +5,20 @@ use Rattle.pg_schema.specs.declared.parts.field.TypeId.{TypeId}
 use Rattle.pg_schema.specs.Shape.{Shape, FieldShape, fields, field_at}
 use Rattle.pg_schema.specs.ShapeRules.{IsShape, Rising}
 use Rattle.pg_wire.specs.Records.{WireRecord}
-use Rattle.pg_dyn.specs.Message.{Leaf, Part, is_of}
-use Rattle.pg_dyn.specs.Kept.{Kept, KeptItem, ends, message_of, type_of, unknown_of}
+use Rattle.pg_dyn.specs.message.Message.{Leaf, Part, is_of}
+use Rattle.pg_dyn.specs.message.Kept.{Kept, ends, message_of, type_of}
+use Rattle.pg_dyn.specs.message.KeptParts.{KeptItem, unknown_of}
 use Rattle.pg_dyn.specs.encoding.Lending.{HoldsParts, all_parts}
-use Rattle.pg_dyn.specs.Replacing.{kept_onto}
-use Rattle.pg_dyn.specs.Seen.{Rises}
+use Rattle.pg_dyn.specs.message.Replacing.{kept_onto}
+use Rattle.pg_dyn.specs.message.Seen.{Rises}
 use Rattle.pg_dyn.specs.encoding.Writing.{field_records, records_in, bytes_of}
 use Rattle.pg_dyn.specs.encoding.Encoding.{encoded_parts}
-use Rattle.pg_dyn.specs.Comparison.{outside, unshared_bytes}
+use Rattle.pg_dyn.specs.views.Comparison.{outside, unshared_bytes}
 use Rattle.pg_dyn.specs.encoding.Written.{parts_written, records_by}
 use Rattle.pg_dyn.specs.encoding.Unshared.{outside_written}
 use Rattle.pg_dyn.proofs.Lists.{each_weaker, each_of_all, each-filter, filter-append', each_filtered, flat_map-append'}
-use Rattle.pg_dyn.proofs.lemmas.Splitting.{found_number}
-use Rattle.pg_dyn.proofs.lemmas.Belonging.{fields-IsType}
+use Rattle.pg_dyn.proofs.lemmas.reading.Splitting.{found_number}
+use Rattle.pg_dyn.proofs.lemmas.fitting.Belonging.{fields-IsType}
 use Rattle.pg_dyn.proofs.lemmas.encoding.EncodedFields.{IsFound, IsNumbered, by_fields, fields_shown, merged, other_parts, row_numbered, written_row}
 
 rising_kept : (test : FieldShape → Bool) (fs : List FieldShape) → Rising fs → Rising (filter test fs)

@@ -14,10 +14,10 @@ use Rattle.pg_dyn.specs.reading.Decoding.{all_readable, dec}
 use Rattle.pg_dyn.specs.reading.Faults.{AreFaultless, Code, FirstFault, FirstFaultOf, HasFault, NotUtf8, TooDeep, Wire, no_record}
 use Rattle.pg_dyn.specs.reading.Faults as faults
 use Rattle.pg_dyn.specs.reading.Steps.{RefusedBy, RefusedIn, RefusedRecord, Taken, IsShallowRecord, IsShallowIn}
-use Rattle.pg_dyn.proofs.lemmas.Faulty.{fault_unreadable, text_not_deep, wire_not_deep}
+use Rattle.pg_dyn.proofs.lemmas.reading.Faulty.{fault_unreadable, text_not_deep, wire_not_deep}
 use Rattle.pg_dyn.proofs.lemmas.reading.BodiesByFields.{shallow_from_records}
 use Rattle.pg_dyn.proofs.lemmas.reading.DecodeLoop.{err_step}
-use Rattle.pg_dyn.proofs.lemmas.Joining.{list_all-append}
+use Rattle.pg_dyn.proofs.lemmas.reading.Joining.{list_all-append}
 use Rattle.pg_dyn.proofs.Lists.{each-append}
 use Rattle.pg_dyn.proofs.lemmas.reading.RecordFronts.{Front, all_read, behind, further, next_inside, next_is_record, next_read, none_yet, one_read}
 

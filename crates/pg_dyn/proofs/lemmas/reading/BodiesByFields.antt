@@ -15,14 +15,14 @@ use Rattle.pg_dyn.specs.reading.ByFields.{BodiesGood, RecordsGood}
 use Rattle.pg_dyn.specs.reading.Content.{takes}
 use Rattle.pg_dyn.specs.reading.Decoding.{all_readable, dec, is_readable, read_records}
 use Rattle.pg_dyn.specs.reading.Gathering.{AreGathered}
-use Rattle.pg_dyn.specs.Message.{Message}
+use Rattle.pg_dyn.specs.message.Message.{Message}
 use Rattle.pg_dyn.specs.reading.Steps.{IsShallowIn, IsShallowRecord}
 use Rattle.pg_dyn.specs.reading.Faults.{TooDeep, TooDeepIn, TooDeepOf}
 use Rattle.pg_dyn.specs.reading.Faults as faults
 use Rattle.pg_dyn.specs.encoding.Writing.{bytes_of}
-use Rattle.pg_dyn.proofs.lemmas.Depth.{dec_is}
-use Rattle.pg_dyn.proofs.lemmas.Faulty.{each_mid, first_of, nonempty, split_at}
-use Rattle.pg_dyn.proofs.lemmas.Joining.{dec_from_readable, list_all-append, readable_from_dec, records_of-append}
+use Rattle.pg_dyn.proofs.lemmas.reading.Depth.{dec_is}
+use Rattle.pg_dyn.proofs.lemmas.reading.Faulty.{each_mid, first_of, nonempty, split_at}
+use Rattle.pg_dyn.proofs.lemmas.reading.Joining.{dec_from_readable, list_all-append, readable_from_dec, records_of-append}
 use Rattle.pg_dyn.proofs.Lists.{each-append, each_after, each_before, flat_map-append', list_all_each, list_all_true}
 
 ok_records : (rs ss : List WireRecord) → ◌≡◌ {A = Result (List WireRecord) Fault} (Ok rs) (Ok ss) → rs ≡ ss

@@ -9,26 +9,27 @@ use Rattle.pg_wire.specs.Records.{WireRecord}
 use Rattle.pg_dyn.specs.declared.message_ref.ContentRef.{ContentRef}
 use Rattle.pg_dyn.specs.reading.ByFields.{AllCount, HoldsOf}
 use Rattle.pg_dyn.specs.reading.Content.{content, is_accepted, is_sibling, is_unknown, takes}
-use Rattle.pg_dyn.specs.ContentFits.{AreApart, NoneSiblings}
+use Rattle.pg_dyn.specs.fitting.ContentFits.{AreApart, NoneSiblings}
 use Rattle.pg_dyn.specs.reading.Decoding.{all_readable, dec, field_parts, read_part, read_records}
-use Rattle.pg_dyn.specs.Fits.{Fits}
-use Rattle.pg_dyn.specs.Kept.{KeptItem, ends, message_of}
-use Rattle.pg_dyn.specs.Message.{Part, is_of, message_from, parts, place_of}
-use Rattle.pg_dyn.specs.Optional.{after_last_of, all_some}
-use Rattle.pg_dyn.specs.Seen.{Rises}
-use Rattle.pg_dyn.specs.Borrowed.{HasKeys, IsFilled, content_seen, fields_onto}
+use Rattle.pg_dyn.specs.fitting.Fits.{Fits}
+use Rattle.pg_dyn.specs.message.KeptParts.{KeptItem}
+use Rattle.pg_dyn.specs.message.Kept.{ends, message_of}
+use Rattle.pg_dyn.specs.message.Message.{Part, is_of, message_from, parts, place_of}
+use Rattle.pg_dyn.specs.reading.Optional.{after_last_of, all_some}
+use Rattle.pg_dyn.specs.message.Seen.{Rises}
+use Rattle.pg_dyn.specs.message_ref.Borrowed.{HasKeys, IsFilled, content_seen, fields_onto}
 use Rattle.pg_dyn.specs.reading.Steps.{HeldFits, Taken, part_of, parts_held}
-use Rattle.pg_dyn.proofs.lemmas.Flat.{is_sibling_sym}
+use Rattle.pg_dyn.proofs.lemmas.laws.Flat.{is_sibling_sym}
 use Rattle.pg_dyn.proofs.lemmas.reading.GoodRecords.{known_is, same_found}
-use Rattle.pg_dyn.proofs.lemmas.BorrowedParts.{content_number}
+use Rattle.pg_dyn.proofs.lemmas.message_ref.BorrowedParts.{content_number}
 use Rattle.pg_dyn.proofs.Lists.{each-append, each_weaker, filter-append', filter_all, filter_none, flat_map-append', list_any_at}
-use Rattle.pg_dyn.proofs.lemmas.RecordsRead.{assembled}
-use Rattle.pg_dyn.proofs.lemmas.PartsToFits.{HoldsParts, contents_whole, fits_of_contents}
-use Rattle.pg_dyn.proofs.lemmas.Order.{NeverFalls, never_falls, of_each, of_each_is, places-parts}
-use Rattle.pg_dyn.proofs.lemmas.ReadSplits.{parts-message_from}
-use Rattle.pg_dyn.proofs.lemmas.ReplacingLaws.{filter-part_item, message_of-kept_from}
-use Rattle.pg_dyn.specs.Borrowed.{all_seen}
-use Rattle.pg_dyn.proofs.lemmas.Splitting.{each_found, found_number, takes_number}
+use Rattle.pg_dyn.proofs.lemmas.reading.RecordsRead.{assembled}
+use Rattle.pg_dyn.proofs.lemmas.fitting.PartsToFits.{HoldsParts, contents_whole, fits_of_contents}
+use Rattle.pg_dyn.proofs.lemmas.laws.Order.{NeverFalls, never_falls, of_each, of_each_is, places-parts}
+use Rattle.pg_dyn.proofs.lemmas.reading.ReadSplits.{parts-message_from}
+use Rattle.pg_dyn.proofs.lemmas.message.ReplacingLaws.{filter-part_item, message_of-kept_from}
+use Rattle.pg_dyn.specs.message_ref.Borrowed.{all_seen}
+use Rattle.pg_dyn.proofs.lemmas.reading.Splitting.{each_found, found_number, takes_number}
 
 -- Of records of which all count, the members of a oneof have those of one member at most.
 

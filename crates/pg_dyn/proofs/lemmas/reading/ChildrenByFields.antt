@@ -15,17 +15,17 @@ use Rattle.pg_dyn.specs.declared.message_ref.ValueRef.{ValueRef}
 use Rattle.pg_dyn.specs.declared.message_ref.ValueRef.TheVariants as values
 use Rattle.pg_dyn.specs.reading.ByFields.{AreGood, AreOf, BodiesGood, HoldsOf, IsChildOf}
 use Rattle.pg_dyn.specs.reading.Content.{content, last_item, leaf_bytes, leaves_in, merged, plain_content, takes}
-use Rattle.pg_dyn.specs.BorrowedItems.{ItemKept}
+use Rattle.pg_dyn.specs.message_ref.BorrowedItems.{ItemKept}
 use Rattle.pg_dyn.specs.reading.Decoding.{dec, is_child, read_item, read_part}
-use Rattle.pg_dyn.specs.Message.{Bytes, Item, Leaf, Msg, Part}
-use Rattle.pg_dyn.specs.Optional.{all_some, joined}
-use Rattle.pg_dyn.specs.Borrowed.{item_seen}
+use Rattle.pg_dyn.specs.message.Message.{Bytes, Item, Leaf, Msg, Part}
+use Rattle.pg_dyn.specs.reading.Optional.{all_some, joined}
+use Rattle.pg_dyn.specs.message_ref.Borrowed.{item_seen}
 use Rattle.pg_dyn.specs.reading.Steps.{FieldReads, IsShallow, IsShallowIn, item_of, part_of}
 use Rattle.pg_dyn.specs.reading.Faults.{TooDeep, TooDeepOf}
 use Rattle.pg_dyn.specs.reading.Faults as faults
 use Rattle.pg_dyn.proofs.lemmas.reading.BodiesByFields.{OneAt, bodies_of, one_at, one_holds}
 use Rattle.pg_dyn.proofs.lemmas.reading.PlainFields.{content_plain, one_body, readable_child, readable_is}
-use Rattle.pg_dyn.proofs.lemmas.Joining.{is_some_found}
+use Rattle.pg_dyn.proofs.lemmas.reading.Joining.{is_some_found}
 use Rattle.pg_dyn.proofs.Lists.{all_some-map, each-append, each_weaker, flat_map-map, joined-map_single}
 use Rattle.pg_dyn.proofs.lemmas.reading.ShallowRecords.{body_shallow}
 

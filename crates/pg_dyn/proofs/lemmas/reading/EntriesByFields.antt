@@ -21,27 +21,27 @@ use Rattle.pg_dyn.specs.declared.message_ref.EntryRef.{EntryRef}
 use Rattle.pg_dyn.specs.declared.message_ref.ValueRef.{ValueRef}
 use Rattle.pg_dyn.specs.declared.reading.parts.Parts.{Parts}
 use Rattle.pg_dyn.specs.reading.ByFields.{AreGood, AreOf, BodiesGood, IsChildOf, IsEntryRead}
-use Rattle.pg_dyn.specs.Coding.{form, zero_leaf}
+use Rattle.pg_dyn.specs.word.Coding.{form, zero_leaf}
 use Rattle.pg_dyn.specs.reading.Content.{entry_part, is_accepted, key_field, leaves_in, merged, option_from, takes, value_field, entry_fields}
-use Rattle.pg_dyn.specs.BorrowedItems.{ItemKept}
+use Rattle.pg_dyn.specs.message_ref.BorrowedItems.{ItemKept}
 use Rattle.pg_dyn.specs.reading.Decoding.{all_plain_readable, dec, entry_records, is_plain_readable, is_readable}
 use Rattle.pg_dyn.specs.reading.EntryParts.{AreParts, AreReadable, ScalarsGood}
 use Rattle.pg_dyn.specs.reading.EntrySteps.{IsMessageOf, IsReadFrom, PartFits, PartRead, WholeItem}
-use Rattle.pg_dyn.specs.Message.{Bytes, Item, Leaf, Plain}
-use Rattle.pg_dyn.specs.Optional.{first_or}
+use Rattle.pg_dyn.specs.message.Message.{Bytes, Item, Leaf, Plain}
+use Rattle.pg_dyn.specs.reading.Optional.{first_or}
 use Rattle.pg_dyn.specs.reading.ReadingOn.{IsNoMessage}
-use Rattle.pg_dyn.specs.BorrowedItems.{IsItemKept}
-use Rattle.pg_dyn.specs.Borrowed.{leaf_of}
+use Rattle.pg_dyn.specs.message_ref.BorrowedItems.{IsItemKept}
+use Rattle.pg_dyn.specs.message_ref.Borrowed.{leaf_of}
 use Rattle.pg_dyn.specs.reading.Steps.{FieldReads, IsShallow, IsShallowIn, IsShallowRecord, Taken, item_of}
 use Rattle.pg_dyn.specs.reading.Faults.{TooDeep, TooDeepOf}
 use Rattle.pg_dyn.specs.reading.Faults as faults
 use Rattle.pg_dyn.proofs.lemmas.reading.BodiesByFields.{bodies_of, records_shallow, seen_at, shallow_from_records}
 use Rattle.pg_dyn.proofs.lemmas.reading.ChildrenByFields as children
 use Rattle.pg_dyn.proofs.lemmas.reading.PlainFields.{no_child}
-use Rattle.pg_dyn.proofs.lemmas.Faulty.{entry_records_of}
+use Rattle.pg_dyn.proofs.lemmas.reading.Faulty.{entry_records_of}
 use Rattle.pg_dyn.proofs.lemmas.reading.FieldKinds.{message_clash}
-use Rattle.pg_dyn.proofs.lemmas.BorrowedItems.{item_is_key, key_seen}
-use Rattle.pg_dyn.proofs.lemmas.Joining.{implied}
+use Rattle.pg_dyn.proofs.lemmas.message_ref.BorrowedItems.{item_is_key, key_seen}
+use Rattle.pg_dyn.proofs.lemmas.reading.Joining.{implied}
 use Rattle.pg_dyn.proofs.lemmas.reading.MapsByFields.{AreEntriesRead, one_entry_more}
 use Rattle.pg_dyn.proofs.Lists.{each-append, each-filter, each_at, each_both, each_weaker, list_all_each, list_all_true}
 use Rattle.pg_dyn.proofs.lemmas.reading.ShallowRecords.{entry_shallow, scalar_shallow}

@@ -17,21 +17,21 @@ use Rattle.pg_wire.specs.Reads.{seen_record}
 use Rattle.pg_wire.specs.Records.{WireRecord}
 use Rattle.pg_dyn.specs.declared.message_ref.ValueRef.{ValueRef}
 use Rattle.pg_dyn.specs.declared.reading.parts.Parts.{Parts}
-use Rattle.pg_dyn.specs.Coding.{form, form_wire, leaf_in, scalar_form}
+use Rattle.pg_dyn.specs.word.Coding.{form, form_wire, leaf_in, scalar_form}
 use Rattle.pg_dyn.specs.reading.Content.{is_accepted, key_field, leaves_in, plain_content, same_wire, takes, value_field}
-use Rattle.pg_dyn.specs.BorrowedItems.{ItemKept}
+use Rattle.pg_dyn.specs.message_ref.BorrowedItems.{ItemKept}
 use Rattle.pg_dyn.specs.reading.Decoding.{dec, is_child, is_plain_readable}
 use Rattle.pg_dyn.specs.reading.EntryParts.{AreParts, AreReadable, ScalarsGood}
 use Rattle.pg_dyn.specs.reading.EntrySteps.{IsMessageOf, IsReadFrom, PartIs, PartFits, PartRead}
 use Rattle.pg_dyn.specs.reading.Held.{read_as}
-use Rattle.pg_dyn.specs.Message.{Leaf}
+use Rattle.pg_dyn.specs.message.Message.{Leaf}
 use Rattle.pg_dyn.specs.reading.ReadingOn.{IsNoMessage}
-use Rattle.pg_dyn.specs.BorrowedItems.{IsItemKept}
-use Rattle.pg_dyn.specs.Borrowed.{leaf_of}
+use Rattle.pg_dyn.specs.message_ref.BorrowedItems.{IsItemKept}
+use Rattle.pg_dyn.specs.message_ref.Borrowed.{leaf_of}
 use Rattle.pg_dyn.specs.reading.Steps.{item_of}
 use Rattle.pg_dyn.proofs.lemmas.reading.FieldKinds.{form_as, no_both}
 use Rattle.pg_dyn.proofs.lemmas.reading.FieldRecords.{own_leaves, reads_scalar}
-use Rattle.pg_dyn.proofs.lemmas.BorrowedItems.{item_is_key, key_seen}
+use Rattle.pg_dyn.proofs.lemmas.message_ref.BorrowedItems.{item_is_key, key_seen}
 use Rattle.pg_dyn.proofs.Lists.{each-append, filter-append'}
 use Rattle.pg_dyn.proofs.lemmas.reading.ReadsOn.{singular_on}
 use Rattle.pg_dyn.proofs.lemmas.reading.RecordFronts.{Front}

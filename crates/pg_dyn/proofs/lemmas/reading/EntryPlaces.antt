@@ -6,11 +6,11 @@ use Rattle.std.proofs.lemmas.Cmp.{int_cmp_total, nat_list_cmp_total}
 use Rattle.std.specs.Ordering.{ordering_reverse}
 use Rattle.std.specs.declared.cmp.Ordering.{Ordering}
 use Rattle.std.specs.declared.cmp.Ordering.TheVariants.{Less, Equal, Greater}
-use Rattle.pg_dyn.specs.KeyOrder.{Rise}
-use Rattle.pg_dyn.specs.Message.{Leaf, Int, Bytes, key_cmp}
+use Rattle.pg_dyn.specs.message.KeyOrder.{Rise}
+use Rattle.pg_dyn.specs.message.Message.{Leaf, Int, Bytes, key_cmp}
 use Rattle.pg_dyn.specs.reading.Normalized.{place}
-use Rattle.pg_dyn.proofs.lemmas.FitsSteps.{key_trans}
-use Rattle.pg_dyn.proofs.lemmas.Fields.{above_from_less}
+use Rattle.pg_dyn.proofs.lemmas.fitting.FitsSteps.{key_trans}
+use Rattle.pg_dyn.proofs.lemmas.reading.Fields.{above_from_less}
 use Rattle.pg_dyn.proofs.Lists.{each_weaker}
 
 pub less_from_above : (k l : Leaf) → key_cmp k l ≡ Greater → key_cmp l k ≡ Less

@@ -13,23 +13,23 @@ use Rattle.pg_wire.specs.Records.{WireRecord}
 use Rattle.pg_wire.proofs.Results.{fault_of-error_at}
 use Rattle.pg_dyn.specs.declared.error.DynError.{DynError}
 use Rattle.pg_dyn.specs.declared.error.DynError.TheVariants as errors
-use Rattle.pg_dyn.specs.Coding.{Text, form, form_wire, element_at, leaf_in, scalar_form}
+use Rattle.pg_dyn.specs.word.Coding.{Text, form, form_wire, element_at, leaf_in, scalar_form}
 use Rattle.pg_dyn.specs.reading.Content.{same_wire, is_accepted, is_unknown, leaves_in, packed_leaves}
 use Rattle.pg_dyn.specs.reading.Decoding.{is_child, all_readable, dec}
 use Rattle.pg_dyn.specs.reading.Faults.{Wire, FirstFault, FirstFaultOf, body_start}
 use Rattle.pg_dyn.specs.reading.Faults as faults
 use Rattle.pg_dyn.specs.reading.FaultSteps.{ItemReads}
 use Rattle.pg_dyn.specs.reading.Held.{read_as}
-use Rattle.pg_dyn.specs.Message.{Leaf}
+use Rattle.pg_dyn.specs.message.Message.{Leaf}
 use Rattle.pg_dyn.specs.reading.ReadingOn.{IsNoMessage}
 use Rattle.pg_dyn.specs.reading.Steps.{FieldReads, RefusedOf, RefusedIn, RefusedItem, RefusedRecord, RowRefused, Taken, IsShallow, IsShallowIn, IsShallowItem}
 use Rattle.pg_dyn.proofs.lemmas.reading.Ahead.{refused_on}
-use Rattle.pg_dyn.proofs.lemmas.TypeFields.{takes_it}
+use Rattle.pg_dyn.proofs.lemmas.reading.TypeFields.{takes_it}
 use Rattle.pg_dyn.proofs.lemmas.reading.PlainFields.{readable_is, no_child}
 use Rattle.pg_dyn.proofs.lemmas.reading.FieldKinds.{form_as, packable_no_message}
 use Rattle.pg_dyn.proofs.lemmas.reading.GoodRecords.{read_by_field, read_unknown}
 use Rattle.pg_dyn.proofs.lemmas.reading.ShallowRecords.{body_shallow, scalar_shallow}
-use Rattle.pg_dyn.proofs.lemmas.Splitting.{found_number}
+use Rattle.pg_dyn.proofs.lemmas.reading.Splitting.{found_number}
 
 -- whether a record is of the element's own wire type
 abbrev pub is_own : Element → WireRecord → Bool

@@ -8,7 +8,7 @@ use Rattle.pg_schema.specs.declared.parts.field.Element.TheVariants as elements
 use Rattle.pg_schema.specs.declared.parts.field.Presence.{Presence}
 use Rattle.pg_schema.specs.declared.parts.field.Presence.TheVariants as presences
 use Rattle.pg_schema.specs.Shape.{is_map, is_packable, is_repeated}
-use Rattle.pg_dyn.specs.Coding.{form, scalar_form}
+use Rattle.pg_dyn.specs.word.Coding.{form, scalar_form}
 use Rattle.pg_dyn.specs.reading.EntrySteps.{IsMessageOf}
 use Rattle.pg_dyn.specs.reading.Held.{read_as}
 use Rattle.pg_dyn.specs.reading.ReadingOn.{IsNoMessage}

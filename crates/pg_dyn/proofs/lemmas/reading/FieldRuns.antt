@@ -13,15 +13,15 @@ use Rattle.pg_dyn.specs.declared.message_ref.ContentRef.{ContentRef}
 use Rattle.pg_dyn.specs.reading.ByFields.{AllCount, AreGood, AreOf, HoldsOf, RecordsGood}
 use Rattle.pg_dyn.specs.reading.Content.{takes}
 use Rattle.pg_dyn.specs.reading.Decoding.{dec, read_records}
-use Rattle.pg_dyn.specs.Fits.{Fits}
+use Rattle.pg_dyn.specs.fitting.Fits.{Fits}
 use Rattle.pg_dyn.specs.reading.Gathering.{NumbersRise}
-use Rattle.pg_dyn.specs.Kept.{ends, message_of}
-use Rattle.pg_dyn.specs.Borrowed.{fields_onto}
+use Rattle.pg_dyn.specs.message.Kept.{ends, message_of}
+use Rattle.pg_dyn.specs.message_ref.Borrowed.{fields_onto}
 use Rattle.pg_dyn.specs.reading.Steps.{FieldReads, HeldFits, IsShallow, Taken}
 use Rattle.pg_dyn.proofs.lemmas.reading.ByFields.{ReadSoFar, one_field, whole_fits, whole_read, with_held}
 use Rattle.pg_dyn.proofs.lemmas.reading.GoodRecords.{IsGood, each_good, good_by_field, good_each, good_of_field, same_found}
 use Rattle.pg_dyn.proofs.Lists.{each-append, each-map, each_both, each_weaker}
-use Rattle.pg_dyn.proofs.lemmas.Splitting.{found_number}
+use Rattle.pg_dyn.proofs.lemmas.reading.Splitting.{found_number}
 
 rise_drop : (k : ℕ) (rs : List Record) → NumbersRise rs → NumbersRise (drop k rs)
 rise_drop zero rs h = h

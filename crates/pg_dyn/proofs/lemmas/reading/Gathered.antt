@@ -12,12 +12,12 @@ use Rattle.pg_dyn.specs.declared.reading.oneof_runs.OneofRuns.{OneofRuns}
 use Rattle.pg_dyn.specs.reading.ByFields.{AllCount}
 use Rattle.pg_dyn.specs.reading.Content.{counted, is_sibling, is_unknown, takes}
 use Rattle.pg_dyn.specs.reading.Gathering.{AreByNumber, AreOneofRuns, IsCounted, counts_at, filter_at, known_of}
-use Rattle.pg_dyn.specs.Optional.{after_last_of}
+use Rattle.pg_dyn.specs.reading.Optional.{after_last_of}
 use Rattle.pg_dyn.specs.reading.ReadingOn.{clears}
 use Rattle.pg_dyn.specs.reading.Steps.{Taken}
-use Rattle.pg_dyn.proofs.lemmas.Flat.{is_sibling_sym}
+use Rattle.pg_dyn.proofs.lemmas.laws.Flat.{is_sibling_sym}
 use Rattle.pg_dyn.proofs.Lists.{after_last_of_none, each-append, each-map, each_filtered, each_weaker, filter-after_last_of_none, filter-append', filter-filter_weaker, filter-map, filtered_out, list_any_at, none_list_any}
-use Rattle.pg_dyn.proofs.lemmas.Splitting.{after_last_of-filter, each_found, takes_number}
+use Rattle.pg_dyn.proofs.lemmas.reading.Splitting.{after_last_of-filter, each_found, takes_number}
 use Rattle.pg_dyn.proofs.lemmas.reading.OneofRunLaws.{filter_at-append}
 
 -- Records by rising number.

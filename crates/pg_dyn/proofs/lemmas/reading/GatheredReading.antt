@@ -9,27 +9,27 @@ use Rattle.pg_wire.specs.Reads.{seen_record}
 use Rattle.pg_wire.specs.Records.{WireRecord, IsRecord}
 use Rattle.pg_dyn.specs.declared.message_ref.ContentRef.{ContentRef}
 use Rattle.pg_dyn.specs.declared.reading.gathering.Gathered.{Gathered}
-use Rattle.pg_dyn.specs.Belonging.{IsUnknown}
+use Rattle.pg_dyn.specs.fitting.Belonging.{IsUnknown}
 use Rattle.pg_dyn.specs.reading.ByFields.{AllCount, RecordsGood}
 use Rattle.pg_dyn.specs.reading.Content.{content, counted, is_unknown, takes}
 use Rattle.pg_dyn.specs.reading.Decoding.{Reader, all_readable, dec, field_parts, read_part, read_records}
-use Rattle.pg_dyn.specs.Fits.{Fits}
+use Rattle.pg_dyn.specs.fitting.Fits.{Fits}
 use Rattle.pg_dyn.specs.reading.Gathering.{AreByNumber, AreGathered, AreOneofRuns, IsCounted, known_of}
-use Rattle.pg_dyn.specs.Kept.{ends, message_of}
-use Rattle.pg_dyn.specs.Message.{Message, message_from, parts}
-use Rattle.pg_dyn.specs.Optional.{all_some, joined}
-use Rattle.pg_dyn.specs.Borrowed.{fields_onto}
+use Rattle.pg_dyn.specs.message.Kept.{ends, message_of}
+use Rattle.pg_dyn.specs.message.Message.{Message, message_from, parts}
+use Rattle.pg_dyn.specs.reading.Optional.{all_some, joined}
+use Rattle.pg_dyn.specs.message_ref.Borrowed.{fields_onto}
 use Rattle.pg_dyn.specs.reading.Steps.{part_of}
-use Rattle.pg_dyn.proofs.lemmas.PartsToFits.{fits_with_unknown}
+use Rattle.pg_dyn.proofs.lemmas.fitting.PartsToFits.{fits_with_unknown}
 use Rattle.pg_dyn.proofs.lemmas.reading.Gathered.{all_counted, each_by_number, known_counted, known_taken, seen_each, sorted_all_count, sorted_counted}
 use Rattle.pg_dyn.proofs.lemmas.reading.GoodRecords.{IsGood, each_good, good_each, good_unknown}
-use Rattle.pg_dyn.proofs.lemmas.Joining.{each_after_last}
+use Rattle.pg_dyn.proofs.lemmas.reading.Joining.{each_after_last}
 use Rattle.pg_dyn.proofs.Lists.{each-filter, each-map, each_filtered, each_of_all, each_unfiltered, each_weaker, map_same}
-use Rattle.pg_dyn.proofs.lemmas.RecordsRead.{built, pieces_of}
-use Rattle.pg_dyn.proofs.lemmas.ReadSplits.{parts-message_from}
-use Rattle.pg_dyn.proofs.lemmas.ReplacingLaws.{message_of-kept_from}
-use Rattle.pg_dyn.specs.Borrowed.{all_seen}
-use Rattle.pg_dyn.proofs.lemmas.Splitting.{each_found, found_number}
+use Rattle.pg_dyn.proofs.lemmas.reading.RecordsRead.{built, pieces_of}
+use Rattle.pg_dyn.proofs.lemmas.reading.ReadSplits.{parts-message_from}
+use Rattle.pg_dyn.proofs.lemmas.message.ReplacingLaws.{message_of-kept_from}
+use Rattle.pg_dyn.specs.message_ref.Borrowed.{all_seen}
+use Rattle.pg_dyn.proofs.lemmas.reading.Splitting.{each_found, found_number}
 
 -- records of which each field counts the same as of others, and none of which is unknown, say the others' message without the unknown
 pub rearranged : (child : Reader) (fs : List FieldShape) (rs ss : List WireRecord) (m : Message) → Rising fs

@@ -10,7 +10,7 @@ use Rattle.pg_dyn.specs.reading.Decoding.{dec, is_readable}
 use Rattle.pg_dyn.specs.reading.Steps.{FieldReads, IsShallow, IsShallowRecord, Taken}
 use Rattle.pg_dyn.specs.reading.Faults.{TooDeepOf}
 use Rattle.pg_dyn.proofs.Lists.{each_at, each_both, each_weaker, list_all_each, list_all_true, list_any_at, none_list_any}
-use Rattle.pg_dyn.proofs.lemmas.Splitting.{each_found, takes_number}
+use Rattle.pg_dyn.proofs.lemmas.reading.Splitting.{each_found, takes_number}
 
 pub same_found : (f g : FieldShape) → ◌≡◌ {A = Option FieldShape} (Some f) (Some g) → f ≡ g
 same_found f g e = cc

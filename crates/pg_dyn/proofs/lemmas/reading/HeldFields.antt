@@ -14,15 +14,15 @@ use Rattle.pg_dyn.specs.declared.message_ref.EntryRef.{EntryRef}
 use Rattle.pg_dyn.specs.declared.message_ref.ValueRef.{ValueRef}
 use Rattle.pg_dyn.specs.declared.message_ref.ValueRef.TheVariants as values
 use Rattle.pg_dyn.specs.declared.number_list.NumberList.{NumberList}
-use Rattle.pg_dyn.specs.Belonging.{KeyFits, MayFollow}
-use Rattle.pg_dyn.specs.Borrowed.{IsMapKey, entry_part, item_part, item_seen}
-use Rattle.pg_dyn.specs.BorrowedItems.{IsItemKept, ItemKept, KeysRise, key_of}
-use Rattle.pg_dyn.specs.Kept.{KeptItem, Plain, Msg}
-use Rattle.pg_dyn.specs.Message.{Part, key_cmp}
-use Rattle.pg_dyn.specs.NumberLists.{numbers_in}
-use Rattle.pg_dyn.specs.PartsFit.{FieldHolds, InOrder, IsPartOf}
+use Rattle.pg_dyn.specs.fitting.Belonging.{KeyFits, MayFollow}
+use Rattle.pg_dyn.specs.message_ref.Borrowed.{IsMapKey, entry_part, item_part, item_seen}
+use Rattle.pg_dyn.specs.message_ref.BorrowedItems.{IsItemKept, ItemKept, KeysRise, key_of}
+use Rattle.pg_dyn.specs.message.KeptParts.{KeptItem, Plain, Msg}
+use Rattle.pg_dyn.specs.message.Message.{Part, key_cmp}
+use Rattle.pg_dyn.specs.word.NumberLists.{numbers_in}
+use Rattle.pg_dyn.specs.fitting.PartsFit.{FieldHolds, InOrder, IsPartOf}
 use Rattle.pg_dyn.specs.reading.Steps.{HeldFits}
-use Rattle.pg_dyn.proofs.lemmas.BorrowedItems.{LeafMayBeZero, in_range, map_key, value_holds}
+use Rattle.pg_dyn.proofs.lemmas.message_ref.BorrowedItems.{LeafMayBeZero, in_range, map_key, value_holds}
 use Rattle.pg_dyn.proofs.Lists.{each-map, each_weaker}
 
 keyless : (p : Presence) → is_map p ≡ false → KeyFits p None

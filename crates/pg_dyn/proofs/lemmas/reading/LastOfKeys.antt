@@ -3,16 +3,16 @@ use Rattle.std.proofs.Common.{◌≡◌, List, [], ◌∷◌, filter, Bool, true
 use Rattle.std.specs.List.{AllByRecursion}
 use Rattle.std.specs.declared.cmp.Ordering.{Ordering}
 use Rattle.std.specs.declared.cmp.Ordering.TheVariants.{Less, Equal, Greater}
-use Rattle.pg_dyn.specs.KeyOrder.{AreSame, IsOfKind, Rise}
-use Rattle.pg_dyn.specs.Message.{Leaf, Int, F32, F64, Bytes, key_cmp, leaf_eq}
-use Rattle.pg_dyn.specs.Optional.{last_of}
+use Rattle.pg_dyn.specs.message.KeyOrder.{AreSame, IsOfKind, Rise}
+use Rattle.pg_dyn.specs.message.Message.{Leaf, Int, F32, F64, Bytes, key_cmp, leaf_eq}
+use Rattle.pg_dyn.specs.reading.Optional.{last_of}
 use Rattle.pg_dyn.specs.reading.Normalized as normalized
 use Rattle.pg_dyn.proofs.lemmas.reading.EntryPlaces.{less_from_above}
-use Rattle.pg_dyn.proofs.lemmas.FitsSteps.{key_trans}
-use Rattle.pg_dyn.proofs.lemmas.KeyLaws.{equal_leaves, key_less_self, rank_is}
-use Rattle.pg_dyn.proofs.lemmas.Leaves.{leaf_eq_self, same_leaf}
+use Rattle.pg_dyn.proofs.lemmas.fitting.FitsSteps.{key_trans}
+use Rattle.pg_dyn.proofs.lemmas.message.KeyLaws.{equal_leaves, key_less_self, rank_is}
+use Rattle.pg_dyn.proofs.lemmas.word.Leaves.{leaf_eq_self, same_leaf}
 use Rattle.pg_dyn.proofs.Lists.{each_weaker}
-use Rattle.pg_dyn.proofs.lemmas.Standing.{StandsIn, one_in}
+use Rattle.pg_dyn.proofs.lemmas.reading.Standing.{StandsIn, one_in}
 
 pub same_kind : (b : Bool) (k l : Leaf) → IsOfKind b k → IsOfKind b l → AreSame k l
 same_kind true (Int m) (Int n) h i = tt

@@ -16,17 +16,17 @@ use Rattle.pg_dyn.specs.declared.message_ref.ContentRef.{ContentRef}
 use Rattle.pg_dyn.specs.declared.message_ref.ContentRef.TheVariants as contents
 use Rattle.pg_dyn.specs.reading.ByFields.{HoldsOf, IsEntryRead}
 use Rattle.pg_dyn.specs.reading.Content.{by_key, content, entry_in, put}
-use Rattle.pg_dyn.specs.BorrowedItems.{AreAlike, IsItemKept, ItemKept, KeysRise, key_of}
+use Rattle.pg_dyn.specs.message_ref.BorrowedItems.{AreAlike, IsItemKept, ItemKept, KeysRise, key_of}
 use Rattle.pg_dyn.specs.reading.Decoding.{dec, read_part}
 use Rattle.pg_dyn.specs.reading.Normalized.{place, placed}
 use Rattle.pg_dyn.specs.reading.EntrySteps.{IsReadFrom}
 use Rattle.pg_dyn.specs.reading.Held.{IsMapOf}
-use Rattle.pg_dyn.specs.Message.{Leaf, Part, key_cmp}
-use Rattle.pg_dyn.specs.Optional.{all_some}
-use Rattle.pg_dyn.specs.Borrowed.{entry_part}
+use Rattle.pg_dyn.specs.message.Message.{Leaf, Part, key_cmp}
+use Rattle.pg_dyn.specs.reading.Optional.{all_some}
+use Rattle.pg_dyn.specs.message_ref.Borrowed.{entry_part}
 use Rattle.pg_dyn.specs.reading.Steps.{HeldFits, part_of}
-use Rattle.pg_dyn.proofs.lemmas.Fields.{field_of}
-use Rattle.pg_dyn.proofs.lemmas.BorrowedItems.{keys_alike}
+use Rattle.pg_dyn.proofs.lemmas.reading.Fields.{field_of}
+use Rattle.pg_dyn.proofs.lemmas.message_ref.BorrowedItems.{keys_alike}
 use Rattle.pg_dyn.proofs.lemmas.reading.HeldFields.{EntryFits, map_held}
 use Rattle.pg_dyn.proofs.Lists.{each_weaker}
 use Rattle.pg_dyn.proofs.lemmas.reading.NormalizedEntries.{each_normalized, normalized_rise, normalized_some}

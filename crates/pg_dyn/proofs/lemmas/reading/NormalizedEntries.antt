@@ -6,13 +6,13 @@ use Rattle.std.specs.Ordering.{is_lt, ordering_reverse}
 use Rattle.std.specs.declared.cmp.Ordering.{Ordering}
 use Rattle.std.specs.declared.cmp.Ordering.TheVariants.{Less, Equal, Greater}
 use Rattle.pg_dyn.specs.declared.message_ref.EntryRef.{EntryRef}
-use Rattle.pg_dyn.specs.BorrowedItems.{AreAlike, IsAlike, KeysRise, key_of, ranks_below}
-use Rattle.pg_dyn.specs.KeyOrder.{IsOfKind, Rise, rank_cmp}
-use Rattle.pg_dyn.specs.Message.{Leaf, key_cmp, leaf_eq}
-use Rattle.pg_dyn.specs.Optional.{last_of}
+use Rattle.pg_dyn.specs.message_ref.BorrowedItems.{AreAlike, IsAlike, KeysRise, key_of, ranks_below}
+use Rattle.pg_dyn.specs.message.KeyOrder.{IsOfKind, Rise, rank_cmp}
+use Rattle.pg_dyn.specs.message.Message.{Leaf, key_cmp, leaf_eq}
+use Rattle.pg_dyn.specs.reading.Optional.{last_of}
 use Rattle.pg_dyn.specs.reading.Normalized.{place, placed}
-use Rattle.pg_dyn.proofs.lemmas.KeyLaws.{each_moved, equal_leaves, rank_total}
-use Rattle.pg_dyn.proofs.lemmas.Leaves.{leaf_eq_self, same_leaf}
+use Rattle.pg_dyn.proofs.lemmas.message.KeyLaws.{each_moved, equal_leaves, rank_total}
+use Rattle.pg_dyn.proofs.lemmas.word.Leaves.{leaf_eq_self, same_leaf}
 use Rattle.pg_dyn.proofs.lemmas.reading.LastOfKeys.{OfKind, each_placed, has_key, kind_all, last_placed, none_of_key, placed_alike, rise_all, rise_placed, same_by_keys, same_kind}
 use Rattle.pg_dyn.proofs.Lists.{each-append, each_after, each_before}
 

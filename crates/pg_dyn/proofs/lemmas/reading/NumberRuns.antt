@@ -6,14 +6,14 @@ use Rattle.pg_schema.specs.Shape.{FieldShape, is_packable}
 use Rattle.pg_wire.specs.declared.record.WireType.{WireType}
 use Rattle.pg_wire.specs.Records.{WireRecord}
 use Rattle.pg_dyn.specs.declared.message_ref.ValueRef.{ValueRef}
-use Rattle.pg_dyn.specs.Borrowed.{leaf_of}
-use Rattle.pg_dyn.specs.Coding.{form, form_wire, leaf_in, scalar_form, word_in}
-use Rattle.pg_dyn.specs.NumberLists.{number_item}
+use Rattle.pg_dyn.specs.message_ref.Borrowed.{leaf_of}
+use Rattle.pg_dyn.specs.word.Coding.{form, form_wire, leaf_in, scalar_form, word_in}
+use Rattle.pg_dyn.specs.word.NumberLists.{number_item}
 use Rattle.pg_dyn.specs.reading.Content.{same_wire}
 use Rattle.pg_dyn.specs.reading.Held.{read_as}
 use Rattle.pg_dyn.specs.reading.Steps.{RowReads}
-use Rattle.pg_dyn.specs.WordOf.{HasBits}
-use Rattle.pg_dyn.proofs.lemmas.NumberLaws.{number_kept, number_read}
+use Rattle.pg_dyn.specs.word.WordOf.{HasBits}
+use Rattle.pg_dyn.proofs.lemmas.word.NumberLaws.{number_kept, number_read}
 use Rattle.pg_dyn.proofs.lemmas.reading.FieldKinds.{packable_as}
 use Rattle.pg_dyn.proofs.lemmas.reading.ScalarRuns.{ItemsSoFar, more_items, own_item, row_items}
 

@@ -16,7 +16,7 @@ use Rattle.pg_dyn.specs.reading.Gathering.{AreOneofRuns, counts_at, filter_at}
 use Rattle.pg_dyn.specs.reading.ReadingOn.{clears}
 use Rattle.pg_dyn.proofs.Lists.{each_weaker, filter-append', list_any_at, list_any_none}
 use Rattle.pg_dyn.proofs.lemmas.reading.ReadsOn.{counted-append}
-use Rattle.pg_dyn.proofs.lemmas.Splitting.{each_found, takes_number}
+use Rattle.pg_dyn.proofs.lemmas.reading.Splitting.{each_found, takes_number}
 
 -- Filters by index.
 

@@ -16,16 +16,16 @@ use Rattle.pg_wire.specs.Varint.{varint_at, varint_value}
 use Rattle.pg_wire.proofs.RecordLaws.{exactly_takes}
 use Rattle.pg_wire.proofs.Varints.{varint_at_takes, length-IsVarint}
 use Rattle.pg_dyn.specs.declared.message_ref.ValueRef.{ValueRef}
-use Rattle.pg_dyn.specs.NumberLists.{number_item}
-use Rattle.pg_dyn.specs.WordOf.{HasBits, IsWord}
-use Rattle.pg_dyn.specs.Coding.{form_wire, leaf_in, element_at, scalar_form, word_in}
+use Rattle.pg_dyn.specs.word.NumberLists.{number_item}
+use Rattle.pg_dyn.specs.word.WordOf.{HasBits, IsWord}
+use Rattle.pg_dyn.specs.word.Coding.{form_wire, leaf_in, element_at, scalar_form, word_in}
 use Rattle.pg_dyn.specs.reading.Content.{packed_leaves, option_from}
-use Rattle.pg_dyn.specs.Optional.{all_some}
+use Rattle.pg_dyn.specs.reading.Optional.{all_some}
 use Rattle.pg_dyn.specs.reading.Steps.{IsRow, RowReads, WordsRead}
-use Rattle.pg_dyn.specs.BorrowedItems.{IsItemKept}
-use Rattle.pg_dyn.specs.Borrowed.{leaf_of}
+use Rattle.pg_dyn.specs.message_ref.BorrowedItems.{IsItemKept}
+use Rattle.pg_dyn.specs.message_ref.Borrowed.{leaf_of}
 use Rattle.pg_dyn.proofs.Lists.{each-append}
-use Rattle.pg_dyn.proofs.lemmas.NumberLaws.{number_kept, number_read}
+use Rattle.pg_dyn.proofs.lemmas.word.NumberLaws.{number_kept, number_read}
 
 -- One element at the front.
 

@@ -9,12 +9,12 @@ use Rattle.pg_schema.specs.declared.parts.field.Presence.TheVariants as presence
 use Rattle.pg_schema.specs.Shape.{FieldShape, is_map, is_repeated, is_packable}
 use Rattle.pg_wire.specs.declared.record.WireType.TheVariants.{Len}
 use Rattle.pg_wire.specs.Records.{WireRecord}
-use Rattle.pg_dyn.specs.Coding.{form, form_wire}
-use Rattle.pg_dyn.specs.Message.{Bytes, Message}
+use Rattle.pg_dyn.specs.word.Coding.{form, form_wire}
+use Rattle.pg_dyn.specs.message.Message.{Bytes, Message}
 use Rattle.pg_dyn.specs.reading.Content.{same_wire, own_wire, is_accepted, takes, content, plain_content, leaves_in}
 use Rattle.pg_dyn.specs.reading.Decoding.{Reader, is_child, is_readable, is_plain_readable}
 use Rattle.pg_dyn.specs.reading.ReadingOn.{IsNoMessage}
-use Rattle.pg_dyn.proofs.lemmas.Fields.{field_of}
+use Rattle.pg_dyn.proofs.lemmas.reading.Fields.{field_of}
 
 pub content_plain : (n : ℕ) (p : Presence) (e : Element) (o : Option ℕ) (cs : List WireRecord) → is_map p ≡ false
     → content (field_of n p e o) cs ≡ option_map (map (λ leaf. record { number = n; key = None; item = leaf })) (plain_content (field_of n p e o) cs)

@@ -9,8 +9,8 @@ use Rattle.pg_schema.specs.declared.parts.field.Element.TheVariants as elements
 use Rattle.pg_schema.specs.declared.parts.field.Presence.{Presence}
 use Rattle.pg_schema.specs.Shape.{FieldShape, is_repeated}
 use Rattle.pg_wire.specs.Records.{WireRecord}
-use Rattle.pg_dyn.specs.Optional.{all_some, after_last_of, last_of, joined}
-use Rattle.pg_dyn.specs.Message.{Leaf}
+use Rattle.pg_dyn.specs.reading.Optional.{all_some, after_last_of, last_of, joined}
+use Rattle.pg_dyn.specs.message.Message.{Leaf}
 use Rattle.pg_dyn.specs.reading.Content.{takes, counted, leaves_in, last_item, plain_content}
 use Rattle.pg_dyn.specs.reading.ReadingOn.{clears, replaced, IsNoMessage}
 use Rattle.pg_dyn.proofs.Lists.{filter-append', option_map_some}

@@ -7,7 +7,7 @@ use Rattle.pg_wire.specs.Reads.{results}
 use Rattle.pg_wire.specs.Records.{IsRecord, Spells, WireRecord, records_of, record_at}
 use Rattle.pg_wire.specs.declared.error.WireError.{WireError}
 use Rattle.pg_dyn.proofs.lemmas.reading.DecodeLoop.{end_step, err_step, ok_step}
-use Rattle.pg_dyn.proofs.lemmas.Faulty.{first_of, nonempty, split_at}
+use Rattle.pg_dyn.proofs.lemmas.reading.Faulty.{first_of, nonempty, split_at}
 
 -- The bytes, of which a front is read as these records; the iterator gives what is left.
 pub record Front (bytes : List ℕ) (left : List (Result WireRecord WireError)) (rs : List WireRecord) : Type 0 where

@@ -6,10 +6,10 @@ use Rattle.pg_schema.specs.declared.parts.field.Scalar.TheVariants as scalars
 use Rattle.pg_schema.specs.declared.parts.field.Element.TheVariants as elements
 use Rattle.pg_schema.specs.Shape.{is_packable}
 use Rattle.pg_wire.specs.Reading.{Fault, Front, ◌>>=◌, row}
-use Rattle.pg_dyn.specs.Coding.{element_at, form_wire, leaf_in, scalar_form}
+use Rattle.pg_dyn.specs.word.Coding.{element_at, form_wire, leaf_in, scalar_form}
 use Rattle.pg_dyn.specs.reading.Content.{option_from, packed_leaves}
-use Rattle.pg_dyn.specs.Message.{Leaf}
-use Rattle.pg_dyn.specs.Optional.{all_some}
+use Rattle.pg_dyn.specs.message.Message.{Leaf}
+use Rattle.pg_dyn.specs.reading.Optional.{all_some}
 use Rattle.pg_dyn.proofs.lemmas.reading.PackedRows.{IsOne, element_shortens, row-end, row-step, row-stop}
 
 -- A body of a packable scalar has a reading, and so has each row of them.

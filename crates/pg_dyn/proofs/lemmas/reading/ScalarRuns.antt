@@ -14,25 +14,25 @@ use Rattle.pg_dyn.specs.declared.message_ref.ContentRef.{ContentRef}
 use Rattle.pg_dyn.specs.declared.message_ref.ContentRef.TheVariants as contents
 use Rattle.pg_dyn.specs.declared.message_ref.ValueRef.{ValueRef}
 use Rattle.pg_dyn.specs.reading.ByFields.{AreGood, HoldsOf}
-use Rattle.pg_dyn.specs.Coding.{form, form_wire, leaf_in, scalar_form}
+use Rattle.pg_dyn.specs.word.Coding.{form, form_wire, leaf_in, scalar_form}
 use Rattle.pg_dyn.specs.reading.Content.{content, last_item, leaves_in, packed_leaves, plain_content, same_wire, takes}
-use Rattle.pg_dyn.specs.BorrowedItems.{ItemKept, is_zero_value}
+use Rattle.pg_dyn.specs.message_ref.BorrowedItems.{ItemKept, is_zero_value}
 use Rattle.pg_dyn.specs.reading.Decoding.{dec, is_child, read_part}
 use Rattle.pg_dyn.specs.reading.Held.{IsHeldList, item_left, read_as}
 use Rattle.pg_dyn.specs.reading.ItemRuns.{AllRead, AreItemsOf}
-use Rattle.pg_dyn.specs.Message.{Item, Leaf, Part, Plain, is_zero}
-use Rattle.pg_dyn.specs.Optional.{all_some, joined, last_of}
+use Rattle.pg_dyn.specs.message.Message.{Item, Leaf, Part, Plain, is_zero}
+use Rattle.pg_dyn.specs.reading.Optional.{all_some, joined, last_of}
 use Rattle.pg_dyn.specs.reading.ReadingOn.{IsNoMessage}
-use Rattle.pg_dyn.specs.ScalarItems.{HasShape}
-use Rattle.pg_dyn.specs.BorrowedItems.{IsItemKept}
-use Rattle.pg_dyn.specs.Borrowed.{IsKey, item_seen, leaf_of}
+use Rattle.pg_dyn.specs.fitting.ScalarItems.{HasShape}
+use Rattle.pg_dyn.specs.message_ref.BorrowedItems.{IsItemKept}
+use Rattle.pg_dyn.specs.message_ref.Borrowed.{IsKey, item_seen, leaf_of}
 use Rattle.pg_dyn.specs.reading.Steps.{FieldReads, HeldFits, IsShallow, item_of, part_of, parts_held}
 use Rattle.pg_dyn.proofs.lemmas.reading.FieldKinds.{form_as, lists_no_map}
 use Rattle.pg_dyn.proofs.lemmas.reading.FieldRecords.{own_leaves, packable_of, reads_scalar, row_leaves, shape_of_body}
 use Rattle.pg_dyn.proofs.lemmas.reading.PlainFields.{readable_is}
 use Rattle.pg_dyn.proofs.lemmas.reading.EntryByParts.{item_as}
-use Rattle.pg_dyn.proofs.lemmas.Fields.{field_of}
-use Rattle.pg_dyn.proofs.lemmas.BorrowedItems.{LeafMayBeZero, item_is_key, key_listed, key_seen, zero_of_key}
+use Rattle.pg_dyn.proofs.lemmas.reading.Fields.{field_of}
+use Rattle.pg_dyn.proofs.lemmas.message_ref.BorrowedItems.{LeafMayBeZero, item_is_key, key_listed, key_seen, zero_of_key}
 use Rattle.pg_dyn.proofs.lemmas.reading.HeldFields.{list_held, numbers_held, one_held}
 use Rattle.pg_dyn.proofs.Lists.{and_then_some, each-append, option_map_some}
 use Rattle.pg_dyn.proofs.lemmas.reading.ReadsOn.{all_some-append, joined-append, last_of-append}

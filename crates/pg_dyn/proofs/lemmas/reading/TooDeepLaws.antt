@@ -10,7 +10,7 @@ use Rattle.pg_dyn.specs.declared.error.DynError.{DynError}
 use Rattle.pg_dyn.specs.declared.error.DynError.TheVariants as errors
 use Rattle.pg_dyn.specs.reading.Decoding.{dec}
 use Rattle.pg_dyn.specs.reading.Refusals.{MayRefuse, MayRefuseUnlimited}
-use Rattle.pg_dyn.proofs.lemmas.Faulty.{dec_of_fault, first_is_fault, text_not_deep, wire_not_deep}
+use Rattle.pg_dyn.proofs.lemmas.reading.Faulty.{dec_of_fault, first_is_fault, text_not_deep, wire_not_deep}
 use Rattle.pg_dyn.specs.reading.Faults.{Code, FirstFault, NotUtf8, TooDeep, TooDeepIn, TooDeepOf, Wire, the_root, in_record, the_child, in_child, in_entry, missing_value}
 
 -- a record is longer than its body

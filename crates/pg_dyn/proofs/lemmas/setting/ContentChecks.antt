@@ -18,13 +18,13 @@ use Rattle.pg_dyn.specs.declared.message.Content.{Content}
 use Rattle.pg_dyn.specs.declared.message.Content.TheVariants as contents
 use Rattle.pg_dyn.specs.declared.message.Value.{Value}
 use Rattle.pg_dyn.specs.declared.message.Value.TheVariants as values
-use Rattle.pg_dyn.specs.Coding.{Form, Integer, Single, Double, Text, Raw, InRange, scalar_form}
-use Rattle.pg_dyn.specs.Message.{Int}
-use Rattle.pg_dyn.specs.WordOf.{IsInteger, IsIntegerOf}
-use Rattle.pg_dyn.specs.Seen.{leaf_of, IsKey}
-use Rattle.pg_dyn.specs.ScalarItems.{IsItemOf, IsKindOf, IsOutOfRange, IsNoText, IsFaultOf}
+use Rattle.pg_dyn.specs.word.Coding.{Form, Integer, Single, Double, Text, Raw, InRange, scalar_form}
+use Rattle.pg_dyn.specs.message.Message.{Int}
+use Rattle.pg_dyn.specs.word.WordOf.{IsInteger, IsIntegerOf}
+use Rattle.pg_dyn.specs.message.Seen.{leaf_of, IsKey}
+use Rattle.pg_dyn.specs.fitting.ScalarItems.{IsItemOf, IsKindOf, IsOutOfRange, IsNoText, IsFaultOf}
 use Rattle.pg_dyn.specs.setting.ContentFaults.{ElementFault, FirstFault, FirstOf, HasPresence, HasItemFault, HasKeyTwice, FieldFault, ContentFault, items_in, code, IsLowest, HasNoFault, HasNoEarlyFault}
-use Rattle.pg_dyn.specs.ContentFits.{ItemFits}
+use Rattle.pg_dyn.specs.fitting.ContentFits.{ItemFits}
 use Rattle.pg_dyn.specs.setting.Reported.{Reports, EntryFits, EntryFault, ItemsFit, TakesContent}
 use Rattle.pg_dyn.proofs.lemmas.setting.LowestFault.{none_first, reported_so}
 

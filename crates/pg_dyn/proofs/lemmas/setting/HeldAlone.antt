@@ -6,16 +6,16 @@ use Rattle.pg_schema.specs.Shape.{FieldShape, field_at}
 use Rattle.pg_schema.specs.ShapeRules.{Rising}
 use Rattle.pg_dyn.specs.declared.message.Content.{Content}
 use Rattle.pg_dyn.specs.reading.Content.{is_sibling, same_oneof}
-use Rattle.pg_dyn.specs.ContentFits.{AreApart, NoneSiblings}
-use Rattle.pg_dyn.specs.FieldList.{remove_field}
-use Rattle.pg_dyn.specs.Replacing.{is_sibling_number}
-use Rattle.pg_dyn.specs.Seen.{Rises}
-use Rattle.pg_dyn.proofs.lemmas.PartsToFits.{own_sibling}
-use Rattle.pg_dyn.proofs.lemmas.Flat.{is_sibling_sym}
-use Rattle.pg_dyn.proofs.lemmas.KeptParts.{at_index}
+use Rattle.pg_dyn.specs.fitting.ContentFits.{AreApart, NoneSiblings}
+use Rattle.pg_dyn.specs.message.FieldList.{remove_field}
+use Rattle.pg_dyn.specs.message.Replacing.{is_sibling_number}
+use Rattle.pg_dyn.specs.message.Seen.{Rises}
+use Rattle.pg_dyn.proofs.lemmas.fitting.PartsToFits.{own_sibling}
+use Rattle.pg_dyn.proofs.lemmas.laws.Flat.{is_sibling_sym}
+use Rattle.pg_dyn.proofs.lemmas.message.KeptParts.{at_index}
 use Rattle.pg_dyn.proofs.Lists.{each_weaker}
 use Rattle.pg_dyn.proofs.lemmas.setting.MembersOut.{removed_is}
-use Rattle.pg_dyn.proofs.lemmas.Splitting.{found_number}
+use Rattle.pg_dyn.proofs.lemmas.reading.Splitting.{found_number}
 use Rattle.pg_dyn.proofs.lemmas.setting.WithoutSiblings.{sibling_found, sibling_nowhere}
 
 module _ (fs : List FieldShape) (rising : Rising fs) (f : FieldShape) (n : ℕ) (found : field_at fs n ≡ Some f) where

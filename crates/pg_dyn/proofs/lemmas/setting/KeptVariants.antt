@@ -9,15 +9,15 @@ use Rattle.pg_schema.specs.Shape.{Shape}
 use Rattle.pg_schema.specs.rules.Fields.{is_key}
 use Rattle.pg_dyn.specs.declared.message.Value.{Value}
 use Rattle.pg_dyn.specs.declared.message.Value.TheVariants as values
-use Rattle.pg_dyn.specs.Coding.{InRange, scalar_form}
-use Rattle.pg_dyn.specs.ContentFits.{ItemFits}
-use Rattle.pg_dyn.specs.Kept.{KeptItem, Plain}
-use Rattle.pg_dyn.specs.Message.{Leaf, Bytes}
-use Rattle.pg_dyn.specs.ScalarItems.{IsItemOf, IsKeptAs}
-use Rattle.pg_dyn.specs.Seen.{IsMapKey, item_seen, leaf_of}
+use Rattle.pg_dyn.specs.word.Coding.{InRange, scalar_form}
+use Rattle.pg_dyn.specs.fitting.ContentFits.{ItemFits}
+use Rattle.pg_dyn.specs.message.KeptParts.{KeptItem, Plain}
+use Rattle.pg_dyn.specs.message.Message.{Leaf, Bytes}
+use Rattle.pg_dyn.specs.fitting.ScalarItems.{IsItemOf, IsKeptAs}
+use Rattle.pg_dyn.specs.message.Seen.{IsMapKey, item_seen, leaf_of}
 use Rattle.pg_dyn.specs.setting.Reported.{EntryFits, entry_kept, entry_seen}
-use Rattle.pg_dyn.specs.Fits.{is_string}
-use Rattle.pg_dyn.specs.Texts.{holds_bytes, kept_item}
+use Rattle.pg_dyn.specs.fitting.Fits.{is_string}
+use Rattle.pg_dyn.specs.fitting.Texts.{holds_bytes, kept_item}
 
 -- Of a scalar whose items are numbers.
 

@@ -7,16 +7,16 @@ use Rattle.std.specs.declared.cmp.Ordering.TheVariants.{Less}
 use Rattle.std.proofs.lemmas.List.Sorted.{IsPermutation-sym}
 use Rattle.pg_dyn.specs.declared.message.Value.{Value}
 use Rattle.pg_dyn.specs.setting.ContentFaults.{HasEntryTwice}
-use Rattle.pg_dyn.specs.ContentFits.{KeysRise}
-use Rattle.pg_dyn.specs.Kept.{KeptItem}
-use Rattle.pg_dyn.specs.KeyOrder.{AreAlike, AreSame, IsNumber, IsText}
-use Rattle.pg_dyn.specs.Message.{Part, key_cmp, leaf_eq}
-use Rattle.pg_dyn.specs.Seen.{item_seen, leaf_of}
+use Rattle.pg_dyn.specs.fitting.ContentFits.{KeysRise}
+use Rattle.pg_dyn.specs.message.KeptParts.{KeptItem}
+use Rattle.pg_dyn.specs.message.KeyOrder.{AreAlike, AreSame, IsNumber, IsText}
+use Rattle.pg_dyn.specs.message.Message.{Part, key_cmp, leaf_eq}
+use Rattle.pg_dyn.specs.message.Seen.{item_seen, leaf_of}
 use Rattle.pg_dyn.specs.setting.Setting.{put_entry, by_rising_key}
-use Rattle.pg_dyn.proofs.lemmas.FitsSteps.{key_trans}
-use Rattle.pg_dyn.proofs.lemmas.Standing.{StandsIn, all_in, moved_in, one_in, passes_once}
-use Rattle.pg_dyn.proofs.lemmas.KeyLaws.{compared, key_less_self, later_twice, number_same, text_same}
-use Rattle.pg_dyn.proofs.lemmas.Leaves.{leaf_eq_self}
+use Rattle.pg_dyn.proofs.lemmas.fitting.FitsSteps.{key_trans}
+use Rattle.pg_dyn.proofs.lemmas.reading.Standing.{StandsIn, all_in, moved_in, one_in, passes_once}
+use Rattle.pg_dyn.proofs.lemmas.message.KeyLaws.{compared, key_less_self, later_twice, number_same, text_same}
+use Rattle.pg_dyn.proofs.lemmas.word.Leaves.{leaf_eq_self}
 
 abbrev Entry : Type 0
 Entry = Value × Value

@@ -10,10 +10,10 @@ use Rattle.pg_schema.specs.Parts.{field_shape}
 use Rattle.pg_schema.specs.Shape.{FieldShape}
 use Rattle.pg_dyn.specs.declared.message.Content.{Content}
 use Rattle.pg_dyn.specs.reading.Content.{is_sibling}
-use Rattle.pg_dyn.specs.FieldList.{fields_below, fields_above, remove_field}
-use Rattle.pg_dyn.specs.Replacing.{is_sibling_number}
-use Rattle.pg_dyn.specs.Seen.{Rises}
-use Rattle.pg_dyn.proofs.lemmas.FieldListLaws.{below_none, rises-filter}
+use Rattle.pg_dyn.specs.message.FieldList.{fields_below, fields_above, remove_field}
+use Rattle.pg_dyn.specs.message.Replacing.{is_sibling_number}
+use Rattle.pg_dyn.specs.message.Seen.{Rises}
+use Rattle.pg_dyn.proofs.lemmas.message.FieldListLaws.{below_none, rises-filter}
 use Rattle.pg_dyn.proofs.Lists.{each_weaker, each_of_all, filter_all}
 
 -- Tests one after the other.

@@ -3,8 +3,8 @@ use Rattle.std.proofs.Common.{List, [], ◌∷◌, Bool, true, false, not, cond}
 use Rattle.std.specs.List.{AllByRecursion}
 use Rattle.pg_schema.specs.declared.parts.field.Presence.{Presence}
 use Rattle.pg_schema.specs.declared.parts.field.Presence.TheVariants as presences
-use Rattle.pg_dyn.specs.Kept.{KeptItem}
-use Rattle.pg_dyn.specs.Message.{Part}
+use Rattle.pg_dyn.specs.message.KeptParts.{KeptItem}
+use Rattle.pg_dyn.specs.message.Message.{Part}
 use Rattle.pg_dyn.specs.setting.Setting.{by_rising_key, is_key_below, is_zero_kept, normalized_by, put_entry}
 use Rattle.pg_dyn.proofs.Lists.{each_filtered}
 

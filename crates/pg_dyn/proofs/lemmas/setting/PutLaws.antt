@@ -18,28 +18,29 @@ use Rattle.pg_dyn.specs.declared.message.Content.{Content}
 use Rattle.pg_dyn.specs.declared.message.Content.TheVariants as contents
 use Rattle.pg_dyn.specs.declared.message.Value.{Value}
 use Rattle.pg_dyn.specs.declared.message.Value.TheVariants as values
-use Rattle.pg_dyn.specs.Coding.{Whole, Integer, InRange, scalar_form}
+use Rattle.pg_dyn.specs.word.Coding.{Whole, Integer, InRange, scalar_form}
 use Rattle.pg_dyn.specs.reading.Content.{is_sibling}
-use Rattle.pg_dyn.specs.ContentFits.{ContentFits, HoldsContent, AreApart, NoneSiblings, FitsByContents}
-use Rattle.pg_dyn.specs.FieldList.{fields_below, fields_above, put_field, remove_field}
-use Rattle.pg_dyn.specs.Fits.{Fits}
-use Rattle.pg_dyn.specs.Kept.{Kept, KeptItem, ends, type_of, parts_of, unknown_of}
-use Rattle.pg_dyn.specs.KeyOrder.{AreAlike, IsNumber, IsText, KeysAlike}
-use Rattle.pg_dyn.specs.Message.{Part, F32, F64}
-use Rattle.pg_dyn.specs.Replacing.{kept_from, with_parts, is_sibling_number, without_siblings}
-use Rattle.pg_dyn.specs.ScalarItems.{IsItemOf}
-use Rattle.pg_dyn.specs.Seen.{content_seen, item_seen, leaf_of, Rises, IsFilled, HasKeys}
+use Rattle.pg_dyn.specs.fitting.ContentFits.{ContentFits, HoldsContent, AreApart, NoneSiblings, FitsByContents}
+use Rattle.pg_dyn.specs.message.FieldList.{fields_below, fields_above, put_field, remove_field}
+use Rattle.pg_dyn.specs.fitting.Fits.{Fits}
+use Rattle.pg_dyn.specs.message.Kept.{Kept, ends, type_of}
+use Rattle.pg_dyn.specs.message.KeptParts.{KeptItem, parts_of, unknown_of}
+use Rattle.pg_dyn.specs.message.KeyOrder.{AreAlike, IsNumber, IsText, KeysAlike}
+use Rattle.pg_dyn.specs.message.Message.{Part, F32, F64}
+use Rattle.pg_dyn.specs.message.Replacing.{kept_from, with_parts, is_sibling_number, without_siblings}
+use Rattle.pg_dyn.specs.fitting.ScalarItems.{IsItemOf}
+use Rattle.pg_dyn.specs.message.Seen.{content_seen, item_seen, leaf_of, Rises, IsFilled, HasKeys}
 use Rattle.pg_dyn.specs.setting.Setting.{normalized, normalized_by}
-use Rattle.pg_dyn.specs.Texts.{kept_in}
+use Rattle.pg_dyn.specs.fitting.Texts.{kept_in}
 use Rattle.pg_dyn.specs.setting.Reported.{EntryFits, is_nothing, ItemsFit, MayHoldKeys}
-use Rattle.pg_dyn.proofs.lemmas.TypeFields.{is_type, rising}
-use Rattle.pg_dyn.proofs.lemmas.FieldListLaws.{rises-filter, rises_put, rises_remove, each_put, each_removed}
-use Rattle.pg_dyn.proofs.lemmas.FitsByContents.{fits_from_contents, contents_from_fits}
-use Rattle.pg_dyn.proofs.lemmas.PartsToFits.{own_sibling}
-use Rattle.pg_dyn.proofs.lemmas.FitsChecks.{same_field}
-use Rattle.pg_dyn.proofs.lemmas.Flat.{is_sibling_sym}
+use Rattle.pg_dyn.proofs.lemmas.reading.TypeFields.{is_type, rising}
+use Rattle.pg_dyn.proofs.lemmas.message.FieldListLaws.{rises-filter, rises_put, rises_remove, each_put, each_removed}
+use Rattle.pg_dyn.proofs.lemmas.fitting.FitsByContents.{fits_from_contents, contents_from_fits}
+use Rattle.pg_dyn.proofs.lemmas.fitting.PartsToFits.{own_sibling}
+use Rattle.pg_dyn.proofs.lemmas.fitting.FitsChecks.{same_field}
+use Rattle.pg_dyn.proofs.lemmas.laws.Flat.{is_sibling_sym}
 use Rattle.pg_dyn.proofs.Lists.{filter_all, filter-append', filter_swap, each_weaker, each_both, each_at}
-use Rattle.pg_dyn.proofs.lemmas.ReplacingLaws.{shown, content_number, parts_of-kept_onto, unknown_of-kept_onto, type_of-kept_onto}
+use Rattle.pg_dyn.proofs.lemmas.message.ReplacingLaws.{shown, content_number, parts_of-kept_onto, unknown_of-kept_onto, type_of-kept_onto}
 use Rattle.pg_dyn.proofs.lemmas.setting.NormalizedLaws.{zero_seen}
 use Rattle.pg_dyn.proofs.lemmas.setting.NormalizedParts.{normalized_each}
 use Rattle.pg_dyn.proofs.lemmas.setting.WithoutSiblings.{sibling_found, cleared_shown, each_left}

@@ -11,18 +11,19 @@ use Rattle.pg_schema.specs.Shape.{FieldShape, fields, field_at}
 use Rattle.pg_dyn.specs.declared.error.DynError.{DynError}
 use Rattle.pg_dyn.specs.declared.error.DynError.TheVariants as errors
 use Rattle.pg_dyn.specs.declared.message.Content.{Content}
-use Rattle.pg_dyn.specs.Kept.{Kept, KeptItem, type_of}
-use Rattle.pg_dyn.specs.Message.{Part}
-use Rattle.pg_dyn.specs.Seen.{content_seen}
+use Rattle.pg_dyn.specs.message.Kept.{Kept, type_of}
+use Rattle.pg_dyn.specs.message.KeptParts.{KeptItem}
+use Rattle.pg_dyn.specs.message.Message.{Part}
+use Rattle.pg_dyn.specs.message.Seen.{content_seen}
 use Rattle.pg_dyn.specs.reading.Content.{is_sibling, same_oneof}
-use Rattle.pg_dyn.specs.Replacing.{is_sibling_number, with_parts, with_content, without_siblings}
+use Rattle.pg_dyn.specs.message.Replacing.{is_sibling_number, with_parts, with_content, without_siblings}
 use Rattle.pg_dyn.specs.setting.ContentFaults.{ContentFault, HasKeyTwice, HasNoEarlyFault, IsLowest, HasNoFault, MayRefuseFor}
 use Rattle.pg_dyn.specs.setting.Setting.{normalized, IsSetTo}
 use Rattle.pg_dyn.specs.setting.Reported.{IsTaken}
 use Rattle.pg_dyn.proofs.lemmas.setting.ContentChecks.{takes_early, taken_once, taken_twice}
 use Rattle.pg_dyn.proofs.Lists.{each_of_all, list_any_none}
 use Rattle.pg_dyn.proofs.lemmas.setting.PutLaws.{no_self_sibling, siblings_after, normalized_number}
-use Rattle.pg_dyn.proofs.lemmas.Splitting.{found_number}
+use Rattle.pg_dyn.proofs.lemmas.reading.Splitting.{found_number}
 
 -- the lowest fault may be reported
 pub may_refuse : (F : DynError → Type 0) (e : DynError) → IsLowest F e → MayRefuseFor F e

@@ -10,9 +10,9 @@ use Rattle.pg_dyn.specs.declared.error.DynError.{DynError}
 use Rattle.pg_dyn.specs.declared.error.DynError.TheVariants as errors
 use Rattle.pg_dyn.specs.declared.message.Content.{Content}
 use Rattle.pg_dyn.specs.reading.Content.{same_oneof, is_sibling}
-use Rattle.pg_dyn.specs.Kept.{Kept}
-use Rattle.pg_dyn.specs.Seen.{Rises}
-use Rattle.pg_dyn.specs.ContentFits.{AreApart, NoneSiblings}
+use Rattle.pg_dyn.specs.message.Kept.{Kept}
+use Rattle.pg_dyn.specs.message.Seen.{Rises}
+use Rattle.pg_dyn.specs.fitting.ContentFits.{AreApart, NoneSiblings}
 use Rattle.pg_dyn.specs.setting.ContentFaults.{AnyOf, ContentFault, ContentsFault, FirstOf, HasFieldTwice, HasKeyTwice, is_in_oneof, members, code, IsLowest, HasNoEarlyFault, HasNoFault, MayRefuseFor}
 use Rattle.pg_dyn.specs.setting.Setting.{normalized_parts, IsWhole}
 use Rattle.pg_dyn.specs.setting.Reported.{TakesContent}
@@ -20,7 +20,7 @@ use Rattle.pg_dyn.proofs.Lists.{filter_none, each_weaker, each_both}
 use Rattle.pg_dyn.proofs.lemmas.setting.ContentChecks.{lowest, taken_once, takes_early}
 use Rattle.pg_dyn.proofs.lemmas.setting.SetSteps.{may_refuse}
 use Rattle.pg_dyn.proofs.lemmas.setting.LowestFault.{any_of_first, none_first}
-use Rattle.pg_dyn.proofs.lemmas.Standing.{StandsIn, all_in, passes_once}
+use Rattle.pg_dyn.proofs.lemmas.reading.Standing.{StandsIn, all_in, passes_once}
 use Rattle.pg_dyn.proofs.lemmas.setting.WholeSteps.{of_field, Takes}
 
 -- Numbers that are there once.

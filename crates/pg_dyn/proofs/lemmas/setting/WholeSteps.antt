@@ -15,21 +15,22 @@ use Rattle.pg_schema.specs.Shape.{FieldShape, fields, field_at}
 use Rattle.pg_dyn.specs.declared.message.Content.{Content}
 use Rattle.pg_dyn.specs.declared.message.Content.TheVariants as contents
 use Rattle.pg_dyn.specs.declared.message.Value.TheVariants as values
-use Rattle.pg_dyn.specs.Message.{Part, is_of}
-use Rattle.pg_dyn.specs.Kept.{Kept, KeptItem, type_of, parts_of, unknown_of, of_number, ends}
-use Rattle.pg_dyn.specs.Seen.{content_seen, Rises}
-use Rattle.pg_dyn.specs.Fits.{Fits}
-use Rattle.pg_dyn.specs.Replacing.{kept_from, with_parts, is_sibling_number, without_siblings}
-use Rattle.pg_dyn.specs.ContentFits.{AreApart, NoneSiblings}
+use Rattle.pg_dyn.specs.message.Message.{Part, is_of}
+use Rattle.pg_dyn.specs.message.Kept.{Kept, type_of, ends}
+use Rattle.pg_dyn.specs.message.KeptParts.{KeptItem, parts_of, unknown_of, of_number}
+use Rattle.pg_dyn.specs.message.Seen.{content_seen, Rises}
+use Rattle.pg_dyn.specs.fitting.Fits.{Fits}
+use Rattle.pg_dyn.specs.message.Replacing.{kept_from, with_parts, is_sibling_number, without_siblings}
+use Rattle.pg_dyn.specs.fitting.ContentFits.{AreApart, NoneSiblings}
 use Rattle.pg_dyn.specs.setting.ContentFaults.{PassTwice}
 use Rattle.pg_dyn.specs.setting.Setting.{normalized, normalized_parts, IsWhole}
 use Rattle.pg_dyn.specs.setting.Reported.{TakesContent}
 use Rattle.pg_dyn.proofs.Lists.{filter_all, filter_none, filter-append', flat_map-append', each_weaker, each_both}
-use Rattle.pg_dyn.proofs.lemmas.KeptParts.{each_from_index}
-use Rattle.pg_dyn.proofs.lemmas.TypeFields.{rising}
+use Rattle.pg_dyn.proofs.lemmas.message.KeptParts.{each_from_index}
+use Rattle.pg_dyn.proofs.lemmas.reading.TypeFields.{rising}
 use Rattle.pg_dyn.proofs.lemmas.setting.PutLaws.{no_self_sibling, siblings_back, normalized_number}
-use Rattle.pg_dyn.proofs.lemmas.ReplacingLaws.{parts_of-kept_onto, unknown_of-kept_onto, type_of-with_parts, kept_whole}
-use Rattle.pg_dyn.proofs.lemmas.Standing.{StandsIn, all_in, passes_once}
+use Rattle.pg_dyn.proofs.lemmas.message.ReplacingLaws.{parts_of-kept_onto, unknown_of-kept_onto, type_of-with_parts, kept_whole}
+use Rattle.pg_dyn.proofs.lemmas.reading.Standing.{StandsIn, all_in, passes_once}
 use Rattle.pg_dyn.proofs.lemmas.setting.WithoutSiblings.{sibling_found}
 
 -- A test after another.

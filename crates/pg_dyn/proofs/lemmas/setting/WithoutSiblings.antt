@@ -8,13 +8,14 @@ use Rattle.pg_schema.specs.Shape.{FieldShape, field_at}
 use Rattle.pg_schema.specs.ShapeRules.{Rising}
 use Rattle.pg_wire.specs.Records.{WireRecord}
 use Rattle.pg_dyn.specs.declared.message.Content.{Content}
-use Rattle.pg_dyn.specs.Message.{Part}
+use Rattle.pg_dyn.specs.message.Message.{Part}
 use Rattle.pg_dyn.specs.reading.Content.{is_sibling}
-use Rattle.pg_dyn.specs.Kept.{Kept, ends, KeptItem, parts_of}
-use Rattle.pg_dyn.specs.Replacing.{kept_onto, kept_from, is_sibling_number, without_siblings}
+use Rattle.pg_dyn.specs.message.Kept.{Kept, ends}
+use Rattle.pg_dyn.specs.message.KeptParts.{KeptItem, parts_of}
+use Rattle.pg_dyn.specs.message.Replacing.{kept_onto, kept_from, is_sibling_number, without_siblings}
 use Rattle.pg_dyn.proofs.Lists.{each_weaker, each-filter, list_any_none}
-use Rattle.pg_dyn.proofs.lemmas.Splitting.{found_first, found_later}
-use Rattle.pg_dyn.proofs.lemmas.ReplacingLaws.{shown, fields_from, seen-filter, parts_shown, unknown_shown, type_shown}
+use Rattle.pg_dyn.proofs.lemmas.reading.Splitting.{found_first, found_later}
+use Rattle.pg_dyn.proofs.lemmas.message.ReplacingLaws.{shown, fields_from, seen-filter, parts_shown, unknown_shown, type_shown}
 
 -- The sibling of a number is the field that is found there.
 

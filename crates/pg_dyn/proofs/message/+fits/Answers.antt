@@ -9,13 +9,13 @@ use Rattle.pg_schema.specs.Parts.{field_shape, shape_of}
 use Rattle.pg_schema.specs.Shape.{FieldShape, fields}
 use Rattle.pg_dyn.specs.declared.message.UnknownRecord.{UnknownRecord}
 use Rattle.pg_dyn.specs.declared.message.Value.{Value}
-use Rattle.pg_dyn.specs.ContentFits.{ContentFits, EntryKept, HoldsContent, NoneSiblings}
+use Rattle.pg_dyn.specs.fitting.ContentFits.{ContentFits, EntryKept, HoldsContent, NoneSiblings}
 use Rattle.pg_dyn.specs.reading.Content.{is_unknown}
-use Rattle.pg_dyn.specs.Seen.{IsKey, Rises, record_seen}
-use Rattle.pg_dyn.proofs.lemmas.FitsByContents.{fits_from_contents, contents_from_fits}
-use Rattle.pg_dyn.proofs.lemmas.ItemLeaves.{item_is_key}
-use Rattle.pg_dyn.proofs.lemmas.FitsChecks.{same_field, all_unknown, none_accepted}
-use Rattle.pg_dyn.proofs.lemmas.FitsSteps.{each_more, some_not_none}
+use Rattle.pg_dyn.specs.message.Seen.{IsKey, Rises, record_seen}
+use Rattle.pg_dyn.proofs.lemmas.fitting.FitsByContents.{fits_from_contents, contents_from_fits}
+use Rattle.pg_dyn.proofs.lemmas.fitting.ItemLeaves.{item_is_key}
+use Rattle.pg_dyn.proofs.lemmas.fitting.FitsChecks.{same_field, all_unknown, none_accepted}
+use Rattle.pg_dyn.proofs.lemmas.fitting.FitsSteps.{each_more, some_not_none}
 use Rattle.pg_dyn.proofs.Lists.{each_weaker, each_at_index, each_from_take}
 use Rattle.pg_dyn.proofs.message.+fits.Goals as goal
 

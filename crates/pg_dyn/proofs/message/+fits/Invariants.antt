@@ -6,7 +6,7 @@ use Rattle.pg_dyn.specs.declared.message.Message.TheDeep.{deep-Value}
 use Rattle.pg_dyn.specs.declared.message.Message.TheShapes.{weighed-Content-Map-0-at-2}
 use Rattle.std.specs.List.{AllByRecursion}
 use Rattle.pg_schema.specs.Parts.{shape_of}
-use Rattle.pg_dyn.specs.ContentFits.{EntryKept, ItemKept, HoldsContent}
+use Rattle.pg_dyn.specs.fitting.ContentFits.{EntryKept, ItemKept, HoldsContent}
 use Rattle.pg_dyn.proofs.message.+fits.Given as goal
 
 abbrev pub decreases-Content::are_items : goal.decreases-Content::are_items

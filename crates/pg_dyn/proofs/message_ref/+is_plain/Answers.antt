@@ -6,9 +6,9 @@ use Rattle.pg_dyn.specs.declared.message_ref.ValueRef.{ValueRef}
 use Rattle.std.specs.List.{AllByRecursion}
 use Rattle.pg_dyn.specs.declared.message_ref.ContentRef.{ContentRef}
 use Rattle.pg_dyn.specs.declared.message_ref.EntryRef.{EntryRef}
-use Rattle.pg_dyn.specs.Borrowed.{ArePlain, item_seen}
-use Rattle.pg_dyn.specs.Kept.{IsPlain, IsPlainItem}
-use Rattle.pg_dyn.proofs.lemmas.BorrowedPlainness.{message_plain, none_from_empty, empty_from_none}
+use Rattle.pg_dyn.specs.message_ref.Borrowed.{ArePlain, item_seen}
+use Rattle.pg_dyn.specs.message.KeptParts.{IsPlain, IsPlainItem}
+use Rattle.pg_dyn.proofs.lemmas.message_ref.BorrowedPlainness.{message_plain, none_from_empty, empty_from_none}
 use Rattle.pg_dyn.proofs.message_ref.+is_plain.Goals as goal
 use Rattle.pg_dyn.proofs.Lists.{each_at_index, each_from_take}
 

@@ -6,8 +6,8 @@ use Rattle.pg_dyn.specs.declared.message_ref.MessageRef.TheDeep.{deep-EntryRef, 
 use Rattle.std.specs.List.{AllByRecursion}
 use Rattle.pg_dyn.specs.declared.message_ref.ContentRef.{ContentRef}
 use Rattle.pg_dyn.specs.declared.message_ref.EntryRef.{EntryRef}
-use Rattle.pg_dyn.specs.Borrowed.{ArePlain, item_seen}
-use Rattle.pg_dyn.specs.Kept.{IsPlainItem}
+use Rattle.pg_dyn.specs.message_ref.Borrowed.{ArePlain, item_seen}
+use Rattle.pg_dyn.specs.message.KeptParts.{IsPlainItem}
 use Rattle.pg_dyn.proofs.message_ref.+is_plain.Given as goal
 
 abbrev pub decreases-ContentRef::are_plain : goal.decreases-ContentRef::are_plain

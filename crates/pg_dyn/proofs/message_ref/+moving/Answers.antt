@@ -6,10 +6,10 @@ use Rattle.pg_wire.specs.Reads.{seen_record}
 use Rattle.pg_wire.specs.Records.{IsRecord}
 use Rattle.pg_dyn.specs.declared.message.Content.TheVariants as held
 use Rattle.pg_dyn.specs.declared.message_ref.ContentRef.{ContentRef}
-use Rattle.pg_dyn.specs.Copies.{IsContentCopy}
-use Rattle.pg_dyn.specs.Seen.{record_seen}
-use Rattle.pg_dyn.proofs.lemmas.BorrowedParts.{AreCopies, copy_shows, entry_copied, list_copied, map_copied, numbers_copied, one_content_more, one_entry_more, rises_same}
-use Rattle.pg_dyn.proofs.lemmas.TakenApart.{taken_all, taken_more}
+use Rattle.pg_dyn.specs.inner.Copies.{IsContentCopy}
+use Rattle.pg_dyn.specs.message.Seen.{record_seen}
+use Rattle.pg_dyn.proofs.lemmas.message_ref.BorrowedParts.{AreCopies, copy_shows, entry_copied, list_copied, map_copied, numbers_copied, one_content_more, one_entry_more, rises_same}
+use Rattle.pg_dyn.proofs.lemmas.message.TakenApart.{taken_all, taken_more}
 use Rattle.pg_dyn.proofs.message_ref.+moving.Goals as goal
 
 pub EntryRef::into_entry-returns : goal.EntryRef::into_entry-returns

@@ -10,10 +10,10 @@ use Rattle.pg_wire.specs.Records.{IsRecord}
 use Rattle.pg_dyn.specs.declared.message.Content.TheVariants as held
 use Rattle.pg_dyn.specs.declared.message_ref.ContentRef.{ContentRef}
 use Rattle.pg_dyn.specs.declared.message_ref.EntryRef.{EntryRef}
-use Rattle.pg_dyn.specs.Borrowed as borrowed
-use Rattle.pg_dyn.specs.Copies.{AreEntryCopies, IsContentCopy}
-use Rattle.pg_dyn.specs.Seen.{record_seen}
-use Rattle.pg_dyn.proofs.lemmas.BorrowedParts.{AreCopies, copies_more, copy_shows, entries_more, entry_copied, list_copied, map_copied, numbers_copied, rises_same}
+use Rattle.pg_dyn.specs.message_ref.Borrowed as borrowed
+use Rattle.pg_dyn.specs.inner.Copies.{AreEntryCopies, IsContentCopy}
+use Rattle.pg_dyn.specs.message.Seen.{record_seen}
+use Rattle.pg_dyn.proofs.lemmas.message_ref.BorrowedParts.{AreCopies, copies_more, copy_shows, entries_more, entry_copied, list_copied, map_copied, numbers_copied, rises_same}
 use Rattle.pg_dyn.proofs.message_ref.+owning.Goals as goal
 
 pub EntryRef::to_entry-returns : goal.EntryRef::to_entry-returns

@@ -4,10 +4,10 @@ use Rattle.pg_dyn.specs.declared.message_ref.EntryRef.{EntryRef}
 use Rattle.pg_dyn.specs.declared.message_ref.ValueRef.{ValueRef}
 use denote.Param.Weighed.{most}
 use Rattle.pg_dyn.specs.declared.message_ref.MessageRef.TheDeep.{deep-EntryRef, deep-ValueRef}
-use Rattle.pg_dyn.specs.Borrowed as borrowed
-use Rattle.pg_dyn.specs.Copies.{AreEntryCopies}
-use Rattle.pg_dyn.specs.Seen.{item_seen}
-use Rattle.pg_dyn.proofs.lemmas.BorrowedParts.{AreCopies}
+use Rattle.pg_dyn.specs.message_ref.Borrowed as borrowed
+use Rattle.pg_dyn.specs.inner.Copies.{AreEntryCopies}
+use Rattle.pg_dyn.specs.message.Seen.{item_seen}
+use Rattle.pg_dyn.proofs.lemmas.message_ref.BorrowedParts.{AreCopies}
 use Rattle.pg_dyn.proofs.message_ref.+owning.Given as goal
 
 abbrev pub decreases-ContentRef::to_values : goal.decreases-ContentRef::to_values

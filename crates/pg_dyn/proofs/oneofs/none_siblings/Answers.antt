@@ -1,8 +1,8 @@
 use Rattle.std.proofs.Common.{◌≡◌, Bool, true, false, refl, arith}
 use Rattle.pg_schema.specs.Parts.{shape_of}
 use Rattle.pg_schema.specs.Shape.{fields}
-use Rattle.pg_dyn.specs.ContentFits.{NoneSiblings}
-use Rattle.pg_dyn.proofs.lemmas.OneofLaws.{each_once}
+use Rattle.pg_dyn.specs.fitting.ContentFits.{NoneSiblings}
+use Rattle.pg_dyn.proofs.lemmas.fitting.OneofLaws.{each_once}
 use Rattle.pg_dyn.proofs.lemmas.setting.WholeFaults.{no_siblings_from}
 use Rattle.pg_dyn.proofs.oneofs.none_siblings.Goals as goal
 

@@ -2,7 +2,7 @@ use Rattle.std.proofs.Common.{◌≡◌, ◌+◌, ◌-◌, length, take, get_or,
 use Rattle.pg_schema.specs.Parts.{shape_of}
 use Rattle.pg_schema.specs.Shape.{fields}
 use Rattle.pg_dyn.specs.setting.ContentFaults.{members}
-use Rattle.pg_dyn.proofs.lemmas.OneofWalks.{all_once, is_in, once_if, twice_at}
+use Rattle.pg_dyn.proofs.lemmas.fitting.OneofWalks.{all_once, is_in, once_if, twice_at}
 use Rattle.pg_dyn.proofs.oneofs.once_in_window.Goals as goal
 
 pub returns-then-has_member-oneof-clause-twice : goal.returns-then-has_member-oneof-clause-twice

@@ -2,7 +2,7 @@
 use Rattle.std.proofs.Common.{◌≡◌, length, take}
 use Rattle.pg_schema.specs.Parts.{shape_of}
 use Rattle.pg_schema.specs.Shape.{fields}
-use Rattle.pg_dyn.proofs.lemmas.OneofWalks.{HaveOnce}
+use Rattle.pg_dyn.proofs.lemmas.fitting.OneofWalks.{HaveOnce}
 use Rattle.pg_dyn.proofs.oneofs.once_in_window.Given as goal
 
 abbrev pub invariant-loop-number : goal.invariant-loop-number

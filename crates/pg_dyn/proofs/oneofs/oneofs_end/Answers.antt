@@ -3,7 +3,7 @@ use Rattle.std.proofs.lemmas.List.{take_all}
 use Rattle.pg_schema.specs.Parts.{shape_of}
 use Rattle.pg_schema.specs.Shape.{fields}
 use Rattle.pg_dyn.specs.setting.ContentFaults.{members}
-use Rattle.pg_dyn.proofs.lemmas.OneofWalks.{above, none_more}
+use Rattle.pg_dyn.proofs.lemmas.fitting.OneofWalks.{above, none_more}
 use Rattle.pg_dyn.proofs.oneofs.oneofs_end.Goals as goal
 
 pub loop-number-preserved : goal.loop-number-preserved

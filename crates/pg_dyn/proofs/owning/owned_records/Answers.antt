@@ -1,4 +1,4 @@
-use Rattle.pg_dyn.proofs.lemmas.BorrowedParts.{record_at}
+use Rattle.pg_dyn.proofs.lemmas.message_ref.BorrowedParts.{record_at}
 use Rattle.pg_dyn.proofs.owning.owned_records.Goals as goal
 
 pub owned_record-requires : goal.owned_record-requires

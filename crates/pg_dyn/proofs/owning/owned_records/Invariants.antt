@@ -2,7 +2,7 @@
 use Rattle.std.proofs.Common.{◌≡◌, map, take}
 use Rattle.std.specs.List.{AllByRecursion}
 use Rattle.pg_wire.specs.Reads.{seen_record}
-use Rattle.pg_dyn.specs.Seen.{HasBody, record_seen}
+use Rattle.pg_dyn.specs.message.Seen.{HasBody, record_seen}
 use Rattle.pg_dyn.proofs.owning.owned_records.Given as goal
 
 abbrev pub invariant-loop-found : goal.invariant-loop-found

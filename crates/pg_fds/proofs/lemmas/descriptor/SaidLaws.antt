@@ -11,11 +11,12 @@ use Rattle.pg_dyn.specs.declared.message_ref.ContentRef.TheVariants as contents
 use Rattle.pg_dyn.specs.declared.message_ref.EntryRef.{EntryRef}
 use Rattle.pg_dyn.specs.declared.message_ref.ValueRef.{ValueRef}
 use Rattle.pg_dyn.specs.declared.message_ref.ValueRef.TheVariants as values
-use Rattle.pg_dyn.specs.Kept.{Kept, KeptItem, ends, parts_of, message_of, of_number}
-use Rattle.pg_dyn.specs.Message.{Item, Message, Part, is_of, parts}
-use Rattle.pg_dyn.specs.Borrowed.{IsFilled, all_seen, content_seen, entry_part, fields_onto, item_part, item_seen}
-use Rattle.pg_dyn.specs.NumberLists.{numbers_in}
-use Rattle.pg_dyn.proofs.lemmas.ReplacingLaws.{item_of, part_item, parts-message_of, parts_of-kept_onto}
+use Rattle.pg_dyn.specs.message.Kept.{Kept, ends, message_of}
+use Rattle.pg_dyn.specs.message.KeptParts.{KeptItem, parts_of, of_number}
+use Rattle.pg_dyn.specs.message.Message.{Item, Message, Part, is_of, parts}
+use Rattle.pg_dyn.specs.message_ref.Borrowed.{IsFilled, all_seen, content_seen, entry_part, fields_onto, item_part, item_seen}
+use Rattle.pg_dyn.specs.word.NumberLists.{numbers_in}
+use Rattle.pg_dyn.proofs.lemmas.message.ReplacingLaws.{item_of, part_item, parts-message_of, parts_of-kept_onto}
 use Rattle.pg_fds.specs.declared.descriptor.access.SaidItem.{SaidItem}
 use Rattle.pg_fds.specs.declared.descriptor.access.SaidItem.TheVariants as items
 use Rattle.pg_fds.specs.reading.Held.{IsSaid, items_in, value_item, values_in}

@@ -3,9 +3,9 @@ use Rattle.std.specs.Prelude.{◌≡◌, pos, ℕ, List, [], codes, None}
 use Rattle.std.proofs.Common.{refl, lit≤}
 use Rattle.pg_wire.specs.Varint.{varint}
 use Rattle.pg_wire.specs.Records.{tag, written}
-use Rattle.pg_dyn.specs.Coding.{word_bytes}
+use Rattle.pg_dyn.specs.word.Coding.{word_bytes}
 use Rattle.pg_dyn.specs.encoding.Encoding.{enc}
-use Rattle.pg_dyn.specs.Message.{Message, Int, Bytes, ends, holds, nests}
+use Rattle.pg_dyn.specs.message.Message.{Message, Int, Bytes, ends, holds, nests}
 use Rattle.pg_fds.specs.descriptor.Descriptor.{descriptor_shape, file_set}
 use Rattle.pg_fds.specs.examples.Examples as examples
 

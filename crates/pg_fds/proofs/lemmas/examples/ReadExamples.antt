@@ -12,9 +12,9 @@ use Rattle.pg_wire.specs.Reading.{exactly, row}
 use Rattle.pg_wire.specs.Varint.{varint_at}
 use Rattle.pg_wire.specs.Words.{signed, unzigzag}
 use Rattle.pg_wire.specs.Records.{record_at, records_of, tag_parts}
-use Rattle.pg_dyn.specs.Coding.{word_in}
+use Rattle.pg_dyn.specs.word.Coding.{word_in}
 use Rattle.pg_dyn.specs.reading.Decoding.{dec}
-use Rattle.pg_dyn.specs.Message.{Message, Int, Bytes, ends, holds, nests}
+use Rattle.pg_dyn.specs.message.Message.{Message, Int, Bytes, ends, holds, nests}
 use Rattle.pg_fds.specs.writing.Building.{written_shape}
 use Rattle.pg_fds.specs.descriptor.Descriptor.{file_set}
 use Rattle.pg_fds.specs.examples.Examples.{IsField, IsFile, IsMessage, one_field_bytes}

@@ -1,8 +1,8 @@
 -- The files of a set, as loops come to them.
 use Rattle.std.proofs.Common.{◌≡◌, ℕ, zero, suc, ◌+◌, ◌<◌, Bool, true, false, ◌&&◌, ◌||◌, List, [], ◌∷◌, map, length, take, get_or, refl, ap, sym, ◌∙◌, arith, add-one}
 use Rattle.std.specs.List.{list_all, list_any}
-use Rattle.pg_dyn.specs.Kept.{Kept, message_of}
-use Rattle.pg_dyn.specs.Message.{Message}
+use Rattle.pg_dyn.specs.message.Kept.{Kept, message_of}
+use Rattle.pg_dyn.specs.message.Message.{Message}
 use Rattle.pg_fds.specs.stated.PostOrder.{importer_of, paths_of}
 use Rattle.pg_fds.specs.stated.Said.{text_at}
 use Rattle.pg_fds.proofs.lemmas.lists.Tests.{and_false, or_right}

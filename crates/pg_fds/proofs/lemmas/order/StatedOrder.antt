@@ -8,7 +8,7 @@ use Rattle.std.specs.Option.{option_and_then, unwrap_or}
 use Rattle.std.specs.Str.{bytes_eq}
 use Rattle.pg_schema.specs.rules.Pairs.{are_distinct, differ}
 use Rattle.pg_schema.proofs.lemmas.rules.PairLemmas.{and_both, and_false_right, and_left, and_right}
-use Rattle.pg_dyn.specs.Message.{Message}
+use Rattle.pg_dyn.specs.message.Message.{Message}
 use Rattle.pg_fds.specs.reading.FilePlaces.{AreOrdered, name_at}
 use Rattle.pg_fds.specs.stated.Outlines.{files_at}
 use Rattle.pg_fds.specs.stated.PostOrder.{HasNoOrder, Importer, IsPostOrder, importer_of, imports_at, imports_once, paths_of}

@@ -1,7 +1,7 @@
 -- What declarations of files come to: their names, the parts of their packages, and their message types, enums and entry types.
 use Rattle.std.proofs.Common.{◌≡◌, ℕ, zero, suc, Bool, true, false, cond, not, List, [], ◌∷◌, ◌++◌, map, filter, refl, ap, ap₂, ◌∙◌, append-nil}
 use Rattle.std.specs.List.{flat_map}
-use Rattle.pg_dyn.specs.Message.{Message}
+use Rattle.pg_dyn.specs.message.Message.{Message}
 use Rattle.pg_fds.specs.declared.reading.outline.Named.{Named}
 use Rattle.pg_fds.specs.declared.reading.outline.Named.TheVariants as nameds
 use Rattle.pg_fds.specs.stated.Declarations.{Declaration, all_named, enum_declared, enums_declared, files_declared, is_package, package_declared, package_part, package_parts, service_declared, services_declared, type_declared, types_declared}

@@ -3,7 +3,7 @@ use Rattle.std.proofs.Common.{◌≡◌, ℕ, true, ◌&&◌, List, [], ◌∷�
 use Rattle.std.specs.HashMap.{get_by_text}
 use Rattle.std.specs.List.{flat_map}
 use Rattle.pg_schema.specs.rules.Pairs.{are_distinct}
-use Rattle.pg_dyn.specs.Message.{Message}
+use Rattle.pg_dyn.specs.message.Message.{Message}
 use Rattle.pg_fds.specs.declared.error.Unstated.{Unstated}
 use Rattle.pg_fds.specs.declared.error.Unstated.TheVariants as errors
 use Rattle.pg_fds.specs.stated.Declarations.{CannotAdd, Declaration, NameTable, are_new, file_declared, files_declared, no_names}

@@ -1,8 +1,8 @@
 -- What messages say, as loops come to them.
 use Rattle.std.proofs.Common.{◌≡◌, ℕ, zero, suc, ◌+◌, ◌<◌, List, [], ◌∷◌, ◌++◌, map, length, take, drop, get_or, ap, sym, subst, ◌∙◌, arith, add-one, append_assoc, append-nil}
 use Rattle.std.specs.List.{AllByRecursion, flat_map}
-use Rattle.pg_dyn.specs.Kept.{Kept, message_of}
-use Rattle.pg_dyn.specs.Message.{Message}
+use Rattle.pg_dyn.specs.message.Kept.{Kept, message_of}
+use Rattle.pg_dyn.specs.message.Message.{Message}
 
 -- what messages say
 abbrev pub seen : List Kept → List Message

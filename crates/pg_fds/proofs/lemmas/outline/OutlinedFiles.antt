@@ -8,8 +8,8 @@ use Rattle.std.specs.List.{AllByRecursion, cons_option, flat_map, list_all}
 use Rattle.pg_schema.specs.rules.Packages.{is_free_of}
 use Rattle.pg_schema.specs.rules.Pairs.{are_distinct}
 use Rattle.pg_schema.proofs.lemmas.rules.PairLemmas.{and_both, and_left, and_right}
-use Rattle.pg_dyn.specs.Kept.{Kept, message_of}
-use Rattle.pg_dyn.specs.Message.{Message}
+use Rattle.pg_dyn.specs.message.Kept.{Kept, message_of}
+use Rattle.pg_dyn.specs.message.Message.{Message}
 use Rattle.pg_fds.specs.declared.error.Unstated.{Unstated}
 use Rattle.pg_fds.specs.stated.Declarations.{Adds, CannotAdd, Declaration, NameTable, enums_declared, file_declared, package_declared, services_declared, types_declared}
 use Rattle.pg_fds.specs.reading.OutlinedPlaces.{Counts, inside_file}

@@ -1,8 +1,8 @@
 -- Types and labels that are taken, as loops come to them.
 use Rattle.std.proofs.Common.{◌≡◌, ◌≢◌, ℕ, zero, suc, ◌+◌, ◌-◌, ◌<◌, ◌≤◌, Bool, true, false, ◌&&◌, List, [], ◌∷◌, map, length, take, get_or, refl, ap, ap₂, sym, ◌∙◌, arith, add-one}
 use Rattle.std.specs.List.{list_all}
-use Rattle.pg_dyn.specs.Kept.{Kept, message_of}
-use Rattle.pg_dyn.specs.Message.{Message}
+use Rattle.pg_dyn.specs.message.Kept.{Kept, message_of}
+use Rattle.pg_dyn.specs.message.Message.{Message}
 use Rattle.pg_fds.specs.stated.Codes.{has_types, have_types, is_taken}
 use Rattle.pg_fds.specs.stated.Said.{children_at}
 use Rattle.pg_fds.proofs.lemmas.outline.Declaring.{and_assoc}

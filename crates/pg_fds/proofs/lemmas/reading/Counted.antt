@@ -3,8 +3,8 @@ use Rattle.std.proofs.Common.{◌≡◌, ℕ, zero, suc, ◌+◌, ◌<◌, ◌�
 use Rattle.std.proofs.Math.ListN.{set, length-set}
 use Rattle.std.proofs.lemmas.Grind.{get_or-set_at}
 use Rattle.std.proofs.lemmas.List.{get_or-set_other}
-use Rattle.pg_dyn.specs.Kept.{Kept, message_of}
-use Rattle.pg_dyn.specs.Message.{Message}
+use Rattle.pg_dyn.specs.message.Kept.{Kept, message_of}
+use Rattle.pg_dyn.specs.message.Message.{Message}
 use Rattle.pg_fds.specs.reading.Made.{AreCounted}
 use Rattle.pg_fds.specs.stated.SaidTypes.{is_named, members_at}
 use Rattle.pg_fds.specs.stated.Said.{maybe_number_at}

@@ -5,7 +5,7 @@ use Rattle.pg_schema.specs.declared.parts.field.Element.{Element}
 use Rattle.pg_schema.specs.declared.parts.field.Field.{Field}
 use Rattle.pg_schema.specs.declared.parts.field.Scalar.{Scalar}
 use Rattle.pg_schema.specs.rules.DeclaredNames.{entry_name}
-use Rattle.pg_dyn.specs.Message.{Message}
+use Rattle.pg_dyn.specs.message.Message.{Message}
 use Rattle.pg_fds.specs.stated.Said.{text_at}
 use Rattle.pg_fds.specs.stated.StatedEntries.{entry}
 use Rattle.pg_fds.specs.stated.StatedFields.{Items, Owner, field, fields, is_named_once, map_items, map_of, names_its_entry}

@@ -3,7 +3,7 @@ use Rattle.std.proofs.Common.{◌≡◌, ◌⊎◌, inl, inr, ℕ, suc, ℤ, Boo
 use Rattle.std.specs.List.{list_all}
 use denote.Ref.{Bor}
 use Rattle.pg_schema.specs.declared.parts.file.Import.{Import}
-use Rattle.pg_dyn.specs.Kept.{message_of}
+use Rattle.pg_dyn.specs.message.Kept.{message_of}
 use Rattle.pg_fds.specs.declared.reading.outline.OutlinedFile.{OutlinedFile}
 use Rattle.pg_fds.specs.descriptor.Lent.{lent}
 use Rattle.pg_fds.specs.reading.OutlinedPlaces.{placed_file}

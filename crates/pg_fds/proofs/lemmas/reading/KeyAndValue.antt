@@ -1,6 +1,6 @@
 -- The two fields of an entry type.
 use Rattle.std.proofs.Common.{◌≡◌, ◌<◌, ◌≤◌, List, [], ◌∷◌, None, length, map, get_or, refl, ap₂, arith}
-use Rattle.pg_dyn.specs.Kept.{Kept, message_of}
+use Rattle.pg_dyn.specs.message.Kept.{Kept, message_of}
 use Rattle.pg_fds.specs.stated.StatedEntries.{key_and_value, pair_of}
 use Rattle.pg_fds.specs.stated.StatedNames.{Meanings}
 

@@ -13,7 +13,7 @@ use Rattle.pg_schema.specs.declared.parts.options.OptionValue.TheVariants as val
 use Rattle.pg_schema.specs.rules.Files.{flag_options, is_file_option, is_of_kind, option_numbers, text_options}
 use Rattle.pg_schema.specs.rules.Pairs.{is_rising}
 use Rattle.pg_schema.proofs.lemmas.rules.PairLemmas.{and_left, and_right}
-use Rattle.pg_dyn.specs.Message.{Bytes, Int, Item, Message, Msg, Plain, ends}
+use Rattle.pg_dyn.specs.message.Message.{Bytes, Int, Item, Message, Msg, Plain, ends}
 use Rattle.pg_fds.specs.stated.StatedFiles.{mode_of, mode_or_flag, option_value}
 use Rattle.pg_fds.specs.writing.Messages.{where_found}
 use Rattle.std.specs.Option.{unwrap_or}

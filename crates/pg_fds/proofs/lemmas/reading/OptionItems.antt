@@ -3,7 +3,7 @@ use Rattle.std.proofs.Common.{◌≡◌, ℕ, zero, suc, ◌+◌, ◌<◌, ℤ, 
 use Rattle.std.specs.List.{cons_option}
 use Rattle.pg_schema.specs.declared.parts.options.FileOption.{FileOption}
 use Rattle.pg_schema.specs.declared.parts.options.OptionValue.{OptionValue}
-use Rattle.pg_dyn.specs.Message.{Item, Message}
+use Rattle.pg_dyn.specs.message.Message.{Item, Message}
 use Rattle.pg_fds.specs.declared.descriptor.access.SaidItem.{SaidItem}
 use Rattle.pg_fds.specs.declared.descriptor.access.SaidItem.TheVariants as items
 use Rattle.pg_fds.specs.reading.SaidItems.{said}

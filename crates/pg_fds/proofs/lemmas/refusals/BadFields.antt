@@ -13,7 +13,7 @@ use Rattle.pg_schema.specs.rules.Fields.{is_message}
 use Rattle.pg_schema.specs.rules.TextSets.{is_among}
 use Rattle.pg_schema.specs.Shape.{is_map}
 use Rattle.pg_schema.proofs.lemmas.rules.PairLemmas.{bytes_eq-sym}
-use Rattle.pg_dyn.specs.Message.{Message}
+use Rattle.pg_dyn.specs.message.Message.{Message}
 use Rattle.pg_fds.specs.refusals.BadReferences.{IsBadField, IsBadMethod, IsBadType, fields_of_entry, own_entry_name}
 use Rattle.pg_fds.specs.refusals.BadReferences as causes
 use Rattle.pg_fds.specs.stated.Outlines.{Row}

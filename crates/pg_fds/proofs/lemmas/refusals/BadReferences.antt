@@ -1,6 +1,6 @@
 -- Files state nothing where they have a bad reference, and there alone.
 use Rattle.std.proofs.Common.{◌≡◌, ◌⊎◌, inl, inr, Bool, List, Some, None, option_and_then, ap, ◌∙◌}
-use Rattle.pg_dyn.specs.Message.{Message}
+use Rattle.pg_dyn.specs.message.Message.{Message}
 use Rattle.pg_fds.specs.refusals.BadReferences.{BadReferences, IsBadReference}
 use Rattle.pg_fds.specs.refusals.BadReferences as causes
 use Rattle.pg_fds.specs.stated.Stated.{declared_by, stated_of}

@@ -5,7 +5,7 @@ use Rattle.std.specs.List.{Any}
 use Rattle.std.specs.Ordering.{int_eq}
 use Rattle.pg_schema.specs.declared.parts.field.Element.{Element}
 use Rattle.pg_schema.specs.declared.parts.field.Element.TheVariants as elements
-use Rattle.pg_dyn.specs.Message.{Item, Message}
+use Rattle.pg_dyn.specs.message.Message.{Item, Message}
 use Rattle.pg_fds.specs.declared.reading.outline.Named.{Named}
 use Rattle.pg_fds.specs.refusals.BadReferences.{HasBadType, IsBadEntry, IsBadMethod, NamesNoType}
 use Rattle.pg_fds.specs.refusals.BadReferences as causes

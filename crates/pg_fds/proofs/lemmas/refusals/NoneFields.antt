@@ -10,7 +10,7 @@ use Rattle.pg_schema.specs.declared.parts.field.Element.{Element}
 use Rattle.pg_schema.specs.rules.DeclaredNames.{entry_name}
 use Rattle.pg_schema.specs.rules.TextSets.{is_among}
 use Rattle.pg_schema.proofs.lemmas.rules.PairLemmas.{bytes_eq-sym}
-use Rattle.pg_dyn.specs.Message.{Message}
+use Rattle.pg_dyn.specs.message.Message.{Message}
 use Rattle.pg_fds.specs.refusals.BadReferences.{HasBadOneof, IsBadField, IsBadMap, IsBadMethod, IsBadType, fields_of_entry, own_entry_name}
 use Rattle.pg_fds.specs.refusals.BadReferences as causes
 use Rattle.pg_fds.specs.reading.Made.{is_placed}

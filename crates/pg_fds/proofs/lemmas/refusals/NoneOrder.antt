@@ -8,7 +8,7 @@ use Rattle.std.specs.List.{AllByRecursion, Any, list_all}
 use Rattle.std.specs.Str.{bytes_eq}
 use Rattle.pg_schema.specs.rules.Pairs.{are_distinct}
 use Rattle.pg_schema.specs.rules.TextSets.{is_among}
-use Rattle.pg_dyn.specs.Message.{Message}
+use Rattle.pg_dyn.specs.message.Message.{Message}
 use Rattle.pg_fds.specs.refusals.BadReferences.{IsTrail}
 use Rattle.pg_fds.specs.stated.PostOrder.{Importer, IsPostOrder, importer_of, imports_at, imports_once, kept_paths, paths_of}
 use Rattle.pg_fds.specs.declared.descriptor.proto.TheConstants as proto

@@ -9,14 +9,14 @@ use Rattle.pg_wire.specs.declared.record.WireType.TheVariants.{Len, Varint}
 use Rattle.pg_wire.specs.Records.{written}
 use Rattle.pg_wire.specs.Varint.{varint}
 use Rattle.pg_wire.specs.Words.{IsBetween, twos_complement}
-use Rattle.pg_dyn.specs.Coding.{word_bytes}
+use Rattle.pg_dyn.specs.word.Coding.{word_bytes}
 use Rattle.pg_dyn.specs.encoding.Encoding.{enc}
 use Rattle.pg_dyn.specs.encoding.Writing.{item_record}
-use Rattle.pg_dyn.specs.Message.{Bytes, Int, Item, Msg, Plain, ends, message_from, parts}
+use Rattle.pg_dyn.specs.message.Message.{Bytes, Int, Item, Msg, Plain, ends, message_from, parts}
 use Rattle.pg_dyn.specs.reading.Decoding.{dec}
-use Rattle.pg_dyn.proofs.lemmas.Again.{reads_again}
-use Rattle.pg_dyn.proofs.lemmas.ReadSplits.{parts-message_from}
-use Rattle.pg_dyn.proofs.lemmas.Splitting.{records_in_none}
+use Rattle.pg_dyn.proofs.lemmas.laws.Again.{reads_again}
+use Rattle.pg_dyn.proofs.lemmas.reading.ReadSplits.{parts-message_from}
+use Rattle.pg_dyn.proofs.lemmas.reading.Splitting.{records_in_none}
 use Rattle.pg_dyn.specs.encoding.Growing.{ComesLast, IsOfField, leaf_for}
 use Rattle.pg_dyn.proofs.PublicLaws.{encoding_grows}
 use Rattle.pg_fds.specs.descriptor.Descriptor as descriptor

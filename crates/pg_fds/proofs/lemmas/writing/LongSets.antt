@@ -14,9 +14,9 @@ use Rattle.pg_wire.specs.Laws.{LengthsGrow}
 use Rattle.pg_wire.specs.Records.{WireRecord, written}
 use Rattle.pg_wire.specs.Varint.{varint}
 use Rattle.pg_wire.specs.declared.record.WireType.TheVariants.{Len}
-use Rattle.pg_dyn.specs.Coding.{body, form}
+use Rattle.pg_dyn.specs.word.Coding.{body, form}
 use Rattle.pg_dyn.specs.encoding.Encoding.{cap, child_type, enc, encoded_parts}
-use Rattle.pg_dyn.specs.Message.{Bytes, Item, Leaf, Message, Msg, Part, Plain, ends, holds, is_of, nests, parts, unknown_of}
+use Rattle.pg_dyn.specs.message.Message.{Bytes, Item, Leaf, Message, Msg, Part, Plain, ends, holds, is_of, nests, parts, unknown_of}
 use Rattle.pg_dyn.specs.encoding.Writing.{bytes_of, field_records, item_record, records_in}
 use Rattle.pg_fds.specs.descriptor.Descriptor.{descriptor_shape, file_set, many, message, text, type_id}
 use Rattle.pg_fds.specs.writing.Items.{children}

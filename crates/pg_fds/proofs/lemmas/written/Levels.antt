@@ -13,16 +13,16 @@ use Rattle.pg_schema.specs.ShapeRules.{IsShape}
 use Rattle.pg_wire.specs.Records.{IsRecord, Spells, WireRecord, record_at, written}
 use Rattle.pg_wire.proofs.Bind.{ok_pair}
 use Rattle.pg_wire.proofs.RecordLaws.{record_at_takes}
-use Rattle.pg_dyn.specs.Belonging.{IsMessage, IsUnknown, LeafFits}
-use Rattle.pg_dyn.specs.Coding.{body, form}
+use Rattle.pg_dyn.specs.fitting.Belonging.{IsMessage, IsUnknown, LeafFits}
+use Rattle.pg_dyn.specs.word.Coding.{body, form}
 use Rattle.pg_dyn.specs.reading.Content.{is_unknown, takes}
 use Rattle.pg_dyn.specs.encoding.Encoding.{cap, child_type, enc, encoded_parts}
-use Rattle.pg_dyn.specs.Laws.{EncodingSpells, WritingSplits, of_number}
-use Rattle.pg_dyn.specs.Message.{Bytes, Leaf, Message, Part, ends, holds, is_of, nests, unknown_of}
+use Rattle.pg_dyn.specs.laws.Laws.{EncodingSpells, WritingSplits, of_number}
+use Rattle.pg_dyn.specs.message.Message.{Bytes, Leaf, Message, Part, ends, holds, is_of, nests, unknown_of}
 use Rattle.pg_dyn.specs.reading.Faults.{TooDeepIn, TooDeepOf, in_child, in_entry, in_record, missing_value, the_child, the_root}
 use Rattle.pg_dyn.specs.encoding.Writing.{field_records, item_record, records_in}
-use Rattle.pg_dyn.proofs.lemmas.Belonging.{child_type_is, fields-IsType}
-use Rattle.pg_dyn.proofs.lemmas.Faulty.{first_of, nonempty, split_at}
+use Rattle.pg_dyn.proofs.lemmas.fitting.Belonging.{child_type_is, fields-IsType}
+use Rattle.pg_dyn.proofs.lemmas.reading.Faulty.{first_of, nonempty, split_at}
 use Rattle.pg_fds.proofs.lemmas.lists.Matched.{Has}
 use Rattle.pg_fds.proofs.lemmas.lists.Tests.{itself, or_right, same_number}
 

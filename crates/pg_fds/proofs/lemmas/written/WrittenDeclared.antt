@@ -27,7 +27,7 @@ use Rattle.pg_schema.specs.rules.Packages.{are_free_of, is_free_of, is_front}
 use Rattle.pg_schema.specs.rules.Pairs.{are_distinct, is_rising}
 use Rattle.pg_schema.specs.rules.Sound.{IsSound}
 use Rattle.pg_schema.proofs.lemmas.rules.PairLemmas.{and_both, and_left, and_right}
-use Rattle.pg_dyn.specs.Message.{Message}
+use Rattle.pg_dyn.specs.message.Message.{Message}
 use Rattle.pg_check.specs.standing.Places.{most_deep}
 use Rattle.pg_fds.specs.writing.Entries.{entries}
 use Rattle.pg_fds.specs.writing.Fields.{dotted, fields_items}

@@ -14,7 +14,7 @@ use Rattle.pg_schema.specs.rules.DeclaredNames.{entry_name, entry_names}
 use Rattle.pg_schema.specs.rules.Pairs.{are_distinct, differ}
 use Rattle.pg_schema.specs.Shape.{is_map}
 use Rattle.pg_schema.proofs.lemmas.rules.PairLemmas.{and_both, and_left, and_right}
-use Rattle.pg_dyn.specs.Message.{Message}
+use Rattle.pg_dyn.specs.message.Message.{Message}
 use Rattle.pg_fds.specs.declared.reading.outline.Named.TheVariants as nameds
 use Rattle.pg_fds.specs.writing.Entries.{entries, entry_items}
 use Rattle.pg_fds.specs.writing.Items.{Items}

@@ -4,7 +4,7 @@ use Rattle.std.specs.String.{string_bytes}
 use Rattle.pg_schema.specs.declared.parts.enum_type.EnumType.{EnumType}
 use Rattle.pg_schema.specs.declared.parts.enum_type.EnumValue.{EnumValue}
 use Rattle.pg_schema.specs.declared.parts.enum_type.ReservedValues.{ReservedValues}
-use Rattle.pg_dyn.specs.Message.{Message}
+use Rattle.pg_dyn.specs.message.Message.{Message}
 use Rattle.pg_fds.specs.writing.Fields.{dotted}
 use Rattle.pg_fds.specs.writing.Items.{Items, stated}
 use Rattle.pg_fds.specs.writing.Messages.{enum_items, enum_options, own_name, value_items, value_range}

@@ -7,7 +7,7 @@ use Rattle.pg_schema.specs.declared.parts.field.Field.{Field}
 use Rattle.pg_schema.specs.declared.parts.field.Scalar.{Scalar}
 use Rattle.pg_schema.specs.rules.DeclaredNames.{entry_name}
 use Rattle.pg_schema.specs.JsonName.{default_json_name}
-use Rattle.pg_dyn.specs.Message.{Message, ends, parts}
+use Rattle.pg_dyn.specs.message.Message.{Message, ends, parts}
 use Rattle.pg_fds.specs.writing.Entries.{entry_field}
 use Rattle.pg_fds.specs.writing.Fields.{element_code, element_name, field_items, field_options, label, named_type, oneof_place, type_code}
 use Rattle.pg_fds.specs.writing.Items.{Items, child, children, flag, text}

@@ -10,7 +10,7 @@ use Rattle.pg_schema.specs.rules.Files.{is_file}
 use Rattle.pg_schema.specs.rules.Scopes.{enum_places, is_file_scope, service_places}
 use Rattle.pg_schema.specs.rules.Sound.{IsSound}
 use Rattle.pg_schema.proofs.lemmas.rules.PairLemmas.{and_left, and_right}
-use Rattle.pg_dyn.specs.Message.{Message}
+use Rattle.pg_dyn.specs.message.Message.{Message}
 use Rattle.pg_check.specs.standing.InOrder.{enums_below, types_below}
 use Rattle.pg_check.specs.standing.Nesting.{nest_within}
 use Rattle.pg_check.specs.standing.Places.{places_from}

@@ -12,7 +12,7 @@ use Rattle.pg_schema.specs.declared.parts.options.OptionValue.TheVariants as val
 use Rattle.pg_schema.specs.rules.Files.{is_file, is_file_option, is_of_kind}
 use Rattle.pg_schema.specs.rules.Scopes.{enum_places, service_places, type_places}
 use Rattle.pg_schema.proofs.lemmas.rules.PairLemmas.{and_left, and_right}
-use Rattle.pg_dyn.specs.Message.{Item, Message, Part}
+use Rattle.pg_dyn.specs.message.Message.{Item, Message, Part}
 use Rattle.pg_fds.specs.writing.Items.{item}
 use Rattle.pg_fds.specs.reading.MadeImports.{import_of}
 use Rattle.pg_fds.specs.writing.Messages.{enums_items, types_items, where_found}

@@ -18,7 +18,7 @@ use Rattle.pg_schema.specs.rules.DeclaredNames.{entry_name, within}
 use Rattle.pg_schema.specs.rules.Fields.{has_presence, is_known, is_message, is_packed, stated_or, is_key}
 use Rattle.pg_schema.specs.Shape.{is_map, is_packable}
 use Rattle.pg_schema.proofs.lemmas.rules.PairLemmas.{and_both, and_left}
-use Rattle.pg_dyn.specs.Message.{Item, Message}
+use Rattle.pg_dyn.specs.message.Message.{Item, Message}
 use Rattle.pg_fds.specs.declared.reading.outline.Named.{Named}
 use Rattle.pg_fds.specs.declared.reading.outline.Named.TheVariants as nameds
 use Rattle.pg_fds.specs.writing.Fields.{dotted, element_code, element_name, label, named_type, scalar_code, type_code}

@@ -27,7 +27,7 @@ use Rattle.pg_schema.specs.declared.parts.service.Service.{Service}
 use Rattle.pg_schema.specs.declared.parts.service.ServiceId.{ServiceId}
 use Rattle.pg_schema.specs.rules.Scopes.{type_name}
 use Rattle.pg_schema.proofs.lemmas.rules.PairLemmas.{and_left, and_right}
-use Rattle.pg_dyn.specs.Message.{Item, Msg, Part, Plain, message_from, with_part}
+use Rattle.pg_dyn.specs.message.Message.{Item, Msg, Part, Plain, message_from, with_part}
 use Rattle.pg_check.specs.standing.Nesting.{holds_inside, nest_within}
 use Rattle.pg_fds.specs.writing.Entries.{entries, entry_field, entry_items}
 use Rattle.pg_fds.specs.writing.Fields.{element_code, element_name, field_items, field_options, fields_items, label, named_type, oneof_place, type_code}

@@ -6,7 +6,7 @@ use Rattle.pg_schema.specs.declared.parts.field.TypeId.{TypeId}
 use Rattle.pg_schema.specs.declared.parts.file.File.{File}
 use Rattle.pg_schema.specs.declared.parts.message_type.MessageType.{MessageType}
 use Rattle.pg_schema.proofs.lemmas.rules.PairLemmas.{and_both, and_left, and_right}
-use Rattle.pg_dyn.specs.Message.{Message}
+use Rattle.pg_dyn.specs.message.Message.{Message}
 use Rattle.pg_check.specs.standing.Nesting.{holds_inside}
 use Rattle.pg_check.specs.standing.Nesting as schema
 use Rattle.pg_check.specs.standing.Places.{most_deep}

@@ -12,7 +12,7 @@ use Rattle.pg_schema.specs.declared.parts.field.Presence.{Presence}
 use Rattle.pg_schema.specs.declared.parts.field.Presence.TheVariants as presences
 use Rattle.pg_schema.specs.rules.Fields.{has_presence, is_message, is_oneof}
 use Rattle.pg_schema.proofs.lemmas.rules.PairLemmas.{and_right}
-use Rattle.pg_dyn.specs.Message.{Message}
+use Rattle.pg_dyn.specs.message.Message.{Message}
 use Rattle.pg_check.specs.standing.Places.{places_from}
 use Rattle.pg_fds.specs.writing.Fields.{field_items, fields_items}
 use Rattle.pg_fds.specs.writing.Messages.{oneof_items}

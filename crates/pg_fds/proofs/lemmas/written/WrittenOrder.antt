@@ -10,7 +10,7 @@ use Rattle.pg_schema.specs.declared.parts.file.Import.{Import}
 use Rattle.pg_schema.specs.rules.Pairs.{are_distinct, differ}
 use Rattle.pg_schema.specs.rules.TextSets.{is_among}
 use Rattle.pg_schema.proofs.lemmas.rules.PairLemmas.{among_push, and_both, and_left, and_right}
-use Rattle.pg_dyn.specs.Message.{Message}
+use Rattle.pg_dyn.specs.message.Message.{Message}
 use Rattle.pg_check.specs.standing.Imports.{AreBehind, file_name, imports_among, imports_apart}
 use Rattle.pg_fds.specs.writing.Places.{Declared}
 use Rattle.pg_link.specs.walk.PostOrder.{Visits, all_visited, listed_last, passed_over}

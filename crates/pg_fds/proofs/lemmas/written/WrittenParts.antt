@@ -6,7 +6,7 @@ use Rattle.pg_schema.specs.declared.parts.Parts.{Parts}
 use Rattle.pg_schema.specs.rules.Files.{is_file, is_service}
 use Rattle.pg_schema.specs.rules.Messages.{is_message_type}
 use Rattle.pg_schema.specs.rules.Sound.{IsSound}
-use Rattle.pg_dyn.specs.Message.{Message}
+use Rattle.pg_dyn.specs.message.Message.{Message}
 use Rattle.pg_check.specs.standing.InOrder.{StandInOrder}
 use Rattle.pg_check.specs.standing.Nesting.{nest_within}
 use Rattle.pg_check.specs.standing.Places.{most_deep}

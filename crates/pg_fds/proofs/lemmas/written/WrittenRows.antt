@@ -14,7 +14,7 @@ use Rattle.pg_schema.specs.declared.parts.service.ServiceId.{ServiceId}
 use Rattle.pg_schema.specs.rules.Scopes.{are_enums_in, are_services_in, are_types_in, enum_name, enum_places, is_in, is_named_in, is_type_scope, service_name, service_places, type_name, type_places}
 use Rattle.pg_schema.specs.rules.Sound.{IsSound}
 use Rattle.pg_schema.proofs.lemmas.rules.PairLemmas.{and_left, and_right}
-use Rattle.pg_dyn.specs.Message.{Message}
+use Rattle.pg_dyn.specs.message.Message.{Message}
 use Rattle.pg_check.specs.standing.InOrder.{enums_below, inner_enums, inner_types, types_below}
 use Rattle.pg_check.specs.standing.Nesting.{holds_inside, nest_within}
 use Rattle.pg_check.specs.standing.Places.{places_from}

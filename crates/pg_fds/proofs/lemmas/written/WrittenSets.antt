@@ -6,11 +6,11 @@ use Rattle.pg_schema.specs.declared.parts.file.File.{File}
 use Rattle.pg_schema.specs.declared.parts.Parts.{Parts}
 use Rattle.pg_schema.specs.Shape.{fields}
 use Rattle.pg_schema.proofs.lemmas.rules.PairLemmas.{and_both, and_false_right}
-use Rattle.pg_dyn.specs.Belonging.{IsMessage}
+use Rattle.pg_dyn.specs.fitting.Belonging.{IsMessage}
 use Rattle.pg_dyn.specs.reading.Decoding.{dec}
 use Rattle.pg_dyn.specs.encoding.Encoding.{cap}
-use Rattle.pg_dyn.specs.Laws.{EncodingSpells, ReadsAgain, WritingSplits}
-use Rattle.pg_dyn.specs.Message.{Message}
+use Rattle.pg_dyn.specs.laws.Laws.{EncodingSpells, ReadsAgain, WritingSplits}
+use Rattle.pg_dyn.specs.message.Message.{Message}
 use Rattle.pg_dyn.specs.reading.Faults.{TooDeepIn}
 use Rattle.pg_check.specs.standing.Nesting.{are_shallow}
 use Rattle.pg_check.specs.standing.Places.{most_deep}

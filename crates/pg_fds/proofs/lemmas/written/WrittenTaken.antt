@@ -15,7 +15,7 @@ use Rattle.pg_schema.specs.declared.parts.field.TypeId.{TypeId}
 use Rattle.pg_schema.specs.declared.parts.file.File.{File}
 use Rattle.pg_schema.specs.declared.parts.message_type.MessageType.{MessageType}
 use Rattle.pg_schema.proofs.lemmas.rules.PairLemmas.{and_both}
-use Rattle.pg_dyn.specs.Message.{Message}
+use Rattle.pg_dyn.specs.message.Message.{Message}
 use Rattle.pg_check.specs.standing.Places.{most_deep}
 use Rattle.pg_fds.specs.stated.Codes.{file_has_types, has_types, have_types, is_taken, label_codes, type_codes}
 use Rattle.pg_fds.specs.writing.Entries.{entries}

@@ -1,5 +1,5 @@
 use Rattle.std.proofs.Common.{map, sym, ◌∙◌}
-use Rattle.pg_dyn.specs.Kept.{message_of}
+use Rattle.pg_dyn.specs.message.Kept.{message_of}
 use Rattle.pg_fds.proofs.lemmas.reading.ReadLaws.{refused_later, taken_stated}
 use Rattle.pg_fds.proofs.reading.files_parts.Goals as goal
 

@@ -1,6 +1,6 @@
 use Rattle.std.proofs.Common.{◌≡◌, ◌⊎◌, None, Some, inl, inr, map, ◌∙◌}
 use Rattle.std.proofs.lemmas.Result.{IfErr-weaker, IfOk-weaker, err_from_is_err_and}
-use Rattle.pg_dyn.specs.Kept.{message_of}
+use Rattle.pg_dyn.specs.message.Kept.{message_of}
 use Rattle.pg_fds.specs.declared.error.Unstated.TheVariants as unstated
 use Rattle.pg_fds.specs.stated.Outlines.{files_at}
 use Rattle.pg_fds.specs.stated.Stated.{declared_by}

@@ -2,7 +2,7 @@
 
 ghost use Rattle.std.specs.Prelude.{◌≡◌, ◌+◌, ◌<◌, ◌≤◌, ◌^◌, ◌++◌, ◌∷◌, [], IfErr, IfOk, OnOk, length, map};
 ghost use Rattle.pg_schema.specs.rules.Scopes.{service_places};
-ghost use Rattle.pg_dyn.specs.Kept.{message_of};
+ghost use Rattle.pg_dyn.specs.message.Kept.{message_of};
 ghost use Rattle.pg_check.specs.standing.Places.{places_from};
 ghost use Rattle.pg_fds.specs.stated.Declarations.{Adds, CannotAdd, service_declared, services_declared};
 ghost use Rattle.pg_fds.specs.stated.Outlines.{StayFew, row, row_in, rows_in};

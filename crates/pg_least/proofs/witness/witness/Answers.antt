@@ -1,7 +1,7 @@
 use Rattle.std.proofs.Common.{◌∙◌, ap}
 use Rattle.std.proofs.lemmas.Result.{IfOk-weaker}
 use Rattle.pg_schema.specs.Parts.{shape_of}
-use Rattle.pg_dyn.specs.Kept.{message_of}
+use Rattle.pg_dyn.specs.message.Kept.{message_of}
 use Rattle.pg_pairs.specs.declared.choices.choice.Pair.{Pair}
 use Rattle.pg_pairs.specs.graph.GraphView.{seen}
 use Rattle.pg_cert.specs.Certificate.{bound_in}

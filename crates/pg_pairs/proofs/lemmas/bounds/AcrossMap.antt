@@ -10,17 +10,17 @@ use Rattle.pg_schema.specs.declared.parts.field.Presence.TheVariants as presence
 use Rattle.pg_schema.specs.Shape.{FieldShape}
 use Rattle.pg_wire.specs.declared.record.WireType.TheVariants.{Len}
 use Rattle.pg_wire.specs.Records.{WireRecord, written, records_of}
-use Rattle.pg_dyn.specs.Optional.{all_some}
-use Rattle.pg_dyn.specs.Message.{Leaf, Part, key_cmp}
-use Rattle.pg_dyn.specs.Coding.{form, form_wire, body}
+use Rattle.pg_dyn.specs.reading.Optional.{all_some}
+use Rattle.pg_dyn.specs.message.Message.{Leaf, Part, key_cmp}
+use Rattle.pg_dyn.specs.word.Coding.{form, form_wire, body}
 use Rattle.pg_dyn.specs.reading.Content.{same_wire, is_accepted, option_from, takes, key_field, value_field, entry_in, by_key, content}
 use Rattle.pg_dyn.specs.encoding.Writing.{entry_bytes, key_of, field_records}
 use Rattle.pg_dyn.specs.reading.Decoding.{Reader, is_child, all_plain_readable, is_readable}
-use Rattle.pg_dyn.specs.Comparison.{View, Comparand, writes}
+use Rattle.pg_dyn.specs.views.Comparison.{View, Comparand, writes}
 use Rattle.pg_pairs.proofs.lemmas.bounds.Packed.{single_read}
 use Rattle.pg_dyn.proofs.Lists.{all_some-map_map, each_weaker, each-map, map_map}
-use Rattle.pg_dyn.specs.Bodies.{IsNestedLeaf, IsReadAs, entry_body, two_records}
-use Rattle.pg_dyn.specs.FieldLaws.{EntriesRise}
+use Rattle.pg_dyn.specs.laws.Bodies.{IsNestedLeaf, IsReadAs, entry_body, two_records}
+use Rattle.pg_dyn.specs.laws.FieldLaws.{EntriesRise}
 use Rattle.pg_pairs.specs.inner.Contents.{RisingKeys}
 use Rattle.pg_pairs.proofs.lemmas.gaps.Likeness.{same_wire-true}
 use Rattle.pg_pairs.proofs.lemmas.bounds.Across.{Seen, Across}

@@ -9,17 +9,17 @@ use Rattle.pg_schema.specs.declared.parts.field.Presence.TheVariants as presence
 use Rattle.pg_schema.specs.Shape.{FieldShape, is_repeated, is_packable}
 use Rattle.pg_wire.specs.declared.record.WireType.TheVariants.{Len}
 use Rattle.pg_wire.specs.Records.{WireRecord, written}
-use Rattle.pg_dyn.specs.Optional.{all_some}
-use Rattle.pg_dyn.specs.Message.{Leaf, Part}
-use Rattle.pg_dyn.specs.Coding.{form, form_wire, body}
+use Rattle.pg_dyn.specs.reading.Optional.{all_some}
+use Rattle.pg_dyn.specs.message.Message.{Leaf, Part}
+use Rattle.pg_dyn.specs.word.Coding.{form, form_wire, body}
 use Rattle.pg_dyn.specs.reading.Content.{same_wire, own_wire, takes, leaves_in, last_item, plain_content, content}
 use Rattle.pg_dyn.specs.encoding.Writing.{item_record, field_records}
 use Rattle.pg_dyn.specs.reading.Decoding.{Reader, is_child, is_plain_readable, is_readable}
-use Rattle.pg_dyn.specs.Belonging.{MayBeZero}
-use Rattle.pg_dyn.specs.Comparison.{View, Comparand, writes}
+use Rattle.pg_dyn.specs.fitting.Belonging.{MayBeZero}
+use Rattle.pg_dyn.specs.views.Comparison.{View, Comparand, writes}
 use Rattle.pg_dyn.proofs.Lists.{joined-map_single, each_weaker, each-map, flat_map-map, map_map}
 use Rattle.pg_pairs.proofs.lemmas.gaps.Likeness.{same_wire-true, packable-from_wire}
-use Rattle.pg_dyn.specs.Bodies.{IsReadAs}
+use Rattle.pg_dyn.specs.laws.Bodies.{IsReadAs}
 use Rattle.pg_pairs.proofs.lemmas.bounds.Packed.{packed_read, singles_read, single_read}
 use Rattle.pg_pairs.proofs.lemmas.bounds.Across.{Seen, Across}
 use Rattle.pg_dyn.proofs.PublicLaws.{packable_wires}

@@ -12,18 +12,18 @@ use Rattle.pg_schema.specs.declared.parts.field.Presence.TheVariants as presence
 use Rattle.pg_schema.specs.Shape.{FieldShape, is_repeated, is_packable, is_implicit}
 use Rattle.pg_wire.specs.declared.record.WireType.TheVariants.{Len}
 use Rattle.pg_wire.specs.Records.{WireRecord, tag, written}
-use Rattle.pg_dyn.specs.Optional.{all_some, joined, last_of}
-use Rattle.pg_dyn.specs.Message.{Leaf, Bytes, Item, Plain, Msg, Message, Part, is_of, is_zero}
-use Rattle.pg_dyn.specs.Coding.{form, form_wire, body, leaf_in}
+use Rattle.pg_dyn.specs.reading.Optional.{all_some, joined, last_of}
+use Rattle.pg_dyn.specs.message.Message.{Leaf, Bytes, Item, Plain, Msg, Message, Part, is_of, is_zero}
+use Rattle.pg_dyn.specs.word.Coding.{form, form_wire, body, leaf_in}
 use Rattle.pg_dyn.specs.reading.Content.{same_wire, own_wire, is_accepted, takes, leaves_in, last_item, plain_content, content}
 use Rattle.pg_dyn.specs.encoding.Writing.{item_record, field_records, bytes_of}
 use Rattle.pg_dyn.specs.reading.Decoding.{Reader, read_part}
-use Rattle.pg_dyn.specs.Comparison.{View, Expected, Alike, is_zero_expected, is_zero_item, hides_zero, same_key, matches, alike_leaves, Kept, Comparand, writes, expects}
+use Rattle.pg_dyn.specs.views.Comparison.{View, Expected, Alike, is_zero_expected, is_zero_item, hides_zero, same_key, matches, alike_leaves, Kept, Comparand, writes, expects}
 use Rattle.pg_dyn.proofs.Lists.{all_some-map_map, each_weaker, each_of_all, each-map, and_then_some, option_map_some}
 use Rattle.pg_pairs.specs.gaps.Gaps.{body_length}
 use Rattle.pg_pairs.specs.gaps.TrueGaps.{is_alike_read, is_seen}
 use Rattle.pg_pairs.specs.choices.Costs.{one_item}
-use Rattle.pg_dyn.specs.ByComparands.{field_read, is_shown, is_field_kept}
+use Rattle.pg_dyn.specs.laws.ByComparands.{field_read, is_shown, is_field_kept}
 use Rattle.pg_pairs.specs.inner.Contents.{total, passes, is_child_kept}
 use Rattle.pg_pairs.proofs.lemmas.gaps.GapItems.{IsLeafy}
 use Rattle.pg_pairs.proofs.lemmas.bounds.AcrossPlain.{plain_part, NotMap, IsUnpacked}

@@ -2,12 +2,12 @@
 use Rattle.std.proofs.Common.{option_to_list, ◌≡◌, ◌++◌, true, refl}
 use Rattle.pg_schema.specs.declared.parts.field.TypeId.{TypeId}
 use Rattle.pg_schema.specs.Shape.{Shape, FieldShape, fields}
-use Rattle.pg_dyn.specs.Message.{Message, unknown_of}
+use Rattle.pg_dyn.specs.message.Message.{Message, unknown_of}
 use Rattle.pg_dyn.specs.encoding.Writing.{records_in, bytes_of}
 use Rattle.pg_dyn.specs.encoding.Encoding.{encoded_parts, enc}
 use Rattle.pg_dyn.specs.reading.Decoding.{dec}
-use Rattle.pg_dyn.specs.Comparison.{View, same_message, unshared_bytes, expected, same}
-use Rattle.pg_dyn.specs.Breaking.{is_kept}
+use Rattle.pg_dyn.specs.views.Comparison.{View, same_message, unshared_bytes, expected, same}
+use Rattle.pg_dyn.specs.views.Breaking.{is_kept}
 use Rattle.pg_pairs.specs.choices.Choices.{child_pair}
 use Rattle.pg_pairs.specs.bounds.Covering.{field_children, has_children}
 use Rattle.pg_pairs.specs.inner.Contents.{is_child_kept}

@@ -13,20 +13,20 @@ use Rattle.pg_wire.specs.declared.record.WireType.{WireType}
 use Rattle.pg_wire.specs.declared.record.WireType.TheVariants.{Varint, I64, Len, I32}
 use Rattle.pg_wire.specs.Varint.{varint}
 use Rattle.pg_wire.specs.Records.{WireRecord, tag, written}
-use Rattle.pg_dyn.specs.Message.{Leaf, Bytes, Plain, Message, Part, is_zero}
-use Rattle.pg_dyn.specs.Coding.{form, form_wire, body, zero_leaf, InRange}
+use Rattle.pg_dyn.specs.message.Message.{Leaf, Bytes, Plain, Message, Part, is_zero}
+use Rattle.pg_dyn.specs.word.Coding.{form, form_wire, body, zero_leaf, InRange}
 use Rattle.pg_dyn.specs.encoding.Writing.{item_record, entry_bytes, key_of, field_records, bytes_of}
 use Rattle.pg_dyn.specs.reading.Decoding.{Reader, is_child, read_item}
-use Rattle.pg_dyn.specs.Belonging.{KeyFits}
-use Rattle.pg_dyn.specs.Comparison.{View, Alike, Kept, Comparand, writes}
+use Rattle.pg_dyn.specs.fitting.Belonging.{KeyFits}
+use Rattle.pg_dyn.specs.views.Comparison.{View, Alike, Kept, Comparand, writes}
 use Rattle.pg_pairs.proofs.lemmas.bounds.Packed.{Reads}
-use Rattle.pg_dyn.specs.Bodies.{BodyShape, IsNestedLeaf}
+use Rattle.pg_dyn.specs.laws.Bodies.{BodyShape, IsNestedLeaf}
 use Rattle.pg_dyn.proofs.Lists.{each_weaker, each_both, flat_map-map, map_map, each_within}
 use Rattle.pg_pairs.specs.gaps.Likeness.{like}
 use Rattle.pg_pairs.specs.gaps.Gaps.{body_length}
 use Rattle.pg_pairs.specs.gaps.TrueGaps.{is_seen}
 use Rattle.pg_pairs.specs.choices.Costs.{least_body, nonzero_body, entry_cost, one_item, least_content}
-use Rattle.pg_dyn.specs.ByComparands.{is_field_kept}
+use Rattle.pg_dyn.specs.laws.ByComparands.{is_field_kept}
 use Rattle.pg_pairs.specs.inner.Contents.{total, HoldsItem, Holds, passes, is_child_kept}
 use Rattle.pg_pairs.proofs.lemmas.gaps.Lengths.{with_length_rises}
 use Rattle.pg_pairs.proofs.lemmas.gaps.Leaves.{seen_read, seen_alike}

@@ -19,9 +19,9 @@ use Rattle.pg_pairs.proofs.lemmas.choices.Choosing.{field_allowed}
 use Rattle.pg_pairs.proofs.lemmas.witness.Reached.{choices_reached}
 use Rattle.pg_pairs.proofs.lemmas.graph.Reaching.{every_is_among}
 use Rattle.pg_schema.specs.declared.parts.field.TypeId.{TypeId}
-use Rattle.pg_dyn.specs.Message.{Message}
-use Rattle.pg_dyn.specs.Comparison.{numbers}
-use Rattle.pg_dyn.specs.Breaking.{Breaks}
+use Rattle.pg_dyn.specs.message.Message.{Message}
+use Rattle.pg_dyn.specs.views.Comparison.{numbers}
+use Rattle.pg_dyn.specs.views.Breaking.{Breaks}
 
 -- No message of at most that many bytes breaks.
 abbrev pub CompatibleTo : ℕ → Shape → Shape → TypeId → TypeId → Type 0

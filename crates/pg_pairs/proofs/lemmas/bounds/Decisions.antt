@@ -7,9 +7,9 @@ use Rattle.pg_schema.specs.declared.parts.field.Element.{Element}
 use Rattle.pg_schema.specs.declared.parts.field.Element.TheVariants as elements
 use Rattle.pg_schema.specs.Shape.{FieldShape}
 use Rattle.pg_wire.specs.Varint.{varint}
-use Rattle.pg_dyn.specs.Comparison.{Kept, Comparand}
-use Rattle.pg_dyn.specs.Message.{Leaf, Bytes, Message}
-use Rattle.pg_dyn.specs.Coding.{form, InRange}
+use Rattle.pg_dyn.specs.views.Comparison.{Kept, Comparand}
+use Rattle.pg_dyn.specs.message.Message.{Leaf, Bytes, Message}
+use Rattle.pg_dyn.specs.word.Coding.{form, InRange}
 use Rattle.pg_dyn.specs.reading.Decoding.{Reader}
 use Rattle.pg_pairs.specs.declared.choices.case.Case.{Case}
 use Rattle.pg_pairs.specs.declared.choices.choice.Choice.{Choice}

@@ -13,13 +13,13 @@ use Rattle.pg_schema.specs.declared.parts.field.Presence.TheVariants as presence
 use Rattle.pg_schema.specs.Shape.{FieldShape}
 use Rattle.pg_schema.specs.ShapeRules.{PresenceFits}
 use Rattle.pg_wire.specs.Varint.{varint}
-use Rattle.pg_dyn.specs.Message.{Leaf, is_zero}
-use Rattle.pg_dyn.specs.Coding.{form, body, zero_leaf, InRange, word_bytes}
+use Rattle.pg_dyn.specs.message.Message.{Leaf, is_zero}
+use Rattle.pg_dyn.specs.word.Coding.{form, body, zero_leaf, InRange, word_bytes}
 use Rattle.pg_dyn.specs.reading.Decoding.{Reader}
 use Rattle.pg_dyn.specs.encoding.Writing.{key_of}
-use Rattle.pg_dyn.specs.Belonging.{KeyFits}
-use Rattle.pg_dyn.specs.Bodies.{BodyShape}
-use Rattle.pg_dyn.specs.Comparison.{Comparand, writes}
+use Rattle.pg_dyn.specs.fitting.Belonging.{KeyFits}
+use Rattle.pg_dyn.specs.laws.Bodies.{BodyShape}
+use Rattle.pg_dyn.specs.views.Comparison.{Comparand, writes}
 use Rattle.pg_dyn.proofs.Lists.{each_weaker, each_both, each_of_all, each_before, each_after}
 use Rattle.pg_pairs.specs.declared.choices.case.Case.{Case}
 use Rattle.pg_pairs.specs.declared.choices.case.Case.TheVariants as cases

@@ -6,11 +6,11 @@ use Rattle.pg_schema.specs.declared.parts.field.Element.TheVariants as elements
 use Rattle.pg_schema.specs.declared.parts.field.Presence.{Presence}
 use Rattle.pg_schema.specs.Shape.{Shape, FieldShape}
 use Rattle.pg_schema.specs.ShapeRules.{IsShape}
-use Rattle.pg_dyn.specs.Message.{Leaf, Item, Plain, Msg, Message}
+use Rattle.pg_dyn.specs.message.Message.{Leaf, Item, Plain, Msg, Message}
 use Rattle.pg_dyn.specs.encoding.Encoding.{enc}
 use Rattle.pg_dyn.specs.reading.Decoding.{dec}
-use Rattle.pg_dyn.specs.Belonging.{LeafFits}
-use Rattle.pg_dyn.specs.Comparison.{View, Comparand, comparands}
+use Rattle.pg_dyn.specs.fitting.Belonging.{LeafFits}
+use Rattle.pg_dyn.specs.views.Comparison.{View, Comparand, comparands}
 use Rattle.pg_dyn.proofs.Lists.{each_of_all}
 use Rattle.pg_pairs.specs.declared.choices.choice.Choice.{Choice}
 use Rattle.pg_pairs.specs.declared.choices.choice.Pair.{Pair}
@@ -20,7 +20,7 @@ use Rattle.pg_pairs.specs.choices.Choices.{Table, field_choices, choices, cheape
 use Rattle.pg_pairs.specs.bounds.Covering.{IsThere, IsWithin, IsCovered, Covers, children, IsAmong}
 use Rattle.pg_pairs.specs.laws.CheapestLaws.{IsCheapest}
 use Rattle.pg_pairs.specs.inner.Contents.{ChildBound, IsContent, total}
-use Rattle.pg_dyn.specs.ByComparands.{comparands_at, is_field_kept}
+use Rattle.pg_dyn.specs.laws.ByComparands.{comparands_at, is_field_kept}
 use Rattle.pg_pairs.specs.witness.Carried.{alone}
 use Rattle.pg_pairs.specs.laws.FieldCosts.{list_alone, map_alone, IsShared, CostsCheapest, SingleScalarsCost, ListsCost, MapsCost, ChildrenCost}
 use Rattle.pg_pairs.proofs.lemmas.choices.Among.{among_each}

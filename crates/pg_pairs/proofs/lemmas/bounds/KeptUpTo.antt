@@ -5,12 +5,12 @@ use Rattle.std.proofs.lemmas.Bool.{cases_Bool}
 use Rattle.pg_schema.specs.declared.parts.field.TypeId.{TypeId}
 use Rattle.pg_schema.specs.Shape.{Shape, FieldShape, fields, field_at}
 use Rattle.pg_schema.specs.ShapeRules.{IsShape}
-use Rattle.pg_dyn.specs.Message.{Message, IsPlain}
+use Rattle.pg_dyn.specs.message.Message.{Message, IsPlain}
 use Rattle.pg_dyn.specs.encoding.Encoding.{enc, cap}
-use Rattle.pg_dyn.specs.Belonging.{IsMessage}
-use Rattle.pg_dyn.specs.Comparison.{numbers, comparands}
-use Rattle.pg_dyn.specs.Breaking.{is_kept}
-use Rattle.pg_dyn.specs.ByComparands.{NoComparandsMeet}
+use Rattle.pg_dyn.specs.fitting.Belonging.{IsMessage}
+use Rattle.pg_dyn.specs.views.Comparison.{numbers, comparands}
+use Rattle.pg_dyn.specs.views.Breaking.{is_kept}
+use Rattle.pg_dyn.specs.laws.ByComparands.{NoComparandsMeet}
 use Rattle.pg_pairs.specs.declared.choices.choice.Choice.{Choice}
 use Rattle.pg_pairs.specs.declared.choices.choice.Pair.{Pair}
 use Rattle.pg_pairs.specs.views.EnumView.{by_numbers}

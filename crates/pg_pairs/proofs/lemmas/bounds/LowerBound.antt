@@ -8,16 +8,16 @@ use Rattle.pg_schema.specs.declared.parts.field.Element.{Element}
 use Rattle.pg_schema.specs.declared.parts.field.Element.TheVariants as elements
 use Rattle.pg_schema.specs.Shape.{Shape, FieldShape, fields, field_at}
 use Rattle.pg_schema.specs.ShapeRules.{IsType, IsShape}
-use Rattle.pg_dyn.specs.Message.{Bytes, Message, ends, holds, nests, IsPlain, unknown_of}
+use Rattle.pg_dyn.specs.message.Message.{Bytes, Message, ends, holds, nests, IsPlain, unknown_of}
 use Rattle.pg_dyn.specs.reading.Content.{is_sibling}
 use Rattle.pg_dyn.specs.encoding.Writing.{records_in, bytes_of}
 use Rattle.pg_dyn.specs.encoding.Encoding.{child_type, encoded_parts, enc, cap}
 use Rattle.pg_dyn.specs.reading.Decoding.{dec}
-use Rattle.pg_dyn.specs.Belonging.{IsMessage}
-use Rattle.pg_dyn.specs.Comparison.{same_message, unshared_bytes, expected, Kept, Comparand, comparands}
-use Rattle.pg_dyn.specs.Breaking.{is_kept, Breaks}
+use Rattle.pg_dyn.specs.fitting.Belonging.{IsMessage}
+use Rattle.pg_dyn.specs.views.Comparison.{same_message, unshared_bytes, expected, Kept, Comparand, comparands}
+use Rattle.pg_dyn.specs.views.Breaking.{is_kept, Breaks}
 use Rattle.pg_dyn.proofs.Lists.{each_weaker, each_of_all, each-filter, each_at, each_unfiltered}
-use Rattle.pg_dyn.specs.OwnParts.{ChildrenShorter}
+use Rattle.pg_dyn.specs.laws.OwnParts.{ChildrenShorter}
 use Rattle.pg_pairs.specs.declared.choices.choice.Choice.{Choice}
 use Rattle.pg_pairs.specs.declared.choices.choice.Pair.{Pair}
 use Rattle.pg_pairs.specs.views.EnumView.{EnumView}
@@ -25,7 +25,7 @@ use Rattle.pg_pairs.specs.views.ViewLaws.{IsEnumView}
 use Rattle.pg_pairs.specs.choices.Costs.{least_content}
 use Rattle.pg_pairs.specs.choices.Choices.{child_pair, Table, number_for, all_choices}
 use Rattle.pg_pairs.specs.bounds.Covering.{IsWithin, IsThere, IsCovered}
-use Rattle.pg_dyn.specs.ByComparands.{comparands_at, is_field_kept}
+use Rattle.pg_dyn.specs.laws.ByComparands.{comparands_at, is_field_kept}
 use Rattle.pg_pairs.specs.inner.Contents.{total, is_child_kept, ChildBound, IsContent}
 use Rattle.pg_pairs.proofs.lemmas.bounds.ChildTests.{bytes_are, children_are, kept_is}
 use Rattle.pg_pairs.proofs.lemmas.bounds.Decisions.{each_or}

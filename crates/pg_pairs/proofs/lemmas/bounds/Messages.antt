@@ -10,15 +10,15 @@ use Rattle.pg_schema.specs.declared.parts.field.Presence.{Presence}
 use Rattle.pg_schema.specs.declared.parts.field.Presence.TheVariants as presences
 use Rattle.pg_schema.specs.Shape.{Shape, FieldShape, fields, field_at}
 use Rattle.pg_schema.specs.ShapeRules.{PresenceFits, IsField, IsType, IsShape}
-use Rattle.pg_dyn.specs.Message.{Leaf, Bytes, Message, ends, holds, nests, is_of, places, key_cmp}
-use Rattle.pg_dyn.specs.Coding.{form, zero_leaf}
+use Rattle.pg_dyn.specs.message.Message.{Leaf, Bytes, Message, ends, holds, nests, is_of, places, key_cmp}
+use Rattle.pg_dyn.specs.word.Coding.{form, zero_leaf}
 use Rattle.pg_dyn.specs.encoding.Writing.{key_of}
 use Rattle.pg_dyn.specs.encoding.Encoding.{encoded_parts}
-use Rattle.pg_dyn.specs.Belonging.{MayBeZero, LeafFits, IsPart, IsMessage, KeyFits, MayFollow}
-use Rattle.pg_dyn.specs.Comparison.{View, Alike, Kept, Comparand, writes, comparands}
-use Rattle.pg_dyn.specs.ByComparands.{comparands_at}
+use Rattle.pg_dyn.specs.fitting.Belonging.{MayBeZero, LeafFits, IsPart, IsMessage, KeyFits, MayFollow}
+use Rattle.pg_dyn.specs.views.Comparison.{View, Alike, Kept, Comparand, writes, comparands}
+use Rattle.pg_dyn.specs.laws.ByComparands.{comparands_at}
 use Rattle.pg_dyn.proofs.Lists.{each_weaker, each-filter, each_at, filter-map}
-use Rattle.pg_dyn.specs.OwnParts.{Ordered}
+use Rattle.pg_dyn.specs.laws.OwnParts.{Ordered}
 use Rattle.pg_pairs.specs.inner.Contents.{HoldsItem, Holds, RisingKeys, IsInOrder}
 use Rattle.pg_dyn.proofs.PublicLaws.{comparands_are_written, fields_are_found, own_parts_fit}
 

@@ -5,8 +5,8 @@ use Rattle.pg_schema.specs.declared.parts.field.Presence.TheVariants as presence
 use Rattle.pg_schema.specs.Shape.{FieldShape}
 use Rattle.pg_schema.specs.ShapeRules.{PresenceFits}
 use Rattle.pg_dyn.specs.reading.Decoding.{Reader}
-use Rattle.pg_dyn.specs.Comparison.{View, Comparand}
-use Rattle.pg_dyn.specs.ByComparands.{is_field_kept}
+use Rattle.pg_dyn.specs.views.Comparison.{View, Comparand}
+use Rattle.pg_dyn.specs.laws.ByComparands.{is_field_kept}
 use Rattle.pg_pairs.specs.declared.choices.choice.Choice.{Choice}
 use Rattle.pg_pairs.specs.views.EnumView.{EnumView}
 use Rattle.pg_pairs.specs.views.ViewLaws.{IsEnumView}

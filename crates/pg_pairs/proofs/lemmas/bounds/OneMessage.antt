@@ -7,14 +7,14 @@ use Rattle.pg_schema.specs.declared.parts.field.TypeId.{TypeId}
 use Rattle.pg_schema.specs.Shape.{Shape, FieldShape, fields, field_at}
 use Rattle.pg_schema.specs.ShapeRules.{IsField, IsType, IsShape, Rising, PresenceFits}
 use Rattle.pg_wire.specs.Records.{WireRecord}
-use Rattle.pg_dyn.specs.Message.{Message, ends, holds, nests, IsPlain, is_of}
-use Rattle.pg_dyn.specs.Coding.{form}
+use Rattle.pg_dyn.specs.message.Message.{Message, ends, holds, nests, IsPlain, is_of}
+use Rattle.pg_dyn.specs.word.Coding.{form}
 use Rattle.pg_dyn.specs.reading.Content.{same_oneof, is_sibling}
 use Rattle.pg_dyn.specs.encoding.Writing.{field_records, records_in, bytes_of}
 use Rattle.pg_dyn.specs.encoding.Encoding.{encoded_parts, enc}
-use Rattle.pg_dyn.specs.Belonging.{IsMessage}
-use Rattle.pg_dyn.specs.Comparison.{View, Comparand, writes, comparands}
-use Rattle.pg_dyn.specs.ByComparands.{comparands_at}
+use Rattle.pg_dyn.specs.fitting.Belonging.{IsMessage}
+use Rattle.pg_dyn.specs.views.Comparison.{View, Comparand, writes, comparands}
+use Rattle.pg_dyn.specs.laws.ByComparands.{comparands_at}
 use Rattle.pg_dyn.proofs.Lists.{each-filter, each_at, flat_map-append'}
 use Rattle.pg_pairs.specs.gaps.Gaps.{body_length}
 use Rattle.pg_pairs.specs.choices.Costs.{one_item, least_content}

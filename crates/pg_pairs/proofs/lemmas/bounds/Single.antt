@@ -5,14 +5,14 @@ use Rattle.std.proofs.lemmas.Bool.{cases_Bool, false_from_ne_true}
 use Rattle.pg_schema.specs.declared.parts.field.TypeId.{TypeId}
 use Rattle.pg_schema.specs.Shape.{Shape, FieldShape, fields, field_at}
 use Rattle.pg_schema.specs.ShapeRules.{IsShape, Rising}
-use Rattle.pg_dyn.specs.Message.{Leaf, Message, IsPlain, Part, is_of, unknown_of}
+use Rattle.pg_dyn.specs.message.Message.{Leaf, Message, IsPlain, Part, is_of, unknown_of}
 use Rattle.pg_dyn.specs.encoding.Writing.{field_records, records_in, bytes_of}
 use Rattle.pg_dyn.specs.encoding.Encoding.{encoded_parts, enc, cap}
 use Rattle.pg_dyn.specs.reading.Decoding.{dec}
-use Rattle.pg_dyn.specs.Belonging.{IsMessage}
-use Rattle.pg_dyn.specs.Comparison.{View, Comparand, writes, comparands}
-use Rattle.pg_dyn.specs.Breaking.{is_kept}
-use Rattle.pg_dyn.specs.ByComparands.{comparands_at, is_field_kept, EachFieldKept, NoComparandsMeet}
+use Rattle.pg_dyn.specs.fitting.Belonging.{IsMessage}
+use Rattle.pg_dyn.specs.views.Comparison.{View, Comparand, writes, comparands}
+use Rattle.pg_dyn.specs.views.Breaking.{is_kept}
+use Rattle.pg_dyn.specs.laws.ByComparands.{comparands_at, is_field_kept, EachFieldKept, NoComparandsMeet}
 use Rattle.pg_dyn.proofs.Lists.{each-map, each_weaker, filter_all, filter_none}
 use Rattle.pg_pairs.specs.inner.Contents.{total}
 use Rattle.pg_pairs.proofs.lemmas.bounds.Comparands.{empty_kept}

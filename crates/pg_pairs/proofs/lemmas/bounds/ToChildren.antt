@@ -9,10 +9,10 @@ use Rattle.pg_schema.specs.declared.parts.field.Presence.{Presence}
 use Rattle.pg_schema.specs.Shape.{Shape, FieldShape, fields, field_at}
 use Rattle.pg_schema.specs.ShapeRules.{IsShape}
 use Rattle.pg_wire.specs.Varint.{varint}
-use Rattle.pg_dyn.specs.Message.{Bytes}
-use Rattle.pg_dyn.specs.Coding.{form}
+use Rattle.pg_dyn.specs.message.Message.{Bytes}
+use Rattle.pg_dyn.specs.word.Coding.{form}
 use Rattle.pg_dyn.specs.encoding.Encoding.{enc, cap}
-use Rattle.pg_dyn.specs.Comparison.{Comparand}
+use Rattle.pg_dyn.specs.views.Comparison.{Comparand}
 use Rattle.pg_dyn.proofs.Lists.{each_before, each_after}
 use Rattle.pg_pairs.specs.declared.choices.case.Case.{Case}
 use Rattle.pg_pairs.specs.declared.choices.case.Case.TheVariants as cases

@@ -7,13 +7,13 @@ use Rattle.pg_schema.specs.declared.parts.field.Element.TheVariants as elements
 use Rattle.pg_schema.specs.declared.parts.field.Presence.{Presence}
 use Rattle.pg_schema.specs.declared.parts.field.Presence.TheVariants as presences
 use Rattle.pg_schema.specs.Shape.{FieldShape, is_singular, is_implicit, is_repeated, is_packable}
-use Rattle.pg_dyn.specs.Message.{is_zero}
-use Rattle.pg_dyn.specs.Coding.{form, InRange}
+use Rattle.pg_dyn.specs.message.Message.{is_zero}
+use Rattle.pg_dyn.specs.word.Coding.{form, InRange}
 use Rattle.pg_dyn.specs.reading.Content.{last_item}
 use Rattle.pg_dyn.specs.encoding.Writing.{is_packed, key_of}
 use Rattle.pg_dyn.specs.reading.Decoding.{Reader}
-use Rattle.pg_dyn.specs.Belonging.{MayBeZero}
-use Rattle.pg_dyn.specs.Comparison.{View, Comparand, writes}
+use Rattle.pg_dyn.specs.fitting.Belonging.{MayBeZero}
+use Rattle.pg_dyn.specs.views.Comparison.{View, Comparand, writes}
 use Rattle.pg_dyn.proofs.Lists.{each_both}
 use Rattle.pg_pairs.specs.gaps.Likeness.{like}
 use Rattle.pg_pairs.specs.laws.ReadBack.{is_bool_of_zigzag}

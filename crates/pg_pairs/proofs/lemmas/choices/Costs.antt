@@ -8,16 +8,16 @@ use Rattle.pg_wire.specs.declared.record.WireType.{WireType}
 use Rattle.pg_wire.specs.declared.record.WireType.TheVariants.{Varint, I64, Len, I32}
 use Rattle.pg_wire.specs.Varint.{varint}
 use Rattle.pg_wire.specs.Records.{WireRecord, tag, written, length_before}
-use Rattle.pg_dyn.specs.Message.{Leaf, Int, F32, F64, Bytes, Part, is_zero}
-use Rattle.pg_dyn.specs.Coding.{Form, Integer, Single, Double, Text, Raw, form, form_wire, body, InRange}
+use Rattle.pg_dyn.specs.message.Message.{Leaf, Int, F32, F64, Bytes, Part, is_zero}
+use Rattle.pg_dyn.specs.word.Coding.{Form, Integer, Single, Double, Text, Raw, form, form_wire, body, InRange}
 use Rattle.pg_dyn.specs.reading.Content.{same_wire}
 use Rattle.pg_dyn.specs.encoding.Writing.{item_record, field_records, bytes_of}
 use Rattle.pg_pairs.proofs.lemmas.bounds.Packed.{Reads}
-use Rattle.pg_dyn.specs.Bodies.{BodyShape}
+use Rattle.pg_dyn.specs.laws.Bodies.{BodyShape}
 use Rattle.pg_dyn.proofs.Lists.{each_weaker, flat_map-map, map_map, each_within}
 use Rattle.pg_pairs.specs.gaps.Gaps.{body_length}
 use Rattle.pg_pairs.specs.choices.Costs.{with_length, least_of_wire, least_body, least_nonzero, nonzero_body, one_item}
-use Rattle.pg_dyn.specs.Comparison.{Comparand, writes}
+use Rattle.pg_dyn.specs.views.Comparison.{Comparand, writes}
 use Rattle.pg_pairs.specs.inner.Contents.{total}
 use Rattle.pg_pairs.proofs.lemmas.gaps.Lengths.{with_length_rises}
 use Rattle.pg_pairs.proofs.lemmas.bounds.AcrossPlain.{IsUnpacked, IsPackedList}

@@ -11,8 +11,8 @@ use Rattle.pg_wire.specs.declared.record.WireType.{WireType}
 use Rattle.pg_wire.specs.declared.record.WireType.TheVariants.{Varint, I64, Len, I32}
 use Rattle.pg_wire.specs.Varint.{shortest_within, varint}
 use Rattle.pg_wire.specs.Records.{length_before, tag}
-use Rattle.pg_dyn.specs.Message.{Leaf, Int, Bytes}
-use Rattle.pg_dyn.specs.Coding.{Form, Integer, Single, Double, Text, Raw, body, form, form_wire, int32, scalar_form, word_bytes}
+use Rattle.pg_dyn.specs.message.Message.{Leaf, Int, Bytes}
+use Rattle.pg_dyn.specs.word.Coding.{Form, Integer, Single, Double, Text, Raw, body, form, form_wire, int32, scalar_form, word_bytes}
 use Rattle.pg_dyn.specs.encoding.Encoding.{cap}
 use Rattle.pg_dyn.proofs.Lists.{each_filtered}
 use Rattle.pg_pairs.specs.declared.choices.case.Case.{Case}

@@ -2,7 +2,7 @@
 use Rattle.std.proofs.Common.{refl}
 use Rattle.pg_wire.specs.Varint.{varint}
 use Rattle.pg_wire.specs.Records.{tag}
-use Rattle.pg_dyn.specs.Coding.{word_bytes}
+use Rattle.pg_dyn.specs.word.Coding.{word_bytes}
 use Rattle.pg_pairs.specs.laws.SmallPairs.{SmallPairs}
 
 pub small_pairs : SmallPairs

@@ -2,9 +2,9 @@
 use Rattle.std.proofs.Common.{◌≡◌, pos, Bool, true, false, Some, refl, ap, sym, subst, ◌∙◌}
 use Rattle.pg_schema.specs.declared.parts.field.Element.{Element}
 use Rattle.pg_schema.specs.declared.parts.field.Element.TheVariants as elements
-use Rattle.pg_dyn.specs.Message.{Leaf, Int, is_zero}
-use Rattle.pg_dyn.specs.Coding.{Form, Integer, Single, Double, Text, Raw, form, zero_leaf, InRange}
-use Rattle.pg_dyn.specs.Comparison.{View, alike_leaves}
+use Rattle.pg_dyn.specs.message.Message.{Leaf, Int, is_zero}
+use Rattle.pg_dyn.specs.word.Coding.{Form, Integer, Single, Double, Text, Raw, form, zero_leaf, InRange}
+use Rattle.pg_dyn.specs.views.Comparison.{View, alike_leaves}
 use Rattle.pg_pairs.specs.gaps.Likeness.{like_forms, like}
 use Rattle.pg_pairs.specs.gaps.TrueGaps.{is_seen}
 use Rattle.pg_pairs.specs.laws.ElementGaps.{IsNoMessage, FindsZeroAlike, ElementGaps, UnseenAreNotZero}

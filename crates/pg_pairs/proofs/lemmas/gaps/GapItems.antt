@@ -9,9 +9,9 @@ use Rattle.pg_schema.specs.declared.parts.field.Element.TheVariants as elements
 use Rattle.pg_schema.specs.declared.parts.field.Presence.TheVariants as presences
 use Rattle.pg_schema.specs.ShapeRules.{PresenceFits}
 use Rattle.pg_wire.specs.Words.{IsBetween}
-use Rattle.pg_dyn.specs.Message.{Leaf, Int, F32, F64, Bytes}
-use Rattle.pg_dyn.specs.Coding.{Integer, int32, form, scalar_form, body, leaf_in, word_bytes, InRange}
-use Rattle.pg_dyn.specs.Comparison.{View, numbers}
+use Rattle.pg_dyn.specs.message.Message.{Leaf, Int, F32, F64, Bytes}
+use Rattle.pg_dyn.specs.word.Coding.{Integer, int32, form, scalar_form, body, leaf_in, word_bytes, InRange}
+use Rattle.pg_dyn.specs.views.Comparison.{View, numbers}
 use Rattle.pg_pairs.specs.declared.gaps.gap_kind.Gap.{Gap}
 use Rattle.pg_pairs.specs.declared.gaps.gap_kind.Gap.TheVariants as gaps
 use Rattle.pg_pairs.specs.views.EnumView.{EnumView}

@@ -6,9 +6,9 @@ use Rattle.pg_schema.specs.declared.parts.field.Scalar.TheVariants as scalars
 use Rattle.pg_schema.specs.declared.parts.field.Element.TheVariants as elements
 use Rattle.pg_wire.specs.Varint.{varint}
 use Rattle.pg_wire.specs.Words.{signed, unzigzag}
-use Rattle.pg_dyn.specs.Message.{Leaf, Int, F32, F64, Bytes, is_zero}
-use Rattle.pg_dyn.specs.Coding.{Whole, Form, Integer, int32, scalar_form, body, leaf_in, word_bytes, word_in, InRange}
-use Rattle.pg_dyn.specs.Comparison.{numbers}
+use Rattle.pg_dyn.specs.message.Message.{Leaf, Int, F32, F64, Bytes, is_zero}
+use Rattle.pg_dyn.specs.word.Coding.{Whole, Form, Integer, int32, scalar_form, body, leaf_in, word_bytes, word_in, InRange}
+use Rattle.pg_dyn.specs.views.Comparison.{numbers}
 use Rattle.pg_pairs.specs.declared.gaps.gap_kind.Gap.{Gap}
 use Rattle.pg_pairs.specs.declared.gaps.gap_kind.Gap.TheVariants as gaps
 use Rattle.pg_pairs.specs.gaps.Likeness.{like}

@@ -11,14 +11,14 @@ use Rattle.pg_schema.specs.declared.parts.field.Presence.{Presence}
 use Rattle.pg_schema.specs.Shape.{FieldShape, is_repeated, is_implicit}
 use Rattle.pg_wire.specs.Reading.{row}
 use Rattle.pg_wire.specs.Records.{WireRecord}
-use Rattle.pg_dyn.specs.Optional.{all_some, joined, last_of}
-use Rattle.pg_dyn.specs.Message.{Leaf, Int, F32, F64, Bytes, Item, Msg, Message, Part, is_zero}
-use Rattle.pg_dyn.specs.Coding.{Form, Integer, Single, Double, Text, Raw, form, form_wire, leaf_in, element_at, InRange}
+use Rattle.pg_dyn.specs.reading.Optional.{all_some, joined, last_of}
+use Rattle.pg_dyn.specs.message.Message.{Leaf, Int, F32, F64, Bytes, Item, Msg, Message, Part, is_zero}
+use Rattle.pg_dyn.specs.word.Coding.{Form, Integer, Single, Double, Text, Raw, form, form_wire, leaf_in, element_at, InRange}
 use Rattle.pg_dyn.specs.reading.Content.{same_wire, takes, leaves_in, packed_leaves, option_from, leaf_bytes, last_item, plain_content, entry_in, by_key}
 use Rattle.pg_dyn.specs.reading.Decoding.{Reader, read_item, read_part}
-use Rattle.pg_dyn.specs.Comparison.{View, Alike, same_key, matches, alike_leaves, Kept, Comparand}
+use Rattle.pg_dyn.specs.views.Comparison.{View, Alike, same_key, matches, alike_leaves, Kept, Comparand}
 use Rattle.pg_dyn.proofs.Lists.{each_weaker, each_of_all, each-map, and_then_some, option_map_some, each_some, each-joined, each_filtered}
-use Rattle.pg_dyn.specs.ByComparands.{field_read}
+use Rattle.pg_dyn.specs.laws.ByComparands.{field_read}
 use Rattle.pg_pairs.proofs.lemmas.gaps.Leaves.{alike_equal}
 use Rattle.pg_pairs.proofs.lemmas.gaps.GapItems.{IsLeafy}
 use Rattle.pg_pairs.proofs.lemmas.bounds.AcrossPlain.{plain_part, NotMap}

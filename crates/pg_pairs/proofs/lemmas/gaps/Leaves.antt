@@ -3,9 +3,9 @@ use Rattle.std.proofs.Common.{◌≡◌, true, Option, Some, None, ap, sym, subs
 use Rattle.std.proofs.lemmas.Bool.{and_parts}
 use Rattle.pg_schema.specs.declared.parts.field.Element.{Element}
 use Rattle.pg_schema.specs.declared.parts.field.Element.TheVariants as elements
-use Rattle.pg_dyn.specs.Message.{Leaf, Int}
-use Rattle.pg_dyn.specs.Coding.{form, body, leaf_in}
-use Rattle.pg_dyn.specs.Comparison.{View, alike_leaves}
+use Rattle.pg_dyn.specs.message.Message.{Leaf, Int}
+use Rattle.pg_dyn.specs.word.Coding.{form, body, leaf_in}
+use Rattle.pg_dyn.specs.views.Comparison.{View, alike_leaves}
 use Rattle.pg_pairs.specs.gaps.TrueGaps.{is_alike_read, is_seen}
 use Rattle.pg_dyn.proofs.PublicLaws.{equal_leaves}
 

@@ -6,7 +6,7 @@ use Rattle.pg_schema.specs.declared.parts.field.Element.TheVariants as elements
 use Rattle.pg_schema.specs.Shape.{is_packable}
 use Rattle.pg_wire.specs.declared.record.WireType.{WireType}
 use Rattle.pg_wire.specs.declared.record.WireType.TheVariants.{Varint, I64, Len, I32}
-use Rattle.pg_dyn.specs.Coding.{Form, Integer, Single, Double, Text, Raw, form, form_wire}
+use Rattle.pg_dyn.specs.word.Coding.{Form, Integer, Single, Double, Text, Raw, form, form_wire}
 use Rattle.pg_dyn.specs.reading.Content.{same_wire}
 use Rattle.pg_pairs.specs.gaps.Likeness.{like_forms, like}
 

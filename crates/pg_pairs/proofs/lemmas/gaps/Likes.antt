@@ -4,7 +4,7 @@ use Rattle.pg_schema.specs.declared.parts.field.Element.{Element}
 use Rattle.pg_schema.specs.declared.parts.field.Element.TheVariants as elements
 use Rattle.pg_wire.specs.declared.record.WireType.{WireType}
 use Rattle.pg_wire.specs.Records.{wire_code}
-use Rattle.pg_dyn.specs.Coding.{Form, Integer, Single, Double, Text, Raw, form}
+use Rattle.pg_dyn.specs.word.Coding.{Form, Integer, Single, Double, Text, Raw, form}
 use Rattle.pg_dyn.specs.reading.Content.{same_wire}
 use Rattle.pg_pairs.specs.gaps.Likeness.{like, like_forms}
 use Rattle.pg_pairs.proofs.lemmas.gaps.Likeness.{same_wire-true}

@@ -13,13 +13,13 @@ use Rattle.pg_wire.specs.declared.record.WireType.TheVariants.{Varint, I64, Len,
 use Rattle.pg_wire.specs.Varint.{varint}
 use Rattle.pg_wire.specs.Words.{signed, unzigzag}
 use Rattle.pg_wire.specs.Records.{WireRecord, written}
-use Rattle.pg_dyn.specs.Message.{Leaf, Int, F32, F64, Bytes, is_zero}
-use Rattle.pg_dyn.specs.Coding.{Form, Integer, Single, Double, Text, Raw, form, form_wire, body, leaf_in, word_bytes, word_in, zero_leaf, InRange}
+use Rattle.pg_dyn.specs.message.Message.{Leaf, Int, F32, F64, Bytes, is_zero}
+use Rattle.pg_dyn.specs.word.Coding.{Form, Integer, Single, Double, Text, Raw, form, form_wire, body, leaf_in, word_bytes, word_in, zero_leaf, InRange}
 use Rattle.pg_dyn.specs.reading.Content.{same_wire, takes, leaves_in, last_item}
 use Rattle.pg_dyn.specs.encoding.Writing.{item_record}
 use Rattle.pg_dyn.specs.reading.Decoding.{Reader, is_child}
-use Rattle.pg_dyn.specs.Comparison.{View, Alike, is_zero_expected, same_content, Comparand, expects}
-use Rattle.pg_dyn.specs.ByComparands.{field_read, all_field_readable, is_field_kept}
+use Rattle.pg_dyn.specs.views.Comparison.{View, Alike, is_zero_expected, same_content, Comparand, expects}
+use Rattle.pg_dyn.specs.laws.ByComparands.{field_read, all_field_readable, is_field_kept}
 use Rattle.pg_pairs.proofs.lemmas.gaps.GapItems.{IsLeafy}
 use Rattle.pg_pairs.proofs.lemmas.gaps.Likeness.{same_wire-true}
 use Rattle.pg_dyn.proofs.PublicLaws.{last_items}

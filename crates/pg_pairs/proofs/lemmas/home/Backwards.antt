@@ -10,14 +10,14 @@ use Rattle.pg_schema.specs.declared.parts.field.Presence.{Presence}
 use Rattle.pg_schema.specs.declared.parts.field.Presence.TheVariants as presences
 use Rattle.pg_schema.specs.Shape.{Shape, FieldShape, is_singular, is_implicit, is_repeated, is_packable}
 use Rattle.pg_schema.specs.ShapeRules.{PresenceFits}
-use Rattle.pg_dyn.specs.Message.{Leaf, Part, is_zero, key_cmp}
-use Rattle.pg_dyn.specs.Coding.{form, body, zero_leaf, InRange}
-use Rattle.pg_dyn.specs.Bodies.{IsReadAs}
+use Rattle.pg_dyn.specs.message.Message.{Leaf, Part, is_zero, key_cmp}
+use Rattle.pg_dyn.specs.word.Coding.{form, body, zero_leaf, InRange}
+use Rattle.pg_dyn.specs.laws.Bodies.{IsReadAs}
 use Rattle.pg_dyn.specs.encoding.Writing.{is_packed, key_of}
 use Rattle.pg_dyn.specs.reading.Decoding.{dec, is_child}
 use Rattle.pg_dyn.specs.encoding.Encoding.{element_type}
-use Rattle.pg_dyn.specs.Belonging.{MayBeZero}
-use Rattle.pg_dyn.specs.Comparison.{numbers, Comparand, writes}
+use Rattle.pg_dyn.specs.fitting.Belonging.{MayBeZero}
+use Rattle.pg_dyn.specs.views.Comparison.{numbers, Comparand, writes}
 use Rattle.pg_dyn.proofs.Lists.{each_weaker, each_both, each-map, each_of_all}
 use Rattle.pg_pairs.specs.gaps.Likeness.{like}
 use Rattle.pg_pairs.specs.laws.ReadBack.{is_bool_of_zigzag}

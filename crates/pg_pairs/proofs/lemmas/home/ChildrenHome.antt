@@ -7,15 +7,15 @@ use Rattle.pg_schema.specs.declared.parts.field.Element.TheVariants as elements
 use Rattle.pg_schema.specs.declared.parts.field.Presence.{Presence}
 use Rattle.pg_schema.specs.Shape.{Shape, FieldShape, fields, field_at, is_singular}
 use Rattle.pg_schema.specs.ShapeRules.{IsShape}
-use Rattle.pg_dyn.specs.Message.{Leaf, Bytes, Message, ends, holds, nests, IsPlain, unknown_of}
-use Rattle.pg_dyn.specs.Coding.{form, InRange}
+use Rattle.pg_dyn.specs.message.Message.{Leaf, Bytes, Message, ends, holds, nests, IsPlain, unknown_of}
+use Rattle.pg_dyn.specs.word.Coding.{form, InRange}
 use Rattle.pg_dyn.specs.encoding.Writing.{bytes_of, is_packed, records_in}
 use Rattle.pg_dyn.specs.encoding.Encoding.{cap, child_type, enc, encoded_parts}
 use Rattle.pg_dyn.specs.reading.Decoding.{dec}
-use Rattle.pg_dyn.specs.Belonging.{IsMessage, LeafFits}
-use Rattle.pg_dyn.specs.OwnParts.{ChildrenShorter}
-use Rattle.pg_dyn.specs.ByComparands.{comparands_at}
-use Rattle.pg_dyn.specs.Comparison.{Alike, Expected, numbers, Comparand, comparands, Kept, same_message, expected, unshared_bytes}
+use Rattle.pg_dyn.specs.fitting.Belonging.{IsMessage, LeafFits}
+use Rattle.pg_dyn.specs.laws.OwnParts.{ChildrenShorter}
+use Rattle.pg_dyn.specs.laws.ByComparands.{comparands_at}
+use Rattle.pg_dyn.specs.views.Comparison.{Alike, Expected, numbers, Comparand, comparands, Kept, same_message, expected, unshared_bytes}
 use Rattle.pg_dyn.proofs.Lists.{each_weaker, each_both, each-filter, each_at, none_list_any}
 use Rattle.pg_pairs.specs.declared.choices.choice.Pair.{Pair}
 use Rattle.pg_pairs.specs.bounds.Covering.{IsAmong, children, has_children}

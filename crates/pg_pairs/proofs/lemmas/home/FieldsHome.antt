@@ -8,12 +8,12 @@ use Rattle.pg_schema.specs.declared.parts.field.Element.TheVariants as elements
 use Rattle.pg_schema.specs.declared.parts.field.Presence.TheVariants as presences
 use Rattle.pg_schema.specs.Shape.{Shape, FieldShape}
 use Rattle.pg_wire.specs.Records.{WireRecord}
-use Rattle.pg_dyn.specs.Message.{Item, Plain, Msg, Part, is_of, is_zero}
+use Rattle.pg_dyn.specs.message.Message.{Item, Plain, Msg, Part, is_of, is_zero}
 use Rattle.pg_dyn.specs.reading.Content.{takes}
 use Rattle.pg_dyn.specs.encoding.Writing.{field_records}
 use Rattle.pg_dyn.specs.reading.Decoding.{Reader, is_readable}
-use Rattle.pg_dyn.specs.Comparison.{Expected, Alike, Kept, Comparand, numbers, writes, expects, is_zero_expected, is_zero_item, same_key, matches, shown}
-use Rattle.pg_dyn.specs.ByComparands.{field_read, all_field_readable}
+use Rattle.pg_dyn.specs.views.Comparison.{Expected, Alike, Kept, Comparand, numbers, writes, expects, is_zero_expected, is_zero_item, same_key, matches, shown}
+use Rattle.pg_dyn.specs.laws.ByComparands.{field_read, all_field_readable}
 use Rattle.pg_dyn.proofs.Lists.{each_weaker, filter_all, filter-filter_weaker, list_all_each, map_map}
 use Rattle.pg_pairs.specs.home.Home.{drops_zero, home_content}
 use Rattle.pg_pairs.specs.inner.Contents.{Holds}

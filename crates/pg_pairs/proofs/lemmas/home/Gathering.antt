@@ -5,12 +5,12 @@ use Rattle.std.proofs.lemmas.Bool.{and_right, cases_Bool, false_from_ne_true}
 use Rattle.pg_schema.specs.Shape.{FieldShape, field_at}
 use Rattle.pg_schema.specs.ShapeRules.{Rising}
 use Rattle.pg_wire.specs.Records.{WireRecord}
-use Rattle.pg_dyn.specs.Optional.{all_some, joined}
-use Rattle.pg_dyn.specs.Message.{Item, Message, Part, is_of, parts, message_from}
+use Rattle.pg_dyn.specs.reading.Optional.{all_some, joined}
+use Rattle.pg_dyn.specs.message.Message.{Item, Message, Part, is_of, parts, message_from}
 use Rattle.pg_dyn.specs.reading.Content.{takes, is_sibling, is_unknown, counted, content}
 use Rattle.pg_dyn.specs.reading.Decoding.{Reader, is_readable, all_readable, read_part, field_parts, read_records}
-use Rattle.pg_dyn.specs.Laws.{of_number}
-use Rattle.pg_dyn.specs.ByComparands.{field_read, all_field_readable}
+use Rattle.pg_dyn.specs.laws.Laws.{of_number}
+use Rattle.pg_dyn.specs.laws.ByComparands.{field_read, all_field_readable}
 use Rattle.pg_dyn.proofs.Lists.{all_some-map, each_weaker, each_of_all, each_swap, filtered_out, list_all_each, list_all_true, list_any_none, after_last_of_none, filter-after_last_of_none, filter-filter_weaker, each_unfiltered}
 use Rattle.pg_dyn.proofs.PublicLaws.{fields_are_found, message_splits, records_of_fields}
 

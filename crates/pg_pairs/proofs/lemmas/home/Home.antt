@@ -4,14 +4,14 @@ use Rattle.std.proofs.lemmas.Bool.{false_from_ne_true}
 use Rattle.pg_schema.specs.declared.parts.field.TypeId.{TypeId}
 use Rattle.pg_schema.specs.Shape.{Shape}
 use Rattle.pg_schema.specs.ShapeRules.{IsShape}
-use Rattle.pg_dyn.specs.Message.{Message, ends, holds, nests}
+use Rattle.pg_dyn.specs.message.Message.{Message, ends, holds, nests}
 use Rattle.pg_dyn.specs.encoding.Encoding.{enc}
 use Rattle.pg_dyn.specs.reading.Decoding.{dec}
-use Rattle.pg_dyn.specs.Comparison.{View}
-use Rattle.pg_dyn.specs.Breaking.{Compatible, is_kept}
+use Rattle.pg_dyn.specs.views.Comparison.{View}
+use Rattle.pg_dyn.specs.views.Breaking.{Compatible, is_kept}
 use Rattle.pg_pairs.specs.home.Home.{home, comes_home}
-use Rattle.pg_dyn.specs.Laws.{ReadsAgain}
-use Rattle.pg_dyn.specs.ViewNames.{KeptByNumber}
+use Rattle.pg_dyn.specs.laws.Laws.{ReadsAgain}
+use Rattle.pg_dyn.specs.views.ViewNames.{KeptByNumber}
 use Rattle.pg_pairs.proofs.lemmas.bounds.Dearer.{CompatibleTo}
 use Rattle.pg_pairs.proofs.lemmas.home.ChildrenHome.{ComesHome, ChildrenComeHome}
 use Rattle.pg_pairs.specs.laws.ComesHome.{MessagesComeHome}

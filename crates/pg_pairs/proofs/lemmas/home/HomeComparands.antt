@@ -2,10 +2,10 @@
 use Rattle.std.proofs.Common.{◌≡◌, ℕ, map, filter, refl, ap, sym, ◌∙◌, List, [], ◌∷◌, ◌++◌, if◌then◌else◌, is_some}
 use Rattle.pg_schema.specs.declared.parts.field.TypeId.{TypeId}
 use Rattle.pg_schema.specs.Shape.{Shape, fields, field_at}
-use Rattle.pg_dyn.specs.Message.{Message, ends, holds, nests, is_of, Bytes, unknown_of}
+use Rattle.pg_dyn.specs.message.Message.{Message, ends, holds, nests, is_of, Bytes, unknown_of}
 use Rattle.pg_dyn.specs.encoding.Encoding.{encoded_parts, child_type}
-use Rattle.pg_dyn.specs.Comparison.{numbers, comparands, expects, writes, Alike, Kept, Comparand}
-use Rattle.pg_dyn.specs.ByComparands.{comparands_at}
+use Rattle.pg_dyn.specs.views.Comparison.{numbers, comparands, expects, writes, Alike, Kept, Comparand}
+use Rattle.pg_dyn.specs.laws.ByComparands.{comparands_at}
 use Rattle.pg_dyn.proofs.Lists.{filter-map}
 use Rattle.pg_pairs.specs.home.Home.{homeward, home_message, message_eq}
 use Rattle.pg_dyn.proofs.PublicLaws.{comparands_are_written}

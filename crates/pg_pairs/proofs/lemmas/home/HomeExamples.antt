@@ -7,10 +7,10 @@ use Rattle.pg_wire.specs.Reading.{exactly, row}
 use Rattle.pg_wire.specs.Varint.{varint_at, varint}
 use Rattle.pg_wire.specs.Words.{signed, unzigzag}
 use Rattle.pg_wire.specs.Records.{tag_parts, record_at, records_of, tag, written}
-use Rattle.pg_dyn.specs.Coding.{word_bytes, word_in}
+use Rattle.pg_dyn.specs.word.Coding.{word_bytes, word_in}
 use Rattle.pg_dyn.specs.encoding.Encoding.{enc}
 use Rattle.pg_dyn.specs.reading.Decoding.{dec}
-use Rattle.pg_dyn.specs.Examples.{first, second, int32, tree}
+use Rattle.pg_dyn.specs.laws.Examples.{first, second, int32, tree}
 use Rattle.pg_pairs.specs.declared.choices.choice.Pair.{Pair}
 use Rattle.pg_pairs.specs.bounds.Covering.{IsAmong, children}
 use Rattle.pg_pairs.specs.graph.Reached.{itself, onwards}

@@ -9,16 +9,16 @@ use Rattle.pg_schema.specs.declared.parts.field.Presence.TheVariants as presence
 use Rattle.pg_schema.specs.Shape.{Shape, FieldShape, fields, field_at}
 use Rattle.pg_schema.specs.ShapeRules.{PresenceFits}
 use Rattle.pg_wire.specs.Records.{WireRecord}
-use Rattle.pg_dyn.specs.Message.{Leaf, Bytes, Item, Message, Part, is_of, is_zero, parts, unknown_of}
+use Rattle.pg_dyn.specs.message.Message.{Leaf, Bytes, Item, Message, Part, is_of, is_zero, parts, unknown_of}
 use Rattle.pg_dyn.specs.reading.Content.{takes, is_unknown}
-use Rattle.pg_dyn.specs.Coding.{form, InRange}
+use Rattle.pg_dyn.specs.word.Coding.{form, InRange}
 use Rattle.pg_dyn.specs.encoding.Writing.{item_record, bytes_of, field_records, records_in}
 use Rattle.pg_dyn.specs.encoding.Encoding.{child_type, element_type, enc, encoded_parts}
 use Rattle.pg_dyn.specs.reading.Decoding.{dec, read_records}
-use Rattle.pg_dyn.specs.OwnParts.{ChildrenShorter}
-use Rattle.pg_dyn.specs.Comparison.{numbers, Alike, Expected, Comparand, comparands, writes, expects, is_zero_expected}
-use Rattle.pg_dyn.specs.ByComparands.{comparands_at, field_read, all_field_readable}
-use Rattle.pg_dyn.specs.Laws.{of_number}
+use Rattle.pg_dyn.specs.laws.OwnParts.{ChildrenShorter}
+use Rattle.pg_dyn.specs.views.Comparison.{numbers, Alike, Expected, Comparand, comparands, writes, expects, is_zero_expected}
+use Rattle.pg_dyn.specs.laws.ByComparands.{comparands_at, field_read, all_field_readable}
+use Rattle.pg_dyn.specs.laws.Laws.{of_number}
 use Rattle.pg_dyn.proofs.Lists.{each_weaker, each_both, map_map, each-filter, each_filtered, filter_none, filter-map, list_all_each, list_any_at, each_of_all}
 use Rattle.pg_pairs.specs.gaps.Likeness.{like}
 use Rattle.pg_pairs.specs.choices.Choices.{no_bounds}

@@ -5,10 +5,10 @@ use Rattle.std.proofs.lemmas.Bool.{and_from}
 use lib.Pointwise.{pointwise}
 use Rattle.pg_schema.specs.declared.parts.field.TypeId.{TypeId}
 use Rattle.pg_schema.specs.Shape.{Shape, FieldShape, fields, field_at}
-use Rattle.pg_dyn.specs.Message.{Bytes, Item, Plain, Msg, Message, ends, holds, nests, Part, parts}
+use Rattle.pg_dyn.specs.message.Message.{Bytes, Item, Plain, Msg, Message, ends, holds, nests, Part, parts}
 use Rattle.pg_dyn.specs.encoding.Writing.{bytes_of}
 use Rattle.pg_dyn.specs.encoding.Encoding.{child_type}
-use Rattle.pg_dyn.specs.Comparison.{Expected, Alike, Kept, numbers, is_zero_expected, is_zero_item, same_key, matches, shown}
+use Rattle.pg_dyn.specs.views.Comparison.{Expected, Alike, Kept, numbers, is_zero_expected, is_zero_item, same_key, matches, shown}
 use Rattle.pg_pairs.specs.home.Home.{home_content, home_message, homeward, message_eq}
 use Rattle.pg_dyn.proofs.PublicLaws.{equal_leaves}
 use Rattle.pg_pairs.proofs.lemmas.home.Returned.{alike_self}

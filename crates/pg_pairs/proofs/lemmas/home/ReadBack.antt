@@ -7,8 +7,8 @@ use Rattle.pg_schema.specs.declared.parts.field.Element.TheVariants as elements
 use Rattle.pg_wire.specs.Varint.{varint, varint_value}
 use Rattle.pg_wire.specs.Words.{IsBetween, signed, twos_complement, unzigzag, zigzag}
 use Rattle.pg_wire.specs.declared.record.WireType.TheVariants.{Varint}
-use Rattle.pg_dyn.specs.Message.{Leaf, Int, F32, F64, Bytes}
-use Rattle.pg_dyn.specs.Coding.{Whole, Form, Integer, int32, Text, Raw, InRange, body, leaf_in, scalar_form, word_bytes, word_in}
+use Rattle.pg_dyn.specs.message.Message.{Leaf, Int, F32, F64, Bytes}
+use Rattle.pg_dyn.specs.word.Coding.{Whole, Form, Integer, int32, Text, Raw, InRange, body, leaf_in, scalar_form, word_bytes, word_in}
 use Rattle.pg_pairs.specs.gaps.Likeness.{like}
 use Rattle.pg_pairs.specs.laws.ReadBack.{SeenItemsHaveOneBody, is_bool_of_zigzag}
 use Rattle.pg_wire.proofs.PublicLaws.{varint_read_again}

@@ -6,15 +6,15 @@ use Rattle.pg_schema.specs.declared.parts.field.TypeId.{TypeId}
 use Rattle.pg_schema.specs.Shape.{Shape, FieldShape, fields, field_at}
 use Rattle.pg_schema.specs.ShapeRules.{IsType, IsShape}
 use Rattle.pg_wire.specs.Records.{WireRecord, records_of}
-use Rattle.pg_dyn.specs.Message.{Item, Message, Part, IsPlain, is_of, parts, unknown_of}
+use Rattle.pg_dyn.specs.message.Message.{Item, Message, Part, IsPlain, is_of, parts, unknown_of}
 use Rattle.pg_dyn.specs.reading.Content.{takes, is_sibling, is_unknown}
 use Rattle.pg_dyn.specs.encoding.Writing.{field_records, records_in}
 use Rattle.pg_dyn.specs.encoding.Encoding.{cap, enc, encoded_parts}
 use Rattle.pg_dyn.specs.reading.Decoding.{dec, is_readable, read_records}
-use Rattle.pg_dyn.specs.Belonging.{IsMessage}
-use Rattle.pg_dyn.specs.Comparison.{numbers, Expected, Comparand, comparands, writes, expects}
-use Rattle.pg_dyn.specs.ByComparands.{comparands_at, field_read, all_field_readable}
-use Rattle.pg_dyn.specs.Laws.{ReadsAgain, of_number}
+use Rattle.pg_dyn.specs.fitting.Belonging.{IsMessage}
+use Rattle.pg_dyn.specs.views.Comparison.{numbers, Expected, Comparand, comparands, writes, expects}
+use Rattle.pg_dyn.specs.laws.ByComparands.{comparands_at, field_read, all_field_readable}
+use Rattle.pg_dyn.specs.laws.Laws.{ReadsAgain, of_number}
 use Rattle.pg_dyn.proofs.Lists.{each_weaker, each_filtered, filter_all, filter-append', filter_swap, filter-map, list_all_each, list_all_true, list_any_none, each_at}
 use Rattle.pg_pairs.specs.home.Returns.{Returns}
 use Rattle.pg_pairs.specs.home.Home.{homeward}

@@ -5,14 +5,14 @@ use Rattle.pg_schema.specs.declared.parts.field.TypeId.{TypeId}
 use Rattle.pg_schema.specs.declared.parts.field.Element.{Element}
 use Rattle.pg_schema.specs.declared.parts.field.Element.TheVariants as elements
 use Rattle.pg_schema.specs.Shape.{Shape, FieldShape, fields, field_at}
-use Rattle.pg_dyn.specs.Message.{Leaf, Int, F32, F64, Bytes, Item, Plain, Msg, Message, ends, holds, nests, Part, parts, is_of, leaf_eq}
-use Rattle.pg_dyn.specs.Coding.{form, body, InRange}
-use Rattle.pg_dyn.specs.Bodies.{IsReadAs, IsNestedLeaf}
+use Rattle.pg_dyn.specs.message.Message.{Leaf, Int, F32, F64, Bytes, Item, Plain, Msg, Message, ends, holds, nests, Part, parts, is_of, leaf_eq}
+use Rattle.pg_dyn.specs.word.Coding.{form, body, InRange}
+use Rattle.pg_dyn.specs.laws.Bodies.{IsReadAs, IsNestedLeaf}
 use Rattle.pg_dyn.specs.reading.Decoding.{Reader, dec, is_child, read_item}
 use Rattle.pg_dyn.specs.encoding.Encoding.{cap, child_type, element_type, enc, encoded_parts}
-use Rattle.pg_dyn.specs.Belonging.{IsMessage}
-use Rattle.pg_dyn.specs.OwnParts.{ChildrenShorter}
-use Rattle.pg_dyn.specs.Comparison.{numbers, Comparand, writes, Alike, alike_leaves, Kept}
+use Rattle.pg_dyn.specs.fitting.Belonging.{IsMessage}
+use Rattle.pg_dyn.specs.laws.OwnParts.{ChildrenShorter}
+use Rattle.pg_dyn.specs.views.Comparison.{numbers, Comparand, writes, Alike, alike_leaves, Kept}
 use Rattle.pg_dyn.proofs.Lists.{each_weaker, filter-map, map_map, map_same}
 use Rattle.pg_pairs.specs.gaps.Likeness.{like}
 use Rattle.pg_pairs.specs.laws.ReadBack.{is_bool_of_zigzag}

@@ -8,7 +8,7 @@ use Rattle.std.specs.String.{string_bytes}
 use Rattle.std.proofs.lemmas.Bool.{leb-false, and_left, and_right, or_left, or_right}
 use Rattle.std.proofs.lemmas.Bool.Decides.{Decides-int_eq}
 use Rattle.pg_schema.specs.declared.parts.enum_type.EnumValue.{EnumValue}
-use Rattle.pg_dyn.specs.ViewNames.{NamedNumber, named, declares, has_name}
+use Rattle.pg_dyn.specs.views.ViewNames.{NamedNumber, named, declares, has_name}
 use Rattle.pg_pairs.specs.views.LeastNumbers.{number_word}
 use Rattle.pg_pairs.specs.inner.MissingNames.{is_missing}
 

@@ -7,7 +7,7 @@ use Rattle.std.proofs.lemmas.Bool.Decides.{Decides-int_eq}
 use mir.Syntax.{w32}
 use mir.Val.{SFits}
 use Rattle.pg_schema.specs.declared.parts.enum_type.EnumValue.{EnumValue}
-use Rattle.pg_dyn.specs.ViewNames.{NamedNumber, named, declares, has_name, names_within, same_names}
+use Rattle.pg_dyn.specs.views.ViewNames.{NamedNumber, named, declares, has_name, names_within, same_names}
 use Rattle.pg_pairs.specs.bounds.Covering.{IsAmong}
 use Rattle.pg_pairs.specs.views.ViewLaws.{Differs}
 use Rattle.pg_pairs.specs.views.LeastNumbers.{least_number, lesser, lesser_of, has_32_bits, number_counts}

@@ -5,7 +5,7 @@ use Rattle.std.proofs.lemmas.Bool.{and_parts, and_from, or_parts, ltb-true, lt-l
 use Rattle.std.proofs.lemmas.Bool.Decides.{Decides-int_eq}
 use Rattle.pg_schema.specs.declared.parts.enum_type.EnumType.{EnumType}
 use Rattle.pg_wire.specs.Words.{IsBetween}
-use Rattle.pg_dyn.specs.ViewNames.{NamedNumber, named_numbers, declares, names_within, same_names}
+use Rattle.pg_dyn.specs.views.ViewNames.{NamedNumber, named_numbers, declares, names_within, same_names}
 use Rattle.pg_pairs.specs.bounds.Covering.{IsAmong}
 use Rattle.pg_pairs.specs.views.ViewLaws.{Counts, Differs, IsLeastOf}
 use Rattle.pg_pairs.specs.views.LeastNumbers.{least_number, has_32_bits, number_counts}

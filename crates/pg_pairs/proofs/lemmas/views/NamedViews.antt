@@ -5,7 +5,7 @@ use Rattle.pg_schema.specs.declared.parts.Parts.{Parts}
 use Rattle.pg_schema.specs.Parts.{enum_at}
 use Rattle.pg_dyn.specs.declared.view_name.ViewName.{ViewName}
 use Rattle.pg_dyn.specs.declared.view_name.ViewName.TheVariants as views
-use Rattle.pg_dyn.specs.ViewNames.{alike_there, alike_under}
+use Rattle.pg_dyn.specs.views.ViewNames.{alike_there, alike_under}
 use Rattle.pg_pairs.specs.views.ViewLaws.{IsEnumView, IsLeastOf, NumbersAreAlike}
 use Rattle.pg_pairs.specs.views.NamedView.{least_there, least_under, seen_under}
 use Rattle.pg_pairs.proofs.lemmas.views.NameLaws.{least_by_name_is}

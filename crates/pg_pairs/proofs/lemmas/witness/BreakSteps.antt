@@ -6,17 +6,17 @@ use Rattle.pg_schema.specs.declared.parts.field.TypeId.{TypeId}
 use Rattle.pg_schema.specs.Shape.{Shape, FieldShape, fields, field_at}
 use Rattle.pg_schema.specs.ShapeRules.{IsShape}
 use Rattle.pg_wire.specs.Records.{WireRecord}
-use Rattle.pg_dyn.specs.Belonging.{IsMessage}
-use Rattle.pg_dyn.specs.Breaking.{Breaks, is_kept}
-use Rattle.pg_dyn.specs.Comparison.{View, same}
+use Rattle.pg_dyn.specs.fitting.Belonging.{IsMessage}
+use Rattle.pg_dyn.specs.views.Breaking.{Breaks, is_kept}
+use Rattle.pg_dyn.specs.views.Comparison.{View, same}
 use Rattle.pg_dyn.specs.reading.Decoding.{Reader, dec, read_records}
 use Rattle.pg_dyn.specs.encoding.Encoding.{cap, enc, encoded_parts}
-use Rattle.pg_dyn.specs.Fits.{Fits}
-use Rattle.pg_dyn.specs.Kept.{Kept, message_of, type_of}
-use Rattle.pg_dyn.specs.Kept as kept
-use Rattle.pg_dyn.specs.Laws.{ReadsAgain}
-use Rattle.pg_dyn.specs.Message.{Message, unknown_of}
-use Rattle.pg_dyn.specs.Message as model
+use Rattle.pg_dyn.specs.fitting.Fits.{Fits}
+use Rattle.pg_dyn.specs.message.Kept.{Kept, message_of, type_of}
+use Rattle.pg_dyn.specs.message.KeptParts as kept_parts
+use Rattle.pg_dyn.specs.laws.Laws.{ReadsAgain}
+use Rattle.pg_dyn.specs.message.Message.{Message, unknown_of}
+use Rattle.pg_dyn.specs.message.Message as model
 use Rattle.pg_dyn.specs.encoding.Writing.{records_in}
 use Rattle.pg_dyn.proofs.PublicLaws.{decoding_is, encoding_spells, kept_by_field, plain_is_kept}
 
@@ -76,7 +76,7 @@ module _ (view : View) (old new : Shape) (m : Kept) (a b : TypeId) where
   abbrev pub Answers : Bool → Type 0
   Answers so = IsTrue so ↔ ((type_of m ≡ a) × Breaks view old new a b (message_of m))
 
-  pub answered : (x : Bool) → type_of m ≡ a → Fits old m → kept.IsPlain m → length (enc old (type_of m) (message_of m)) ≤ cap → is_kept view old new (type_of m) b (message_of m) ≡ x → Answers (not x)
+  pub answered : (x : Bool) → type_of m ≡ a → Fits old m → kept_parts.IsPlain m → length (enc old (type_of m) (message_of m)) ≤ cap → is_kept view old new (type_of m) b (message_of m) ≡ x → Answers (not x)
   answered x type_is fits plain short is = (
     λ e.
         subst (λ t. (type_of m ≡ t) × Breaks view old new t b (message_of m)) type_is

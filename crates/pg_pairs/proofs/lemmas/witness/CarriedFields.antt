@@ -11,10 +11,10 @@ use Rattle.pg_schema.specs.declared.parts.field.Presence.TheVariants as presence
 use Rattle.pg_schema.specs.Shape.{Shape, FieldShape, fields, field_at, is_packable, is_singular}
 use Rattle.pg_schema.specs.ShapeRules.{PresenceFits, IsShape}
 use Rattle.pg_wire.specs.Records.{tag}
-use Rattle.pg_dyn.specs.Message.{Leaf, Plain, Msg, Message, ends, holds, nests, with_part}
-use Rattle.pg_dyn.specs.Coding.{form, form_wire, zero_leaf, InRange}
+use Rattle.pg_dyn.specs.message.Message.{Leaf, Plain, Msg, Message, ends, holds, nests, with_part}
+use Rattle.pg_dyn.specs.word.Coding.{form, form_wire, zero_leaf, InRange}
 use Rattle.pg_dyn.specs.encoding.Encoding.{cap}
-use Rattle.pg_dyn.specs.Belonging.{KeyFits}
+use Rattle.pg_dyn.specs.fitting.Belonging.{KeyFits}
 use Rattle.pg_dyn.proofs.Lists.{each-append, option_map_some}
 use Rattle.pg_pairs.specs.declared.choices.case.Case.{Case}
 use Rattle.pg_pairs.specs.declared.choices.case.Case.TheVariants as cases

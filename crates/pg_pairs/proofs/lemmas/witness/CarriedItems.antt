@@ -4,8 +4,8 @@ use Rattle.pg_schema.specs.declared.parts.field.TypeId.{TypeId}
 use Rattle.pg_schema.specs.declared.parts.field.Element.{Element}
 use Rattle.pg_schema.specs.declared.parts.field.Element.TheVariants as elements
 use Rattle.pg_schema.specs.declared.parts.field.Presence.TheVariants as presences
-use Rattle.pg_dyn.specs.Message.{Leaf, Message, holds, with_part}
-use Rattle.pg_dyn.specs.Coding.{Form, form}
+use Rattle.pg_dyn.specs.message.Message.{Leaf, Message, holds, with_part}
+use Rattle.pg_dyn.specs.word.Coding.{Form, form}
 use Rattle.pg_pairs.specs.views.EnumView.{EnumView}
 use Rattle.pg_pairs.specs.views.ViewLaws.{IsEnumView}
 use Rattle.pg_pairs.specs.gaps.Likeness.{like}

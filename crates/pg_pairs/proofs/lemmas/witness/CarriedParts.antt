@@ -3,8 +3,8 @@ use Rattle.std.proofs.Common.{◌≡◌, ℕ, Bool, true, false, if◌then◌els
 use Rattle.pg_schema.specs.declared.parts.field.Scalar.{Scalar}
 use Rattle.pg_schema.specs.declared.parts.field.Element.{Element}
 use Rattle.pg_schema.specs.declared.parts.field.Element.TheVariants as elements
-use Rattle.pg_dyn.specs.Message.{ends, with_part}
-use Rattle.pg_dyn.specs.Coding.{form, zero_leaf}
+use Rattle.pg_dyn.specs.message.Message.{ends, with_part}
+use Rattle.pg_dyn.specs.word.Coding.{form, zero_leaf}
 use Rattle.pg_pairs.specs.declared.witness.item.Small.TheVariants.{Zero, Far}
 use Rattle.pg_pairs.specs.gaps.Likeness.{like}
 use Rattle.pg_pairs.specs.witness.Carried.{far_leaf, apart_leaf, apart_item, item_by, alone}

@@ -7,16 +7,16 @@ use Rattle.pg_schema.specs.declared.parts.field.Presence.{Presence}
 use Rattle.pg_schema.specs.declared.parts.field.Presence.TheVariants as presences
 use Rattle.pg_schema.specs.Shape.{Shape, FieldShape, fields, field_at}
 use Rattle.pg_schema.specs.ShapeRules.{IsShape}
-use Rattle.pg_dyn.specs.Message.{Leaf, Bytes, Message, ends, holds, nests, is_zero, unknown_of}
+use Rattle.pg_dyn.specs.message.Message.{Leaf, Bytes, Message, ends, holds, nests, is_zero, unknown_of}
 use Rattle.pg_wire.specs.Varint.{varint}
 use Rattle.pg_wire.specs.Records.{tag}
-use Rattle.pg_dyn.specs.Coding.{form, form_wire, InRange}
+use Rattle.pg_dyn.specs.word.Coding.{form, form_wire, InRange}
 use Rattle.pg_dyn.specs.reading.Content.{same_wire, is_sibling}
 use Rattle.pg_dyn.specs.encoding.Writing.{records_in, bytes_of}
 use Rattle.pg_dyn.specs.encoding.Encoding.{child_type, encoded_parts, enc, cap}
 use Rattle.pg_dyn.specs.reading.Decoding.{dec}
-use Rattle.pg_dyn.specs.Belonging.{KeyFits, MayFollow, MayBeZero, LeafFits, IsPart, IsMessage}
-use Rattle.pg_dyn.specs.Comparison.{Alike, hides_zero, same_message, expected, unshared_bytes, Kept, Comparand}
+use Rattle.pg_dyn.specs.fitting.Belonging.{KeyFits, MayFollow, MayBeZero, LeafFits, IsPart, IsMessage}
+use Rattle.pg_dyn.specs.views.Comparison.{Alike, hides_zero, same_message, expected, unshared_bytes, Kept, Comparand}
 use Rattle.std.proofs.lemmas.Bool.{and_right}
 use Rattle.pg_pairs.specs.declared.choices.choice.Pair.{Pair}
 use Rattle.pg_pairs.specs.views.EnumView.{EnumView}
@@ -24,7 +24,7 @@ use Rattle.pg_pairs.specs.gaps.Gaps.{body_length}
 use Rattle.pg_pairs.specs.gaps.TrueGaps.{ItemCounts, IsLeastUnseen}
 use Rattle.pg_pairs.specs.choices.Costs.{with_length, one_item}
 use Rattle.pg_pairs.specs.choices.Choices.{zero_counts}
-use Rattle.pg_dyn.specs.ByComparands.{is_field_kept}
+use Rattle.pg_dyn.specs.laws.ByComparands.{is_field_kept}
 use Rattle.pg_pairs.specs.bounds.Laws.{ReachedBy}
 use Rattle.pg_pairs.specs.inner.Contents.{total}
 use Rattle.pg_pairs.proofs.lemmas.gaps.GapItems.{IsLeafy}

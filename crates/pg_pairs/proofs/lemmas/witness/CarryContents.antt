@@ -5,7 +5,7 @@ use Rattle.pg_schema.specs.declared.parts.field.Element.TheVariants as elements
 use Rattle.pg_schema.specs.declared.parts.field.TypeId.{TypeId}
 use Rattle.pg_schema.specs.Shape.{Shape, FieldShape, fields, field_at}
 use Rattle.pg_schema.specs.ShapeRules.{ElementFits, IsField, IsShape}
-use Rattle.pg_dyn.specs.Kept.{Kept}
+use Rattle.pg_dyn.specs.message.Kept.{Kept}
 use Rattle.pg_dyn.proofs.Lists.{each_at}
 use Rattle.pg_dyn.proofs.PublicLaws.{fields_are_found}
 use Rattle.pg_pairs.specs.declared.choices.case.Case.{Case}

@@ -12,20 +12,20 @@ use Rattle.pg_schema.specs.Shape.{Shape, FieldShape, fields, field_at, is_packab
 use Rattle.pg_schema.specs.ShapeRules.{PresenceFits, IsField, IsShape}
 use Rattle.pg_wire.specs.declared.record.WireType.TheVariants.{Len}
 use Rattle.pg_wire.specs.Records.{written}
-use Rattle.pg_dyn.specs.Message.{Leaf, Message, ends, holds, IsPlain, unknown_of}
-use Rattle.pg_dyn.specs.Coding.{form, form_wire, body, zero_leaf, InRange}
+use Rattle.pg_dyn.specs.message.Message.{Leaf, Message, ends, holds, IsPlain, unknown_of}
+use Rattle.pg_dyn.specs.word.Coding.{form, form_wire, body, zero_leaf, InRange}
 use Rattle.pg_dyn.specs.reading.Content.{same_wire}
 use Rattle.pg_dyn.specs.encoding.Writing.{item_record, field_records}
 use Rattle.pg_dyn.specs.encoding.Encoding.{enc, cap}
 use Rattle.pg_dyn.specs.reading.Decoding.{Reader, dec}
-use Rattle.pg_dyn.specs.Belonging.{IsMessage}
-use Rattle.pg_dyn.specs.Comparison.{View, Alike, hides_zero, is_zero_expected, Comparand, writes, comparands}
+use Rattle.pg_dyn.specs.fitting.Belonging.{IsMessage}
+use Rattle.pg_dyn.specs.views.Comparison.{View, Alike, hides_zero, is_zero_expected, Comparand, writes, comparands}
 use Rattle.pg_pairs.specs.declared.choices.choice.Pair.{Pair}
 use Rattle.pg_pairs.specs.views.EnumView.{EnumView}
 use Rattle.pg_pairs.specs.gaps.Likeness.{like}
 use Rattle.pg_pairs.specs.choices.Costs.{nonzero_body, one_item, least_content}
 use Rattle.pg_pairs.specs.choices.Choices.{zero_counts}
-use Rattle.pg_dyn.specs.ByComparands.{is_field_kept}
+use Rattle.pg_dyn.specs.laws.ByComparands.{is_field_kept}
 use Rattle.pg_pairs.specs.bounds.Laws.{ReachedBy}
 use Rattle.pg_pairs.specs.witness.Carried.{nonzero_leaf, least_key, least_part_of, least_part}
 use Rattle.pg_pairs.specs.inner.Contents.{total, HoldsItem, Holds}

@@ -13,22 +13,22 @@ use Rattle.pg_wire.specs.declared.record.WireType.{WireType}
 use Rattle.pg_wire.specs.declared.record.WireType.TheVariants.{Varint, I64, Len, I32}
 use Rattle.pg_wire.specs.Varint.{varint}
 use Rattle.pg_wire.specs.Records.{tag, written, length_before}
-use Rattle.pg_dyn.specs.Optional.{all_some}
-use Rattle.pg_dyn.specs.Message.{Leaf, ends, holds, Item, Part}
-use Rattle.pg_dyn.specs.Coding.{Form, Integer, Single, Double, Text, Raw, form, form_wire, body, leaf_in, word_bytes, zero_leaf, InRange}
+use Rattle.pg_dyn.specs.reading.Optional.{all_some}
+use Rattle.pg_dyn.specs.message.Message.{Leaf, ends, holds, Item, Part}
+use Rattle.pg_dyn.specs.word.Coding.{Form, Integer, Single, Double, Text, Raw, form, form_wire, body, leaf_in, word_bytes, zero_leaf, InRange}
 use Rattle.pg_dyn.specs.reading.Content.{same_wire, takes, leaves_in, content}
 use Rattle.pg_dyn.specs.encoding.Writing.{item_record, field_records}
 use Rattle.pg_dyn.specs.encoding.Encoding.{cap}
 use Rattle.pg_dyn.specs.reading.Decoding.{read_part, dec}
-use Rattle.pg_dyn.specs.Comparison.{Alike, hides_zero, Comparand, writes}
-use Rattle.pg_dyn.specs.Bodies.{BodyShape, IsReadAs}
+use Rattle.pg_dyn.specs.views.Comparison.{Alike, hides_zero, Comparand, writes}
+use Rattle.pg_dyn.specs.laws.Bodies.{BodyShape, IsReadAs}
 use Rattle.pg_pairs.specs.declared.choices.choice.Pair.{Pair}
 use Rattle.pg_pairs.specs.views.EnumView.{EnumView}
 use Rattle.pg_pairs.specs.gaps.Likeness.{like}
 use Rattle.pg_pairs.specs.gaps.Gaps.{body_length}
 use Rattle.pg_pairs.specs.gaps.TrueGaps.{is_alike_read, is_seen}
 use Rattle.pg_pairs.specs.choices.Costs.{with_length, least_body, one_item}
-use Rattle.pg_dyn.specs.ByComparands.{field_read}
+use Rattle.pg_dyn.specs.laws.ByComparands.{field_read}
 use Rattle.pg_pairs.specs.bounds.Laws.{ReachedBy}
 use Rattle.pg_pairs.specs.inner.Contents.{total}
 use Rattle.pg_pairs.proofs.lemmas.gaps.GapItems.{IsLeafy}

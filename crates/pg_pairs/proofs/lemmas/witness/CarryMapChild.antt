@@ -9,19 +9,19 @@ use Rattle.pg_schema.specs.ShapeRules.{IsShape}
 use Rattle.pg_wire.specs.declared.record.WireType.TheVariants.{Len}
 use Rattle.pg_wire.specs.Varint.{varint}
 use Rattle.pg_wire.specs.Records.{tag, written}
-use Rattle.pg_dyn.specs.Message.{Leaf, Bytes, Item, Msg, Message, ends, nests, unknown_of}
-use Rattle.pg_dyn.specs.Coding.{form, zero_leaf, InRange}
+use Rattle.pg_dyn.specs.message.Message.{Leaf, Bytes, Item, Msg, Message, ends, nests, unknown_of}
+use Rattle.pg_dyn.specs.word.Coding.{form, zero_leaf, InRange}
 use Rattle.pg_dyn.specs.encoding.Writing.{entry_bytes, records_in, bytes_of}
 use Rattle.pg_dyn.specs.encoding.Encoding.{child_type, encoded_parts, enc, cap}
 use Rattle.pg_dyn.specs.reading.Decoding.{Reader, read_item, dec}
-use Rattle.pg_dyn.specs.Belonging.{IsMessage}
-use Rattle.pg_dyn.specs.Comparison.{matches, same_message, expected, unshared_bytes, Kept, Comparand}
+use Rattle.pg_dyn.specs.fitting.Belonging.{IsMessage}
+use Rattle.pg_dyn.specs.views.Comparison.{matches, same_message, expected, unshared_bytes, Kept, Comparand}
 use Rattle.pg_pairs.specs.declared.choices.choice.Pair.{Pair}
 use Rattle.pg_pairs.specs.views.EnumView.{EnumView}
 use Rattle.pg_pairs.specs.gaps.Gaps.{body_length}
 use Rattle.pg_pairs.specs.gaps.TrueGaps.{is_seen, is_alike_read}
 use Rattle.pg_pairs.specs.choices.Costs.{with_length, least_body, one_item, entry_cost}
-use Rattle.pg_dyn.specs.ByComparands.{is_field_kept}
+use Rattle.pg_dyn.specs.laws.ByComparands.{is_field_kept}
 use Rattle.pg_pairs.specs.bounds.Laws.{ReachedBy}
 use Rattle.pg_pairs.specs.inner.Contents.{passes, is_child_kept}
 use Rattle.pg_pairs.proofs.lemmas.choices.Costs.{length-len_record}

@@ -8,20 +8,20 @@ use Rattle.pg_schema.specs.Shape.{Shape, FieldShape, fields, field_at}
 use Rattle.pg_schema.specs.ShapeRules.{IsShape}
 use Rattle.pg_wire.specs.declared.record.WireType.TheVariants.{Len}
 use Rattle.pg_wire.specs.Records.{tag, written}
-use Rattle.pg_dyn.specs.Message.{Leaf, ends, holds, Item, Plain}
-use Rattle.pg_dyn.specs.Coding.{form, zero_leaf, InRange}
+use Rattle.pg_dyn.specs.message.Message.{Leaf, ends, holds, Item, Plain}
+use Rattle.pg_dyn.specs.word.Coding.{form, zero_leaf, InRange}
 use Rattle.pg_dyn.specs.encoding.Writing.{entry_bytes}
 use Rattle.pg_dyn.specs.encoding.Encoding.{cap}
 use Rattle.pg_dyn.specs.reading.Decoding.{dec}
-use Rattle.pg_dyn.specs.Comparison.{Alike, matches, Comparand}
-use Rattle.pg_dyn.specs.Bodies.{IsNestedLeaf}
+use Rattle.pg_dyn.specs.views.Comparison.{Alike, matches, Comparand}
+use Rattle.pg_dyn.specs.laws.Bodies.{IsNestedLeaf}
 use Rattle.pg_pairs.specs.declared.choices.choice.Pair.{Pair}
 use Rattle.pg_pairs.specs.views.EnumView.{EnumView}
 use Rattle.pg_pairs.specs.gaps.Likeness.{like}
 use Rattle.pg_pairs.specs.gaps.Gaps.{body_length}
 use Rattle.pg_pairs.specs.gaps.TrueGaps.{is_alike_read, is_seen}
 use Rattle.pg_pairs.specs.choices.Costs.{with_length, least_body, entry_cost, one_item}
-use Rattle.pg_dyn.specs.ByComparands.{is_field_kept}
+use Rattle.pg_dyn.specs.laws.ByComparands.{is_field_kept}
 use Rattle.pg_pairs.specs.bounds.Laws.{ReachedBy}
 use Rattle.pg_pairs.specs.inner.Contents.{total}
 use Rattle.pg_pairs.proofs.lemmas.gaps.GapItems.{IsLeafy}

@@ -13,16 +13,17 @@ use Rattle.pg_dyn.specs.declared.message.Content.{Content}
 use Rattle.pg_dyn.specs.declared.message.Content.TheVariants as contents
 use Rattle.pg_dyn.specs.declared.message.Value.{Value}
 use Rattle.pg_dyn.specs.declared.message.Value.TheVariants as values
-use Rattle.pg_dyn.specs.Message.{Leaf, Item, Message, Part, is_zero, place_of, places, with_part}
-use Rattle.pg_dyn.specs.Coding.{form, zero_leaf}
-use Rattle.pg_dyn.specs.Belonging.{LeafFits, IsMessage}
-use Rattle.pg_dyn.specs.Message as model
-use Rattle.pg_dyn.specs.Kept.{Kept, ends, KeptItem, Plain, Msg, type_of, message_of}
+use Rattle.pg_dyn.specs.message.Message.{Leaf, Item, Message, Part, is_zero, place_of, places, with_part}
+use Rattle.pg_dyn.specs.word.Coding.{form, zero_leaf}
+use Rattle.pg_dyn.specs.fitting.Belonging.{LeafFits, IsMessage}
+use Rattle.pg_dyn.specs.message.Message as model
+use Rattle.pg_dyn.specs.message.Kept.{Kept, ends, type_of, message_of}
+use Rattle.pg_dyn.specs.message.KeptParts.{KeptItem, Plain, Msg}
 use Rattle.pg_dyn.specs.reading.Content.{same_oneof, is_sibling}
-use Rattle.pg_dyn.specs.Replacing.{kept_part, kept_onto, kept_from, is_sibling_number, with_content}
-use Rattle.pg_dyn.specs.Seen.{leaf_of, item_seen, content_seen}
+use Rattle.pg_dyn.specs.message.Replacing.{kept_part, kept_onto, kept_from, is_sibling_number, with_content}
+use Rattle.pg_dyn.specs.message.Seen.{leaf_of, item_seen, content_seen}
 use Rattle.pg_dyn.specs.setting.Setting.{normalized, normalized_by, IsSetTo}
-use Rattle.pg_dyn.specs.Texts.{kept_in}
+use Rattle.pg_dyn.specs.fitting.Texts.{kept_in}
 use Rattle.pg_dyn.proofs.Lists.{each_at, each_weaker, list_any_none}
 use Rattle.pg_pairs.specs.declared.choices.case.Case.{Case}
 use Rattle.pg_pairs.specs.declared.choices.case.Case.TheVariants as cases

@@ -7,18 +7,18 @@ use Rattle.pg_schema.specs.declared.parts.field.Presence.TheVariants as presence
 use Rattle.pg_schema.specs.Shape.{Shape, FieldShape, fields, field_at}
 use Rattle.pg_schema.specs.ShapeRules.{IsShape}
 use Rattle.pg_wire.specs.Varint.{varint}
-use Rattle.pg_dyn.specs.Message.{Bytes, Message, ends, nests}
-use Rattle.pg_dyn.specs.Coding.{form}
+use Rattle.pg_dyn.specs.message.Message.{Bytes, Message, ends, nests}
+use Rattle.pg_dyn.specs.word.Coding.{form}
 use Rattle.pg_dyn.specs.encoding.Writing.{item_record, field_records, records_in, bytes_of}
 use Rattle.pg_dyn.specs.encoding.Encoding.{child_type, enc, cap}
 use Rattle.pg_dyn.specs.reading.Decoding.{dec}
-use Rattle.pg_dyn.specs.Belonging.{IsMessage}
-use Rattle.pg_dyn.specs.Comparison.{same_message, unshared_bytes, Kept, Comparand, writes, comparands}
+use Rattle.pg_dyn.specs.fitting.Belonging.{IsMessage}
+use Rattle.pg_dyn.specs.views.Comparison.{same_message, unshared_bytes, Kept, Comparand, writes, comparands}
 use Rattle.pg_pairs.specs.declared.choices.choice.Pair.{Pair}
 use Rattle.pg_pairs.specs.views.EnumView.{EnumView}
 use Rattle.pg_pairs.specs.gaps.Gaps.{body_length}
 use Rattle.pg_pairs.specs.choices.Costs.{least_body, one_item}
-use Rattle.pg_dyn.specs.ByComparands.{is_field_kept}
+use Rattle.pg_dyn.specs.laws.ByComparands.{is_field_kept}
 use Rattle.pg_pairs.specs.bounds.Laws.{ReachedBy}
 use Rattle.pg_pairs.specs.inner.Contents.{total}
 use Rattle.pg_pairs.proofs.lemmas.bounds.AcrossPlain.{not_map}

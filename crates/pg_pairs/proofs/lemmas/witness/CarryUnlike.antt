@@ -2,12 +2,12 @@
 use Rattle.std.proofs.Common.{◌≡◌, [], ◌∷◌, Bool, false, ◌&&◌, refl}
 use Rattle.std.proofs.lemmas.Bool.{and_right}
 use Rattle.pg_schema.specs.Shape.{FieldShape}
-use Rattle.pg_dyn.specs.Message.{Message, is_zero}
-use Rattle.pg_dyn.specs.Coding.{form}
+use Rattle.pg_dyn.specs.message.Message.{Message, is_zero}
+use Rattle.pg_dyn.specs.word.Coding.{form}
 use Rattle.pg_dyn.specs.reading.Decoding.{Reader}
 use Rattle.pg_dyn.specs.encoding.Writing.{field_records}
-use Rattle.pg_dyn.specs.Comparison.{View, Alike, hides_zero, Kept, Comparand, writes}
-use Rattle.pg_dyn.specs.ByComparands.{is_field_kept}
+use Rattle.pg_dyn.specs.views.Comparison.{View, Alike, hides_zero, Kept, Comparand, writes}
+use Rattle.pg_dyn.specs.laws.ByComparands.{is_field_kept}
 use Rattle.pg_pairs.proofs.lemmas.gaps.GapItems.{IsLeafy}
 use Rattle.pg_pairs.proofs.lemmas.bounds.AcrossPlain.{NotMap}
 use Rattle.pg_pairs.proofs.lemmas.bounds.Broken.{one_unkept}

@@ -13,25 +13,25 @@ use Rattle.pg_schema.specs.ShapeRules.{IsShape}
 use Rattle.pg_wire.specs.declared.record.WireType.TheVariants.{Len}
 use Rattle.pg_wire.specs.Varint.{varint}
 use Rattle.pg_wire.specs.Records.{WireRecord, tag, written}
-use Rattle.pg_dyn.specs.Optional.{first_or}
-use Rattle.pg_dyn.specs.Message.{Leaf, Int, Bytes, Item, Plain, Msg, Message, ends, holds, nests, leaf_eq}
-use Rattle.pg_dyn.specs.Coding.{Form, Integer, Single, Double, Text, Raw, form, form_wire, word_bytes, zero_leaf, InRange}
+use Rattle.pg_dyn.specs.reading.Optional.{first_or}
+use Rattle.pg_dyn.specs.message.Message.{Leaf, Int, Bytes, Item, Plain, Msg, Message, ends, holds, nests, leaf_eq}
+use Rattle.pg_dyn.specs.word.Coding.{Form, Integer, Single, Double, Text, Raw, form, form_wire, word_bytes, zero_leaf, InRange}
 use Rattle.pg_dyn.specs.reading.Content.{same_wire, is_accepted, takes, plain_content, key_field, value_field, entry_part, leaf_bytes}
 use Rattle.pg_dyn.specs.encoding.Writing.{item_record, entry_bytes, records_in, bytes_of}
 use Rattle.pg_dyn.specs.encoding.Encoding.{child_type, enc, cap}
 use Rattle.pg_dyn.specs.reading.Decoding.{read_item, dec}
-use Rattle.pg_dyn.specs.Belonging.{IsMessage}
-use Rattle.pg_dyn.specs.Comparison.{View, Alike, matches, alike_leaves, same_message, unshared_bytes, Kept, Comparand}
+use Rattle.pg_dyn.specs.fitting.Belonging.{IsMessage}
+use Rattle.pg_dyn.specs.views.Comparison.{View, Alike, matches, alike_leaves, same_message, unshared_bytes, Kept, Comparand}
 use Rattle.pg_dyn.proofs.Lists.{filter_none, option_map_some}
 use Rattle.pg_pairs.proofs.lemmas.bounds.Packed.{Reads}
-use Rattle.pg_dyn.specs.Bodies.{IsNestedLeaf}
+use Rattle.pg_dyn.specs.laws.Bodies.{IsNestedLeaf}
 use Rattle.pg_pairs.proofs.lemmas.witness.EntryRecords.{two_records}
 use Rattle.pg_pairs.specs.declared.choices.choice.Pair.{Pair}
 use Rattle.pg_pairs.specs.views.EnumView.{EnumView}
 use Rattle.pg_pairs.specs.gaps.Likeness.{like}
 use Rattle.pg_pairs.specs.gaps.Gaps.{body_length}
 use Rattle.pg_pairs.specs.choices.Costs.{with_length, least_body, entry_cost}
-use Rattle.pg_dyn.specs.ByComparands.{is_field_kept}
+use Rattle.pg_dyn.specs.laws.ByComparands.{is_field_kept}
 use Rattle.pg_pairs.specs.bounds.Laws.{ReachedBy}
 use Rattle.pg_pairs.specs.witness.Carried.{far_leaf}
 use Rattle.pg_pairs.proofs.lemmas.gaps.Leaves.{alike_equal}

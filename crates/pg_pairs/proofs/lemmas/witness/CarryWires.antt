@@ -13,16 +13,16 @@ use Rattle.pg_wire.specs.declared.record.WireType.TheVariants.{Varint, I64, Len,
 use Rattle.pg_wire.specs.Reading.{exactly, row}
 use Rattle.pg_wire.specs.Varint.{varint_at}
 use Rattle.pg_wire.specs.Records.{written}
-use Rattle.pg_dyn.specs.Optional.{all_some, joined}
-use Rattle.pg_dyn.specs.Message.{Leaf, Item, Part, is_of}
-use Rattle.pg_dyn.specs.Coding.{Form, Integer, Single, Double, Text, Raw, form, form_wire, body, leaf_in, element_at, zero_leaf}
+use Rattle.pg_dyn.specs.reading.Optional.{all_some, joined}
+use Rattle.pg_dyn.specs.message.Message.{Leaf, Item, Part, is_of}
+use Rattle.pg_dyn.specs.word.Coding.{Form, Integer, Single, Double, Text, Raw, form, form_wire, body, leaf_in, element_at, zero_leaf}
 use Rattle.pg_dyn.specs.reading.Content.{same_wire, own_wire, is_accepted, takes, option_from, leaves_in, packed_leaves, plain_content, content}
 use Rattle.pg_dyn.specs.encoding.Writing.{item_record, field_records}
 use Rattle.pg_dyn.specs.reading.Decoding.{Reader, read_item, read_part}
-use Rattle.pg_dyn.specs.Comparison.{View, Expected, same_key, matches, Comparand, writes, expects}
+use Rattle.pg_dyn.specs.views.Comparison.{View, Expected, same_key, matches, Comparand, writes, expects}
 use Rattle.pg_dyn.proofs.Lists.{each_weaker, each_of_all, each-map, filter_all, and_then_some, option_map_some}
 use Rattle.pg_pairs.specs.gaps.Likeness.{like_forms, like}
-use Rattle.pg_dyn.specs.ByComparands.{field_read, is_shown, is_field_kept}
+use Rattle.pg_dyn.specs.laws.ByComparands.{field_read, is_shown, is_field_kept}
 use Rattle.pg_pairs.proofs.lemmas.gaps.GapItems.{IsLeafy}
 use Rattle.pg_pairs.proofs.lemmas.bounds.AcrossPlain.{plain_part, NotMap}
 use Rattle.pg_pairs.proofs.lemmas.gaps.Zeros.{zero_bytes, zero_written}

@@ -9,17 +9,17 @@ use Rattle.pg_schema.specs.declared.parts.field.Presence.TheVariants as presence
 use Rattle.pg_schema.specs.Shape.{FieldShape}
 use Rattle.pg_wire.specs.declared.record.WireType.TheVariants.{Len}
 use Rattle.pg_wire.specs.Records.{WireRecord, written}
-use Rattle.pg_dyn.specs.Optional.{all_some, first_or, last_of, joined}
-use Rattle.pg_dyn.specs.Message.{Leaf, Bytes, Item, Part, leaf_eq}
-use Rattle.pg_dyn.specs.Coding.{form, form_wire, body, leaf_in, zero_leaf}
+use Rattle.pg_dyn.specs.reading.Optional.{all_some, first_or, last_of, joined}
+use Rattle.pg_dyn.specs.message.Message.{Leaf, Bytes, Item, Part, leaf_eq}
+use Rattle.pg_dyn.specs.word.Coding.{form, form_wire, body, leaf_in, zero_leaf}
 use Rattle.pg_dyn.specs.reading.Content.{same_wire, last_item, takes, option_from, key_field, value_field, entry_part, entry_in, by_key, content}
 use Rattle.pg_dyn.specs.encoding.Writing.{entry_bytes, key_of, field_records}
 use Rattle.pg_dyn.specs.reading.Decoding.{Reader, read_item, read_part}
-use Rattle.pg_dyn.specs.Comparison.{View, is_zero_expected, hides_zero, same_key, matches, Comparand, writes}
+use Rattle.pg_dyn.specs.views.Comparison.{View, is_zero_expected, hides_zero, same_key, matches, Comparand, writes}
 use Rattle.pg_pairs.proofs.lemmas.bounds.Packed.{Reads}
-use Rattle.pg_dyn.specs.Bodies.{IsNestedLeaf}
+use Rattle.pg_dyn.specs.laws.Bodies.{IsNestedLeaf}
 use Rattle.pg_pairs.proofs.lemmas.witness.EntryRecords.{two_records, entry_records}
-use Rattle.pg_dyn.specs.ByComparands.{field_read, is_field_kept}
+use Rattle.pg_dyn.specs.laws.ByComparands.{field_read, is_field_kept}
 use Rattle.pg_pairs.proofs.lemmas.gaps.GapItems.{IsLeafy}
 use Rattle.pg_pairs.proofs.lemmas.bounds.AcrossMap.{is_map}
 use Rattle.pg_pairs.proofs.lemmas.bounds.Broken.{NoneMatches, one_unkept, untaken_broken}

@@ -4,9 +4,9 @@ use Rattle.pg_schema.specs.declared.parts.field.Scalar.{Scalar}
 use Rattle.pg_schema.specs.declared.parts.field.Element.{Element}
 use Rattle.pg_schema.specs.declared.parts.field.Element.TheVariants as elements
 use Rattle.pg_wire.specs.Records.{WireRecord, records_of}
-use Rattle.pg_dyn.specs.Message.{Leaf}
-use Rattle.pg_dyn.specs.Coding.{form, body}
-use Rattle.pg_dyn.specs.Bodies.{IsNestedLeaf}
+use Rattle.pg_dyn.specs.message.Message.{Leaf}
+use Rattle.pg_dyn.specs.word.Coding.{form, body}
+use Rattle.pg_dyn.specs.laws.Bodies.{IsNestedLeaf}
 use Rattle.pg_dyn.specs.encoding.Writing.{item_record, entry_bytes}
 use Rattle.pg_pairs.proofs.lemmas.bounds.Packed.{Reads}
 use Rattle.pg_dyn.proofs.PublicLaws.{entry_bodies_read}

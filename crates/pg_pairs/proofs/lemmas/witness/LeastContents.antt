@@ -12,12 +12,12 @@ use Rattle.pg_schema.specs.ShapeRules.{PresenceFits}
 use Rattle.pg_wire.specs.declared.record.WireType.TheVariants.{Len}
 use Rattle.pg_wire.specs.Varint.{varint}
 use Rattle.pg_wire.specs.Records.{tag, written}
-use Rattle.pg_dyn.specs.Message.{is_zero}
-use Rattle.pg_dyn.specs.Coding.{Form, Integer, Single, Double, Text, Raw, form, form_wire, body, word_bytes, zero_leaf, InRange}
+use Rattle.pg_dyn.specs.message.Message.{is_zero}
+use Rattle.pg_dyn.specs.word.Coding.{Form, Integer, Single, Double, Text, Raw, form, form_wire, body, word_bytes, zero_leaf, InRange}
 use Rattle.pg_dyn.specs.encoding.Writing.{entry_bytes}
 use Rattle.pg_pairs.specs.gaps.Gaps.{body_length}
 use Rattle.pg_pairs.specs.choices.Costs.{with_length, least_body, nonzero_body, least_content}
-use Rattle.pg_dyn.specs.Comparison.{Comparand}
+use Rattle.pg_dyn.specs.views.Comparison.{Comparand}
 use Rattle.pg_pairs.specs.inner.Contents.{total}
 use Rattle.pg_pairs.specs.witness.Carried.{nonzero_leaf, least_leaf, least_key}
 use Rattle.pg_pairs.proofs.lemmas.gaps.GapItems.{IsLeafy, implicit_leafy}

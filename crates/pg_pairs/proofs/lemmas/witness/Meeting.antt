@@ -11,18 +11,18 @@ use Rattle.pg_schema.specs.declared.parts.field.Presence.TheVariants as presence
 use Rattle.pg_schema.specs.Shape.{Shape, FieldShape, fields, field_at}
 use Rattle.pg_schema.specs.ShapeRules.{PresenceFits, IsField, IsShape, Rising}
 use Rattle.pg_wire.specs.Records.{WireRecord}
-use Rattle.pg_dyn.specs.Optional.{all_some, after_last_of}
-use Rattle.pg_dyn.specs.Message.{Leaf, Bytes, Item, Message, ends, places, IsPlain, Part, is_of, is_zero, parts, unknown_of}
-use Rattle.pg_dyn.specs.Coding.{form, InRange}
+use Rattle.pg_dyn.specs.reading.Optional.{all_some, after_last_of}
+use Rattle.pg_dyn.specs.message.Message.{Leaf, Bytes, Item, Message, ends, places, IsPlain, Part, is_of, is_zero, parts, unknown_of}
+use Rattle.pg_dyn.specs.word.Coding.{form, InRange}
 use Rattle.pg_dyn.specs.reading.Content.{takes, is_sibling, same_oneof, counted, content, option_from}
 use Rattle.pg_dyn.specs.encoding.Writing.{field_records, records_in, bytes_of}
 use Rattle.pg_dyn.specs.encoding.Encoding.{child_type, encoded_parts, enc, cap}
 use Rattle.pg_dyn.specs.reading.Decoding.{Reader, read_part, field_parts, read_records, dec}
-use Rattle.pg_dyn.specs.Belonging.{KeyFits, MayBeZero, LeafFits, IsPart, IsMessage}
-use Rattle.pg_dyn.specs.Comparison.{View, Expected, Alike, is_zero_expected, hides_zero, same_content, same_message, unshared_bytes, Kept, Comparand, writes, expects, comparands}
-use Rattle.pg_dyn.specs.Breaking.{is_kept}
-use Rattle.pg_dyn.specs.Laws.{SharedSame}
-use Rattle.pg_dyn.specs.ByComparands.{comparands_at}
+use Rattle.pg_dyn.specs.fitting.Belonging.{KeyFits, MayBeZero, LeafFits, IsPart, IsMessage}
+use Rattle.pg_dyn.specs.views.Comparison.{View, Expected, Alike, is_zero_expected, hides_zero, same_content, same_message, unshared_bytes, Kept, Comparand, writes, expects, comparands}
+use Rattle.pg_dyn.specs.views.Breaking.{is_kept}
+use Rattle.pg_dyn.specs.laws.Laws.{SharedSame}
+use Rattle.pg_dyn.specs.laws.ByComparands.{comparands_at}
 use Rattle.pg_dyn.proofs.Lists.{each_weaker, each_of_all, each-append, each-filter, filter-map, none_list_any, filter-after_last_of_none, flat_map-append', each_at, list_any_at}
 use Rattle.pg_pairs.specs.declared.choices.choice.Pair.{Pair}
 use Rattle.pg_pairs.specs.views.EnumView.{EnumView}

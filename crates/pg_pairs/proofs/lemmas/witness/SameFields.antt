@@ -18,22 +18,24 @@ use Rattle.pg_dyn.specs.declared.message_ref.ContentRef.TheVariants as contents
 use Rattle.pg_dyn.specs.declared.message_ref.EntryRef.{EntryRef}
 use Rattle.pg_dyn.specs.declared.message_ref.ValueRef.{ValueRef}
 use Rattle.pg_dyn.specs.declared.message_ref.ValueRef.TheVariants as values
-use Rattle.pg_dyn.specs.Message.{Item, Leaf, Part, is_zero, parts}
-use Rattle.pg_dyn.specs.Message as model
-use Rattle.pg_dyn.specs.Kept.{Kept, KeptItem, Manner, type_of, message_of, of_number}
-use Rattle.pg_dyn.specs.Kept as kept
-use Rattle.pg_dyn.specs.Belonging.{KeyFits, LeafFits}
-use Rattle.pg_dyn.specs.Borrowed.{HasKeys, IsFilled, IsKey, IsMapKey, leaf_of, manner, item_part, entry_part, item_seen, content_seen}
-use Rattle.pg_dyn.specs.NumberLists.{numbers_in}
-use Rattle.pg_dyn.specs.BorrowedItems.{ItemFits, is_zero_value}
-use Rattle.pg_dyn.specs.PartsFit.{HoldsItem, HoldsPart, IsElementItem}
+use Rattle.pg_dyn.specs.message.Message.{Item, Leaf, Part, is_zero, parts}
+use Rattle.pg_dyn.specs.message.Message as model
+use Rattle.pg_dyn.specs.message.Kept.{Kept, Manner, type_of, message_of}
+use Rattle.pg_dyn.specs.message.KeptParts.{KeptItem, of_number}
+use Rattle.pg_dyn.specs.message.Kept as kept
+use Rattle.pg_dyn.specs.message.KeptParts as kept_parts
+use Rattle.pg_dyn.specs.fitting.Belonging.{KeyFits, LeafFits}
+use Rattle.pg_dyn.specs.message_ref.Borrowed.{HasKeys, IsFilled, IsKey, IsMapKey, leaf_of, manner, item_part, entry_part, item_seen, content_seen}
+use Rattle.pg_dyn.specs.word.NumberLists.{numbers_in}
+use Rattle.pg_dyn.specs.message_ref.BorrowedItems.{ItemFits, is_zero_value}
+use Rattle.pg_dyn.specs.fitting.PartsFit.{HoldsItem, HoldsPart, IsElementItem}
 use Rattle.pg_dyn.specs.setting.Setting.{is_zero_kept}
 use Rattle.pg_dyn.specs.encoding.Encoding.{child_type, element_type}
-use Rattle.pg_dyn.specs.Fits.{Fits}
-use Rattle.pg_dyn.specs.Comparison.{View, Expected, Alike, is_zero_expected, is_zero_item, hides_zero, shown, same_key, matches, expected, same}
-use Rattle.pg_dyn.specs.Comparison as comparison
+use Rattle.pg_dyn.specs.fitting.Fits.{Fits}
+use Rattle.pg_dyn.specs.views.Comparison.{View, Expected, Alike, is_zero_expected, is_zero_item, hides_zero, shown, same_key, matches, expected, same}
+use Rattle.pg_dyn.specs.views.Comparison as comparison
 use Rattle.pg_dyn.specs.declared.view_name.ViewName.{ViewName}
-use Rattle.pg_dyn.specs.ViewNames.{view_named}
+use Rattle.pg_dyn.specs.views.ViewNames.{view_named}
 use Rattle.pg_pairs.specs.inner.Comparing.{HeldFits, IsKeyIf, Keyed, keyed, keyed_if, keyed_shown, IsSingle, value_expected, item_lent, all_match, is_same_beside}
 use Rattle.pg_pairs.proofs.lemmas.witness.SameSteps.{list_if, part_with, seen_keyed, of_number_seen, pointwise-map, copied_fact}
 
@@ -41,7 +43,7 @@ use Rattle.pg_pairs.proofs.lemmas.witness.SameSteps.{list_if, part_with, seen_ke
 
 -- an item of a field is one of its element
 
-leaf_item : (shape : Shape) (n : ℕ) (p : Presence) (e : Element) (o : Option ℕ) (how : Manner) (leaf : Leaf) → LeafFits (record { number = n; presence = p; element = e; oneof = o }) leaf → IsElementItem shape e (kept.Plain how leaf)
+leaf_item : (shape : Shape) (n : ℕ) (p : Presence) (e : Element) (o : Option ℕ) (how : Manner) (leaf : Leaf) → LeafFits (record { number = n; presence = p; element = e; oneof = o }) leaf → IsElementItem shape e (kept_parts.Plain how leaf)
 leaf_item shape n p (elements.Scalar s) o how leaf h = h.0
 leaf_item shape n p (elements.Enum t) o how leaf h = h.0
 leaf_item shape n p (elements.Message t) o how leaf h = absurd h
@@ -52,7 +54,7 @@ item_fits shape f listed (values.F32 n) h = leaf_item shape f.number f.presence 
 item_fits shape f listed (values.F64 n) h = leaf_item shape f.number f.presence f.element f.oneof (manner false (values.F64 n)) (leaf_of (values.F64 n)) h.2
 item_fits shape f listed (values.Text n) h = leaf_item shape f.number f.presence f.element f.oneof (manner false (values.Text n)) (leaf_of (values.Text n)) h.2
 item_fits shape f listed (values.Bytes n) h = leaf_item shape f.number f.presence f.element f.oneof (manner false (values.Bytes n)) (leaf_of (values.Bytes n)) h.2
-item_fits shape f listed (values.Msg child) h = subst (λ (e : Element). IsElementItem shape e (kept.Msg false child.value)) (sym h.2) (h.1, refl)
+item_fits shape f listed (values.Msg child) h = subst (λ (e : Element). IsElementItem shape e (kept_parts.Msg false child.value)) (sym h.2) (h.1, refl)
 
 -- a map's key is no message
 map_key_is_key : (v : ValueRef) → IsMapKey v → IsKey v
@@ -171,7 +173,7 @@ key_lent None h = tt
 key_lent (Some key) h = h
 
 -- a message as an item
-pub message_fits : (shape : Shape) (e : Element) (v : ValueRef) (m : Kept) → item_seen false v ≡ kept.Msg false m → ItemFits shape e v → Fits shape m
+pub message_fits : (shape : Shape) (e : Element) (v : ValueRef) (m : Kept) → item_seen false v ≡ kept_parts.Msg false m → ItemFits shape e v → Fits shape m
 message_fits shape e (values.Int n) m is h = absurd (cc)
 message_fits shape e (values.F32 n) m is h = absurd (cc)
 message_fits shape e (values.F64 n) m is h = absurd (cc)
@@ -231,17 +233,17 @@ held_as {B} n hidden listed make from (x ∷ xs) h =
 -- ---- the two sides
 
 abbrev item_read : ℕ → KeptItem → Item
-item_read n (kept.Plain listed leaf) = model.Plain leaf
-item_read n (kept.Msg listed m) = model.Msg (message_of m)
+item_read n (kept_parts.Plain listed leaf) = model.Plain leaf
+item_read n (kept_parts.Msg listed m) = model.Msg (message_of m)
 
 parts_shown : (hidden : Bool) (n : ℕ) (m : Kept) → shown is_zero_item hidden n (parts (message_of m)) ≡ map (put_in item_read) (filter (is_shown_part hidden) (of_number n m))
 parts_shown hidden n (kept.ends type unknown) = refl
 parts_shown hidden n (kept.holds number key listed leaf later) =
     let rest = parts_shown hidden n later in
     elim (nat_eq number n) as (λ t. cond (t && not (hidden && is_zero leaf)) (record { number = number; key = key; item = model.Plain leaf } ∷ shown is_zero_item hidden n (parts (message_of later))) (shown is_zero_item hidden n (parts (message_of later)))
-    ≡ map (put_in item_read) (filter (is_shown_part hidden) (cond t (record { number = number; key = key; item = kept.Plain listed leaf } ∷ of_number n later) (of_number n later)))) [
+    ≡ map (put_in item_read) (filter (is_shown_part hidden) (cond t (record { number = number; key = key; item = kept_parts.Plain listed leaf } ∷ of_number n later) (of_number n later)))) [
       | true ↦ elim (not (hidden && is_zero leaf)) as (λ u. cond u (record { number = number; key = key; item = model.Plain leaf } ∷ shown is_zero_item hidden n (parts (message_of later))) (shown is_zero_item hidden n (parts (message_of later)))
-          ≡ map (put_in item_read) (cond u (record { number = number; key = key; item = kept.Plain listed leaf } ∷ filter (is_shown_part hidden) (of_number n later)) (filter (is_shown_part hidden) (of_number n later)))) [
+          ≡ map (put_in item_read) (cond u (record { number = number; key = key; item = kept_parts.Plain listed leaf } ∷ filter (is_shown_part hidden) (of_number n later)) (filter (is_shown_part hidden) (of_number n later)))) [
             | true ↦ ap (λ (ps : List (Part Item)). record { number = number; key = key; item = model.Plain leaf } ∷ ps) rest
             | false ↦ rest
           ]
@@ -250,9 +252,9 @@ parts_shown hidden n (kept.holds number key listed leaf later) =
 parts_shown hidden n (kept.nests number key listed child later) =
     let rest = parts_shown hidden n later in
     elim (nat_eq number n) as (λ t. cond (t && not (hidden && false)) (record { number = number; key = key; item = model.Msg (message_of child) } ∷ shown is_zero_item hidden n (parts (message_of later))) (shown is_zero_item hidden n (parts (message_of later)))
-    ≡ map (put_in item_read) (filter (is_shown_part hidden) (cond t (record { number = number; key = key; item = kept.Msg listed child } ∷ of_number n later) (of_number n later)))) [
+    ≡ map (put_in item_read) (filter (is_shown_part hidden) (cond t (record { number = number; key = key; item = kept_parts.Msg listed child } ∷ of_number n later) (of_number n later)))) [
       | true ↦ elim (not (hidden && false)) as (λ u. cond u (record { number = number; key = key; item = model.Msg (message_of child) } ∷ shown is_zero_item hidden n (parts (message_of later))) (shown is_zero_item hidden n (parts (message_of later)))
-          ≡ map (put_in item_read) (cond u (record { number = number; key = key; item = kept.Msg listed child } ∷ filter (is_shown_part hidden) (of_number n later)) (filter (is_shown_part hidden) (of_number n later)))) [
+          ≡ map (put_in item_read) (cond u (record { number = number; key = key; item = kept_parts.Msg listed child } ∷ filter (is_shown_part hidden) (of_number n later)) (filter (is_shown_part hidden) (of_number n later)))) [
             | true ↦ ap (λ (ps : List (Part Item)). record { number = number; key = key; item = model.Msg (message_of child) } ∷ ps) rest
             | false ↦ rest
           ]
@@ -261,8 +263,8 @@ parts_shown hidden n (kept.nests number key listed child later) =
 
 module _ (view : View) (old new : Shape) (a b : TypeId) where
   abbrev item_expected : ℕ → KeptItem → Expected
-  item_expected n (kept.Plain listed leaf) = Alike leaf
-  item_expected n (kept.Msg listed m) =
+  item_expected n (kept_parts.Plain listed leaf) = Alike leaf
+  item_expected n (kept_parts.Msg listed m) =
       comparison.Kept (same view old new (child_type (fields old a) n) (child_type (fields new b) n) (message_of m))
 
   expected_shown : (hidden : Bool) (n : ℕ) (m : Kept) → shown is_zero_expected hidden n (expected view old new a b (message_of m)) ≡ map (put_in item_expected) (filter (is_shown_part hidden) (of_number n m))
@@ -271,9 +273,9 @@ module _ (view : View) (old new : Shape) (a b : TypeId) where
   expected_shown hidden n (kept.holds number key listed leaf later) =
       let rest = expected_shown hidden n later in
       elim (nat_eq number n) as (λ t. cond (t && not (hidden && is_zero leaf)) (record { number = number; key = key; item = Alike leaf } ∷ shown is_zero_expected hidden n (expected view old new a b (message_of later))) (shown is_zero_expected hidden n (expected view old new a b (message_of later)))
-      ≡ map (put_in item_expected) (filter (is_shown_part hidden) (cond t (record { number = number; key = key; item = kept.Plain listed leaf } ∷ of_number n later) (of_number n later)))) [
+      ≡ map (put_in item_expected) (filter (is_shown_part hidden) (cond t (record { number = number; key = key; item = kept_parts.Plain listed leaf } ∷ of_number n later) (of_number n later)))) [
         | true ↦ elim (not (hidden && is_zero leaf)) as (λ u. cond u (record { number = number; key = key; item = Alike leaf } ∷ shown is_zero_expected hidden n (expected view old new a b (message_of later))) (shown is_zero_expected hidden n (expected view old new a b (message_of later)))
-            ≡ map (put_in item_expected) (cond u (record { number = number; key = key; item = kept.Plain listed leaf } ∷ filter (is_shown_part hidden) (of_number n later)) (filter (is_shown_part hidden) (of_number n later)))) [
+            ≡ map (put_in item_expected) (cond u (record { number = number; key = key; item = kept_parts.Plain listed leaf } ∷ filter (is_shown_part hidden) (of_number n later)) (filter (is_shown_part hidden) (of_number n later)))) [
               | true ↦ ap (λ (ps : List (Part Expected)). record { number = number; key = key; item = Alike leaf } ∷ ps) rest
               | false ↦ rest
             ]
@@ -283,9 +285,9 @@ module _ (view : View) (old new : Shape) (a b : TypeId) where
       let rest = expected_shown hidden n later in
       let test = comparison.Kept (same view old new (child_type (fields old a) number) (child_type (fields new b) number) (message_of child)) in
       elim (nat_eq number n) as (λ t. cond (t && not (hidden && false)) (record { number = number; key = key; item = test } ∷ shown is_zero_expected hidden n (expected view old new a b (message_of later))) (shown is_zero_expected hidden n (expected view old new a b (message_of later)))
-      ≡ map (put_in item_expected) (filter (is_shown_part hidden) (cond t (record { number = number; key = key; item = kept.Msg listed child } ∷ of_number n later) (of_number n later)))) [
+      ≡ map (put_in item_expected) (filter (is_shown_part hidden) (cond t (record { number = number; key = key; item = kept_parts.Msg listed child } ∷ of_number n later) (of_number n later)))) [
         | true ↦ elim (not (hidden && false)) as (λ u. cond u (record { number = number; key = key; item = test } ∷ shown is_zero_expected hidden n (expected view old new a b (message_of later))) (shown is_zero_expected hidden n (expected view old new a b (message_of later)))
-            ≡ map (put_in item_expected) (cond u (record { number = number; key = key; item = kept.Msg listed child } ∷ filter (is_shown_part hidden) (of_number n later)) (filter (is_shown_part hidden) (of_number n later)))) [
+            ≡ map (put_in item_expected) (cond u (record { number = number; key = key; item = kept_parts.Msg listed child } ∷ filter (is_shown_part hidden) (of_number n later)) (filter (is_shown_part hidden) (of_number n later)))) [
               | true ↦ ap (λ (ps : List (Part Expected)). record { number = number; key = key; item = test } ∷ ps) rest
               | false ↦ rest
             ]

@@ -12,16 +12,17 @@ use Rattle.pg_dyn.specs.declared.message_ref.ContentRef.TheVariants as contents
 use Rattle.pg_dyn.specs.declared.message_ref.EntryRef.{EntryRef}
 use Rattle.pg_dyn.specs.declared.message_ref.ValueRef.{ValueRef}
 use Rattle.pg_dyn.specs.declared.message_ref.ValueRef.TheVariants as values
-use Rattle.pg_dyn.specs.Message.{Part, Message, is_of}
-use Rattle.pg_dyn.specs.Message as model
-use Rattle.pg_dyn.specs.Kept.{Kept, KeptItem, Plain, Msg, ends, holds, nests, type_of, message_of, parts_of, of_number}
-use Rattle.pg_dyn.specs.Borrowed.{item_part, entry_part, item_seen, content_seen}
-use Rattle.pg_dyn.specs.NumberLists.{numbers_in}
+use Rattle.pg_dyn.specs.message.Message.{Part, Message, is_of}
+use Rattle.pg_dyn.specs.message.Message as model
+use Rattle.pg_dyn.specs.message.Kept.{Kept, ends, holds, nests, type_of, message_of}
+use Rattle.pg_dyn.specs.message.KeptParts.{KeptItem, Plain, Msg, parts_of, of_number}
+use Rattle.pg_dyn.specs.message_ref.Borrowed.{item_part, entry_part, item_seen, content_seen}
+use Rattle.pg_dyn.specs.word.NumberLists.{numbers_in}
 use Rattle.pg_dyn.specs.encoding.Writing.{records_in, bytes_of, field_records}
 use Rattle.pg_dyn.specs.encoding.Encoding.{cap, enc, encoded_parts}
-use Rattle.pg_dyn.specs.Fits.{Fits, PartsAgree}
-use Rattle.pg_dyn.specs.Comparison.{unshared_bytes}
-use Rattle.pg_dyn.specs.OwnParts.{ChildrenShorter}
+use Rattle.pg_dyn.specs.fitting.Fits.{Fits, PartsAgree}
+use Rattle.pg_dyn.specs.views.Comparison.{unshared_bytes}
+use Rattle.pg_dyn.specs.laws.OwnParts.{ChildrenShorter}
 use Rattle.pg_dyn.proofs.Lists.{each_filtered, flat_map-append'}
 use Rattle.pg_dyn.proofs.PublicLaws.{children_are_shorter}
 use Rattle.pg_pairs.specs.inner.Comparing.{Keyed, keyed, HasEncoding, ItemHasEncoding}

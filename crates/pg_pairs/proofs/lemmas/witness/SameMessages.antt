@@ -13,14 +13,15 @@ use Rattle.pg_wire.specs.Records.{WireRecord}
 use Rattle.pg_dyn.specs.declared.message_ref.ContentRef.{ContentRef}
 use Rattle.pg_dyn.specs.declared.message_ref.ContentRef.TheVariants as contents
 use Rattle.pg_dyn.specs.declared.view_name.ViewName.{ViewName}
-use Rattle.pg_dyn.specs.Borrowed.{IsFilled, all_seen, content_seen, entry_part, fields_onto, item_part}
-use Rattle.pg_dyn.specs.Fits.{Fits}
-use Rattle.pg_dyn.specs.Kept.{Kept, KeptItem, Plain, Msg, ends, type_of, message_of, unknown_of, parts_of, of_number}
-use Rattle.pg_dyn.specs.Message.{Part, is_of}
-use Rattle.pg_dyn.specs.NumberLists.{numbers_in}
-use Rattle.pg_dyn.specs.Replacing.{kept_onto, kept_part}
+use Rattle.pg_dyn.specs.message_ref.Borrowed.{IsFilled, all_seen, content_seen, entry_part, fields_onto, item_part}
+use Rattle.pg_dyn.specs.fitting.Fits.{Fits}
+use Rattle.pg_dyn.specs.message.Kept.{Kept, ends, type_of, message_of}
+use Rattle.pg_dyn.specs.message.KeptParts.{KeptItem, Plain, Msg, unknown_of, parts_of, of_number}
+use Rattle.pg_dyn.specs.message.Message.{Part, is_of}
+use Rattle.pg_dyn.specs.word.NumberLists.{numbers_in}
+use Rattle.pg_dyn.specs.message.Replacing.{kept_onto, kept_part}
 use Rattle.pg_dyn.specs.encoding.Writing.{bytes_of}
-use Rattle.pg_dyn.specs.Comparison.{records_outside, unshared_bytes, same}
+use Rattle.pg_dyn.specs.views.Comparison.{records_outside, unshared_bytes, same}
 use Rattle.pg_dyn.proofs.Lists.{each-append, each-flat_map, each-map, each_at, each_at_index, each_of_all, each_weaker, filter_none, list_all_each, list_all_true}
 use Rattle.pg_dyn.proofs.PublicLaws.{fields_are_found, unknown_is_kept}
 use Rattle.pg_pairs.specs.inner.Comparing.{Keyed, is_same, is_same_beside, is_same_if, keyed, outside_record}

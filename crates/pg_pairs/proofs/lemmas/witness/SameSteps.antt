@@ -8,12 +8,15 @@ use Rattle.pg_dyn.specs.declared.message_ref.ContentRef.TheVariants as contents
 use Rattle.pg_dyn.specs.declared.message_ref.EntryRef.{EntryRef}
 use Rattle.pg_dyn.specs.declared.message_ref.ValueRef.{ValueRef}
 use Rattle.pg_dyn.specs.declared.message_ref.ValueRef.TheVariants as values
-use Rattle.pg_dyn.specs.Message.{Part, is_of}
-use Rattle.pg_dyn.specs.Kept.{Kept, KeptItem, parts_of, of_number, weight}
-use Rattle.pg_dyn.specs.Kept as kept
-use Rattle.pg_dyn.specs.Borrowed.{leaf_of, item_part, entry_part, item_seen, content_seen}
-use Rattle.pg_dyn.specs.NumberLists.{numbers_in}
-use Rattle.pg_dyn.specs.BorrowedItems.{is_zero_value}
+use Rattle.pg_dyn.specs.message.Message.{Part, is_of}
+use Rattle.pg_dyn.specs.message.Kept.{Kept}
+use Rattle.pg_dyn.specs.message.KeptParts.{KeptItem, parts_of, of_number}
+use Rattle.pg_dyn.specs.inner.Weights.{weight}
+use Rattle.pg_dyn.specs.message.Kept as kept
+use Rattle.pg_dyn.specs.message.KeptParts as kept_parts
+use Rattle.pg_dyn.specs.message_ref.Borrowed.{leaf_of, item_part, entry_part, item_seen, content_seen}
+use Rattle.pg_dyn.specs.word.NumberLists.{numbers_in}
+use Rattle.pg_dyn.specs.message_ref.BorrowedItems.{is_zero_value}
 use Rattle.pg_pairs.specs.inner.Comparing.{Keyed, keyed, keyed_if, keyed_shown}
 
 -- ---- lists
@@ -84,8 +87,8 @@ abbrev part_weight : Part KeptItem → ℕ
 part_weight p = of p.item
   where
     of : KeptItem → ℕ
-    of (kept.Plain listed leaf) = 0
-    of (kept.Msg listed m) = weight m
+    of (kept_parts.Plain listed leaf) = 0
+    of (kept_parts.Msg listed m) = weight m
 
 abbrev parts_weight : List (Part KeptItem) → ℕ
 parts_weight [] = 0

@@ -2,9 +2,9 @@
 use Rattle.std.proofs.Common.{◌≡◌, ℕ, ap, ◌∙◌}
 use Rattle.pg_schema.specs.Shape.{Shape, fields}
 use Rattle.pg_dyn.specs.declared.message.Content.{Content}
-use Rattle.pg_dyn.specs.Kept.{Kept, type_of}
-use Rattle.pg_dyn.specs.Replacing.{without_siblings}
-use Rattle.pg_dyn.specs.Seen.{content_seen}
+use Rattle.pg_dyn.specs.message.Kept.{Kept, type_of}
+use Rattle.pg_dyn.specs.message.Replacing.{without_siblings}
+use Rattle.pg_dyn.specs.message.Seen.{content_seen}
 use Rattle.pg_dyn.specs.setting.Setting.{normalized, IsSetTo}
 use Rattle.pg_dyn.proofs.PublicLaws.{parts_keep_types}
 

@@ -9,9 +9,9 @@ use Rattle.pg_schema.specs.declared.parts.field.Scalar.TheVariants as scalars
 use Rattle.pg_schema.specs.Shape.{is_map}
 use Rattle.pg_dyn.specs.declared.message.Value.{Value}
 use Rattle.pg_dyn.specs.declared.message.Value.TheVariants as values
-use Rattle.pg_dyn.specs.Message.{Leaf, Plain}
-use Rattle.pg_dyn.specs.Coding.{Text, Raw, form, InRange}
-use Rattle.pg_dyn.specs.Seen.{leaf_of, IsKey}
+use Rattle.pg_dyn.specs.message.Message.{Leaf, Plain}
+use Rattle.pg_dyn.specs.word.Coding.{Text, Raw, form, InRange}
+use Rattle.pg_dyn.specs.message.Seen.{leaf_of, IsKey}
 use Rattle.pg_pairs.specs.declared.witness.item.Small.{Small}
 use Rattle.pg_pairs.specs.declared.witness.item.Small.TheVariants.{Zero, NotZero, Far}
 use Rattle.pg_pairs.specs.inner.CarriedItems.{leaf_by, value_item}

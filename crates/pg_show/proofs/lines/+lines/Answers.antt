@@ -2,9 +2,11 @@
 use Rattle.std.proofs.Common.{◌∙◌, ◌++◌, flat_map, None, string_bytes, take, take_all, ap, sym, arith, append_assoc}
 use Rattle.std.proofs.lemmas.Result.{on_ok_weaker}
 use denote.Param.Weighed.{at_most}
-use Rattle.pg_dyn.specs.Kept.{ends, type_of, unknown_of, weight}
-use Rattle.pg_dyn.specs.Borrowed.{fields_onto}
-use Rattle.pg_dyn.specs.NumberLists.{numbers_in}
+use Rattle.pg_dyn.specs.message.Kept.{ends, type_of}
+use Rattle.pg_dyn.specs.message.KeptParts.{unknown_of}
+use Rattle.pg_dyn.specs.inner.Weights.{weight}
+use Rattle.pg_dyn.specs.message_ref.Borrowed.{fields_onto}
+use Rattle.pg_dyn.specs.word.NumberLists.{numbers_in}
 use Rattle.pg_show.specs.Contents.{content_lines, record_line, value_lines}
 use Rattle.pg_show.proofs.ByContent.{message_by_content}
 use Rattle.pg_show.proofs.ByIndex.{one_more, within_most}

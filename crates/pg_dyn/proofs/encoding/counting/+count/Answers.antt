@@ -2,23 +2,24 @@
 use Rattle.std.proofs.Common.{true, ◌≡◌, ℕ, ◌++◌, List, length, flat_map, Some, refl, ap, ap₂, sym, subst, ◌∙◌, arith, length-append}
 use Rattle.pg_schema.specs.declared.parts.field.Element.TheVariants as elements
 use Rattle.pg_schema.specs.declared.parts.field.Scalar.{Scalar}
-use Rattle.pg_dyn.specs.NumberLists.{numbers_in}
+use Rattle.pg_dyn.specs.word.NumberLists.{numbers_in}
 use Rattle.pg_dyn.proofs.lemmas.encoding.NumberWords.{numbers_fit, numbers_noted, numbers_written}
 use Rattle.pg_schema.specs.Parts.{field_shape, shape_of}
 use Rattle.pg_schema.specs.Shape.{fields, field_at}
 use Rattle.std.specs.List.{AllByRecursion}
 use Rattle.pg_wire.specs.Records.{written}
-use Rattle.pg_dyn.specs.Kept.{type_of, unknown_of}
+use Rattle.pg_dyn.specs.message.Kept.{type_of}
+use Rattle.pg_dyn.specs.message.KeptParts.{unknown_of}
 use Rattle.pg_dyn.specs.encoding.Lending.{HoldsParts, bare_leaf, item_part, lent_item}
-use Rattle.pg_dyn.specs.PartsFit.{IsPartOf}
+use Rattle.pg_dyn.specs.fitting.PartsFit.{IsPartOf}
 use Rattle.pg_dyn.specs.encoding.Writing.{bytes_of, item_record}
 use Rattle.pg_dyn.specs.encoding.Written.{BareFits, LeavesFit, capped, entry_body, entry_record, field_lengths, field_written, item_body, item_bytes, item_lengths, number_bytes, number_lengths}
 use Rattle.pg_dyn.proofs.lemmas.encoding.EncodeSteps.{content_bytes, contents_held, counted_all, counted_more, entries_fit, entries_noted, entries_written, field_bytes, field_fits, field_is, values_fit, items_noted, items_written, keyed, keyless, if_on_ok, keys_fit, leaves_fit, listed_all, listed_more, ok_is, own_is, packable, packed_noted, packed_written, packs, records_are}
-use Rattle.pg_dyn.proofs.lemmas.FitsSteps.{some_not_none}
+use Rattle.pg_dyn.proofs.lemmas.fitting.FitsSteps.{some_not_none}
 use Rattle.pg_dyn.proofs.lemmas.encoding.LentWeights.{content_lighter, entries_weigh, item_lighter, items_weigh, parts_weight, bare_weight}
 use Rattle.pg_dyn.proofs.Lists.{each_at_index}
 use Rattle.pg_dyn.proofs.lemmas.encoding.NotedLengths.{content_lengths, field_noted, inner_is}
-use Rattle.pg_dyn.proofs.lemmas.Splitting.{found_number}
+use Rattle.pg_dyn.proofs.lemmas.reading.Splitting.{found_number}
 use Rattle.pg_dyn.proofs.encoding.counting.+count.Goals as goal
 
 pub count_items-count_item-requires : goal.count_items-count_item-requires

@@ -1,7 +1,7 @@
 use Rattle.std.proofs.Common.{length, ap, sym, ◌∙◌, length-append}
 use Rattle.pg_schema.specs.declared.parts.field.Element.TheVariants as elements
 use Rattle.pg_wire.specs.Records.{written}
-use Rattle.pg_dyn.specs.Coding.{body, scalar_form}
+use Rattle.pg_dyn.specs.word.Coding.{body, scalar_form}
 use Rattle.pg_dyn.specs.encoding.Lending.{leaf_lent}
 use Rattle.pg_dyn.specs.encoding.Writing.{item_record}
 use Rattle.pg_dyn.specs.encoding.Written.{capped}

@@ -7,8 +7,8 @@ use Rattle.pg_schema.specs.contracts.parts.field.Scalar.{the_type}
 use denote.Enum.Bare.{same_true}
 use Rattle.pg_dyn.specs.encoding.Lending.{lent_item, word_item}
 use Rattle.pg_dyn.specs.encoding.Written.{LeavesFit, capped, packed_body}
-use Rattle.pg_dyn.specs.Coding.{scalar_form}
-use Rattle.pg_dyn.specs.NumberLists.{number_item, numbers_in}
+use Rattle.pg_dyn.specs.word.Coding.{scalar_form}
+use Rattle.pg_dyn.specs.word.NumberLists.{number_item, numbers_in}
 use Rattle.pg_dyn.proofs.lemmas.encoding.NumberWords.{words_fit, words_packed}
 use Rattle.pg_dyn.proofs.lemmas.encoding.PackedSizes.{packed_eights, packed_fours}
 use Rattle.pg_dyn.proofs.encoding.numbers.bodies_len.Goals as goal

@@ -6,7 +6,7 @@ use Rattle.pg_wire.specs.declared.record.WireType.TheVariants.{Len}
 use Rattle.pg_wire.specs.Records.{written}
 use Rattle.pg_dyn.specs.encoding.Lending.{Bare, lent_item}
 use Rattle.pg_dyn.specs.encoding.Written.{capped, packed_body, packed_bytes, packed_lengths}
-use Rattle.pg_dyn.specs.NumberLists.{numbers_in}
+use Rattle.pg_dyn.specs.word.NumberLists.{numbers_in}
 use Rattle.pg_dyn.proofs.lemmas.encoding.EncodeSteps.{first_is, later_is, longer, record_in_turn, record_size}
 use Rattle.pg_dyn.proofs.encoding.numbers.push_packed.Goals as goal
 

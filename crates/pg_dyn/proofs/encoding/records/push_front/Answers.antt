@@ -1,7 +1,7 @@
 use Rattle.std.proofs.Common.{◌≡◌, ◌+◌, ◌*◌, ◌++◌, ap, ap₂, ◌∙◌, append_assoc}
 use Rattle.pg_wire.specs.Varint.{varint}
 use Rattle.pg_wire.specs.Records.{tag, length_before}
-use Rattle.pg_dyn.proofs.lemmas.TypeFields.{on_ok_map}
+use Rattle.pg_dyn.proofs.lemmas.reading.TypeFields.{on_ok_map}
 use Rattle.pg_dyn.proofs.encoding.records.push_front.Goals as goal
 
 pub returns : goal.returns

@@ -1,10 +1,10 @@
 -- A record is its front and its body.
 use Rattle.std.proofs.Common.{◌++◌, ap, sym, ◌∙◌, append_assoc}
 use Rattle.pg_wire.specs.Records.{tag, length_before}
-use Rattle.pg_dyn.specs.Coding.{body, form_wire, scalar_form}
+use Rattle.pg_dyn.specs.word.Coding.{body, form_wire, scalar_form}
 use Rattle.pg_dyn.specs.encoding.Lending.{leaf_lent}
 use Rattle.pg_dyn.proofs.lemmas.encoding.EncodeSteps.{record_is}
-use Rattle.pg_dyn.proofs.lemmas.TypeFields.{on_ok_map}
+use Rattle.pg_dyn.proofs.lemmas.reading.TypeFields.{on_ok_map}
 use Rattle.pg_dyn.proofs.encoding.records.push_record.Goals as goal
 
 pub returns : goal.returns

@@ -2,7 +2,7 @@ use Rattle.std.proofs.Common.{◌≤◌, length, flat_map, take_all, refl, inl, 
 use Rattle.std.proofs.lemmas.Result.{err_from_is_err_and}
 use Rattle.pg_schema.specs.Parts.{shape_of}
 use Rattle.pg_schema.specs.Shape.{fields}
-use Rattle.pg_dyn.specs.Kept.{type_of}
+use Rattle.pg_dyn.specs.message.Kept.{type_of}
 use Rattle.pg_dyn.specs.encoding.Unshared.{outside_written}
 use Rattle.pg_dyn.specs.encoding.Lending.{HoldsParts}
 use Rattle.pg_dyn.proofs.lemmas.encoding.EncodeSteps.{contents_held}

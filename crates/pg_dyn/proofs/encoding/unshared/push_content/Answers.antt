@@ -4,14 +4,14 @@ use Rattle.std.proofs.lemmas.Result.{err_from_is_err_and}
 use Rattle.pg_schema.specs.declared.parts.field.TypeId.{TypeId}
 use Rattle.pg_schema.specs.Parts.{field_shape, shape_of}
 use Rattle.pg_schema.specs.Shape.{Shape, FieldShape, fields, field_at}
-use Rattle.pg_dyn.specs.Kept.{KeptItem}
+use Rattle.pg_dyn.specs.message.KeptParts.{KeptItem}
 use Rattle.pg_dyn.specs.encoding.Lending.{HoldsParts}
-use Rattle.pg_dyn.specs.Message.{Part}
-use Rattle.pg_dyn.specs.PartsFit.{IsPartOf}
+use Rattle.pg_dyn.specs.message.Message.{Part}
+use Rattle.pg_dyn.specs.fitting.PartsFit.{IsPartOf}
 use Rattle.pg_dyn.specs.encoding.Writing.{bytes_of}
 use Rattle.pg_dyn.specs.encoding.Written.{field_lengths, field_written, parts_written, records_by, written_part}
 use Rattle.pg_dyn.proofs.lemmas.encoding.EncodeSteps.{field_is, longer, packs, same_parts}
-use Rattle.pg_dyn.proofs.lemmas.Splitting.{found_number}
+use Rattle.pg_dyn.proofs.lemmas.reading.Splitting.{found_number}
 use Rattle.pg_dyn.proofs.encoding.unshared.push_content.Goals as goal
 
 module _ {C : Type 0} (parts : ℕ → C → List (Part KeptItem)) (shape : Shape) (type : TypeId) (f : FieldShape) (c : ℕ × C) (found : field_at (fields shape type) c.0 ≡ Some f) where

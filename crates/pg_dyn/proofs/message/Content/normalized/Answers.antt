@@ -7,14 +7,14 @@ use Rattle.pg_dyn.specs.declared.message.Content.{Content}
 use Rattle.pg_dyn.specs.declared.message.Content.TheVariants as contents
 use Rattle.pg_dyn.specs.declared.message.Value.{Value}
 use Rattle.pg_dyn.specs.setting.ContentFaults.{HasKeyTwice}
-use Rattle.pg_dyn.specs.ContentFits.{ContentFits}
-use Rattle.pg_dyn.specs.KeyOrder.{KeysAlike}
-use Rattle.pg_dyn.specs.Seen.{content_seen, IsMapKey}
+use Rattle.pg_dyn.specs.fitting.ContentFits.{ContentFits}
+use Rattle.pg_dyn.specs.message.KeyOrder.{KeysAlike}
+use Rattle.pg_dyn.specs.message.Seen.{content_seen, IsMapKey}
 use Rattle.pg_dyn.specs.setting.Setting.{normalized, normalized_by}
 use Rattle.pg_dyn.specs.setting.Reported.{EntryFits, is_nothing, ItemsFit, MayHoldKeys}
-use Rattle.pg_dyn.specs.ScalarItems.{IsKeptAs}
-use Rattle.pg_dyn.specs.Texts.{kept_in}
-use Rattle.pg_dyn.proofs.lemmas.KeyLaws.{each_moved}
+use Rattle.pg_dyn.specs.fitting.ScalarItems.{IsKeptAs}
+use Rattle.pg_dyn.specs.fitting.Texts.{kept_in}
+use Rattle.pg_dyn.proofs.lemmas.message.KeyLaws.{each_moved}
 use Rattle.pg_dyn.proofs.Lists.{each_both, each_weaker}
 use Rattle.pg_dyn.proofs.lemmas.setting.KeptVariants.{map_key}
 use Rattle.pg_dyn.proofs.lemmas.setting.NormalizedLaws.{as_long, entries_kept, keys_rise, list_fits, list_seen, map_items, map_seen, none_left, one_fits, one_seen}

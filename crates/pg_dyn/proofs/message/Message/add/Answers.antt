@@ -4,15 +4,15 @@ use Rattle.pg_schema.specs.declared.parts.field.TypeId.{TypeId}
 use Rattle.pg_schema.specs.Parts.{field_shape, shape_of}
 use Rattle.pg_schema.specs.Shape.{FieldShape, fields, field_at}
 use Rattle.pg_dyn.specs.declared.error.DynError.{DynError}
-use Rattle.pg_dyn.specs.Fits.{Fits}
-use Rattle.pg_dyn.specs.Kept.{type_of}
-use Rattle.pg_dyn.specs.Replacing.{with_parts, without_siblings}
-use Rattle.pg_dyn.specs.Seen.{content_seen, record_seen}
+use Rattle.pg_dyn.specs.fitting.Fits.{Fits}
+use Rattle.pg_dyn.specs.message.Kept.{type_of}
+use Rattle.pg_dyn.specs.message.Replacing.{with_parts, without_siblings}
+use Rattle.pg_dyn.specs.message.Seen.{content_seen, record_seen}
 use Rattle.pg_dyn.specs.setting.Setting.{normalized}
 use Rattle.pg_dyn.specs.setting.Reported.{ItemsFit}
-use Rattle.pg_dyn.proofs.lemmas.FitsChecks.{none_found, same_field}
-use Rattle.pg_dyn.proofs.lemmas.ReplacingLaws.{type_shown}
-use Rattle.pg_dyn.proofs.lemmas.Splitting.{found_number}
+use Rattle.pg_dyn.proofs.lemmas.fitting.FitsChecks.{none_found, same_field}
+use Rattle.pg_dyn.proofs.lemmas.message.ReplacingLaws.{type_shown}
+use Rattle.pg_dyn.proofs.lemmas.reading.Splitting.{found_number}
 use Rattle.pg_dyn.proofs.message.Message.add.Goals.{in-Ok, in-Err}
 use Rattle.pg_dyn.proofs.message.Message.add.Goals as goal
 

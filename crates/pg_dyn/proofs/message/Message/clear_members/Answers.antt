@@ -3,9 +3,9 @@ use Rattle.std.proofs.Common.{ℕ, map, not, sym, subst}
 use Rattle.std.specs.List.{AllByRecursion}
 use Rattle.pg_schema.specs.Parts.{field_shape}
 use Rattle.pg_dyn.specs.declared.message.Content.{Content}
-use Rattle.pg_dyn.specs.Replacing.{is_sibling_number}
-use Rattle.pg_dyn.specs.Seen.{IsFilled, HasKeys, Rises, record_seen}
-use Rattle.pg_dyn.proofs.lemmas.FieldListLaws.{rises-filter}
+use Rattle.pg_dyn.specs.message.Replacing.{is_sibling_number}
+use Rattle.pg_dyn.specs.message.Seen.{IsFilled, HasKeys, Rises, record_seen}
+use Rattle.pg_dyn.proofs.lemmas.message.FieldListLaws.{rises-filter}
 use Rattle.pg_dyn.proofs.lemmas.setting.WithoutSiblings.{cleared_shown, each_left}
 use Rattle.pg_dyn.proofs.message.Message.clear_members.Goals as goal
 

@@ -5,11 +5,11 @@ use Rattle.pg_schema.specs.declared.parts.field.TypeId.{TypeId}
 use Rattle.pg_schema.specs.Parts.{field_shape, shape_of}
 use Rattle.pg_schema.specs.Shape.{fields}
 use Rattle.pg_dyn.specs.declared.message.Content.{Content}
-use Rattle.pg_dyn.specs.Kept.{type_of}
-use Rattle.pg_dyn.specs.Replacing.{is_sibling_number, without_siblings}
-use Rattle.pg_dyn.specs.Seen.{IsFilled, HasKeys, Rises, record_seen}
-use Rattle.pg_dyn.proofs.lemmas.FieldListLaws.{rises-filter}
-use Rattle.pg_dyn.proofs.lemmas.ReplacingLaws.{no_siblings, type_shown}
+use Rattle.pg_dyn.specs.message.Kept.{type_of}
+use Rattle.pg_dyn.specs.message.Replacing.{is_sibling_number, without_siblings}
+use Rattle.pg_dyn.specs.message.Seen.{IsFilled, HasKeys, Rises, record_seen}
+use Rattle.pg_dyn.proofs.lemmas.message.FieldListLaws.{rises-filter}
+use Rattle.pg_dyn.proofs.lemmas.message.ReplacingLaws.{no_siblings, type_shown}
 use Rattle.pg_dyn.proofs.lemmas.setting.WithoutSiblings.{cleared_shown, each_left}
 use Rattle.pg_dyn.proofs.message.Message.clear_siblings.Goals as goal
 

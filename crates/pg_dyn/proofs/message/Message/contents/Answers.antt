@@ -1,7 +1,8 @@
 use Rattle.std.proofs.Common.{map, ap, ap₂, sym, ◌∙◌}
-use Rattle.pg_dyn.specs.Kept.{ends, type_of, unknown_of}
-use Rattle.pg_dyn.specs.Seen.{fields_onto, record_seen}
-use Rattle.pg_dyn.proofs.lemmas.KeptParts.{fields_keep}
+use Rattle.pg_dyn.specs.message.Kept.{ends, type_of}
+use Rattle.pg_dyn.specs.message.KeptParts.{unknown_of}
+use Rattle.pg_dyn.specs.message.Seen.{fields_onto, record_seen}
+use Rattle.pg_dyn.proofs.lemmas.message.KeptParts.{fields_keep}
 use Rattle.pg_dyn.proofs.message.Message.contents.Goals as goal
 
 pub returns-clause-whole : goal.returns-clause-whole

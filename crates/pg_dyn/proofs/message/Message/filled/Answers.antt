@@ -6,11 +6,11 @@ use Rattle.pg_schema.specs.Parts.{shape_of}
 use Rattle.pg_schema.specs.Shape.{fields, field_at}
 use Rattle.pg_dyn.specs.declared.message.Content.{Content}
 use Rattle.pg_dyn.specs.setting.ContentFaults.{HasKeyTwice}
-use Rattle.pg_dyn.specs.ContentFits.{NoneSiblings}
-use Rattle.pg_dyn.specs.Fits.{Fits}
-use Rattle.pg_dyn.specs.Kept.{type_of}
-use Rattle.pg_dyn.specs.Replacing.{without_siblings}
-use Rattle.pg_dyn.specs.Seen.{Rises}
+use Rattle.pg_dyn.specs.fitting.ContentFits.{NoneSiblings}
+use Rattle.pg_dyn.specs.fitting.Fits.{Fits}
+use Rattle.pg_dyn.specs.message.Kept.{type_of}
+use Rattle.pg_dyn.specs.message.Replacing.{without_siblings}
+use Rattle.pg_dyn.specs.message.Seen.{Rises}
 use Rattle.pg_dyn.specs.setting.Reported.{TakesContent}
 use Rattle.pg_dyn.proofs.lemmas.setting.WholeSteps.{whole_more, fill_fits, rises_before, fact_of_next, facts_before}
 use Rattle.pg_dyn.proofs.message.Message.filled.Goals as goal

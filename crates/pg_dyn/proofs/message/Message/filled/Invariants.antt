@@ -1,7 +1,7 @@
 use Rattle.std.proofs.Common.{◌≡◌, ◌++◌}
 use Rattle.std.specs.Vec.Iter.{into_iter_items}
 use Rattle.pg_schema.specs.Parts.{shape_of}
-use Rattle.pg_dyn.specs.Fits.{Fits}
+use Rattle.pg_dyn.specs.fitting.Fits.{Fits}
 use Rattle.pg_dyn.specs.setting.Setting.{IsWhole}
 use Rattle.pg_dyn.proofs.message.Message.filled.Given as goal
 

@@ -9,19 +9,19 @@ use Rattle.pg_wire.specs.Records.{WireRecord}
 use Rattle.pg_dyn.specs.declared.message.Content.{Content}
 use Rattle.pg_dyn.specs.declared.message.Content.TheVariants as contents
 use Rattle.pg_dyn.specs.declared.message.Value.TheVariants as values
-use Rattle.pg_dyn.specs.FieldList.{remove_field}
-use Rattle.pg_dyn.specs.Fits.{Fits}
-use Rattle.pg_dyn.specs.Kept.{Kept, type_of}
-use Rattle.pg_dyn.specs.Replacing.{is_sibling_number, without_siblings}
-use Rattle.pg_dyn.specs.Seen.{HasKeys, IsFilled, Rises, record_seen}
+use Rattle.pg_dyn.specs.message.FieldList.{remove_field}
+use Rattle.pg_dyn.specs.fitting.Fits.{Fits}
+use Rattle.pg_dyn.specs.message.Kept.{Kept, type_of}
+use Rattle.pg_dyn.specs.message.Replacing.{is_sibling_number, without_siblings}
+use Rattle.pg_dyn.specs.message.Seen.{HasKeys, IsFilled, Rises, record_seen}
 use Rattle.std.specs.List.{AllByRecursion}
-use Rattle.pg_dyn.proofs.lemmas.TypeFields.{rising}
-use Rattle.pg_dyn.proofs.lemmas.FitsByContents.{contents_from_fits}
+use Rattle.pg_dyn.proofs.lemmas.reading.TypeFields.{rising}
+use Rattle.pg_dyn.proofs.lemmas.fitting.FitsByContents.{contents_from_fits}
 use Rattle.pg_dyn.proofs.lemmas.setting.HeldAlone.{alone_out, held_alone}
 use Rattle.pg_dyn.proofs.Lists.{filter_all}
 use Rattle.pg_dyn.proofs.lemmas.setting.MembersOut.{all_stay, sibling_out}
-use Rattle.pg_dyn.proofs.lemmas.ReplacingLaws.{shown, type_shown}
-use Rattle.pg_dyn.proofs.lemmas.Splitting.{found_number}
+use Rattle.pg_dyn.proofs.lemmas.message.ReplacingLaws.{shown, type_shown}
+use Rattle.pg_dyn.proofs.lemmas.reading.Splitting.{found_number}
 use Rattle.pg_dyn.proofs.lemmas.setting.WithoutSiblings.{cleared_shown, sibling_found}
 use Rattle.pg_dyn.proofs.message.Message.held_siblings.Goals as goal
 

@@ -3,16 +3,16 @@ use Rattle.std.proofs.Common.{◌≡◌, IfSome, map, ap, sym, subst, ◌∙◌}
 use Rattle.pg_schema.specs.declared.parts.field.TypeId.{TypeId}
 use Rattle.pg_schema.specs.Parts.{field_shape, shape_of}
 use Rattle.pg_schema.specs.Shape.{FieldShape, fields, field_at}
-use Rattle.pg_dyn.specs.Fits.{Fits}
-use Rattle.pg_dyn.specs.Kept.{type_of}
-use Rattle.pg_dyn.specs.Replacing.{without_siblings}
-use Rattle.pg_dyn.specs.Seen.{record_seen}
+use Rattle.pg_dyn.specs.fitting.Fits.{Fits}
+use Rattle.pg_dyn.specs.message.Kept.{type_of}
+use Rattle.pg_dyn.specs.message.Replacing.{without_siblings}
+use Rattle.pg_dyn.specs.message.Seen.{record_seen}
 use Rattle.pg_dyn.specs.setting.Reported.{IsTaken, ItemsFit}
-use Rattle.pg_dyn.proofs.lemmas.FitsChecks.{none_found, same_field}
+use Rattle.pg_dyn.proofs.lemmas.fitting.FitsChecks.{none_found, same_field}
 use Rattle.pg_dyn.proofs.lemmas.setting.PutLaws.{cleared_fits, normalized_number}
-use Rattle.pg_dyn.proofs.lemmas.ReplacingLaws.{type_shown, type_of-with_parts}
+use Rattle.pg_dyn.proofs.lemmas.message.ReplacingLaws.{type_shown, type_of-with_parts}
 use Rattle.pg_dyn.proofs.lemmas.setting.SetSteps.{members_after, set_to}
-use Rattle.pg_dyn.proofs.lemmas.Splitting.{found_number}
+use Rattle.pg_dyn.proofs.lemmas.reading.Splitting.{found_number}
 use Rattle.pg_dyn.proofs.message.Message.put.Goals as goal
 
 pub held_siblings-members-requires-clause-found : goal.held_siblings-members-requires-clause-found

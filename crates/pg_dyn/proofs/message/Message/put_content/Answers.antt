@@ -5,14 +5,14 @@ use Rattle.pg_schema.specs.declared.parts.field.TypeId.{TypeId}
 use Rattle.pg_schema.specs.Parts.{field_shape, shape_of}
 use Rattle.pg_schema.specs.Shape.{fields, field_at}
 use Rattle.pg_dyn.specs.declared.message.Content.{Content}
-use Rattle.pg_dyn.specs.FieldList.{put_field}
-use Rattle.pg_dyn.specs.Fits.{Fits}
-use Rattle.pg_dyn.specs.Kept.{type_of}
-use Rattle.pg_dyn.specs.Replacing.{with_parts, without_siblings}
-use Rattle.pg_dyn.specs.Seen.{IsFilled, HasKeys, Rises, record_seen}
-use Rattle.pg_dyn.proofs.lemmas.FieldListLaws.{rises_put, rises_remove, each_put, each_removed}
+use Rattle.pg_dyn.specs.message.FieldList.{put_field}
+use Rattle.pg_dyn.specs.fitting.Fits.{Fits}
+use Rattle.pg_dyn.specs.message.Kept.{type_of}
+use Rattle.pg_dyn.specs.message.Replacing.{with_parts, without_siblings}
+use Rattle.pg_dyn.specs.message.Seen.{IsFilled, HasKeys, Rises, record_seen}
+use Rattle.pg_dyn.proofs.lemmas.message.FieldListLaws.{rises_put, rises_remove, each_put, each_removed}
 use Rattle.pg_dyn.proofs.lemmas.setting.PutLaws.{content_alike, may_hold_keys, nothing_normalized, put_fits, removed_fits}
-use Rattle.pg_dyn.proofs.lemmas.ReplacingLaws.{shown, put_shows, remove_shows, type_shown}
+use Rattle.pg_dyn.proofs.lemmas.message.ReplacingLaws.{shown, put_shows, remove_shows, type_shown}
 use Rattle.pg_dyn.proofs.message.Message.put_content.Goals as goal
 
 pub invariant_of-self : goal.invariant_of-self

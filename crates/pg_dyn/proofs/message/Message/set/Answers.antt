@@ -5,13 +5,13 @@ use Rattle.pg_schema.specs.Parts.{field_shape, shape_of}
 use Rattle.pg_schema.specs.Shape.{fields, field_at}
 use Rattle.pg_dyn.specs.declared.error.DynError.{DynError}
 use Rattle.pg_dyn.specs.setting.ContentFaults.{ContentFault, IsLowest, MayRefuseFor}
-use Rattle.pg_dyn.specs.Fits.{Fits}
-use Rattle.pg_dyn.specs.Kept.{type_of}
-use Rattle.pg_dyn.specs.Replacing.{without_siblings}
-use Rattle.pg_dyn.specs.Seen.{record_seen}
+use Rattle.pg_dyn.specs.fitting.Fits.{Fits}
+use Rattle.pg_dyn.specs.message.Kept.{type_of}
+use Rattle.pg_dyn.specs.message.Replacing.{without_siblings}
+use Rattle.pg_dyn.specs.message.Seen.{record_seen}
 use Rattle.pg_dyn.specs.setting.Reported.{IsTaken}
 use Rattle.pg_dyn.proofs.lemmas.setting.PutLaws.{cleared_fits, content_alike, normalized_number}
-use Rattle.pg_dyn.proofs.lemmas.ReplacingLaws.{type_shown, type_of-with_parts}
+use Rattle.pg_dyn.proofs.lemmas.message.ReplacingLaws.{type_shown, type_of-with_parts}
 use Rattle.pg_dyn.proofs.lemmas.setting.SetSteps.{accepted, key_twice, may_refuse, members_after, no_memory, none_early, number_is, set_to}
 use Rattle.pg_dyn.proofs.message.Message.set.Goals as goal
 

@@ -11,12 +11,12 @@ use Rattle.pg_dyn.specs.declared.error.DynError.{DynError}
 use Rattle.pg_dyn.specs.declared.error.DynError.TheVariants as errors
 use Rattle.pg_dyn.specs.declared.message.Content.{Content}
 use Rattle.pg_dyn.specs.declared.message.Message.{Message}
-use Rattle.pg_dyn.specs.Seen.{Rises}
+use Rattle.pg_dyn.specs.message.Seen.{Rises}
 use Rattle.pg_dyn.specs.setting.ContentFaults.{AnyOf, FirstOf, PassTwice, ContentsFault, ContentFault, HasKeyTwice, HasNoEarlyFault, is_in_oneof, members, IsLowest, MayRefuseFor}
 use Rattle.pg_dyn.specs.setting.Setting.{IsWhole}
 use Rattle.pg_dyn.specs.setting.Reported.{TakesContent}
-use Rattle.pg_dyn.proofs.lemmas.KeyLaws.{count_moved, each_moved}
-use Rattle.pg_dyn.proofs.lemmas.Standing.{any_moved}
+use Rattle.pg_dyn.proofs.lemmas.message.KeyLaws.{count_moved, each_moved}
+use Rattle.pg_dyn.proofs.lemmas.reading.Standing.{any_moved}
 use Rattle.pg_dyn.proofs.lemmas.setting.WholeSteps.{of_field, kept_under}
 use Rattle.pg_dyn.proofs.lemmas.setting.WholeFaults.{no_siblings_from, once, once_unsorted, whole_accepted, whole_early, whole_key_twice, whole_no_memory, whole_refused, whole_twice, whole_unsorted}
 use Rattle.pg_dyn.proofs.message.Message.whole.Goals as goal

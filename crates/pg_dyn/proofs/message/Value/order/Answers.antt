@@ -1,4 +1,4 @@
-use Rattle.pg_dyn.proofs.lemmas.FitsSteps.{other_default}
+use Rattle.pg_dyn.proofs.lemmas.fitting.FitsSteps.{other_default}
 use Rattle.pg_dyn.proofs.message.Value.order.Goals as goal
 
 pub returns-in_default-4 : goal.returns-in_default-4

@@ -1,8 +1,9 @@
 use Rattle.std.proofs.Common.{map, ap, ap₂, sym, ◌∙◌}
 use Rattle.pg_wire.specs.Reads.{seen_record}
-use Rattle.pg_dyn.specs.Borrowed.{fields_onto}
-use Rattle.pg_dyn.specs.Kept.{ends, type_of, unknown_of}
-use Rattle.pg_dyn.proofs.lemmas.BorrowedParts.{fields_keep}
+use Rattle.pg_dyn.specs.message_ref.Borrowed.{fields_onto}
+use Rattle.pg_dyn.specs.message.Kept.{ends, type_of}
+use Rattle.pg_dyn.specs.message.KeptParts.{unknown_of}
+use Rattle.pg_dyn.proofs.lemmas.message_ref.BorrowedParts.{fields_keep}
 use Rattle.pg_dyn.proofs.message_ref.MessageRef.contents.Goals as goal
 
 pub returns-clause-whole : goal.returns-clause-whole

@@ -3,15 +3,16 @@ use Rattle.std.proofs.Common.{◌≡◌, ◌<◌, ◌≢◌, ℕ, List, ◌∷�
 use Rattle.std.specs.List.{AllByRecursion}
 use Rattle.pg_wire.specs.Reads.{seen_record}
 use Rattle.pg_dyn.specs.declared.message_ref.ContentRef.{ContentRef}
-use Rattle.pg_dyn.specs.Borrowed.{HasKeys, IsFilled}
-use Rattle.pg_dyn.specs.Kept.{of_number, parts_of, type_of}
-use Rattle.pg_dyn.specs.Message.{is_of}
-use Rattle.pg_dyn.specs.PartsFit.{HoldsPart}
-use Rattle.pg_dyn.proofs.lemmas.BorrowedParts.{found_field, of_number_none}
-use Rattle.pg_dyn.proofs.lemmas.FieldListLaws.{AllBelow, AllFrom, apart_past_end, apart_there, none_there, same_at}
-use Rattle.pg_dyn.proofs.lemmas.KeptParts.{found_fact}
+use Rattle.pg_dyn.specs.message_ref.Borrowed.{HasKeys, IsFilled}
+use Rattle.pg_dyn.specs.message.KeptParts.{of_number, parts_of}
+use Rattle.pg_dyn.specs.message.Kept.{type_of}
+use Rattle.pg_dyn.specs.message.Message.{is_of}
+use Rattle.pg_dyn.specs.fitting.PartsFit.{HoldsPart}
+use Rattle.pg_dyn.proofs.lemmas.message_ref.BorrowedParts.{found_field, of_number_none}
+use Rattle.pg_dyn.proofs.lemmas.message.FieldListLaws.{AllBelow, AllFrom, apart_past_end, apart_there, none_there, same_at}
+use Rattle.pg_dyn.proofs.lemmas.message.KeptParts.{found_fact}
 use Rattle.pg_dyn.proofs.Lists.{each_filtered}
-use Rattle.pg_dyn.proofs.lemmas.PartsFit.{parts_hold}
+use Rattle.pg_dyn.proofs.lemmas.fitting.PartsFit.{parts_hold}
 use Rattle.pg_dyn.proofs.message_ref.MessageRef.get.Goals.{else-place-len-via-then-place-len+else-index-number, else-place-len-via-else-place-len}
 use Rattle.pg_dyn.proofs.message_ref.MessageRef.get.Goals as goal
 

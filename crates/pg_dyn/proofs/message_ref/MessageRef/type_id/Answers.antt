@@ -1,7 +1,7 @@
 use Rattle.std.proofs.Common.{map, ap, sym, ◌∙◌}
 use Rattle.pg_wire.specs.Reads.{seen_record}
-use Rattle.pg_dyn.specs.Kept.{ends, type_of}
-use Rattle.pg_dyn.proofs.lemmas.BorrowedParts.{fields_keep}
+use Rattle.pg_dyn.specs.message.Kept.{ends, type_of}
+use Rattle.pg_dyn.proofs.lemmas.message_ref.BorrowedParts.{fields_keep}
 use Rattle.pg_dyn.proofs.message_ref.MessageRef.type_id.Goals as goal
 
 pub returns : goal.returns

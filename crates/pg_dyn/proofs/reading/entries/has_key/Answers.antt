@@ -1,8 +1,8 @@
 -- Keys of one kind are told apart by their order.
 use Rattle.pg_dyn.specs.declared.message_ref.EntryRef.{EntryRef}
-use Rattle.pg_dyn.specs.BorrowedItems.{key_of}
-use Rattle.pg_dyn.specs.KeyOrder.{IsOfKind}
-use Rattle.pg_dyn.proofs.lemmas.FitsSteps.{fact_at}
+use Rattle.pg_dyn.specs.message_ref.BorrowedItems.{key_of}
+use Rattle.pg_dyn.specs.message.KeyOrder.{IsOfKind}
+use Rattle.pg_dyn.proofs.lemmas.fitting.FitsSteps.{fact_at}
 use Rattle.pg_dyn.proofs.lemmas.reading.LastOfKeys.{same_kind}
 use Rattle.pg_dyn.proofs.reading.entries.has_key.Goals as goal
 

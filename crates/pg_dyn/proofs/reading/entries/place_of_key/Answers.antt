@@ -1,11 +1,11 @@
 -- The keys rise, so those below the given one are in front.
 use Rattle.std.proofs.Common.{Bool, true, false, ℕ, ◌≡◌, ◌+◌, ◌-◌, ◌/◌, ◌<◌, suc, take, drop, length, sym, subst, arith, add-one}
 use Rattle.std.specs.List.{AllByRecursion}
-use Rattle.pg_dyn.specs.Borrowed.{leaf_of}
-use Rattle.pg_dyn.specs.BorrowedItems.{key_of}
-use Rattle.pg_dyn.specs.KeyOrder.{IsOfKind}
+use Rattle.pg_dyn.specs.message_ref.Borrowed.{leaf_of}
+use Rattle.pg_dyn.specs.message_ref.BorrowedItems.{key_of}
+use Rattle.pg_dyn.specs.message.KeyOrder.{IsOfKind}
 use Rattle.pg_dyn.specs.declared.message_ref.EntryRef.{EntryRef}
-use Rattle.pg_dyn.proofs.lemmas.FitsSteps.{fact_at}
+use Rattle.pg_dyn.proofs.lemmas.fitting.FitsSteps.{fact_at}
 use Rattle.pg_dyn.proofs.lemmas.reading.LastOfKeys.{same_kind}
 use Rattle.pg_dyn.proofs.lemmas.reading.EntryPlaces.{Below, NotBelow, below_upto, not_below_from}
 use Rattle.pg_dyn.proofs.reading.entries.place_of_key.Goals as goal

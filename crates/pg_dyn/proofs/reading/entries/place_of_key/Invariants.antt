@@ -1,7 +1,7 @@
 -- The entries before the first index are below the key, and those from the second on aren't.
 use Rattle.std.proofs.Common.{◌-◌}
-use Rattle.pg_dyn.specs.Borrowed.{leaf_of}
-use Rattle.pg_dyn.specs.BorrowedItems.{key_of}
+use Rattle.pg_dyn.specs.message_ref.Borrowed.{leaf_of}
+use Rattle.pg_dyn.specs.message_ref.BorrowedItems.{key_of}
 use Rattle.pg_dyn.proofs.lemmas.reading.EntryPlaces.{IsBetween}
 use Rattle.pg_dyn.proofs.reading.entries.place_of_key.Given as goal
 

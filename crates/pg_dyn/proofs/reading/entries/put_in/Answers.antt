@@ -3,8 +3,8 @@ use Rattle.std.proofs.Common.{List, ◌≡◌, ◌<◌, take, drop, length, get_
 use Rattle.std.specs.declared.cmp.Ordering.TheVariants.{Equal}
 use Rattle.std.specs.List.{AllByRecursion}
 use Rattle.pg_dyn.specs.declared.message_ref.EntryRef.{EntryRef}
-use Rattle.pg_dyn.specs.BorrowedItems.{key_of}
-use Rattle.pg_dyn.specs.Message.{key_cmp}
+use Rattle.pg_dyn.specs.message_ref.BorrowedItems.{key_of}
+use Rattle.pg_dyn.specs.message.Message.{key_cmp}
 use Rattle.pg_dyn.proofs.lemmas.reading.EntryPlaces.{Below, NotBelow, put_over, put_between}
 use Rattle.pg_dyn.proofs.reading.entries.put_in.Goals as goal
 

@@ -1,8 +1,8 @@
 -- A string is UTF-8, or is refused.
 use Rattle.std.proofs.Common.{◌≡◌, true, is_some, refl, ap, sym, subst}
 use Rattle.std.proofs.lemmas.Str.{is_utf8-from_IsUtf8}
-use Rattle.pg_dyn.specs.Coding.{leaf_in, scalar_form}
-use Rattle.pg_dyn.proofs.lemmas.Bodies.{not_utf8}
+use Rattle.pg_dyn.specs.word.Coding.{leaf_in, scalar_form}
+use Rattle.pg_dyn.proofs.lemmas.laws.Bodies.{not_utf8}
 use Rattle.pg_dyn.proofs.reading.faults.check_scalar.Goals as goal
 
 pub returns-in-Ok-clause-readable : goal.returns-in-Ok-clause-readable

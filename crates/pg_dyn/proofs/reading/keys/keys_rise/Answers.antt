@@ -1,9 +1,9 @@
 use Rattle.std.proofs.Common.{◌≡◌, ◌+◌, ◌-◌, ◌<◌, length, get_or, sym, subst, arith, add-one, ⊎_elim}
 use Rattle.std.proofs.lemmas.Bool.{cases_eq}
 use Rattle.pg_dyn.specs.declared.message_ref.EntryRef.{EntryRef}
-use Rattle.pg_dyn.specs.BorrowedItems.{key_of}
-use Rattle.pg_dyn.specs.KeyOrder.{IsOfKind}
-use Rattle.pg_dyn.proofs.lemmas.FitsSteps.{IsUnder, fact_at, rise_from, same_default}
+use Rattle.pg_dyn.specs.message_ref.BorrowedItems.{key_of}
+use Rattle.pg_dyn.specs.message.KeyOrder.{IsOfKind}
+use Rattle.pg_dyn.proofs.lemmas.fitting.FitsSteps.{IsUnder, fact_at, rise_from, same_default}
 use Rattle.pg_dyn.proofs.lemmas.reading.LastOfKeys.{same_kind}
 use Rattle.pg_dyn.proofs.reading.keys.keys_rise.Goals as goal
 

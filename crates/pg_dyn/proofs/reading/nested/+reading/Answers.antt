@@ -6,16 +6,16 @@ use Rattle.pg_schema.specs.Shape.{fields}
 use Rattle.pg_wire.specs.Reads.{seen_record}
 use Rattle.pg_dyn.specs.reading.ByFields.{AreGood, HoldsOf, IsEntryRead, RecordsGood, StopsFor}
 use Rattle.pg_dyn.proofs.lemmas.reading.ByFields.{with_held}
-use Rattle.pg_dyn.proofs.lemmas.TypeFields.{is_field_of, rising}
+use Rattle.pg_dyn.proofs.lemmas.reading.TypeFields.{is_field_of, rising}
 use Rattle.pg_dyn.proofs.lemmas.reading.FieldKinds.{is_no_message, lists_no_map, not_list, not_map}
 use Rattle.pg_dyn.proofs.lemmas.reading.FieldRuns as runs
 use Rattle.pg_dyn.proofs.Lists.{each_weaker}
 use Rattle.std.specs.List.{AllByRecursion}
 use Rattle.pg_schema.specs.declared.parts.field.Element.TheVariants as elements
 use Rattle.pg_dyn.specs.declared.message_ref.ContentRef.TheVariants as contents
-use Rattle.pg_dyn.specs.BorrowedItems.{ItemKept}
+use Rattle.pg_dyn.specs.message_ref.BorrowedItems.{ItemKept}
 use Rattle.pg_dyn.specs.reading.Steps.{HeldFits}
-use Rattle.pg_dyn.specs.Kept.{message_of, ends}
+use Rattle.pg_dyn.specs.message.Kept.{message_of, ends}
 use Rattle.pg_dyn.proofs.lemmas.reading.BodiesByFields as bodies
 use Rattle.pg_dyn.proofs.lemmas.reading.ChildrenByFields as children
 use Rattle.pg_dyn.proofs.lemmas.reading.EntriesByFields as entries
@@ -27,9 +27,9 @@ use Rattle.pg_wire.specs.declared.record.Record.{Record}
 use Rattle.pg_dyn.proofs.lemmas.reading.CountedRecords as counting
 use Rattle.pg_dyn.proofs.lemmas.reading.Gathered.{counted_so_far}
 use Rattle.pg_dyn.proofs.lemmas.reading.HeldFields.{child_zero, list_held, one_held}
-use Rattle.pg_dyn.proofs.lemmas.ReplacingLaws.{type_of-kept_onto}
-use Rattle.pg_dyn.specs.Borrowed.{all_seen}
-use Rattle.pg_dyn.specs.Belonging.{IsUnknown}
+use Rattle.pg_dyn.proofs.lemmas.message.ReplacingLaws.{type_of-kept_onto}
+use Rattle.pg_dyn.specs.message_ref.Borrowed.{all_seen}
+use Rattle.pg_dyn.specs.fitting.Belonging.{IsUnknown}
 use Rattle.pg_dyn.proofs.lemmas.reading.GatheredReading as gathered
 use Rattle.pg_wire.specs.Records.{IsRecord, WireRecord}
 use Rattle.pg_dyn.specs.reading.Gathering.{AreByNumber, AreGathered}

@@ -5,11 +5,11 @@ use Rattle.pg_schema.specs.Parts.{shape_of}
 use Rattle.pg_schema.specs.Shape.{fields}
 use Rattle.pg_dyn.specs.reading.ByFields.{StopsFor}
 use Rattle.pg_dyn.specs.reading.Decoding.{dec}
-use Rattle.pg_dyn.specs.Kept.{message_of}
+use Rattle.pg_dyn.specs.message.Kept.{message_of}
 use Rattle.pg_dyn.specs.reading.Steps.{IsShallowIn}
 use Rattle.pg_dyn.proofs.lemmas.reading.BodiesByFields.{bytes_good, bytes_read, records_good}
-use Rattle.pg_dyn.proofs.lemmas.TypeFields.{on_ok_map}
-use Rattle.pg_dyn.proofs.lemmas.Joining.{readable_from_dec}
+use Rattle.pg_dyn.proofs.lemmas.reading.TypeFields.{on_ok_map}
+use Rattle.pg_dyn.proofs.lemmas.reading.Joining.{readable_from_dec}
 use Rattle.pg_dyn.proofs.lemmas.reading.StopSteps.{handed_on, stops_for}
 use Rattle.pg_dyn.proofs.reading.nested.read_message.Goals as goal
 

@@ -2,9 +2,9 @@
 use Rattle.std.proofs.Common.{◌≡◌, [], Result, Ok, Err, IfOk, sym, subst, ◌∙◌, rules}
 use Rattle.std.specs.Ordering.{is_lt}
 use Rattle.std.proofs.lemmas.List.Sorted.{answers_always}
-use Rattle.pg_dyn.specs.BorrowedItems.{AreAlike, KeysRise, key_of, ranks_below}
+use Rattle.pg_dyn.specs.message_ref.BorrowedItems.{AreAlike, KeysRise, key_of, ranks_below}
 use Rattle.pg_dyn.specs.reading.Normalized.{placed}
-use Rattle.pg_dyn.proofs.lemmas.BorrowedItems.{ranks_entries}
+use Rattle.pg_dyn.proofs.lemmas.message_ref.BorrowedItems.{ranks_entries}
 use Rattle.pg_dyn.proofs.lemmas.reading.NormalizedEntries.{alike_moved, rising_stay, normalized_stable}
 use Rattle.pg_dyn.proofs.reading.ordering.last_of_keys.Goals as goal
 

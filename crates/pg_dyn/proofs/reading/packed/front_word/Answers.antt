@@ -1,8 +1,8 @@
 -- The word is at the front, or isn't.
 use Rattle.std.proofs.Common.{◌≡◌, take, IfOk, ap, sym, subst, arith}
 use Rattle.pg_wire.specs.declared.record.WireType.{WireType}
-use Rattle.pg_dyn.specs.Coding.{element_at, word_in}
-use Rattle.pg_dyn.specs.WordOf.{HasBits}
+use Rattle.pg_dyn.specs.word.Coding.{element_at, word_in}
+use Rattle.pg_dyn.specs.word.WordOf.{HasBits}
 use Rattle.pg_dyn.proofs.lemmas.reading.PackedRows.{IsOne, varint_is_one, varint_is_word, if_there, if_short}
 use Rattle.pg_dyn.proofs.reading.packed.front_word.Goals as goal
 

@@ -2,7 +2,7 @@
 use Rattle.std.proofs.Common.{◌≡◌, ℕ, List, true, is_some, sym, subst, subst₂}
 use Rattle.std.proofs.lemmas.Result.{IfErr-weaker, on_ok_weaker}
 use Rattle.pg_wire.specs.declared.record.WireType.{WireType}
-use Rattle.pg_dyn.specs.Coding.{scalar_form}
+use Rattle.pg_dyn.specs.word.Coding.{scalar_form}
 use Rattle.pg_dyn.specs.reading.ByFields.{StopsFor}
 use Rattle.pg_dyn.specs.reading.Content.{packed_leaves}
 use Rattle.pg_dyn.specs.reading.Steps.{IsRow, WordsRead}

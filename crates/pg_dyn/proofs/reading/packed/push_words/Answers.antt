@@ -1,6 +1,6 @@
 -- Each word is read after those before it.
 use Rattle.std.proofs.Common.{ℕ, List, ◌+◌, take, ap, sym, subst, ◌∙◌, arith}
-use Rattle.pg_dyn.specs.Coding.{element_at, word_in}
+use Rattle.pg_dyn.specs.word.Coding.{element_at, word_in}
 use Rattle.pg_dyn.proofs.lemmas.reading.PackedRows.{IsOne, RowSoFar, row_begin, row_done, row_broken, row_fault, row_onward, to_end}
 use Rattle.pg_dyn.proofs.reading.packed.push_words.Goals as goal
 

@@ -1,8 +1,8 @@
 use Rattle.std.proofs.Common.{subst}
 use Rattle.pg_wire.specs.declared.record.WireType.{WireType}
-use Rattle.pg_dyn.specs.Coding.{word_in}
-use Rattle.pg_dyn.specs.ScalarItems.{HasShape}
-use Rattle.pg_dyn.proofs.lemmas.Bodies.{word_read, word_not_refused}
+use Rattle.pg_dyn.specs.word.Coding.{word_in}
+use Rattle.pg_dyn.specs.fitting.ScalarItems.{HasShape}
+use Rattle.pg_dyn.proofs.lemmas.laws.Bodies.{word_read, word_not_refused}
 use Rattle.pg_dyn.proofs.reading.scalar.body_word.Goals as goal
 
 pub returns-in-Ok-clause-word : goal.returns-in-Ok-clause-word

@@ -1,7 +1,7 @@
 use Rattle.std.proofs.Common.{ap, refl, sym, ◌∙◌, true≢false}
 use Rattle.std.specs.Str.{is_utf8}
 use Rattle.std.proofs.lemmas.Str.{is_utf8-from_IsUtf8}
-use Rattle.pg_dyn.proofs.lemmas.Bodies.{not_utf8, text_read}
+use Rattle.pg_dyn.proofs.lemmas.laws.Bodies.{not_utf8, text_read}
 use Rattle.pg_dyn.proofs.reading.scalar.item_in.Goals as goal
 
 pub returns-in-Ok-clause-ok : goal.returns-in-Ok-clause-ok

@@ -1,7 +1,7 @@
 -- The item of a word is one of the scalar.
 use Rattle.std.proofs.Common.{sym, subst, ◌∙◌, arith}
-use Rattle.pg_dyn.specs.BorrowedItems.{IsItemKept}
-use Rattle.pg_dyn.proofs.lemmas.NumberLaws.{number_kept}
+use Rattle.pg_dyn.specs.message_ref.BorrowedItems.{IsItemKept}
+use Rattle.pg_dyn.proofs.lemmas.word.NumberLaws.{number_kept}
 use Rattle.pg_dyn.proofs.reading.scalar.word_item.Goals as goal
 
 pub returns-clause-item : goal.returns-clause-item

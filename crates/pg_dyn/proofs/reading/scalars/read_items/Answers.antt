@@ -6,11 +6,11 @@ use Rattle.pg_schema.specs.Parts.{field_shape}
 use Rattle.pg_wire.specs.Reads.{seen_record}
 use Rattle.pg_wire.specs.Records.{IsRecord}
 use Rattle.pg_dyn.specs.reading.ByFields.{StopsFor}
-use Rattle.pg_dyn.specs.Coding.{leaf_in, scalar_form}
+use Rattle.pg_dyn.specs.word.Coding.{leaf_in, scalar_form}
 use Rattle.pg_dyn.specs.reading.Content.{leaves_in, takes}
 use Rattle.pg_dyn.specs.reading.ItemRuns.{AllRead}
-use Rattle.pg_dyn.specs.BorrowedItems.{IsItemKept}
-use Rattle.pg_dyn.specs.Borrowed.{leaf_of}
+use Rattle.pg_dyn.specs.message_ref.BorrowedItems.{IsItemKept}
+use Rattle.pg_dyn.specs.message_ref.Borrowed.{leaf_of}
 use Rattle.pg_dyn.proofs.lemmas.reading.FieldKinds.{lists_no_map}
 use Rattle.pg_dyn.proofs.lemmas.reading.ScalarRuns.{ItemsSoFar, item_there, more_items, own_item, own_of_single, own_shape}
 use Rattle.pg_dyn.proofs.lemmas.reading.SliceRuns.{holds_in, one_more, record_in}

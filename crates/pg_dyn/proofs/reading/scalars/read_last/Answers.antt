@@ -5,10 +5,10 @@ use Rattle.pg_schema.specs.Parts.{field_shape}
 use Rattle.pg_wire.specs.Reads.{seen_record}
 use Rattle.pg_wire.specs.Records.{IsRecord}
 use Rattle.pg_dyn.specs.reading.ByFields.{AreGood, HoldsOf, StopsFor}
-use Rattle.pg_dyn.specs.Coding.{leaf_in, scalar_form}
+use Rattle.pg_dyn.specs.word.Coding.{leaf_in, scalar_form}
 use Rattle.pg_dyn.specs.reading.Content.{takes}
-use Rattle.pg_dyn.specs.BorrowedItems.{IsItemKept}
-use Rattle.pg_dyn.specs.Borrowed.{leaf_of}
+use Rattle.pg_dyn.specs.message_ref.BorrowedItems.{IsItemKept}
+use Rattle.pg_dyn.specs.message_ref.Borrowed.{leaf_of}
 use Rattle.pg_dyn.specs.reading.Steps.{FieldReads, HeldFits, IsShallow}
 use Rattle.pg_dyn.proofs.lemmas.reading.FieldRecords.{singular_wire}
 use Rattle.pg_dyn.proofs.lemmas.reading.ScalarRuns.{LastSoFar, all_good, good_read, item_there, last_fits, last_holds, new_last, own_item, own_shape}

@@ -3,8 +3,8 @@ use Rattle.std.proofs.lemmas.Result.{err_from_is_err_and}
 use Rattle.pg_schema.specs.declared.parts.field.Scalar.{Scalar}
 use Rattle.pg_schema.specs.Parts.{field_shape}
 use Rattle.pg_wire.specs.Reads.{seen_record}
-use Rattle.pg_dyn.specs.Coding.{scalar_form}
-use Rattle.pg_dyn.specs.NumberLists.{number_item}
+use Rattle.pg_dyn.specs.word.Coding.{scalar_form}
+use Rattle.pg_dyn.specs.word.NumberLists.{number_item}
 use Rattle.pg_dyn.specs.reading.ByFields.{AreGood, StopsFor}
 use Rattle.pg_dyn.specs.reading.Held.{IsHeldList, read_as}
 use Rattle.pg_dyn.proofs.lemmas.reading.FieldKinds.{lists_no_map}

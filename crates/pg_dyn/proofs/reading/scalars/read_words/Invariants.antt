@@ -2,8 +2,8 @@
 use Rattle.std.proofs.Common.{map, take}
 use Rattle.pg_schema.specs.Parts.{field_shape}
 use Rattle.pg_wire.specs.Reads.{seen_record}
-use Rattle.pg_dyn.specs.Coding.{scalar_form}
-use Rattle.pg_dyn.specs.NumberLists.{number_item}
+use Rattle.pg_dyn.specs.word.Coding.{scalar_form}
+use Rattle.pg_dyn.specs.word.NumberLists.{number_item}
 use Rattle.pg_dyn.specs.reading.Held.{read_as}
 use Rattle.pg_dyn.proofs.lemmas.reading.ScalarRuns.{ItemsSoFar}
 use Rattle.pg_dyn.proofs.reading.scalars.read_words.Given as goal

@@ -1,6 +1,6 @@
 use Rattle.std.proofs.Common.{refl, sym, ap, inr, true≢false}
 use Rattle.std.proofs.lemmas.Str.{is_utf8-from_IsUtf8, IsUtf8-from_is_utf8}
-use Rattle.pg_dyn.specs.Coding.{scalar_form}
+use Rattle.pg_dyn.specs.word.Coding.{scalar_form}
 use Rattle.pg_dyn.proofs.setting.check.check_bytes.Goals as goal
 
 pub returns-in-Ok-clause-fits : goal.returns-in-Ok-clause-fits

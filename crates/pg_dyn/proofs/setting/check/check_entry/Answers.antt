@@ -1,7 +1,7 @@
 use Rattle.pg_schema.specs.declared.parts.field.Element.TheVariants as elements
 use Rattle.pg_schema.specs.Parts.{shape_of}
 use Rattle.pg_dyn.specs.setting.ContentFaults.{ElementFault}
-use Rattle.pg_dyn.specs.ContentFits.{ItemFits}
+use Rattle.pg_dyn.specs.fitting.ContentFits.{ItemFits}
 use Rattle.pg_dyn.proofs.lemmas.setting.ContentChecks.{item_right}
 use Rattle.pg_dyn.proofs.lemmas.setting.LowestFault.{reported_both}
 use Rattle.pg_dyn.proofs.setting.check.check_entry.Goals as goal

@@ -1,6 +1,6 @@
 use Rattle.pg_schema.specs.Parts.{shape_of}
 use Rattle.pg_dyn.specs.setting.ContentFaults.{ElementFault}
-use Rattle.pg_dyn.specs.ContentFits.{ItemFits}
+use Rattle.pg_dyn.specs.fitting.ContentFits.{ItemFits}
 use Rattle.pg_dyn.proofs.lemmas.setting.ContentChecks.{item_right}
 use Rattle.pg_dyn.proofs.lemmas.setting.LowestFault.{reported_more, reported_all}
 use Rattle.pg_dyn.proofs.setting.check.check_values.Goals as goal

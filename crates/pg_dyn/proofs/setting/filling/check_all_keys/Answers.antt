@@ -3,10 +3,10 @@ use Rattle.pg_schema.specs.Parts.{shape_of}
 use Rattle.pg_dyn.specs.declared.message.Content.{Content}
 use Rattle.pg_dyn.specs.setting.ContentFaults.{HasKeyTwice}
 use Rattle.pg_dyn.specs.setting.Reported.{TakesContent}
-use Rattle.pg_dyn.proofs.lemmas.FitsSteps.{each_more}
+use Rattle.pg_dyn.proofs.lemmas.fitting.FitsSteps.{each_more}
 use Rattle.pg_dyn.proofs.lemmas.setting.PutLaws.{content_alike}
 use Rattle.pg_dyn.proofs.lemmas.setting.NormalizedLaws.{found_at}
-use Rattle.pg_dyn.proofs.lemmas.Standing.{any_from, stands_at}
+use Rattle.pg_dyn.proofs.lemmas.reading.Standing.{any_from, stands_at}
 use Rattle.pg_dyn.proofs.setting.filling.check_all_keys.Goals as goal
 
 pub check_keys-requires : goal.check_keys-requires

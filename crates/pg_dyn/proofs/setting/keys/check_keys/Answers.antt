@@ -3,9 +3,9 @@ use Rattle.std.proofs.Common.{List, inr, refl, sym, subst}
 use Rattle.std.specs.List.Sorted.{IsPermutation}
 use Rattle.pg_dyn.specs.declared.message.Value.{Value}
 use Rattle.pg_dyn.specs.setting.ContentFaults.{HasEntryTwice, HasKeyTwice}
-use Rattle.pg_dyn.specs.ContentFits.{KeysRise}
-use Rattle.pg_dyn.specs.KeyOrder.{AreAlike, KeysAlike}
-use Rattle.pg_dyn.proofs.lemmas.KeyLaws.{Behind, alike_moved, rising_once, shown, twice_back, twice_moved}
+use Rattle.pg_dyn.specs.fitting.ContentFits.{KeysRise}
+use Rattle.pg_dyn.specs.message.KeyOrder.{AreAlike, KeysAlike}
+use Rattle.pg_dyn.proofs.lemmas.message.KeyLaws.{Behind, alike_moved, rising_once, shown, twice_back, twice_moved}
 use Rattle.pg_dyn.proofs.setting.keys.check_keys.Goals as goal
 
 pub returns-then-keys_rise-clause-ok : goal.returns-then-keys_rise-clause-ok

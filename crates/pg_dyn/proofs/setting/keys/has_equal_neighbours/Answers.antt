@@ -1,9 +1,9 @@
 -- Neighbours that rank alike have one key, and where there are none the keys rise.
 use Rattle.std.proofs.Common.{◌≡◌, suc, ◌-◌, get_or, true≢false, sym, subst, ◌∙◌, arith}
 use Rattle.std.specs.declared.cmp.Ordering.TheVariants.{Equal}
-use Rattle.pg_dyn.specs.KeyOrder.{rank_cmp}
-use Rattle.pg_dyn.specs.Seen.{leaf_of}
-use Rattle.pg_dyn.proofs.lemmas.KeyLaws.{equal_behind, once_behind}
+use Rattle.pg_dyn.specs.message.KeyOrder.{rank_cmp}
+use Rattle.pg_dyn.specs.message.Seen.{leaf_of}
+use Rattle.pg_dyn.proofs.lemmas.message.KeyLaws.{equal_behind, once_behind}
 use Rattle.pg_dyn.proofs.setting.keys.has_equal_neighbours.Goals.{in-Equal, in_default}
 use Rattle.pg_dyn.proofs.setting.keys.has_equal_neighbours.Goals as goal
 

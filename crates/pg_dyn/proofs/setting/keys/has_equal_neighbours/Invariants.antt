@@ -2,8 +2,8 @@
 use Rattle.std.proofs.Common.{◌≡◌, ℕ, ◌<◌, ◌+◌, get_or, Bor}
 use Rattle.std.specs.declared.cmp.Ordering.TheVariants.{Equal}
 use Rattle.pg_dyn.specs.declared.message.Value.{Value}
-use Rattle.pg_dyn.specs.KeyOrder.{rank_cmp}
-use Rattle.pg_dyn.specs.Seen.{leaf_of}
+use Rattle.pg_dyn.specs.message.KeyOrder.{rank_cmp}
+use Rattle.pg_dyn.specs.message.Seen.{leaf_of}
 use Rattle.pg_dyn.proofs.setting.keys.has_equal_neighbours.Given as goal
 
 abbrev pub invariant-loop-next : goal.invariant-loop-next

@@ -6,9 +6,9 @@ use Rattle.std.proofs.lemmas.List.{take_all}
 use Rattle.std.proofs.lemmas.List.MinMax.{ranks_by}
 use Rattle.std.proofs.lemmas.List.Sorted.{answers_always, IsPermutation-map}
 use Rattle.pg_dyn.specs.declared.message.Value.{Value}
-use Rattle.pg_dyn.specs.KeyOrder.{ranks_below}
-use Rattle.pg_dyn.specs.Seen.{leaf_of}
-use Rattle.pg_dyn.proofs.lemmas.KeyLaws.{Behind, rank_total, shown, sorted_shown}
+use Rattle.pg_dyn.specs.message.KeyOrder.{ranks_below}
+use Rattle.pg_dyn.specs.message.Seen.{leaf_of}
+use Rattle.pg_dyn.proofs.lemmas.message.KeyLaws.{Behind, rank_total, shown, sorted_shown}
 use Rattle.pg_dyn.proofs.setting.keys.in_order.Goals as goal
 
 pub returns-clause-moved : goal.returns-clause-moved

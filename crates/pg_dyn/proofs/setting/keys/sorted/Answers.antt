@@ -4,9 +4,9 @@ use Rattle.std.specs.List.{AllByRecursion}
 use Rattle.std.specs.Ordering.{is_lt}
 use Rattle.std.proofs.lemmas.List.Sorted.{answers_always}
 use Rattle.pg_dyn.specs.declared.message.Value.{Value}
-use Rattle.pg_dyn.specs.KeyOrder.{ranks_below}
-use Rattle.pg_dyn.specs.Seen.{IsKey}
-use Rattle.pg_dyn.proofs.lemmas.KeyLaws.{alike_keys, alike_moved, equal_twice, ranks_entries, sorted_rise, twice_moved}
+use Rattle.pg_dyn.specs.message.KeyOrder.{ranks_below}
+use Rattle.pg_dyn.specs.message.Seen.{IsKey}
+use Rattle.pg_dyn.proofs.lemmas.message.KeyLaws.{alike_keys, alike_moved, equal_twice, ranks_entries, sorted_rise, twice_moved}
 use Rattle.pg_dyn.proofs.setting.keys.sorted.Goals as goal
 
 pub keys_rise-requires : goal.keys_rise-requires

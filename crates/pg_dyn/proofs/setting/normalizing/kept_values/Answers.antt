@@ -1,8 +1,8 @@
 use Rattle.std.proofs.Common.{arith, true, ap, sym, map, drop, length, ◌∙◌}
 use Rattle.pg_schema.specs.Parts.{shape_of}
-use Rattle.pg_dyn.specs.ContentFits.{ItemFits}
-use Rattle.pg_dyn.specs.Seen.{item_seen}
-use Rattle.pg_dyn.specs.Texts.{kept_item}
+use Rattle.pg_dyn.specs.fitting.ContentFits.{ItemFits}
+use Rattle.pg_dyn.specs.message.Seen.{item_seen}
+use Rattle.pg_dyn.specs.fitting.Texts.{kept_item}
 use Rattle.pg_dyn.proofs.lemmas.setting.KeptVariants.{values_same}
 use Rattle.pg_dyn.proofs.lemmas.setting.NormalizedLaws.{all_kept, each_replaced, kept_next, kept_once, written_back}
 use Rattle.pg_dyn.proofs.setting.normalizing.kept_values.Goals as goal

@@ -1,9 +1,9 @@
 -- the items so far are kept as the field's, and all show what it keeps of them
 use Rattle.std.specs.List.{AllByRecursion}
 use Rattle.pg_schema.specs.Parts.{shape_of}
-use Rattle.pg_dyn.specs.ContentFits.{ItemFits}
-use Rattle.pg_dyn.specs.Seen.{item_seen}
-use Rattle.pg_dyn.specs.Texts.{kept_item}
+use Rattle.pg_dyn.specs.fitting.ContentFits.{ItemFits}
+use Rattle.pg_dyn.specs.message.Seen.{item_seen}
+use Rattle.pg_dyn.specs.fitting.Texts.{kept_item}
 use Rattle.std.proofs.Common.{true}
 use Rattle.pg_dyn.proofs.lemmas.setting.NormalizedLaws.{KeptUpTo, kept_once}
 use Rattle.pg_dyn.proofs.setting.normalizing.kept_values.Given as goal

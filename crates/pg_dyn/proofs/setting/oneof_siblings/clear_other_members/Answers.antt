@@ -3,7 +3,7 @@ use Rattle.std.proofs.lemmas.Fn.{filter_same}
 use Rattle.pg_schema.specs.Parts.{field_shape, shape_of}
 use Rattle.pg_schema.specs.Shape.{fields}
 use Rattle.pg_dyn.specs.declared.message.Content.{Content}
-use Rattle.pg_dyn.specs.Replacing.{is_sibling_number}
+use Rattle.pg_dyn.specs.message.Replacing.{is_sibling_number}
 use Rattle.pg_dyn.proofs.setting.oneof_siblings.clear_other_members.Goals as goal
 
 pub returns : goal.returns

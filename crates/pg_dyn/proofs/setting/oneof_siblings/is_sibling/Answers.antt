@@ -2,7 +2,7 @@
 use Rattle.std.proofs.Common.{sym, ◌∙◌}
 use Rattle.pg_schema.specs.Parts.{field_shape, shape_of}
 use Rattle.pg_schema.specs.Shape.{fields}
-use Rattle.pg_dyn.proofs.lemmas.TypeFields.{rising}
+use Rattle.pg_dyn.proofs.lemmas.reading.TypeFields.{rising}
 use Rattle.pg_dyn.proofs.lemmas.setting.WithoutSiblings.{sibling_found, sibling_nowhere}
 use Rattle.pg_dyn.proofs.setting.oneof_siblings.is_sibling.Goals as goal
 

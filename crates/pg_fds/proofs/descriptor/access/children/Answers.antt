@@ -1,6 +1,6 @@
 use Rattle.std.proofs.Common.{Global, Vec, [], ◌∷◌, ◌++◌, ap, filter_map, map, sym, ◌∙◌}
 use Rattle.std.proofs.lemmas.List.{append-nil, map-append}
-use Rattle.pg_dyn.specs.Kept.{Kept, message_of}
+use Rattle.pg_dyn.specs.message.Kept.{Kept, message_of}
 use Rattle.pg_fds.specs.reading.Held.{items_in}
 use Rattle.pg_fds.specs.reading.SaidItems.{said}
 use Rattle.pg_fds.specs.stated.Said.{child_in}

@@ -1,5 +1,5 @@
 use Rattle.std.proofs.Common.{List, ap, slice_get, sym, ◌∙◌}
-use Rattle.pg_dyn.specs.Message.{Item}
+use Rattle.pg_dyn.specs.message.Message.{Item}
 use Rattle.pg_fds.proofs.lemmas.descriptor.SaidLaws.{content_items, no_item}
 use Rattle.pg_fds.proofs.descriptor.access.item.Goals as goal
 

@@ -1,7 +1,7 @@
 use Rattle.std.proofs.Common.{◌≡◌, SFits, Some, ap, rules, slice_get, subst, sym, ℤ, ◌∙◌}
 use Rattle.std.proofs.lemmas.Int.{to_z-of_z}
 use Rattle.std.specs.Int.{w32}
-use Rattle.pg_dyn.specs.Message.{Int, Plain}
+use Rattle.pg_dyn.specs.message.Message.{Int, Plain}
 use Rattle.pg_fds.specs.reading.Held.{items_in, values_in}
 use Rattle.pg_fds.specs.reading.SaidItems.{said}
 use Rattle.pg_fds.proofs.lemmas.descriptor.SaidLaws.{entry_there, item_there, many_there, said_there}

@@ -1,8 +1,8 @@
 use Rattle.std.proofs.Common.{SFits, ap, rules, sym, ℤ, ◌∙◌}
 use Rattle.std.proofs.lemmas.Int.{to_z-of_z}
 use Rattle.std.specs.Int.{w32}
-use Rattle.pg_dyn.specs.Message.{Int, Plain}
-use Rattle.pg_dyn.specs.NumberLists.{numbers_in}
+use Rattle.pg_dyn.specs.message.Message.{Int, Plain}
+use Rattle.pg_dyn.specs.word.NumberLists.{numbers_in}
 use Rattle.pg_fds.proofs.lemmas.descriptor.SaidLaws.{item_there, said_there}
 use Rattle.pg_fds.proofs.descriptor.access.listed_number.Goals as goal
 

@@ -1,5 +1,5 @@
 use Rattle.std.proofs.Common.{◌-◌}
-use Rattle.pg_dyn.specs.Kept.{message_of}
+use Rattle.pg_dyn.specs.message.Kept.{message_of}
 use Rattle.pg_fds.specs.stated.Codes.{has_types, have_types}
 use Rattle.pg_fds.proofs.lemmas.reading.CodeLaws.{all_typed, here_typed, tested_more}
 use Rattle.pg_fds.proofs.reading.codes.+have_types.Goals as goal

@@ -1,7 +1,7 @@
 use Rattle.std.proofs.Common.{get_or, pos, sym, ◌∙◌}
 use Rattle.std.specs.Ordering.{int_eq}
 use Rattle.pg_schema.specs.declared.parts.field.Scalar.TheVariants.{Double}
-use Rattle.pg_dyn.specs.Kept.{message_of}
+use Rattle.pg_dyn.specs.message.Kept.{message_of}
 use Rattle.pg_fds.specs.stated.Codes.{scalars}
 use Rattle.pg_fds.specs.writing.Fields.{scalar_code}
 use Rattle.pg_fds.specs.stated.Said.{number_at}

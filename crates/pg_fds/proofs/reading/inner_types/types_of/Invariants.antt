@@ -1,5 +1,5 @@
 use Rattle.std.proofs.Common.{◌≡◌, filter, map, take}
-use Rattle.pg_dyn.specs.Kept.{message_of}
+use Rattle.pg_dyn.specs.message.Kept.{message_of}
 use Rattle.pg_fds.specs.stated.SaidTypes.{is_no_entry}
 use Rattle.pg_fds.proofs.reading.inner_types.types_of.Given as goal
 

@@ -1,8 +1,9 @@
 use Rattle.std.proofs.Common.{[], ◌≡◌, ap, map, ℕ}
 use Rattle.std.proofs.lemmas.Result.{MatchResult-from_err}
 use Rattle.pg_dyn.specs.declared.message_ref.ContentRef.{ContentRef}
-use Rattle.pg_dyn.specs.Kept.{message_of, type_of, unknown_of}
-use Rattle.pg_dyn.specs.Message.{Item, Part, is_of}
+use Rattle.pg_dyn.specs.message.Kept.{message_of, type_of}
+use Rattle.pg_dyn.specs.message.KeptParts.{unknown_of}
+use Rattle.pg_dyn.specs.message.Message.{Item, Part, is_of}
 use Rattle.std.specs.Prelude.{filter}
 use Rattle.pg_fds.specs.stated.Said.{items_at}
 use Rattle.pg_fds.proofs.lemmas.descriptor.SaidLaws.{all_more, all_taken, no_parts}

@@ -1,7 +1,7 @@
 use Rattle.std.proofs.Common.{◌≡◌, None, Some, true, ap, inr, option_map, sym, ◌∙◌}
 use Rattle.std.specs.Option.{option_copied}
 use Rattle.pg_schema.specs.rules.DeclaredNames.{entry_name}
-use Rattle.pg_dyn.specs.Kept.{message_of}
+use Rattle.pg_dyn.specs.message.Kept.{message_of}
 use Rattle.pg_fds.specs.reading.Owners.{means_of, message_in, owner_of}
 use Rattle.pg_fds.specs.stated.Said.{text_at}
 use Rattle.pg_fds.specs.stated.StatedFields.{names_its_entry}

@@ -2,7 +2,7 @@ use Rattle.std.proofs.Common.{◌≡◌, SFits, Some, ap, cond, not, of_z, pos, 
 use Rattle.std.proofs.lemmas.Int.{to_z-of_z}
 use Rattle.std.specs.Int.{w128}
 use Rattle.std.specs.Ordering.{int_eq}
-use Rattle.pg_dyn.specs.Kept.{message_of}
+use Rattle.pg_dyn.specs.message.Kept.{message_of}
 use Rattle.pg_fds.specs.stated.StatedFields.{packed_at, repeated, singular}
 use Rattle.pg_fds.specs.stated.StatedNames.{only_if}
 use Rattle.pg_fds.specs.stated.SaidTypes.{is_optional, label_at}

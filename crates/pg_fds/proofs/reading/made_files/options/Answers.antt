@@ -1,8 +1,8 @@
 use Rattle.std.proofs.Common.{◌≡◌, [], ap, map, option_map, sym, ◌∙◌}
 use Rattle.std.proofs.lemmas.Result.{IfOk-weaker}
 use Rattle.std.specs.Option.{unwrap_or}
-use Rattle.pg_dyn.specs.Kept.{message_of}
-use Rattle.pg_dyn.specs.Message.{ends}
+use Rattle.pg_dyn.specs.message.Kept.{message_of}
+use Rattle.pg_dyn.specs.message.Message.{ends}
 use Rattle.pg_fds.specs.stated.Said.{options_at}
 use Rattle.pg_fds.specs.stated.StatedFiles.{options_under}
 use Rattle.pg_fds.specs.stated.SaidFiles.{option_places}

@@ -1,5 +1,5 @@
 use Rattle.std.proofs.Common.{◌≡◌, map, take}
-use Rattle.pg_dyn.specs.Kept.{message_of}
+use Rattle.pg_dyn.specs.message.Kept.{message_of}
 use Rattle.pg_fds.specs.stated.StatedFiles.{options_under}
 use Rattle.pg_fds.specs.stated.Views.{option_view}
 use Rattle.pg_fds.proofs.reading.made_files.options_under.Given as goal

@@ -1,5 +1,5 @@
 use Rattle.std.proofs.Common.{◌≡◌, ◌++◌, map, drop}
-use Rattle.pg_dyn.specs.Kept.{message_of}
+use Rattle.pg_dyn.specs.message.Kept.{message_of}
 use Rattle.pg_fds.specs.stated.SaidTypes.{synthetic_places}
 use Rattle.pg_fds.proofs.reading.made_oneofs.synthetic_places.Given as goal
 

@@ -1,6 +1,6 @@
 use Rattle.std.proofs.Common.{◌≡◌, ap, arith, filter, length, map, subst, sym, ◌∙◌}
 use Rattle.std.proofs.lemmas.Result.{IfErr-weaker, IfOk-weaker, err_from_is_err_and}
-use Rattle.pg_dyn.specs.Kept.{message_of}
+use Rattle.pg_dyn.specs.message.Kept.{message_of}
 use Rattle.std.specs.List.{list_all}
 use Rattle.pg_fds.specs.reading.Made.{AreCounted, has_place}
 use Rattle.pg_fds.specs.stated.Outlines.{type_row}

@@ -1,5 +1,5 @@
 use Rattle.std.proofs.Common.{◌≡◌, Some, map, take}
-use Rattle.pg_dyn.specs.Kept.{message_of}
+use Rattle.pg_dyn.specs.message.Kept.{message_of}
 use Rattle.pg_fds.specs.reading.Owners.{means_of, owner_of}
 use Rattle.pg_fds.specs.stated.StatedFields.{field}
 use Rattle.pg_fds.specs.stated.StatedNames.{each}

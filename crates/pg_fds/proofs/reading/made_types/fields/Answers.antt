@@ -1,7 +1,7 @@
 use Rattle.std.proofs.Common.{Some, ap, map, option_and_then}
 use Rattle.std.proofs.lemmas.Result.{err_from_is_err_and}
 use Rattle.std.specs.List.{list_all}
-use Rattle.pg_dyn.specs.Kept.{message_of}
+use Rattle.pg_dyn.specs.message.Kept.{message_of}
 use Rattle.pg_fds.specs.stated.StatedFields.{is_named_once}
 use Rattle.pg_fds.specs.stated.StatedNames.{only_if}
 use Rattle.pg_fds.proofs.lemmas.lists.Each.{passed}

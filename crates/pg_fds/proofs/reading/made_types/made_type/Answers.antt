@@ -1,7 +1,7 @@
 use Rattle.std.proofs.Common.{◌≡◌, Some, ap, map, option_map, rules, sym, ◌∙◌}
 use Rattle.std.proofs.lemmas.List.Elements.{same_from_all_zip}
 use Rattle.std.proofs.lemmas.Result.{err_from_is_err_and}
-use Rattle.pg_dyn.specs.Kept.{message_of}
+use Rattle.pg_dyn.specs.message.Kept.{message_of}
 use Rattle.pg_fds.specs.descriptor.Lent.{lent}
 use Rattle.pg_fds.specs.reading.OutlinedPlaces.{placed_type}
 use Rattle.pg_fds.specs.stated.Said.{children_at}

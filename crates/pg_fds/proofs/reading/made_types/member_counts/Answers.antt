@@ -2,7 +2,7 @@ use Rattle.std.proofs.Common.{Global, None, Some, Vec, ap, arith, map, option_ma
 use Rattle.std.proofs.lemmas.Bool.{false≢true}
 use Rattle.std.proofs.lemmas.Result.{MatchResult-from_err}
 use Rattle.std.specs.Prelude.{IfSome}
-use Rattle.pg_dyn.specs.Kept.{message_of}
+use Rattle.pg_dyn.specs.message.Kept.{message_of}
 use Rattle.pg_fds.specs.reading.Made.{AreCounted, has_place}
 use Rattle.pg_fds.specs.stated.Said.{maybe_number_at}
 use Rattle.pg_fds.proofs.lemmas.reading.Counted.{counted_more, uncounted_more}

@@ -1,7 +1,7 @@
 use Rattle.std.proofs.Common.{◌≡◌, ap, length, subst, sym, true, ◌∙◌}
 use Rattle.std.proofs.lemmas.Result.{err_from_is_err_and}
 use Rattle.std.specs.List.{list_all}
-use Rattle.pg_dyn.specs.Kept.{message_of}
+use Rattle.pg_dyn.specs.message.Kept.{message_of}
 use Rattle.pg_fds.specs.stated.Outlines.{type_row}
 use Rattle.pg_fds.specs.reading.Owners.{means_of}
 use Rattle.pg_fds.specs.stated.Said.{children_at}

@@ -1,5 +1,5 @@
 use Rattle.std.proofs.Common.{◌≡◌, map, ap, sym, ◌∙◌}
-use Rattle.pg_dyn.specs.Kept.{message_of}
+use Rattle.pg_dyn.specs.message.Kept.{message_of}
 use Rattle.pg_fds.specs.stated.Said.{text_at}
 use Rattle.pg_fds.specs.stated.StatedFields.{is_named_once}
 use Rattle.pg_fds.specs.reading.NamedEntries.{is_kept_once}

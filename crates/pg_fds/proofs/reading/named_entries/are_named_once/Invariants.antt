@@ -1,6 +1,6 @@
 use Rattle.std.proofs.Common.{◌≡◌, map, take, true}
 use Rattle.std.specs.List.{list_all}
-use Rattle.pg_dyn.specs.Kept.{message_of}
+use Rattle.pg_dyn.specs.message.Kept.{message_of}
 use Rattle.pg_fds.specs.stated.StatedFields.{is_named_once}
 use Rattle.pg_fds.specs.stated.Views.{field_view}
 use Rattle.pg_fds.proofs.reading.named_entries.are_named_once.Given as goal

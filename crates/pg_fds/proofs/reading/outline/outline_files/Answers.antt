@@ -1,7 +1,7 @@
 use Rattle.std.proofs.Common.{◌≡◌, ◌<◌, ◌∷◌, [], Some, filter, length, map, take, drop, suc, get_or, slice_get, subst, sym, ap, ◌∙◌, arith, ◌+◌}
 use Rattle.std.proofs.lemmas.Result.{err_from_is_err_and}
 use Rattle.std.specs.List.{AllByRecursion, flat_map}
-use Rattle.pg_dyn.specs.Kept.{message_of}
+use Rattle.pg_dyn.specs.message.Kept.{message_of}
 use Rattle.pg_fds.specs.stated.Declarations.{file_declared, files_declared}
 use Rattle.pg_fds.specs.stated.Outlines.{NameOneofs, file_enums, file_services, file_types, files_at, row, type_row}
 use Rattle.pg_fds.specs.reading.OutlinedPlaces.{behind_file, counts_of, file_places, inside_file, no_counts, placed_file, placed_files, placed_type, placed_types, types_of_files}

@@ -1,7 +1,7 @@
 use Rattle.std.proofs.Common.{◌≡◌, ◌≤◌, ◌^◌, ℕ, [], List, None, drop, filter, length, map, take}
 use Rattle.std.specs.HashMap.{get_by_text}
 use Rattle.std.specs.List.{AllByRecursion, flat_map}
-use Rattle.pg_dyn.specs.Kept.{message_of}
+use Rattle.pg_dyn.specs.message.Kept.{message_of}
 use Rattle.pg_fds.specs.stated.Declarations.{files_declared}
 use Rattle.pg_fds.specs.stated.Outlines.{NameOneofs, file_enums, file_services, file_types, files_at, row, type_row}
 use Rattle.pg_fds.specs.reading.OutlinedPlaces.{behind_file, counts_behind, counts_of, no_counts, placed_file, placed_files, placed_type, types_of_files}

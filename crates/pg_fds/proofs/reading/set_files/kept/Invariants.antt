@@ -1,5 +1,5 @@
 use Rattle.std.proofs.Common.{◌≡◌, filter, map, not, take}
-use Rattle.pg_dyn.specs.Kept.{message_of}
+use Rattle.pg_dyn.specs.message.Kept.{message_of}
 use Rattle.pg_fds.specs.stated.SaidFiles.{is_skipped}
 use Rattle.pg_fds.proofs.reading.set_files.kept.Given as goal
 

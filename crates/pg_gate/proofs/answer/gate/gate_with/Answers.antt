@@ -2,7 +2,7 @@
 use Rattle.std.proofs.Common.{◌≡◌, ◌∙◌, ◌<◌, Option, length, subst, sym}
 use Rattle.pg_schema.specs.declared.parts.Parts.{Parts}
 use Rattle.pg_schema.specs.Parts.{shape_of}
-use Rattle.pg_dyn.specs.Kept.{Kept}
+use Rattle.pg_dyn.specs.message.Kept.{Kept}
 use Rattle.pg_cert.specs.Certificate.{Claim}
 use Rattle.pg_cert.proofs.Graphs.{of_graph}
 use Rattle.pg_least.specs.Beside.{IsBesideClaim}

@@ -1,5 +1,5 @@
 use Rattle.std.proofs.Common.{◌≡◌, map, drop}
-use Rattle.pg_dyn.specs.ViewNames.{declares, named}
+use Rattle.pg_dyn.specs.views.ViewNames.{declares, named}
 use Rattle.pg_pairs.proofs.views.names.has_number.Given as goal
 
 abbrev pub invariant-loop-value : goal.invariant-loop-value

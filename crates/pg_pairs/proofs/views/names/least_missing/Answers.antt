@@ -2,7 +2,7 @@
 use Rattle.std.proofs.Common.{◌≡◌, ◌+◌, ◌∷◌, SFits, List, Some, map, drop, to_z, of_z, w32, ap, sym, subst, ◌∙◌, rules}
 use Rattle.std.proofs.lemmas.Bool.{and_from, and_left, and_right}
 use Rattle.std.proofs.lemmas.Int.{to_z-of_z}
-use Rattle.pg_dyn.specs.ViewNames.{NamedNumber, named}
+use Rattle.pg_dyn.specs.views.ViewNames.{NamedNumber, named}
 use Rattle.pg_pairs.specs.views.LeastNumbers.{least_number, lesser_of, number_counts}
 use Rattle.pg_pairs.specs.inner.MissingNames.{is_missing, missing_numbers}
 use Rattle.pg_pairs.proofs.lemmas.views.LeastByName.{counted_step, left_out_step, next_left, passed_over_step}

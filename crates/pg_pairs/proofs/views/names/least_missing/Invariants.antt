@@ -1,5 +1,5 @@
 use Rattle.std.proofs.Common.{◌≡◌, map, drop}
-use Rattle.pg_dyn.specs.ViewNames.{named}
+use Rattle.pg_dyn.specs.views.ViewNames.{named}
 use Rattle.pg_pairs.specs.views.LeastNumbers.{least_number, lesser_of}
 use Rattle.pg_pairs.specs.inner.MissingNames.{missing_numbers}
 use Rattle.pg_pairs.proofs.views.names.least_missing.Given as goal

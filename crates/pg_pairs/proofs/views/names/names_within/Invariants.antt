@@ -1,5 +1,5 @@
 use Rattle.std.proofs.Common.{◌≡◌, map, drop}
-use Rattle.pg_dyn.specs.ViewNames.{named, names_within}
+use Rattle.pg_dyn.specs.views.ViewNames.{named, names_within}
 use Rattle.pg_pairs.proofs.views.names.names_within.Given as goal
 
 abbrev pub invariant-loop-value : goal.invariant-loop-value

@@ -4,7 +4,7 @@ use Rattle.std.specs.List.Sorted.{IsPartitionPoint}
 use Rattle.std.proofs.lemmas.List.{take_all}
 use Rattle.std.proofs.lemmas.List.Sorted.{IsNonDecreasingBy-drop, IsNonDecreasingBy-take, IsPartitionPoint-from_clause, IsPartitionedBy-leb, IsPartitionedBy-ltb}
 use Rattle.pg_schema.specs.declared.parts.enum_type.EnumValue.{EnumValue}
-use Rattle.pg_dyn.specs.ViewNames.{named}
+use Rattle.pg_dyn.specs.views.ViewNames.{named}
 use Rattle.pg_pairs.specs.views.LeastNumbers.{number_word}
 use Rattle.pg_pairs.specs.inner.MissingNames.{is_missing}
 use Rattle.pg_pairs.proofs.lemmas.views.FoundValues.{cut}

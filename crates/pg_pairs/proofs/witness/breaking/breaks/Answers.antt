@@ -2,7 +2,7 @@
 use Rattle.std.proofs.Common.{◌∙◌, ◌≤◌, ℕ, List, length, subst}
 use Rattle.pg_schema.specs.Parts.{shape_of}
 use Rattle.pg_dyn.specs.encoding.Encoding.{cap}
-use Rattle.pg_dyn.specs.ViewNames.{view_named}
+use Rattle.pg_dyn.specs.views.ViewNames.{view_named}
 use Rattle.pg_pairs.proofs.lemmas.witness.BreakSteps.{lent_answers, lent_within, lent_written, unread_never}
 use Rattle.pg_pairs.proofs.witness.breaking.breaks.Goals as goal
 

@@ -3,8 +3,8 @@ use Rattle.std.proofs.Common.{◌≡◌, ◌∙◌, false, Some, None, ap, sym, 
 use Rattle.pg_schema.specs.Parts.{shape_of}
 use Rattle.pg_dyn.specs.reading.Decoding.{dec}
 use Rattle.pg_dyn.specs.encoding.Encoding.{enc}
-use Rattle.pg_dyn.specs.Kept.{message_of, type_of}
-use Rattle.pg_dyn.specs.ViewNames.{view_named}
+use Rattle.pg_dyn.specs.message.Kept.{message_of, type_of}
+use Rattle.pg_dyn.specs.views.ViewNames.{view_named}
 use Rattle.pg_pairs.proofs.lemmas.witness.BreakSteps.{absent_keeps, answered, of_read, other_type, same_type, unread_is}
 use Rattle.pg_pairs.proofs.witness.breaking.breaks_as_written.Goals.{then-ne-via-then-ne, then-ne-via-else-ne+then-not-is_plain, then-ne-via-else-ne+else-not-is_plain+then-not-has}
 use Rattle.pg_pairs.proofs.witness.breaking.breaks_as_written.Goals as goal

@@ -4,10 +4,12 @@ use Rattle.std.specs.Option.{option_copied}
 use lib.Pointwise.{pointwise}
 use Rattle.pg_schema.specs.Parts.{field_shape, shape_of}
 use Rattle.pg_schema.specs.Shape.{field_at, fields}
-use Rattle.pg_dyn.specs.Comparison.{hides_zero}
-use Rattle.pg_dyn.specs.Kept.{type_of, unknown_of, weight}
-use Rattle.pg_dyn.specs.Kept as kept
-use Rattle.pg_dyn.specs.Borrowed.{item_seen}
+use Rattle.pg_dyn.specs.views.Comparison.{hides_zero}
+use Rattle.pg_dyn.specs.message.Kept.{type_of}
+use Rattle.pg_dyn.specs.message.KeptParts.{unknown_of}
+use Rattle.pg_dyn.specs.inner.Weights.{weight}
+use Rattle.pg_dyn.specs.message.KeptParts as kept_parts
+use Rattle.pg_dyn.specs.message_ref.Borrowed.{item_seen}
 use Rattle.std.proofs.lemmas.Result.{IfOk-weaker}
 use Rattle.pg_dyn.proofs.Lists.{list_all_each, each_from_take}
 use Rattle.pg_dyn.proofs.PublicLaws.{fields_are_found}
@@ -182,8 +184,8 @@ is_same_field-returns-in_default-2-2 t c =
 
 pub is_same_item-is_same_message-requires : goal.is_same_item-is_same_message-requires
 is_same_item-is_same_message-requires t c =
-    let child = ap (item_seen false) c.in-Msg-Msg.is-0 ∙ ap (kept.Msg false) (sym c.deref.ensures) in
-    let other = ap (item_seen false) c.in-Msg-Msg.is-1 ∙ ap (kept.Msg false) (sym c.deref-in-Msg-Msg.ensures) in (
+    let child = ap (item_seen false) c.in-Msg-Msg.is-0 ∙ ap (kept_parts.Msg false) (sym c.deref.ensures) in
+    let other = ap (item_seen false) c.in-Msg-Msg.is-1 ∙ ap (kept_parts.Msg false) (sym c.deref-in-Msg-Msg.ensures) in (
       omega (arith, c.decreases, ap held_weight c.in-Msg-Msg.is-0, ap weight c.deref.ensures, weight_is c.deref.result.now),
       (
         c.requires.old_schema,

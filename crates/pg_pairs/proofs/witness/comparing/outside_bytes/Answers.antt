@@ -1,8 +1,8 @@
 use Rattle.std.proofs.Common.{flat_map, take_all, ap, ◌∙◌}
 use Rattle.pg_schema.specs.Parts.{shape_of}
 use Rattle.pg_schema.specs.Shape.{fields}
-use Rattle.pg_dyn.specs.Comparison.{records_outside}
-use Rattle.pg_dyn.specs.Kept.{unknown_of}
+use Rattle.pg_dyn.specs.views.Comparison.{records_outside}
+use Rattle.pg_dyn.specs.message.KeptParts.{unknown_of}
 use Rattle.pg_dyn.specs.encoding.Writing.{bytes_of}
 use Rattle.pg_pairs.specs.inner.Comparing.{outside_record}
 use Rattle.pg_pairs.proofs.lemmas.witness.SameMessages.{outside_all}

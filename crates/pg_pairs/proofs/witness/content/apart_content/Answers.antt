@@ -1,6 +1,6 @@
 use Rattle.std.proofs.Common.{[], Some, ap, ap₂, ◌∙◌}
-use Rattle.pg_dyn.specs.Coding.{scalar_form}
-use Rattle.pg_dyn.specs.Message.{ends, with_part}
+use Rattle.pg_dyn.specs.word.Coding.{scalar_form}
+use Rattle.pg_dyn.specs.message.Message.{ends, with_part}
 use Rattle.pg_pairs.specs.witness.Carried.{item_by}
 use Rattle.pg_pairs.specs.inner.CarriedItems.{leaf_by}
 use Rattle.pg_pairs.proofs.lemmas.witness.CarriedParts.{apart_made}

@@ -1,6 +1,6 @@
 use Rattle.std.proofs.Common.{IfSome, subst}
 use Rattle.pg_schema.specs.declared.parts.field.Presence.TheVariants as presences
-use Rattle.pg_dyn.specs.ScalarItems.{IsItemOf}
+use Rattle.pg_dyn.specs.fitting.ScalarItems.{IsItemOf}
 use Rattle.pg_pairs.specs.witness.Carried.{key_of}
 use Rattle.pg_pairs.specs.inner.CarriedItems.{IsTakenBy}
 use Rattle.pg_pairs.proofs.lemmas.witness.TakenItems.{if_ok_map}

@@ -1,6 +1,6 @@
 use Rattle.std.proofs.Common.{◌≡◌, true, IfOk, option_map, refl, sym, ◌∙◌, subst}
-use Rattle.pg_dyn.specs.Kept.{message_of}
-use Rattle.pg_dyn.specs.Message.{Msg}
+use Rattle.pg_dyn.specs.message.Kept.{message_of}
+use Rattle.pg_dyn.specs.message.Message.{Msg}
 use Rattle.pg_pairs.specs.witness.Carried.{broken_value}
 use Rattle.pg_pairs.specs.inner.CarriedItems.{value_item}
 use Rattle.pg_pairs.specs.gaps.Gaps.{gap_item}

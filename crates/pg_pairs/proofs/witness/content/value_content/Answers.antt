@@ -1,5 +1,5 @@
 use Rattle.std.proofs.Common.{IfSome, subst}
-use Rattle.pg_dyn.specs.ContentFits.{ItemFits}
+use Rattle.pg_dyn.specs.fitting.ContentFits.{ItemFits}
 use Rattle.pg_pairs.proofs.witness.content.value_content.Goals as goal
 
 pub returns-in_ok-entry_content-in-Some-clause-taken : goal.returns-in_ok-entry_content-in-Some-clause-taken

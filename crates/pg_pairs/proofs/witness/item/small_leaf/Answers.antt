@@ -1,6 +1,6 @@
 use Rattle.std.proofs.Common.{subst, sym}
-use Rattle.pg_dyn.specs.Coding.{InRange, scalar_form}
-use Rattle.pg_dyn.specs.Message.{Bytes}
+use Rattle.pg_dyn.specs.word.Coding.{InRange, scalar_form}
+use Rattle.pg_dyn.specs.message.Message.{Bytes}
 use Rattle.pg_pairs.proofs.lemmas.witness.TakenItems.{small_raw, small_text}
 use Rattle.pg_pairs.proofs.witness.item.small_leaf.Goals as goal
 

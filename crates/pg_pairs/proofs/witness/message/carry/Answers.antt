@@ -1,7 +1,7 @@
 use Rattle.std.proofs.Common.{rules, true, false, ◌≡◌, ◌∙◌, [], IfSome, is_some, option_map, ap, ap₂, sym, subst}
 use Rattle.pg_schema.specs.Parts.{field_shape, shape_of}
 use Rattle.pg_schema.specs.Shape.{fields, field_at}
-use Rattle.pg_dyn.specs.Kept.{ends, message_of, type_of}
+use Rattle.pg_dyn.specs.message.Kept.{ends, message_of, type_of}
 use Rattle.pg_dyn.specs.setting.Setting.{IsSetTo}
 use Rattle.pg_pairs.specs.choices.Choices.{is_oneof}
 use Rattle.pg_pairs.specs.witness.Carried.{carried_field, least_part}

@@ -1,12 +1,13 @@
 use Rattle.std.proofs.Common.{◌≢◌, [], map, sym, ap, subst, ◌∙◌}
 use Rattle.std.specs.List.{AllByRecursion}
-use Rattle.pg_dyn.specs.Kept.{ends, type_of, unknown_of}
+use Rattle.pg_dyn.specs.message.Kept.{ends, type_of}
+use Rattle.pg_dyn.specs.message.KeptParts.{unknown_of}
 use Rattle.pg_dyn.specs.encoding.Lending.{AreOf, all_parts}
-use Rattle.pg_dyn.specs.Replacing.{kept_onto}
-use Rattle.pg_dyn.specs.Seen.{IsFilled, content_seen, record_seen}
+use Rattle.pg_dyn.specs.message.Replacing.{kept_onto}
+use Rattle.pg_dyn.specs.message.Seen.{IsFilled, content_seen, record_seen}
 use Rattle.pg_dyn.proofs.lemmas.encoding.LentParts.{owned_filled, owned_whole}
 use Rattle.pg_dyn.proofs.Lists.{each_of_all, each_weaker}
-use Rattle.pg_dyn.proofs.lemmas.ReplacingLaws.{content_number}
+use Rattle.pg_dyn.proofs.lemmas.message.ReplacingLaws.{content_number}
 use Rattle.pg_dyn.proofs.encoding.lending.MessageLends.fields.Goals as goal
 
 pub returns-clause-whole : goal.returns-clause-whole

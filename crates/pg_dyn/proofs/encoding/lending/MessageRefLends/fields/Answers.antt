@@ -1,11 +1,12 @@
 use Rattle.std.proofs.Common.{◌≢◌, [], map, sym, ap, subst, ◌∙◌}
 use Rattle.std.specs.List.{AllByRecursion}
 use Rattle.pg_wire.specs.Reads.{seen_record}
-use Rattle.pg_dyn.specs.Borrowed.{IsFilled, content_seen}
-use Rattle.pg_dyn.specs.Kept.{ends, type_of, unknown_of}
+use Rattle.pg_dyn.specs.message_ref.Borrowed.{IsFilled, content_seen}
+use Rattle.pg_dyn.specs.message.Kept.{ends, type_of}
+use Rattle.pg_dyn.specs.message.KeptParts.{unknown_of}
 use Rattle.pg_dyn.specs.encoding.Lending.{AreOf, all_parts}
-use Rattle.pg_dyn.specs.Replacing.{kept_onto}
-use Rattle.pg_dyn.proofs.lemmas.BorrowedParts.{content_number}
+use Rattle.pg_dyn.specs.message.Replacing.{kept_onto}
+use Rattle.pg_dyn.proofs.lemmas.message_ref.BorrowedParts.{content_number}
 use Rattle.pg_dyn.proofs.lemmas.encoding.LentParts.{lent_filled, lent_whole}
 use Rattle.pg_dyn.proofs.Lists.{each_of_all, each_weaker}
 use Rattle.pg_dyn.proofs.encoding.lending.MessageRefLends.fields.Goals as goal

@@ -5,11 +5,11 @@ use Rattle.pg_schema.specs.declared.parts.field.Element.TheVariants as elements
 use Rattle.pg_schema.specs.declared.parts.field.Scalar.{Scalar}
 use Rattle.pg_wire.specs.Reads.{seen_record}
 use Rattle.pg_dyn.specs.reading.ByFields.{StopsFor}
-use Rattle.pg_dyn.specs.Coding.{leaf_in, scalar_form}
+use Rattle.pg_dyn.specs.word.Coding.{leaf_in, scalar_form}
 use Rattle.pg_dyn.specs.reading.Content.{key_field, takes, value_field}
 use Rattle.pg_dyn.specs.reading.EntryParts.{ScalarsGood}
 use Rattle.pg_dyn.specs.reading.EntrySteps.{IsMessageOf}
-use Rattle.pg_dyn.specs.BorrowedItems.{IsItemKept}
+use Rattle.pg_dyn.specs.message_ref.BorrowedItems.{IsItemKept}
 use Rattle.pg_dyn.proofs.lemmas.reading.EntryByParts.{child_added, key_added, none_added, not_explicit, unreadable, value_added}
 use Rattle.pg_dyn.proofs.lemmas.reading.FieldKinds.{no_message}
 use Rattle.pg_dyn.proofs.lemmas.reading.StopSteps.{handed_on, none_of_err, stops_for}

@@ -1,7 +1,7 @@
 use Rattle.std.proofs.Common.{◌≡◌, ◌++◌, ◌-◌, ◌∷◌, [], drop, filter, map, take}
 use Rattle.std.specs.List.{AllByRecursion, flat_map}
 use Rattle.pg_schema.specs.rules.Scopes.{type_places}
-use Rattle.pg_dyn.specs.Kept.{message_of}
+use Rattle.pg_dyn.specs.message.Kept.{message_of}
 use Rattle.pg_fds.specs.stated.Declarations.{types_declared, whole_declared}
 use Rattle.pg_fds.specs.stated.Outlines.{NameOneofs, NamesOneofs, StayFew, enum_rows, row, rows_of_enums, rows_of_type, type_row, type_rows}
 use Rattle.pg_fds.specs.reading.OutlinedPlaces.{behind_type, counts_behind, counts_of, each_from, placed_type, placed_types, placed_with}

@@ -2,7 +2,7 @@ use Rattle.std.proofs.Common.{◌≡◌, ◌≤◌, ◌^◌, ◌++◌, ◌∷◌
 use Rattle.std.proofs.lemmas.List.{length-map}
 use Rattle.std.proofs.lemmas.Result.{err_from_is_err_and}
 use Rattle.pg_schema.specs.rules.Scopes.{enum_places, service_places, type_places}
-use Rattle.pg_dyn.specs.Kept.{message_of}
+use Rattle.pg_dyn.specs.message.Kept.{message_of}
 use Rattle.pg_fds.specs.declared.reading.outline.Outlined.{Outlined}
 use Rattle.pg_fds.specs.stated.Outlines.{NameOneofs, enum_rows, file_enums, file_types, row, row_in, rows_in, type_row, type_rows}
 use Rattle.pg_fds.specs.reading.OutlinedPlaces.{counts_of, inside_file, placed_file, placed_type, placed_types, places_of_types}

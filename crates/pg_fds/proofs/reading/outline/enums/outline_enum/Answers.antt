@@ -1,6 +1,6 @@
 use Rattle.std.proofs.Common.{◌≡◌, length, map, refl, ap, subst, ◌∙◌, arith}
 use Rattle.std.proofs.lemmas.Result.{err_from_is_err_and}
-use Rattle.pg_dyn.specs.Kept.{message_of}
+use Rattle.pg_dyn.specs.message.Kept.{message_of}
 use Rattle.pg_fds.specs.declared.reading.outline.Named.TheVariants as nameds
 use Rattle.pg_fds.specs.stated.Declarations.{Adds, CannotAdd, enum_declared}
 use Rattle.pg_fds.specs.stated.Said.{children_at}

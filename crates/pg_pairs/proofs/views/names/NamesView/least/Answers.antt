@@ -1,6 +1,6 @@
 use Rattle.std.proofs.Common.{subst, sym}
 use Rattle.pg_dyn.specs.declared.view_name.ViewName.TheVariants as views
-use Rattle.pg_dyn.specs.ViewNames.{alike_under, named_numbers}
+use Rattle.pg_dyn.specs.views.ViewNames.{alike_under, named_numbers}
 use Rattle.pg_pairs.specs.views.ViewLaws.{IsLeastOf}
 use Rattle.pg_pairs.proofs.lemmas.views.LeastByName.{least_both_ways}
 use Rattle.pg_pairs.proofs.lemmas.views.NamedViews.{least_is_shortest}

@@ -1,0 +1,10 @@
+pub mod Belonging
+pub mod FitsByContents
+pub mod FitsChecks
+pub mod FitsSteps
+pub mod ItemLeaves
+pub mod NoSiblings
+pub mod OneofLaws
+pub mod OneofWalks
+pub mod PartsFit
+pub mod PartsToFits

@@ -1,0 +1,213 @@
+-- A content under a number, among the parts of a message.
+use Rattle.std.proofs.Common.{◌≡◌, ℕ, List, [], ◌∷◌, ◌++◌, map, filter, flat_map, nat_lt, nat_eq, Bool, true, false, cond, not, ◌&&◌, Option, Some, None, refl, ap, ap₂, sym, ◌∙◌}
+use Rattle.std.specs.List.{AllByRecursion}
+use Rattle.std.proofs.lemmas.List.{append-nil}
+use Rattle.pg_schema.specs.declared.parts.field.Element.{Element}
+use Rattle.pg_schema.specs.declared.parts.field.TypeId.{TypeId}
+use Rattle.pg_schema.specs.Shape.{FieldShape}
+use Rattle.pg_wire.specs.Records.{WireRecord}
+use Rattle.pg_dyn.specs.declared.message.Content.{Content}
+use Rattle.pg_dyn.specs.declared.message.Content.TheVariants as contents
+use Rattle.pg_dyn.specs.declared.message.Value.{Value}
+use Rattle.pg_dyn.specs.declared.message.Value.TheVariants as values
+use Rattle.pg_dyn.specs.message.Message.{Leaf, Part, Item, Message, message_from}
+use Rattle.pg_dyn.specs.message.Message as model
+use Rattle.pg_dyn.specs.message.Kept.{Kept, ends, holds, nests, type_of, message_of}
+use Rattle.pg_dyn.specs.message.KeptParts.{KeptItem, Plain, Msg, parts_of, unknown_of}
+use Rattle.pg_dyn.specs.message.Seen.{leaf_of, item_seen, content_seen, value_onto, items_onto, entries_onto, content_onto, fields_onto}
+use Rattle.pg_dyn.specs.message.FieldList.{fields_below, fields_above, put_field, remove_field}
+use Rattle.pg_dyn.specs.reading.Content.{is_sibling}
+use Rattle.pg_dyn.specs.message.Replacing.{kept_part, kept_onto, kept_from, with_parts, is_sibling_number, without_siblings}
+use Rattle.pg_dyn.specs.fitting.Texts.{kept_in, kept_item}
+use Rattle.pg_dyn.proofs.Lists.{filter_all, filter_none, filter-append', each_weaker, each-map, each_of_all, flat_map-append', list_any_none}
+use Rattle.pg_dyn.proofs.lemmas.fitting.NoSiblings.{no_sibling}
+
+-- the parts of all fields
+abbrev pub all_seen : List (ℕ × Content) → List (Part KeptItem)
+all_seen ms = flat_map (λ (f : ℕ × Content). content_seen f.0 f.1) ms
+
+value_part : (n : ℕ) (k : Option Leaf) (l : Bool) (v : Value) (later : Kept) → value_onto n k l v later ≡ kept_part n k (item_seen l v) later
+value_part n k l (values.Int x) later = refl
+value_part n k l (values.F32 x) later = refl
+value_part n k l (values.F64 x) later = refl
+value_part n k l (values.Text x) later = refl
+value_part n k l (values.Bytes x) later = refl
+value_part n k l (values.Msg x) later = refl
+
+items_part : (n : ℕ) (vs : List Value) (later : Kept) → items_onto n vs later ≡ kept_onto (map (λ value. record { number = n; key = None; item = item_seen true value }) vs) later
+items_part n [] later = refl
+items_part n (v ∷ vs) later = value_part n None true v (items_onto n vs later) ∙ ap (kept_part n None (item_seen true v)) (items_part n vs later)
+
+entries_part : (n : ℕ) (es : List (Value × Value)) (later : Kept) → entries_onto n es later ≡ kept_onto (map (λ (e : Value × Value). record { number = n; key = Some (leaf_of e.0); item = item_seen false e.1 }) es) later
+entries_part n [] later = refl
+entries_part n (e ∷ es) later = value_part n (Some (leaf_of e.0)) false e.1 (entries_onto n es later) ∙ ap (kept_part n (Some (leaf_of e.0)) (item_seen false e.1)) (entries_part n es later)
+
+content_part : (n : ℕ) (c : Content) (later : Kept) → content_onto n c later ≡ kept_onto (content_seen n c) later
+content_part n (contents.One v) later = value_part n None false v later
+content_part n (contents.Many vs) later = items_part n vs.items later
+content_part n (contents.Map es) later = entries_part n es.items later
+
+pub kept_onto-append : (ps qs : List (Part KeptItem)) (later : Kept) → kept_onto (ps ++ qs) later ≡ kept_onto ps (kept_onto qs later)
+kept_onto-append [] qs later = refl
+kept_onto-append (p ∷ ps) qs later = ap (kept_part p.number p.key p.item) (kept_onto-append ps qs later)
+
+pub fields_from : (ms : List (ℕ × Content)) (later : Kept) → fields_onto ms later ≡ kept_onto (all_seen ms) later
+fields_from [] later = refl
+fields_from (m ∷ ms) later =
+    content_part m.0 m.1 (fields_onto ms later) ∙ ap (kept_onto (content_seen m.0 m.1)) (fields_from ms later) ∙ sym (kept_onto-append (content_seen m.0 m.1) (all_seen ms) later)
+
+-- what one more part leaves
+part_shown : (n : ℕ) (k : Option Leaf) (item : KeptItem) (later : Kept)
+    → (parts_of (kept_part n k item later) ≡ record { number = n; key = k; item = item } ∷ parts_of later) × (unknown_of (kept_part n k item later) ≡ unknown_of later) × (type_of (kept_part n k item later) ≡ type_of later)
+part_shown n k (Plain l leaf) later = (refl, refl, refl)
+part_shown n k (Msg l m) later = (refl, refl, refl)
+
+pub parts_of-kept_onto : (ps : List (Part KeptItem)) (later : Kept) → parts_of (kept_onto ps later) ≡ ps ++ parts_of later
+parts_of-kept_onto [] later = refl
+parts_of-kept_onto (p ∷ ps) later = (part_shown p.number p.key p.item (kept_onto ps later)).0 ∙ ap (λ qs. p ∷ qs) (parts_of-kept_onto ps later)
+
+pub unknown_of-kept_onto : (ps : List (Part KeptItem)) (later : Kept) → unknown_of (kept_onto ps later) ≡ unknown_of later
+unknown_of-kept_onto [] later = refl
+unknown_of-kept_onto (p ∷ ps) later = (part_shown p.number p.key p.item (kept_onto ps later)).1 ∙ unknown_of-kept_onto ps later
+
+-- parts mean the same where they are kept as an element's
+pub kept_means : (e : Element) (ps : List (Part KeptItem)) (later : Kept) → message_of (kept_onto (map (kept_in e) ps) later) ≡ message_of (kept_onto ps later)
+kept_means e [] later = refl
+kept_means e (p ∷ ps) later =
+    one p.item (kept_onto (map (kept_in e) ps) later) ∙ ap (λ m. with_item p.item m) (kept_means e ps later) ∙ sym (plain p.item (kept_onto ps later))
+  where
+    with_item : KeptItem → Message → Message
+    with_item (Plain manner leaf) m = model.holds p.number p.key leaf m
+    with_item (Msg listed child) m = model.nests p.number p.key (message_of child) m
+
+    one : (item : KeptItem) (rest : Kept) → message_of (kept_part p.number p.key (kept_item e item) rest) ≡ with_item item (message_of rest)
+    one (Plain manner leaf) rest = refl
+    one (Msg listed child) rest = refl
+
+    plain : (item : KeptItem) (rest : Kept) → message_of (kept_part p.number p.key item rest) ≡ with_item item (message_of rest)
+    plain (Plain manner leaf) rest = refl
+    plain (Msg listed child) rest = refl
+
+pub type_of-kept_onto : (ps : List (Part KeptItem)) (later : Kept) → type_of (kept_onto ps later) ≡ type_of later
+type_of-kept_onto [] later = refl
+type_of-kept_onto (p ∷ ps) later = (part_shown p.number p.key p.item (kept_onto ps later)).2 ∙ type_of-kept_onto ps later
+
+-- a message is made of what it shows
+pub kept_whole : (m : Kept) → kept_from (type_of m) (parts_of m) (unknown_of m) ≡ m
+kept_whole (ends type us) = refl
+kept_whole (holds n k l leaf later) = ap (holds n k l leaf) (kept_whole later)
+kept_whole (nests n k l child later) = ap (nests n k l child) (kept_whole later)
+
+abbrev pub shown : TypeId → List (ℕ × Content) → List WireRecord → Kept
+shown type ms us = fields_onto ms (ends type us)
+
+pub parts_shown : (type : TypeId) (ms : List (ℕ × Content)) (us : List WireRecord) → parts_of (shown type ms us) ≡ all_seen ms
+parts_shown type ms us = ap parts_of (fields_from ms (ends type us)) ∙ parts_of-kept_onto (all_seen ms) (ends type us) ∙ append-nil (all_seen ms)
+
+pub unknown_shown : (type : TypeId) (ms : List (ℕ × Content)) (us : List WireRecord) → unknown_of (shown type ms us) ≡ us
+unknown_shown type ms us = ap unknown_of (fields_from ms (ends type us)) ∙ unknown_of-kept_onto (all_seen ms) (ends type us)
+
+pub type_shown : (type : TypeId) (ms : List (ℕ × Content)) (us : List WireRecord) → type_of (shown type ms us) ≡ type
+type_shown type ms us = ap type_of (fields_from ms (ends type us)) ∙ type_of-kept_onto (all_seen ms) (ends type us)
+
+-- the parts of a content are all of its number
+pub content_number : (n : ℕ) (c : Content) → AllByRecursion (λ (p : Part KeptItem). p.number ≡ n) (content_seen n c)
+content_number n (contents.One v) = (refl, tt)
+content_number n (contents.Many vs) = each-map (λ (p : Part KeptItem). p.number ≡ n) (λ value. record { number = n; key = None; item = item_seen true value }) vs.items (each_of_all (λ v. n ≡ n) (λ v. refl) vs.items)
+content_number n (contents.Map es) = each-map (λ (p : Part KeptItem). p.number ≡ n) (λ (e : Value × Value). record { number = n; key = Some (leaf_of e.0); item = item_seen false e.1 }) es.items (each_of_all (λ (e : Value × Value). n ≡ n) (λ e. refl) es.items)
+
+-- a test of numbers goes over fields as over parts
+module _ (test : ℕ → Bool) where
+  kept_all : (n : ℕ) (ps : List (Part KeptItem)) → AllByRecursion (λ (p : Part KeptItem). p.number ≡ n) ps → test n ≡ true → filter (λ (p : Part KeptItem). test p.number) ps ≡ ps
+  kept_all n ps h hit = filter_all (λ (p : Part KeptItem). test p.number) ps (each_weaker (λ (p : Part KeptItem). p.number ≡ n) (λ (p : Part KeptItem). test p.number ≡ true) (λ p e. ap test e ∙ hit) ps h)
+
+  kept_none : (n : ℕ) (ps : List (Part KeptItem)) → AllByRecursion (λ (p : Part KeptItem). p.number ≡ n) ps → test n ≡ false → filter (λ (p : Part KeptItem). test p.number) ps ≡ []
+  kept_none n ps h miss = filter_none (λ (p : Part KeptItem). test p.number) ps (each_weaker (λ (p : Part KeptItem). p.number ≡ n) (λ (p : Part KeptItem). test p.number ≡ false) (λ p e. ap test e ∙ miss) ps h)
+
+  pub seen-filter : (ms : List (ℕ × Content)) → filter (λ (p : Part KeptItem). test p.number) (all_seen ms) ≡ all_seen (filter (λ (f : ℕ × Content). test f.0) ms)
+  seen-filter [] = refl
+  seen-filter (m ∷ ms) =
+      filter-append' (λ (p : Part KeptItem). test p.number) (content_seen m.0 m.1) (all_seen ms)
+      ∙ elim (test m.0) as (λ b. test m.0 ≡ b → filter (λ (p : Part KeptItem). test p.number) (content_seen m.0 m.1) ++ filter (λ (p : Part KeptItem). test p.number) (all_seen ms) ≡ all_seen (cond b (m ∷ filter (λ (f : ℕ × Content). test f.0) ms) (filter (λ (f : ℕ × Content). test f.0) ms))) [
+        | true ↦ λ e. ap₂ (λ xs ys. xs ++ ys) (kept_all m.0 (content_seen m.0 m.1) (content_number m.0 m.1) e) (seen-filter ms)
+        | false ↦ λ e. ap (λ xs. xs ++ filter (λ (p : Part KeptItem). test p.number) (all_seen ms)) (kept_none m.0 (content_seen m.0 m.1) (content_number m.0 m.1) e) ∙ seen-filter ms
+      ] refl
+
+-- other fields around the number are other parts around it
+pub around : (type : TypeId) (n : ℕ) (xs ms : List (ℕ × Content)) (us : List WireRecord)
+    → shown type (fields_below n ms ++ (xs ++ fields_above n ms)) us ≡ with_parts n (all_seen xs) (shown type ms us)
+around type n xs ms us =
+    let below = seen-filter (λ k. nat_lt k n) ms in
+    let above = seen-filter (λ k. nat_lt n k) ms in
+    let parts_are = parts_shown type ms us in
+    fields_from (fields_below n ms ++ (xs ++ fields_above n ms)) (ends type us)
+    ∙ ap (λ ps. kept_onto ps (ends type us))
+    (flat_map-append' (λ (f : ℕ × Content). content_seen f.0 f.1) (fields_below n ms) (xs ++ fields_above n ms)
+    ∙ ap (λ ps. all_seen (fields_below n ms) ++ ps) (flat_map-append' (λ (f : ℕ × Content). content_seen f.0 f.1) xs (fields_above n ms))
+    ∙ ap₂ (λ ps qs. ps ++ (all_seen xs ++ qs)) (sym below) (sym above)
+    ∙ ap (λ ps. filter (λ (p : Part KeptItem). nat_lt p.number n) ps ++ (all_seen xs ++ filter (λ (p : Part KeptItem). nat_lt n p.number) ps)) (sym parts_are))
+    ∙ ap₂ (λ t u. kept_from t (filter (λ (p : Part KeptItem). nat_lt p.number n) (parts_of (shown type ms us)) ++ (all_seen xs ++ filter (λ (p : Part KeptItem). nat_lt n p.number) (parts_of (shown type ms us)))) u)
+    (sym (type_shown type ms us)) (sym (unknown_shown type ms us))
+
+pub put_shows : (type : TypeId) (n : ℕ) (c : Content) (ms : List (ℕ × Content)) (us : List WireRecord) → shown type (put_field n c ms) us ≡ with_parts n (content_seen n c) (shown type ms us)
+put_shows type n c ms us = around type n ((n, c) ∷ []) ms us ∙ ap (λ ps. with_parts n ps (shown type ms us)) (append-nil (content_seen n c))
+
+pub remove_shows : (type : TypeId) (n : ℕ) (ms : List (ℕ × Content)) (us : List WireRecord) → shown type (remove_field n ms) us ≡ with_parts n [] (shown type ms us)
+remove_shows type n ms us = around type n [] ms us
+
+-- a message of other parts is of the same type
+pub type_of-with_parts : (n : ℕ) (ps : List (Part KeptItem)) (m : Kept) → type_of (with_parts n ps m) ≡ type_of m
+type_of-with_parts n ps m =
+    type_of-kept_onto
+    (filter (λ (p : Part KeptItem). nat_lt p.number n) (parts_of m) ++ (ps ++ filter (λ (p : Part KeptItem). nat_lt n p.number) (parts_of m)))
+    (ends (type_of m) (unknown_of m))
+
+pub type_of-without_siblings : (fs : List FieldShape) (f : FieldShape) (m : Kept) → type_of (without_siblings fs f m) ≡ type_of m
+type_of-without_siblings fs f m =
+    type_of-kept_onto (filter (λ (p : Part KeptItem). not (is_sibling_number fs f p.number)) (parts_of m)) (ends (type_of m) (unknown_of m))
+
+-- a field outside all oneofs has no siblings
+pub no_siblings : (fs : List FieldShape) (f : FieldShape) (m : Kept) → f.oneof ≡ None → without_siblings fs f m ≡ m
+no_siblings fs f m alone =
+    ap (λ ps. kept_from (type_of m) ps (unknown_of m))
+    (filter_all (λ (p : Part KeptItem). not (is_sibling_number fs f p.number)) (parts_of m)
+    (each_of_all (λ (p : Part KeptItem). not (is_sibling_number fs f p.number) ≡ true) (λ p. ap not (none p.number)) (parts_of m)))
+    ∙ kept_whole m
+  where
+    none : (n : ℕ) → is_sibling_number fs f n ≡ false
+    none n = list_any_none (λ g. is_sibling f g && nat_eq g.number n) fs (each_of_all (λ g. (is_sibling f g && nat_eq g.number n) ≡ false) (λ g. rw (no_sibling f g alone)) fs)
+
+-- The message of the definitions.
+
+abbrev pub item_of : KeptItem → Item
+item_of (Plain l leaf) = model.Plain leaf
+item_of (Msg l m) = model.Msg (message_of m)
+
+abbrev pub part_item : Part KeptItem → Part Item
+part_item p = record { number = p.number; key = p.key; item = item_of p.item }
+
+message_of-part : (n : ℕ) (k : Option Leaf) (item : KeptItem) (later : Kept) → message_of (kept_part n k item later) ≡ model.with_part n k (item_of item) (message_of later)
+message_of-part n k (Plain l leaf) later = refl
+message_of-part n k (Msg l m) later = refl
+
+pub message_of-kept_from : (type : TypeId) (ps : List (Part KeptItem)) (us : List WireRecord) → message_of (kept_from type ps us) ≡ message_from (map part_item ps) us
+message_of-kept_from type [] us = refl
+message_of-kept_from type (p ∷ ps) us = message_of-part p.number p.key p.item (kept_from type ps us) ∙ ap (model.with_part p.number p.key (item_of p.item)) (message_of-kept_from type ps us)
+
+pub parts-message_of : (m : Kept) → model.parts (message_of m) ≡ map part_item (parts_of m)
+parts-message_of (ends type us) = refl
+parts-message_of (holds n k l leaf later) = ap (λ ps. record { number = n; key = k; item = model.Plain leaf } ∷ ps) (parts-message_of later)
+parts-message_of (nests n k l child later) = ap (λ ps. record { number = n; key = k; item = model.Msg (message_of child) } ∷ ps) (parts-message_of later)
+
+pub unknown-message_of : (m : Kept) → model.unknown_of (message_of m) ≡ unknown_of m
+unknown-message_of (ends type us) = refl
+unknown-message_of (holds n k l leaf later) = unknown-message_of later
+unknown-message_of (nests n k l child later) = unknown-message_of later
+
+pub filter-part_item : (test : ℕ → Bool) (ps : List (Part KeptItem)) → filter (λ (p : Part Item). test p.number) (map part_item ps) ≡ map part_item (filter (λ (p : Part KeptItem). test p.number) ps)
+filter-part_item test [] = refl
+filter-part_item test (p ∷ ps) =
+    elim (test p.number) as (λ b. test p.number ≡ b → cond b (part_item p ∷ filter (λ (q : Part Item). test q.number) (map part_item ps)) (filter (λ (q : Part Item). test q.number) (map part_item ps)) ≡ map part_item (cond b (p ∷ filter (λ (q : Part KeptItem). test q.number) ps) (filter (λ (q : Part KeptItem). test q.number) ps))) [
+      | true ↦ λ e. ap (λ qs. part_item p ∷ qs) (filter-part_item test ps)
+      | false ↦ λ e. filter-part_item test ps
+    ] refl

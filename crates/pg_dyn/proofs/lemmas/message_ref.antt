@@ -1,0 +1,3 @@
+pub mod BorrowedItems
+pub mod BorrowedParts
+pub mod BorrowedPlainness

@@ -1,0 +1,5 @@
+pub mod ByComparands
+pub mod ByField
+pub mod SelfSame
+pub mod ViewNames
+pub mod Whole

@@ -1,0 +1,218 @@
+-- Where no two fields meet in one oneof of the new type, a message is kept just where each shared field's content is.
+use Rattle.std.proofs.Common.{◌≡◌, ℕ, ◌^◌, ◌<◌, List, [], ◌∷◌, length, map, filter, Bool, true, false, not, ◌&&◌, ◌||◌, Option, Some, None, option_and_then, unwrap_or, Ok, ⊎_elim, refl, ap, sym, ◌∙◌, subst}
+use Rattle.std.specs.List.{AllByRecursion, list_all, list_any}
+use Rattle.std.proofs.lemmas.Bool.{and_parts, and_from, and_right, cases_Bool, false_from_ne_true}
+use Rattle.pg_schema.specs.declared.parts.field.TypeId.{TypeId}
+use Rattle.pg_schema.specs.Shape.{Shape, FieldShape, fields, field_at}
+use Rattle.pg_schema.specs.ShapeRules.{IsShape, Rising}
+use Rattle.pg_wire.specs.Records.{WireRecord, records_of}
+use Rattle.pg_dyn.specs.reading.Optional.{all_some, joined}
+use Rattle.pg_dyn.specs.message.Message.{Message, ends, holds, nests, Item, Part, is_of, parts, message_from, IsPlain}
+use Rattle.pg_dyn.specs.reading.Content.{takes, is_unknown, is_sibling, counted, content}
+use Rattle.pg_dyn.specs.encoding.Writing.{field_records, records_in}
+use Rattle.pg_dyn.specs.encoding.Encoding.{encoded_parts, enc}
+use Rattle.pg_dyn.specs.reading.Decoding.{Reader, is_readable, all_readable, read_part, field_parts, read_records, dec}
+use Rattle.pg_dyn.specs.fitting.Belonging.{IsMessage}
+use Rattle.pg_dyn.specs.views.Comparison.{View, Expected, Comparand, writes, expects, comparands, is_zero_expected, is_zero_item, hides_zero, shown, same_content}
+use Rattle.pg_dyn.specs.views.Breaking.{is_kept}
+use Rattle.pg_dyn.specs.laws.Laws.{of_number}
+use Rattle.pg_dyn.specs.laws.ByComparands.{comparands_at, field_read, is_shown, is_field_kept, EachFieldKept, NoComparandsMeet}
+use Rattle.pg_dyn.proofs.Lists.{all_some-map, each_weaker, each_of_all, each_swap, each_at, filter-map, filtered_out, list_all_each, list_all_true, list_any_none, after_last_of_none, filter-after_last_of_none, filter-filter_weaker, each_unfiltered, each_filtered}
+use Rattle.pg_dyn.proofs.lemmas.reading.Splitting.{each_found, field_records_none, found_number, records_of_number, records_of_no_number, takes_number}
+use Rattle.pg_dyn.proofs.lemmas.fitting.Belonging.{fields-IsType}
+use Rattle.pg_dyn.proofs.lemmas.reading.ReadSplits.{reading_of, field_split}
+use Rattle.pg_dyn.proofs.lemmas.reading.RecordsRead.{content_none}
+use Rattle.pg_dyn.proofs.lemmas.reading.Depth.{dec_is}
+use Rattle.pg_dyn.proofs.lemmas.views.ByField.{records_are, kept_from, kept_gives}
+
+pub comparands_written : (view : View) (old new : Shape) (a b : TypeId) (v : Message) → map writes (comparands view old new a b v) ≡ encoded_parts old a v
+comparands_written view old new a b (ends unknown) = refl
+comparands_written view old new a b (holds number key leaf later) = ap (λ ps. record { number = number; key = key; item = leaf } ∷ ps) (comparands_written view old new a b later)
+comparands_written view old new a b (nests number key child later) = rw (comparands_written view old new a b later)
+
+-- what is shown of a number's parts is what is shown of all
+shown-filter : {A : Type 0} (is_zero_one : A → Bool) (hidden : Bool) (n : ℕ) (ps : List (Part A)) → shown is_zero_one hidden n (filter (is_of n) ps) ≡ shown is_zero_one hidden n ps
+shown-filter is_zero_one hidden n ps =
+    filter-filter_weaker (is_of n) (λ p. is_of n p && not (hidden && is_zero_one p.item)) (λ p h. (and_parts (is_of n p) (not (hidden && is_zero_one p.item)) h).0) ps
+
+pub same_content-filter : (view : View) (f g : FieldShape) (old : List (Part Expected)) (new : List (Part Item)) → same_content view f g (filter (is_of f.number) old) (filter (is_of f.number) new) ≡ same_content view f g old new
+same_content-filter view f g old new =
+    rw (shown-filter is_zero_expected (hides_zero f g) f.number old, shown-filter is_zero_item (hides_zero f g) f.number new)
+
+is_shown_some : (view : View) (f g : FieldShape) (cs : List Comparand) (o : Option (List (Part Item))) → is_shown view f g cs o ≡ true → (ps : List (Part Item)) × (o ≡ Some ps) × (same_content view f g (map expects cs) ps ≡ true)
+is_shown_some view f g cs (Some ps) h = (ps, refl, h)
+is_shown_some view f g cs None h = absurd (cc)
+
+module _ (view : View) (child : Reader) (fs gs : List FieldShape) (cs : List Comparand) (rising_old : Rising fs) (rising_new : Rising gs) (apart : NoComparandsMeet gs cs) where
+  abbrev rs : List WireRecord
+  rs = records_in fs (map writes cs)
+
+  abbrev own : FieldShape → List WireRecord
+  own f = field_records f (map writes (comparands_at f.number cs))
+
+  -- whether the field, where it takes the record, has a reading of it
+  abbrev reads : FieldShape → WireRecord → Bool
+  reads g r = not (takes g r) || is_readable child g r
+
+  -- The records of a number are those of its field's comparands.
+
+  of_field : (f : FieldShape) → field_at fs f.number ≡ Some f → filter (of_number f.number) rs ≡ own f
+  of_field f found = records_of_number (map writes cs) fs f.number f rising_old found ∙ ap (field_records f) (filter-map (is_of f.number) writes cs)
+
+  no_records : (n : ℕ) → comparands_at n cs ≡ [] → filter (of_number n) rs ≡ []
+  no_records n none = of (field_at fs n) refl
+    where
+      of : (o : Option FieldShape) → field_at fs n ≡ o → filter (of_number n) rs ≡ []
+      of None e = records_of_no_number (map writes cs) fs n e
+      of (Some f) e =
+          records_of_number (map writes cs) fs n f rising_old e
+          ∙ ap (field_records f) (filter-map (is_of n) writes cs ∙ ap (map writes) none)
+          ∙ field_records_none f
+
+  -- The records that count for a new field.
+
+  taken_numbered : (g : FieldShape) → filter (takes g) rs ≡ filter (takes g) (filter (of_number g.number) rs)
+  taken_numbered g = sym (filter-filter_weaker (of_number g.number) (takes g) (takes_number g) rs)
+
+  nothing_taken : (g : FieldShape) → comparands_at g.number cs ≡ [] → AllByRecursion (λ r. takes g r ≡ false) rs
+  nothing_taken g none = filtered_out (takes g) rs (taken_numbered g ∙ ap (filter (takes g)) (no_records g.number none))
+
+  no_siblings : (g : FieldShape) → field_at gs g.number ≡ Some g → (c : Comparand) (rest : List Comparand) → comparands_at g.number cs ≡ c ∷ rest → list_any (λ r. list_any (λ h. is_sibling g h && takes h r) gs) rs ≡ false
+  no_siblings g found c rest some =
+      list_any_none _ rs
+      (each_weaker (λ r. AllByRecursion (λ h. (is_sibling g h && takes h r) ≡ false) gs) _ (λ r k. list_any_none _ gs k) rs
+      (each_swap (λ h r. (is_sibling g h && takes h r) ≡ false) gs rs
+      (each_weaker (λ h. field_at gs h.number ≡ Some h) _
+      (λ h at.
+      ⊎_elim
+      (λ sibling.
+      ⊎_elim (λ none. absurd (let no : ◌≡◌ {A = List Comparand} [] (c ∷ rest) = sym none ∙ some in cc))
+      (λ none. each_weaker (λ r. takes h r ≡ false) _ (λ r k. and_right (is_sibling g h) (takes h r) k) rs (nothing_taken h none))
+      (apart g h found at sibling))
+      (λ no_sibling. each_of_all (λ r. (is_sibling g h && takes h r) ≡ false) (λ r. rw no_sibling) rs)
+      (cases_Bool (is_sibling g h)))
+      gs (each_found gs rising_new))))
+
+  counted_is : (g : FieldShape) → field_at gs g.number ≡ Some g → (xs : List Comparand) → comparands_at g.number cs ≡ xs → counted gs g rs ≡ filter (takes g) (filter (of_number g.number) rs)
+  counted_is g found [] none =
+      filter-after_last_of_none (takes g) _ rs (nothing_taken g none) ∙ sym (ap (filter (takes g)) (no_records g.number none))
+  counted_is g found (c ∷ rest) some = ap (filter (takes g)) (after_last_of_none _ rs (no_siblings g found c rest some)) ∙ taken_numbered g
+
+  -- The parts of a new field are those of its own records.
+
+  parts_of_number : (g : FieldShape) → field_at gs g.number ≡ Some g → field_parts child gs rs g ≡ field_read child g (filter (of_number g.number) rs)
+  parts_of_number g found = ap (λ xs. option_and_then (λ qs. all_some (map (read_part child g.element) qs)) (content g xs)) (counted_is g found (comparands_at g.number cs) refl)
+
+  parts_read : (f g : FieldShape) → field_at fs f.number ≡ Some f → field_at gs f.number ≡ Some g → field_parts child gs rs g ≡ field_read child g (own f)
+  parts_read f g found at =
+      let number : g.number ≡ f.number = found_number gs f.number g at in
+      parts_of_number g (ap (field_at gs) number ∙ at)
+      ∙ ap (λ n. field_read child g (filter (of_number n) rs)) number
+      ∙ ap (field_read child g) (of_field f found)
+
+  same_own : (f g : FieldShape) (qs : List (Part Item)) → same_content view f g (map expects (comparands_at f.number cs)) (filter (is_of f.number) qs) ≡ same_content view f g (map expects cs) qs
+  same_own f g qs =
+      ap (λ xs. same_content view f g xs (filter (is_of f.number) qs)) (sym (filter-map (is_of f.number) expects cs)) ∙ same_content-filter view f g (map expects cs) qs
+
+  -- A field that a message shows is kept.
+  field_kept : (w : Message) → read_records child gs rs ≡ Some w → (f g : FieldShape) → field_at fs f.number ≡ Some f → field_at gs f.number ≡ Some g → same_content view f g (map expects cs) (parts w) ≡ true → is_field_kept view child f g (comparands_at f.number cs) ≡ true
+  field_kept w read f g found at same =
+      let reading = reading_of child gs rs w read in
+      let each : AllByRecursion (λ r. reads g r ≡ true) rs =
+      each_weaker (λ r. list_all (λ h. reads h r) gs ≡ true) (λ r. reads g r ≡ true)
+      (λ r all. each_at (λ h. reads h r ≡ true) gs f.number g at (list_all_true (λ h. reads h r) gs all)) rs
+      (list_all_true (λ r. list_all (λ h. reads h r) gs) rs reading.readable) in
+      let of_number_each : AllByRecursion (λ r. reads g r ≡ true) (filter (of_number f.number) rs) =
+      each_filtered (λ r. reads g r ≡ true) (of_number f.number) rs each in
+      let split : field_read child g (own f) ≡ Some (filter (is_of f.number) (parts w)) =
+      sym (parts_read f g found at) ∙ field_split child gs rs w rising_new reading f.number g at in
+      and_from _ _
+      (list_all_each (reads g) (own f) (subst (AllByRecursion (λ r. reads g r ≡ true)) (of_field f found) of_number_each))
+      (rw split (same_own f g (parts w) ∙ same))
+
+  -- Where each field is kept, there is a message, and it shows each.
+  module _ (kept : EachFieldKept view child fs gs cs) where
+    read_by : (g : FieldShape) → field_at gs g.number ≡ Some g → AllByRecursion (λ r. reads g r ≡ true) rs
+    read_by g at =
+        each_unfiltered (λ r. reads g r ≡ true) (of_number g.number) (λ r other. rw (false_from_ne_true (takes g r) (λ taken. let own_number = takes_number g r taken in cc))) rs
+        (of (field_at fs g.number) refl)
+      where
+        of : (o : Option FieldShape) → field_at fs g.number ≡ o → AllByRecursion (λ r. reads g r ≡ true) (filter (of_number g.number) rs)
+        of None e = subst (AllByRecursion (λ r. reads g r ≡ true)) (sym (records_of_no_number (map writes cs) fs g.number e)) tt
+        of (Some f) e =
+            let number : f.number ≡ g.number = found_number fs g.number f e in
+            let found : field_at fs f.number ≡ Some f = ap (field_at fs) number ∙ e in
+            let each : AllByRecursion (λ r. reads g r ≡ true) (own f) =
+            list_all_true (reads g) (own f) (and_parts _ _ (kept f g found (ap (field_at gs) number ∙ at))).0 in
+            subst (AllByRecursion (λ r. reads g r ≡ true)) (sym (of_field f found) ∙ ap (λ n. filter (of_number n) rs) number) each
+
+    all_read : all_readable child gs rs ≡ true
+    all_read =
+        list_all_each (λ r. list_all (λ g. reads g r) gs) rs
+        (each_weaker (λ r. AllByRecursion (λ g. reads g r ≡ true) gs) (λ r. list_all (λ g. reads g r) gs ≡ true) (λ r each. list_all_each (λ g. reads g r) gs each) rs
+        (each_swap (λ g r. reads g r ≡ true) gs rs
+        (each_weaker (λ g. field_at gs g.number ≡ Some g) (λ g. AllByRecursion (λ r. reads g r ≡ true) rs) read_by gs (each_found gs rising_new))))
+
+    kept_parts : (f g : FieldShape) → field_at fs f.number ≡ Some f → field_at gs f.number ≡ Some g → (qs : List (Part Item)) × (field_parts child gs rs g ≡ Some qs) × (same_content view f g (map expects (comparands_at f.number cs)) qs ≡ true)
+    kept_parts f g found at =
+        let (qs, read, same) = is_shown_some view f g (comparands_at f.number cs) _ (and_parts _ _ (kept f g found at)).1 in
+        (qs, parts_read f g found at ∙ read, same)
+
+    some_parts : (g : FieldShape) → field_at gs g.number ≡ Some g → (o : Option FieldShape) → field_at fs g.number ≡ o → field_parts child gs rs g ≡ Some (unwrap_or (field_parts child gs rs g) [])
+    some_parts g at None e =
+        let none : field_parts child gs rs g ≡ Some [] =
+        parts_of_number g at ∙ ap (field_read child g) (records_of_no_number (map writes cs) fs g.number e) ∙ rw (content_none g) in
+        rw none
+    some_parts g at (Some f) e =
+        let number : f.number ≡ g.number = found_number fs g.number f e in
+        let (qs, read, same) = kept_parts f g (ap (field_at fs) number ∙ e) (ap (field_at gs) number ∙ at) in
+        rw read
+
+    the_message : Message
+    the_message = message_from (joined (map (λ g. unwrap_or (field_parts child gs rs g) []) gs)) (filter (is_unknown gs) rs)
+
+    is_read : read_records child gs rs ≡ Some the_message
+    unfolding the_message
+    is_read =
+        rw (
+          all_read,
+          all_some-map (field_parts child gs rs) (λ g. unwrap_or (field_parts child gs rs g) []) gs
+              (each_weaker (λ g. field_at gs g.number ≡ Some g) _ (λ g at. some_parts g at (field_at fs g.number) refl) gs (each_found gs rising_new)),
+        )
+
+    shows : (f g : FieldShape) → field_at fs f.number ≡ Some f → field_at gs f.number ≡ Some g → same_content view f g (map expects cs) (parts the_message) ≡ true
+    shows f g found at =
+        let (qs, read, same) = kept_parts f g found at in
+        let split = field_split child gs rs the_message rising_new (reading_of child gs rs the_message is_read) f.number g at in
+        let equal : ◌≡◌ {A = Option (List (Part Item))} (Some qs) (Some (filter (is_of f.number) (parts the_message))) = sym read ∙ split in
+        let parts_are : qs ≡ filter (is_of f.number) (parts the_message) = cc in
+        sym (same_own f g (parts the_message)) ∙ subst (λ ps. same_content view f g (map expects (comparands_at f.number cs)) ps ≡ true) parts_are same
+
+module _ (view : View) (old new : Shape) (a b : TypeId) (v : Message) (is_old : IsShape old) (is_new : IsShape new) (is_message : IsMessage old a v) (plain : IsPlain v) (short : length (enc old a v) < 2 ^ 64) (apart : NoComparandsMeet (fields new b) (comparands view old new a b v)) where
+  abbrev cs : List Comparand
+  cs = comparands view old new a b v
+
+  rising_old : Rising (fields old a)
+  rising_old = (fields-IsType old a is_old).rising
+
+  rising_new : Rising (fields new b)
+  rising_new = (fields-IsType new b is_new).rising
+
+  read_is : dec new b (enc old a v) ≡ read_records (dec new) (fields new b) (records_in (fields old a) (map writes cs))
+  read_is =
+      let records : records_of (enc old a v) ≡ Ok (records_in (fields old a) (map writes cs)) =
+      records_are view old new a b v is_old is_new is_message plain short ∙ ap (λ ps. Ok (records_in (fields old a) ps)) (sym (comparands_written view old new a b v)) in
+      rw (dec_is new b (enc old a v), records) refl
+
+  pub kept_by_comparands : EachFieldKept view (dec new) (fields old a) (fields new b) cs → is_kept view old new a b v ≡ true
+  kept_by_comparands kept =
+      kept_from view old new a b v is_old is_new is_message plain short (the_message view (dec new) (fields old a) (fields new b) cs rising_old rising_new apart kept)
+      (read_is ∙ is_read view (dec new) (fields old a) (fields new b) cs rising_old rising_new apart kept)
+      (λ n f g found at.
+      let number : f.number ≡ n = found_number (fields old a) n f found in
+      shows view (dec new) (fields old a) (fields new b) cs rising_old rising_new apart kept f g (ap (field_at (fields old a)) number ∙ found) (ap (field_at (fields new b)) number ∙ at))
+
+  pub comparands_kept : is_kept view old new a b v ≡ true → EachFieldKept view (dec new) (fields old a) (fields new b) cs
+  comparands_kept h f g found at =
+      let (w, read, same) = kept_gives view old new a b v is_old is_new is_message plain short h in
+      field_kept view (dec new) (fields old a) (fields new b) cs rising_old rising_new apart w (sym read_is ∙ read) f g found at (same f.number f g found at)

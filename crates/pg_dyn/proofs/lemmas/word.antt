@@ -1,0 +1,3 @@
+pub mod Codings
+pub mod Leaves
+pub mod NumberLaws

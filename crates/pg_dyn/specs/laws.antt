@@ -1,0 +1,7 @@
+pub mod Bodies
+pub mod ByComparands
+pub mod Examples
+pub mod FaultExamples
+pub mod FieldLaws
+pub mod Laws
+pub mod OwnParts

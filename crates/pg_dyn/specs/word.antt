@@ -1,0 +1,4 @@
+pub mod Coding
+pub mod Integers
+pub mod NumberLists
+pub mod WordOf
