@@ -11,6 +11,10 @@ use Rattle.pg_check.specs.parts.MadeServices.{service}
 use Rattle.pg_check.specs.inner.ByPlace.{named_at}
 use Rattle.pg_check.specs.rules.Outline.{scoped_enums}
 
+-- what the type name that begins at a byte of a file names
+abbrev pub target_in : Targets → ℕ → Option Target
+target_in t at = option_map (by_scope t.enums.now) (named_at t.found.places.now t.found.targets.now at)
+
 abbrev pub source : code.Source → Source
 source s = record { path = s.path.now; text = s.text.now; tree = s.tree.now; targets = target_in s.targets }
 
@@ -20,7 +24,3 @@ pub record IsMadeBy (types enums services : ℕ) (s : Source) (made : Made) : Ty
   pub of_enums : map enumeration made.enums.items ≡ map made_enum (scoped_enums s.tree)
   pub of_services : map service made.services.items ≡ file_services s
   pub of_file : IsFileOf (file_shape types enums services s) made.file
-
--- what the type name that begins at a byte of a file names
-abbrev pub target_in : Targets → ℕ → Option Target
-target_in t at = option_map (by_scope t.enums.now) (named_at t.found.places.now t.found.targets.now at)
