@@ -34,8 +34,8 @@ pub fn lost_messages_break()
     ensures { LostMessagesBreak }
 {}
 
-/// Where no message of a pair breaks, the new reader reads right each one that the old writer
-/// encodes.
+/// Where no message of a pair breaks, the new reader reads each one that the old writer encodes as
+/// it was meant.
 pub fn compatible_is_seen()
     ensures { CompatibleIsSeen }
 {}

@@ -137,9 +137,9 @@ fn waiting(alloc: Global, costs: &[Option<u32>]) -> Result<Queue, AllocError>
     Ok(queue)
 }
 
-/// Lowers the costs, which are those of the pairs without an arc, until each is the least of this
-/// and of what its arcs cost at the costs of their children. The arcs are in the order of the
-/// indices that they lead to.
+/// Lowers the costs of pairs, which are those that they have without an arc, until each is the
+/// least of this and of what its arcs cost at the costs of their children. The arcs are in the
+/// order of the indices that they lead to.
 ///
 /// Refused only where memory is.
 pub(crate) fn settle_all<G: Prices>(

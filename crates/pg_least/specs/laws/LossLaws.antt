@@ -16,7 +16,7 @@ LostMessagesBreak =
     (view : View) (old new : Shape) (pair : Pair) (message : Message) →
     IsLost view old new pair message ↔ Breaks view old new pair.old pair.new message
 
--- Where no message breaks, the new reader reads right each one that the old writer encodes.
+-- Where no message breaks, the new reader reads each one that the old writer encodes as it was meant.
 abbrev pub CompatibleIsSeen : Type 0
 CompatibleIsSeen =
     (view : View) (old new : Shape) (pair : Pair) → Compatible view old new pair.old pair.new →
