@@ -57,7 +57,8 @@ price number bound =
 each_edge : (P : Edge → Type 0) (p : Pair) → P (to p 1 1) → P (to p 3 1) → P (to p 2 1) → P (to p 8 1) → P (to p 5 2)
     → P (to p 6 2) → AllByRecursion P (edges_from p)
 each_edge P p a b c d e f =
-    of (nat_eq p.new.index 0) (nat_eq p.new.index 2) (nat_eq p.new.index 3) (nat_eq p.new.index 7) (nat_eq p.new.index 4)
+    of (nat_eq p.new.index 0) (nat_eq p.new.index 2) (nat_eq p.new.index 3) (nat_eq p.new.index 7)
+    (nat_eq p.new.index 4)
   where
     of : (v w x y z : Bool)
         → AllByRecursion P (if v then to p 1 1 ∷ [] else if w then to p 3 1 ∷ [] else if x then to p 2 1 ∷ []
@@ -94,7 +95,8 @@ child_is_drawn p child among =
 
 pub edges_are_few : (p : Pair) → length (edges_from p) ≤ 2 ^ 30
 edges_are_few p =
-    of (nat_eq p.new.index 0) (nat_eq p.new.index 2) (nat_eq p.new.index 3) (nat_eq p.new.index 7) (nat_eq p.new.index 4)
+    of (nat_eq p.new.index 0) (nat_eq p.new.index 2) (nat_eq p.new.index 3) (nat_eq p.new.index 7)
+    (nat_eq p.new.index 4)
   where
     of : (v w x y z : Bool)
         → length (if v then to p 1 1 ∷ [] else if w then to p 3 1 ∷ [] else if x then to p 2 1 ∷ []

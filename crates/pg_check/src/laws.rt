@@ -77,8 +77,8 @@ pub fn resolved_types()
         → full_name_of parts one ≡ full_name_of parts other }
 {}
 
-/// A field of linked files may be packed, by the rules, where it is repeated and its type name
-/// means a number, bool or enum. So what E412 says by the byte of a type name is said of the
+/// A field of linked files may be packed, by the rules, exactly where it is repeated and its type
+/// name means a number, bool or enum. So what E412 says by the byte of a type name is said of the
 /// field's type.
 pub fn packed_fields()
     ensures { (linked : LinkedFiles) → IsLinkedUp linked → ArePackedByMeaning linked.files }

@@ -168,8 +168,8 @@ pub fn from_one_root()
 {}
 
 /// Where two types are compatible under a view and the pair returns, each plain message of the old
-/// type returns: what the old type reads, after a program with the new one has relayed the message,
-/// is what it should read back.
+/// type returns: after a program with the new type has relayed the message, the old type reads back
+/// every value that it sent, but for zeros that the new type doesn't write.
 pub fn messages_come_home()
     ensures { MessagesComeHome }
 {

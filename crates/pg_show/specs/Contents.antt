@@ -31,17 +31,22 @@ value_lines parts indent number name element key (values.Msg child) =
 value_lines parts indent number name element key value = line indent number name key (item element (leaf_of value))
 
 abbrev pub entry_lines : Parts → Text → ℕ → Text → Element → EntryRef → Text
-entry_lines parts indent number name element e = value_lines parts indent number name element (Some (leaf_of e.key)) e.value
+entry_lines parts indent number name element e =
+    value_lines parts indent number name element (Some (leaf_of e.key)) e.value
 
 abbrev pub items_lines : Parts → Text → ℕ → Text → Element → ContentRef → Text
 items_lines parts indent number name element (contents.One v) = value_lines parts indent number name element None v
-items_lines parts indent number name element (contents.Many vs) = flat_map (value_lines parts indent number name element None) vs.items
-items_lines parts indent number name element (contents.Numbers ns) = flat_map (value_lines parts indent number name element None) (numbers_in ns)
-items_lines parts indent number name element (contents.Map es) = flat_map (entry_lines parts indent number name element) es.items
+items_lines parts indent number name element (contents.Many vs) =
+    flat_map (value_lines parts indent number name element None) vs.items
+items_lines parts indent number name element (contents.Numbers ns) =
+    flat_map (value_lines parts indent number name element None) (numbers_in ns)
+items_lines parts indent number name element (contents.Map es) =
+    flat_map (entry_lines parts indent number name element) es.items
 
 -- the lines of a content of a field of the type
 abbrev pub content_lines : Parts → TypeId → Text → ℕ × ContentRef → Text
-content_lines parts type indent c = items_lines parts indent c.0 (names_of parts type c.0) (element_of (fields (shape_of parts) type) c.0) c.1
+content_lines parts type indent c =
+    items_lines parts indent c.0 (names_of parts type c.0) (element_of (fields (shape_of parts) type) c.0) c.1
 
 abbrev pub record_line : Text → Record → Text
 record_line indent r = unknown_line indent (seen_record r)

@@ -1,7 +1,7 @@
--- What each error says of parts that come from no source file: the fact that doesn't hold, by the words of the rules that
--- files keep to. Parts have no positions, so of each message type, enum and file the lowest code is reported (proto3
--- language guide, "Assigning Field Numbers", "Reserved Fields", "Enumerations", "Oneof", "Maps", "JSON Mapping"; proto3
--- language specification, "Option").
+-- What each error says of parts that come from no source file: the fact that doesn't hold, by the words of the rules
+-- that files keep to. Parts have no positions, so of each message type, enum and file the lowest code is reported
+-- (proto3 language guide, "Assigning Field Numbers", "Reserved Fields", "Enumerations", "Oneof", "Maps", "JSON
+-- Mapping"; proto3 language specification, "Option").
 use Rattle.std.specs.Prelude.{◌≡◌, ◌≤◌, ◌<◌, ◌⊎◌, ℕ, true, false, [], map, length, is_some, string_bytes}
 use Rattle.std.specs.List.{AllByRecursion}
 use Rattle.pg_link.specs.declared.error.Place.{Place}
@@ -61,8 +61,8 @@ pub data BreaksFilePart (f : File) (place : Place) : CheckError → (code : ℕ)
 
 -- ---- all parts
 
--- More message types than may be come first; then of the message types, the enums and the files the first that breaks a rule, and of
--- it the lowest code.
+-- More message types than may be come first; then of the message types, the enums and the files the first that breaks a
+-- rule, and of it the lowest code.
 pub data BreaksFirst (parts : Parts) (place : Place) : CheckError → Type 0 where
   too_many_types : 4096 < length parts.types.items → BreaksFirst parts place (errors.TooManyTypes place)
   in_type : (t : MessageType) (e : CheckError) (code : ℕ) → length parts.types.items ≤ 4096

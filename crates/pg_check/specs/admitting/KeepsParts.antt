@@ -1,6 +1,7 @@
 -- Parts that come from no source file and keep to the rules, fact by fact (proto3 language guide, "Assigning Field
--- Numbers", "Reserved Fields", "Enumerations", "Oneof", "Maps", "JSON Mapping"; proto3 language specification, "Option";
--- Encoding guide, "Packed Repeated Fields"). That there are at most 4,096 message types is this profile's choice.
+-- Numbers", "Reserved Fields", "Enumerations", "Oneof", "Maps", "JSON Mapping"; proto3 language specification,
+-- "Option"; Encoding guide, "Packed Repeated Fields"). That there are at most 4,096 message types is this profile's
+-- choice.
 use Rattle.std.specs.Prelude.{◌≡◌, ◌≤◌, Bool, true, false, not, ◌&&◌, ◌||◌, map, length, is_some}
 use Rattle.std.specs.List.{list_all, AllByRecursion}
 use Rattle.pg_schema.specs.declared.parts.enum_type.EnumType.{EnumType}

@@ -7,8 +7,8 @@ use Rattle.pg_check.specs.declared.error.CheckError.TheVariants.{Memory, BadPart
 use Rattle.pg_check.specs.admitting.BrokenParts.{IsFirstBrokenPart, IsNowhere}
 use Rattle.pg_check.specs.admitting.KeepsParts.{KeepsAll}
 
--- out of memory; or, of parts that are none of a schema, the first rule that they break; or, at no position, that they break none and
--- are none of a schema all the same
+-- out of memory; or, of parts that are none of a schema, the first rule that they break; or, at no position, that they
+-- break none and are none of a schema all the same
 pub data IsRefusedOf (parts : Parts) : CheckError → Type 0 where
   lacking : IsRefusedOf parts Memory
   first : (e : CheckError) → IsFirstBrokenPart parts e → (IsSound parts → ⊥) → IsRefusedOf parts e

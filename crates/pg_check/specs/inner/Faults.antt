@@ -1,5 +1,5 @@
--- Rules that are broken, and which of them is reported. That it is the first in the file, and of one declaration the one that
--- comes first among the rules, is this profile's choice.
+-- Rules that are broken, and which of them is reported. That it is the first in the file, and of one declaration the
+-- one that comes first among the rules, is this profile's choice.
 use Rattle.std.specs.Prelude.{ℕ, Bool, true, false, nat_lt, nat_le, nat_eq, ◌&&◌, ◌||◌, List, [], ◌∷◌, Option, Some, None}
 use Rattle.std.specs.Option.{option_map}
 use Rattle.pg_check.specs.declared.rules.fault.Fault.{Fault}

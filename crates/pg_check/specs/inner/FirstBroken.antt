@@ -1,5 +1,5 @@
--- Of files in their order the first that breaks a rule, and the first rule that it breaks. This is how the code looks; what it
--- promises is `KeepsRules` and `IsFirstBroken`.
+-- Of files in their order the first that breaks a rule, and the first rule that it breaks. This is how the code looks;
+-- what it promises is `KeepsRules` and `IsFirstBroken`.
 use Rattle.std.specs.Prelude.{◌≡◌, ℕ, ◌+◌, ◌-◌, List, [], ◌∷◌, length, Option, Some, None}
 use Rattle.pg_check.specs.declared.declare.FileFault.{FileFault}
 use Rattle.pg_check.specs.declared.declare.Refusal.{Refusal}

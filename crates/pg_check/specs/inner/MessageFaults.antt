@@ -78,8 +78,8 @@ shapes_fault targets ms =
 abbrev pub parts_fault : List Part → Option Fault
 parts_fault body = earlier (broken rules.BadOption (first_bad (lines body))) (first_fault oneof_fault (oneofs body))
 
--- The first rule that a message's own body breaks, without the messages and enums in it. `targets` says what the type name
--- that begins at a byte of the file names.
+-- The first rule that a message's own body breaks, without the messages and enums in it. `targets` says what the type
+-- name that begins at a byte of the file names.
 abbrev pub body_fault : (ℕ → Option Target) → List Part → Option Fault
 body_fault targets body =
     earlier (fields_fault (declared body)) (earlier (shapes_fault targets (members body)) (parts_fault body))

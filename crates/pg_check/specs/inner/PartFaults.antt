@@ -1,6 +1,6 @@
--- The rules that parts break which come from no source file: those of files, all at no position. Reported is the first that breaks
--- one of the message types in their order, then the enums and the files, and of it the rule of the lowest code. More message
--- types than may be come before all. That is this profile's choice.
+-- The rules that parts break which come from no source file: those of files, all at no position. Reported is the first
+-- that breaks one of the message types in their order, then the enums and the files, and of it the rule of the lowest
+-- code. More message types than may be come before all. That is this profile's choice.
 use Rattle.std.specs.Prelude.{◌≡◌, ℕ, Bool, true, false, not, nat_le, ◌&&◌, ◌||◌, List, map, length, Option, Some, None, is_some}
 use Rattle.std.specs.BTreeSet.{BTreeSet, contains}
 use Rattle.std.specs.List.{list_any}

@@ -1,4 +1,5 @@
--- Keys of names, by which most names that are there once are told (this profile's way to look for JSON names that clash).
+-- Keys of names, by which most names that are there once are told (this profile's way to look for JSON names that
+-- clash).
 use Rattle.std.specs.Prelude.{ℕ, ◌+◌, ◌*◌, ◌^◌, ◌%◌, List, [], ◌∷◌}
 use Rattle.pg_check.specs.declared.rules.numbers.Keyed.{Keyed}
 use Rattle.pg_check.specs.rules.Names.{Named}

@@ -1,4 +1,5 @@
--- Reserved items by their first numbers, and how far the items up to each of them reach (this profile's way to look numbers up).
+-- Reserved items by their first numbers, and how far the items up to each of them reach (this profile's way to look
+-- numbers up).
 use Rattle.std.specs.Prelude.{ℕ, List, [], ◌∷◌, max}
 use Rattle.pg_check.specs.declared.rules.numbers.Numbers.{Numbers}
 

@@ -1,5 +1,5 @@
--- What a field declares, as a schema has it (proto3 language specification, "Normal field", "Map field"; proto3 language
--- guide, "Field Presence", "JSON Mapping"; Encoding guide, "Packed Repeated Fields").
+-- What a field declares, as a schema has it (proto3 language specification, "Normal field", "Map field"; proto3
+-- language guide, "Field Presence", "JSON Mapping"; Encoding guide, "Packed Repeated Fields").
 use Rattle.std.specs.Prelude.{ℕ, Bool, true, false, ◌||◌, List, codes, Option, Some, None, string_bytes, is_some, if◌then◌else◌}
 use Rattle.std.specs.Option.{option_map}
 use Rattle.pg_schema.specs.declared.parts.field.Element.{Element}
@@ -47,7 +47,8 @@ field f = record {
 
 -- ---- elements
 
--- A scalar, or the message type or enum that is named. A name that names none comes to int32; linked files have no such.
+-- A scalar, or the message type or enum that is named. A name that names none comes to int32; linked files have no
+-- such.
 abbrev pub element_of : Option Scalar → Option Target → Element
 element_of (Some s) target = elements.Scalar s
 element_of None None = elements.Scalar scalars.Int32

@@ -1,5 +1,5 @@
--- What a file states beside its types: imports and options, as a schema has them (proto3 language specification, "Import
--- Statement", "Option").
+-- What a file states beside its types: imports and options, as a schema has them (proto3 language specification,
+-- "Import Statement", "Option").
 use Rattle.std.specs.Prelude.{ℕ, Bool, List, [], ◌∷◌, ◌++◌, map, flat_map, codes, Option, Some, None, string_bytes, if◌then◌else◌}
 use Rattle.std.specs.List.Sorted.{IsPermutation, IsNonDecreasingBy}
 use Rattle.pg_schema.specs.declared.parts.file.Import as imports

@@ -1,5 +1,5 @@
--- What files declare, as a schema has it, file after file: message types and services are numbered in order of declaration, enums scope by
--- scope, those of the package before those of each message type.
+-- What files declare, as a schema has it, file after file: message types and services are numbered in order of
+-- declaration, enums scope by scope, those of the package before those of each message type.
 use Rattle.std.specs.Prelude.{◌≡◌, ℕ, List, [], ◌∷◌, ◌++◌, map, length, Option, string_bytes}
 use Rattle.pg_schema.specs.declared.parts.Parts.{Parts}
 use Rattle.pg_schema.specs.declared.parts.field.EnumId.{EnumId}

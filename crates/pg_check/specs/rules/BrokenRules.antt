@@ -1,6 +1,7 @@
--- What each error says: the fact that doesn't hold, by the words of the rules that files keep to. Of each rule and list the first
--- declaration that breaks it is named, with its code, its byte, and the byte that is reported (proto3 language guide, "Assigning
--- Field Numbers", "Reserved Fields", "Enumerations", "Oneof", "Maps", "JSON Mapping"; proto3 language specification, "Option").
+-- What each error says: the fact that doesn't hold, by the words of the rules that files keep to. Of each rule and list
+-- the first declaration that breaks it is named, with its code, its byte, and the byte that is reported (proto3
+-- language guide, "Assigning Field Numbers", "Reserved Fields", "Enumerations", "Oneof", "Maps", "JSON Mapping"; proto3
+-- language specification, "Option").
 use Rattle.std.specs.Prelude.{◌≡◌, ◌≤◌, ◌-◌, ℕ, true, false, not, nat_eq, List, ◌∷◌, ◌++◌, length, map, flat_map, Option}
 use Rattle.pg_link.specs.declared.error.Place.{Place}
 use Rattle.pg_link.specs.declared.uses.target.Target.{Target}
@@ -159,8 +160,8 @@ pub data BreaksFile (s : Source) (left : ℕ) (place : Place) : CheckError → (
 abbrev pub left_behind : List Source → ℕ
 left_behind files = 4096 - length (flat_map source_messages files)
 
--- An error names a rule that is broken: the files before keep to the rules, its file breaks it at the position, and of no rule does
--- the first declaration that breaks it come before, nor is it this one where its code is lower.
+-- An error names a rule that is broken: the files before keep to the rules, its file breaks it at the position, and of
+-- no rule does the first declaration that breaks it come before, nor is it this one where its code is lower.
 pub record IsFirstBroken (files : List Source) (e : CheckError) : Type 0 where
   pub before : List Source
   pub file : Source

@@ -1,5 +1,5 @@
--- The rules of a whole file (proto3 language specification, "Option", "Service definition", "Proto file"). That there are at
--- most 4,096 message types is this profile's choice.
+-- The rules of a whole file (proto3 language specification, "Option", "Service definition", "Proto file"). That there
+-- are at most 4,096 message types is this profile's choice.
 use Rattle.std.specs.Prelude.{List, [], ◌∷◌, ◌++◌, flat_map, Option, Some, None, Vec}
 use Rattle.std.specs.declared.alloc.Global.{Global}
 use Rattle.pg_check.specs.declared.rules.options.Owner.TheVariants as owners

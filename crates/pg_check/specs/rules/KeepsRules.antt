@@ -1,6 +1,6 @@
 -- Files that keep to the rules, fact by fact (proto3 language guide, "Assigning Field Numbers", "Reserved Fields",
--- "Enumerations", "Oneof", "Maps", "JSON Mapping"; proto3 language specification, "Option"; Encoding guide, "Packed Repeated
--- Fields"). Which options are taken, and that there are at most 4,096 message types, is this profile's choice.
+-- "Enumerations", "Oneof", "Maps", "JSON Mapping"; proto3 language specification, "Option"; Encoding guide, "Packed
+-- Repeated Fields"). Which options are taken, and that there are at most 4,096 message types, is this profile's choice.
 use Rattle.std.specs.Prelude.{◌≡◌, ◌≤◌, ℕ, Bool, true, false, not, nat_eq, nat_lt, ◌&&◌, ◌||◌, List, [], ◌∷◌, length, map, flat_map, Option}
 use Rattle.std.specs.List.{list_all, AllByRecursion}
 use Rattle.pg_schema.specs.rules.Pairs.{all_pairs}

@@ -1,5 +1,6 @@
--- The rules of a message's own body (proto3 language specification, "Message definition"; proto3 language guide, "Assigning
--- Field Numbers", "Reserved Fields", "Oneof", "Maps", "JSON Mapping"; Encoding guide, "Packed Repeated Fields").
+-- The rules of a message's own body (proto3 language specification, "Message definition"; proto3 language guide,
+-- "Assigning Field Numbers", "Reserved Fields", "Oneof", "Maps", "JSON Mapping"; Encoding guide, "Packed Repeated
+-- Fields").
 use Rattle.std.specs.Prelude.{ℕ, Bool, true, false, not, ◌&&◌, List, [], ◌∷◌, map, flat_map, codes, Option, Some, None, is_some, if◌then◌else◌}
 use Rattle.pg_link.specs.declared.uses.target.Target.{Target}
 use Rattle.pg_check.specs.declared.rules.numbers.Keyed.{Keyed}

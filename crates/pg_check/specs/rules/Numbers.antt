@@ -1,5 +1,5 @@
--- Numbers of fields and values, and those that are reserved (proto3 language guide, "Assigning Field Numbers", "Reserved
--- Fields", "Enumerations"). Numbers of both signs are counted from -2^64.
+-- Numbers of fields and values, and those that are reserved (proto3 language guide, "Assigning Field Numbers",
+-- "Reserved Fields", "Enumerations"). Numbers of both signs are counted from -2^64.
 use Rattle.std.specs.List.{list_any}
 use Rattle.std.specs.Prelude.{ℕ, ◌+◌, ◌-◌, ◌^◌, Bool, true, false, not, nat_eq, nat_le, ◌&&◌, List}
 use Rattle.pg_check.specs.declared.rules.numbers.Keyed.{Keyed}

@@ -1,5 +1,5 @@
--- Options (proto3 language specification, "Option"; descriptor.proto, `FileOptions` and the like). Which are taken, that each
--- is stated once where it may be, and that none is in a oneof, is this profile's choice.
+-- Options (proto3 language specification, "Option"; descriptor.proto, `FileOptions` and the like). Which are taken,
+-- that each is stated once where it may be, and that none is in a oneof, is this profile's choice.
 use Rattle.std.specs.Prelude.{ℕ, Bool, true, false, ◌&&◌, ◌||◌, List, [], ◌∷◌, find, map, option_map, codes, Option, Some, None, string_bytes, if◌then◌else◌}
 use Rattle.std.specs.Str.{bytes_eq}
 use Rattle.pg_check.specs.declared.rules.options.Kind.{Kind}

@@ -1,5 +1,6 @@
 -- What files declare outside and inside of messages: statements, message types, enums and services, each in order of
--- declaration, and enums also scope by scope (proto3 language specification, "Message definition", "Enum definition", "Package").
+-- declaration, and enums also scope by scope (proto3 language specification, "Message definition", "Enum definition",
+-- "Package").
 use Rattle.std.specs.Prelude.{ℕ, List, [], ◌∷◌, ◌++◌, flat_map, Option, Some, None, string_bytes}
 use Rattle.pg_schema.specs.rules.DeclaredNames.{within}
 use Rattle.pg_syntax.specs.declared.tree as tree

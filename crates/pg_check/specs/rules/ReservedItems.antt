@@ -1,6 +1,6 @@
--- Reserved items (proto3 language specification, "Reserved"; proto3 language guide, "Reserved Fields", "Reserved Values"). That
--- `max` is the highest number, that no item reaches beyond the numbers of its kind, and that items don't overlap, is this
--- profile's choice.
+-- Reserved items (proto3 language specification, "Reserved"; proto3 language guide, "Reserved Fields", "Reserved
+-- Values"). That `max` is the highest number, that no item reaches beyond the numbers of its kind, and that items don't
+-- overlap, is this profile's choice.
 use Rattle.std.specs.Prelude.{ℕ, Bool, nat_le, ◌&&◌, List, [], ◌∷◌, map, Option, Some, None}
 use Rattle.pg_check.specs.declared.rules.numbers.Numbers.{Numbers}
 use Rattle.pg_syntax.specs.declared.tree as tree

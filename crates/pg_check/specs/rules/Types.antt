@@ -1,5 +1,5 @@
--- Scalar types, and what a type name names (proto3 language guide, "Scalar Value Types"; proto3 language specification, "Map
--- field"; Encoding guide, "Packed Repeated Fields").
+-- Scalar types, and what a type name names (proto3 language guide, "Scalar Value Types"; proto3 language specification,
+-- "Map field"; Encoding guide, "Packed Repeated Fields").
 use Rattle.std.specs.Prelude.{ℕ, Bool, true, false, not, ◌&&◌, Option, Some, None, string_bytes, if◌then◌else◌}
 use Rattle.pg_schema.specs.declared.parts.field.Scalar.{Scalar}
 use Rattle.pg_schema.specs.declared.parts.field.Element.TheVariants as elements

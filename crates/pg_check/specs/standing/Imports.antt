@@ -1,4 +1,5 @@
--- How the files of a schema are ordered: after those that they import (that a second import is refused is this profile's choice).
+-- How the files of a schema are ordered: after those that they import (that a second import is refused is this
+-- profile's choice).
 use Rattle.std.specs.Prelude.{◌≡◌, ℕ, ⊤, Bool, true, false, List, [], ◌∷◌, ◌++◌, map}
 use Rattle.std.specs.List.{list_all}
 use Rattle.std.specs.String.{string_bytes}

@@ -1,5 +1,6 @@
--- How a schema's indexes are laid out where a set states it: file after file message types and services in order of declaration, enums scope by
--- scope, those of the package before those of each message type. That is this profile's choice.
+-- How a schema's indexes are laid out where a set states it: file after file message types and services in order of
+-- declaration, enums scope by scope, those of the package before those of each message type. That is this profile's
+-- choice.
 use Rattle.std.specs.Prelude.{◌≡◌, ℕ, zero, suc, List, [], ◌∷◌, ◌++◌, flat_map, length, Option, Some, None, slice_get}
 use Rattle.pg_schema.specs.declared.parts.field.TypeId.{TypeId}
 use Rattle.pg_schema.specs.declared.parts.file.File.{File}

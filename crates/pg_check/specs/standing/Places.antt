@@ -1,4 +1,5 @@
--- Indexes in a row, and how deep message types may be nested in a schema that a set states, which is this profile's choice.
+-- Indexes in a row, and how deep message types may be nested in a schema that a set states, which is this profile's
+-- choice.
 use Rattle.std.specs.Prelude.{ℕ, zero, suc, List, [], ◌∷◌}
 
 -- so many indexes, from one on

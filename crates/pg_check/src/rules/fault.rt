@@ -8,7 +8,7 @@ ghost use Rattle.pg_check.specs.inner.Faults as spec;
 pub(crate) enum Rule {
     /// E401: a number is one that a field, a value or a reserved item may have.
     BadNumber,
-    /// E402: a field's number is once in its message.
+    /// E402: no two fields of a message have one number.
     DuplicateNumber,
     /// E403: a field's or value's number isn't reserved.
     ReservedNumber,
@@ -16,7 +16,7 @@ pub(crate) enum Rule {
     ReservedName,
     /// E405: reserved ranges rise and don't overlap.
     RangeOverlap,
-    /// E406: a field's JSON name is once in its message.
+    /// E406: no two fields of a message have one JSON name.
     JsonNameClash,
     /// E407: a map's key is of an integral type, bool or string.
     BadMapKey,

@@ -32,13 +32,13 @@ IsAny a = ⊤
 abbrev pub IsBeside : Field → FieldShape → Type 0
 IsBeside f a = same_oneof a.oneof f.oneof ≡ true
 
--- the field at the index, where there is one, isn't in the old oneof of that field
+-- the field at the index, if there is one, isn't in the old oneof of `f`
 abbrev pub IsOutside : List Field → Field → ℕ → Type 0
 IsOutside list f to =
     (g : Field) → to < length list → g ≡ slice_index_or list to g → same_oneof f.oneof g.oneof ≡ false
 
--- It leads from the field at the index to the next one of its new oneof, and to the next one there that isn't in its
--- old oneof.
+-- A link leads from the field at the index to the next one of its new oneof, and to the next one there that isn't in
+-- its old oneof.
 pub record LeadsFrom (gs : List FieldShape) (list : List Field) (f : Field) (at : ℕ) (link : Link) : Type 0 where
   pub next : Passes gs list (new_oneof gs (field_shape f)) IsAny (suc at) link.next
   pub other : Passes gs list (new_oneof gs (field_shape f)) (IsBeside f) (suc at) link.other

@@ -229,8 +229,8 @@ fn is_same_at(
     }
 }
 
-/// Whether the new type shows what the old type's field of the number means. It is known to, where
-/// the old message has a content of the field.
+/// Whether the new type shows what the old type's field of the number means. Where the old message
+/// has a content of the field, this is known.
 #[cycle(same)]
 fn is_same_other(
     alloc: Global,
@@ -283,8 +283,8 @@ fn are_same_contents(
     Ok(true)
 }
 
-/// Whether each old field whose number these contents have is shown as it is meant. Each is known
-/// to be, of which the old message has a content.
+/// Whether each old field whose number these contents have is shown as it is meant. Those of
+/// which the old message has a content are known to be.
 #[cycle(same)]
 fn are_same_others(
     alloc: Global,
