@@ -198,14 +198,15 @@ def with_bytes(message, data):
     return message.MergeFromString(data)
 
 
-def skipped(dependency):
-    """In front a file descriptor.proto that isn't proto3, which the last file imports."""
+def skipped(dependency, imports=1):
+    """In front a file descriptor.proto that isn't proto3, which the last file imports, once or more often."""
 
     def change(s):
         last = s.file[-1]
-        last.dependency.insert(0, DESCRIPTOR)
+        for _ in range(imports):
+            last.dependency.insert(0, DESCRIPTOR)
         for at, place in enumerate(list(last.public_dependency)):
-            last.public_dependency[at] = place + 1
+            last.public_dependency[at] = place + imports
         file = pb.FileDescriptorProto(name=DESCRIPTOR, package="google.protobuf")
         if dependency:
             file.message_type.add(name="FileOptions")
@@ -306,6 +307,7 @@ def variants(sets):
     row("places of synthetic oneofs", oneofs, other_places)
     row("a public index twice", public, lambda s: s.file[-1].public_dependency.extend([1, 0, 1]))
     row("descriptor.proto skipped", one, skipped(False))
+    row("descriptor.proto skipped, imported twice", one, skipped(False, 2))
     row("descriptor.proto with types skipped", public, skipped(True))
 
     def comments(s):

@@ -106,7 +106,7 @@ fn parts(
     files: &[Said<'_, '_>],
     order: &[usize],
 ) -> Result<Parts, Unstated>
-    requires { AreOrdered skips (map importer_of (map message_of files.now)) order.now }
+    requires { AreOrdered (map (importer_of skips) (map message_of files.now)) order.now }
     ensures made { IfOk result (λ made.
         declared_by skips (files_at (map message_of files.now) order.now)
         ≡ Some (parts_view made)) }

@@ -6,7 +6,7 @@ use Rattle.std.specs.Option.{unwrap_or}
 use Rattle.pg_schema.specs.rules.Pairs.{are_distinct}
 use Rattle.pg_fds.specs.declared.reading.order.Importing.{Importing}
 use Rattle.pg_fds.specs.descriptor.Lent.{lent}
-use Rattle.pg_fds.specs.stated.PostOrder.{Importer, IsPostOrder, imports_once, kept_paths, paths_of}
+use Rattle.pg_fds.specs.stated.PostOrder.{Importer, IsPostOrder, imports_once, paths_of}
 
 abbrev pub importer : Importing → Importer
 importer i = record { path = i.name.now; imports = lent i.paths.items }
@@ -23,16 +23,16 @@ abbrev pub StandAt : List (List ℕ) → (places : List ℕ) → List (List ℕ)
 StandAt paths places these = map (slice_get paths) places ≡ map Some these
 
 -- the places of what each file imports
-abbrev pub ImportsAt : (skips : Bool) → List Importer → List (List ℕ) → Type 0
-ImportsAt skips files all = map (map (slice_get (paths_of files))) all ≡ map (λ (i : Importer). map Some (kept_paths skips i.imports)) files
+abbrev pub ImportsAt : List Importer → List (List ℕ) → Type 0
+ImportsAt files all = map (map (slice_get (paths_of files))) all ≡ map (λ (i : Importer). map Some i.imports) files
 
 -- the path at a place
 abbrev pub name_at : List (List ℕ) → ℕ → List ℕ
 name_at paths place = unwrap_or (slice_get paths place) []
 
 -- These are the places of the files in post-order of imports. Paths stand once, among the files and among the imports of each.
-pub record AreOrdered (skips : Bool) (files : List Importer) (places : List ℕ) : Type 0 where
+pub record AreOrdered (files : List Importer) (places : List ℕ) : Type 0 where
   pub once : are_distinct (paths_of files) ≡ true
   pub imports : list_all imports_once files ≡ true
-  pub order : IsPostOrder skips files (map (name_at (paths_of files)) places)
+  pub order : IsPostOrder files (map (name_at (paths_of files)) places)
   pub within : AllByRecursion (λ place. place < length files) places

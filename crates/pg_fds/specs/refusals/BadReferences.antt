@@ -138,10 +138,10 @@ IsTrail leads path (next ∷ paths) = IsSomeAnd (leads path) (λ imports. is_amo
 -- The files' paths and imports, or what they declare.
 pub data IsBadReference (skips : Bool) (files : List Message) : Type 0 where
   path_twice : are_distinct (map (text_at proto.FILE_NAME) files) ≡ false → IsBadReference skips files
-  import_twice : Any (λ m. are_distinct (texts_at proto.FILE_DEPENDENCY m) ≡ false) files → IsBadReference skips files
+  import_twice : Any (λ m. are_distinct (kept_paths skips (texts_at proto.FILE_DEPENDENCY m)) ≡ false) files → IsBadReference skips files
   import_missing : Any (λ m. Any (λ path. is_among (map (text_at proto.FILE_NAME) files) path ≡ false) (kept_paths skips (texts_at proto.FILE_DEPENDENCY m))) files →
       IsBadReference skips files
-  imports_go_round : (path : List ℕ) (between : Paths) → IsTrail (imports_at skips (map importer_of files)) path (between ++ path ∷ []) → IsBadReference skips files
+  imports_go_round : (path : List ℕ) (between : Paths) → IsTrail (imports_at (map (importer_of skips) files)) path (between ++ path ∷ []) → IsBadReference skips files
   bad_declaration : (ordered : List Message) → in_post_order skips files ≡ Some ordered → IsBadDeclaration ordered → IsBadReference skips files
 
 -- files state nothing where they have a bad reference, and there alone

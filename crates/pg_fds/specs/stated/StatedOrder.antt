@@ -37,9 +37,9 @@ visit (suc depth) leads front visited = visit_each (visit depth leads) leads fro
 -- The paths of the files in post-order of imports, begun at the files in their order. Nothing where a path stands twice, among the files or
 -- among the imports of one, where an import isn't there, or where imports lead back. Where they don't, they lead no deeper than there are
 -- files.
-abbrev pub paths_in_post_order : (skips : Bool) → List Importer → Option Paths
-paths_in_post_order skips files =
-    only_if (are_distinct (paths_of files) && list_all imports_once files) (visit (length files) (imports_at skips files) [] (paths_of files))
+abbrev pub paths_in_post_order : List Importer → Option Paths
+paths_in_post_order files =
+    only_if (are_distinct (paths_of files) && list_all imports_once files) (visit (length files) (imports_at files) [] (paths_of files))
 
 -- the first file of that path
 abbrev pub file_at : List Message → List ℕ → Option Message
@@ -47,4 +47,4 @@ file_at files path = find (λ m. bytes_eq (text_at proto.FILE_NAME m) path) file
 
 -- the files in that order
 abbrev pub in_post_order : (skips : Bool) → List Message → Option (List Message)
-in_post_order skips files = option_and_then (each (file_at files)) (paths_in_post_order skips (map importer_of files))
+in_post_order skips files = option_and_then (each (file_at files)) (paths_in_post_order (map (importer_of skips) files))

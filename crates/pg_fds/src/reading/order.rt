@@ -4,12 +4,14 @@ ghost use Rattle.std.specs.Prelude.{◌≡◌, ◌⊎◌, false, true, ℕ, List
 ghost use Rattle.std.specs.List.{list_all};
 ghost use Rattle.pg_schema.specs.rules.Pairs.{are_distinct};
 ghost use Rattle.pg_schema.specs.rules.TextSets.{is_among};
-ghost use Rattle.pg_dyn.specs.message.Kept.{message_of};
+ghost use Rattle.pg_dyn.specs.Kept.{message_of};
+ghost use Rattle.pg_fds.specs.declared.descriptor.proto.TheConstants.{FILE_DEPENDENCY};
 ghost use Rattle.pg_fds.specs.declared.error.Unstated.TheVariants as errors;
 ghost use Rattle.pg_fds.specs.descriptor.Lent.{lent};
 ghost use Rattle.pg_fds.specs.reading.FilePlaces.{AreOrdered, ImportsAt, IsIndex, StandAt, importer, importers};
 ghost use Rattle.pg_fds.specs.stated.Outlines.{files_at};
 ghost use Rattle.pg_fds.specs.stated.PostOrder.{HasNoOrder, importer_of, imports_once, kept_paths, paths_of};
+ghost use Rattle.pg_fds.specs.stated.Said.{texts_at};
 ghost use Rattle.pg_fds.specs.stated.StatedOrder.{in_post_order};
 ghost use Rattle.pg_fds.specs.reading.Walks.{lists_of};
 
@@ -62,25 +64,20 @@ fn are_apart(alloc: Global, paths: &[&str]) -> Result<(), Unstated>
     Ok(())
 }
 
-// The places of the files of these paths, of which each is there. Those that are skipped are left
-// out.
+// The places of the files of these paths, of which each is there.
 fn imported(
     alloc: Global,
     places: &BTreeMap<String, usize>,
-    skips: bool,
     paths: &[&str],
 ) -> Result<Vec<usize>, Unstated>
     ensures ok { IfOk result (λ own. (all : List (List ℕ)) → IsIndex all places.now
-        → StandAt all own.items (kept_paths skips (lent paths.now))) }
+        → StandAt all own.items (lent paths.now)) }
     ensures refused { IfErr result (λ e. (e ≡ errors.Memory)
         ⊎ ((all : List (List ℕ)) → IsIndex all places.now
-        → list_all (is_among all) (kept_paths skips (lent paths.now)) ≡ false)) }
+        → list_all (is_among all) (lent paths.now) ≡ false)) }
 {
     let mut imported = Vec::new(alloc);
     for path in paths {
-        if is_left_out(skips, path) {
-            continue;
-        }
         match places.get(*path) {
             Some(place) => imported.push(*place)?,
             None => return Err(Unstated::Reference),
@@ -90,57 +87,77 @@ fn imported(
 }
 
 // What each file imports.
-fn all_imported(
-    alloc: Global,
-    skips: bool,
-    files: &[Importing<'_>],
-) -> Result<Vec<Vec<usize>>, Unstated>
-    ensures ok { IfOk result (λ all. ImportsAt skips (importers files.now) (lists_of all.items)) }
+fn all_imported(alloc: Global, files: &[Importing<'_>]) -> Result<Vec<Vec<usize>>, Unstated>
+    ensures ok { IfOk result (λ all. ImportsAt (importers files.now) (lists_of all.items)) }
     ensures once { OnOk result (are_distinct (paths_of (importers files.now)) ≡ true) }
     ensures imports_once { OnOk result (list_all imports_once (importers files.now) ≡ true) }
     ensures refused { IfErr result (λ e. (e ≡ errors.Memory)
-        ⊎ HasNoOrder skips (importers files.now)) }
+        ⊎ HasNoOrder (importers files.now)) }
 {
     let places = places(alloc, files)?;
     let mut all = Vec::new(alloc);
     for file in files {
         are_apart(alloc, &file.paths)?;
-        all.push(imported(alloc, &places, skips, &file.paths)?)?;
+        all.push(imported(alloc, &places, &file.paths)?)?;
     }
     Ok(all)
 }
 
 // The places of the files in post-order of imports, begun at the files in their order. Refused,
 // memory aside, only where they have none.
-fn order_of(alloc: Global, skips: bool, files: &[Importing<'_>]) -> Result<Vec<usize>, Unstated>
-    ensures ok { IfOk result (λ order. AreOrdered skips (importers files.now) order.items) }
+fn order_of(alloc: Global, files: &[Importing<'_>]) -> Result<Vec<usize>, Unstated>
+    ensures ok { IfOk result (λ order. AreOrdered (importers files.now) order.items) }
     ensures refused { IfErr result (λ e. (e ≡ errors.Memory)
-        ⊎ HasNoOrder skips (importers files.now)) }
+        ⊎ HasNoOrder (importers files.now)) }
 {
-    let imported = all_imported(alloc, skips, files)?;
+    let imported = all_imported(alloc, files)?;
     post_order(alloc, &imported)
 }
 
+// The paths that a file imports, without those that are left out.
+fn kept_imports<'b, 'a>(
+    alloc: Global,
+    skips: bool,
+    file: &Said<'b, 'a>,
+) -> Result<Vec<&'a str>, AllocError>
+    ensures { IfOk result (λ kept. lent kept.items
+        ≡ kept_paths skips (texts_at FILE_DEPENDENCY (message_of file.now))) }
+{
+    let paths = texts(alloc, file, proto::FILE_DEPENDENCY)?;
+    let mut kept = Vec::new(alloc);
+    for path in &paths {
+        if !is_left_out(skips, path) {
+            kept.push(*path)?;
+        }
+    }
+    Ok(kept)
+}
+
 // What a file says of its name and its imports.
-fn importing_file<'b, 'a>(alloc: Global, file: &Said<'b, 'a>) -> Result<Importing<'a>, AllocError>
-    ensures { IfOk result (λ i. importer i ≡ importer_of (message_of file.now)) }
+fn importing_file<'b, 'a>(
+    alloc: Global,
+    skips: bool,
+    file: &Said<'b, 'a>,
+) -> Result<Importing<'a>, AllocError>
+    ensures { IfOk result (λ i. importer i ≡ importer_of skips (message_of file.now)) }
 {
     let name = text(file, proto::FILE_NAME);
-    let paths = texts(alloc, file, proto::FILE_DEPENDENCY)?;
+    let paths = kept_imports(alloc, skips, file)?;
     Ok(Importing { name, paths })
 }
 
 // The same of all files.
 fn importing_files<'b, 'a>(
     alloc: Global,
+    skips: bool,
     files: &[Said<'b, 'a>],
 ) -> Result<Vec<Importing<'a>>, AllocError>
     ensures { IfOk result (λ found. importers found.items
-        ≡ map importer_of (map message_of files.now)) }
+        ≡ map (importer_of skips) (map message_of files.now)) }
 {
     let mut found = Vec::new(alloc);
     for file in files {
-        let importing = importing_file(alloc, file)?;
+        let importing = importing_file(alloc, skips, file)?;
         found.push(importing)?;
     }
     Ok(found)
@@ -153,15 +170,15 @@ pub(crate) fn order(
     skips: bool,
     files: &[Said<'_, '_>],
 ) -> Result<Vec<usize>, Unstated>
-    ensures ok { IfOk result (λ order. AreOrdered skips
-        (map importer_of (map message_of files.now)) order.items) }
+    ensures ok { IfOk result (λ order. AreOrdered
+        (map (importer_of skips) (map message_of files.now)) order.items) }
     ensures in_order { IfOk result (λ order. in_post_order skips (map message_of files.now)
         ≡ Some (files_at (map message_of files.now) order.items)) }
     ensures refused { IfErr result (λ e. (e ≡ errors.Memory)
-        ⊎ HasNoOrder skips (map importer_of (map message_of files.now))) }
+        ⊎ HasNoOrder (map (importer_of skips) (map message_of files.now))) }
     ensures none { IfErr result (λ e. (e ≡ errors.Memory)
         ⊎ (in_post_order skips (map message_of files.now) ≡ None)) }
 {
-    let found = importing_files(alloc, files)?;
-    order_of(alloc, skips, &found)
+    let found = importing_files(alloc, skips, files)?;
+    order_of(alloc, &found)
 }

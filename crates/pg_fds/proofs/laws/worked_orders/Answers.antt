@@ -13,7 +13,8 @@ returns c = record {
   import_twice = refl;
   its_own_import = refl;
   go_round = refl;
-  skipped = refl;
-  kept = refl;
   files = refl;
+  skipped = refl;
+  skipped_twice = refl;
+  kept = refl;
 }

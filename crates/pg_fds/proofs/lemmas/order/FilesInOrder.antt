@@ -9,9 +9,9 @@ use Rattle.pg_fds.specs.stated.PostOrder.{importer_of}
 use Rattle.pg_fds.proofs.lemmas.lists.Zips.{seen_length}
 
 -- the places are those of files
-pub places_within : (skips : Bool) (kept : List Message) (places : List ℕ) → AreOrdered skips (map importer_of kept) places → AllByRecursion (λ place. place < length kept) places
-places_within skips kept places ordered = subst (λ n. AllByRecursion (λ place. place < n) places) (length-map kept importer_of) ordered.within
+pub places_within : (skips : Bool) (kept : List Message) (places : List ℕ) → AreOrdered (map (importer_of skips) kept) places → AllByRecursion (λ place. place < length kept) places
+places_within skips kept places ordered = subst (λ n. AllByRecursion (λ place. place < n) places) (length-map kept (importer_of skips)) ordered.within
 
-pub lent_within : (skips : Bool) (files : List Kept) (places : List ℕ) → AreOrdered skips (map importer_of (map message_of files)) places → AllByRecursion (λ place. place < length files) places
+pub lent_within : (skips : Bool) (files : List Kept) (places : List ℕ) → AreOrdered (map (importer_of skips) (map message_of files)) places → AllByRecursion (λ place. place < length files) places
 lent_within skips files places ordered =
     subst (λ n. AllByRecursion (λ place. place < n) places) (seen_length files) (places_within skips (map message_of files) places ordered)

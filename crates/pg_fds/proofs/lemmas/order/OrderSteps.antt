@@ -1,5 +1,5 @@
 -- Files and paths, as loops come to them.
-use Rattle.std.proofs.Common.{◌≡◌, ℕ, zero, suc, ◌+◌, ◌<◌, ◌≤◌, Bool, true, false, cond, not, ◌&&◌, List, [], ◌∷◌, ◌++◌, length, map, take, drop, get_or, Result, Err, IfErr, Some, slice_get, refl, ap, ap₂, sym, subst, ◌∙◌, arith, add-one}
+use Rattle.std.proofs.Common.{◌≡◌, ℕ, zero, suc, ◌+◌, ◌<◌, ◌≤◌, Bool, true, false, not, ◌&&◌, List, [], ◌∷◌, ◌++◌, length, map, take, drop, get_or, Result, Err, IfErr, Some, slice_get, refl, ap, ap₂, sym, subst, ◌∙◌, arith, add-one}
 use Rattle.std.specs.List.{list_all}
 use denote.Ref.{Bor}
 use Rattle.pg_schema.specs.rules.Pairs.{are_distinct}
@@ -8,8 +8,7 @@ use Rattle.pg_schema.proofs.lemmas.rules.TextSetLemmas.{twice}
 use Rattle.pg_fds.specs.declared.reading.order.Importing.{Importing}
 use Rattle.pg_fds.specs.descriptor.Lent.{lent}
 use Rattle.pg_fds.specs.reading.FilePlaces.{StandAt, importer, importers}
-use Rattle.pg_fds.specs.stated.PostOrder.{Importer, imports_once, kept_paths, paths_of}
-use Rattle.pg_fds.specs.stated.SaidFiles.{is_descriptor}
+use Rattle.pg_fds.specs.stated.PostOrder.{Importer, imports_once, paths_of}
 use Rattle.pg_fds.proofs.lemmas.lists.Tests.{and_false}
 
 suc_of : {A B : Type 0} (f : A → B) (xs : List A) (i : ℕ) (x : A) → i < length xs → x ≡ get_or xs i x → map f (take (suc i) xs) ≡ map f (take i xs) ++ f x ∷ []
@@ -37,16 +36,7 @@ pub stands_twice : {A : Type 0} (f : A → List ℕ) (xs : List A) (i : ℕ) (x 
 stands_twice f xs i x h is among =
     subst (λ ts. are_distinct ts ≡ false) (whole_of f xs i x h is) (twice (map f (take i xs)) (map f (drop (suc i) xs)) (f x) (ap not among))
 
--- ---- paths that are kept
-
-pub path_kept : (skips : Bool) (paths : List (List ℕ)) (path : List ℕ) → (skips && is_descriptor path) ≡ false → kept_paths skips (paths ++ path ∷ []) ≡ kept_paths skips paths ++ path ∷ []
-path_kept skips [] path kept = ap (λ b. cond (not b) (path ∷ []) []) kept
-path_kept skips (p ∷ paths) path kept = of (skips && is_descriptor p) (path_kept skips paths path kept)
-  where
-    of : (b : Bool) → kept_paths skips (paths ++ path ∷ []) ≡ kept_paths skips paths ++ path ∷ []
-        → cond (not b) (p ∷ kept_paths skips (paths ++ path ∷ [])) (kept_paths skips (paths ++ path ∷ [])) ≡ cond (not b) (p ∷ kept_paths skips paths) (kept_paths skips paths) ++ path ∷ []
-    of true later = later
-    of false later = ap (λ ps. p ∷ ps) later
+-- ---- paths of imports
 
 pub map_more : {A B : Type 0} (f : A → B) (xs : List A) (x : A) → map f (xs ++ x ∷ []) ≡ map f xs ++ f x ∷ []
 map_more f [] x = refl
@@ -56,18 +46,11 @@ pub stand_more : (all : List (List ℕ)) (places : List ℕ) (these : List (List
 stand_more all places these place path is stand =
     map_more (slice_get all) places place ∙ (ap₂ (λ xs x. xs ++ x ∷ []) stand is ∙ sym (map_more (λ t. Some t) these path))
 
--- a kept path that fails the test
-pub kept_fails : (skips : Bool) (test : List ℕ → Bool) (paths : List (Bor (List ℕ))) (i : ℕ) (path : Bor (List ℕ)) → i < length paths → path ≡ get_or paths i path
-    → (skips && is_descriptor path.now) ≡ false → test path.now ≡ false → list_all test (kept_paths skips (lent paths)) ≡ false
-kept_fails skips test [] i path h is kept fails = absurd (omega (arith, h))
-kept_fails skips test (p ∷ paths) zero path h is kept fails =
-    ap (λ b. list_all test (cond (not b) (p.now ∷ kept_paths skips (lent paths)) (kept_paths skips (lent paths)))) (ap (λ (q : Bor (List ℕ)). skips && is_descriptor q.now) (sym is) ∙ kept)
-    ∙ ap (λ b. b && list_all test (kept_paths skips (lent paths))) (ap (λ (q : Bor (List ℕ)). test q.now) (sym is) ∙ fails)
-kept_fails skips test (p ∷ paths) (suc i) path h is kept fails = of (skips && is_descriptor p.now) (kept_fails skips test paths i path (omega (arith, h)) is kept fails)
-  where
-    of : (b : Bool) → list_all test (kept_paths skips (lent paths)) ≡ false → list_all test (cond (not b) (p.now ∷ kept_paths skips (lent paths)) (kept_paths skips (lent paths))) ≡ false
-    of true e = e
-    of false e = and_false (test p.now) (list_all test (kept_paths skips (lent paths))) e
+-- a path that fails the test
+pub path_fails : (test : List ℕ → Bool) (paths : List (Bor (List ℕ))) (i : ℕ) (path : Bor (List ℕ)) → i < length paths → path ≡ get_or paths i path → test path.now ≡ false → list_all test (lent paths) ≡ false
+path_fails test [] i path h is fails = absurd (omega (arith, h))
+path_fails test (p ∷ paths) zero path h is fails = ap (λ b. b && list_all test (lent paths)) (ap (λ (q : Bor (List ℕ)). test q.now) (sym is) ∙ fails)
+path_fails test (p ∷ paths) (suc i) path h is fails = and_false (test p.now) (list_all test (lent paths)) (path_fails test paths i path (omega (arith, h)) is fails)
 
 -- ---- files
 

@@ -12,8 +12,8 @@ use Rattle.pg_schema.specs.rules.Pairs.{are_distinct, differ}
 use Rattle.pg_schema.proofs.lemmas.rules.PairLemmas.{and_left, and_right}
 use Rattle.pg_check.specs.standing.Places.{places_from}
 use Rattle.pg_fds.specs.reading.FilePlaces.{ImportsAt, IsIndex, StandAt, name_at}
-use Rattle.pg_link.specs.walk.PostOrder.{Visits, all_visited, listed_last, passed_over}
-use Rattle.pg_fds.specs.stated.PostOrder.{Importer, IsPostOrder, imports_at, kept_paths, paths_of}
+use Rattle.pg_link.specs.PostOrder.{Visits, all_visited, listed_last, passed_over}
+use Rattle.pg_fds.specs.stated.PostOrder.{Importer, IsPostOrder, imports_at, paths_of}
 use Rattle.pg_fds.specs.reading.Walks.{AreWithin, Falls, Walks}
 use Rattle.pg_fds.proofs.lemmas.lists.Marks.{found_within}
 use Rattle.pg_fds.proofs.lemmas.order.Visited.{Among, Text, behind_at, imports_found, rank, there_at}
@@ -187,44 +187,44 @@ named_apart paths (q ∷ places) p once all low missing = of (nat_eq p q) refl (
         absurd (false≢true (sym other ∙ equal p q (same_place paths p q once low all.0 ((bytes_eq-Decides (name_at paths p) (name_at paths q)).0 is))))
     of false other false is h later = later h
 
-imports_of_place : (skips : Bool) (paths : List Text) (all : List (List ℕ)) (files : List Importer) (place : ℕ) (own : List ℕ)
-    → map (map (slice_get paths)) all ≡ map (λ (i : Importer). map (λ t. Some t) (kept_paths skips i.imports)) files → slice_get all place ≡ Some own
-    → (i : Importer) × (slice_get files place ≡ Some i) × StandAt paths own (kept_paths skips i.imports)
-imports_of_place skips paths [] files place own at is = absurd (none-some own is)
-imports_of_place skips paths (o ∷ all) [] place own at is = absurd (cc)
-imports_of_place skips paths (o ∷ all) (i ∷ files) zero own at is =
-    let first : map (slice_get paths) o ≡ map (λ t. Some t) (kept_paths skips i.imports) = cc in
-    (i, refl, subst (λ x. StandAt paths x (kept_paths skips i.imports)) (same_Some o own is) first)
-imports_of_place skips paths (o ∷ all) (i ∷ files) (suc place) own at is =
-    let later : map (map (slice_get paths)) all ≡ map (λ (j : Importer). map (λ t. Some t) (kept_paths skips j.imports)) files = cc in
-    imports_of_place skips paths all files place own later is
+imports_of_place : (paths : List Text) (all : List (List ℕ)) (files : List Importer) (place : ℕ) (own : List ℕ)
+    → map (map (slice_get paths)) all ≡ map (λ (i : Importer). map (λ t. Some t) i.imports) files → slice_get all place ≡ Some own
+    → (i : Importer) × (slice_get files place ≡ Some i) × StandAt paths own i.imports
+imports_of_place paths [] files place own at is = absurd (none-some own is)
+imports_of_place paths (o ∷ all) [] place own at is = absurd (cc)
+imports_of_place paths (o ∷ all) (i ∷ files) zero own at is =
+    let first : map (slice_get paths) o ≡ map (λ t. Some t) i.imports = cc in
+    (i, refl, subst (λ x. StandAt paths x i.imports) (same_Some o own is) first)
+imports_of_place paths (o ∷ all) (i ∷ files) (suc place) own at is =
+    let later : map (map (slice_get paths)) all ≡ map (λ (j : Importer). map (λ t. Some t) j.imports) files = cc in
+    imports_of_place paths all files place own later is
 
 -- as many lists as files
-pub as_many : (skips : Bool) (paths : List Text) (all : List (List ℕ)) (files : List Importer) → map (map (slice_get paths)) all ≡ map (λ (i : Importer). map (λ t. Some t) (kept_paths skips i.imports)) files
+pub as_many : (paths : List Text) (all : List (List ℕ)) (files : List Importer) → map (map (slice_get paths)) all ≡ map (λ (i : Importer). map (λ t. Some t) i.imports) files
     → length all ≡ length (paths_of files)
-as_many skips paths [] [] at = refl
-as_many skips paths [] (i ∷ files) at = absurd (cc)
-as_many skips paths (o ∷ all) [] at = absurd (cc)
-as_many skips paths (o ∷ all) (i ∷ files) at = ap suc (as_many skips paths all files (cc))
+as_many paths [] [] at = refl
+as_many paths [] (i ∷ files) at = absurd (cc)
+as_many paths (o ∷ all) [] at = absurd (cc)
+as_many paths (o ∷ all) (i ∷ files) at = ap suc (as_many paths all files (cc))
 
 paths_at : (files : List Importer) (place : ℕ) (i : Importer) → slice_get files place ≡ Some i → slice_get (paths_of files) place ≡ Some i.path
 paths_at [] place i is = absurd (none-some i is)
 paths_at (j ∷ files) zero i is = ap (λ (k : Importer). Some k.path) (same_Some j i is)
 paths_at (j ∷ files) (suc place) i is = paths_at files place i is
 
-module _ (skips : Bool) (files : List Importer) (all : List (List ℕ)) (once : are_distinct (paths_of files) ≡ true) (at : ImportsAt skips files all) where
+module _ (files : List Importer) (all : List (List ℕ)) (once : are_distinct (paths_of files) ≡ true) (at : ImportsAt files all) where
   abbrev names : List ℕ → List Text
   names places = map (name_at (paths_of files)) places
 
   abbrev IsNamed : (front visited listed : List ℕ) → Type 0
-  IsNamed front visited listed = Visits bytes_eq (imports_at skips files) (names front) (names visited) (names listed) × AllValid (paths_of files) listed
+  IsNamed front visited listed = Visits bytes_eq (imports_at files) (names front) (names visited) (names listed) × AllValid (paths_of files) listed
 
-  leads_there : (place : ℕ) (own : List ℕ) → slice_get all place ≡ Some own → (imports_at skips files (name_at (paths_of files) place) ≡ Some (names own)) × (place < length (paths_of files))
+  leads_there : (place : ℕ) (own : List ℕ) → slice_get all place ≡ Some own → (imports_at files (name_at (paths_of files) place) ≡ Some (names own)) × (place < length (paths_of files))
   leads_there place own is =
-      let (i, found, stand) = imports_of_place skips (paths_of files) all files place own at is in
+      let (i, found, stand) = imports_of_place (paths_of files) all files place own at is in
       let named = paths_at files place i found in (
-        ap (imports_at skips files) (name_is (paths_of files) place i.path named)
-            ∙ (imports_found skips files place i once found ∙ ap (λ ts. Some ts) (sym (names_are (paths_of files) own (kept_paths skips i.imports) stand))),
+        ap (imports_at files) (name_is (paths_of files) place i.path named)
+            ∙ (imports_found files place i once found ∙ ap (λ ts. Some ts) (sym (names_are (paths_of files) own i.imports stand))),
         found_within (paths_of files) place i.path named,
       )
 
@@ -238,25 +238,25 @@ module _ (skips : Bool) (files : List Importer) (all : List (List ℕ)) (once : 
       let inside_named = named_walk f own inside inner valid in
       let named = named_walk (inside ++ x ∷ []) later l rest (valid_more (paths_of files) inside x inside_named.1 within) in (
         listed_last (names f) (names own) (names inside) (names later) (names l) (name_at (paths_of files) x) (named_apart (paths_of files) f x once valid within missing) leads inside_named.0
-            (subst (λ fs. Visits bytes_eq (imports_at skips files) fs (names later) (names l)) (names_more (paths_of files) inside x) named.0),
+            (subst (λ fs. Visits bytes_eq (imports_at files) fs (names later) (names l)) (names_more (paths_of files) inside x) named.0),
         named.1,
       )
 
   -- what is imported is of the files
   pub within_count : (count : ℕ) → count ≡ length (paths_of files) → AreWithin count all
-  within_count count many = subst (λ n. AreWithin n all) (sym many) (each all (λ place own is. let (i, found, stand) = imports_of_place skips (paths_of files) all files place own at is in stand_valid (paths_of files) own (kept_paths skips i.imports) stand))
+  within_count count many = subst (λ n. AreWithin n all) (sym many) (each all (λ place own is. let (i, found, stand) = imports_of_place (paths_of files) all files place own at is in stand_valid (paths_of files) own i.imports stand))
     where
       each : (xs : List (List ℕ)) → ((place : ℕ) (own : List ℕ) → slice_get xs place ≡ Some own → AllValid (paths_of files) own) → AllByRecursion (AllValid (paths_of files)) xs
       each [] every = tt
       each (x ∷ xs) every = (every 0 x refl, each xs (λ place own is. every (suc place) own is))
 
   -- where imports go round, there is no post-order
-  pub no_ranks : ((r : ℕ → ℕ) → Falls r all → ⊥) → (listed : List Text) → IsPostOrder skips files listed → ⊥
+  pub no_ranks : ((r : ℕ → ℕ) → Falls r all → ⊥) → (listed : List Text) → IsPostOrder files listed → ⊥
   no_ranks none listed order =
       none (λ place. rank listed (name_at (paths_of files) place)) (λ place own is.
-      let (i, found, stand) = imports_of_place skips (paths_of files) all files place own at is in
+      let (i, found, stand) = imports_of_place (paths_of files) all files place own at is in
       let named = name_is (paths_of files) place i.path (paths_at files place i found) in
-      ranks_of own (kept_paths skips i.imports) place i.path stand named (behind_at skips files listed once order place i found))
+      ranks_of own i.imports place i.path stand named (behind_at files listed once order place i found))
     where
       ranks_of : (own : List ℕ) (these : List Text) (place : ℕ) (path : Text) → StandAt (paths_of files) own these → name_at (paths_of files) place ≡ path
           → AllByRecursion (λ y. Among listed y × (rank listed y < rank listed path)) these → AllByRecursion (λ p. rank listed (name_at (paths_of files) p) < rank listed (name_at (paths_of files) place)) own
@@ -271,9 +271,9 @@ module _ (skips : Bool) (files : List Importer) (all : List (List ℕ)) (once : 
           (omega (arith, low, left, right), ranks_of own these place path later named behind.1)
 
   -- the walk over places is one over paths
-  pub in_order : (count : ℕ) (listed : List ℕ) → count ≡ length (paths_of files) → Walks all [] (places_from 0 count) listed → IsPostOrder skips files (names listed)
+  pub in_order : (count : ℕ) (listed : List ℕ) → count ≡ length (paths_of files) → Walks all [] (places_from 0 count) listed → IsPostOrder files (names listed)
   in_order count listed many walk =
-      subst (λ ps. Visits bytes_eq (imports_at skips files) [] ps (names listed)) (ap (λ n. names (places_from 0 n)) many ∙ all_names (paths_of files))
+      subst (λ ps. Visits bytes_eq (imports_at files) [] ps (names listed)) (ap (λ n. names (places_from 0 n)) many ∙ all_names (paths_of files))
       (named_walk [] (places_from 0 count) listed walk tt).0
     where
       shifted : (x : Text) (paths : List Text) (start count : ℕ) → map (name_at (x ∷ paths)) (places_from (suc start) count) ≡ map (name_at paths) (places_from start count)
@@ -290,6 +290,6 @@ module _ (skips : Bool) (files : List Importer) (all : List (List ℕ)) (once : 
       subst (λ n. AllByRecursion (λ place. place < n) listed) (length-map files (λ (i : Importer). i.path)) (named_walk [] (places_from 0 count) listed walk tt).1
 
 -- an import that isn't there: there is no post-order
-pub none_missing : (skips : Bool) (files : List Importer) (place : ℕ) (i : Importer) → are_distinct (paths_of files) ≡ true → slice_get files place ≡ Some i
-    → list_all (λ y. list_any (bytes_eq y) (paths_of files)) (kept_paths skips i.imports) ≡ false → (listed : List Text) → IsPostOrder skips files listed → ⊥
-none_missing skips files place i once is missing listed order = false≢true (sym missing ∙ there_at skips files listed once order place i is)
+pub none_missing : (files : List Importer) (place : ℕ) (i : Importer) → are_distinct (paths_of files) ≡ true → slice_get files place ≡ Some i
+    → list_all (λ y. list_any (bytes_eq y) (paths_of files)) i.imports ≡ false → (listed : List Text) → IsPostOrder files listed → ⊥
+none_missing files place i once is missing listed order = false≢true (sym missing ∙ there_at files listed once order place i is)

@@ -37,6 +37,6 @@ all_lost test (x ∷ xs) (suc i) m h is here = and_false (test (message_of x)) (
 
 -- ---- names and imports, file by file
 
-pub paths_are : (ms : List Message) → paths_of (map importer_of ms) ≡ map (text_at 1) ms
-paths_are [] = refl
-paths_are (m ∷ ms) = ap (λ ps. text_at 1 m ∷ ps) (paths_are ms)
+pub paths_are : (skips : Bool) (ms : List Message) → paths_of (map (importer_of skips) ms) ≡ map (text_at 1) ms
+paths_are skips [] = refl
+paths_are skips (m ∷ ms) = ap (λ ps. text_at 1 m ∷ ps) (paths_are skips ms)

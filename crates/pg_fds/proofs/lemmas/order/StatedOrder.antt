@@ -23,29 +23,29 @@ use Rattle.pg_fds.proofs.lemmas.order.Ordering.{there}
 
 -- ---- paths
 
-pub paths_ordered : (skips : Bool) (files : List Importer) (paths : List Text) → are_distinct (paths_of files) ≡ true → list_all imports_once files ≡ true → IsPostOrder skips files paths
-    → paths_in_post_order skips files ≡ Some paths
-paths_ordered skips files paths once imports order =
-    ap (λ b. only_if b (visit (length files) (imports_at skips files) [] (paths_of files))) (and_both (are_distinct (paths_of files)) (list_all imports_once files) once imports)
-    ∙ subst (λ n. visit n (imports_at skips files) [] (paths_of files) ≡ Some paths) (length-map files (λ (i : Importer). i.path))
-    (lists_visit (imports_at skips files) (paths_of files) (is_file skips files) (paths_of files) paths order)
+pub paths_ordered : (files : List Importer) (paths : List Text) → are_distinct (paths_of files) ≡ true → list_all imports_once files ≡ true → IsPostOrder files paths
+    → paths_in_post_order files ≡ Some paths
+paths_ordered files paths once imports order =
+    ap (λ b. only_if b (visit (length files) (imports_at files) [] (paths_of files))) (and_both (are_distinct (paths_of files)) (list_all imports_once files) once imports)
+    ∙ subst (λ n. visit n (imports_at files) [] (paths_of files) ≡ Some paths) (length-map files (λ (i : Importer). i.path))
+    (lists_visit (imports_at files) (paths_of files) (is_file files) (paths_of files) paths order)
 
-pub no_paths : (skips : Bool) (files : List Importer) → HasNoOrder skips files → paths_in_post_order skips files ≡ None
-no_paths skips files (inl twice) = ap (λ b. only_if (b && list_all imports_once files) (visit (length files) (imports_at skips files) [] (paths_of files))) twice
-no_paths skips files (inr (inl twice)) =
-    ap (λ b. only_if (are_distinct (paths_of files) && b) (visit (length files) (imports_at skips files) [] (paths_of files))) twice
-    ∙ ap (λ b. only_if b (visit (length files) (imports_at skips files) [] (paths_of files))) (and_false_right (are_distinct (paths_of files)))
-no_paths skips files (inr (inr none)) =
-    ap (only_if (are_distinct (paths_of files) && list_all imports_once files)) (of (visit (length files) (imports_at skips files) [] (paths_of files)) refl)
+pub no_paths : (files : List Importer) → HasNoOrder files → paths_in_post_order files ≡ None
+no_paths files (inl twice) = ap (λ b. only_if (b && list_all imports_once files) (visit (length files) (imports_at files) [] (paths_of files))) twice
+no_paths files (inr (inl twice)) =
+    ap (λ b. only_if (are_distinct (paths_of files) && b) (visit (length files) (imports_at files) [] (paths_of files))) twice
+    ∙ ap (λ b. only_if b (visit (length files) (imports_at files) [] (paths_of files))) (and_false_right (are_distinct (paths_of files)))
+no_paths files (inr (inr none)) =
+    ap (only_if (are_distinct (paths_of files) && list_all imports_once files)) (of (visit (length files) (imports_at files) [] (paths_of files)) refl)
     ∙ still (are_distinct (paths_of files) && list_all imports_once files)
   where
     still : (b : Bool) → only_if {A = List Text} b None ≡ None
     still true = refl
     still false = refl
 
-    of : (o : Option (List Text)) → visit (length files) (imports_at skips files) [] (paths_of files) ≡ o → o ≡ None
+    of : (o : Option (List Text)) → visit (length files) (imports_at files) [] (paths_of files) ≡ o → o ≡ None
     of None e = refl
-    of (Some paths) e = absurd (none paths (visit_lists (imports_at skips files) (length files) [] (paths_of files) paths e))
+    of (Some paths) e = absurd (none paths (visit_lists (imports_at files) (length files) [] (paths_of files) paths e))
 
 -- ---- the files of these paths
 
@@ -92,17 +92,17 @@ files_named files (p ∷ places) once within =
 -- ---- the files in order
 
 -- files of which the names stand in post-order
-pub files_ordered : (skips : Bool) (files listed : List Message) → are_distinct (paths_of (map importer_of files)) ≡ true → list_all imports_once (map importer_of files) ≡ true
-    → IsPostOrder skips (map importer_of files) (map name listed) → AllByRecursion (IsFile files) listed → in_post_order skips files ≡ Some listed
+pub files_ordered : (skips : Bool) (files listed : List Message) → are_distinct (paths_of (map (importer_of skips) files)) ≡ true → list_all imports_once (map (importer_of skips) files) ≡ true
+    → IsPostOrder (map (importer_of skips) files) (map name listed) → AllByRecursion (IsFile files) listed → in_post_order skips files ≡ Some listed
 files_ordered skips files listed once imports order are =
-    ap (option_and_then (each (file_at files))) (paths_ordered skips (map importer_of files) (map name listed) once imports order) ∙ each_file files listed are
+    ap (option_and_then (each (file_at files))) (paths_ordered (map (importer_of skips) files) (map name listed) once imports order) ∙ each_file files listed are
 
 -- the files at places in post-order
-pub order_is : (skips : Bool) (files : List Message) (places : List ℕ) → AreOrdered skips (map importer_of files) places → in_post_order skips files ≡ Some (files_at files places)
+pub order_is : (skips : Bool) (files : List Message) (places : List ℕ) → AreOrdered (map (importer_of skips) files) places → in_post_order skips files ≡ Some (files_at files places)
 order_is skips files places ordered =
-    let named = files_named files places (subst (λ paths. are_distinct paths ≡ true) (paths_are files) ordered.once) (places_within skips files places ordered) in
+    let named = files_named files places (subst (λ paths. are_distinct paths ≡ true) (paths_are skips files) ordered.once) (places_within skips files places ordered) in
     files_ordered skips files (files_at files places) ordered.once ordered.imports
-    (subst (IsPostOrder skips (map importer_of files)) (ap (λ paths. map (name_at paths) places) (paths_are files) ∙ named.0) ordered.order) named.1
+    (subst (IsPostOrder (map (importer_of skips) files)) (ap (λ paths. map (name_at paths) places) (paths_are skips files) ∙ named.0) ordered.order) named.1
 
-pub no_order : (skips : Bool) (files : List Message) → HasNoOrder skips (map importer_of files) → in_post_order skips files ≡ None
-no_order skips files none = ap (option_and_then (each (file_at files))) (no_paths skips (map importer_of files) none)
+pub no_order : (skips : Bool) (files : List Message) → HasNoOrder (map (importer_of skips) files) → in_post_order skips files ≡ None
+no_order skips files none = ap (option_and_then (each (file_at files))) (no_paths (map (importer_of skips) files) none)

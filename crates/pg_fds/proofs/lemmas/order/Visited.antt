@@ -7,8 +7,8 @@ use Rattle.std.specs.List.{AllByRecursion, list_all, list_any}
 use Rattle.std.specs.Str.{bytes_eq}
 use Rattle.pg_schema.specs.rules.Pairs.{are_distinct, differ}
 use Rattle.pg_schema.proofs.lemmas.rules.PairLemmas.{and_both, and_left, and_right}
-use Rattle.pg_link.specs.walk.PostOrder.{Visits, all_visited, listed_last, passed_over}
-use Rattle.pg_fds.specs.stated.PostOrder.{Importer, IsPostOrder, imports_at, kept_paths, paths_of}
+use Rattle.pg_link.specs.PostOrder.{Visits, all_visited, listed_last, passed_over}
+use Rattle.pg_fds.specs.stated.PostOrder.{Importer, IsPostOrder, imports_at, paths_of}
 use Rattle.pg_fds.proofs.lemmas.lists.Marks.{any_more, all_weaker}
 use Rattle.pg_fds.proofs.lemmas.lists.Tests.{or_left, or_right}
 
@@ -153,17 +153,17 @@ found_by_path (j ∷ files) (suc place) i once is =
     (apart_at j.path files place i (and_left (list_all (differ j.path) (paths_of files)) (are_distinct (paths_of files)) once) is)
     ∙ found_by_path files place i (and_right (list_all (differ j.path) (paths_of files)) (are_distinct (paths_of files)) once) is
 
-pub imports_found : (skips : Bool) (files : List Importer) (place : ℕ) (i : Importer) → are_distinct (paths_of files) ≡ true → slice_get files place ≡ Some i
-    → imports_at skips files i.path ≡ Some (kept_paths skips i.imports)
-imports_found skips files place i once is = ap (option_map (λ (j : Importer). kept_paths skips j.imports)) (found_by_path files place i once is)
+pub imports_found : (files : List Importer) (place : ℕ) (i : Importer) → are_distinct (paths_of files) ≡ true → slice_get files place ≡ Some i
+    → imports_at files i.path ≡ Some i.imports
+imports_found files place i once is = ap (option_map (λ (j : Importer). j.imports)) (found_by_path files place i once is)
 
 -- a path that leads somewhere is one of the files
-pub is_file : (skips : Bool) (files : List Importer) (x : Text) (own : List Text) → imports_at skips files x ≡ Some own → Among (paths_of files) x
-is_file skips [] x own is = absurd (none-some own is)
-is_file skips (j ∷ files) x own is = of (bytes_eq j.path x) refl (is_file skips files x own) is
+pub is_file : (files : List Importer) (x : Text) (own : List Text) → imports_at files x ≡ Some own → Among (paths_of files) x
+is_file [] x own is = absurd (none-some own is)
+is_file (j ∷ files) x own is = of (bytes_eq j.path x) refl (is_file files x own) is
   where
-    of : (b : Bool) → bytes_eq j.path x ≡ b → (imports_at skips files x ≡ Some own → Among (paths_of files) x)
-        → option_map (λ (k : Importer). kept_paths skips k.imports) (cond b (Some j) (find (λ (k : Importer). bytes_eq k.path x) files)) ≡ Some own → Among (paths_of (j ∷ files)) x
+    of : (b : Bool) → bytes_eq j.path x ≡ b → (imports_at files x ≡ Some own → Among (paths_of files) x)
+        → option_map (λ (k : Importer). k.imports) (cond b (Some j) (find (λ (k : Importer). bytes_eq k.path x) files)) ≡ Some own → Among (paths_of (j ∷ files)) x
     of true same later h = ap (λ y. bytes_eq y j.path || list_any (bytes_eq y) (paths_of files)) (sym (same_bytes j.path x same)) ∙ or_left (bytes_eq j.path j.path) (list_any (bytes_eq j.path) (paths_of files)) (own_bytes j.path)
     of false other later h = or_right (bytes_eq x j.path) (list_any (bytes_eq x) (paths_of files)) (later h)
 
@@ -186,20 +186,20 @@ all_listed list (y ∷ ys) all x among = of (bytes_eq x y) refl (all_listed list
 
 -- ---- what a post-order says of each file
 
-module _ (skips : Bool) (files : List Importer) (listed : List Text) (once : are_distinct (paths_of files) ≡ true) (order : IsPostOrder skips files listed) where
+module _ (files : List Importer) (listed : List Text) (once : are_distinct (paths_of files) ≡ true) (order : IsPostOrder files listed) where
   -- each file stands behind those that it imports
   pub behind_at : (place : ℕ) (i : Importer) → slice_get files place ≡ Some i
-      → AllByRecursion (λ y. Among listed y × (rank listed y < rank listed i.path)) (kept_paths skips i.imports)
+      → AllByRecursion (λ y. Among listed y × (rank listed y < rank listed i.path)) i.imports
   behind_at place i is =
-      let there = all_listed listed (paths_of files) (visited_listed (imports_at skips files) [] (paths_of files) listed order) i.path (path_at files place i is) in
-      let (own, leads, behind) = all_behind (imports_at skips files) (paths_of files) listed order i.path there in
-      let same : own ≡ kept_paths skips i.imports = same_Some own (kept_paths skips i.imports) (sym leads ∙ imports_found skips files place i once is) in
+      let there = all_listed listed (paths_of files) (visited_listed (imports_at files) [] (paths_of files) listed order) i.path (path_at files place i is) in
+      let (own, leads, behind) = all_behind (imports_at files) (paths_of files) listed order i.path there in
+      let same : own ≡ i.imports = same_Some own i.imports (sym leads ∙ imports_found files place i once is) in
       subst (AllByRecursion (λ y. Among listed y × (rank listed y < rank listed i.path))) same behind
 
   -- what it imports is there
-  pub there_at : (place : ℕ) (i : Importer) → slice_get files place ≡ Some i → list_all (λ y. list_any (bytes_eq y) (paths_of files)) (kept_paths skips i.imports) ≡ true
+  pub there_at : (place : ℕ) (i : Importer) → slice_get files place ≡ Some i → list_all (λ y. list_any (bytes_eq y) (paths_of files)) i.imports ≡ true
   there_at place i is =
-      all_true (λ y. list_any (bytes_eq y) (paths_of files)) (kept_paths skips i.imports)
+      all_true (λ y. list_any (bytes_eq y) (paths_of files)) i.imports
       (all_weaker (λ y. Among listed y × (rank listed y < rank listed i.path)) (Among (paths_of files))
-      (λ y h. let (own, leads, behind) = all_behind (imports_at skips files) (paths_of files) listed order y h.0 in is_file skips files y own leads)
-      (kept_paths skips i.imports) (behind_at place i is))
+      (λ y h. let (own, leads, behind) = all_behind (imports_at files) (paths_of files) listed order y h.0 in is_file files y own leads)
+      i.imports (behind_at place i is))

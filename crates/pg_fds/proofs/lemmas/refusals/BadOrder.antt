@@ -172,10 +172,10 @@ no_more (x ∷ xs) zs once all =
 
 module _ (skips : Bool) (files : List Message) where
   abbrev importers : List Importer
-  importers = map importer_of files
+  importers = map (importer_of skips) files
 
   abbrev leads_on : Text → Option (List Text)
-  leads_on = imports_at skips importers
+  leads_on = imports_at importers
 
   abbrev names : List Text
   names = map (text_at proto.FILE_NAME) files
@@ -193,20 +193,20 @@ module _ (skips : Bool) (files : List Message) where
           of false e h later = ap (λ b. b || is_among (map (text_at proto.FILE_NAME) ms) x) (bytes_eq-sym x (text_at proto.FILE_NAME m) ∙ e) ∙ later h
 
   leads_nowhere : (x : Text) → leads_on x ≡ None → is_among names x ≡ false
-  leads_nowhere x h = none files (map_none (λ (i : Importer). kept_paths skips i.imports) (find (λ (i : Importer). bytes_eq i.path x) importers) h)
+  leads_nowhere x h = none files (map_none (λ (i : Importer). i.imports) (find (λ (i : Importer). bytes_eq i.path x) importers) h)
     where
-      none : (ms : List Message) → find (λ (i : Importer). bytes_eq i.path x) (map importer_of ms) ≡ None → is_among (map (text_at proto.FILE_NAME) ms) x ≡ false
+      none : (ms : List Message) → find (λ (i : Importer). bytes_eq i.path x) (map (importer_of skips) ms) ≡ None → is_among (map (text_at proto.FILE_NAME) ms) x ≡ false
       none [] h = refl
       none (m ∷ ms) h = of (bytes_eq (text_at proto.FILE_NAME m) x) refl h (none ms)
         where
-          of : (b : Bool) → bytes_eq (text_at proto.FILE_NAME m) x ≡ b → cond b (Some (importer_of m)) (find (λ (i : Importer). bytes_eq i.path x) (map importer_of ms)) ≡ None
-              → (find (λ (i : Importer). bytes_eq i.path x) (map importer_of ms) ≡ None → is_among (map (text_at proto.FILE_NAME) ms) x ≡ false)
+          of : (b : Bool) → bytes_eq (text_at proto.FILE_NAME m) x ≡ b → cond b (Some (importer_of skips m)) (find (λ (i : Importer). bytes_eq i.path x) (map (importer_of skips) ms)) ≡ None
+              → (find (λ (i : Importer). bytes_eq i.path x) (map (importer_of skips) ms) ≡ None → is_among (map (text_at proto.FILE_NAME) ms) x ≡ false)
               → (bytes_eq x (text_at proto.FILE_NAME m) || is_among (map (text_at proto.FILE_NAME) ms) x) ≡ false
-          of true e h later = absurd (none-some (importer_of m) (sym h))
+          of true e h later = absurd (none-some (importer_of skips m) (sym h))
           of false e h later = ap (λ b. b || is_among (map (text_at proto.FILE_NAME) ms) x) (bytes_eq-sym x (text_at proto.FILE_NAME m) ∙ e) ∙ later h
 
   -- what holds of the imports of a path holds of those of some file
-  of_some_file : (P : List Text → Type 0) (x : Text) (own : List Text) → P own → (ms : List Message) → imports_at skips (map importer_of ms) x ≡ Some own
+  of_some_file : (P : List Text → Type 0) (x : Text) (own : List Text) → P own → (ms : List Message) → imports_at (map (importer_of skips) ms) x ≡ Some own
       → Any (λ m. P (kept_paths skips (texts_at proto.FILE_DEPENDENCY m))) ms
   of_some_file P x own p [] h = absurd (none-some own h)
   of_some_file P x own p (m ∷ ms) h = of (bytes_eq (text_at proto.FILE_NAME m) x) h (of_some_file P x own p ms)
@@ -214,13 +214,13 @@ module _ (skips : Bool) (files : List Message) where
       Q : Message → Type 0
       Q m = P (kept_paths skips (texts_at proto.FILE_DEPENDENCY m))
 
-      of : (b : Bool) → option_map (λ (i : Importer). kept_paths skips i.imports) (cond b (Some (importer_of m)) (find (λ (i : Importer). bytes_eq i.path x) (map importer_of ms))) ≡ Some own
-          → (imports_at skips (map importer_of ms) x ≡ Some own → Any Q ms) → Any Q (m ∷ ms)
+      of : (b : Bool) → option_map (λ (i : Importer). i.imports) (cond b (Some (importer_of skips m)) (find (λ (i : Importer). bytes_eq i.path x) (map (importer_of skips) ms))) ≡ Some own
+          → (imports_at (map (importer_of skips) ms) x ≡ Some own → Any Q ms) → Any Q (m ∷ ms)
       of true h later = any_here Q m ms (subst P (sym (same_Some (kept_paths skips (texts_at proto.FILE_DEPENDENCY m)) own h)) p)
       of false h later = any_there Q m ms (later h)
 
   there : (x : Text) → Among (paths_of importers) x → is_among names x ≡ true
-  there x among = subst (λ paths. is_among paths x ≡ true) (paths_are files) among
+  there x among = subst (λ paths. is_among paths x ≡ true) (paths_are skips files) among
 
   missing : Misses leads_on → IsBadReference skips files
   missing (x, own, is, none) =
@@ -240,7 +240,7 @@ module _ (skips : Bool) (files : List Message) where
           of : (b : Bool) → are_distinct (x ∷ ys) ≡ b → IsBadReference skips files
           of true once =
               let most = no_more (x ∷ ys) (paths_of importers) once
-              (all_weaker (λ y. (own : List Text) × (leads_on y ≡ Some own)) (Among (paths_of importers)) (λ y leads. is_file skips importers y leads.0 leads.1) (x ∷ ys) lead) in
+              (all_weaker (λ y. (own : List Text) × (leads_on y ≡ Some own)) (Among (paths_of importers)) (λ y leads. is_file importers y leads.0 leads.1) (x ∷ ys) lead) in
               let many = many_files in
               absurd (omega (arith, most, many, long))
           of false twice = let round = trail_round leads_on x ys trail twice in causes.imports_go_round round.0 round.1 round.2
@@ -253,20 +253,20 @@ module _ (skips : Bool) (files : List Message) where
       of_stop : Any (Stops leads_on (length importers)) (paths_of importers) → IsBadReference skips files
       of_stop (k, x, h, e, stops) = of_path x (list_any-from_Any (bytes_eq x) (paths_of importers) (k, x, h, e, own_bytes x)) (comes leads_on (length importers) x stops)
 
-  bad_paths : paths_in_post_order skips importers ≡ None → IsBadReference skips files
+  bad_paths : paths_in_post_order importers ≡ None → IsBadReference skips files
   bad_paths h =
       of (only_none (are_distinct (paths_of importers) && list_all imports_once importers) (visit (length importers) leads_on [] (paths_of importers)) h)
     where
       of_once : (are_distinct (paths_of importers) ≡ false) ⊎ (list_all imports_once importers ≡ false) → IsBadReference skips files
-      of_once (inl twice) = causes.path_twice (subst (λ paths. are_distinct paths ≡ false) (paths_are files) twice)
-      of_once (inr twice) = causes.import_twice (any_false (λ m. imports_once (importer_of m)) files (sym (list_all-map imports_once importer_of files) ∙ twice))
+      of_once (inl twice) = causes.path_twice (subst (λ paths. are_distinct paths ≡ false) (paths_are skips files) twice)
+      of_once (inr twice) = causes.import_twice (any_false (λ m. imports_once (importer_of skips m)) files (sym (list_all-map imports_once (importer_of skips) files) ∙ twice))
 
       of : ((are_distinct (paths_of importers) && list_all imports_once importers) ≡ false) ⊎ (visit (length importers) leads_on [] (paths_of importers) ≡ None) → IsBadReference skips files
       of (inl none) = of_once (and_none (are_distinct (paths_of importers)) (list_all imports_once importers) none)
       of (inr none) = bad_visit none
 
   -- what is in order are files
-  all_there : (paths : List Text) → paths_in_post_order skips importers ≡ Some paths → each (file_at files) paths ≡ None → IsBadReference skips files
+  all_there : (paths : List Text) → paths_in_post_order importers ≡ Some paths → each (file_at files) paths ≡ None → IsBadReference skips files
   all_there paths is h = of (each_none (file_at files) paths h)
     where
       visited : (b : Bool) → only_if b (visit (length importers) leads_on [] (paths_of importers)) ≡ Some paths → visit (length importers) leads_on [] (paths_of importers) ≡ Some paths
@@ -279,11 +279,11 @@ module _ (skips : Bool) (files : List Message) where
       of : Any (λ x. file_at files x ≡ None) paths → IsBadReference skips files
       of (k, x, h, e, none) =
           let (own, leads, behind) = all_behind leads_on (paths_of importers) paths listed x (list_any-from_Any (bytes_eq x) paths (k, x, h, e, own_bytes x)) in
-          absurd (false≢true (sym (not_there x none) ∙ there x (is_file skips importers x own leads)))
+          absurd (false≢true (sym (not_there x none) ∙ there x (is_file importers x own leads)))
 
   pub bad_order : in_post_order skips files ≡ None → IsBadReference skips files
-  bad_order h = of (then_none (each (file_at files)) (paths_in_post_order skips importers) h)
+  bad_order h = of (then_none (each (file_at files)) (paths_in_post_order importers) h)
     where
-      of : (paths_in_post_order skips importers ≡ None) ⊎ ((paths : List Text) × (paths_in_post_order skips importers ≡ Some paths) × (each (file_at files) paths ≡ None)) → IsBadReference skips files
+      of : (paths_in_post_order importers ≡ None) ⊎ ((paths : List Text) × (paths_in_post_order importers ≡ Some paths) × (each (file_at files) paths ≡ None)) → IsBadReference skips files
       of (inl none) = bad_paths none
       of (inr (paths, is, none)) = all_there paths is none

@@ -61,16 +61,16 @@ module _ (leads : Text → Option (List Text)) where
 
 module _ (skips : Bool) (files : List Message) where
   abbrev importers : List Importer
-  importers = map importer_of files
+  importers = map (importer_of skips) files
 
   abbrev names : List Text
   names = map (text_at proto.FILE_NAME) files
 
   pub twice_none : are_distinct names ≡ false → in_post_order skips files ≡ None
-  twice_none h = no_order skips files (inl (subst (λ paths. are_distinct paths ≡ false) (sym (paths_are files)) h))
+  twice_none h = no_order skips files (inl (subst (λ paths. are_distinct paths ≡ false) (sym (paths_are skips files)) h))
 
-  pub import_twice_none : Any (λ m. are_distinct (texts_at proto.FILE_DEPENDENCY m) ≡ false) files → in_post_order skips files ≡ None
-  import_twice_none any = no_order skips files (inr (inl (list_all-map imports_once importer_of files ∙ false_any (λ m. imports_once (importer_of m)) files any)))
+  pub import_twice_none : Any (λ m. are_distinct (kept_paths skips (texts_at proto.FILE_DEPENDENCY m)) ≡ false) files → in_post_order skips files ≡ None
+  import_twice_none any = no_order skips files (inr (inl (list_all-map imports_once (importer_of skips) files ∙ false_any (λ m. imports_once (importer_of skips m)) files any)))
 
   -- where paths stand once
   or_twice : (are_distinct names ≡ true → in_post_order skips files ≡ None) → in_post_order skips files ≡ None
@@ -88,16 +88,16 @@ module _ (skips : Bool) (files : List Message) where
       (inr (inr (λ listed order.
       false≢true
       (sym (false_any (is_among names) (kept_paths skips (texts_at proto.FILE_DEPENDENCY m)) missing)
-      ∙ subst (λ paths. list_all (is_among paths) (kept_paths skips (texts_at proto.FILE_DEPENDENCY m)) ≡ true) (paths_are files)
-      (there_at skips importers listed (subst (λ paths. are_distinct paths ≡ true) (sym (paths_are files)) once) order k (importer_of m)
-      (slice_get-map importer_of files k ∙ ap (option_map importer_of) (stands_at files k m h e))))))))
+      ∙ subst (λ paths. list_all (is_among paths) (kept_paths skips (texts_at proto.FILE_DEPENDENCY m)) ≡ true) (paths_are skips files)
+      (there_at importers listed (subst (λ paths. are_distinct paths ≡ true) (sym (paths_are skips files)) once) order k (importer_of skips m)
+      (slice_get-map (importer_of skips) files k ∙ ap (option_map (importer_of skips)) (stands_at files k m h e))))))))
 
-  pub round_none : (path : Text) (between : Paths) → IsTrail (imports_at skips importers) path (between ++ path ∷ []) → in_post_order skips files ≡ None
+  pub round_none : (path : Text) (between : Paths) → IsTrail (imports_at importers) path (between ++ path ∷ []) → in_post_order skips files ≡ None
   round_none path between trail = no_order skips files (inr (inr (λ listed order. falls listed order)))
     where
-      falls : (listed : List Text) → IsPostOrder skips importers listed → ⊥
+      falls : (listed : List Text) → IsPostOrder importers listed → ⊥
       falls listed order =
-          let leads = begins (imports_at skips importers) path between path trail in
-          let among = all_listed listed (paths_of importers) (visited_listed (imports_at skips importers) [] (paths_of importers) listed order) path (is_file skips importers path leads.0 leads.1) in
-          let less = trail_falls (imports_at skips importers) listed (all_behind (imports_at skips importers) (paths_of importers) listed order) path between path among trail in
+          let leads = begins (imports_at importers) path between path trail in
+          let among = all_listed listed (paths_of importers) (visited_listed (imports_at importers) [] (paths_of importers) listed order) path (is_file importers path leads.0 leads.1) in
+          let less = trail_falls (imports_at importers) listed (all_behind (imports_at importers) (paths_of importers) listed order) path between path among trail in
           absurd (omega (arith, less))

@@ -15,6 +15,7 @@ use Rattle.pg_check.specs.standing.Imports.{AreBehind, file_name, imports_among,
 use Rattle.pg_fds.specs.writing.Places.{Declared}
 use Rattle.pg_link.specs.walk.PostOrder.{Visits, all_visited, listed_last, passed_over}
 use Rattle.pg_fds.specs.stated.PostOrder.{Importer, IsPostOrder, importer_of, imports_at, imports_once, kept_paths, paths_of}
+use Rattle.pg_fds.specs.stated.Said.{texts_at}
 use Rattle.pg_fds.specs.stated.StatedOrder.{in_post_order}
 use Rattle.pg_fds.proofs.lemmas.order.StatedOrder.{IsFile, file_named, files_ordered, name}
 use Rattle.pg_fds.proofs.lemmas.order.Visited.{imports_found}
@@ -80,7 +81,7 @@ there (x ∷ front) f files = there front f files
 
 module _ (all : List File) (behind : AreBehind [] all) where
   abbrev leads : List ℕ → Option (List (List ℕ))
-  leads = imports_at false (map file_importer all)
+  leads = imports_at (map file_importer all)
 
   abbrev Lists : (front visited listed : List (List ℕ)) → Type 0
   Lists front visited listed = Visits bytes_eq leads front visited listed
@@ -94,9 +95,8 @@ module _ (all : List File) (behind : AreBehind [] all) where
 
   leads_at : (front : List File) (f : File) (files : List File) → front ++ f ∷ files ≡ all → leads (file_name f) ≡ Some (map import_path f.imports.items)
   leads_at front f files whole =
-      imports_found false (map file_importer all) (length front) (file_importer f) (ap are_distinct (paths_are all) ∙ files_distinct [] all behind)
+      imports_found (map file_importer all) (length front) (file_importer f) (ap are_distinct (paths_are all) ∙ files_distinct [] all behind)
       (subst (λ xs. slice_get (map file_importer xs) (length front) ≡ Some (file_importer f)) whole (there front f files))
-      ∙ ap (λ ps. Some ps) (all_kept (map import_path f.imports.items))
 
   visited : (front files : List File) → front ++ files ≡ all → AreBehind (map file_name front) files → Lists (map file_name front) (map file_name files) (map file_name all)
   visited front [] whole later = subst (λ ns. Lists (map file_name front) [] ns) (ap (map file_name) (sym (none_behind front) ∙ whole)) (all_visited (map file_name front))
@@ -106,7 +106,7 @@ module _ (all : List File) (behind : AreBehind [] all) where
       (subst (λ ns. Lists ns (map file_name files) (map file_name all)) (names_more front f)
       (visited (front ++ f ∷ []) files (moved front f files ∙ whole) (subst (λ ns. AreBehind ns files) (sym (names_more front f)) later.2)))
 
-  in_order : IsPostOrder false (map file_importer all) (map file_name all)
+  in_order : IsPostOrder (map file_importer all) (map file_name all)
   in_order = subst (λ ps. Lists [] ps (map file_name all)) (sym (paths_are all)) (visited [] all refl behind)
 
 -- ---- what is written of them
@@ -114,9 +114,9 @@ module _ (all : List File) (behind : AreBehind [] all) where
 abbrev with_imports : List ℕ → List (List ℕ) → Importer
 with_imports path imports = record { path = path; imports = imports }
 
-importers_are : (all : Declared) (fs : List File) → map importer_of (map (file_written all) fs) ≡ map file_importer fs
+importers_are : (all : Declared) (fs : List File) → map (importer_of false) (map (file_written all) fs) ≡ map file_importer fs
 importers_are all [] = refl
-importers_are all (f ∷ fs) = ap₂ (λ i is. i ∷ is) (ap₂ with_imports (file_called all f) (file_imports all f)) (importers_are all fs)
+importers_are all (f ∷ fs) = ap₂ (λ i is. i ∷ is) (ap₂ with_imports (file_called all f) (all_kept (texts_at 3 (file_written all f)) ∙ file_imports all f)) (importers_are all fs)
 
 names_are : (all : Declared) (fs : List File) → map name (map (file_written all) fs) ≡ map file_name fs
 names_are all [] = refl
@@ -137,5 +137,5 @@ written_in_order all fs behind apart =
     let ms : List Message = map (file_written all) fs in
     let once : are_distinct (map file_name fs) ≡ true = files_distinct [] fs behind in
     files_ordered false ms ms (ap (λ is. are_distinct (paths_of is)) (importers_are all fs) ∙ (ap are_distinct (paths_are fs) ∙ once)) (ap (list_all imports_once) (importers_are all fs) ∙ each_imports_once fs apart)
-    (subst (λ is. IsPostOrder false is (map name ms)) (sym (importers_are all fs)) (subst (IsPostOrder false (map file_importer fs)) (sym (names_are all fs)) (in_order fs behind)))
+    (subst (λ is. IsPostOrder is (map name ms)) (sym (importers_are all fs)) (subst (IsPostOrder (map file_importer fs)) (sym (names_are all fs)) (in_order fs behind)))
     (each_at (IsFile ms) ms (λ i m at. file_named ms i m (ap are_distinct (names_are all fs) ∙ once) at))

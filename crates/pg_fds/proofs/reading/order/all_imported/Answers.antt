@@ -6,7 +6,7 @@ use Rattle.pg_schema.specs.rules.TextSets.{is_among}
 use Rattle.pg_fds.specs.declared.error.Unstated.TheVariants as errors
 use Rattle.pg_fds.specs.descriptor.Lent.{lent}
 use Rattle.pg_fds.specs.reading.FilePlaces.{importer, importers}
-use Rattle.pg_fds.specs.stated.PostOrder.{HasNoOrder, kept_paths, paths_of}
+use Rattle.pg_fds.specs.stated.PostOrder.{HasNoOrder, paths_of}
 use Rattle.pg_fds.proofs.lemmas.order.Ordering.{none_missing}
 use Rattle.pg_fds.proofs.lemmas.order.OrderSteps.{handed_on, importer_at, imports_twice}
 use Rattle.pg_fds.proofs.reading.order.all_imported.Goals as goal
@@ -15,7 +15,7 @@ pub returns-in_err-are_apart-clause-refused : goal.returns-in_err-are_apart-clau
 returns-in_err-are_apart-clause-refused c =
     let files = c.args.files.now in
     let (y, is, same) = err_from_is_err_and c.from_residual-in_err-are_apart.result c.from_residual-in_err-are_apart.ensures.1 in
-    handed_on c.from_residual-in_err-are_apart.result (λ e. (e ≡ errors.Memory) ⊎ HasNoOrder c.args.skips (importers files)) c.in_err-are_apart.field-0.0 y is same
+    handed_on c.from_residual-in_err-are_apart.result (λ e. (e ≡ errors.Memory) ⊎ HasNoOrder (importers files)) c.in_err-are_apart.field-0.0 y is same
     (elim c.in_err-are_apart.ensures.refused [
       | inl memory ↦ inl memory
       | inr twice ↦ inr (inr (inl (imports_twice files c.loop-file.file-index c.file-item.result c.loop-file-test.true c.file-item.is (subst (λ ps. are_distinct (lent ps) ≡ false) c.deref.ensures.value twice))))
@@ -25,11 +25,11 @@ pub returns-in_err-imported-clause-refused : goal.returns-in_err-imported-clause
 returns-in_err-imported-clause-refused c =
     let files = c.args.files.now in
     let (y, is, same) = err_from_is_err_and c.from_residual-in_err-imported.result c.from_residual-in_err-imported.ensures.1 in
-    handed_on c.from_residual-in_err-imported.result (λ e. (e ≡ errors.Memory) ⊎ HasNoOrder c.args.skips (importers files)) c.in_err-imported.field-0.0 y is same
+    handed_on c.from_residual-in_err-imported.result (λ e. (e ≡ errors.Memory) ⊎ HasNoOrder (importers files)) c.in_err-imported.field-0.0 y is same
     (elim c.in_err-imported.ensures.refused [
       | inl memory ↦ inl memory
-      | inr missing ↦ inr (inr (inr (none_missing c.args.skips (importers files) c.loop-file.file-index (importer c.file-item.result) c.in_ok-places.ensures.once
+      | inr missing ↦ inr (inr (inr (none_missing (importers files) c.loop-file.file-index (importer c.file-item.result) c.in_ok-places.ensures.once
           (importer_at files c.loop-file.file-index c.file-item.result c.loop-file-test.true c.file-item.is)
-          (subst (λ ps. list_all (is_among (paths_of (importers files))) (kept_paths c.args.skips (lent ps)) ≡ false) c.deref-in-loop-file.ensures.value
+          (subst (λ ps. list_all (is_among (paths_of (importers files))) (lent ps) ≡ false) c.deref-in-loop-file.ensures.value
           (missing (paths_of (importers files)) c.in_ok-places.ensures.index)))))
     ])

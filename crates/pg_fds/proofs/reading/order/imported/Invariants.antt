@@ -1,8 +1,7 @@
 use Rattle.std.proofs.Common.{ℕ, List, take}
 use Rattle.pg_fds.specs.descriptor.Lent.{lent}
 use Rattle.pg_fds.specs.reading.FilePlaces.{IsIndex, StandAt}
-use Rattle.pg_fds.specs.stated.PostOrder.{kept_paths}
 use Rattle.pg_fds.proofs.reading.order.imported.Given as goal
 
 abbrev pub invariant-loop-path : goal.invariant-loop-path
-invariant-loop-path l = (all : List (List ℕ)) → IsIndex all l.places → StandAt all l.imported.items (kept_paths l.skips (lent (take l.path-index l.paths)))
+invariant-loop-path l = (all : List (List ℕ)) → IsIndex all l.places → StandAt all l.imported.items (lent (take l.path-index l.paths))

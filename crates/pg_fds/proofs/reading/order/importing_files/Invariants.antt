@@ -5,4 +5,4 @@ use Rattle.pg_fds.specs.stated.PostOrder.{importer_of}
 use Rattle.pg_fds.proofs.reading.order.importing_files.Given as goal
 
 abbrev pub invariant-loop-file : goal.invariant-loop-file
-invariant-loop-file l = importers l.found.items ≡ map importer_of (map message_of (take l.file-index l.files))
+invariant-loop-file l = importers l.found.items ≡ map (importer_of l.skips) (map message_of (take l.file-index l.files))

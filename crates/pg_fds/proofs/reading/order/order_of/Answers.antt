@@ -12,28 +12,28 @@ pub post_order-requires : goal.post_order-requires
 post_order-requires c =
     let files = importers c.args.files.now in
     let imported = c.deref.result.now in
-    let at : ImportsAt c.args.skips files (lists_of imported) = subst (λ vs. ImportsAt c.args.skips files (lists_of vs)) (sym c.deref.ensures.value) c.in_ok-imported.ensures.ok in
-    within_count c.args.skips files (lists_of imported) c.in_ok-imported.ensures.once at (length imported) (sym (lists_long imported) ∙ as_many c.args.skips (paths_of files) (lists_of imported) files at)
+    let at : ImportsAt files (lists_of imported) = subst (λ vs. ImportsAt files (lists_of vs)) (sym c.deref.ensures.value) c.in_ok-imported.ensures.ok in
+    within_count files (lists_of imported) c.in_ok-imported.ensures.once at (length imported) (sym (lists_long imported) ∙ as_many (paths_of files) (lists_of imported) files at)
 
 pub returns-clause-ok : goal.returns-clause-ok
 returns-clause-ok c =
     let files = importers c.args.files.now in
     let imported = c.deref.result.now in
-    let at : ImportsAt c.args.skips files (lists_of imported) = subst (λ vs. ImportsAt c.args.skips files (lists_of vs)) (sym c.deref.ensures.value) c.in_ok-imported.ensures.ok in
-    let many : length imported ≡ length (paths_of files) = sym (lists_long imported) ∙ as_many c.args.skips (paths_of files) (lists_of imported) files at in
-    IfOk-weaker c.post_order.result _ (λ order. AreOrdered c.args.skips files order.items)
+    let at : ImportsAt files (lists_of imported) = subst (λ vs. ImportsAt files (lists_of vs)) (sym c.deref.ensures.value) c.in_ok-imported.ensures.ok in
+    let many : length imported ≡ length (paths_of files) = sym (lists_long imported) ∙ as_many (paths_of files) (lists_of imported) files at in
+    IfOk-weaker c.post_order.result _ (λ order. AreOrdered files order.items)
     (λ order walk. record {
       once = c.in_ok-imported.ensures.once;
       imports = c.in_ok-imported.ensures.imports_once;
-      order = in_order c.args.skips files (lists_of imported) c.in_ok-imported.ensures.once at (length imported) order.items many walk;
-      within = of_files c.args.skips files (lists_of imported) c.in_ok-imported.ensures.once at (length imported) order.items walk;
+      order = in_order files (lists_of imported) c.in_ok-imported.ensures.once at (length imported) order.items many walk;
+      within = of_files files (lists_of imported) c.in_ok-imported.ensures.once at (length imported) order.items walk;
     }) c.post_order.ensures.ok
 
 pub returns-clause-refused : goal.returns-clause-refused
 returns-clause-refused c =
     let files = importers c.args.files.now in
     let imported = c.deref.result.now in
-    let at : ImportsAt c.args.skips files (lists_of imported) = subst (λ vs. ImportsAt c.args.skips files (lists_of vs)) (sym c.deref.ensures.value) c.in_ok-imported.ensures.ok in
-    IfErr-weaker c.post_order.result (λ e. (e ≡ errors.Memory) ⊎ ((rank : ℕ → ℕ) → Falls rank (lists_of imported) → ⊥)) (λ e. (e ≡ errors.Memory) ⊎ HasNoOrder c.args.skips files)
-    (λ e h. elim h [ inl memory ↦ inl memory | inr round ↦ inr (inr (inr (no_ranks c.args.skips files (lists_of imported) c.in_ok-imported.ensures.once at round))) ])
+    let at : ImportsAt files (lists_of imported) = subst (λ vs. ImportsAt files (lists_of vs)) (sym c.deref.ensures.value) c.in_ok-imported.ensures.ok in
+    IfErr-weaker c.post_order.result (λ e. (e ≡ errors.Memory) ⊎ ((rank : ℕ → ℕ) → Falls rank (lists_of imported) → ⊥)) (λ e. (e ≡ errors.Memory) ⊎ HasNoOrder files)
+    (λ e h. elim h [ inl memory ↦ inl memory | inr round ↦ inr (inr (inr (no_ranks files (lists_of imported) c.in_ok-imported.ensures.once at round))) ])
     c.post_order.ensures.refused
