@@ -1,3 +1,4 @@
 pub mod Again
 pub mod ReadAgain
 pub mod TextOrder
+pub mod SetOrder

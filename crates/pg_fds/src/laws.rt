@@ -10,6 +10,7 @@ ghost use Rattle.pg_fds.specs.examples.Pieces.{WorkedPieces};
 ghost use Rattle.pg_fds.specs.examples.PlaceExamples.{WorkedPlaces};
 ghost use Rattle.pg_fds.specs.examples.ReadExamples.{OneFieldRead};
 ghost use Rattle.pg_fds.specs.examples.StatedExamples.{WorkedStated};
+ghost use Rattle.pg_fds.specs.again.SetOrder.{SetsAreReadAgain};
 ghost use Rattle.pg_fds.specs.again.TextOrder.{TextsAreReadAgain};
 ghost use Rattle.pg_fds.specs.stated.SetNames.{NamesApart};
 
@@ -29,6 +30,12 @@ pub fn texts_are_read_again()
     // So stand the parts of linked files that keep to the rules.
     linked_parts_stand();
 }
+
+/// A schema that a descriptor set states is one whose own set is read as that schema, where message
+/// types are nested at most 64 deep. So `read` of what `write` writes of it gives it again.
+pub fn sets_are_read_again()
+    ensures { SetsAreReadAgain }
+{}
 
 /// The bytes of the sets of two small files.
 pub fn worked_sets()

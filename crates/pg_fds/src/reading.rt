@@ -28,6 +28,7 @@ ghost use Rattle.pg_dyn.specs.reading.Refusals.{MayRefuse};
 ghost use Rattle.pg_dyn.specs.message.Kept.{message_of};
 ghost use Rattle.pg_check.specs.standing.Places.{most_deep};
 ghost use Rattle.pg_fds.specs.declared.error.Unstated.TheVariants.{Memory};
+ghost use Rattle.pg_fds.specs.again.Again.{IsReadable};
 ghost use Rattle.pg_fds.specs.writing.Building.{written_shape};
 ghost use Rattle.pg_fds.specs.descriptor.Descriptor.{file_set};
 ghost use Rattle.pg_fds.specs.refusals.TooDeep.{IsNotTooDeep};
@@ -230,7 +231,8 @@ fn bytes_schema(alloc: Global, bytes: &[u8]) -> Result<Schema, FdsError>
 /// state breaks. A file `google/protobuf/descriptor.proto` that isn't proto3 is left out, as are
 /// imports of it. `Memory` may come in place of any. The others, but for messages nested too deep,
 /// come only where the bytes state no schema. The schema that is answered is the one that they
-/// state.
+/// state, and one whose own set states it again: so `read_again` gives it back where message types
+/// are nested at most 64 deep.
 pub fn read(alloc: Global, bytes: &[u8]) -> Result<Schema, FdsError>
     ensures ok { IfOk result (λ schema. fds_reads bytes.now schema) }
     ensures sound { IfOk result IsSound }
@@ -238,6 +240,7 @@ pub fn read(alloc: Global, bytes: &[u8]) -> Result<Schema, FdsError>
     ensures refused { IfErr result (MayRefuseSet bytes.now) }
     ensures same { IfOk result (λ schema. (parts : StatedParts) → fds_reads bytes.now parts
         → parts_view schema ≡ parts_view parts) }
+    ensures readable { IfOk result IsReadable }
     ensures none_stated { IfErr result (NoneIsStated bytes.now) }
 {
     // Bytes that have a fault have no reading.

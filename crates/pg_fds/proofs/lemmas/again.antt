@@ -1,1 +1,4 @@
 pub mod ReadAgain
+pub mod ListedFiles
+pub mod StatedPlaces
+pub mod StatedSets

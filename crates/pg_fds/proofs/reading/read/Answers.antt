@@ -1,9 +1,11 @@
 use Rattle.std.proofs.Common.{◌≡◌}
 use Rattle.std.proofs.lemmas.Result.{IfErr-weaker, IfOk-weaker}
 use Rattle.pg_schema.specs.declared.parts.Parts.{Parts}
+use Rattle.pg_fds.specs.again.Again.{IsReadable}
 use Rattle.pg_fds.specs.stated.Reads.{fds_reads}
 use Rattle.pg_fds.specs.refusals.Refused.{MayRefuseSet, NoneIsStated}
 use Rattle.pg_fds.specs.stated.Views.{parts_view}
+use Rattle.pg_fds.proofs.lemmas.again.StatedSets.{reads_readable}
 use Rattle.pg_fds.proofs.lemmas.refusals.NoneStated.{none_stated}
 use Rattle.pg_fds.proofs.lemmas.reading.ReadLaws.{read_once}
 use Rattle.pg_fds.proofs.reading.read.Goals as goal
@@ -19,5 +21,6 @@ returns c =
       refused = c.bytes_schema.ensures.refused;
       same = IfOk-weaker r (λ made. fds_reads bytes made) (λ made. (parts : Parts) → fds_reads bytes parts → parts_view made ≡ parts_view parts)
           (λ made reads parts theirs. read_once bytes made parts reads theirs) c.bytes_schema.ensures.ok;
+      readable = IfOk-weaker r (λ made. fds_reads bytes made) IsReadable (λ made reads. reads_readable bytes made reads) c.bytes_schema.ensures.ok;
       none_stated = IfErr-weaker r (MayRefuseSet bytes) (NoneIsStated bytes) (none_stated c.faults_are_real.ensures bytes) c.bytes_schema.ensures.refused;
     }
