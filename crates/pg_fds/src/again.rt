@@ -13,7 +13,7 @@ use pg_schema::Schema;
 use std::alloc::Global;
 
 /// The schema that `read` makes of what `write` writes. Where each file imports no path twice and
-/// stands behind those that it imports, message types are nested at most 64 deep, and all is
+/// comes after those that it imports, message types are nested at most 64 deep, and all is
 /// numbered as `read` numbers it, it is the schema that is written, and the errors are `Memory`,
 /// and `Bytes` of `TooLong`, only where the schema has no set.
 ///

@@ -314,7 +314,7 @@ const TYPES: [TypeRow<'static>; 18] = [
     ),
 ];
 
-// The message types that stand in no other.
+// The message types that are in no other.
 const OUTERMOST: [u32; 16] = [0, 1, 2, 4, 5, 6, 8, 9, 10, 11, 12, 13, 14, 15, 16, 17];
 
 // The values of 0 aren't descriptor.proto's: each enum of a schema has one.

@@ -20,12 +20,13 @@ pub enum FdsError {
     /// E703: a field has no type, or a code of a type or a label that isn't taken.
     #[error("A field of the set has an unsupported type or label.")]
     BadType,
-    /// E704: an import or a name isn't in the set, stands twice or is of another kind, imports form
+    /// E704: an import or a name isn't in the set, occurs twice or is of another kind, imports form
     /// a cycle, an index is out of range, an `optional` field or an entry type isn't in its form,
     /// or an entry type isn't that of just one field.
     #[error("The set has an invalid reference.")]
     BadReference,
-    /// E705: what the set declares breaks a rule of the language, by the rule's error at no place.
+    /// E705: what the set declares breaks a rule of the language, by the rule's error without a
+    /// position.
     #[error(transparent)]
     Rule(CheckError),
 }
@@ -34,7 +35,7 @@ impl FdsError {
     ghost use Rattle.std.specs.Prelude.{◌≡◌};
     ghost use Rattle.pg_fds.specs.refusals.ErrorCodes.{code_of, place_of};
 
-    /// The number behind the E by which users know the error: of the bytes of a set, and of a rule
+    /// The number after the E by which users know the error: of the bytes of a set, and of a rule
     /// that it breaks, the one that says what is wrong there.
     pub fn code(&self) -> u16
         ensures { result ≡ code_of self.now }
@@ -91,7 +92,7 @@ impl From<AllocError> for FdsError {
 pub(crate) enum Unstated {
     /// Memory was refused.
     Memory,
-    /// A name, a place or a form isn't what it has to be.
+    /// A name, an index or a form isn't what it has to be.
     Reference,
 }
 

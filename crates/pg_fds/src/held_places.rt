@@ -1,4 +1,4 @@
-//! That 32 bits hold the places of a schema's enums and services, as its parts keep them.
+//! That 32 bits hold the indices of a schema's enums and services, as its parts keep them.
 
 ghost use Rattle.std.specs.Prelude.{◌<◌, ◌^◌};
 ghost use Rattle.std.specs.List.{AllByRecursion};
@@ -7,14 +7,14 @@ ghost use Rattle.pg_fds.specs.writing.Small.{HasLowEnums, HasLowPlaces, IsLowEnu
 
 use pg_schema::{EnumId, File, MessageType, Schema, ServiceId};
 
-// 32 bits hold a place: each is looked at, as the proof asks for it.
+// 32 bits hold an index: each is looked at, as the proof asks for it.
 fn see_place(place: u32)
     ensures { place < 2 ^ 32 }
 {
     let _seen = place;
 }
 
-// 32 bits hold the place of each enum.
+// 32 bits hold the index of each enum.
 fn see_enums(ids: &[EnumId])
     ensures { AllByRecursion IsLowEnum ids.now }
 {
@@ -23,7 +23,7 @@ fn see_enums(ids: &[EnumId])
     }
 }
 
-// 32 bits hold the place of each service.
+// 32 bits hold the index of each service.
 fn see_services(ids: &[ServiceId])
     ensures { AllByRecursion IsLowService ids.now }
 {
@@ -32,7 +32,7 @@ fn see_services(ids: &[ServiceId])
     }
 }
 
-// 32 bits hold the places of what each file declares.
+// 32 bits hold the indices of what each file declares.
 fn see_files(files: &[File])
     ensures { AllByRecursion HasLowPlaces files.now }
 {
@@ -42,7 +42,7 @@ fn see_files(files: &[File])
     }
 }
 
-// 32 bits hold the places of the enums in each message type.
+// 32 bits hold the indices of the enums in each message type.
 fn see_types(types: &[MessageType])
     ensures { AllByRecursion HasLowEnums types.now }
 {

@@ -22,12 +22,12 @@ pub fn descriptor_rules()
 {}
 
 /// A schema that linked files declare is one whose set is read as that schema: each file imports no
-/// path twice and stands behind those that it imports, message types are nested at most 64 deep,
+/// path twice and comes after those that it imports, message types are nested at most 64 deep,
 /// and message types, enums and services are numbered as a set states them.
 pub fn texts_are_read_again()
     ensures { TextsAreReadAgain }
 {
-    // So stand the parts of linked files that keep to the rules.
+    // So are the parts of linked files that keep to the rules.
     linked_parts_stand();
 }
 
@@ -52,7 +52,7 @@ pub fn worked_reads()
     ensures { OneFieldRead }
 {}
 
-/// Places by small examples: those of nested message types and their enums, of an enum behind them,
+/// Indices by small examples: those of nested message types and their enums, of an enum after them,
 /// and of a file with one message type, whose set is read as the same schema.
 pub fn worked_places()
     ensures { WorkedPlaces }
@@ -64,19 +64,19 @@ pub fn worked_stated()
     ensures { WorkedStated }
 {}
 
-/// The order of files by small examples: each file behind its imports, and no order where one is
-/// missing, a path or an import stands twice, or imports form a cycle.
+/// The order of files by small examples: each file after its imports, and no order where one is
+/// missing, a path or an import occurs twice, or imports form a cycle.
 pub fn worked_orders()
     ensures { WorkedOrders }
 {}
 
-/// A qualified name is that of just one name in one scope, whatever text the names on the way are.
+/// A qualified name is that of just one name in one scope, whatever the names on the way are.
 pub fn names_apart()
     ensures { NamesApart }
 {}
 
 /// Names by small examples: the parts of a package, what names of nested types and enums mean, and
-/// which files may stand in one set, also where a name is empty or has a dot.
+/// which files may be in one set, also where a name is empty or has a dot.
 pub fn worked_names()
     ensures { WorkedNames }
 {}

@@ -7,7 +7,7 @@ ghost use Rattle.pg_fds.specs.writing.Messages.{own_name};
 
 use std::alloc::{AllocError, Global};
 
-/// What stands behind the last dot of a full name.
+/// What comes after the last dot of a full name.
 pub(crate) fn own_name(name: &str) -> &str
     ensures { result.now ≡ own_name name.now }
 {
@@ -24,7 +24,7 @@ pub(crate) fn dotted(alloc: Global, name: &str) -> Result<String, AllocError>
     dotted_with_room(alloc, name, name.len().saturating_add(1))
 }
 
-// The same in a text that has room for so many bytes.
+// A full name with a dot in front, in a string that has room for so many bytes.
 fn dotted_with_room(alloc: Global, name: &str, room: usize) -> Result<String, AllocError>
     ensures { IfOk result (λ full. string_bytes full ≡ 46 ∷ name.now) }
 {

@@ -217,7 +217,7 @@ fn bytes_schema(alloc: Global, bytes: &[u8]) -> Result<Schema, FdsError>
 }
 
 /// The schema that the bytes of a descriptor set state (descriptor.proto; docs/PROOFS.md,
-/// "Descriptor sets"). Files may come in any order; those of the schema stand in post-order of
+/// "Descriptor sets"). Files may come in any order; those of the schema are in post-order of
 /// imports, begun at the set's in their order. File after file, message types and services are
 /// numbered in order of declaration, a message type before those inside it, and enums scope by
 /// scope, those of the package before those of each message type.
@@ -225,7 +225,7 @@ fn bytes_schema(alloc: Global, bytes: &[u8]) -> Result<Schema, FdsError>
 /// The errors, over the whole set and in this order: `Bytes` where the codec refuses the bytes,
 /// with messages nested at most 100 deep; `NotProto3` where a file isn't proto3; `BadType` where a
 /// field has a type or a label that isn't taken, or no type; `BadReference` where the files state
-/// nothing, since an import or a name isn't there, stands twice or is of another kind, imports form
+/// nothing, since an import or a name isn't there, occurs twice or is of another kind, imports form
 /// a cycle, an index is out of range, an `optional` field or an entry type isn't in its form, or an
 /// entry type isn't that of just one field; `Rule` with the error of the first rule that what they
 /// state breaks. A file `google/protobuf/descriptor.proto` that isn't proto3 is left out, as are

@@ -39,7 +39,7 @@ use std::alloc::{AllocError, Global};
 // An int32 counts up to this.
 const MAX_COUNT: usize = 2147483647;
 
-// The places of each file's imports are those of an int32.
+// The indices of each file's imports are those of an int32.
 fn have_counted_imports(files: &[File]) -> bool
     ensures { result ≡ list_all has_counted_imports files.now }
 {
@@ -51,7 +51,7 @@ fn have_counted_imports(files: &[File]) -> bool
     true
 }
 
-// The places of imports are those of an int32. Where they aren't, the set is too long: an import
+// The indices of imports are those of an int32. Where they aren't, the set is too long: an import
 // takes two bytes at least.
 #[tactic(auto, using(crate::proofs::lemmas::writing::LongSets::set_too_long))]
 fn are_counted(parts: &Parts) -> bool
@@ -77,10 +77,10 @@ fn set(alloc: Global, source: &Schema) -> Result<Vec<u8>, AllocError>
 
 /// The bytes of the schema's descriptor set: a `FileDescriptorSet` of its files, in their order
 /// (descriptor.proto; docs/PROOFS.md, "Descriptor sets"). They are those of the definition, and at
-/// most 2,147,483,647. They state the schema, as `read` asks it of a set, where each file stands
-/// behind those that it imports, no path twice, messages are nested at most 100 deep, and all is
-/// numbered as `read` numbers it. Where messages are nested at most 64 deep, no message of the set
-/// stands deeper than `read` takes.
+/// most 2,147,483,647. They state the schema, as `read` asks it of a set, where each file
+/// comes after those that it imports, no path twice, messages are nested at most 100 deep, and all
+/// is numbered as `read` numbers it. Where messages are nested at most 64 deep, no message of the
+/// set is deeper than `read` takes.
 ///
 /// The errors are `Memory`, and `Bytes` of `TooLong`: only where the set would have more than
 /// 2,147,483,647 bytes.

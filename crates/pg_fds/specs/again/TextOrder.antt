@@ -1,4 +1,4 @@
--- Schemas of texts, whose sets are read as the same schemas.
+-- Schemas of source files, whose sets are read as the same schemas.
 use Rattle.pg_schema.specs.declared.parts.Parts.{Parts}
 use Rattle.pg_link.specs.Linked.{IsLinkedUp, LinkedFiles}
 use Rattle.pg_check.specs.Declares.{Declares}

@@ -10,7 +10,7 @@ use Rattle.pg_schema.specs.declared.parts.field.Scalar.TheVariants as scalars
 use Rattle.pg_schema.specs.Shape.{FieldShape, Shape}
 use Rattle.pg_fds.specs.declared.descriptor.proto.TheConstants as proto
 
--- ---- the places of the message types and enums
+-- ---- the indices of the message types and enums
 
 abbrev pub type_id : ℕ → TypeId
 type_id place = record { index = place }

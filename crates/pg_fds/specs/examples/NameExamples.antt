@@ -1,4 +1,4 @@
--- What names of small files mean, and which files' declarations may stand in one table: names that stand twice are asked scope by scope.
+-- What names of small files mean, and which files' declarations may be in one table: names that occur twice are asked scope by scope.
 use Rattle.std.specs.Prelude.{◌≡◌, ℕ, true, false, List, [], ◌∷◌, ◌++◌, codes, flat_map, Some, None, is_some}
 use Rattle.pg_dyn.specs.message.Message.{Bytes, Message, ends, holds, nests}
 use Rattle.pg_fds.specs.stated.Declarations.{package_parts}

@@ -1,4 +1,4 @@
--- Places in order of declaration, by small examples.
+-- Indices in order of declaration, by small examples.
 use Rattle.std.specs.Prelude.{◌≡◌, ℕ, [], ◌∷◌, flat_map}
 use Rattle.pg_schema.specs.declared.parts.field.EnumId.{EnumId}
 use Rattle.pg_schema.specs.declared.parts.field.Field.{Field}
@@ -16,7 +16,7 @@ type_id place = record { index = place }
 abbrev pub enum_id : ℕ → EnumId
 enum_id place = record { index = place }
 
--- a message type with another inside it, and one behind them
+-- a message type with another inside it, and one after them
 pub record AreNested (outer inner last : MessageType) : Type 0 where
   pub outside : outer.nested_types.items ≡ type_id 1 ∷ []
   pub inside : inner.nested_types.items ≡ []
@@ -43,7 +43,7 @@ OneFieldAgain =
     (parts : Parts) (file : File) (t : MessageType) (a : Field) → AreParts parts file t → IsMessage t (a ∷ []) (1 ∷ []) → parts.enums.items ≡ [] → parts.services.items ≡ []
     → IsReadAgain parts
 
--- ---- an enum that stands behind the message types
+-- ---- an enum that comes after the message types
 
 -- `message M { enum E { .. } } enum F { .. }`: F comes first, as the package declares it
 pub record IsPackageFirst (parts : Parts) (file : File) (t : MessageType) : Type 0 where

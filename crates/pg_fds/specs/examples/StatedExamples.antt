@@ -24,12 +24,12 @@ child number m later = nests number None m later
 abbrev nothing : Message
 nothing = ends []
 
--- a field of that name, number, label and type, with what comes behind
+-- a field of that name, number, label and type, with what comes after
 abbrev field : (name : List ℕ) → (number label type : ℕ) → Message → Message
 field name number label type later =
     text proto.FIELD_NAME name (count proto.FIELD_NUMBER number (count proto.FIELD_LABEL label (count proto.FIELD_TYPE type later)))
 
--- a file in proto3 with what stands in front
+-- a file in proto3 with what comes before
 abbrev proto3 : Message
 proto3 = text proto.FILE_SYNTAX (codes "proto3") nothing
 
@@ -77,7 +77,7 @@ MapStated = stated map_set ≡ Some (record { files = map_file ∷ []; types = m
 
 -- ---- two files
 
--- `b.proto`, of package p, stands in front of the `a.proto` that it imports. It has a message type with an enum, a type and a oneof, then an
+-- `b.proto`, of package p, comes before the `a.proto` that it imports. It has a message type with an enum, a type and a oneof, then an
 -- enum of its own, and a service.
 abbrev two_files : Message
 two_files =

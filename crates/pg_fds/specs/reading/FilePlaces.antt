@@ -1,4 +1,4 @@
--- Files by their places.
+-- Files by their indices.
 use Rattle.std.specs.Prelude.{◌≡◌, ◌↔◌, ℕ, ◌<◌, Bool, true, List, [], map, length, Some, slice_get, String}
 use Rattle.std.specs.BTreeMap.{BTreeMap, get_by_text}
 use Rattle.std.specs.List.{AllByRecursion, list_all}
@@ -14,23 +14,23 @@ importer i = record { path = i.name.now; imports = lent i.paths.items }
 abbrev pub importers : List Importing → List Importer
 importers files = map importer files
 
--- the map has the place of each path, and no other
+-- the map has the index of each path, and no other
 abbrev pub IsIndex : {Y : Type 0} → List (List ℕ) → BTreeMap (String Y) ℕ → Type 0
 IsIndex paths index = (path : List ℕ) (place : ℕ) → (get_by_text index path ≡ Some place) ↔ (slice_get paths place ≡ Some path)
 
--- at these places stand these paths
+-- at these indices are these paths
 abbrev pub StandAt : List (List ℕ) → (places : List ℕ) → List (List ℕ) → Type 0
 StandAt paths places these = map (slice_get paths) places ≡ map Some these
 
--- the places of what each file imports
+-- the indices of what each file imports
 abbrev pub ImportsAt : List Importer → List (List ℕ) → Type 0
 ImportsAt files all = map (map (slice_get (paths_of files))) all ≡ map (λ (i : Importer). map Some i.imports) files
 
--- the path at a place
+-- the path at an index
 abbrev pub name_at : List (List ℕ) → ℕ → List ℕ
 name_at paths place = unwrap_or (slice_get paths place) []
 
--- These are the places of the files in post-order of imports. Paths stand once, among the files and among the imports of each.
+-- These are the indices of the files in post-order of imports. Paths occur once, among the files and among the imports of each.
 pub record AreOrdered (files : List Importer) (places : List ℕ) : Type 0 where
   pub once : are_distinct (paths_of files) ≡ true
   pub imports : list_all imports_once files ≡ true

@@ -1,4 +1,4 @@
--- The places that each message type and each file of a set keeps: those of the message types, enums and services declared in it, which
+-- The indices that each message type and each file of a set keeps: those of the message types, enums and services declared in it, which
 -- are counted in the order of their rows.
 use Rattle.std.specs.Prelude.{ℕ, zero, suc, ◌+◌, List, [], ◌∷◌, ◌++◌, filter, length}
 use Rattle.pg_schema.specs.rules.Scopes.{enum_places, service_places, type_places}
@@ -14,7 +14,7 @@ use Rattle.pg_fds.specs.stated.Said.{children_at}
 use Rattle.pg_fds.specs.stated.SetNames.{file_scope, qualified}
 use Rattle.pg_fds.specs.stated.SaidTypes.{is_no_entry}
 
--- how many message types, enums and services stand in front
+-- how many message types, enums and services come before
 pub record Counts : Type 0 where
   pub types : ℕ
   pub enums : ℕ
@@ -37,7 +37,7 @@ counts_behind on counts (m ∷ ms) = counts_behind on (on counts m) ms
 
 -- ---- message types
 
--- behind a message type, with those inside it, which are nested less deep than that
+-- after a message type, with those inside it, which are nested less deep than that
 abbrev pub behind_type : (depth : ℕ) → (scope : List ℕ) → Counts → Message → Counts
 behind_type depth scope counts m = record {
   types = counts.types + length (rows_of_type (type_rows depth) scope m);
@@ -45,16 +45,16 @@ behind_type depth scope counts m = record {
   services = counts.services;
 }
 
--- where the first of what stands inside a message type, behind its enums
+-- where the first of what is inside a message type, after its enums
 abbrev pub inside_type : Counts → Message → Counts
 inside_type counts m = record { types = counts.types + 1; enums = counts.enums + length (children_at proto.MESSAGE_ENUM_TYPE m); services = counts.services }
 
--- the places of message types, nested less deep than that, without those inside them
+-- the indices of message types, nested less deep than that, without those inside them
 abbrev pub places_of_types : (depth : ℕ) → (scope : List ℕ) → Counts → List Message → List ℕ
 places_of_types zero scope counts ms = []
 places_of_types (suc depth) scope counts ms = each_from (behind_type depth scope) (λ c m. c.types ∷ []) counts ms
 
--- a message type, with the places of the message types and enums in it
+-- a message type, with the indices of the message types and enums in it
 pub record PlacedType : Type 0 where
   pub named : Row
   pub types : List ℕ
@@ -71,7 +71,7 @@ without_inside named = record { named = named; types = []; enums = [] }
 abbrev pub inner_types : Message → List Message
 inner_types m = filter is_no_entry (children_at proto.MESSAGE_NESTED_TYPE m)
 
--- a message type and those inside it, with what stands in them
+-- a message type and those inside it, with what is in them
 abbrev pub placed_with : (depth : ℕ) → (inside : List ℕ → Counts → List Message → List PlacedType) → (scope : List ℕ) → Counts → Message → List PlacedType
 placed_with depth inside scope counts m =
     record {
@@ -93,7 +93,7 @@ behind_file depth counts m = record {
   services = counts.services + length (file_services m);
 }
 
--- a file, with the places of what it declares by itself
+-- a file, with the indices of what it declares by itself
 pub record PlacedFile : Type 0 where
   pub message : Message
   pub types : List ℕ
@@ -108,7 +108,7 @@ placed_file o = record {
   services = service_places o.services.items;
 }
 
--- where the first of its message types stands, behind its enums
+-- where the first of its message types is, after its enums
 abbrev pub inside_file : Counts → Message → Counts
 inside_file counts m = record { types = counts.types; enums = counts.enums + length (children_at proto.FILE_ENUM_TYPE m); services = counts.services }
 

@@ -36,8 +36,8 @@ pub record OutlinesFile (depth : ℕ) (m : Message) (old new : Outline) : Type 0
   pub oneofs : NameOneofs depth (children_at proto.FILE_MESSAGE_TYPE m)
   pub no_entries : filter is_entry (children_at proto.FILE_MESSAGE_TYPE m) ≡ []
 
--- All that a file declares may stand, as far as its names aren't looked at, where so many message types, enums and services stand in
--- front: none of its own message types is an entry type, `optional` fields name oneofs that are there, and 32 bits hold the places.
+-- All that a file declares may be placed, as far as its names aren't looked at, where so many message types, enums and services come
+-- before it: none of its own message types is an entry type, `optional` fields name oneofs that are there, and 32 bits hold the indices.
 pub record MayPlace (depth : ℕ) (counts : Counts) (m : Message) : Type 0 where
   pub no_entries : filter is_entry (children_at proto.FILE_MESSAGE_TYPE m) ≡ []
   pub oneofs : NameOneofs depth (children_at proto.FILE_MESSAGE_TYPE m)

@@ -1,4 +1,4 @@
--- How far a walk over the imports of files has come, which are named by their places.
+-- How far a walk over the imports of files has come, which are named by their indices.
 use Rattle.std.specs.Prelude.{◌≡◌, ℕ, suc, ◌+◌, ◌-◌, ◌<◌, ◌≤◌, ◌⊎◌, ⊤, Bool, true, false, nat_eq, List, [], ◌∷◌, ◌++◌, length, map, drop, Option, Some, None, slice_get, slice_set, Vec}
 use Rattle.std.specs.Global.{Global}
 use Rattle.std.specs.List.{AllByRecursion, list_any}
@@ -16,7 +16,7 @@ lists_of imported = map (λ (v : Vec ℕ Global). v.items) imported
 abbrev pub AreWithin : ℕ → List (List ℕ) → Type 0
 AreWithin count all = AllByRecursion (λ own. AllByRecursion (λ place. place < count) own) all
 
--- the walk over places, in post-order
+-- the walk over indices, in post-order
 abbrev pub Walks : List (List ℕ) → (front visited listed : List ℕ) → Type 0
 Walks all front visited listed = Visits nat_eq (slice_get all) front visited listed
 

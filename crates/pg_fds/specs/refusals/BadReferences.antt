@@ -68,7 +68,7 @@ pub data HasBadOneof (type field : Message) : Type 0 where
   without_oneof : is_optional field ≡ true → maybe_number_at proto.FIELD_ONEOF_INDEX field ≡ None → HasBadOneof type field
   not_alone : (place : ℕ) → is_optional field ≡ true → maybe_number_at proto.FIELD_ONEOF_INDEX field ≡ Some (pos place) →
       members_at place (children_at proto.MESSAGE_FIELD type) ≢ 1 → HasBadOneof type field
-  -- of another field: the oneof of an `optional` one, or one whose place 32 bits don't hold
+  -- of another field: the oneof of an `optional` one, or one whose index 32 bits don't hold
   of_optional : (place : ℕ) → is_optional field ≡ false → maybe_number_at proto.FIELD_ONEOF_INDEX field ≡ Some (pos place) →
       is_marked (synthetic_places (children_at proto.MESSAGE_FIELD type)) place ≡ true → HasBadOneof type field
   too_many_oneofs : (place : ℕ) → is_optional field ≡ false → maybe_number_at proto.FIELD_ONEOF_INDEX field ≡ Some (pos place) →
@@ -130,7 +130,7 @@ pub data IsBadDeclaration (files : List Message) : Type 0 where
 
 -- ---- files
 
--- each of the paths is an import of the file whose path stands in front of it
+-- each of the paths is an import of the file whose path comes before it
 abbrev pub IsTrail : (leads : List ℕ → Option Paths) → List ℕ → Paths → Type 0
 IsTrail leads path [] = ⊤
 IsTrail leads path (next ∷ paths) = IsSomeAnd (leads path) (λ imports. is_among imports next ≡ true) × IsTrail leads next paths

@@ -1,4 +1,4 @@
--- The number behind the E by which users know the error, and the byte of the set that it names.
+-- The number after the E by which users know the error, and the byte of the set that it names.
 use Rattle.std.specs.Prelude.{ℕ, Option, None}
 use Rattle.pg_check.specs.Codes.{code_of as rule_code}
 use Rattle.pg_dyn.specs.error.Codes.{code_of as message_code, place_of as message_place}

@@ -39,7 +39,7 @@ MayRefuseFiles skips files errors.BadType = (list_all is_proto3 files ≡ true) 
 MayRefuseFiles skips files errors.BadReference = (are_taken files ≡ true) × IsBadReference skips files
 MayRefuseFiles skips files (errors.Rule e) = (are_taken files ≡ true) × BreaksRule skips files e
 
--- that of the message that the bytes are, if they are one, and none in it stands too deep
+-- that of the message that the bytes are, if they are one, and none in it is too deep
 abbrev pub MayRefuseRead : List ℕ → FdsError → Type 0
 MayRefuseRead bytes e = IsNotTooDeep bytes × IsSomeAnd (dec written_shape file_set bytes) (λ set. MayRefuseFiles (skips set) (kept_files set) e)
 

@@ -29,7 +29,7 @@ label_codes = pos 1 ∷ pos 3 ∷ []
 abbrev pub is_taken : Message → Bool
 is_taken m = list_any (int_eq (number_at proto.FIELD_TYPE m)) type_codes && list_any (int_eq (label_at m)) label_codes
 
--- those of a message type's fields, and of what stands inside it
+-- those of a message type's fields, and of what is inside it
 abbrev pub has_types : (List Message → Bool) → Message → Bool
 has_types inside m = list_all is_taken (children_at proto.MESSAGE_FIELD m) && inside (children_at proto.MESSAGE_NESTED_TYPE m)
 

@@ -33,7 +33,7 @@ is_package (nameds.Enum id) = false
 is_package nameds.Entry = false
 is_package nameds.Other = false
 
--- a part of a package may be that of others too; any other name stands once
+-- a part of a package may be that of others too; any other name occurs once
 abbrev pub may_be : Option Named → Named → Bool
 may_be None thing = true
 may_be (Some other) thing = is_package other && is_package thing
@@ -72,11 +72,11 @@ named_in scope thing m = (qualified scope m, thing)
 abbrev pub all_named : (scope : List ℕ) → Named → List Message → List Declaration
 all_named scope thing ms = map (named_in scope thing) ms
 
--- the enum at that place, and its values
+-- the enum at that index, and its values
 abbrev pub enum_declared : (scope : List ℕ) → (place : ℕ) → Message → List Declaration
 enum_declared scope place m = named_in scope (nameds.Enum (record { index = place })) m ∷ all_named scope nameds.Other (children_at proto.ENUM_VALUE m)
 
--- enums from that place on
+-- enums from that index on
 abbrev pub enums_declared : (scope : List ℕ) → (place : ℕ) → List Message → List Declaration
 enums_declared scope place [] = []
 enums_declared scope place (m ∷ ms) = enum_declared scope place m ++ enums_declared scope (suc place) ms
@@ -94,7 +94,7 @@ members_declared full m =
     all_named full nameds.Other (children_at proto.MESSAGE_FIELD m)
     ++ all_named full nameds.Other (real_oneofs (synthetic_places (children_at proto.MESSAGE_FIELD m)) 0 (children_at proto.MESSAGE_ONEOF_DECL m))
 
--- the message type at that place, its fields, real oneofs and entry types
+-- the message type at that index, its fields, real oneofs and entry types
 abbrev pub type_declared : (full : List ℕ) → (place : ℕ) → Message → List Declaration
 type_declared full place m =
     (full, nameds.Type (record { index = place })) ∷ members_declared full m ++ all_named full nameds.Entry (filter is_entry (children_at proto.MESSAGE_NESTED_TYPE m))
@@ -112,12 +112,12 @@ types_declared (suc depth) scope counts ms = each_from (behind_type depth scope)
 
 -- ---- files
 
--- what stands before each dot of a name, and the whole
+-- what comes before each dot of a name, and the whole
 abbrev pub fronts : List ℕ → List (List ℕ)
 fronts [] = [] ∷ []
 fronts (byte ∷ bytes) = if nat_eq byte 46 then [] ∷ map (λ front. byte ∷ front) (fronts bytes) else map (λ front. byte ∷ front) (fronts bytes)
 
--- The parts of a package, by its scope: what stands before each dot but the first, and the whole. Of the outermost scope there are none.
+-- The parts of a package, by its scope: what comes before each dot but the first, and the whole. Of the outermost scope there are none.
 abbrev pub package_parts : (scope : List ℕ) → List (List ℕ)
 package_parts [] = []
 package_parts (byte ∷ bytes) = map (λ front. byte ∷ front) (fronts bytes)

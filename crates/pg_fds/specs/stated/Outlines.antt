@@ -1,4 +1,4 @@
--- What the message types, enums and services of a set are called, in the order of their places.
+-- What the message types, enums and services of a set are called, in the order of their indices.
 use Rattle.std.specs.Prelude.{◌≡◌, ℕ, ◌≤◌, ◌^◌, zero, suc, true, List, [], ◌∷◌, ◌++◌, map, flat_map, filter, filter_map, length, slice_get}
 use Rattle.std.specs.List.{AllByRecursion, list_all}
 use Rattle.std.specs.String.{string_bytes}
@@ -57,11 +57,11 @@ file_enums depth m = rows_in (file_scope m) (children_at proto.FILE_ENUM_TYPE m)
 abbrev pub file_services : Message → List Row
 file_services m = rows_in (file_scope m) (children_at proto.FILE_SERVICE m)
 
--- the files at these places
+-- the files at these indices
 abbrev pub files_at : List Message → List ℕ → List Message
 files_at files places = filter_map (slice_get files) places
 
--- 32 bits hold the places of all, where they did those of the ones in front
+-- 32 bits hold the indices of all, where they did those of the ones in front
 abbrev pub StayFew : {A : Type 0} → (old new : List A) → Type 0
 StayFew old new = length old ≤ 2 ^ 32 → length new ≤ 2 ^ 32
 

@@ -1,4 +1,4 @@
--- The order of a set's files: depth first, each behind those that it imports (this profile's choice).
+-- The order of a set's files: depth first, each after those that it imports (this profile's choice).
 use Rattle.std.specs.Prelude.{◌≡◌, ℕ, Bool, false, not, ◌&&◌, ◌⊎◌, List, [], map, filter, find, Option, option_map}
 use Rattle.std.specs.List.{list_all}
 use Rattle.std.specs.Str.{bytes_eq}
@@ -35,7 +35,7 @@ IsPostOrder files paths = Visits bytes_eq (imports_at files) [] (paths_of files)
 abbrev pub imports_once : Importer → Bool
 imports_once i = are_distinct i.imports
 
--- a path stands twice among the files, or among the imports of one, or they have no post-order: an import isn't there, or imports lead back
+-- a path occurs twice among the files, or among the imports of one, or they have no post-order: an import isn't there, or imports lead back
 abbrev pub HasNoOrder : List Importer → Type 0
 HasNoOrder files =
     (are_distinct (paths_of files) ≡ false) ⊎ (list_all imports_once files ≡ false) ⊎ ((paths : List (List ℕ)) → IsPostOrder files paths → ⊥)

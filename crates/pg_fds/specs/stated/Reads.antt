@@ -12,7 +12,7 @@ use Rattle.pg_fds.specs.stated.Views.{parts_view}
 abbrev pub fds_reads : List ℕ → Parts → Type 0
 fds_reads bytes parts = IsSomeAnd (dec written_shape file_set bytes) (λ set. stated set ≡ Some (parts_view parts))
 
--- A schema as memory holds it: it keeps to the rules, and 32 bits hold the places of its enums and services.
+-- A schema as memory holds it: it keeps to the rules, and 32 bits hold the indices of its enums and services.
 pub record IsHeld (parts : Parts) : Type 0 where
   pub sound : IsSound parts
   pub few_enums : length parts.enums.items ≤ 2 ^ 32

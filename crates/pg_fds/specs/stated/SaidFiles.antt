@@ -8,7 +8,7 @@ use Rattle.pg_fds.specs.declared.descriptor.proto.TheConstants as proto
 use Rattle.pg_fds.specs.stated.Said.{children_at, text_at}
 use Rattle.pg_fds.specs.stated.SaidTypes.{is_marked}
 
--- the number is that of one of so many places
+-- the number is that of one of so many indices
 abbrev pub is_place : ℕ → ℤ → Bool
 is_place count (pos place) = nat_lt place count
 is_place count (negsuc n) = false
@@ -34,7 +34,7 @@ is_proto3 m = bytes_eq (text_at proto.FILE_SYNTAX m) (codes "proto3")
 abbrev pub is_skipped : Message → Bool
 is_skipped m = is_descriptor (text_at proto.FILE_NAME m) && not (is_proto3 m)
 
--- The paths of imports from a place on, and whether each is among the public ones, which are numbers of places; without those of
+-- The paths of imports from an index on, and whether each is among the public ones, which are numbers of indices; without those of
 -- descriptor.proto where it is skipped.
 abbrev pub kept_imports : (skips : Bool) → (public : List ℤ) → (place : ℕ) → List (List ℕ) → List (List ℕ × Bool)
 kept_imports skips public place [] = []

@@ -20,16 +20,16 @@ json_name_at m = unwrap_or (maybe_text_at proto.FIELD_JSON_NAME m) (default_json
 
 -- ---- oneofs
 
--- the number is that of the place
+-- the number is that of the index
 abbrev pub is_at : (place : ℕ) → ℤ → Bool
 is_at place (pos n) = nat_eq n place
 is_at place (negsuc n) = false
 
--- the place is among these numbers
+-- the index is among these numbers
 abbrev pub is_marked : List ℤ → (place : ℕ) → Bool
 is_marked numbers place = list_any (is_at place) numbers
 
--- the flag at each of so many places says whether the place is among these numbers
+-- the flag at each of so many indices says whether the index is among these numbers
 pub record AreMarked (numbers : List ℤ) (count : ℕ) (marks : List Bool) : Type 0 where
   pub all : length marks ≡ count
   pub each : (place : ℕ) → place < count → slice_index_or marks place false ≡ is_marked numbers place
@@ -38,21 +38,21 @@ pub record AreMarked (numbers : List ℤ) (count : ℕ) (marks : List Bool) : Ty
 abbrev pub is_optional : Message → Bool
 is_optional m = flag_at proto.FIELD_PROTO3_OPTIONAL m
 
--- the places of synthetic oneofs: those that fields marked so name
+-- the indices of synthetic oneofs: those that fields marked so name
 abbrev pub synthetic_places : List Message → List ℤ
 synthetic_places fields = filter_map (maybe_number_at proto.FIELD_ONEOF_INDEX) (filter is_optional fields)
 
--- the oneofs at places that aren't marked, counted from that of the first
+-- the oneofs at indices that aren't marked, counted from that of the first
 abbrev pub real_oneofs : List ℤ → (place : ℕ) → List Message → List Message
 real_oneofs marked place [] = []
 real_oneofs marked place (m ∷ ms) = if is_marked marked place then real_oneofs marked (suc place) ms else m ∷ real_oneofs marked (suc place) ms
 
--- the number, where there is one, is that of the place
+-- the number, where there is one, is that of the index
 abbrev pub is_named : (place : ℕ) → Option ℤ → Bool
 is_named place None = false
 is_named place (Some number) = is_at place number
 
--- how many of the fields name the oneof at the place
+-- how many of the fields name the oneof at the index
 abbrev pub members_at : (place : ℕ) → List Message → ℕ
 members_at place fields = length (filter (λ m. is_named place (maybe_number_at proto.FIELD_ONEOF_INDEX m)) fields)
 

@@ -1,7 +1,7 @@
 -- The fully-qualified names that the messages of a set declare, in the order in which they are declared (descriptor.proto,
 -- `FieldDescriptorProto.type_name`; proto3 language guide, "Enumerations": the values of an enum are siblings of its name). Of each name on
--- the way from the outermost scope they have a dot and the name. So that names of two scopes differ, whatever text a name is, a backslash
--- stands in front of each dot and each backslash in one.
+-- the way from the outermost scope they have a dot and the name. So that names of two scopes differ, whatever string a name is, a backslash
+-- comes before each dot and each backslash in one.
 use Rattle.std.specs.Prelude.{◌≡◌, ℕ, zero, suc, Bool, ◌||◌, nat_eq, List, [], ◌∷◌, ◌++◌, map, flat_map, filter, if◌then◌else◌}
 use Rattle.pg_dyn.specs.message.Message.{Message}
 use Rattle.pg_fds.specs.writing.Fields.{dotted}
@@ -41,7 +41,7 @@ abbrev pub package_scope : List ℕ → List ℕ
 package_scope [] = []
 package_scope (byte ∷ bytes) = dotted (escaped is_backslash (byte ∷ bytes))
 
--- what a file declares by itself stands there
+-- what a file declares by itself is there
 abbrev pub file_scope : Message → List ℕ
 file_scope m = package_scope (text_at proto.FILE_PACKAGE m)
 

@@ -45,7 +45,7 @@ lacks_all number m = nat_eq (length (items_at number m)) 0
 abbrev pub is_empty : Message → Bool
 is_empty m = nat_eq (length (parts m)) 0
 
--- the text is that one
+-- the string is that one
 abbrev pub says : (number : ℕ) → Message → List ℕ → Bool
 says number m stated = bytes_eq (text_at number m) stated
 
@@ -53,7 +53,7 @@ says number m stated = bytes_eq (text_at number m) stated
 abbrev pub may_say : (number : ℕ) → Message → List ℕ → Bool
 may_say number m stated = bytes_eq (unwrap_or (maybe_text_at number m) stated) stated
 
--- the field `key` or `value` of an entry type, but for its items: it has no options, and stands in no oneof
+-- the field `key` or `value` of an entry type, but for its items: it has no options, and is in no oneof
 abbrev pub is_entry_field : (called : List ℕ) → (place : ℕ) → Message → Bool
 is_entry_field called place m =
     says proto.FIELD_NAME m called && int_eq (number_at proto.FIELD_NUMBER m) (pos place) && int_eq (label_at m) (pos 1) && is_empty (options_at proto.FIELD_OPTIONS m)

@@ -23,7 +23,7 @@ use Rattle.pg_fds.specs.stated.StatedOneofs.{oneof}
 use Rattle.pg_fds.specs.stated.SaidTypes.{is_optional, json_name_at, label_at}
 use Rattle.pg_fds.specs.stated.Views.{FieldView}
 
--- ---- how often items stand
+-- ---- how often items occur
 
 abbrev pub packed_at : Message → Option Bool
 packed_at m = maybe_flag_at proto.FIELD_PACKED (options_at proto.FIELD_OPTIONS m)

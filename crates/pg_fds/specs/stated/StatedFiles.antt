@@ -47,7 +47,7 @@ options_under m numbers = filter_map (λ number. option_map (option_of number) (
 
 -- ---- imports
 
--- public ones are named by their places among the imports
+-- public ones are named by their indices among the imports
 abbrev pub has_public_places : Message → Bool
 has_public_places m = list_all (is_place (length (texts_at proto.FILE_DEPENDENCY m))) (numbers_at proto.FILE_PUBLIC_DEPENDENCY m)
 
@@ -73,6 +73,6 @@ file_of skips p = record {
   options = options_under (options_at proto.FILE_OPTIONS p.message) option_places;
 }
 
--- the file of a message, with the places of what it declares
+-- the file of a message, with the indices of what it declares
 abbrev pub file : (skips : Bool) → PlacedFile → Option FileView
 file skips p = only_if (has_public_places p.message) (Some (file_of skips p))

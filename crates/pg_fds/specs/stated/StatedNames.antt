@@ -60,7 +60,7 @@ element_of_named (nameds.Enum id) = Some (elements.Enum id)
 element_of_named nameds.Entry = None
 element_of_named nameds.Other = None
 
--- What a field or a method may name. Names of packages, fields, oneofs, values and services are there only so that they stand once.
+-- What a field or a method may name. Names of packages, fields, oneofs, values and services are there only so that they occur once.
 abbrev pub may_name : Option Named → Option Named
 may_name None = None
 may_name (Some nameds.Package) = None

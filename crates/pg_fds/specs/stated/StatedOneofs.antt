@@ -1,4 +1,4 @@
--- The oneofs that a set's fields stand in, as a function of its messages (descriptor.proto, `FieldDescriptorProto.oneof_index` and
+-- The oneofs that a set's fields are in, as a function of its messages (descriptor.proto, `FieldDescriptorProto.oneof_index` and
 -- `proto3_optional`).
 use Rattle.std.specs.Prelude.{◌≡◌, ℕ, ◌<◌, ◌^◌, ℤ, pos, negsuc, Bool, true, false, not, nat_eq, nat_lt, List, filter, length, map, take, Option, Some, None, option_map, slice_get, slice_index, if◌then◌else◌}
 use Rattle.std.specs.Option.{option_and_then}
@@ -14,25 +14,25 @@ has_mark mark None = false
 has_mark true (Some own) = own
 has_mark false (Some own) = not own
 
--- the place that a number is, which has this mark
+-- the index that a number is, which has this mark
 abbrev pub place_marked : (marks : List Bool) → (mark : Bool) → ℤ → Option ℕ
 place_marked marks mark (pos place) = only_if (has_mark mark (slice_get marks place)) (Some place)
 place_marked marks mark (negsuc n) = None
 
--- a place that 32 bits hold
+-- an index that 32 bits hold
 abbrev pub small : ℕ → Option ℕ
 small place = only_if (nat_lt place (2 ^ 32)) (Some place)
 
--- how many places in front aren't marked
+-- how many indices in front aren't marked
 abbrev pub unmarked : (marks : List Bool) → ℕ → ℕ
 unmarked marks place = length (filter not (take place marks))
 
--- the same of each of so many places
+-- the same of each of so many indices
 pub record AreRanks (marks : List Bool) (count : ℕ) (ranks : List ℕ) : Type 0 where
   pub all : length ranks ≡ count
   pub each : (place : ℕ) → place < count → slice_index ranks place ≡ unmarked marks place
 
--- the place among the real oneofs of the one that a number says
+-- the index among the real oneofs of the one that a number says
 abbrev pub real_place : (synthetic : List Bool) → ℤ → Option ℕ
 real_place synthetic number = option_and_then (λ place. small (unmarked synthetic place)) (place_marked synthetic false number)
 
@@ -41,12 +41,12 @@ abbrev pub real_oneof : (synthetic : List Bool) → Option ℤ → Option (Optio
 real_oneof synthetic None = Some None
 real_oneof synthetic (Some number) = option_map Some (real_place synthetic number)
 
--- of one that is: it stands alone in a synthetic one
+-- of one that is: it is alone in a synthetic one
 abbrev pub own_oneof : (synthetic : List Bool) → (members : List ℕ) → Option ℤ → Option (Option ℕ)
 own_oneof synthetic members None = None
 own_oneof synthetic members (Some number) = option_and_then (λ place. only_if (nat_eq (slice_index members place) 1) (Some None)) (place_marked synthetic true number)
 
--- The real oneof of a field, by its place among those, where it is known of each oneof whether it is synthetic and how many fields name it.
+-- The real oneof of a field, by its index among those, where it is known of each oneof whether it is synthetic and how many fields name it.
 abbrev pub oneof : (synthetic : List Bool) → (members : List ℕ) → Message → Option (Option ℕ)
 oneof synthetic members m =
     if is_optional m then own_oneof synthetic members (maybe_number_at proto.FIELD_ONEOF_INDEX m) else real_oneof synthetic (maybe_number_at proto.FIELD_ONEOF_INDEX m)

@@ -17,7 +17,7 @@ Paths = List (List ℕ)
 -- ---- visits
 
 -- What is listed once a path was visited, where those in front are listed already. One that is listed is passed over. Any other is listed
--- behind all that it leads to, which are visited first. Nothing where it isn't there, or where one of these visits comes to nothing.
+-- after all that it leads to, which are visited first. Nothing where it isn't there, or where one of these visits comes to nothing.
 abbrev pub visit_one : (visit_inside : Paths → Paths → Option Paths) → (leads : List ℕ → Option Paths) → (front : Paths) → List ℕ → Option Paths
 visit_one visit_inside leads front x = if is_among front x then Some front else option_map (λ listed. listed ++ x ∷ []) (option_and_then (visit_inside front) (leads x))
 
@@ -34,7 +34,7 @@ visit (suc depth) leads front visited = visit_each (visit depth leads) leads fro
 
 -- ---- files
 
--- The paths of the files in post-order of imports, begun at the files in their order. Nothing where a path stands twice, among the files or
+-- The paths of the files in post-order of imports, begun at the files in their order. Nothing where a path occurs twice, among the files or
 -- among the imports of one, where an import isn't there, or where imports lead back. Where they don't, they lead no deeper than there are
 -- files.
 abbrev pub paths_in_post_order : List Importer → Option Paths

@@ -17,7 +17,7 @@ use Rattle.pg_fds.specs.stated.Views.{FieldView, TypeView}
 
 -- ---- what fields are made with
 
--- the last message of that name; names of a set stand once
+-- the last message of that name; names of a set occur once
 abbrev pub last_named : List Message → List ℕ → Option Message
 last_named [] name = None
 last_named (m ∷ ms) name = first_of (last_named ms name) (if bytes_eq (text_at proto.MESSAGE_NAME m) name then Some m else None)
@@ -46,7 +46,7 @@ abbrev pub put_in : {A : Type 0} → (key : A → ℕ) → A → List A → List
 put_in key x [] = x ∷ []
 put_in key x (y ∷ ys) = if nat_lt (key y) (key x) then y ∷ put_in key x ys else x ∷ y ∷ ys
 
--- by rising keys; those of one key stand as they stood
+-- by rising keys; those of one key keep their order
 abbrev pub by_key : {A : Type 0} → (key : A → ℕ) → List A → List A
 by_key key [] = []
 by_key key (x ∷ xs) = put_in key x (by_key key xs)
@@ -58,7 +58,7 @@ number_of f = f.number
 abbrev pub oneof_names : Message → List (List ℕ)
 oneof_names m = map (text_at proto.ONEOF_NAME) (real_oneofs (synthetic_places (children_at proto.MESSAGE_FIELD m)) 0 (children_at proto.MESSAGE_ONEOF_DECL m))
 
--- the end of a range is the first number behind it
+-- the end of a range is the first number after it
 abbrev pub field_range : Message → ReservedFields
 field_range m = record { first = natural (number_at proto.RANGE_START m); last = natural (number_at proto.RANGE_END m) - 1 }
 
@@ -81,6 +81,6 @@ type_of p declared = record {
   options = record { deprecated = maybe_flag_at proto.MESSAGE_DEPRECATED (options_at proto.MESSAGE_OPTIONS p.named.1) };
 }
 
--- the message type of that name, with the places of what stands in it
+-- the message type of that name, with the indices of what is in it
 abbrev pub message_type : Meanings → PlacedType → Option TypeView
 message_type means p = option_map (type_of p) (declared_fields means p.named)

@@ -1,4 +1,4 @@
--- What the parts of a schema say, wherever their texts and lists lie in memory.
+-- What the parts of a schema say, wherever their strings and lists lie in memory.
 use Rattle.std.specs.Prelude.{ℕ, ℤ, Bool, List, map, Option}
 use Rattle.std.specs.String.{string_bytes}
 use Rattle.pg_schema.specs.declared.parts.enum_type.EnumType.{EnumType}

@@ -1,4 +1,4 @@
--- A code for items: the message that has them, as the program keeps one. It stands here since the models of drafts cite it.
+-- A code for items: the message that has them, as the program keeps one. It is here since the models of drafts cite it.
 use Rattle.std.specs.Prelude.{◌≡◌, ℕ, false, [], ◌∷◌, Option, refl}
 use Rattle.std.proofs.Common.{ap, ap₂, ◌∙◌}
 use Rattle.std.specs.Coded.{Coded, code_by}

@@ -78,7 +78,7 @@ TakesOne number element d = (d.last < number) × HasOne d.type number element
 abbrev pub TakesMany : ℕ → Element → Drafted → Type 0
 TakesMany number element d = (d.last < number) × HasMany d.type number element
 
--- A field of that number comes next: a singular one, or a list, of which items may stand already.
+-- A field of that number comes next: a singular one, or a list, of which items may be there already.
 abbrev pub Takes : ℕ → Element → Drafted → Type 0
 Takes number element d = TakesOne number element d ⊎ ((d.last ≤ number) × HasMany d.type number element)
 

@@ -80,7 +80,7 @@ named_type all scope f = of f.presence
 abbrev pub field_options : FieldOptions → Items
 field_options o = stated proto.FIELD_PACKED o.packed ++ stated proto.FIELD_DEPRECATED o.deprecated
 
--- the oneof that a field stands in, where the next synthetic one is at that place
+-- the oneof that a field is in, where the next synthetic one is at that index
 abbrev pub oneof_place : (next : ℕ) → Field → Option ℕ
 oneof_place next f = if f.states_optional then Some next else f.oneof
 
@@ -91,7 +91,7 @@ field_items all scope next f =
     ++ maybe_text proto.FIELD_TYPE_NAME (named_type all scope f) ++ options proto.FIELD_OPTIONS (field_options f.options) ++ maybe_count proto.FIELD_ONEOF_INDEX (oneof_place next f)
     ++ text proto.FIELD_JSON_NAME (string_bytes f.json_name) ++ mark proto.FIELD_PROTO3_OPTIONAL f.states_optional
 
--- fields in order of declaration, with the place of the first one's synthetic oneof
+-- fields in order of declaration, with the index of the first one's synthetic oneof
 abbrev pub fields_items : Declared → (scope : List ℕ) → (next : ℕ) → List Field → List Items
 fields_items all scope next [] = []
 fields_items all scope next (f ∷ fs) =

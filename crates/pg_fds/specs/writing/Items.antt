@@ -2,7 +2,7 @@
 use Rattle.std.specs.Prelude.{ℕ, ℤ, pos, Bool, true, false, List, [], ◌∷◌, map, Option, Some, None}
 use Rattle.pg_dyn.specs.message.Message.{Int, Bytes, Item, Plain, Msg, Part, message_from}
 
--- what stands in a message: parts by rising number
+-- what is in a message: parts by rising number
 abbrev pub Items : Type 0
 Items = List (Part Item)
 
@@ -18,7 +18,7 @@ texts number list = map (λ bytes. item number (Plain (Bytes bytes))) list
 abbrev pub whole : ℕ → ℤ → Items
 whole number n = item number (Plain (Int n)) ∷ []
 
--- numbers, types, labels and places that aren't negative
+-- numbers, types, labels and indices that aren't negative
 abbrev pub count : ℕ → ℕ → Items
 count number n = whole number (pos n)
 
@@ -39,7 +39,7 @@ abbrev pub stated : ℕ → Option Bool → Items
 stated number (Some b) = flag number b
 stated number None = []
 
--- a text where it isn't empty
+-- a string where it isn't empty
 abbrev pub filled : ℕ → List ℕ → Items
 filled number [] = []
 filled number (byte ∷ bytes) = text number (byte ∷ bytes)
@@ -55,12 +55,12 @@ abbrev pub options : ℕ → Items → Items
 options number [] = []
 options number (p ∷ ps) = child number (p ∷ ps)
 
--- a text, where there is one
+-- a string, where there is one
 abbrev pub maybe_text : ℕ → Option (List ℕ) → Items
 maybe_text number (Some bytes) = text number bytes
 maybe_text number None = []
 
--- a place, where there is one
+-- an index, where there is one
 abbrev pub maybe_count : ℕ → Option ℕ → Items
 maybe_count number (Some n) = count number n
 maybe_count number None = []

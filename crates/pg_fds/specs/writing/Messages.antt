@@ -27,7 +27,7 @@ last_of [] = []
 last_of (name ∷ []) = name
 last_of (name ∷ next ∷ names) = last_of (next ∷ names)
 
--- what stands behind the last dot of a full name
+-- what comes after the last dot of a full name
 abbrev pub own_name : List ℕ → List ℕ
 own_name name = last_of (parts_at_dots name)
 
@@ -54,7 +54,7 @@ enum_items e =
     text proto.ENUM_NAME (own_name (string_bytes e.name)) ++ children proto.ENUM_VALUE (map value_items e.values.items) ++ options proto.ENUM_OPTIONS (enum_options e.options)
     ++ children proto.ENUM_RESERVED_RANGE (map value_range e.reserved_numbers.items) ++ texts proto.ENUM_RESERVED_NAME (map string_bytes e.reserved_names.items)
 
--- the enums at these places
+-- the enums at these indices
 abbrev pub enums_items : Declared → List EnumId → List Items
 enums_items all ids = flat_map (λ (id : EnumId). where_found enum_items (slice_get all.enums id.index)) ids
 
@@ -84,11 +84,11 @@ oneof_names all t = map string_bytes t.oneofs.items ++ synthetic_oneofs (names_w
 abbrev pub oneof_items : List ℕ → Items
 oneof_items name = text proto.ONEOF_NAME name
 
--- the end of a range is the first number behind it
+-- the end of a range is the first number after it
 abbrev pub field_range : ReservedFields → Items
 field_range r = count proto.RANGE_START r.first ++ count proto.RANGE_END (suc r.last)
 
--- a message type with these message types inside it; behind them stand its entry types
+-- a message type with these message types inside it; after them are its entry types
 abbrev pub type_items : Declared → List Items → MessageType → Items
 type_items all nested t =
     text proto.MESSAGE_NAME (own_type_name t) ++ children proto.MESSAGE_FIELD (fields_items all (string_bytes t.name) (length t.oneofs.items) (declared_fields t))
@@ -96,7 +96,7 @@ type_items all nested t =
     ++ options proto.MESSAGE_OPTIONS (stated proto.MESSAGE_DEPRECATED t.options.deprecated) ++ children proto.MESSAGE_ONEOF_DECL (map oneof_items (oneof_names all t))
     ++ children proto.MESSAGE_RESERVED_RANGE (map field_range t.reserved_numbers.items) ++ texts proto.MESSAGE_RESERVED_NAME (map string_bytes t.reserved_names.items)
 
--- The message types at these places, with what stands inside them, nested so many deep. Of a schema none is nested deeper than there
+-- The message types at these indices, with what is inside them, nested so many deep. Of a schema none is nested deeper than there
 -- are types.
 abbrev pub types_items : (depth : ℕ) → Declared → List TypeId → List Items
 types_items zero all ids = []

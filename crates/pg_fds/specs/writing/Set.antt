@@ -59,7 +59,7 @@ option_items number (values.Text t) = text number (string_bytes t)
 abbrev pub file_options : List FileOption → Items
 file_options list = flat_map (λ (o : FileOption). option_items o.number o.value) list
 
--- the places of the public imports, counted from that of the first
+-- the indices of the public imports, counted from that of the first
 abbrev pub public_places : (place : ℕ) → List Import → List ℕ
 public_places place [] = []
 public_places place (i ∷ is) = if i.is_public then place ∷ public_places (suc place) is else public_places (suc place) is

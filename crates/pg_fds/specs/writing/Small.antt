@@ -1,4 +1,4 @@
--- Numbers that an int32 holds, and places that 32 bits hold.
+-- Numbers that an int32 holds, and indices that 32 bits hold.
 use Rattle.std.specs.Prelude.{◌+◌, ◌<◌, ◌^◌, length, IfSome}
 use Rattle.std.specs.List.{AllByRecursion}
 use Rattle.pg_schema.specs.declared.parts.field.EnumId.{EnumId}
@@ -8,7 +8,7 @@ use Rattle.pg_schema.specs.declared.parts.message_type.MessageType.{MessageType}
 use Rattle.pg_schema.specs.declared.parts.message_type.ReservedFields.{ReservedFields}
 use Rattle.pg_schema.specs.declared.parts.service.ServiceId.{ServiceId}
 
--- the field's own, and the place of its oneof
+-- the field's own, and the index of its oneof
 pub record HasSmallNumbers (f : Field) : Type 0 where
   pub number : f.number < 2 ^ 31
   pub oneof : IfSome f.oneof (λ place. place < 2 ^ 31)
@@ -17,7 +17,7 @@ pub record IsSmallRange (r : ReservedFields) : Type 0 where
   pub first : r.first < 2 ^ 31
   pub end : r.last + 1 < 2 ^ 31
 
--- those of its fields and reserved ranges, and the places of its oneofs, real and synthetic
+-- those of its fields and reserved ranges, and the indices of its oneofs, real and synthetic
 pub record IsSmallType (t : MessageType) : Type 0 where
   pub fields : AllByRecursion HasSmallNumbers t.fields.items
   pub ranges : AllByRecursion IsSmallRange t.reserved_numbers.items
@@ -29,7 +29,7 @@ IsLowEnum id = id.index < 2 ^ 32
 abbrev pub IsLowService : ServiceId → Type 0
 IsLowService id = id.index < 2 ^ 32
 
--- the places of the enums and services that the file itself declares
+-- the indices of the enums and services that the file itself declares
 pub record HasLowPlaces (f : File) : Type 0 where
   pub enums : AllByRecursion IsLowEnum f.enums.items
   pub services : AllByRecursion IsLowService f.services.items

@@ -1,4 +1,4 @@
--- Synthetic oneofs: an `optional` field stands in a oneof of its own, behind all real ones, in order of declaration
+-- Synthetic oneofs: an `optional` field is in a oneof of its own, after all real ones, in order of declaration
 -- (descriptor.proto, `proto3_optional`). Their names are made as protoc makes them; that they avoid all names of the message, and not
 -- those of fields and oneofs alone, is this profile's choice.
 use Rattle.std.specs.Prelude.{ℕ, zero, suc, List, [], ◌∷◌, map, filter, length, nat_eq, if◌then◌else◌}

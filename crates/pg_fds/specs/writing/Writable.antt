@@ -10,6 +10,6 @@ pub record IsWritable (f : File) : Type 0 where
   pub kinds : list_all is_file_option f.options.items ≡ true
   pub rising : is_rising (0 ∷ option_numbers f.options.items) ≡ true
 
--- the places of its imports
+-- the indices of its imports
 abbrev pub has_counted_imports : File → Bool
 has_counted_imports f = nat_lt (length f.imports.items) (2 ^ 31)

@@ -1,8 +1,8 @@
 //! What the messages of a set say, by the numbers of their fields. An item of another kind than is
-//! asked for says what its kind says of that: a number no text, a text no number.
+//! asked for says what its kind says of that: a number no string, a string no number.
 //!
-//! The messages are as a decoded set has them: the written schema has texts, numbers of 32 bits and
-//! messages, and nothing else.
+//! The messages are as a decoded set has them: the written schema has strings, numbers of 32 bits
+//! and messages, and nothing else.
 
 ghost use Rattle.std.specs.Prelude.{◌≡◌, [], ◌<◌, false, pos, true, FitsSigned, IfOk, IfSome, MatchOption, OnErr, OnOk, Some, length, map, option_map, slice_get};
 ghost use Rattle.std.specs.Int.{w32};
@@ -24,7 +24,7 @@ use pg_dyn::{ContentRef, MessageRef, NumberList, ValueRef};
 use std::alloc::{AllocError, Global};
 use std::marker::Model;
 
-/// A message of a set, which has at any depth nothing but texts and numbers of 32 bits. Contracts
+/// A message of a set, which has at any depth nothing but strings and numbers of 32 bits. Contracts
 /// see what the message keeps.
 #[derive(Drop)]
 pub(crate) struct Said<'b, 'a> {
@@ -146,7 +146,7 @@ fn number_of_value(value: &ValueRef<'_>) -> i32
     }
 }
 
-// The number at a place of a list.
+// The number at an index of a list.
 fn listed_number(numbers: &NumberList, at: usize) -> i32
     requires within { at < length (numbers_in numbers.now) }
     requires said { AllByRecursion IsSaid (numbers_in numbers.now) }
@@ -168,7 +168,7 @@ fn item_count(content: &ContentRef<'_>) -> usize
     }
 }
 
-// The item of a content at a place, an entry's being its value.
+// The item of a content at an index, an entry's being its value.
 fn item_of<'b, 'a>(content: &'b ContentRef<'a>, at: usize) -> SaidItem<'b, 'a>
     requires within { at < length (values_in content.now) }
     requires said { AreSaid content.now }
@@ -204,7 +204,7 @@ pub(crate) fn child_in<'b, 'a>(item: &SaidItem<'b, 'a>) -> Option<Said<'b, 'a>>
     }
 }
 
-/// The text that an item is.
+/// The string that an item is.
 pub(crate) fn text_in<'b, 'a>(item: &SaidItem<'b, 'a>) -> &'a str
     ensures { result.now ≡ text_of (said item.now) }
 {
@@ -255,9 +255,9 @@ pub(crate) fn children<'b, 'a>(
     Ok(children)
 }
 
-// ---- texts
+// ---- strings
 
-/// The text of a singular field, where there is one.
+/// The string of a singular field, where there is one.
 pub(crate) fn maybe_text<'b, 'a>(message: &Said<'b, 'a>, number: u32) -> Option<&'a str>
     ensures { option_copied result ≡ maybe_text_at number (message_of message.now) }
 {
@@ -267,7 +267,7 @@ pub(crate) fn maybe_text<'b, 'a>(message: &Said<'b, 'a>, number: u32) -> Option<
     }
 }
 
-/// The text of a singular field, empty where it is missing.
+/// The string of a singular field, empty where it is missing.
 pub(crate) fn text<'b, 'a>(message: &Said<'b, 'a>, number: u32) -> &'a str
     ensures { result.now ≡ text_at number (message_of message.now) }
 {
@@ -277,7 +277,7 @@ pub(crate) fn text<'b, 'a>(message: &Said<'b, 'a>, number: u32) -> &'a str
     }
 }
 
-/// The texts of a repeated field.
+/// The strings of a repeated field.
 pub(crate) fn texts<'b, 'a>(
     alloc: Global,
     message: &Said<'b, 'a>,
@@ -354,7 +354,7 @@ pub(crate) fn numbers(
     Ok(numbers)
 }
 
-/// The place that a number is, among so many. Refused is a number of none.
+/// The index that a number is, among so many. Refused is a number of none.
 pub(crate) fn place_in(number: &i128, count: usize) -> Result<usize, Unstated>
     ensures ok { IfOk result (λ place. number.now ≡ pos place) }
     ensures within { IfOk result (λ place. place < count) }

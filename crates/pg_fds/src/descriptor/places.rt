@@ -1,4 +1,4 @@
-//! The places of the message types of the written schema.
+//! The indices of the message types of the written schema.
 
 use pg_schema::TypeId;
 

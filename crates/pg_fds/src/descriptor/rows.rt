@@ -148,7 +148,7 @@ pub(crate) fn enum_types(alloc: Global, rows: &[EnumRow<'_>]) -> Result<Vec<Enum
     Ok(enums)
 }
 
-/// The message types at these places. Refused only where memory is.
+/// The message types at these indices. Refused only where memory is.
 pub(crate) fn type_ids(alloc: Global, places: &[u32]) -> Result<Vec<TypeId>, AllocError>
     ensures { IfOk result (λ ids. ids.items ≡ map type_id places.now) }
 {

@@ -86,7 +86,7 @@ pub(crate) fn declare_each(
     Ok(())
 }
 
-/// The oneofs at places that aren't marked.
+/// The oneofs at indices that aren't marked.
 pub(crate) fn real_oneofs<'b, 'a>(
     alloc: Global,
     oneofs: &[Said<'b, 'a>],
@@ -120,8 +120,8 @@ fn declare_part(names: &mut NameTable, part: String) -> Result<(), Unstated>
     }
 }
 
-/// Puts the parts of a package in the table, which may have them as those of others: what stands
-/// before a dot behind that of its scope, and the whole.
+/// Puts the parts of a package in the table, which may have them as those of others: what
+/// comes before a dot after that of its scope, and the whole.
 pub(crate) fn declare_package(
     alloc: Global,
     names: &mut NameTable,

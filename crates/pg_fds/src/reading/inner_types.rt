@@ -18,7 +18,7 @@ fn is_entry(message: &Said<'_, '_>) -> bool
     }
 }
 
-/// Those of the messages that are entry types, in their order.
+/// The messages that are entry types, in their order.
 pub(crate) fn entries_of<'b, 'a>(
     alloc: Global,
     messages: &[Said<'b, 'a>],
@@ -35,7 +35,7 @@ pub(crate) fn entries_of<'b, 'a>(
     Ok(found)
 }
 
-/// Those of the messages that aren't, in their order.
+/// The messages that aren't entry types, in their order.
 pub(crate) fn types_of<'b, 'a>(
     alloc: Global,
     messages: &[Said<'b, 'a>],

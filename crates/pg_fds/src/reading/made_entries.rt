@@ -56,7 +56,7 @@ fn named_element(names: &NameTable, message: &Said<'_, '_>) -> Option<Element>
     of_its_code(message, element)
 }
 
-// Those of one that names none.
+// The scalar element of a field that names no type.
 fn scalar_element(message: &Said<'_, '_>) -> Option<Element>
     ensures { result ≡ option_map ScalarElement
         (scalar_of (number_at proto.FIELD_TYPE (message_of message.now))) }
@@ -129,14 +129,14 @@ fn has_no_options(message: &Said<'_, '_>, number: u32) -> Result<(), Unstated>
 
 // ---- entry types
 
-/// The text of the field is that one.
+/// The string of the field is that one.
 pub(crate) fn says(message: &Said<'_, '_>, number: u32, stated: &str) -> bool
     ensures { result ≡ says number (message_of message.now) stated.now }
 {
     text(message, number) == stated
 }
 
-// The text of the field is that one, or missing.
+// The string of the field is that one, or missing.
 fn may_say(message: &Said<'_, '_>, number: u32, stated: &str) -> bool
     ensures { result ≡ may_say number (message_of message.now) stated.now }
 {
@@ -146,7 +146,7 @@ fn may_say(message: &Said<'_, '_>, number: u32, stated: &str) -> bool
     }
 }
 
-// The field `key` or `value` of an entry type, but for its items: it has no options, and stands in
+// The field `key` or `value` of an entry type, but for its items: it has no options, and is in
 // no oneof.
 fn is_entry_field(message: &Said<'_, '_>, name: &str, place: u32) -> bool
     ensures { result ≡ is_entry_field name.now place (message_of message.now) }

@@ -40,7 +40,7 @@ pub(crate) struct Scope<'b, 'a> {
     pub entries: BTreeMap<String, Said<'b, 'a>>,
 }
 
-// ---- how often items stand
+// ---- how often items occur
 
 // Whether a singular field of these items is explicit, where it is a member of a oneof or
 // `optional`.
@@ -197,8 +197,8 @@ fn json_name(alloc: Global, message: &Said<'_, '_>) -> Result<String, AllocError
     }
 }
 
-/// The field that a message states. A number that isn't above 0 is answered as 0, which may not
-/// stand either.
+/// The field that a message states. A number that isn't above 0 is answered as 0, which no
+/// rule takes.
 pub(crate) fn made_field(
     alloc: Global,
     scope: &Scope<'_, '_>,

@@ -217,7 +217,7 @@ fn options(alloc: Global, message: &Said<'_, '_>) -> Result<Vec<FileOption>, All
     }
 }
 
-// The imports of these paths, where those at places that are marked are public, without those that
+// The imports of these paths, where those at indices that are marked are public, without those that
 // are skipped.
 fn kept(
     alloc: Global,

@@ -1,4 +1,4 @@
-//! The oneofs that a set's fields stand in, and which of them are synthetic.
+//! The oneofs that a set's fields are in, and which of them are synthetic.
 
 ghost use Rattle.std.specs.Prelude.{◌≡◌, ◌<◌, true, IfErr, IfOk, IfSome, OnOk, length, map};
 ghost use Rattle.std.specs.List.{list_all};
@@ -19,7 +19,7 @@ use std::marker::Model;
 
 // ---- synthetic oneofs
 
-/// Of each of so many places, whether it is among the numbers, which are all of such places.
+/// Of each of so many indices, whether it is among the numbers, which are all of such indices.
 pub(crate) fn marks(alloc: Global, numbers: &[i128], count: usize) -> Result<Vec<bool>, Unstated>
     ensures marks { IfOk result (λ marks. AreMarked numbers.now count marks.items) }
     ensures places { OnOk result (list_all (is_place count) numbers.now ≡ true) }
@@ -34,7 +34,7 @@ pub(crate) fn marks(alloc: Global, numbers: &[i128], count: usize) -> Result<Vec
     Ok(marks)
 }
 
-/// The places of the oneofs that fields marked `proto3_optional` name.
+/// The indices of the oneofs that fields marked `proto3_optional` name.
 pub(crate) fn synthetic_places(
     alloc: Global,
     fields: &[Said<'_, '_>],
@@ -55,7 +55,7 @@ pub(crate) fn synthetic_places(
     Ok(places)
 }
 
-/// The names of the oneofs at places that aren't marked.
+/// The names of the oneofs at indices that aren't marked.
 pub(crate) fn real_names<'b, 'a>(
     alloc: Global,
     oneofs: &[Said<'b, 'a>],
@@ -79,7 +79,7 @@ pub(crate) fn real_names<'b, 'a>(
 // ---- the oneof of a field
 
 /// Of each oneof of a message type whether it is synthetic, and its rank, which is how many real
-/// ones stand in front of it. Contracts see which are synthetic.
+/// ones come before it. Contracts see which are synthetic.
 #[derive(Drop)]
 pub(crate) struct OneofMarks {
     synthetic: Vec<bool>,
@@ -116,7 +116,7 @@ impl OneofMarks {
         &self.synthetic
     }
 
-    // The rank of the one at that place.
+    // The rank of the one at that index.
     #[tactic(auto, using(crate::proofs::lemmas::reading::OneofRanks::rank_is))]
     fn rank(&self, place: usize) -> usize
         requires { place < length self.now }
@@ -126,7 +126,7 @@ impl OneofMarks {
     }
 }
 
-// Of each place how many of the marks in front are false.
+// Of each index how many of the marks in front are false.
 fn ranks(alloc: Global, marks: &[bool]) -> Result<Vec<usize>, AllocError>
     ensures { IfOk result (λ found. AreRanks marks.now (length marks.now) found.items) }
 {
@@ -141,7 +141,7 @@ fn ranks(alloc: Global, marks: &[bool]) -> Result<Vec<usize>, AllocError>
     Ok(found)
 }
 
-// The place that a number is, which has this mark.
+// The index that a number is, which has this mark.
 fn place_marked(marks: &[bool], mark: bool, number: i128) -> Option<usize>
     ensures place { result ≡ place_marked marks.now mark number }
     ensures within { IfSome result (λ place. place < length marks.now) }
@@ -155,7 +155,7 @@ fn place_marked(marks: &[bool], mark: bool, number: i128) -> Option<usize>
     Some(place)
 }
 
-// The place among the real oneofs of the one that a number says.
+// The index among the real oneofs of the one that a number says.
 fn real_place(marks: &OneofMarks, number: i128) -> Option<u32>
     ensures { result ≡ real_place marks.now number }
 {
@@ -176,7 +176,7 @@ fn real_oneof(marks: &OneofMarks, named: Option<i128>) -> Option<Option<u32>>
     }
 }
 
-// That of one that is, which stands alone in a synthetic one.
+// That of one that is, which is alone in a synthetic one.
 fn own_oneof(synthetic: &[bool], members: &[usize], named: Option<i128>) -> Option<Option<u32>>
     ensures { result ≡ own_oneof synthetic.now members.now named }
 {
@@ -187,7 +187,7 @@ fn own_oneof(synthetic: &[bool], members: &[usize], named: Option<i128>) -> Opti
     }
 }
 
-/// The real oneof of a field, by its place among those, where it is known of each oneof whether it
+/// The real oneof of a field, by its index among those, where it is known of each oneof whether it
 /// is synthetic and how many fields name it.
 pub(crate) fn oneof(
     marks: &OneofMarks,

@@ -40,7 +40,7 @@ use pg_schema::{
 use std::alloc::{AllocError, Global};
 use std::collections::BTreeMap;
 
-// Own copies of the texts.
+// Own copies of the strings.
 fn copies(alloc: Global, texts: &[&str]) -> Result<Vec<String>, AllocError>
     ensures { IfOk result (λ copies. map string_bytes copies.items ≡ lent texts.now) }
 {
@@ -147,7 +147,7 @@ fn field_ranges(alloc: Global, messages: &[Said<'_, '_>]) -> Result<Vec<Reserved
     Ok(ranges)
 }
 
-// The place of the oneof, among so many, that a field names, if it names one.
+// The index of the oneof, among so many, that a field names, if it names one.
 fn named_place(field: &Said<'_, '_>, count: usize) -> Result<Option<usize>, Unstated>
     ensures ok { IfOk result (λ place. maybe_number_at proto.FIELD_ONEOF_INDEX
         (message_of field.now) ≡ option_map pos place) }

@@ -6,7 +6,7 @@ use crate::reading::outline::Named;
 use indexmap::IndexMap;
 use std::hash::{BuildHasher, DefaultHasher, Hasher};
 
-/// Hashes each name behind the bytes of the set. So names that collide can't be sought before the
+/// Hashes each name after the bytes of the set. So names that collide can't be sought before the
 /// bytes are written that hold them: another name makes other bytes, and by these all names hash
 /// otherwise. No clause speaks of hashes.
 #[derive(Clone, Copy, Debug)]
@@ -17,7 +17,7 @@ pub(crate) struct SetKeys {
 /// What each qualified name of a set is that of.
 pub(crate) type NameTable = IndexMap<String, Named, SetKeys>;
 
-/// What fills bytes up to whole words, so that the names behind them are hashed by words too.
+/// What fills bytes up to whole words, so that the names after them are hashed by words too.
 const FILLING: [u8; 8] = [0; 8];
 
 impl SetKeys {

@@ -1,4 +1,4 @@
-//! The order of a set's files: each behind those that it imports.
+//! The order of a set's files: each after those that it imports.
 
 ghost use Rattle.std.specs.Prelude.{◌≡◌, ◌⊎◌, false, true, ℕ, List, Some, None, IfErr, IfOk, OnOk, map};
 ghost use Rattle.std.specs.List.{list_all};
@@ -30,7 +30,7 @@ struct Importing<'a> {
     paths: Vec<&'a str>,
 }
 
-// The places of files by their names, of which none stands twice.
+// The indices of files by their names, of which none occurs twice.
 fn places(alloc: Global, files: &[Importing<'_>]) -> Result<BTreeMap<String, usize>, Unstated>
     ensures index { IfOk result (λ places. IsIndex (paths_of (importers files.now)) places) }
     ensures once { OnOk result (are_distinct (paths_of (importers files.now)) ≡ true) }
@@ -48,7 +48,7 @@ fn places(alloc: Global, files: &[Importing<'_>]) -> Result<BTreeMap<String, usi
     Ok(places)
 }
 
-// No path stands twice.
+// No path occurs twice.
 fn are_apart(alloc: Global, paths: &[&str]) -> Result<(), Unstated>
     ensures once { OnOk result (are_distinct (lent paths.now) ≡ true) }
     ensures refused { IfErr result (λ e. (e ≡ errors.Memory)
@@ -64,7 +64,7 @@ fn are_apart(alloc: Global, paths: &[&str]) -> Result<(), Unstated>
     Ok(())
 }
 
-// The places of the files of these paths, of which each is there.
+// The indices of the files of these paths, of which each is there.
 fn imported(
     alloc: Global,
     places: &BTreeMap<String, usize>,
@@ -103,7 +103,7 @@ fn all_imported(alloc: Global, files: &[Importing<'_>]) -> Result<Vec<Vec<usize>
     Ok(all)
 }
 
-// The places of the files in post-order of imports, begun at the files in their order. Refused,
+// The indices of the files in post-order of imports, begun at the files in their order. Refused,
 // memory aside, only where they have none.
 fn order_of(alloc: Global, files: &[Importing<'_>]) -> Result<Vec<usize>, Unstated>
     ensures ok { IfOk result (λ order. AreOrdered (importers files.now) order.items) }
@@ -146,7 +146,7 @@ fn importing_file<'b, 'a>(
     Ok(Importing { name, paths })
 }
 
-// The same of all files.
+// What each file says of its name and its imports.
 fn importing_files<'b, 'a>(
     alloc: Global,
     skips: bool,
@@ -163,8 +163,8 @@ fn importing_files<'b, 'a>(
     Ok(found)
 }
 
-/// The places of the files in post-order of imports, begun at the files in their order: each stands
-/// behind those that it imports. Refused, memory aside, only where they have no order.
+/// The indices of the files in post-order of imports, begun at the files in their order: each is
+/// after those that it imports. Refused, memory aside, only where they have no order.
 pub(crate) fn order(
     alloc: Global,
     skips: bool,

@@ -1,5 +1,5 @@
-//! What a set declares: the places of message types, enums and services, and all names. Memory
-//! aside, names are refused only where one stands twice or is a part of a package.
+//! What a set declares: the indices of message types, enums and services, and all names. Memory
+//! aside, names are refused only where one occurs twice or is a part of a package.
 
 ghost use Rattle.std.specs.Prelude.{◌≡◌, ◌⊎◌, ◌+◌, ◌<◌, ◌≤◌, ◌^◌, ◌++◌, ◌∷◌, [], true, false, IfErr, IfOk, List, OnErr, OnOk, filter, flat_map, length, map};
 ghost use Rattle.std.specs.List.{AllByRecursion};
@@ -78,7 +78,7 @@ pub(crate) struct Outline<'b, 'a> {
     pub names: NameTable,
 }
 
-// The next place behind so many.
+// The next index after so many.
 fn next_place(count: usize) -> Result<u32, Unstated>
     ensures ok { IfOk result (λ place. place ≡ count) }
     ensures refused { OnErr result (count < 2 ^ 32 → ⊥) }
@@ -220,7 +220,7 @@ impl<'b, 'a> Outline<'b, 'a> {
         Ok(id)
     }
 
-    // What stands inside a message type.
+    // What is inside a message type.
     fn place_inside(&mut self, id: TypeId, types: Vec<TypeId>, enums: Vec<EnumId>)
         ensures rows { map type_row self.new.types.items ≡ map type_row self.old.types.items }
         ensures inside { (front behind : List PlacedType) (r : PlacedType)
@@ -334,7 +334,7 @@ impl<'b, 'a> Outline<'b, 'a> {
 }
 
 /// What the files declare, taken in that order, with message types nested less deep than that.
-/// Refused, memory aside, only where not all of it may stand in one table.
+/// Refused, memory aside, only where not all of it may be in one table.
 pub(crate) fn outline_files<'b, 'a>(
     alloc: Global,
     keys: SetKeys,

@@ -15,7 +15,7 @@ fn is_escaped(dots: bool, letter: char) -> bool
     letter == '\\' || dots && letter == '.'
 }
 
-// The text, with a backslash in front of such letters.
+// The string, with a backslash in front of such letters.
 fn push_escaped(full: &mut String, text: &str, dots: bool) -> Result<(), AllocError>
     ensures { OnOk result (string_bytes full.new ≡ string_bytes full.old ++ escaped
         (λ byte. if dots then is_dot_or_backslash byte else is_backslash byte) text.now) }

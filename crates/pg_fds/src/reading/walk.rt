@@ -94,7 +94,7 @@ impl Walk {
     }
 }
 
-/// The places of the files, each behind those that it imports: in post-order, begun at the files in
+/// The indices of the files, each after those that it imports: in post-order, begun at the files in
 /// their order. Refused, memory aside, only where imports form a cycle.
 pub(crate) fn post_order(alloc: Global, imported: &[Vec<usize>]) -> Result<Vec<usize>, Unstated>
     requires { AreWithin (length imported.now) (lists_of imported.now) }

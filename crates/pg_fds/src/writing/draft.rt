@@ -1,5 +1,5 @@
 //! Messages of the written schema as their bytes are made: fields are put by rising number, each as
-//! its records behind those before. Each call is refused only where memory is.
+//! its records after those before. Each call is refused only where memory is.
 
 ghost use Rattle.std.specs.Prelude.{◌≡◌, []};
 
@@ -107,7 +107,7 @@ impl Draft {
         self.last = number;
     }
 
-    // Puts a text, of a singular field or behind those of a list.
+    // Puts a string, of a singular field or after those of a list.
     fn add_text(&mut self, number: u32, value: &str) -> Result<(), AllocError>
         requires { Takes number descriptor.text self.old }
         ensures { OnOk result (self.new ≡ put number (rows.text number value.now) self.old) }
@@ -146,7 +146,7 @@ impl Draft {
         Ok(())
     }
 
-    /// Puts a text.
+    /// Puts a string.
     pub(crate) fn put_text(&mut self, number: u32, value: &str) -> Result<(), AllocError>
         requires { TakesOne number descriptor.text self.old }
         ensures { OnOk result (self.new ≡ put number (rows.text number value.now) self.old) }
@@ -154,7 +154,7 @@ impl Draft {
         self.add_text(number, value)
     }
 
-    /// Puts a text, where there is one.
+    /// Puts a string, where there is one.
     pub(crate) fn put_maybe_text(
         &mut self,
         number: u32,
@@ -171,7 +171,7 @@ impl Draft {
         self.add_text(number, &text)
     }
 
-    /// Puts a text, where it isn't empty.
+    /// Puts a string, where it isn't empty.
     pub(crate) fn put_filled(&mut self, number: u32, value: &str) -> Result<(), AllocError>
         requires { TakesOne number descriptor.text self.old }
         ensures { OnOk result (self.new ≡ put number (rows.filled number value.now) self.old) }
@@ -183,7 +183,7 @@ impl Draft {
         self.put_text(number, value)
     }
 
-    /// Puts texts.
+    /// Puts strings.
     pub(crate) fn put_texts(&mut self, number: u32, texts: &[String]) -> Result<(), AllocError>
         requires { TakesMany number descriptor.text self.old }
         ensures { OnOk result (self.new
@@ -368,7 +368,7 @@ impl Children {
         })
     }
 
-    /// Puts a message behind the others.
+    /// Puts a message after the others.
     pub(crate) fn push(&mut self, child: Draft) -> Result<(), AllocError>
         requires { child.type ≡ self.old.type }
         ensures { OnOk result (self.new

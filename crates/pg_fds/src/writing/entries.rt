@@ -68,7 +68,7 @@ fn entry_message(writer: &Writer<'_>, field: &Field, key: Scalar) -> Result<Draf
     Ok(draft)
 }
 
-/// Puts the messages of the fields' entry types behind the others, in the order of the fields.
+/// Puts the messages of the fields' entry types after the others, in the order of the fields.
 pub(crate) fn push_entries(
     writer: &Writer<'_>,
     made: &mut Children,

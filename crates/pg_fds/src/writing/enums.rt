@@ -79,7 +79,7 @@ fn enum_message(writer: &Writer<'_>, declared: &EnumType) -> Result<Draft, Alloc
     Ok(draft)
 }
 
-/// The messages of the schema's enums at these places, in order.
+/// The messages of the schema's enums at these indices, in order.
 pub(crate) fn enums(writer: &Writer<'_>, ids: &[EnumId]) -> Result<Children, AllocError>
     ensures { IfOk result (λ made. made
         ≡ listed ENUM (enums_items (declared_in writer.now) ids.now)) }

@@ -117,7 +117,7 @@ pub(crate) fn named_type(
     }
 }
 
-// The place of the oneof that a field stands in, where the next synthetic one has that place.
+// The index of the oneof that a field is in, where the next synthetic one has that index.
 fn oneof_place(next: u32, field: &Field) -> Option<u32>
     ensures { result ≡ oneof_place next field.now }
 {
@@ -128,7 +128,7 @@ fn oneof_place(next: u32, field: &Field) -> Option<u32>
     }
 }
 
-// Puts how often a field's items stand and what they are: its label, its type, and what that is
+// Puts how often a field's items occur and what they are: its label, its type, and what that is
 // called in a message of that full name.
 fn put_kind(
     writer: &Writer<'_>,
@@ -147,7 +147,7 @@ fn put_kind(
 }
 
 /// The message of a field, in a message of that full name, where the next synthetic oneof has that
-/// place.
+/// index.
 pub(crate) fn field_message(
     writer: &Writer<'_>,
     scope: &str,

@@ -81,7 +81,7 @@ fn paths(alloc: Global, imports: &[Import]) -> Result<Vec<String>, AllocError>
     Ok(paths)
 }
 
-// The places of the public imports, in order.
+// The indices of the public imports, in order.
 fn public_places(alloc: Global, imports: &[Import]) -> Result<Vec<u32>, AllocError>
     requires { length imports.now < 2 ^ 31 }
     ensures places { IfOk result (λ places. places.items ≡ public_places 0 imports.now) }
@@ -100,7 +100,7 @@ fn public_places(alloc: Global, imports: &[Import]) -> Result<Vec<u32>, AllocErr
     Ok(places)
 }
 
-// Puts the places of the public imports.
+// Puts the indices of the public imports.
 fn put_places(to: &mut Draft, alloc: Global, imports: &[Import]) -> Result<(), AllocError>
     requires of_type { to.old.type ≡ FILE }
     requires behind { to.old.last < 10 }
@@ -111,7 +111,7 @@ fn put_places(to: &mut Draft, alloc: Global, imports: &[Import]) -> Result<(), A
     to.put_counts(FILE_PUBLIC_DEPENDENCY, &public_places(alloc, imports)?)
 }
 
-// The messages of the message types at these places, with what stands inside them, nested so many
+// The messages of the message types at these indices, with what is inside them, nested so many
 // deep.
 fn types(writer: &Writer<'_>, depth: usize, ids: &[TypeId]) -> Result<Children, AllocError>
     requires { AllByRecursion IsSmallType writer.now.types.items }

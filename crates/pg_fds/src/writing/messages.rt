@@ -30,7 +30,7 @@ use crate::writing::synthetic::synthetic_oneofs;
 use pg_schema::{Field, MessageType, ReservedFields, Schema, TypeId};
 use std::alloc::{AllocError, Global};
 
-// The message of reserved numbers, whose end is the first number behind them.
+// The message of reserved numbers, whose end is the first number after them.
 fn range_message(writer: &Writer<'_>, range: &ReservedFields) -> Result<Draft, AllocError>
     requires { IsSmallRange range.now }
     ensures { IfOk result (IsDraftOf FIELD_RANGE (field_range range.now)) }
@@ -53,7 +53,7 @@ fn ranges(writer: &Writer<'_>, ranges: &[ReservedFields]) -> Result<Children, Al
     Ok(made)
 }
 
-// Puts the messages of oneofs of these names behind the others.
+// Puts the messages of oneofs of these names after the others.
 fn push_oneofs(writer: &Writer<'_>, made: &mut Children, names: &[String]) -> Result<(), AllocError>
     requires { made.old.type ≡ ONEOF }
     ensures { OnOk result (made.new ≡ listed ONEOF
@@ -85,7 +85,7 @@ fn oneofs(
     Ok(made)
 }
 
-// The fields of the message type at that place, in order of declaration. Refused only where memory
+// The fields of the message type at that index, in order of declaration. Refused only where memory
 // is.
 fn declared_fields<'a>(
     alloc: Global,
@@ -105,7 +105,7 @@ fn declared_fields<'a>(
     Ok(fields)
 }
 
-// The fields of the message type at that place, in order of declaration.
+// The fields of the message type at that index, in order of declaration.
 fn fields_of<'a>(
     alloc: Global,
     source: &'a Schema,
@@ -123,7 +123,7 @@ fn fields_of<'a>(
     Ok(fields)
 }
 
-// The messages of these fields of a message type, where the first synthetic oneof has that place.
+// The messages of these fields of a message type, where the first synthetic oneof has that index.
 fn fields(
     writer: &Writer<'_>,
     scope: &str,
@@ -146,7 +146,7 @@ fn fields(
     Ok(made)
 }
 
-// Puts what stands behind the enums: options, oneofs and what is reserved.
+// Puts what comes after the enums: options, oneofs and what is reserved.
 fn put_rest(
     writer: &Writer<'_>,
     to: &mut Draft,
@@ -169,7 +169,7 @@ fn put_rest(
     to.put_texts(MESSAGE_RESERVED_NAME, &message_type.reserved_names)
 }
 
-/// The message of the message type at that place, with the messages of the message types inside it.
+/// The message of the message type at that index, with the messages of the message types inside it.
 pub(crate) fn type_message(
     writer: &Writer<'_>,
     id: TypeId,

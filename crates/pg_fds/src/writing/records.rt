@@ -1,4 +1,4 @@
-//! Records of descriptors, added behind each other.
+//! Records of descriptors, added one after another.
 
 ghost use Rattle.std.specs.Prelude.{◌≡◌, ◌++◌, OnOk};
 ghost use Rattle.pg_wire.specs.declared.record.WireType.TheVariants.{Len, Varint};
@@ -8,7 +8,7 @@ ghost use Rattle.pg_wire.specs.Varint.{varint};
 use pg_wire::write_varint;
 use std::alloc::AllocError;
 
-// The wire types of records of numbers, and of texts and messages.
+// The wire types of records of numbers, and of strings and messages.
 const VARINT: u64 = 0;
 
 const LEN: u64 = 2;
@@ -42,7 +42,7 @@ pub(crate) fn push_word(out: &mut Vec<u8>, number: u32, word: u64) -> Result<(),
     push_varint(out, word)
 }
 
-/// Adds the record of a text or of a message's bytes.
+/// Adds the record of a string or of a message's bytes.
 pub(crate) fn push_bytes(out: &mut Vec<u8>, number: u32, body: &[u8]) -> Result<(), AllocError>
     ensures { OnOk result (out.new.items ≡ out.old.items ++ (written number Len body.now).bytes) }
 {

@@ -14,7 +14,7 @@ use crate::names::own_name;
 use pg_schema::{EnumId, EnumValue, Field, MessageType, Presence, Schema, TypeId, entry_name};
 use std::alloc::{AllocError, Global};
 
-// Puts the names of the fields behind the others.
+// Puts the names of the fields after the others.
 fn push_fields(names: &mut Vec<String>, fields: &[Field]) -> Result<(), AllocError>
     ensures { OnOk result (map string_bytes names.new.items ≡ map string_bytes names.old.items
         ++ field_names fields.now) }
@@ -25,7 +25,7 @@ fn push_fields(names: &mut Vec<String>, fields: &[Field]) -> Result<(), AllocErr
     Ok(())
 }
 
-// Puts these names behind the others.
+// Puts these names after the others.
 fn push_texts(names: &mut Vec<String>, texts: &[String]) -> Result<(), AllocError>
     ensures { OnOk result (map string_bytes names.new.items ≡ map string_bytes names.old.items
         ++ map string_bytes texts.now) }
@@ -36,7 +36,7 @@ fn push_texts(names: &mut Vec<String>, texts: &[String]) -> Result<(), AllocErro
     Ok(())
 }
 
-// Puts the names of the map fields' entry types behind the others.
+// Puts the names of the map fields' entry types after the others.
 fn push_entries(alloc: Global, names: &mut Vec<String>, fields: &[Field]) -> Result<(), AllocError>
     ensures { OnOk result (map string_bytes names.new.items ≡ map string_bytes names.old.items
         ++ entry_names fields.now) }
@@ -49,7 +49,7 @@ fn push_entries(alloc: Global, names: &mut Vec<String>, fields: &[Field]) -> Res
     Ok(())
 }
 
-// Puts the own names of the message types at these places behind the others.
+// Puts the own names of the message types at these indices after the others.
 fn push_types(
     alloc: Global,
     names: &mut Vec<String>,
@@ -68,7 +68,7 @@ fn push_types(
     Ok(())
 }
 
-// Puts the own names of the enums at these places behind the others.
+// Puts the own names of the enums at these indices after the others.
 fn push_enums(
     alloc: Global,
     names: &mut Vec<String>,
@@ -87,7 +87,7 @@ fn push_enums(
     Ok(())
 }
 
-// Puts the names of the values behind the others.
+// Puts the names of the values after the others.
 fn push_values(names: &mut Vec<String>, values: &[EnumValue]) -> Result<(), AllocError>
     ensures { OnOk result (map string_bytes names.new.items ≡ map string_bytes names.old.items
         ++ value_names values.now) }
@@ -98,7 +98,7 @@ fn push_values(names: &mut Vec<String>, values: &[EnumValue]) -> Result<(), Allo
     Ok(())
 }
 
-// Puts the names of the values of the enums at these places behind the others.
+// Puts the names of the values of the enums at these indices after the others.
 fn push_values_at(
     names: &mut Vec<String>,
     source: &Schema,

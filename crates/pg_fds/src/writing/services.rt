@@ -64,14 +64,14 @@ fn service_message(writer: &Writer<'_>, service: &Service) -> Result<Draft, Allo
     Ok(draft)
 }
 
-// The service at that place.
+// The service at that index.
 fn service_at(source: &Schema, id: ServiceId) -> Option<&Service>
     ensures { option_copied result ≡ slice_get source.now.services.items id.index }
 {
     source.parts().services.get(id.index as usize)
 }
 
-/// The messages of the schema's services at these places, in order.
+/// The messages of the schema's services at these indices, in order.
 pub(crate) fn services(writer: &Writer<'_>, ids: &[ServiceId]) -> Result<Children, AllocError>
     ensures { IfOk result (λ made. made
         ≡ listed SERVICE (services_items (declared_in writer.now) ids.now)) }

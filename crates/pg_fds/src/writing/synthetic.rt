@@ -77,7 +77,7 @@ fn set_of(alloc: Global, names: &[String]) -> Result<BTreeSet<String>, AllocErro
     Ok(set)
 }
 
-// Puts the name of a field's synthetic oneof behind the others, and among so many names that are
+// Puts the name of a field's synthetic oneof after the others, and among so many names that are
 // taken.
 fn push_synthetic(
     alloc: Global,

@@ -1,4 +1,4 @@
--- Files in post-order of imports: each stands behind those that it imports, and none is listed twice.
+-- Files in post-order of imports: each comes after those that it imports, and none is listed twice.
 use Rattle.std.proofs.Common.{◌≡◌, ℕ, ◌<◌, ◌⊎◌, inl, inr, Bool, true, false, ◌||◌, List, [], ◌∷◌, ◌++◌, Option, Some, refl, sym, subst, ◌∙◌, arith}
 use Rattle.std.proofs.lemmas.Bool.{false≢true}
 use Rattle.std.proofs.lemmas.List.{append-nil, append_assoc}

@@ -1,4 +1,4 @@
--- The places that files state follow one another: message types, enums and services are numbered in the order of a schema that is read again.
+-- The indices that files state follow one another: message types, enums and services are numbered in the order of a schema that is read again.
 use Rattle.std.proofs.Common.{◌≡◌, ℕ, zero, suc, ◌+◌, true, List, [], ◌∷◌, ◌++◌, length, map, flat_map, Some, slice_get, refl, ap, ap₂, sym, subst, ◌∙◌, add-one, arith}
 use Rattle.std.proofs.lemmas.List.{append_assoc, length-append, length-map}
 use Rattle.std.specs.Bool.{⊤}
@@ -19,7 +19,7 @@ use Rattle.pg_fds.specs.stated.SetNames.{file_scope, qualified}
 use Rattle.pg_fds.specs.stated.StatedFiles.{service_id}
 use Rattle.pg_fds.specs.stated.StatedTypes.{enum_id, type_id}
 
--- ---- places in a row
+-- ---- indices in a row
 
 from_both : (start a b : ℕ) → places_from start (a + b) ≡ places_from start a ++ places_from (start + a) b
 from_both start zero b =
@@ -65,13 +65,13 @@ types_long depth counts (m ∷ ms) =
 
 -- ---- message types
 
--- the message type at each place has inside it what is placed there
+-- the message type at each index has inside it what is placed there
 abbrev pub ArePlaced : List MessageType → List PlacedType → Type 0
 ArePlaced all whole =
     (place : ℕ) (p : PlacedType) → slice_get whole place ≡ Some p
     → (t : MessageType) × (slice_get all place ≡ Some t) × (t.nested_types.items ≡ map type_id p.types) × (t.nested_enums.items ≡ map enum_id p.enums)
 
--- what the files declare by themselves stands at these places
+-- what the files declare by themselves is at these indices
 abbrev pub Keep : List File → List PlacedFile → Type 0
 Keep [] [] = ⊤
 Keep [] (p ∷ ps) = ⊥
@@ -79,7 +79,7 @@ Keep (f ∷ fs) [] = ⊥
 Keep (f ∷ fs) (p ∷ ps) =
     ((f.types.items ≡ map type_id p.types) × (f.enums.items ≡ map enum_id p.enums) × (f.services.items ≡ map service_id p.services)) × Keep fs ps
 
--- what the files declare follows what stands in front, and is nested no deeper
+-- what the files declare follows what comes before, and is nested no deeper
 pub record FilesNext (all : List MessageType) (depth : ℕ) (counts : Counts) (ms : List Message) (fs : List File) : Type 0 where
   pub types : flat_map (λ (f : File). types_below depth all f.types.items) fs ≡ places_from counts.types (length (flat_map (file_types depth) ms))
   pub enums : flat_map (λ (f : File). enum_places f.enums.items ++ enums_below depth all f.types.items) fs ≡ places_from counts.enums (length (flat_map (file_enums depth) ms))
@@ -87,7 +87,7 @@ pub record FilesNext (all : List MessageType) (depth : ℕ) (counts : Counts) (m
   pub shallow : list_all (λ (f : File). nest_within depth all f.types.items) fs ≡ true
 
 module _ (all : List MessageType) (whole : List PlacedType) (are : ArePlaced all whole) where
-  -- what is inside these messages follows what stands in front, and is nested no deeper
+  -- what is inside these messages follows what comes before, and is nested no deeper
   record AreNext (depth : ℕ) (scope : List ℕ) (counts : Counts) (ms : List Message) : Type 0 where
     types : types_below depth all (map type_id (places_of_types depth scope counts ms)) ≡ places_from counts.types (length (type_rows depth scope ms))
     enums : enums_below depth all (map type_id (places_of_types depth scope counts ms)) ≡ places_from counts.enums (length (enum_rows depth scope ms))

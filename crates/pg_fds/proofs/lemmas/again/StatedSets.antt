@@ -223,7 +223,7 @@ module _ (skips : Bool) (files : List Message) (parts : Parts) where
       files_behind skips files (and_right (are_distinct (paths_of importers)) (list_all imports_once importers) once) [] paths ordered parts.files.items
       (all_follow (imports_at importers) (paths_of importers) paths (visit_lists (imports_at importers) (length importers) [] (paths_of importers) paths visited)) found named
 
-  -- what is declared follows in places, and the files have the names and imports of these messages
+  -- what is declared has indices that follow one another, and the files have the names and imports of these messages
   record AreMade (depth : ℕ) (ordered : List Message) : Type 0 where
     next : FilesNext all depth no_counts ordered parts.files.items
     named : AreNamed skips ordered parts.files.items

@@ -1,4 +1,4 @@
--- A set that is decoded is held: the written schema has texts, int32 numbers, marks, enums and messages, and nothing else. So its items are
+-- A set that is decoded is held: the written schema has strings, int32 numbers, marks, enums and messages, and nothing else. So its items are
 -- said.
 use Rattle.std.proofs.Common.{◌≡◌, ◌<◌, ℕ, zero, suc, ℤ, pos, negsuc, Bool, true, false, cond, nat_eq, List, [], ◌∷◌, map, filter, get_or, Option, Some, None, refl, ap, sym, subst, ◌∙◌, arith, Bor, IfSome, MatchOption}
 use Rattle.std.proofs.lemmas.Bool.{false≢true}

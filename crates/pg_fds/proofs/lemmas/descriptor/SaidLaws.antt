@@ -98,7 +98,7 @@ filled_items n m content seen filled none =
     let empty : values_in content ≡ [] = none_mapped value_item (values_in content) (content_items n m content seen ∙ none) in
     omega (arith, filled_values content filled, ap length empty)
 
--- ---- items by their places
+-- ---- items by their indices
 
 pub many_there : (content : ContentRef) (vs : Vec ValueRef Global) (i : ℕ) (v : ValueRef) → content ≡ contents.Many vs → i < length (values_in content) → v ≡ get_or vs.items i v
     → slice_get (values_in content) i ≡ Some v
@@ -129,7 +129,7 @@ up_to [] i x there = absurd (none-some x there)
 up_to (y ∷ ys) zero x there = ap (λ z. z ∷ []) (same_Some y x there)
 up_to (y ∷ ys) (suc i) x there = ap (λ zs. y ∷ zs) (up_to ys i x there)
 
--- what is made of the items up to a place, and of the one there
+-- what is made of the items up to an index, and of the one there
 pub one_more : {B : Type 0} (f : Item → B) (xs : List Item) (i : ℕ) (x : Item) (made : List B) → slice_get xs i ≡ Some x → made ≡ map f (take i xs) → made ++ f x ∷ [] ≡ map f (take (i + 1) xs)
 one_more f xs i x made there before =
     ap (λ ys. ys ++ f x ∷ []) before ∙ (sym (map-append f (take i xs) (x ∷ [])) ∙ ap (map f) (sym (up_to xs i x there) ∙ ap (λ n. take n xs) (sym (add-one i))))

@@ -17,7 +17,7 @@ use Rattle.pg_fds.specs.stated.Views.{EnumView, FieldView, FileView, MethodView,
 use Rattle.pg_fds.proofs.lemmas.lists.Alike.{all_agree, flat_agree}
 use Rattle.pg_fds.proofs.lemmas.lists.Seen.{all_seen, at_seen, flat_seen, length_seen, map_seen, option_seen}
 
--- ---- places
+-- ---- indices
 
 abbrev pub types_declared : PartsView → List ℕ
 types_declared v = flat_map (λ (f : FileView). type_places f.types) v.files ++ flat_map (λ (t : TypeView). type_places t.nested_types) v.types

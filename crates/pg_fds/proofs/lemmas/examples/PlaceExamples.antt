@@ -1,4 +1,4 @@
--- Places in order of declaration, by small examples: each by computation.
+-- Indices in order of declaration, by small examples: each by computation.
 use Rattle.std.proofs.Common.{◌≡◌, ℕ, ◌&&◌, true, List, [], ◌∷◌, ◌++◌, length, map, refl, ap, ap₂, sym, subst, ◌∙◌}
 use Rattle.std.specs.List.{flat_map, list_all}
 use Rattle.std.specs.String.{string_bytes}

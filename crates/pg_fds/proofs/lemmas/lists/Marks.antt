@@ -1,4 +1,4 @@
--- Marks of places, and lists with one more at the end.
+-- Marks of indices, and lists with one more at the end.
 use Rattle.std.proofs.Common.{◌≡◌, ℕ, zero, suc, ◌<◌, ◌≤◌, Bool, true, false, ◌||◌, nat_eq, List, [], ◌∷◌, ◌++◌, length, drop, set, Some, slice_get, refl, ap, subst, arith}
 use Rattle.std.proofs.lemmas.Bool.Decides.{nat_tests}
 use Rattle.std.proofs.lemmas.Option.{none-some, same_Some}
@@ -7,7 +7,7 @@ use Rattle.std.specs.List.{AllByRecursion, list_any}
 pub other_number : (a b : ℕ) → nat_eq a b ≡ false → a ≡ b → ⊥
 other_number a b e h = grind (arith, nat_tests)
 
--- ---- one place marked
+-- ---- one index marked
 
 pub set_here : {A : Type 0} (xs : List A) (i : ℕ) (x : A) → i < length xs → slice_get (set xs i x) i ≡ Some x
 set_here [] i x h = absurd (omega (arith, h))

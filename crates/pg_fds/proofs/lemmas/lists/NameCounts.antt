@@ -1,4 +1,4 @@
--- How often a name stands in a list. Lists in which each name stands as often have the same names, in another order.
+-- How often a name occurs in a list. Lists in which each name occurs as often have the same names, in another order.
 use Rattle.std.proofs.Common.{◌≡◌, ℕ, suc, ◌+◌, ◌≤◌, Bool, true, false, cond, not, ◌&&◌, List, [], ◌∷◌, ◌++◌, refl, ap, sym, ◌∙◌, arith}
 use Rattle.std.proofs.lemmas.Bool.{false≢true}
 use Rattle.std.proofs.lemmas.Slice.Eq.{bytes_eq-Decides}
@@ -39,11 +39,11 @@ none_fails test (x ∷ xs) none = of (test x) refl (none_fails test xs (λ n fai
     of true is all = all
     of false fails all = absurd (omega (arith, counted_itself x xs, none x fails))
 
--- what holds of all of one list holds of all of another in which no name stands more often
+-- what holds of all of one list holds of all of another in which no name occurs more often
 pub all_counted : (test : List ℕ → Bool) (xs ys : List (List ℕ)) → ((n : List ℕ) → count n xs ≡ count n ys) → list_all test ys ≡ true → list_all test xs ≡ true
 all_counted test xs ys same all = none_fails test xs (λ n fails. same n ∙ never_fails test n fails ys all)
 
--- ---- names that stand once
+-- ---- names that occur once
 
 differ_none : (n : List ℕ) (xs : List (List ℕ)) → list_all (differ n) xs ≡ true → count n xs ≡ 0
 differ_none n xs all = never_fails (differ n) n (ap not ((bytes_eq-Decides n n).1 refl)) xs all

@@ -1,4 +1,4 @@
--- Places that stand once each in a list, as many as there are.
+-- Indices that occur once each in a list, as many as there are.
 use Rattle.std.proofs.Common.{◌≡◌, ◌⊎◌, inl, inr, ℕ, zero, suc, ◌<◌, ◌≤◌, Bool, true, false, not, ◌&&◌, ◌||◌, nat_eq, nat_lt, eqb, List, [], ◌∷◌, ◌++◌, flat_map, length, Some, slice_get, refl, sym, subst, ◌∙◌, arith}
 use Rattle.std.proofs.lemmas.Bool.{and_parts, or_parts, ltb-true, eqb-true, false≢true}
 use Rattle.std.proofs.lemmas.List.Folds.{list_any-append}
@@ -9,12 +9,12 @@ use Rattle.pg_schema.specs.rules.Pairs.{all_pairs}
 use Rattle.pg_schema.specs.rules.Scopes.{are_each_once}
 use Rattle.pg_fds.proofs.lemmas.lists.Tests.{not_so}
 
--- ---- a place that is among others
+-- ---- an index that is among others
 
 abbrev pub IsAmong : ℕ → List ℕ → Type 0
 IsAmong k places = list_any (nat_eq k) places ≡ true
 
--- what holds of all places holds of one that is among them
+-- what holds of all indices holds of one that is among them
 pub among : (P : ℕ → Type 0) (k : ℕ) (places : List ℕ) → AllByRecursion P places → IsAmong k places → P k
 among P k [] all there = absurd (false≢true there)
 among P k (place ∷ places) all there = of (nat_eq k place) refl there (λ later. among P k places all.1 later)
@@ -30,7 +30,7 @@ among_either k xs ys there = of (list_any (nat_eq k) xs) (sym (list_any-append (
     of true is = inl refl
     of false is = inr is
 
--- an item among whose places it is
+-- an item among whose indices it is
 pub record Lists {A : Type 0} (places : A → List ℕ) (k : ℕ) (xs : List A) : Type 0 where
   pub at : ℕ
   pub item : A
@@ -88,7 +88,7 @@ module _ (count : ℕ) (places : List ℕ) (once : are_each_once count places �
   are_below : AllByRecursion (λ place. place < count) places
   are_below = all_below count places (and_parts (nat_eq (length places) count) (list_all (λ place. nat_lt place count) places) front).1
 
-  -- each place below the count is among them
+  -- each index below the count is among them
   pub each_place : (k : ℕ) → k < count → IsAmong k places
   each_place k low = of (list_any (nat_eq k) places) refl
     where

@@ -54,7 +54,7 @@ module _ {A : Type 0} (key : A → ℕ) where
       apart : (w : A) → nat_lt (key y) (key w) ≡ true → y ≡ w → ⊥
       apart w h same = let l = below (key y) (key w) h in let e = ap key same in absurd (omega (arith, l, e))
 
-  -- what is left of a list in order stands behind what was taken, which is below it
+  -- what is left of a list in order comes after what was taken, which is below it
   first : (y : A) (xs : List A) (has : Has (λ z. z ≡ y) xs) (ys : List A) → InOrder xs → list_all (nat_lt (key y)) (map key ys) ≡ true → rest (λ z. z ≡ y) xs has ≡ ys → xs ≡ y ∷ ys
   first y [] has ys up rising same = absurd has
   first y (x ∷ xs) (inl here) ys up rising same = ap (λ z. z ∷ xs) here ∙ ap (λ zs. y ∷ zs) same

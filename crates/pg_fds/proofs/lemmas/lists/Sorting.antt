@@ -1,4 +1,4 @@
--- A list in order, whose items of one number stand as in another, is that other, sorted.
+-- A list in order, whose items of one number are as in another, is that other, sorted.
 use Rattle.std.proofs.Common.{◌≡◌, ℕ, ◌<◌, ◌≤◌, Bool, true, false, cond, nat_eq, nat_lt, List, [], ◌∷◌, filter, length, refl, ap, sym, ◌∙◌, arith}
 use Rattle.std.proofs.lemmas.Bool.{eqb-true}
 use Rattle.pg_fds.specs.stated.StatedTypes.{by_key, put_in}

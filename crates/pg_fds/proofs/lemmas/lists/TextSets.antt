@@ -1,4 +1,4 @@
--- A set of texts that it owns, one text after the other.
+-- A set of strings that it owns, one string after the other.
 use Rattle.std.proofs.Common.{◌≡◌, ℕ, ◌+◌, ◌<◌, Bool, true, false, cond, ◌||◌, List, [], ◌∷◌, ◌++◌, String, length, map, take, get_or, sym, ◌∙◌, ap, refl}
 use Rattle.std.specs.BTreeSet.{BTreeSet, contains_text}
 use Rattle.std.specs.Str.{bytes_eq}
@@ -13,13 +13,13 @@ or_of true false = refl
 or_of false true = refl
 or_of false false = refl
 
--- one more text
+-- one more string
 pub set_more : {Y : Type 0} (done : List (List ℕ)) (key : List ℕ) (old new : BTreeSet (String Y)) → ((cs : List ℕ) → contains_text new cs ≡ cond (bytes_eq key cs) true (contains_text old cs)) → IsSetOf done old → IsSetOf (done ++ key ∷ []) new
 set_more done key old new step held text =
     step text ∙ (ap (λ b. cond (bytes_eq key text) true b) (held text) ∙ (or_of (is_among done text) (bytes_eq key text)
     ∙ (ap (λ b. is_among done text || b) (bytes_eq-sym key text) ∙ sym (among_push done key text))))
 
--- the texts up to a place and the one that stands there
+-- the strings up to an index and the one that is there
 pub texts_step : {Y : Type 0} (texts : List (String Y)) (i : ℕ) (x : String Y) (key : List ℕ) → i < length texts → x ≡ get_or texts i x → key ≡ string_bytes x
     → map string_bytes (take (i + 1) texts) ≡ map string_bytes (take i texts) ++ key ∷ []
 texts_step texts i x key h is same =

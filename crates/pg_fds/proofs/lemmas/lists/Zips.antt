@@ -1,4 +1,4 @@
--- Lists that go side by side, from the places that a loop has still to see.
+-- Lists that go side by side, from the indices that a loop has still to see.
 use Rattle.std.proofs.Common.{◌≡◌, suc, List, [], ◌∷◌, length, map, refl, ap}
 use Rattle.pg_dyn.specs.message.Kept.{Kept, message_of}
 

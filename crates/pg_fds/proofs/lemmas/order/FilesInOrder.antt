@@ -1,4 +1,4 @@
--- The places of files in order are those of files.
+-- The indices of files in order are those of files.
 use Rattle.std.proofs.Common.{ℕ, ◌<◌, Bool, List, map, length, subst}
 use Rattle.std.proofs.lemmas.List.{length-map}
 use Rattle.std.specs.List.{AllByRecursion}
@@ -8,7 +8,7 @@ use Rattle.pg_fds.specs.reading.FilePlaces.{AreOrdered}
 use Rattle.pg_fds.specs.stated.PostOrder.{importer_of}
 use Rattle.pg_fds.proofs.lemmas.lists.Zips.{seen_length}
 
--- the places are those of files
+-- the indices are those of files
 pub places_within : (skips : Bool) (kept : List Message) (places : List ℕ) → AreOrdered (map (importer_of skips) kept) places → AllByRecursion (λ place. place < length kept) places
 places_within skips kept places ordered = subst (λ n. AllByRecursion (λ place. place < n) places) (length-map kept (importer_of skips)) ordered.within
 

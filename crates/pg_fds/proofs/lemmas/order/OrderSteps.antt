@@ -16,7 +16,7 @@ suc_of f [] i x h is = absurd (omega (arith, h))
 suc_of f (y ∷ xs) zero x h is = ap (λ z. f z ∷ []) (sym is)
 suc_of f (y ∷ xs) (suc i) x h is = ap (λ zs. f y ∷ zs) (suc_of f xs i x (omega (arith, h)) is)
 
--- at a place that is there the default doesn't count
+-- at an index that is there the default doesn't count
 pub item_at_place : {A : Type 0} (xs : List A) (i : ℕ) (d : A) → i < length xs → get_or xs i d ≡ get_or xs i (get_or xs i d)
 item_at_place [] i d h = absurd (omega (arith, h))
 item_at_place (y ∷ xs) zero d h = refl
@@ -31,7 +31,7 @@ whole_of f [] i x h is = absurd (omega (arith, h))
 whole_of f (y ∷ xs) zero x h is = ap (λ z. f z ∷ map f xs) is
 whole_of f (y ∷ xs) (suc i) x h is = ap (λ zs. f y ∷ zs) (whole_of f xs i x (omega (arith, h)) is)
 
--- a text that is among those in front of it stands twice
+-- a string that is among those in front of it occurs twice
 pub stands_twice : {A : Type 0} (f : A → List ℕ) (xs : List A) (i : ℕ) (x : A) → i < length xs → x ≡ get_or xs i x → is_among (map f (take i xs)) (f x) ≡ true → are_distinct (map f xs) ≡ false
 stands_twice f xs i x h is among =
     subst (λ ts. are_distinct ts ≡ false) (whole_of f xs i x h is) (twice (map f (take i xs)) (map f (drop (suc i) xs)) (f x) (ap not among))

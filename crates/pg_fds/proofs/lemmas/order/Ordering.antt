@@ -1,4 +1,4 @@
--- From places of files to their paths.
+-- From indices of files to their paths.
 use Rattle.std.proofs.Common.{◌≡◌, ◌↔◌, ℕ, zero, suc, ◌<◌, ◌⊎◌, inl, inr, Bool, true, false, cond, not, nat_eq, ◌||◌, List, [], ◌∷◌, ◌++◌, length, map, String, Option, Some, None, slice_get, unwrap_or, refl, ap, ap₂, sym, subst, ◌∙◌, arith}
 use Rattle.std.proofs.lemmas.Bool.{false≢true}
 use Rattle.std.proofs.lemmas.List.{length-map}
@@ -30,14 +30,14 @@ front_at [] x i h = absurd (omega (arith, h))
 front_at (y ∷ xs) x zero h = refl
 front_at (y ∷ xs) x (suc i) h = front_at xs x i (omega (arith, h))
 
--- what stands at a place stood there before, or is the last
+-- what is at an index was there before, or is the last
 either_at : {A : Type 0} (xs : List A) (x : A) (i : ℕ) (y : A) → slice_get (xs ++ x ∷ []) i ≡ Some y → (slice_get xs i ≡ Some y) ⊎ ((i ≡ length xs) × (x ≡ y))
 either_at [] x zero y is = inr (refl, same_Some x y is)
 either_at [] x (suc i) y is = absurd (none-some y is)
 either_at (z ∷ xs) x zero y is = inl is
 either_at (z ∷ xs) x (suc i) y is = elim (either_at xs x i y is) [ inl before ↦ inl before | inr last ↦ inr (ap suc last.0, last.1) ]
 
--- ---- the map of places
+-- ---- the map of indices
 
 abbrev Reads : List Text → Text → ℕ → Option ℕ → Type 0
 Reads paths path place found = (found ≡ Some place) ↔ (slice_get paths place ≡ Some path)
@@ -102,7 +102,7 @@ index_lacks paths index path is none = of (list_any (bytes_eq path) paths) refl
         absurd (none-some there.0 (sym none ∙ (is path there.0).1 there.1))
     of false missing = refl
 
--- ---- from places to paths
+-- ---- from indices to paths
 
 name_is : (paths : List Text) (place : ℕ) (path : Text) → slice_get paths place ≡ Some path → name_at paths place ≡ path
 name_is paths place path is = ap (λ o. unwrap_or o []) is
@@ -156,7 +156,7 @@ differs_at x (z ∷ paths) zero y apart is same =
     false≢true (sym (ap not ((bytes_eq-Decides x z).1 (same ∙ sym (same_Some z y is)))) ∙ and_left (differ x z) (list_all (differ x) paths) apart)
 differs_at x (z ∷ paths) (suc i) y apart is same = differs_at x paths i y (and_right (differ x z) (list_all (differ x) paths) apart) is same
 
--- a path stands at one place
+-- a path is at one index
 one_place : (paths : List Text) (i j : ℕ) (x : Text) → are_distinct paths ≡ true → slice_get paths i ≡ Some x → slice_get paths j ≡ Some x → i ≡ j
 one_place [] i j x once is_i is_j = absurd (none-some x is_i)
 one_place (y ∷ paths) zero zero x once is_i is_j = refl
@@ -270,7 +270,7 @@ module _ (files : List Importer) (all : List (List ℕ)) (once : are_distinct (p
           let right : rank listed (name_at (paths_of files) place) ≡ rank listed path = ap (rank listed) named in
           (omega (arith, low, left, right), ranks_of own these place path later named behind.1)
 
-  -- the walk over places is one over paths
+  -- the walk over indices is one over paths
   pub in_order : (count : ℕ) (listed : List ℕ) → count ≡ length (paths_of files) → Walks all [] (places_from 0 count) listed → IsPostOrder files (names listed)
   in_order count listed many walk =
       subst (λ ps. Visits bytes_eq (imports_at files) [] ps (names listed)) (ap (λ n. names (places_from 0 n)) many ∙ all_names (paths_of files))
@@ -284,7 +284,7 @@ module _ (files : List Importer) (all : List (List ℕ)) (once : are_distinct (p
       all_names [] = refl
       all_names (x ∷ paths) = ap (λ ns. x ∷ ns) (shifted x paths 0 (length paths) ∙ all_names paths)
 
-  -- and over the places of files
+  -- and over the indices of files
   pub of_files : (count : ℕ) (listed : List ℕ) → Walks all [] (places_from 0 count) listed → AllByRecursion (λ place. place < length files) listed
   of_files count listed walk =
       subst (λ n. AllByRecursion (λ place. place < n) listed) (length-map files (λ (i : Importer). i.path)) (named_walk [] (places_from 0 count) listed walk tt).1

@@ -61,7 +61,7 @@ apart_at x (f ∷ files) zero m apart is = of (bytes_eq x (name m)) (ap (λ f. d
     of false e = refl
 apart_at x (f ∷ files) (suc place) m apart is = apart_at x files place m (and_right (differ x (name f)) (list_all (differ x) (map name files)) apart) is
 
--- where names stand once, a file is the one of its name
+-- where names occur once, a file is the one of its name
 pub file_named : (files : List Message) (place : ℕ) (m : Message) → are_distinct (map name files) ≡ true → slice_get files place ≡ Some m → file_at files (name m) ≡ Some m
 file_named [] place m once is = absurd (none-some m is)
 file_named (f ∷ files) zero m once is =
@@ -78,7 +78,7 @@ each_file files [] are = refl
 each_file files (m ∷ listed) are =
     ap (option_and_then (λ x. option_map (λ xs. x ∷ xs) (each (file_at files) (map name listed)))) are.0 ∙ ap (option_map (λ xs. m ∷ xs)) (each_file files listed are.1)
 
--- files at places have the names there
+-- files at indices have the names there
 files_named : (files : List Message) (places : List ℕ) → are_distinct (map name files) ≡ true → AllByRecursion (λ place. place < length files) places
     → (map (name_at (map name files)) places ≡ map name (files_at files places)) × AllByRecursion (IsFile files) (files_at files places)
 files_named files [] once within = (refl, tt)
@@ -91,13 +91,13 @@ files_named files (p ∷ places) once within =
 
 -- ---- the files in order
 
--- files of which the names stand in post-order
+-- files of which the names are in post-order
 pub files_ordered : (skips : Bool) (files listed : List Message) → are_distinct (paths_of (map (importer_of skips) files)) ≡ true → list_all imports_once (map (importer_of skips) files) ≡ true
     → IsPostOrder (map (importer_of skips) files) (map name listed) → AllByRecursion (IsFile files) listed → in_post_order skips files ≡ Some listed
 files_ordered skips files listed once imports order are =
     ap (option_and_then (each (file_at files))) (paths_ordered (map (importer_of skips) files) (map name listed) once imports order) ∙ each_file files listed are
 
--- the files at places in post-order
+-- the files at indices in post-order
 pub order_is : (skips : Bool) (files : List Message) (places : List ℕ) → AreOrdered (map (importer_of skips) files) places → in_post_order skips files ≡ Some (files_at files places)
 order_is skips files places ordered =
     let named = files_named files places (subst (λ paths. are_distinct paths ≡ true) (paths_are skips files) ordered.once) (places_within skips files places ordered) in

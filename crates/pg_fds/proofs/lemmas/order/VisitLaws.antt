@@ -65,7 +65,7 @@ module _ (ranks : Text → ℕ) where
       let most = below_most (suc (ranks x)) zs in
       omega (arith, less, most)
 
--- how many of the names stand before it in the list
+-- how many of the names come before it in the list
 abbrev places_before : (listed names : List Text) → Text → ℕ
 places_before listed names x = below (rank listed) (rank listed x) names
 

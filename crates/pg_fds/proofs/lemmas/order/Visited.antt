@@ -36,7 +36,7 @@ among_last list x = any_more (bytes_eq x) list x ∙ or_right (list_any (bytes_e
 
 -- ---- ranks
 
--- how many stand before it
+-- how many come before it
 abbrev pub rank : List Text → Text → ℕ
 rank [] x = 0
 rank (y ∷ ys) x = cond (bytes_eq x y) 0 (suc (rank ys x))
@@ -67,7 +67,7 @@ rank_last (z ∷ list) x missing = of (bytes_eq x z) (rank_last list x) missing
     of true later h = absurd (false≢true (sym h))
     of false later h = ap suc (later h)
 
--- ---- all that is listed stands behind what it leads to
+-- ---- all that is listed comes after what it leads to
 
 module _ (leads : Text → Option (List Text)) where
   abbrev pub Lists : (front visited listed : List Text) → Type 0
@@ -142,7 +142,7 @@ apart_at x (j ∷ files) zero i apart is =
     differs x i.path (ap (λ (k : Importer). differ x k.path) (sym (same_Some j i is)) ∙ and_left (differ x j.path) (list_all (differ x) (paths_of files)) apart)
 apart_at x (j ∷ files) (suc place) i apart is = apart_at x files place i (and_right (differ x j.path) (list_all (differ x) (paths_of files)) apart) is
 
--- the file of a path is found by it, where paths stand once
+-- the file of a path is found by it, where paths occur once
 pub found_by_path : (files : List Importer) (place : ℕ) (i : Importer) → are_distinct (paths_of files) ≡ true → slice_get files place ≡ Some i
     → find (λ (j : Importer). bytes_eq j.path i.path) files ≡ Some i
 found_by_path [] place i once is = absurd (none-some i is)
@@ -187,7 +187,7 @@ all_listed list (y ∷ ys) all x among = of (bytes_eq x y) refl (all_listed list
 -- ---- what a post-order says of each file
 
 module _ (files : List Importer) (listed : List Text) (once : are_distinct (paths_of files) ≡ true) (order : IsPostOrder files listed) where
-  -- each file stands behind those that it imports
+  -- each file comes after those that it imports
   pub behind_at : (place : ℕ) (i : Importer) → slice_get files place ≡ Some i
       → AllByRecursion (λ y. Among listed y × (rank listed y < rank listed i.path)) i.imports
   behind_at place i is =

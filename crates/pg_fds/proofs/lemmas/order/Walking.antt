@@ -29,7 +29,7 @@ pub above_last : (rank : ℕ → ℕ) (os : List Open) (o : Open) → RanksFall 
 above_last rank [] o falls = tt
 above_last rank (x ∷ os) o falls = (all_last (λ (u : Open). rank u.place < rank x.place) os o falls.0, above_last rank os o falls.1)
 
--- only places count
+-- only indices count
 same_falls : (rank : ℕ → ℕ) (os : List Open) (o u : Open) → u.place ≡ o.place → RanksFall rank (os ++ o ∷ []) → RanksFall rank (os ++ u ∷ [])
 same_falls rank os o u same falls =
     falls_more rank os u (falls_front rank os o falls)
@@ -247,7 +247,7 @@ left_opened all marks os v long first unseen =
 
 -- ---- an import is entered
 
--- the list of a place
+-- the list of an index
 list_there : (imported : List (Vec ℕ Global)) (i : ℕ) (v : Vec ℕ Global) → i < length (lists_of imported) → v ≡ get_or imported i v → slice_get (lists_of imported) i ≡ Some v.items
 list_there [] i v h is = absurd (omega (arith, h))
 list_there (x ∷ imported) zero v h is = ap (λ (w : Vec ℕ Global). Some w.items) (sym is)

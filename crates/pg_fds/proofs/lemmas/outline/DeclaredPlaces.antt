@@ -1,4 +1,4 @@
--- The message types, enums and entry types that files declare, by their places.
+-- The message types, enums and entry types that files declare, by their indices.
 use Rattle.std.proofs.Common.{◌≡◌, ℕ, suc, ◌+◌, Bool, true, false, cond, List, [], ◌∷◌, ◌++◌, map, filter, length, refl, ap, ap₂, sym, ◌∙◌, arith, append-nil}
 use Rattle.std.proofs.lemmas.Grind.{flat_map-append}
 use Rattle.std.proofs.lemmas.List.{length-map}
@@ -39,7 +39,7 @@ is_entry_name (nameds.Enum id) = false
 is_entry_name nameds.Entry = true
 is_entry_name nameds.Other = false
 
--- names with the places from that one on
+-- names with the indices from that one on
 abbrev pub placed : (ℕ → Named) → (place : ℕ) → List (List ℕ) → List Declaration
 placed thing place [] = []
 placed thing place (name ∷ names) = (name, thing place) ∷ placed thing (suc place) names
@@ -99,7 +99,7 @@ types_type : (full : List ℕ) (place : ℕ) (m : Message) → pick is_type_name
 types_type full place m =
     members_of is_type_name refl full place m ((full, type_named place) ∷ []) refl ∙ ap (λ ds. (full, type_named place) ∷ ds) (pick_none is_type_name full nameds.Entry refl (filter is_entry (children_at 3 m)))
 
--- they stand at the places from there on
+-- they are at the indices from there on
 pub types_files : (depth : ℕ) (counts : Counts) (ms : List Message) → pick is_type_name (files_declared depth counts ms) ≡ placed type_named counts.types (row_names (flat_map (file_types depth) ms))
 types_files depth counts ms =
     files_are (pick is_type_name) refl (pick_append is_type_name) (λ full place m. (full, type_named place) ∷ []) types_type (λ scope place es. []) (no_enums is_type_name refl (λ id. refl))
@@ -124,7 +124,7 @@ enums_enums scope place (m ∷ ms) =
     pick_append is_enum_name (enum_declared scope place m) (enums_declared scope (suc place) ms)
     ∙ ap₂ (λ a b. a ++ b) (ap (λ ds. (qualified scope m, enum_named place) ∷ ds) (pick_none is_enum_name scope nameds.Other refl (children_at 2 m))) (enums_enums scope (suc place) ms)
 
--- enums of a scope, those of the message types in it, and those behind
+-- enums of a scope, those of the message types in it, and those after
 three_rows : (place : ℕ) (a b c : List Row) (second third : ℕ) → second ≡ place + length a → third ≡ place + length (a ++ b)
     → (placed enum_named place (row_names a) ++ placed enum_named second (row_names b)) ++ placed enum_named third (row_names c) ≡ placed enum_named place (row_names ((a ++ b) ++ c))
 three_rows place a b c second third at behind =

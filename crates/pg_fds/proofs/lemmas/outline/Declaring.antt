@@ -132,7 +132,7 @@ suc_drop [] i m h is = absurd (omega (arith, h))
 suc_drop (x ∷ ms) zero m h is = ap (λ (b : Kept). message_of b ∷ seen ms) (sym is)
 suc_drop (x ∷ ms) (suc i) m h is = suc_drop ms i m (omega (arith, h)) is
 
--- the first of those from a place on
+-- the first of those from an index on
 pub seen_drop : (ms : List Kept) (i : ℕ) (m : Kept) → i < length ms → m ≡ get_or ms i m → seen (drop i ms) ≡ message_of m ∷ seen (drop (i + 1) ms)
 seen_drop ms i m h is = rw add-one (suc_drop ms i m h is)
 

@@ -1,4 +1,4 @@
--- Texts with backslashes in front of some of their letters.
+-- Strings with backslashes in front of some of their letters.
 use Rattle.std.proofs.Common.{◌≡◌, ℕ, suc, ◌<◌, Bool, true, false, cond, not, ◌&&◌, ◌||◌, nat_eq, List, [], ◌∷◌, ◌++◌, length, get_or, refl, ap, sym, ◌∙◌, arith, append_assoc}
 use Rattle.std.proofs.lemmas.Bool.{false≢true}
 use Rattle.std.proofs.lemmas.Bool.Decides.{nat_tests}
@@ -44,7 +44,7 @@ module _ (kind : ℕ → Bool) where
           ∙ (ap (λ g. g ++ escaped kind later) (append_assoc full (92 ∷ []) (encode letter))
           ∙ (append_assoc full (92 ∷ encode letter) (escaped kind later) ∙ ap (λ bs. full ++ bs) (sym (ap (escaped kind) next ∙ marked_letter letter later marked))))
 
-  -- a text without bytes of that kind
+  -- a string without bytes of that kind
   pub plain_escaped : (bytes : List ℕ) → list_all (λ b. not (kind b)) bytes ≡ true → escaped kind bytes ≡ bytes
   plain_escaped [] none = refl
   plain_escaped (b ∷ bs) none = of (kind b) refl none (plain_escaped bs)
@@ -64,7 +64,7 @@ low_kind true b is = of (nat_eq b 46) refl is
     of false e is = grind (arith, nat_tests)
 low_kind false b is = grind (arith, nat_tests)
 
--- a text that begins with no dot
+-- a string that begins with no dot
 pub no_dot : (name : List ℕ) → ((rest : List ℕ) → name ≡ 46 ∷ rest → ⊥) → undotted name ≡ name
 no_dot [] none = refl
 no_dot (b ∷ bs) none = of (nat_eq b 46) refl

@@ -1,4 +1,4 @@
--- All that files declare may be declared one after the other, where names stand once and none is a part of a package.
+-- All that files declare may be declared one after the other, where names occur once and none is a part of a package.
 use Rattle.std.proofs.Common.{◌≡◌, ℕ, true, ◌&&◌, List, [], ◌∷◌, ◌++◌, None, map, length, ap, ap₂, sym, ◌∙◌}
 use Rattle.std.specs.HashMap.{get_by_text}
 use Rattle.std.specs.List.{flat_map}

@@ -1,4 +1,4 @@
--- Declarations that may be made one after the other: names stand once, and none is a part of a package.
+-- Declarations that may be made one after the other: names occur once, and none is a part of a package.
 use Rattle.std.proofs.Common.{◌≡◌, ℕ, Bool, true, false, cond, not, ◌&&◌, ◌||◌, inl, inr, List, [], ◌∷◌, map, filter, refl, ap, sym, subst, ◌∙◌}
 use Rattle.std.proofs.lemmas.Bool.{false≢true}
 use Rattle.std.specs.List.{list_all}
@@ -11,7 +11,7 @@ use Rattle.pg_fds.specs.stated.StatedNames.{Meanings}
 use Rattle.pg_fds.proofs.lemmas.outline.Declaring.{and_assoc, both_packages, declared_elsewhere, declared_here, same_or_apart}
 use Rattle.pg_fds.proofs.lemmas.lists.Tests.{or_all, or_left, or_none}
 
--- ---- declarations that may stand together
+-- ---- declarations that may be together
 
 abbrev fits : Meanings → Declaration → Bool
 fits means d = may_be (means d.0) d.1
@@ -37,7 +37,7 @@ module _ (means : Meanings) (d e : Declaration) where
   agree_elsewhere : bytes_eq d.0 e.0 ≡ false → agree d e ≡ true
   agree_elsewhere apart = or_left (differ d.0 e.0) (is_package d.1 && is_package e.1) (ap not apart)
 
-  -- one that may come behind another may come without it
+  -- one that may come after another may come without it
   behind : fits means d ≡ true → fits (declared means d) e ≡ true → (fits means e ≡ true) × (agree d e ≡ true)
   behind first fit = elim (same_or_apart d.0 e.0) [
     | inl same ↦
@@ -177,7 +177,7 @@ pairs_are (d ∷ ds) = of (pairs_are ds) (is_package d.1) refl
         ∙ (regroup (list_all (differ d.0) (things ds)) (list_all (λ part. differ part d.0) (parts ds)) (are_distinct (things ds)) (are_apart (things ds) (parts ds))
         ∙ (ap (λ b. (list_all (differ d.0) (things ds) && are_distinct (things ds)) && b) (sym (all_both (λ part. differ part d.0) (λ part. list_all (λ name. differ part name) (things ds)) (parts ds))) ∙ ap (whole d ds) (sym is))))
 
--- from nothing on: names stand once, and no part of a package is one of them
+-- from nothing on: names occur once, and no part of a package is one of them
 pub fresh_apart : (ds : List Declaration) → are_new no_names ds ≡ true → (are_distinct (things ds) && are_apart (things ds) (parts ds)) ≡ true
 fresh_apart ds fresh = sym (pairs_are ds) ∙ (new_pairs no_names ds fresh).1
 

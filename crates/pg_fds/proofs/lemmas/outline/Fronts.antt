@@ -1,4 +1,4 @@
--- The parts of packages: what stands before each dot of a name, and the whole.
+-- The parts of packages: what comes before each dot of a name, and the whole.
 use Rattle.std.proofs.Common.{◌≡◌, ℕ, suc, ◌<◌, Bool, true, false, cond, not, ◌&&◌, nat_eq, List, [], ◌∷◌, ◌++◌, map, filter, length, get_or, refl, ap, sym, subst, ◌∙◌, arith, append_assoc, append-nil}
 use Rattle.std.proofs.lemmas.Bool.Decides.{nat_tests}
 use Rattle.std.proofs.lemmas.List.Folds.{list_all-append, list_all-map}
@@ -66,7 +66,7 @@ parts_free names whole =
 
 -- the names against the parts of packages, by their scopes: of those that have a name
 module _ (names : List (List ℕ)) (some : list_all (differ []) names ≡ true) where
-  -- what stands before the first dot of a scope is no name
+  -- what comes before the first dot of a scope is no name
   whole_free : (b : ℕ) (bs : List ℕ) → are_apart names (package_parts (b ∷ bs)) ≡ is_free_of names (b ∷ bs)
   whole_free b bs = of (nat_eq b 46) refl ∙ parts_free names (b ∷ bs)
     where
@@ -85,7 +85,7 @@ module _ (names : List (List ℕ)) (some : list_all (differ []) names ≡ true) 
 
 -- ---- the letters of a package
 
--- bytes without a dot stand in front of each part of what is behind them
+-- bytes without a dot come before each part of what is after them
 fronts_past : (bytes later : List ℕ) → ((k : ℕ) → k < length bytes → get_or (bytes ++ later) k 0 ≡ 46 → ⊥) → fronts (bytes ++ later) ≡ map (λ front. bytes ++ front) (fronts later)
 fronts_past [] later none = sym (map-same (fronts later))
   where

@@ -1,4 +1,4 @@
--- What a table means, once declarations stand in it: message types and enums by their places, and entry types.
+-- What a table means, once declarations are in it: message types and enums by their indices, and entry types.
 use Rattle.std.proofs.Common.{◌≡◌, ℕ, suc, Bool, true, false, cond, ◌||◌, ◌⊎◌, inl, inr, List, [], ◌∷◌, Option, Some, None, refl, ap, ap₂, sym, subst, ◌∙◌, add-one}
 use Rattle.std.proofs.Math.Path.{fun_ext}
 use Rattle.std.proofs.lemmas.Bool.{false≢true}
@@ -88,7 +88,7 @@ module _ (means : Meanings) (name : List ℕ) (at : List ℕ) (ds : List Declara
       sym (three (found (pick is_type_name ((at, nameds.Other) ∷ ds)) name) None (found (pick is_enum_name ((at, nameds.Other) ∷ ds)) name) None (found (pick is_entry_name ((at, nameds.Other) ∷ ds)) name) None (may_name (means name)) None a b c
       (hidden_other (means name) (subst (λ n. may_be (means n) nameds.Other ≡ true) is may)))
 
--- what a name means behind declarations: a message type, an enum or an entry type among them, or what it meant
+-- what a name means after declarations: a message type, an enum or an entry type among them, or what it meant
 meant_all : (ds : List Declaration) (means : Meanings) (name : List ℕ) → are_new means ds ≡ true → may_name (all_declared means ds name) ≡ meant ds means name
 meant_all [] means name fresh = refl
 meant_all (d ∷ ds) means name fresh = meant_all ds (declared means d) name later ∙ of (same_or_apart d.0 name)
@@ -109,7 +109,7 @@ meant_all (d ∷ ds) means name fresh = meant_all ds (declared means d) name lat
         (found (pick is_entry_name (d ∷ ds)) name) (may_name (declared means d name)) (may_name (means name)) (sym (other_name is_type_name d ds name apart)) (sym (other_name is_enum_name d ds name apart))
         (sym (other_name is_entry_name d ds name apart)) (ap may_name (declared_elsewhere means d name apart))
 
--- ---- by places
+-- ---- by indices
 
 found_placed : (thing : ℕ → Named) (names : List (List ℕ)) (place : ℕ) (name : List ℕ) → found (placed thing place names) name ≡ option_map thing (position_from (bytes_eq name) place names)
 found_placed thing [] place name = refl

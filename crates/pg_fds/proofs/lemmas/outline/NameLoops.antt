@@ -20,7 +20,7 @@ pub seen_on : {X : Type 0} (f : Message → List X) (ms : List Kept) (i : ℕ) (
     → flat_map f (seen (take (i + 1) ms)) ≡ flat_map f (seen (take i ms)) ++ f (message_of m)
 seen_on f ms i m h is = rw add-one (suc_on f ms i m h is)
 
--- those in front, it and those behind
+-- those in front, it and those after
 pub seen_whole : {X : Type 0} (f : Message → List X) (ms : List Kept) (i : ℕ) (m : Kept) → i < length ms → m ≡ get_or ms i m
     → (flat_map f (seen (take i ms)) ++ f (message_of m)) ++ flat_map f (seen (drop (suc i) ms)) ≡ flat_map f (seen ms)
 seen_whole f [] i m h is = absurd (omega (arith, h))

@@ -12,7 +12,7 @@ abbrev put : ℕ → List (List ℕ) → List (List ℕ)
 put byte [] = (byte ∷ []) ∷ []
 put byte (part ∷ parts) = (byte ∷ part) ∷ parts
 
--- what stands between dots that have no backslash in front; behind a backslash any byte stands for itself
+-- what is between dots that have no backslash in front; after a backslash any byte stands for itself
 abbrev parted : (behind : Bool) → List ℕ → List (List ℕ)
 parted behind [] = [] ∷ []
 parted true (byte ∷ bytes) = put byte (parted false bytes)
@@ -57,7 +57,7 @@ put_front byte behind bytes later =
 
 -- ---- names and scopes
 
--- names behind these bytes and a dot are parts behind theirs
+-- names after these bytes and a dot are parts after theirs
 abbrev IsWhole : List ℕ → Type 0
 IsWhole bytes = (later : List ℕ) → parted false (bytes ++ 46 ∷ later) ≡ parted false bytes ++ parted false later
 

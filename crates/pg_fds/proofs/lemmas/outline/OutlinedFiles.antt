@@ -22,7 +22,7 @@ use Rattle.pg_fds.specs.stated.SaidTypes.{is_entry, is_no_entry}
 use Rattle.pg_fds.proofs.lemmas.outline.Declaring.{adds_both, first_fails, later_fails}
 use Rattle.pg_fds.proofs.lemmas.outline.NameLoops.{seen}
 
--- ---- files at places
+-- ---- files at indices
 
 module _ (files : List Message) (m : Message) where
   suc_at : (order : List ℕ) (i place : ℕ) → i < length order → place ≡ get_or order i place → slice_get files place ≡ Some m
@@ -39,7 +39,7 @@ module _ (files : List Message) (m : Message) where
   pub file_at : (order : List ℕ) (i place : ℕ) → i < length order → place ≡ get_or order i place → slice_get files place ≡ Some m → files_at files (take (i + 1) order) ≡ files_at files (take i order) ++ m ∷ []
   file_at order i place h is there = rw add-one (suc_at order i place h is there)
 
-  -- those in front, it and those behind
+  -- those in front, it and those after
   pub files_whole : (order : List ℕ) (i place : ℕ) → i < length order → place ≡ get_or order i place → slice_get files place ≡ Some m
       → (files_at files (take i order) ++ m ∷ []) ++ files_at files (drop (suc i) order) ≡ files_at files order
   files_whole [] i place h is there = absurd (omega (arith, h))
@@ -303,7 +303,7 @@ module _ (depth : ℕ) (counts : Counts) (m : Message) where
           pub file_added : (t4 : NameTable Y) → Adds (services_declared at services) t3 t4 → Adds (file_declared depth counts m) t0 t4
           file_added t4 last = adds_both (of_parts ++ of_enums ++ of_types) of_services t0 t3 t4 types_there (subst (λ ds. Adds ds t3 t4) services_same last)
 
--- what stands at a place says what the message there says
+-- what is at an index says what the message there says
 pub seen_got : (ms : List Kept) (place : ℕ) (m : Kept) → place < length ms → m ≡ get_or ms place m → slice_get (seen ms) place ≡ Some (message_of m)
 seen_got [] place m h is = absurd (omega (arith, h))
 seen_got (x ∷ ms) zero m h is = ap (λ (b : Kept). Some (message_of b)) (sym is)

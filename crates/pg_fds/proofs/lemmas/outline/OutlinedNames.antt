@@ -93,7 +93,7 @@ pub count_at : {A R : Type 0} (row : A → R) (f : Message → R) (old mid : Lis
 count_at row f old mid ms i h is =
     omega (arith, rows_long row old mid (map f (seen (take i ms))) is, length-map (seen (take i ms)) f, seen_long (take i ms), length-take-le i ms h)
 
--- the place of one thing more
+-- the index of one thing more
 pub ids_on : {I : Type 0} (place : I → ℕ) (start i : ℕ) (mid new : List I) (id : I) → map place mid ≡ places_from start i → new ≡ mid ++ id ∷ [] → place id ≡ start + i → map place new ≡ places_from start (i + 1)
 ids_on place start i mid new id before here at =
     ap (map place) here ∙ (map_more place mid id ∙ (ap₂ (λ xs x. xs ++ x ∷ []) before at ∙ (more_from start i ∙ ap (places_from start) (sym (add-one i)))))
@@ -239,7 +239,7 @@ module _ (depth : ℕ) (scope : List ℕ) (ms : List Kept) (i : ℕ) (m : Kept) 
       (left_fails (each_from on whole_of here (seen (drop i ms))) (whole_of here (message_of m)) (each_from on whole_of (on here (message_of m)) (seen (drop (i + 1) ms))) (each_from on whole_of start (seen ms)) mid old e
       (ap (each_from on whole_of here) (seen_drop ms i m h is)) left fails)
 
-  -- a type's place is there, and so are those of the types inside it
+  -- a type's index is there, and so are those of the types inside it
   pub few_types : (old mid : List OutlinedType) → map type_row mid ≡ map type_row old ++ flat_map (rows_of_type (type_rows (depth - 1)) scope) (seen (take i ms)) → length old + length (type_rows depth scope (seen ms)) ≤ 2 ^ 32
       → suc (length mid) + length (type_rows (depth - 1) (qualified scope (message_of m)) (filter is_no_entry (children_at 3 (message_of m)))) ≤ 2 ^ 32
   few_types old mid rows all =

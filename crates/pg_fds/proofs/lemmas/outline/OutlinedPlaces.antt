@@ -1,4 +1,4 @@
--- The places that message types and files keep, as loops come to them.
+-- The indices that message types and files keep, as loops come to them.
 use Rattle.std.proofs.Common.{◌≡◌, ℕ, zero, suc, ◌+◌, ◌-◌, ◌<◌, List, [], ◌∷◌, ◌++◌, map, length, take, get_or, refl, ap, ap₂, sym, ◌∙◌, arith, append_assoc, append-nil}
 use Rattle.std.proofs.Math.ListN.{set}
 use Rattle.std.proofs.lemmas.List.{map-set}
@@ -18,7 +18,7 @@ counts_are x y t e s =
     ap (λ n. record { types = n; enums = x.enums; services = x.services }) t
     ∙ (ap (λ n. record { types = y.types; enums = n; services = x.services }) e ∙ ap (λ n. record { types = y.types; enums = y.enums; services = n }) s)
 
--- no message type, enum or service stands in front
+-- no message type, enum or service comes before
 pub none_counted : {A B C : Type 0} (types : List A) (enums : List B) (services : List C) → types ≡ [] → enums ≡ [] → services ≡ [] → record { types = length types; enums = length enums; services = length services } ≡ no_counts
 none_counted types enums services t e s = counts_are _ no_counts (ap length t) (ap length e) (ap length s)
 
@@ -50,7 +50,7 @@ each_on on give counts here before after m start mid new more at is one =
 pub counts_on : (on : Counts → Message → Counts) (counts here new : Counts) (before after : List Message) (m : Message) → after ≡ before ++ m ∷ [] → here ≡ counts_behind on counts before → new ≡ on here m → new ≡ counts_behind on counts after
 counts_on on counts here new before after m more at is = is ∙ (ap (λ c. on c m) at ∙ (sym (behind_more on counts before m) ∙ ap (counts_behind on counts) (sym more)))
 
--- ---- the message type at a place
+-- ---- the message type at an index
 
 set_middle : {A : Type 0} (front : List A) (x y : A) (behind : List A) → set (front ++ x ∷ behind) (length front) y ≡ front ++ y ∷ behind
 set_middle [] x y behind = refl
@@ -65,7 +65,7 @@ got_map f [] i d = refl
 got_map f (x ∷ xs) zero d = refl
 got_map f (x ∷ xs) (suc i) d = got_map f xs i d
 
--- what stands inside is added to a message type that was there
+-- what is inside is added to a message type that was there
 pub placed_inside : (old : List OutlinedType) (place : ℕ) (found grown : OutlinedType) (types enums : List ℕ) (front behind : List PlacedType) (r : PlacedType) → found ≡ get_or old place found
     → placed_type grown ≡ record { named = type_row found; types = types; enums = enums } → map placed_type old ≡ front ++ r ∷ behind → length front ≡ place
     → map placed_type (set old place grown) ≡ front ++ record { named = r.named; types = types; enums = enums } ∷ behind

@@ -48,7 +48,7 @@ few p (x ∷ ms) (suc i) = of (is_named p (maybe_number_at 9 (message_of x))) (f
     of true h = omega (arith, h)
     of false h = omega (arith, h)
 
--- a field that names a place
+-- a field that names an index
 pub counted_more : (ms : List Kept) (i : ℕ) (m : Kept) (place count before now : ℕ) (counts : List ℕ) → i < length ms → i < 18446744073709551615 → m ≡ get_or ms i m
     → maybe_number_at 9 (message_of m) ≡ Some (pos place) → place < count → before ≡ get_or counts place before → now ≡ min (before + 1) 18446744073709551615
     → AreCounted (seen ms i) count counts → AreCounted (seen ms (i + 1)) count (set counts place now)

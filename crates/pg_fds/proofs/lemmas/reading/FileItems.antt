@@ -26,7 +26,7 @@ lent_length : (xs : List (Bor (List ℕ))) → length (lent xs) ≡ length xs
 lent_length [] = refl
 lent_length (x ∷ xs) = ap suc (lent_length xs)
 
--- the places that were marked are those that the message says
+-- the indices that were marked are those that the message says
 pub places_told : (count : ℕ) (paths : List (Bor (List ℕ))) (ts : List (List ℕ)) (a b ns : List ℤ)
     → count ≡ length paths → lent paths ≡ ts → a ≡ b → b ≡ ns → list_all (is_place count) a ≡ true → list_all (is_place (length ts)) ns ≡ true
 places_told count paths ts a b ns many texts same numbers h =
@@ -34,7 +34,7 @@ places_told count paths ts a b ns many texts same numbers h =
 
 -- ---- files
 
--- what is refused where public places are those of imports is refused for memory
+-- what is refused where public indices are those of imports is refused for memory
 pub file_refused : (skips : Bool) (o : OutlinedFile) (E : Type 0) → (has_public_places (message_of o.message) ≡ true → E) → E ⊎ (file skips (placed_file o) ≡ None)
 file_refused skips o E refused = of (has_public_places (message_of o.message)) refl
   where

@@ -1,4 +1,4 @@
--- The places of public imports are asked of the paths that are there.
+-- The indices of public imports are asked of the paths that are there.
 use Rattle.std.proofs.Common.{◌≡◌, ℕ, suc, ℤ, true, List, [], ◌∷◌, length, refl, ap, sym, subst, ◌∙◌}
 use Rattle.std.specs.List.{list_all}
 use denote.Ref.{Bor}

@@ -102,7 +102,7 @@ not_found (o ∷ os) p h =
     ap (λ b. cond b (Some o) (find (λ (x : FileOption). nat_eq x.number p) os)) (other_number p o.number (below p o.number (and_left (nat_lt p o.number) (list_all (nat_lt p) (option_numbers os)) h)))
     ∙ not_found os p (and_right (nat_lt p o.number) (list_all (nat_lt p) (option_numbers os)) h)
 
--- behind the first option are none of its number
+-- after the first option are none of its number
 behind_first : (o : FileOption) (os : List FileOption) (ps : List ℕ) → list_all (nat_lt o.number) ps ≡ true → views_under (o ∷ os) ps ≡ views_under os ps
 behind_first o os [] h = refl
 behind_first o os (p ∷ ps) h =
@@ -127,7 +127,7 @@ above_all p (q ∷ ps) n h k = of (nat_eq n q) refl k (above_all p ps n (and_rig
     of true e k later = ap (nat_lt p) (same_number n q e) ∙ and_left (nat_lt p q) (list_all (nat_lt p) ps) h
     of false e k later = later k
 
--- numbers above the first stand among the others
+-- numbers above the first are among the others
 in_others : (p : ℕ) (ps : List ℕ) (os : List FileOption) → list_all (nat_lt p) (option_numbers os) ≡ true → are_in (p ∷ ps) os ≡ true → are_in ps os ≡ true
 in_others p ps [] above h = refl
 in_others p ps (o ∷ os) above h =

@@ -64,7 +64,7 @@ apart_from name f (g ∷ fs) apart (inl here) =
     sym (ap (λ (h : Field). differ name (entry_called h)) here) ∙ and_left (differ name (entry_called g)) (list_all (differ name) (map entry_called fs)) apart
 apart_from name f (g ∷ fs) apart (inr later) = apart_from name f fs (and_right (differ name (entry_called g)) (list_all (differ name) (map entry_called fs)) apart) later
 
--- of fields whose names stand once, just one has the name of one of them
+-- of fields whose names occur once, just one has the name of one of them
 one_called : (f : Field) (fs : List Field) → are_distinct (map entry_called fs) ≡ true → Has (λ g. g ≡ f) fs → length (filter (is_called (entry_called f)) fs) ≡ 1
 one_called f [] once has = absurd has
 one_called f (g ∷ fs) once (inl here) =
@@ -97,7 +97,7 @@ each_once fs (g ∷ gs) inside once =
     and_both (is_once fs (entry_called g)) (list_all (is_once fs) (map entry_called gs))
     (ap (λ n. nat_eq n 1) (viewed (entry_called g) fs ∙ one_called g (map_fields fs) once (inside g (inl refl)))) (each_once fs gs (λ f has. inside f (inr has)) once)
 
--- where the names of entry types stand once, each is that of just one field
+-- where the names of entry types occur once, each is that of just one field
 pub written_once : (all : Declared) (fs : List Field) → are_distinct (entry_names fs) ≡ true → list_all (is_named_once (map field_view fs)) (map made (entries all fs)) ≡ true
 written_once all fs once =
     sym (list_all-map (is_once fs) (text_at 1) (map made (entries all fs)))

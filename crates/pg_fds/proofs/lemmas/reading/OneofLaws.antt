@@ -1,4 +1,4 @@
--- Places that are marked.
+-- Indices that are marked.
 use Rattle.std.proofs.Common.{◌≡◌, ℕ, zero, suc, ◌+◌, ◌<◌, ℤ, pos, Bool, true, false, ◌||◌, nat_eq, nat_lt, List, [], ◌∷◌, length, take, get_or, refl, ap, sym, subst, ◌∙◌, arith, add-one}
 use Rattle.std.proofs.Math.ListN.{set, length-set}
 use Rattle.std.proofs.lemmas.Bool.Decides.{nat_tests}
@@ -30,7 +30,7 @@ marked_suc (n ∷ ns) zero p h = of (is_at p n)
     of false = refl
 marked_suc (n ∷ ns) (suc i) p h = ap (λ b. is_at p n || b) (marked_suc ns i p (omega (arith, h))) ∙ or_assoc (is_at p n) (is_marked (take i ns) p) (is_at p (get_or ns i (pos 0)))
 
--- one place more is marked
+-- one index more is marked
 pub marks_step : (numbers : List ℤ) (i place count : ℕ) (marks : List Bool) → i < length numbers → get_or numbers i (pos 0) ≡ pos place → place < count
     → AreMarked (take i numbers) count marks → AreMarked (take (i + 1) numbers) count (set marks place true)
 marks_step numbers i place count marks h is below marked = record {

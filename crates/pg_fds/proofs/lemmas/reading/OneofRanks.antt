@@ -1,4 +1,4 @@
--- The ranks of oneofs, which are how many real ones stand in front of each.
+-- The ranks of oneofs, which are how many real ones come before each.
 use Rattle.std.proofs.Common.{◌≡◌, ℕ, zero, suc, ◌+◌, ◌<◌, Bool, true, false, cond, not, nat_lt, List, [], ◌∷◌, ◌++◌, filter, length, take, get_or, refl, ap, sym, subst, ◌∙◌, arith, add-one}
 use Rattle.std.proofs.lemmas.List.{get_or_append_left as in_front, get_or_push, length-append}
 use Rattle.pg_fds.specs.stated.StatedOneofs.{AreRanks, unmarked}

@@ -25,7 +25,7 @@ use Rattle.pg_fds.specs.stated.StatedTypes.{last_named, own_entries, owner}
 use Rattle.pg_fds.specs.stated.SaidFiles.{is_place}
 use Rattle.pg_fds.proofs.lemmas.lists.Each.{each_first, each_rest}
 
--- ---- a list by what stands at its places
+-- ---- a list by what is at its indices
 
 the_list : {A : Type 0} (f : ℕ → A) (d : A) (start count : ℕ) (xs : List A) → length xs ≡ count → ((i : ℕ) → i < count → get_or xs i d ≡ f (start + i)) → xs ≡ map f (places_from start count)
 the_list f d start zero [] many each = refl
@@ -145,7 +145,7 @@ placed_or_none E means o entries count ms many refused = of (list_all (has_place
     of true is = inl (refused is)
     of false is = inr (ap (option_and_then (λ fs. only_if (list_all (is_named_once fs) entries) (Some fs))) (unplaced means o ms (subst (λ k. list_all (has_place k) ms ≡ false) (sym many) is)))
 
--- the places of synthetic oneofs are among those that fields name
+-- the indices of synthetic oneofs are among those that fields name
 pub synthetic_placed : (count : ℕ) (ms : List Message) → list_all (has_place count) ms ≡ true → list_all (is_place count) (synthetic_places ms) ≡ true
 synthetic_placed count [] all = refl
 synthetic_placed count (m ∷ ms) all = of (is_optional m) (and_left (has_place count m) (list_all (has_place count) ms) all) (synthetic_placed count ms (and_right (has_place count m) (list_all (has_place count) ms) all))

@@ -68,7 +68,7 @@ some_kept {A} test (x ∷ xs) h = of (test x) refl h (some_kept test xs)
     of true e h later = any_here (λ x. test x ≡ true) x xs e
     of false e h later = any_there (λ x. test x ≡ true) x xs (later h)
 
--- the field says a number that is no place
+-- the field says a number that is no index
 abbrev IsOut : ℕ → Message → Type 0
 IsOut count m = (number : ℤ) × (maybe_number_at proto.FIELD_ONEOF_INDEX m ≡ Some number) × (is_place count number ≡ false)
 

@@ -35,7 +35,7 @@ isnt : (b : Bool) → not b ≡ false → b ≡ true
 isnt true h = refl
 isnt false h = sym h
 
--- ---- how often items stand
+-- ---- how often items occur
 
 repeats_optional : (m : Message) (e : Element) (member : Bool) → presence m e member ≡ None → (is_optional m ≡ true) × (int_eq (label_at m) (pos 3) ≡ true)
 repeats_optional m e member h = of (int_eq (label_at m) (pos 3)) refl h

@@ -1,4 +1,4 @@
--- Fields without the oneof that they have to stand in have a cause.
+-- Fields without the oneof that they have to be in have a cause.
 use Rattle.std.proofs.Common.{◌≡◌, ◌≢◌, ◌⊎◌, inl, inr, ℕ, zero, suc, ◌+◌, ◌<◌, ◌≤◌, ◌^◌, ℤ, pos, negsuc, Bool, true, false, cond, nat_eq, nat_lt, ◌||◌, List, [], ◌∷◌, filter, map, Option, Some, None, slice_get, option_and_then, refl, ap, sym, subst, ◌∙◌, arith}
 use Rattle.std.proofs.lemmas.Bool.{false≢true}
 use Rattle.std.proofs.lemmas.Bool.Decides.{nat_tests}
@@ -33,7 +33,7 @@ or_right false b h = h
 own_place : (place : ℕ) → nat_eq place place ≡ true
 own_place place = grind (arith, nat_tests)
 
--- ---- what is known of the oneof at a place
+-- ---- what is known of the oneof at an index
 
 got : (f : ℕ → Bool) (start count place : ℕ) → place < count → slice_get (map f (places_from start count)) place ≡ Some (f (start + place))
 got f start zero place h = absurd (omega (arith, h))
@@ -87,7 +87,7 @@ module _ (type m : Message) where
   abbrev members : List ℕ
   members = members_in fields (oneof_count type)
 
-  -- the place that a field says, which is there and has that mark
+  -- the index that a field says, which is there and has that mark
   placed : (mark : Bool) (place : ℕ) → place < oneof_count type → is_marked (synthetic_places fields) place ≡ mark → place_marked marks mark (pos place) ≡ Some place
   placed mark place h is =
       ap (λ o. only_if (has_mark mark o) (Some place)) (marked_at fields (oneof_count type) place h ∙ ap Some is) ∙ ap (λ b. only_if b (Some place)) (own mark)

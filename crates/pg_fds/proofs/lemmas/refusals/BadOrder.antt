@@ -1,4 +1,4 @@
--- Files that have no order have a cause: a path or an import that stands twice, an import that isn't there, or imports that go round.
+-- Files that have no order have a cause: a path or an import that occurs twice, an import that isn't there, or imports that go round.
 use Rattle.std.proofs.Common.{◌≡◌, ◌⊎◌, inl, inr, ℕ, zero, suc, ◌<◌, ◌≤◌, Bool, true, false, cond, not, ◌&&◌, ◌||◌, List, [], ◌∷◌, ◌++◌, filter, find, length, map, Option, Some, None, option_map, option_and_then, refl, ap, sym, subst, ◌∙◌, arith}
 use Rattle.std.proofs.lemmas.Bool.{false≢true}
 use Rattle.std.proofs.lemmas.List.{length-map}
@@ -126,7 +126,7 @@ module _ (leads : Text → Option (List Text)) where
       of (inl twice) later = let front = trail_to x (y ∷ ys) x trail (differ_none x (y ∷ ys) twice) in (x, front.0, front.1)
       of (inr rest) later = later rest
 
--- ---- texts that stand once are no more than those that they are among
+-- ---- strings that occur once are no more than those that they are among
 
 fewer : (x : Text) (zs : List Text) → length (filter (differ x) zs) ≤ length zs
 fewer x [] = omega arith

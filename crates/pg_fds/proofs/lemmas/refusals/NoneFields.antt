@@ -70,7 +70,7 @@ module _ (type m : Message) where
   out_none number says out =
       no_oneof marks members m (ap (is_placed (length marks)) says ∙ (ap (λ n. is_place n number) many_marks ∙ out))
 
-  -- a place that is there, or none
+  -- an index that is there, or none
   within_none : (place : ℕ) → maybe_number_at proto.FIELD_ONEOF_INDEX m ≡ Some (pos place) → (place < oneof_count type → oneof marks members m ≡ None) → oneof marks members m ≡ None
   within_none place says h = of (nat_lt place (oneof_count type)) refl
     where

@@ -72,7 +72,7 @@ module _ (skips : Bool) (files : List Message) where
   pub import_twice_none : Any (λ m. are_distinct (kept_paths skips (texts_at proto.FILE_DEPENDENCY m)) ≡ false) files → in_post_order skips files ≡ None
   import_twice_none any = no_order skips files (inr (inl (list_all-map imports_once (importer_of skips) files ∙ false_any (λ m. imports_once (importer_of skips m)) files any)))
 
-  -- where paths stand once
+  -- where paths occur once
   or_twice : (are_distinct names ≡ true → in_post_order skips files ≡ None) → in_post_order skips files ≡ None
   or_twice once = of (are_distinct names) refl
     where

@@ -1,4 +1,4 @@
--- What names mean by the rows of message types and enums: where names stand once, each name means its own.
+-- What names mean by the rows of message types and enums: where names occur once, each name means its own.
 use Rattle.std.proofs.Common.{◌≡◌, ℕ, zero, suc, ◌+◌, ◌≤◌, Bool, true, false, cond, ◌||◌, List, [], ◌∷◌, flat_map, Option, Some, None, option_map, slice_get, refl, ap, sym, ◌∙◌, arith}
 use Rattle.std.proofs.lemmas.Option.{none-some, same_Some, slice_get-map}
 use Rattle.std.proofs.lemmas.Slice.Eq.{bytes_eq-Decides}
@@ -18,7 +18,7 @@ use Rattle.pg_fds.proofs.lemmas.lists.NameCounts.{at_most_once, count, count_app
 use Rattle.pg_fds.proofs.lemmas.rows.RowNames.{AreMeant}
 use Rattle.pg_fds.proofs.lemmas.rows.NamesOfRows.{as_entry, as_row, few_in_files}
 
--- ---- the place of a name
+-- ---- the index of a name
 
 module _ (n : List ℕ) where
   counted_there : (names : List (List ℕ)) (place : ℕ) → slice_get names place ≡ Some n → 1 ≤ count n names
@@ -120,7 +120,7 @@ module _ (types enums : List Row) (once : (n : List ℕ) → as_row n types + as
     enums = enum_means;
   }
 
--- the names of all that files declare stand once, so those of their rows mean these
+-- the names of all that files declare occur once, so those of their rows mean these
 pub files_meant : (depth : ℕ) (files : List Message) → are_distinct (files_names depth files) ≡ true
     → AreMeant (meaning (flat_map (file_types depth) files) (flat_map (file_enums depth) files)) (flat_map (file_types depth) files) (flat_map (file_enums depth) files)
 files_meant depth files once = rows_meant (flat_map (file_types depth) files) (flat_map (file_enums depth) files) (λ n. few n (few_in_files n depth files) (at_most_once n (files_names depth files) once))

@@ -123,7 +123,7 @@ module _ (n : List ℕ) where
         count_append n enums types,
       )
 
-  -- each name stands in files as often as in their rows and in the files themselves
+  -- each name is in files as often as in their rows and in the files themselves
   pub in_files : (depth : ℕ) (ms : List Message)
       → count n (files_names depth ms)
       ≡ as_type (flat_map (file_types depth) ms) + as_row (flat_map (file_enums depth) ms) + as_service (flat_map file_services ms) + count n (flat_map in_file ms)

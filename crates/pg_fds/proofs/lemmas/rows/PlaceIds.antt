@@ -1,4 +1,4 @@
--- The places of message types, enums and services are what their ids hold.
+-- The indices of message types, enums and services are what their ids hold.
 use Rattle.std.proofs.Common.{◌≡◌, List, [], ◌∷◌, map, refl, ap}
 use Rattle.pg_schema.specs.declared.parts.field.EnumId.{EnumId}
 use Rattle.pg_schema.specs.declared.parts.field.TypeId.{TypeId}

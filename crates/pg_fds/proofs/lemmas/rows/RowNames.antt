@@ -21,7 +21,7 @@ use Rattle.pg_fds.proofs.lemmas.written.WrittenTypes.{EntriesMean, inside, none_
 abbrev pub RowEntriesMean : Meanings → Row → Type 0
 RowEntriesMean means r = AllByRecursion (λ e. means (qualified r.0 e) ≡ Some nameds.Entry) (own_entries r.1)
 
--- the names of the message types and enums mean them, by their places
+-- the names of the message types and enums mean them, by their indices
 pub record AreMeant (means : Meanings) (type_rows enum_rows : List Row) : Type 0 where
   pub types : (place : ℕ) (r : Row) → slice_get type_rows place ≡ Some r → means r.0 ≡ Some (nameds.Type (record { index = place }))
   pub entries : (place : ℕ) (r : Row) → slice_get type_rows place ≡ Some r → RowEntriesMean means r

@@ -1,4 +1,4 @@
--- Rows of what stands at places, one by one, and places that follow one another.
+-- Rows of what is at indices, one by one, and indices that follow one another.
 use Rattle.std.proofs.Common.{◌≡◌, ℕ, zero, suc, ◌+◌, Bool, true, List, [], ◌∷◌, ◌++◌, filter_map, length, map, Option, Some, option_map, slice_get, refl, ap, ap₂, sym, subst, ◌∙◌, arith}
 use Rattle.std.proofs.lemmas.List.{length-map, map-append}
 use Rattle.std.proofs.lemmas.Option.{none-some, same_Some}
@@ -6,7 +6,7 @@ use Rattle.std.specs.List.{list_all}
 use Rattle.pg_schema.proofs.lemmas.rules.PairLemmas.{and_left, and_right}
 use Rattle.pg_check.specs.standing.Places.{places_from}
 
--- ---- what stands at places
+-- ---- what is at indices
 
 -- what holds of all holds of each
 pub test_at : {A : Type 0} (test : A → Bool) (xs : List A) (i : ℕ) (x : A) → list_all test xs ≡ true → slice_get xs i ≡ Some x → test x ≡ true
@@ -26,7 +26,7 @@ module _ {A R : Type 0} (row : A → R) (xs : List A) where
   abbrev row_at : ℕ → Option R
   row_at place = option_map row (slice_get xs place)
 
-  -- the rows are those of what stands at these places
+  -- the rows are those of what is at these indices
   abbrev pub AreAt : List R → List ℕ → Type 0
   AreAt rows places = there rows ≡ map row_at places
 
@@ -49,7 +49,7 @@ module _ {A R : Type 0} (row : A → R) where
       moved : (k : ℕ) → suc start + k ≡ start + suc k
       moved k = omega arith
 
-  -- rows of all places, from the first on, are those of all that stands there
+  -- rows of all indices, from the first on, are those of all that is there
   pub at_all : (xs : List A) (rows : List R) (places : List ℕ) → places ≡ places_from 0 (length xs) → AreAt row xs rows places → rows ≡ map row xs
   at_all xs rows places all are =
       sym (all_there rows)
@@ -58,7 +58,7 @@ module _ {A R : Type 0} (row : A → R) where
       plain : (k : ℕ) → 0 + k ≡ k
       plain k = omega arith
 
--- ---- places one after the other
+-- ---- indices one after the other
 
 -- they follow one another, from the first on
 abbrev pub AreFrom : (first : ℕ) → List ℕ → Type 0

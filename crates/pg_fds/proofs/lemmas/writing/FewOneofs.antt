@@ -92,7 +92,7 @@ few_oneofs (suc n) fs has =
 below_twice : (oneofs declared fields : ℕ) → fields < 2 ^ 29 → oneofs ≤ fields → declared ≡ fields → oneofs + declared < 2 ^ 31
 below_twice oneofs declared fields few less same = omega (arith, few, less, same)
 
--- so 32 bits hold the place of a oneof
+-- so 32 bits hold the index of a oneof
 pub oneof_small : (oneofs types enums : ℕ) (fs : List Field) → list_all (is_field oneofs types enums) fs ≡ true → is_rising (0 ∷ numbers fs) ≡ true → have_members oneofs fs ≡ true
     → (o : Option ℕ) → is_oneof oneofs o ≡ true → IfSome o (λ place. place < 2 ^ 32)
 oneof_small oneofs types enums fs h rising has None is = tt
@@ -102,7 +102,7 @@ oneof_small oneofs types enums fs h rising has (Some place) is =
     let at = below place oneofs is in
     omega (arith, few, less, at)
 
--- and an int32 the places of a message type's oneofs, of which each field may have one of its own
+-- and an int32 the indices of a message type's oneofs, of which each field may have one of its own
 pub few_places : (types enums : ℕ) (t : MessageType) → is_message_type types enums t ≡ true → length t.oneofs.items + length t.declared.items < 2 ^ 31
 few_places types enums t h =
     let own : has_fields types enums t ≡ true = and_left _ _ (and_left _ _ (and_left _ _ h)) in

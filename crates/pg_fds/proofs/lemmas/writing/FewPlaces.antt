@@ -1,4 +1,4 @@
--- Of a sound schema whose places 32 bits hold, there are at most 2^32 enums and services.
+-- Of a sound schema whose indices 32 bits hold, there are at most 2^32 enums and services.
 use Rattle.std.proofs.Common.{ℕ, ◌<◌, ◌≤◌, ◌^◌, List, [], ◌∷◌, ◌++◌, flat_map, length}
 use Rattle.std.specs.List.{AllByRecursion}
 use Rattle.pg_schema.specs.declared.parts.field.EnumId.{EnumId}

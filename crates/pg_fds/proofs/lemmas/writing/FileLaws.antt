@@ -1,4 +1,4 @@
--- Options of files, and what holds at a place of a list.
+-- Options of files, and what holds at an index of a list.
 use Rattle.std.proofs.Common.{◌≡◌, ℕ, zero, suc, ◌+◌, ◌≤◌, ◌<◌, true, nat_lt, List, [], ◌∷◌, ◌++◌, ◌-◌, length, take, drop, get_or, flat_map, slice_get, Option, Some, None, refl, ap, sym, subst, ◌∙◌, arith, add-one, append_assoc, drop-cons}
 use Rattle.std.proofs.lemmas.Bool.Decides.{nat_tests}
 use Rattle.std.proofs.lemmas.Grind.{flat_map-append}
@@ -80,7 +80,7 @@ types_some made now depth all ids i id t some h is there before grown =
     ∙ sym (types_one depth all ids i id some h is
     ∙ ap (λ (o : Option MessageType). types_items depth all (take i ids) ++ where_found (λ (x : MessageType). type_items all (types_items (depth - 1) all x.nested_types.items) x) o) there))
 
--- at a place that is there the default doesn't count
+-- at an index that is there the default doesn't count
 pub same_default : {A : Type 0} (xs : List A) (i : ℕ) (d e : A) → i < length xs → get_or xs i d ≡ get_or xs i e
 same_default [] i d e h = absurd (omega (arith, h))
 same_default (x ∷ xs) zero d e h = refl

@@ -1,4 +1,4 @@
--- The bytes of a message grow by a record where a field is put behind the others, and are read as the message with that field.
+-- The bytes of a message grow by a record where a field is put after the others, and are read as the message with that field.
 use Rattle.std.proofs.Common.{◌≡◌, ◌≢◌, ℕ, ℤ, ◌<◌, ◌≤◌, ◌^◌, ◌⊎◌, inl, inr, ⊎_elim, List, [], ◌∷◌, ◌++◌, length, true, option_map, unwrap_or, refl, ap, sym, ◌∙◌, subst, arith}
 use Rattle.std.specs.Str.{is_utf8}
 use Rattle.pg_schema.specs.declared.parts.field.TypeId.{TypeId}
@@ -63,7 +63,7 @@ begun_is type = ap (λ is. record { type = type; last = 0; items = is }) (read_n
 pub some_read : (type : TypeId) (bytes : List ℕ) → IsEncoded type bytes → bytes ≢ [] → read_items type bytes ≢ []
 some_read type bytes of some none = some (of.bytes_are ∙ (ap (λ is. enc written_shape type (message_from is [])) none ∙ enc_none type))
 
--- ---- a field behind the others
+-- ---- a field after the others
 
 greatest-append : (xs ys : Items) (n : ℕ) → greatest xs ≤ n → greatest ys ≤ n → greatest (xs ++ ys) ≤ n
 greatest-append [] ys n h k = k

@@ -1,4 +1,4 @@
--- What stands behind the last dot of a name.
+-- What comes after the last dot of a name.
 use Rattle.std.specs.Prelude.{◌==◌}
 use Rattle.std.proofs.Common.{◌≡◌, ◌≢◌, ℕ, suc, ◌<◌, true, false, cond, List, [], ◌∷◌, ◌++◌, length, get_or, take, drop, refl, ap, sym, ◌∙◌, arith}
 use Rattle.std.proofs.lemmas.Bool.Decides.{nat_tests}
@@ -22,7 +22,7 @@ one_part : (xs : List ℕ) → HasNoDot xs → parts_at_dots xs ≡ xs ∷ []
 one_part [] h = refl
 one_part (x ∷ xs) h = rw (not_dot x (h 0 (omega arith))) (ap (before_first x) (one_part xs (later x xs h)))
 
--- a text with a dot has parts before it, and then those behind it
+-- a string with a dot has parts before it, and then those after it
 parts_around : (xs ys : List ℕ) → (first : List ℕ) × (others : List (List ℕ)) × (parts_at_dots (xs ++ (46 ∷ ys)) ≡ first ∷ (others ++ parts_at_dots ys))
 parts_around [] ys = ([], [], refl)
 parts_around (x ∷ xs) ys =

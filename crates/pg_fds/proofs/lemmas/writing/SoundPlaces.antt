@@ -1,4 +1,4 @@
--- In a sound schema each message type, enum and service stands once in its place, each message type in one that files lead to.
+-- In a sound schema each message type, enum and service has an index of its own, each message type in one that files lead to.
 use Rattle.std.proofs.Common.{◌≡◌, ◌⊎◌, inl, inr, ℕ, zero, suc, ◌<◌, Bool, true, ◌&&◌, List, [], ◌∷◌, drop, flat_map, length, take, Option, Some, None, option_map, slice_get, refl, subst, arith}
 use Rattle.std.proofs.lemmas.Bool.{and_parts, false≢true}
 use Rattle.std.proofs.lemmas.Option.{none-some, same_Some, slice_get_within}

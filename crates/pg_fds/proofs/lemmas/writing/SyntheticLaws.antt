@@ -15,7 +15,7 @@ use Rattle.pg_fds.specs.writing.MadeNames.{HasMade, begins_made}
 use Rattle.pg_fds.specs.writing.Synthetic.{freed, sign, synthetic_name, synthetic_oneofs}
 use Rattle.pg_fds.proofs.lemmas.lists.Tests.{or_none}
 
--- what holds of each holds of the one at a place
+-- what holds of each holds of the one at an index
 pub each_at : {A : Type 0} (P : A → Type 0) (xs : List (Bor A)) (i : ℕ) (x : Bor A) → AllByRecursion P (lent xs) → i < length xs → x ≡ get_or xs i x → P x.now
 each_at P [] i x all h is = absurd (omega (arith, h))
 each_at P (y ∷ ys) zero x all h is = subst P (sym (ap (λ z. z.now) is)) all.0
@@ -58,7 +58,7 @@ pub set_with : {Y : Type 0} (names : List (List ℕ)) (key : List ℕ) (old new 
 set_with names key old new step held text begins =
     step text ∙ (ap (λ b. cond (bytes_eq key text) true b) (held text begins) ∙ (or_of (bytes_eq key text) (is_among names text) ∙ ap (λ b. b || is_among names text) (bytes_eq-sym key text)))
 
--- one more name behind the others
+-- one more name after the others
 pub made_more : {Y : Type 0} (done : List (List ℕ)) (key : List ℕ) (old new : BTreeSet (String Y)) → ((cs : List ℕ) → contains_text new cs ≡ cond (bytes_eq key cs) true (contains_text old cs)) → HasMade done old → HasMade (done ++ key ∷ []) new
 made_more done key old new step held text begins =
     set_with done key old new step held text begins ∙ (or_turned (bytes_eq text key) (is_among done text) ∙ sym (among_push done key text))
@@ -72,7 +72,7 @@ made_others done key set other held text begins =
     apart true same = absurd (false≢true (sym other ∙ (ap begins_made (sym ((bytes_eq-Decides text key).0 same)) ∙ begins)))
     apart false same = same
 
--- what stands behind an `X` begins so
+-- what comes after an `X` begins so
 pub sign_begins : (name made : List ℕ) → made ≡ sign ∷ name → begins_made made ≡ true
 sign_begins name made is = ap begins_made is
 

@@ -87,7 +87,7 @@ one_level (ends unknown) = omega arith
 one_level (holds number key leaf later) = one_level later
 one_level (nests number key child later) = omega arith
 
--- ---- where a message stands too deep
+-- ---- where a message is too deep
 
 record InRecord (shape : Shape) (limit : ℕ) (fs : List FieldShape) (bytes : List ℕ) : Type 0 where
   front : List ℕ
@@ -179,7 +179,7 @@ unknown_each shape type (ends unknown) is = is
 unknown_each shape type (holds number key leaf later) is = unknown_each shape type later is.2
 unknown_each shape type (nests number key child later) is = unknown_each shape type later is.4
 
--- the child that stands in a part
+-- the child that is in a part
 record IsChild (shape : Shape) (t : TypeId) (m : Message) (leaf : Leaf) : Type 0 where
   child : Message
   is : IsMessage shape t child
@@ -280,7 +280,7 @@ module _ (spells : EncodingSpells) (splits : WritingSplits) (shape : Shape) (is_
   abbrev NoneDeep : ℕ → Type 0
   NoneDeep limit = (type : TypeId) (m : Message) (place : ℕ) → IsMessage shape type m → length (enc shape type m) ≤ cap → levels m ≤ limit → TooDeepIn shape limit (fields shape type) (enc shape type m) place → ⊥
 
-  -- what stands too deep stands so in a child
+  -- what is too deep is so in a child
   in_child_too : (limit : ℕ) → NoneDeep limit → (type : TypeId) (m : Message) → IsMessage shape type m → length (enc shape type m) ≤ cap → levels m ≤ suc limit
       → (l : ℕ) → l ≡ limit → InRecord shape l (fields shape type) (enc shape type m) → ⊥
   in_child_too limit lower type m is short low l same at =

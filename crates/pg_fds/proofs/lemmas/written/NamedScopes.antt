@@ -1,4 +1,4 @@
--- The message types and services of a sound schema stand in scopes, so they have names, which are scopes.
+-- The message types and services of a sound schema are in scopes, so they have names, which are scopes.
 use Rattle.std.proofs.Common.{◌≡◌, ℕ, Bool, ◌&&◌, true, List, [], ◌∷◌, length, Some, option_map, slice_get, ap, sym, ◌∙◌}
 use Rattle.std.proofs.lemmas.Option.{slice_get_within}
 use Rattle.std.specs.List.{AllByRecursion, list_all}
@@ -20,7 +20,7 @@ use Rattle.pg_fds.proofs.lemmas.writing.SoundPlaces.{each_type, services_once, t
 use Rattle.pg_fds.proofs.lemmas.written.QualifiedNames.{scope_of}
 use Rattle.pg_fds.proofs.lemmas.written.WrittenNames.{is_scope}
 
--- the name of what stands at the place is a scope
+-- the name of what is at the index is a scope
 abbrev IsScope : {A : Type 0} (name : A → List ℕ) (xs : List A) → ℕ → Type 0
 IsScope {A = A} name xs place = (x : A) → slice_get xs place ≡ Some x → scope_of (name x) ≡ dotted (name x)
 

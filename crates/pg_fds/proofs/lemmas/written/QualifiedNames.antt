@@ -1,5 +1,5 @@
 -- Names whose bytes are letters and digits, and packages of them, stay as they are when they are quoted. So the qualified name of such a name
--- is its full name with a dot in front, and such names stand once, or are free of a package, where the full names are.
+-- is its full name with a dot in front, and such names occur once, or are free of a package, where the full names are.
 use Rattle.std.proofs.Common.{◌≡◌, ℕ, ◌-◌, Bool, true, false, cond, not, nat_eq, nat_le, nat_lt, eqb, ◌&&◌, ◌||◌, List, [], ◌∷◌, ◌++◌, map, codes, refl, ap, ap₂, sym, ◌∙◌, arith}
 use Rattle.std.proofs.lemmas.Bool.{false≢true}
 use Rattle.std.proofs.lemmas.Bool.Decides.{nat_tests}
@@ -52,7 +52,7 @@ quoted_plain (b ∷ bytes) plain =
 
 -- ---- packages
 
--- what may stand in a package is no backslash
+-- what may be in a package is no backslash
 no_backslash : (begins : Bool) (byte : ℕ) → may_stand begins byte ≡ true → nat_eq byte 92 ≡ false
 no_backslash begins byte may = of (nat_eq byte 92) refl
   where

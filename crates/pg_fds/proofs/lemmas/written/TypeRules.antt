@@ -71,6 +71,6 @@ fields_within oneofs types enums [] h = tt
 fields_within oneofs types enums (f ∷ fs) h =
     (and_right _ _ (and_left (is_field oneofs types enums f) (list_all (is_field oneofs types enums) fs) h), fields_within oneofs types enums fs (and_right (is_field oneofs types enums f) (list_all (is_field oneofs types enums) fs) h))
 
--- each stands in a oneof that is there, if in any
+-- each is in a oneof that is there, if in any
 pub fields_in_oneofs : (types enums : ℕ) (t : MessageType) → is_message_type types enums t ≡ true → AllByRecursion (λ (f : Field). is_oneof (length t.oneofs.items) f.oneof ≡ true) t.fields.items
 fields_in_oneofs types enums t rules = fields_within (length t.oneofs.items) types enums t.fields.items (fields_kept types enums t rules)

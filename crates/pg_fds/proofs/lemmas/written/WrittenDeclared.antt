@@ -1,4 +1,4 @@
--- What is written of the files of a schema may stand in one table: it declares each name as often as the schema does.
+-- What is written of the files of a schema may be in one table: it declares each name as often as the schema does.
 use Rattle.std.proofs.Common.{◌≡◌, ℕ, zero, suc, ◌+◌, ◌≤◌, ◌^◌, Bool, true, false, cond, not, nat_eq, nat_lt, List, [], ◌∷◌, ◌++◌, map, flat_map, filter, length, Option, Some, None, slice_get, refl, ap, ap₂, sym, ◌∙◌, arith}
 use Rattle.std.proofs.lemmas.Bool.{false≢true}
 use Rattle.std.proofs.lemmas.Bool.Decides.{nat_tests}
@@ -98,7 +98,7 @@ module _ (all : Declared) (scope : List ℕ) where
       of None later = later
       of (Some e) later = ap₂ (λ xs ys. xs ++ ys) (one_called e) later ∙ sym (map-append (name_in scope) (value_names e.values.items) (values_at all.enums ids))
 
--- how often a name stands in what is made of each field
+-- how often a name occurs in what is made of each field
 module _ (n : List ℕ) (scope : List ℕ) (names : List Field → List (List ℕ)) (apart : (xs ys : List Field) → names (xs ++ ys) ≡ names xs ++ names ys) where
   as_much : (xs ys : List Field) → count n (map (name_in scope) (names (xs ++ ys))) ≡ count n (map (name_in scope) (names xs)) + count n (map (name_in scope) (names ys))
   as_much xs ys =
@@ -171,7 +171,7 @@ module _ (all : Declared) (t : MessageType) (is_rising : is_rising (numbers t.fi
           count_append n (its fields) (its oneofs),
         )
 
-    -- each name stands in its row as often as in the message type
+    -- each name is in its row as often as in the message type
     row_counted : (nested : List Items) → list_all is_no_entry (map made nested) ≡ true → (n : List ℕ) → count n (in_type (name, type_written all nested t)) ≡ count n (type_names all.enums t)
     row_counted nested plain n =
         let own_fields : List (List ℕ) = its (field_names (declared_fields t)) in
@@ -223,7 +223,7 @@ module _ (all : Declared) (enum_rules : list_all is_enum all.enums ≡ true) whe
       → list_all is_plain (field_names t.fields.items ++ map string_bytes t.oneofs.items ++ entry_names t.fields.items ++ values_at all.enums t.nested_enums.items) ≡ true
   type_words types enums t rules = type_plain types enums t rules (values_at all.enums t.nested_enums.items) (values_plain all.enums enum_rules t.nested_enums.items)
 
-  -- the names of its entry types stand once
+  -- the names of its entry types occur once
   entries_once : (types enums : ℕ) (t : MessageType) → is_message_type types enums t ≡ true → scope_of (string_bytes t.name) ≡ dotted (string_bytes t.name) → ((n : List ℕ) → count n (type_names all.enums t) ≤ 1)
       → are_distinct (entry_names (declared_fields t)) ≡ true
   entries_once types enums t rules named few =
@@ -326,7 +326,7 @@ module _ (parts : Parts) (sound : IsSound parts) where
   whole n =
       ap (count n) names_are ∙ omega (arith, count_append n (in_types ++ in_enums ++ in_services) in_files_own, count_append n (in_types ++ in_enums) in_services, count_append n in_types in_enums)
 
-  -- of each message type the names of its entry types stand once
+  -- of each message type the names of its entry types occur once
   pub its_entries_once : (place : ℕ) (t : MessageType) → slice_get all.types place ≡ Some t → are_distinct (entry_names (declared_fields t)) ≡ true
   its_entries_once place t at =
       entries_once all sound.enums (length all.types) (length all.enums) t (rules place t at) (type_is_scope parts sound place t at)
@@ -347,7 +347,7 @@ module _ (parts : Parts) (sound : IsSound parts) where
     service_counted n place s at =
         ap (count n) (service_called_once all sound.enums (length all.types) s (test_at (is_service (length all.types)) all.services place s sound.services at) (service_is_scope parts sound place s at))
 
-    -- each name stands in the set as often as in the schema
+    -- each name is in the set as often as in the schema
     as_often : (n : List ℕ) → count n (files_names most_deep ms) ≡ count n names
     as_often n =
         omega (

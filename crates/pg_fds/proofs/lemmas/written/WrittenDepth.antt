@@ -22,7 +22,7 @@ longer (b ∷ bytes) name inside =
     let whole : length name ≡ length (b ∷ bytes) + length (46 ∷ own_name name) = ap length (name_within (b ∷ bytes) name inside) ∙ length-append (b ∷ bytes) (46 ∷ own_name name) in
     omega (arith, whole)
 
--- so many places from one on
+-- so many indices from one on
 abbrev places : (start : ℕ) → (count : ℕ) → List ℕ
 places start zero = []
 places start (suc count) = start ∷ places (suc start) count
@@ -44,7 +44,7 @@ module _ (parts : Parts) (sound : IsSound parts) where
   abbrev types : List MessageType
   types = parts.types.items
 
-  -- the types that have a longer name than the scope are among these places
+  -- the types that have a longer name than the scope are among these indices
   abbrev HaveRoom : List ℕ → List ℕ → Type 0
   HaveRoom left scope = (i : ℕ) (t : MessageType) → slice_get types i ≡ Some t → length scope < length (string_bytes t.name) → Has (λ k. k ≡ i) left
 

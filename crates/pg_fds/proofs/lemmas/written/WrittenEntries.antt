@@ -95,7 +95,7 @@ not_among (m ∷ ms) name apart =
     of true same apart = absurd (differ_apart name (text_at 1 m) apart (sym ((bytes_eq-Decides (text_at 1 m) name).0 same)))
     of false same apart = refl
 
--- of messages whose names stand once, each has its own
+-- of messages whose names occur once, each has its own
 last_is : (ms : List Message) (m : Message) → are_distinct (map (text_at 1) ms) ≡ true → Has (λ x. x ≡ m) ms → last_named ms (text_at 1 m) ≡ Some m
 last_is [] m once has = absurd has
 last_is (x ∷ ms) m once (inl here) =
@@ -104,7 +104,7 @@ last_is (x ∷ ms) m once (inl here) =
 last_is (x ∷ ms) m once (inr later) =
     ap (λ o. first_of o (cond (bytes_eq (text_at 1 x) (text_at 1 m)) (Some x) None)) (last_is ms m (and_right (list_all (differ (text_at 1 x)) (map (text_at 1) ms)) (are_distinct (map (text_at 1) ms)) once) later)
 
--- where their names stand once, each map field has its own under its name
+-- where their names occur once, each map field has its own under its name
 pub have_entries : (all : Declared) (fs : List Field) → are_distinct (entry_names fs) ≡ true → AllByRecursion (HasEntry all (last_named (map made (entries all fs)))) fs
 have_entries all fs once = under all (last_named (map made (entries all fs))) fs (λ m has. last_is (map made (entries all fs)) m (ap are_distinct (entries_called all fs) ∙ once) has)
 

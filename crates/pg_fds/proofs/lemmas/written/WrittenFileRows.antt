@@ -1,4 +1,4 @@
--- The rows of all that is written of files are those of what these declare, by their places, and so is what each file keeps, where places
+-- The rows of all that is written of files are those of what these declare, by their indices, and so is what each file keeps, where indices
 -- are counted from file to file.
 use Rattle.std.proofs.Common.{◌≡◌, ℕ, ◌+◌, Bool, true, List, [], ◌∷◌, ◌++◌, length, map, refl, ap, ap₂, sym, subst, ◌∙◌, arith}
 use Rattle.std.proofs.lemmas.List.{length-map}
@@ -43,13 +43,13 @@ module _ (all : Declared) (depth : ℕ) where
   abbrev ServicesAt : List Row → List ℕ → Type 0
   ServicesAt = AreAt (service_row all) all.services
 
-  -- so many message types, enums and services stand in front of these files
+  -- so many message types, enums and services come before these files
   pub record StandBehind (counts : Counts) (fs : List File) : Type 0 where
     pub types : AreFrom counts.types (flat_map types_in fs)
     pub enums : AreFrom counts.enums (flat_map enums_in fs)
     pub services : AreFrom counts.services (flat_map services_in fs)
 
-  -- rows and places of files are those of what they declare
+  -- rows and indices of files are those of what they declare
   pub record AreFileRows (ms : List Message) (fs : List File) : Type 0 where
     pub types : TypesAt all (flat_map (file_types depth) ms) (flat_map types_in fs)
     pub enums : EnumsAt all (flat_map (file_enums depth) ms) (flat_map enums_in fs)
@@ -57,7 +57,7 @@ module _ (all : Declared) (depth : ℕ) where
     pub placed : (counts : Counts) → StandBehind counts fs → PlacedAt all (types_of_files depth counts ms) (flat_map types_in fs)
     pub files : (counts : Counts) → StandBehind counts fs → placed_files depth counts ms ≡ map (placed_file all) fs
 
-  -- what stands in one
+  -- what is in one
   record IsFileRow (m : Message) (f : File) : Type 0 where
     is : m ≡ file_written all f
     inner : AreRows all depth (file_scope m) (children_at 4 m) f.types.items

@@ -132,7 +132,7 @@ path_count (i ∷ is) = ap suc (path_count is)
 abbrev pub file_written : Declared → File → Message
 file_written all f = made (file_items all f)
 
--- with the places of what is declared in it
+-- with the indices of what is declared in it
 abbrev pub placed_file : Declared → File → PlacedFile
 placed_file all f = record { message = file_written all f; types = type_places f.types.items; enums = enum_places f.enums.items; services = service_places f.services.items }
 
@@ -194,7 +194,7 @@ module _ (all : Declared) (f : File) (rules : is_file f ≡ true) where
       ap (λ o. files.options_under o option_places) (options_said 8 m (file_options f.options.items) (says 8 slots refl))
       ∙ (options_are f.options.items option_places (and_right _ _ rules) ∙ all_under f.options.items (and_right _ _ (and_left _ _ rules)) (and_right _ _ rules))
 
-  -- with its places it states the file
+  -- with its indices it states the file
   pub file_is : files.file false (placed_file all f) ≡ Some (file_view f)
   file_is =
       ap (λ b. only_if b (Some (files.file_of false (placed_file all f)))) places_there

@@ -140,7 +140,7 @@ same_flag : (a b : Bool) → cond a b (not b) ≡ true → b ≡ a
 same_flag true b h = h
 same_flag false b h = not_true b h
 
--- how often items stand that are no map's, by their label and what is stated
+-- how often items occur that are no map's, by their label and what is stated
 abbrev stands : Presence → Element → (member optional : Bool) → (packed : Option Bool) → Option Presence
 stands p e member optional packed = cond (int_eq (pos (label p)) (pos 3)) (only_if (not optional) (Some (stated.repeated e packed))) (Some (stated.singular e member optional))
 
@@ -256,7 +256,7 @@ module _ (all : Declared) (means : Meanings) (has : HasNames all means) (scope :
         of (presences.Repeated packed) is = plain_items (ap is_map is)
         of (presences.Map key) is = map_items key is
 
-    -- what is written states the field, where it says in which oneof that stands
+    -- what is written states the field, where it says in which oneof that is
     pub field_is : oneof o.synthetic o.members m ≡ Some f.oneof → stated.field means o m ≡ Some (field_view f)
     field_is stands =
         ap (option_and_then (λ one. option_map (stated.field_of m one) (stated.items means o m (is_some one)))) stands

@@ -1,4 +1,4 @@
--- How many levels a set has: its own, that of files, those of message types inside each other, and at most three more, of an enum inside
+-- How many levels a set has: its own, that of files, those of nested message types, and at most three more, of an enum inside
 -- the innermost, its values and their options.
 use Rattle.std.proofs.Common.{◌≡◌, ℕ, zero, suc, ◌+◌, ◌≤◌, Bool, true, false, List, [], ◌∷◌, ◌++◌, length, map, flat_map, codes, Option, Some, None, slice_get, arith}
 use Rattle.std.proofs.lemmas.Bool.{false≢true}
@@ -57,7 +57,7 @@ both_low : (n : ℕ) (xs ys : Items) → AreLow n xs → AreLow n ys → AreLow 
 both_low n [] ys low later = later
 both_low n (x ∷ xs) ys low later = (low.0, both_low n xs ys low.1 later)
 
--- pieces behind each other; the last one comes first
+-- pieces one after another; the last one comes first
 abbrev joined : List Items → Items
 joined [] = []
 joined (p ∷ ps) = joined ps ++ p

@@ -1,4 +1,4 @@
--- Names that stand in a scope are that scope's and their own, and their own are words.
+-- Names that are in a scope are that scope's and their own, and their own are words.
 use Rattle.std.proofs.Common.{◌≡◌, ◌≢◌, ℕ, zero, suc, ◌<◌, true, nat_eq, List, [], ◌∷◌, ◌++◌, length, get_or, take, drop, Option, None, Some, option_map, refl, ap, sym, ◌∙◌, arith}
 use Rattle.std.proofs.lemmas.Bool.{false≢true}
 use Rattle.std.proofs.lemmas.Bool.Decides.{nat_tests}
@@ -50,7 +50,7 @@ stands_within (byte ∷ bytes) name word =
     let back = dotted_back (byte ∷ bytes) (drop n name) (and_right (bytes_eq (take n name) (byte ∷ bytes)) (is_dot_and_word (drop n name)) word) in
     (sym whole ∙ back.0 ∙ ap (λ x. (byte ∷ bytes) ++ (46 ∷ own_name x)) whole, sym (ap (λ x. is_word (own_name x)) whole) ∙ back.1)
 
--- the full name of a name that stands in the scope
+-- the full name of a name that is in the scope
 pub name_within : (scope name : List ℕ) → is_in scope name ≡ true → name ≡ within scope (own_name name)
 name_within scope name inside = (stands_within scope name inside).0
 
@@ -60,13 +60,13 @@ name_qualified scope name inside =
     let is = stands_within scope name inside in
     plain_in scope (own_name name) (word_plain (own_name name) is.1) ∙ ap dotted (sym is.0)
 
--- what stands in it has a name, so it is a scope
+-- what is in it has a name, so it is a scope
 pub is_scope : (scope name : List ℕ) → is_in scope name ≡ true → scope_of name ≡ dotted name
 is_scope scope (b ∷ name) inside = refl
 is_scope [] [] inside = absurd (false≢true inside)
 is_scope (byte ∷ bytes) [] inside = let e = ap length (name_within (byte ∷ bytes) [] inside) in absurd (omega (arith, e))
 
--- the item at a place that has a name in the scope
+-- the item at an index that has a name in the scope
 pub named_there : {A : Type 0} (name : A → List ℕ) (scope : List ℕ) (o : Option A) (Goal : Type 0) → ((x : A) → o ≡ Some x → is_in scope (name x) ≡ true → Goal)
     → is_named_in scope (option_map name o) ≡ true → Goal
 named_there name scope None Goal go h = absurd (false≢true h)

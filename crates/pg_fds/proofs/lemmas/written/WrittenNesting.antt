@@ -23,7 +23,7 @@ none_nested : (depth : ℕ) → nest_within depth [] ≡ true
 none_nested zero = refl
 none_nested (suc depth) = refl
 
--- what stands inside a message type
+-- what is inside a message type
 abbrev nests : (depth : ℕ) → Message → Bool
 nests depth m = nest_within depth (filter is_no_entry (children_at 3 m))
 

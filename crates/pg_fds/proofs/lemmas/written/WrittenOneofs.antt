@@ -1,4 +1,4 @@
--- What is written of a message type's oneofs states them: the real ones, and behind them one for each `optional` field.
+-- What is written of a message type's oneofs states them: the real ones, and after them one for each `optional` field.
 use Rattle.std.proofs.Common.{◌≡◌, ℕ, zero, suc, ◌+◌, ◌<◌, ◌≤◌, ◌^◌, ℤ, pos, Bool, true, false, cond, not, nat_eq, nat_lt, ◌&&◌, ◌||◌, List, [], ◌∷◌, ◌++◌, map, filter, filter_map, length, take, Option, Some, None, is_some, option_map, option_and_then, slice_get, refl, ap, ap₂, sym, subst, ◌∙◌, arith, length-append, IfSome}
 use Rattle.std.proofs.lemmas.Bool.{false≢true}
 use Rattle.std.proofs.lemmas.Bool.Decides.{nat_tests}
@@ -29,12 +29,12 @@ use Rattle.pg_fds.proofs.lemmas.written.WrittenFields.{optional_said, place_said
 abbrev pub optional_fields : List Field → List Field
 optional_fields fs = filter (λ (f : Field). f.states_optional) fs
 
--- so many places from one on
+-- so many indices from one on
 abbrev pub from : (place : ℕ) → (count : ℕ) → List ℤ
 from place zero = []
 from place (suc count) = pos place ∷ from (suc place) count
 
--- ---- places
+-- ---- indices
 
 not_below : (a b : ℕ) → a < b → nat_eq b a ≡ false
 not_below a b h = grind (arith, nat_tests)
@@ -60,7 +60,7 @@ is_marked_place place start (suc count) h k = of (nat_eq start place) refl (is_m
         ap (λ b. nat_eq start place || b) (later (other start place e h) (omega (arith, k)))
         ∙ or_true (nat_eq start place)
 
--- the oneofs at places that are marked are left out
+-- the oneofs at indices that are marked are left out
 none_real : (marks : List ℤ) (place : ℕ) (ms : List Message) → ((p : ℕ) → place ≤ p → p < place + length ms → is_marked marks p ≡ true) → real_oneofs marks place ms ≡ []
 none_real marks place [] all = refl
 none_real marks place (m ∷ ms) all =
@@ -145,7 +145,7 @@ module _ (all : Declared) (scope : List ℕ) (oneofs : List (List ℕ)) (n : ℕ
   abbrev fields : List Message
   fields = map made (fields_items all scope n fs)
 
-  -- the real ones come first, one for each `optional` field behind them
+  -- the real ones come first, one for each `optional` field after them
   pub oneofs_called : map (text_at 1) (real_oneofs (synthetic_places fields) 0 (map made (map oneof_items (oneofs ++ others)))) ≡ oneofs
   oneofs_called =
       let front : length (map made (map oneof_items oneofs)) ≡ n = made_length oneofs ∙ as_many in
@@ -171,7 +171,7 @@ pub oneofs_named : (all : Declared) (scope : List ℕ) (n : ℕ) (fs : List Fiel
 oneofs_named all scope n fs =
     ap (list_all (is_place (n + length (optional_fields fs)))) (places_are all scope n fs) ∙ all_placed (n + length (optional_fields fs)) n (length (optional_fields fs)) (omega arith)
 
--- ---- how many fields name the oneof at a place
+-- ---- how many fields name the oneof at an index
 
 below : (a b : ℕ) → nat_lt a b ≡ true → a < b
 below a b h = grind (arith, nat_tests)
@@ -262,7 +262,7 @@ no_member (presences.Map key) e false h = refl
 alone_none : (f : Field) → has_presence f.presence f.element (is_some f.oneof) f.states_optional ≡ true → f.states_optional ≡ true → f.oneof ≡ None
 alone_none f has optional = none_of f.oneof (no_member f.presence f.element (is_some f.oneof) (subst (λ b. has_presence f.presence f.element (is_some f.oneof) b ≡ true) optional has))
 
--- ---- in which oneof each stands
+-- ---- in which oneof each is
 
 got_at : {A : Type 0} (f : ℕ → A) (start count p : ℕ) → p < count → slice_get (map f (places_from start count)) p ≡ Some (f (start + p))
 got_at f start zero p h = absurd (omega (arith, h))

@@ -1,4 +1,4 @@
--- Files that stand behind those that they import are written in post-order of imports, begun at them in their order.
+-- Files that come after those that they import are written in post-order of imports, begun at them in their order.
 use Rattle.std.proofs.Common.{◌≡◌, ℕ, suc, Bool, true, false, not, ◌||◌, List, [], ◌∷◌, ◌++◌, length, map, Option, Some, slice_get, refl, ap, ap₂, sym, subst, ◌∙◌}
 use Rattle.std.proofs.lemmas.Bool.{false≢true}
 use Rattle.std.proofs.lemmas.Slice.Eq.{bytes_eq-Decides}

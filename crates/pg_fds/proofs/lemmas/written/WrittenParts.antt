@@ -1,4 +1,4 @@
--- What is written of the files of a schema whose parts stand in order declares its parts.
+-- What is written of the files of a schema whose parts are in order declares its parts.
 use Rattle.std.proofs.Common.{◌≡◌, ◌≤◌, ◌^◌, true, false, List, [], ◌∷◌, map, flat_map, length, Some, refl, ap, ◌∙◌}
 use Rattle.std.specs.List.{list_all}
 use Rattle.pg_schema.specs.declared.parts.file.File.{File}
@@ -50,7 +50,7 @@ module _ (parts : Parts) (sound : IsSound parts) (stand : StandInOrder parts) (s
   abbrev ms : List Message
   ms = map (file_written all) fs
 
-  -- ---- rows and places
+  -- ---- rows and indices
 
   rows : AreFileRows all most_deep ms fs
   rows = file_rows parts sound most_deep fs sound.files sound.file_scopes shallow

@@ -1,5 +1,5 @@
--- The rows of what is written of message types, enums and services are theirs, one by one by their places, and the places that are counted
--- are these, where all stand in order of declaration.
+-- The rows of what is written of message types, enums and services are theirs, one by one by their indices, and the indices that are counted
+-- are these, where all are in order of declaration.
 use Rattle.std.proofs.Common.{◌≡◌, ℕ, zero, suc, ◌+◌, ◌≤◌, true, List, [], ◌∷◌, ◌++◌, length, map, filter, Option, Some, None, slice_get, refl, ap, ap₂, sym, subst, ◌∙◌, add-one, arith}
 use Rattle.std.proofs.lemmas.Bool.{false≢true}
 use Rattle.std.proofs.lemmas.List.{length-map}
@@ -45,7 +45,7 @@ enum_row e = (dotted (string_bytes e.name), made (enum_items e))
 abbrev pub service_row : Declared → Service → Row
 service_row all s = (dotted (string_bytes s.name), made (service_items all s))
 
--- what is written of one that stands in a scope has its qualified name there
+-- what is written of one that is in a scope has its qualified name there
 in_scope : (scope name : List ℕ) (m : Message) → is_in scope name ≡ true → text_at 1 m ≡ own_name name → row_in (scope_of scope) m ≡ (dotted name, m)
 in_scope scope name m inside called = ap (λ n. (n, m)) (ap (name_in (scope_of scope)) called ∙ name_qualified scope name inside)
 
@@ -72,7 +72,7 @@ module _ (all : Declared) where
       (in_scope scope (string_bytes s.name) (made (service_items all s)) here (service_called all s)) (own_services scope ids (and_right (is_named_in scope (service_name all.services id)) (are_services_in all.services scope ids) inside))))
       (and_left (is_named_in scope (service_name all.services id)) (are_services_in all.services scope ids) inside)
 
--- ---- what stands inside message types
+-- ---- what is inside message types
 
 none_there : (all : Declared) (deep : ℕ) → types_items deep all [] ≡ []
 none_there all zero = refl
@@ -115,7 +115,7 @@ module _ (all : Declared) where
   abbrev pub PlacedAt : List PlacedType → List ℕ → Type 0
   PlacedAt = AreAt (placed_row all) all.types
 
-  -- the messages are those of the message types at these places, nested less deep than that: so are their rows, and the counted places
+  -- the messages are those of the message types at these indices, nested less deep than that: so are their rows, and the counted indices
   pub record AreRows (depth : ℕ) (scope : List ℕ) (ms : List Message) (ids : List TypeId) : Type 0 where
     pub types : TypesAt (type_rows depth scope ms) (types_below depth all.types ids)
     pub enums : EnumsAt (enum_rows depth scope ms) (enums_below depth all.types ids)
@@ -123,7 +123,7 @@ module _ (all : Declared) where
     pub placed : (counts : Counts) → AreFrom counts.types (types_below depth all.types ids) → AreFrom counts.enums (enums_below depth all.types ids)
         → PlacedAt (placed_types depth scope counts ms) (types_below depth all.types ids)
 
-  -- the same of one, with what stands inside it
+  -- the same of one, with what is inside it
   record IsRow (depth : ℕ) (scope : List ℕ) (m : Message) (place : ℕ) (t : MessageType) : Type 0 where
     types : TypesAt (rows_of_type (type_rows depth) scope m) (place ∷ types_below depth all.types t.nested_types.items)
     enums : EnumsAt (rows_of_enums (enum_rows depth) scope m) (enum_places t.nested_enums.items ++ enums_below depth all.types t.nested_types.items)

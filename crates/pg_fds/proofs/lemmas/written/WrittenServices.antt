@@ -30,7 +30,7 @@ use Rattle.pg_fds.proofs.lemmas.lists.ViewLaws.{same_method, same_service}
 
 -- ---- what names mean
 
--- the full name of each message type and enum, with a dot in front, means it, by its place
+-- the full name of each message type and enum, with a dot in front, means it, by its index
 pub record HasNames (all : Declared) (means : Meanings) : Type 0 where
   pub types : (id : TypeId) (name : List ℕ) → type_name all.types id ≡ Some name → means (dotted name) ≡ Some (nameds.Type id)
   pub enums : (id : EnumId) (name : List ℕ) → enum_name all.enums id ≡ Some name → means (dotted name) ≡ Some (nameds.Enum id)

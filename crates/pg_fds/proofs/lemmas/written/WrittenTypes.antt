@@ -1,4 +1,4 @@
--- What is written of message types states them, with all that stands inside.
+-- What is written of message types states them, with all that is inside.
 use Rattle.std.proofs.Common.{◌≡◌, ℕ, zero, suc, ◌+◌, ◌-◌, ◌<◌, ◌≤◌, ◌^◌, pos, Bool, true, false, cond, not, nat_lt, ◌&&◌, List, [], ◌∷◌, ◌++◌, map, filter, length, Option, Some, None, option_map, slice_get, refl, ap, ap₂, sym, subst, ◌∙◌, arith, unwrap_or}
 use Rattle.std.proofs.lemmas.Bool.{false≢true}
 use Rattle.std.proofs.lemmas.Bool.Decides.{nat_tests}
@@ -213,7 +213,7 @@ inside all t = types_items (length all.types) all t.nested_types.items
 abbrev pub type_row : Declared → MessageType → Row
 type_row all t = (dotted (string_bytes t.name), type_written all (inside all t) t)
 
--- with the places of what is declared in it
+-- with the indices of what is declared in it
 abbrev pub placed_row : Declared → MessageType → PlacedType
 placed_row all t = record { named = type_row all t; types = type_places t.nested_types.items; enums = enum_places t.nested_enums.items }
 

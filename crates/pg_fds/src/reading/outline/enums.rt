@@ -1,4 +1,4 @@
-//! The enums of a set, each with its place, its name and those of its values.
+//! The enums of a set, each with its index, its name and those of its values.
 
 ghost use Rattle.std.specs.Prelude.{◌≡◌, ◌+◌, ◌<◌, ◌≤◌, ◌^◌, ◌++◌, ◌∷◌, [], IfErr, IfOk, OnOk, length, map};
 ghost use Rattle.pg_schema.specs.rules.Scopes.{enum_places};
@@ -47,7 +47,7 @@ fn outline_enum<'b, 'a>(
     Ok(id)
 }
 
-/// The enums that a scope declares: the place of each, in order.
+/// The enums that a scope declares: the index of each, in order.
 pub(crate) fn outline_enums<'b, 'a>(
     alloc: Global,
     names: &mut NameTable,

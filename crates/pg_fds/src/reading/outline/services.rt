@@ -1,4 +1,4 @@
-//! The services of a set, each with its place, its name and those of its methods.
+//! The services of a set, each with its index, its name and those of its methods.
 
 ghost use Rattle.std.specs.Prelude.{◌≡◌, ◌+◌, ◌<◌, ◌≤◌, ◌^◌, ◌++◌, ◌∷◌, [], IfErr, IfOk, OnOk, length, map};
 ghost use Rattle.pg_schema.specs.rules.Scopes.{service_places};
@@ -51,7 +51,7 @@ fn outline_service<'b, 'a>(
     Ok(id)
 }
 
-/// The services that a scope declares: the place of each, in order.
+/// The services that a scope declares: the index of each, in order.
 pub(crate) fn outline_services<'b, 'a>(
     alloc: Global,
     names: &mut NameTable,
