@@ -7,7 +7,7 @@ ghost use Rattle.pg_schema.specs.Parts.{shape_of};
 ghost use Rattle.pg_dyn.specs.declared.error.DynError.TheVariants as faults;
 ghost use Rattle.pg_check.specs.standing.Nesting.{are_shallow};
 ghost use Rattle.pg_fds.specs.declared.error.FdsError.TheVariants as errors;
-ghost use Rattle.pg_fds.specs.again.Again.{IsReadable};
+ghost use Rattle.pg_fds.specs.round_trip.Readable.{IsReadable};
 ghost use Rattle.pg_fds.specs.refusals.TooDeep.{IsNotTooDeep};
 ghost use Rattle.pg_fds.specs.refusals.ErrorCodes as codes;
 ghost use Rattle.pg_fds.specs.descriptor.Descriptor.{descriptor_shape};

@@ -5,7 +5,7 @@
 ghost use Rattle.std.specs.Prelude.{◌≡◌, ◌⊎◌, IfErr, IfOk};
 ghost use Rattle.pg_schema.specs.rules.Sound.{IsSound};
 ghost use Rattle.pg_fds.specs.declared.error.FdsError.TheVariants as errors;
-ghost use Rattle.pg_fds.specs.again.ReadAgain.{IsReadAgain, IsTooLong, MayRefuseAgain, SetStates};
+ghost use Rattle.pg_fds.specs.round_trip.ReadAgain.{IsReadAgain, IsTooLong, MayRefuseAgain, SetStates};
 ghost use Rattle.pg_fds.specs.stated.Reads.{fds_reads};
 ghost use Rattle.pg_fds.specs.refusals.Refused.{MayRefuseSet, NoneIsStated};
 ghost use Rattle.pg_fds.specs.stated.Views.{parts_view};

@@ -6,6 +6,6 @@ pub mod reading
 pub mod written
 pub mod order
 pub mod refusals
-pub mod again
+pub mod round_trip
 pub mod outline
 pub mod rows

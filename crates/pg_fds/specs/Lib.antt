@@ -1,7 +1,7 @@
+pub mod round_trip
 pub mod descriptor
-pub mod writing
 pub mod examples
-pub mod reading
-pub mod stated
+pub mod inner
 pub mod refusals
-pub mod again
+pub mod stated
+pub mod writing

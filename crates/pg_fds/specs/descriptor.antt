@@ -1,5 +1,3 @@
 pub mod Descriptor
-pub mod Lent
-pub mod DescriptorParts
 pub mod DescriptorLaw
-pub mod Rows
+pub mod DescriptorParts

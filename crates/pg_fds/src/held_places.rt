@@ -2,8 +2,7 @@
 
 ghost use Rattle.std.specs.Prelude.{◌<◌, ◌^◌};
 ghost use Rattle.std.specs.List.{AllByRecursion};
-ghost use Rattle.pg_fds.specs.stated.Reads.{IsHeld};
-ghost use Rattle.pg_fds.specs.writing.Small.{HasLowEnums, HasLowPlaces, IsLowEnum, IsLowService};
+ghost use Rattle.pg_fds.specs.inner.writing.Small.{IsHeld, HasLowEnums, HasLowPlaces, IsLowEnum, IsLowService};
 
 use pg_schema::{EnumId, File, MessageType, Schema, ServiceId};
 

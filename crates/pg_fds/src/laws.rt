@@ -10,8 +10,8 @@ ghost use Rattle.pg_fds.specs.examples.Pieces.{WorkedPieces};
 ghost use Rattle.pg_fds.specs.examples.PlaceExamples.{WorkedPlaces};
 ghost use Rattle.pg_fds.specs.examples.ReadExamples.{OneFieldRead};
 ghost use Rattle.pg_fds.specs.examples.StatedExamples.{WorkedStated};
-ghost use Rattle.pg_fds.specs.again.SetOrder.{SetsAreReadAgain};
-ghost use Rattle.pg_fds.specs.again.TextOrder.{TextsAreReadAgain};
+ghost use Rattle.pg_fds.specs.round_trip.SetOrder.{SetsAreReadAgain};
+ghost use Rattle.pg_fds.specs.round_trip.SourceOrder.{TextsAreReadAgain};
 ghost use Rattle.pg_fds.specs.stated.SetNames.{NamesApart};
 
 use pg_check::laws::linked_parts_stand;

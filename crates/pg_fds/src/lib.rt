@@ -2,17 +2,17 @@
 //! definition and laws, and the schema of these messages.
 #![tactic(auto)]
 
-mod again;
 mod descriptor;
 mod error;
 mod held_places;
 pub mod laws;
 mod names;
 mod reading;
+mod round_trip;
 mod writing;
 
-pub use again::read_again;
 pub use descriptor::descriptor_schema;
 pub use error::FdsError;
 pub use reading::read;
+pub use round_trip::read_again;
 pub use writing::write;

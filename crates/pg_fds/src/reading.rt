@@ -9,7 +9,7 @@ mod made_files;
 mod made_oneofs;
 mod made_parts;
 mod made_types;
-mod meanings;
+mod name_lookup;
 mod named_entries;
 mod names_table;
 mod order;
@@ -28,22 +28,22 @@ ghost use Rattle.pg_dyn.specs.reading.Refusals.{MayRefuse};
 ghost use Rattle.pg_dyn.specs.message.Kept.{message_of};
 ghost use Rattle.pg_check.specs.standing.Places.{most_deep};
 ghost use Rattle.pg_fds.specs.declared.error.Unstated.TheVariants.{Memory};
-ghost use Rattle.pg_fds.specs.again.Again.{IsReadable};
+ghost use Rattle.pg_fds.specs.round_trip.Readable.{IsReadable};
 ghost use Rattle.pg_fds.specs.writing.Building.{written_shape};
 ghost use Rattle.pg_fds.specs.descriptor.Descriptor.{file_set};
 ghost use Rattle.pg_fds.specs.refusals.TooDeep.{IsNotTooDeep};
-ghost use Rattle.pg_fds.specs.reading.FilePlaces.{AreOrdered};
-ghost use Rattle.pg_fds.specs.reading.Held.{IsHeldMessage};
-ghost use Rattle.pg_fds.specs.stated.Outlines.{files_at};
+ghost use Rattle.pg_fds.specs.inner.reading.FilePlaces.{AreOrdered};
+ghost use Rattle.pg_fds.specs.inner.reading.Held.{IsHeldMessage};
+ghost use Rattle.pg_fds.specs.inner.reading.OutlinedRows.{files_at};
 ghost use Rattle.pg_fds.specs.stated.PostOrder.{importer_of};
 ghost use Rattle.pg_fds.specs.stated.Reads.{fds_reads};
 ghost use Rattle.pg_fds.specs.refusals.Refused.{MayRefuseFiles, MayRefuseSet, NoneIsStated};
-ghost use Rattle.pg_fds.specs.reading.RefusedParts.{IsOfParts, IsOfRules};
-ghost use Rattle.pg_fds.specs.stated.SaidFiles.{is_proto3, kept_files, skips};
+ghost use Rattle.pg_fds.specs.inner.reading.RefusedParts.{IsOfParts, IsOfRules};
+ghost use Rattle.pg_fds.specs.stated.FileMessages.{is_proto3, kept_files, skips};
 ghost use Rattle.pg_fds.specs.stated.Stated.{declared_by, stated, stated_files, stated_of};
 ghost use Rattle.pg_fds.specs.stated.Views.{parts_view};
 
-use crate::descriptor::access::{Said, children};
+use crate::descriptor::access::{SetMessage, children};
 use crate::descriptor::places::SET;
 use crate::descriptor::{descriptor_schema, proto};
 use crate::error::{FdsError, Unstated};
@@ -86,7 +86,7 @@ fn decoded(alloc: Global, bytes: &[u8]) -> Result<MessageRef<'_>, FdsError>
 }
 
 // Whether the files are all proto3.
-fn are_proto3(files: &[Said<'_, '_>]) -> bool
+fn are_proto3(files: &[SetMessage<'_, '_>]) -> bool
     ensures { result ≡ list_all is_proto3 (map message_of files.now) }
 {
     for file in files {
@@ -104,7 +104,7 @@ fn parts(
     alloc: Global,
     keys: SetKeys,
     skips: bool,
-    files: &[Said<'_, '_>],
+    files: &[SetMessage<'_, '_>],
     order: &[usize],
 ) -> Result<Parts, Unstated>
     requires { AreOrdered (map (importer_of skips) (map message_of files.now)) order.now }
@@ -145,7 +145,7 @@ fn kept_parts(
     alloc: Global,
     keys: SetKeys,
     skips: bool,
-    files: &[Said<'_, '_>],
+    files: &[SetMessage<'_, '_>],
 ) -> Result<Parts, FdsError>
     ensures ok { IfOk result (λ parts. stated_of skips (map message_of files.now)
         ≡ Some (parts_view parts)) }
@@ -161,7 +161,7 @@ fn files_parts(
     alloc: Global,
     keys: SetKeys,
     skips: bool,
-    files: &[Said<'_, '_>],
+    files: &[SetMessage<'_, '_>],
 ) -> Result<Parts, FdsError>
     ensures ok { IfOk result (λ parts. stated_files skips (map message_of files.now)
         ≡ Some (parts_view parts)) }
@@ -179,7 +179,7 @@ fn files_parts(
 }
 
 // The parts that a set's message states.
-fn set_parts(alloc: Global, keys: SetKeys, set: &Said<'_, '_>) -> Result<Parts, FdsError>
+fn set_parts(alloc: Global, keys: SetKeys, set: &SetMessage<'_, '_>) -> Result<Parts, FdsError>
     ensures ok { IfOk result (λ parts. stated (message_of set.now) ≡ Some (parts_view parts)) }
     ensures refused { IfErr result (MayRefuseFiles (skips (message_of set.now))
         (kept_files (message_of set.now))) }
@@ -200,9 +200,9 @@ fn bytes_parts(alloc: Global, bytes: &[u8]) -> Result<Parts, FdsError>
     ensures refused { IfErr result (MayRefuseSet bytes.now) }
 {
     let set = decoded(alloc, bytes)?;
-    let said = Said::new(&set);
+    let message = SetMessage::new(&set);
     let keys = SetKeys::of(bytes);
-    set_parts(alloc, keys, &said)
+    set_parts(alloc, keys, &message)
 }
 
 // The schema that the bytes state.

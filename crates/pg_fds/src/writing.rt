@@ -16,13 +16,14 @@ ghost use Rattle.std.specs.List.{list_all};
 ghost use Rattle.pg_dyn.specs.declared.error.DynError.TheVariants as faults;
 ghost use Rattle.pg_check.specs.standing.Nesting.{are_shallow};
 ghost use Rattle.pg_fds.specs.declared.error.FdsError.TheVariants as errors;
-ghost use Rattle.pg_fds.specs.again.Again.{IsReadable};
+ghost use Rattle.pg_fds.specs.round_trip.Readable.{IsReadable};
 ghost use Rattle.pg_fds.specs.refusals.TooDeep.{IsNotTooDeep};
-ghost use Rattle.pg_fds.specs.writing.Drafts.{IsEncodingOf};
+ghost use Rattle.pg_fds.specs.inner.writing.Drafts.{IsEncodingOf};
 ghost use Rattle.pg_fds.specs.stated.Reads.{fds_reads};
 ghost use Rattle.pg_fds.specs.writing.Set.{fds};
-ghost use Rattle.pg_fds.specs.writing.Written.{HasNoSet, set_items};
-ghost use Rattle.pg_fds.specs.writing.Writable.{has_counted_imports};
+ghost use Rattle.pg_fds.specs.writing.Written.{HasNoSet};
+ghost use Rattle.pg_fds.specs.inner.writing.PutParts.{set_items};
+ghost use Rattle.pg_fds.specs.inner.writing.Writable.{has_counted_imports};
 
 use crate::descriptor::places::SET;
 use crate::descriptor::proto;

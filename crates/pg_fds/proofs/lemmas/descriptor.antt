@@ -1,4 +1,4 @@
-pub mod SaidLaws
+pub mod MessageLaws
 pub mod HeldFits
 pub mod SeenRules
 pub mod SeenParts

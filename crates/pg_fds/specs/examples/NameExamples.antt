@@ -1,12 +1,11 @@
 -- What names of small files mean, and which files' declarations may be in one table: names that occur twice are asked scope by scope.
 use Rattle.std.specs.Prelude.{◌≡◌, ℕ, true, false, List, [], ◌∷◌, ◌++◌, codes, flat_map, Some, None, is_some}
 use Rattle.pg_dyn.specs.message.Message.{Bytes, Message, ends, holds, nests}
-use Rattle.pg_fds.specs.stated.Declarations.{package_parts}
+use Rattle.pg_fds.specs.stated.SetNames.{package_parts, package_scope}
 use Rattle.pg_fds.specs.stated.Outlines.{file_enums, file_types}
 use Rattle.pg_fds.specs.declared.descriptor.proto.TheConstants as proto
-use Rattle.pg_fds.specs.stated.SetNames.{package_scope}
 use Rattle.pg_fds.specs.stated.Stated.{stated_of}
-use Rattle.pg_fds.specs.stated.StatedNames.{Meanings}
+use Rattle.pg_fds.specs.stated.StatedNames.{NameLookup}
 use Rattle.pg_fds.specs.stated.StatedTable.{enum_named, may_declare, meaning, names_of, type_named}
 
 abbrev text : ℕ → List ℕ → Message → Message
@@ -48,7 +47,7 @@ dot_in_name =
     child proto.FILE_MESSAGE_TYPE (type_called (codes "a.b")) (
     child proto.FILE_MESSAGE_TYPE (text proto.MESSAGE_NAME (codes "a") (child proto.MESSAGE_NESTED_TYPE (type_called (codes "b")) nothing)) nothing)
 
-abbrev means : Meanings
+abbrev means : NameLookup
 means = meaning (flat_map (file_types 3) (two_types ∷ [])) (flat_map (file_enums 3) (two_types ∷ []))
 
 pub record WorkedNames : Type 0 where

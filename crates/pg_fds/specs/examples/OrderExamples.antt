@@ -1,6 +1,6 @@
 -- The order of files, by small examples.
 use Rattle.std.specs.Prelude.{◌≡◌, ℕ, zero, suc, true, false, List, [], ◌∷◌, codes, Some, None}
-use Rattle.pg_dyn.specs.Message.{Bytes, Message, ends, holds}
+use Rattle.pg_dyn.specs.message.Message.{Bytes, Message, ends, holds}
 use Rattle.pg_fds.specs.stated.PostOrder.{Importer}
 use Rattle.pg_fds.specs.declared.descriptor.proto.TheConstants as proto
 use Rattle.pg_fds.specs.stated.StatedOrder.{in_post_order, paths_in_post_order}

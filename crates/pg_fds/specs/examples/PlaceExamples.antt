@@ -8,7 +8,7 @@ use Rattle.pg_schema.specs.declared.parts.message_type.MessageType.{MessageType}
 use Rattle.pg_schema.specs.declared.parts.Parts.{Parts}
 use Rattle.pg_check.specs.standing.InOrder.{StandInOrder, enums_below, file_enums, types_below}
 use Rattle.pg_fds.specs.examples.Examples.{AreParts, IsMessage}
-use Rattle.pg_fds.specs.again.ReadAgain.{IsReadAgain}
+use Rattle.pg_fds.specs.round_trip.ReadAgain.{IsReadAgain}
 
 abbrev pub type_id : ℕ → TypeId
 type_id place = record { index = place }

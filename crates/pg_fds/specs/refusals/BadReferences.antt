@@ -16,14 +16,14 @@ use Rattle.pg_fds.specs.writing.Fields.{element_code}
 use Rattle.pg_fds.specs.stated.Outlines.{Row, file_enums, file_services, file_types}
 use Rattle.pg_fds.specs.stated.PostOrder.{importer_of, imports_at, kept_paths}
 use Rattle.pg_fds.specs.declared.descriptor.proto.TheConstants as proto
-use Rattle.pg_fds.specs.stated.Said.{children_at, maybe_number_at, maybe_text_at, number_at, numbers_at, text_at, texts_at}
-use Rattle.pg_fds.specs.stated.SaidFiles.{is_place}
-use Rattle.pg_fds.specs.stated.SaidTypes.{is_entry, is_marked, is_optional, label_at, members_at, synthetic_places}
+use Rattle.pg_fds.specs.stated.SetMessages.{children_at, maybe_number_at, maybe_text_at, number_at, numbers_at, text_at, texts_at}
+use Rattle.pg_fds.specs.stated.FileMessages.{is_place}
+use Rattle.pg_fds.specs.stated.TypeMessages.{is_entry, is_marked, is_optional, label_at, members_at, synthetic_places}
 use Rattle.pg_fds.specs.stated.SetNames.{files_names, name_in}
 use Rattle.pg_fds.specs.stated.Stated.{stated_of}
 use Rattle.pg_fds.specs.stated.StatedEntries.{has_fields_alone, is_entry_field, says, scalar_of}
 use Rattle.pg_fds.specs.stated.StatedFields.{is_map_field}
-use Rattle.pg_fds.specs.stated.StatedNames.{Meanings, element_of_named, meant, type_of_named}
+use Rattle.pg_fds.specs.stated.StatedNames.{NameLookup, element_of_named, meant, type_of_named}
 use Rattle.pg_fds.specs.stated.StatedOneofs.{synthetic_in, unmarked}
 use Rattle.pg_fds.specs.stated.StatedOrder.{Paths, in_post_order}
 use Rattle.pg_fds.specs.stated.StatedTable.{meaning, nests_within, packages_of}
@@ -32,26 +32,26 @@ use Rattle.pg_fds.specs.stated.StatedTypes.{last_named, oneof_count, own_entries
 -- ---- names
 
 -- what names mean in these files
-abbrev pub means_in : List Message → Meanings
+abbrev pub means_in : List Message → NameLookup
 means_in files = meaning (flat_map (file_types most_deep) files) (flat_map (file_enums most_deep) files)
 
 -- no message type, enum or entry type has that qualified name, which begins with a dot
-abbrev pub NamesNothing : Meanings → List ℕ → Type 0
+abbrev pub NamesNothing : NameLookup → List ℕ → Type 0
 NamesNothing means name = means name ≡ None
 
 -- What a method sends or answers is no message type: it isn't named, its name names nothing, or another thing.
-pub data NamesNoType (means : Meanings) (name : Option (List ℕ)) : Type 0 where
+pub data NamesNoType (means : NameLookup) (name : Option (List ℕ)) : Type 0 where
   unnamed : name ≡ None → NamesNoType means name
   unknown_type : (text : List ℕ) → name ≡ Some text → NamesNothing means text → NamesNoType means name
   no_type : (thing : Named) → meant means name ≡ Some thing → type_of_named thing ≡ None → NamesNoType means name
 
-abbrev pub IsBadMethod : Meanings → Message → Type 0
+abbrev pub IsBadMethod : NameLookup → Message → Type 0
 IsBadMethod means m = NamesNoType means (maybe_text_at proto.METHOD_INPUT_TYPE m) ⊎ NamesNoType means (maybe_text_at proto.METHOD_OUTPUT_TYPE m)
 
 -- ---- fields
 
 -- the type of a field that is no map: without a name, with one that names nothing, or that names what the code doesn't say
-pub data HasBadType (means : Meanings) (field : Message) : Type 0 where
+pub data HasBadType (means : NameLookup) (field : Message) : Type 0 where
   -- the code is no scalar's, so a name is wanted
   without_name : maybe_text_at proto.FIELD_TYPE_NAME field ≡ None → scalar_of (number_at proto.FIELD_TYPE field) ≡ None → HasBadType means field
   unknown_name : (name : List ℕ) → maybe_text_at proto.FIELD_TYPE_NAME field ≡ Some name → NamesNothing means name → HasBadType means field
@@ -75,7 +75,7 @@ pub data HasBadOneof (type field : Message) : Type 0 where
       2 ^ 32 ≤ unmarked (synthetic_in (children_at proto.MESSAGE_FIELD type) (oneof_count type)) place → HasBadOneof type field
 
 -- an entry type has two fields, `key` and `value`, and nothing else
-pub data IsBadEntry (means : Meanings) (entry : Message) : Type 0 where
+pub data IsBadEntry (means : NameLookup) (entry : Message) : Type 0 where
   not_only_fields : has_fields_alone entry ≡ false → IsBadEntry means entry
   not_two : length (children_at proto.MESSAGE_FIELD entry) ≢ 2 → IsBadEntry means entry
   bad_key : (key value : Message) → children_at proto.MESSAGE_FIELD entry ≡ key ∷ value ∷ [] → is_entry_field (codes "key") 1 key ≡ false → IsBadEntry means entry
@@ -87,7 +87,7 @@ abbrev pub own_entry_name : Row → Message → List ℕ
 own_entry_name r field = name_in r.0 (entry_name (text_at proto.FIELD_NAME field))
 
 -- a field, in a message type, whose type is an entry type: it has to be that of its own name, and the field repeated
-pub data IsBadMap (means : Meanings) (r : Row) (field : Message) : Type 0 where
+pub data IsBadMap (means : NameLookup) (r : Row) (field : Message) : Type 0 where
   not_repeated : int_eq (label_at field) (pos 3) ≡ false → IsBadMap means r field
   other_entry : says proto.FIELD_TYPE_NAME field (own_entry_name r field) ≡ false → IsBadMap means r field
   no_entry : is_among (map (text_at proto.MESSAGE_NAME) (own_entries r.1)) (entry_name (text_at proto.FIELD_NAME field)) ≡ false → IsBadMap means r field
@@ -95,7 +95,7 @@ pub data IsBadMap (means : Meanings) (r : Row) (field : Message) : Type 0 where
       IsBadMap means r field
 
 -- a field in a message type
-pub data IsBadField (means : Meanings) (r : Row) (field : Message) : Type 0 where
+pub data IsBadField (means : NameLookup) (r : Row) (field : Message) : Type 0 where
   bad_oneof : HasBadOneof r.1 field → IsBadField means r field
   repeated_optional : is_optional field ≡ true → int_eq (label_at field) (pos 3) ≡ true → IsBadField means r field
   bad_map : is_map_field means field ≡ true → IsBadMap means r field → IsBadField means r field
@@ -104,12 +104,12 @@ pub data IsBadField (means : Meanings) (r : Row) (field : Message) : Type 0 wher
 -- ---- declarations
 
 -- the fields whose type is an entry type, by whose name it is that one
-abbrev pub fields_of_entry : Meanings → Row → (entry : Message) → List Message
+abbrev pub fields_of_entry : NameLookup → Row → (entry : Message) → List Message
 fields_of_entry means r entry =
     filter (λ field. is_map_field means field && bytes_eq (entry_name (text_at proto.FIELD_NAME field)) (text_at proto.MESSAGE_NAME entry)) (children_at proto.MESSAGE_FIELD r.1)
 
 -- a message type: one of its fields, or one of its entry types, which no field names, or more than one
-pub data IsBadType (means : Meanings) (r : Row) : Type 0 where
+pub data IsBadType (means : NameLookup) (r : Row) : Type 0 where
   bad_field : Any (IsBadField means r) (children_at proto.MESSAGE_FIELD r.1) → IsBadType means r
   spare_entry : Any (λ entry. length (fields_of_entry means r entry) ≡ 0) (own_entries r.1) → IsBadType means r
   shared_entry : Any (λ entry. 1 < length (fields_of_entry means r entry)) (own_entries r.1) → IsBadType means r

@@ -6,8 +6,8 @@ use Rattle.pg_schema.specs.declared.parts.field.Scalar.{Scalar}
 use Rattle.pg_schema.specs.declared.parts.field.Scalar.TheVariants as kinds
 use Rattle.pg_dyn.specs.message.Message.{Message}
 use Rattle.pg_check.specs.standing.Places.{most_deep}
-use Rattle.pg_fds.specs.stated.Said.{children_at, number_at}
-use Rattle.pg_fds.specs.stated.SaidTypes.{label_at}
+use Rattle.pg_fds.specs.stated.SetMessages.{children_at, number_at}
+use Rattle.pg_fds.specs.stated.TypeMessages.{label_at}
 use Rattle.pg_fds.specs.declared.descriptor.proto.TheConstants as proto
 
 -- TYPE_DOUBLE and the others up to TYPE_SINT64, without TYPE_GROUP

@@ -1,26 +1,14 @@
 -- What the message types, enums and services of a set are called, in the order of their indices.
-use Rattle.std.specs.Prelude.{◌≡◌, ℕ, ◌≤◌, ◌^◌, zero, suc, true, List, [], ◌∷◌, ◌++◌, map, flat_map, filter, filter_map, length, slice_get}
-use Rattle.std.specs.List.{AllByRecursion, list_all}
-use Rattle.std.specs.String.{string_bytes}
-use Rattle.pg_dyn.specs.message.Kept.{message_of}
+use Rattle.std.specs.Prelude.{ℕ, List, map, ◌∷◌, filter, zero, suc, [], flat_map, ◌++◌}
 use Rattle.pg_dyn.specs.message.Message.{Message}
-use Rattle.pg_fds.specs.declared.reading.outline.Outlined.{Outlined}
-use Rattle.pg_fds.specs.declared.reading.outline.OutlinedType.{OutlinedType}
-use Rattle.pg_fds.specs.stated.Said.{children_at}
-use Rattle.pg_fds.specs.stated.SetNames.{file_scope, qualified}
-use Rattle.pg_fds.specs.stated.SaidFiles.{is_place}
-use Rattle.pg_fds.specs.stated.SaidTypes.{is_no_entry, synthetic_places}
+use Rattle.pg_fds.specs.stated.SetNames.{qualified, file_scope}
+use Rattle.pg_fds.specs.stated.SetMessages.{children_at}
+use Rattle.pg_fds.specs.stated.TypeMessages.{is_no_entry}
 use Rattle.pg_fds.specs.declared.descriptor.proto.TheConstants as proto
 
 -- a qualified name, and the message of what has it
 abbrev pub Row : Type 0
 Row = List ℕ × Message
-
-abbrev pub row : Outlined → Row
-row o = (string_bytes o.name, message_of o.message)
-
-abbrev pub type_row : OutlinedType → Row
-type_row o = (string_bytes o.name, message_of o.message)
 
 abbrev pub row_in : (scope : List ℕ) → Message → Row
 row_in scope m = (qualified scope m, m)
@@ -56,22 +44,3 @@ file_enums depth m = rows_in (file_scope m) (children_at proto.FILE_ENUM_TYPE m)
 
 abbrev pub file_services : Message → List Row
 file_services m = rows_in (file_scope m) (children_at proto.FILE_SERVICE m)
-
--- the files at these indices
-abbrev pub files_at : List Message → List ℕ → List Message
-files_at files places = filter_map (slice_get files) places
-
--- 32 bits hold the indices of all, where they did those of the ones in front
-abbrev pub StayFew : {A : Type 0} → (old new : List A) → Type 0
-StayFew old new = length old ≤ 2 ^ 32 → length new ≤ 2 ^ 32
-
--- ---- oneofs
-
--- the `optional` fields of a message type name oneofs of it
-abbrev pub NamesOneofs : Message → Type 0
-NamesOneofs m = list_all (is_place (length (children_at proto.MESSAGE_ONEOF_DECL m))) (synthetic_places (children_at proto.MESSAGE_FIELD m)) ≡ true
-
--- so do those of message types nested less deep than that, and none is nested deeper
-abbrev pub NameOneofs : (depth : ℕ) → List Message → Type 0
-NameOneofs zero ms = ms ≡ []
-NameOneofs (suc depth) ms = AllByRecursion (λ m. NamesOneofs m × NameOneofs depth (filter is_no_entry (children_at proto.MESSAGE_NESTED_TYPE m))) ms

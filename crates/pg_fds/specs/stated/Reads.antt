@@ -1,7 +1,6 @@
 -- Sets that are read: what schema the bytes of a set state.
-use Rattle.std.specs.Prelude.{◌≡◌, ℕ, ◌≤◌, ◌^◌, List, Some, length, IsSomeAnd}
+use Rattle.std.specs.Prelude.{◌≡◌, ℕ, List, Some, IsSomeAnd}
 use Rattle.pg_schema.specs.declared.parts.Parts.{Parts}
-use Rattle.pg_schema.specs.rules.Sound.{IsSound}
 use Rattle.pg_dyn.specs.reading.Decoding.{dec}
 use Rattle.pg_fds.specs.writing.Building.{written_shape}
 use Rattle.pg_fds.specs.descriptor.Descriptor.{file_set}
@@ -11,9 +10,3 @@ use Rattle.pg_fds.specs.stated.Views.{parts_view}
 -- the bytes are a set that states the schema
 abbrev pub fds_reads : List ℕ → Parts → Type 0
 fds_reads bytes parts = IsSomeAnd (dec written_shape file_set bytes) (λ set. stated set ≡ Some (parts_view parts))
-
--- A schema as memory holds it: it keeps to the rules, and 32 bits hold the indices of its enums and services.
-pub record IsHeld (parts : Parts) : Type 0 where
-  pub sound : IsSound parts
-  pub few_enums : length parts.enums.items ≤ 2 ^ 32
-  pub few_services : length parts.services.items ≤ 2 ^ 32

@@ -2,12 +2,22 @@
 -- `FieldDescriptorProto.type_name`; proto3 language guide, "Enumerations": the values of an enum are siblings of its name). Of each name on
 -- the way from the outermost scope they have a dot and the name. So that names of two scopes differ, whatever string a name is, a backslash
 -- comes before each dot and each backslash in one.
-use Rattle.std.specs.Prelude.{◌≡◌, ℕ, zero, suc, Bool, ◌||◌, nat_eq, List, [], ◌∷◌, ◌++◌, map, flat_map, filter, if◌then◌else◌}
-use Rattle.pg_dyn.specs.message.Message.{Message}
+use Rattle.std.specs.Prelude.{ℕ, nat_eq, List, [], ◌∷◌, map, if◌then◌else◌, Bool, ◌||◌, ◌++◌, ◌≡◌, flat_map, filter, zero, suc}
 use Rattle.pg_fds.specs.writing.Fields.{dotted}
-use Rattle.pg_fds.specs.stated.Said.{children_at, text_at}
-use Rattle.pg_fds.specs.stated.SaidTypes.{is_entry, is_no_entry, real_oneofs, synthetic_places}
+use Rattle.pg_dyn.specs.message.Message.{Message}
+use Rattle.pg_fds.specs.stated.SetMessages.{text_at, children_at}
+use Rattle.pg_fds.specs.stated.TypeMessages.{real_oneofs, synthetic_places, is_entry, is_no_entry}
 use Rattle.pg_fds.specs.declared.descriptor.proto.TheConstants as proto
+
+-- what comes before each dot of a name, and the whole
+abbrev pub fronts : List ℕ → List (List ℕ)
+fronts [] = [] ∷ []
+fronts (byte ∷ bytes) = if nat_eq byte 46 then [] ∷ map (λ front. byte ∷ front) (fronts bytes) else map (λ front. byte ∷ front) (fronts bytes)
+
+-- The parts of a package, by its scope: what comes before each dot but the first, and the whole. Of the outermost scope there are none.
+abbrev pub package_parts : (scope : List ℕ) → List (List ℕ)
+package_parts [] = []
+package_parts (byte ∷ bytes) = map (λ front. byte ∷ front) (fronts bytes)
 
 -- ---- names in scopes
 

@@ -6,12 +6,12 @@ use Rattle.std.specs.Option.{option_and_then}
 use Rattle.pg_dyn.specs.message.Message.{Message}
 use Rattle.pg_check.specs.standing.Places.{most_deep}
 use Rattle.pg_fds.specs.stated.Codes.{file_has_types}
-use Rattle.pg_fds.specs.reading.OutlinedPlaces.{PlacedFile, PlacedType, no_counts, placed_files, types_of_files}
+use Rattle.pg_fds.specs.stated.Numbering.{PlacedFile, PlacedType, no_counts, placed_files, types_of_files}
 use Rattle.pg_fds.specs.stated.Outlines.{Row, file_enums, file_services, file_types}
-use Rattle.pg_fds.specs.stated.SaidFiles.{is_proto3, kept_files, skips}
+use Rattle.pg_fds.specs.stated.FileMessages.{is_proto3, kept_files, skips}
 use Rattle.pg_fds.specs.stated.StatedEnums.{enum_type}
 use Rattle.pg_fds.specs.stated.StatedFiles.{file}
-use Rattle.pg_fds.specs.stated.StatedNames.{Meanings, each, only_if}
+use Rattle.pg_fds.specs.stated.StatedNames.{NameLookup, each, only_if}
 use Rattle.pg_fds.specs.stated.StatedOrder.{in_post_order}
 use Rattle.pg_fds.specs.stated.StatedServices.{service}
 use Rattle.pg_fds.specs.stated.StatedTable.{may_declare, meaning}
@@ -24,7 +24,7 @@ abbrev pub parts_of : List TypeView → List EnumView → List ServiceView → L
 parts_of types enums services files = record { files = files; types = types; enums = enums; services = services }
 
 -- the parts of these files, message types, enums and services, by what names mean
-abbrev pub parts_by : Meanings → (skips : Bool) → List PlacedFile → List PlacedType → (enums services : List Row) → Option PartsView
+abbrev pub parts_by : NameLookup → (skips : Bool) → List PlacedFile → List PlacedType → (enums services : List Row) → Option PartsView
 parts_by means skips files types enums services =
     option_and_then (λ made. option_and_then (λ named. option_map (λ called. parts_of named (map enum_type enums) called made)
     (each (service means) services)) (each (message_type means) types)) (each (file skips) files)

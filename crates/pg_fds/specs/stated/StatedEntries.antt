@@ -12,9 +12,9 @@ use Rattle.pg_dyn.specs.message.Message.{Message, parts}
 use Rattle.pg_fds.specs.stated.Codes.{scalars}
 use Rattle.pg_fds.specs.writing.Fields.{element_code, scalar_code}
 use Rattle.pg_fds.specs.declared.descriptor.proto.TheConstants as proto
-use Rattle.pg_fds.specs.stated.Said.{children_at, item_at, items_at, maybe_flag_at, maybe_text_at, number_at, options_at, text_at}
-use Rattle.pg_fds.specs.stated.StatedNames.{Meanings, both, element_of_named, meant, only_if}
-use Rattle.pg_fds.specs.stated.SaidTypes.{is_optional, label_at}
+use Rattle.pg_fds.specs.stated.SetMessages.{children_at, item_at, items_at, maybe_flag_at, maybe_text_at, number_at, options_at, text_at}
+use Rattle.pg_fds.specs.stated.StatedNames.{NameLookup, both, element_of_named, meant, only_if}
+use Rattle.pg_fds.specs.stated.TypeMessages.{is_optional, label_at}
 
 -- ---- items
 
@@ -26,11 +26,11 @@ abbrev pub of_code : ℤ → Element → Option Element
 of_code code e = only_if (int_eq code (pos (element_code e))) (Some e)
 
 -- what the name of its type means, of the type's kind
-abbrev pub named_element : Meanings → Message → Option Element
+abbrev pub named_element : NameLookup → Message → Option Element
 named_element means m = option_and_then (of_code (number_at proto.FIELD_TYPE m)) (option_and_then element_of_named (meant means (maybe_text_at proto.FIELD_TYPE_NAME m)))
 
 -- that of a field which is no map; a scalar names no type
-abbrev pub element : Meanings → Message → Option Element
+abbrev pub element : NameLookup → Message → Option Element
 element means m =
     if is_some (item_at proto.FIELD_TYPE_NAME m) then named_element means m else option_map elements.Scalar (scalar_of (number_at proto.FIELD_TYPE m))
 
@@ -75,15 +75,15 @@ abbrev pub key_with : Element → Element → Scalar × Element
 key_with key value = (key_of key, value)
 
 -- the key and the value, by their fields
-abbrev pub pair_of : Meanings → (key value : Message) → Option (Scalar × Element)
+abbrev pub pair_of : NameLookup → (key value : Message) → Option (Scalar × Element)
 pair_of means k v = only_if (is_entry_field (codes "key") 1 k && is_entry_field (codes "value") 2 v) (both key_with (element means k) (element means v))
 
-abbrev pub key_and_value : Meanings → List Message → Option (Scalar × Element)
+abbrev pub key_and_value : NameLookup → List Message → Option (Scalar × Element)
 key_and_value means [] = None
 key_and_value means (k ∷ []) = None
 key_and_value means (k ∷ v ∷ []) = pair_of means k v
 key_and_value means (k ∷ v ∷ m ∷ ms) = None
 
 -- the key and the value of an entry type
-abbrev pub entry : Meanings → Message → Option (Scalar × Element)
+abbrev pub entry : NameLookup → Message → Option (Scalar × Element)
 entry means m = only_if (has_fields_alone m) (key_and_value means (children_at proto.MESSAGE_FIELD m))

@@ -4,7 +4,7 @@ use Rattle.pg_schema.specs.declared.parts.enum_type.ReservedValues.{ReservedValu
 use Rattle.pg_dyn.specs.message.Message.{Message}
 use Rattle.pg_fds.specs.stated.Outlines.{Row}
 use Rattle.pg_fds.specs.declared.descriptor.proto.TheConstants as proto
-use Rattle.pg_fds.specs.stated.Said.{children_at, maybe_flag_at, number_at, options_at, text_at, texts_at}
+use Rattle.pg_fds.specs.stated.SetMessages.{children_at, maybe_flag_at, number_at, options_at, text_at, texts_at}
 use Rattle.pg_fds.specs.stated.StatedNames.{undotted}
 use Rattle.pg_fds.specs.stated.Views.{EnumView, ValueView}
 

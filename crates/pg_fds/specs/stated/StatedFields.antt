@@ -15,12 +15,12 @@ use Rattle.pg_schema.specs.Shape.{is_map, is_packable}
 use Rattle.pg_dyn.specs.message.Message.{Message}
 use Rattle.pg_fds.specs.writing.Fields.{message_code}
 use Rattle.pg_fds.specs.declared.descriptor.proto.TheConstants as proto
-use Rattle.pg_fds.specs.stated.Said.{maybe_flag_at, maybe_text_at, natural, number_at, options_at, text_at}
+use Rattle.pg_fds.specs.stated.SetMessages.{maybe_flag_at, maybe_text_at, natural, number_at, options_at, text_at}
 use Rattle.pg_fds.specs.stated.SetNames.{name_in}
 use Rattle.pg_fds.specs.stated.StatedEntries.{element, entry, says}
-use Rattle.pg_fds.specs.stated.StatedNames.{Meanings, each, is_entry_type, meant, only_if}
+use Rattle.pg_fds.specs.stated.StatedNames.{NameLookup, each, is_entry_type, meant, only_if}
 use Rattle.pg_fds.specs.stated.StatedOneofs.{oneof}
-use Rattle.pg_fds.specs.stated.SaidTypes.{is_optional, json_name_at, label_at}
+use Rattle.pg_fds.specs.stated.TypeMessages.{is_optional, json_name_at, label_at}
 use Rattle.pg_fds.specs.stated.Views.{FieldView}
 
 -- ---- how often items occur
@@ -42,7 +42,7 @@ presence m e member =
 abbrev pub Items : Type 0
 Items = Presence × Element
 
-abbrev pub plain_items : Meanings → Message → (member : Bool) → Option Items
+abbrev pub plain_items : NameLookup → Message → (member : Bool) → Option Items
 plain_items means m member = option_and_then (λ e. option_map (λ p. (p, e)) (presence m e member)) (element means m)
 
 -- ---- maps
@@ -56,7 +56,7 @@ pub record Owner : Type 0 where
   pub entries : List ℕ → Option Message
 
 -- the field's type is an entry type
-abbrev pub is_map_field : Meanings → Message → Bool
+abbrev pub is_map_field : NameLookup → Message → Bool
 is_map_field means m = is_entry_type (meant means (maybe_text_at proto.FIELD_TYPE_NAME m)) && int_eq (number_at proto.FIELD_TYPE m) (pos message_code)
 
 -- it is repeated, and its type the entry type of its own name in its own message type
@@ -67,13 +67,13 @@ names_its_entry o m =
 abbrev pub map_of : Scalar × Element → Items
 map_of e = (presences.Map e.0, e.1)
 
-abbrev pub map_items : Meanings → Owner → Message → Option Items
+abbrev pub map_items : NameLookup → Owner → Message → Option Items
 map_items means o m =
     only_if (names_its_entry o m) (option_and_then (λ e. option_map map_of (entry means e)) (o.entries (entry_name (text_at proto.FIELD_NAME m))))
 
 -- ---- fields
 
-abbrev pub items : Meanings → Owner → Message → (member : Bool) → Option Items
+abbrev pub items : NameLookup → Owner → Message → (member : Bool) → Option Items
 items means o m member = if is_map_field means m then map_items means o m else plain_items means m member
 
 abbrev pub field_of : Message → (own : Option ℕ) → Items → FieldView
@@ -88,7 +88,7 @@ field_of m own items = record {
   options = record { packed = packed_at m; deprecated = maybe_flag_at proto.FIELD_DEPRECATED (options_at proto.FIELD_OPTIONS m) };
 }
 
-abbrev pub field : Meanings → Owner → Message → Option FieldView
+abbrev pub field : NameLookup → Owner → Message → Option FieldView
 field means o m = option_and_then (λ own. option_map (field_of m own) (items means o m (is_some own))) (oneof o.synthetic o.members m)
 
 abbrev pub is_map_view : FieldView → Bool
@@ -103,5 +103,5 @@ abbrev pub is_named_once : List FieldView → (entry : Message) → Bool
 is_named_once fs entry = nat_eq (length (filter (is_map_of (text_at proto.MESSAGE_NAME entry)) fs)) 1
 
 -- the fields of a message type with these entry types: each of those is that of just one field
-abbrev pub fields : Meanings → Owner → (entries : List Message) → List Message → Option (List FieldView)
+abbrev pub fields : NameLookup → Owner → (entries : List Message) → List Message → Option (List FieldView)
 fields means o entries ms = option_and_then (λ fs. only_if (list_all (is_named_once fs) entries) (Some fs)) (each (field means o) ms)

@@ -8,12 +8,12 @@ use Rattle.pg_schema.specs.declared.parts.options.OptionValue.{OptionValue}
 use Rattle.pg_schema.specs.declared.parts.options.OptionValue.TheVariants as values
 use Rattle.pg_schema.specs.declared.parts.service.ServiceId.{ServiceId}
 use Rattle.pg_dyn.specs.message.Message.{Bytes, F32, F64, Int, Item, Message, Msg, Plain}
-use Rattle.pg_fds.specs.reading.OutlinedPlaces.{PlacedFile}
+use Rattle.pg_fds.specs.stated.Numbering.{PlacedFile}
 use Rattle.pg_fds.specs.declared.descriptor.proto.TheConstants as proto
-use Rattle.pg_fds.specs.stated.Said.{item_at, numbers_at, options_at, text_at, texts_at}
+use Rattle.pg_fds.specs.stated.SetMessages.{item_at, numbers_at, options_at, text_at, texts_at}
 use Rattle.pg_fds.specs.stated.StatedNames.{only_if}
 use Rattle.pg_fds.specs.stated.StatedTypes.{enum_id, type_id}
-use Rattle.pg_fds.specs.stated.SaidFiles.{is_place, kept_imports, option_places}
+use Rattle.pg_fds.specs.stated.FileMessages.{is_place, kept_imports, option_places}
 use Rattle.pg_fds.specs.stated.Views as views
 use Rattle.pg_fds.specs.stated.Views.{FileView, ImportView, OptionView, ValueOf, value_of}
 

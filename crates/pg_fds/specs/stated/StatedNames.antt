@@ -1,9 +1,9 @@
 -- What names in a set's messages mean, and steps that may come to nothing.
-use Rattle.std.specs.Prelude.{ℕ, nat_eq, Bool, true, false, List, [], ◌∷◌, Option, Some, None, option_map, if◌then◌else◌}
+use Rattle.std.specs.Prelude.{Bool, true, false, Option, None, if◌then◌else◌, Some, List, [], ◌∷◌, option_map, ℕ, nat_eq}
 use Rattle.std.specs.Option.{option_and_then}
+use Rattle.pg_schema.specs.declared.parts.field.TypeId.{TypeId}
 use Rattle.pg_schema.specs.declared.parts.field.Element.{Element}
 use Rattle.pg_schema.specs.declared.parts.field.Element.TheVariants as elements
-use Rattle.pg_schema.specs.declared.parts.field.TypeId.{TypeId}
 use Rattle.pg_fds.specs.declared.reading.outline.Named.{Named}
 use Rattle.pg_fds.specs.declared.reading.outline.Named.TheVariants as nameds
 
@@ -30,8 +30,8 @@ both f a b = option_and_then (λ x. option_map (f x) b) a
 -- ---- names
 
 -- what qualified names are those of
-abbrev pub Meanings : Type 0
-Meanings = List ℕ → Option Named
+abbrev pub NameLookup : Type 0
+NameLookup = List ℕ → Option Named
 
 -- without the dot in front, as a schema has its names
 abbrev pub undotted : List ℕ → List ℕ
@@ -46,11 +46,11 @@ type_of_named nameds.Entry = None
 type_of_named nameds.Other = None
 
 -- What the name in a message means, where there is one. A qualified name begins with a dot, so one that doesn't means nothing.
-abbrev pub meant : Meanings → Option (List ℕ) → Option Named
+abbrev pub meant : NameLookup → Option (List ℕ) → Option Named
 meant means name = option_and_then means name
 
 -- the message type that it means
-abbrev pub type_meant : Meanings → Option (List ℕ) → Option TypeId
+abbrev pub type_meant : NameLookup → Option (List ℕ) → Option TypeId
 type_meant means name = option_and_then type_of_named (meant means name)
 
 abbrev pub element_of_named : Named → Option Element
@@ -59,15 +59,6 @@ element_of_named (nameds.Type id) = Some (elements.Message id)
 element_of_named (nameds.Enum id) = Some (elements.Enum id)
 element_of_named nameds.Entry = None
 element_of_named nameds.Other = None
-
--- What a field or a method may name. Names of packages, fields, oneofs, values and services are there only so that they occur once.
-abbrev pub may_name : Option Named → Option Named
-may_name None = None
-may_name (Some nameds.Package) = None
-may_name (Some (nameds.Type id)) = Some (nameds.Type id)
-may_name (Some (nameds.Enum id)) = Some (nameds.Enum id)
-may_name (Some nameds.Entry) = Some nameds.Entry
-may_name (Some nameds.Other) = None
 
 -- whether it is that of an entry type
 abbrev pub is_entry_type : Option Named → Bool

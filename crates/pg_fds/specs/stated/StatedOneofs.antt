@@ -1,13 +1,13 @@
 -- The oneofs that a set's fields are in, as a function of its messages (descriptor.proto, `FieldDescriptorProto.oneof_index` and
 -- `proto3_optional`).
-use Rattle.std.specs.Prelude.{◌≡◌, ℕ, ◌<◌, ◌^◌, ℤ, pos, negsuc, Bool, true, false, not, nat_eq, nat_lt, List, filter, length, map, take, Option, Some, None, option_map, slice_get, slice_index, if◌then◌else◌}
+use Rattle.std.specs.Prelude.{Bool, true, false, not, Option, Some, None, ℕ, ℤ, pos, negsuc, List, slice_get, if◌then◌else◌, ◌^◌, nat_lt, filter, length, take, option_map, nat_eq, slice_index, map}
 use Rattle.std.specs.Option.{option_and_then}
-use Rattle.pg_dyn.specs.message.Message.{Message}
-use Rattle.pg_check.specs.standing.Places.{places_from}
-use Rattle.pg_fds.specs.stated.SaidTypes.{is_marked, is_optional, members_at, synthetic_places}
-use Rattle.pg_fds.specs.declared.descriptor.proto.TheConstants as proto
-use Rattle.pg_fds.specs.stated.Said.{maybe_number_at}
 use Rattle.pg_fds.specs.stated.StatedNames.{only_if}
+use Rattle.pg_dyn.specs.message.Message.{Message}
+use Rattle.pg_fds.specs.stated.TypeMessages.{is_optional, is_marked, synthetic_places, members_at}
+use Rattle.pg_fds.specs.stated.SetMessages.{maybe_number_at}
+use Rattle.pg_check.specs.standing.Places.{places_from}
+use Rattle.pg_fds.specs.declared.descriptor.proto.TheConstants as proto
 
 abbrev pub has_mark : Bool → Option Bool → Bool
 has_mark mark None = false
@@ -26,11 +26,6 @@ small place = only_if (nat_lt place (2 ^ 32)) (Some place)
 -- how many indices in front aren't marked
 abbrev pub unmarked : (marks : List Bool) → ℕ → ℕ
 unmarked marks place = length (filter not (take place marks))
-
--- the same of each of so many indices
-pub record AreRanks (marks : List Bool) (count : ℕ) (ranks : List ℕ) : Type 0 where
-  pub all : length ranks ≡ count
-  pub each : (place : ℕ) → place < count → slice_index ranks place ≡ unmarked marks place
 
 -- the index among the real oneofs of the one that a number says
 abbrev pub real_place : (synthetic : List Bool) → ℤ → Option ℕ

@@ -8,7 +8,7 @@ use Rattle.pg_schema.specs.rules.TextSets.{is_among}
 use Rattle.pg_dyn.specs.message.Message.{Message}
 use Rattle.pg_fds.specs.stated.PostOrder.{Importer, importer_of, imports_at, imports_once, paths_of}
 use Rattle.pg_fds.specs.declared.descriptor.proto.TheConstants as proto
-use Rattle.pg_fds.specs.stated.Said.{text_at}
+use Rattle.pg_fds.specs.stated.SetMessages.{text_at}
 use Rattle.pg_fds.specs.stated.StatedNames.{each, only_if}
 
 abbrev pub Paths : Type 0

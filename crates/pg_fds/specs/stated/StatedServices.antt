@@ -5,8 +5,8 @@ use Rattle.pg_schema.specs.declared.parts.field.TypeId.{TypeId}
 use Rattle.pg_dyn.specs.message.Message.{Message}
 use Rattle.pg_fds.specs.stated.Outlines.{Row}
 use Rattle.pg_fds.specs.declared.descriptor.proto.TheConstants as proto
-use Rattle.pg_fds.specs.stated.Said.{children_at, flag_at, maybe_flag_at, maybe_text_at, options_at, text_at}
-use Rattle.pg_fds.specs.stated.StatedNames.{Meanings, both, each, type_meant, undotted}
+use Rattle.pg_fds.specs.stated.SetMessages.{children_at, flag_at, maybe_flag_at, maybe_text_at, options_at, text_at}
+use Rattle.pg_fds.specs.stated.StatedNames.{NameLookup, both, each, type_meant, undotted}
 use Rattle.pg_fds.specs.stated.Views.{MethodView, ServiceView}
 
 abbrev pub method_of : Message → TypeId → TypeId → MethodView
@@ -20,7 +20,7 @@ method_of m input output = record {
 }
 
 -- what is sent is looked at before what is answered
-abbrev pub method : Meanings → Message → Option MethodView
+abbrev pub method : NameLookup → Message → Option MethodView
 method means m =
     both (method_of m) (type_meant means (maybe_text_at proto.METHOD_INPUT_TYPE m)) (type_meant means (maybe_text_at proto.METHOD_OUTPUT_TYPE m))
 
@@ -32,5 +32,5 @@ service_of r methods = record {
 }
 
 -- the service of that name
-abbrev pub service : Meanings → Row → Option ServiceView
+abbrev pub service : NameLookup → Row → Option ServiceView
 service means r = option_map (service_of r) (each (method means) (children_at proto.SERVICE_METHOD r.1))

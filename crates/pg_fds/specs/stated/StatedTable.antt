@@ -11,11 +11,11 @@ use Rattle.pg_fds.specs.declared.reading.outline.Named.{Named}
 use Rattle.pg_fds.specs.declared.reading.outline.Named.TheVariants as nameds
 use Rattle.pg_fds.specs.stated.Outlines.{Row, file_enums, file_services, file_types}
 use Rattle.pg_fds.specs.declared.descriptor.proto.TheConstants as proto
-use Rattle.pg_fds.specs.stated.Said.{children_at}
+use Rattle.pg_fds.specs.stated.SetMessages.{children_at}
 use Rattle.pg_fds.specs.stated.SetNames.{file_scope, files_names, qualified_names}
-use Rattle.pg_fds.specs.stated.StatedNames.{Meanings, first_of}
-use Rattle.pg_fds.specs.stated.SaidFiles.{is_place}
-use Rattle.pg_fds.specs.stated.SaidTypes.{is_entry, is_no_entry, synthetic_places}
+use Rattle.pg_fds.specs.stated.StatedNames.{NameLookup, first_of}
+use Rattle.pg_fds.specs.stated.FileMessages.{is_place}
+use Rattle.pg_fds.specs.stated.TypeMessages.{is_entry, is_no_entry, synthetic_places}
 
 -- ---- what names mean
 
@@ -35,7 +35,7 @@ abbrev pub enum_named : ℕ → Named
 enum_named place = nameds.Enum (record { index = place })
 
 -- What a name means where these are the message types and enums, in the order of their indices: one of them, or an entry type.
-abbrev pub meaning : (types enums : List Row) → Meanings
+abbrev pub meaning : (types enums : List Row) → NameLookup
 meaning types enums name =
     first_of (option_map type_named (place_of (names_of types) name))
     (first_of (option_map enum_named (place_of (names_of enums) name))

@@ -5,14 +5,14 @@ use Rattle.pg_schema.specs.declared.parts.field.EnumId.{EnumId}
 use Rattle.pg_schema.specs.declared.parts.field.TypeId.{TypeId}
 use Rattle.pg_schema.specs.declared.parts.message_type.ReservedFields.{ReservedFields}
 use Rattle.pg_dyn.specs.message.Message.{Message}
-use Rattle.pg_fds.specs.reading.OutlinedPlaces.{PlacedType}
+use Rattle.pg_fds.specs.stated.Numbering.{PlacedType}
 use Rattle.pg_fds.specs.stated.Outlines.{Row}
 use Rattle.pg_fds.specs.declared.descriptor.proto.TheConstants as proto
-use Rattle.pg_fds.specs.stated.Said.{children_at, maybe_flag_at, natural, number_at, options_at, text_at, texts_at}
+use Rattle.pg_fds.specs.stated.SetMessages.{children_at, maybe_flag_at, natural, number_at, options_at, text_at, texts_at}
 use Rattle.pg_fds.specs.stated.StatedFields.{Owner, fields}
-use Rattle.pg_fds.specs.stated.StatedNames.{Meanings, first_of, undotted}
+use Rattle.pg_fds.specs.stated.StatedNames.{NameLookup, first_of, undotted}
 use Rattle.pg_fds.specs.stated.StatedOneofs.{members_in, synthetic_in}
-use Rattle.pg_fds.specs.stated.SaidTypes.{is_entry, real_oneofs, synthetic_places}
+use Rattle.pg_fds.specs.stated.TypeMessages.{is_entry, real_oneofs, synthetic_places}
 use Rattle.pg_fds.specs.stated.Views.{FieldView, TypeView}
 
 -- ---- what fields are made with
@@ -37,7 +37,7 @@ owner r = record {
 }
 
 -- in order of declaration
-abbrev pub declared_fields : Meanings → Row → Option (List FieldView)
+abbrev pub declared_fields : NameLookup → Row → Option (List FieldView)
 declared_fields means r = fields means (owner r) (own_entries r.1) (children_at proto.MESSAGE_FIELD r.1)
 
 -- ---- message types
@@ -82,5 +82,5 @@ type_of p declared = record {
 }
 
 -- the message type of that name, with the indices of what is in it
-abbrev pub message_type : Meanings → PlacedType → Option TypeView
+abbrev pub message_type : NameLookup → PlacedType → Option TypeView
 message_type means p = option_map (type_of p) (declared_fields means p.named)

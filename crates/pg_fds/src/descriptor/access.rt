@@ -13,11 +13,11 @@ ghost use Rattle.pg_dyn.specs.message.KeptParts.{of_number};
 ghost use Rattle.pg_dyn.specs.message_ref.Borrowed.{IsFilled, content_seen};
 ghost use Rattle.pg_dyn.specs.message.Message.{Int, Plain};
 ghost use Rattle.pg_dyn.specs.word.NumberLists.{IsNumber, numbers_in};
-ghost use Rattle.pg_fds.specs.descriptor.Lent.{lent};
-ghost use Rattle.pg_fds.specs.stated.Said.{child_in, children_at, flag_at, item_at, items_at, maybe_flag_at, maybe_number_at, maybe_text_at, natural, number_at, number_of, numbers_at, options_at, text_at, text_of, texts_at};
-ghost use Rattle.pg_fds.specs.stated.SaidFiles.{is_place};
-ghost use Rattle.pg_fds.specs.reading.Held.{AreSaid, IsSaid, items_in, value_item, values_in};
-ghost use Rattle.pg_fds.specs.reading.SaidItems.{said};
+ghost use Rattle.pg_fds.specs.inner.Lent.{lent};
+ghost use Rattle.pg_fds.specs.stated.SetMessages.{child_in, children_at, flag_at, item_at, items_at, maybe_flag_at, maybe_number_at, maybe_text_at, natural, number_at, number_of, numbers_at, options_at, text_at, text_of, texts_at};
+ghost use Rattle.pg_fds.specs.stated.FileMessages.{is_place};
+ghost use Rattle.pg_fds.specs.inner.reading.Held.{AreSaid, IsSaid, items_in, value_item, values_in};
+ghost use Rattle.pg_fds.specs.inner.reading.SetItems.{said};
 
 use crate::error::Unstated;
 use pg_dyn::{ContentRef, MessageRef, NumberList, ValueRef};
@@ -27,14 +27,14 @@ use std::marker::Model;
 /// A message of a set, which has at any depth nothing but strings and numbers of 32 bits. Contracts
 /// see what the message keeps.
 #[derive(Drop)]
-pub(crate) struct Said<'b, 'a> {
+pub(crate) struct SetMessage<'b, 'a> {
     message: &'b MessageRef<'a>,
 }
 
-impl<'b, 'a> Model for Said<'b, 'a> {
+impl<'b, 'a> Model for SetMessage<'b, 'a> {
     ghost use Rattle.pg_dyn.specs.message.Kept.{Kept};
     ghost use Rattle.pg_dyn.specs.inner.KeptCode.{kept_code};
-    ghost use Rattle.pg_fds.specs.reading.Held.{IsHeldMessage};
+    ghost use Rattle.pg_fds.specs.inner.reading.Held.{IsHeldMessage};
 
     ghost Value = { Kept };
 
@@ -45,26 +45,26 @@ impl<'b, 'a> Model for Said<'b, 'a> {
     ghost invariant = { λ s. IsHeldMessage s.message.now };
 }
 
-impl<'b, 'a> Said<'b, 'a> {
+impl<'b, 'a> SetMessage<'b, 'a> {
     ghost use Rattle.std.specs.Prelude.{◌≡◌};
     ghost use Rattle.pg_dyn.specs.message.Kept.{ends, type_of};
     ghost use Rattle.pg_dyn.specs.message.KeptParts.{unknown_of};
     ghost use Rattle.pg_dyn.specs.message_ref.Borrowed.{fields_onto};
-    ghost use Rattle.pg_fds.specs.reading.Held.{IsHeldMessage};
+    ghost use Rattle.pg_fds.specs.inner.reading.Held.{IsHeldMessage};
 
     /// What is said by such a message.
-    pub(crate) fn new(message: &'b MessageRef<'a>) -> Said<'b, 'a>
+    pub(crate) fn new(message: &'b MessageRef<'a>) -> SetMessage<'b, 'a>
         requires { IsHeldMessage message.now }
         ensures { result ≡ message.now }
     {
-        Said { message }
+        SetMessage { message }
     }
 
     /// The same message.
-    pub(crate) fn again(&self) -> Said<'b, 'a>
+    pub(crate) fn reborrow(&self) -> SetMessage<'b, 'a>
         ensures { result ≡ self.now }
     {
-        Said {
+        SetMessage {
             message: self.message,
         }
     }
@@ -80,11 +80,11 @@ impl<'b, 'a> Said<'b, 'a> {
 
 /// An item of such a message.
 #[derive(Drop)]
-pub(crate) enum SaidItem<'b, 'a> {
+pub(crate) enum SetItem<'b, 'a> {
     /// A number, a mark as 0 or 1, or the number of an enum value.
     Number(i32),
     Text(&'a str),
-    Message(Said<'b, 'a>),
+    Message(SetMessage<'b, 'a>),
 }
 
 /// What has to hold of a set that states a schema.
@@ -101,7 +101,10 @@ pub(crate) fn ensure(holds: bool) -> Result<(), Unstated>
 // ---- items
 
 /// The content of a field.
-pub(crate) fn content<'b, 'a>(message: &Said<'b, 'a>, number: u32) -> Option<&'b ContentRef<'a>>
+pub(crate) fn content<'b, 'a>(
+    message: &SetMessage<'b, 'a>,
+    number: u32,
+) -> Option<&'b ContentRef<'a>>
     ensures content { MatchOption result (of_number number message.now ≡ [])
         (λ content. of_number number message.now ≡ content_seen number content.now) }
     ensures filled { IfSome result (λ content. IsFilled content.now) }
@@ -122,14 +125,14 @@ fn narrow(found: i128) -> i32
 }
 
 // The item that a value is.
-fn lent_item<'b, 'a>(value: &'b ValueRef<'a>) -> SaidItem<'b, 'a>
+fn lent_item<'b, 'a>(value: &'b ValueRef<'a>) -> SetItem<'b, 'a>
     requires { IsSaid value.now }
     ensures { said result ≡ value_item value.now }
 {
     match value {
-        ValueRef::Int(found) => SaidItem::Number(narrow(found.get())),
-        ValueRef::Text(text) => SaidItem::Text(*text),
-        ValueRef::Msg(child) => SaidItem::Message(Said { message: &**child }),
+        ValueRef::Int(found) => SetItem::Number(narrow(found.get())),
+        ValueRef::Text(text) => SetItem::Text(*text),
+        ValueRef::Msg(child) => SetItem::Message(SetMessage { message: &**child }),
         _ => unreachable!(),
     }
 }
@@ -169,7 +172,7 @@ fn item_count(content: &ContentRef<'_>) -> usize
 }
 
 // The item of a content at an index, an entry's being its value.
-fn item_of<'b, 'a>(content: &'b ContentRef<'a>, at: usize) -> SaidItem<'b, 'a>
+fn item_of<'b, 'a>(content: &'b ContentRef<'a>, at: usize) -> SetItem<'b, 'a>
     requires within { at < length (values_in content.now) }
     requires said { AreSaid content.now }
     ensures { slice_get (items_in content.now) at ≡ Some (said result) }
@@ -178,12 +181,12 @@ fn item_of<'b, 'a>(content: &'b ContentRef<'a>, at: usize) -> SaidItem<'b, 'a>
         ContentRef::One(value) => lent_item(value),
         ContentRef::Many(values) => lent_item(&values[at]),
         ContentRef::Map(entries) => lent_item(&entries[at].value),
-        ContentRef::Numbers(numbers) => SaidItem::Number(listed_number(numbers, at)),
+        ContentRef::Numbers(numbers) => SetItem::Number(listed_number(numbers, at)),
     }
 }
 
 /// The item of a singular field: the first, where there are more.
-pub(crate) fn item<'b, 'a>(message: &Said<'b, 'a>, number: u32) -> Option<SaidItem<'b, 'a>>
+pub(crate) fn item<'b, 'a>(message: &SetMessage<'b, 'a>, number: u32) -> Option<SetItem<'b, 'a>>
     ensures { option_map said result ≡ item_at number (message_of message.now) }
 {
     match content(message, number) {
@@ -195,37 +198,37 @@ pub(crate) fn item<'b, 'a>(message: &Said<'b, 'a>, number: u32) -> Option<SaidIt
 // ---- what an item is
 
 /// The message that an item is.
-pub(crate) fn child_in<'b, 'a>(item: &SaidItem<'b, 'a>) -> Option<Said<'b, 'a>>
+pub(crate) fn child_in<'b, 'a>(item: &SetItem<'b, 'a>) -> Option<SetMessage<'b, 'a>>
     ensures { option_map message_of result ≡ child_in (said item.now) }
 {
     match item {
-        SaidItem::Message(child) => Some(child.again()),
+        SetItem::Message(child) => Some(child.reborrow()),
         _ => None,
     }
 }
 
 /// The string that an item is.
-pub(crate) fn text_in<'b, 'a>(item: &SaidItem<'b, 'a>) -> &'a str
+pub(crate) fn text_in<'b, 'a>(item: &SetItem<'b, 'a>) -> &'a str
     ensures { result.now ≡ text_of (said item.now) }
 {
     match item {
-        SaidItem::Text(text) => *text,
+        SetItem::Text(text) => *text,
         _ => "",
     }
 }
 
 // The number that an item is, 0 where it is none.
-fn whole_in(item: &SaidItem<'_, '_>) -> i32
+fn whole_in(item: &SetItem<'_, '_>) -> i32
     ensures { number_of (said item.now) ≡ result }
 {
     match item {
-        SaidItem::Number(found) => *found,
+        SetItem::Number(found) => *found,
         _ => 0,
     }
 }
 
 /// The same as a number of more bits.
-pub(crate) fn number_in(item: &SaidItem<'_, '_>) -> i128
+pub(crate) fn number_in(item: &SetItem<'_, '_>) -> i128
     ensures { result ≡ number_of (said item.now) }
 {
     i128::from(whole_in(item))
@@ -236,9 +239,9 @@ pub(crate) fn number_in(item: &SaidItem<'_, '_>) -> i128
 /// The messages of a repeated field.
 pub(crate) fn children<'b, 'a>(
     alloc: Global,
-    message: &Said<'b, 'a>,
+    message: &SetMessage<'b, 'a>,
     number: u32,
-) -> Result<Vec<Said<'b, 'a>>, AllocError>
+) -> Result<Vec<SetMessage<'b, 'a>>, AllocError>
     ensures { IfOk result (λ found. map message_of found.items
         ≡ children_at number (message_of message.now)) }
 {
@@ -248,7 +251,7 @@ pub(crate) fn children<'b, 'a>(
     let count = item_count(content);
     let mut children = Vec::with_capacity(alloc, count)?;
     for at in 0..count {
-        if let SaidItem::Message(child) = item_of(content, at) {
+        if let SetItem::Message(child) = item_of(content, at) {
             children.push(child)?;
         }
     }
@@ -258,7 +261,7 @@ pub(crate) fn children<'b, 'a>(
 // ---- strings
 
 /// The string of a singular field, where there is one.
-pub(crate) fn maybe_text<'b, 'a>(message: &Said<'b, 'a>, number: u32) -> Option<&'a str>
+pub(crate) fn maybe_text<'b, 'a>(message: &SetMessage<'b, 'a>, number: u32) -> Option<&'a str>
     ensures { option_copied result ≡ maybe_text_at number (message_of message.now) }
 {
     match item(message, number) {
@@ -268,7 +271,7 @@ pub(crate) fn maybe_text<'b, 'a>(message: &Said<'b, 'a>, number: u32) -> Option<
 }
 
 /// The string of a singular field, empty where it is missing.
-pub(crate) fn text<'b, 'a>(message: &Said<'b, 'a>, number: u32) -> &'a str
+pub(crate) fn text<'b, 'a>(message: &SetMessage<'b, 'a>, number: u32) -> &'a str
     ensures { result.now ≡ text_at number (message_of message.now) }
 {
     match maybe_text(message, number) {
@@ -280,7 +283,7 @@ pub(crate) fn text<'b, 'a>(message: &Said<'b, 'a>, number: u32) -> &'a str
 /// The strings of a repeated field.
 pub(crate) fn texts<'b, 'a>(
     alloc: Global,
-    message: &Said<'b, 'a>,
+    message: &SetMessage<'b, 'a>,
     number: u32,
 ) -> Result<Vec<&'a str>, AllocError>
     ensures { IfOk result (λ found. lent found.items ≡ texts_at number (message_of message.now)) }
@@ -299,7 +302,7 @@ pub(crate) fn texts<'b, 'a>(
 // ---- numbers
 
 /// The number of a singular field, where there is one.
-pub(crate) fn maybe_number(message: &Said<'_, '_>, number: u32) -> Option<i128>
+pub(crate) fn maybe_number(message: &SetMessage<'_, '_>, number: u32) -> Option<i128>
     ensures { result ≡ maybe_number_at number (message_of message.now) }
 {
     match item(message, number) {
@@ -309,7 +312,7 @@ pub(crate) fn maybe_number(message: &Said<'_, '_>, number: u32) -> Option<i128>
 }
 
 /// The number of a singular field, 0 where it is missing.
-pub(crate) fn number(message: &Said<'_, '_>, number: u32) -> i128
+pub(crate) fn number(message: &SetMessage<'_, '_>, number: u32) -> i128
     ensures { result ≡ number_at number (message_of message.now) }
 {
     match maybe_number(message, number) {
@@ -319,7 +322,7 @@ pub(crate) fn number(message: &Said<'_, '_>, number: u32) -> i128
 }
 
 /// The same as a number of 32 bits, which it is.
-pub(crate) fn whole(message: &Said<'_, '_>, field: u32) -> i32
+pub(crate) fn whole(message: &SetMessage<'_, '_>, field: u32) -> i32
     ensures { number_at field (message_of message.now) ≡ result }
 {
     match item(message, field) {
@@ -329,7 +332,7 @@ pub(crate) fn whole(message: &Said<'_, '_>, field: u32) -> i32
 }
 
 /// The number of a singular field, which is above 0 and one of 32 bits; 0 for any other.
-pub(crate) fn count(message: &Said<'_, '_>, field: u32) -> u32
+pub(crate) fn count(message: &SetMessage<'_, '_>, field: u32) -> u32
     ensures { result ≡ natural (number_at field (message_of message.now)) }
 {
     u32::try_from(number(message, field)).unwrap_or(0)
@@ -338,7 +341,7 @@ pub(crate) fn count(message: &Said<'_, '_>, field: u32) -> u32
 /// The numbers of a repeated field.
 pub(crate) fn numbers(
     alloc: Global,
-    message: &Said<'_, '_>,
+    message: &SetMessage<'_, '_>,
     number: u32,
 ) -> Result<Vec<i128>, AllocError>
     ensures { IfOk result (λ found. found.items ≡ numbers_at number (message_of message.now)) }
@@ -369,7 +372,7 @@ pub(crate) fn place_in(number: &i128, count: usize) -> Result<usize, Unstated>
 // ---- marks
 
 /// The mark of a singular field, where there is one.
-pub(crate) fn maybe_flag(message: &Said<'_, '_>, number: u32) -> Option<bool>
+pub(crate) fn maybe_flag(message: &SetMessage<'_, '_>, number: u32) -> Option<bool>
     ensures { result ≡ maybe_flag_at number (message_of message.now) }
 {
     match maybe_number(message, number) {
@@ -379,7 +382,7 @@ pub(crate) fn maybe_flag(message: &Said<'_, '_>, number: u32) -> Option<bool>
 }
 
 /// The mark of a singular field, false where it is missing.
-pub(crate) fn flag(message: &Said<'_, '_>, number: u32) -> bool
+pub(crate) fn flag(message: &SetMessage<'_, '_>, number: u32) -> bool
     ensures { result ≡ flag_at number (message_of message.now) }
 {
     match maybe_flag(message, number) {
@@ -389,7 +392,7 @@ pub(crate) fn flag(message: &Said<'_, '_>, number: u32) -> bool
 }
 
 /// The mark with the second number in the options of the first, where both are there.
-pub(crate) fn option(message: &Said<'_, '_>, options: u32, number: u32) -> Option<bool>
+pub(crate) fn option(message: &SetMessage<'_, '_>, options: u32, number: u32) -> Option<bool>
     ensures { result ≡ maybe_flag_at number (options_at options (message_of message.now)) }
 {
     match item(message, options) {

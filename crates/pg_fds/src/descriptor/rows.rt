@@ -3,7 +3,7 @@
 ghost use Rattle.std.specs.Prelude.{◌≡◌, IfOk, map};
 ghost use Rattle.pg_schema.specs.declared.parts.field.Field.{Field};
 ghost use Rattle.pg_fds.specs.descriptor.Descriptor.{type_id};
-ghost use Rattle.pg_fds.specs.descriptor.Rows.{enum_in, field_in, type_in, value_in};
+ghost use Rattle.pg_fds.specs.inner.Rows.{enum_in, field_in, type_in, value_in};
 ghost use Rattle.pg_fds.specs.stated.Views.{enum_view, field_view, type_view, value_view};
 
 use pg_schema::{

@@ -7,10 +7,10 @@ ghost use Rattle.pg_dyn.specs.message.Kept.{message_of};
 ghost use Rattle.pg_fds.specs.stated.Codes.{file_has_types, have_types, is_taken, label_codes, scalars, type_codes};
 ghost use Rattle.pg_fds.specs.writing.Fields.{scalar_code};
 ghost use Rattle.pg_fds.specs.declared.descriptor.proto.TheConstants as proto;
-ghost use Rattle.pg_fds.specs.stated.Said.{number_at};
-ghost use Rattle.pg_fds.specs.stated.SaidTypes.{label_at};
+ghost use Rattle.pg_fds.specs.stated.SetMessages.{number_at};
+ghost use Rattle.pg_fds.specs.stated.TypeMessages.{label_at};
 
-use crate::descriptor::access::{Said, children, maybe_number, number};
+use crate::descriptor::access::{SetMessage, children, maybe_number, number};
 use crate::descriptor::proto;
 use crate::writing::fields::scalar_code;
 use pg_dyn::DEFAULT_DEPTH_LIMIT;
@@ -43,7 +43,7 @@ const SCALARS: [Scalar; 15] = [
 ];
 
 // Whether the field's type is that scalar.
-fn has_code(field: &Said<'_, '_>, scalar: Scalar) -> bool
+fn has_code(field: &SetMessage<'_, '_>, scalar: Scalar) -> bool
     ensures { result ≡ int_eq (number_at proto.FIELD_TYPE (message_of field.now))
         (pos (scalar_code scalar)) }
 {
@@ -51,7 +51,7 @@ fn has_code(field: &Said<'_, '_>, scalar: Scalar) -> bool
 }
 
 /// The scalar that a field's type is. `None` of messages, enums and codes that aren't taken.
-pub(crate) fn scalar_of(field: &Said<'_, '_>) -> Option<Scalar>
+pub(crate) fn scalar_of(field: &SetMessage<'_, '_>) -> Option<Scalar>
     ensures { result ≡ find (λ s. int_eq (number_at proto.FIELD_TYPE (message_of field.now))
         (pos (scalar_code s))) scalars }
 {
@@ -90,7 +90,7 @@ fn is_type(code: i128) -> bool
 }
 
 /// The label of a field, LABEL_OPTIONAL where it is missing.
-pub(crate) fn label_of(message: &Said<'_, '_>) -> i128
+pub(crate) fn label_of(message: &SetMessage<'_, '_>) -> i128
     ensures { result ≡ label_at (message_of message.now) }
 {
     match maybe_number(message, proto::FIELD_LABEL) {
@@ -113,7 +113,7 @@ fn both(first: bool, second: bool) -> bool
 }
 
 // Whether the field's type and label are taken.
-fn is_taken(field: &Said<'_, '_>) -> bool
+fn is_taken(field: &SetMessage<'_, '_>) -> bool
     ensures { result ≡ is_taken (message_of field.now) }
 {
     let code = number(field, proto::FIELD_TYPE);
@@ -124,7 +124,7 @@ fn is_taken(field: &Said<'_, '_>) -> bool
 }
 
 // Whether the types and labels of the fields are taken.
-fn are_taken(fields: &[Said<'_, '_>]) -> bool
+fn are_taken(fields: &[SetMessage<'_, '_>]) -> bool
     ensures { result ≡ list_all is_taken (map message_of fields.now) }
 {
     for field in fields {
@@ -141,7 +141,7 @@ fn are_taken(fields: &[Said<'_, '_>]) -> bool
 pub(crate) fn have_types(
     alloc: Global,
     depth: usize,
-    messages: &[Said<'_, '_>],
+    messages: &[SetMessage<'_, '_>],
 ) -> Result<bool, AllocError>
     ensures { IfOk result (λ taken. taken ≡ have_types depth (map message_of messages.now)) }
 {
@@ -164,7 +164,7 @@ pub(crate) fn have_types(
 }
 
 // Whether those of a file's message types are.
-fn file_has_types(alloc: Global, file: &Said<'_, '_>) -> Result<bool, AllocError>
+fn file_has_types(alloc: Global, file: &SetMessage<'_, '_>) -> Result<bool, AllocError>
     ensures { IfOk result (λ taken. taken ≡ file_has_types (message_of file.now)) }
 {
     let declared = children(alloc, file, proto::FILE_MESSAGE_TYPE)?;
@@ -174,7 +174,10 @@ fn file_has_types(alloc: Global, file: &Said<'_, '_>) -> Result<bool, AllocError
 }
 
 /// Whether those of all files are.
-pub(crate) fn files_have_types(alloc: Global, files: &[Said<'_, '_>]) -> Result<bool, AllocError>
+pub(crate) fn files_have_types(
+    alloc: Global,
+    files: &[SetMessage<'_, '_>],
+) -> Result<bool, AllocError>
     ensures { IfOk result (λ taken. taken
         ≡ list_all file_has_types (map message_of files.now)) }
 {

@@ -4,11 +4,12 @@
 ghost use Rattle.std.specs.Prelude.{◌≡◌, ◌∷◌, [], false, IfErr, IfOk, OnOk, length, map};
 ghost use Rattle.std.specs.String.{string_bytes};
 ghost use Rattle.pg_dyn.specs.message.Kept.{message_of};
-ghost use Rattle.pg_fds.specs.stated.Declarations.{Adds, CannotAdd, all_named, is_package, named_in, package_declared, package_part};
+ghost use Rattle.pg_fds.specs.inner.Declarations.{Adds, CannotAdd, all_named, is_package, named_in, package_declared, package_part};
 ghost use Rattle.pg_fds.specs.stated.SetNames.{qualified};
-ghost use Rattle.pg_fds.specs.stated.SaidTypes.{AreMarked, real_oneofs};
+ghost use Rattle.pg_fds.specs.inner.reading.Made.{AreMarked};
+ghost use Rattle.pg_fds.specs.stated.TypeMessages.{real_oneofs};
 
-use crate::descriptor::access::{Said, text};
+use crate::descriptor::access::{SetMessage, text};
 use crate::descriptor::proto;
 use crate::error::Unstated;
 use crate::reading::names_table::NameTable;
@@ -33,7 +34,7 @@ pub(crate) fn declare_named(
     alloc: Global,
     names: &mut NameTable,
     scope: &str,
-    message: &Said<'_, '_>,
+    message: &SetMessage<'_, '_>,
     named: Named,
 ) -> Result<String, Unstated>
     ensures name { IfOk result (λ name. string_bytes name
@@ -54,7 +55,7 @@ fn declare_own(
     alloc: Global,
     names: &mut NameTable,
     scope: &str,
-    message: &Said<'_, '_>,
+    message: &SetMessage<'_, '_>,
     named: Named,
 ) -> Result<(), Unstated>
     ensures adds { OnOk result (Adds (named_in scope.now named (message_of message.now) ∷ [])
@@ -72,7 +73,7 @@ pub(crate) fn declare_each(
     alloc: Global,
     names: &mut NameTable,
     scope: &str,
-    messages: &[Said<'_, '_>],
+    messages: &[SetMessage<'_, '_>],
     named: Named,
 ) -> Result<(), Unstated>
     ensures adds { OnOk result (Adds (all_named scope.now named (map message_of messages.now))
@@ -89,10 +90,10 @@ pub(crate) fn declare_each(
 /// The oneofs at indices that aren't marked.
 pub(crate) fn real_oneofs<'b, 'a>(
     alloc: Global,
-    oneofs: &[Said<'b, 'a>],
+    oneofs: &[SetMessage<'b, 'a>],
     numbers: &[i128],
     marks: &[bool],
-) -> Result<Vec<Said<'b, 'a>>, AllocError>
+) -> Result<Vec<SetMessage<'b, 'a>>, AllocError>
     requires { AreMarked numbers.now (length oneofs.now) marks.now }
     ensures { IfOk result (λ real. map message_of real.items
         ≡ real_oneofs numbers.now 0 (map message_of oneofs.now)) }
@@ -100,7 +101,7 @@ pub(crate) fn real_oneofs<'b, 'a>(
     let mut real = Vec::new(alloc);
     for (place, oneof) in oneofs.iter().enumerate() {
         if !marks[place] {
-            real.push(oneof.again())?;
+            real.push(oneof.reborrow())?;
         }
     }
     Ok(real)

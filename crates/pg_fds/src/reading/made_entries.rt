@@ -4,19 +4,19 @@ ghost use Rattle.std.specs.Prelude.{◌≡◌, [], None, IfOk, OnErr, OnOk, opti
 ghost use Rattle.pg_schema.specs.declared.parts.field.Element.TheVariants.{Scalar as ScalarElement};
 ghost use Rattle.pg_dyn.specs.message.Kept.{message_of};
 ghost use Rattle.pg_fds.specs.declared.descriptor.proto.TheConstants as proto;
-ghost use Rattle.pg_fds.specs.reading.Owners.{means_of};
+ghost use Rattle.pg_fds.specs.inner.reading.Owners.{means_of};
 ghost use Rattle.pg_dyn.specs.message.Message.{parts};
-ghost use Rattle.pg_fds.specs.stated.Said.{item_at, items_at, number_at, options_at};
+ghost use Rattle.pg_fds.specs.stated.SetMessages.{item_at, items_at, number_at, options_at};
 ghost use Rattle.pg_fds.specs.stated.StatedEntries.{element, entry, has_fields_alone, is_entry_field, key_and_value, key_of, may_say, named_element, of_code, pair_of, says, scalar_of};
 ghost use Rattle.pg_fds.specs.stated.StatedNames.{element_of_named};
 
 use crate::descriptor::access::{
-    Said, child_in, children, content, flag, item, maybe_text, number, option, text,
+    SetMessage, child_in, children, content, flag, item, maybe_text, number, option, text,
 };
 use crate::descriptor::proto;
 use crate::error::Unstated;
 use crate::reading::codes::{label_of, scalar_of};
-use crate::reading::meanings::meant;
+use crate::reading::name_lookup::meant;
 use crate::reading::names_table::NameTable;
 use crate::reading::outline::Named;
 use crate::writing::fields::element_code;
@@ -37,7 +37,7 @@ fn element_of(named: Named) -> Option<Element>
 }
 
 // The element, where its code is that of the field's type.
-fn of_its_code(message: &Said<'_, '_>, element: Element) -> Option<Element>
+fn of_its_code(message: &SetMessage<'_, '_>, element: Element) -> Option<Element>
     ensures { result ≡ of_code (number_at proto.FIELD_TYPE (message_of message.now)) element }
 {
     let code = element_code(element);
@@ -48,7 +48,7 @@ fn of_its_code(message: &Said<'_, '_>, element: Element) -> Option<Element>
 }
 
 // The items of a field that names a type.
-fn named_element(names: &NameTable, message: &Said<'_, '_>) -> Option<Element>
+fn named_element(names: &NameTable, message: &SetMessage<'_, '_>) -> Option<Element>
     ensures { result ≡ named_element (means_of names.now) (message_of message.now) }
 {
     let named = meant(names, message, proto::FIELD_TYPE_NAME)?;
@@ -57,7 +57,7 @@ fn named_element(names: &NameTable, message: &Said<'_, '_>) -> Option<Element>
 }
 
 // The scalar element of a field that names no type.
-fn scalar_element(message: &Said<'_, '_>) -> Option<Element>
+fn scalar_element(message: &SetMessage<'_, '_>) -> Option<Element>
     ensures { result ≡ option_map ScalarElement
         (scalar_of (number_at proto.FIELD_TYPE (message_of message.now))) }
 {
@@ -68,7 +68,7 @@ fn scalar_element(message: &Said<'_, '_>) -> Option<Element>
 }
 
 /// The items of a field that is no map, or of an entry type's field.
-pub(crate) fn element(names: &NameTable, message: &Said<'_, '_>) -> Option<Element>
+pub(crate) fn element(names: &NameTable, message: &SetMessage<'_, '_>) -> Option<Element>
     ensures { result ≡ element (means_of names.now) (message_of message.now) }
 {
     match item(message, proto::FIELD_TYPE_NAME) {
@@ -80,7 +80,7 @@ pub(crate) fn element(names: &NameTable, message: &Said<'_, '_>) -> Option<Eleme
 // ---- what is missing
 
 // The singular field is missing.
-fn lacks(message: &Said<'_, '_>, number: u32) -> Result<(), Unstated>
+fn lacks(message: &SetMessage<'_, '_>, number: u32) -> Result<(), Unstated>
     ensures ok { OnOk result (item_at number (message_of message.now) ≡ None) }
     ensures refused { OnErr result (item_at number (message_of message.now) ≡ None → ⊥) }
 {
@@ -91,7 +91,7 @@ fn lacks(message: &Said<'_, '_>, number: u32) -> Result<(), Unstated>
 }
 
 // The repeated field is missing.
-fn lacks_all(message: &Said<'_, '_>, number: u32) -> Result<(), Unstated>
+fn lacks_all(message: &SetMessage<'_, '_>, number: u32) -> Result<(), Unstated>
     ensures ok { OnOk result (items_at number (message_of message.now) ≡ []) }
     ensures refused { OnErr result (items_at number (message_of message.now) ≡ [] → ⊥) }
 {
@@ -102,7 +102,7 @@ fn lacks_all(message: &Said<'_, '_>, number: u32) -> Result<(), Unstated>
 }
 
 // The message has no content.
-fn is_empty(message: &Said<'_, '_>) -> Result<(), Unstated>
+fn is_empty(message: &SetMessage<'_, '_>) -> Result<(), Unstated>
     ensures ok { OnOk result (parts (message_of message.now) ≡ []) }
     ensures refused { OnErr result (parts (message_of message.now) ≡ [] → ⊥) }
 {
@@ -114,7 +114,7 @@ fn is_empty(message: &Said<'_, '_>) -> Result<(), Unstated>
 }
 
 // The options are missing, or none is in them.
-fn has_no_options(message: &Said<'_, '_>, number: u32) -> Result<(), Unstated>
+fn has_no_options(message: &SetMessage<'_, '_>, number: u32) -> Result<(), Unstated>
     ensures ok { OnOk result (parts (options_at number (message_of message.now)) ≡ []) }
     ensures refused { OnErr result (parts (options_at number (message_of message.now)) ≡ [] → ⊥) }
 {
@@ -130,14 +130,14 @@ fn has_no_options(message: &Said<'_, '_>, number: u32) -> Result<(), Unstated>
 // ---- entry types
 
 /// The string of the field is that one.
-pub(crate) fn says(message: &Said<'_, '_>, number: u32, stated: &str) -> bool
+pub(crate) fn says(message: &SetMessage<'_, '_>, number: u32, stated: &str) -> bool
     ensures { result ≡ says number (message_of message.now) stated.now }
 {
     text(message, number) == stated
 }
 
 // The string of the field is that one, or missing.
-fn may_say(message: &Said<'_, '_>, number: u32, stated: &str) -> bool
+fn may_say(message: &SetMessage<'_, '_>, number: u32, stated: &str) -> bool
     ensures { result ≡ may_say number (message_of message.now) stated.now }
 {
     match maybe_text(message, number) {
@@ -148,7 +148,7 @@ fn may_say(message: &Said<'_, '_>, number: u32, stated: &str) -> bool
 
 // The field `key` or `value` of an entry type, but for its items: it has no options, and is in
 // no oneof.
-fn is_entry_field(message: &Said<'_, '_>, name: &str, place: u32) -> bool
+fn is_entry_field(message: &SetMessage<'_, '_>, name: &str, place: u32) -> bool
     ensures { result ≡ is_entry_field name.now place (message_of message.now) }
 {
     let is_named = says(message, proto::FIELD_NAME, name);
@@ -176,7 +176,11 @@ fn key_of(element: Element) -> Scalar
 }
 
 // The key and the value, by their two fields.
-fn pair(names: &NameTable, first: &Said<'_, '_>, second: &Said<'_, '_>) -> Option<(Scalar, Element)>
+fn pair(
+    names: &NameTable,
+    first: &SetMessage<'_, '_>,
+    second: &SetMessage<'_, '_>,
+) -> Option<(Scalar, Element)>
     ensures { result ≡ pair_of (means_of names.now) (message_of first.now) (message_of second.now) }
 {
     let is_key = is_entry_field(first, "key", 1);
@@ -190,7 +194,7 @@ fn pair(names: &NameTable, first: &Said<'_, '_>, second: &Said<'_, '_>) -> Optio
 }
 
 // The same, of an entry type's fields.
-fn key_and_value(names: &NameTable, fields: &[Said<'_, '_>]) -> Option<(Scalar, Element)>
+fn key_and_value(names: &NameTable, fields: &[SetMessage<'_, '_>]) -> Option<(Scalar, Element)>
     ensures { result ≡ key_and_value (means_of names.now) (map message_of fields.now) }
 {
     match fields {
@@ -200,7 +204,7 @@ fn key_and_value(names: &NameTable, fields: &[Said<'_, '_>]) -> Option<(Scalar, 
 }
 
 // The message has nothing but fields.
-fn has_fields_alone(entry: &Said<'_, '_>) -> bool
+fn has_fields_alone(entry: &SetMessage<'_, '_>) -> bool
     ensures { result ≡ has_fields_alone (message_of entry.now) }
 {
     let no_types = lacks_all(entry, proto::MESSAGE_NESTED_TYPE).is_ok();
@@ -216,7 +220,7 @@ fn has_fields_alone(entry: &Said<'_, '_>) -> bool
 pub(crate) fn entry(
     alloc: Global,
     names: &NameTable,
-    message: &Said<'_, '_>,
+    message: &SetMessage<'_, '_>,
 ) -> Result<Option<(Scalar, Element)>, AllocError>
     ensures { IfOk result (λ found. found
         ≡ entry (means_of names.now) (message_of message.now)) }

@@ -6,21 +6,23 @@ ghost use Rattle.pg_schema.specs.rules.DeclaredNames.{entry_name};
 ghost use Rattle.pg_schema.specs.rules.Fields.{is_message};
 ghost use Rattle.pg_dyn.specs.message.Kept.{message_of};
 ghost use Rattle.pg_fds.specs.declared.error.Unstated.TheVariants.{Memory};
-ghost use Rattle.pg_fds.specs.reading.Owners.{means_of, owner_of};
+ghost use Rattle.pg_fds.specs.inner.reading.Owners.{means_of, owner_of};
 ghost use Rattle.pg_fds.specs.declared.descriptor.proto.TheConstants as proto;
-ghost use Rattle.pg_fds.specs.stated.Said.{text_at};
+ghost use Rattle.pg_fds.specs.stated.SetMessages.{text_at};
 ghost use Rattle.pg_fds.specs.stated.StatedFields.{field, is_map_field, items, map_items, names_its_entry, plain_items, presence, repeated, singular};
 ghost use Rattle.pg_fds.specs.stated.StatedNames.{is_entry_type};
-ghost use Rattle.pg_fds.specs.stated.SaidTypes.{json_name_at};
+ghost use Rattle.pg_fds.specs.stated.TypeMessages.{json_name_at};
 ghost use Rattle.pg_fds.specs.stated.Views.{field_view};
 
-use crate::descriptor::access::{Said, count, ensure, flag, maybe_text, number, option, text};
+use crate::descriptor::access::{
+    SetMessage, count, ensure, flag, maybe_text, number, option, text,
+};
 use crate::descriptor::proto;
 use crate::error::Unstated;
 use crate::reading::codes::{MESSAGE_CODE, REPEATED, label_of};
 use crate::reading::made_entries::{element, entry, says};
 use crate::reading::made_oneofs::{OneofMarks, oneof};
-use crate::reading::meanings::meant;
+use crate::reading::name_lookup::meant;
 use crate::reading::names_table::NameTable;
 use crate::reading::outline::Named;
 use crate::reading::set_names::name_in;
@@ -37,7 +39,7 @@ pub(crate) struct Scope<'b, 'a> {
     pub name: &'b str,
     pub synthetic: OneofMarks,
     pub members: Vec<usize>,
-    pub entries: BTreeMap<String, Said<'b, 'a>>,
+    pub entries: BTreeMap<String, SetMessage<'b, 'a>>,
 }
 
 // ---- how often items occur
@@ -74,7 +76,7 @@ fn repeated(element: Element, stated: Option<bool>) -> Presence
 }
 
 // The presence of a field that is no map.
-fn presence(message: &Said<'_, '_>, element: Element, member: bool) -> Option<Presence>
+fn presence(message: &SetMessage<'_, '_>, element: Element, member: bool) -> Option<Presence>
     ensures { result ≡ presence (message_of message.now) element member }
 {
     let optional = flag(message, proto::FIELD_PROTO3_OPTIONAL);
@@ -91,7 +93,7 @@ fn presence(message: &Said<'_, '_>, element: Element, member: bool) -> Option<Pr
 // The presence and element of a field that is no map.
 fn plain_items(
     names: &NameTable,
-    message: &Said<'_, '_>,
+    message: &SetMessage<'_, '_>,
     member: bool,
 ) -> Option<(Presence, Element)>
     ensures { result ≡ plain_items (means_of names.now) (message_of message.now) member }
@@ -114,7 +116,7 @@ fn is_entry_type(named: Option<Named>) -> bool
 }
 
 // Whether the field's type is an entry type.
-fn is_map_field(names: &NameTable, message: &Said<'_, '_>) -> bool
+fn is_map_field(names: &NameTable, message: &SetMessage<'_, '_>) -> bool
     ensures { result ≡ is_map_field (means_of names.now) (message_of message.now) }
 {
     let is_entry = is_entry_type(meant(names, message, proto::FIELD_TYPE_NAME));
@@ -126,7 +128,7 @@ fn is_map_field(names: &NameTable, message: &Said<'_, '_>) -> bool
 fn names_its_entry(
     alloc: Global,
     scope: &Scope<'_, '_>,
-    message: &Said<'_, '_>,
+    message: &SetMessage<'_, '_>,
     own: &str,
 ) -> Result<bool, AllocError>
     requires { own.now ≡ entry_name (text_at proto.FIELD_NAME (message_of message.now)) }
@@ -143,7 +145,7 @@ fn names_its_entry(
 fn map_items(
     alloc: Global,
     scope: &Scope<'_, '_>,
-    message: &Said<'_, '_>,
+    message: &SetMessage<'_, '_>,
 ) -> Result<(Presence, Element), Unstated>
     ensures made { IfOk result (λ made. map_items (means_of scope.now.names.now)
         (owner_of scope.now) (message_of message.now) ≡ Some made) }
@@ -168,7 +170,7 @@ fn map_items(
 fn items(
     alloc: Global,
     scope: &Scope<'_, '_>,
-    message: &Said<'_, '_>,
+    message: &SetMessage<'_, '_>,
     member: bool,
 ) -> Result<(Presence, Element), Unstated>
     ensures made { IfOk result (λ made. items (means_of scope.now.names.now)
@@ -187,7 +189,7 @@ fn items(
 }
 
 // The JSON name, given or default.
-fn json_name(alloc: Global, message: &Said<'_, '_>) -> Result<String, AllocError>
+fn json_name(alloc: Global, message: &SetMessage<'_, '_>) -> Result<String, AllocError>
     ensures { IfOk result (λ name. string_bytes name ≡ json_name_at (message_of message.now)) }
 {
     let given = maybe_text(message, proto::FIELD_JSON_NAME);
@@ -202,7 +204,7 @@ fn json_name(alloc: Global, message: &Said<'_, '_>) -> Result<String, AllocError
 pub(crate) fn made_field(
     alloc: Global,
     scope: &Scope<'_, '_>,
-    message: &Said<'_, '_>,
+    message: &SetMessage<'_, '_>,
 ) -> Result<Field, Unstated>
     ensures made { IfOk result (λ made. field (means_of scope.now.names.now)
         (owner_of scope.now) (message_of message.now) ≡ Some (field_view made)) }

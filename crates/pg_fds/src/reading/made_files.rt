@@ -5,29 +5,29 @@ ghost use Rattle.std.specs.Option.{unwrap_or};
 ghost use Rattle.pg_dyn.specs.message.Kept.{message_of};
 ghost use Rattle.pg_dyn.specs.message.Message.{ends};
 ghost use Rattle.pg_fds.specs.declared.error.Unstated.TheVariants.{Memory};
-ghost use Rattle.pg_fds.specs.descriptor.Lent.{lent};
+ghost use Rattle.pg_fds.specs.inner.Lent.{lent};
 ghost use Rattle.pg_fds.specs.stated.StatedFiles.{file, has_public_places, mode_of, numbered, option_value, options_under};
-ghost use Rattle.pg_fds.specs.reading.OutlinedPlaces.{placed_file};
-ghost use Rattle.pg_fds.specs.reading.SaidItems.{said};
-ghost use Rattle.pg_fds.specs.stated.Outlines.{row};
-ghost use Rattle.pg_fds.specs.reading.Owners.{means_of};
+ghost use Rattle.pg_fds.specs.inner.reading.OutlinedPlaces.{placed_file};
+ghost use Rattle.pg_fds.specs.inner.reading.SetItems.{said};
+ghost use Rattle.pg_fds.specs.inner.reading.OutlinedRows.{row};
+ghost use Rattle.pg_fds.specs.inner.reading.Owners.{means_of};
 ghost use Rattle.pg_fds.specs.declared.descriptor.proto.TheConstants as proto;
-ghost use Rattle.pg_fds.specs.stated.Said.{numbers_at, options_at, texts_at};
+ghost use Rattle.pg_fds.specs.stated.SetMessages.{numbers_at, options_at, texts_at};
 ghost use Rattle.pg_fds.specs.stated.StatedNames.{each};
 ghost use Rattle.pg_fds.specs.stated.StatedServices.{method, service};
-ghost use Rattle.pg_fds.specs.reading.MadeImports.{import_of};
-ghost use Rattle.pg_fds.specs.stated.SaidFiles.{kept_imports, option_places};
-ghost use Rattle.pg_fds.specs.stated.SaidTypes.{AreMarked};
+ghost use Rattle.pg_fds.specs.inner.reading.MadeImports.{import_of};
+ghost use Rattle.pg_fds.specs.stated.FileMessages.{kept_imports, option_places};
+ghost use Rattle.pg_fds.specs.inner.reading.Made.{AreMarked};
 ghost use Rattle.pg_fds.specs.stated.Views.{file_view, method_view, option_view, service_view, value_of};
 
 use crate::descriptor::access::{
-    Said, SaidItem, child_in, children, flag, item, number_in, numbers, option, text, text_in,
+    SetItem, SetMessage, child_in, children, flag, item, number_in, numbers, option, text, text_in,
     texts,
 };
 use crate::descriptor::proto;
 use crate::error::Unstated;
 use crate::reading::made_oneofs::marks;
-use crate::reading::meanings::type_meant;
+use crate::reading::name_lookup::type_meant;
 use crate::reading::names_table::NameTable;
 use crate::reading::outline::{Outlined, OutlinedFile};
 use crate::reading::set_files::is_left_out;
@@ -57,7 +57,11 @@ const OPTIONS: [u32; 13] = [
 
 // ---- services
 
-fn method(alloc: Global, names: &NameTable, message: &Said<'_, '_>) -> Result<Method, Unstated>
+fn method(
+    alloc: Global,
+    names: &NameTable,
+    message: &SetMessage<'_, '_>,
+) -> Result<Method, Unstated>
     ensures made { IfOk result (λ made. method (means_of names.now) (message_of message.now)
         ≡ Some (method_view made)) }
     ensures refused { IfErr result (λ e. (e ≡ Memory)
@@ -85,7 +89,7 @@ fn method(alloc: Global, names: &NameTable, message: &Said<'_, '_>) -> Result<Me
 fn methods(
     alloc: Global,
     names: &NameTable,
-    messages: &[Said<'_, '_>],
+    messages: &[SetMessage<'_, '_>],
 ) -> Result<Vec<Method>, Unstated>
     ensures made { IfOk result (λ made. each (method (means_of names.now))
         (map message_of messages.now) ≡ Some (map method_view made.items)) }
@@ -160,11 +164,11 @@ fn numbered(number: u32, found: i128) -> OptionValue
 fn option_value(
     alloc: Global,
     number: u32,
-    item: &SaidItem<'_, '_>,
+    item: &SetItem<'_, '_>,
 ) -> Result<OptionValue, AllocError>
     ensures { IfOk result (λ made. value_of made ≡ option_value number (said item.now)) }
 {
-    if let SaidItem::Number(_) = item {
+    if let SetItem::Number(_) = item {
         return Ok(numbered(number, number_in(item)));
     }
     let found = text_in(item);
@@ -175,7 +179,7 @@ fn option_value(
 // The options of these numbers, in their order.
 fn options_under(
     alloc: Global,
-    message: &Said<'_, '_>,
+    message: &SetMessage<'_, '_>,
     numbers: &[u32],
 ) -> Result<Vec<FileOption>, AllocError>
     ensures { IfOk result (λ made. map option_view made.items
@@ -194,7 +198,7 @@ fn options_under(
 }
 
 // The message of a file's options, where there is one.
-fn own_options<'b, 'a>(message: &Said<'b, 'a>) -> Option<Said<'b, 'a>>
+fn own_options<'b, 'a>(message: &SetMessage<'b, 'a>) -> Option<SetMessage<'b, 'a>>
     ensures { unwrap_or (option_map message_of result) (ends [])
         ≡ options_at proto.FILE_OPTIONS (message_of message.now) }
 {
@@ -206,7 +210,7 @@ fn own_options<'b, 'a>(message: &Said<'b, 'a>) -> Option<Said<'b, 'a>>
 }
 
 // The options of a file, by rising number.
-fn options(alloc: Global, message: &Said<'_, '_>) -> Result<Vec<FileOption>, AllocError>
+fn options(alloc: Global, message: &SetMessage<'_, '_>) -> Result<Vec<FileOption>, AllocError>
     ensures { IfOk result (λ made. map option_view made.items
         ≡ options_under (options_at proto.FILE_OPTIONS (message_of message.now)) option_places) }
 {
@@ -244,7 +248,11 @@ fn kept(
 }
 
 // The imports of a file, without those that are skipped.
-fn imports(alloc: Global, skips: bool, message: &Said<'_, '_>) -> Result<Vec<Import>, Unstated>
+fn imports(
+    alloc: Global,
+    skips: bool,
+    message: &SetMessage<'_, '_>,
+) -> Result<Vec<Import>, Unstated>
     ensures made { IfOk result (λ made. map import_of made.items
         ≡ kept_imports skips (numbers_at proto.FILE_PUBLIC_DEPENDENCY (message_of message.now)) 0
         (texts_at proto.FILE_DEPENDENCY (message_of message.now))) }

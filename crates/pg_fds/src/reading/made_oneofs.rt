@@ -4,14 +4,15 @@ ghost use Rattle.std.specs.Prelude.{◌≡◌, ◌<◌, true, IfErr, IfOk, IfSom
 ghost use Rattle.std.specs.List.{list_all};
 ghost use Rattle.pg_dyn.specs.message.Kept.{message_of};
 ghost use Rattle.pg_fds.specs.declared.error.Unstated.TheVariants.{Memory};
-ghost use Rattle.pg_fds.specs.descriptor.Lent.{lent};
+ghost use Rattle.pg_fds.specs.inner.Lent.{lent};
 ghost use Rattle.pg_fds.specs.declared.descriptor.proto.TheConstants as proto;
-ghost use Rattle.pg_fds.specs.stated.Said.{text_at};
-ghost use Rattle.pg_fds.specs.stated.SaidFiles.{is_place};
-ghost use Rattle.pg_fds.specs.stated.SaidTypes.{AreMarked, real_oneofs, synthetic_places};
-ghost use Rattle.pg_fds.specs.stated.StatedOneofs.{AreRanks, oneof, own_oneof, place_marked, real_oneof, real_place};
+ghost use Rattle.pg_fds.specs.stated.SetMessages.{text_at};
+ghost use Rattle.pg_fds.specs.stated.FileMessages.{is_place};
+ghost use Rattle.pg_fds.specs.inner.reading.Made.{AreMarked, AreRanks};
+ghost use Rattle.pg_fds.specs.stated.TypeMessages.{real_oneofs, synthetic_places};
+ghost use Rattle.pg_fds.specs.stated.StatedOneofs.{oneof, own_oneof, place_marked, real_oneof, real_place};
 
-use crate::descriptor::access::{Said, flag, maybe_number, place_in, text};
+use crate::descriptor::access::{SetMessage, flag, maybe_number, place_in, text};
 use crate::descriptor::proto;
 use crate::error::Unstated;
 use std::alloc::{AllocError, Global};
@@ -37,7 +38,7 @@ pub(crate) fn marks(alloc: Global, numbers: &[i128], count: usize) -> Result<Vec
 /// The indices of the oneofs that fields marked `proto3_optional` name.
 pub(crate) fn synthetic_places(
     alloc: Global,
-    fields: &[Said<'_, '_>],
+    fields: &[SetMessage<'_, '_>],
 ) -> Result<Vec<i128>, AllocError>
     ensures { IfOk result (λ places. places.items
         ≡ synthetic_places (map message_of fields.now)) }
@@ -58,7 +59,7 @@ pub(crate) fn synthetic_places(
 /// The names of the oneofs at indices that aren't marked.
 pub(crate) fn real_names<'b, 'a>(
     alloc: Global,
-    oneofs: &[Said<'b, 'a>],
+    oneofs: &[SetMessage<'b, 'a>],
     numbers: &[i128],
     marks: &[bool],
 ) -> Result<Vec<&'a str>, AllocError>
@@ -88,7 +89,7 @@ pub(crate) struct OneofMarks {
 
 impl Model for OneofMarks {
     ghost use Rattle.std.specs.Prelude.{Bool, List, length};
-    ghost use Rattle.pg_fds.specs.stated.StatedOneofs.{AreRanks};
+    ghost use Rattle.pg_fds.specs.inner.reading.Made.{AreRanks};
 
     ghost Value = { List Bool };
 
@@ -192,7 +193,7 @@ fn own_oneof(synthetic: &[bool], members: &[usize], named: Option<i128>) -> Opti
 pub(crate) fn oneof(
     marks: &OneofMarks,
     members: &[usize],
-    message: &Said<'_, '_>,
+    message: &SetMessage<'_, '_>,
 ) -> Option<Option<u32>>
     ensures { result ≡ oneof marks.now members.now (message_of message.now) }
 {

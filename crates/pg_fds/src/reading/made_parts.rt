@@ -2,9 +2,9 @@
 
 ghost use Rattle.std.specs.Prelude.{◌≡◌, ◌⊎◌, None, Some, IfErr, IfOk, map};
 ghost use Rattle.pg_fds.specs.declared.error.Unstated.TheVariants.{Memory};
-ghost use Rattle.pg_fds.specs.reading.OutlinedPlaces.{placed_file, placed_type};
-ghost use Rattle.pg_fds.specs.stated.Outlines.{row};
-ghost use Rattle.pg_fds.specs.reading.Owners.{means_of};
+ghost use Rattle.pg_fds.specs.inner.reading.OutlinedPlaces.{placed_file, placed_type};
+ghost use Rattle.pg_fds.specs.inner.reading.OutlinedRows.{row};
+ghost use Rattle.pg_fds.specs.inner.reading.Owners.{means_of};
 ghost use Rattle.pg_fds.specs.stated.Stated.{parts_by};
 ghost use Rattle.pg_fds.specs.stated.StatedEnums.{enum_type};
 ghost use Rattle.pg_fds.specs.stated.StatedFiles.{file};

@@ -5,23 +5,23 @@ ghost use Rattle.std.specs.List.{list_all};
 ghost use Rattle.std.specs.String.{string_bytes};
 ghost use Rattle.pg_dyn.specs.message.Kept.{message_of};
 ghost use Rattle.pg_fds.specs.declared.error.Unstated.TheVariants.{Memory};
-ghost use Rattle.pg_fds.specs.descriptor.Lent.{lent};
-ghost use Rattle.pg_fds.specs.reading.Made.{AreCounted, has_place};
-ghost use Rattle.pg_fds.specs.reading.MadeMembers.{HasMembers};
-ghost use Rattle.pg_fds.specs.reading.OutlinedPlaces.{placed_type};
-ghost use Rattle.pg_fds.specs.stated.Outlines.{row, type_row};
-ghost use Rattle.pg_fds.specs.reading.Owners.{means_of, message_in, owner_of};
+ghost use Rattle.pg_fds.specs.inner.Lent.{lent};
+ghost use Rattle.pg_fds.specs.inner.reading.Made.{AreCounted, has_place, AreMarked};
+ghost use Rattle.pg_fds.specs.inner.reading.MadeMembers.{HasMembers};
+ghost use Rattle.pg_fds.specs.inner.reading.OutlinedPlaces.{placed_type};
+ghost use Rattle.pg_fds.specs.inner.reading.OutlinedRows.{row, type_row};
+ghost use Rattle.pg_fds.specs.inner.reading.Owners.{means_of, message_in, owner_of};
 ghost use Rattle.pg_fds.specs.declared.descriptor.proto.TheConstants as proto;
-ghost use Rattle.pg_fds.specs.stated.Said.{children_at, maybe_number_at, text_at};
+ghost use Rattle.pg_fds.specs.stated.SetMessages.{children_at, maybe_number_at, text_at};
 ghost use Rattle.pg_fds.specs.stated.StatedEnums as stated;
 ghost use Rattle.pg_fds.specs.stated.StatedFields.{field, fields};
 ghost use Rattle.pg_fds.specs.stated.StatedNames.{each};
 ghost use Rattle.pg_fds.specs.stated.StatedTypes.{by_key, declared_fields, field_range, last_named, message_type, number_of};
-ghost use Rattle.pg_fds.specs.stated.SaidTypes.{AreMarked, real_oneofs, synthetic_places as stated_places};
+ghost use Rattle.pg_fds.specs.stated.TypeMessages.{real_oneofs, synthetic_places as stated_places};
 ghost use Rattle.pg_fds.specs.stated.Views.{enum_view, field_view, type_view, value_view};
 
 use crate::descriptor::access::{
-    Said, children, count, ensure, maybe_number, option, place_in, text, texts, whole,
+    SetMessage, children, count, ensure, maybe_number, option, place_in, text, texts, whole,
 };
 use crate::descriptor::proto;
 use crate::descriptor::rows::numbers;
@@ -53,7 +53,7 @@ fn copies(alloc: Global, texts: &[&str]) -> Result<Vec<String>, AllocError>
 
 // ---- enums
 
-fn value(alloc: Global, message: &Said<'_, '_>) -> Result<EnumValue, AllocError>
+fn value(alloc: Global, message: &SetMessage<'_, '_>) -> Result<EnumValue, AllocError>
     ensures { IfOk result (λ made. value_view made ≡ stated.value (message_of message.now)) }
 {
     Ok(EnumValue {
@@ -65,7 +65,7 @@ fn value(alloc: Global, message: &Said<'_, '_>) -> Result<EnumValue, AllocError>
     })
 }
 
-fn values(alloc: Global, messages: &[Said<'_, '_>]) -> Result<Vec<EnumValue>, AllocError>
+fn values(alloc: Global, messages: &[SetMessage<'_, '_>]) -> Result<Vec<EnumValue>, AllocError>
     ensures { IfOk result (λ made. map value_view made.items
         ≡ map stated.value (map message_of messages.now)) }
 {
@@ -77,7 +77,7 @@ fn values(alloc: Global, messages: &[Said<'_, '_>]) -> Result<Vec<EnumValue>, Al
     Ok(values)
 }
 
-fn value_range(message: &Said<'_, '_>) -> ReservedValues
+fn value_range(message: &SetMessage<'_, '_>) -> ReservedValues
     ensures { result ≡ stated.range (message_of message.now) }
 {
     ReservedValues {
@@ -86,7 +86,10 @@ fn value_range(message: &Said<'_, '_>) -> ReservedValues
     }
 }
 
-fn value_ranges(alloc: Global, messages: &[Said<'_, '_>]) -> Result<Vec<ReservedValues>, AllocError>
+fn value_ranges(
+    alloc: Global,
+    messages: &[SetMessage<'_, '_>],
+) -> Result<Vec<ReservedValues>, AllocError>
     ensures { IfOk result (λ made. made.items
         ≡ map stated.range (map message_of messages.now)) }
 {
@@ -125,7 +128,7 @@ pub(crate) fn made_enum(alloc: Global, outlined: &Outlined<'_, '_>) -> Result<En
 // ---- message types
 
 // The reserved numbers, which end before the second number.
-fn field_range(message: &Said<'_, '_>) -> ReservedFields
+fn field_range(message: &SetMessage<'_, '_>) -> ReservedFields
     ensures { result ≡ field_range (message_of message.now) }
 {
     let end = count(message, proto::RANGE_END);
@@ -135,7 +138,10 @@ fn field_range(message: &Said<'_, '_>) -> ReservedFields
     }
 }
 
-fn field_ranges(alloc: Global, messages: &[Said<'_, '_>]) -> Result<Vec<ReservedFields>, AllocError>
+fn field_ranges(
+    alloc: Global,
+    messages: &[SetMessage<'_, '_>],
+) -> Result<Vec<ReservedFields>, AllocError>
     ensures { IfOk result (λ made. made.items
         ≡ map field_range (map message_of messages.now)) }
 {
@@ -148,7 +154,7 @@ fn field_ranges(alloc: Global, messages: &[Said<'_, '_>]) -> Result<Vec<Reserved
 }
 
 // The index of the oneof, among so many, that a field names, if it names one.
-fn named_place(field: &Said<'_, '_>, count: usize) -> Result<Option<usize>, Unstated>
+fn named_place(field: &SetMessage<'_, '_>, count: usize) -> Result<Option<usize>, Unstated>
     ensures ok { IfOk result (λ place. maybe_number_at proto.FIELD_ONEOF_INDEX
         (message_of field.now) ≡ option_map pos place) }
     ensures within { IfOk result (λ found. IfSome found (λ place. place < count)) }
@@ -163,7 +169,7 @@ fn named_place(field: &Said<'_, '_>, count: usize) -> Result<Option<usize>, Unst
 // How many of the fields name each of so many oneofs, where each names one of them or none.
 fn member_counts(
     alloc: Global,
-    fields: &[Said<'_, '_>],
+    fields: &[SetMessage<'_, '_>],
     count: usize,
 ) -> Result<Vec<usize>, Unstated>
     ensures counted { IfOk result (λ counts.
@@ -184,15 +190,15 @@ fn member_counts(
 // The entry types by their names: of those of one name the last.
 fn entries<'b, 'a>(
     alloc: Global,
-    messages: &[Said<'b, 'a>],
-) -> Result<BTreeMap<String, Said<'b, 'a>>, AllocError>
+    messages: &[SetMessage<'b, 'a>],
+) -> Result<BTreeMap<String, SetMessage<'b, 'a>>, AllocError>
     ensures { IfOk result (λ table. (name : List ℕ) → message_in table name
         ≡ last_named (map message_of messages.now) name) }
 {
     let mut entries = BTreeMap::new(alloc);
     for message in messages {
         let name = String::from_str(alloc, text(message, proto::MESSAGE_NAME))?;
-        entries.insert(name, message.again())?;
+        entries.insert(name, message.reborrow())?;
     }
     Ok(entries)
 }
@@ -201,7 +207,7 @@ fn entries<'b, 'a>(
 fn each_field(
     alloc: Global,
     scope: &Scope<'_, '_>,
-    messages: &[Said<'_, '_>],
+    messages: &[SetMessage<'_, '_>],
 ) -> Result<Vec<Field>, Unstated>
     ensures made { IfOk result (λ made. each (field (means_of scope.now.names.now)
         (owner_of scope.now)) (map message_of messages.now)
@@ -222,8 +228,8 @@ fn each_field(
 fn fields(
     alloc: Global,
     scope: &Scope<'_, '_>,
-    entries: &[Said<'_, '_>],
-    messages: &[Said<'_, '_>],
+    entries: &[SetMessage<'_, '_>],
+    messages: &[SetMessage<'_, '_>],
 ) -> Result<Vec<Field>, Unstated>
     ensures made { IfOk result (λ made. fields (means_of scope.now.names.now)
         (owner_of scope.now) (map message_of entries.now) (map message_of messages.now)
@@ -252,7 +258,7 @@ fn declared_fields(
     alloc: Global,
     names: &NameTable,
     outlined: &OutlinedType<'_, '_>,
-    own: &[Said<'_, '_>],
+    own: &[SetMessage<'_, '_>],
     synthetic: Vec<bool>,
 ) -> Result<Vec<Field>, Unstated>
     requires own { map message_of own.now
@@ -283,7 +289,7 @@ fn declared_fields(
 // Own copies of the names of the oneofs that aren't synthetic.
 fn oneof_names(
     alloc: Global,
-    oneofs: &[Said<'_, '_>],
+    oneofs: &[SetMessage<'_, '_>],
     places: &[i128],
     synthetic: &[bool],
 ) -> Result<Vec<String>, AllocError>
@@ -309,8 +315,8 @@ fn marked_members(
     alloc: Global,
     names: &NameTable,
     outlined: &OutlinedType<'_, '_>,
-    own: &[Said<'_, '_>],
-    inside: &[Said<'_, '_>],
+    own: &[SetMessage<'_, '_>],
+    inside: &[SetMessage<'_, '_>],
     places: &[i128],
     synthetic: Vec<bool>,
 ) -> Result<Members, Unstated>
@@ -334,8 +340,8 @@ fn members_of(
     alloc: Global,
     names: &NameTable,
     outlined: &OutlinedType<'_, '_>,
-    own: &[Said<'_, '_>],
-    inside: &[Said<'_, '_>],
+    own: &[SetMessage<'_, '_>],
+    inside: &[SetMessage<'_, '_>],
 ) -> Result<Members, Unstated>
     requires own { map message_of own.now
         ≡ children_at proto.MESSAGE_FIELD (message_of outlined.now.message) }

@@ -6,13 +6,13 @@ ghost use Rattle.std.specs.List.{list_all};
 ghost use Rattle.std.specs.Str.{bytes_eq};
 ghost use Rattle.std.specs.String.{string_bytes};
 ghost use Rattle.pg_dyn.specs.message.Kept.{message_of};
-ghost use Rattle.pg_fds.specs.reading.NamedEntries.{KeepsOnce, is_kept_once};
+ghost use Rattle.pg_fds.specs.inner.reading.NamedEntries.{KeepsOnce, is_kept_once};
 ghost use Rattle.pg_fds.specs.declared.descriptor.proto.TheConstants as proto;
-ghost use Rattle.pg_fds.specs.stated.Said.{text_at};
+ghost use Rattle.pg_fds.specs.stated.SetMessages.{text_at};
 ghost use Rattle.pg_fds.specs.stated.StatedFields.{is_named_once};
 ghost use Rattle.pg_fds.specs.stated.Views.{field_view};
 
-use crate::descriptor::access::{Said, text};
+use crate::descriptor::access::{SetMessage, text};
 use crate::descriptor::proto;
 use pg_schema::{Field, entry_name};
 use std::alloc::{AllocError, Global};
@@ -46,7 +46,7 @@ fn named_once(alloc: Global, fields: &[Field]) -> Result<BTreeMap<String, bool>,
 }
 
 // Whether just one field has an entry type of the name that the entry type has.
-fn is_once(once: &BTreeMap<String, bool>, entry: &Said<'_, '_>) -> bool
+fn is_once(once: &BTreeMap<String, bool>, entry: &SetMessage<'_, '_>) -> bool
     ensures { result ≡ is_kept_once (get_by_text once.now
         (text_at proto.MESSAGE_NAME (message_of entry.now))) }
 {
@@ -60,7 +60,7 @@ fn is_once(once: &BTreeMap<String, bool>, entry: &Said<'_, '_>) -> bool
 pub(crate) fn are_named_once(
     alloc: Global,
     fields: &[Field],
-    entries: &[Said<'_, '_>],
+    entries: &[SetMessage<'_, '_>],
 ) -> Result<bool, AllocError>
     ensures { IfOk result (λ are. are ≡ list_all (is_named_once (map field_view fields.now))
         (map message_of entries.now)) }

@@ -4,18 +4,18 @@ ghost use Rattle.std.specs.Prelude.{◌≡◌, ◌⊎◌, false, true, ℕ, List
 ghost use Rattle.std.specs.List.{list_all};
 ghost use Rattle.pg_schema.specs.rules.Pairs.{are_distinct};
 ghost use Rattle.pg_schema.specs.rules.TextSets.{is_among};
-ghost use Rattle.pg_dyn.specs.Kept.{message_of};
+ghost use Rattle.pg_dyn.specs.message.Kept.{message_of};
 ghost use Rattle.pg_fds.specs.declared.descriptor.proto.TheConstants.{FILE_DEPENDENCY};
 ghost use Rattle.pg_fds.specs.declared.error.Unstated.TheVariants as errors;
-ghost use Rattle.pg_fds.specs.descriptor.Lent.{lent};
-ghost use Rattle.pg_fds.specs.reading.FilePlaces.{AreOrdered, ImportsAt, IsIndex, StandAt, importer, importers};
-ghost use Rattle.pg_fds.specs.stated.Outlines.{files_at};
-ghost use Rattle.pg_fds.specs.stated.PostOrder.{HasNoOrder, importer_of, imports_once, kept_paths, paths_of};
-ghost use Rattle.pg_fds.specs.stated.Said.{texts_at};
+ghost use Rattle.pg_fds.specs.inner.Lent.{lent};
+ghost use Rattle.pg_fds.specs.inner.reading.FilePlaces.{AreOrdered, ImportsAt, IsIndex, StandAt, importer, importers, HasNoOrder};
+ghost use Rattle.pg_fds.specs.inner.reading.OutlinedRows.{files_at};
+ghost use Rattle.pg_fds.specs.stated.PostOrder.{importer_of, imports_once, kept_paths, paths_of};
+ghost use Rattle.pg_fds.specs.stated.SetMessages.{texts_at};
 ghost use Rattle.pg_fds.specs.stated.StatedOrder.{in_post_order};
-ghost use Rattle.pg_fds.specs.reading.Walks.{lists_of};
+ghost use Rattle.pg_fds.specs.inner.reading.Walks.{lists_of};
 
-use crate::descriptor::access::{Said, text, texts};
+use crate::descriptor::access::{SetMessage, text, texts};
 use crate::descriptor::proto;
 use crate::error::Unstated;
 use crate::reading::set_files::is_left_out;
@@ -118,7 +118,7 @@ fn order_of(alloc: Global, files: &[Importing<'_>]) -> Result<Vec<usize>, Unstat
 fn kept_imports<'b, 'a>(
     alloc: Global,
     skips: bool,
-    file: &Said<'b, 'a>,
+    file: &SetMessage<'b, 'a>,
 ) -> Result<Vec<&'a str>, AllocError>
     ensures { IfOk result (λ kept. lent kept.items
         ≡ kept_paths skips (texts_at FILE_DEPENDENCY (message_of file.now))) }
@@ -137,7 +137,7 @@ fn kept_imports<'b, 'a>(
 fn importing_file<'b, 'a>(
     alloc: Global,
     skips: bool,
-    file: &Said<'b, 'a>,
+    file: &SetMessage<'b, 'a>,
 ) -> Result<Importing<'a>, AllocError>
     ensures { IfOk result (λ i. importer i ≡ importer_of skips (message_of file.now)) }
 {
@@ -150,7 +150,7 @@ fn importing_file<'b, 'a>(
 fn importing_files<'b, 'a>(
     alloc: Global,
     skips: bool,
-    files: &[Said<'b, 'a>],
+    files: &[SetMessage<'b, 'a>],
 ) -> Result<Vec<Importing<'a>>, AllocError>
     ensures { IfOk result (λ found. importers found.items
         ≡ map (importer_of skips) (map message_of files.now)) }
@@ -168,7 +168,7 @@ fn importing_files<'b, 'a>(
 pub(crate) fn order(
     alloc: Global,
     skips: bool,
-    files: &[Said<'_, '_>],
+    files: &[SetMessage<'_, '_>],
 ) -> Result<Vec<usize>, Unstated>
     ensures ok { IfOk result (λ order. AreOrdered
         (map (importer_of skips) (map message_of files.now)) order.items) }

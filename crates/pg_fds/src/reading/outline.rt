@@ -7,19 +7,21 @@ ghost use Rattle.std.specs.String.{string_bytes};
 ghost use Rattle.pg_schema.specs.rules.Scopes.{enum_places, type_places};
 ghost use Rattle.pg_dyn.specs.message.Kept.{message_of};
 ghost use Rattle.pg_fds.specs.declared.error.Unstated.TheVariants.{Memory};
-ghost use Rattle.pg_fds.specs.stated.Declarations.{Adds, CannotAdd, file_declared, members_declared, package_declared, type_declared, types_declared};
-ghost use Rattle.pg_fds.specs.stated.Outlines.{NameOneofs, NamesOneofs, StayFew, enum_rows, file_enums, file_types, files_at, type_row, type_rows};
-ghost use Rattle.pg_fds.specs.reading.OutlinedPlaces.{PlacedType, counts_of, placed_type, places_of_types, without_inside};
-ghost use Rattle.pg_fds.specs.reading.OutlinedScopes.{MayPlace, OutlinesFile, OutlinesFiles, OutlinesTypes};
-ghost use Rattle.pg_fds.specs.reading.Owners.{means_of};
+ghost use Rattle.pg_fds.specs.inner.Declarations.{Adds, CannotAdd, file_declared, members_declared, package_declared, type_declared, types_declared};
+ghost use Rattle.pg_fds.specs.inner.reading.OutlinedRows.{NameOneofs, NamesOneofs, StayFew, files_at, type_row};
+ghost use Rattle.pg_fds.specs.stated.Outlines.{enum_rows, file_enums, file_types, type_rows};
+ghost use Rattle.pg_fds.specs.stated.Numbering.{PlacedType, places_of_types};
+ghost use Rattle.pg_fds.specs.inner.reading.OutlinedPlaces.{counts_of, placed_type, without_inside};
+ghost use Rattle.pg_fds.specs.inner.reading.OutlinedScopes.{MayPlace, OutlinesFile, OutlinesFiles, OutlinesTypes};
+ghost use Rattle.pg_fds.specs.inner.reading.Owners.{means_of};
 ghost use Rattle.pg_fds.specs.stated.StatedTable.{may_declare, meaning};
-ghost use Rattle.pg_fds.specs.stated.SaidTypes.{is_entry};
+ghost use Rattle.pg_fds.specs.stated.TypeMessages.{is_entry};
 ghost use Rattle.pg_fds.specs.stated.SetNames.{package_scope};
 
 mod enums;
 mod services;
 
-use crate::descriptor::access::{Said, children, text};
+use crate::descriptor::access::{SetMessage, children, text};
 use crate::descriptor::proto;
 use crate::error::Unstated;
 use crate::reading::declare::{declare, declare_each, declare_package, real_oneofs};
@@ -46,7 +48,7 @@ pub(crate) enum Named {
 /// A message type of a set.
 #[derive(Drop)]
 pub(crate) struct OutlinedType<'b, 'a> {
-    pub message: Said<'b, 'a>,
+    pub message: SetMessage<'b, 'a>,
     pub name: String,
     pub types: Vec<TypeId>,
     pub enums: Vec<EnumId>,
@@ -55,14 +57,14 @@ pub(crate) struct OutlinedType<'b, 'a> {
 /// An enum or a service of a set.
 #[derive(Drop)]
 pub(crate) struct Outlined<'b, 'a> {
-    pub message: Said<'b, 'a>,
+    pub message: SetMessage<'b, 'a>,
     pub name: String,
 }
 
 /// A file of a set.
 #[derive(Drop)]
 pub(crate) struct OutlinedFile<'b, 'a> {
-    pub message: Said<'b, 'a>,
+    pub message: SetMessage<'b, 'a>,
     pub types: Vec<TypeId>,
     pub enums: Vec<EnumId>,
     pub services: Vec<ServiceId>,
@@ -96,7 +98,7 @@ fn declare_members(
     alloc: Global,
     names: &mut NameTable,
     full: &str,
-    message: &Said<'_, '_>,
+    message: &SetMessage<'_, '_>,
 ) -> Result<(), Unstated>
     ensures adds { OnOk result (Adds (members_declared full.now (message_of message.now))
         names.old names.new) }
@@ -120,7 +122,7 @@ fn declare_type(
     names: &mut NameTable,
     full: &str,
     id: TypeId,
-    message: &Said<'_, '_>,
+    message: &SetMessage<'_, '_>,
 ) -> Result<(), Unstated>
     ensures adds { OnOk result (Adds
         (type_declared full.now id.index (message_of message.now)) names.old names.new) }
@@ -156,7 +158,7 @@ fn declare_scope(alloc: Global, names: &mut NameTable, name: &str) -> Result<Str
 }
 
 // None of the messages is an entry type.
-fn without_entries(alloc: Global, messages: &[Said<'_, '_>]) -> Result<(), Unstated>
+fn without_entries(alloc: Global, messages: &[SetMessage<'_, '_>]) -> Result<(), Unstated>
     ensures ok { OnOk result (filter is_entry (map message_of messages.now) ≡ []) }
     ensures refused { IfErr result (λ e. filter is_entry (map message_of messages.now) ≡ []
         → e ≡ Memory) }
@@ -169,7 +171,7 @@ fn without_entries(alloc: Global, messages: &[Said<'_, '_>]) -> Result<(), Unsta
 }
 
 // There is none of the messages.
-fn ensure_none(messages: &[Said<'_, '_>]) -> Result<(), Unstated>
+fn ensure_none(messages: &[SetMessage<'_, '_>]) -> Result<(), Unstated>
     ensures none { OnOk result (map message_of messages.now ≡ []) }
     ensures refused { OnErr result (map message_of messages.now ≡ [] → ⊥) }
 {
@@ -185,7 +187,7 @@ impl<'b, 'a> Outline<'b, 'a> {
         &mut self,
         alloc: Global,
         name: &str,
-        message: &Said<'b, 'a>,
+        message: &SetMessage<'b, 'a>,
     ) -> Result<TypeId, Unstated>
         ensures placed { IfOk result (λ id. id.index ≡ length self.old.types.items) }
         ensures rows { OnOk result (map type_row self.new.types.items
@@ -212,7 +214,7 @@ impl<'b, 'a> Outline<'b, 'a> {
         let id = TypeId { index };
         declare_type(alloc, &mut self.names, name, id, message)?;
         self.types.push(OutlinedType {
-            message: message.again(),
+            message: message.reborrow(),
             name: String::from_str(alloc, name)?,
             types: Vec::new(alloc),
             enums: Vec::new(alloc),
@@ -250,7 +252,7 @@ impl<'b, 'a> Outline<'b, 'a> {
         alloc: Global,
         depth: usize,
         scope: &str,
-        messages: &[Said<'b, 'a>],
+        messages: &[SetMessage<'b, 'a>],
     ) -> Result<Vec<TypeId>, Unstated>
         ensures ids { IfOk result (λ ids. type_places ids.items
             ≡ places_of_types depth scope.now (counts_of self.old)
@@ -295,7 +297,7 @@ impl<'b, 'a> Outline<'b, 'a> {
         &mut self,
         alloc: Global,
         depth: usize,
-        message: &Said<'b, 'a>,
+        message: &SetMessage<'b, 'a>,
     ) -> Result<(), Unstated>
         ensures outlined { OnOk result (OutlinesFile depth (message_of message.now)
             self.old self.new) }
@@ -324,7 +326,7 @@ impl<'b, 'a> Outline<'b, 'a> {
             own_services,
         )?;
         self.files.push(OutlinedFile {
-            message: message.again(),
+            message: message.reborrow(),
             types,
             enums,
             services,
@@ -339,7 +341,7 @@ pub(crate) fn outline_files<'b, 'a>(
     alloc: Global,
     keys: SetKeys,
     depth: usize,
-    files: &[Said<'b, 'a>],
+    files: &[SetMessage<'b, 'a>],
     order: &[usize],
 ) -> Result<Outline<'b, 'a>, Unstated>
     ensures outlined { IfOk result (OutlinesFiles depth

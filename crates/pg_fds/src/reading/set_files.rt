@@ -3,9 +3,9 @@
 ghost use Rattle.std.specs.Prelude.{◌≡◌, ◌&&◌, IfOk, filter, map, not};
 ghost use Rattle.std.specs.List.{list_any};
 ghost use Rattle.pg_dyn.specs.message.Kept.{message_of};
-ghost use Rattle.pg_fds.specs.stated.SaidFiles.{is_descriptor, is_proto3, is_skipped};
+ghost use Rattle.pg_fds.specs.stated.FileMessages.{is_descriptor, is_proto3, is_skipped};
 
-use crate::descriptor::access::{Said, text};
+use crate::descriptor::access::{SetMessage, text};
 use crate::descriptor::proto;
 use std::alloc::{AllocError, Global};
 
@@ -17,21 +17,21 @@ fn is_descriptor(path: &str) -> bool
 }
 
 /// Whether the file is proto3.
-pub(crate) fn is_proto3(message: &Said<'_, '_>) -> bool
+pub(crate) fn is_proto3(message: &SetMessage<'_, '_>) -> bool
     ensures { result ≡ is_proto3 (message_of message.now) }
 {
     text(message, proto::FILE_SYNTAX) == "proto3"
 }
 
 // Whether the file is skipped: descriptor.proto, where it isn't proto3.
-fn is_skipped(message: &Said<'_, '_>) -> bool
+fn is_skipped(message: &SetMessage<'_, '_>) -> bool
     ensures { result ≡ is_skipped (message_of message.now) }
 {
     is_descriptor(text(message, proto::FILE_NAME)) && !is_proto3(message)
 }
 
 /// Whether one of the files is skipped.
-pub(crate) fn skips(files: &[Said<'_, '_>]) -> bool
+pub(crate) fn skips(files: &[SetMessage<'_, '_>]) -> bool
     ensures { result ≡ list_any is_skipped (map message_of files.now) }
 {
     for file in files {
@@ -46,15 +46,15 @@ pub(crate) fn skips(files: &[Said<'_, '_>]) -> bool
 /// The files that aren't skipped, in their order.
 pub(crate) fn kept<'b, 'a>(
     alloc: Global,
-    files: &[Said<'b, 'a>],
-) -> Result<Vec<Said<'b, 'a>>, AllocError>
+    files: &[SetMessage<'b, 'a>],
+) -> Result<Vec<SetMessage<'b, 'a>>, AllocError>
     ensures { IfOk result (λ kept. map message_of kept.items
         ≡ filter (λ m. not (is_skipped m)) (map message_of files.now)) }
 {
     let mut kept = Vec::new(alloc);
     for file in files {
         if !is_skipped(file) {
-            kept.push(file.again())?;
+            kept.push(file.reborrow())?;
         }
     }
     Ok(kept)

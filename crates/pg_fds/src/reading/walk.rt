@@ -4,7 +4,7 @@ ghost use Rattle.std.specs.Prelude.{◌≡◌, ◌⊎◌, ◌<◌, ◌++◌, ◌
 ghost use Rattle.pg_check.specs.standing.Places.{places_from};
 ghost use Rattle.pg_fds.specs.declared.error.Unstated.TheVariants as errors;
 ghost use Rattle.pg_fds.specs.declared.reading.walk.Seen.TheVariants as seen;
-ghost use Rattle.pg_fds.specs.reading.Walks.{AreWithin, Ends, Enters, Falls, IsStep, IsWalk, Walks, lists_of};
+ghost use Rattle.pg_fds.specs.inner.reading.Walks.{AreWithin, Ends, Enters, Falls, IsStep, IsWalk, Walks, lists_of};
 
 use crate::error::Unstated;
 use std::alloc::Global;

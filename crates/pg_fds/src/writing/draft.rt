@@ -28,7 +28,7 @@ impl<'a> Model for Writer<'a> {
 
 impl<'a> Writer<'a> {
     ghost use Rattle.std.specs.Prelude.{◌≡◌, ◌<◌};
-    ghost use Rattle.pg_fds.specs.writing.Drafts.{begun};
+    ghost use Rattle.pg_fds.specs.inner.writing.Drafts.{begun};
 
     /// Writes that schema.
     pub(crate) fn new(alloc: Global, source: &'a Schema) -> Writer<'a>
@@ -62,7 +62,7 @@ pub(crate) struct Draft {
 }
 
 impl Model for Draft {
-    ghost use Rattle.pg_fds.specs.writing.Drafts.{Drafted, IsDraft, drafted, drafted_code};
+    ghost use Rattle.pg_fds.specs.inner.writing.Drafts.{Drafted, IsDraft, drafted, drafted_code};
 
     ghost Value = { Drafted };
 
@@ -78,9 +78,9 @@ impl Draft {
     ghost use Rattle.std.specs.List.{AllByRecursion};
     ghost use Rattle.std.specs.String.{string_bytes};
     ghost use Rattle.pg_schema.specs.declared.parts.field.Element.TheVariants as elements;
-    ghost use Rattle.pg_fds.specs.writing.Building.{IsInt32, IsWhole};
+    ghost use Rattle.pg_fds.specs.inner.writing.HeldFields.{IsInt32, IsWhole};
     ghost use Rattle.pg_fds.specs.descriptor.Descriptor as descriptor;
-    ghost use Rattle.pg_fds.specs.writing.Drafts.{Takes, TakesMany, TakesOne, IsEncoded, put, read_items};
+    ghost use Rattle.pg_fds.specs.inner.writing.Drafts.{Takes, TakesMany, TakesOne, IsEncoded, put, read_items};
     ghost use Rattle.pg_fds.specs.writing.Items as rows;
 
     /// The message's bytes.
@@ -329,7 +329,7 @@ pub(crate) struct Children {
 }
 
 impl Model for Children {
-    ghost use Rattle.pg_fds.specs.writing.Drafts.{AreEncoded, Listed, items_within, listed, listed_code};
+    ghost use Rattle.pg_fds.specs.inner.writing.Drafts.{AreEncoded, Listed, items_within, listed, listed_code};
 
     ghost Value = { Listed };
 
@@ -342,7 +342,7 @@ impl Model for Children {
 
 impl Children {
     ghost use Rattle.std.specs.Prelude.{◌≡◌, ◌++◌, ◌∷◌, [], IfOk, OnOk};
-    ghost use Rattle.pg_fds.specs.writing.Drafts.{listed};
+    ghost use Rattle.pg_fds.specs.inner.writing.Drafts.{listed};
 
     /// No messages of that type.
     pub(crate) fn new(alloc: Global, type_id: TypeId) -> Children

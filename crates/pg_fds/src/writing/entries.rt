@@ -3,9 +3,9 @@
 ghost use Rattle.std.specs.Prelude.{◌≡◌, ◌<◌, ◌^◌, ◌++◌, ◌∷◌, [], IfOk, OnOk, codes};
 ghost use Rattle.pg_schema.specs.declared.parts.field.Element.TheVariants as elements;
 ghost use Rattle.pg_schema.specs.declared.parts.field.Presence.TheVariants as presences;
-ghost use Rattle.pg_fds.specs.writing.Drafts.{IsDraftOf, listed};
+ghost use Rattle.pg_fds.specs.inner.writing.Drafts.{IsDraftOf, listed};
 ghost use Rattle.pg_fds.specs.writing.Entries.{entries, entry_field, entry_items};
-ghost use Rattle.pg_fds.specs.descriptor.Lent.{lent};
+ghost use Rattle.pg_fds.specs.inner.Lent.{lent};
 ghost use Rattle.pg_fds.specs.writing.Places.{declared_in};
 
 use crate::descriptor::places::{FIELD, MESSAGE, MESSAGE_OPTIONS};

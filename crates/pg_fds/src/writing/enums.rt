@@ -2,7 +2,7 @@
 //! memory is.
 
 ghost use Rattle.std.specs.Prelude.{◌≡◌, IfOk, map};
-ghost use Rattle.pg_fds.specs.writing.Drafts.{IsDraftOf, listed};
+ghost use Rattle.pg_fds.specs.inner.writing.Drafts.{IsDraftOf, listed};
 ghost use Rattle.pg_fds.specs.writing.Messages.{enum_items, enums_items, value_items, value_range};
 ghost use Rattle.pg_fds.specs.writing.Places.{declared_in};
 

@@ -3,11 +3,11 @@
 
 ghost use Rattle.std.specs.Prelude.{◌≡◌, ◌<◌, ◌≤◌, ◌^◌, IfOk, OnOk, option_map};
 ghost use Rattle.std.specs.String.{string_bytes};
-ghost use Rattle.pg_fds.specs.writing.Drafts.{IsDraftOf, put};
+ghost use Rattle.pg_fds.specs.inner.writing.Drafts.{IsDraftOf, put};
 ghost use Rattle.pg_fds.specs.writing.Fields.{element_code, element_name, field_items, label, named_type, oneof_place, scalar_code, type_code};
 ghost use Rattle.pg_fds.specs.writing.Places.{declared_in};
-ghost use Rattle.pg_fds.specs.writing.PutParts.{kind_items};
-ghost use Rattle.pg_fds.specs.writing.Small.{HasSmallNumbers};
+ghost use Rattle.pg_fds.specs.inner.writing.PutParts.{kind_items};
+ghost use Rattle.pg_fds.specs.inner.writing.Small.{HasSmallNumbers};
 
 use crate::descriptor::places::{FIELD, FIELD_OPTIONS};
 use crate::descriptor::proto::{

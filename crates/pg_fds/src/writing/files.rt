@@ -7,14 +7,14 @@ ghost use Rattle.std.specs.String.{string_bytes};
 ghost use Rattle.pg_schema.specs.declared.parts.file.Import.{Import};
 ghost use Rattle.pg_schema.specs.rules.Files.{is_file_option, option_numbers};
 ghost use Rattle.pg_schema.specs.rules.Pairs.{is_rising};
-ghost use Rattle.pg_fds.specs.writing.Drafts.{IsDraftOf, listed, put};
+ghost use Rattle.pg_fds.specs.inner.writing.Drafts.{IsDraftOf, listed, put};
 ghost use Rattle.pg_fds.specs.writing.Items as rows;
 ghost use Rattle.pg_fds.specs.writing.Messages.{types_items};
 ghost use Rattle.pg_fds.specs.writing.Places.{declared_in};
-ghost use Rattle.pg_fds.specs.writing.PutParts.{declared_items};
+ghost use Rattle.pg_fds.specs.inner.writing.PutParts.{declared_items};
 ghost use Rattle.pg_fds.specs.writing.Set.{file_items, file_options, mode_code, option_items, public_places};
-ghost use Rattle.pg_fds.specs.writing.Small.{IsSmallType};
-ghost use Rattle.pg_fds.specs.writing.Writable.{IsWritable};
+ghost use Rattle.pg_fds.specs.inner.writing.Small.{IsSmallType};
+ghost use Rattle.pg_fds.specs.inner.writing.Writable.{IsWritable};
 
 use crate::descriptor::places::{FILE, FILE_OPTIONS, MESSAGE};
 use crate::descriptor::proto::{

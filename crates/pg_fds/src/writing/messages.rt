@@ -5,13 +5,13 @@ ghost use Rattle.std.specs.Prelude.{◌≡◌, ◌+◌, ◌<◌, ◌≤◌, ◌^
 ghost use Rattle.std.specs.List.{AllByRecursion};
 ghost use Rattle.std.specs.String.{string_bytes};
 ghost use Rattle.pg_schema.specs.Lookups.{type_at};
-ghost use Rattle.pg_fds.specs.writing.Drafts.{IsDraftOf, listed, put};
+ghost use Rattle.pg_fds.specs.inner.writing.Drafts.{IsDraftOf, listed, put};
 ghost use Rattle.pg_fds.specs.writing.Fields.{fields_items};
-ghost use Rattle.pg_fds.specs.descriptor.Lent.{lent};
+ghost use Rattle.pg_fds.specs.inner.Lent.{lent};
 ghost use Rattle.pg_fds.specs.writing.Messages.{declared_fields, field_range, oneof_items, oneof_names, type_items};
 ghost use Rattle.pg_fds.specs.writing.Places.{declared_in};
-ghost use Rattle.pg_fds.specs.writing.PutParts.{type_rest};
-ghost use Rattle.pg_fds.specs.writing.Small.{HasSmallNumbers, IsSmallRange, IsSmallType};
+ghost use Rattle.pg_fds.specs.inner.writing.PutParts.{type_rest};
+ghost use Rattle.pg_fds.specs.inner.writing.Small.{HasSmallNumbers, IsSmallRange, IsSmallType};
 
 use crate::descriptor::places::{FIELD, FIELD_RANGE, MESSAGE, MESSAGE_OPTIONS, ONEOF};
 use crate::descriptor::proto::{

@@ -3,7 +3,7 @@
 
 ghost use Rattle.std.specs.Prelude.{◌≡◌, IfOk, map, slice_get};
 ghost use Rattle.std.specs.Option.{option_copied};
-ghost use Rattle.pg_fds.specs.writing.Drafts.{IsDraftOf, listed};
+ghost use Rattle.pg_fds.specs.inner.writing.Drafts.{IsDraftOf, listed};
 ghost use Rattle.pg_fds.specs.writing.Places.{declared_in};
 ghost use Rattle.pg_fds.specs.writing.Set.{method_items, service_items, services_items};
 

@@ -2,8 +2,8 @@
 
 ghost use Rattle.std.specs.Prelude.{◌≡◌, ◌++◌, ◌∷◌, [], ℕ, List, IfOk, OnOk, length, map, true};
 ghost use Rattle.std.specs.String.{string_bytes};
-ghost use Rattle.pg_fds.specs.descriptor.Lent.{lent};
-ghost use Rattle.pg_fds.specs.writing.MadeNames.{HasMade, begins_made};
+ghost use Rattle.pg_fds.specs.inner.Lent.{lent};
+ghost use Rattle.pg_fds.specs.inner.writing.MadeNames.{HasMade, begins_made};
 ghost use Rattle.pg_fds.specs.writing.Synthetic.{freed, sign, synthetic_name, synthetic_oneofs, with_underscore};
 
 use pg_schema::Field;

@@ -1,4 +1,4 @@
-use Rattle.pg_fds.proofs.lemmas.again.StatedSets.{sets_again}
+use Rattle.pg_fds.proofs.lemmas.round_trip.StatedSets.{sets_again}
 use Rattle.pg_fds.proofs.laws.sets_are_read_again.Goals as goal
 
 pub returns : goal.returns

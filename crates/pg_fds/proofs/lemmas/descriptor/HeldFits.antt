@@ -23,13 +23,14 @@ use Rattle.pg_dyn.specs.word.Coding.{InRange, scalar_form}
 use Rattle.pg_dyn.specs.encoding.Encoding.{child_type}
 use Rattle.pg_dyn.specs.fitting.Fits.{Fits, PartsAgree, is_string, is_string_by}
 use Rattle.pg_dyn.specs.message.Kept.{Kept, ends, holds, nests, message_of, type_of}
-use Rattle.pg_dyn.specs.message.KeptParts.{KeptItem, Plain, Msg, of_number, parts_of}
+use Rattle.pg_dyn.specs.message.KeptParts.{KeptItem, parts_of}
+use Rattle.pg_dyn.specs.message.KeptParts.{Plain, Msg, of_number}
 use Rattle.pg_dyn.specs.message.Message.{Bytes, F32, F64, Int, Part, is_of}
 use Rattle.pg_dyn.specs.message_ref.Borrowed.{content_seen, entry_part, item_part, item_seen}
 use Rattle.pg_dyn.specs.word.NumberLists.{numbers_in}
 use Rattle.pg_fds.specs.writing.Building.{written_shape}
 use Rattle.pg_fds.specs.descriptor.Descriptor.{descriptor_shape}
-use Rattle.pg_fds.specs.reading.Held.{AreSaid, IsHeldMessage, IsSaid}
+use Rattle.pg_fds.specs.inner.reading.Held.{AreSaid, IsHeldMessage, IsSaid}
 
 -- ---- the schema
 

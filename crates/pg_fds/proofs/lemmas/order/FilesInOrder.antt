@@ -4,7 +4,7 @@ use Rattle.std.proofs.lemmas.List.{length-map}
 use Rattle.std.specs.List.{AllByRecursion}
 use Rattle.pg_dyn.specs.message.Kept.{Kept, message_of}
 use Rattle.pg_dyn.specs.message.Message.{Message}
-use Rattle.pg_fds.specs.reading.FilePlaces.{AreOrdered}
+use Rattle.pg_fds.specs.inner.reading.FilePlaces.{AreOrdered}
 use Rattle.pg_fds.specs.stated.PostOrder.{importer_of}
 use Rattle.pg_fds.proofs.lemmas.lists.Zips.{seen_length}
 

@@ -6,8 +6,8 @@ use Rattle.pg_schema.specs.rules.Pairs.{are_distinct}
 use Rattle.pg_schema.specs.rules.TextSets.{is_among}
 use Rattle.pg_schema.proofs.lemmas.rules.TextSetLemmas.{twice}
 use Rattle.pg_fds.specs.declared.reading.order.Importing.{Importing}
-use Rattle.pg_fds.specs.descriptor.Lent.{lent}
-use Rattle.pg_fds.specs.reading.FilePlaces.{StandAt, importer, importers}
+use Rattle.pg_fds.specs.inner.Lent.{lent}
+use Rattle.pg_fds.specs.inner.reading.FilePlaces.{StandAt, importer, importers}
 use Rattle.pg_fds.specs.stated.PostOrder.{Importer, imports_once, paths_of}
 use Rattle.pg_fds.proofs.lemmas.lists.Tests.{and_false}
 

@@ -11,10 +11,10 @@ use Rattle.std.specs.Str.{bytes_eq}
 use Rattle.pg_schema.specs.rules.Pairs.{are_distinct, differ}
 use Rattle.pg_schema.proofs.lemmas.rules.PairLemmas.{and_left, and_right}
 use Rattle.pg_check.specs.standing.Places.{places_from}
-use Rattle.pg_fds.specs.reading.FilePlaces.{ImportsAt, IsIndex, StandAt, name_at}
-use Rattle.pg_link.specs.PostOrder.{Visits, all_visited, listed_last, passed_over}
-use Rattle.pg_fds.specs.stated.PostOrder.{Importer, IsPostOrder, imports_at, paths_of}
-use Rattle.pg_fds.specs.reading.Walks.{AreWithin, Falls, Walks}
+use Rattle.pg_fds.specs.inner.reading.FilePlaces.{ImportsAt, IsIndex, StandAt, name_at, IsPostOrder}
+use Rattle.pg_link.specs.walk.PostOrder.{Visits, all_visited, listed_last, passed_over}
+use Rattle.pg_fds.specs.stated.PostOrder.{Importer, imports_at, paths_of}
+use Rattle.pg_fds.specs.inner.reading.Walks.{AreWithin, Falls, Walks}
 use Rattle.pg_fds.proofs.lemmas.lists.Marks.{found_within}
 use Rattle.pg_fds.proofs.lemmas.order.Visited.{Among, Text, behind_at, imports_found, rank, there_at}
 use Rattle.pg_fds.proofs.lemmas.lists.Tests.{or_right, same_number, itself}

@@ -4,7 +4,7 @@ use Rattle.std.specs.List.{list_all, list_any}
 use Rattle.pg_dyn.specs.message.Kept.{Kept, message_of}
 use Rattle.pg_dyn.specs.message.Message.{Message}
 use Rattle.pg_fds.specs.stated.PostOrder.{importer_of, paths_of}
-use Rattle.pg_fds.specs.stated.Said.{text_at}
+use Rattle.pg_fds.specs.stated.SetMessages.{text_at}
 use Rattle.pg_fds.proofs.lemmas.lists.Tests.{and_false, or_right}
 
 suc_of_all : {A : Type 0} (test : A → Bool) (xs : List A) (i : ℕ) (x : A) → i < length xs → x ≡ get_or xs i x → list_all test (take i xs) ≡ true → test x ≡ true → list_all test (take (suc i) xs) ≡ true

@@ -9,10 +9,10 @@ use Rattle.std.specs.Str.{bytes_eq}
 use Rattle.pg_schema.specs.rules.Pairs.{are_distinct, differ}
 use Rattle.pg_schema.proofs.lemmas.rules.PairLemmas.{and_both, and_false_right, and_left, and_right}
 use Rattle.pg_dyn.specs.message.Message.{Message}
-use Rattle.pg_fds.specs.reading.FilePlaces.{AreOrdered, name_at}
-use Rattle.pg_fds.specs.stated.Outlines.{files_at}
-use Rattle.pg_fds.specs.stated.PostOrder.{HasNoOrder, Importer, IsPostOrder, importer_of, imports_at, imports_once, paths_of}
-use Rattle.pg_fds.specs.stated.Said.{text_at}
+use Rattle.pg_fds.specs.inner.reading.FilePlaces.{AreOrdered, name_at, HasNoOrder, IsPostOrder}
+use Rattle.pg_fds.specs.inner.reading.OutlinedRows.{files_at}
+use Rattle.pg_fds.specs.stated.PostOrder.{Importer, importer_of, imports_at, imports_once, paths_of}
+use Rattle.pg_fds.specs.stated.SetMessages.{text_at}
 use Rattle.pg_fds.specs.stated.StatedNames.{each, only_if}
 use Rattle.pg_fds.specs.stated.StatedOrder.{file_at, in_post_order, paths_in_post_order, visit}
 use Rattle.pg_fds.proofs.lemmas.order.FilesInOrder.{places_within}

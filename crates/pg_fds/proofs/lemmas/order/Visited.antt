@@ -7,8 +7,9 @@ use Rattle.std.specs.List.{AllByRecursion, list_all, list_any}
 use Rattle.std.specs.Str.{bytes_eq}
 use Rattle.pg_schema.specs.rules.Pairs.{are_distinct, differ}
 use Rattle.pg_schema.proofs.lemmas.rules.PairLemmas.{and_both, and_left, and_right}
-use Rattle.pg_link.specs.PostOrder.{Visits, all_visited, listed_last, passed_over}
-use Rattle.pg_fds.specs.stated.PostOrder.{Importer, IsPostOrder, imports_at, paths_of}
+use Rattle.pg_link.specs.walk.PostOrder.{Visits, all_visited, listed_last, passed_over}
+use Rattle.pg_fds.specs.stated.PostOrder.{Importer, imports_at, paths_of}
+use Rattle.pg_fds.specs.inner.reading.FilePlaces.{IsPostOrder}
 use Rattle.pg_fds.proofs.lemmas.lists.Marks.{any_more, all_weaker}
 use Rattle.pg_fds.proofs.lemmas.lists.Tests.{or_left, or_right}
 

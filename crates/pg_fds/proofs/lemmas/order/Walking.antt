@@ -10,7 +10,7 @@ use Rattle.pg_fds.specs.declared.reading.walk.Seen.{Seen}
 use Rattle.pg_fds.specs.declared.reading.walk.Seen.TheVariants as seen
 use Rattle.pg_fds.specs.declared.reading.walk.Walk.{Walk}
 use Rattle.pg_link.specs.walk.PostOrder.{all_visited, passed_over, listed_last}
-use Rattle.pg_fds.specs.reading.Walks.{AreWithin, Ends, Enters, Falls, IsOpen, IsStep, IsWalk, RanksFall, Walks, count_of, is_done, left, lists_of, pending, unopened}
+use Rattle.pg_fds.specs.inner.reading.Walks.{AreWithin, Ends, Enters, Falls, IsOpen, IsStep, IsWalk, RanksFall, Walks, count_of, is_done, left, lists_of, pending, unopened}
 use Rattle.pg_fds.proofs.lemmas.lists.Marks.{all_at, all_front, all_last, all_more, all_weaker, any_more, found_within, none_left, other_number, rest_at, set_elsewhere, set_here}
 use Rattle.pg_fds.proofs.lemmas.lists.Tests.{or_all, or_none, same_number}
 

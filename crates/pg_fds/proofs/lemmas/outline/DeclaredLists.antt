@@ -4,11 +4,11 @@ use Rattle.std.specs.List.{flat_map}
 use Rattle.pg_dyn.specs.message.Message.{Message}
 use Rattle.pg_fds.specs.declared.reading.outline.Named.{Named}
 use Rattle.pg_fds.specs.declared.reading.outline.Named.TheVariants as nameds
-use Rattle.pg_fds.specs.stated.Declarations.{Declaration, all_named, enum_declared, enums_declared, files_declared, is_package, package_declared, package_part, package_parts, service_declared, services_declared, type_declared, types_declared}
-use Rattle.pg_fds.specs.reading.OutlinedPlaces.{Counts, behind_file, behind_type, inner_types, inside_file, inside_type}
-use Rattle.pg_fds.specs.stated.Said.{children_at}
-use Rattle.pg_fds.specs.stated.SetNames.{enums_names, file_scope, files_names, qualified, qualified_names, own_names, services_names, types_names}
-use Rattle.pg_fds.specs.stated.SaidTypes.{is_entry, real_oneofs, synthetic_places}
+use Rattle.pg_fds.specs.inner.Declarations.{Declaration, all_named, enum_declared, enums_declared, files_declared, is_package, package_declared, package_part, service_declared, services_declared, type_declared, types_declared}
+use Rattle.pg_fds.specs.stated.SetNames.{package_parts, enums_names, file_scope, files_names, qualified, qualified_names, own_names, services_names, types_names}
+use Rattle.pg_fds.specs.stated.Numbering.{Counts, behind_file, behind_type, inner_types, inside_file, inside_type}
+use Rattle.pg_fds.specs.stated.SetMessages.{children_at}
+use Rattle.pg_fds.specs.stated.TypeMessages.{is_entry, real_oneofs, synthetic_places}
 use Rattle.pg_fds.proofs.lemmas.outline.FreshNames.{is_thing, names_of, parts, pick, things}
 
 -- ---- lists

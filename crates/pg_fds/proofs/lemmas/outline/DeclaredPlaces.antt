@@ -6,13 +6,13 @@ use Rattle.std.specs.List.{flat_map}
 use Rattle.pg_dyn.specs.message.Message.{Message}
 use Rattle.pg_fds.specs.declared.reading.outline.Named.{Named}
 use Rattle.pg_fds.specs.declared.reading.outline.Named.TheVariants as nameds
-use Rattle.pg_fds.specs.stated.Declarations.{Declaration, all_named, enum_declared, enums_declared, files_declared, package_part, package_parts, service_declared, services_declared, type_declared}
-use Rattle.pg_fds.specs.reading.OutlinedPlaces.{Counts, inner_types}
+use Rattle.pg_fds.specs.inner.Declarations.{Declaration, all_named, enum_declared, enums_declared, files_declared, package_part, service_declared, services_declared, type_declared}
+use Rattle.pg_fds.specs.stated.SetNames.{package_parts, file_scope, qualified, qualified_names}
+use Rattle.pg_fds.specs.stated.Numbering.{Counts, inner_types}
 use Rattle.pg_fds.specs.stated.Outlines.{Row, enum_rows, file_enums, file_types, row_in, rows_in, type_rows}
-use Rattle.pg_fds.specs.stated.Said.{children_at}
-use Rattle.pg_fds.specs.stated.SetNames.{file_scope, qualified, qualified_names}
+use Rattle.pg_fds.specs.stated.SetMessages.{children_at}
 use Rattle.pg_fds.specs.stated.StatedTable.{entry_names, enum_named, names_of as row_names, type_named}
-use Rattle.pg_fds.specs.stated.SaidTypes.{is_entry, real_oneofs, synthetic_places}
+use Rattle.pg_fds.specs.stated.TypeMessages.{is_entry, real_oneofs, synthetic_places}
 use Rattle.pg_fds.proofs.lemmas.outline.DeclaredLists.{files_are, map_append, pick_all, pick_append, pick_none}
 use Rattle.pg_fds.proofs.lemmas.outline.FreshNames.{pick}
 

@@ -11,13 +11,13 @@ use Rattle.pg_dyn.specs.message.Kept.{Kept, message_of}
 use Rattle.pg_fds.specs.declared.error.Unstated.{Unstated}
 use Rattle.pg_fds.specs.declared.reading.outline.Named.{Named}
 use Rattle.pg_fds.specs.declared.reading.outline.Named.TheVariants as nameds
-use Rattle.pg_fds.specs.stated.Declarations.{Adds, CannotAdd, Declaration, NameTable, all_declared, are_new, declared, is_package, may_be, no_names}
-use Rattle.pg_fds.specs.stated.StatedNames.{Meanings}
+use Rattle.pg_fds.specs.inner.Declarations.{Adds, CannotAdd, Declaration, NameTable, all_declared, are_new, declared, is_package, may_be, no_names}
+use Rattle.pg_fds.specs.stated.StatedNames.{NameLookup}
 use Rattle.pg_fds.proofs.lemmas.outline.NameLoops.{seen}
 
 -- ---- meanings
 
-all_append : (means : Meanings) (a b : List Declaration) → all_declared means (a ++ b) ≡ all_declared (all_declared means a) b
+all_append : (means : NameLookup) (a b : List Declaration) → all_declared means (a ++ b) ≡ all_declared (all_declared means a) b
 all_append means [] b = refl
 all_append means (d ∷ a) b = all_append (declared means d) a b
 
@@ -25,7 +25,7 @@ pub and_assoc : (a b c : Bool) → (a && (b && c)) ≡ ((a && b) && c)
 and_assoc true b c = refl
 and_assoc false b c = refl
 
-new_append : (means : Meanings) (a b : List Declaration) → are_new means (a ++ b) ≡ (are_new means a && are_new (all_declared means a) b)
+new_append : (means : NameLookup) (a b : List Declaration) → are_new means (a ++ b) ≡ (are_new means a && are_new (all_declared means a) b)
 new_append means [] b = refl
 new_append means (d ∷ a) b =
     ap (λ t. may_be (means d.0) d.1 && t) (new_append (declared means d) a b) ∙ and_assoc (may_be (means d.0) d.1) (are_new (declared means d) a) (are_new (all_declared (declared means d) a) b)
@@ -38,10 +38,10 @@ same_or_apart a b = of (bytes_eq a b) refl
     of false e = inr e
 
 -- what has a name once it is declared
-pub declared_here : (means : Meanings) (d : Declaration) (name : List ℕ) → bytes_eq d.0 name ≡ true → declared means d name ≡ Some d.1
+pub declared_here : (means : NameLookup) (d : Declaration) (name : List ℕ) → bytes_eq d.0 name ≡ true → declared means d name ≡ Some d.1
 declared_here means d name same = ap (λ b. cond b (Some d.1) (means name)) same
 
-pub declared_elsewhere : (means : Meanings) (d : Declaration) (name : List ℕ) → bytes_eq d.0 name ≡ false → declared means d name ≡ means name
+pub declared_elsewhere : (means : NameLookup) (d : Declaration) (name : List ℕ) → bytes_eq d.0 name ≡ false → declared means d name ≡ means name
 declared_elsewhere means d name apart = ap (λ b. cond b (Some d.1) (means name)) apart
 
 package_is : (thing : Named) → is_package thing ≡ true → thing ≡ nameds.Package

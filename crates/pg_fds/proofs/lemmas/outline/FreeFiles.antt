@@ -6,9 +6,9 @@ use Rattle.pg_schema.specs.rules.Pairs.{are_distinct}
 use Rattle.pg_dyn.specs.message.Message.{Message}
 use Rattle.pg_fds.specs.declared.error.Unstated.{Unstated}
 use Rattle.pg_fds.specs.declared.error.Unstated.TheVariants as errors
-use Rattle.pg_fds.specs.stated.Declarations.{CannotAdd, Declaration, NameTable, are_new, file_declared, files_declared, no_names}
-use Rattle.pg_fds.specs.reading.OutlinedPlaces.{Counts, behind_file, no_counts}
-use Rattle.pg_fds.specs.reading.OutlinedScopes.{MayPlace}
+use Rattle.pg_fds.specs.inner.Declarations.{CannotAdd, Declaration, NameTable, are_new, file_declared, files_declared, no_names}
+use Rattle.pg_fds.specs.stated.Numbering.{Counts, behind_file, no_counts}
+use Rattle.pg_fds.specs.inner.reading.OutlinedScopes.{MayPlace}
 use Rattle.pg_fds.specs.stated.Outlines.{file_enums, file_services, file_types}
 use Rattle.pg_fds.specs.stated.SetNames.{file_scope, files_names}
 use Rattle.pg_fds.specs.stated.StatedTable.{are_free, may_declare}

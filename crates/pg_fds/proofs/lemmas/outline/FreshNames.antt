@@ -6,14 +6,14 @@ use Rattle.std.specs.Str.{bytes_eq}
 use Rattle.pg_schema.specs.rules.Pairs.{all_pairs, are_distinct, differ}
 use Rattle.pg_schema.proofs.lemmas.rules.PairLemmas.{and_both, and_left, and_right, bytes_eq-sym}
 use Rattle.pg_fds.specs.declared.reading.outline.Named.{Named}
-use Rattle.pg_fds.specs.stated.Declarations.{Declaration, are_new, declared, is_package, may_be, no_names}
-use Rattle.pg_fds.specs.stated.StatedNames.{Meanings}
+use Rattle.pg_fds.specs.inner.Declarations.{Declaration, are_new, declared, is_package, may_be, no_names}
+use Rattle.pg_fds.specs.stated.StatedNames.{NameLookup}
 use Rattle.pg_fds.proofs.lemmas.outline.Declaring.{and_assoc, both_packages, declared_elsewhere, declared_here, same_or_apart}
 use Rattle.pg_fds.proofs.lemmas.lists.Tests.{or_all, or_left, or_none}
 
 -- ---- declarations that may be together
 
-abbrev fits : Meanings → Declaration → Bool
+abbrev fits : NameLookup → Declaration → Bool
 fits means d = may_be (means d.0) d.1
 
 -- they differ in their names, or are both packages
@@ -24,7 +24,7 @@ or_false : (a b : Bool) → a ≡ false → (a || b) ≡ b
 or_false true b is = absurd (false≢true (sym is))
 or_false false b is = refl
 
-module _ (means : Meanings) (d e : Declaration) where
+module _ (means : NameLookup) (d e : Declaration) where
   fits_here : (d.0 ≡ e.0) × (bytes_eq d.0 e.0 ≡ true) → fits (declared means d) e ≡ (is_package d.1 && is_package e.1)
   fits_here same = ap (λ o. may_be o e.1) (declared_here means d e.0 same.1)
 
@@ -49,7 +49,7 @@ module _ (means : Meanings) (d e : Declaration) where
   ahead : fits means e ≡ true → agree d e ≡ true → fits (declared means d) e ≡ true
   ahead fit agrees = elim (same_or_apart d.0 e.0) [ inl same ↦ fits_here same ∙ (sym (agree_here same.1) ∙ agrees) | inr apart ↦ fits_elsewhere apart ∙ fit ]
 
-module _ (means : Meanings) (d : Declaration) where
+module _ (means : NameLookup) (d : Declaration) where
   all_behind : fits means d ≡ true → (es : List Declaration) → list_all (fits (declared means d)) es ≡ true → (list_all (fits means) es ≡ true) × (list_all (agree d) es ≡ true)
   all_behind first [] fit = (refl, refl)
   all_behind first (e ∷ es) fit =
@@ -64,7 +64,7 @@ module _ (means : Meanings) (d : Declaration) where
       (ahead means d e (and_left (fits means e) (list_all (fits means) es) fit) (and_left (agree d e) (list_all (agree d) es) agrees))
       (all_ahead es (and_right (fits means e) (list_all (fits means) es) fit) (and_right (agree d e) (list_all (agree d) es) agrees))
 
-new_pairs : (means : Meanings) (ds : List Declaration) → are_new means ds ≡ true → (list_all (fits means) ds ≡ true) × (all_pairs agree ds ≡ true)
+new_pairs : (means : NameLookup) (ds : List Declaration) → are_new means ds ≡ true → (list_all (fits means) ds ≡ true) × (all_pairs agree ds ≡ true)
 new_pairs means [] fresh = (refl, refl)
 new_pairs means (d ∷ ds) fresh =
     let first = and_left (fits means d) (are_new (declared means d) ds) fresh in
@@ -72,7 +72,7 @@ new_pairs means (d ∷ ds) fresh =
     let both = all_behind means d first ds later.0 in
     (and_both (fits means d) (list_all (fits means) ds) first both.0, and_both (list_all (agree d) ds) (all_pairs agree ds) both.1 later.1)
 
-pairs_new : (means : Meanings) (ds : List Declaration) → list_all (fits means) ds ≡ true → all_pairs agree ds ≡ true → are_new means ds ≡ true
+pairs_new : (means : NameLookup) (ds : List Declaration) → list_all (fits means) ds ≡ true → all_pairs agree ds ≡ true → are_new means ds ≡ true
 pairs_new means [] fit agrees = refl
 pairs_new means (d ∷ ds) fit agrees =
     and_both (fits means d) (are_new (declared means d) ds) (and_left (fits means d) (list_all (fits means) ds) fit)

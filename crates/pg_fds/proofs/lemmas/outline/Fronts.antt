@@ -8,7 +8,7 @@ use Rattle.std.specs.List.{flat_map, list_all}
 use Rattle.std.specs.Str.{bytes_eq}
 use Rattle.pg_schema.specs.rules.Packages.{is_free_of, is_front}
 use Rattle.pg_schema.specs.rules.Pairs.{differ}
-use Rattle.pg_fds.specs.stated.Declarations.{fronts, package_parts}
+use Rattle.pg_fds.specs.stated.SetNames.{fronts, package_parts}
 use Rattle.pg_fds.specs.stated.StatedTable.{has_name}
 use Rattle.pg_fds.proofs.lemmas.outline.FreshNames.{all_both, are_apart}
 use Rattle.pg_fds.proofs.lemmas.lists.Tests.{same_number}

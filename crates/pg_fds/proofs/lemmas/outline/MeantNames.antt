@@ -11,10 +11,11 @@ use Rattle.pg_schema.proofs.lemmas.rules.PairLemmas.{and_left, and_right, bytes_
 use Rattle.pg_dyn.specs.message.Message.{Message}
 use Rattle.pg_fds.specs.declared.reading.outline.Named.{Named}
 use Rattle.pg_fds.specs.declared.reading.outline.Named.TheVariants as nameds
-use Rattle.pg_fds.specs.stated.Declarations.{Declaration, NameTable, all_declared, are_new, declared, files_declared, is_package, may_be, no_names}
-use Rattle.pg_fds.specs.reading.OutlinedPlaces.{no_counts}
+use Rattle.pg_fds.specs.inner.Declarations.{Declaration, NameTable, all_declared, are_new, declared, files_declared, is_package, may_be, no_names}
+use Rattle.pg_fds.specs.stated.Numbering.{no_counts}
 use Rattle.pg_fds.specs.stated.Outlines.{file_enums, file_types}
-use Rattle.pg_fds.specs.stated.StatedNames.{Meanings, first_of, may_name}
+use Rattle.pg_fds.specs.stated.StatedNames.{NameLookup, first_of}
+use Rattle.pg_fds.specs.inner.reading.Owners.{may_name}
 use Rattle.pg_fds.specs.stated.StatedTable.{entry_names, enum_named, meaning, names_of as row_names, type_named}
 use Rattle.pg_fds.proofs.lemmas.outline.Declaring.{both_packages, declared_elsewhere, declared_here, same_or_apart}
 use Rattle.pg_fds.proofs.lemmas.outline.DeclaredPlaces.{entries_files, entries_named, enums_files, is_entry_name, is_enum_name, is_type_name, placed, types_files}
@@ -41,7 +42,7 @@ module _ (test : Named → Bool) where
       of false is = not_picked d ds name is
 
   -- what has a name is declared again only as a package
-  none_again : test nameds.Package ≡ false → (ds : List Declaration) (means : Meanings) (name : List ℕ) (thing : Named) → are_new means ds ≡ true → means name ≡ Some thing → found (pick test ds) name ≡ None
+  none_again : test nameds.Package ≡ false → (ds : List Declaration) (means : NameLookup) (name : List ℕ) (thing : Named) → are_new means ds ≡ true → means name ≡ Some thing → found (pick test ds) name ≡ None
   none_again hidden [] means name thing fresh has = refl
   none_again hidden (d ∷ ds) means name thing fresh has =
       of (λ again here. none_again hidden ds (declared means d) name again (and_right (may_be (means d.0) d.1) (are_new (declared means d) ds) fresh) here) (same_or_apart d.0 name)
@@ -52,7 +53,7 @@ module _ (test : Named → Bool) where
           not_picked d ds name (ap test (both_packages thing d.1 may).1 ∙ hidden) ∙ later d.1 (declared_here means d name same.1)
       of later (inr apart) = other_name d ds name apart ∙ later thing (declared_elsewhere means d name apart ∙ has)
 
-abbrev meant : List Declaration → Meanings → List ℕ → Option Named
+abbrev meant : List Declaration → NameLookup → List ℕ → Option Named
 meant ds means name =
     first_of (found (pick is_type_name ds) name) (first_of (found (pick is_enum_name ds) name) (first_of (found (pick is_entry_name ds) name) (may_name (means name))))
 
@@ -72,7 +73,7 @@ hidden_other : (o : Option Named) → may_be o nameds.Other ≡ true → may_nam
 hidden_other None may = refl
 hidden_other (Some other) may = absurd (false≢true (and_right (is_package other) false may))
 
-module _ (means : Meanings) (name : List ℕ) (at : List ℕ) (ds : List Declaration) (is : at ≡ name) (same : bytes_eq at name ≡ true) where
+module _ (means : NameLookup) (name : List ℕ) (at : List ℕ) (ds : List Declaration) (is : at ≡ name) (same : bytes_eq at name ≡ true) where
   -- a name that is declared here, by what it is that of
   meant_here : (thing : Named) → may_be (means at) thing ≡ true → found (pick is_type_name ds) name ≡ None → found (pick is_enum_name ds) name ≡ None → found (pick is_entry_name ds) name ≡ None → may_name (Some thing) ≡ meant ((at, thing) ∷ ds) means name
   meant_here nameds.Package may a b c =
@@ -89,7 +90,7 @@ module _ (means : Meanings) (name : List ℕ) (at : List ℕ) (ds : List Declara
       (hidden_other (means name) (subst (λ n. may_be (means n) nameds.Other ≡ true) is may)))
 
 -- what a name means after declarations: a message type, an enum or an entry type among them, or what it meant
-meant_all : (ds : List Declaration) (means : Meanings) (name : List ℕ) → are_new means ds ≡ true → may_name (all_declared means ds name) ≡ meant ds means name
+meant_all : (ds : List Declaration) (means : NameLookup) (name : List ℕ) → are_new means ds ≡ true → may_name (all_declared means ds name) ≡ meant ds means name
 meant_all [] means name fresh = refl
 meant_all (d ∷ ds) means name fresh = meant_all ds (declared means d) name later ∙ of (same_or_apart d.0 name)
   where
@@ -141,7 +142,7 @@ files_meant depth ms names table fresh =
     let types = flat_map (file_types depth) ms in
     let enums = flat_map (file_enums depth) ms in
     fun_ext (λ name.
-    ap (λ (means : Meanings). may_name (means name)) table ∙ (meant_all ds no_names name fresh
+    ap (λ (means : NameLookup). may_name (means name)) table ∙ (meant_all ds no_names name fresh
     ∙ ap₂ first_of (ap (λ xs. found xs name) (types_files depth no_counts ms) ∙ found_placed type_named (row_names types) 0 name)
     (ap₂ first_of (ap (λ xs. found xs name) (enums_files depth no_counts ms) ∙ found_placed enum_named (row_names enums) 0 name)
     (first_alone (found (pick is_entry_name ds) name) ∙ (ap (λ xs. found xs name) (entries_files depth no_counts ms) ∙ found_entries (flat_map entry_names types) name)))))

@@ -11,14 +11,15 @@ use Rattle.pg_schema.proofs.lemmas.rules.PairLemmas.{and_both, and_left, and_rig
 use Rattle.pg_dyn.specs.message.Kept.{Kept, message_of}
 use Rattle.pg_dyn.specs.message.Message.{Message}
 use Rattle.pg_fds.specs.declared.error.Unstated.{Unstated}
-use Rattle.pg_fds.specs.stated.Declarations.{Adds, CannotAdd, Declaration, NameTable, enums_declared, file_declared, package_declared, services_declared, types_declared}
-use Rattle.pg_fds.specs.reading.OutlinedPlaces.{Counts, inside_file}
-use Rattle.pg_fds.specs.reading.OutlinedScopes.{MayPlace}
-use Rattle.pg_fds.specs.stated.Outlines.{NameOneofs, Row, file_enums, file_services, file_types, files_at, row_in, type_rows}
-use Rattle.pg_fds.specs.stated.Said.{children_at}
+use Rattle.pg_fds.specs.inner.Declarations.{Adds, CannotAdd, Declaration, NameTable, enums_declared, file_declared, package_declared, services_declared, types_declared}
+use Rattle.pg_fds.specs.stated.Numbering.{Counts, inside_file}
+use Rattle.pg_fds.specs.inner.reading.OutlinedScopes.{MayPlace}
+use Rattle.pg_fds.specs.inner.reading.OutlinedRows.{NameOneofs, files_at}
+use Rattle.pg_fds.specs.stated.Outlines.{Row, file_enums, file_services, file_types, row_in, type_rows}
+use Rattle.pg_fds.specs.stated.SetMessages.{children_at}
 use Rattle.pg_fds.specs.stated.SetNames.{file_scope, files_names, qualified}
 use Rattle.pg_fds.specs.stated.StatedTable.{are_free, few, has_name, has_no_entries, may_declare, names_oneofs, nest_within, nests_within, packages_of}
-use Rattle.pg_fds.specs.stated.SaidTypes.{is_entry, is_no_entry}
+use Rattle.pg_fds.specs.stated.TypeMessages.{is_entry, is_no_entry}
 use Rattle.pg_fds.proofs.lemmas.outline.Declaring.{adds_both, first_fails, later_fails}
 use Rattle.pg_fds.proofs.lemmas.outline.NameLoops.{seen}
 

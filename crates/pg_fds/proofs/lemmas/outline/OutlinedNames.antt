@@ -12,13 +12,14 @@ use Rattle.pg_fds.specs.declared.reading.outline.Named.{Named}
 use Rattle.pg_fds.specs.declared.reading.outline.Named.TheVariants as nameds
 use Rattle.pg_fds.specs.declared.reading.outline.Outlined.{Outlined}
 use Rattle.pg_fds.specs.declared.reading.outline.OutlinedType.{OutlinedType}
-use Rattle.pg_fds.specs.stated.Declarations.{Adds, CannotAdd, Declaration, NameTable, all_named, enums_declared, members_declared, named_in, type_declared, types_declared, whole_declared}
-use Rattle.pg_fds.specs.reading.OutlinedPlaces.{Counts, behind_type, each_from, inner_types, inside_type}
-use Rattle.pg_fds.specs.stated.Outlines.{NameOneofs, NamesOneofs, Row, enum_rows, row, row_in, rows_in, rows_of_enums, rows_of_type, type_row, type_rows}
-use Rattle.pg_fds.specs.stated.Said.{children_at}
+use Rattle.pg_fds.specs.inner.Declarations.{Adds, CannotAdd, Declaration, NameTable, all_named, enums_declared, members_declared, named_in, type_declared, types_declared, whole_declared}
+use Rattle.pg_fds.specs.stated.Numbering.{Counts, behind_type, each_from, inner_types, inside_type}
+use Rattle.pg_fds.specs.inner.reading.OutlinedRows.{NameOneofs, NamesOneofs, row, type_row}
+use Rattle.pg_fds.specs.stated.Outlines.{Row, enum_rows, row_in, rows_in, rows_of_enums, rows_of_type, type_rows}
+use Rattle.pg_fds.specs.stated.SetMessages.{children_at}
 use Rattle.pg_fds.specs.stated.SetNames.{qualified}
-use Rattle.pg_fds.specs.stated.SaidFiles.{is_place}
-use Rattle.pg_fds.specs.stated.SaidTypes.{is_entry, is_no_entry, real_oneofs, synthetic_places}
+use Rattle.pg_fds.specs.stated.FileMessages.{is_place}
+use Rattle.pg_fds.specs.stated.TypeMessages.{is_entry, is_no_entry, real_oneofs, synthetic_places}
 use Rattle.pg_fds.proofs.lemmas.outline.InOrderLaws.{more_from}
 use Rattle.pg_fds.proofs.lemmas.outline.Declaring.{Left, adds_both, first_fails, later_fails, left_fails, seen_drop}
 use Rattle.pg_fds.proofs.lemmas.outline.NameLoops.{seen, seen_on, seen_whole}

@@ -6,9 +6,10 @@ use Rattle.pg_dyn.specs.message.Kept.{Kept, message_of}
 use Rattle.pg_dyn.specs.message.Message.{Message}
 use Rattle.pg_check.specs.standing.Places.{places_from}
 use Rattle.pg_fds.specs.declared.reading.outline.OutlinedType.{OutlinedType}
-use Rattle.pg_fds.specs.stated.Outlines.{type_row}
-use Rattle.pg_fds.specs.reading.OutlinedPlaces.{Counts, PlacedType, behind_type, counts_behind, each_from, inner_types, file_places, inside_file, inside_type, no_counts, placed_type, placed_types, placed_with, places_of_types}
-use Rattle.pg_fds.specs.stated.Said.{children_at}
+use Rattle.pg_fds.specs.inner.reading.OutlinedRows.{type_row}
+use Rattle.pg_fds.specs.stated.Numbering.{Counts, PlacedType, behind_type, each_from, inner_types, file_places, inside_file, inside_type, no_counts, placed_types, placed_with, places_of_types}
+use Rattle.pg_fds.specs.inner.reading.OutlinedPlaces.{counts_behind, placed_type}
+use Rattle.pg_fds.specs.stated.SetMessages.{children_at}
 use Rattle.pg_fds.specs.stated.SetNames.{file_scope, qualified}
 use Rattle.pg_fds.proofs.lemmas.outline.NameLoops.{seen}
 use Rattle.pg_fds.proofs.lemmas.order.OrderSteps.{one_step}

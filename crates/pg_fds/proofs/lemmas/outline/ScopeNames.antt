@@ -5,8 +5,8 @@ use Rattle.std.specs.List.{list_all}
 use Rattle.pg_schema.specs.rules.Pairs.{differ}
 use Rattle.pg_schema.proofs.lemmas.rules.PairLemmas.{and_both}
 use Rattle.pg_dyn.specs.message.Message.{Message}
-use Rattle.pg_fds.specs.stated.Said.{children_at, text_at}
-use Rattle.pg_fds.specs.stated.SaidTypes.{is_entry, is_no_entry, real_oneofs, synthetic_places}
+use Rattle.pg_fds.specs.stated.SetMessages.{children_at, text_at}
+use Rattle.pg_fds.specs.stated.TypeMessages.{is_entry, is_no_entry, real_oneofs, synthetic_places}
 use Rattle.pg_fds.specs.stated.SetNames.{enum_names, enums_names, file_names, file_scope, files_names, member_names, name_in, own_names, qualified, qualified_names, service_names, services_names, type_names, types_names}
 
 abbrev AreSome : List (List ℕ) → Type 0

@@ -4,7 +4,7 @@ use Rattle.std.specs.List.{list_all}
 use Rattle.pg_dyn.specs.message.Kept.{Kept, message_of}
 use Rattle.pg_dyn.specs.message.Message.{Message}
 use Rattle.pg_fds.specs.stated.Codes.{has_types, have_types, is_taken}
-use Rattle.pg_fds.specs.stated.Said.{children_at}
+use Rattle.pg_fds.specs.stated.SetMessages.{children_at}
 use Rattle.pg_fds.proofs.lemmas.outline.Declaring.{and_assoc}
 
 and_true : (a : Bool) → (a && true) ≡ a

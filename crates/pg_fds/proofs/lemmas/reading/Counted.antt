@@ -5,9 +5,9 @@ use Rattle.std.proofs.lemmas.Grind.{get_or-set_at}
 use Rattle.std.proofs.lemmas.List.{get_or-set_other}
 use Rattle.pg_dyn.specs.message.Kept.{Kept, message_of}
 use Rattle.pg_dyn.specs.message.Message.{Message}
-use Rattle.pg_fds.specs.reading.Made.{AreCounted}
-use Rattle.pg_fds.specs.stated.SaidTypes.{is_named, members_at}
-use Rattle.pg_fds.specs.stated.Said.{maybe_number_at}
+use Rattle.pg_fds.specs.inner.reading.Made.{AreCounted}
+use Rattle.pg_fds.specs.stated.TypeMessages.{is_named, members_at}
+use Rattle.pg_fds.specs.stated.SetMessages.{maybe_number_at}
 use Rattle.pg_fds.proofs.lemmas.lists.Tests.{other_turned, same_turned}
 
 abbrev seen : List Kept → (i : ℕ) → List Message

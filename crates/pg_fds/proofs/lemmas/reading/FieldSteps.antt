@@ -6,14 +6,14 @@ use Rattle.pg_schema.specs.declared.parts.field.Field.{Field}
 use Rattle.pg_schema.specs.declared.parts.field.Scalar.{Scalar}
 use Rattle.pg_schema.specs.rules.DeclaredNames.{entry_name}
 use Rattle.pg_dyn.specs.message.Message.{Message}
-use Rattle.pg_fds.specs.stated.Said.{text_at}
+use Rattle.pg_fds.specs.stated.SetMessages.{text_at}
 use Rattle.pg_fds.specs.stated.StatedEntries.{entry}
 use Rattle.pg_fds.specs.stated.StatedFields.{Items, Owner, field, fields, is_named_once, map_items, map_of, names_its_entry}
-use Rattle.pg_fds.specs.stated.StatedNames.{Meanings, each, only_if}
+use Rattle.pg_fds.specs.stated.StatedNames.{NameLookup, each, only_if}
 use Rattle.pg_fds.specs.stated.Views.{field_view}
 
 -- a map field that names its entry type has the items of that one, where it is there and has its form
-module _ (means : Meanings) (o : Owner) (m : Message) where
+module _ (means : NameLookup) (o : Owner) (m : Message) where
   abbrev of_entry : Option Message → Option Items
   of_entry e = option_and_then (λ x. option_map map_of (entry means x)) e
 
@@ -30,7 +30,7 @@ module _ (means : Meanings) (o : Owner) (m : Message) where
   map_there e pair names is has = named_entry (Some e) names is ∙ ap (option_map map_of) has
 
 -- the fields of a message type are these, where each of its entry types is that of just one
-pub fields_named : (means : Meanings) (o : Owner) (entries ms : List Message) (fs : List Field) (b : Bool) → each (field means o) ms ≡ Some (map field_view fs)
+pub fields_named : (means : NameLookup) (o : Owner) (entries ms : List Message) (fs : List Field) (b : Bool) → each (field means o) ms ≡ Some (map field_view fs)
     → list_all (is_named_once (map field_view fs)) entries ≡ b → fields means o entries ms ≡ only_if b (Some (map field_view fs))
 fields_named means o entries ms fs b made is =
     ap (option_and_then (λ vs. only_if (list_all (is_named_once vs) entries) (Some vs))) made ∙ ap (λ t. only_if t (Some (map field_view fs))) is

@@ -5,12 +5,12 @@ use denote.Ref.{Bor}
 use Rattle.pg_schema.specs.declared.parts.file.Import.{Import}
 use Rattle.pg_dyn.specs.message.Kept.{message_of}
 use Rattle.pg_fds.specs.declared.reading.outline.OutlinedFile.{OutlinedFile}
-use Rattle.pg_fds.specs.descriptor.Lent.{lent}
-use Rattle.pg_fds.specs.reading.OutlinedPlaces.{placed_file}
+use Rattle.pg_fds.specs.inner.Lent.{lent}
+use Rattle.pg_fds.specs.inner.reading.OutlinedPlaces.{placed_file}
 use Rattle.pg_fds.specs.stated.StatedFiles.{file, file_of, has_public_places, import_seen}
 use Rattle.pg_fds.specs.stated.StatedNames.{only_if}
-use Rattle.pg_fds.specs.reading.MadeImports.{import_of}
-use Rattle.pg_fds.specs.stated.SaidFiles.{is_place}
+use Rattle.pg_fds.specs.inner.reading.MadeImports.{import_of}
+use Rattle.pg_fds.specs.stated.FileMessages.{is_place}
 use Rattle.pg_fds.specs.stated.Views.{import_view}
 
 -- ---- imports

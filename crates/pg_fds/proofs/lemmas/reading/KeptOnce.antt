@@ -13,7 +13,7 @@ use Rattle.pg_schema.specs.Shape.{is_map}
 use Rattle.pg_schema.proofs.lemmas.rules.PairLemmas.{and_both, and_left, and_right}
 use Rattle.pg_dyn.specs.message.Kept.{Kept, message_of}
 use Rattle.pg_dyn.specs.message.Message.{Message}
-use Rattle.pg_fds.specs.reading.NamedEntries.{KeepsOnce, is_kept_once, once_of}
+use Rattle.pg_fds.specs.inner.reading.NamedEntries.{KeepsOnce, is_kept_once, once_of}
 use Rattle.pg_fds.specs.stated.StatedFields.{is_map_of}
 use Rattle.pg_fds.specs.stated.Views.{FieldView, field_view}
 

@@ -2,9 +2,9 @@
 use Rattle.std.proofs.Common.{◌≡◌, ◌<◌, ◌≤◌, List, [], ◌∷◌, None, length, map, get_or, refl, ap₂, arith}
 use Rattle.pg_dyn.specs.message.Kept.{Kept, message_of}
 use Rattle.pg_fds.specs.stated.StatedEntries.{key_and_value, pair_of}
-use Rattle.pg_fds.specs.stated.StatedNames.{Meanings}
+use Rattle.pg_fds.specs.stated.StatedNames.{NameLookup}
 
-module _ (means : Meanings) where
+module _ (means : NameLookup) where
   pub two_are : (ms : List Kept) (k v : Kept) → 2 ≤ length ms → length ms < 3 → k ≡ get_or ms 0 k → v ≡ get_or ms 1 v → pair_of means (message_of k) (message_of v) ≡ key_and_value means (map message_of ms)
   two_are [] k v least most first second = absurd (omega (arith, least))
   two_are (a ∷ []) k v least most first second = absurd (omega (arith, least))

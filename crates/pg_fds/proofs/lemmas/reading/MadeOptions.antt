@@ -17,9 +17,9 @@ use Rattle.pg_dyn.specs.message.Message.{Bytes, Int, Item, Message, Msg, Plain, 
 use Rattle.pg_fds.specs.stated.StatedFiles.{mode_of, mode_or_flag, option_value}
 use Rattle.pg_fds.specs.writing.Messages.{where_found}
 use Rattle.std.specs.Option.{unwrap_or}
-use Rattle.pg_fds.specs.stated.Said.{child_in, child_of, item_at, options_at}
+use Rattle.pg_fds.specs.stated.SetMessages.{child_in, child_of, item_at, options_at}
 use Rattle.pg_fds.specs.writing.Set.{mode_code}
-use Rattle.pg_fds.specs.stated.SaidFiles.{option_places}
+use Rattle.pg_fds.specs.stated.FileMessages.{option_places}
 use Rattle.pg_fds.specs.stated.Views.{OptionView, ValueOf, option_view, value_of}
 
 -- ---- one value

@@ -12,7 +12,7 @@ use Rattle.pg_schema.specs.Shape.{is_map}
 use Rattle.pg_schema.proofs.lemmas.rules.PairLemmas.{and_both, and_left, and_right, bytes_eq-sym}
 use Rattle.pg_fds.specs.writing.Entries.{entries}
 use Rattle.pg_fds.specs.writing.Places.{Declared}
-use Rattle.pg_fds.specs.stated.Said.{text_at}
+use Rattle.pg_fds.specs.stated.SetMessages.{text_at}
 use Rattle.pg_fds.specs.stated.StatedFields.{is_map_of, is_named_once}
 use Rattle.pg_fds.specs.stated.Views.{field_view}
 use Rattle.pg_fds.proofs.lemmas.lists.Matched.{Has}

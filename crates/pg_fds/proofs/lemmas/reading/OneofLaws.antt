@@ -4,8 +4,9 @@ use Rattle.std.proofs.Math.ListN.{set, length-set}
 use Rattle.std.proofs.lemmas.Bool.Decides.{nat_tests}
 use Rattle.std.proofs.lemmas.Grind.{get_or-set_at}
 use Rattle.std.proofs.lemmas.List.{get_or-set_other}
-use Rattle.pg_fds.specs.stated.SaidFiles.{is_place}
-use Rattle.pg_fds.specs.stated.SaidTypes.{AreMarked, is_at, is_marked}
+use Rattle.pg_fds.specs.stated.FileMessages.{is_place}
+use Rattle.pg_fds.specs.inner.reading.Made.{AreMarked}
+use Rattle.pg_fds.specs.stated.TypeMessages.{is_at, is_marked}
 use Rattle.pg_fds.proofs.lemmas.lists.Tests.{or_all, or_none, other_turned, same_turned}
 
 pub is_one : (count : ℕ) (n : ℤ) (place : ℕ) → n ≡ pos place → place < count → is_place count n ≡ true

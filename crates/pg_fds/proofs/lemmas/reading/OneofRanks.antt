@@ -1,7 +1,8 @@
 -- The ranks of oneofs, which are how many real ones come before each.
 use Rattle.std.proofs.Common.{◌≡◌, ℕ, zero, suc, ◌+◌, ◌<◌, Bool, true, false, cond, not, nat_lt, List, [], ◌∷◌, ◌++◌, filter, length, take, get_or, refl, ap, sym, subst, ◌∙◌, arith, add-one}
 use Rattle.std.proofs.lemmas.List.{get_or_append_left as in_front, get_or_push, length-append}
-use Rattle.pg_fds.specs.stated.StatedOneofs.{AreRanks, unmarked}
+use Rattle.pg_fds.specs.inner.reading.Made.{AreRanks}
+use Rattle.pg_fds.specs.stated.StatedOneofs.{unmarked}
 use Rattle.pg_fds.proofs.lemmas.writing.FileLaws.{same_default}
 use Rattle.pg_fds.proofs.lemmas.lists.Tests.{below, not_below}
 

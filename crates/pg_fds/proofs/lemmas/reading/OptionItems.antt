@@ -4,21 +4,21 @@ use Rattle.std.specs.List.{cons_option}
 use Rattle.pg_schema.specs.declared.parts.options.FileOption.{FileOption}
 use Rattle.pg_schema.specs.declared.parts.options.OptionValue.{OptionValue}
 use Rattle.pg_dyn.specs.message.Message.{Item, Message}
-use Rattle.pg_fds.specs.declared.descriptor.access.SaidItem.{SaidItem}
-use Rattle.pg_fds.specs.declared.descriptor.access.SaidItem.TheVariants as items
-use Rattle.pg_fds.specs.reading.SaidItems.{said}
+use Rattle.pg_fds.specs.declared.descriptor.access.SetItem.{SetItem}
+use Rattle.pg_fds.specs.declared.descriptor.access.SetItem.TheVariants as items
+use Rattle.pg_fds.specs.inner.reading.SetItems.{said}
 use Rattle.pg_fds.specs.stated.StatedFiles.{numbered, option_of, option_value, options_under}
 use Rattle.pg_fds.specs.writing.Messages.{where_found}
-use Rattle.pg_fds.specs.stated.Said.{item_at, number_of, text_of}
+use Rattle.pg_fds.specs.stated.SetMessages.{item_at, number_of, text_of}
 use Rattle.pg_fds.specs.stated.Views.{OptionView, Text, option_view, value_of}
 
 -- what an item says that is a number
-pub number_said : (number : ℕ) (item : SaidItem) (n : ℤ) → item ≡ items.Number n → (found : ℤ) → found ≡ number_of (said item) → value_of (numbered number found) ≡ option_value number (said item)
+pub number_said : (number : ℕ) (item : SetItem) (n : ℤ) → item ≡ items.Number n → (found : ℤ) → found ≡ number_of (said item) → value_of (numbered number found) ≡ option_value number (said item)
 number_said number item n is found same =
     ap (λ k. value_of (numbered number k)) (same ∙ ap (λ v. number_of (said v)) is) ∙ sym (ap (λ v. option_value number (said v)) is)
 
 -- and one that isn't
-pub text_said : (number : ℕ) (item : SaidItem) → ((n : ℤ) → item ≡ items.Number n → ⊥) → (text : List ℕ) → text ≡ text_of (said item) → Text text ≡ option_value number (said item)
+pub text_said : (number : ℕ) (item : SetItem) → ((n : ℤ) → item ≡ items.Number n → ⊥) → (text : List ℕ) → text ≡ text_of (said item) → Text text ≡ option_value number (said item)
 text_said number (items.Number n) other text is = absurd (other n refl)
 text_said number (items.Text found) other text is = ap Text is
 text_said number (items.Message child) other text is = ap Text is

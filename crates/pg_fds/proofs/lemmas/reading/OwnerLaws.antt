@@ -13,16 +13,16 @@ use Rattle.pg_dyn.specs.message.Kept.{Kept, message_of}
 use Rattle.pg_dyn.specs.message.Message.{Message}
 use Rattle.pg_check.specs.standing.Places.{places_from}
 use Rattle.pg_fds.specs.declared.reading.outline.OutlinedType.{OutlinedType}
-use Rattle.pg_fds.specs.reading.Made.{AreCounted, has_place, is_placed}
-use Rattle.pg_fds.specs.stated.SaidTypes.{AreMarked, is_marked, is_optional, members_at, synthetic_places}
-use Rattle.pg_fds.specs.stated.Outlines.{type_row}
-use Rattle.pg_fds.specs.reading.Owners.{message_in}
-use Rattle.pg_fds.specs.stated.Said.{children_at, maybe_number_at, text_at}
+use Rattle.pg_fds.specs.inner.reading.Made.{AreCounted, has_place, is_placed, AreMarked}
+use Rattle.pg_fds.specs.stated.TypeMessages.{is_marked, is_optional, members_at, synthetic_places}
+use Rattle.pg_fds.specs.inner.reading.OutlinedRows.{type_row}
+use Rattle.pg_fds.specs.inner.reading.Owners.{message_in}
+use Rattle.pg_fds.specs.stated.SetMessages.{children_at, maybe_number_at, text_at}
 use Rattle.pg_fds.specs.stated.StatedFields.{Owner, field, field_of, fields, is_named_once, items}
-use Rattle.pg_fds.specs.stated.StatedNames.{Meanings, each, first_of, only_if}
+use Rattle.pg_fds.specs.stated.StatedNames.{NameLookup, each, first_of, only_if}
 use Rattle.pg_fds.specs.stated.StatedOneofs as oneofs
 use Rattle.pg_fds.specs.stated.StatedTypes.{last_named, own_entries, owner}
-use Rattle.pg_fds.specs.stated.SaidFiles.{is_place}
+use Rattle.pg_fds.specs.stated.FileMessages.{is_place}
 use Rattle.pg_fds.proofs.lemmas.lists.Each.{each_first, each_rest}
 
 -- ---- a list by what is at its indices
@@ -88,7 +88,7 @@ pub owner_is : {Y : Type 0} (o : OutlinedType) (full : List ℕ) (synthetic : Li
     → ◌≡◌ {A = Owner} (record { full = full; synthetic = synthetic; members = members; entries = message_in entries }) (owner (type_row o))
 owner_is o full synthetic members entries is marked counted named = same_owner is (marks_are _ _ synthetic marked) (counts_are _ _ members counted) (fun_ext named)
 
-pub fields_moved : (means : Meanings) (o o' : Owner) (es es' ms ms' : List Message) → o ≡ o' → es ≡ es' → ms ≡ ms' → fields means o es ms ≡ fields means o' es' ms'
+pub fields_moved : (means : NameLookup) (o o' : Owner) (es es' ms ms' : List Message) → o ≡ o' → es ≡ es' → ms ≡ ms' → fields means o es ms ≡ fields means o' es' ms'
 fields_moved means o o' es es' ms ms' owners entries messages = cc
 
 pub length_places : {A : Type 0} (f : ℕ → A) (start count : ℕ) → length (map f (places_from start count)) ≡ count
@@ -129,7 +129,7 @@ no_oneof synthetic members m h = of (maybe_number_at 9 m) refl
         ap (λ n. cond (is_optional m) (oneofs.own_oneof synthetic members n) (oneofs.real_oneof synthetic n)) is ∙ both (is_optional m) number (sym (ap (is_placed (length synthetic)) is) ∙ h)
 
 -- where a field names none of them, a message type states no fields
-unplaced : (means : Meanings) (o : Owner) (ms : List Message) → list_all (has_place (length o.synthetic)) ms ≡ false → each (field means o) ms ≡ None
+unplaced : (means : NameLookup) (o : Owner) (ms : List Message) → list_all (has_place (length o.synthetic)) ms ≡ false → each (field means o) ms ≡ None
 unplaced means o [] h = absurd (false≢true (sym h))
 unplaced means o (m ∷ ms) h = of (λ rest. unplaced means o ms rest) (has_place (length o.synthetic) m) refl
   where
@@ -138,7 +138,7 @@ unplaced means o (m ∷ ms) h = of (λ rest. unplaced means o ms rest) (has_plac
     of later false is =
         each_first (field means o) m ms (ap (option_and_then (λ own. option_map (field_of m own) (items means o m (is_some own)))) (no_oneof o.synthetic o.members m is))
 
-pub placed_or_none : (E : Type 0) (means : Meanings) (o : Owner) (entries : List Message) (count : ℕ) (ms : List Message) → length o.synthetic ≡ count → (list_all (has_place count) ms ≡ true → E) → E ⊎ (fields means o entries ms ≡ None)
+pub placed_or_none : (E : Type 0) (means : NameLookup) (o : Owner) (entries : List Message) (count : ℕ) (ms : List Message) → length o.synthetic ≡ count → (list_all (has_place count) ms ≡ true → E) → E ⊎ (fields means o entries ms ≡ None)
 placed_or_none E means o entries count ms many refused = of (list_all (has_place count) ms) refl
   where
     of : (b : Bool) → list_all (has_place count) ms ≡ b → E ⊎ (fields means o entries ms ≡ None)

@@ -23,18 +23,20 @@ use Rattle.pg_fds.specs.declared.reading.outline.Outline.{Outline}
 use Rattle.pg_fds.specs.writing.Building.{written_shape}
 use Rattle.pg_fds.specs.stated.Codes.{file_has_types}
 use Rattle.pg_fds.specs.descriptor.Descriptor.{file_set}
-use Rattle.pg_fds.specs.reading.OutlinedPlaces.{PlacedFile, PlacedType, no_counts, placed_file, placed_files, placed_type, types_of_files}
-use Rattle.pg_fds.specs.reading.OutlinedScopes.{OutlinesFiles}
-use Rattle.pg_fds.specs.stated.Outlines.{Row, file_enums, file_services, file_types, files_at, row}
-use Rattle.pg_fds.specs.reading.Owners.{means_of}
+use Rattle.pg_fds.specs.stated.Numbering.{PlacedFile, PlacedType, no_counts, placed_files, types_of_files}
+use Rattle.pg_fds.specs.inner.reading.OutlinedPlaces.{placed_file, placed_type}
+use Rattle.pg_fds.specs.inner.reading.OutlinedScopes.{OutlinesFiles}
+use Rattle.pg_fds.specs.stated.Outlines.{Row, file_enums, file_services, file_types}
+use Rattle.pg_fds.specs.inner.reading.OutlinedRows.{files_at, row}
+use Rattle.pg_fds.specs.inner.reading.Owners.{means_of}
 use Rattle.pg_fds.specs.stated.Reads.{fds_reads}
 use Rattle.pg_fds.specs.refusals.TooDeep.{IsNotTooDeep}
 use Rattle.pg_fds.specs.refusals.Refused.{MayRefuseFiles, MayRefuseSet}
-use Rattle.pg_fds.specs.reading.RefusedParts.{IsOfParts, IsOfRules}
-use Rattle.pg_fds.specs.stated.Said.{children_at}
-use Rattle.pg_fds.specs.stated.SaidFiles.{is_proto3, is_skipped, kept_files, skips}
+use Rattle.pg_fds.specs.inner.reading.RefusedParts.{IsOfParts, IsOfRules}
+use Rattle.pg_fds.specs.stated.SetMessages.{children_at}
+use Rattle.pg_fds.specs.stated.FileMessages.{is_proto3, is_skipped, kept_files, skips}
 use Rattle.pg_fds.specs.stated.Stated.{are_taken, declared_by, parts_by, stated, stated_files, stated_of}
-use Rattle.pg_fds.specs.stated.StatedNames.{Meanings, only_if}
+use Rattle.pg_fds.specs.stated.StatedNames.{NameLookup, only_if}
 use Rattle.pg_fds.specs.stated.StatedOrder.{in_post_order}
 use Rattle.pg_fds.specs.stated.StatedTable.{may_declare, meaning}
 use Rattle.pg_fds.specs.stated.Views.{PartsView, parts_view}
@@ -43,7 +45,7 @@ use Rattle.pg_fds.proofs.lemmas.refusals.BadReferences.{has_cause}
 -- ---- what files declare
 
 -- parts are the same where what they are made by is
-parts_same : (skips : Bool) (m n : Meanings) (fs gs : List PlacedFile) (ts us : List PlacedType) (es ds ss rs : List Row) → m ≡ n → fs ≡ gs → ts ≡ us → es ≡ ds → ss ≡ rs
+parts_same : (skips : Bool) (m n : NameLookup) (fs gs : List PlacedFile) (ts us : List PlacedType) (es ds ss rs : List Row) → m ≡ n → fs ≡ gs → ts ≡ us → es ≡ ds → ss ≡ rs
     → parts_by m skips fs ts es ss ≡ parts_by n skips gs us ds rs
 parts_same skips m n fs gs ts us es ds ss rs means files types enums services =
     ap (λ x. parts_by x skips fs ts es ss) means

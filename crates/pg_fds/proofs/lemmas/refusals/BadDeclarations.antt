@@ -10,17 +10,17 @@ use Rattle.pg_dyn.specs.message.Message.{Message}
 use Rattle.pg_check.specs.standing.Places.{most_deep}
 use Rattle.pg_fds.specs.refusals.BadReferences.{IsBadDeclaration, IsBadField, IsBadMethod, IsBadType, means_in}
 use Rattle.pg_fds.specs.refusals.BadReferences as causes
-use Rattle.pg_fds.specs.reading.OutlinedPlaces.{Counts, PlacedFile, PlacedType, behind_file, behind_type, each_from, inner_types, inside_file, inside_type, no_counts, placed_files, placed_types, placed_with, types_of_files}
+use Rattle.pg_fds.specs.stated.Numbering.{Counts, PlacedFile, PlacedType, behind_file, behind_type, each_from, inner_types, inside_file, inside_type, no_counts, placed_files, placed_types, placed_with, types_of_files}
 use Rattle.pg_fds.specs.stated.Outlines.{Row, file_enums, file_services, file_types, row_in, rows_of_type, type_rows}
 use Rattle.pg_fds.specs.declared.descriptor.proto.TheConstants as proto
-use Rattle.pg_fds.specs.stated.Said.{children_at, maybe_number_at, numbers_at, texts_at}
-use Rattle.pg_fds.specs.stated.SaidFiles.{is_place}
-use Rattle.pg_fds.specs.stated.SaidTypes.{is_entry, is_optional, synthetic_places}
+use Rattle.pg_fds.specs.stated.SetMessages.{children_at, maybe_number_at, numbers_at, texts_at}
+use Rattle.pg_fds.specs.stated.FileMessages.{is_place}
+use Rattle.pg_fds.specs.stated.TypeMessages.{is_entry, is_optional, synthetic_places}
 use Rattle.pg_fds.specs.stated.SetNames.{file_scope, files_names, qualified}
 use Rattle.pg_fds.specs.stated.Stated.{declared_by, parts_by, parts_of}
 use Rattle.pg_fds.specs.stated.StatedEnums.{enum_type}
 use Rattle.pg_fds.specs.stated.StatedFiles.{file, file_of, has_public_places}
-use Rattle.pg_fds.specs.stated.StatedNames.{Meanings, each}
+use Rattle.pg_fds.specs.stated.StatedNames.{NameLookup, each}
 use Rattle.pg_fds.specs.stated.StatedServices.{service}
 use Rattle.pg_fds.specs.stated.StatedTable.{are_free, few, has_no_entries, may_declare, names_oneofs, nests_within, packages_of}
 use Rattle.pg_fds.specs.stated.StatedTypes.{declared_fields, message_type, oneof_count, type_of}
@@ -90,7 +90,7 @@ some_out count (m ∷ ms) h = of (is_optional m) h (some_out count ms)
     of true h later = own (maybe_number_at proto.FIELD_ONEOF_INDEX m) refl h later
     of false h later = any_there (IsOut count) m ms (later h)
 
-bad_names : (means : Meanings) (r : Row) → names_oneofs r ≡ false → IsBadType means r
+bad_names : (means : NameLookup) (r : Row) → names_oneofs r ≡ false → IsBadType means r
 bad_names means r h =
     causes.bad_field
     (any_weaker (IsOut (oneof_count r.1)) (IsBadField means r) (λ m out. causes.bad_oneof (causes.out_of_range out.0 out.1 out.2)) (children_at proto.MESSAGE_FIELD r.1)
@@ -163,7 +163,7 @@ module _ (files : List Message) where
 -- ---- what may be declared and states nothing
 
 module _ (skips : Bool) (files : List Message) where
-  abbrev means : Meanings
+  abbrev means : NameLookup
   means = means_in files
 
   abbrev placed : List PlacedFile

@@ -18,11 +18,11 @@ use Rattle.pg_fds.specs.refusals.BadReferences.{IsBadField, IsBadMethod, IsBadTy
 use Rattle.pg_fds.specs.refusals.BadReferences as causes
 use Rattle.pg_fds.specs.stated.Outlines.{Row}
 use Rattle.pg_fds.specs.declared.descriptor.proto.TheConstants as proto
-use Rattle.pg_fds.specs.stated.Said.{children_at, text_at}
-use Rattle.pg_fds.specs.stated.SaidTypes.{is_optional, label_at}
+use Rattle.pg_fds.specs.stated.SetMessages.{children_at, text_at}
+use Rattle.pg_fds.specs.stated.TypeMessages.{is_optional, label_at}
 use Rattle.pg_fds.specs.stated.StatedEntries.{element, entry, says}
 use Rattle.pg_fds.specs.stated.StatedFields.{Items, Owner, field, field_of, is_map_field, is_map_of, is_named_once, items, map_items, map_of, names_its_entry, packed_at, plain_items, presence, repeated, singular}
-use Rattle.pg_fds.specs.stated.StatedNames.{Meanings, each, first_of, only_if}
+use Rattle.pg_fds.specs.stated.StatedNames.{NameLookup, each, first_of, only_if}
 use Rattle.pg_fds.specs.stated.StatedOneofs.{oneof}
 use Rattle.pg_fds.specs.stated.StatedServices.{method, service, service_of}
 use Rattle.pg_fds.specs.stated.StatedTypes.{declared_fields, last_named, own_entries, owner}
@@ -79,7 +79,7 @@ not_among (m ∷ ms) name h = of (last_named ms name) refl (bytes_eq (text_at pr
 abbrev pub with_element : Element → Presence → Items
 with_element e p = (p, e)
 
-module _ (means : Meanings) (r : Row) (m : Message) where
+module _ (means : NameLookup) (r : Row) (m : Message) where
   bad_plain : (member : Bool) → is_map_field means m ≡ false → plain_items means m member ≡ None → IsBadField means r m
   bad_plain member plain h = of (then_none (λ e. option_map (with_element e) (presence m e member)) (element means m) h)
     where
@@ -137,7 +137,7 @@ module _ (means : Meanings) (r : Row) (m : Message) where
 
 -- ---- which fields are maps
 
-module _ (means : Meanings) (o : Owner) where
+module _ (means : NameLookup) (o : Owner) where
   items_map : (m : Message) (member : Bool) (i : Items) → items means o m member ≡ Some i → is_map i.0 ≡ is_map_field means m
   items_map m member i h = of (is_map_field means m) h
     where
@@ -182,7 +182,7 @@ module _ (means : Meanings) (o : Owner) where
 
 -- ---- message types and services
 
-pub bad_type : (means : Meanings) (r : Row) → declared_fields means r ≡ None → IsBadType means r
+pub bad_type : (means : NameLookup) (r : Row) → declared_fields means r ≡ None → IsBadType means r
 bad_type means r h = of (then_none counted (each (field means (owner r)) ms) h)
   where
     ms : List Message
@@ -214,7 +214,7 @@ bad_type means r h = of (then_none counted (each (field means (owner r)) ms) h)
         let any = any_false (is_named_once fs) entries (test_none (list_all (is_named_once fs) entries) fs none) in
         bad_entry_at any.0 any.1 any.2 any.3 (ap (λ n. nat_eq n 1) (sym (named_as means (owner r) (text_at proto.MESSAGE_NAME any.1) ms fs are)) ∙ any.4)
 
-pub bad_service : (means : Meanings) (r : Row) → service means r ≡ None → Any (IsBadMethod means) (children_at proto.SERVICE_METHOD r.1)
+pub bad_service : (means : NameLookup) (r : Row) → service means r ≡ None → Any (IsBadMethod means) (children_at proto.SERVICE_METHOD r.1)
 bad_service means r h =
     any_weaker (λ m. method means m ≡ None) (IsBadMethod means) (bad_method means) (children_at proto.SERVICE_METHOD r.1)
     (each_none (method means) (children_at proto.SERVICE_METHOD r.1) (map_none (service_of r) (each (method means) (children_at proto.SERVICE_METHOD r.1)) h))

@@ -10,8 +10,8 @@ use Rattle.pg_check.specs.standing.Places.{places_from}
 use Rattle.pg_fds.specs.refusals.BadReferences.{HasBadOneof}
 use Rattle.pg_fds.specs.refusals.BadReferences as causes
 use Rattle.pg_fds.specs.declared.descriptor.proto.TheConstants as proto
-use Rattle.pg_fds.specs.stated.Said.{children_at, maybe_number_at}
-use Rattle.pg_fds.specs.stated.SaidTypes.{is_at, is_marked, is_optional, members_at, synthetic_places}
+use Rattle.pg_fds.specs.stated.SetMessages.{children_at, maybe_number_at}
+use Rattle.pg_fds.specs.stated.TypeMessages.{is_at, is_marked, is_optional, members_at, synthetic_places}
 use Rattle.pg_fds.specs.stated.StatedNames.{only_if}
 use Rattle.pg_fds.specs.stated.StatedOneofs.{has_mark, members_in, oneof, own_oneof, place_marked, real_oneof, real_place, small, synthetic_in, unmarked}
 use Rattle.pg_fds.specs.stated.StatedTypes.{oneof_count}

@@ -16,7 +16,7 @@ use Rattle.pg_fds.specs.refusals.BadReferences as causes
 use Rattle.pg_link.specs.walk.PostOrder.{Visits}
 use Rattle.pg_fds.specs.stated.PostOrder.{Importer, importer_of, imports_at, imports_once, kept_paths, paths_of}
 use Rattle.pg_fds.specs.declared.descriptor.proto.TheConstants as proto
-use Rattle.pg_fds.specs.stated.Said.{text_at, texts_at}
+use Rattle.pg_fds.specs.stated.SetMessages.{text_at, texts_at}
 use Rattle.pg_fds.specs.stated.StatedNames.{each, only_if}
 use Rattle.pg_fds.specs.stated.StatedOrder.{file_at, in_post_order, paths_in_post_order, visit, visit_each, visit_one}
 use Rattle.pg_fds.proofs.lemmas.lists.Marks.{all_weaker}

@@ -11,15 +11,15 @@ use Rattle.pg_fds.specs.refusals.BadReferences.{HasBadType, IsBadEntry, IsBadMet
 use Rattle.pg_fds.specs.refusals.BadReferences as causes
 use Rattle.pg_fds.specs.writing.Fields.{element_code}
 use Rattle.pg_fds.specs.declared.descriptor.proto.TheConstants as proto
-use Rattle.pg_fds.specs.stated.Said.{children_at, item_at, maybe_text_at, number_at, text_of}
+use Rattle.pg_fds.specs.stated.SetMessages.{children_at, item_at, maybe_text_at, number_at, text_of}
 use Rattle.pg_fds.specs.stated.StatedEntries.{element, entry, has_fields_alone, is_entry_field, key_and_value, key_with, named_element, of_code, pair_of, scalar_of}
-use Rattle.pg_fds.specs.stated.StatedNames.{Meanings, both, element_of_named, meant, type_meant, type_of_named}
+use Rattle.pg_fds.specs.stated.StatedNames.{NameLookup, both, element_of_named, meant, type_meant, type_of_named}
 use Rattle.pg_fds.specs.stated.StatedServices.{method, method_of}
 use Rattle.pg_fds.proofs.lemmas.refusals.NoneSteps.{and_none, any_here, any_there, both_none, map_none, only_none, test_none, then_none, then_some}
 
 -- ---- methods
 
-names_no_type : (means : Meanings) (name : Option (List ℕ)) → type_meant means name ≡ None → NamesNoType means name
+names_no_type : (means : NameLookup) (name : Option (List ℕ)) → type_meant means name ≡ None → NamesNoType means name
 names_no_type means None h = causes.unnamed refl
 names_no_type means (Some text) h = of (then_none type_of_named (meant means (Some text)) h)
   where
@@ -27,7 +27,7 @@ names_no_type means (Some text) h = of (then_none type_of_named (meant means (So
     of (inl none) = causes.unknown_type text refl none
     of (inr (thing, is, none)) = causes.no_type thing is none
 
-pub bad_method : (means : Meanings) (m : Message) → method means m ≡ None → IsBadMethod means m
+pub bad_method : (means : NameLookup) (m : Message) → method means m ≡ None → IsBadMethod means m
 bad_method means m h =
     of (both_none (method_of m) (type_meant means (maybe_text_at proto.METHOD_INPUT_TYPE m)) (type_meant means (maybe_text_at proto.METHOD_OUTPUT_TYPE m)) h)
   where
@@ -37,7 +37,7 @@ bad_method means m h =
 
 -- ---- types of fields
 
-module _ (means : Meanings) (m : Message) where
+module _ (means : NameLookup) (m : Message) where
   abbrev type_name : Option (List ℕ)
   type_name = maybe_text_at proto.FIELD_TYPE_NAME m
 
@@ -67,7 +67,7 @@ module _ (means : Meanings) (m : Message) where
 
 -- ---- entry types
 
-module _ (means : Meanings) (e : Message) where
+module _ (means : NameLookup) (e : Message) where
   abbrev fields_of : List Message
   fields_of = children_at proto.MESSAGE_FIELD e
 

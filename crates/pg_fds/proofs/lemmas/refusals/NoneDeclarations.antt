@@ -9,17 +9,17 @@ use Rattle.pg_dyn.specs.message.Message.{Message}
 use Rattle.pg_check.specs.standing.Places.{most_deep}
 use Rattle.pg_fds.specs.refusals.BadReferences.{IsBadDeclaration, IsBadMethod, IsBadType, means_in}
 use Rattle.pg_fds.specs.refusals.BadReferences as causes
-use Rattle.pg_fds.specs.reading.OutlinedPlaces.{PlacedFile, PlacedType, no_counts, placed_files, types_of_files}
+use Rattle.pg_fds.specs.stated.Numbering.{PlacedFile, PlacedType, no_counts, placed_files, types_of_files}
 use Rattle.pg_fds.specs.stated.Outlines.{Row, file_enums, file_services, file_types}
 use Rattle.pg_fds.specs.declared.descriptor.proto.TheConstants as proto
-use Rattle.pg_fds.specs.stated.Said.{children_at, numbers_at, texts_at}
-use Rattle.pg_fds.specs.stated.SaidFiles.{is_place}
-use Rattle.pg_fds.specs.stated.SaidTypes.{is_entry}
+use Rattle.pg_fds.specs.stated.SetMessages.{children_at, numbers_at, texts_at}
+use Rattle.pg_fds.specs.stated.FileMessages.{is_place}
+use Rattle.pg_fds.specs.stated.TypeMessages.{is_entry}
 use Rattle.pg_fds.specs.stated.SetNames.{files_names}
 use Rattle.pg_fds.specs.stated.Stated.{declared_by, parts_by, parts_of}
 use Rattle.pg_fds.specs.stated.StatedEnums.{enum_type}
 use Rattle.pg_fds.specs.stated.StatedFiles.{file, file_of, has_public_places}
-use Rattle.pg_fds.specs.stated.StatedNames.{Meanings, each}
+use Rattle.pg_fds.specs.stated.StatedNames.{NameLookup, each}
 use Rattle.pg_fds.specs.stated.StatedServices.{service}
 use Rattle.pg_fds.specs.stated.StatedTable.{are_free, few, has_no_entries, may_declare, names_oneofs, nests_within, packages_of}
 use Rattle.pg_fds.specs.stated.StatedTypes.{message_type, type_of}
@@ -48,7 +48,7 @@ kept_some {A} test (x ∷ xs) a = of (test x) refl (any_of (λ y. test y ≡ tru
     of false e (inr a) later = later a
 
 module _ (skips : Bool) (files : List Message) where
-  abbrev means : Meanings
+  abbrev means : NameLookup
   means = means_in files
 
   abbrev types : List Row

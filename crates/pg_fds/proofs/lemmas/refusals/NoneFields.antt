@@ -13,15 +13,15 @@ use Rattle.pg_schema.proofs.lemmas.rules.PairLemmas.{bytes_eq-sym}
 use Rattle.pg_dyn.specs.message.Message.{Message}
 use Rattle.pg_fds.specs.refusals.BadReferences.{HasBadOneof, IsBadField, IsBadMap, IsBadMethod, IsBadType, fields_of_entry, own_entry_name}
 use Rattle.pg_fds.specs.refusals.BadReferences as causes
-use Rattle.pg_fds.specs.reading.Made.{is_placed}
+use Rattle.pg_fds.specs.inner.reading.Made.{is_placed}
 use Rattle.pg_fds.specs.stated.Outlines.{Row}
 use Rattle.pg_fds.specs.declared.descriptor.proto.TheConstants as proto
-use Rattle.pg_fds.specs.stated.Said.{children_at, maybe_number_at, text_at}
-use Rattle.pg_fds.specs.stated.SaidFiles.{is_place}
-use Rattle.pg_fds.specs.stated.SaidTypes.{is_marked, is_optional, label_at, members_at, synthetic_places}
+use Rattle.pg_fds.specs.stated.SetMessages.{children_at, maybe_number_at, text_at}
+use Rattle.pg_fds.specs.stated.FileMessages.{is_place}
+use Rattle.pg_fds.specs.stated.TypeMessages.{is_marked, is_optional, label_at, members_at, synthetic_places}
 use Rattle.pg_fds.specs.stated.StatedEntries.{element, entry, says}
 use Rattle.pg_fds.specs.stated.StatedFields.{Items, field, field_of, is_map_field, is_named_once, items, map_items, map_of, names_its_entry, packed_at, plain_items, presence, repeated, singular}
-use Rattle.pg_fds.specs.stated.StatedNames.{Meanings, each, first_of, only_if}
+use Rattle.pg_fds.specs.stated.StatedNames.{NameLookup, each, first_of, only_if}
 use Rattle.pg_fds.specs.stated.StatedOneofs.{has_mark, members_in, oneof, own_oneof, real_oneof, small, synthetic_in, unmarked}
 use Rattle.pg_fds.specs.stated.StatedServices.{method, service, service_of}
 use Rattle.pg_fds.specs.stated.StatedTypes.{declared_fields, last_named, oneof_count, own_entries, owner}
@@ -122,7 +122,7 @@ last_none (m ∷ ms) name h = of (bytes_eq name (text_at proto.MESSAGE_NAME m)) 
         ap (λ o. first_of o (cond (bytes_eq (text_at proto.MESSAGE_NAME m) name) (Some m) None)) (later h)
         ∙ ap (λ b. cond b (Some m) None) (bytes_eq-sym (text_at proto.MESSAGE_NAME m) name ∙ e)
 
-module _ (means : Meanings) (r : Row) (m : Message) where
+module _ (means : NameLookup) (r : Row) (m : Message) where
   abbrev repeats : Bool
   repeats = int_eq (label_at m) (pos 3)
 
@@ -175,7 +175,7 @@ module _ (means : Meanings) (r : Row) (m : Message) where
 
 -- ---- message types and services
 
-pub fields_none : (means : Meanings) (r : Row) → IsBadType means r → declared_fields means r ≡ None
+pub fields_none : (means : NameLookup) (r : Row) → IsBadType means r → declared_fields means r ≡ None
 fields_none means r bad = of bad
   where
     ms : List Message
@@ -203,7 +203,7 @@ fields_none means r bad = of bad
     of (causes.shared_entry any) =
         entries_none (λ e. 1 < length (fields_of_entry means r e)) (λ e many. unequal (length (fields_of_entry means r e)) 1 (λ same. absurd (omega (arith, many, same)))) any
 
-pub service_none : (means : Meanings) (r : Row) → Any (IsBadMethod means) (children_at proto.SERVICE_METHOD r.1) → service means r ≡ None
+pub service_none : (means : NameLookup) (r : Row) → Any (IsBadMethod means) (children_at proto.SERVICE_METHOD r.1) → service means r ≡ None
 service_none means r any =
     ap (option_map (service_of r))
     (none_each (method means) (children_at proto.SERVICE_METHOD r.1) (any_weaker (IsBadMethod means) (λ m. method means m ≡ None) (method_none means) (children_at proto.SERVICE_METHOD r.1) any))

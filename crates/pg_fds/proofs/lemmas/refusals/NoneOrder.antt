@@ -10,9 +10,10 @@ use Rattle.pg_schema.specs.rules.Pairs.{are_distinct}
 use Rattle.pg_schema.specs.rules.TextSets.{is_among}
 use Rattle.pg_dyn.specs.message.Message.{Message}
 use Rattle.pg_fds.specs.refusals.BadReferences.{IsTrail}
-use Rattle.pg_fds.specs.stated.PostOrder.{Importer, IsPostOrder, importer_of, imports_at, imports_once, kept_paths, paths_of}
+use Rattle.pg_fds.specs.stated.PostOrder.{Importer, importer_of, imports_at, imports_once, kept_paths, paths_of}
+use Rattle.pg_fds.specs.inner.reading.FilePlaces.{IsPostOrder}
 use Rattle.pg_fds.specs.declared.descriptor.proto.TheConstants as proto
-use Rattle.pg_fds.specs.stated.Said.{text_at, texts_at}
+use Rattle.pg_fds.specs.stated.SetMessages.{text_at, texts_at}
 use Rattle.pg_fds.specs.stated.StatedOrder.{Paths, in_post_order}
 use Rattle.pg_fds.proofs.lemmas.refusals.NoneSteps.{false_any}
 use Rattle.pg_fds.proofs.lemmas.order.SetLaws.{paths_are}

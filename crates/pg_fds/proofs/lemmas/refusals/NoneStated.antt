@@ -23,7 +23,7 @@ use Rattle.pg_fds.specs.refusals.BadReferences.{IsBadReference}
 use Rattle.pg_fds.specs.writing.Building.{written_shape}
 use Rattle.pg_fds.specs.stated.Codes.{file_has_types}
 use Rattle.pg_fds.specs.descriptor.Descriptor.{file_set}
-use Rattle.pg_fds.specs.stated.SaidFiles.{is_proto3, kept_files, skips}
+use Rattle.pg_fds.specs.stated.FileMessages.{is_proto3, kept_files, skips}
 use Rattle.pg_fds.specs.refusals.Refused.{BreaksRule, MayRefuseSet, NoneIsStated, StatesNone}
 use Rattle.pg_fds.specs.stated.Stated.{are_taken, stated, stated_of}
 use Rattle.pg_fds.specs.stated.StatedNames.{only_if}

@@ -12,20 +12,20 @@ use Rattle.pg_fds.specs.refusals.BadReferences.{HasBadType, IsBadEntry, IsBadMet
 use Rattle.pg_fds.specs.refusals.BadReferences as causes
 use Rattle.pg_fds.specs.writing.Fields.{element_code}
 use Rattle.pg_fds.specs.declared.descriptor.proto.TheConstants as proto
-use Rattle.pg_fds.specs.stated.Said.{children_at, item_at, maybe_text_at, number_at, text_of}
+use Rattle.pg_fds.specs.stated.SetMessages.{children_at, item_at, maybe_text_at, number_at, text_of}
 use Rattle.pg_fds.specs.stated.StatedEntries.{element, entry, has_fields_alone, is_entry_field, key_and_value, key_with, named_element, of_code, scalar_of}
-use Rattle.pg_fds.specs.stated.StatedNames.{Meanings, both, element_of_named, meant, type_meant, type_of_named}
+use Rattle.pg_fds.specs.stated.StatedNames.{NameLookup, both, element_of_named, meant, type_meant, type_of_named}
 use Rattle.pg_fds.specs.stated.StatedServices.{method, method_of}
 use Rattle.pg_fds.proofs.lemmas.refusals.NoneSteps.{and_false, any_of, first_none, none_and, none_any, only_false, only_nothing, second_none}
 
 -- ---- names
 
-type_none : (means : Meanings) (name : Option (List ℕ)) → NamesNoType means name → type_meant means name ≡ None
+type_none : (means : NameLookup) (name : Option (List ℕ)) → NamesNoType means name → type_meant means name ≡ None
 type_none means name (causes.unnamed is) = ap (type_meant means) is
 type_none means name (causes.unknown_type text is nothing) = ap (type_meant means) is ∙ ap (option_and_then type_of_named) nothing
 type_none means name (causes.no_type thing is none) = ap (option_and_then type_of_named) is ∙ none
 
-pub method_none : (means : Meanings) (m : Message) → IsBadMethod means m → method means m ≡ None
+pub method_none : (means : NameLookup) (m : Message) → IsBadMethod means m → method means m ≡ None
 method_none means m (inl bad) =
     first_none (method_of m) (type_meant means (maybe_text_at proto.METHOD_INPUT_TYPE m)) (type_meant means (maybe_text_at proto.METHOD_OUTPUT_TYPE m))
     (type_none means (maybe_text_at proto.METHOD_INPUT_TYPE m) bad)
@@ -35,7 +35,7 @@ method_none means m (inr bad) =
 
 -- ---- types of fields
 
-module _ (means : Meanings) (m : Message) where
+module _ (means : NameLookup) (m : Message) where
   abbrev type_name : Option (List ℕ)
   type_name = maybe_text_at proto.FIELD_TYPE_NAME m
 
@@ -77,7 +77,7 @@ module _ (means : Meanings) (m : Message) where
 
 -- ---- entry types
 
-module _ (means : Meanings) where
+module _ (means : NameLookup) where
   pair_none : (k v : Message) → Any (HasBadType means) (k ∷ v ∷ []) → both key_with (element means k) (element means v) ≡ None
   pair_none k v any = of (any_of (HasBadType means) k (v ∷ []) any)
     where

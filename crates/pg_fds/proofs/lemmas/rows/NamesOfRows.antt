@@ -4,10 +4,10 @@ use Rattle.std.proofs.lemmas.Grind.{flat_map-append}
 use Rattle.std.proofs.lemmas.List.{map-append}
 use Rattle.pg_dyn.specs.message.Message.{Message}
 use Rattle.pg_fds.specs.stated.Outlines.{Row, enum_rows, file_enums, file_services, file_types, rows_in, rows_of_enums, rows_of_type, type_rows}
-use Rattle.pg_fds.specs.stated.Said.{children_at}
+use Rattle.pg_fds.specs.stated.SetMessages.{children_at}
 use Rattle.pg_fds.specs.stated.SetNames.{enum_names, enums_names, file_names, file_scope, files_names, member_names, own_names, qualified, qualified_names, services_names, type_names, types_names}
 use Rattle.pg_fds.specs.stated.StatedTable.{entry_names, names_of}
-use Rattle.pg_fds.specs.stated.SaidTypes.{is_no_entry}
+use Rattle.pg_fds.specs.stated.TypeMessages.{is_no_entry}
 use Rattle.pg_fds.proofs.lemmas.lists.NameCounts.{count, count_append}
 
 -- ---- the names of a row

@@ -11,18 +11,18 @@ use Rattle.pg_fds.specs.stated.Outlines.{Row}
 use Rattle.pg_fds.specs.writing.Fields.{dotted}
 use Rattle.pg_fds.specs.writing.Places.{Declared}
 use Rattle.pg_fds.specs.stated.SetNames.{qualified}
-use Rattle.pg_fds.specs.stated.StatedNames.{Meanings}
+use Rattle.pg_fds.specs.stated.StatedNames.{NameLookup}
 use Rattle.pg_fds.specs.stated.StatedTypes.{own_entries}
 use Rattle.pg_fds.proofs.lemmas.written.WrittenRows.{enum_row}
 use Rattle.pg_fds.proofs.lemmas.written.WrittenServices.{HasNames}
 use Rattle.pg_fds.proofs.lemmas.written.WrittenTypes.{EntriesMean, inside, none_entry, type_entries, type_row}
 
 -- the names of the message type's entry types mean some
-abbrev pub RowEntriesMean : Meanings → Row → Type 0
+abbrev pub RowEntriesMean : NameLookup → Row → Type 0
 RowEntriesMean means r = AllByRecursion (λ e. means (qualified r.0 e) ≡ Some nameds.Entry) (own_entries r.1)
 
 -- the names of the message types and enums mean them, by their indices
-pub record AreMeant (means : Meanings) (type_rows enum_rows : List Row) : Type 0 where
+pub record AreMeant (means : NameLookup) (type_rows enum_rows : List Row) : Type 0 where
   pub types : (place : ℕ) (r : Row) → slice_get type_rows place ≡ Some r → means r.0 ≡ Some (nameds.Type (record { index = place }))
   pub entries : (place : ℕ) (r : Row) → slice_get type_rows place ≡ Some r → RowEntriesMean means r
   pub enums : (place : ℕ) (r : Row) → slice_get enum_rows place ≡ Some r → means r.0 ≡ Some (nameds.Enum (record { index = place }))
@@ -32,7 +32,7 @@ module _ {T : Type 0} (row : T → Row) (ts : List T) (rows : List Row) (are : r
   row_of place t at = ap (λ rs. slice_get rs place) are ∙ (slice_get-map row ts place ∙ ap (option_map row) at)
 
   -- where rows have full names with a dot in front
-  named_at : (full : T → List ℕ) → ((t : T) → (row t).0 ≡ dotted (full t)) → (means : Meanings) (named : ℕ → Named) → ((place : ℕ) (r : Row) → slice_get rows place ≡ Some r → means r.0 ≡ Some (named place))
+  named_at : (full : T → List ℕ) → ((t : T) → (row t).0 ≡ dotted (full t)) → (means : NameLookup) (named : ℕ → Named) → ((place : ℕ) (r : Row) → slice_get rows place ≡ Some r → means r.0 ≡ Some (named place))
       → (place : ℕ) (n : List ℕ) → option_map full (slice_get ts place) ≡ Some n → means (dotted n) ≡ Some (named place)
   named_at full dots means named known place n is = of (slice_get ts place) refl is
     where
@@ -40,7 +40,7 @@ module _ {T : Type 0} (row : T → Row) (ts : List T) (rows : List Row) (are : r
       of None at is = absurd (none-some n is)
       of (Some t) at is = subst (λ k. means k ≡ Some (named place)) (dots t ∙ ap dotted (same_Some (full t) n is)) (known place (row t) (row_of place t at))
 
-module _ (means : Meanings) (all : Declared) (types enums : List Row) (of_types : types ≡ map (type_row all) all.types) (of_enums : enums ≡ map enum_row all.enums) (meant : AreMeant means types enums) where
+module _ (means : NameLookup) (all : Declared) (types enums : List Row) (of_types : types ≡ map (type_row all) all.types) (of_enums : enums ≡ map enum_row all.enums) (meant : AreMeant means types enums) where
   pub has_names : HasNames all means
   has_names = record {
     types = λ id name is. named_at (type_row all) all.types types of_types (λ (t : MessageType). string_bytes t.name) (λ t. refl) means (λ k. nameds.Type (record { index = k })) meant.types id.index name is;

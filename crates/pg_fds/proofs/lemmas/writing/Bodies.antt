@@ -4,7 +4,7 @@ use Rattle.std.specs.Global.{Global}
 use Rattle.std.proofs.lemmas.List.{get_or-map, length-map, map_more}
 use Rattle.pg_schema.specs.declared.parts.field.TypeId.{TypeId}
 use Rattle.pg_dyn.specs.message.Message.{Item, Msg, Part, message_from}
-use Rattle.pg_fds.specs.writing.Drafts.{Drafted, items_within, put, read_items}
+use Rattle.pg_fds.specs.inner.writing.Drafts.{Drafted, items_within, put, read_items}
 use Rattle.pg_fds.specs.writing.Items.{Items, child, children, item}
 
 children_step : (type : TypeId) (number : ℕ) (bodies : List (Vec ℕ Global)) (i : ℕ) (body : Vec ℕ Global) → i < length bodies → body ≡ get_or bodies i body

@@ -7,8 +7,7 @@ use Rattle.pg_schema.specs.declared.parts.Parts.{Parts}
 use Rattle.pg_schema.specs.declared.parts.service.ServiceId.{ServiceId}
 use Rattle.pg_schema.specs.rules.Scopes.{declared_enums, declared_services, enum_places, service_places}
 use Rattle.pg_schema.specs.rules.Sound.{IsSound}
-use Rattle.pg_fds.specs.stated.Reads.{IsHeld}
-use Rattle.pg_fds.specs.writing.Small.{HasLowEnums, HasLowPlaces, IsLowEnum, IsLowService}
+use Rattle.pg_fds.specs.inner.writing.Small.{IsHeld, HasLowEnums, HasLowPlaces, IsLowEnum, IsLowService}
 use Rattle.pg_fds.proofs.lemmas.lists.PlacesOnce.{at_most}
 use Rattle.pg_fds.proofs.lemmas.writing.SoundPlaces.{enums_in, enums_inside, enums_once, services_once}
 

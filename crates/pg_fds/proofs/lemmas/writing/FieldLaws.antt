@@ -4,7 +4,7 @@ use Rattle.std.specs.List.{AllByRecursion}
 use Rattle.std.specs.Prelude.{if◌then◌else◌}
 use denote.Ref.{Bor}
 use Rattle.pg_schema.specs.declared.parts.field.Field.{Field}
-use Rattle.pg_fds.specs.descriptor.Lent.{lent}
+use Rattle.pg_fds.specs.inner.Lent.{lent}
 use Rattle.pg_fds.specs.writing.Fields.{field_items, fields_items}
 use Rattle.pg_fds.specs.writing.Items.{Items}
 use Rattle.pg_fds.specs.writing.Messages.{where_found}

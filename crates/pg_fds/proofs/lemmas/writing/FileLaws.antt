@@ -10,7 +10,7 @@ use Rattle.pg_schema.specs.declared.parts.options.FileOption.{FileOption}
 use Rattle.pg_schema.specs.rules.Files.{option_numbers}
 use Rattle.pg_schema.specs.rules.Pairs.{is_rising}
 use Rattle.pg_schema.proofs.lemmas.rules.PairLemmas.{and_both, and_left, and_right}
-use Rattle.pg_fds.specs.writing.Drafts.{Drafted, IsDraftOf, put}
+use Rattle.pg_fds.specs.inner.writing.Drafts.{Drafted, IsDraftOf, put}
 use Rattle.pg_fds.specs.writing.Items.{Items}
 use Rattle.pg_fds.specs.writing.Messages.{type_items, types_items, where_found}
 use Rattle.pg_fds.specs.writing.Places.{Declared}

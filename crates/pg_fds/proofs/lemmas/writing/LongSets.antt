@@ -21,9 +21,9 @@ use Rattle.pg_dyn.specs.encoding.Writing.{bytes_of, field_records, item_record, 
 use Rattle.pg_fds.specs.descriptor.Descriptor.{descriptor_shape, file_set, many, message, text, type_id}
 use Rattle.pg_fds.specs.writing.Items.{children}
 use Rattle.pg_fds.specs.writing.Places.{Declared, declared_in}
-use Rattle.pg_fds.specs.stated.Said.{items_at, text_of}
+use Rattle.pg_fds.specs.stated.SetMessages.{items_at, text_of}
 use Rattle.pg_fds.specs.writing.Set.{file_items, set_message}
-use Rattle.pg_fds.specs.writing.Writable.{has_counted_imports}
+use Rattle.pg_fds.specs.inner.writing.Writable.{has_counted_imports}
 use Rattle.pg_fds.proofs.lemmas.written.Slots.{made}
 use Rattle.pg_fds.proofs.lemmas.written.WrittenFiles.{file_imports, path_of}
 use Rattle.pg_fds.proofs.lemmas.lists.Tests.{not_below}

@@ -14,13 +14,14 @@ use Rattle.pg_schema.specs.rules.Uses.{is_reserved_range}
 use Rattle.pg_schema.proofs.lemmas.rules.PairLemmas.{and_left, and_right}
 use Rattle.pg_dyn.specs.encoding.Encoding.{cap, enc}
 use Rattle.pg_fds.specs.writing.Building.{written_shape}
-use Rattle.pg_fds.specs.writing.Drafts.{IsEncodingOf}
+use Rattle.pg_fds.specs.inner.writing.Drafts.{IsEncodingOf}
 use Rattle.pg_fds.specs.descriptor.Descriptor.{descriptor_shape, file_set}
 use Rattle.pg_fds.specs.writing.Set.{fds, set_message}
-use Rattle.pg_fds.specs.writing.Written.{HasNoSet, set_items}
+use Rattle.pg_fds.specs.writing.Written.{HasNoSet}
+use Rattle.pg_fds.specs.inner.writing.PutParts.{set_items}
 use Rattle.pg_fds.proofs.lemmas.writing.FewOneofs.{few_places}
-use Rattle.pg_fds.specs.writing.Small.{HasSmallNumbers, IsSmallRange, IsSmallType}
-use Rattle.pg_fds.specs.writing.Writable.{IsWritable, has_counted_imports}
+use Rattle.pg_fds.specs.inner.writing.Small.{HasSmallNumbers, IsSmallRange, IsSmallType}
+use Rattle.pg_fds.specs.inner.writing.Writable.{IsWritable, has_counted_imports}
 use Rattle.pg_fds.proofs.lemmas.lists.Tests.{at_most, below}
 
 place_small : (o : Option ℕ) (n : ℕ) → n < 2 ^ 31 → is_oneof n o ≡ true → IfSome o (λ place. place < 2 ^ 31)

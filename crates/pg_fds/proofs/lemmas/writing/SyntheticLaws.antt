@@ -10,8 +10,8 @@ use denote.Ref.{Bor}
 use Rattle.pg_schema.specs.declared.parts.field.Field.{Field}
 use Rattle.pg_schema.specs.rules.TextSets.{is_among}
 use Rattle.pg_schema.proofs.lemmas.rules.PairLemmas.{among_push, bytes_eq-sym}
-use Rattle.pg_fds.specs.descriptor.Lent.{lent}
-use Rattle.pg_fds.specs.writing.MadeNames.{HasMade, begins_made}
+use Rattle.pg_fds.specs.inner.Lent.{lent}
+use Rattle.pg_fds.specs.inner.writing.MadeNames.{HasMade, begins_made}
 use Rattle.pg_fds.specs.writing.Synthetic.{freed, sign, synthetic_name, synthetic_oneofs}
 use Rattle.pg_fds.proofs.lemmas.lists.Tests.{or_none}
 

@@ -4,7 +4,7 @@ use Rattle.std.proofs.lemmas.List.{append-nil}
 use Rattle.pg_schema.proofs.lemmas.rules.PairLemmas.{and_left, and_right}
 use Rattle.pg_dyn.specs.message.Message.{Int, Bytes, Item, Plain, Msg, Message, ends, Part, is_of, message_from, parts, with_part}
 use Rattle.pg_fds.specs.writing.Items.{Items, child, children, count, counts, filled, item, mark, maybe_count, maybe_text, options, stated, text, texts, whole}
-use Rattle.pg_fds.specs.stated.Said.{child_in, child_of, children_at, flag_of, item_at, items_at, maybe_flag_at, number_of, numbers_at, options_at, text_of, texts_at}
+use Rattle.pg_fds.specs.stated.SetMessages.{child_in, child_of, children_at, flag_of, item_at, items_at, maybe_flag_at, number_of, numbers_at, options_at, text_of, texts_at}
 use Rattle.pg_fds.proofs.lemmas.lists.Tests.{not_so, same_number}
 
 pub record Slot : Type 0 where

@@ -35,9 +35,9 @@ use Rattle.pg_fds.specs.writing.Items.{Items}
 use Rattle.pg_fds.specs.writing.Messages.{declared_fields, enum_items, enums_items, types_items, value_items, where_found}
 use Rattle.pg_fds.specs.stated.Outlines.{Row, file_enums, file_services, file_types}
 use Rattle.pg_fds.specs.writing.Places.{Declared, declared_in}
-use Rattle.pg_fds.specs.stated.Said.{children_at, text_at}
-use Rattle.pg_fds.specs.stated.SaidFiles.{is_place}
-use Rattle.pg_fds.specs.stated.SaidTypes.{is_entry, is_no_entry, real_oneofs, synthetic_places}
+use Rattle.pg_fds.specs.stated.SetMessages.{children_at, text_at}
+use Rattle.pg_fds.specs.stated.FileMessages.{is_place}
+use Rattle.pg_fds.specs.stated.TypeMessages.{is_entry, is_no_entry, real_oneofs, synthetic_places}
 use Rattle.pg_fds.specs.writing.Set.{method_items}
 use Rattle.pg_fds.specs.stated.SetNames.{file_scope, files_names, name_in, qualified, qualified_names}
 use Rattle.pg_fds.specs.stated.StatedTable.{few, has_no_entries, may_declare, names_of, names_oneofs, nests_within}

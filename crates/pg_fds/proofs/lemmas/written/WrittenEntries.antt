@@ -19,10 +19,10 @@ use Rattle.pg_fds.specs.declared.reading.outline.Named.TheVariants as nameds
 use Rattle.pg_fds.specs.writing.Entries.{entries, entry_items}
 use Rattle.pg_fds.specs.writing.Items.{Items}
 use Rattle.pg_fds.specs.writing.Places.{Declared}
-use Rattle.pg_fds.specs.stated.Said.{text_at}
-use Rattle.pg_fds.specs.stated.SaidTypes.{is_entry, is_no_entry}
+use Rattle.pg_fds.specs.stated.SetMessages.{text_at}
+use Rattle.pg_fds.specs.stated.TypeMessages.{is_entry, is_no_entry}
 use Rattle.pg_fds.specs.stated.SetNames.{name_in, qualified}
-use Rattle.pg_fds.specs.stated.StatedNames.{Meanings, first_of}
+use Rattle.pg_fds.specs.stated.StatedNames.{NameLookup, first_of}
 use Rattle.pg_fds.specs.stated.StatedTypes.{last_named}
 use Rattle.pg_fds.proofs.lemmas.lists.Matched.{Has, differ_apart}
 use Rattle.pg_fds.proofs.lemmas.written.QualifiedNames.{entry_plain, is_plain, plain_in, scope_of}
@@ -58,7 +58,7 @@ module _ (all : Declared) where
       (λ f key fs es is later. ap₂ (λ n ns. n ∷ ns) (entry_called all f key) later ∙ ap (λ p. cond (is_map p) (entry_name (string_bytes f.name) ∷ []) [] ++ entry_names fs) (sym is))
 
   -- where their qualified names mean entry types, those of the fields do
-  pub entries_named : (means : Meanings) (scope : List ℕ) (fs : List Field) → AllByRecursion (λ (f : Field). is_plain (string_bytes f.name) ≡ true) fs
+  pub entries_named : (means : NameLookup) (scope : List ℕ) (fs : List Field) → AllByRecursion (λ (f : Field). is_plain (string_bytes f.name) ≡ true) fs
       → AllByRecursion (λ e. means (qualified (scope_of scope) e) ≡ Some nameds.Entry) (map made (entries all fs)) → AllByRecursion (HasEntryName means scope) fs
   entries_named means scope =
       each_entry all

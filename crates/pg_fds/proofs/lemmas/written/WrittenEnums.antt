@@ -8,7 +8,7 @@ use Rattle.pg_dyn.specs.message.Message.{Message}
 use Rattle.pg_fds.specs.writing.Fields.{dotted}
 use Rattle.pg_fds.specs.writing.Items.{Items, stated}
 use Rattle.pg_fds.specs.writing.Messages.{enum_items, enum_options, own_name, value_items, value_range}
-use Rattle.pg_fds.specs.stated.Said.{children_at, maybe_flag_at, options_at, text_at}
+use Rattle.pg_fds.specs.stated.SetMessages.{children_at, maybe_flag_at, options_at, text_at}
 use Rattle.pg_fds.specs.stated.StatedEnums.{enum_type, range, value}
 use Rattle.pg_fds.specs.stated.Views.{EnumView, ValueView, enum_view, value_view}
 use Rattle.pg_fds.proofs.lemmas.written.Slots.{Slot, children_said, children_slot, made, number_said, options_said, options_slot, says, stated_said, stated_slot, text_said, text_slot, texts_said, texts_slot, whole_slot}

@@ -12,8 +12,8 @@ use Rattle.pg_fds.specs.writing.Entries.{entry_field}
 use Rattle.pg_fds.specs.writing.Fields.{element_code, element_name, field_items, field_options, label, named_type, oneof_place, type_code}
 use Rattle.pg_fds.specs.writing.Items.{Items, child, children, flag, text}
 use Rattle.pg_fds.specs.writing.Places.{Declared}
-use Rattle.pg_fds.specs.stated.Said.{child_of, children_at, flag_at, flag_of, item_at, items_at, maybe_flag_at, maybe_number_at, maybe_text_at, number_at, options_at, text_at}
-use Rattle.pg_fds.specs.stated.SaidTypes.{is_entry, json_name_at, label_at}
+use Rattle.pg_fds.specs.stated.SetMessages.{child_of, children_at, flag_at, flag_of, item_at, items_at, maybe_flag_at, maybe_number_at, maybe_text_at, number_at, options_at, text_at}
+use Rattle.pg_fds.specs.stated.TypeMessages.{is_entry, json_name_at, label_at}
 use Rattle.pg_fds.proofs.lemmas.written.Slots.{Slot, child_slot, children_said, children_slot, count_slot, made, mark_said, mark_slot, maybe_count_slot, maybe_number_said, maybe_text_said, maybe_text_slot, number_said, options_said, options_slot, says, stated_said, stated_slot, text_said, text_slot}
 
 -- ---- fields

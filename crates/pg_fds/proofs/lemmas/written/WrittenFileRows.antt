@@ -14,10 +14,10 @@ use Rattle.pg_dyn.specs.message.Message.{Message}
 use Rattle.pg_check.specs.standing.InOrder.{enums_below, types_below}
 use Rattle.pg_check.specs.standing.Nesting.{nest_within}
 use Rattle.pg_check.specs.standing.Places.{places_from}
-use Rattle.pg_fds.specs.reading.OutlinedPlaces.{Counts, PlacedFile, behind_file, file_places, inside_file, placed_files, placed_types, types_of_files}
+use Rattle.pg_fds.specs.stated.Numbering.{Counts, PlacedFile, behind_file, file_places, inside_file, placed_files, placed_types, types_of_files}
 use Rattle.pg_fds.specs.stated.Outlines.{Row, enum_rows, file_enums, file_services, file_types, row_in, rows_in}
 use Rattle.pg_fds.specs.writing.Places.{Declared, declared_in}
-use Rattle.pg_fds.specs.stated.Said.{children_at}
+use Rattle.pg_fds.specs.stated.SetMessages.{children_at}
 use Rattle.pg_fds.specs.stated.SetNames.{file_scope}
 use Rattle.pg_fds.proofs.lemmas.rows.RowPlaces.{AreAt, AreFrom, as_long, at_both, front_and_rest}
 use Rattle.pg_fds.proofs.lemmas.written.QualifiedNames.{scope_of}

@@ -14,13 +14,13 @@ use Rattle.pg_schema.specs.rules.Scopes.{enum_places, service_places, type_place
 use Rattle.pg_schema.proofs.lemmas.rules.PairLemmas.{and_left, and_right}
 use Rattle.pg_dyn.specs.message.Message.{Item, Message, Part}
 use Rattle.pg_fds.specs.writing.Items.{item}
-use Rattle.pg_fds.specs.reading.MadeImports.{import_of}
+use Rattle.pg_fds.specs.inner.reading.MadeImports.{import_of}
 use Rattle.pg_fds.specs.writing.Messages.{enums_items, types_items, where_found}
-use Rattle.pg_fds.specs.reading.OutlinedPlaces.{PlacedFile}
+use Rattle.pg_fds.specs.stated.Numbering.{PlacedFile}
 use Rattle.pg_fds.specs.writing.Places.{Declared}
-use Rattle.pg_fds.specs.stated.Said.{children_at, numbers_at, options_at, text_at, texts_at}
-use Rattle.pg_fds.specs.stated.SaidFiles.{is_place, is_proto3, kept_imports, option_places}
-use Rattle.pg_fds.specs.stated.SaidTypes.{is_marked}
+use Rattle.pg_fds.specs.stated.SetMessages.{children_at, numbers_at, options_at, text_at, texts_at}
+use Rattle.pg_fds.specs.stated.FileMessages.{is_place, is_proto3, kept_imports, option_places}
+use Rattle.pg_fds.specs.stated.TypeMessages.{is_marked}
 use Rattle.pg_fds.specs.writing.Set.{file_items, file_options, option_items, public_places, services_items}
 use Rattle.pg_fds.specs.stated.SetNames.{file_scope, package_scope}
 use Rattle.pg_fds.specs.stated.StatedFiles as files

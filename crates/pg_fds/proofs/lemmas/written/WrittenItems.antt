@@ -15,7 +15,8 @@ use Rattle.pg_schema.specs.declared.parts.field.Presence.TheVariants as presence
 use Rattle.pg_schema.specs.declared.parts.field.Scalar.{Scalar}
 use Rattle.pg_schema.specs.declared.parts.field.Scalar.TheVariants as kinds
 use Rattle.pg_schema.specs.rules.DeclaredNames.{entry_name, within}
-use Rattle.pg_schema.specs.rules.Fields.{has_presence, is_known, is_message, is_packed, stated_or, is_key}
+use Rattle.pg_schema.specs.rules.Fields.{has_presence, is_known, is_message, is_packed, stated_or}
+use Rattle.pg_schema.specs.rules.Fields.{is_key}
 use Rattle.pg_schema.specs.Shape.{is_map, is_packable}
 use Rattle.pg_schema.proofs.lemmas.rules.PairLemmas.{and_both, and_left}
 use Rattle.pg_dyn.specs.message.Message.{Item, Message}
@@ -23,13 +24,13 @@ use Rattle.pg_fds.specs.declared.reading.outline.Named.{Named}
 use Rattle.pg_fds.specs.declared.reading.outline.Named.TheVariants as nameds
 use Rattle.pg_fds.specs.writing.Fields.{dotted, element_code, element_name, label, named_type, scalar_code, type_code}
 use Rattle.pg_fds.specs.writing.Places.{Declared}
-use Rattle.pg_fds.specs.stated.Said.{children_at, item_at, items_at, maybe_text_at, natural, number_at, text_at, text_of}
-use Rattle.pg_fds.specs.stated.SaidTypes.{is_optional}
+use Rattle.pg_fds.specs.stated.SetMessages.{children_at, item_at, items_at, maybe_text_at, natural, number_at, text_at, text_of}
+use Rattle.pg_fds.specs.stated.TypeMessages.{is_optional}
 use Rattle.pg_fds.specs.stated.SetNames.{name_in}
 use Rattle.pg_fds.specs.stated.StatedEntries as entries
 use Rattle.pg_fds.specs.stated.StatedFields as stated
 use Rattle.pg_fds.specs.stated.StatedFields.{Owner}
-use Rattle.pg_fds.specs.stated.StatedNames.{Meanings, both, element_of_named, is_entry_type, meant, only_if}
+use Rattle.pg_fds.specs.stated.StatedNames.{NameLookup, both, element_of_named, is_entry_type, meant, only_if}
 use Rattle.pg_fds.specs.stated.StatedOneofs.{oneof}
 use Rattle.pg_fds.specs.stated.Views.{field_view}
 use Rattle.pg_fds.proofs.lemmas.lists.ViewLaws.{same_field}
@@ -74,11 +75,11 @@ missing_item : (o : Option Item) → option_map text_of o ≡ None → is_some o
 missing_item None none = refl
 missing_item (Some i) none = absurd (none-some (text_of i) (sym none))
 
-has_item : (means : Meanings) (o : Option Item) (n : Named) → meant means (option_map text_of o) ≡ Some n → is_some o ≡ true
+has_item : (means : NameLookup) (o : Option Item) (n : Named) → meant means (option_map text_of o) ≡ Some n → is_some o ≡ true
 has_item means None n named = absurd (none-some n named)
 has_item means (Some i) n named = refl
 
-module _ (all : Declared) (means : Meanings) (has : HasNames all means) where
+module _ (all : Declared) (means : NameLookup) (has : HasNames all means) where
   named_is : (m : Message) (e : Element) (n : Named) → meant means (maybe_text_at 6 m) ≡ Some n → element_of_named n ≡ Some e → entries.of_code (number_at 5 m) e ≡ Some e → entries.element means m ≡ Some e
   named_is m e n named is code =
       ap (λ b. cond b (entries.named_element means m) (option_map elements.Scalar (entries.scalar_of (number_at 5 m)))) (has_item means (item_at 6 m) n named)
@@ -171,7 +172,7 @@ natural_is n z is small = ap natural is ∙ ap (λ b. cond b n 0) (lower n (2 ^ 
     lower a b h = grind (arith, nat_tests)
 
 -- the qualified name of the field's entry type means one, where the field, of a message type of that full name, is a map
-abbrev pub HasEntryName : Meanings → (scope : List ℕ) → Field → Type 0
+abbrev pub HasEntryName : NameLookup → (scope : List ℕ) → Field → Type 0
 HasEntryName means scope f = is_map f.presence ≡ true → means (dotted (within scope (entry_name (string_bytes f.name)))) ≡ Some nameds.Entry
 
 -- a map field has its entry type under its name
@@ -190,7 +191,7 @@ plain_name all scope f presences.Explicit plain = refl
 plain_name all scope f (presences.Repeated packed) plain = refl
 plain_name all scope f (presences.Map key) plain = absurd (false≢true (sym plain))
 
-module _ (all : Declared) (means : Meanings) (has : HasNames all means) (scope : List ℕ) (o : Owner) (full : o.full ≡ scope_of scope) (next : ℕ) (f : Field) (keeps : Keeps (length all.types) (length all.enums) f) where
+module _ (all : Declared) (means : NameLookup) (has : HasNames all means) (scope : List ℕ) (o : Owner) (full : o.full ≡ scope_of scope) (next : ℕ) (f : Field) (keeps : Keeps (length all.types) (length all.enums) f) where
   abbrev m : Message
   m = written all scope next f
 

@@ -17,9 +17,9 @@ use Rattle.pg_check.specs.standing.Places.{places_from}
 use Rattle.pg_fds.specs.writing.Fields.{field_items, fields_items}
 use Rattle.pg_fds.specs.writing.Messages.{oneof_items}
 use Rattle.pg_fds.specs.writing.Places.{Declared}
-use Rattle.pg_fds.specs.stated.Said.{maybe_number_at, text_at}
-use Rattle.pg_fds.specs.stated.SaidFiles.{is_place}
-use Rattle.pg_fds.specs.stated.SaidTypes.{is_marked, is_named, is_optional, members_at, real_oneofs, synthetic_places}
+use Rattle.pg_fds.specs.stated.SetMessages.{maybe_number_at, text_at}
+use Rattle.pg_fds.specs.stated.FileMessages.{is_place}
+use Rattle.pg_fds.specs.stated.TypeMessages.{is_marked, is_named, is_optional, members_at, real_oneofs, synthetic_places}
 use Rattle.pg_fds.specs.stated.StatedNames.{only_if}
 use Rattle.pg_fds.specs.stated.StatedOneofs.{has_mark, members_in, oneof, own_oneof, real_oneof, small, synthetic_in, unmarked}
 use Rattle.pg_fds.specs.writing.Synthetic.{synthetic_name, synthetic_names, synthetic_oneofs}

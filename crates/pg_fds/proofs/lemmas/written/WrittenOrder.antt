@@ -14,8 +14,9 @@ use Rattle.pg_dyn.specs.message.Message.{Message}
 use Rattle.pg_check.specs.standing.Imports.{AreBehind, file_name, imports_among, imports_apart}
 use Rattle.pg_fds.specs.writing.Places.{Declared}
 use Rattle.pg_link.specs.walk.PostOrder.{Visits, all_visited, listed_last, passed_over}
-use Rattle.pg_fds.specs.stated.PostOrder.{Importer, IsPostOrder, importer_of, imports_at, imports_once, kept_paths, paths_of}
-use Rattle.pg_fds.specs.stated.Said.{texts_at}
+use Rattle.pg_fds.specs.stated.PostOrder.{Importer, importer_of, imports_at, imports_once, kept_paths, paths_of}
+use Rattle.pg_fds.specs.inner.reading.FilePlaces.{IsPostOrder}
+use Rattle.pg_fds.specs.stated.SetMessages.{texts_at}
 use Rattle.pg_fds.specs.stated.StatedOrder.{in_post_order}
 use Rattle.pg_fds.proofs.lemmas.order.StatedOrder.{IsFile, file_named, files_ordered, name}
 use Rattle.pg_fds.proofs.lemmas.order.Visited.{imports_found}

@@ -10,13 +10,13 @@ use Rattle.pg_dyn.specs.message.Message.{Message}
 use Rattle.pg_check.specs.standing.InOrder.{StandInOrder}
 use Rattle.pg_check.specs.standing.Nesting.{nest_within}
 use Rattle.pg_check.specs.standing.Places.{most_deep}
-use Rattle.pg_fds.specs.reading.OutlinedPlaces.{no_counts, placed_files, types_of_files}
+use Rattle.pg_fds.specs.stated.Numbering.{no_counts, placed_files, types_of_files}
 use Rattle.pg_fds.specs.stated.Outlines.{Row, file_enums, file_services, file_types}
 use Rattle.pg_fds.specs.writing.Places.{Declared, declared_in}
 use Rattle.pg_fds.specs.stated.Stated.{declared_by, parts_by, parts_of}
 use Rattle.pg_fds.specs.stated.StatedEnums.{enum_type}
 use Rattle.pg_fds.specs.stated.StatedFiles.{file}
-use Rattle.pg_fds.specs.stated.StatedNames.{Meanings, each, only_if}
+use Rattle.pg_fds.specs.stated.StatedNames.{NameLookup, each, only_if}
 use Rattle.pg_fds.specs.stated.StatedServices.{service}
 use Rattle.pg_fds.specs.stated.StatedTable.{meaning}
 use Rattle.pg_fds.specs.stated.StatedTypes.{message_type}
@@ -85,7 +85,7 @@ module _ (parts : Parts) (sound : IsSound parts) (stand : StandInOrder parts) (s
 
   -- ---- what is made of them
 
-  abbrev means : Meanings
+  abbrev means : NameLookup
   means = meaning type_rows enum_rows
 
   meant : AreMeant means type_rows enum_rows

@@ -21,11 +21,11 @@ use Rattle.pg_check.specs.standing.Places.{places_from}
 use Rattle.pg_fds.specs.writing.Fields.{dotted}
 use Rattle.pg_fds.specs.writing.Items.{Items}
 use Rattle.pg_fds.specs.writing.Messages.{enum_items, enums_items, own_name, type_items, types_items, where_found}
-use Rattle.pg_fds.specs.reading.OutlinedPlaces.{Counts, PlacedType, behind_type, inside_type, placed_types, placed_with, places_of_types}
+use Rattle.pg_fds.specs.stated.Numbering.{Counts, PlacedType, behind_type, inside_type, placed_types, placed_with, places_of_types}
 use Rattle.pg_fds.specs.stated.Outlines.{Row, enum_rows, row_in, rows_in, rows_of_enums, rows_of_type, type_rows}
 use Rattle.pg_fds.specs.writing.Places.{Declared, declared_in}
-use Rattle.pg_fds.specs.stated.Said.{children_at, text_at}
-use Rattle.pg_fds.specs.stated.SaidTypes.{is_no_entry}
+use Rattle.pg_fds.specs.stated.SetMessages.{children_at, text_at}
+use Rattle.pg_fds.specs.stated.TypeMessages.{is_no_entry}
 use Rattle.pg_fds.specs.writing.Set.{service_items, services_items}
 use Rattle.pg_fds.specs.stated.SetNames.{name_in, qualified}
 use Rattle.pg_fds.proofs.lemmas.rows.RowPlaces.{AreAt, AreFrom, as_long, at_both, at_one, first_and_later, front_and_rest, test_at}

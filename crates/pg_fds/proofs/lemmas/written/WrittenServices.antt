@@ -19,9 +19,9 @@ use Rattle.pg_fds.specs.writing.Fields.{dotted}
 use Rattle.pg_fds.specs.writing.Items.{item, stated}
 use Rattle.pg_fds.specs.writing.Messages.{own_name}
 use Rattle.pg_fds.specs.writing.Places.{Declared}
-use Rattle.pg_fds.specs.stated.Said.{children_at, maybe_flag_at, maybe_text_at, text_at}
+use Rattle.pg_fds.specs.stated.SetMessages.{children_at, maybe_flag_at, maybe_text_at, text_at}
 use Rattle.pg_fds.specs.writing.Set.{called_type, method_items, service_items}
-use Rattle.pg_fds.specs.stated.StatedNames.{Meanings, each, meant, type_meant, type_of_named}
+use Rattle.pg_fds.specs.stated.StatedNames.{NameLookup, each, meant, type_meant, type_of_named}
 use Rattle.pg_fds.specs.stated.StatedServices.{method, method_of, service, service_of}
 use Rattle.pg_fds.specs.stated.Views.{method_view, service_view}
 use Rattle.pg_fds.proofs.lemmas.lists.Each.{both_are, each_cons}
@@ -31,7 +31,7 @@ use Rattle.pg_fds.proofs.lemmas.lists.ViewLaws.{same_method, same_service}
 -- ---- what names mean
 
 -- the full name of each message type and enum, with a dot in front, means it, by its index
-pub record HasNames (all : Declared) (means : Meanings) : Type 0 where
+pub record HasNames (all : Declared) (means : NameLookup) : Type 0 where
   pub types : (id : TypeId) (name : List ℕ) → type_name all.types id ≡ Some name → means (dotted name) ≡ Some (nameds.Type id)
   pub enums : (id : EnumId) (name : List ℕ) → enum_name all.enums id ≡ Some name → means (dotted name) ≡ Some (nameds.Enum id)
 
@@ -43,7 +43,7 @@ within_list (x ∷ xs) (suc i) none h = within_list xs i none (one_less i (lengt
     one_less : (a b : ℕ) → nat_lt (suc a) (suc b) ≡ true → nat_lt a b ≡ true
     one_less a b h = grind (arith, nat_tests)
 
-module _ (all : Declared) (means : Meanings) (has : HasNames all means) where
+module _ (all : Declared) (means : NameLookup) (has : HasNames all means) where
   pub means_type : (t : TypeId) → nat_lt t.index (length all.types) ≡ true → meant means (option_map dotted (type_name all.types t)) ≡ Some (nameds.Type t)
   means_type t below = of (slice_get all.types t.index) refl
     where
@@ -84,7 +84,7 @@ service_called all s = text_said 1 (made (service_items all s)) (own_name (strin
 pub service_methods : (all : Declared) (s : Service) → children_at 2 (made (service_items all s)) ≡ map made (map (method_items all) s.methods.items)
 service_methods all s = children_said 2 (made (service_items all s)) (map (method_items all) s.methods.items) (says 2 (service_slots all s) refl)
 
-module _ (all : Declared) (means : Meanings) (has : HasNames all means) where
+module _ (all : Declared) (means : NameLookup) (has : HasNames all means) where
   type_is : (k : ℕ) (m : Message) (t : TypeId) → nat_lt t.index (length all.types) ≡ true → maybe_text_at k m ≡ option_map dotted (type_name all.types t) → type_meant means (maybe_text_at k m) ≡ Some t
   type_is k m t below told = ap (type_meant means) told ∙ ap (option_and_then type_of_named) (means_type all means has t below)
 

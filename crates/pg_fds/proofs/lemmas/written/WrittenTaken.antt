@@ -23,8 +23,8 @@ use Rattle.pg_fds.specs.writing.Fields.{element_code, fields_items, label, scala
 use Rattle.pg_fds.specs.writing.Items.{Items}
 use Rattle.pg_fds.specs.writing.Messages.{declared_fields, type_items, types_items, where_found}
 use Rattle.pg_fds.specs.writing.Places.{Declared}
-use Rattle.pg_fds.specs.stated.Said.{child_in, children_at, number_at}
-use Rattle.pg_fds.specs.stated.SaidTypes.{label_at}
+use Rattle.pg_fds.specs.stated.SetMessages.{child_in, children_at, number_at}
+use Rattle.pg_fds.specs.stated.TypeMessages.{label_at}
 use Rattle.pg_fds.proofs.lemmas.written.Slots.{made}
 use Rattle.pg_fds.proofs.lemmas.written.WrittenEntries.{each_entry, made_parted}
 use Rattle.pg_fds.proofs.lemmas.written.WrittenFields.{entry_fields, entry_types, entry_written, label_said, of_entry, part_label_said, part_type_said, type_said, written}

@@ -23,15 +23,15 @@ use Rattle.pg_fds.specs.writing.Entries.{entries}
 use Rattle.pg_fds.specs.writing.Fields.{dotted, fields_items}
 use Rattle.pg_fds.specs.writing.Items.{Items, stated}
 use Rattle.pg_fds.specs.writing.Messages.{declared_fields, enums_items, field_range, names_within, oneof_items, oneof_names, own_type_name, type_items, types_items, where_found}
-use Rattle.pg_fds.specs.reading.OutlinedPlaces.{PlacedType}
+use Rattle.pg_fds.specs.stated.Numbering.{PlacedType}
 use Rattle.pg_fds.specs.stated.Outlines.{Row}
 use Rattle.pg_fds.specs.writing.Places.{Declared}
-use Rattle.pg_fds.specs.stated.Said.{children_at, flag_at, flag_of, maybe_flag_at, number_at, options_at, text_at, texts_at}
-use Rattle.pg_fds.specs.stated.SaidTypes.{is_entry, is_no_entry, real_oneofs, synthetic_places}
+use Rattle.pg_fds.specs.stated.SetMessages.{children_at, flag_at, flag_of, maybe_flag_at, number_at, options_at, text_at, texts_at}
+use Rattle.pg_fds.specs.stated.TypeMessages.{is_entry, is_no_entry, real_oneofs, synthetic_places}
 use Rattle.pg_fds.specs.stated.SetNames.{qualified}
 use Rattle.pg_fds.specs.stated.StatedFields as fields
 use Rattle.pg_fds.specs.stated.StatedFields.{Owner}
-use Rattle.pg_fds.specs.stated.StatedNames.{Meanings, each}
+use Rattle.pg_fds.specs.stated.StatedNames.{NameLookup, each}
 use Rattle.pg_fds.specs.stated.StatedOneofs.{members_in, synthetic_in}
 use Rattle.pg_fds.specs.stated.StatedTypes as set_types
 use Rattle.pg_fds.specs.stated.Views.{field_view, type_view}
@@ -183,7 +183,7 @@ room : (b : Bool) (f : Field) (gs : List Field) (next most : ℕ) → next + len
 room true f gs next most h is = omega (arith, h)
 room false f gs next most h is = absurd (false≢true is)
 
-module _ (all : Declared) (means : Meanings) (has : HasNames all means) (name : List ℕ) (is_name : scope_of name ≡ dotted name) (n : ℕ) (fs : List Field) (own : List Message)
+module _ (all : Declared) (means : NameLookup) (has : HasNames all means) (name : List ℕ) (is_name : scope_of name ≡ dotted name) (n : ℕ) (fs : List Field) (own : List Message)
     (within : AllByRecursion (λ (f : Field). is_oneof n f.oneof ≡ true) fs) where
   abbrev messages : List Message
   messages = map made (fields_items all name n fs)
@@ -218,14 +218,14 @@ abbrev pub placed_row : Declared → MessageType → PlacedType
 placed_row all t = record { named = type_row all t; types = type_places t.nested_types.items; enums = enum_places t.nested_enums.items }
 
 -- the qualified names of its map fields' entry types mean these
-abbrev pub EntriesMean : Meanings → Declared → MessageType → Type 0
+abbrev pub EntriesMean : NameLookup → Declared → MessageType → Type 0
 EntriesMean means all t = AllByRecursion (λ e. means (qualified (dotted (string_bytes t.name)) e) ≡ Some nameds.Entry) (map made (entries all (declared_fields t)))
 
 are_called : (types enums : ℕ) (fs : List Field) → AllByRecursion (Keeps types enums) fs → AllByRecursion (λ (f : Field). is_plain (string_bytes f.name) ≡ true) fs
 are_called types enums [] keep = tt
 are_called types enums (f ∷ fs) keep = (keep.0.called, are_called types enums fs keep.1)
 
-module _ (all : Declared) (means : Meanings) (has : HasNames all means) (t : MessageType) (rules : is_message_type (length all.types) (length all.enums) t ≡ true)
+module _ (all : Declared) (means : NameLookup) (has : HasNames all means) (t : MessageType) (rules : is_message_type (length all.types) (length all.enums) t ≡ true)
     (is_name : scope_of (string_bytes t.name) ≡ dotted (string_bytes t.name)) (once : are_distinct (entry_names (declared_fields t)) ≡ true) (mean : EntriesMean means all t) where
   abbrev name : List ℕ
   name = string_bytes t.name

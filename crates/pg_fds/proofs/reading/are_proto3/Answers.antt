@@ -1,5 +1,5 @@
 use Rattle.std.proofs.Common.{sym, ◌∙◌}
-use Rattle.pg_fds.specs.stated.SaidFiles.{is_proto3}
+use Rattle.pg_fds.specs.stated.FileMessages.{is_proto3}
 use Rattle.pg_fds.proofs.lemmas.order.SetLaws.{all_lost}
 use Rattle.pg_fds.proofs.reading.are_proto3.Goals as goal
 

@@ -9,9 +9,9 @@ use Rattle.pg_fds.proofs.reading.bytes_parts.Goals as goal
 pub returns : goal.returns
 returns c =
     let bytes = c.args.bytes.now in
-    let set = message_of c.new-said.result in
+    let set = message_of c.new-message.result in
     let is : dec written_shape file_set bytes ≡ Some set =
-    subst (λ m. dec written_shape file_set bytes ≡ Some (message_of m)) (sym c.new-said.ensures) c.in_ok-set.ensures.message in
+    subst (λ m. dec written_shape file_set bytes ≡ Some (message_of m)) (sym c.new-message.ensures) c.in_ok-set.ensures.message in
     record {
       ok = bytes_stated bytes set is c.set_parts.result c.set_parts.ensures.ok;
       level = always c.set_parts.result c.in_ok-set.ensures.level;

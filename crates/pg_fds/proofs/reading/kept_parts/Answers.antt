@@ -1,6 +1,6 @@
 use Rattle.std.proofs.Common.{◌≡◌, Some, map, ap, sym, ◌∙◌}
 use Rattle.pg_dyn.specs.message.Kept.{message_of}
-use Rattle.pg_fds.specs.stated.Outlines.{files_at}
+use Rattle.pg_fds.specs.inner.reading.OutlinedRows.{files_at}
 use Rattle.pg_fds.specs.stated.StatedOrder.{in_post_order}
 use Rattle.pg_fds.proofs.lemmas.reading.ReadLaws.{none_in_order, none_ordered, parts_refused, stated_ordered}
 use Rattle.pg_fds.proofs.reading.kept_parts.Goals as goal

@@ -2,7 +2,7 @@ use Rattle.std.proofs.Common.{◌≡◌, ◌⊎◌, None, Some, inl, inr, map, �
 use Rattle.std.proofs.lemmas.Result.{IfErr-weaker, IfOk-weaker, err_from_is_err_and}
 use Rattle.pg_dyn.specs.message.Kept.{message_of}
 use Rattle.pg_fds.specs.declared.error.Unstated.TheVariants as unstated
-use Rattle.pg_fds.specs.stated.Outlines.{files_at}
+use Rattle.pg_fds.specs.inner.reading.OutlinedRows.{files_at}
 use Rattle.pg_fds.specs.stated.Stated.{declared_by}
 use Rattle.pg_fds.specs.stated.Views.{parts_view}
 use Rattle.pg_fds.proofs.lemmas.order.FilesInOrder.{lent_within}

@@ -1,11 +1,11 @@
 use Rattle.std.proofs.Common.{◌≡◌}
 use Rattle.std.proofs.lemmas.Result.{IfErr-weaker, IfOk-weaker}
 use Rattle.pg_schema.specs.declared.parts.Parts.{Parts}
-use Rattle.pg_fds.specs.again.Again.{IsReadable}
+use Rattle.pg_fds.specs.round_trip.Readable.{IsReadable}
 use Rattle.pg_fds.specs.stated.Reads.{fds_reads}
 use Rattle.pg_fds.specs.refusals.Refused.{MayRefuseSet, NoneIsStated}
 use Rattle.pg_fds.specs.stated.Views.{parts_view}
-use Rattle.pg_fds.proofs.lemmas.again.StatedSets.{reads_readable}
+use Rattle.pg_fds.proofs.lemmas.round_trip.StatedSets.{reads_readable}
 use Rattle.pg_fds.proofs.lemmas.refusals.NoneStated.{none_stated}
 use Rattle.pg_fds.proofs.lemmas.reading.ReadLaws.{read_once}
 use Rattle.pg_fds.proofs.reading.read.Goals as goal

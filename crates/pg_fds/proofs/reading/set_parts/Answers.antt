@@ -1,7 +1,7 @@
 use Rattle.std.proofs.Common.{◌≡◌, map, ap, filter, not, ◌∙◌}
 use Rattle.pg_dyn.specs.message.Kept.{message_of}
-use Rattle.pg_fds.specs.stated.Said.{children_at}
-use Rattle.pg_fds.specs.stated.SaidFiles.{is_skipped}
+use Rattle.pg_fds.specs.stated.SetMessages.{children_at}
+use Rattle.pg_fds.specs.stated.FileMessages.{is_skipped}
 use Rattle.pg_fds.proofs.lemmas.reading.ReadLaws.{set_refused, set_stated}
 use Rattle.pg_fds.proofs.reading.set_parts.Goals as goal
 

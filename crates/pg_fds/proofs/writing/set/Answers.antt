@@ -1,8 +1,8 @@
 use Rattle.std.proofs.Common.{ap, sym, subst, ◌∙◌}
 use Rattle.std.specs.List.{AllByRecursion}
 use Rattle.pg_schema.specs.declared.parts.Parts.{Parts}
-use Rattle.pg_fds.specs.writing.Small.{IsSmallType}
-use Rattle.pg_fds.specs.writing.Writable.{IsWritable}
+use Rattle.pg_fds.specs.inner.writing.Small.{IsSmallType}
+use Rattle.pg_fds.specs.inner.writing.Writable.{IsWritable}
 use Rattle.pg_fds.proofs.lemmas.writing.SmallLaws.{all_small, all_writable}
 use Rattle.pg_fds.proofs.writing.set.Goals as goal
 

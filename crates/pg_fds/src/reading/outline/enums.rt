@@ -4,10 +4,11 @@ ghost use Rattle.std.specs.Prelude.{◌≡◌, ◌+◌, ◌<◌, ◌≤◌, ◌^
 ghost use Rattle.pg_schema.specs.rules.Scopes.{enum_places};
 ghost use Rattle.pg_dyn.specs.message.Kept.{message_of};
 ghost use Rattle.pg_check.specs.standing.Places.{places_from};
-ghost use Rattle.pg_fds.specs.stated.Declarations.{Adds, CannotAdd, enum_declared, enums_declared};
-ghost use Rattle.pg_fds.specs.stated.Outlines.{StayFew, row, row_in, rows_in};
+ghost use Rattle.pg_fds.specs.inner.Declarations.{Adds, CannotAdd, enum_declared, enums_declared};
+ghost use Rattle.pg_fds.specs.inner.reading.OutlinedRows.{StayFew, row};
+ghost use Rattle.pg_fds.specs.stated.Outlines.{row_in, rows_in};
 
-use crate::descriptor::access::{Said, children};
+use crate::descriptor::access::{SetMessage, children};
 use crate::descriptor::proto;
 use crate::error::Unstated;
 use crate::reading::declare::{declare_each, declare_named};
@@ -22,7 +23,7 @@ fn outline_enum<'b, 'a>(
     names: &mut NameTable,
     enums: &mut Vec<Outlined<'b, 'a>>,
     scope: &str,
-    message: &Said<'b, 'a>,
+    message: &SetMessage<'b, 'a>,
 ) -> Result<EnumId, Unstated>
     ensures placed { IfOk result (λ id. id.index ≡ length enums.old.items) }
     ensures rows { OnOk result (map row enums.new.items ≡ map row enums.old.items
@@ -41,7 +42,7 @@ fn outline_enum<'b, 'a>(
     let values = children(alloc, message, proto::ENUM_VALUE)?;
     declare_each(alloc, names, scope, values.as_slice(), Named::Other)?;
     enums.push(Outlined {
-        message: message.again(),
+        message: message.reborrow(),
         name,
     })?;
     Ok(id)
@@ -53,7 +54,7 @@ pub(crate) fn outline_enums<'b, 'a>(
     names: &mut NameTable,
     enums: &mut Vec<Outlined<'b, 'a>>,
     scope: &str,
-    messages: &[Said<'b, 'a>],
+    messages: &[SetMessage<'b, 'a>],
 ) -> Result<Vec<EnumId>, Unstated>
     ensures ids { IfOk result (λ ids. enum_places ids.items
         ≡ places_from (length enums.old.items) (length messages.now)) }

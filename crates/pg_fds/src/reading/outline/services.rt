@@ -4,10 +4,11 @@ ghost use Rattle.std.specs.Prelude.{◌≡◌, ◌+◌, ◌<◌, ◌≤◌, ◌^
 ghost use Rattle.pg_schema.specs.rules.Scopes.{service_places};
 ghost use Rattle.pg_dyn.specs.message.Kept.{message_of};
 ghost use Rattle.pg_check.specs.standing.Places.{places_from};
-ghost use Rattle.pg_fds.specs.stated.Declarations.{Adds, CannotAdd, service_declared, services_declared};
-ghost use Rattle.pg_fds.specs.stated.Outlines.{StayFew, row, row_in, rows_in};
+ghost use Rattle.pg_fds.specs.inner.Declarations.{Adds, CannotAdd, service_declared, services_declared};
+ghost use Rattle.pg_fds.specs.inner.reading.OutlinedRows.{StayFew, row};
+ghost use Rattle.pg_fds.specs.stated.Outlines.{row_in, rows_in};
 
-use crate::descriptor::access::{Said, children};
+use crate::descriptor::access::{SetMessage, children};
 use crate::descriptor::proto;
 use crate::error::Unstated;
 use crate::reading::declare::{declare_each, declare_named};
@@ -22,7 +23,7 @@ fn outline_service<'b, 'a>(
     names: &mut NameTable,
     services: &mut Vec<Outlined<'b, 'a>>,
     scope: &str,
-    message: &Said<'b, 'a>,
+    message: &SetMessage<'b, 'a>,
 ) -> Result<ServiceId, Unstated>
     ensures placed { IfOk result (λ id. id.index ≡ length services.old.items) }
     ensures rows { OnOk result (map row services.new.items ≡ map row services.old.items
@@ -45,7 +46,7 @@ fn outline_service<'b, 'a>(
         Named::Other,
     )?;
     services.push(Outlined {
-        message: message.again(),
+        message: message.reborrow(),
         name,
     })?;
     Ok(id)
@@ -57,7 +58,7 @@ pub(crate) fn outline_services<'b, 'a>(
     names: &mut NameTable,
     services: &mut Vec<Outlined<'b, 'a>>,
     scope: &str,
-    messages: &[Said<'b, 'a>],
+    messages: &[SetMessage<'b, 'a>],
 ) -> Result<Vec<ServiceId>, Unstated>
     ensures ids { IfOk result (λ ids. service_places ids.items
         ≡ places_from (length services.old.items) (length messages.now)) }

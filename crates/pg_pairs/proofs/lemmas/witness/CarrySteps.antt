@@ -18,7 +18,8 @@ use Rattle.pg_dyn.specs.word.Coding.{form, zero_leaf}
 use Rattle.pg_dyn.specs.fitting.Belonging.{LeafFits, IsMessage}
 use Rattle.pg_dyn.specs.message.Message as model
 use Rattle.pg_dyn.specs.message.Kept.{Kept, ends, type_of, message_of}
-use Rattle.pg_dyn.specs.message.KeptParts.{KeptItem, Plain, Msg}
+use Rattle.pg_dyn.specs.message.KeptParts.{KeptItem}
+use Rattle.pg_dyn.specs.message.KeptParts.{Plain, Msg}
 use Rattle.pg_dyn.specs.reading.Content.{same_oneof, is_sibling}
 use Rattle.pg_dyn.specs.message.Replacing.{kept_part, kept_onto, kept_from, is_sibling_number, with_content}
 use Rattle.pg_dyn.specs.message.Seen.{leaf_of, item_seen, content_seen}
@@ -54,15 +55,14 @@ value_made number key listed (values.Text text) later = refl
 value_made number key listed (values.Bytes bytes) later = refl
 value_made number key listed (values.Msg child) later = refl
 
+items_made : (number : ℕ) (xs : List Value) (later : Kept) → message_of (kept_onto (map (λ value. record { number = number; key = None; item = item_seen true value }) xs) later) ≡ items_before number xs (message_of later)
+items_made number [] later = refl
+items_made number (value ∷ xs) later =
+    value_made number None true value (kept_onto (map (λ value. record { number = number; key = None; item = item_seen true value }) xs) later) ∙ ap (with_part number None (value_item value)) (items_made number xs later)
+
 content_made : (number : ℕ) (content : Content) (later : Kept) → message_of (kept_onto (content_seen number content) later) ≡ content_before number content (message_of later)
 content_made number (contents.One value) later = value_made number None false value later
-content_made number (contents.Many vs) later = items vs.items
-  where
-    items : (xs : List Value) → message_of (kept_onto (map (λ value. record { number = number; key = None; item = item_seen true value }) xs) later) ≡ items_before number xs (message_of later)
-    items [] = refl
-    items (value ∷ xs) =
-        value_made number None true value (kept_onto (map (λ value. record { number = number; key = None; item = item_seen true value }) xs) later)
-        ∙ ap (with_part number None (value_item value)) (items xs)
+content_made number (contents.Many vs) later = items_made number vs.items later
 content_made number (contents.Map es) later = entries es.items
   where
     entries : (xs : List (Value × Value)) → message_of (kept_onto (map (λ (e : Value × Value). record { number = number; key = Some (leaf_of e.0); item = item_seen false e.1 }) xs) later) ≡ entries_before number xs (message_of later)

@@ -1,10 +1,10 @@
 use Rattle.std.proofs.Common.{Global, Vec, [], ◌∷◌, ◌++◌, ap, filter_map, map, sym, ◌∙◌}
 use Rattle.std.proofs.lemmas.List.{append-nil, map-append}
 use Rattle.pg_dyn.specs.message.Kept.{Kept, message_of}
-use Rattle.pg_fds.specs.reading.Held.{items_in}
-use Rattle.pg_fds.specs.reading.SaidItems.{said}
-use Rattle.pg_fds.specs.stated.Said.{child_in}
-use Rattle.pg_fds.proofs.lemmas.descriptor.SaidLaws.{all_items, children_more, no_child, no_items}
+use Rattle.pg_fds.specs.inner.reading.Held.{items_in}
+use Rattle.pg_fds.specs.inner.reading.SetItems.{said}
+use Rattle.pg_fds.specs.stated.SetMessages.{child_in}
+use Rattle.pg_fds.proofs.lemmas.descriptor.MessageLaws.{all_items, children_more, no_child, no_items}
 use Rattle.pg_fds.proofs.descriptor.access.children.Goals as goal
 use Rattle.pg_fds.proofs.descriptor.access.children.Goals.{in-Message+in_ok-push, in_default-item_of}
 

@@ -1,6 +1,6 @@
 use Rattle.std.proofs.Common.{List, ap, slice_get, sym, ◌∙◌}
 use Rattle.pg_dyn.specs.message.Message.{Item}
-use Rattle.pg_fds.proofs.lemmas.descriptor.SaidLaws.{content_items, no_item}
+use Rattle.pg_fds.proofs.lemmas.descriptor.MessageLaws.{content_items, no_item}
 use Rattle.pg_fds.proofs.descriptor.access.item.Goals as goal
 
 pub returns-in-None : goal.returns-in-None

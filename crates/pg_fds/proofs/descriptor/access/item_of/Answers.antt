@@ -2,9 +2,9 @@ use Rattle.std.proofs.Common.{◌≡◌, SFits, Some, ap, rules, slice_get, subs
 use Rattle.std.proofs.lemmas.Int.{to_z-of_z}
 use Rattle.std.specs.Int.{w32}
 use Rattle.pg_dyn.specs.message.Message.{Int, Plain}
-use Rattle.pg_fds.specs.reading.Held.{items_in, values_in}
-use Rattle.pg_fds.specs.reading.SaidItems.{said}
-use Rattle.pg_fds.proofs.lemmas.descriptor.SaidLaws.{entry_there, item_there, many_there, said_there}
+use Rattle.pg_fds.specs.inner.reading.Held.{items_in, values_in}
+use Rattle.pg_fds.specs.inner.reading.SetItems.{said}
+use Rattle.pg_fds.proofs.lemmas.descriptor.MessageLaws.{entry_there, item_there, many_there, said_there}
 use Rattle.pg_fds.proofs.descriptor.access.item_of.Goals as goal
 
 pub lent_item-requires-in-Map : goal.lent_item-requires-in-Map

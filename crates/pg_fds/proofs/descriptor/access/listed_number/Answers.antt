@@ -3,7 +3,7 @@ use Rattle.std.proofs.lemmas.Int.{to_z-of_z}
 use Rattle.std.specs.Int.{w32}
 use Rattle.pg_dyn.specs.message.Message.{Int, Plain}
 use Rattle.pg_dyn.specs.word.NumberLists.{numbers_in}
-use Rattle.pg_fds.proofs.lemmas.descriptor.SaidLaws.{item_there, said_there}
+use Rattle.pg_fds.proofs.lemmas.descriptor.MessageLaws.{item_there, said_there}
 use Rattle.pg_fds.proofs.descriptor.access.listed_number.Goals as goal
 
 pub number_of_value-requires-clause-said : goal.number_of_value-requires-clause-said

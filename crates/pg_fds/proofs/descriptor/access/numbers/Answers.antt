@@ -1,10 +1,10 @@
 use Rattle.std.proofs.Common.{SFits, [], ◌∷◌, ◌++◌, ap, map, rules, sym, ◌∙◌}
 use Rattle.std.proofs.lemmas.Int.{to_z-of_z}
 use Rattle.std.specs.Int.{w128}
-use Rattle.pg_fds.specs.reading.Held.{items_in}
-use Rattle.pg_fds.specs.reading.SaidItems.{said}
-use Rattle.pg_fds.specs.stated.Said.{number_of}
-use Rattle.pg_fds.proofs.lemmas.descriptor.SaidLaws.{all_items, no_items, one_more}
+use Rattle.pg_fds.specs.inner.reading.Held.{items_in}
+use Rattle.pg_fds.specs.inner.reading.SetItems.{said}
+use Rattle.pg_fds.specs.stated.SetMessages.{number_of}
+use Rattle.pg_fds.proofs.lemmas.descriptor.MessageLaws.{all_items, no_items, one_more}
 use Rattle.pg_fds.proofs.descriptor.access.numbers.Goals as goal
 
 pub returns-in_default : goal.returns-in_default

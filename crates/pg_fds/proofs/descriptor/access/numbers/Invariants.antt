@@ -1,6 +1,6 @@
 use Rattle.std.proofs.Common.{◌≡◌, map, take}
-use Rattle.pg_fds.specs.reading.Held.{items_in}
-use Rattle.pg_fds.specs.stated.Said.{number_of}
+use Rattle.pg_fds.specs.inner.reading.Held.{items_in}
+use Rattle.pg_fds.specs.stated.SetMessages.{number_of}
 use Rattle.pg_fds.proofs.descriptor.access.numbers.Given as goal
 
 abbrev pub invariant-loop-at : goal.invariant-loop-at

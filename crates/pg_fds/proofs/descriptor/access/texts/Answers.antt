@@ -1,10 +1,10 @@
 use Rattle.std.proofs.Common.{Bor, List, ℕ, [], ◌∷◌, ◌++◌, ap, map, sym, ◌∙◌}
 use Rattle.std.proofs.lemmas.List.{map-append}
-use Rattle.pg_fds.specs.descriptor.Lent.{lent}
-use Rattle.pg_fds.specs.reading.Held.{items_in}
-use Rattle.pg_fds.specs.reading.SaidItems.{said}
-use Rattle.pg_fds.specs.stated.Said.{text_of}
-use Rattle.pg_fds.proofs.lemmas.descriptor.SaidLaws.{all_items, no_items, one_more}
+use Rattle.pg_fds.specs.inner.Lent.{lent}
+use Rattle.pg_fds.specs.inner.reading.Held.{items_in}
+use Rattle.pg_fds.specs.inner.reading.SetItems.{said}
+use Rattle.pg_fds.specs.stated.SetMessages.{text_of}
+use Rattle.pg_fds.proofs.lemmas.descriptor.MessageLaws.{all_items, no_items, one_more}
 use Rattle.pg_fds.proofs.descriptor.access.texts.Goals as goal
 
 pub returns-in_default : goal.returns-in_default

@@ -1,7 +1,7 @@
 use Rattle.std.proofs.Common.{◌≡◌, map, take}
-use Rattle.pg_fds.specs.descriptor.Lent.{lent}
-use Rattle.pg_fds.specs.reading.Held.{items_in}
-use Rattle.pg_fds.specs.stated.Said.{text_of}
+use Rattle.pg_fds.specs.inner.Lent.{lent}
+use Rattle.pg_fds.specs.inner.reading.Held.{items_in}
+use Rattle.pg_fds.specs.stated.SetMessages.{text_of}
 use Rattle.pg_fds.proofs.descriptor.access.texts.Given as goal
 
 abbrev pub invariant-loop-at : goal.invariant-loop-at

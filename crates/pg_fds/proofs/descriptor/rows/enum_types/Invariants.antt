@@ -1,5 +1,5 @@
 use Rattle.std.proofs.Common.{◌≡◌, take, map}
-use Rattle.pg_fds.specs.descriptor.Rows.{enum_in}
+use Rattle.pg_fds.specs.inner.Rows.{enum_in}
 use Rattle.pg_fds.specs.stated.Views.{enum_view}
 use Rattle.pg_fds.proofs.descriptor.rows.enum_types.Given as goal
 

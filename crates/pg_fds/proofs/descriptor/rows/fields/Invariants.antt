@@ -1,5 +1,5 @@
 use Rattle.std.proofs.Common.{◌≡◌, take, map}
-use Rattle.pg_fds.specs.descriptor.Rows.{field_in}
+use Rattle.pg_fds.specs.inner.Rows.{field_in}
 use Rattle.pg_fds.specs.stated.Views.{field_view}
 use Rattle.pg_fds.proofs.descriptor.rows.fields.Given as goal
 

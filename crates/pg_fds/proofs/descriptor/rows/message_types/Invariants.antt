@@ -1,5 +1,5 @@
 use Rattle.std.proofs.Common.{◌≡◌, take, map}
-use Rattle.pg_fds.specs.descriptor.Rows.{type_in}
+use Rattle.pg_fds.specs.inner.Rows.{type_in}
 use Rattle.pg_fds.specs.stated.Views.{type_view}
 use Rattle.pg_fds.proofs.descriptor.rows.message_types.Given as goal
 

@@ -1,5 +1,5 @@
 use Rattle.std.proofs.Common.{◌≡◌, take, map}
-use Rattle.pg_fds.specs.descriptor.Rows.{value_in}
+use Rattle.pg_fds.specs.inner.Rows.{value_in}
 use Rattle.pg_fds.specs.stated.Views.{value_view}
 use Rattle.pg_fds.proofs.descriptor.rows.values.Given as goal
 

@@ -4,7 +4,7 @@ use Rattle.pg_schema.specs.declared.parts.field.Scalar.TheVariants.{Double}
 use Rattle.pg_dyn.specs.message.Kept.{message_of}
 use Rattle.pg_fds.specs.stated.Codes.{scalars}
 use Rattle.pg_fds.specs.writing.Fields.{scalar_code}
-use Rattle.pg_fds.specs.stated.Said.{number_at}
+use Rattle.pg_fds.specs.stated.SetMessages.{number_at}
 use Rattle.pg_fds.proofs.lemmas.reading.ElementLaws.{find_step}
 use Rattle.pg_fds.proofs.lemmas.writing.FileLaws.{same_default}
 use Rattle.pg_fds.proofs.reading.codes.scalar_of.Goals as goal

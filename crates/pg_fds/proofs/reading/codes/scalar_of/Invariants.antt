@@ -4,7 +4,7 @@ use Rattle.std.specs.Ordering.{int_eq}
 use Rattle.pg_dyn.specs.message.Kept.{message_of}
 use Rattle.pg_fds.specs.stated.Codes.{scalars}
 use Rattle.pg_fds.specs.writing.Fields.{scalar_code}
-use Rattle.pg_fds.specs.stated.Said.{number_at}
+use Rattle.pg_fds.specs.stated.SetMessages.{number_at}
 use Rattle.pg_fds.proofs.reading.codes.scalar_of.Given as goal
 
 abbrev pub invariant-loop-scalar : goal.invariant-loop-scalar

@@ -2,7 +2,7 @@ use Rattle.std.proofs.Common.{◌≡◌, Some, None, sym, ap, ◌∙◌}
 use Rattle.std.proofs.lemmas.Map.Text.{hash_map_updates_text}
 use Rattle.std.specs.HashMap.{get_by_text}
 use Rattle.std.specs.String.{string_bytes}
-use Rattle.pg_fds.specs.stated.Declarations.{is_package, may_be}
+use Rattle.pg_fds.specs.inner.Declarations.{is_package, may_be}
 use Rattle.pg_fds.proofs.lemmas.outline.Declaring.{adds_one, no_package_behind, one_fails}
 use Rattle.pg_fds.proofs.reading.declare.declare.Goals as goal
 

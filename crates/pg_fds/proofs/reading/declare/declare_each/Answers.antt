@@ -1,7 +1,7 @@
 use Rattle.std.proofs.Common.{◌∷◌, ◌+◌, [], ap, drop}
 use Rattle.std.proofs.lemmas.Result.{err_from_is_err_and}
 use Rattle.pg_dyn.specs.message.Kept.{message_of}
-use Rattle.pg_fds.specs.stated.Declarations.{all_named, named_in}
+use Rattle.pg_fds.specs.inner.Declarations.{all_named, named_in}
 use Rattle.pg_fds.proofs.lemmas.outline.Declaring.{left_all, left_fails, left_none, left_on, seen_drop, seen_past}
 use Rattle.pg_fds.proofs.lemmas.outline.NameLoops.{seen}
 use Rattle.pg_fds.proofs.reading.declare.declare_each.Goals as goal

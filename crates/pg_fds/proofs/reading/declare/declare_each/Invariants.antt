@@ -1,6 +1,6 @@
 use Rattle.std.proofs.Common.{drop, map}
 use Rattle.pg_dyn.specs.message.Kept.{message_of}
-use Rattle.pg_fds.specs.stated.Declarations.{all_named}
+use Rattle.pg_fds.specs.inner.Declarations.{all_named}
 use Rattle.pg_fds.proofs.lemmas.outline.Declaring.{Left}
 use Rattle.pg_fds.proofs.reading.declare.declare_each.Given as goal
 

@@ -3,7 +3,7 @@ use Rattle.std.proofs.lemmas.Result.{IfErr-weaker, on_ok_weaker}
 use Rattle.std.specs.Prelude.{false}
 use Rattle.std.specs.String.{string_bytes}
 use Rattle.pg_dyn.specs.message.Kept.{message_of}
-use Rattle.pg_fds.specs.stated.Declarations.{Adds, CannotAdd, is_package}
+use Rattle.pg_fds.specs.inner.Declarations.{Adds, CannotAdd, is_package}
 use Rattle.pg_fds.specs.stated.SetNames.{name_in, qualified}
 use Rattle.pg_fds.proofs.reading.declare.declare_own.Goals as goal
 

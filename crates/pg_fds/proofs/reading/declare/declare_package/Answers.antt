@@ -3,7 +3,8 @@ use Rattle.std.proofs.lemmas.Str.{encode_ascii}
 use Rattle.std.proofs.lemmas.Result.{IfErr-weaker, err_from_is_err_and, on_ok_weaker}
 use Rattle.std.proofs.Math.Utf8.{encode}
 use Rattle.std.specs.String.{string_bytes}
-use Rattle.pg_fds.specs.stated.Declarations.{Adds, CannotAdd, package_declared, package_part, package_parts}
+use Rattle.pg_fds.specs.inner.Declarations.{Adds, CannotAdd, package_declared, package_part}
+use Rattle.pg_fds.specs.stated.SetNames.{package_parts}
 use Rattle.pg_fds.proofs.lemmas.outline.Declaring.{Left, left_all, left_fails, left_none, left_on}
 use Rattle.pg_fds.proofs.lemmas.outline.Fronts.{dot_past, letter_past, parts_end, parts_from}
 use Rattle.pg_fds.proofs.reading.declare.declare_package.Goals as goal

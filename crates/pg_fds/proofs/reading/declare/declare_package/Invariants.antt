@@ -1,6 +1,6 @@
 use Rattle.std.proofs.Common.{◌∷◌, map}
 use Rattle.std.specs.String.{string_bytes}
-use Rattle.pg_fds.specs.stated.Declarations.{package_declared, package_part}
+use Rattle.pg_fds.specs.inner.Declarations.{package_declared, package_part}
 use Rattle.pg_fds.proofs.lemmas.outline.Declaring.{Left}
 use Rattle.pg_fds.proofs.lemmas.outline.Fronts.{parts_from}
 use Rattle.pg_fds.proofs.reading.declare.declare_package.Given as goal

@@ -2,7 +2,7 @@ use Rattle.std.proofs.Common.{Some, sym, ap, ◌∙◌}
 use Rattle.std.proofs.lemmas.Map.Text.{hash_map_updates_text}
 use Rattle.std.specs.String.{string_bytes}
 use Rattle.pg_fds.specs.declared.reading.outline.Named.TheVariants as nameds
-use Rattle.pg_fds.specs.stated.Declarations.{may_be}
+use Rattle.pg_fds.specs.inner.Declarations.{may_be}
 use Rattle.pg_fds.proofs.lemmas.outline.Declaring.{adds_one}
 use Rattle.pg_fds.proofs.reading.declare.declare_part.Goals as goal
 

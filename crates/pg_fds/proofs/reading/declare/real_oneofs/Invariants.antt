@@ -1,6 +1,6 @@
 use Rattle.std.proofs.Common.{◌≡◌, ◌++◌, map, drop}
 use Rattle.pg_dyn.specs.message.Kept.{message_of}
-use Rattle.pg_fds.specs.stated.SaidTypes.{real_oneofs}
+use Rattle.pg_fds.specs.stated.TypeMessages.{real_oneofs}
 use Rattle.pg_fds.proofs.reading.declare.real_oneofs.Given as goal
 
 abbrev pub invariant-loop-place : goal.invariant-loop-place

@@ -5,8 +5,8 @@ use Rattle.pg_dyn.specs.message.Kept.{message_of, type_of}
 use Rattle.pg_dyn.specs.message.KeptParts.{unknown_of}
 use Rattle.pg_dyn.specs.message.Message.{Item, Part, is_of}
 use Rattle.std.specs.Prelude.{filter}
-use Rattle.pg_fds.specs.stated.Said.{items_at}
-use Rattle.pg_fds.proofs.lemmas.descriptor.SaidLaws.{all_more, all_taken, no_parts}
+use Rattle.pg_fds.specs.stated.SetMessages.{items_at}
+use Rattle.pg_fds.proofs.lemmas.descriptor.MessageLaws.{all_more, all_taken, no_parts}
 use Rattle.pg_fds.proofs.reading.made_entries.is_empty.Goals as goal
 
 pub loop-content-preserved : goal.loop-content-preserved

@@ -2,7 +2,7 @@ use Rattle.std.proofs.Common.{[], ◌≡◌, take, ℕ}
 use Rattle.std.specs.List.{AllByRecursion}
 use Rattle.pg_dyn.specs.declared.message_ref.ContentRef.{ContentRef}
 use Rattle.pg_dyn.specs.message.Kept.{message_of}
-use Rattle.pg_fds.specs.stated.Said.{items_at}
+use Rattle.pg_fds.specs.stated.SetMessages.{items_at}
 use Rattle.pg_fds.proofs.reading.made_entries.is_empty.Given as goal
 
 abbrev pub invariant-loop-content : goal.invariant-loop-content

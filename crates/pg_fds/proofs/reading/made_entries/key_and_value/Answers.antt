@@ -1,5 +1,5 @@
 use Rattle.std.proofs.Common.{◌∙◌}
-use Rattle.pg_fds.specs.reading.Owners.{means_of}
+use Rattle.pg_fds.specs.inner.reading.Owners.{means_of}
 use Rattle.pg_fds.proofs.lemmas.reading.KeyAndValue.{too_few, too_many, two_are}
 use Rattle.pg_fds.proofs.reading.made_entries.key_and_value.Goals as goal
 

@@ -1,4 +1,4 @@
-use Rattle.pg_fds.proofs.lemmas.descriptor.SaidLaws.{filled_items, no_items}
+use Rattle.pg_fds.proofs.lemmas.descriptor.MessageLaws.{filled_items, no_items}
 use Rattle.pg_fds.proofs.reading.made_entries.lacks_all.Goals as goal
 
 pub returns-in-None : goal.returns-in-None

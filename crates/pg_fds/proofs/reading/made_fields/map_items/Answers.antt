@@ -2,8 +2,8 @@ use Rattle.std.proofs.Common.{◌≡◌, None, Some, true, ap, inr, option_map, 
 use Rattle.std.specs.Option.{option_copied}
 use Rattle.pg_schema.specs.rules.DeclaredNames.{entry_name}
 use Rattle.pg_dyn.specs.message.Kept.{message_of}
-use Rattle.pg_fds.specs.reading.Owners.{means_of, message_in, owner_of}
-use Rattle.pg_fds.specs.stated.Said.{text_at}
+use Rattle.pg_fds.specs.inner.reading.Owners.{means_of, message_in, owner_of}
+use Rattle.pg_fds.specs.stated.SetMessages.{text_at}
 use Rattle.pg_fds.specs.stated.StatedFields.{names_its_entry}
 use Rattle.pg_fds.proofs.lemmas.reading.FieldSteps.{map_there, no_entry_type, no_form}
 use Rattle.pg_fds.proofs.reading.made_fields.map_items.Goals as goal

@@ -5,7 +5,7 @@ use Rattle.std.specs.Ordering.{int_eq}
 use Rattle.pg_dyn.specs.message.Kept.{message_of}
 use Rattle.pg_fds.specs.stated.StatedFields.{packed_at, repeated, singular}
 use Rattle.pg_fds.specs.stated.StatedNames.{only_if}
-use Rattle.pg_fds.specs.stated.SaidTypes.{is_optional, label_at}
+use Rattle.pg_fds.specs.stated.TypeMessages.{is_optional, label_at}
 use Rattle.pg_fds.proofs.lemmas.written.PresenceLaws.{not_three}
 use Rattle.pg_fds.proofs.reading.made_fields.presence.Goals as goal
 

@@ -1,7 +1,7 @@
 use Rattle.std.proofs.Common.{◌≡◌, Some, ap, rules, sym, ◌∙◌}
 use Rattle.std.proofs.lemmas.List.Elements.{same_from_all_zip}
 use Rattle.std.proofs.lemmas.Result.{err_from_is_err_and}
-use Rattle.pg_fds.specs.reading.OutlinedPlaces.{placed_file}
+use Rattle.pg_fds.specs.inner.reading.OutlinedPlaces.{placed_file}
 use Rattle.pg_fds.specs.stated.StatedFiles.{file_of}
 use Rattle.pg_fds.specs.stated.StatedNames.{only_if}
 use Rattle.pg_fds.proofs.lemmas.reading.FileItems.{file_refused, imports_made}

@@ -1,7 +1,7 @@
 use Rattle.std.proofs.Common.{arith}
 use Rattle.std.proofs.lemmas.Result.{err_from_is_err_and}
 use Rattle.pg_dyn.specs.message.Kept.{message_of}
-use Rattle.pg_fds.specs.stated.Said.{numbers_at, texts_at}
+use Rattle.pg_fds.specs.stated.SetMessages.{numbers_at, texts_at}
 use Rattle.pg_fds.proofs.lemmas.reading.FileStateLaws.{places_asked}
 use Rattle.pg_fds.proofs.lemmas.reading.FileItems.{places_told}
 use Rattle.pg_fds.proofs.reading.made_files.imports.Goals as goal

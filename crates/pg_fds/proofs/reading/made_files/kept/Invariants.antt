@@ -1,7 +1,7 @@
 use Rattle.std.proofs.Common.{◌≡◌, ◌++◌, drop, map}
-use Rattle.pg_fds.specs.descriptor.Lent.{lent}
-use Rattle.pg_fds.specs.reading.MadeImports.{import_of}
-use Rattle.pg_fds.specs.stated.SaidFiles.{kept_imports}
+use Rattle.pg_fds.specs.inner.Lent.{lent}
+use Rattle.pg_fds.specs.inner.reading.MadeImports.{import_of}
+use Rattle.pg_fds.specs.stated.FileMessages.{kept_imports}
 use Rattle.pg_fds.proofs.reading.made_files.kept.Given as goal
 
 abbrev pub invariant-loop-place : goal.invariant-loop-place

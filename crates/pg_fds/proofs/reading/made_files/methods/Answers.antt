@@ -1,6 +1,6 @@
 use Rattle.std.proofs.lemmas.Result.{err_from_is_err_and}
 use Rattle.pg_dyn.specs.message.Kept.{message_of}
-use Rattle.pg_fds.specs.reading.Owners.{means_of}
+use Rattle.pg_fds.specs.inner.reading.Owners.{means_of}
 use Rattle.pg_fds.specs.stated.StatedServices.{method}
 use Rattle.pg_fds.specs.stated.Views.{method_view}
 use Rattle.pg_fds.proofs.lemmas.lists.Each.{made_more, made_none}

@@ -3,9 +3,9 @@ use Rattle.std.proofs.lemmas.Result.{IfOk-weaker}
 use Rattle.std.specs.Option.{unwrap_or}
 use Rattle.pg_dyn.specs.message.Kept.{message_of}
 use Rattle.pg_dyn.specs.message.Message.{ends}
-use Rattle.pg_fds.specs.stated.Said.{options_at}
+use Rattle.pg_fds.specs.stated.SetMessages.{options_at}
 use Rattle.pg_fds.specs.stated.StatedFiles.{options_under}
-use Rattle.pg_fds.specs.stated.SaidFiles.{option_places}
+use Rattle.pg_fds.specs.stated.FileMessages.{option_places}
 use Rattle.pg_fds.specs.stated.Views.{option_view}
 use Rattle.pg_fds.proofs.reading.made_files.options.Goals as goal
 

@@ -1,7 +1,7 @@
 use Rattle.std.proofs.Common.{Global, Vec, ap, get_or, map, option_map, sym, ◌∙◌}
 use Rattle.pg_schema.specs.declared.parts.options.FileOption.{FileOption}
 use Rattle.pg_dyn.specs.message.Kept.{message_of}
-use Rattle.pg_fds.specs.reading.SaidItems.{said}
+use Rattle.pg_fds.specs.inner.reading.SetItems.{said}
 use Rattle.pg_fds.specs.stated.Views.{option_view}
 use Rattle.pg_fds.proofs.lemmas.writing.FileLaws.{same_default}
 use Rattle.pg_fds.proofs.lemmas.reading.OptionItems.{found_more, none_more}

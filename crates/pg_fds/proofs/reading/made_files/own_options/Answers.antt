@@ -1,6 +1,6 @@
 use Rattle.std.proofs.Common.{ap, option_map, sym, ◌∙◌}
 use Rattle.pg_dyn.specs.message.Kept.{message_of}
-use Rattle.pg_fds.specs.reading.SaidItems.{said}
+use Rattle.pg_fds.specs.inner.reading.SetItems.{said}
 use Rattle.pg_fds.proofs.lemmas.reading.MadeOptions.{options_found, options_missing}
 use Rattle.pg_fds.proofs.reading.made_files.own_options.Goals as goal
 

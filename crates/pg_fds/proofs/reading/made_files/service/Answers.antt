@@ -1,9 +1,9 @@
 use Rattle.std.proofs.Common.{◌≡◌, Some, ap, map, option_map, refl, sym, ◌∙◌}
 use Rattle.std.proofs.lemmas.Result.{err_from_is_err_and}
 use Rattle.pg_dyn.specs.message.Kept.{message_of}
-use Rattle.pg_fds.specs.stated.Outlines.{row}
-use Rattle.pg_fds.specs.reading.Owners.{means_of}
-use Rattle.pg_fds.specs.stated.Said.{children_at}
+use Rattle.pg_fds.specs.inner.reading.OutlinedRows.{row}
+use Rattle.pg_fds.specs.inner.reading.Owners.{means_of}
+use Rattle.pg_fds.specs.stated.SetMessages.{children_at}
 use Rattle.pg_fds.specs.stated.StatedNames.{each, undotted}
 use Rattle.pg_fds.specs.stated.StatedServices.{method, service_of}
 use Rattle.pg_fds.proofs.lemmas.lists.Each.{passed}

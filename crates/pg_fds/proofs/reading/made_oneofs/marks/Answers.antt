@@ -1,5 +1,5 @@
 use Rattle.std.proofs.Common.{get_or, pos}
-use Rattle.pg_fds.specs.stated.SaidFiles.{is_place}
+use Rattle.pg_fds.specs.stated.FileMessages.{is_place}
 use Rattle.pg_fds.proofs.lemmas.writing.FileLaws.{same_default}
 use Rattle.pg_fds.proofs.lemmas.reading.OneofLaws.{is_one, marks_step}
 use Rattle.pg_fds.proofs.lemmas.order.SetLaws.{all_step}

@@ -1,7 +1,7 @@
 use Rattle.std.proofs.Common.{◌≡◌, true, take}
 use Rattle.std.specs.List.{list_all}
-use Rattle.pg_fds.specs.stated.SaidFiles.{is_place}
-use Rattle.pg_fds.specs.stated.SaidTypes.{AreMarked}
+use Rattle.pg_fds.specs.stated.FileMessages.{is_place}
+use Rattle.pg_fds.specs.inner.reading.Made.{AreMarked}
 use Rattle.pg_fds.proofs.reading.made_oneofs.marks.Given as goal
 
 abbrev pub invariant-loop-number : goal.invariant-loop-number

@@ -1,5 +1,5 @@
 use Rattle.std.proofs.Common.{◌+◌, arith, subst, sym, ◌∙◌}
-use Rattle.pg_fds.specs.stated.StatedOneofs.{AreRanks}
+use Rattle.pg_fds.specs.inner.reading.Made.{AreRanks}
 use Rattle.pg_fds.proofs.lemmas.reading.OneofRanks.{free_more, marked_more, ranks_more}
 use Rattle.pg_fds.proofs.reading.made_oneofs.ranks.Goals as goal
 use Rattle.pg_fds.proofs.reading.made_oneofs.ranks.Goals.{then-not-mark, else-not-mark}

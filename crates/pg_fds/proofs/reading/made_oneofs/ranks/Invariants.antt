@@ -1,5 +1,6 @@
 use Rattle.std.proofs.Common.{◌≡◌, ◌≤◌}
-use Rattle.pg_fds.specs.stated.StatedOneofs.{AreRanks, unmarked}
+use Rattle.pg_fds.specs.inner.reading.Made.{AreRanks}
+use Rattle.pg_fds.specs.stated.StatedOneofs.{unmarked}
 use Rattle.pg_fds.proofs.reading.made_oneofs.ranks.Given as goal
 
 abbrev pub invariant-loop-mark : goal.invariant-loop-mark

@@ -1,8 +1,8 @@
 use Rattle.std.proofs.Common.{◌≡◌, ◌++◌, map, drop}
 use Rattle.pg_dyn.specs.message.Kept.{message_of}
-use Rattle.pg_fds.specs.descriptor.Lent.{lent}
-use Rattle.pg_fds.specs.stated.Said.{text_at}
-use Rattle.pg_fds.specs.stated.SaidTypes.{real_oneofs}
+use Rattle.pg_fds.specs.inner.Lent.{lent}
+use Rattle.pg_fds.specs.stated.SetMessages.{text_at}
+use Rattle.pg_fds.specs.stated.TypeMessages.{real_oneofs}
 use Rattle.pg_fds.proofs.reading.made_oneofs.real_names.Given as goal
 
 abbrev pub invariant-loop-place : goal.invariant-loop-place

@@ -1,6 +1,6 @@
 use Rattle.std.proofs.Common.{◌≡◌, ◌++◌, map, drop}
 use Rattle.pg_dyn.specs.message.Kept.{message_of}
-use Rattle.pg_fds.specs.stated.SaidTypes.{synthetic_places}
+use Rattle.pg_fds.specs.stated.TypeMessages.{synthetic_places}
 use Rattle.pg_fds.proofs.reading.made_oneofs.synthetic_places.Given as goal
 
 abbrev pub invariant-loop-field : goal.invariant-loop-field

@@ -1,5 +1,5 @@
 use Rattle.std.proofs.Common.{◌≡◌, map, take}
-use Rattle.pg_fds.specs.stated.Outlines.{row}
+use Rattle.pg_fds.specs.inner.reading.OutlinedRows.{row}
 use Rattle.pg_fds.specs.stated.StatedEnums as stated
 use Rattle.pg_fds.specs.stated.Views.{enum_view}
 use Rattle.pg_fds.proofs.reading.made_parts.all_enums.Given as goal

@@ -1,5 +1,5 @@
 use Rattle.std.proofs.lemmas.Result.{err_from_is_err_and}
-use Rattle.pg_fds.specs.reading.OutlinedPlaces.{placed_file}
+use Rattle.pg_fds.specs.inner.reading.OutlinedPlaces.{placed_file}
 use Rattle.pg_fds.specs.stated.StatedFiles.{file}
 use Rattle.pg_fds.specs.stated.Views.{file_view}
 use Rattle.pg_fds.proofs.lemmas.lists.Each.{made_more, made_none}

@@ -1,5 +1,5 @@
 use Rattle.std.proofs.Common.{◌≡◌, Some, map, take}
-use Rattle.pg_fds.specs.reading.OutlinedPlaces.{placed_file}
+use Rattle.pg_fds.specs.inner.reading.OutlinedPlaces.{placed_file}
 use Rattle.pg_fds.specs.stated.StatedFiles.{file}
 use Rattle.pg_fds.specs.stated.StatedNames.{each}
 use Rattle.pg_fds.specs.stated.Views.{file_view}

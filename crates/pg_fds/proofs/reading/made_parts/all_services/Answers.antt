@@ -1,6 +1,6 @@
 use Rattle.std.proofs.lemmas.Result.{err_from_is_err_and}
-use Rattle.pg_fds.specs.stated.Outlines.{row}
-use Rattle.pg_fds.specs.reading.Owners.{means_of}
+use Rattle.pg_fds.specs.inner.reading.OutlinedRows.{row}
+use Rattle.pg_fds.specs.inner.reading.Owners.{means_of}
 use Rattle.pg_fds.specs.stated.StatedServices.{service}
 use Rattle.pg_fds.specs.stated.Views.{service_view}
 use Rattle.pg_fds.proofs.lemmas.lists.Each.{made_more, made_none}

@@ -1,6 +1,6 @@
 use Rattle.std.proofs.Common.{◌≡◌, Some, map, take}
-use Rattle.pg_fds.specs.stated.Outlines.{row}
-use Rattle.pg_fds.specs.reading.Owners.{means_of}
+use Rattle.pg_fds.specs.inner.reading.OutlinedRows.{row}
+use Rattle.pg_fds.specs.inner.reading.Owners.{means_of}
 use Rattle.pg_fds.specs.stated.StatedServices.{service}
 use Rattle.pg_fds.specs.stated.StatedNames.{each}
 use Rattle.pg_fds.specs.stated.Views.{service_view}

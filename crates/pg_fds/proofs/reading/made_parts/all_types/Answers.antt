@@ -1,6 +1,6 @@
 use Rattle.std.proofs.lemmas.Result.{err_from_is_err_and}
-use Rattle.pg_fds.specs.reading.OutlinedPlaces.{placed_type}
-use Rattle.pg_fds.specs.reading.Owners.{means_of}
+use Rattle.pg_fds.specs.inner.reading.OutlinedPlaces.{placed_type}
+use Rattle.pg_fds.specs.inner.reading.Owners.{means_of}
 use Rattle.pg_fds.specs.stated.StatedTypes.{message_type}
 use Rattle.pg_fds.specs.stated.Views.{type_view}
 use Rattle.pg_fds.proofs.lemmas.lists.Each.{made_more, made_none}

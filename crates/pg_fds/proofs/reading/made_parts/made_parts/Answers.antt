@@ -1,8 +1,8 @@
 use Rattle.std.proofs.Common.{Some, ap, map, sym, ◌∙◌}
 use Rattle.std.proofs.lemmas.Result.{err_from_is_err_and}
-use Rattle.pg_fds.specs.reading.OutlinedPlaces.{placed_file, placed_type}
-use Rattle.pg_fds.specs.stated.Outlines.{row}
-use Rattle.pg_fds.specs.reading.Owners.{means_of}
+use Rattle.pg_fds.specs.inner.reading.OutlinedPlaces.{placed_file, placed_type}
+use Rattle.pg_fds.specs.inner.reading.OutlinedRows.{row}
+use Rattle.pg_fds.specs.inner.reading.Owners.{means_of}
 use Rattle.pg_fds.specs.stated.Stated.{parts_of}
 use Rattle.pg_fds.specs.stated.StatedEnums.{enum_type}
 use Rattle.pg_fds.specs.stated.StatedFiles.{file}

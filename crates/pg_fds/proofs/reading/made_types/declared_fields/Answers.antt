@@ -2,12 +2,12 @@ use Rattle.std.proofs.Common.{◌≡◌, ap, arith, filter, length, map, subst, 
 use Rattle.std.proofs.lemmas.Result.{IfErr-weaker, IfOk-weaker, err_from_is_err_and}
 use Rattle.pg_dyn.specs.message.Kept.{message_of}
 use Rattle.std.specs.List.{list_all}
-use Rattle.pg_fds.specs.reading.Made.{AreCounted, has_place}
-use Rattle.pg_fds.specs.stated.Outlines.{type_row}
-use Rattle.pg_fds.specs.reading.Owners.{means_of}
-use Rattle.pg_fds.specs.stated.Said.{children_at}
+use Rattle.pg_fds.specs.inner.reading.Made.{AreCounted, has_place, AreMarked}
+use Rattle.pg_fds.specs.inner.reading.OutlinedRows.{type_row}
+use Rattle.pg_fds.specs.inner.reading.Owners.{means_of}
+use Rattle.pg_fds.specs.stated.SetMessages.{children_at}
 use Rattle.pg_fds.specs.stated.StatedTypes.{last_named, own_entries, owner}
-use Rattle.pg_fds.specs.stated.SaidTypes.{AreMarked, is_entry, is_marked, synthetic_places}
+use Rattle.pg_fds.specs.stated.TypeMessages.{is_entry, is_marked, synthetic_places}
 use Rattle.pg_fds.proofs.lemmas.lists.Each.{passed}
 use Rattle.pg_fds.proofs.lemmas.reading.OwnerLaws.{fields_moved, length_places, owner_is, placed_or_none}
 use Rattle.pg_fds.proofs.reading.made_types.declared_fields.Goals as goal

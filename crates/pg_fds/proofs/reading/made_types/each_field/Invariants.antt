@@ -1,6 +1,6 @@
 use Rattle.std.proofs.Common.{◌≡◌, Some, map, take}
 use Rattle.pg_dyn.specs.message.Kept.{message_of}
-use Rattle.pg_fds.specs.reading.Owners.{means_of, owner_of}
+use Rattle.pg_fds.specs.inner.reading.Owners.{means_of, owner_of}
 use Rattle.pg_fds.specs.stated.StatedFields.{field}
 use Rattle.pg_fds.specs.stated.StatedNames.{each}
 use Rattle.pg_fds.specs.stated.Views.{field_view}

@@ -1,6 +1,6 @@
 use Rattle.std.proofs.Common.{◌≡◌, ℕ, List, map, take}
 use Rattle.pg_dyn.specs.message.Kept.{message_of}
-use Rattle.pg_fds.specs.reading.Owners.{message_in}
+use Rattle.pg_fds.specs.inner.reading.Owners.{message_in}
 use Rattle.pg_fds.specs.stated.StatedTypes.{last_named}
 use Rattle.pg_fds.proofs.reading.made_types.entries.Given as goal
 

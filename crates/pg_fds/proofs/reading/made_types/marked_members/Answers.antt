@@ -1,7 +1,8 @@
 use Rattle.std.proofs.Common.{◌≡◌, ap, length, map, subst, sym, ◌∙◌}
 use Rattle.pg_dyn.specs.message.Kept.{message_of}
-use Rattle.pg_fds.specs.stated.Said.{children_at, text_at}
-use Rattle.pg_fds.specs.stated.SaidTypes.{AreMarked, real_oneofs, synthetic_places}
+use Rattle.pg_fds.specs.stated.SetMessages.{children_at, text_at}
+use Rattle.pg_fds.specs.inner.reading.Made.{AreMarked}
+use Rattle.pg_fds.specs.stated.TypeMessages.{real_oneofs, synthetic_places}
 use Rattle.pg_fds.proofs.lemmas.lists.Zips.{seen_length}
 use Rattle.pg_fds.proofs.reading.made_types.marked_members.Goals as goal
 

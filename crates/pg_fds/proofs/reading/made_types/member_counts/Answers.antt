@@ -3,8 +3,8 @@ use Rattle.std.proofs.lemmas.Bool.{false≢true}
 use Rattle.std.proofs.lemmas.Result.{MatchResult-from_err}
 use Rattle.std.specs.Prelude.{IfSome}
 use Rattle.pg_dyn.specs.message.Kept.{message_of}
-use Rattle.pg_fds.specs.reading.Made.{AreCounted, has_place}
-use Rattle.pg_fds.specs.stated.Said.{maybe_number_at}
+use Rattle.pg_fds.specs.inner.reading.Made.{AreCounted, has_place}
+use Rattle.pg_fds.specs.stated.SetMessages.{maybe_number_at}
 use Rattle.pg_fds.proofs.lemmas.reading.Counted.{counted_more, uncounted_more}
 use Rattle.pg_fds.proofs.lemmas.order.SetLaws.{all_lost}
 use Rattle.pg_fds.proofs.reading.made_types.member_counts.Goals as goal

@@ -2,12 +2,12 @@ use Rattle.std.proofs.Common.{◌≡◌, ap, length, subst, sym, true, ◌∙◌
 use Rattle.std.proofs.lemmas.Result.{err_from_is_err_and}
 use Rattle.std.specs.List.{list_all}
 use Rattle.pg_dyn.specs.message.Kept.{message_of}
-use Rattle.pg_fds.specs.stated.Outlines.{type_row}
-use Rattle.pg_fds.specs.reading.Owners.{means_of}
-use Rattle.pg_fds.specs.stated.Said.{children_at}
+use Rattle.pg_fds.specs.inner.reading.OutlinedRows.{type_row}
+use Rattle.pg_fds.specs.inner.reading.Owners.{means_of}
+use Rattle.pg_fds.specs.stated.SetMessages.{children_at}
 use Rattle.pg_fds.specs.stated.StatedTypes.{own_entries, owner}
-use Rattle.pg_fds.specs.stated.SaidFiles.{is_place}
-use Rattle.pg_fds.specs.stated.SaidTypes.{is_marked, synthetic_places}
+use Rattle.pg_fds.specs.stated.FileMessages.{is_place}
+use Rattle.pg_fds.specs.stated.TypeMessages.{is_marked, synthetic_places}
 use Rattle.pg_fds.proofs.lemmas.reading.OwnerLaws.{length_places, placed_or_none, synthetic_placed}
 use Rattle.pg_fds.proofs.lemmas.lists.Zips.{seen_length}
 use Rattle.pg_fds.proofs.reading.made_types.members_of.Goals as goal

@@ -1,8 +1,8 @@
 use Rattle.std.proofs.Common.{◌≡◌, map, ap, sym, ◌∙◌}
 use Rattle.pg_dyn.specs.message.Kept.{message_of}
-use Rattle.pg_fds.specs.stated.Said.{text_at}
+use Rattle.pg_fds.specs.stated.SetMessages.{text_at}
 use Rattle.pg_fds.specs.stated.StatedFields.{is_named_once}
-use Rattle.pg_fds.specs.reading.NamedEntries.{is_kept_once}
+use Rattle.pg_fds.specs.inner.reading.NamedEntries.{is_kept_once}
 use Rattle.pg_fds.specs.stated.Views.{field_view}
 use Rattle.pg_fds.proofs.lemmas.reading.KeptOnce.{all_more, kept_is}
 use Rattle.pg_fds.proofs.lemmas.order.SetLaws.{all_lost}

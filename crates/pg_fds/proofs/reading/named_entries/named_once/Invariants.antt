@@ -1,5 +1,5 @@
 use Rattle.std.proofs.Common.{map, take}
-use Rattle.pg_fds.specs.reading.NamedEntries.{KeepsOnce}
+use Rattle.pg_fds.specs.inner.reading.NamedEntries.{KeepsOnce}
 use Rattle.pg_fds.specs.stated.Views.{field_view}
 use Rattle.pg_fds.proofs.reading.named_entries.named_once.Given as goal
 

@@ -4,9 +4,9 @@ use Rattle.std.specs.List.{list_all}
 use Rattle.pg_schema.specs.rules.Pairs.{are_distinct}
 use Rattle.pg_schema.specs.rules.TextSets.{is_among}
 use Rattle.pg_fds.specs.declared.error.Unstated.TheVariants as errors
-use Rattle.pg_fds.specs.descriptor.Lent.{lent}
-use Rattle.pg_fds.specs.reading.FilePlaces.{importer, importers}
-use Rattle.pg_fds.specs.stated.PostOrder.{HasNoOrder, paths_of}
+use Rattle.pg_fds.specs.inner.Lent.{lent}
+use Rattle.pg_fds.specs.inner.reading.FilePlaces.{importer, importers, HasNoOrder}
+use Rattle.pg_fds.specs.stated.PostOrder.{paths_of}
 use Rattle.pg_fds.proofs.lemmas.order.Ordering.{none_missing}
 use Rattle.pg_fds.proofs.lemmas.order.OrderSteps.{handed_on, importer_at, imports_twice}
 use Rattle.pg_fds.proofs.reading.order.all_imported.Goals as goal

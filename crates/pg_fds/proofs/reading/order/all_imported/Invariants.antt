@@ -1,8 +1,8 @@
 use Rattle.std.proofs.Common.{◌≡◌, map, slice_get, take, true, Some}
 use Rattle.std.specs.List.{list_all}
-use Rattle.pg_fds.specs.reading.FilePlaces.{importers}
+use Rattle.pg_fds.specs.inner.reading.FilePlaces.{importers}
 use Rattle.pg_fds.specs.stated.PostOrder.{Importer, imports_once, paths_of}
-use Rattle.pg_fds.specs.reading.Walks.{lists_of}
+use Rattle.pg_fds.specs.inner.reading.Walks.{lists_of}
 use Rattle.pg_fds.proofs.reading.order.all_imported.Given as goal
 
 abbrev pub invariant-loop-file : goal.invariant-loop-file

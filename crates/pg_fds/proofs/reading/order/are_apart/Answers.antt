@@ -6,7 +6,7 @@ use denote.Ref.{Bor}
 use Rattle.pg_schema.specs.rules.Pairs.{are_distinct}
 use Rattle.pg_schema.specs.rules.TextSets.{IsSetOf, is_among}
 use Rattle.pg_schema.proofs.lemmas.rules.TextSetLemmas.{distinct_more}
-use Rattle.pg_fds.specs.descriptor.Lent.{lent}
+use Rattle.pg_fds.specs.inner.Lent.{lent}
 use Rattle.pg_fds.proofs.lemmas.lists.TextSets.{set_more}
 use Rattle.pg_fds.proofs.lemmas.order.OrderSteps.{item_at_place, one_step, stands_twice}
 use Rattle.pg_fds.proofs.reading.order.are_apart.Goals as goal

@@ -1,7 +1,7 @@
 use Rattle.std.proofs.Common.{◌≡◌, take, true}
 use Rattle.pg_schema.specs.rules.Pairs.{are_distinct}
 use Rattle.pg_schema.specs.rules.TextSets.{IsSetOf}
-use Rattle.pg_fds.specs.descriptor.Lent.{lent}
+use Rattle.pg_fds.specs.inner.Lent.{lent}
 use Rattle.pg_fds.proofs.reading.order.are_apart.Given as goal
 
 abbrev pub invariant-loop-path : goal.invariant-loop-path

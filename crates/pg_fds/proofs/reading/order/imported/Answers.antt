@@ -3,8 +3,8 @@ use Rattle.std.specs.BTreeMap.{get_by_text}
 use Rattle.std.specs.Option.{option_copied}
 use denote.Ref.{Bor}
 use Rattle.pg_schema.specs.rules.TextSets.{is_among}
-use Rattle.pg_fds.specs.descriptor.Lent.{lent}
-use Rattle.pg_fds.specs.reading.FilePlaces.{StandAt}
+use Rattle.pg_fds.specs.inner.Lent.{lent}
+use Rattle.pg_fds.specs.inner.reading.FilePlaces.{StandAt}
 use Rattle.pg_fds.proofs.lemmas.order.Ordering.{index_lacks}
 use Rattle.pg_fds.proofs.lemmas.order.OrderSteps.{item_at_place, one_step, path_fails, stand_more}
 use Rattle.pg_fds.proofs.reading.order.imported.Goals as goal

@@ -1,6 +1,6 @@
 use Rattle.std.proofs.Common.{ℕ, List, take}
-use Rattle.pg_fds.specs.descriptor.Lent.{lent}
-use Rattle.pg_fds.specs.reading.FilePlaces.{IsIndex, StandAt}
+use Rattle.pg_fds.specs.inner.Lent.{lent}
+use Rattle.pg_fds.specs.inner.reading.FilePlaces.{IsIndex, StandAt}
 use Rattle.pg_fds.proofs.reading.order.imported.Given as goal
 
 abbrev pub invariant-loop-path : goal.invariant-loop-path

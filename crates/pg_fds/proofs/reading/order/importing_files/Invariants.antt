@@ -1,6 +1,6 @@
 use Rattle.std.proofs.Common.{◌≡◌, map, take}
 use Rattle.pg_dyn.specs.message.Kept.{message_of}
-use Rattle.pg_fds.specs.reading.FilePlaces.{importers}
+use Rattle.pg_fds.specs.inner.reading.FilePlaces.{importers}
 use Rattle.pg_fds.specs.stated.PostOrder.{importer_of}
 use Rattle.pg_fds.proofs.reading.order.importing_files.Given as goal
 

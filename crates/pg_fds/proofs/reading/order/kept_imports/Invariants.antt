@@ -1,6 +1,6 @@
 use Rattle.std.proofs.Common.{◌≡◌, filter, not, take, ◌&&◌}
-use Rattle.pg_fds.specs.descriptor.Lent.{lent}
-use Rattle.pg_fds.specs.stated.SaidFiles.{is_descriptor}
+use Rattle.pg_fds.specs.inner.Lent.{lent}
+use Rattle.pg_fds.specs.stated.FileMessages.{is_descriptor}
 use Rattle.pg_fds.proofs.reading.order.kept_imports.Given as goal
 
 abbrev pub invariant-loop-path : goal.invariant-loop-path

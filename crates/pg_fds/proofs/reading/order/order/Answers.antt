@@ -2,9 +2,9 @@ use Rattle.std.proofs.Common.{ap, map, subst, ◌≡◌, ◌⊎◌, ◌∙◌, i
 use Rattle.std.proofs.lemmas.Result.{IfErr-weaker, IfOk-weaker}
 use Rattle.pg_dyn.specs.message.Kept.{message_of}
 use Rattle.pg_fds.specs.declared.error.Unstated.TheVariants as errors
-use Rattle.pg_fds.specs.reading.FilePlaces.{AreOrdered, importers}
-use Rattle.pg_fds.specs.stated.Outlines.{files_at}
-use Rattle.pg_fds.specs.stated.PostOrder.{HasNoOrder, importer_of}
+use Rattle.pg_fds.specs.inner.reading.FilePlaces.{AreOrdered, importers, HasNoOrder}
+use Rattle.pg_fds.specs.inner.reading.OutlinedRows.{files_at}
+use Rattle.pg_fds.specs.stated.PostOrder.{importer_of}
 use Rattle.pg_fds.specs.stated.StatedOrder.{in_post_order}
 use Rattle.pg_fds.proofs.lemmas.order.StatedOrder.{no_order, order_is}
 use Rattle.pg_fds.proofs.reading.order.order.Goals as goal

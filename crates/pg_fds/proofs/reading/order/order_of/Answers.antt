@@ -1,9 +1,9 @@
 use Rattle.std.proofs.Common.{◌≡◌, ◌⊎◌, inl, inr, ℕ, length, sym, ◌∙◌, subst}
 use Rattle.std.proofs.lemmas.Result.{IfErr-weaker, IfOk-weaker}
 use Rattle.pg_fds.specs.declared.error.Unstated.TheVariants as errors
-use Rattle.pg_fds.specs.reading.FilePlaces.{AreOrdered, ImportsAt, importers}
-use Rattle.pg_fds.specs.stated.PostOrder.{HasNoOrder, paths_of}
-use Rattle.pg_fds.specs.reading.Walks.{Falls, lists_of}
+use Rattle.pg_fds.specs.inner.reading.FilePlaces.{AreOrdered, ImportsAt, importers, HasNoOrder}
+use Rattle.pg_fds.specs.stated.PostOrder.{paths_of}
+use Rattle.pg_fds.specs.inner.reading.Walks.{Falls, lists_of}
 use Rattle.pg_fds.proofs.lemmas.order.Ordering.{as_many, in_order, no_ranks, of_files, within_count}
 use Rattle.pg_fds.proofs.lemmas.order.Walking.{lists_long}
 use Rattle.pg_fds.proofs.reading.order.order_of.Goals as goal

@@ -5,7 +5,7 @@ use Rattle.std.specs.String.{string_bytes}
 use Rattle.pg_schema.specs.rules.Pairs.{are_distinct}
 use Rattle.pg_schema.specs.rules.TextSets.{is_among}
 use Rattle.pg_schema.proofs.lemmas.rules.TextSetLemmas.{distinct_more}
-use Rattle.pg_fds.specs.reading.FilePlaces.{IsIndex, importers}
+use Rattle.pg_fds.specs.inner.reading.FilePlaces.{IsIndex, importers}
 use Rattle.pg_fds.specs.stated.PostOrder.{paths_of}
 use Rattle.pg_fds.proofs.lemmas.order.Ordering.{index_has, index_lacks, index_more}
 use Rattle.pg_fds.proofs.lemmas.order.OrderSteps.{name_twice, paths_long, paths_step}

@@ -1,6 +1,6 @@
 use Rattle.std.proofs.Common.{◌≡◌, take, true}
 use Rattle.pg_schema.specs.rules.Pairs.{are_distinct}
-use Rattle.pg_fds.specs.reading.FilePlaces.{IsIndex, importers}
+use Rattle.pg_fds.specs.inner.reading.FilePlaces.{IsIndex, importers}
 use Rattle.pg_fds.specs.stated.PostOrder.{paths_of}
 use Rattle.pg_fds.proofs.reading.order.places.Given as goal
 

@@ -2,9 +2,9 @@ use Rattle.std.proofs.Common.{◌≡◌, length, map, refl, ap, ◌∙◌, arith
 use Rattle.std.proofs.lemmas.Result.{err_from_is_err_and}
 use Rattle.pg_dyn.specs.message.Kept.{message_of}
 use Rattle.pg_fds.specs.declared.reading.outline.Named.TheVariants as nameds
-use Rattle.pg_fds.specs.stated.Declarations.{all_named}
-use Rattle.pg_fds.specs.stated.Said.{children_at}
-use Rattle.pg_fds.specs.stated.SaidTypes.{real_oneofs, synthetic_places}
+use Rattle.pg_fds.specs.inner.Declarations.{all_named}
+use Rattle.pg_fds.specs.stated.SetMessages.{children_at}
+use Rattle.pg_fds.specs.stated.TypeMessages.{real_oneofs, synthetic_places}
 use Rattle.pg_fds.proofs.lemmas.outline.Declaring.{first_fails}
 use Rattle.pg_fds.proofs.lemmas.outline.OutlinedNames.{marks_named, marks_refused, members_added, oneofs_fail, seen_long}
 use Rattle.pg_fds.proofs.reading.outline.declare_members.Goals as goal

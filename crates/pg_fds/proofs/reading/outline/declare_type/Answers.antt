@@ -2,8 +2,8 @@ use Rattle.std.proofs.Common.{◌≡◌, filter, map, rules, refl, ap, ◌∙◌
 use Rattle.std.proofs.lemmas.Result.{err_from_is_err_and}
 use Rattle.std.specs.String.{string_bytes}
 use Rattle.pg_dyn.specs.message.Kept.{message_of}
-use Rattle.pg_fds.specs.stated.Said.{children_at}
-use Rattle.pg_fds.specs.stated.SaidTypes.{is_entry}
+use Rattle.pg_fds.specs.stated.SetMessages.{children_at}
+use Rattle.pg_fds.specs.stated.TypeMessages.{is_entry}
 use Rattle.pg_fds.proofs.lemmas.outline.OutlinedNames.{entries_fail, members_fail, own_added, own_fails}
 use Rattle.pg_fds.proofs.reading.outline.declare_type.Goals as goal
 

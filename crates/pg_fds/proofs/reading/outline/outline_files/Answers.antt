@@ -2,13 +2,15 @@ use Rattle.std.proofs.Common.{◌≡◌, ◌<◌, ◌∷◌, [], Some, filter, l
 use Rattle.std.proofs.lemmas.Result.{err_from_is_err_and}
 use Rattle.std.specs.List.{AllByRecursion, flat_map}
 use Rattle.pg_dyn.specs.message.Kept.{message_of}
-use Rattle.pg_fds.specs.stated.Declarations.{file_declared, files_declared}
-use Rattle.pg_fds.specs.stated.Outlines.{NameOneofs, file_enums, file_services, file_types, files_at, row, type_row}
-use Rattle.pg_fds.specs.reading.OutlinedPlaces.{behind_file, counts_of, file_places, inside_file, no_counts, placed_file, placed_files, placed_type, placed_types, types_of_files}
-use Rattle.pg_fds.specs.stated.Said.{children_at}
+use Rattle.pg_fds.specs.inner.Declarations.{file_declared, files_declared}
+use Rattle.pg_fds.specs.inner.reading.OutlinedRows.{NameOneofs, files_at, row, type_row}
+use Rattle.pg_fds.specs.stated.Outlines.{file_enums, file_services, file_types}
+use Rattle.pg_fds.specs.stated.Numbering.{behind_file, file_places, inside_file, no_counts, placed_files, placed_types, types_of_files}
+use Rattle.pg_fds.specs.inner.reading.OutlinedPlaces.{counts_of, placed_file, placed_type}
+use Rattle.pg_fds.specs.stated.SetMessages.{children_at}
 use Rattle.pg_fds.specs.stated.SetNames.{file_scope}
 use Rattle.pg_fds.specs.stated.StatedTable.{may_declare}
-use Rattle.pg_fds.specs.stated.SaidTypes.{is_entry}
+use Rattle.pg_fds.specs.stated.TypeMessages.{is_entry}
 use Rattle.pg_fds.proofs.lemmas.outline.Declaring.{Left, from_nothing, left_all, left_none, left_on}
 use Rattle.pg_fds.proofs.lemmas.writing.FileLaws.{each_in, same_default}
 use Rattle.pg_fds.proofs.lemmas.outline.NameLoops.{seen}

@@ -2,11 +2,13 @@ use Rattle.std.proofs.Common.{◌≡◌, ◌≤◌, ◌^◌, ℕ, [], List, None
 use Rattle.std.specs.HashMap.{get_by_text}
 use Rattle.std.specs.List.{AllByRecursion, flat_map}
 use Rattle.pg_dyn.specs.message.Kept.{message_of}
-use Rattle.pg_fds.specs.stated.Declarations.{files_declared}
-use Rattle.pg_fds.specs.stated.Outlines.{NameOneofs, file_enums, file_services, file_types, files_at, row, type_row}
-use Rattle.pg_fds.specs.reading.OutlinedPlaces.{behind_file, counts_behind, counts_of, no_counts, placed_file, placed_files, placed_type, types_of_files}
-use Rattle.pg_fds.specs.stated.Said.{children_at}
-use Rattle.pg_fds.specs.stated.SaidTypes.{is_entry}
+use Rattle.pg_fds.specs.inner.Declarations.{files_declared}
+use Rattle.pg_fds.specs.inner.reading.OutlinedRows.{NameOneofs, files_at, row, type_row}
+use Rattle.pg_fds.specs.stated.Outlines.{file_enums, file_services, file_types}
+use Rattle.pg_fds.specs.stated.Numbering.{behind_file, no_counts, placed_files, types_of_files}
+use Rattle.pg_fds.specs.inner.reading.OutlinedPlaces.{counts_behind, counts_of, placed_file, placed_type}
+use Rattle.pg_fds.specs.stated.SetMessages.{children_at}
+use Rattle.pg_fds.specs.stated.TypeMessages.{is_entry}
 use Rattle.pg_fds.proofs.lemmas.outline.Declaring.{Left}
 use Rattle.pg_fds.proofs.reading.outline.outline_files.Given as goal
 

@@ -1,6 +1,6 @@
 use Rattle.std.proofs.Common.{◌≡◌, filter, map, not, take}
 use Rattle.pg_dyn.specs.message.Kept.{message_of}
-use Rattle.pg_fds.specs.stated.SaidFiles.{is_skipped}
+use Rattle.pg_fds.specs.stated.FileMessages.{is_skipped}
 use Rattle.pg_fds.proofs.reading.set_files.kept.Given as goal
 
 abbrev pub invariant-loop-file : goal.invariant-loop-file

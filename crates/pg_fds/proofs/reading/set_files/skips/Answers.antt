@@ -1,5 +1,5 @@
 use Rattle.std.proofs.Common.{sym, ◌∙◌}
-use Rattle.pg_fds.specs.stated.SaidFiles.{is_skipped}
+use Rattle.pg_fds.specs.stated.FileMessages.{is_skipped}
 use Rattle.pg_fds.proofs.lemmas.order.SetLaws.{any_found}
 use Rattle.pg_fds.proofs.reading.set_files.skips.Goals as goal
 

@@ -1,6 +1,6 @@
 use Rattle.std.proofs.Common.{◌≡◌, ◌-◌, ◌+◌, [], length, sym, subst, arith}
 use Rattle.pg_check.specs.standing.Places.{places_from}
-use Rattle.pg_fds.specs.reading.Walks.{IsWalk, Walks, lists_of}
+use Rattle.pg_fds.specs.inner.reading.Walks.{IsWalk, Walks, lists_of}
 use Rattle.pg_fds.proofs.lemmas.order.Walking.{begun, lists_long, no_places, places_on, root_ended, rooted}
 use Rattle.pg_fds.proofs.reading.walk.post_order.Goals as goal
 

@@ -1,6 +1,6 @@
 use Rattle.std.proofs.Common.{◌≡◌, ◌-◌, [], ℕ, List, length}
 use Rattle.pg_check.specs.standing.Places.{places_from}
-use Rattle.pg_fds.specs.reading.Walks.{IsWalk, Walks, lists_of}
+use Rattle.pg_fds.specs.inner.reading.Walks.{IsWalk, Walks, lists_of}
 use Rattle.pg_fds.proofs.reading.walk.post_order.Given as goal
 
 abbrev pub invariant-loop-place : goal.invariant-loop-place

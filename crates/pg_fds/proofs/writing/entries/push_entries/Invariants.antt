@@ -1,8 +1,8 @@
 use Rattle.std.proofs.Common.{◌≡◌, ◌++◌, take}
 use Rattle.pg_fds.specs.declared.descriptor.places.TheConstants.{MESSAGE}
-use Rattle.pg_fds.specs.writing.Drafts.{listed}
+use Rattle.pg_fds.specs.inner.writing.Drafts.{listed}
 use Rattle.pg_fds.specs.writing.Entries.{entries}
-use Rattle.pg_fds.specs.descriptor.Lent.{lent}
+use Rattle.pg_fds.specs.inner.Lent.{lent}
 use Rattle.pg_fds.specs.writing.Places.{declared_in}
 use Rattle.pg_fds.proofs.writing.entries.push_entries.Given as goal
 

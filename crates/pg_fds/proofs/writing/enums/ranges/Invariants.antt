@@ -1,6 +1,6 @@
 use Rattle.std.proofs.Common.{◌≡◌, map, take}
 use Rattle.pg_fds.specs.declared.descriptor.places.TheConstants.{VALUE_RANGE}
-use Rattle.pg_fds.specs.writing.Drafts.{listed}
+use Rattle.pg_fds.specs.inner.writing.Drafts.{listed}
 use Rattle.pg_fds.specs.writing.Messages.{value_range}
 use Rattle.pg_fds.proofs.writing.enums.ranges.Given as goal
 

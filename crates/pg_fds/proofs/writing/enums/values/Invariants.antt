@@ -1,6 +1,6 @@
 use Rattle.std.proofs.Common.{◌≡◌, map, take}
 use Rattle.pg_fds.specs.declared.descriptor.places.TheConstants.{VALUE}
-use Rattle.pg_fds.specs.writing.Drafts.{listed}
+use Rattle.pg_fds.specs.inner.writing.Drafts.{listed}
 use Rattle.pg_fds.specs.writing.Messages.{value_items}
 use Rattle.pg_fds.proofs.writing.enums.values.Given as goal
 

@@ -3,10 +3,10 @@ use Rattle.std.specs.Option.{option_copied}
 use Rattle.pg_schema.specs.declared.parts.field.TypeId.{TypeId}
 use Rattle.pg_schema.specs.declared.parts.Parts.{Parts}
 use Rattle.pg_fds.specs.declared.descriptor.places.TheConstants.{MESSAGE}
-use Rattle.pg_fds.specs.writing.Drafts.{Listed, listed}
+use Rattle.pg_fds.specs.inner.writing.Drafts.{Listed, listed}
 use Rattle.pg_fds.specs.writing.Messages.{type_items, types_items}
 use Rattle.pg_fds.specs.writing.Places.{declared_in}
-use Rattle.pg_fds.specs.writing.Small.{IsSmallType}
+use Rattle.pg_fds.specs.inner.writing.Small.{IsSmallType}
 use Rattle.pg_fds.proofs.lemmas.writing.FileLaws.{same_default, types_none, types_some}
 use Rattle.pg_fds.proofs.writing.files.+types.Goals as goal
 use Rattle.pg_fds.proofs.lemmas.lists.Marks.{all_at}

@@ -1,6 +1,6 @@
 use Rattle.std.proofs.Common.{◌≡◌, take}
 use Rattle.pg_fds.specs.declared.descriptor.places.TheConstants.{MESSAGE}
-use Rattle.pg_fds.specs.writing.Drafts.{listed}
+use Rattle.pg_fds.specs.inner.writing.Drafts.{listed}
 use Rattle.pg_fds.specs.writing.Messages.{types_items}
 use Rattle.pg_fds.specs.writing.Places.{declared_in}
 use Rattle.pg_fds.proofs.writing.files.+types.Given as goal

@@ -2,7 +2,7 @@ use Rattle.std.proofs.Common.{◌∙◌, ◌++◌, [], ap, codes, length, map}
 use Rattle.std.specs.String.{string_bytes}
 use Rattle.pg_schema.specs.declared.parts.file.Import.{Import}
 use Rattle.pg_fds.specs.declared.descriptor.places.TheConstants.{FILE}
-use Rattle.pg_fds.specs.writing.Drafts.{Drafted, IsDraftOf, put}
+use Rattle.pg_fds.specs.inner.writing.Drafts.{Drafted, IsDraftOf, put}
 use Rattle.pg_fds.specs.writing.Items.{children, counts, filled, options, text, texts}
 use Rattle.pg_fds.specs.writing.Messages.{enums_items, types_items}
 use Rattle.pg_fds.specs.writing.Places.{declared_in}

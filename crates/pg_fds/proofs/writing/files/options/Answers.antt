@@ -1,5 +1,5 @@
 use Rattle.std.proofs.Common.{ap, arith, ◌∙◌}
-use Rattle.pg_fds.specs.writing.Drafts.{Drafted}
+use Rattle.pg_fds.specs.inner.writing.Drafts.{Drafted}
 use Rattle.pg_fds.proofs.lemmas.writing.FileLaws.{option_step, rising_next}
 use Rattle.pg_fds.proofs.writing.files.options.Goals as goal
 

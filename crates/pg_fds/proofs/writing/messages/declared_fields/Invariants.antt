@@ -1,5 +1,5 @@
 use Rattle.std.proofs.Common.{◌≡◌, take}
-use Rattle.pg_fds.specs.descriptor.Lent.{fields_at, lent}
+use Rattle.pg_fds.specs.inner.Lent.{fields_at, lent}
 use Rattle.pg_fds.proofs.writing.messages.declared_fields.Given as goal
 
 abbrev pub invariant-loop-number : goal.invariant-loop-number

@@ -1,10 +1,10 @@
 use Rattle.std.proofs.Common.{◌≡◌, ◌+◌, ◌≤◌, suc, refl, ap, ◌∙◌, arith, add-one}
 use Rattle.std.specs.Prelude.{if◌then◌else◌}
-use Rattle.pg_fds.specs.writing.Drafts.{Listed}
+use Rattle.pg_fds.specs.inner.writing.Drafts.{Listed}
 use Rattle.pg_fds.specs.writing.Places.{declared_in}
 use Rattle.pg_fds.specs.writing.Fields.{fields_items}
-use Rattle.pg_fds.specs.descriptor.Lent.{lent}
-use Rattle.pg_fds.specs.writing.Small.{HasSmallNumbers}
+use Rattle.pg_fds.specs.inner.Lent.{lent}
+use Rattle.pg_fds.specs.inner.writing.Small.{HasSmallNumbers}
 use Rattle.pg_fds.proofs.lemmas.writing.FieldLaws.{fields_step}
 use Rattle.pg_fds.proofs.lemmas.writing.SyntheticLaws.{each_at}
 use Rattle.pg_fds.proofs.writing.messages.fields.Goals as goal

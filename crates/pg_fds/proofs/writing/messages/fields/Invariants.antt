@@ -1,7 +1,7 @@
 use Rattle.std.proofs.Common.{◌≡◌, ◌++◌, ◌+◌, ◌≤◌, drop}
 use Rattle.pg_fds.specs.declared.descriptor.places.TheConstants.{FIELD}
 use Rattle.pg_fds.specs.writing.Fields.{fields_items}
-use Rattle.pg_fds.specs.descriptor.Lent.{lent}
+use Rattle.pg_fds.specs.inner.Lent.{lent}
 use Rattle.pg_fds.specs.writing.Places.{declared_in}
 use Rattle.pg_fds.proofs.writing.messages.fields.Given as goal
 

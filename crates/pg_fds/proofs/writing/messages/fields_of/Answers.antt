@@ -1,7 +1,7 @@
 use Rattle.std.proofs.Common.{length, ap, sym, subst, arith}
 use Rattle.std.proofs.lemmas.List.{length-map}
 use Rattle.std.specs.List.{AllByRecursion}
-use Rattle.pg_fds.specs.writing.Small.{HasSmallNumbers}
+use Rattle.pg_fds.specs.inner.writing.Small.{HasSmallNumbers}
 use Rattle.pg_fds.proofs.lemmas.writing.FieldLaws.{each_found_holds, as_many_found}
 use Rattle.pg_fds.proofs.writing.messages.fields_of.Goals as goal
 

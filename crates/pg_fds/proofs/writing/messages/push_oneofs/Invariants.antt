@@ -1,5 +1,5 @@
 use Rattle.std.proofs.Common.{◌≡◌, ◌++◌, map, take}
-use Rattle.pg_fds.specs.writing.Drafts.{listed}
+use Rattle.pg_fds.specs.inner.writing.Drafts.{listed}
 use Rattle.std.specs.String.{string_bytes}
 use Rattle.pg_fds.specs.declared.descriptor.places.TheConstants.{ONEOF}
 use Rattle.pg_fds.specs.writing.Messages.{oneof_items}

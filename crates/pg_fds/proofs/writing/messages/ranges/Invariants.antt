@@ -1,5 +1,5 @@
 use Rattle.std.proofs.Common.{◌≡◌, map, take}
-use Rattle.pg_fds.specs.writing.Drafts.{listed}
+use Rattle.pg_fds.specs.inner.writing.Drafts.{listed}
 use Rattle.pg_fds.specs.declared.descriptor.places.TheConstants.{FIELD_RANGE}
 use Rattle.pg_fds.specs.writing.Messages.{field_range}
 use Rattle.pg_fds.proofs.writing.messages.ranges.Given as goal

@@ -1,6 +1,6 @@
 use Rattle.std.proofs.Common.{◌≡◌, map, take}
 use Rattle.pg_fds.specs.declared.descriptor.places.TheConstants.{METHOD}
-use Rattle.pg_fds.specs.writing.Drafts.{listed}
+use Rattle.pg_fds.specs.inner.writing.Drafts.{listed}
 use Rattle.pg_fds.specs.writing.Places.{declared_in}
 use Rattle.pg_fds.specs.writing.Set.{method_items}
 use Rattle.pg_fds.proofs.writing.services.methods.Given as goal

@@ -1,6 +1,6 @@
 use Rattle.std.proofs.Common.{◌≡◌, ℕ, ◌-◌, List, true}
 use Rattle.std.specs.String.{string_bytes}
-use Rattle.pg_fds.specs.writing.MadeNames.{HasMade, begins_made}
+use Rattle.pg_fds.specs.inner.writing.MadeNames.{HasMade, begins_made}
 use Rattle.pg_fds.specs.writing.Synthetic.{freed}
 use Rattle.pg_fds.proofs.writing.synthetic.freed.Given as goal
 

@@ -1,7 +1,7 @@
 use Rattle.std.proofs.Common.{◌≡◌, ◌∷◌, true, length, ap, subst, ◌∙◌}
 use Rattle.std.proofs.lemmas.Map.Text.{btree_set_updates_text}
 use Rattle.std.specs.String.{string_bytes}
-use Rattle.pg_fds.specs.writing.MadeNames.{HasMade}
+use Rattle.pg_fds.specs.inner.writing.MadeNames.{HasMade}
 use Rattle.pg_fds.specs.writing.Synthetic.{freed, synthetic_name, with_underscore}
 use Rattle.pg_fds.proofs.lemmas.writing.SyntheticLaws.{set_with}
 use Rattle.pg_fds.proofs.writing.synthetic.push_synthetic.Goals as goal

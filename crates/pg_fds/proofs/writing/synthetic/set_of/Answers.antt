@@ -2,7 +2,7 @@ use Rattle.std.proofs.Common.{map, take, true, sym, subst, refl, ◌∙◌, ap}
 use Rattle.std.proofs.lemmas.Map.Text.{btree_set_updates_text}
 use Rattle.std.specs.String.{string_bytes}
 use Rattle.pg_fds.proofs.lemmas.lists.TextSets.{texts_step}
-use Rattle.pg_fds.specs.writing.MadeNames.{HasMade, begins_made}
+use Rattle.pg_fds.specs.inner.writing.MadeNames.{HasMade, begins_made}
 use Rattle.pg_fds.proofs.lemmas.writing.SyntheticLaws.{made_more, made_others}
 use Rattle.pg_fds.proofs.writing.synthetic.set_of.Goals as goal
 

@@ -1,8 +1,8 @@
 use Rattle.std.proofs.Common.{◌≡◌, ◌+◌, length, map, ap, sym, subst, ◌∙◌, arith}
 use Rattle.std.proofs.lemmas.List.{length-map}
 use Rattle.std.specs.String.{string_bytes}
-use Rattle.pg_fds.specs.descriptor.Lent.{lent}
-use Rattle.pg_fds.specs.writing.MadeNames.{HasMade}
+use Rattle.pg_fds.specs.inner.Lent.{lent}
+use Rattle.pg_fds.specs.inner.writing.MadeNames.{HasMade}
 use Rattle.pg_fds.specs.writing.Synthetic.{synthetic_name, synthetic_oneofs}
 use Rattle.pg_fds.proofs.lemmas.writing.SyntheticLaws.{length-onto, onto, onto-append, step_made}
 use Rattle.pg_fds.proofs.writing.synthetic.synthetic_oneofs.Goals as goal

@@ -1,7 +1,7 @@
 use Rattle.std.proofs.Common.{◌≡◌, ◌++◌, map, drop}
 use Rattle.std.specs.String.{string_bytes}
-use Rattle.pg_fds.specs.descriptor.Lent.{lent}
-use Rattle.pg_fds.specs.writing.MadeNames.{HasMade}
+use Rattle.pg_fds.specs.inner.Lent.{lent}
+use Rattle.pg_fds.specs.inner.writing.MadeNames.{HasMade}
 use Rattle.pg_fds.specs.writing.Synthetic.{synthetic_oneofs}
 use Rattle.pg_fds.proofs.lemmas.writing.SyntheticLaws.{onto}
 use Rattle.pg_fds.proofs.writing.synthetic.synthetic_oneofs.Given as goal

@@ -6,12 +6,14 @@ use Rattle.pg_schema.specs.declared.parts.field.TypeId.{TypeId}
 use Rattle.pg_schema.specs.rules.Scopes.{enum_places, type_places}
 use Rattle.pg_dyn.specs.message.Kept.{message_of}
 use Rattle.pg_fds.specs.declared.reading.outline.Outlined.{Outlined}
-use Rattle.pg_fds.specs.stated.Declarations.{Adds, types_declared, whole_declared}
-use Rattle.pg_fds.specs.stated.Outlines.{NameOneofs, NamesOneofs, enum_rows, row, row_in, rows_in, rows_of_enums, rows_of_type, type_row, type_rows}
-use Rattle.pg_fds.specs.reading.OutlinedPlaces.{behind_type, counts_of, each_from, inside_type, placed_type, placed_types, placed_with, places_of_types}
-use Rattle.pg_fds.specs.stated.Said.{children_at}
+use Rattle.pg_fds.specs.inner.Declarations.{Adds, types_declared, whole_declared}
+use Rattle.pg_fds.specs.inner.reading.OutlinedRows.{NameOneofs, NamesOneofs, row, type_row}
+use Rattle.pg_fds.specs.stated.Outlines.{enum_rows, row_in, rows_in, rows_of_enums, rows_of_type, type_rows}
+use Rattle.pg_fds.specs.stated.Numbering.{behind_type, each_from, inside_type, placed_types, placed_with, places_of_types}
+use Rattle.pg_fds.specs.inner.reading.OutlinedPlaces.{counts_of, placed_type}
+use Rattle.pg_fds.specs.stated.SetMessages.{children_at}
 use Rattle.pg_fds.specs.stated.SetNames.{name_in, qualified}
-use Rattle.pg_fds.specs.stated.SaidTypes.{is_no_entry}
+use Rattle.pg_fds.specs.stated.TypeMessages.{is_no_entry}
 use Rattle.pg_fds.proofs.lemmas.outline.Declaring.{Left, adds_none, left_all, left_none, left_on, seen_drop, seen_past}
 use Rattle.pg_fds.proofs.lemmas.outline.NameLoops.{has_on, seen}
 use Rattle.pg_fds.proofs.lemmas.outline.OutlinedNames.{declared_below, deep_fails, enum_rows_on, enums_below, enums_fail, few_enums, few_types, lists_end, lists_on, no_enum_rows, no_type_rows, oneofs_above, oneofs_here, rows_below, rows_long, taken, type_added, type_fails, type_rows_on, types_fail, seen_long}

@@ -2,11 +2,13 @@ use Rattle.std.proofs.Common.{◌≡◌, ◌++◌, ◌-◌, ◌∷◌, [], drop,
 use Rattle.std.specs.List.{AllByRecursion, flat_map}
 use Rattle.pg_schema.specs.rules.Scopes.{type_places}
 use Rattle.pg_dyn.specs.message.Kept.{message_of}
-use Rattle.pg_fds.specs.stated.Declarations.{types_declared, whole_declared}
-use Rattle.pg_fds.specs.stated.Outlines.{NameOneofs, NamesOneofs, StayFew, enum_rows, row, rows_of_enums, rows_of_type, type_row, type_rows}
-use Rattle.pg_fds.specs.reading.OutlinedPlaces.{behind_type, counts_behind, counts_of, each_from, placed_type, placed_types, placed_with}
-use Rattle.pg_fds.specs.stated.Said.{children_at}
-use Rattle.pg_fds.specs.stated.SaidTypes.{is_no_entry}
+use Rattle.pg_fds.specs.inner.Declarations.{types_declared, whole_declared}
+use Rattle.pg_fds.specs.inner.reading.OutlinedRows.{NameOneofs, NamesOneofs, StayFew, row, type_row}
+use Rattle.pg_fds.specs.stated.Outlines.{enum_rows, rows_of_enums, rows_of_type, type_rows}
+use Rattle.pg_fds.specs.stated.Numbering.{behind_type, each_from, placed_types, placed_with}
+use Rattle.pg_fds.specs.inner.reading.OutlinedPlaces.{counts_behind, counts_of, placed_type}
+use Rattle.pg_fds.specs.stated.SetMessages.{children_at}
+use Rattle.pg_fds.specs.stated.TypeMessages.{is_no_entry}
 use Rattle.pg_fds.proofs.lemmas.outline.Declaring.{Left}
 use Rattle.pg_fds.proofs.reading.outline.Outline.+outline_types.Given as goal
 

@@ -4,12 +4,14 @@ use Rattle.std.proofs.lemmas.Result.{err_from_is_err_and}
 use Rattle.pg_schema.specs.rules.Scopes.{enum_places, service_places, type_places}
 use Rattle.pg_dyn.specs.message.Kept.{message_of}
 use Rattle.pg_fds.specs.declared.reading.outline.Outlined.{Outlined}
-use Rattle.pg_fds.specs.stated.Outlines.{NameOneofs, enum_rows, file_enums, file_types, row, row_in, rows_in, type_row, type_rows}
-use Rattle.pg_fds.specs.reading.OutlinedPlaces.{counts_of, inside_file, placed_file, placed_type, placed_types, places_of_types}
-use Rattle.pg_fds.specs.stated.Declarations.{Adds, package_declared}
-use Rattle.pg_fds.specs.stated.Said.{children_at}
+use Rattle.pg_fds.specs.inner.reading.OutlinedRows.{NameOneofs, row, type_row}
+use Rattle.pg_fds.specs.stated.Outlines.{enum_rows, file_enums, file_types, row_in, rows_in, type_rows}
+use Rattle.pg_fds.specs.inner.reading.OutlinedPlaces.{counts_of, placed_file, placed_type}
+use Rattle.pg_fds.specs.stated.Numbering.{inside_file, placed_types, places_of_types}
+use Rattle.pg_fds.specs.inner.Declarations.{Adds, package_declared}
+use Rattle.pg_fds.specs.stated.SetMessages.{children_at}
 use Rattle.pg_fds.specs.stated.SetNames.{file_scope, package_scope}
-use Rattle.pg_fds.specs.stated.SaidTypes.{is_entry}
+use Rattle.pg_fds.specs.stated.TypeMessages.{is_entry}
 use Rattle.pg_fds.proofs.lemmas.outline.OutlinedFiles.{file_added, file_enums_fail, file_services_fail, file_types_fail, parts_fail}
 use Rattle.pg_fds.proofs.lemmas.outline.OutlinedNames.{rows_long, seen_long}
 use Rattle.pg_fds.proofs.lemmas.outline.OutlinedPlaces.{counts_are, file_placed}
@@ -150,7 +152,7 @@ returns c =
             ∙ (append_assoc (map row self.enums.items) (rows_in at enums) (enum_rows depth at types) ∙ ap (λ rs. map row self.enums.items ++ rs) enum_count));
         services = c.in_ok-services.ensures.rows ∙ (ap (λ ss. map row ss ++ rows_in at services) c.in_ok-types.ensures.outlined.others.0
             ∙ ap (λ rs. map row self.services.items ++ rs) (ap (λ a. rows_in a services) here ∙ ap (rows_in (file_scope m)) same_services));
-        files = ap (map placed_file) (rw c.again.ensures at c.in_ok-push.ensures.items) ∙ (map_more placed_file deep.files.items _ ∙ ap₂ (λ fs f. map placed_file fs ++ f ∷ []) c.in_ok-types.ensures.outlined.others.1
+        files = ap (map placed_file) (rw c.reborrow.ensures at c.in_ok-push.ensures.items) ∙ (map_more placed_file deep.files.items _ ∙ ap₂ (λ fs f. map placed_file fs ++ f ∷ []) c.in_ok-types.ensures.outlined.others.1
             (file_placed depth m at types (counts_of self) (type_places c.in_ok-types.types.items) (enum_places c.in_ok-enums.enums.items) (service_places c.in_ok-services.services.items)
             (length self.enums.items) (length c.as_slice-own_enums.result.now) (length deep.services.items) (length c.as_slice-own_services.result.now) here same_types
             (c.in_ok-types.ensures.ids ∙ ap (λ k. places_of_types depth at k types) counts) c.in_ok-enums.ensures.ids refl (sym (seen_long c.as_slice-own_enums.result.now) ∙ ap length same_enums)

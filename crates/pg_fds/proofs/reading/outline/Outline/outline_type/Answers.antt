@@ -1,7 +1,7 @@
 use Rattle.std.proofs.Common.{◌≡◌, length, subst, arith}
 use Rattle.std.proofs.lemmas.Result.{err_from_is_err_and}
 use Rattle.pg_dyn.specs.message.Kept.{message_of}
-use Rattle.pg_fds.specs.stated.Declarations.{Adds, CannotAdd, type_declared}
+use Rattle.pg_fds.specs.inner.Declarations.{Adds, CannotAdd, type_declared}
 use Rattle.pg_fds.proofs.reading.outline.Outline.outline_type.Goals as goal
 
 pub returns-in_err-declare_type-clause-refused : goal.returns-in_err-declare_type-clause-refused

@@ -1,7 +1,7 @@
 use Rattle.std.proofs.Common.{refl, ap}
 use Rattle.std.proofs.Math.Seq.{map-set_same}
 use Rattle.pg_schema.specs.rules.Scopes.{enum_places, type_places}
-use Rattle.pg_fds.specs.stated.Outlines.{type_row}
+use Rattle.pg_fds.specs.inner.reading.OutlinedRows.{type_row}
 use Rattle.pg_fds.proofs.lemmas.outline.OutlinedPlaces.{placed_inside}
 use Rattle.pg_fds.proofs.reading.outline.Outline.place_inside.Goals as goal
 

@@ -2,8 +2,8 @@ use Rattle.std.proofs.Common.{◌≡◌, length, map, refl, ap, subst, ◌∙◌
 use Rattle.std.proofs.lemmas.Result.{err_from_is_err_and}
 use Rattle.pg_dyn.specs.message.Kept.{message_of}
 use Rattle.pg_fds.specs.declared.reading.outline.Named.TheVariants as nameds
-use Rattle.pg_fds.specs.stated.Declarations.{Adds, CannotAdd, enum_declared}
-use Rattle.pg_fds.specs.stated.Said.{children_at}
+use Rattle.pg_fds.specs.inner.Declarations.{Adds, CannotAdd, enum_declared}
+use Rattle.pg_fds.specs.stated.SetMessages.{children_at}
 use Rattle.pg_fds.proofs.lemmas.outline.OutlinedNames.{both_added, inside_fails, name_fails}
 use Rattle.pg_fds.proofs.reading.outline.enums.outline_enum.Goals as goal
 

@@ -1,9 +1,10 @@
 use Rattle.std.proofs.Common.{◌≡◌, ◌+◌, ◌<◌, drop, length, map, rules, ap, arith}
 use Rattle.std.proofs.lemmas.Result.{err_from_is_err_and}
 use Rattle.pg_schema.specs.declared.parts.service.ServiceId.{ServiceId}
-use Rattle.pg_fds.specs.stated.Outlines.{row, row_in}
+use Rattle.pg_fds.specs.inner.reading.OutlinedRows.{row}
+use Rattle.pg_fds.specs.stated.Outlines.{row_in}
 use Rattle.pg_dyn.specs.message.Kept.{message_of}
-use Rattle.pg_fds.specs.stated.Declarations.{service_declared, services_declared}
+use Rattle.pg_fds.specs.inner.Declarations.{service_declared, services_declared}
 use Rattle.pg_fds.proofs.lemmas.outline.Declaring.{left_all, left_fails, left_none, left_on, seen_drop, seen_past}
 use Rattle.pg_fds.proofs.lemmas.outline.NameLoops.{seen}
 use Rattle.pg_fds.proofs.lemmas.outline.OutlinedNames.{count_at, ids_on, maps_on}

@@ -2,8 +2,9 @@ use Rattle.std.proofs.Common.{◌≡◌, ◌++◌, drop, length, map, take}
 use Rattle.pg_schema.specs.rules.Scopes.{service_places}
 use Rattle.pg_dyn.specs.message.Kept.{message_of}
 use Rattle.pg_check.specs.standing.Places.{places_from}
-use Rattle.pg_fds.specs.stated.Declarations.{services_declared}
-use Rattle.pg_fds.specs.stated.Outlines.{StayFew, row, rows_in}
+use Rattle.pg_fds.specs.inner.Declarations.{services_declared}
+use Rattle.pg_fds.specs.inner.reading.OutlinedRows.{StayFew, row}
+use Rattle.pg_fds.specs.stated.Outlines.{rows_in}
 use Rattle.pg_fds.proofs.lemmas.outline.Declaring.{Left}
 use Rattle.pg_fds.proofs.reading.outline.services.outline_services.Given as goal
 

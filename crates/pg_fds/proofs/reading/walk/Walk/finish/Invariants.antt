@@ -1,5 +1,5 @@
 use Rattle.std.proofs.Common.{ℕ, List}
-use Rattle.pg_fds.specs.reading.Walks.{Ends, IsWalk, left, lists_of}
+use Rattle.pg_fds.specs.inner.reading.Walks.{Ends, IsWalk, left, lists_of}
 use Rattle.pg_fds.proofs.reading.walk.Walk.finish.Given as goal
 
 abbrev pub invariant-loop-top : goal.invariant-loop-top

@@ -3,7 +3,7 @@ use Rattle.std.proofs.lemmas.Option.{slice_get-get_or}
 use Rattle.std.proofs.lemmas.Result.{IfErr-weaker, on_ok_weaker}
 use Rattle.pg_fds.specs.declared.error.Unstated.TheVariants as errors
 use Rattle.pg_fds.specs.declared.reading.walk.Seen.TheVariants as seen
-use Rattle.pg_fds.specs.reading.Walks.{Falls, lists_of}
+use Rattle.pg_fds.specs.inner.reading.Walks.{Falls, lists_of}
 use Rattle.pg_fds.proofs.lemmas.order.Walking.{circle, ended, import_within, lists_long, own_there, stepped}
 use Rattle.pg_fds.proofs.reading.walk.Walk.step.Goals as goal
 

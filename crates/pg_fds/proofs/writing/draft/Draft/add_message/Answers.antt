@@ -1,7 +1,7 @@
 use Rattle.std.proofs.Common.{◌++◌, ◌<◌, ◌^◌, length, ap, sym, subst, ◌∙◌, arith}
 use Rattle.pg_wire.specs.declared.record.WireType.TheVariants.{Len}
 use Rattle.pg_wire.specs.Records.{written}
-use Rattle.pg_fds.specs.writing.Drafts.{IsDraft}
+use Rattle.pg_fds.specs.inner.writing.Drafts.{IsDraft}
 use Rattle.pg_fds.proofs.lemmas.writing.Growing.{begun_draft, message_put}
 use Rattle.pg_fds.proofs.writing.draft.Draft.add_message.Goals as goal
 

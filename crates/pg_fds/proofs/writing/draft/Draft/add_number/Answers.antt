@@ -3,7 +3,7 @@ use Rattle.pg_wire.specs.declared.record.WireType.TheVariants.{Varint}
 use Rattle.pg_wire.specs.Records.{written}
 use Rattle.pg_wire.specs.Varint.{varint}
 use Rattle.pg_wire.specs.Words.{twos_complement}
-use Rattle.pg_fds.specs.writing.Drafts.{IsDraft}
+use Rattle.pg_fds.specs.inner.writing.Drafts.{IsDraft}
 use Rattle.pg_fds.proofs.lemmas.writing.Growing.{begun_draft, number_put}
 use Rattle.pg_fds.proofs.writing.draft.Draft.add_number.Goals as goal
 

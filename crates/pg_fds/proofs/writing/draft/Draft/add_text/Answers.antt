@@ -2,7 +2,7 @@ use Rattle.std.proofs.Common.{◌++◌, ◌<◌, ◌^◌, length, ap₂, sym, su
 use Rattle.std.proofs.lemmas.Str.{is_utf8-from_IsUtf8}
 use Rattle.pg_wire.specs.declared.record.WireType.TheVariants.{Len}
 use Rattle.pg_wire.specs.Records.{written}
-use Rattle.pg_fds.specs.writing.Drafts.{IsDraft}
+use Rattle.pg_fds.specs.inner.writing.Drafts.{IsDraft}
 use Rattle.pg_fds.proofs.lemmas.writing.Growing.{begun_draft, text_put}
 use Rattle.pg_fds.proofs.writing.draft.Draft.add_text.Goals as goal
 

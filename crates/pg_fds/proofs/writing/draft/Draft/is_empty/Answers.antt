@@ -1,7 +1,7 @@
 use Rattle.std.proofs.Common.{◌≡◌, ◌≢◌, length, [], ap, sym, subst, ◌∙◌, eq-eqb}
 use Rattle.std.proofs.lemmas.Bool.{eqb-true, false≢true}
 use Rattle.std.proofs.lemmas.List.{nil_from_length}
-use Rattle.pg_fds.specs.writing.Drafts.{Drafted, read_items}
+use Rattle.pg_fds.specs.inner.writing.Drafts.{Drafted, read_items}
 use Rattle.pg_fds.proofs.lemmas.writing.Growing.{read_none, some_read}
 use Rattle.pg_fds.proofs.writing.draft.Draft.is_empty.Goals as goal
 

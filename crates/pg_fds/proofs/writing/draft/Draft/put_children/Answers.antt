@@ -1,5 +1,5 @@
 use Rattle.std.proofs.Common.{ap, ◌∙◌}
-use Rattle.pg_fds.specs.writing.Drafts.{Listed, items_within}
+use Rattle.pg_fds.specs.inner.writing.Drafts.{Listed, items_within}
 use Rattle.pg_fds.proofs.lemmas.writing.Bodies.{child_put}
 use Rattle.pg_fds.proofs.writing.draft.Draft.put_children.Goals as goal
 

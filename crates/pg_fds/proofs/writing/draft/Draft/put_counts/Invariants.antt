@@ -1,5 +1,5 @@
 use Rattle.std.proofs.Common.{◌≡◌, take}
-use Rattle.pg_fds.specs.writing.Drafts.{put}
+use Rattle.pg_fds.specs.inner.writing.Drafts.{put}
 use Rattle.pg_fds.specs.writing.Items.{counts}
 use Rattle.pg_fds.proofs.writing.draft.Draft.put_counts.Given as goal
 

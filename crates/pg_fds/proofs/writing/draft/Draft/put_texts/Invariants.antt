@@ -1,6 +1,6 @@
 use Rattle.std.proofs.Common.{◌≡◌, map, take}
 use Rattle.std.specs.String.{string_bytes}
-use Rattle.pg_fds.specs.writing.Drafts.{put}
+use Rattle.pg_fds.specs.inner.writing.Drafts.{put}
 use Rattle.pg_fds.specs.writing.Items.{texts}
 use Rattle.pg_fds.proofs.writing.draft.Draft.put_texts.Given as goal
 

@@ -1,5 +1,5 @@
 use Rattle.std.proofs.Common.{ap, sym, subst, ◌∙◌}
-use Rattle.pg_fds.specs.writing.Drafts.{IsDraft, drafted}
+use Rattle.pg_fds.specs.inner.writing.Drafts.{IsDraft, drafted}
 use Rattle.pg_fds.proofs.lemmas.writing.Growing.{begun_draft, begun_is}
 use Rattle.pg_fds.proofs.writing.draft.Writer.draft.Goals as goal
 

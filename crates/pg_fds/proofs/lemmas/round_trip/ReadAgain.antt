@@ -1,0 +1,125 @@
+-- A schema that is written is read as the same schema.
+use Rattle.std.proofs.Common.{◌≡◌, ℕ, zero, suc, ◌+◌, ◌⊎◌, inl, inr, true, List, [], ◌∷◌, Option, Some, None, Result, Ok, Err, IfErr, IfOk, slice_get, refl, subst, sym, arith}
+use Rattle.std.proofs.lemmas.Bool.{false≢true}
+use Rattle.std.proofs.lemmas.Result.{IfOk-weaker}
+use Rattle.std.specs.List.{list_all}
+use Rattle.pg_schema.specs.declared.parts.field.TypeId.{TypeId}
+use Rattle.pg_schema.specs.declared.parts.file.File.{File}
+use Rattle.pg_schema.specs.declared.parts.message_type.MessageType.{MessageType}
+use Rattle.pg_schema.specs.declared.parts.Parts.{Parts}
+use Rattle.pg_schema.specs.rules.Sound.{IsSound}
+use Rattle.pg_schema.proofs.lemmas.rules.PairLemmas.{and_both, and_left, and_right}
+use Rattle.pg_dyn.specs.declared.error.DynError.{DynError}
+use Rattle.pg_dyn.specs.declared.error.DynError.TheVariants as faults
+use Rattle.pg_check.specs.standing.Nesting.{are_shallow, holds_inside, nest_within}
+use Rattle.pg_check.specs.standing.Places.{most_deep}
+use Rattle.pg_fds.specs.declared.error.FdsError.{FdsError}
+use Rattle.pg_fds.specs.declared.error.FdsError.TheVariants as errors
+use Rattle.pg_fds.specs.round_trip.Readable.{IsReadable}
+use Rattle.pg_fds.specs.refusals.TooDeep.{IsNotTooDeep}
+use Rattle.pg_fds.specs.round_trip.ReadAgain.{IsReadAgain, IsTooLong, MayRefuseAgain, SetStates}
+use Rattle.pg_fds.specs.stated.Reads.{fds_reads}
+use Rattle.pg_fds.specs.refusals.Refused.{MayRefuseSet, NoneIsStated}
+use Rattle.pg_fds.specs.writing.Set.{fds}
+use Rattle.pg_fds.specs.stated.Views.{parts_view}
+
+-- ---- what is nested less deep may be nested deeper
+
+module _ (types : List MessageType) where
+  abbrev Deeper : (n m : ℕ) → Type 0
+  Deeper n m = (ids : List TypeId) → nest_within n types ids ≡ true → nest_within m types ids ≡ true
+
+  inside_deeper : (n m : ℕ) → Deeper n m → (o : Option MessageType) → holds_inside (nest_within n types) o ≡ true → holds_inside (nest_within m types) o ≡ true
+  inside_deeper n m deeper None h = refl
+  inside_deeper n m deeper (Some t) h = deeper t.nested_types.items h
+
+  each_deeper : (n m : ℕ) → Deeper n m → Deeper (suc n) (suc m)
+  each_deeper n m deeper [] h = refl
+  each_deeper n m deeper (id ∷ ids) h =
+      let here = holds_inside (nest_within n types) (slice_get types id.index) in
+      and_both (holds_inside (nest_within m types) (slice_get types id.index)) (nest_within (suc m) types ids)
+      (inside_deeper n m deeper (slice_get types id.index) (and_left here (nest_within (suc n) types ids) h))
+      (each_deeper n m deeper ids (and_right here (nest_within (suc n) types ids) h))
+
+  one_deeper : (n : ℕ) → Deeper n (suc n)
+  one_deeper zero [] h = refl
+  one_deeper zero (id ∷ ids) h = absurd (false≢true h)
+  one_deeper (suc n) ids h = each_deeper n (suc n) (one_deeper n) ids h
+
+  much_deeper : (more n : ℕ) → Deeper n (more + n)
+  much_deeper zero n ids h = subst (λ k. nest_within k types ids ≡ true) (none_more n) h
+    where
+      none_more : (a : ℕ) → a ≡ 0 + a
+      none_more a = omega arith
+  much_deeper (suc more) n ids h = subst (λ k. nest_within k types ids ≡ true) (one_more more n) (one_deeper (more + n) ids (much_deeper more n ids h))
+    where
+      one_more : (a b : ℕ) → suc (a + b) ≡ suc a + b
+      one_more a b = omega arith
+
+  pub files_deeper : (files : List File) → list_all (λ (f : File). nest_within 64 types f.types.items) files ≡ true → list_all (λ (f : File). nest_within most_deep types f.types.items) files ≡ true
+  files_deeper [] h = refl
+  files_deeper (f ∷ files) h =
+      let later = list_all (λ (g : File). nest_within 64 types g.types.items) files in
+      and_both (nest_within most_deep types f.types.items) (list_all (λ (g : File). nest_within most_deep types g.types.items) files)
+      (much_deeper 36 64 f.types.items (and_left (nest_within 64 types f.types.items) later h)) (files_deeper files (and_right (nest_within 64 types f.types.items) later h))
+
+-- ---- what is asked of a schema that is read again
+
+module _ (parts : Parts) (again : IsReadAgain parts) where
+  pub readable : IsReadable parts
+  readable = record { imports_once = again.imports_once; behind = again.behind; places = again.places; shallow = files_deeper parts.types.items parts.files.items again.shallow }
+
+-- ---- bytes that state it are refused for want of memory alone
+
+module _ (parts : Parts) (bytes : List ℕ) (sound : IsSound parts) (states : fds_reads bytes parts) (level : IsNotTooDeep bytes) where
+  by_codec : (e : DynError) → MayRefuseSet bytes (errors.Bytes e) → NoneIsStated bytes (errors.Bytes e) → ⊥
+  by_codec faults.Memory may none = may.0 refl
+  by_codec (faults.TooDeep at) may none = level at may.1
+  by_codec faults.NoSuchField may none = none parts sound states
+  by_codec faults.WrongKind may none = none parts sound states
+  by_codec faults.OutOfRange may none = none parts sound states
+  by_codec (faults.NotUtf8 at) may none = none parts sound states
+  by_codec faults.OneofTwice may none = none parts sound states
+  by_codec faults.DuplicateKey may none = none parts sound states
+  by_codec faults.TooLong may none = none parts sound states
+  by_codec (faults.Wire e) may none = none parts sound states
+
+  pub memory_alone : (e : FdsError) → MayRefuseSet bytes e → NoneIsStated bytes e → e ≡ errors.Memory
+  memory_alone errors.Memory may none = refl
+  memory_alone (errors.Bytes e) may none = absurd (by_codec e may none)
+  memory_alone errors.NotProto3 may none = absurd (none parts sound states)
+  memory_alone errors.BadType may none = absurd (none parts sound states)
+  memory_alone errors.BadReference may none = absurd (none parts sound states)
+  memory_alone (errors.Rule e) may none = absurd (none parts sound states)
+
+module _ (parts : Parts) (bytes slice : List ℕ) (lent : slice ≡ bytes) (r : Result Parts FdsError) (states : IsReadable parts → fds_reads bytes parts) where
+  states_lent : (again : IsReadAgain parts) → fds_reads slice parts
+  states_lent again = subst (λ bs. fds_reads bs parts) (sym lent) (states (readable parts again))
+
+  pub read_same : IfOk r (λ made. (ps : Parts) → fds_reads slice ps → parts_view made ≡ parts_view ps) → IfOk r (λ made. IsReadAgain parts → parts_view made ≡ parts_view parts)
+  read_same h =
+      IfOk-weaker r (λ made. (ps : Parts) → fds_reads slice ps → parts_view made ≡ parts_view ps) (λ made. IsReadAgain parts → parts_view made ≡ parts_view parts)
+      (λ made same again. same parts (states_lent again)) h
+
+  pub read_refused : IsSound parts → (are_shallow parts ≡ true → IsNotTooDeep bytes) → IfErr r (MayRefuseSet slice) → IfErr r (NoneIsStated slice) → IfErr r (λ e. IsReadAgain parts → (e ≡ errors.Memory) ⊎ IsTooLong parts e)
+  read_refused sound level may none = all r may none
+    where
+      all : (o : Result Parts FdsError) → IfErr o (MayRefuseSet slice) → IfErr o (NoneIsStated slice) → IfErr o (λ e. IsReadAgain parts → (e ≡ errors.Memory) ⊎ IsTooLong parts e)
+      all (Ok made) may none = tt
+      all (Err e) may none =
+          λ again. inl (memory_alone parts slice sound (states_lent again) (subst IsNotTooDeep (sym lent) (level again.shallow)) e may none)
+
+-- ---- what is reported of any schema
+
+pub write_refused : (parts : Parts) (e : FdsError) → (e ≡ errors.Memory) ⊎ IsTooLong parts e → MayRefuseAgain parts e
+write_refused parts e (inl memory) = inl memory
+write_refused parts e (inr long) = inr (inl long)
+
+pub read_reported : (parts : Parts) (bytes slice : List ℕ) → slice ≡ bytes → fds parts bytes → (r : Result Parts FdsError) → IfErr r (MayRefuseSet slice) → IfErr r (NoneIsStated slice) → IfErr r (MayRefuseAgain parts)
+read_reported parts bytes slice lent written (Ok made) may none = tt
+read_reported parts bytes slice lent written (Err e) may none = inr (inr (bytes, (written, subst (λ bs. MayRefuseSet bs e × NoneIsStated bs e) lent (may, none))))
+
+-- what is read of the schema's set is stated by it
+pub read_stated : (parts : Parts) (bytes slice : List ℕ) → slice ≡ bytes → fds parts bytes → (r : Result Parts FdsError) → IfOk r (λ made. fds_reads slice made) → IfOk r (SetStates parts)
+read_stated parts bytes slice lent written (Ok made) h = (bytes, (written, subst (λ bs. fds_reads bs made) lent h))
+read_stated parts bytes slice lent written (Err e) h = tt

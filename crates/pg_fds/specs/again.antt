@@ -1,4 +1,0 @@
-pub mod Again
-pub mod ReadAgain
-pub mod TextOrder
-pub mod SetOrder

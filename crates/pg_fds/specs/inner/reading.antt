@@ -1,0 +1,13 @@
+pub mod FilePlaces
+pub mod Held
+pub mod Made
+pub mod MadeImports
+pub mod MadeMembers
+pub mod NamedEntries
+pub mod OutlinedPlaces
+pub mod OutlinedRows
+pub mod OutlinedScopes
+pub mod Owners
+pub mod RefusedParts
+pub mod SetItems
+pub mod Walks

@@ -1,0 +1,4 @@
+pub mod Readable
+pub mod ReadAgain
+pub mod SourceOrder
+pub mod SetOrder
