@@ -1,6 +1,7 @@
 -- The examples of faults, by computation.
 use Rattle.std.proofs.Common.{◌≡◌, ℕ, suc, ◌+◌, ◌≤◌, true, false, List, [], ◌∷◌, length, Some, Ok, Err, refl, sym, subst, ◌∙◌, arith}
 use Rattle.std.specs.Str.{is_utf8, chars}
+use lib.Utf8.{encode}
 use Rattle.pg_wire.specs.Reading.{Fault, Front, exactly, row, VarintTooLong, Truncated, BadTag, Group, BadWireType}
 use Rattle.pg_wire.specs.Varint.{varint_at, varint}
 use Rattle.pg_wire.specs.Words.{signed, unzigzag}
@@ -56,7 +57,7 @@ first_of_all levels shape fs bytes rest r f code place read found taken fault =
     in_record levels fs bytes [] bytes rest r f code place refl (front_empty shape levels fs) read found taken fault
 
 pub fault_examples : FaultExamples
-unfolding is_utf8 chars exactly row varint_at varint signed unzigzag tag_parts record_at records_of tag written word_bytes word_in enc dec
+unfolding is_utf8 chars encode exactly row varint_at varint signed unzigzag tag_parts record_at records_of tag written word_bytes word_in enc dec
 fault_examples =
     let one = fields int32 first in
     let len = λ (number : ℕ) (body : List ℕ). written number Len body in
