@@ -36,11 +36,11 @@ last() {
         types) "$work/crates/depth/out/depth" types 1 "$2" 2>&1 || true ;;
         *:*) "$work/crates/depth/out/depth" "${1%:*}" "$(number "${1#*:}")" "$2" 2>&1 || true ;;
         gate)
-            python3 "$top/bench/circles.py" "$work/circles" "$2" > "$work/levels.txt"
+            python3 "$top/bench/inputs/circles.py" "$work/circles" "$2" > "$work/levels.txt"
             (cd "$work/circles" && "$protogate" gate --old old.proto --new new.proto --type T1 > said.txt 2>&1 || echo "status $?")
             ;;
         verify)
-            python3 "$top/bench/nest.py" "$work/nest" "$2"
+            python3 "$top/bench/inputs/nest.py" "$work/nest" "$2"
             (cd "$work/nest" && "$protogate" verify --old m.proto --new m.proto certificate.txt 2>&1 || true)
             ;;
     esac | tail -1
@@ -53,7 +53,7 @@ whole() {
 
 # The gate's certificate of a chain of 4,096 types, the most that there may be, and what `verify` says of it.
 chain() {
-    python3 "$top/bench/gate.py" "$work"
+    python3 "$top/bench/inputs/gate.py" "$work"
     cd "$work/chain"
     "$protogate" gate --cert --old old.proto --new new.proto --type M0 > certificate.txt || true
     echo "a chain of 4,096 types: $("$protogate" verify --old old.proto --new new.proto certificate.txt || true)"

@@ -6,8 +6,8 @@ set -eu
 top=$(cd "$(dirname "$0")/.." && pwd)
 work=${1:-$(mktemp -d)}
 types=${2:-4096}
-python3 "$top/bench/gate.py" "$work" "$types"
-python3 "$top/bench/gate.py" "$work/quarter" $((types / 4))
+python3 "$top/bench/inputs/gate.py" "$work" "$types"
+python3 "$top/bench/inputs/gate.py" "$work/quarter" $((types / 4))
 PROTOGATE_PROVED_ONLY=1 "$top/protogate" --help > "$work/help.txt" || [ $? -eq 4 ]
 program="$top/crates/protogate/out/protogate"
 cd "$work"

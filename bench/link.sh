@@ -6,7 +6,7 @@ top=$(cd "$(dirname "$0")/.." && pwd)
 work=${1:-$(mktemp -d)}
 . "$top/bench/build.sh"
 build_bench "$top" "$work" link_time link_main.rt.txt "pg_link"
-python3 "$top/bench/link.py" "$work/files"
+python3 "$top/bench/inputs/link.py" "$work/files"
 cd "$work/files"
 python3 "$top/bench/timed.py" 10 "$work/crates/link_time/out/link_time" "$work/files" -- protoc --descriptor_set_out=../link.bin f1023.proto
 # What `link` alone takes, by its own clock: the process above also makes room for the program and drops the trees.

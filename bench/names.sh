@@ -7,6 +7,6 @@ top=$(cd "$(dirname "$0")/.." && pwd)
 work=${1:-$(mktemp -d)}
 . "$top/bench/build.sh"
 [ -x "$work/crates/link_time/out/link_time" ] || build_bench "$top" "$work" link_time link_main.rt.txt "pg_link"
-python3 "$top/bench/names.py" "$work/names"
+python3 "$top/bench/inputs/names.py" "$work/names"
 cd "$work/names"
 python3 "$top/bench/timed.py" 10 "$work/crates/link_time/out/link_time" "$work/names" -- protoc --descriptor_set_out=../names.bin f1023.proto

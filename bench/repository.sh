@@ -18,15 +18,15 @@ PROTOGATE_PROVED_ONLY=1 "$top/protogate" --help > "$work/help.txt" || [ $? -eq 4
 # make_files NAME FILES: so many files in NAME/old and NAME/new. The first type of the first file, to which all others lead, changes.
 make_files() {
     rm -rf "${work:?}/$1"
-    python3 "$top/bench/link.py" "$work/$1/old" "$2"
+    python3 "$top/bench/inputs/link.py" "$work/$1/old" "$2"
     cp -R "$work/$1/old" "$work/$1/new"
     sed -i 's/^message Type0_0 {$/&\n  uint32 changed = 1000;/' "$work/$1/old/f0.proto"
     sed -i 's/^message Type0_0 {$/&\n  int32 changed = 1000;/' "$work/$1/new/f0.proto"
 }
 
-# make_one NAME KIND TYPES: a kind of bench/gate.py with so many types, as one file in NAME/old and NAME/new.
+# make_one NAME KIND TYPES: a kind of bench/inputs/gate.py with so many types, as one file in NAME/old and NAME/new.
 make_one() {
-    python3 "$top/bench/gate.py" "$work/made" "$3"
+    python3 "$top/bench/inputs/gate.py" "$work/made" "$3"
     for side in old new; do
         rm -rf "${work:?}/$1/$side"
         mkdir -p "$work/$1/$side"

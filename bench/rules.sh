@@ -8,12 +8,12 @@ top=$(cd "$(dirname "$0")/.." && pwd)
 work=${1:-$(mktemp -d)}
 . "$top/bench/build.sh"
 build_bench "$top" "$work" rules_time rules_main.rt.txt "pg_check pg_link"
-python3 "$top/bench/rules.py" "$work/files"
+python3 "$top/bench/inputs/rules.py" "$work/files"
 cd "$work/files"
 ls -l m.proto
 python3 "$top/bench/timed.py" 10 "$work/crates/rules_time/out/rules_time" "$work/files" -- protoc --descriptor_set_out=../rules.bin m.proto
 for count in 1000 10000; do
-    python3 "$top/bench/rules.py" "$work/large_$count" "$count"
+    python3 "$top/bench/inputs/rules.py" "$work/large_$count" "$count"
     echo "bodies of $count:"
     "$work/crates/rules_time/out/rules_time" "$work/large_$count"
 done

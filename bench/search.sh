@@ -8,7 +8,7 @@ work=${1:-$(mktemp -d)}
 . "$top/bench/build.sh"
 build_bench "$top" "$work" search_time search_main.rt.txt "pg_cert pg_check pg_least pg_link pg_pairs pg_schema"
 for types in 512 4096; do
-    python3 "$top/bench/gate.py" "$work/types_$types" "$types"
+    python3 "$top/bench/inputs/gate.py" "$work/types_$types" "$types"
     for kind in graph chain front circle mesh; do
         echo "$kind of $types:"
         "$work/crates/search_time/out/search_time" "$work/types_$types/$kind"

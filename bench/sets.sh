@@ -11,11 +11,11 @@ mkdir -p "$work"
 protogate="$work/protogate"
 printf '#!/bin/sh\nGLIBC_TUNABLES=glibc.malloc.hugetlb=1:glibc.malloc.mxfast=0 exec "%s" "$@"\n' "$top/crates/protogate/out/protogate" > "$protogate"
 chmod 755 "$protogate"
-python3 "$top/bench/sets.py" "$work/text.proto"
-python3 "$top/bench/sets.py" "$work/bare.proto" 3700 bare
-python3 "$top/bench/sets.py" "$work/quarter.proto" 925
-python3 "$top/bench/link.py" "$work/files"
-python3 "$top/bench/link.py" "$work/fewer" 256
+python3 "$top/bench/inputs/sets.py" "$work/text.proto"
+python3 "$top/bench/inputs/sets.py" "$work/bare.proto" 3700 bare
+python3 "$top/bench/inputs/sets.py" "$work/quarter.proto" 925
+python3 "$top/bench/inputs/link.py" "$work/files"
+python3 "$top/bench/inputs/link.py" "$work/fewer" 256
 PROTOGATE_PROVED_ONLY=1 "$top/protogate" --help > "$work/help.txt" || [ $? -eq 4 ]
 
 # compile FOLDER FILE WHAT

@@ -20,7 +20,8 @@ import tempfile
 import time
 
 sys.dont_write_bytecode = True
-import ending  # noqa: E402
+sys.path.append(f"{os.path.dirname(os.path.realpath(__file__))}/gate")
+import child_programs  # noqa: E402
 import stamp  # noqa: E402
 import times  # noqa: E402
 from crates import crates_of  # noqa: E402
@@ -127,14 +128,14 @@ class Build:
         self.progress.begin(name)
         with open(f"{self.room}/{name}", "w", encoding="utf-8") as log:
             how = {"stdin": subprocess.DEVNULL, "stdout": log, "stderr": subprocess.STDOUT}
-            self.running[name] = ending.start(words, cwd=folder, **how)
+            self.running[name] = child_programs.start(words, cwd=folder, **how)
 
     def ended(self):
         """Waits until one of the checks has ended, and returns its crate and status."""
         while True:
             for name, check in self.running.items():
                 if os.waitid(os.P_PID, check.pid, os.WEXITED | os.WNOHANG | os.WNOWAIT):
-                    status, self.seconds[name] = ending.wait(check)
+                    status, self.seconds[name] = child_programs.wait(check)
                     return name, status
             time.sleep(0.05)
 
@@ -167,7 +168,7 @@ class Build:
     def stop(self):
         """Stops the checks that are running, with what they started, and waits for them."""
         if self.running:
-            ending.end_all()
+            child_programs.end_all()
 
     def tell(self, name):
         """Prints what the check said of a crate that isn't proved."""
@@ -220,7 +221,7 @@ def main():
         say(it)
     if lacking:
         return 2
-    ending.on_signals()
+    child_programs.on_signals()
     with alone(), tempfile.TemporaryDirectory(prefix="protogate-build-") as room:
         begun, build = stamp.read_now(TOP), Build(room)
         say(f"proving and building: {times.in_words(build.progress.left())} on {processors()} processors, where nothing is kept from earlier runs")

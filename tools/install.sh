@@ -85,10 +85,10 @@ for page in protogate protogate-ci protogate-report; do
 done
 # Shells look for a command's completions in a file of its name, but for zsh, where the file says the names.
 for name in protogate protogate-ci; do
-    put 644 "tools/completions/$name.bash" "share/bash-completion/completions/$name"
-    put 644 "tools/completions/$name.zsh" "share/zsh/site-functions/_$name"
-    put 644 "tools/completions/$name.fish" "share/fish/vendor_completions.d/$name.fish"
+    put 644 "tools/dist/completions/$name.bash" "share/bash-completion/completions/$name"
+    put 644 "tools/dist/completions/$name.zsh" "share/zsh/site-functions/_$name"
+    put 644 "tools/dist/completions/$name.fish" "share/fish/vendor_completions.d/$name.fish"
 done
-put 644 tools/completions/protogate-ci.bash share/bash-completion/completions/protogate-report
-put 644 tools/completions/protogate-ci.fish share/fish/vendor_completions.d/protogate-report.fish
+put 644 tools/dist/completions/protogate-ci.bash share/bash-completion/completions/protogate-report
+put 644 tools/dist/completions/protogate-ci.fish share/fish/vendor_completions.d/protogate-report.fish
 echo "installed $prefix/bin/protogate"

@@ -29,7 +29,8 @@ import threading
 import time
 
 sys.dont_write_bytecode = True
-import ending  # noqa: E402
+sys.path.append(f"{os.path.dirname(os.path.realpath(__file__))}/gate")
+import child_programs  # noqa: E402
 import kit  # noqa: E402
 import stamp  # noqa: E402
 import times  # noqa: E402
@@ -39,34 +40,34 @@ from machine import is_confined, lanes, missing, processors  # noqa: E402
 from try_edits import plan, try_all  # noqa: E402
 
 # What compares the documents, pictures and edits with what they are of: it takes seconds.
-COMPARED = ("model_files.py", "links.py", "pictures.py", "errors.py", "plain_words.py", "held_edits.py")
+COMPARED = ("docs/model_files.py", "docs/links.py", "docs/pictures.py", "docs/errors.py", "docs/plain_words.py", "gate/held_edits.py")
 # What tries what was built: the program and the calls with each request for memory refused, the program on rows, and the scripts that
 # call it. The last ones try the launcher and the gate itself.
 TESTERS = (
-    "try_program_memory.py",
-    "try_call_memory.py",
-    "try_rows.py",
-    "test_ci.py",
-    "test_ci_trees.py",
-    "test_ci_roots.py",
-    "test_ci_words.py",
-    "test_ci_terminal.py",
-    "test_ci_causes.py",
-    "test_errors.py",
-    "test_plain_words.py",
-    "test_packages.py",
-    "test_try_edits.py",
-    "test_launcher.py",
-    "test_gate.py",
-    "test_gate_parts.py",
-    "try_other_kit.py",
+    "rows/try_program_memory.py",
+    "rows/try_call_memory.py",
+    "rows/try_rows.py",
+    "dist/test_ci.py",
+    "dist/test_ci_trees.py",
+    "dist/test_ci_roots.py",
+    "dist/test_ci_words.py",
+    "dist/test_ci_terminal.py",
+    "dist/test_ci_causes.py",
+    "docs/test_errors.py",
+    "docs/test_plain_words.py",
+    "dist/test_packages.py",
+    "gate/test_try_edits.py",
+    "dist/test_launcher.py",
+    "gate/test_gate.py",
+    "gate/test_gate_parts.py",
+    "gate/try_other_kit.py",
 )
 # What comes alone, each with its words: what compares the first answers of a checkout with the program's, and tells how long one takes; what
 # tries the program on random inputs, on all processors; and, last, the commands of the documents, of which some waits go by the clock.
 ALONE = (
-    ("tools/test_first_answer.py",),
-    ("tools/fuzz.py",),
-    ("tools/try_examples.sh", "crates/protogate/out/protogate"),
+    ("tools/dist/test_first_answer.py",),
+    ("tools/fuzz/fuzz.py",),
+    ("tools/docs/try_examples.sh", "crates/protogate/out/protogate"),
 )
 # The programs that the gate needs, and what for.
 PROGRAMS = {"rt": "the kit that proves and builds", "git": "it makes the repository that the gate runs on", "cc": "it links programs"}
@@ -175,14 +176,14 @@ class Proofs:
 
     def run(self, words):
         """Runs `rt ci` with these words. Returns its status, its first and last line, the costs of each crate and their sum."""
-        run = ending.start(["rt", "ci", *words], cwd=self.room, env=environment(), **HOW)
+        run = child_programs.start(["rt", "ci", *words], cwd=self.room, env=environment(), **HOW)
         costs = Costs(run.pid, self.progress.begin)
         watch = threading.Thread(target=costs.watch, daemon=True)
         watch.start()
         first, last = self.pass_on(run.stdout)
         costs.is_over = True
         watch.join()
-        status, seconds = ending.wait(run)
+        status, seconds = child_programs.wait(run)
         return status, first, last.strip(), costs.table(), seconds
 
 
@@ -264,7 +265,7 @@ def documents_agree():
 
 def try_lent(room):
     """Tries a message that outlives its bytes over the libraries in the room. Prints what was said, and returns whether it was right."""
-    return ending.run([sys.executable, f"{os.getcwd()}/tools/try_lent.py", room], stdin=subprocess.DEVNULL)[0] == 0
+    return child_programs.run([sys.executable, f"{os.getcwd()}/tools/gate/try_lent.py", room], stdin=subprocess.DEVNULL)[0] == 0
 
 
 def try_program(progress):
@@ -274,16 +275,16 @@ def try_program(progress):
 
     def ended(name, run):
         said = run.stdout.read()
-        passed.append(ending.wait(run)[0] == 0)
+        passed.append(child_programs.wait(run)[0] == 0)
         progress.end(name)
         print(said, end="", flush=True)
         over.extend(it for it in said.splitlines() if it.startswith("passed over"))
 
-    testers = {it: ending.start([f"tools/{it}"], **HOW) for it in TESTERS}
+    testers = {it: child_programs.start([f"tools/{it}"], **HOW) for it in TESTERS}
     for name, tester in testers.items():
         ended(name, tester)
     for words in ALONE:
-        ended(words[0], ending.start(words, **HOW))
+        ended(words[0], child_programs.start(words, **HOW))
     return passed, over
 
 
@@ -303,7 +304,7 @@ def prove_all(flags):
         print("the documents, pictures or edits lack something\n0 passed, 1 failed")
         return 1, {}
     before, passed, over = resource.getrusage(resource.RUSAGE_CHILDREN), [], []
-    with tempfile.TemporaryDirectory(prefix="protogate-gate-") as room, ending.all_ended():
+    with tempfile.TemporaryDirectory(prefix="protogate-gate-") as room, child_programs.all_ended():
         begun = stamp.read_now(".")
         copy_all(room)
         copied, plans = sums(room), take_edits(room)
@@ -332,7 +333,7 @@ def prove_named(names, flags):
     if unknown:
         print(f"crates.txt has no {', '.join(unknown)}", file=sys.stderr)
         return 2, {}
-    with tempfile.TemporaryDirectory(prefix="protogate-gate-") as room, ending.all_ended():
+    with tempfile.TemporaryDirectory(prefix="protogate-gate-") as room, child_programs.all_ended():
         copy_of(crates, room)
         plans = take_edits(room)
         progress = progress_of(room, plans, ())
@@ -356,7 +357,7 @@ def main():
     if lacking:
         print("\n".join([*lacking, "0 passed, 1 failed"]), flush=True)
         return 2
-    ending.on_signals()
+    child_programs.on_signals()
     status, table = prove_named(names, flags) if names else prove_all(flags)
     if status == 0 and "--costs" in sys.argv:
         kept = {} if not names else times.read()

@@ -1,4 +1,4 @@
-"""What each code means and what to do about it: made by `tools/errors.py --write`, which says where to change it."""
+"""What each code means and what to do about it: made by `tools/docs/errors.py --write`, which says where to change it."""
 
 # By code the sentence of the error, and what to do.
 ERRORS = {

@@ -1,4 +1,4 @@
-"""What an error means and what to do about it, in sentences: by the table of codes that tools/errors.py makes."""
+"""What an error means and what to do about it, in sentences: by the table of codes that tools/docs/errors.py makes."""
 
 import re
 

@@ -20,16 +20,16 @@ use Rattle.pg_dyn.proofs.lemmas.word.Codings.{Reads-from_range}
 use Rattle.pg_dyn.proofs.lemmas.message.Plain as Plain
 use Rattle.pg_dyn.proofs.lemmas.reading.Entries.{entry_read, records_of_entry}
 use Rattle.pg_dyn.proofs.lemmas.reading.Fields as Fields
-use Rattle.pg_dyn.proofs.lemmas.reading.Splitting as Splitting
+use Rattle.pg_dyn.proofs.lemmas.reading.records.Splitting as Splitting
 use Rattle.pg_dyn.proofs.lemmas.laws.Flat as Flat
 use Rattle.pg_dyn.proofs.lemmas.fitting.Belonging.{child_type_is, fields-IsType, flat_parts, is_flat}
 use Rattle.pg_dyn.proofs.lemmas.laws.Shorter.{children_shorter}
 use Rattle.pg_dyn.proofs.lemmas.laws.Again.{records_of-enc}
-use Rattle.pg_dyn.proofs.lemmas.reading.ReadSplits.{reading_of, field_split, no_field_split, unknown_split}
+use Rattle.pg_dyn.proofs.lemmas.reading.records.ReadSplits.{reading_of, field_split, no_field_split, unknown_split}
 use Rattle.pg_dyn.proofs.lemmas.reading.Depth.{dec_is}
 use Rattle.pg_dyn.proofs.lemmas.views.ByField as ByField
 use Rattle.pg_dyn.proofs.lemmas.views.ByComparands as ByComparands
-use Rattle.pg_dyn.proofs.lemmas.reading.RecordsRead.{content_none}
+use Rattle.pg_dyn.proofs.lemmas.reading.records.RecordsRead.{content_none}
 use Rattle.pg_dyn.proofs.lemmas.fitting.ItemLeaves.{item_is_key}
 use Rattle.pg_dyn.proofs.lemmas.message.ReplacingLaws.{content_number, kept_means, type_of-kept_onto, unknown-message_of, type_of-with_parts, type_of-without_siblings}
 use Rattle.pg_dyn.proofs.lemmas.views.SelfSame.{plain_unknown}

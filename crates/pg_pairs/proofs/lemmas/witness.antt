@@ -1,18 +1,4 @@
 pub mod BreakSteps
-pub mod CarriedFields
-pub mod CarriedItems
-pub mod CarriedParts
-pub mod CarryAlone
-pub mod CarryContents
-pub mod CarryLeast
-pub mod CarryLists
-pub mod CarryMapChild
-pub mod CarryMaps
-pub mod CarrySteps
-pub mod CarryTwo
-pub mod CarryUnlike
-pub mod CarryUnlikeMaps
-pub mod CarryWires
 pub mod EntriesRead
 pub mod EntryRecords
 pub mod LeastContents
@@ -24,3 +10,4 @@ pub mod SameMessages
 pub mod SameSteps
 pub mod SetTypes
 pub mod TakenItems
+pub mod carried

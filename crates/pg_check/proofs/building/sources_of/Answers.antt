@@ -7,7 +7,7 @@ use Rattle.pg_check.specs.parts.EnumPlaces.{by_scope, enum_places}
 use Rattle.pg_schema.specs.rules.Pairs.{is_rising}
 use Rattle.pg_check.specs.inner.ByPlace.{named_at}
 use Rattle.pg_check.proofs.lemmas.parts.Linking.{one_more_source, scoped}
-use Rattle.pg_check.proofs.lemmas.parts.UsesRise.{places_rise}
+use Rattle.pg_check.proofs.lemmas.parts.uses.UsesRise.{places_rise}
 use Rattle.pg_check.proofs.lemmas.rules.PlaceLaws.{resolved_places}
 use Rattle.pg_check.proofs.building.sources_of.Goals as goal
 

@@ -1,4 +1,4 @@
-use Rattle.pg_check.proofs.lemmas.parts.ResolvedTypes.{resolved_alone, resolved_types}
+use Rattle.pg_check.proofs.lemmas.parts.uses.ResolvedTypes.{resolved_alone, resolved_types}
 use Rattle.pg_check.proofs.laws.resolved_types.Goals as goal
 
 pub returns-clause-resolved : goal.returns-clause-resolved

@@ -34,7 +34,7 @@ use Rattle.pg_check.specs.rules.KeepsRules.{are_apart, begins_with_zero, has_fie
 use Rattle.pg_check.specs.rules.Names as names
 use Rattle.pg_check.specs.rules.Numbers as numbers
 use Rattle.pg_check.proofs.lemmas.admitting.SoundUses.{all_free, items_apart, keys_apart, or_left, pairs_split}
-use Rattle.pg_check.proofs.lemmas.parts.KeptEnums.{free_of_each_other}
+use Rattle.pg_check.proofs.lemmas.parts.kept.KeptEnums.{free_of_each_other}
 use Rattle.pg_check.proofs.lemmas.parts.Moved.{all_weaker, pairs_of_map, pairs_weaker}
 use Rattle.pg_check.proofs.lemmas.rules.NoneLaws.{and_both, and_left, and_right}
 use Rattle.pg_check.proofs.lemmas.rules.TextSets.{bytes_eq-sym}

@@ -15,9 +15,9 @@ use Rattle.pg_check.specs.parts.MadeEnums.{enumeration, made_enum}
 use Rattle.pg_check.specs.parts.MadeParts.{ArePartsOf, Declared, Source, file_services, nothing, with_file, with_files}
 use Rattle.pg_check.specs.parts.MadeServices.{made_services, service, service_in}
 use Rattle.pg_check.specs.rules.Outline.{all_enums, enums_in, file_enums, full_name, package_of, row_enums, scoped_enums, statement_enums, statements_behind}
-use Rattle.pg_check.proofs.lemmas.parts.PlacedParts.{IsCountable}
+use Rattle.pg_check.proofs.lemmas.parts.places.PlacedParts.{IsCountable}
 use Rattle.pg_check.specs.parts.Sources.{linked_source, linked_sources}
-use Rattle.pg_check.proofs.lemmas.parts.ScopedEnums.{scoped_long}
+use Rattle.pg_check.proofs.lemmas.parts.places.ScopedEnums.{scoped_long}
 use Rattle.pg_check.proofs.lemmas.parts.Totals.{total, total_joined}
 use Rattle.pg_syntax.specs.declared.tree as tree
 use Rattle.pg_syntax.specs.declared.tree.Part.{Part, Row_of-Part, end_of-Part, more_of-Part}

@@ -40,15 +40,15 @@ use Rattle.pg_check.specs.rules.Outline.{Enum, Message, file_messages, package_o
 use Rattle.pg_check.specs.rules.Types.{scalar_named}
 use Rattle.pg_check.proofs.lemmas.parts.Eachs.{each_mapped, joined_all, same_all}
 use Rattle.pg_check.proofs.lemmas.standing.UniqueNames.{distinct_left, distinct_right}
-use Rattle.pg_check.proofs.lemmas.parts.KeptFiles.{each_shape, enums_are, source_enums}
+use Rattle.pg_check.proofs.lemmas.parts.kept.KeptFiles.{each_shape, enums_are, source_enums}
 use Rattle.pg_check.proofs.lemmas.parts.Moved.{all_moved, pairs_of_map, pairs_weaker}
-use Rattle.pg_check.proofs.lemmas.parts.NamedParts.{NamedEnum, NamedMessage, NamedParts, has_package, is_named_field}
-use Rattle.pg_check.proofs.lemmas.parts.NamedUses.{Here, IsMet}
-use Rattle.pg_check.proofs.lemmas.parts.PlacedParts.{HasValuesOnce, PlacedParts}
-use Rattle.pg_check.proofs.lemmas.parts.ResolvedTypes.{IsHeld, IsTreeOf, linked_found, linked_meet, linked_trees, member_named, messages_held, resolved_types, targets_of}
-use Rattle.pg_check.proofs.lemmas.parts.ResolvedUses.{MemberHolds}
-use Rattle.pg_check.proofs.lemmas.parts.WordTrees.{file_good, runs_good}
-use Rattle.pg_check.proofs.lemmas.parts.WordedFiles.{IsGoodEnum, IsGoodEnumPart, IsGoodFile, IsGoodMessage, IsGoodServicePart, IsGoodStatement, good_file, is_word_member, members_worded, oneofs_worded}
+use Rattle.pg_check.proofs.lemmas.parts.names.NamedParts.{NamedEnum, NamedMessage, NamedParts, has_package, is_named_field}
+use Rattle.pg_check.proofs.lemmas.parts.uses.NamedUses.{Here, IsMet}
+use Rattle.pg_check.proofs.lemmas.parts.places.PlacedParts.{HasValuesOnce, PlacedParts}
+use Rattle.pg_check.proofs.lemmas.parts.uses.ResolvedTypes.{IsHeld, IsTreeOf, linked_found, linked_meet, linked_trees, member_named, messages_held, resolved_types, targets_of}
+use Rattle.pg_check.proofs.lemmas.parts.uses.ResolvedUses.{MemberHolds}
+use Rattle.pg_check.proofs.lemmas.parts.names.WordTrees.{file_good, runs_good}
+use Rattle.pg_check.proofs.lemmas.parts.names.WordedFiles.{IsGoodEnum, IsGoodEnumPart, IsGoodFile, IsGoodMessage, IsGoodServicePart, IsGoodStatement, good_file, is_word_member, members_worded, oneofs_worded}
 use Rattle.pg_check.proofs.lemmas.rules.NoneLaws.{and_both, and_left, and_right}
 use Rattle.pg_syntax.specs.declared.tree as tree
 use Rattle.pg_syntax.specs.declared.tree.EnumPart.TheVariants as enum_parts

@@ -26,12 +26,12 @@ use Rattle.pg_check.specs.rules.Messages.{is_repeated}
 use Rattle.pg_check.specs.rules.Outline.{Message, file_messages}
 use Rattle.pg_check.specs.rules.Types.{is_enum, is_packable as may_be, scalar_named}
 use Rattle.pg_check.proofs.lemmas.parts.Eachs.{each_mapped, each_weaker, joined_all}
-use Rattle.pg_check.proofs.lemmas.parts.NamedUses.{no_scalar}
-use Rattle.pg_check.proofs.lemmas.parts.ResolvedTypes.{HasTarget, files_resolve, resolve_in, targets_of}
-use Rattle.pg_check.proofs.lemmas.parts.ResolvedUses.{MemberHolds, MessageHolds, messages_resolved}
-use Rattle.pg_check.proofs.lemmas.parts.UsesRise.{uses_found}
-use Rattle.pg_check.proofs.lemmas.parts.WordTrees.{file_good}
-use Rattle.pg_check.proofs.lemmas.parts.WordedFiles.{IsGoodFile, good_file}
+use Rattle.pg_check.proofs.lemmas.parts.uses.NamedUses.{no_scalar}
+use Rattle.pg_check.proofs.lemmas.parts.uses.ResolvedTypes.{HasTarget, files_resolve, resolve_in, targets_of}
+use Rattle.pg_check.proofs.lemmas.parts.uses.ResolvedUses.{MemberHolds, MessageHolds, messages_resolved}
+use Rattle.pg_check.proofs.lemmas.parts.uses.UsesRise.{uses_found}
+use Rattle.pg_check.proofs.lemmas.parts.names.WordTrees.{file_good}
+use Rattle.pg_check.proofs.lemmas.parts.names.WordedFiles.{IsGoodFile, good_file}
 use Rattle.pg_check.proofs.lemmas.rules.NoneLaws.{and_both, and_left, and_right}
 use Rattle.pg_syntax.specs.declared.tree as tree
 

@@ -16,8 +16,8 @@ use Rattle.pg_schema.specs.rules.Sound.{IsSound}
 use Rattle.pg_schema.specs.rules.TextSets.{are_named_once, is_among}
 use Rattle.pg_schema.specs.rules.Uses.{enum_uses, is_reserved_range, is_used_once, is_value_range, message_uses}
 use Rattle.pg_schema.specs.rules.Words.{is_word}
-use Rattle.pg_check.proofs.lemmas.parts.KeptParts.{KeptEnum, KeptFile, KeptMessage, KeptParts, is_kept_field}
-use Rattle.pg_check.proofs.lemmas.parts.NamedParts.{NamedEnum, NamedMessage, NamedParts, has_package, is_named_field}
+use Rattle.pg_check.proofs.lemmas.parts.kept.KeptParts.{KeptEnum, KeptFile, KeptMessage, KeptParts, is_kept_field}
+use Rattle.pg_check.proofs.lemmas.parts.names.NamedParts.{NamedEnum, NamedMessage, NamedParts, has_package, is_named_field}
 use Rattle.pg_check.proofs.lemmas.rules.NoneLaws.{and_both, and_left, and_right}
 
 together : (a b c d e f : Bool) → (a && c && d && f) ≡ true → (b && e) ≡ true → (a && b && c && d && e && f) ≡ true

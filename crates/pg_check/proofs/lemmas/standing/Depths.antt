@@ -21,7 +21,7 @@ use Rattle.pg_check.specs.rules.Outline.{Message, file_messages, message_scope, 
 use Rattle.pg_check.specs.parts.Sources.{linked_source, linked_sources}
 use Rattle.pg_check.specs.standing.Nesting.{holds_inside, nest_within}
 use Rattle.pg_check.proofs.lemmas.parts.Eachs.{each-length, joined_all}
-use Rattle.pg_check.proofs.lemmas.parts.WordTrees.{file_good}
+use Rattle.pg_check.proofs.lemmas.parts.names.WordTrees.{file_good}
 use Rattle.pg_check.proofs.lemmas.standing.Levels.{AreLevelled, file_levelled, words_in}
 use Rattle.pg_check.proofs.lemmas.standing.TreePlaces.{index_is}
 use Rattle.pg_check.proofs.lemmas.standing.TypesInOrder.{later_types, types_declared}

@@ -8,8 +8,8 @@ use Rattle.pg_schema.specs.rules.Words.{is_word, is_word_byte}
 use Rattle.pg_schema.proofs.lemmas.rules.PairLemmas.{and_left, and_right}
 use Rattle.pg_check.specs.rules.Outline.{Message, all_messages, file_messages, full_name, messages_in, package_of, row_messages, statement_messages, statements_behind}
 use Rattle.pg_check.proofs.lemmas.parts.Eachs.{joined_all}
-use Rattle.pg_check.proofs.lemmas.parts.WordTrees.{IsGood, nodes_good}
-use Rattle.pg_check.proofs.lemmas.parts.WordedFiles.{word_bytes}
+use Rattle.pg_check.proofs.lemmas.parts.names.WordTrees.{IsGood, nodes_good}
+use Rattle.pg_check.proofs.lemmas.parts.names.WordedFiles.{word_bytes}
 use Rattle.pg_syntax.specs.declared.tree as tree
 use Rattle.pg_syntax.specs.declared.tree.Part.{Part, Row_of-Part, end_of-Part, more_of-Part}
 use Rattle.pg_syntax.specs.declared.tree.Part.TheVariants as parts

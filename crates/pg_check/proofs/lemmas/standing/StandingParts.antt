@@ -11,7 +11,7 @@ use Rattle.pg_check.specs.standing.Nesting.{nest_within}
 use Rattle.pg_check.specs.standing.Places.{most_deep}
 use Rattle.pg_check.specs.standing.StandingParts.{StandingParts}
 use Rattle.pg_check.proofs.lemmas.parts.CountableParts.{countable}
-use Rattle.pg_check.proofs.lemmas.parts.PlacedParts.{IsCountable}
+use Rattle.pg_check.proofs.lemmas.parts.places.PlacedParts.{IsCountable}
 use Rattle.pg_check.proofs.lemmas.parts.SoundParts.{linked_sound}
 use Rattle.pg_check.proofs.lemmas.standing.Depths.{nested_within}
 use Rattle.pg_check.proofs.lemmas.standing.EnumsInOrder.{enums_in_order}

@@ -22,7 +22,7 @@ use Rattle.pg_dyn.proofs.lemmas.fitting.FitsSteps.{some_not_none}
 use Rattle.pg_dyn.proofs.lemmas.encoding.LentWeights.{content_lighter, entries_weigh, item_lighter, items_weigh, parts_weight}
 use Rattle.pg_dyn.proofs.Lists.{each_at_index}
 use Rattle.pg_dyn.proofs.lemmas.encoding.NotedLengths.{content_lengths, field_noted, inner_is}
-use Rattle.pg_dyn.proofs.lemmas.reading.Splitting.{found_number}
+use Rattle.pg_dyn.proofs.lemmas.reading.records.Splitting.{found_number}
 use Rattle.pg_dyn.proofs.encoding.+write.Goals as goal
 
 -- Items, one after the other.

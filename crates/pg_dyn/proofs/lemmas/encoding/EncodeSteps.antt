@@ -36,7 +36,7 @@ use Rattle.pg_dyn.proofs.lemmas.fitting.FitsChecks.{same_field}
 use Rattle.pg_dyn.proofs.Lists.{each_after, each_at, each_at_index, each_before, each_weaker, each_within, flat_map-append', flat_map-map, flat_map_same, each_of_all}
 use Rattle.pg_dyn.proofs.lemmas.fitting.PartsFit.{parts_hold}
 use Rattle.pg_dyn.proofs.lemmas.message.ReplacingLaws.{parts_of-kept_onto}
-use Rattle.pg_dyn.proofs.lemmas.reading.Splitting.{found_number}
+use Rattle.pg_dyn.proofs.lemmas.reading.records.Splitting.{found_number}
 
 -- a record's bytes are its tag, its length and its body
 pub record_is : (n : ℕ) (w : WireType) (b : List ℕ) → (written n w b).bytes ≡ (tag n w ++ length_before w b) ++ b

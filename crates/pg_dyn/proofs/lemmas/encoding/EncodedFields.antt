@@ -23,7 +23,7 @@ use Rattle.pg_dyn.specs.encoding.Written.{records_by, written_part}
 use Rattle.pg_dyn.proofs.lemmas.fitting.Belonging.{child_type_is}
 use Rattle.pg_dyn.proofs.Lists.{each-map, each_weaker, filter-append', filter_all, filter_none}
 use Rattle.pg_dyn.proofs.lemmas.message.ReplacingLaws.{kept_onto-append, unknown_of-kept_onto}
-use Rattle.pg_dyn.proofs.lemmas.reading.Splitting.{found_later, found_number, field_records_none, records_in_none}
+use Rattle.pg_dyn.proofs.lemmas.reading.records.Splitting.{found_later, found_number, field_records_none, records_in_none}
 
 module _ (shape : Shape) (type : TypeId) where
   abbrev shown : Kept → List (Part Leaf)

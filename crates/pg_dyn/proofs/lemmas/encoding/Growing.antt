@@ -19,10 +19,10 @@ use Rattle.pg_dyn.specs.encoding.Growing.{leaf_for, IsOfField, keyless, ComesLas
 use Rattle.pg_dyn.proofs.Lists.{each_weaker, each-append, each-map, filter-append', filter_all, filter_none, flat_map-append'}
 use Rattle.pg_dyn.proofs.lemmas.fitting.Belonging.{child_type_is, fields-IsType}
 use Rattle.pg_dyn.proofs.lemmas.reading.Fields.{field_of}
-use Rattle.pg_dyn.proofs.lemmas.reading.ReadSplits.{parts-message_from}
+use Rattle.pg_dyn.proofs.lemmas.reading.records.ReadSplits.{parts-message_from}
 use Rattle.pg_dyn.proofs.lemmas.fitting.NoSiblings.{no_sibling_behind}
 use Rattle.pg_dyn.proofs.lemmas.laws.Order.{places-parts}
-use Rattle.pg_dyn.proofs.lemmas.reading.Splitting.{field_records_none, found_first, found_later, found_number}
+use Rattle.pg_dyn.proofs.lemmas.reading.records.Splitting.{field_records_none, found_first, found_later, found_number}
 
 -- The records of fields.
 

@@ -20,7 +20,7 @@ use Rattle.pg_dyn.proofs.lemmas.encoding.EncodedFields.{held_numbered}
 use Rattle.pg_dyn.proofs.lemmas.encoding.EncodeSteps.{HeldContents, field_is, lone_of_part, packable, packed_no_lengths, packs}
 use Rattle.pg_dyn.proofs.Lists.{each_weaker}
 use Rattle.pg_dyn.proofs.lemmas.message.ReplacingLaws.{kept_onto-append}
-use Rattle.pg_dyn.proofs.lemmas.reading.Splitting.{found_number}
+use Rattle.pg_dyn.proofs.lemmas.reading.records.Splitting.{found_number}
 
 if_same : (b : Bool) → ◌≡◌ {A = List ℕ} (cond b [] []) []
 if_same true = refl

@@ -17,7 +17,7 @@ use Rattle.pg_dyn.specs.views.Comparison.{outside, unshared_bytes}
 use Rattle.pg_dyn.specs.encoding.Written.{parts_written, records_by}
 use Rattle.pg_dyn.specs.encoding.Unshared.{outside_written}
 use Rattle.pg_dyn.proofs.Lists.{each_weaker, each_of_all, each-filter, filter-append', each_filtered, flat_map-append'}
-use Rattle.pg_dyn.proofs.lemmas.reading.Splitting.{found_number}
+use Rattle.pg_dyn.proofs.lemmas.reading.records.Splitting.{found_number}
 use Rattle.pg_dyn.proofs.lemmas.fitting.Belonging.{fields-IsType}
 use Rattle.pg_dyn.proofs.lemmas.encoding.EncodedFields.{IsFound, IsNumbered, by_fields, fields_shown, merged, other_parts, row_numbered, written_row}
 

@@ -16,7 +16,7 @@ use Rattle.pg_dyn.specs.fitting.Belonging.{MayBeZero, LeafFits, ComesBefore, IsA
 use Rattle.pg_dyn.proofs.lemmas.word.Codings.{Reads, Reads-from_range}
 use Rattle.pg_dyn.specs.laws.Bodies.{IsNestedLeaf}
 use Rattle.pg_dyn.proofs.lemmas.reading.Fields.{field_of}
-use Rattle.pg_dyn.proofs.lemmas.reading.Splitting.{found_number}
+use Rattle.pg_dyn.proofs.lemmas.reading.records.Splitting.{found_number}
 use Rattle.pg_dyn.proofs.lemmas.laws.Flat.{FlatPart, FlatParts, IsFlat}
 use Rattle.pg_dyn.proofs.Lists.{each_at}
 

@@ -32,7 +32,7 @@ use Rattle.pg_dyn.proofs.lemmas.fitting.ItemLeaves.{in_range, item_of_range, map
 use Rattle.pg_dyn.proofs.lemmas.reading.Fields.{field_of}
 use Rattle.pg_dyn.proofs.lemmas.fitting.PartsToFits.{HoldsParts, contents_whole}
 use Rattle.pg_dyn.proofs.lemmas.message.ReplacingLaws.{fields_from}
-use Rattle.pg_dyn.proofs.lemmas.reading.Splitting.{found_number}
+use Rattle.pg_dyn.proofs.lemmas.reading.records.Splitting.{found_number}
 
 -- Where parts are.
 

@@ -11,7 +11,7 @@ use Rattle.pg_dyn.specs.declared.message.UnknownRecord.{UnknownRecord}
 use Rattle.pg_dyn.specs.reading.Content.{is_accepted, takes, is_unknown}
 use Rattle.pg_dyn.specs.message.Seen.{record_seen}
 use Rattle.pg_dyn.specs.fitting.Belonging.{IsUnknown}
-use Rattle.pg_dyn.proofs.lemmas.reading.Splitting.{found_number}
+use Rattle.pg_dyn.proofs.lemmas.reading.records.Splitting.{found_number}
 use Rattle.pg_dyn.proofs.lemmas.reading.TypeFields.{rising, takes_it, unknown_where_none, unknown_where_not_accepted}
 use Rattle.pg_dyn.proofs.Lists.{list_any_at}
 

@@ -7,7 +7,7 @@ use Rattle.pg_dyn.specs.setting.ContentFaults.{is_in_oneof, members}
 use Rattle.pg_dyn.specs.fitting.ContentFits.{AreApart, NoneSiblings}
 use Rattle.pg_dyn.specs.message.Seen.{Rises}
 use Rattle.pg_dyn.proofs.Lists.{filter_none, each_weaker, each_both}
-use Rattle.pg_dyn.proofs.lemmas.reading.Splitting.{found_number}
+use Rattle.pg_dyn.proofs.lemmas.reading.records.Splitting.{found_number}
 use Rattle.pg_dyn.proofs.lemmas.setting.WholeFaults.{same_some}
 
 module _ (fs : List FieldShape) where

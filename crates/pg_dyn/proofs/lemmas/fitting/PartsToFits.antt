@@ -17,10 +17,10 @@ use Rattle.pg_dyn.specs.fitting.PartsFit.{FieldHolds, HoldsItem, IsPartOf}
 use Rattle.pg_dyn.specs.message.Replacing.{kept_onto, kept_part}
 use Rattle.pg_dyn.specs.message.Seen.{Rises}
 use Rattle.pg_dyn.proofs.lemmas.fitting.Belonging.{child_type_is}
-use Rattle.pg_dyn.proofs.lemmas.reading.GoodRecords.{same_found}
+use Rattle.pg_dyn.proofs.lemmas.reading.gathered.GoodRecords.{same_found}
 use Rattle.pg_dyn.proofs.Lists.{each-append, each-map, each_both, each_weaker}
 use Rattle.pg_dyn.proofs.lemmas.message.ReplacingLaws.{kept_onto-append, type_of-kept_onto}
-use Rattle.pg_dyn.proofs.lemmas.reading.Splitting.{found_number}
+use Rattle.pg_dyn.proofs.lemmas.reading.records.Splitting.{found_number}
 
 -- Where parts are.
 

@@ -19,7 +19,7 @@ use Rattle.pg_dyn.specs.fitting.Belonging.{LeafFits, IsMessage}
 use Rattle.pg_dyn.proofs.Lists.{all_some-map, each_weaker, each_both}
 use Rattle.pg_dyn.proofs.lemmas.reading.Fields.{field_of}
 use Rattle.pg_dyn.proofs.lemmas.laws.Flat.{IsFlat, Known, each_known, contents_again, unknown_again, records_again}
-use Rattle.pg_dyn.proofs.lemmas.reading.Readable.{ChildReads, all_readable_again}
+use Rattle.pg_dyn.proofs.lemmas.reading.records.Readable.{ChildReads, all_readable_again}
 use Rattle.pg_dyn.proofs.lemmas.fitting.Belonging.{fields-IsType, child_type_is, is_flat}
 use Rattle.pg_dyn.proofs.lemmas.laws.Order.{NeverFalls, of_each_is, never_falls, places-parts}
 use Rattle.pg_dyn.specs.laws.OwnParts.{ChildrenShorter}

@@ -22,10 +22,10 @@ use Rattle.pg_dyn.specs.reading.ReadingOn.{IsNoMessage}
 use Rattle.pg_dyn.specs.reading.Steps.{IsShallowRecord}
 use Rattle.pg_dyn.specs.laws.Examples.{first, field, scalar, member, int32}
 use Rattle.pg_dyn.specs.laws.FaultExamples.{FaultExamples, text, text_or_number, packed, packed_of_four, child_and_text, children_by_text, too_long}
-use Rattle.pg_dyn.proofs.lemmas.reading.Ahead.{faultless}
-use Rattle.pg_dyn.proofs.lemmas.reading.BodiesByFields.{shallow_from_records}
-use Rattle.pg_dyn.proofs.lemmas.reading.GoodRecords.{same_found}
-use Rattle.pg_dyn.proofs.lemmas.reading.ShallowRecords.{scalar_shallow}
+use Rattle.pg_dyn.proofs.lemmas.reading.faults.Ahead.{faultless}
+use Rattle.pg_dyn.proofs.lemmas.reading.by_fields.BodiesByFields.{shallow_from_records}
+use Rattle.pg_dyn.proofs.lemmas.reading.gathered.GoodRecords.{same_found}
+use Rattle.pg_dyn.proofs.lemmas.reading.faults.ShallowRecords.{scalar_shallow}
 
 -- nothing in front
 front_empty : (shape : Shape) (levels : ℕ) (fs : List FieldShape) → AreFaultless shape (suc levels) fs []

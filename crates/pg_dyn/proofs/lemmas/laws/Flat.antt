@@ -16,7 +16,7 @@ use Rattle.pg_dyn.specs.laws.Laws.{of_number}
 use Rattle.pg_dyn.proofs.Lists.{each_weaker, each_of_all, each_both, each-append, each-flat_map, each_swap, filter_all, filter_none, filter-append', filtered_out, flat_map-append', list_any_none, none_list_any, after_last_of_none, filter-after_last_of_none, filter-filter_weaker, each_at, list_any_at}
 use Rattle.pg_dyn.specs.laws.OwnParts.{FitsField, Ordered, ShortBodies}
 use Rattle.pg_dyn.proofs.lemmas.reading.Fields.{IsOwn, each_own, content_again}
-use Rattle.pg_dyn.proofs.lemmas.reading.Splitting.{each_found, field_records_none, records_of_number, takes_number}
+use Rattle.pg_dyn.proofs.lemmas.reading.records.Splitting.{each_found, field_records_none, records_of_number, takes_number}
 
 -- a part of a field of this type, before those later parts
 pub record FlatPart (fs : List FieldShape) (p : Part Leaf) (later : List Place) : Type 0 where

@@ -10,7 +10,7 @@ use Rattle.pg_dyn.specs.reading.Optional.{joined}
 use Rattle.pg_dyn.specs.message.Message.{Leaf, Message, ends, holds, nests, Part, Place, place_of, places, parts, is_of}
 use Rattle.pg_dyn.specs.fitting.Belonging.{MayFollow, IsPart, IsMessage}
 use Rattle.pg_dyn.proofs.Lists.{each_weaker}
-use Rattle.pg_dyn.proofs.lemmas.reading.Splitting.{found_number, found_later}
+use Rattle.pg_dyn.proofs.lemmas.reading.records.Splitting.{found_number, found_later}
 
 -- numbers of fields that never fall
 pub record IsNext (fs : List FieldShape) (number : ℕ) (later : List Place) : Type 0 where

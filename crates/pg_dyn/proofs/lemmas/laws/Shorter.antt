@@ -21,7 +21,7 @@ use Rattle.pg_dyn.proofs.Lists.{each_weaker, each_both, each_of_all, each_swap, 
 use Rattle.pg_dyn.proofs.lemmas.reading.Entries.{length_body-written}
 use Rattle.pg_dyn.specs.laws.OwnParts.{FitsField, ChildrenShorter}
 use Rattle.pg_dyn.proofs.lemmas.reading.Fields.{field_of}
-use Rattle.pg_dyn.proofs.lemmas.reading.Splitting.{found_number}
+use Rattle.pg_dyn.proofs.lemmas.reading.records.Splitting.{found_number}
 use Rattle.pg_dyn.proofs.lemmas.laws.Flat.{IsFlat, Known, each_known, each_fits, own_records, own_within}
 
 module _ (number : ℕ) (t : TypeId) where

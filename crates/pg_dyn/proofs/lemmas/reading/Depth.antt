@@ -24,7 +24,7 @@ use Rattle.pg_dyn.specs.reading.Decoding.{Reader, is_child, is_plain_readable, a
 use Rattle.pg_dyn.proofs.Lists.{each-map, each_of_all, each_weaker, map_same, flat_map-append', option_map_some, and_then_some}
 use Rattle.pg_dyn.proofs.lemmas.message.Plain.{last_item_none}
 use Rattle.pg_dyn.proofs.lemmas.reading.Fields.{field_of}
-use Rattle.pg_dyn.proofs.lemmas.reading.ReadSplits.{Gives, all_some_gives}
+use Rattle.pg_dyn.proofs.lemmas.reading.records.ReadSplits.{Gives, all_some_gives}
 
 abbrev pub bodies : List WireRecord → List ℕ
 bodies rs = flat_map (λ (r : WireRecord). r.body) rs

@@ -12,7 +12,7 @@ use Rattle.pg_schema.specs.ShapeRules.{IsField, IsType, Rising}
 use Rattle.pg_wire.specs.Records.{WireRecord}
 use Rattle.pg_dyn.specs.reading.Content.{is_accepted, takes, is_unknown}
 use Rattle.pg_dyn.proofs.Lists.{each_at, each_weaker, list_any_none}
-use Rattle.pg_dyn.proofs.lemmas.reading.Splitting.{found_first, found_later}
+use Rattle.pg_dyn.proofs.lemmas.reading.records.Splitting.{found_first, found_later}
 
 -- What a schema says of the fields of a type.
 

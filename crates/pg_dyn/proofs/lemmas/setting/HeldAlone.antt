@@ -15,7 +15,7 @@ use Rattle.pg_dyn.proofs.lemmas.laws.Flat.{is_sibling_sym}
 use Rattle.pg_dyn.proofs.lemmas.message.KeptParts.{at_index}
 use Rattle.pg_dyn.proofs.Lists.{each_weaker}
 use Rattle.pg_dyn.proofs.lemmas.setting.MembersOut.{removed_is}
-use Rattle.pg_dyn.proofs.lemmas.reading.Splitting.{found_number}
+use Rattle.pg_dyn.proofs.lemmas.reading.records.Splitting.{found_number}
 use Rattle.pg_dyn.proofs.lemmas.setting.WithoutSiblings.{sibling_found, sibling_nowhere}
 
 module _ (fs : List FieldShape) (rising : Rising fs) (f : FieldShape) (n : ℕ) (found : field_at fs n ≡ Some f) where

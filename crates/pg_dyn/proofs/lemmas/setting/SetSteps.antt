@@ -23,7 +23,7 @@ use Rattle.pg_dyn.specs.setting.Reported.{IsTaken}
 use Rattle.pg_dyn.proofs.lemmas.setting.ContentChecks.{takes_early, taken_once, taken_twice}
 use Rattle.pg_dyn.proofs.Lists.{each_of_all, list_any_none}
 use Rattle.pg_dyn.proofs.lemmas.setting.PutLaws.{no_self_sibling, siblings_after, normalized_number}
-use Rattle.pg_dyn.proofs.lemmas.reading.Splitting.{found_number}
+use Rattle.pg_dyn.proofs.lemmas.reading.records.Splitting.{found_number}
 
 -- the lowest fault may be reported
 pub may_refuse : (F : DynError → Type 0) (e : DynError) → IsLowest F e → MayRefuseFor F e

@@ -14,7 +14,7 @@ use Rattle.pg_dyn.specs.message.Kept.{Kept, ends}
 use Rattle.pg_dyn.specs.message.KeptParts.{KeptItem, parts_of}
 use Rattle.pg_dyn.specs.message.Replacing.{kept_onto, kept_from, is_sibling_number, without_siblings}
 use Rattle.pg_dyn.proofs.Lists.{each_weaker, each-filter, list_any_none}
-use Rattle.pg_dyn.proofs.lemmas.reading.Splitting.{found_first, found_later}
+use Rattle.pg_dyn.proofs.lemmas.reading.records.Splitting.{found_first, found_later}
 use Rattle.pg_dyn.proofs.lemmas.message.ReplacingLaws.{shown, fields_from, seen-filter, parts_shown, unknown_shown, type_shown}
 
 -- The sibling of a number is the field that is found there.

@@ -18,10 +18,10 @@ use Rattle.pg_dyn.specs.views.Breaking.{is_kept}
 use Rattle.pg_dyn.specs.laws.Laws.{of_number}
 use Rattle.pg_dyn.specs.laws.ByComparands.{comparands_at, field_read, is_shown, is_field_kept, EachFieldKept, NoComparandsMeet}
 use Rattle.pg_dyn.proofs.Lists.{all_some-map, each_weaker, each_of_all, each_swap, each_at, filter-map, filtered_out, list_all_each, list_all_true, list_any_none, after_last_of_none, filter-after_last_of_none, filter-filter_weaker, each_unfiltered, each_filtered}
-use Rattle.pg_dyn.proofs.lemmas.reading.Splitting.{each_found, field_records_none, found_number, records_of_number, records_of_no_number, takes_number}
+use Rattle.pg_dyn.proofs.lemmas.reading.records.Splitting.{each_found, field_records_none, found_number, records_of_number, records_of_no_number, takes_number}
 use Rattle.pg_dyn.proofs.lemmas.fitting.Belonging.{fields-IsType}
-use Rattle.pg_dyn.proofs.lemmas.reading.ReadSplits.{reading_of, field_split}
-use Rattle.pg_dyn.proofs.lemmas.reading.RecordsRead.{content_none}
+use Rattle.pg_dyn.proofs.lemmas.reading.records.ReadSplits.{reading_of, field_split}
+use Rattle.pg_dyn.proofs.lemmas.reading.records.RecordsRead.{content_none}
 use Rattle.pg_dyn.proofs.lemmas.reading.Depth.{dec_is}
 use Rattle.pg_dyn.proofs.lemmas.views.ByField.{records_are, kept_from, kept_gives}
 

@@ -17,9 +17,9 @@ use Rattle.pg_dyn.specs.views.Comparison.{View, same_content, outside, records_o
 use Rattle.pg_dyn.specs.views.Breaking.{is_kept}
 use Rattle.pg_dyn.specs.laws.Laws.{SharedSame, IsKeptByField}
 use Rattle.pg_dyn.proofs.Lists.{each_weaker, filter_all, filter_none, filter-flat_map, list_all_each, each_at, filter-filter_weaker, list_all_true}
-use Rattle.pg_dyn.proofs.lemmas.reading.Splitting.{found_number, each_found, field_records_number, takes_number}
+use Rattle.pg_dyn.proofs.lemmas.reading.records.Splitting.{found_number, each_found, field_records_number, takes_number}
 use Rattle.pg_dyn.proofs.lemmas.fitting.Belonging.{fields-IsType}
-use Rattle.pg_dyn.proofs.lemmas.reading.ReadSplits.{reading_of, unknown_split}
+use Rattle.pg_dyn.proofs.lemmas.reading.records.ReadSplits.{reading_of, unknown_split}
 use Rattle.pg_dyn.proofs.lemmas.reading.Depth.{dec_is}
 use Rattle.pg_dyn.proofs.lemmas.laws.Again.{records_of-enc}
 use Rattle.pg_dyn.proofs.lemmas.views.SelfSame.{bytes_eq_self, plain_unknown}

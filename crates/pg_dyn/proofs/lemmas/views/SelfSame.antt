@@ -15,7 +15,7 @@ use Rattle.pg_dyn.specs.encoding.Encoding.{child_type, encoded_parts, enc}
 use Rattle.pg_dyn.specs.views.Comparison.{numbers, Expected, Alike, Kept, is_zero_expected, is_zero_item, hides_zero, shown, alike_leaves, same_key, matches, outside, records_outside, same_message, unshared_bytes, expected, same}
 use Rattle.pg_dyn.specs.views.Breaking.{is_kept, Compatible}
 use Rattle.pg_dyn.proofs.Lists.{each_weaker, filter_none, list_all_each}
-use Rattle.pg_dyn.proofs.lemmas.reading.Splitting.{each_found}
+use Rattle.pg_dyn.proofs.lemmas.reading.records.Splitting.{each_found}
 use Rattle.pg_dyn.proofs.lemmas.fitting.Belonging.{fields-IsType}
 use Rattle.pg_dyn.proofs.lemmas.laws.Again.{reads_again}
 use Rattle.pg_dyn.proofs.lemmas.word.Leaves.{leaf_eq_self}

@@ -21,7 +21,7 @@ use Rattle.pg_dyn.proofs.Lists.{filter-append', filter-map, each_at, filter-filt
 use Rattle.pg_dyn.proofs.lemmas.views.SelfSame.{plain_unknown}
 use Rattle.pg_dyn.proofs.lemmas.fitting.Belonging.{fields-IsType}
 use Rattle.pg_dyn.proofs.lemmas.views.ByComparands.{comparands_written, kept_by_comparands, comparands_kept}
-use Rattle.pg_dyn.proofs.lemmas.reading.Splitting.{field_records_number, field_records_none, number_kept, number_dropped, each_found, found_number}
+use Rattle.pg_dyn.proofs.lemmas.reading.records.Splitting.{field_records_number, field_records_none, number_kept, number_dropped, each_found, found_number}
 
 module _ (view : View) (old new : Shape) (a b : TypeId) (n : ℕ) where
   part_kept : (t : Bool) (c : Comparand) (front rest : Message) (cs : List Comparand) → comparands view old new a b front ≡ c ∷ comparands view old new a b rest → comparands view old new a b rest ≡ cs → comparands view old new a b (cond t front rest) ≡ cond t (c ∷ cs) cs

@@ -15,7 +15,7 @@ use Rattle.pg_dyn.specs.reading.Faults.{Code, FirstFault, NotUtf8, TooDeep, Wire
 use Rattle.pg_dyn.specs.laws.Laws.{FaultsAreReal}
 use Rattle.pg_dyn.specs.reading.Refusals.{MayRefuse}
 use Rattle.pg_dyn.specs.message.Message.{Message}
-use Rattle.pg_dyn.proofs.lemmas.reading.Faulty.{text_not_deep, wire_not_deep}
+use Rattle.pg_dyn.proofs.lemmas.reading.faults.Faulty.{text_not_deep, wire_not_deep}
 use Rattle.pg_check.specs.standing.Places.{most_deep}
 use Rattle.pg_fds.specs.declared.error.FdsError.{FdsError}
 use Rattle.pg_fds.specs.declared.error.FdsError.TheVariants as errors

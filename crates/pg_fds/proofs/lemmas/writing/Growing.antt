@@ -15,8 +15,8 @@ use Rattle.pg_dyn.specs.encoding.Writing.{item_record}
 use Rattle.pg_dyn.specs.message.Message.{Bytes, Int, Item, Msg, Plain, ends, message_from, parts}
 use Rattle.pg_dyn.specs.reading.Decoding.{dec}
 use Rattle.pg_dyn.proofs.lemmas.laws.Again.{reads_again}
-use Rattle.pg_dyn.proofs.lemmas.reading.ReadSplits.{parts-message_from}
-use Rattle.pg_dyn.proofs.lemmas.reading.Splitting.{records_in_none}
+use Rattle.pg_dyn.proofs.lemmas.reading.records.ReadSplits.{parts-message_from}
+use Rattle.pg_dyn.proofs.lemmas.reading.records.Splitting.{records_in_none}
 use Rattle.pg_dyn.specs.encoding.Growing.{ComesLast, IsOfField, leaf_for}
 use Rattle.pg_dyn.proofs.PublicLaws.{encoding_grows}
 use Rattle.pg_fds.specs.descriptor.Descriptor as descriptor

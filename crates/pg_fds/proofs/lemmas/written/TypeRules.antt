@@ -11,8 +11,8 @@ use Rattle.pg_schema.specs.rules.Pairs.{are_distinct, is_rising}
 use Rattle.pg_schema.specs.rules.Uses.{is_reserved_range}
 use Rattle.pg_schema.proofs.lemmas.rules.PairLemmas.{and_left, and_right}
 use Rattle.pg_fds.proofs.lemmas.writing.FewOneofs.{oneof_small}
-use Rattle.pg_fds.proofs.lemmas.written.PlainNames.{field_word}
-use Rattle.pg_fds.proofs.lemmas.written.QualifiedNames.{word_plain}
+use Rattle.pg_fds.proofs.lemmas.written.names.PlainNames.{field_word}
+use Rattle.pg_fds.proofs.lemmas.written.names.QualifiedNames.{word_plain}
 use Rattle.pg_fds.proofs.lemmas.written.WrittenItems.{Keeps}
 
 -- ---- the rules of a message type

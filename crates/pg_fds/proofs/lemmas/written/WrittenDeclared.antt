@@ -47,9 +47,9 @@ use Rattle.pg_fds.proofs.lemmas.lists.NameCounts.{all_counted, at_most_once, cou
 use Rattle.pg_fds.proofs.lemmas.rows.NamesOfRows.{in_file, in_files, in_service, in_type, values_names}
 use Rattle.pg_fds.proofs.lemmas.outline.OutlinedFiles.{free_there}
 use Rattle.pg_fds.proofs.lemmas.rows.RowPlaces.{test_at}
-use Rattle.pg_fds.proofs.lemmas.written.NamedScopes.{service_is_scope, type_is_scope}
-use Rattle.pg_fds.proofs.lemmas.written.PlainNames.{methods_plain, type_plain, values_plain}
-use Rattle.pg_fds.proofs.lemmas.written.QualifiedNames.{all_in, distinct_dotted, is_plain, scope_free, scope_of}
+use Rattle.pg_fds.proofs.lemmas.written.names.NamedScopes.{service_is_scope, type_is_scope}
+use Rattle.pg_fds.proofs.lemmas.written.names.PlainNames.{methods_plain, type_plain, values_plain}
+use Rattle.pg_fds.proofs.lemmas.written.names.QualifiedNames.{all_in, distinct_dotted, is_plain, scope_free, scope_of}
 use Rattle.pg_fds.proofs.lemmas.written.Slots.{made}
 use Rattle.pg_fds.proofs.lemmas.written.TypeRules.{declared, rising}
 use Rattle.pg_fds.proofs.lemmas.written.WrittenEntries.{entries_called, none_passes}

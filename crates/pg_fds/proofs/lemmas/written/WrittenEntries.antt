@@ -25,7 +25,7 @@ use Rattle.pg_fds.specs.stated.SetNames.{name_in, qualified}
 use Rattle.pg_fds.specs.stated.StatedNames.{NameLookup, first_of}
 use Rattle.pg_fds.specs.stated.StatedTypes.{last_named}
 use Rattle.pg_fds.proofs.lemmas.lists.Matched.{Has, differ_apart}
-use Rattle.pg_fds.proofs.lemmas.written.QualifiedNames.{entry_plain, is_plain, plain_in, scope_of}
+use Rattle.pg_fds.proofs.lemmas.written.names.QualifiedNames.{entry_plain, is_plain, plain_in, scope_of}
 use Rattle.pg_fds.proofs.lemmas.written.Slots.{made}
 use Rattle.pg_fds.proofs.lemmas.written.WrittenFields.{entry_called, entry_is_entry, entry_parts, entry_written}
 use Rattle.pg_fds.proofs.lemmas.written.WrittenItems.{HasEntry, HasEntryName}

@@ -20,8 +20,8 @@ use Rattle.pg_fds.specs.writing.Places.{Declared, declared_in}
 use Rattle.pg_fds.specs.stated.SetMessages.{children_at}
 use Rattle.pg_fds.specs.stated.SetNames.{file_scope}
 use Rattle.pg_fds.proofs.lemmas.rows.RowPlaces.{AreAt, AreFrom, as_long, at_both, front_and_rest}
-use Rattle.pg_fds.proofs.lemmas.written.QualifiedNames.{scope_of}
-use Rattle.pg_fds.proofs.lemmas.written.WrittenDepth.{nest_enough}
+use Rattle.pg_fds.proofs.lemmas.written.names.QualifiedNames.{scope_of}
+use Rattle.pg_fds.proofs.lemmas.written.levels.WrittenDepth.{nest_enough}
 use Rattle.pg_fds.proofs.lemmas.written.WrittenFiles.{enums_of_file, file_scoped, file_written, placed_file, services_of_file, types_of_file}
 use Rattle.pg_fds.proofs.lemmas.written.WrittenRows.{AreRows, EnumsAt, PlacedAt, TypesAt, enum_row, own_enums, own_services, service_row, types_written}
 use Rattle.pg_fds.proofs.lemmas.written.WrittenTypes.{placed_row, type_row}

@@ -30,7 +30,7 @@ use Rattle.pg_fds.proofs.lemmas.reading.FileItems.{imports_made}
 use Rattle.pg_fds.proofs.lemmas.reading.MadeOptions.{all_under, found_one, option_item, same_option, value_is, views_under}
 use Rattle.pg_fds.proofs.lemmas.outline.Outlining.{same_file}
 use Rattle.pg_fds.proofs.lemmas.rows.PlaceIds.{enums_of_places, services_of_places, types_of_places}
-use Rattle.pg_fds.proofs.lemmas.written.QualifiedNames.{package_words, scope_of}
+use Rattle.pg_fds.proofs.lemmas.written.names.QualifiedNames.{package_words, scope_of}
 use Rattle.pg_fds.proofs.lemmas.written.Slots.{Slot, at, children_said, children_slot, counts_slot, filled_said, filled_slot, item_found, made, numbers_said, options_said, options_slot, says, text_said, text_slot, texts_said, texts_slot}
 
 -- ---- options

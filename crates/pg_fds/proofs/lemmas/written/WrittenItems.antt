@@ -34,7 +34,7 @@ use Rattle.pg_fds.specs.stated.StatedNames.{NameLookup, both, element_of_named, 
 use Rattle.pg_fds.specs.stated.StatedOneofs.{oneof}
 use Rattle.pg_fds.specs.stated.Views.{field_view}
 use Rattle.pg_fds.proofs.lemmas.lists.ViewLaws.{same_field}
-use Rattle.pg_fds.proofs.lemmas.written.QualifiedNames.{entry_plain, is_plain, plain_in, scope_of}
+use Rattle.pg_fds.proofs.lemmas.written.names.QualifiedNames.{entry_plain, is_plain, plain_in, scope_of}
 use Rattle.pg_fds.proofs.lemmas.written.WrittenFields as fields
 use Rattle.pg_fds.proofs.lemmas.written.WrittenFields.{entry_written, key_and_value, of_entry, written}
 use Rattle.pg_fds.proofs.lemmas.written.WrittenServices.{HasNames, means_enum, means_type}

@@ -26,12 +26,12 @@ use Rattle.pg_fds.proofs.lemmas.rows.MeaningLaws.{files_meant}
 use Rattle.pg_fds.proofs.lemmas.rows.PartsMade.{parts_there}
 use Rattle.pg_fds.proofs.lemmas.rows.RowNames.{AreMeant, entries_mean, has_names}
 use Rattle.pg_fds.proofs.lemmas.rows.RowPlaces.{all_from, at_all, test_at}
-use Rattle.pg_fds.proofs.lemmas.written.NamedScopes.{type_is_scope}
+use Rattle.pg_fds.proofs.lemmas.written.names.NamedScopes.{type_is_scope}
 use Rattle.pg_fds.proofs.lemmas.written.WrittenDeclared.{its_entries_once, may_be_declared, names_once}
 use Rattle.pg_fds.proofs.lemmas.written.WrittenEnums.{enum_is}
 use Rattle.pg_fds.proofs.lemmas.written.WrittenFileRows.{AreFileRows, StandBehind, enums_in, file_rows, services_in, types_in}
 use Rattle.pg_fds.proofs.lemmas.written.WrittenFiles.{file_is, file_written, placed_file}
-use Rattle.pg_fds.proofs.lemmas.written.WrittenNesting.{files_nest}
+use Rattle.pg_fds.proofs.lemmas.written.levels.WrittenNesting.{files_nest}
 use Rattle.pg_fds.proofs.lemmas.written.WrittenRows.{enum_row, service_row}
 use Rattle.pg_fds.proofs.lemmas.written.WrittenServices.{HasNames, service_is}
 use Rattle.pg_fds.proofs.lemmas.written.WrittenTypes.{placed_row, type_is, type_row}

@@ -29,10 +29,10 @@ use Rattle.pg_fds.specs.stated.TypeMessages.{is_no_entry}
 use Rattle.pg_fds.specs.writing.Set.{service_items, services_items}
 use Rattle.pg_fds.specs.stated.SetNames.{name_in, qualified}
 use Rattle.pg_fds.proofs.lemmas.rows.RowPlaces.{AreAt, AreFrom, as_long, at_both, at_one, first_and_later, front_and_rest, test_at}
-use Rattle.pg_fds.proofs.lemmas.written.QualifiedNames.{scope_of}
+use Rattle.pg_fds.proofs.lemmas.written.names.QualifiedNames.{scope_of}
 use Rattle.pg_fds.proofs.lemmas.written.Slots.{made}
 use Rattle.pg_fds.proofs.lemmas.written.WrittenEnums.{enum_called}
-use Rattle.pg_fds.proofs.lemmas.written.WrittenNames.{is_scope, name_qualified, named_there}
+use Rattle.pg_fds.proofs.lemmas.written.names.WrittenNames.{is_scope, name_qualified, named_there}
 use Rattle.pg_fds.proofs.lemmas.written.WrittenServices.{service_called}
 use Rattle.pg_fds.proofs.lemmas.written.WrittenTypes.{inside, none_entry, placed_row, type_called, type_enums, type_nested, type_row, type_written}
 

@@ -29,11 +29,11 @@ use Rattle.pg_fds.specs.stated.Stated.{are_taken, declared_by, stated, stated_fi
 use Rattle.pg_fds.specs.stated.StatedNames.{only_if}
 use Rattle.pg_fds.specs.stated.Views.{parts_view}
 use Rattle.pg_fds.proofs.lemmas.descriptor.WrittenShape.{written_is_shape}
-use Rattle.pg_fds.proofs.lemmas.written.Levels.{AreFlat, none_too_deep}
+use Rattle.pg_fds.proofs.lemmas.written.levels.Levels.{AreFlat, none_too_deep}
 use Rattle.pg_fds.proofs.lemmas.written.Slots.{Slot, children_said, children_slot, made, says}
 use Rattle.pg_fds.proofs.lemmas.written.WrittenEntries.{all_pass}
 use Rattle.pg_fds.proofs.lemmas.written.WrittenFiles.{file_is_proto3, file_written}
-use Rattle.pg_fds.proofs.lemmas.written.WrittenLevels.{set_levels}
+use Rattle.pg_fds.proofs.lemmas.written.levels.WrittenLevels.{set_levels}
 use Rattle.pg_fds.proofs.lemmas.written.WrittenOrder.{written_in_order}
 use Rattle.pg_fds.proofs.lemmas.written.WrittenParts.{declared_are}
 use Rattle.pg_fds.proofs.lemmas.written.WrittenTaken.{file_typed}

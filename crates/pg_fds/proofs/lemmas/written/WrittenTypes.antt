@@ -41,7 +41,7 @@ use Rattle.pg_fds.proofs.lemmas.lists.Each.{each_cons}
 use Rattle.pg_fds.proofs.lemmas.reading.FieldSteps.{fields_named}
 use Rattle.pg_fds.proofs.lemmas.reading.NamedOnce.{written_once}
 use Rattle.pg_fds.proofs.lemmas.rows.PlaceIds.{enums_of_places, types_of_places}
-use Rattle.pg_fds.proofs.lemmas.written.QualifiedNames.{is_plain, scope_of}
+use Rattle.pg_fds.proofs.lemmas.written.names.QualifiedNames.{is_plain, scope_of}
 use Rattle.pg_fds.proofs.lemmas.written.Slots.{Slot, children_said, children_slot, count_slot, made, number_said, options_said, options_slot, says, stated_said, stated_slot, text_said, text_slot, texts_said, texts_slot}
 use Rattle.pg_fds.proofs.lemmas.written.TypeRules.{declared, fields_in_oneofs, fields_keep, ranges_kept, rising}
 use Rattle.pg_fds.proofs.lemmas.lists.ViewLaws.{same_type}

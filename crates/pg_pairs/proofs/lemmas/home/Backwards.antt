@@ -29,7 +29,7 @@ use Rattle.pg_pairs.proofs.lemmas.bounds.AcrossPlain.{IsNoMap}
 use Rattle.pg_pairs.proofs.lemmas.bounds.AcrossMap.{SeenEntry}
 use Rattle.pg_pairs.proofs.lemmas.bounds.Comparands.{length-entry_bytes, EntryCosts, entry_costs}
 use Rattle.pg_pairs.proofs.lemmas.home.Returned.{leaf_again, returned, IsGood, ComesBack, IsRead, back_read, back_seen}
-use Rattle.pg_pairs.proofs.lemmas.witness.CarriedItems.{like_leafy}
+use Rattle.pg_pairs.proofs.lemmas.witness.carried.CarriedItems.{like_leafy}
 use Rattle.pg_pairs.proofs.lemmas.gaps.Likes.{like_back}
 use Rattle.pg_pairs.proofs.lemmas.bounds.Ways.{plain_across, map_across, PlainWay, Crosses}
 

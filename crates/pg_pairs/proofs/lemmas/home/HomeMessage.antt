@@ -34,7 +34,7 @@ use Rattle.pg_dyn.proofs.PublicLaws.{children_are_shorter, decoding_is, fields_a
 use Rattle.pg_pairs.proofs.lemmas.bounds.Dearer.{CompatibleTo, by_numbers_is_view}
 use Rattle.pg_pairs.proofs.lemmas.home.HomeComparands.{home_comparands, same_writes, home_expected}
 use Rattle.pg_pairs.proofs.lemmas.home.Returned.{part_again, returned, IsGood, ComesBack, type_at, encoded_again, written_again, good_parts}
-use Rattle.pg_pairs.proofs.lemmas.witness.CarriedItems.{like_message}
+use Rattle.pg_pairs.proofs.lemmas.witness.carried.CarriedItems.{like_message}
 use Rattle.pg_pairs.proofs.lemmas.home.ChildrenHome.{home_as_message, pair_of, Comes, child_among, child_returns, not_packed, kept_comparands, back_comparands, leaf_comparands}
 use Rattle.pg_pairs.proofs.lemmas.bounds.OneMessage.{field_fits, total_within, holds_at, order_at, costs_at}
 use Rattle.pg_pairs.proofs.lemmas.bounds.KeptUpTo.{dear_at}

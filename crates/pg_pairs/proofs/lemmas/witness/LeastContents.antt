@@ -24,7 +24,7 @@ use Rattle.pg_pairs.proofs.lemmas.gaps.GapItems.{IsLeafy, implicit_leafy}
 use Rattle.pg_pairs.proofs.lemmas.choices.Costs.{length-len_record}
 use Rattle.pg_pairs.proofs.lemmas.bounds.Comparands.{length-entry_bytes, unpacked_implicit, unpacked_explicit, unpacked_repeated}
 use Rattle.pg_pairs.proofs.lemmas.bounds.Broken.{unpacked_total}
-use Rattle.pg_pairs.proofs.lemmas.witness.CarryLists.{zero_length, body_alone}
+use Rattle.pg_pairs.proofs.lemmas.witness.carried.CarryLists.{zero_length, body_alone}
 use Rattle.pg_dyn.proofs.PublicLaws.{packable_wires}
 
 pub nonzero_in_range : (e : Element) → IsLeafy e → InRange (form e) (nonzero_leaf (form e))

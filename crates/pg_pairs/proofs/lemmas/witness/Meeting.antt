@@ -32,8 +32,8 @@ use Rattle.pg_pairs.specs.witness.Carried.{least_leaf, least_key, least_part_of,
 use Rattle.pg_pairs.proofs.lemmas.gaps.GapItems.{IsLeafy}
 use Rattle.pg_pairs.proofs.lemmas.bounds.Messages.{one_found}
 use Rattle.pg_pairs.proofs.lemmas.bounds.Single.{single_records}
-use Rattle.pg_pairs.proofs.lemmas.witness.CarryAlone.{leaf_fits_at}
-use Rattle.pg_pairs.proofs.lemmas.witness.CarryLists.{zero_in_range}
+use Rattle.pg_pairs.proofs.lemmas.witness.carried.CarryAlone.{leaf_fits_at}
+use Rattle.pg_pairs.proofs.lemmas.witness.carried.CarryLists.{zero_in_range}
 use Rattle.pg_pairs.proofs.lemmas.witness.LeastContents.{nonzero_in_range, nonzero_is, least_total}
 use Rattle.pg_dyn.proofs.PublicLaws.{comparands_are_written, decoding_is, encoding_spells, fields_are_found, kept_by_field, message_splits, own_contents, records_of_fields, siblings_mutual}
 

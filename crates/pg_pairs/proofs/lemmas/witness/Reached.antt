@@ -21,7 +21,7 @@ use Rattle.pg_pairs.specs.witness.Carried.{carried_field, carried_two, carried_o
 use Rattle.pg_pairs.specs.witness.CarriedChoices.{ChildReached, ChildThere, EachChildCostsLess, EachChoiceIsCarried}
 use Rattle.pg_pairs.proofs.lemmas.choices.Among.{among_each}
 use Rattle.pg_pairs.proofs.lemmas.choices.ChoicePlaces.{IsPlaced, placed}
-use Rattle.pg_pairs.proofs.lemmas.witness.CarriedFields.{IsCarried, CarriesOwn, presences_carried}
+use Rattle.pg_pairs.proofs.lemmas.witness.carried.CarriedFields.{IsCarried, CarriesOwn, presences_carried}
 use Rattle.pg_pairs.proofs.lemmas.bounds.Messages.{one_found}
 use Rattle.pg_pairs.proofs.lemmas.witness.Meeting.{reach_meeting}
 use Rattle.pg_dyn.proofs.PublicLaws.{fields_are_found}

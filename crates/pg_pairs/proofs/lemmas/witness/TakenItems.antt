@@ -15,8 +15,8 @@ use Rattle.pg_dyn.specs.message.Seen.{leaf_of, IsKey}
 use Rattle.pg_pairs.specs.declared.witness.item.Small.{Small}
 use Rattle.pg_pairs.specs.declared.witness.item.Small.TheVariants.{Zero, NotZero, Far}
 use Rattle.pg_pairs.specs.inner.CarriedItems.{leaf_by, value_item}
-use Rattle.pg_pairs.proofs.lemmas.witness.CarryLists.{zero_in_range}
-use Rattle.pg_pairs.proofs.lemmas.witness.CarryUnlikeMaps.{far_in_range}
+use Rattle.pg_pairs.proofs.lemmas.witness.carried.CarryLists.{zero_in_range}
+use Rattle.pg_pairs.proofs.lemmas.witness.carried.CarryUnlikeMaps.{far_in_range}
 use Rattle.pg_pairs.proofs.lemmas.gaps.GapItems.{IsLeafy}
 use Rattle.pg_pairs.proofs.lemmas.witness.LeastContents.{nonzero_in_range}
 

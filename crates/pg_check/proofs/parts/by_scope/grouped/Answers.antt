@@ -4,7 +4,7 @@ use Rattle.std.specs.Str.{bytes_eq}
 use Rattle.std.specs.declared.alloc.Global.{Global}
 use Rattle.std.proofs.lemmas.Grind.{text_groups}
 use Rattle.std.proofs.lemmas.List.{take_all}
-use Rattle.pg_check.proofs.lemmas.parts.Placing.{places_are}
+use Rattle.pg_check.proofs.lemmas.parts.places.Placing.{places_are}
 use Rattle.pg_check.proofs.parts.by_scope.grouped.Goals as goal
 
 pub returns : goal.returns

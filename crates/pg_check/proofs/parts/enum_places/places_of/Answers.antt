@@ -1,5 +1,5 @@
 use Rattle.std.proofs.Common.{◌∙◌}
-use Rattle.pg_check.proofs.lemmas.parts.EnumPlaces.{one_placed}
+use Rattle.pg_check.proofs.lemmas.parts.places.EnumPlaces.{one_placed}
 use Rattle.pg_check.proofs.parts.enum_places.places_of.Goals as goal
 
 pub names-preserved : goal.names-preserved

@@ -1,5 +1,5 @@
 use Rattle.std.proofs.Common.{length}
-use Rattle.pg_check.proofs.lemmas.parts.EnumPlaces.{HavePlaces}
+use Rattle.pg_check.proofs.lemmas.parts.places.EnumPlaces.{HavePlaces}
 use Rattle.pg_check.proofs.parts.enum_places.places_of.Given as goal
 
 abbrev pub invariant-names : goal.invariant-names

@@ -3,7 +3,7 @@ use Rattle.pg_link.specs.walk.Walk.{Entry}
 use Rattle.pg_check.specs.parts.EnumPlaces.{enum_full}
 use Rattle.pg_check.specs.inner.CodeViews.{enumeration}
 use Rattle.pg_check.specs.rules.Outline.{scoped_enums}
-use Rattle.pg_check.proofs.lemmas.parts.EnumPlaces.{names_more}
+use Rattle.pg_check.proofs.lemmas.parts.places.EnumPlaces.{names_more}
 use Rattle.pg_check.proofs.parts.enum_places.scoped_names.Goals as goal
 
 pub loop-number-preserved : goal.loop-number-preserved

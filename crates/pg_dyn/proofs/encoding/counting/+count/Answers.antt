@@ -19,7 +19,7 @@ use Rattle.pg_dyn.proofs.lemmas.fitting.FitsSteps.{some_not_none}
 use Rattle.pg_dyn.proofs.lemmas.encoding.LentWeights.{content_lighter, entries_weigh, item_lighter, items_weigh, parts_weight, bare_weight}
 use Rattle.pg_dyn.proofs.Lists.{each_at_index}
 use Rattle.pg_dyn.proofs.lemmas.encoding.NotedLengths.{content_lengths, field_noted, inner_is}
-use Rattle.pg_dyn.proofs.lemmas.reading.Splitting.{found_number}
+use Rattle.pg_dyn.proofs.lemmas.reading.records.Splitting.{found_number}
 use Rattle.pg_dyn.proofs.encoding.counting.+count.Goals as goal
 
 pub count_items-count_item-requires : goal.count_items-count_item-requires

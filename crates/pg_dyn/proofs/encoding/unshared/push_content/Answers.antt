@@ -11,7 +11,7 @@ use Rattle.pg_dyn.specs.fitting.PartsFit.{IsPartOf}
 use Rattle.pg_dyn.specs.encoding.Writing.{bytes_of}
 use Rattle.pg_dyn.specs.encoding.Written.{field_lengths, field_written, parts_written, records_by, written_part}
 use Rattle.pg_dyn.proofs.lemmas.encoding.EncodeSteps.{field_is, longer, packs, same_parts}
-use Rattle.pg_dyn.proofs.lemmas.reading.Splitting.{found_number}
+use Rattle.pg_dyn.proofs.lemmas.reading.records.Splitting.{found_number}
 use Rattle.pg_dyn.proofs.encoding.unshared.push_content.Goals as goal
 
 module _ {C : Type 0} (parts : ℕ → C → List (Part KeptItem)) (shape : Shape) (type : TypeId) (f : FieldShape) (c : ℕ × C) (found : field_at (fields shape type) c.0 ≡ Some f) where

@@ -12,7 +12,7 @@ use Rattle.pg_dyn.specs.setting.Setting.{normalized}
 use Rattle.pg_dyn.specs.setting.Reported.{ItemsFit}
 use Rattle.pg_dyn.proofs.lemmas.fitting.FitsChecks.{none_found, same_field}
 use Rattle.pg_dyn.proofs.lemmas.message.ReplacingLaws.{type_shown}
-use Rattle.pg_dyn.proofs.lemmas.reading.Splitting.{found_number}
+use Rattle.pg_dyn.proofs.lemmas.reading.records.Splitting.{found_number}
 use Rattle.pg_dyn.proofs.message.Message.add.Goals.{in-Ok, in-Err}
 use Rattle.pg_dyn.proofs.message.Message.add.Goals as goal
 

@@ -21,7 +21,7 @@ use Rattle.pg_dyn.proofs.lemmas.setting.HeldAlone.{alone_out, held_alone}
 use Rattle.pg_dyn.proofs.Lists.{filter_all}
 use Rattle.pg_dyn.proofs.lemmas.setting.MembersOut.{all_stay, sibling_out}
 use Rattle.pg_dyn.proofs.lemmas.message.ReplacingLaws.{shown, type_shown}
-use Rattle.pg_dyn.proofs.lemmas.reading.Splitting.{found_number}
+use Rattle.pg_dyn.proofs.lemmas.reading.records.Splitting.{found_number}
 use Rattle.pg_dyn.proofs.lemmas.setting.WithoutSiblings.{cleared_shown, sibling_found}
 use Rattle.pg_dyn.proofs.message.Message.held_siblings.Goals as goal
 

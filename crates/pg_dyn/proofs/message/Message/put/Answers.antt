@@ -12,7 +12,7 @@ use Rattle.pg_dyn.proofs.lemmas.fitting.FitsChecks.{none_found, same_field}
 use Rattle.pg_dyn.proofs.lemmas.setting.PutLaws.{cleared_fits, normalized_number}
 use Rattle.pg_dyn.proofs.lemmas.message.ReplacingLaws.{type_shown, type_of-with_parts}
 use Rattle.pg_dyn.proofs.lemmas.setting.SetSteps.{members_after, set_to}
-use Rattle.pg_dyn.proofs.lemmas.reading.Splitting.{found_number}
+use Rattle.pg_dyn.proofs.lemmas.reading.records.Splitting.{found_number}
 use Rattle.pg_dyn.proofs.message.Message.put.Goals as goal
 
 pub held_siblings-members-requires-clause-found : goal.held_siblings-members-requires-clause-found

@@ -3,7 +3,7 @@ use Rattle.pg_dyn.specs.declared.message_ref.EntryRef.{EntryRef}
 use Rattle.pg_dyn.specs.message_ref.BorrowedItems.{key_of}
 use Rattle.pg_dyn.specs.message.KeyOrder.{IsOfKind}
 use Rattle.pg_dyn.proofs.lemmas.fitting.FitsSteps.{fact_at}
-use Rattle.pg_dyn.proofs.lemmas.reading.LastOfKeys.{same_kind}
+use Rattle.pg_dyn.proofs.lemmas.reading.entries.LastOfKeys.{same_kind}
 use Rattle.pg_dyn.proofs.reading.entries.has_key.Goals as goal
 
 pub order-requires : goal.order-requires

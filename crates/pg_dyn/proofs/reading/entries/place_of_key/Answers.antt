@@ -6,8 +6,8 @@ use Rattle.pg_dyn.specs.message_ref.BorrowedItems.{key_of}
 use Rattle.pg_dyn.specs.message.KeyOrder.{IsOfKind}
 use Rattle.pg_dyn.specs.declared.message_ref.EntryRef.{EntryRef}
 use Rattle.pg_dyn.proofs.lemmas.fitting.FitsSteps.{fact_at}
-use Rattle.pg_dyn.proofs.lemmas.reading.LastOfKeys.{same_kind}
-use Rattle.pg_dyn.proofs.lemmas.reading.EntryPlaces.{Below, NotBelow, below_upto, not_below_from}
+use Rattle.pg_dyn.proofs.lemmas.reading.entries.LastOfKeys.{same_kind}
+use Rattle.pg_dyn.proofs.lemmas.reading.entries.EntryPlaces.{Below, NotBelow, below_upto, not_below_from}
 use Rattle.pg_dyn.proofs.reading.entries.place_of_key.Goals as goal
 
 not_true : (b : Bool) → b ≡ true → b ≡ false → ⊥

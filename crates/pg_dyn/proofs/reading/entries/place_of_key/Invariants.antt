@@ -2,7 +2,7 @@
 use Rattle.std.proofs.Common.{◌-◌}
 use Rattle.pg_dyn.specs.message_ref.Borrowed.{leaf_of}
 use Rattle.pg_dyn.specs.message_ref.BorrowedItems.{key_of}
-use Rattle.pg_dyn.proofs.lemmas.reading.EntryPlaces.{IsBetween}
+use Rattle.pg_dyn.proofs.lemmas.reading.entries.EntryPlaces.{IsBetween}
 use Rattle.pg_dyn.proofs.reading.entries.place_of_key.Given as goal
 
 abbrev pub invariant-loop-low : goal.invariant-loop-low

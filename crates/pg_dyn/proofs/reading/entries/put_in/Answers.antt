@@ -5,7 +5,7 @@ use Rattle.std.specs.List.{AllByRecursion}
 use Rattle.pg_dyn.specs.declared.message_ref.EntryRef.{EntryRef}
 use Rattle.pg_dyn.specs.message_ref.BorrowedItems.{key_of}
 use Rattle.pg_dyn.specs.message.Message.{key_cmp}
-use Rattle.pg_dyn.proofs.lemmas.reading.EntryPlaces.{Below, NotBelow, put_over, put_between}
+use Rattle.pg_dyn.proofs.lemmas.reading.entries.EntryPlaces.{Below, NotBelow, put_over, put_between}
 use Rattle.pg_dyn.proofs.reading.entries.put_in.Goals as goal
 
 pub returns-then-has_key : goal.returns-then-has_key

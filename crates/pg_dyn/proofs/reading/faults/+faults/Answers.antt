@@ -14,14 +14,14 @@ use Rattle.pg_dyn.specs.word.Coding.{form, form_wire, scalar_form}
 use Rattle.pg_dyn.specs.reading.Content.{packed_leaves, same_wire, key_field, value_field, entry_fields}
 use Rattle.pg_dyn.specs.reading.EntrySteps.{IsMessageOf}
 use Rattle.pg_dyn.specs.reading.Steps.{RefusedIn, RefusedOf, RefusedRecord, RowRefused}
-use Rattle.pg_dyn.proofs.lemmas.reading.Ahead as ahead
+use Rattle.pg_dyn.proofs.lemmas.reading.faults.Ahead as ahead
 use Rattle.pg_dyn.proofs.lemmas.reading.TypeFields.{on_ok_map, rising}
-use Rattle.pg_dyn.proofs.lemmas.reading.EntryFaults as entries
-use Rattle.pg_dyn.proofs.lemmas.reading.FaultSteps as steps
+use Rattle.pg_dyn.proofs.lemmas.reading.faults.EntryFaults as entries
+use Rattle.pg_dyn.proofs.lemmas.reading.faults.FaultSteps as steps
 use Rattle.pg_dyn.proofs.lemmas.reading.FieldKinds.{is_no_message, not_map}
-use Rattle.pg_dyn.proofs.lemmas.reading.FieldRecords.{packable_of}
+use Rattle.pg_dyn.proofs.lemmas.reading.records.FieldRecords.{packable_of}
 use Rattle.pg_dyn.proofs.lemmas.fitting.FitsChecks.{unknown_by_field, unknown_without_field}
-use Rattle.pg_dyn.proofs.lemmas.reading.Joining.{dec_from_readable}
+use Rattle.pg_dyn.proofs.lemmas.reading.records.Joining.{dec_from_readable}
 use Rattle.pg_dyn.proofs.reading.faults.+faults.Goals.{check_entry-else-not-has_value-via-then-not-has_value+then-levels-eq0+else-matches, check_entry-in-Message, check_entry-in_default, check_entry-else-not-has_value-via-then-not-has_value+else-levels-eq0, check_entry-else-not-has_value-via-else-not-has_value}
 use Rattle.pg_dyn.proofs.reading.faults.+faults.Goals as goal
 

@@ -2,8 +2,8 @@
 use Rattle.std.proofs.Common.{◌+◌, ◌*◌}
 use Rattle.pg_schema.specs.Parts.{shape_of}
 use Rattle.pg_schema.specs.Shape.{fields}
-use Rattle.pg_dyn.proofs.lemmas.reading.Ahead.{Ahead}
-use Rattle.pg_dyn.proofs.lemmas.reading.EntryFaults.{PartsAhead}
+use Rattle.pg_dyn.proofs.lemmas.reading.faults.Ahead.{Ahead}
+use Rattle.pg_dyn.proofs.lemmas.reading.faults.EntryFaults.{PartsAhead}
 use Rattle.pg_dyn.proofs.reading.faults.+faults.Given as goal
 
 abbrev pub decreases-check_item : goal.decreases-check_item

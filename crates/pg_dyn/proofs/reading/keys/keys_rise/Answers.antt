@@ -4,7 +4,7 @@ use Rattle.pg_dyn.specs.declared.message_ref.EntryRef.{EntryRef}
 use Rattle.pg_dyn.specs.message_ref.BorrowedItems.{key_of}
 use Rattle.pg_dyn.specs.message.KeyOrder.{IsOfKind}
 use Rattle.pg_dyn.proofs.lemmas.fitting.FitsSteps.{IsUnder, fact_at, rise_from, same_default}
-use Rattle.pg_dyn.proofs.lemmas.reading.LastOfKeys.{same_kind}
+use Rattle.pg_dyn.proofs.lemmas.reading.entries.LastOfKeys.{same_kind}
 use Rattle.pg_dyn.proofs.reading.keys.keys_rise.Goals as goal
 
 pub is_below-requires : goal.is_below-requires

@@ -5,10 +5,10 @@ use Rattle.pg_schema.specs.Parts.{field_shape, shape_of}
 use Rattle.pg_schema.specs.Shape.{fields}
 use Rattle.pg_wire.specs.Reads.{seen_record}
 use Rattle.pg_dyn.specs.reading.ByFields.{AreGood, HoldsOf, IsEntryRead, RecordsGood, StopsFor}
-use Rattle.pg_dyn.proofs.lemmas.reading.ByFields.{with_held}
+use Rattle.pg_dyn.proofs.lemmas.reading.by_fields.ByFields.{with_held}
 use Rattle.pg_dyn.proofs.lemmas.reading.TypeFields.{is_field_of, rising}
 use Rattle.pg_dyn.proofs.lemmas.reading.FieldKinds.{is_no_message, lists_no_map, not_list, not_map}
-use Rattle.pg_dyn.proofs.lemmas.reading.FieldRuns as runs
+use Rattle.pg_dyn.proofs.lemmas.reading.runs.FieldRuns as runs
 use Rattle.pg_dyn.proofs.Lists.{each_weaker}
 use Rattle.std.specs.List.{AllByRecursion}
 use Rattle.pg_schema.specs.declared.parts.field.Element.TheVariants as elements
@@ -16,21 +16,21 @@ use Rattle.pg_dyn.specs.declared.message_ref.ContentRef.TheVariants as contents
 use Rattle.pg_dyn.specs.message_ref.BorrowedItems.{ItemKept}
 use Rattle.pg_dyn.specs.reading.Steps.{HeldFits}
 use Rattle.pg_dyn.specs.message.Kept.{message_of, ends}
-use Rattle.pg_dyn.proofs.lemmas.reading.BodiesByFields as bodies
-use Rattle.pg_dyn.proofs.lemmas.reading.ChildrenByFields as children
-use Rattle.pg_dyn.proofs.lemmas.reading.EntriesByFields as entries
-use Rattle.pg_dyn.proofs.lemmas.reading.MapsByFields as maps
-use Rattle.pg_dyn.proofs.lemmas.reading.StopSteps.{stopped, handed_on, stops_for}
+use Rattle.pg_dyn.proofs.lemmas.reading.by_fields.BodiesByFields as bodies
+use Rattle.pg_dyn.proofs.lemmas.reading.by_fields.ChildrenByFields as children
+use Rattle.pg_dyn.proofs.lemmas.reading.by_fields.EntriesByFields as entries
+use Rattle.pg_dyn.proofs.lemmas.reading.by_fields.MapsByFields as maps
+use Rattle.pg_dyn.proofs.lemmas.reading.faults.StopSteps.{stopped, handed_on, stops_for}
 use Rattle.pg_dyn.proofs.reading.nested.+reading.Goals.{read_entry-in-Message+in_ok-value-in-Message, read_entry-in-Scalar, counted-in-Some+then-counts+in_ok-push, counted-in-Some+else-counts+in_ok-read_content+in-Some+in-One+in-Msg-1, counted-in-Some+else-counts+in_ok-read_content+in-Some+in-One+in-Int-1, counted-in-Some+else-counts+in_ok-read_content+in-Some+in-Many-1, counted-in-Some+else-counts+in_ok-read_content+in-Some+in-Map-1, counted-in-Some+else-counts+in_ok-read_content+in-Some+in-Numbers-1, counted-in-Some+else-counts+in_ok-read_content+in-None-1, counted-in_default, read_gathered-then-oneof_runs, read_gathered-else-oneof_runs+in_ok-left}
 use Rattle.pg_dyn.proofs.reading.nested.+reading.Goals as goal
 use Rattle.pg_wire.specs.declared.record.Record.{Record}
-use Rattle.pg_dyn.proofs.lemmas.reading.CountedRecords as counting
-use Rattle.pg_dyn.proofs.lemmas.reading.Gathered.{counted_so_far}
-use Rattle.pg_dyn.proofs.lemmas.reading.HeldFields.{child_zero, list_held, one_held}
+use Rattle.pg_dyn.proofs.lemmas.reading.gathered.CountedRecords as counting
+use Rattle.pg_dyn.proofs.lemmas.reading.gathered.Gathered.{counted_so_far}
+use Rattle.pg_dyn.proofs.lemmas.reading.by_fields.HeldFields.{child_zero, list_held, one_held}
 use Rattle.pg_dyn.proofs.lemmas.message.ReplacingLaws.{type_of-kept_onto}
 use Rattle.pg_dyn.specs.message_ref.Borrowed.{all_seen}
 use Rattle.pg_dyn.specs.fitting.Belonging.{IsUnknown}
-use Rattle.pg_dyn.proofs.lemmas.reading.GatheredReading as gathered
+use Rattle.pg_dyn.proofs.lemmas.reading.gathered.GatheredReading as gathered
 use Rattle.pg_wire.specs.Records.{IsRecord, WireRecord}
 use Rattle.pg_dyn.specs.reading.Gathering.{AreByNumber, AreGathered}
 

@@ -2,12 +2,12 @@
 use Rattle.std.proofs.Common.{◌+◌, ◌*◌, ◌-◌, length, map, take}
 use Rattle.pg_schema.specs.Parts.{field_shape, shape_of}
 use Rattle.pg_schema.specs.Shape.{fields}
-use Rattle.pg_dyn.proofs.lemmas.reading.CountedRecords.{CountedUpTo}
+use Rattle.pg_dyn.proofs.lemmas.reading.gathered.CountedRecords.{CountedUpTo}
 use Rattle.pg_wire.specs.Reads.{seen_record}
-use Rattle.pg_dyn.proofs.lemmas.reading.BodiesByFields.{AreOpened}
-use Rattle.pg_dyn.proofs.lemmas.reading.ChildrenByFields.{AreRead}
-use Rattle.pg_dyn.proofs.lemmas.reading.FieldRuns.{ReadUpTo}
-use Rattle.pg_dyn.proofs.lemmas.reading.EntriesByFields.{EntriesSoFar}
+use Rattle.pg_dyn.proofs.lemmas.reading.by_fields.BodiesByFields.{AreOpened}
+use Rattle.pg_dyn.proofs.lemmas.reading.by_fields.ChildrenByFields.{AreRead}
+use Rattle.pg_dyn.proofs.lemmas.reading.runs.FieldRuns.{ReadUpTo}
+use Rattle.pg_dyn.proofs.lemmas.reading.by_fields.EntriesByFields.{EntriesSoFar}
 use Rattle.pg_dyn.proofs.reading.nested.+reading.Given as goal
 
 abbrev pub decreases-read_child : goal.decreases-read_child

@@ -7,10 +7,10 @@ use Rattle.pg_dyn.specs.reading.ByFields.{StopsFor}
 use Rattle.pg_dyn.specs.reading.Decoding.{dec}
 use Rattle.pg_dyn.specs.message.Kept.{message_of}
 use Rattle.pg_dyn.specs.reading.Steps.{IsShallowIn}
-use Rattle.pg_dyn.proofs.lemmas.reading.BodiesByFields.{bytes_good, bytes_read, records_good}
+use Rattle.pg_dyn.proofs.lemmas.reading.by_fields.BodiesByFields.{bytes_good, bytes_read, records_good}
 use Rattle.pg_dyn.proofs.lemmas.reading.TypeFields.{on_ok_map}
-use Rattle.pg_dyn.proofs.lemmas.reading.Joining.{readable_from_dec}
-use Rattle.pg_dyn.proofs.lemmas.reading.StopSteps.{handed_on, stops_for}
+use Rattle.pg_dyn.proofs.lemmas.reading.records.Joining.{readable_from_dec}
+use Rattle.pg_dyn.proofs.lemmas.reading.faults.StopSteps.{handed_on, stops_for}
 use Rattle.pg_dyn.proofs.reading.nested.read_message.Goals as goal
 
 if_ok : {T E : Type 0} (P Q : T → Type 0) (r : Result T E) → ((x : T) → P x → Q x) → IfOk r P → IfOk r Q

@@ -5,7 +5,7 @@ use Rattle.std.proofs.lemmas.List.Sorted.{answers_always}
 use Rattle.pg_dyn.specs.message_ref.BorrowedItems.{AreAlike, KeysRise, key_of, ranks_below}
 use Rattle.pg_dyn.specs.reading.Normalized.{placed}
 use Rattle.pg_dyn.proofs.lemmas.message_ref.BorrowedItems.{ranks_entries}
-use Rattle.pg_dyn.proofs.lemmas.reading.NormalizedEntries.{alike_moved, rising_stay, normalized_stable}
+use Rattle.pg_dyn.proofs.lemmas.reading.entries.NormalizedEntries.{alike_moved, rising_stay, normalized_stable}
 use Rattle.pg_dyn.proofs.reading.ordering.last_of_keys.Goals as goal
 
 if_ok : {T E : Type 0} (P Q : T → Type 0) (r : Result T E) → ((x : T) → P x → Q x) → IfOk r P → IfOk r Q

@@ -1,7 +1,7 @@
 -- The entries so far rise, and those that are left are keys of the same kind.
 use Rattle.std.proofs.Common.{◌≡◌, ℕ, List, [], ◌∷◌, length, refl, sym, subst, arith}
 use Rattle.pg_dyn.specs.declared.message_ref.EntryRef.{EntryRef}
-use Rattle.pg_dyn.proofs.lemmas.reading.NormalizedEntries.{NormalizesTo, all_put, next_alike, nothing_put, one_put}
+use Rattle.pg_dyn.proofs.lemmas.reading.entries.NormalizedEntries.{NormalizesTo, all_put, next_alike, nothing_put, one_put}
 use Rattle.pg_dyn.proofs.reading.ordering.put_all.Goals as goal
 
 none_left : (n : ℕ) (xs : List EntryRef) → n ≡ length xs → n ≡ 0 → xs ≡ []

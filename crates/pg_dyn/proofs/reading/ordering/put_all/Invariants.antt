@@ -1,5 +1,5 @@
 -- the entries so far are normalized, and the rest is put in after them
-use Rattle.pg_dyn.proofs.lemmas.reading.NormalizedEntries.{NormalizesTo}
+use Rattle.pg_dyn.proofs.lemmas.reading.entries.NormalizedEntries.{NormalizesTo}
 use Rattle.pg_dyn.proofs.reading.ordering.put_all.Given as goal
 
 abbrev pub invariant-loop-entry : goal.invariant-loop-entry

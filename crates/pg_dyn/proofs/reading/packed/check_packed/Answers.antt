@@ -4,7 +4,7 @@ use Rattle.pg_wire.specs.declared.record.WireType.{WireType}
 use Rattle.pg_dyn.specs.declared.error.DynError.TheVariants as errors
 use Rattle.pg_dyn.specs.word.Coding.{element_at}
 use Rattle.pg_dyn.proofs.lemmas.reading.PackedRows.{IsOne, error_after, to_end}
-use Rattle.pg_dyn.proofs.lemmas.reading.RowFaults.{row_begins, row_whole, row_breaks, row_further}
+use Rattle.pg_dyn.proofs.lemmas.reading.faults.RowFaults.{row_begins, row_whole, row_breaks, row_further}
 use Rattle.pg_dyn.proofs.reading.packed.check_packed.Goals as goal
 
 pub loop-start-init : goal.loop-start-init

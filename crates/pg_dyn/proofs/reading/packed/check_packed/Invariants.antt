@@ -1,6 +1,6 @@
 -- The elements up to the index are there.
 use Rattle.std.proofs.Common.{◌-◌, length}
-use Rattle.pg_dyn.proofs.lemmas.reading.RowFaults.{RowUpTo}
+use Rattle.pg_dyn.proofs.lemmas.reading.faults.RowFaults.{RowUpTo}
 use Rattle.pg_dyn.proofs.reading.packed.check_packed.Given as goal
 
 abbrev pub invariant-loop-start : goal.invariant-loop-start

@@ -7,7 +7,7 @@ use Rattle.pg_dyn.specs.reading.ByFields.{StopsFor}
 use Rattle.pg_dyn.specs.reading.Content.{packed_leaves}
 use Rattle.pg_dyn.specs.reading.Steps.{IsRow, WordsRead}
 use Rattle.pg_dyn.proofs.lemmas.reading.PackedRows.{row_numbers, row_there}
-use Rattle.pg_dyn.proofs.lemmas.reading.StopSteps.{stops_for}
+use Rattle.pg_dyn.proofs.lemmas.reading.faults.StopSteps.{stops_for}
 use Rattle.pg_dyn.proofs.reading.packed.push_packed.Goals as goal
 
 pub returns-clause-ok : goal.returns-clause-ok

@@ -4,9 +4,9 @@ use Rattle.pg_wire.specs.Reads.{seen, seen_record}
 use Rattle.pg_wire.specs.Records.{WireRecord, records_of}
 use Rattle.pg_dyn.specs.reading.ByFields.{StopsFor}
 use Rattle.pg_dyn.specs.reading.EntryParts.{ScalarsGood}
-use Rattle.pg_dyn.proofs.lemmas.reading.EntryByParts.{good_one}
-use Rattle.pg_dyn.proofs.lemmas.reading.RecordFronts.{all_read, next_is_record, next_of_all, no_records, one_read}
-use Rattle.pg_dyn.proofs.lemmas.reading.StopSteps.{handed_on, stops_for}
+use Rattle.pg_dyn.proofs.lemmas.reading.by_fields.EntryByParts.{good_one}
+use Rattle.pg_dyn.proofs.lemmas.reading.records.RecordFronts.{all_read, next_is_record, next_of_all, no_records, one_read}
+use Rattle.pg_dyn.proofs.lemmas.reading.faults.StopSteps.{handed_on, stops_for}
 use Rattle.pg_dyn.proofs.reading.parts.read_parts.Goals as goal
 
 pub add-requires : goal.add-requires

@@ -1,5 +1,5 @@
 -- What is read of the records so far.
-use Rattle.pg_dyn.proofs.lemmas.reading.EntryByParts.{PartsAhead}
+use Rattle.pg_dyn.proofs.lemmas.reading.by_fields.EntryByParts.{PartsAhead}
 use Rattle.pg_dyn.proofs.reading.parts.read_parts.Given as goal
 
 abbrev pub invariant-loop-found : goal.invariant-loop-found

@@ -12,9 +12,9 @@ use Rattle.pg_dyn.specs.reading.ItemRuns.{AllRead}
 use Rattle.pg_dyn.specs.message_ref.BorrowedItems.{IsItemKept}
 use Rattle.pg_dyn.specs.message_ref.Borrowed.{leaf_of}
 use Rattle.pg_dyn.proofs.lemmas.reading.FieldKinds.{lists_no_map}
-use Rattle.pg_dyn.proofs.lemmas.reading.ScalarRuns.{ItemsSoFar, item_there, more_items, own_item, own_of_single, own_shape}
-use Rattle.pg_dyn.proofs.lemmas.reading.SliceRuns.{holds_in, one_more, record_in}
-use Rattle.pg_dyn.proofs.lemmas.reading.StopSteps.{handed_on, stops_for}
+use Rattle.pg_dyn.proofs.lemmas.reading.runs.ScalarRuns.{ItemsSoFar, item_there, more_items, own_item, own_of_single, own_shape}
+use Rattle.pg_dyn.proofs.lemmas.reading.runs.SliceRuns.{holds_in, one_more, record_in}
+use Rattle.pg_dyn.proofs.lemmas.reading.faults.StopSteps.{handed_on, stops_for}
 use Rattle.pg_dyn.proofs.reading.scalars.read_items.Goals as goal
 
 pub item_in-requires : goal.item_in-requires

@@ -2,7 +2,7 @@
 use Rattle.std.proofs.Common.{map, take}
 use Rattle.pg_schema.specs.Parts.{field_shape}
 use Rattle.pg_wire.specs.Reads.{seen_record}
-use Rattle.pg_dyn.proofs.lemmas.reading.ScalarRuns.{ItemsSoFar}
+use Rattle.pg_dyn.proofs.lemmas.reading.runs.ScalarRuns.{ItemsSoFar}
 use Rattle.pg_dyn.proofs.reading.scalars.read_items.Given as goal
 
 abbrev pub invariant-loop-record : goal.invariant-loop-record

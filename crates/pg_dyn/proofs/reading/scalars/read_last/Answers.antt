@@ -10,10 +10,10 @@ use Rattle.pg_dyn.specs.reading.Content.{takes}
 use Rattle.pg_dyn.specs.message_ref.BorrowedItems.{IsItemKept}
 use Rattle.pg_dyn.specs.message_ref.Borrowed.{leaf_of}
 use Rattle.pg_dyn.specs.reading.Steps.{FieldReads, HeldFits, IsShallow}
-use Rattle.pg_dyn.proofs.lemmas.reading.FieldRecords.{singular_wire}
-use Rattle.pg_dyn.proofs.lemmas.reading.ScalarRuns.{LastSoFar, all_good, good_read, item_there, last_fits, last_holds, new_last, own_item, own_shape}
-use Rattle.pg_dyn.proofs.lemmas.reading.SliceRuns.{all_of, holds_in, one_more, record_in, some_seen}
-use Rattle.pg_dyn.proofs.lemmas.reading.StopSteps.{handed_on, stops_for}
+use Rattle.pg_dyn.proofs.lemmas.reading.records.FieldRecords.{singular_wire}
+use Rattle.pg_dyn.proofs.lemmas.reading.runs.ScalarRuns.{LastSoFar, all_good, good_read, item_there, last_fits, last_holds, new_last, own_item, own_shape}
+use Rattle.pg_dyn.proofs.lemmas.reading.runs.SliceRuns.{all_of, holds_in, one_more, record_in, some_seen}
+use Rattle.pg_dyn.proofs.lemmas.reading.faults.StopSteps.{handed_on, stops_for}
 use Rattle.pg_dyn.proofs.reading.scalars.read_last.Goals.{in-Some, in-None}
 use Rattle.pg_dyn.proofs.reading.scalars.read_last.Goals as goal
 

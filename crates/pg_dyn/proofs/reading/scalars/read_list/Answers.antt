@@ -8,8 +8,8 @@ use Rattle.pg_dyn.specs.word.NumberLists.{number_item}
 use Rattle.pg_dyn.specs.reading.ByFields.{AreGood, StopsFor}
 use Rattle.pg_dyn.specs.reading.Held.{IsHeldList, read_as}
 use Rattle.pg_dyn.proofs.lemmas.reading.FieldKinds.{lists_no_map}
-use Rattle.pg_dyn.proofs.lemmas.reading.ScalarRuns.{all_read, items_good, list_fits, list_holds}
-use Rattle.pg_dyn.proofs.lemmas.reading.StopSteps.{handed_on, stops_for}
+use Rattle.pg_dyn.proofs.lemmas.reading.runs.ScalarRuns.{all_read, items_good, list_fits, list_holds}
+use Rattle.pg_dyn.proofs.lemmas.reading.faults.StopSteps.{handed_on, stops_for}
 use Rattle.pg_dyn.proofs.reading.scalars.read_list.Goals as goal
 
 -- A list of numbers.

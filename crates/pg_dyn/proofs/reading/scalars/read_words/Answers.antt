@@ -15,10 +15,10 @@ use Rattle.pg_dyn.specs.reading.ItemRuns.{AllRead}
 use Rattle.pg_dyn.specs.reading.Steps.{RowReads}
 use Rattle.pg_dyn.specs.fitting.ScalarItems.{HasShape}
 use Rattle.pg_dyn.proofs.lemmas.reading.FieldKinds.{packable_as}
-use Rattle.pg_dyn.proofs.lemmas.reading.NumberRuns.{own_number, row_numbers}
-use Rattle.pg_dyn.proofs.lemmas.reading.ScalarRuns.{ItemsSoFar, own_shape, row_there}
-use Rattle.pg_dyn.proofs.lemmas.reading.SliceRuns.{holds_in, one_more, record_in}
-use Rattle.pg_dyn.proofs.lemmas.reading.StopSteps.{handed_on, stops_for}
+use Rattle.pg_dyn.proofs.lemmas.reading.runs.NumberRuns.{own_number, row_numbers}
+use Rattle.pg_dyn.proofs.lemmas.reading.runs.ScalarRuns.{ItemsSoFar, own_shape, row_there}
+use Rattle.pg_dyn.proofs.lemmas.reading.runs.SliceRuns.{holds_in, one_more, record_in}
+use Rattle.pg_dyn.proofs.lemmas.reading.faults.StopSteps.{handed_on, stops_for}
 use Rattle.pg_dyn.proofs.reading.scalars.read_words.Goals.{then-is_own+in_ok-push, else-is_own+in_ok-push_packed}
 use Rattle.pg_dyn.proofs.reading.scalars.read_words.Goals as goal
 

@@ -5,7 +5,7 @@ use Rattle.pg_wire.specs.Reads.{seen_record}
 use Rattle.pg_dyn.specs.word.Coding.{scalar_form}
 use Rattle.pg_dyn.specs.word.NumberLists.{number_item}
 use Rattle.pg_dyn.specs.reading.Held.{read_as}
-use Rattle.pg_dyn.proofs.lemmas.reading.ScalarRuns.{ItemsSoFar}
+use Rattle.pg_dyn.proofs.lemmas.reading.runs.ScalarRuns.{ItemsSoFar}
 use Rattle.pg_dyn.proofs.reading.scalars.read_words.Given as goal
 
 abbrev pub invariant-loop-record : goal.invariant-loop-record

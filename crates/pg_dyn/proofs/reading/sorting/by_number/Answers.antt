@@ -4,7 +4,7 @@ use Rattle.std.specs.Ordering.{is_lt}
 use Rattle.std.proofs.lemmas.List.Sorted.{IsNonDecreasingBy-from_sort_by, IsStrictWeakOrder-by_number, answers_always}
 use Rattle.pg_wire.specs.declared.record.Record.{Record}
 use Rattle.pg_dyn.specs.reading.Gathering.{AreByNumber, NumbersRise}
-use Rattle.pg_dyn.proofs.lemmas.reading.NumberOrder.{lower, nothing_moved, sorted_rise, stable_same}
+use Rattle.pg_dyn.proofs.lemmas.reading.runs.NumberOrder.{lower, nothing_moved, sorted_rise, stable_same}
 use Rattle.pg_dyn.proofs.reading.sorting.by_number.Goals.{then-not-in_order+in_ok-sort_by, else-not-in_order}
 use Rattle.pg_dyn.proofs.reading.sorting.by_number.Goals as goal
 

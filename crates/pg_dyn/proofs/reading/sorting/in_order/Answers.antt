@@ -5,7 +5,7 @@ use Rattle.std.specs.List.{AllByRecursion}
 use Rattle.pg_wire.specs.declared.record.Record.{Record}
 use Rattle.pg_wire.specs.declared.record.WireType.TheVariants.{Varint}
 use Rattle.pg_dyn.specs.reading.Gathering.{NumbersRise}
-use Rattle.pg_dyn.proofs.lemmas.reading.NumberOrder.{highest_more, rise_more}
+use Rattle.pg_dyn.proofs.lemmas.reading.runs.NumberOrder.{highest_more, rise_more}
 use Rattle.pg_dyn.proofs.reading.sorting.in_order.Goals as goal
 
 none : Record

@@ -1,7 +1,7 @@
 -- No message is deeper than the bytes are many, and what is refused, memory aside, has no reading.
 use Rattle.std.proofs.Common.{◌+◌, length, sym, arith}
 use Rattle.pg_schema.specs.Parts.{shape_of}
-use Rattle.pg_dyn.proofs.lemmas.reading.TooDeepLaws.{of_error, refused_unlimited, refused_unread}
+use Rattle.pg_dyn.proofs.lemmas.reading.faults.TooDeepLaws.{of_error, refused_unlimited, refused_unread}
 use Rattle.pg_dyn.proofs.reading.unlimited.decode_ref_unlimited.Goals as goal
 
 pub returns-clause-refused : goal.returns-clause-refused

@@ -3,7 +3,7 @@ use Rattle.pg_dyn.specs.word.Coding.{scalar_form}
 use Rattle.pg_dyn.specs.message.Message.{ends, with_part}
 use Rattle.pg_pairs.specs.witness.Carried.{item_by}
 use Rattle.pg_pairs.specs.inner.CarriedItems.{leaf_by}
-use Rattle.pg_pairs.proofs.lemmas.witness.CarriedParts.{apart_made}
+use Rattle.pg_pairs.proofs.lemmas.witness.carried.CarriedParts.{apart_made}
 use Rattle.pg_pairs.proofs.lemmas.witness.TakenItems.{if_ok_map}
 use Rattle.pg_pairs.proofs.witness.content.apart_content.Goals as goal
 

@@ -8,8 +8,8 @@ use Rattle.pg_pairs.specs.witness.Carried.{carried_field, least_part}
 use Rattle.pg_pairs.specs.inner.CarriedItems.{content_alone, found_alone, IsTakenBy, Puts}
 use Rattle.pg_pairs.specs.bounds.Laws.{ReachedBy}
 use Rattle.pg_pairs.specs.graph.GraphView.{seen}
-use Rattle.pg_pairs.proofs.lemmas.witness.CarryContents.{given_is_child, placed_there}
-use Rattle.pg_pairs.proofs.lemmas.witness.CarrySteps.{carried_is, carried_single, carried_double}
+use Rattle.pg_pairs.proofs.lemmas.witness.carried.CarryContents.{given_is_child, placed_there}
+use Rattle.pg_pairs.proofs.lemmas.witness.carried.CarrySteps.{carried_is, carried_single, carried_double}
 use Rattle.pg_pairs.proofs.lemmas.witness.Reached.{choice_known, choices_carried}
 use Rattle.pg_pairs.proofs.lemmas.views.NamedViews.{seen_under_is}
 use Rattle.pg_pairs.proofs.witness.message.carry.Goals as goal

@@ -2,7 +2,7 @@ use Rattle.std.proofs.Common.{sym}
 use Rattle.pg_schema.specs.Parts.{field_shape, shape_of}
 use Rattle.pg_schema.specs.Shape.{fields}
 use Rattle.pg_dyn.proofs.PublicLaws.{fields_are_found}
-use Rattle.pg_pairs.proofs.lemmas.witness.CarryContents.{element_there}
+use Rattle.pg_pairs.proofs.lemmas.witness.carried.CarryContents.{element_there}
 use Rattle.pg_pairs.proofs.witness.message.field_there.Goals as goal
 
 pub returns-clause-own : goal.returns-clause-own

@@ -7,9 +7,9 @@ use Rattle.pg_dyn.specs.reading.Content.{is_unknown, takes}
 use Rattle.pg_dyn.specs.reading.Gathering.{known_of}
 use Rattle.pg_dyn.proofs.lemmas.reading.TypeFields.{rising, takes_it}
 use Rattle.pg_dyn.proofs.lemmas.fitting.FitsChecks.{unknown_by_field, unknown_without_field}
-use Rattle.pg_dyn.proofs.lemmas.reading.GatheringSteps.{known_added, known_length, unknown_added}
+use Rattle.pg_dyn.proofs.lemmas.reading.gathered.GatheringSteps.{known_added, known_length, unknown_added}
 use Rattle.pg_dyn.proofs.Lists.{list_any_at}
-use Rattle.pg_dyn.proofs.lemmas.reading.Splitting.{found_number}
+use Rattle.pg_dyn.proofs.lemmas.reading.records.Splitting.{found_number}
 use Rattle.pg_dyn.proofs.reading.gathering.Gathered.add.Goals.{in_default-via-in-Some+else-accepts, in_default-via-in_default}
 use Rattle.pg_dyn.proofs.reading.gathering.Gathered.add.Goals as goal
 

@@ -2,8 +2,8 @@
 use Rattle.std.proofs.Common.{◌∷◌, ap, ◌∙◌}
 use Rattle.pg_schema.specs.Parts.{shape_of}
 use Rattle.pg_wire.specs.Reads.{seen, seen_record}
-use Rattle.pg_dyn.proofs.lemmas.reading.GatheringSteps.{begin, done, onward}
-use Rattle.pg_dyn.proofs.lemmas.reading.RecordFronts.{next_is_record, no_records}
+use Rattle.pg_dyn.proofs.lemmas.reading.gathered.GatheringSteps.{begin, done, onward}
+use Rattle.pg_dyn.proofs.lemmas.reading.records.RecordFronts.{next_is_record, no_records}
 use Rattle.pg_dyn.proofs.reading.gathering.Gathered.add_all.Goals as goal
 
 pub loop-found-init : goal.loop-found-init

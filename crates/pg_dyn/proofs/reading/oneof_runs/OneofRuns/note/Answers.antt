@@ -5,7 +5,7 @@ use Rattle.std.specs.Ordering.{nat_cmp}
 use Rattle.pg_schema.specs.Parts.{field_shape}
 use Rattle.pg_dyn.specs.declared.reading.oneof_runs.OneofRun.{OneofRun}
 use Rattle.pg_dyn.specs.declared.reading.oneof_runs.OneofRuns.{OneofRuns}
-use Rattle.pg_dyn.proofs.lemmas.reading.OneofRunLaws.{begins, goes_on, in_none, not_at, noted}
+use Rattle.pg_dyn.proofs.lemmas.reading.runs.OneofRunLaws.{begins, goes_on, in_none, not_at, noted}
 use Rattle.pg_dyn.proofs.reading.oneof_runs.OneofRuns.note.Goals.{in-Some-get+else-oneof_run-field, in_default-get}
 use Rattle.pg_dyn.proofs.reading.oneof_runs.OneofRuns.note.Goals as goal
 

@@ -10,9 +10,9 @@ use Rattle.pg_dyn.specs.reading.Content.{key_field, takes, value_field}
 use Rattle.pg_dyn.specs.reading.EntryParts.{ScalarsGood}
 use Rattle.pg_dyn.specs.reading.EntrySteps.{IsMessageOf}
 use Rattle.pg_dyn.specs.message_ref.BorrowedItems.{IsItemKept}
-use Rattle.pg_dyn.proofs.lemmas.reading.EntryByParts.{child_added, key_added, none_added, not_explicit, unreadable, value_added}
+use Rattle.pg_dyn.proofs.lemmas.reading.by_fields.EntryByParts.{child_added, key_added, none_added, not_explicit, unreadable, value_added}
 use Rattle.pg_dyn.proofs.lemmas.reading.FieldKinds.{no_message}
-use Rattle.pg_dyn.proofs.lemmas.reading.StopSteps.{handed_on, none_of_err, stops_for}
+use Rattle.pg_dyn.proofs.lemmas.reading.faults.StopSteps.{handed_on, none_of_err, stops_for}
 use Rattle.pg_dyn.proofs.reading.parts.Parts.add.Goals.{else-found-eq1-via-then-found-eq1+else-is_own, else-found-eq1-via-else-found-eq1, else-found-eq2-via-then-found-eq2+else-is_own-2, else-found-eq2-via-else-found-eq2}
 use Rattle.pg_dyn.proofs.reading.parts.Parts.add.Goals as goal
 

@@ -1,8 +1,0 @@
-use Rattle.std.proofs.Common.{rules}
-use Rattle.check_promises.proofs.admit.Goals as goal
-
-pub returns-clause-admitted : goal.returns-clause-admitted
-returns-clause-admitted c = search rules
-
-pub returns-clause-sound : goal.returns-clause-sound
-returns-clause-sound c = search rules

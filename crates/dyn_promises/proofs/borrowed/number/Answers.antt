@@ -1,5 +1,0 @@
-use Rattle.std.proofs.Common.{rules}
-use Rattle.dyn_promises.proofs.borrowed.number.Goals as goal
-
-pub returns-clause-item : goal.returns-clause-item
-returns-clause-item c = search rules

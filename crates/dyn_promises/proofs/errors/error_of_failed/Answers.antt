@@ -1,5 +1,0 @@
-use Rattle.std.proofs.Common.{rules}
-use Rattle.dyn_promises.proofs.errors.error_of_failed.Goals as goal
-
-pub returns : goal.returns
-returns g c = search rules

@@ -1,8 +1,0 @@
-use Rattle.std.proofs.Common.{rules}
-use Rattle.least_promises.proofs.settle.Goals as goal
-
-pub returns-clause-settled : goal.returns-clause-settled
-returns-clause-settled g c = search rules
-
-pub returns-clause-counted : goal.returns-clause-counted
-returns-clause-counted g c = search rules

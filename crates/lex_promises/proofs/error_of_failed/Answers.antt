@@ -1,5 +1,0 @@
-use Rattle.std.proofs.Common.{rules}
-use Rattle.lex_promises.proofs.error_of_failed.Goals as goal
-
-pub returns : goal.returns
-returns g c = search rules

@@ -1,8 +1,0 @@
-use Rattle.std.proofs.Common.{rules}
-use Rattle.link_promises.proofs.linked.resolve.Goals as goal
-
-pub returns-clause-resolves : goal.returns-clause-resolves
-returns-clause-resolves c = search rules
-
-pub returns-clause-refused : goal.returns-clause-refused
-returns-clause-refused c = search rules

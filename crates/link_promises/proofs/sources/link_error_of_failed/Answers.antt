@@ -1,5 +1,0 @@
-use Rattle.std.proofs.Common.{rules}
-use Rattle.link_promises.proofs.sources.link_error_of_failed.Goals as goal
-
-pub returns : goal.returns
-returns g c = search rules

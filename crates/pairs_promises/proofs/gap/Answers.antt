@@ -1,8 +1,0 @@
-use Rattle.std.proofs.Common.{rules}
-use Rattle.pairs_promises.proofs.gap.Goals as goal
-
-pub returns-clause-table : goal.returns-clause-table
-returns-clause-table c = search rules
-
-pub returns-clause-exact : goal.returns-clause-exact
-returns-clause-exact c = search rules

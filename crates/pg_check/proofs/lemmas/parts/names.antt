@@ -1,0 +1,10 @@
+pub mod DeclaredTotals
+pub mod FreePackages
+pub mod NamedOnce
+pub mod NamedParts
+pub mod NumberedNames
+pub mod PartNames
+pub mod PlacedNames
+pub mod ScopeWords
+pub mod WordTrees
+pub mod WordedFiles

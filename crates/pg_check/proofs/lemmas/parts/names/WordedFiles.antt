@@ -1,0 +1,280 @@
+-- The names of what files declare are words, and packages are words with dots between.
+use Rattle.std.proofs.Common.{◌≡◌, ◌∙◌, ℕ, ◌+◌, ◌≤◌, Bool, true, false, cond, ◌||◌, ◌==◌, List, [], ◌∷◌, ◌++◌, length, flat_map, Option, Some, None, string_bytes, sym, ap, refl, arith}
+use Rattle.std.specs.List.{list_all, AllByRecursion}
+use Rattle.std.proofs.lemmas.Bool.{false≢true}
+use Rattle.std.proofs.lemmas.Bool.Decides.{nat_tests}
+use Rattle.std.proofs.lemmas.List.Folds.{list_all-append}
+use Rattle.pg_schema.specs.rules.DeclaredNames.{within}
+use Rattle.pg_schema.specs.rules.Words.{before_first, is_package, is_word, is_word_byte, parts_at_dots}
+use Rattle.pg_check.specs.parts.MadeMessages.{oneof_in, oneofs}
+use Rattle.pg_check.specs.rules.Members.{DeclaredField, members_from, members_in, name_of, oneof_members, oneofs_in}
+use Rattle.pg_check.specs.rules.Outline.{Enum, Message, all_enums, all_messages, an_enum, dotted, dotted_more, enums_in, file_messages, full_name, messages_in, package_in, package_of, row_enums, row_list, row_messages, scoped_enums, statement_enums, statement_messages, statements_behind}
+use Rattle.pg_check.proofs.lemmas.parts.Eachs.{joined_all}
+use Rattle.pg_check.proofs.lemmas.rules.NoneLaws.{and_both, and_left, and_right}
+use Rattle.pg_check.proofs.lemmas.parts.places.ScopedEnums.{scoped_all}
+use Rattle.pg_check.proofs.lemmas.parts.names.WordTrees.{IsGood, IsGoodName, field_name_good, map_name_good, nodes_good, rows_good, runs_good}
+use Rattle.pg_syntax.specs.declared.tree as tree
+use Rattle.pg_syntax.specs.declared.tree.OneofPart.TheVariants as oneof_parts
+use Rattle.pg_syntax.specs.declared.tree.Part.{Part, Row_of-Part, end_of-Part, more_of-Part}
+use Rattle.pg_syntax.specs.declared.tree.Part.TheVariants as parts
+use Rattle.pg_syntax.specs.declared.tree.Statement.TheVariants as statements
+use Rattle.pg_syntax.specs.Views as view
+
+abbrev pub IsGoodPart : Part → Type 0
+IsGoodPart p = IsGood (view.part p)
+
+abbrev pub IsGoodStatement : tree.Statement.Statement → Type 0
+IsGoodStatement s = IsGood (view.statement s)
+
+abbrev pub IsGoodEnumPart : tree.EnumPart.EnumPart → Type 0
+IsGoodEnumPart p = IsGood (view.enum_part p)
+
+abbrev pub IsGoodOneofPart : tree.OneofPart.OneofPart → Type 0
+IsGoodOneofPart p = IsGood (view.oneof_part p)
+
+abbrev pub IsGoodServicePart : tree.ServicePart.ServicePart → Type 0
+IsGoodServicePart p = IsGood (view.service_part p)
+
+-- ---- a message's body
+
+abbrev pub is_word_member : DeclaredField → Bool
+is_word_member m = is_word (string_bytes (name_of m).text)
+
+oneof_members_worded : (place : ℕ) (ps : List tree.OneofPart.OneofPart) → AllByRecursion IsGoodOneofPart ps → list_all is_word_member (oneof_members place ps) ≡ true
+oneof_members_worded place [] h = refl
+oneof_members_worded place (oneof_parts.Empty span ∷ ps) h = oneof_members_worded place ps h.1
+oneof_members_worded place (oneof_parts.Option o ∷ ps) h = oneof_members_worded place ps h.1
+oneof_members_worded place (oneof_parts.Map m ∷ ps) h = and_both (is_word (string_bytes m.name.text)) (list_all is_word_member (oneof_members place ps)) (map_name_good m h.0) (oneof_members_worded place ps h.1)
+oneof_members_worded place (oneof_parts.Field f ∷ ps) h = and_both (is_word (string_bytes f.name.text)) (list_all is_word_member (oneof_members place ps)) (field_name_good f h.0) (oneof_members_worded place ps h.1)
+
+pub members_worded : (place : ℕ) (ps : List Part) → AllByRecursion IsGoodPart ps → list_all is_word_member (members_from place ps) ≡ true
+members_worded place [] h = refl
+members_worded place (p ∷ ps) h =
+    list_all-append is_word_member (members_in place p) (members_from (place + oneofs_in p) ps)
+    ∙ and_both (list_all is_word_member (members_in place p)) (list_all is_word_member (members_from (place + oneofs_in p) ps)) (one p h.0) (members_worded (place + oneofs_in p) ps h.1)
+  where
+    one : (q : Part) → IsGoodPart q → list_all is_word_member (members_in place q) ≡ true
+    one (parts.Empty span) k = refl
+    one (parts.Message' name shape row span) k = refl
+    one (parts.Enum e) k = refl
+    one (parts.Oneof o) k = oneof_members_worded place o.parts.items (runs_good view.oneof_part o.parts.items k.1.1.1.0)
+    one (parts.Option o) k = refl
+    one (parts.Reserved r) k = refl
+    one (parts.Map m) k = and_both (is_word (string_bytes m.name.text)) true (map_name_good m k) refl
+    one (parts.Field f) k = and_both (is_word (string_bytes f.name.text)) true (field_name_good f k) refl
+
+pub oneofs_worded : (ps : List Part) → AllByRecursion IsGoodPart ps → list_all is_word (oneofs ps) ≡ true
+oneofs_worded [] h = refl
+oneofs_worded (p ∷ ps) h =
+    list_all-append is_word (oneof_in p) (oneofs ps)
+    ∙ and_both (list_all is_word (oneof_in p)) (list_all is_word (oneofs ps)) (one p h.0) (oneofs_worded ps h.1)
+  where
+    one : (q : Part) → IsGoodPart q → list_all is_word (oneof_in q) ≡ true
+    one (parts.Empty span) k = refl
+    one (parts.Message' name shape row span) k = refl
+    one (parts.Enum e) k = refl
+    one (parts.Oneof o) k = and_both (is_word (string_bytes o.name.text)) true k.1.0 refl
+    one (parts.Option o) k = refl
+    one (parts.Reserved r) k = refl
+    one (parts.Map m) k = refl
+    one (parts.Field f) k = refl
+
+-- ---- message types
+
+pub record IsGoodMessage (m : Message) : Type 0 where
+  pub name : IsGoodName m.name
+  pub some : 1 ≤ length m.full
+  pub is_full : m.full ≡ full_name m.scope m.name
+  pub body : AllByRecursion IsGoodPart m.body
+
+pub some_within : (scope w : List ℕ) → is_word w ≡ true → 1 ≤ length (within scope w)
+some_within [] [] h = absurd (false≢true h)
+some_within [] (c ∷ cs) h = omega arith
+some_within (b ∷ bs) w h = omega arith
+
+row_good : {m : _} (row : Row_of-Part m) → IsGood (view.row (view.part_nodes row)) → AllByRecursion IsGoodPart (row_list row)
+row_good end_of-Part h = tt
+row_good (more_of-Part p rest) h = let both = nodes_good (view.part p) (view.part_nodes rest) h in (both.0, row_good rest both.1)
+
+mutual
+  part_messages_good : (scope : List ℕ) (p : Part) → IsGoodPart p → AllByRecursion IsGoodMessage (messages_in scope p)
+  part_messages_good scope (parts.Empty span) h = tt
+  part_messages_good scope (parts.Message' name shape row span) h =
+      (record { name = h.1.0; some = some_within scope (string_bytes name.text) h.1.0; is_full = refl; body = row_good row h.1.1.1.0 }, row_messages_good (full_name scope name) row h.1.1.1.0)
+  part_messages_good scope (parts.Enum e) h = tt
+  part_messages_good scope (parts.Oneof o) h = tt
+  part_messages_good scope (parts.Option o) h = tt
+  part_messages_good scope (parts.Reserved r) h = tt
+  part_messages_good scope (parts.Map m) h = tt
+  part_messages_good scope (parts.Field f) h = tt
+
+  row_messages_good : {m : _} (scope : List ℕ) (row : Row_of-Part m) → IsGood (view.row (view.part_nodes row)) → AllByRecursion IsGoodMessage (row_messages scope row)
+  row_messages_good scope end_of-Part h = tt
+  row_messages_good scope (more_of-Part p rest) h =
+      let both = nodes_good (view.part p) (view.part_nodes rest) h in
+      joined_all IsGoodMessage (messages_in scope p) (row_messages scope rest) (part_messages_good scope p both.0) (row_messages_good scope rest both.1)
+
+body_messages_good : (scope : List ℕ) (ps : List Part) → AllByRecursion IsGoodPart ps → AllByRecursion IsGoodMessage (flat_map (messages_in scope) ps)
+body_messages_good scope [] h = tt
+body_messages_good scope (p ∷ ps) h = joined_all IsGoodMessage (messages_in scope p) (flat_map (messages_in scope) ps) (part_messages_good scope p h.0) (body_messages_good scope ps h.1)
+
+messages_good : (scope : List ℕ) (s : tree.Statement.Statement) → IsGoodStatement s → AllByRecursion IsGoodMessage (statement_messages scope s)
+messages_good scope (statements.Empty span) h = tt
+messages_good scope (statements.Import i) h = tt
+messages_good scope (statements.Option o) h = tt
+messages_good scope (statements.Message m) h =
+    let body : AllByRecursion IsGoodPart m.parts.items = runs_good view.part m.parts.items h.1.1.1.0 in
+    (record { name = h.1.0; some = some_within scope (string_bytes m.name.text) h.1.0; is_full = refl; body = body }, body_messages_good (full_name scope m.name) m.parts.items body)
+messages_good scope (statements.Enum e) h = tt
+messages_good scope (statements.Service s) h = tt
+
+all_messages_good : (scope : List ℕ) (ss : List tree.Statement.Statement) → AllByRecursion IsGoodStatement ss → AllByRecursion IsGoodMessage (all_messages scope ss)
+all_messages_good scope [] h = tt
+all_messages_good scope (s ∷ ss) h = joined_all IsGoodMessage (statement_messages scope s) (all_messages scope ss) (messages_good scope s h.0) (all_messages_good scope ss h.1)
+
+-- ---- enums
+
+pub record IsGoodEnum (e : Enum) : Type 0 where
+  pub name : IsGoodName e.tree.name
+  pub is_full : e.full ≡ full_name e.scope e.tree.name
+  pub body : AllByRecursion IsGoodEnumPart e.tree.parts.items
+
+enum_good : (scope : List ℕ) (e : tree.Enum.Enum) → IsGood (view.enumeration e) → AllByRecursion IsGoodEnum (an_enum scope e)
+enum_good scope e h = (record { name = h.1.0; is_full = refl; body = runs_good view.enum_part e.parts.items h.1.1.1.0 }, tt)
+
+mutual
+  part_enums_good : (scope : List ℕ) (p : Part) → IsGoodPart p → AllByRecursion IsGoodEnum (enums_in scope p)
+  part_enums_good scope (parts.Empty span) h = tt
+  part_enums_good scope (parts.Message' name shape row span) h = row_enums_good (full_name scope name) row h.1.1.1.0
+  part_enums_good scope (parts.Enum e) h = enum_good scope e h
+  part_enums_good scope (parts.Oneof o) h = tt
+  part_enums_good scope (parts.Option o) h = tt
+  part_enums_good scope (parts.Reserved r) h = tt
+  part_enums_good scope (parts.Map m) h = tt
+  part_enums_good scope (parts.Field f) h = tt
+
+  row_enums_good : {m : _} (scope : List ℕ) (row : Row_of-Part m) → IsGood (view.row (view.part_nodes row)) → AllByRecursion IsGoodEnum (row_enums scope row)
+  row_enums_good scope end_of-Part h = tt
+  row_enums_good scope (more_of-Part p rest) h =
+      let both = nodes_good (view.part p) (view.part_nodes rest) h in
+      joined_all IsGoodEnum (enums_in scope p) (row_enums scope rest) (part_enums_good scope p both.0) (row_enums_good scope rest both.1)
+
+body_enums_good : (scope : List ℕ) (ps : List Part) → AllByRecursion IsGoodPart ps → AllByRecursion IsGoodEnum (flat_map (enums_in scope) ps)
+body_enums_good scope [] h = tt
+body_enums_good scope (p ∷ ps) h = joined_all IsGoodEnum (enums_in scope p) (flat_map (enums_in scope) ps) (part_enums_good scope p h.0) (body_enums_good scope ps h.1)
+
+enums_good : (scope : List ℕ) (s : tree.Statement.Statement) → IsGoodStatement s → AllByRecursion IsGoodEnum (statement_enums scope s)
+enums_good scope (statements.Empty span) h = tt
+enums_good scope (statements.Import i) h = tt
+enums_good scope (statements.Option o) h = tt
+enums_good scope (statements.Message m) h = body_enums_good (full_name scope m.name) m.parts.items (runs_good view.part m.parts.items h.1.1.1.0)
+enums_good scope (statements.Enum e) h = enum_good scope e h
+enums_good scope (statements.Service s) h = tt
+
+all_enums_good : (scope : List ℕ) (ss : List tree.Statement.Statement) → AllByRecursion IsGoodStatement ss → AllByRecursion IsGoodEnum (all_enums scope ss)
+all_enums_good scope [] h = tt
+all_enums_good scope (s ∷ ss) h = joined_all IsGoodEnum (statement_enums scope s) (all_enums scope ss) (enums_good scope s h.0) (all_enums_good scope ss h.1)
+
+-- ---- packages
+
+abbrev are_words : List ℕ → Bool
+are_words text = list_all is_word (parts_at_dots text)
+
+pub record HasFirst (ps : List (List ℕ)) : Type 0 where
+  pub first : List ℕ
+  pub others : List (List ℕ)
+  pub is : ps ≡ first ∷ others
+
+has_first : (text : List ℕ) → HasFirst (parts_at_dots text)
+has_first [] = record { first = []; others = []; is = refl }
+has_first (b ∷ bs) = by (b == 46) (has_first bs)
+  where
+    by : (c : Bool) → HasFirst (parts_at_dots bs) → HasFirst (cond c ([] ∷ parts_at_dots bs) (before_first b (parts_at_dots bs)))
+    by true h = record { first = []; others = parts_at_dots bs; is = refl }
+    by false h = record { first = b ∷ h.first; others = h.others; is = ap (before_first b) h.is }
+
+before_joined : (b : ℕ) (ps qs : List (List ℕ)) → HasFirst ps → before_first b (ps ++ qs) ≡ before_first b ps ++ qs
+before_joined b ps qs h =
+    ap (λ rs. before_first b (rs ++ qs)) h.is ∙ sym (ap (λ rs. before_first b rs ++ qs) h.is)
+
+-- a dot parts what is before it from what is after it
+pub parted : (a b : List ℕ) → parts_at_dots (a ++ 46 ∷ b) ≡ parts_at_dots a ++ parts_at_dots b
+parted [] b = refl
+parted (x ∷ xs) b = by (x == 46) (parted xs b)
+  where
+    by : (c : Bool) → parts_at_dots (xs ++ 46 ∷ b) ≡ parts_at_dots xs ++ parts_at_dots b
+        → cond c ([] ∷ parts_at_dots (xs ++ 46 ∷ b)) (before_first x (parts_at_dots (xs ++ 46 ∷ b))) ≡ cond c ([] ∷ parts_at_dots xs) (before_first x (parts_at_dots xs)) ++ parts_at_dots b
+    by true h = ap (λ ps. [] ∷ ps) h
+    by false h = ap (before_first x) h ∙ before_joined x (parts_at_dots xs) (parts_at_dots b) (has_first xs)
+
+no_dot : (x : ℕ) → is_word_byte x ≡ true → (x == 46) ≡ false
+no_dot x h = grind (arith, nat_tests)
+
+pub bytes_alone : (xs : List ℕ) → list_all is_word_byte xs ≡ true → parts_at_dots xs ≡ xs ∷ []
+bytes_alone [] h = refl
+bytes_alone (x ∷ xs) h =
+    ap (λ c. cond c ([] ∷ parts_at_dots xs) (before_first x (parts_at_dots xs))) (no_dot x (and_left (is_word_byte x) (list_all is_word_byte xs) h))
+    ∙ ap (before_first x) (bytes_alone xs (and_right (is_word_byte x) (list_all is_word_byte xs) h))
+
+or_first : (a b : Bool) → a ≡ true → (a || b) ≡ true
+or_first true b h = refl
+or_first false b h = absurd (false≢true h)
+
+pub word_bytes : (w : List ℕ) → is_word w ≡ true → list_all is_word_byte w ≡ true
+word_bytes [] h = refl
+word_bytes (x ∷ xs) h = and_both (is_word_byte x) (list_all is_word_byte xs) (or_first _ _ (and_left _ (list_all is_word_byte xs) h)) (and_right _ (list_all is_word_byte xs) h)
+
+word_alone : (w : List ℕ) → is_word w ≡ true → are_words w ≡ true
+word_alone w h = ap (list_all is_word) (bytes_alone w (word_bytes w h)) ∙ and_both (is_word w) true h refl
+
+one_word_more : (text w : List ℕ) → are_words text ≡ true → is_word w ≡ true → are_words (text ++ 46 ∷ w) ≡ true
+one_word_more text w h k =
+    ap (list_all is_word) (parted text w)
+    ∙ (list_all-append is_word (parts_at_dots text) (parts_at_dots w)
+    ∙ and_both (are_words text) (are_words w) h (word_alone w k))
+
+abbrev pub IsGoodDotted : tree.Name.Name → Type 0
+IsGoodDotted n = IsGood (view.dot_name n)
+
+more_words : (text : List ℕ) (ns : List tree.Name.Name) → are_words text ≡ true → AllByRecursion IsGoodDotted ns → are_words (dotted_more text ns) ≡ true
+more_words text [] h k = h
+more_words text (n ∷ ns) h k = more_words (text ++ 46 ∷ string_bytes n.text) ns (one_word_more text (string_bytes n.text) h k.0.1) k.1
+
+is_package_so : (text : List ℕ) → are_words text ≡ true → is_package text ≡ true
+is_package_so [] h = refl
+is_package_so (b ∷ bs) h = h
+
+package_good : (p : Option tree.Packaged.Packaged) → IsGood (view.perhaps view.packaged p) → is_package (package_in p) ≡ true
+package_good None h = refl
+package_good (Some p) h =
+    let d = p.package.name in
+    is_package_so (dotted d) (more_words (string_bytes d.first.text) d.more.items (word_alone (string_bytes d.first.text) h.0.1.0.0) (rows_good view.dot_name d.more.items h.0.1.0.1))
+
+behind_good : (p : Option tree.Packaged.Packaged) → IsGood (view.perhaps view.packaged p) → AllByRecursion IsGoodStatement (statements_behind p)
+behind_good None h = tt
+behind_good (Some p) h = runs_good view.statement p.statements.items h.1
+
+-- ---- files
+
+pub record IsGoodFile (file : tree.FileTree.FileTree) : Type 0 where
+  pub messages : AllByRecursion IsGoodMessage (file_messages file)
+  pub enums : AllByRecursion IsGoodEnum (scoped_enums file)
+  pub front : AllByRecursion IsGoodStatement file.statements.items
+  pub behind : AllByRecursion IsGoodStatement (statements_behind file.packaged)
+  pub package_good : IsGood (view.perhaps view.packaged file.packaged)
+  pub has_package : is_package (package_of file) ≡ true
+
+pub good_file : (file : tree.FileTree.FileTree) → IsGood (view.file file) → IsGoodFile file
+good_file file h =
+    let front : AllByRecursion IsGoodStatement file.statements.items = runs_good view.statement file.statements.items h.1.1.0 in
+    let behind : AllByRecursion IsGoodStatement (statements_behind file.packaged) = behind_good file.packaged h.1.1.1 in
+    let scope = package_of file in
+    record {
+      messages = joined_all IsGoodMessage (all_messages scope file.statements.items) (all_messages scope (statements_behind file.packaged)) (all_messages_good scope file.statements.items front) (all_messages_good scope (statements_behind file.packaged) behind);
+      enums = scoped_all IsGoodEnum file
+          (joined_all IsGoodEnum (all_enums scope file.statements.items) (all_enums scope (statements_behind file.packaged)) (all_enums_good scope file.statements.items front) (all_enums_good scope (statements_behind file.packaged) behind));
+      front = front;
+      behind = behind;
+      package_good = h.1.1.1;
+      has_package = package_good file.packaged h.1.1.1;
+    }

@@ -1,0 +1,4 @@
+pub mod NamedUses
+pub mod ResolvedTypes
+pub mod ResolvedUses
+pub mod UsesRise

@@ -1,0 +1,383 @@
+-- An entry of a map is good exactly where the records of its key and of its value are, and what they say is what it holds.
+use Rattle.std.proofs.Common.{Result, ◌<◌, get_or, length, take, ◌≡◌, ◌≢◌, ℕ, suc, ◌+◌, List, [], ◌∷◌, ◌++◌, map, filter, Bool, true, false, not, ◌&&◌, ◌||◌, cond, nat_eq, Option, Some, None, is_some, option_map, option_and_then, Ok, refl, ap, sym, ◌∙◌, subst, true≢false}
+use Rattle.std.specs.List.{AllByRecursion, list_all}
+use Rattle.std.proofs.lemmas.Bool.{and_from, and_parts, eqb-true}
+use Rattle.std.proofs.lemmas.List.{map_more}
+use Rattle.pg_schema.specs.declared.parts.field.TypeId.{TypeId}
+use Rattle.pg_schema.specs.declared.parts.field.Scalar.{Scalar}
+use Rattle.pg_schema.specs.declared.parts.field.Element.{Element}
+use Rattle.pg_schema.specs.declared.parts.field.Element.TheVariants as elements
+use Rattle.pg_schema.specs.declared.parts.field.Presence.{Presence}
+use Rattle.pg_schema.specs.declared.parts.field.Presence.TheVariants as presences
+use Rattle.pg_schema.specs.Shape.{Shape, FieldShape, field_at}
+use Rattle.pg_schema.specs.ShapeRules.{PresenceFits}
+use Rattle.pg_schema.specs.rules.Fields.{is_key}
+use Rattle.pg_wire.specs.declared.record.Record.{Record}
+use Rattle.pg_wire.specs.Reading.{Fault}
+use Rattle.pg_wire.specs.Reads.{seen_record}
+use Rattle.pg_wire.specs.Records.{IsRecord, Spells, WireRecord, records_of}
+use Rattle.pg_wire.proofs.RecordLaws.{Spells_from_records_of}
+use Rattle.pg_dyn.specs.declared.message_ref.EntryRef.{EntryRef}
+use Rattle.pg_dyn.specs.declared.message_ref.ValueRef.{ValueRef}
+use Rattle.pg_dyn.specs.declared.reading.parts.Parts.{Parts}
+use Rattle.pg_dyn.specs.reading.ByFields.{AreGood, AreOf, BodiesGood, IsChildOf, IsEntryRead}
+use Rattle.pg_dyn.specs.word.Coding.{form, zero_leaf}
+use Rattle.pg_dyn.specs.reading.Content.{entry_part, is_accepted, key_field, leaves_in, merged, option_from, takes, value_field, entry_fields}
+use Rattle.pg_dyn.specs.message_ref.BorrowedItems.{ItemKept}
+use Rattle.pg_dyn.specs.reading.Decoding.{all_plain_readable, dec, entry_records, is_plain_readable, is_readable}
+use Rattle.pg_dyn.specs.reading.EntryParts.{AreParts, AreReadable, ScalarsGood}
+use Rattle.pg_dyn.specs.reading.EntrySteps.{IsMessageOf, IsReadFrom, PartFits, PartRead, WholeItem}
+use Rattle.pg_dyn.specs.message.Message.{Bytes, Item, Leaf, Plain}
+use Rattle.pg_dyn.specs.reading.Optional.{first_or}
+use Rattle.pg_dyn.specs.reading.ReadingOn.{IsNoMessage}
+use Rattle.pg_dyn.specs.message_ref.BorrowedItems.{IsItemKept}
+use Rattle.pg_dyn.specs.message_ref.Borrowed.{leaf_of}
+use Rattle.pg_dyn.specs.reading.Steps.{FieldReads, IsShallow, IsShallowIn, IsShallowRecord, Taken, item_of}
+use Rattle.pg_dyn.specs.reading.Faults.{TooDeep, TooDeepOf}
+use Rattle.pg_dyn.specs.reading.Faults as faults
+use Rattle.pg_dyn.proofs.lemmas.reading.by_fields.BodiesByFields.{bodies_of, records_shallow, seen_at, shallow_from_records}
+use Rattle.pg_dyn.proofs.lemmas.reading.by_fields.ChildrenByFields as children
+use Rattle.pg_dyn.proofs.lemmas.reading.by_fields.PlainFields.{no_child}
+use Rattle.pg_dyn.proofs.lemmas.reading.faults.Faulty.{entry_records_of}
+use Rattle.pg_dyn.proofs.lemmas.reading.FieldKinds.{message_clash}
+use Rattle.pg_dyn.proofs.lemmas.message_ref.BorrowedItems.{item_is_key, key_seen}
+use Rattle.pg_dyn.proofs.lemmas.reading.records.Joining.{implied}
+use Rattle.pg_dyn.proofs.lemmas.reading.by_fields.MapsByFields.{AreEntriesRead, one_entry_more}
+use Rattle.pg_dyn.proofs.Lists.{each-append, each-filter, each_at, each_both, each_weaker, list_all_each, list_all_true}
+use Rattle.pg_dyn.proofs.lemmas.reading.faults.ShallowRecords.{entry_shallow, scalar_shallow}
+
+-- what holds of what a filter keeps holds of each that passes, and the other way round
+unfiltered : {A : Type 0} (P : A → Type 0) (test : A → Bool) (xs : List A) → AllByRecursion P (filter test xs) → AllByRecursion (λ x. test x ≡ true → P x) xs
+unfiltered P test [] h = tt
+unfiltered P test (x ∷ xs) h =
+    elim (test x) as (λ b. AllByRecursion P (cond b (x ∷ filter test xs) (filter test xs)) → (b ≡ true → P x) × AllByRecursion (λ y. test y ≡ true → P y) xs)
+    [ true ↦ λ k. (λ e. k.0, unfiltered P test xs k.1) | false ↦ λ k. (λ e. absurd (true≢false (sym e)), unfiltered P test xs k) ] h
+
+filtered : {A : Type 0} (P : A → Type 0) (test : A → Bool) (xs : List A) → AllByRecursion (λ x. test x ≡ true → P x) xs → AllByRecursion P (filter test xs)
+filtered P test [] h = tt
+filtered P test (x ∷ xs) h =
+    elim (test x) as (λ b. (b ≡ true → P x) → AllByRecursion P (cond b (x ∷ filter test xs) (filter test xs)))
+    [ true ↦ λ k. (k refl, filtered P test xs h.1) | false ↦ λ k. filtered P test xs h.1 ] h.0
+
+implies : (a b : Bool) → (a ≡ true → b ≡ true) → (not a || b) ≡ true
+implies true b h = h refl
+implies false b h = refl
+
+-- the records of the field among these
+abbrev pub own : FieldShape → List WireRecord → List WireRecord
+own g rs = filter (takes g) rs
+
+pub are_of : (g : FieldShape) (rs : List WireRecord) → AllByRecursion IsRecord rs → AreOf g (own g rs)
+are_of g rs h = each-filter IsRecord (takes g) rs h
+
+-- Which records of an entry are good.
+
+module _ (shape : Shape) (levels : ℕ) (key : Scalar) (e : Element) where
+  abbrev both_fields : List FieldShape
+  both_fields = key_field key ∷ value_field e ∷ []
+
+  -- a record that is good for the key and for the value
+  abbrev GoodFor : FieldShape → WireRecord → Type 0
+  GoodFor g s = FieldReads shape g s × IsShallow shape levels g s
+
+  one_readable : (s : WireRecord) → (takes (key_field key) s ≡ true → GoodFor (key_field key) s) → (takes (value_field e) s ≡ true → GoodFor (value_field e) s)
+      → list_all (λ g. not (takes g s) || is_plain_readable (dec shape) g s) both_fields ≡ true
+  one_readable s k v =
+      and_from (not (takes (key_field key) s) || is_plain_readable (dec shape) (key_field key) s) _ (implies (takes (key_field key) s) _ (λ taken. (k taken).0))
+      (and_from (not (takes (value_field e) s) || is_plain_readable (dec shape) (value_field e) s) true
+      (implies (takes (value_field e) s) _ (λ taken. (v taken).0)) refl)
+
+  one_shallow : (s : WireRecord) → (takes (key_field key) s ≡ true → GoodFor (key_field key) s)
+      → (takes (value_field e) s ≡ true → GoodFor (value_field e) s) → IsShallowRecord shape levels both_fields s
+  one_shallow s k v g h =
+      each_at (λ x. takes x s ≡ true → IsShallow shape levels x s) both_fields s.number g h.found (λ taken. (k taken).1, (λ taken. (v taken).1, tt)) h.taken
+
+  key_found : (s : WireRecord) → takes (key_field key) s ≡ true → Taken both_fields s (key_field key)
+  key_found s taken =
+      let at = eqb-true s.number 1 (and_parts (nat_eq s.number 1) (is_accepted (key_field key) s) taken).0 in
+      record { found = subst (λ n. field_at both_fields n ≡ Some (key_field key)) (sym at) refl; taken = taken }
+
+  value_found : (s : WireRecord) → takes (value_field e) s ≡ true → Taken both_fields s (value_field e)
+  value_found s taken =
+      let at = eqb-true s.number 2 (and_parts (nat_eq s.number 2) (is_accepted (value_field e) s) taken).0 in
+      record { found = subst (λ n. field_at both_fields n ≡ Some (value_field e)) (sym at) refl; taken = taken }
+
+  good_for_key : (s : WireRecord) → list_all (λ g. not (takes g s) || is_plain_readable (dec shape) g s) both_fields ≡ true
+      → IsShallowRecord shape levels both_fields s → takes (key_field key) s ≡ true → GoodFor (key_field key) s
+  good_for_key s readable shallow taken =
+      let each = list_all_true (λ g. not (takes g s) || is_plain_readable (dec shape) g s) both_fields readable in
+      (implied (takes (key_field key) s) (is_plain_readable (dec shape) (key_field key) s) each.0 taken, shallow (key_field key) (key_found s taken))
+
+  good_for_value : (s : WireRecord) → list_all (λ g. not (takes g s) || is_plain_readable (dec shape) g s) both_fields ≡ true
+      → IsShallowRecord shape levels both_fields s → takes (value_field e) s ≡ true → GoodFor (value_field e) s
+  good_for_value s readable shallow taken =
+      let each = list_all_true (λ g. not (takes g s) || is_plain_readable (dec shape) g s) both_fields readable in
+      (implied (takes (value_field e) s) (is_plain_readable (dec shape) (value_field e) s) each.1.0 taken, shallow (value_field e) (value_found s taken))
+
+  abbrev IsTested : WireRecord → Type 0
+  IsTested s = (list_all (λ g. not (takes g s) || is_plain_readable (dec shape) g s) both_fields ≡ true) × IsShallowRecord shape levels both_fields s
+
+  all_tested : (rs : List WireRecord) → AreGood shape levels (key_field key) (own (key_field key) rs)
+      → AreGood shape levels (value_field e) (own (value_field e) rs) → AllByRecursion IsTested rs
+  all_tested rs k v =
+      each_weaker (λ s. (takes (key_field key) s ≡ true → GoodFor (key_field key) s)
+      × (takes (value_field e) s ≡ true → GoodFor (value_field e) s)) IsTested (λ s h. (one_readable s h.0 h.1, one_shallow s h.0 h.1)) rs
+      (each_both (λ s. takes (key_field key) s ≡ true → GoodFor (key_field key) s) (λ s. takes (value_field e) s ≡ true → GoodFor (value_field e) s) rs
+      (unfiltered (GoodFor (key_field key)) (takes (key_field key)) rs k) (unfiltered (GoodFor (value_field e)) (takes (value_field e)) rs v))
+
+  tested_key : (rs : List WireRecord) → AllByRecursion IsTested rs → AreGood shape levels (key_field key) (own (key_field key) rs)
+  tested_key rs h =
+      filtered (GoodFor (key_field key)) (takes (key_field key)) rs
+      (each_weaker IsTested (λ s. takes (key_field key) s ≡ true → GoodFor (key_field key) s) (λ s k. good_for_key s k.0 k.1) rs h)
+
+  tested_value : (rs : List WireRecord) → AllByRecursion IsTested rs → AreGood shape levels (value_field e) (own (value_field e) rs)
+  tested_value rs h =
+      filtered (GoodFor (value_field e)) (takes (value_field e)) rs
+      (each_weaker IsTested (λ s. takes (value_field e) s ≡ true → GoodFor (value_field e) s) (λ s k. good_for_value s k.0 k.1) rs h)
+
+-- What makes an entry good: its records are, and a message that stands for a missing value isn't too deep.
+pub record EntryGood (shape : Shape) (levels : ℕ) (key : Scalar) (e : Element) (rs : List WireRecord) : Type 0 where
+  pub key_good : AreGood shape levels (key_field key) (own (key_field key) rs)
+  pub value_good : AreGood shape levels (value_field e) (own (value_field e) rs)
+  pub has_room : (t : TypeId) → e ≡ elements.Message t → levels ≡ 0 → ⊥
+
+module _ (shape : Shape) (f : FieldShape) (key : Scalar) (of_map : f.presence ≡ presences.Map key) (r : WireRecord) where
+  -- an entry is good where its records are
+  pub entry_good : (levels : ℕ) (rs : List WireRecord) → records_of r.body ≡ Ok rs → EntryGood shape levels key f.element rs → AreGood shape levels f (r ∷ [])
+  entry_good levels rs records good =
+      let tested = all_tested shape levels key f.element rs good.key_good good.value_good in
+      let test : WireRecord → Bool = λ s. list_all (λ g. not (takes g s) || is_plain_readable (dec shape) g s) (entry_fields key f.element) in
+      let readable : all_plain_readable (dec shape) (entry_fields key f.element) rs ≡ true =
+      list_all_each test rs (each_weaker (IsTested shape levels key f.element) (λ s. test s ≡ true) (λ s h. h.0) rs tested) in
+      let some : is_some (entry_records (dec shape) key f.element r) ≡ true =
+      ap (λ x. is_some (option_and_then (λ xs. cond (all_plain_readable (dec shape) (entry_fields key f.element) xs) (Some xs) None)
+      (option_from x))) records ∙ ap (λ b. is_some (cond b (Some rs) None)) readable in
+      let below = shallow_from_records shape levels (entry_fields key f.element) r.body rs records
+      (each_weaker (IsTested shape levels key f.element) (IsShallowRecord shape levels (entry_fields key f.element)) (λ s h. h.1) rs tested) in (
+        (
+          subst (λ p. is_readable (dec shape) (record { number = f.number; presence = p; element = f.element; oneof = f.oneof }) r ≡ true)
+              (sym of_map) some,
+          entry_shallow shape f key of_map levels r below (λ ss u x low spelled none. good.has_room u x low),
+        ),
+        tt,
+      )
+
+  has_room_for : (levels : ℕ) (rs : List WireRecord) (t : TypeId) → Spells r.body rs → IsShallow shape levels f r
+      → AreGood shape levels (value_field f.element) (own (value_field f.element) rs) → f.element ≡ elements.Message t → levels ≡ 0 → ⊥
+  has_room_for levels rs t spells shallow good is none = of (own (value_field f.element) rs) refl good
+    where
+      of : (ss : List WireRecord) → own (value_field f.element) rs ≡ ss → AreGood shape levels (value_field f.element) ss → ⊥
+      of [] empty h = shallow 0 (subst (λ n. TooDeepOf shape n f r 0) (sym none) (faults.missing_value f r key t rs of_map is spells empty (rs, spells)))
+      of (s ∷ ss) some h = children.some_levels shape (value_field f.element) t is refl levels s h.0.1 none
+
+  -- the records of a good entry are good
+  pub good_entry : (levels : ℕ) → AreGood shape levels f (r ∷ [])
+      → (rs : List WireRecord) × (records_of r.body ≡ Ok rs) × EntryGood shape levels key f.element rs
+  good_entry levels good =
+      let some : is_some (entry_records (dec shape) key f.element r) ≡ true =
+      subst (λ p. is_readable (dec shape) (record { number = f.number; presence = p; element = f.element; oneof = f.oneof }) r ≡ true) of_map good.0.0 in
+      let (rs, records, readable) = entry_records_of (dec shape) (entry_fields key f.element) r.body some in
+      let below : IsShallowIn shape (suc levels) (entry_fields key f.element) r.body = λ place x. good.0.1 _ (faults.in_entry levels f r key TooDeep place of_map x) in
+      let test : WireRecord → Bool = λ s. list_all (λ g. not (takes g s) || is_plain_readable (dec shape) g s) (entry_fields key f.element) in
+      let tested =
+      each_both (λ s. test s ≡ true) (IsShallowRecord shape levels (entry_fields key f.element)) rs (list_all_true test rs readable)
+      (records_shallow shape levels (entry_fields key f.element) r.body rs records below) in
+      let value = tested_value shape levels key f.element rs tested in (
+        rs,
+        records,
+        record {
+          key_good = tested_key shape levels key f.element rs tested;
+          value_good = value;
+          has_room = λ t. has_room_for levels rs t (Spells_from_records_of r.body rs records) good.0.1 value;
+        },
+      )
+
+-- Records of a field of an entry that is no message.
+
+abbrev explicit : ℕ → Element → FieldShape
+explicit n e = record { number = n; presence = presences.Explicit; element = e; oneof = None }
+
+module _ (n : ℕ) (e : Element) (scalar : IsNoMessage e) (rs : List WireRecord) where
+  pub scalars_good : (shape : Shape) (levels : ℕ) → AreReadable (explicit n e) rs → AreGood shape levels (explicit n e) (own (explicit n e) rs)
+  scalars_good shape levels h =
+      filtered (λ s. FieldReads shape (explicit n e) s × IsShallow shape levels (explicit n e) s) (takes (explicit n e)) rs
+      (each_weaker (λ s. takes (explicit n e) s ≡ true → is_plain_readable (dec shape) (explicit n e) s ≡ true)
+      (λ s. takes (explicit n e) s ≡ true → FieldReads shape (explicit n e) s × IsShallow shape levels (explicit n e) s)
+      (λ s k taken. (k taken, scalar_shallow shape levels e s scalar (explicit n e) refl refl)) rs (h shape))
+
+  pub good_scalars : (shape : Shape) (levels : ℕ) → AreGood shape levels (explicit n e) (own (explicit n e) rs) → AreReadable (explicit n e) rs
+  good_scalars shape levels h = λ other.
+      each_weaker (λ s. takes (explicit n e) s ≡ true → FieldReads shape (explicit n e) s × IsShallow shape levels (explicit n e) s)
+      (λ s. takes (explicit n e) s ≡ true → is_plain_readable (dec other) (explicit n e) s ≡ true)
+      (λ s k taken. ap (λ b. is_some (leaves_in (explicit n e) s) && b) (no_child (dec other) e s.body scalar ∙ sym (no_child (dec shape) e s.body scalar))
+      ∙ (k taken).0) rs
+      (unfiltered (λ s. FieldReads shape (explicit n e) s × IsShallow shape levels (explicit n e) s) (takes (explicit n e)) rs h)
+
+-- what a good entry says of its scalars
+pub scalars_of_good : (shape : Shape) (levels : ℕ) (key : Scalar) (e : Element) (rs : List WireRecord) → EntryGood shape levels key e rs → ScalarsGood key e rs
+scalars_of_good shape levels key e rs h = record {
+  key_good = good_scalars 1 (elements.Scalar key) tt rs shape levels h.key_good;
+  value_good = λ scalar. good_scalars 2 e scalar rs shape levels h.value_good;
+}
+
+-- an entry is good whose value is no message, or a message of good bodies
+pub good_of_scalars : (shape : Shape) (levels : ℕ) (key : Scalar) (e : Element) (rs : List WireRecord) → IsNoMessage e → ScalarsGood key e rs
+    → EntryGood shape levels key e rs
+good_of_scalars shape levels key e rs scalar h = record {
+  key_good = scalars_good 1 (elements.Scalar key) tt rs shape levels h.key_good;
+  value_good = scalars_good 2 e scalar rs shape levels (h.value_good scalar);
+  has_room = λ t is none. message_clash e t scalar is;
+}
+
+module _ (shape : Shape) (levels : ℕ) (key : Scalar) (e : Element) (t : TypeId) (is : e ≡ elements.Message t) (rs : List WireRecord) where
+  pub good_of_bodies : AllByRecursion IsRecord rs → ScalarsGood key e rs → BodiesGood shape levels t (own (value_field e) rs) → EntryGood shape levels key e rs
+  good_of_bodies are h good = record {
+    key_good = scalars_good 1 (elements.Scalar key) tt rs shape levels h.key_good;
+    value_good = children.good_from_bodies shape (value_field e) t is refl levels (own (value_field e) rs) (are_of (value_field e) rs are) good;
+    has_room = λ u same none. good.0 none;
+  }
+
+  pub bodies_of_good : EntryGood shape levels key e rs → BodiesGood shape levels t (own (value_field e) rs)
+  bodies_of_good h = of (own (value_field e) rs) h.value_good
+    where
+      of : (ss : List WireRecord) → AreGood shape levels (value_field e) ss → BodiesGood shape levels t ss
+      of [] good = (h.has_room t is, tt)
+      of (s ∷ ss) good = children.bodies_from_good shape (value_field e) t is refl levels (s ∷ ss) (not_nil s ss) good
+        where
+          not_nil : (x : WireRecord) (xs : List WireRecord) → x ∷ xs ≢ []
+          not_nil x xs e = cc
+
+-- What an entry holds.
+
+-- the part of a whole entry, and what is read of it
+abbrev pub PartWhole : Shape → FieldShape → List WireRecord → ValueRef → Type 0
+PartWhole shape g rs v = (leaf : Leaf) × (entry_part g rs ≡ Some leaf) × IsReadFrom shape g.element leaf v
+
+pub part_whole : (shape : Shape) (g : FieldShape) (rs : List WireRecord) (held : Option ValueRef) (v : ValueRef) → PartRead shape g rs held
+    → WholeItem shape g.element held v → PartWhole shape g rs v
+part_whole shape g rs None v part whole = (zero_leaf (form g.element), ap (option_map (first_or (zero_leaf (form g.element)))) part, whole)
+part_whole shape g rs (Some w) v part whole =
+    (part.0, ap (option_map (first_or (zero_leaf (form g.element)))) part.1, subst (IsReadFrom shape g.element part.0) whole part.2)
+
+pub child_whole : (shape : Shape) (e : Element) (t : TypeId) (rs : List WireRecord) (v : ValueRef) → e ≡ elements.Message t → AllByRecursion IsRecord rs
+    → IsChildOf shape t (own (value_field e) rs) v → PartWhole shape (value_field e) rs v
+child_whole shape e t rs v is are h =
+    let run = own (value_field e) rs in (
+      Bytes (bodies_of run),
+      ap (option_map (first_or (zero_leaf (form e)))) (children.merged_content shape (value_field e) t is refl run refl (are_of (value_field e) rs are))
+          ∙ ap (λ l. Some l) (first run),
+      subst (λ d. IsReadFrom shape d (Bytes (bodies_of run)) v) (sym is) (children.child_item shape t run false v h),
+    )
+  where
+    first : (ss : List WireRecord) → first_or (zero_leaf (form e)) (merged (map (λ (r : WireRecord). Bytes r.body) ss)) ≡ Bytes (bodies_of ss)
+    first [] = ap (λ d. zero_leaf (form d)) is
+    first (s ∷ ss) = ap (first_or (zero_leaf (form e))) (children.merged_are shape (value_field e) t is refl (s ∷ ss) (not_nil s ss))
+      where
+        not_nil : (x : WireRecord) (xs : List WireRecord) → x ∷ xs ≢ []
+        not_nil x xs e = cc
+
+plain_same : (a b : Leaf) → ◌≡◌ {A = Option Item} (Some (Plain a)) (Some (Plain b)) → a ≡ b
+plain_same a b k = cc
+
+pub entry_is_read : (shape : Shape) (key : Scalar) (e : Element) (r : WireRecord) (rs : List WireRecord) (k v : ValueRef) → records_of r.body ≡ Ok rs
+    → PartWhole shape (key_field key) rs k → PartWhole shape (value_field e) rs v
+    → IsItemKept key k → ItemKept shape e v → IsEntryRead shape key e r (record { key = k; value = v })
+entry_is_read shape key e r rs k v records a b item fits =
+    let k_is : a.0 ≡ leaf_of k = plain_same a.0 (leaf_of k) (a.2 ∙ ap (λ i. Some (item_of i)) (key_seen k (item_is_key key k item))) in (
+      b.0,
+      ap (λ o. option_and_then (λ xs. option_and_then (λ x. option_map (λ y. (x, y)) (entry_part (value_field e) xs)) (entry_part (key_field key) xs))
+          (option_from o)) records
+          ∙ ap (λ o. option_and_then (λ x. option_map (λ y. (x, y)) (entry_part (value_field e) rs)) o) (a.1 ∙ ap (λ l. Some l) k_is)
+          ∙ ap (option_map (λ y. (leaf_of k, y))) b.1,
+      b.2,
+      item,
+      fits,
+    )
+
+-- What was read of the parts of an entry.
+
+same_records : (rs ss : List WireRecord) → ◌≡◌ {A = Result (List WireRecord) Fault} (Ok rs) (Ok ss) → rs ≡ ss
+same_records rs ss e = cc
+
+module _ (shape : Shape) (levels : ℕ) (f : FieldShape) (key : Scalar) (of_map : f.presence ≡ presences.Map key) (r : WireRecord) where
+  -- the records of a good entry, of which the scalars are good
+  pub scalars_of_entry : AreGood shape levels f (r ∷ []) → (rs : List WireRecord) × (records_of r.body ≡ Ok rs) × ScalarsGood key f.element rs
+  scalars_of_entry good =
+      let (rs, records, entry) = good_entry shape f key of_map r levels good in
+      (rs, records, scalars_of_good shape levels key f.element rs entry)
+
+  module _ (parts : Parts) (found : (rs : List WireRecord) × (records_of r.body ≡ Ok rs) × AreParts key f.element rs parts) where
+    are : AllByRecursion IsRecord found.0
+    are = let spells = Spells_from_records_of r.body found.0 found.1 in spells.each
+
+    -- the key is the one that was read, or the default
+    abbrev pub IsWholeKey : ValueRef → Type 0
+    IsWholeKey k = WholeItem shape (elements.Scalar key) parts.key k × (PartFits shape (elements.Scalar key) parts.key → IsItemKept key k)
+
+    key_whole : (k : ValueRef) → IsWholeKey k → PartWhole shape (key_field key) found.0 k
+    key_whole k h = part_whole shape (key_field key) found.0 parts.key k (found.2.key_read shape) h.0
+
+    -- Of a value that is no message.
+    module _ (scalar : IsNoMessage f.element) where
+      pub scalar_entry : (k v : ValueRef) → IsWholeKey k → WholeItem shape f.element parts.value v
+          → (PartFits shape f.element parts.value → ItemKept shape f.element v) → IsEntryRead shape key f.element r (record { key = k; value = v })
+      scalar_entry k v h whole fits =
+          entry_is_read shape key f.element r found.0 k v found.1 (key_whole k h)
+          (part_whole shape (value_field f.element) found.0 parts.value v (found.2.value_read scalar shape) whole)
+          (h.1 (found.2.key_fits shape)) (fits (found.2.value_fits scalar shape))
+
+      pub scalar_good : AreGood shape levels f (r ∷ [])
+      scalar_good = entry_good shape f key of_map r levels found.0 found.1 (good_of_scalars shape levels key f.element found.0 scalar found.2.good)
+
+    -- Of a message.
+    module _ (t : TypeId) (is : f.element ≡ elements.Message t) (run : List Record) (taken : run ≡ parts.child.items) where
+      run_is : map seen_record run ≡ own (value_field f.element) found.0
+      run_is = ap (map seen_record) taken ∙ found.2.child (subst IsMessageOf (sym is) tt)
+
+      pub child_entry : (k v : ValueRef) → IsWholeKey k → IsChildOf shape t (map seen_record run) v → ItemKept shape (elements.Message t) v
+          → IsEntryRead shape key f.element r (record { key = k; value = v })
+      child_entry k v h child fits =
+          entry_is_read shape key f.element r found.0 k v found.1 (key_whole k h)
+          (child_whole shape f.element t found.0 v is are (subst (λ rs. IsChildOf shape t rs v) run_is child))
+          (h.1 (found.2.key_fits shape)) (subst (λ e. ItemKept shape e v) (sym is) fits)
+
+      pub child_good : BodiesGood shape levels t (map seen_record run) → AreGood shape levels f (r ∷ [])
+      child_good good =
+          entry_good shape f key of_map r levels found.0 found.1
+          (good_of_bodies shape levels key f.element t is found.0 are found.2.good (subst (BodiesGood shape levels t) run_is good))
+
+      pub good_child : AreGood shape levels f (r ∷ []) → BodiesGood shape levels t (map seen_record run)
+      good_child good =
+          let (rs, records, entry) = good_entry shape f key of_map r levels good in
+          let same : rs ≡ found.0 = same_records rs found.0 (sym records ∙ found.1) in
+          subst (BodiesGood shape levels t) (sym run_is)
+          (bodies_of_good shape levels key f.element t is found.0 (subst (EntryGood shape levels key f.element) same entry))
+
+-- A map field, record by record.
+
+pub key_of_map : (p : Presence) (key : Scalar) (e : Element) (oneof : Option ℕ) → p ≡ presences.Map key → PresenceFits p e oneof → is_key key ≡ true
+key_of_map p key e oneof is fits = let k : PresenceFits (presences.Map key) e oneof = subst (λ q. PresenceFits q e oneof) is fits in k.1
+
+-- an entry for each record so far
+pub record EntriesSoFar (shape : Shape) (levels : ℕ) (f : FieldShape) (key : Scalar) (rs : List WireRecord) (es : List EntryRef) : Type 0 where
+  pub read : AreEntriesRead shape key f.element rs es
+  pub good : AreGood shape levels f rs
+
+module _ (shape : Shape) (levels : ℕ) (f : FieldShape) (key : Scalar) (run : List Record) (place : ℕ) (below : place < length run) (d : Record) where
+  abbrev one : WireRecord
+  one = seen_record (get_or run place d)
+
+  pub entries_more : (es new : List EntryRef) (e : EntryRef) → EntriesSoFar shape levels f key (map seen_record (take place run)) es
+      → IsEntryRead shape key f.element one e → AreGood shape levels f (one ∷ [])
+      → new ≡ es ++ e ∷ [] → EntriesSoFar shape levels f key (map seen_record (take (place + 1) run)) new
+  entries_more es new e h read good is =
+      let so_far = map seen_record (take place run) in
+      let more : map seen_record (take (place + 1) run) ≡ so_far ++ one ∷ [] = map_more seen_record run place d below in
+      record {
+        read = subst (λ rs. AreEntriesRead shape key f.element rs new) (sym more)
+            (subst (AreEntriesRead shape key f.element (so_far ++ one ∷ [])) (sym is) (one_entry_more shape key f.element so_far one es e h.read read));
+        good = subst (AreGood shape levels f) (sym more) (each-append (λ q. FieldReads shape f q × IsShallow shape levels f q) so_far (one ∷ []) h.good good);
+      }
+
+  pub entry_of_good : AreGood shape levels f (map seen_record run) → AreGood shape levels f (one ∷ [])
+  entry_of_good good = (seen_at (λ q. FieldReads shape f q × IsShallow shape levels f q) run place d below good, tt)

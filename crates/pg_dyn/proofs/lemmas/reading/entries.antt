@@ -1,0 +1,3 @@
+pub mod EntryPlaces
+pub mod LastOfKeys
+pub mod NormalizedEntries

@@ -1,0 +1,117 @@
+-- Going over the records of bytes, of a message or of an entry, in search of a fault.
+use Rattle.std.proofs.Common.{◌≡◌, ℕ, suc, ◌+◌, ◌<◌, ◌≤◌, ◌^◌, List, [], ◌∷◌, ◌++◌, length, true, Result, Ok, Err, refl, ap, sym, subst, ◌∙◌, arith, length-append}
+use Rattle.std.specs.List.{AllByRecursion}
+use Rattle.pg_schema.specs.Shape.{Shape, FieldShape}
+use Rattle.pg_wire.specs.declared.error.WireError.{WireError}
+use Rattle.pg_wire.specs.Errors.{error_at, fault_of, place_of}
+use Rattle.pg_wire.specs.Records.{WireRecord, IsRecord, Spells, records_of}
+use Rattle.pg_wire.specs.Reads.{results}
+use Rattle.pg_wire.proofs.RecordLaws.{records_of_Spells}
+use Rattle.pg_wire.proofs.Results.{fault_of-error_at}
+use Rattle.pg_dyn.specs.declared.error.DynError.{DynError}
+use Rattle.pg_dyn.specs.declared.error.DynError.TheVariants as errors
+use Rattle.pg_dyn.specs.reading.Decoding.{all_readable, dec}
+use Rattle.pg_dyn.specs.reading.Faults.{AreFaultless, Code, FirstFault, FirstFaultOf, HasFault, NotUtf8, TooDeep, Wire, no_record}
+use Rattle.pg_dyn.specs.reading.Faults as faults
+use Rattle.pg_dyn.specs.reading.Steps.{RefusedBy, RefusedIn, RefusedRecord, Taken, IsShallowRecord, IsShallowIn}
+use Rattle.pg_dyn.proofs.lemmas.reading.faults.Faulty.{fault_unreadable, text_not_deep, wire_not_deep}
+use Rattle.pg_dyn.proofs.lemmas.reading.by_fields.BodiesByFields.{shallow_from_records}
+use Rattle.pg_dyn.proofs.lemmas.reading.DecodeLoop.{err_step}
+use Rattle.pg_dyn.proofs.lemmas.reading.records.Joining.{list_all-append}
+use Rattle.pg_dyn.proofs.Lists.{each-append}
+use Rattle.pg_dyn.proofs.lemmas.reading.records.RecordFronts.{Front, all_read, behind, further, next_inside, next_is_record, next_read, none_yet, one_read}
+
+-- What is refused of a part is refused of the whole, where the part is.
+module _ (HasPart HasWhole : Code → ℕ → Type 0) (base k at : ℕ) (there : at ≡ base + k) where
+  pub refused_on : ((code : Code) (p : ℕ) → HasPart code p → HasWhole code (k + p)) → (e : DynError)
+      → RefusedBy HasPart at e → RefusedBy HasWhole base e
+  refused_on fault errors.Memory h = tt
+  refused_on fault (errors.NotUtf8 x) h = (k + h.0, let e = h.1 in omega arith, fault NotUtf8 h.0 h.2)
+  refused_on fault (errors.TooDeep x) h = (k + h.0, let e = h.1 in omega arith, fault TooDeep h.0 h.2)
+  refused_on fault (errors.Wire x) h = (k + h.0, let e = h.1 in omega arith, fault (Wire (fault_of x)) h.0 h.2)
+  refused_on fault errors.NoSuchField h = absurd h
+  refused_on fault errors.WrongKind h = absurd h
+  refused_on fault errors.OutOfRange h = absurd h
+  refused_on fault errors.OneofTwice h = absurd h
+  refused_on fault errors.DuplicateKey h = absurd h
+  refused_on fault errors.TooLong h = absurd h
+
+-- Bytes whose records are readable, and in which nothing is too deep, have no fault.
+pub faultless : (shape : Shape) (limit : ℕ) (fs : List FieldShape) (bytes : List ℕ) (rs : List WireRecord) → Spells bytes rs
+    → all_readable (dec shape) fs rs ≡ true → IsShallowIn shape limit fs bytes → AreFaultless shape limit fs bytes
+faultless shape limit fs bytes rs spelled readable shallow = ((rs, spelled), none)
+  where
+    none : (code : Code) (place : ℕ) → HasFault shape limit fs bytes code place → ⊥
+    none TooDeep place fault = shallow place fault
+    none NotUtf8 place fault = fault_unreadable shape limit fs bytes NotUtf8 place fault text_not_deep rs (records_of_Spells bytes rs spelled) readable
+    none (Wire w) place fault = fault_unreadable shape limit fs bytes (Wire w) place fault (wire_not_deep w) rs (records_of_Spells bytes rs spelled) readable
+
+-- The bytes from a start, of which a front is gone over: its records are readable, and nothing in them is too deep.
+pub record Ahead (shape : Shape) (levels : ℕ) (fs : List FieldShape) (bytes : List ℕ) (start at : ℕ) (left : List (Result WireRecord WireError)) : Type 0 where
+  pub records : List WireRecord
+  pub seen : Front bytes left records
+  pub place : at ≡ start + length seen.front
+  pub readable : all_readable (dec shape) fs records ≡ true
+  pub shallow : AllByRecursion (IsShallowRecord shape levels fs) records
+
+module _ (shape : Shape) (levels : ℕ) (fs : List FieldShape) (bytes : List ℕ) (start : ℕ) where
+  abbrev pub begin : Ahead shape levels fs bytes start start (results 0 bytes)
+  begin = record { records = []; seen = none_yet bytes; place = omega arith; readable = refl; shallow = tt }
+
+  module _ (at : ℕ) (left : List (Result WireRecord WireError)) (a : Ahead shape levels fs bytes start at left) where
+    front_is : AreFaultless shape (suc levels) fs a.seen.front
+    front_is =
+        faultless shape (suc levels) fs a.seen.front a.records a.seen.spelled a.readable
+        (shallow_from_records shape levels fs a.seen.front a.records (records_of_Spells a.seen.front a.records a.seen.spelled) a.shallow)
+
+    pub all_records : left ≡ [] → records_of bytes ≡ Ok a.records
+    all_records = all_read bytes left a.records a.seen
+
+    pub all_shallow : left ≡ [] → IsShallowIn shape (suc levels) fs bytes
+    all_shallow none = shallow_from_records shape levels fs bytes a.records (all_records none) a.shallow
+
+    module _ (e : WireError) (later : List (Result WireRecord WireError)) (h : left ≡ Err e ∷ later) where
+      stop : (p : ℕ) × (place_of e ≡ p) × FirstFault shape (suc levels) fs bytes (Wire (fault_of e)) p × (p ≤ length bytes)
+      stop =
+          let step = err_step (length a.seen.front) a.seen.rest e later (sym a.seen.left_is ∙ h) in
+          let k = fault_of-error_at step.fault (length a.seen.front) in
+          let fault_is : step.fault ≡ fault_of e = sym k.0 ∙ ap fault_of step.error_is in
+          let place_is : place_of e ≡ length a.seen.front = ap place_of (sym step.error_is) ∙ k.1 in
+          (length a.seen.front, place_is, subst (λ f. FirstFault shape (suc levels) fs bytes (Wire f) (length a.seen.front)) fault_is (no_record levels fs bytes a.seen.front a.seen.rest step.fault a.seen.joined front_is step.some step.read), omega (arith, ap length a.seen.joined, length-append a.seen.front a.seen.rest))
+
+      pub stop_room : start + length bytes < 2 ^ 64 → place_of e + start < 2 ^ 64
+      stop_room room = let s = stop in let p = s.1 in let q = s.3 in omega arith
+
+      pub stopped : RefusedIn shape (suc levels) fs bytes start (errors.Wire (error_at (fault_of e) (place_of e + start)))
+      stopped =
+          let s = stop in
+          let k = fault_of-error_at (fault_of e) (place_of e + start) in
+          (s.0, (let p = s.1 in let q = k.1 in omega arith), subst (λ f. FirstFault shape (suc levels) fs bytes (Wire f) s.0) (sym k.0) s.2)
+
+    module _ (r : WireRecord) (later : List (Result WireRecord WireError)) (h : left ≡ Ok r ∷ later) where
+      pub is_record : IsRecord r
+      is_record = next_is_record bytes left a.records a.seen r later h
+
+      pub inside : at + length r.bytes ≤ start + length bytes
+      inside = omega (arith, a.place, next_inside bytes left a.records a.seen r later h)
+
+      pub refused : (e : DynError) → RefusedRecord shape levels fs r at e → RefusedIn shape (suc levels) fs bytes start e
+      refused =
+          let back = behind bytes left a.records a.seen r later h in
+          let read = next_read bytes left a.records a.seen r later h in
+          refused_on (λ code p. (f : FieldShape) × Taken fs r f × FirstFaultOf shape levels f r code p) (FirstFault shape (suc levels) fs bytes)
+          start (length a.seen.front) at a.place
+          (λ code p x. faults.in_record levels fs bytes a.seen.front a.seen.rest back r x.0 code p a.seen.joined front_is read x.1.found x.1.taken x.2)
+
+      pub onward : all_readable (dec shape) fs (r ∷ []) ≡ true → IsShallowRecord shape levels fs r
+          → (b : Ahead shape levels fs bytes start (at + length r.bytes) later) × (b.records ≡ a.records ++ r ∷ [])
+      onward readable shallow = (
+        record {
+          records = a.records ++ r ∷ [];
+          seen = one_read bytes left a.records a.seen r later h;
+          place = omega (arith, a.place, further bytes left a.records a.seen r later h);
+          readable = list_all-append _ a.records (r ∷ []) a.readable readable;
+          shallow = each-append (IsShallowRecord shape levels fs) a.records (r ∷ []) a.shallow (shallow, tt);
+        },
+        refl,
+      )

@@ -1,0 +1,5 @@
+pub mod CountedRecords
+pub mod Gathered
+pub mod GatheredReading
+pub mod GatheringSteps
+pub mod GoodRecords

@@ -1,0 +1,8 @@
+pub mod FieldRecords
+pub mod Joining
+pub mod ReadSplits
+pub mod Readable
+pub mod ReadsOn
+pub mod RecordFronts
+pub mod RecordsRead
+pub mod Splitting

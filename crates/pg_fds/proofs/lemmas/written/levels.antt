@@ -1,0 +1,4 @@
+pub mod Levels
+pub mod WrittenDepth
+pub mod WrittenLevels
+pub mod WrittenNesting

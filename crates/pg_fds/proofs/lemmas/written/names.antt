@@ -1,0 +1,4 @@
+pub mod NamedScopes
+pub mod PlainNames
+pub mod QualifiedNames
+pub mod WrittenNames

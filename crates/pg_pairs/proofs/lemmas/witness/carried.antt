@@ -1,0 +1,14 @@
+pub mod CarriedFields
+pub mod CarriedItems
+pub mod CarriedParts
+pub mod CarryAlone
+pub mod CarryContents
+pub mod CarryLeast
+pub mod CarryLists
+pub mod CarryMapChild
+pub mod CarryMaps
+pub mod CarrySteps
+pub mod CarryTwo
+pub mod CarryUnlike
+pub mod CarryUnlikeMaps
+pub mod CarryWires

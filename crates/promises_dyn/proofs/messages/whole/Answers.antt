@@ -1,0 +1,17 @@
+use Rattle.std.proofs.Common.{rules}
+use Rattle.promises_dyn.proofs.messages.whole.Goals as goal
+
+pub returns-clause-ok : goal.returns-clause-ok
+returns-clause-ok c = search rules
+
+pub returns-clause-fits : goal.returns-clause-fits
+returns-clause-fits c = search rules
+
+pub returns-clause-accepted : goal.returns-clause-accepted
+returns-clause-accepted c = search rules
+
+pub returns-clause-refused : goal.returns-clause-refused
+returns-clause-refused c = search rules
+
+pub returns-clause-lacking : goal.returns-clause-lacking
+returns-clause-lacking c = search rules

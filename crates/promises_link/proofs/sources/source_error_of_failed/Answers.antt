@@ -1,0 +1,5 @@
+use Rattle.std.proofs.Common.{rules}
+use Rattle.promises_link.proofs.sources.source_error_of_failed.Goals as goal
+
+pub returns : goal.returns
+returns g c = search rules

@@ -1,0 +1,84 @@
+//! Choices and causes.
+use crate::messages::spelled;
+use crate::shown::{Shown, list_or_none};
+use crate::spelled::{pair_of, table_of};
+use kit_rows::cut;
+use pg_pairs::{Choice, Pair, Priced, carry_cause, causes, cheapest, choice_child, options};
+use std::alloc::{AllocError, Global};
+
+/// `choices | OLD | NEW | PAIR | BOUNDS`: the choices of the pair.
+pub(crate) fn choices(
+    alloc: Global,
+    graph: &Priced<'_>,
+    words: &str,
+) -> Result<String, AllocError> {
+    let (pair, bounds) = cut(words);
+    match table_of(alloc, bounds)? {
+        Some(table) => list_or_none(alloc, &options(alloc, graph, pair_of(pair), &table)?),
+        None => String::from_str(alloc, "no table"),
+    }
+}
+
+/// The choice, and its child where it has one.
+fn with_child(alloc: Global, choice: &Choice, child: Option<Pair>) -> Result<String, AllocError> {
+    let choice = choice.shown(alloc)?;
+    match child {
+        Some(Pair { old, new }) => {
+            format!(in alloc; "{choice} child {} {}", old.index, new.index)
+        }
+        None => Ok(choice),
+    }
+}
+
+fn cheapest_shown(
+    alloc: Global,
+    graph: &Priced<'_>,
+    pair: Pair,
+    found: Option<Choice>,
+) -> Result<String, AllocError> {
+    match found {
+        Some(choice) => {
+            let child = choice_child(graph.old, graph.new, pair, &choice);
+            with_child(alloc, &choice, child)
+        }
+        None => String::from_str(alloc, "none"),
+    }
+}
+
+/// `cheapest | OLD | NEW | PAIR | BOUNDS`: the cheapest choice of the pair, and the child that its
+/// message holds.
+pub(crate) fn cheapest_choice(
+    alloc: Global,
+    graph: &Priced<'_>,
+    words: &str,
+) -> Result<String, AllocError> {
+    let (pair, bounds) = cut(words);
+    let pair = pair_of(pair);
+    match table_of(alloc, bounds)? {
+        Some(table) => cheapest_shown(alloc, graph, pair, cheapest(alloc, graph, pair, &table)?),
+        None => String::from_str(alloc, "no table"),
+    }
+}
+
+/// `causes | OLD | NEW | PAIR`: the causes of the pair.
+pub(crate) fn causes_of(
+    alloc: Global,
+    graph: &Priced<'_>,
+    words: &str,
+) -> Result<String, AllocError> {
+    list_or_none(alloc, &causes(alloc, graph, pair_of(words))?)
+}
+
+/// `carry_cause | OLD | NEW | PAIR`: the message of the first cause of the pair.
+pub(crate) fn carry_first_cause(
+    alloc: Global,
+    graph: &Priced<'_>,
+    words: &str,
+) -> Result<String, AllocError> {
+    let pair = pair_of(words);
+    let causes = causes(alloc, graph, pair)?;
+    match causes.first() {
+        Some(cause) => spelled(alloc, graph.old, &carry_cause(alloc, graph, pair, cause)?),
+        None => String::from_str(alloc, "no cause"),
+    }
+}

@@ -1,5 +1,0 @@
-use Rattle.std.proofs.Common.{rules}
-use Rattle.run_promises.proofs.run.Goals as goal
-
-pub returns : goal.returns
-returns c = search rules

@@ -1,5 +1,0 @@
-use Rattle.std.proofs.Common.{rules}
-use Rattle.schema_promises.proofs.is_packable.Goals as goal
-
-pub returns : goal.returns
-returns c = search rules

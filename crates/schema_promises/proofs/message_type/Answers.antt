@@ -1,8 +1,0 @@
-use Rattle.std.proofs.Common.{rules}
-use Rattle.schema_promises.proofs.message_type.Goals as goal
-
-pub returns-clause-exact : goal.returns-clause-exact
-returns-clause-exact c = search rules
-
-pub returns-clause-fields : goal.returns-clause-fields
-returns-clause-fields c = search rules

@@ -1,8 +1,0 @@
-use Rattle.std.proofs.Common.{rules}
-use Rattle.schema_promises.proofs.parts.Goals as goal
-
-pub returns-clause-parts : goal.returns-clause-parts
-returns-clause-parts c = search rules
-
-pub returns-clause-checked : goal.returns-clause-checked
-returns-clause-checked c = search rules

@@ -1,0 +1,377 @@
+#!/usr/bin/env python3
+"""Tests of the gate and the build themselves: with a kit of the tests' own, which proves nothing, on repositories of their own.
+
+usage: tools/gate/test_gate.py    a few seconds
+"""
+
+import contextlib
+import fcntl
+import io
+import os
+import resource
+import shutil
+import signal
+import subprocess
+import sys
+import tempfile
+import time
+import unittest
+from unittest import mock
+
+sys.dont_write_bytecode = True
+sys.path.append(f"{os.path.dirname(os.path.realpath(__file__))}/..")
+import build  # noqa: E402
+import child_programs  # noqa: E402
+import kit  # noqa: E402
+import machine  # noqa: E402
+import prove  # noqa: E402
+import stamp  # noqa: E402
+import times  # noqa: E402
+
+TOP = os.path.dirname(os.path.dirname(os.path.dirname(os.path.realpath(__file__))))
+LINE = "a kit of the tests"
+# So long something may take that takes a moment, in seconds: the gate keeps all processors busy beside these tests.
+PATIENCE = 120
+# A kit that says of each crate that it is proved. It locks the crate's folder, and takes as long as it is asked to.
+RT = """#!/bin/sh
+wait_a_while() {
+    flock -w 20 . true || exit 2
+    echo "$1" >>"$RT_LOG"
+    sleep "${RT_SLEEP:-0}"
+    mkdir -p out
+}
+case ${1-} in
+    version) echo 'a kit of the tests' ;;
+    ci)
+        [ $# -eq 1 ] || { echo 'usage: rt ci' >&2; exit 2; }
+        mkdir crates/protogate/out
+        echo proved >crates/protogate/out/protogate
+        wait_a_while ci
+        echo 'rt: low proved'
+        echo 'rt: protogate proved'
+        echo '2 passed, 0 failed' ;;
+    lib) wait_a_while lib && mkdir -p out/rlib out/incremental && echo made >out/rlib/library ;;
+    check) RT_SLEEP=300 && wait_a_while check ;;
+    run) wait_a_while run && echo built >out/protogate && exit 4 ;;
+esac
+"""
+
+
+def write(path, text):
+    os.makedirs(os.path.dirname(path), exist_ok=True)
+    with open(path, "w", encoding="utf-8") as file:
+        file.write(text)
+
+
+def text_of(path):
+    with open(path, encoding="utf-8") as file:
+        return file.read()
+
+
+class Room(unittest.TestCase):
+    """A folder of the test's own, which is also that of temporary files, and a kit that is first on the path."""
+
+    def setUp(self):
+        room = tempfile.TemporaryDirectory()
+        self.addCleanup(room.cleanup)
+        self.room = room.name
+        self.top, self.log, self.made = f"{self.room}/repository", f"{self.room}/log", f"{self.room}/made"
+        os.mkdir(self.made)
+        write(f"{self.room}/kit/rt", RT)
+        os.chmod(f"{self.room}/kit/rt", 0o755)
+        write(f"{self.top}/crates/low/src/lib.rt", "fn low() {}\n")
+        write(f"{self.top}/crates/protogate/src/main.rt", "fn main() {}\n")
+        write(f"{self.top}/crates.txt", "# Two crates.\nlow:\nprotogate: low\n")
+        write(f"{self.top}/HANDLES", "Handles allowed: none.\n")
+        shutil.copytree(f"{TOP}/tools", f"{self.top}/tools", symlinks=True)
+        self.env = {**os.environ, "PATH": f"{self.room}/kit:{os.environ['PATH']}", "RT_LOG": self.log, "TMPDIR": self.made}
+        self.out = f"{self.top}/crates/protogate/out"
+
+    def start(self, script, *words, **env):
+        how = {"stdin": subprocess.DEVNULL, "stdout": subprocess.PIPE, "stderr": subprocess.STDOUT, "text": True}
+        started = subprocess.Popen([sys.executable, f"{self.top}/tools/{script}", *words], env={**self.env, **env}, **how)
+        self.addCleanup(started.stdout.close)
+        return started
+
+    def run_to_end(self, script, *words, **env):
+        """Returns the status and what was said."""
+        started = self.start(script, *words, **env)
+        return (said := started.communicate(timeout=PATIENCE)[0]) and started.returncode, said
+
+    def wait_for(self, is_so):
+        until = time.monotonic() + PATIENCE
+        while not is_so():
+            self.assertLess(time.monotonic(), until)
+            time.sleep(0.02)
+
+    def begun(self):
+        return text_of(self.log).split() if os.path.exists(self.log) else []
+
+    def own_processes(self):
+        """Returns the processes that have this test's folder in their environment."""
+        found = []
+        for pid in filter(str.isdigit, os.listdir("/proc")):
+            with contextlib.suppress(OSError), open(f"/proc/{pid}/environ", "rb") as file:
+                found += [pid] * (f"RT_LOG={self.log}\0".encode() in file.read())
+        return found
+
+
+class Signals(Room):
+    def setUp(self):
+        super().setUp()
+        for it in child_programs.SIGNALS:
+            # (what this process ignores, as below nohup, would be ignored by all that it starts)
+            if signal.getsignal(it) is signal.SIG_IGN:
+                signal.signal(it, signal.SIG_DFL)
+                self.addCleanup(signal.signal, it, signal.SIG_IGN)
+
+    def is_ended_by(self, number, script, *words, during="", **env):
+        started = self.start(script, *words, **(env or {"RT_SLEEP": "300"}))
+        self.wait_for(lambda: self.begun()[-1:] == [during] if during else self.begun())
+        started.send_signal(number)
+        self.assertEqual(started.wait(timeout=PATIENCE), 128 + number)
+        self.assertEqual((self.own_processes(), os.listdir(self.made)), ([], []))
+
+    def test_what_ends_the_gate_ends_all_that_it_began(self):
+        for number in (signal.SIGINT, signal.SIGTERM, signal.SIGHUP):
+            with self.subTest(signal=number):
+                self.is_ended_by(number, "prove.py", "protogate")
+                os.remove(self.log)
+
+    def test_what_ends_the_gate_ends_the_tries_of_edits(self):
+        for name in ("low", "protogate"):
+            folder, path = f"{self.top}/crates/{name}", f"src/{'lib' if name == 'low' else 'main'}.rt"
+            write(f"{folder}/{path}", "pub fn turned() -> u8\n{\n    1\n}\n")
+            write(f"{folder}/must-fail/turned.edit", f"file: {path}\nold:     1\nnew:     2\n")
+        self.is_ended_by(signal.SIGTERM, "prove.py", "protogate", during="check", RT_JOBS="1", XDG_CACHE_HOME=f"{self.room}/cache")
+
+    def test_an_error_ends_the_gate_and_all_that_it_began(self):
+        """As where nobody reads any longer what it says."""
+        write(f"{self.room}/kit/rt", RT.replace("wait_a_while ci\n", "echo one; echo two; wait_a_while ci\n"))
+        started = self.start("prove.py", "protogate", RT_SLEEP="300")
+        started.stdout.readline()
+        started.stdout.close()
+        self.assertNotEqual(started.wait(timeout=PATIENCE), 0)
+        self.assertEqual((self.own_processes(), os.listdir(self.made)), ([], []))
+
+    def test_what_ends_a_build_ends_all_that_it_began(self):
+        self.is_ended_by(signal.SIGINT, "build.py")
+
+    def test_a_signal_that_the_caller_ignores_ends_nothing(self):
+        before = signal.signal(signal.SIGHUP, signal.SIG_IGN)
+        try:
+            started = self.start("build.py", RT_SLEEP="1")
+        finally:
+            signal.signal(signal.SIGHUP, before)
+        self.wait_for(self.begun)
+        started.send_signal(signal.SIGHUP)
+        self.assertEqual((started.wait(timeout=PATIENCE), self.begun()), (0, ["lib", "run"]))
+
+    def test_what_ignores_the_signal_is_killed(self):
+        script = "import child_programs; child_programs.PATIENCE = 0.2; child_programs.on_signals(); child_programs.run(['sh', '-c', 'trap \"\" TERM; echo >$RT_LOG; while :; do sleep 1; done'])"
+        started = subprocess.Popen([sys.executable, "-Bc", script], cwd=f"{TOP}/tools/gate", env=self.env)
+        self.wait_for(lambda: os.path.exists(self.log))
+        started.terminate()
+        self.assertEqual((started.wait(timeout=PATIENCE), self.own_processes()), (128 + signal.SIGTERM, []))
+
+
+class Builds(Room):
+    def test_a_build_leaves_the_program_and_its_stamp(self):
+        before = time.time_ns()
+        status, said = self.run_to_end("build.py")
+        self.assertEqual((status, self.begun()), (0, ["lib", "run"]), said)
+        self.assertEqual((text_of(f"{self.out}/protogate"), text_of(f"{self.out}/protogate.begun")), ("built\n", f"{LINE}\n"))
+        self.assertTrue(os.path.samefile(f"{self.out}/protogate.kit", f"{self.room}/kit/rt"))
+        read = os.stat(f"{self.out}/protogate.begun").st_mtime_ns
+        self.assertTrue(before - 20_000_000 <= read <= os.stat(f"{self.top}/crates/low/out/rlib/library").st_mtime_ns)
+        self.assertEqual(os.listdir(f"{self.top}/crates/low/out"), ["rlib"])
+        self.assertIn(" minute", said.splitlines()[0])
+
+    def test_no_more_is_left_than_is_allowed(self):
+        for name, much in (("low", 30_000), ("high", 90_000), ("protogate", 60_000)):
+            write(f"{self.top}/crates/{name}/out/made", "x" * much)
+        with mock.patch("build.TOP", self.top):
+            self.assertLess(build.shrink(["low", "high", "protogate"], 150_000), 100_000)
+            self.assertEqual([os.path.exists(f"{self.top}/crates/{it}/out") for it in ("low", "high", "protogate")], [True, False, True])
+            self.assertLess(build.shrink(["low", "protogate"], 0), 70_000)
+            self.assertEqual([os.path.exists(f"{self.top}/crates/{it}/out") for it in ("low", "protogate")], [False, True])
+
+    def test_what_a_next_check_needs_is_kept_where_that_is_asked_for(self):
+        self.assertEqual(self.run_to_end("build.py", "--keep")[0], 0)
+        self.assertEqual(sorted(os.listdir(f"{self.top}/crates/low/out")), ["incremental", "rlib"])
+
+    def test_two_builds_take_turns(self):
+        """So they do where the script has been made anew meanwhile, as git makes what it changes."""
+        first = self.start("build.py", RT_SLEEP="3")
+        self.wait_for(self.begun)
+        shutil.copy2(f"{self.top}/tools/build.py", f"{self.top}/tools/new.py")
+        os.replace(f"{self.top}/tools/new.py", f"{self.top}/tools/build.py")
+        status, said = self.run_to_end("build.py")
+        self.assertIn("another build runs here; waiting for it", said)
+        self.assertEqual((first.wait(timeout=PATIENCE), status, self.begun()), (0, 0, ["lib", "run"] * 2))
+
+    def test_the_folders_that_a_kit_locks_are_free(self):
+        started = self.start("build.py", RT_SLEEP="3")
+        self.wait_for(self.begun)
+        folder = os.open(f"{self.top}/crates/protogate", os.O_RDONLY)
+        fcntl.flock(folder, fcntl.LOCK_EX | fcntl.LOCK_NB)
+        os.close(folder)
+        self.assertEqual(started.wait(timeout=PATIENCE), 0)
+
+
+class Gates(Room):
+    def test_a_kit_without_words_for_its_gate_is_asked_without(self):
+        status, said = self.run_to_end("prove.py", "--anew", "protogate")
+        self.assertEqual((status, said.splitlines()[-1], self.begun()), (0, "2 passed, 0 failed", ["ci"]), said)
+        self.assertIn("takes no --anew", said)
+
+    def test_proofs_and_edits_of_a_crate_are_apart(self):
+        write(f"{self.top}/crates/low/must-fail/turned.edit", "file: src/lib.rt\nold: low\nnew: lower\n")
+        phases = prove.progress_of(self.top, prove.plan(self.top), ("tester",)).phases
+        names = [name for seconds, _ in phases.values() for name in seconds]
+        self.assertEqual(sorted(names), ["edits of low", "low", "protogate", "tester"])
+
+    def test_it_says_each_minute_how_far_it_is(self):
+        said = []
+        progress = times.Progress({"crates": ({"low": 60, "protogate": 120}, {"low": [], "protogate": ["low"]})}, 2, said.append, 0.01)
+        with progress:
+            self.wait_for(lambda: said)
+            progress.end("low")
+            before = len(said)
+            self.wait_for(lambda: len(said) > before + 1)
+        self.assertEqual((said[0], said[-1]), ("done: 0 of 2 crates; some 3 minutes left", "done: 1 of 2 crates; some 2 minutes left"))
+
+
+# Runs the whole gate with these testers alone, and without what it says of documents and of messages that borrow.
+WHOLE = """import sys, prove
+prove.COMPARED, prove.TESTERS, prove.ALONE = (), ("one.py", "two.py"), (("tools/three.py",), ("tools/four.py",))
+prove.try_lent = lambda room: True
+sys.exit(prove.prove_all([])[0])
+"""
+
+
+class WholeGates(Room):
+    """The whole gate, over testers of the tests' own."""
+
+    def run_whole(self, **testers):
+        for name in ("one", "two", "three", "four"):
+            write(f"{self.top}/tools/{name}.py", f"#!/usr/bin/env python3\nimport sys\n{testers.get(name, '')}\n")
+            os.chmod(f"{self.top}/tools/{name}.py", 0o755)
+        env = {**self.env, "PYTHONPATH": f"{self.top}/tools"}
+        run = subprocess.run([sys.executable, "-Bc", WHOLE], cwd=self.top, env=env, capture_output=True, text=True, check=False)
+        return run.returncode, run.stdout.splitlines()
+
+    def test_what_all_testers_pass(self):
+        begun = time.time_ns() - 20_000_000
+        status, said = self.run_whole(two="print('passed over, without fish: a test')", four="print(open('crates/protogate/out/protogate').read())")
+        self.assertEqual((status, said[-2:]), (0, ["passed over, without fish: a test", "8 passed, 0 failed"]), said)
+        self.assertIn("proved", said)
+        self.assertTrue(begun < os.stat(f"{self.out}/protogate.begun").st_mtime_ns)
+        self.assertEqual(os.listdir(self.made), [])
+
+    def test_what_a_tester_fails(self):
+        for name in ("one", "three", "four"):
+            status, said = self.run_whole(**{name: "sys.exit(1)"})
+            self.assertEqual((status, said[-1]), (1, "7 passed, 1 failed"), said)
+
+    def test_what_is_changed_meanwhile(self):
+        write(f"{self.room}/kit/rt", RT.replace("ci)\n", f"ci)\n        echo >>{self.top}/crates/low/src/lib.rt\n", 1))
+        status, said = self.run_whole()
+        self.assertEqual((status, said[-1], os.listdir(self.out)), (1, "3 passed, 1 failed", []), said)
+
+    def test_what_is_not_proved(self):
+        write(f"{self.room}/kit/rt", RT.replace("echo '2 passed, 0 failed'", "echo '1 passed, 1 failed'; exit 1"))
+        write(f"{self.out}/protogate", "before\n")
+        status, said = self.run_whole()
+        self.assertEqual((status, said[-1], text_of(f"{self.out}/protogate")), (1, "1 passed, 1 failed", "before\n"), said)
+        self.assertEqual(os.listdir(self.out), ["protogate"])
+
+
+class PutBack(Room):
+    """What a gate puts into the repository."""
+
+    def setUp(self):
+        super().setUp()
+        before = os.getcwd()
+        os.chdir(self.top)
+        self.addCleanup(os.chdir, before)
+        patched = mock.patch.dict(os.environ, self.env)
+        patched.start()
+        self.addCleanup(patched.stop)
+        self.proved = f"{self.room}/proved"
+        shutil.copytree(self.top, self.proved)
+        write(f"{self.proved}/crates/protogate/out/protogate", "proved\n")
+        self.copied, self.read = prove.sums(self.proved), stamp.read_now(".")
+        kit.version.cache_clear()
+        self.addCleanup(kit.version.cache_clear)
+
+    def put_back(self):
+        with contextlib.redirect_stdout(io.StringIO()) as said:
+            return prove.put_back(self.proved, self.copied, self.read), said.getvalue()
+
+    def test_what_was_proved_of_these_sources(self):
+        self.assertEqual(self.put_back(), (True, ""))
+        self.assertEqual((text_of(f"{self.out}/protogate"), text_of(f"{self.out}/protogate.begun")), ("proved\n", f"{LINE}\n"))
+        self.assertEqual(os.stat(f"{self.out}/protogate.begun").st_mtime_ns, self.read.at)
+        self.assertEqual(sorted(os.listdir(self.out)), ["protogate", "protogate.begun", "protogate.kit", "protogate.sum"])
+
+    def test_nothing_where_a_source_was_changed_added_or_removed(self):
+        path = f"{self.top}/crates/low/src/lib.rt"
+        for change in (lambda: write(path, "fn low() {};\n"), lambda: os.remove(path), lambda: write(f"{self.top}/crates/low/specs/Lib.antt", "")):
+            change()
+            is_put, said = self.put_back()
+            self.assertEqual((is_put, os.listdir(self.out)), (False, []))
+            self.assertIn("was changed while the gate ran", said)
+
+    def test_two_runs_put_back_at_once(self):
+        words = f"import os, prove, stamp; os.chdir({self.top!r}); copied = prove.sums('.'); "
+        words += f"[prove.put_back({self.proved!r}, copied, stamp.read_now('.')) or exit(1) for _ in range(20)]"
+        runs = [subprocess.Popen([sys.executable, "-Bc", words], cwd=f"{TOP}/tools") for _ in range(2)]
+        self.assertEqual([it.wait(timeout=PATIENCE) for it in runs], [0, 0])
+        self.assertEqual(sorted(os.listdir(self.out)), ["protogate", "protogate.begun", "protogate.kit", "protogate.sum"])
+
+    def test_a_link_stands_for_the_kit_where_it_can_have_no_other_name(self):
+        with mock.patch("os.link", side_effect=PermissionError):
+            self.put_back()
+        self.assertEqual(os.readlink(f"{self.out}/protogate.kit"), os.path.realpath(f"{self.room}/kit/rt"))
+
+
+class Missing(Room):
+    """What is missing is told before anything begins."""
+
+    def run_without(self, missing, *scripts):
+        """Runs these scripts with all tools on the path but one. Each has to say so within a second of a processor, with status 2, and begin nothing."""
+        os.mkdir(f"{self.room}/bin")
+        for it in {"rt", "git", "cc", "sh", "flock", "sleep", "mkdir"} - {missing}:
+            os.symlink(shutil.which(it, path=self.env["PATH"]), f"{self.room}/bin/{it}")
+        for words in scripts:
+            before = resource.getrusage(resource.RUSAGE_CHILDREN)
+            status, said = self.run_to_end(*words, PATH=f"{self.room}/bin")
+            after = resource.getrusage(resource.RUSAGE_CHILDREN)
+            self.assertLess(after.ru_utime + after.ru_stime - before.ru_utime - before.ru_stime, 1)
+            self.assertEqual((status, self.begun()), (2, []), said)
+            self.assertIn(f"there is no {missing} on the path", said)
+
+    def test_a_kit(self):
+        self.run_without("rt", ["prove.py", "protogate"], ["prove.py"], ["build.py"])
+
+    def test_git(self):
+        self.run_without("git", ["prove.py", "protogate"], ["prove.py"])
+
+    def test_a_linker(self):
+        self.run_without("cc", ["prove.py", "protogate"], ["prove.py"], ["build.py"])
+
+    def test_room_on_the_disk(self):
+        for folder, wanted in ((self.made, 1 << 60), (f"{self.made}/not/there", 1 << 60)):
+            (line,) = machine.missing({}, {folder: wanted})
+            self.assertRegex(line, r"has room for .* GB, and this takes some 1152921505 GB")
+        self.assertEqual(machine.missing({"sh": ""}, {self.made: 0}), [])
+
+    def test_a_place_to_write(self):
+        (line,) = machine.missing({}, {"/proc/none": 0})
+        self.assertEqual(line, "/proc/none can't be written")
+
+
+if __name__ == "__main__":
+    child_programs.on_signals()
+    unittest.main()
