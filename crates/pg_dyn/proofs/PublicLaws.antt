@@ -18,7 +18,7 @@ use Rattle.pg_dyn.specs.laws.ByComparands.{KeptByComparands}
 use Rattle.pg_dyn.proofs.Lists.{each_of_all, each_weaker}
 use Rattle.pg_dyn.proofs.lemmas.word.Codings.{Reads-from_range}
 use Rattle.pg_dyn.proofs.lemmas.message.Plain as Plain
-use Rattle.pg_dyn.proofs.lemmas.reading.Entries.{entry_read, records_of_entry}
+use Rattle.pg_dyn.proofs.lemmas.reading.entries.Entries.{entry_read, records_of_entry}
 use Rattle.pg_dyn.proofs.lemmas.reading.Fields as Fields
 use Rattle.pg_dyn.proofs.lemmas.reading.records.Splitting as Splitting
 use Rattle.pg_dyn.proofs.lemmas.laws.Flat as Flat

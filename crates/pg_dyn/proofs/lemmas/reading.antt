@@ -1,6 +1,5 @@
 pub mod DecodeLoop
 pub mod Depth
-pub mod Entries
 pub mod FieldKinds
 pub mod Fields
 pub mod PackedRows

@@ -18,7 +18,7 @@ use Rattle.pg_dyn.specs.encoding.Writing.{item_record, entry_bytes, key_of, fiel
 use Rattle.pg_dyn.specs.encoding.Encoding.{child_type, encoded_parts, enc}
 use Rattle.pg_dyn.specs.fitting.Belonging.{IsMessage}
 use Rattle.pg_dyn.proofs.Lists.{each_weaker, each_both, each_of_all, each_swap, flat_map-map, each_at, each_within}
-use Rattle.pg_dyn.proofs.lemmas.reading.Entries.{length_body-written}
+use Rattle.pg_dyn.proofs.lemmas.reading.entries.Entries.{length_body-written}
 use Rattle.pg_dyn.specs.laws.OwnParts.{FitsField, ChildrenShorter}
 use Rattle.pg_dyn.proofs.lemmas.reading.Fields.{field_of}
 use Rattle.pg_dyn.proofs.lemmas.reading.records.Splitting.{found_number}

@@ -27,7 +27,7 @@ use Rattle.pg_dyn.proofs.Lists.{all_some-map_map, joined-map_single, map_back, e
 use Rattle.pg_dyn.specs.laws.Bodies.{IsReadAs, entry_body, record_with}
 use Rattle.pg_dyn.specs.laws.OwnParts.{FitsField, FitsFrom, KeyIsRead, Ordered, ShortBodies, records_with}
 use Rattle.pg_dyn.proofs.lemmas.message.Plain.{same_wire_self, packable_wire, packed_read, singles_read, last_item_one, last_item_none}
-use Rattle.pg_dyn.proofs.lemmas.reading.Entries.{entry_read, IsRecord-item_record, length_body-written}
+use Rattle.pg_dyn.proofs.lemmas.reading.entries.Entries.{entry_read, IsRecord-item_record, length_body-written}
 
 abbrev pub field_of : ℕ → Presence → Element → Option ℕ → FieldShape
 field_of number p e oneof = record { number = number; presence = p; element = e; oneof = oneof }

@@ -1,3 +1,4 @@
+pub mod Entries
 pub mod EntryPlaces
 pub mod LastOfKeys
 pub mod NormalizedEntries

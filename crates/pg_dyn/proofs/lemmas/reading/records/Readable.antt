@@ -22,7 +22,7 @@ use Rattle.pg_dyn.proofs.lemmas.word.Codings.{Reads}
 use Rattle.pg_dyn.proofs.Lists.{each_weaker, each_both, each-append, each-flat_map, each-map, list_all_each}
 use Rattle.pg_dyn.specs.laws.Bodies.{IsNestedLeaf}
 use Rattle.pg_dyn.proofs.lemmas.message.Plain.{leaves_in_read}
-use Rattle.pg_dyn.proofs.lemmas.reading.Entries.{records_of_entry}
+use Rattle.pg_dyn.proofs.lemmas.reading.entries.Entries.{records_of_entry}
 use Rattle.pg_dyn.specs.laws.OwnParts.{FitsField, ShortBodies}
 use Rattle.pg_dyn.proofs.lemmas.reading.Fields.{IsOwn, field_of, key_reads, packed_leaves_in}
 use Rattle.pg_dyn.proofs.lemmas.laws.Flat.{IsFlat, Known, each_known, own_records, own_each, own_short, each_fits, unknown_not_taken}
