@@ -4,6 +4,7 @@ use Rattle.std.specs.List.{AllByRecursion}
 use Rattle.std.specs.Option.{option_and_then}
 use Rattle.std.proofs.lemmas.Bool.{false≢true}
 use Rattle.std.proofs.lemmas.List.Elements.{recursion_from_All}
+use Rattle.std.proofs.lemmas.Option.{same_Some}
 use Rattle.pg_schema.specs.declared.parts.field.Element.TheVariants as elements
 use Rattle.pg_schema.specs.declared.parts.field.Scalar.{Scalar}
 use Rattle.pg_schema.specs.Shape.{is_packable}
@@ -38,6 +39,9 @@ use Rattle.pg_syntax.specs.declared.tree as tree
 made_of : (make : ℕ → Target) (o : Option ℕ) (t : Target) → option_map make o ≡ Some t → (n : ℕ) × (make n ≡ t)
 made_of make None t h = absurd (cc (h))
 made_of make (Some n) t h = let same : make n ≡ t = cc (h) in (n, same)
+
+kind_of : (f g : Text × Kind) → Some f ≡ Some g → f.1 ≡ g.1
+kind_of f g h = ap (λ (m : Text × Kind). m.1) (same_Some f g h)
 
 module _ (files : List Entry) where
   abbrev all : List Declared
@@ -97,11 +101,8 @@ module _ (files : List Entry) where
       let says = kind_says h.full h.kind h.target h.is_numbered in
       let there : is_enum (targets_of files e name.span.from) ≡ is_enum (here h.target) = ap (λ o. is_enum (option_map (by_scope (enum_places files)) o)) h.at in (
         (λ is. record { full = h.full; is_enum = subst (λ k. found (visible_names (outlines files) (path_of e)) (words_of scope) (reference name) ≡ Some (h.full, k)) (says.0 (sym there ∙ is)) h.is_found }),
-        λ r. there ∙ says.1 (let same : Some (h.full, h.kind) ≡ Some (r.full, kinds.Enum) = sym h.is_found ∙ r.is_enum in kind_of h.kind h.full r.full same),
+        λ r. there ∙ says.1 (kind_of (h.full, h.kind) (r.full, kinds.Enum) (sym h.is_found ∙ r.is_enum)),
       )
-    where
-      kind_of : (k : Kind) (full other : Text) → Some (full, k) ≡ Some (other, kinds.Enum) → k ≡ kinds.Enum
-      kind_of k full other same = let both : (full, k) ≡ (other, kinds.Enum) = cc (same) in ap (λ m. m.1) both
 
   type_says : (e : Entry) (scope : List ℕ) (name : tree.TypeName.TypeName) → AllByRecursion (IsMeant e) (field_uses (words_of scope) name)
       → (may_be (scalar_named name) (targets_of files e name.span.from) ≡ true) ↔ IsPackable (scalar_named name) (ResolvesToEnum files e scope name)
