@@ -5,6 +5,7 @@
 ghost use Rattle.std.specs.Prelude.{◌≡◌, ◌⊎◌, IfErr, IfOk};
 ghost use Rattle.pg_schema.specs.rules.Sound.{IsSound};
 ghost use Rattle.pg_fds.specs.declared.error.FdsError.TheVariants as errors;
+ghost use Rattle.pg_fds.specs.round_trip.Readable.{IsReadable};
 ghost use Rattle.pg_fds.specs.round_trip.ReadAgain.{IsReadAgain, IsTooLong, MayRefuseAgain, SetStates};
 ghost use Rattle.pg_fds.specs.stated.Reads.{fds_reads};
 ghost use Rattle.pg_fds.specs.refusals.Refused.{MayRefuseSet, NoneIsStated};
@@ -14,9 +15,10 @@ use pg_fds::FdsError;
 use pg_schema::Schema;
 use std::alloc::Global;
 
-/// What `read` answers: a schema that the set states.
+/// What `read` answers: a schema that the set states, and that its own set states again.
 pub fn read(alloc: Global, bytes: &[u8]) -> Result<Schema, FdsError>
-    ensures { IfOk result (λ schema. fds_reads bytes.now schema) }
+    ensures stated { IfOk result (λ schema. fds_reads bytes.now schema) }
+    ensures readable { IfOk result IsReadable }
 {
     pg_fds::read(alloc, bytes)
 }
