@@ -1,6 +1,6 @@
--- The written schema of descriptor.proto: its messages with the fields that a set of this profile has (descriptor.proto of protobuf,
--- `FileDescriptorSet` and below). Singular fields have explicit presence, repeated numbers are unpacked, both as in that file. That
--- other fields and options are left out is this profile's choice.
+-- The written schema of descriptor.proto: its messages with the fields that a set of this profile has (descriptor.proto
+-- of protobuf, `FileDescriptorSet` and below). Singular fields have explicit presence, repeated numbers are unpacked,
+-- both as in that file. That other fields and options are left out is this profile's choice.
 use Rattle.std.specs.Prelude.{ℕ, false, List, [], ◌∷◌, None}
 use Rattle.pg_schema.specs.declared.parts.field.TypeId.{TypeId}
 use Rattle.pg_schema.specs.declared.parts.field.Element.{Element}
@@ -57,14 +57,16 @@ set_fields = many proto.SET_FILE (message 1) ∷ []
 
 abbrev pub file_fields : List FieldShape
 file_fields =
-    one proto.FILE_NAME text ∷ one proto.FILE_PACKAGE text ∷ many proto.FILE_DEPENDENCY text ∷ many proto.FILE_MESSAGE_TYPE (message 2)
+    one proto.FILE_NAME text ∷ one proto.FILE_PACKAGE text ∷ many proto.FILE_DEPENDENCY text
+    ∷ many proto.FILE_MESSAGE_TYPE (message 2)
     ∷ many proto.FILE_ENUM_TYPE (message 6) ∷ many proto.FILE_SERVICE (message 9) ∷ one proto.FILE_OPTIONS (message 11)
     ∷ many proto.FILE_PUBLIC_DEPENDENCY number ∷ one proto.FILE_SYNTAX text ∷ []
 
 abbrev pub message_fields : List FieldShape
 message_fields =
     one proto.MESSAGE_NAME text ∷ many proto.MESSAGE_FIELD (message 4) ∷ many proto.MESSAGE_NESTED_TYPE (message 2)
-    ∷ many proto.MESSAGE_ENUM_TYPE (message 6) ∷ one proto.MESSAGE_OPTIONS (message 12) ∷ many proto.MESSAGE_ONEOF_DECL (message 5)
+    ∷ many proto.MESSAGE_ENUM_TYPE (message 6) ∷ one proto.MESSAGE_OPTIONS (message 12)
+    ∷ many proto.MESSAGE_ONEOF_DECL (message 5)
     ∷ many proto.MESSAGE_RESERVED_RANGE (message 3) ∷ many proto.MESSAGE_RESERVED_NAME text ∷ []
 
 abbrev pub range_fields : List FieldShape
@@ -72,7 +74,8 @@ range_fields = one proto.RANGE_START number ∷ one proto.RANGE_END number ∷ [
 
 abbrev pub field_fields : List FieldShape
 field_fields =
-    one proto.FIELD_NAME text ∷ one proto.FIELD_NUMBER number ∷ one proto.FIELD_LABEL label_enum ∷ one proto.FIELD_TYPE type_enum
+    one proto.FIELD_NAME text ∷ one proto.FIELD_NUMBER number ∷ one proto.FIELD_LABEL label_enum
+    ∷ one proto.FIELD_TYPE type_enum
     ∷ one proto.FIELD_TYPE_NAME text ∷ one proto.FIELD_OPTIONS (message 13) ∷ one proto.FIELD_ONEOF_INDEX number
     ∷ one proto.FIELD_JSON_NAME text ∷ one proto.FIELD_PROTO3_OPTIONAL flag ∷ []
 
@@ -88,12 +91,14 @@ abbrev pub value_fields : List FieldShape
 value_fields = one proto.VALUE_NAME text ∷ one proto.VALUE_NUMBER number ∷ one proto.VALUE_OPTIONS (message 15) ∷ []
 
 abbrev pub service_fields : List FieldShape
-service_fields = one proto.SERVICE_NAME text ∷ many proto.SERVICE_METHOD (message 10) ∷ one proto.SERVICE_OPTIONS (message 16) ∷ []
+service_fields =
+    one proto.SERVICE_NAME text ∷ many proto.SERVICE_METHOD (message 10) ∷ one proto.SERVICE_OPTIONS (message 16) ∷ []
 
 abbrev pub method_fields : List FieldShape
 method_fields =
     one proto.METHOD_NAME text ∷ one proto.METHOD_INPUT_TYPE text ∷ one proto.METHOD_OUTPUT_TYPE text
-    ∷ one proto.METHOD_OPTIONS (message 17) ∷ one proto.METHOD_CLIENT_STREAMING flag ∷ one proto.METHOD_SERVER_STREAMING flag ∷ []
+    ∷ one proto.METHOD_OPTIONS (message 17) ∷ one proto.METHOD_CLIENT_STREAMING flag
+    ∷ one proto.METHOD_SERVER_STREAMING flag ∷ []
 
 -- ---- the options
 
@@ -101,7 +106,8 @@ abbrev pub file_options : List FieldShape
 file_options =
     one proto.FILE_JAVA_PACKAGE text ∷ one proto.FILE_JAVA_OUTER_CLASSNAME text ∷ one proto.FILE_OPTIMIZE_FOR mode_enum
     ∷ one proto.FILE_JAVA_MULTIPLE_FILES flag ∷ one proto.FILE_GO_PACKAGE text ∷ one proto.FILE_DEPRECATED flag
-    ∷ one proto.FILE_CC_ENABLE_ARENAS flag ∷ one proto.FILE_OBJC_CLASS_PREFIX text ∷ one proto.FILE_CSHARP_NAMESPACE text
+    ∷ one proto.FILE_CC_ENABLE_ARENAS flag ∷ one proto.FILE_OBJC_CLASS_PREFIX text
+    ∷ one proto.FILE_CSHARP_NAMESPACE text
     ∷ one proto.FILE_SWIFT_PREFIX text ∷ one proto.FILE_PHP_CLASS_PREFIX text ∷ one proto.FILE_PHP_NAMESPACE text
     ∷ one proto.FILE_RUBY_PACKAGE text ∷ []
 
@@ -125,6 +131,8 @@ service_options = one proto.SERVICE_DEPRECATED flag ∷ []
 
 abbrev pub descriptor_shape : Shape
 descriptor_shape =
-    set_fields ∷ file_fields ∷ message_fields ∷ range_fields ∷ field_fields ∷ oneof_fields ∷ enum_fields ∷ range_fields ∷ value_fields
-    ∷ service_fields ∷ method_fields ∷ file_options ∷ message_options ∷ field_options ∷ enum_options ∷ value_options ∷ service_options
+    set_fields ∷ file_fields ∷ message_fields ∷ range_fields ∷ field_fields ∷ oneof_fields ∷ enum_fields ∷ range_fields
+    ∷ value_fields
+    ∷ service_fields ∷ method_fields ∷ file_options ∷ message_options ∷ field_options ∷ enum_options ∷ value_options
+    ∷ service_options
     ∷ service_options ∷ []

@@ -1,7 +1,8 @@
--- The parts of descriptor.proto as it is written down here: the file, those of its message types, with those of their fields, and of its
--- enums that a set of this profile has, with all names (descriptor.proto of protobuf, `FileDescriptorSet` and below). Each enum has a value
--- of number 0 besides, since a schema's enum has one. What is left out is this profile's choice, as are that fields are declared by rising
--- number, in which order enums are, and that a field of a message type isn't marked `optional`.
+-- The parts of descriptor.proto as it is written down here: the file, those of its message types, with those of their
+-- fields, and of its enums that a set of this profile has, with all names (descriptor.proto of protobuf,
+-- `FileDescriptorSet` and below). Each enum has a value of number 0 besides, since a schema's enum has one. What is
+-- left out is this profile's choice, as are that fields are declared by rising number, in which order enums are, and
+-- that a field of a message type isn't marked `optional`.
 use Rattle.std.specs.Prelude.{ℕ, ℤ, pos, false, not, ◌&&◌, ◌||◌, List, [], ◌∷◌, map, codes, Some, None, if◌then◌else◌}
 use Rattle.pg_schema.specs.declared.parts.field.Element.{Element}
 use Rattle.pg_schema.specs.declared.parts.field.EnumId.{EnumId}
@@ -17,8 +18,8 @@ use Rattle.pg_fds.specs.stated.Views.{EnumView, FieldView, FileView, PartsView, 
 
 -- ---- what a row says
 
--- a field in no oneof, of the default JSON name: a singular scalar or enum is `optional`, and a repeated one that could be packed states
--- that it isn't
+-- a field in no oneof, of the default JSON name: a singular scalar or enum is `optional`, and a repeated one that could
+-- be packed states that it isn't
 abbrev pub field_of : ℕ → (name : List ℕ) → Presence → Element → FieldView
 field_of number name presence element = record {
   number = number;
@@ -82,17 +83,21 @@ unfoldable pub file_type : TypeView
 file_type =
     plain (codes "google.protobuf.FileDescriptorProto")
     (one proto.FILE_NAME (codes "name") text ∷ one proto.FILE_PACKAGE (codes "package") text
-    ∷ many proto.FILE_DEPENDENCY (codes "dependency") text ∷ many proto.FILE_MESSAGE_TYPE (codes "message_type") (message 2)
+    ∷ many proto.FILE_DEPENDENCY (codes "dependency") text
+    ∷ many proto.FILE_MESSAGE_TYPE (codes "message_type") (message 2)
     ∷ many proto.FILE_ENUM_TYPE (codes "enum_type") (message 6) ∷ many proto.FILE_SERVICE (codes "service") (message 9)
-    ∷ one proto.FILE_OPTIONS (codes "options") (message 11) ∷ many proto.FILE_PUBLIC_DEPENDENCY (codes "public_dependency") number
+    ∷ one proto.FILE_OPTIONS (codes "options") (message 11)
+    ∷ many proto.FILE_PUBLIC_DEPENDENCY (codes "public_dependency") number
     ∷ one proto.FILE_SYNTAX (codes "syntax") text ∷ [])
 
 unfoldable pub message_type : TypeView
 message_type =
     type_of (codes "google.protobuf.DescriptorProto")
     (one proto.MESSAGE_NAME (codes "name") text ∷ many proto.MESSAGE_FIELD (codes "field") (message 4)
-    ∷ many proto.MESSAGE_NESTED_TYPE (codes "nested_type") (message 2) ∷ many proto.MESSAGE_ENUM_TYPE (codes "enum_type") (message 6)
-    ∷ one proto.MESSAGE_OPTIONS (codes "options") (message 12) ∷ many proto.MESSAGE_ONEOF_DECL (codes "oneof_decl") (message 5)
+    ∷ many proto.MESSAGE_NESTED_TYPE (codes "nested_type") (message 2)
+    ∷ many proto.MESSAGE_ENUM_TYPE (codes "enum_type") (message 6)
+    ∷ one proto.MESSAGE_OPTIONS (codes "options") (message 12)
+    ∷ many proto.MESSAGE_ONEOF_DECL (codes "oneof_decl") (message 5)
     ∷ many proto.MESSAGE_RESERVED_RANGE (codes "reserved_range") (message 3)
     ∷ many proto.MESSAGE_RESERVED_NAME (codes "reserved_name") text ∷ []) (type_id 3 ∷ []) []
 
@@ -117,7 +122,8 @@ unfoldable pub enum_type : TypeView
 enum_type =
     type_of (codes "google.protobuf.EnumDescriptorProto")
     (one proto.ENUM_NAME (codes "name") text ∷ many proto.ENUM_VALUE (codes "value") (message 8)
-    ∷ one proto.ENUM_OPTIONS (codes "options") (message 14) ∷ many proto.ENUM_RESERVED_RANGE (codes "reserved_range") (message 7)
+    ∷ one proto.ENUM_OPTIONS (codes "options") (message 14)
+    ∷ many proto.ENUM_RESERVED_RANGE (codes "reserved_range") (message 7)
     ∷ many proto.ENUM_RESERVED_NAME (codes "reserved_name") text ∷ []) (type_id 7 ∷ []) []
 
 unfoldable pub enum_range_type : TypeView
@@ -151,11 +157,15 @@ unfoldable pub file_options_type : TypeView
 file_options_type =
     type_of (codes "google.protobuf.FileOptions")
     (one proto.FILE_JAVA_PACKAGE (codes "java_package") text ∷ one proto.FILE_JAVA_OUTER_CLASSNAME (codes "java_outer_classname") text
-    ∷ one proto.FILE_OPTIMIZE_FOR (codes "optimize_for") mode_enum ∷ one proto.FILE_JAVA_MULTIPLE_FILES (codes "java_multiple_files") flag
+    ∷ one proto.FILE_OPTIMIZE_FOR (codes "optimize_for") mode_enum
+    ∷ one proto.FILE_JAVA_MULTIPLE_FILES (codes "java_multiple_files") flag
     ∷ one proto.FILE_GO_PACKAGE (codes "go_package") text ∷ one proto.FILE_DEPRECATED (codes "deprecated") flag
-    ∷ one proto.FILE_CC_ENABLE_ARENAS (codes "cc_enable_arenas") flag ∷ one proto.FILE_OBJC_CLASS_PREFIX (codes "objc_class_prefix") text
-    ∷ one proto.FILE_CSHARP_NAMESPACE (codes "csharp_namespace") text ∷ one proto.FILE_SWIFT_PREFIX (codes "swift_prefix") text
-    ∷ one proto.FILE_PHP_CLASS_PREFIX (codes "php_class_prefix") text ∷ one proto.FILE_PHP_NAMESPACE (codes "php_namespace") text
+    ∷ one proto.FILE_CC_ENABLE_ARENAS (codes "cc_enable_arenas") flag
+    ∷ one proto.FILE_OBJC_CLASS_PREFIX (codes "objc_class_prefix") text
+    ∷ one proto.FILE_CSHARP_NAMESPACE (codes "csharp_namespace") text
+    ∷ one proto.FILE_SWIFT_PREFIX (codes "swift_prefix") text
+    ∷ one proto.FILE_PHP_CLASS_PREFIX (codes "php_class_prefix") text
+    ∷ one proto.FILE_PHP_NAMESPACE (codes "php_namespace") text
     ∷ one proto.FILE_RUBY_PACKAGE (codes "ruby_package") text ∷ []) [] (enum_id 2 ∷ [])
 
 unfoldable pub message_options_type : TypeView
@@ -174,13 +184,16 @@ enum_options_type =
     (one proto.ENUM_ALLOW_ALIAS (codes "allow_alias") flag ∷ one proto.ENUM_DEPRECATED (codes "deprecated") flag ∷ [])
 
 unfoldable pub value_options_type : TypeView
-value_options_type = plain (codes "google.protobuf.EnumValueOptions") (one proto.VALUE_DEPRECATED (codes "deprecated") flag ∷ [])
+value_options_type =
+    plain (codes "google.protobuf.EnumValueOptions") (one proto.VALUE_DEPRECATED (codes "deprecated") flag ∷ [])
 
 unfoldable pub service_options_type : TypeView
-service_options_type = plain (codes "google.protobuf.ServiceOptions") (one proto.SERVICE_DEPRECATED (codes "deprecated") flag ∷ [])
+service_options_type =
+    plain (codes "google.protobuf.ServiceOptions") (one proto.SERVICE_DEPRECATED (codes "deprecated") flag ∷ [])
 
 unfoldable pub method_options_type : TypeView
-method_options_type = plain (codes "google.protobuf.MethodOptions") (one proto.METHOD_DEPRECATED (codes "deprecated") flag ∷ [])
+method_options_type =
+    plain (codes "google.protobuf.MethodOptions") (one proto.METHOD_DEPRECATED (codes "deprecated") flag ∷ [])
 
 -- ---- the enums
 
@@ -193,9 +206,12 @@ unfoldable pub kind_view : EnumView
 kind_view =
     enum_of (codes "google.protobuf.FieldDescriptorProto.Type")
     (value 0 (codes "TYPE_NONE") ∷ value 1 (codes "TYPE_DOUBLE") ∷ value 2 (codes "TYPE_FLOAT") ∷ value 3 (codes "TYPE_INT64")
-    ∷ value 4 (codes "TYPE_UINT64") ∷ value 5 (codes "TYPE_INT32") ∷ value 6 (codes "TYPE_FIXED64") ∷ value 7 (codes "TYPE_FIXED32")
-    ∷ value 8 (codes "TYPE_BOOL") ∷ value 9 (codes "TYPE_STRING") ∷ value 10 (codes "TYPE_GROUP") ∷ value 11 (codes "TYPE_MESSAGE")
-    ∷ value 12 (codes "TYPE_BYTES") ∷ value 13 (codes "TYPE_UINT32") ∷ value 14 (codes "TYPE_ENUM") ∷ value 15 (codes "TYPE_SFIXED32")
+    ∷ value 4 (codes "TYPE_UINT64") ∷ value 5 (codes "TYPE_INT32") ∷ value 6 (codes "TYPE_FIXED64")
+    ∷ value 7 (codes "TYPE_FIXED32")
+    ∷ value 8 (codes "TYPE_BOOL") ∷ value 9 (codes "TYPE_STRING") ∷ value 10 (codes "TYPE_GROUP")
+    ∷ value 11 (codes "TYPE_MESSAGE")
+    ∷ value 12 (codes "TYPE_BYTES") ∷ value 13 (codes "TYPE_UINT32") ∷ value 14 (codes "TYPE_ENUM")
+    ∷ value 15 (codes "TYPE_SFIXED32")
     ∷ value 16 (codes "TYPE_SFIXED64") ∷ value 17 (codes "TYPE_SINT32") ∷ value 18 (codes "TYPE_SINT64") ∷ [])
 
 unfoldable pub mode_view : EnumView
@@ -218,8 +234,10 @@ descriptor_file = record {
 
 abbrev pub descriptor_types : List TypeView
 descriptor_types =
-    set_type ∷ file_type ∷ message_type ∷ range_type ∷ field_type ∷ oneof_type ∷ enum_type ∷ enum_range_type ∷ value_type ∷ service_type
-    ∷ method_type ∷ file_options_type ∷ message_options_type ∷ field_options_type ∷ enum_options_type ∷ value_options_type
+    set_type ∷ file_type ∷ message_type ∷ range_type ∷ field_type ∷ oneof_type ∷ enum_type ∷ enum_range_type
+    ∷ value_type ∷ service_type
+    ∷ method_type ∷ file_options_type ∷ message_options_type ∷ field_options_type ∷ enum_options_type
+    ∷ value_options_type
     ∷ service_options_type ∷ method_options_type ∷ []
 
 abbrev pub descriptor_enums : List EnumView

@@ -1,4 +1,5 @@
--- Worked sets: the bytes of small files' sets. They are protoc's, from `protoc --descriptor_set_out=m.pb m.proto` (libprotoc 3.21.12).
+-- Worked sets: the bytes of small files' sets. They are protoc's, from `protoc --descriptor_set_out=m.pb m.proto`
+-- (libprotoc 3.21.12).
 use Rattle.std.specs.Prelude.{◌≡◌, ℕ, Bool, true, false, List, [], ◌∷◌, codes, None}
 use Rattle.std.specs.String.{string_bytes}
 use Rattle.pg_schema.specs.declared.parts.field.Element.{Element}
@@ -55,7 +56,8 @@ pub record AreParts (parts : Parts) (file : File) (t : MessageType) : Type 0 whe
 -- `message M { int32 a = 1; }`
 abbrev pub one_field_bytes : List ℕ
 one_field_bytes =
-    10 ∷ 36 ∷ 10 ∷ 7 ∷ 109 ∷ 46 ∷ 112 ∷ 114 ∷ 111 ∷ 116 ∷ 111 ∷ 34 ∷ 17 ∷ 10 ∷ 1 ∷ 77 ∷ 18 ∷ 12 ∷ 10 ∷ 1 ∷ 97 ∷ 24 ∷ 1 ∷ 32 ∷ 1 ∷ 40
+    10 ∷ 36 ∷ 10 ∷ 7 ∷ 109 ∷ 46 ∷ 112 ∷ 114 ∷ 111 ∷ 116 ∷ 111 ∷ 34 ∷ 17 ∷ 10 ∷ 1 ∷ 77 ∷ 18 ∷ 12 ∷ 10 ∷ 1 ∷ 97 ∷ 24 ∷ 1
+    ∷ 32 ∷ 1 ∷ 40
     ∷ 5 ∷ 82 ∷ 1 ∷ 97 ∷ 98 ∷ 6 ∷ 112 ∷ 114 ∷ 111 ∷ 116 ∷ 111 ∷ 51 ∷ []
 
 abbrev pub OneField : Type 0
@@ -67,16 +69,23 @@ OneField =
 -- `message M { map<string, int32> a = 1; optional int32 b = 2; }`
 abbrev pub map_and_optional_bytes : List ℕ
 map_and_optional_bytes =
-    10 ∷ 126 ∷ 10 ∷ 7 ∷ 109 ∷ 46 ∷ 112 ∷ 114 ∷ 111 ∷ 116 ∷ 111 ∷ 34 ∷ 107 ∷ 10 ∷ 1 ∷ 77 ∷ 18 ∷ 23 ∷ 10 ∷ 1 ∷ 97 ∷ 24 ∷ 1 ∷ 32 ∷ 3 ∷ 40
-    ∷ 11 ∷ 50 ∷ 9 ∷ 46 ∷ 77 ∷ 46 ∷ 65 ∷ 69 ∷ 110 ∷ 116 ∷ 114 ∷ 121 ∷ 82 ∷ 1 ∷ 97 ∷ 18 ∷ 17 ∷ 10 ∷ 1 ∷ 98 ∷ 24 ∷ 2 ∷ 32 ∷ 1 ∷ 40 ∷ 5 ∷ 72
-    ∷ 0 ∷ 82 ∷ 1 ∷ 98 ∷ 136 ∷ 1 ∷ 1 ∷ 26 ∷ 52 ∷ 10 ∷ 6 ∷ 65 ∷ 69 ∷ 110 ∷ 116 ∷ 114 ∷ 121 ∷ 18 ∷ 16 ∷ 10 ∷ 3 ∷ 107 ∷ 101 ∷ 121 ∷ 24 ∷ 1
-    ∷ 32 ∷ 1 ∷ 40 ∷ 9 ∷ 82 ∷ 3 ∷ 107 ∷ 101 ∷ 121 ∷ 18 ∷ 20 ∷ 10 ∷ 5 ∷ 118 ∷ 97 ∷ 108 ∷ 117 ∷ 101 ∷ 24 ∷ 2 ∷ 32 ∷ 1 ∷ 40 ∷ 5 ∷ 82 ∷ 5
-    ∷ 118 ∷ 97 ∷ 108 ∷ 117 ∷ 101 ∷ 58 ∷ 2 ∷ 56 ∷ 1 ∷ 66 ∷ 4 ∷ 10 ∷ 2 ∷ 95 ∷ 98 ∷ 98 ∷ 6 ∷ 112 ∷ 114 ∷ 111 ∷ 116 ∷ 111 ∷ 51 ∷ []
+    10 ∷ 126 ∷ 10 ∷ 7 ∷ 109 ∷ 46 ∷ 112 ∷ 114 ∷ 111 ∷ 116 ∷ 111 ∷ 34 ∷ 107 ∷ 10 ∷ 1 ∷ 77 ∷ 18 ∷ 23 ∷ 10 ∷ 1 ∷ 97 ∷ 24 ∷ 1
+    ∷ 32 ∷ 3 ∷ 40
+    ∷ 11 ∷ 50 ∷ 9 ∷ 46 ∷ 77 ∷ 46 ∷ 65 ∷ 69 ∷ 110 ∷ 116 ∷ 114 ∷ 121 ∷ 82 ∷ 1 ∷ 97 ∷ 18 ∷ 17 ∷ 10 ∷ 1 ∷ 98 ∷ 24 ∷ 2 ∷ 32
+    ∷ 1 ∷ 40 ∷ 5 ∷ 72
+    ∷ 0 ∷ 82 ∷ 1 ∷ 98 ∷ 136 ∷ 1 ∷ 1 ∷ 26 ∷ 52 ∷ 10 ∷ 6 ∷ 65 ∷ 69 ∷ 110 ∷ 116 ∷ 114 ∷ 121 ∷ 18 ∷ 16 ∷ 10 ∷ 3 ∷ 107 ∷ 101
+    ∷ 121 ∷ 24 ∷ 1
+    ∷ 32 ∷ 1 ∷ 40 ∷ 9 ∷ 82 ∷ 3 ∷ 107 ∷ 101 ∷ 121 ∷ 18 ∷ 20 ∷ 10 ∷ 5 ∷ 118 ∷ 97 ∷ 108 ∷ 117 ∷ 101 ∷ 24 ∷ 2 ∷ 32 ∷ 1 ∷ 40
+    ∷ 5 ∷ 82 ∷ 5
+    ∷ 118 ∷ 97 ∷ 108 ∷ 117 ∷ 101 ∷ 58 ∷ 2 ∷ 56 ∷ 1 ∷ 66 ∷ 4 ∷ 10 ∷ 2 ∷ 95 ∷ 98 ∷ 98 ∷ 6 ∷ 112 ∷ 114 ∷ 111 ∷ 116 ∷ 111
+    ∷ 51 ∷ []
 
 abbrev pub MapAndOptional : Type 0
 MapAndOptional =
-    (parts : Parts) (file : File) (t : MessageType) (a b : Field) → AreParts parts file t → IsMessage t (a ∷ b ∷ []) (1 ∷ 2 ∷ [])
-    → IsField a (codes "a") 1 (Map String) (elements.Scalar Int32) false → IsField b (codes "b") 2 Explicit (elements.Scalar Int32) true
+    (parts : Parts) (file : File) (t : MessageType) (a b : Field) → AreParts parts file t
+    → IsMessage t (a ∷ b ∷ []) (1 ∷ 2 ∷ [])
+    → IsField a (codes "a") 1 (Map String) (elements.Scalar Int32) false
+    → IsField b (codes "b") 2 Explicit (elements.Scalar Int32) true
     → fds parts map_and_optional_bytes
 
 pub record WorkedSets : Type 0 where

@@ -1,4 +1,5 @@
--- What names of small files mean, and which files' declarations may be in one table: names that occur twice are asked scope by scope.
+-- What names of small files mean, and which files' declarations may be in one table: names that occur twice are asked
+-- scope by scope.
 use Rattle.std.specs.Prelude.{◌≡◌, ℕ, true, false, List, [], ◌∷◌, ◌++◌, codes, flat_map, Some, None, is_some}
 use Rattle.pg_dyn.specs.message.Message.{Bytes, Message, ends, holds, nests}
 use Rattle.pg_fds.specs.stated.SetNames.{package_parts, package_scope}
@@ -55,7 +56,8 @@ pub record WorkedNames : Type 0 where
   pub no_part : package_parts (package_scope []) ≡ []
   pub types : names_of (flat_map (file_types 3) (two_types ∷ [])) ≡ codes ".a.b.M" ∷ codes ".a.b.M.N" ∷ []
   -- a backslash is 92
-  pub quoted_dot : names_of (file_types 3 dot_in_name) ≡ (codes ".a" ++ 92 ∷ codes ".b") ∷ codes ".a" ∷ codes ".a.b" ∷ []
+  pub quoted_dot : names_of (file_types 3 dot_in_name)
+      ≡ (codes ".a" ++ 92 ∷ codes ".b") ∷ codes ".a" ∷ codes ".a.b" ∷ []
   pub type : means (codes ".a.b.M.N") ≡ Some (type_named 1)
   pub enum : means (codes ".a.b.M.E") ≡ Some (enum_named 0)
   pub package_part : means (codes ".a.b") ≡ None

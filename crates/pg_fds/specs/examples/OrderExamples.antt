@@ -40,9 +40,12 @@ of_descriptor count = holds proto.FILE_NAME None (Bytes a) (descriptors count)
 pub record WorkedOrders : Type 0 where
   pub no_files : paths_in_post_order [] ≡ Some []
   pub no_imports : paths_in_post_order (importing a [] ∷ importing b [] ∷ []) ≡ Some (a ∷ b ∷ [])
-  pub imports_first : paths_in_post_order (importing a (b ∷ []) ∷ importing b (c ∷ []) ∷ importing c [] ∷ []) ≡ Some (c ∷ b ∷ a ∷ [])
-  pub in_order_of_imports : paths_in_post_order (importing a (c ∷ b ∷ []) ∷ importing b [] ∷ importing c [] ∷ []) ≡ Some (c ∷ b ∷ a ∷ [])
-  pub imported_twice : paths_in_post_order (importing a (c ∷ []) ∷ importing b (c ∷ []) ∷ importing c [] ∷ []) ≡ Some (c ∷ a ∷ b ∷ [])
+  pub imports_first : paths_in_post_order (importing a (b ∷ []) ∷ importing b (c ∷ []) ∷ importing c [] ∷ [])
+      ≡ Some (c ∷ b ∷ a ∷ [])
+  pub in_order_of_imports : paths_in_post_order (importing a (c ∷ b ∷ []) ∷ importing b [] ∷ importing c [] ∷ [])
+      ≡ Some (c ∷ b ∷ a ∷ [])
+  pub imported_twice : paths_in_post_order (importing a (c ∷ []) ∷ importing b (c ∷ []) ∷ importing c [] ∷ [])
+      ≡ Some (c ∷ a ∷ b ∷ [])
   pub not_there : paths_in_post_order (importing a (b ∷ []) ∷ []) ≡ None
   pub path_twice : paths_in_post_order (importing a [] ∷ importing a [] ∷ []) ≡ None
   pub import_twice : paths_in_post_order (importing a (b ∷ b ∷ []) ∷ importing b [] ∷ []) ≡ None

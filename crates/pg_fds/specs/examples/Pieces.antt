@@ -15,8 +15,10 @@ use Rattle.pg_fds.specs.writing.Synthetic.{synthetic_names}
 -- in the order of descriptor.proto's codes, where group, message and enum lack
 abbrev pub all_scalars : List Scalar
 all_scalars =
-    scalars.Double ∷ scalars.Float ∷ scalars.Int64 ∷ scalars.Uint64 ∷ scalars.Int32 ∷ scalars.Fixed64 ∷ scalars.Fixed32 ∷ scalars.Bool
-    ∷ scalars.String ∷ scalars.Bytes ∷ scalars.Uint32 ∷ scalars.Sfixed32 ∷ scalars.Sfixed64 ∷ scalars.Sint32 ∷ scalars.Sint64 ∷ []
+    scalars.Double ∷ scalars.Float ∷ scalars.Int64 ∷ scalars.Uint64 ∷ scalars.Int32 ∷ scalars.Fixed64 ∷ scalars.Fixed32
+    ∷ scalars.Bool
+    ∷ scalars.String ∷ scalars.Bytes ∷ scalars.Uint32 ∷ scalars.Sfixed32 ∷ scalars.Sfixed64 ∷ scalars.Sint32
+    ∷ scalars.Sint64 ∷ []
 
 pub record WorkedPieces : Type 0 where
   pub own_name_of_two : own_name (codes "p.q.M") ≡ codes "M"
@@ -25,7 +27,8 @@ pub record WorkedPieces : Type 0 where
   pub message_field : type_code Explicit (elements.Message (record { index = 0 })) ≡ 11
   pub enum_field : type_code (Repeated true) (elements.Enum (record { index = 0 })) ≡ 14
   pub map_field : type_code (Map scalars.String) (elements.Scalar scalars.Bytes) ≡ 11
-  pub labels : map label (Implicit ∷ Explicit ∷ Repeated true ∷ Repeated false ∷ Map scalars.Int32 ∷ []) ≡ 1 ∷ 1 ∷ 3 ∷ 3 ∷ 3 ∷ []
+  pub labels : map label (Implicit ∷ Explicit ∷ Repeated true ∷ Repeated false ∷ Map scalars.Int32 ∷ [])
+      ≡ 1 ∷ 1 ∷ 3 ∷ 3 ∷ 3 ∷ []
   pub range_of_fields : field_range (record { first = 5; last = 7 }) ≡ count 1 5 ++ count 2 8
   pub range_of_values : value_range (record { first = negsuc 4; last = negsuc 2 }) ≡ whole 1 (negsuc 4) ++ whole 2 (negsuc 2)
   pub no_option : options 8 (field_options (record { packed = None; deprecated = None })) ≡ []
@@ -38,4 +41,5 @@ pub record WorkedPieces : Type 0 where
   pub synthetic : synthetic_names (codes "o" ∷ codes "n" ∷ []) (codes "o" ∷ []) ≡ codes "_o" ∷ []
   pub synthetic_of_underscore : synthetic_names (codes "_w" ∷ []) (codes "_w" ∷ []) ≡ codes "X_w" ∷ []
   pub synthetic_beside_oneof : synthetic_names (codes "z" ∷ codes "_z" ∷ []) (codes "z" ∷ []) ≡ codes "X_z" ∷ []
-  pub synthetic_after_another : synthetic_names (codes "a" ∷ codes "_a" ∷ []) (codes "a" ∷ codes "_a" ∷ []) ≡ codes "X_a" ∷ codes "XX_a" ∷ []
+  pub synthetic_after_another : synthetic_names (codes "a" ∷ codes "_a" ∷ []) (codes "a" ∷ codes "_a" ∷ [])
+      ≡ codes "X_a" ∷ codes "XX_a" ∷ []

@@ -23,24 +23,29 @@ pub record AreNested (outer inner last : MessageType) : Type 0 where
   pub behind : last.nested_types.items ≡ []
 
 abbrev pub TypesInOrder : Type 0
-TypesInOrder = (outer inner last : MessageType) → AreNested outer inner last → types_below 3 (outer ∷ inner ∷ last ∷ []) (type_id 0 ∷ type_id 2 ∷ []) ≡ 0 ∷ 1 ∷ 2 ∷ []
+TypesInOrder =
+    (outer inner last : MessageType) → AreNested outer inner last
+    → types_below 3 (outer ∷ inner ∷ last ∷ []) (type_id 0 ∷ type_id 2 ∷ []) ≡ 0 ∷ 1 ∷ 2 ∷ []
 
 -- an enum in each of the two: that of the outer one comes first
 abbrev pub EnumsInOrder : Type 0
 EnumsInOrder =
-    (outer inner last : MessageType) → AreNested outer inner last → outer.nested_enums.items ≡ enum_id 0 ∷ [] → inner.nested_enums.items ≡ enum_id 1 ∷ [] → last.nested_enums.items ≡ []
+    (outer inner last : MessageType) → AreNested outer inner last → outer.nested_enums.items ≡ enum_id 0 ∷ []
+    → inner.nested_enums.items ≡ enum_id 1 ∷ [] → last.nested_enums.items ≡ []
     → enums_below 3 (outer ∷ inner ∷ last ∷ []) (type_id 0 ∷ type_id 2 ∷ []) ≡ 0 ∷ 1 ∷ []
 
 -- a file with one message type
 abbrev pub OneFieldInOrder : Type 0
 OneFieldInOrder =
-    (parts : Parts) (file : File) (t : MessageType) (a : Field) → AreParts parts file t → IsMessage t (a ∷ []) (1 ∷ []) → parts.enums.items ≡ [] → parts.services.items ≡ []
+    (parts : Parts) (file : File) (t : MessageType) (a : Field) → AreParts parts file t → IsMessage t (a ∷ []) (1 ∷ [])
+    → parts.enums.items ≡ [] → parts.services.items ≡ []
     → StandInOrder parts
 
 -- whose set is read as the same schema
 abbrev pub OneFieldAgain : Type 0
 OneFieldAgain =
-    (parts : Parts) (file : File) (t : MessageType) (a : Field) → AreParts parts file t → IsMessage t (a ∷ []) (1 ∷ []) → parts.enums.items ≡ [] → parts.services.items ≡ []
+    (parts : Parts) (file : File) (t : MessageType) (a : Field) → AreParts parts file t → IsMessage t (a ∷ []) (1 ∷ [])
+    → parts.enums.items ≡ [] → parts.services.items ≡ []
     → IsReadAgain parts
 
 -- ---- an enum that comes after the message types
@@ -56,7 +61,8 @@ pub record IsPackageFirst (parts : Parts) (file : File) (t : MessageType) : Type
 
 abbrev pub PackageEnumsFirst : Type 0
 PackageEnumsFirst =
-    (parts : Parts) (file : File) (t : MessageType) → IsPackageFirst parts file t → flat_map (file_enums parts.types.items) parts.files.items ≡ 0 ∷ 1 ∷ []
+    (parts : Parts) (file : File) (t : MessageType) → IsPackageFirst parts file t
+    → flat_map (file_enums parts.types.items) parts.files.items ≡ 0 ∷ 1 ∷ []
 
 pub record WorkedPlaces : Type 0 where
   pub types : TypesInOrder

@@ -14,5 +14,6 @@ use Rattle.pg_fds.specs.stated.Reads.{fds_reads}
 abbrev pub OneFieldRead : Type 0
 OneFieldRead =
     (parts : Parts) (file : File) (t : MessageType) (a : Field) → AreParts parts file t → IsMessage t (a ∷ []) (1 ∷ [])
-    → IsField a (codes "a") 1 Implicit (elements.Scalar Int32) false → parts.enums.items ≡ [] → parts.services.items ≡ []
+    → IsField a (codes "a") 1 Implicit (elements.Scalar Int32) false → parts.enums.items ≡ []
+    → parts.services.items ≡ []
     → fds_reads one_field_bytes parts

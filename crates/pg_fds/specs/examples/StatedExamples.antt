@@ -77,8 +77,8 @@ MapStated = stated map_set ≡ Some (record { files = map_file ∷ []; types = m
 
 -- ---- two files
 
--- `b.proto`, of package p, comes before the `a.proto` that it imports. It has a message type with an enum, a type and a oneof, then an
--- enum of its own, and a service.
+-- `b.proto`, of package p, comes before the `a.proto` that it imports. It has a message type with an enum, a type and a
+-- oneof, then an enum of its own, and a service.
 abbrev two_files : Message
 two_files =
     child proto.SET_FILE (text proto.FILE_NAME (codes "b.proto") (text proto.FILE_PACKAGE (codes "p") (text proto.FILE_DEPENDENCY (codes "a.proto") (

@@ -1,5 +1,6 @@
--- What a set declares: each qualified name with what it is that of, in order (descriptor.proto; proto3 language guide, "Packages";
--- "Enumerations": the values of an enum are siblings of its name), and the tables of names that declarations make.
+-- What a set declares: each qualified name with what it is that of, in order (descriptor.proto; proto3 language guide,
+-- "Packages"; "Enumerations": the values of an enum are siblings of its name), and the tables of names that
+-- declarations make.
 use Rattle.std.specs.Prelude.{ℕ, List, String, Bool, true, false, ◌&&◌, Option, Some, None, [], ◌∷◌, ◌≡◌, if◌then◌else◌, map, suc, ◌++◌, flat_map, filter, zero}
 use Rattle.std.specs.HashMap.{HashMap, get_by_text}
 use Rattle.std.specs.Map.{update}
@@ -83,7 +84,8 @@ enums_declared scope place (m ∷ ms) = enum_declared scope place m ++ enums_dec
 
 -- a service and its methods
 abbrev pub service_declared : (scope : List ℕ) → Message → List Declaration
-service_declared scope m = named_in scope nameds.Other m ∷ all_named (qualified scope m) nameds.Other (children_at proto.SERVICE_METHOD m)
+service_declared scope m =
+    named_in scope nameds.Other m ∷ all_named (qualified scope m) nameds.Other (children_at proto.SERVICE_METHOD m)
 
 abbrev pub services_declared : (scope : List ℕ) → List Message → List Declaration
 services_declared scope ms = flat_map (service_declared scope) ms
@@ -100,15 +102,18 @@ type_declared full place m =
     (full, nameds.Type (record { index = place })) ∷ members_declared full m ++ all_named full nameds.Entry (filter is_entry (children_at proto.MESSAGE_NESTED_TYPE m))
 
 -- with its enums and the types inside it
-abbrev pub whole_declared : (inside : List ℕ → Counts → List Message → List Declaration) → (scope : List ℕ) → Counts → Message → List Declaration
+abbrev pub whole_declared : (inside : List ℕ → Counts → List Message → List Declaration) → (scope : List ℕ) → Counts
+    → Message → List Declaration
 whole_declared inside scope counts m =
-    type_declared (qualified scope m) counts.types m ++ enums_declared (qualified scope m) counts.enums (children_at proto.MESSAGE_ENUM_TYPE m)
+    type_declared (qualified scope m) counts.types m
+    ++ enums_declared (qualified scope m) counts.enums (children_at proto.MESSAGE_ENUM_TYPE m)
     ++ inside (qualified scope m) (inside_type counts m) (inner_types m)
 
 -- message types, nested less deep than that
 abbrev pub types_declared : (depth : ℕ) → (scope : List ℕ) → Counts → List Message → List Declaration
 types_declared zero scope counts ms = []
-types_declared (suc depth) scope counts ms = each_from (behind_type depth scope) (whole_declared (types_declared depth) scope) counts ms
+types_declared (suc depth) scope counts ms =
+    each_from (behind_type depth scope) (whole_declared (types_declared depth) scope) counts ms
 
 -- ---- files
 
@@ -121,7 +126,8 @@ package_declared scope = map package_part (package_parts scope)
 abbrev pub file_declared : (depth : ℕ) → Counts → Message → List Declaration
 file_declared depth counts m =
     package_declared (file_scope m) ++ enums_declared (file_scope m) counts.enums (children_at proto.FILE_ENUM_TYPE m)
-    ++ types_declared depth (file_scope m) (inside_file counts m) (children_at proto.FILE_MESSAGE_TYPE m) ++ services_declared (file_scope m) (children_at proto.FILE_SERVICE m)
+    ++ types_declared depth (file_scope m) (inside_file counts m) (children_at proto.FILE_MESSAGE_TYPE m)
+    ++ services_declared (file_scope m) (children_at proto.FILE_SERVICE m)
 
 abbrev pub files_declared : (depth : ℕ) → Counts → List Message → List Declaration
 files_declared depth counts ms = each_from (behind_file depth) (file_declared depth) counts ms

@@ -1,5 +1,6 @@
--- Why files state no schema, though each is proto3 and has types and labels that are taken: the causes of a bad reference, each with the
--- file, message type, field or method that has it (descriptor.proto; proto3 language guide, "Importing Definitions", "Oneof", "Maps").
+-- Why files state no schema, though each is proto3 and has types and labels that are taken: the causes of a bad
+-- reference, each with the file, message type, field or method that has it (descriptor.proto; proto3 language guide,
+-- "Importing Definitions", "Oneof", "Maps").
 use Rattle.std.specs.Prelude.{◌≡◌, ◌≢◌, ◌↔◌, ◌⊎◌, ◌<◌, ◌≤◌, ◌^◌, ℕ, ⊤, ℤ, pos, Bool, true, false, ◌&&◌, List, [], ◌∷◌, ◌++◌, filter, flat_map, length, map, codes, Option, Some, None, IsSomeAnd}
 use Rattle.std.specs.List.{Any}
 use Rattle.std.specs.Ordering.{int_eq}
@@ -46,40 +47,55 @@ pub data NamesNoType (means : NameLookup) (name : Option (List ℕ)) : Type 0 wh
   no_type : (thing : Named) → meant means name ≡ Some thing → type_of_named thing ≡ None → NamesNoType means name
 
 abbrev pub IsBadMethod : NameLookup → Message → Type 0
-IsBadMethod means m = NamesNoType means (maybe_text_at proto.METHOD_INPUT_TYPE m) ⊎ NamesNoType means (maybe_text_at proto.METHOD_OUTPUT_TYPE m)
+IsBadMethod means m =
+    NamesNoType means (maybe_text_at proto.METHOD_INPUT_TYPE m)
+    ⊎ NamesNoType means (maybe_text_at proto.METHOD_OUTPUT_TYPE m)
 
 -- ---- fields
 
--- the type of a field that is no map: without a name, with one that names nothing, or that names what the code doesn't say
+-- the type of a field that is no map: without a name, with one that names nothing, or that names what the code doesn't
+-- say
 pub data HasBadType (means : NameLookup) (field : Message) : Type 0 where
   -- the code is no scalar's, so a name is wanted
-  without_name : maybe_text_at proto.FIELD_TYPE_NAME field ≡ None → scalar_of (number_at proto.FIELD_TYPE field) ≡ None → HasBadType means field
-  unknown_name : (name : List ℕ) → maybe_text_at proto.FIELD_TYPE_NAME field ≡ Some name → NamesNothing means name → HasBadType means field
+  without_name : maybe_text_at proto.FIELD_TYPE_NAME field ≡ None → scalar_of (number_at proto.FIELD_TYPE field) ≡ None
+      → HasBadType means field
+  unknown_name : (name : List ℕ) → maybe_text_at proto.FIELD_TYPE_NAME field ≡ Some name → NamesNothing means name
+      → HasBadType means field
   -- an entry type
-  no_element : (thing : Named) → meant means (maybe_text_at proto.FIELD_TYPE_NAME field) ≡ Some thing → element_of_named thing ≡ None → HasBadType means field
+  no_element : (thing : Named) → meant means (maybe_text_at proto.FIELD_TYPE_NAME field) ≡ Some thing
+      → element_of_named thing ≡ None → HasBadType means field
   -- the code is a scalar's, or that of the other kind
-  other_kind : (thing : Named) (element : Element) → meant means (maybe_text_at proto.FIELD_TYPE_NAME field) ≡ Some thing → element_of_named thing ≡ Some element →
+  other_kind : (thing : Named) (element : Element)
+      → meant means (maybe_text_at proto.FIELD_TYPE_NAME field) ≡ Some thing → element_of_named thing ≡ Some element →
       int_eq (number_at proto.FIELD_TYPE field) (pos (element_code element)) ≡ false → HasBadType means field
 
 -- the oneof of a field in a message type
 pub data HasBadOneof (type field : Message) : Type 0 where
-  out_of_range : (number : ℤ) → maybe_number_at proto.FIELD_ONEOF_INDEX field ≡ Some number → is_place (oneof_count type) number ≡ false → HasBadOneof type field
+  out_of_range : (number : ℤ) → maybe_number_at proto.FIELD_ONEOF_INDEX field ≡ Some number
+      → is_place (oneof_count type) number ≡ false → HasBadOneof type field
   -- of an `optional` field
-  without_oneof : is_optional field ≡ true → maybe_number_at proto.FIELD_ONEOF_INDEX field ≡ None → HasBadOneof type field
-  not_alone : (place : ℕ) → is_optional field ≡ true → maybe_number_at proto.FIELD_ONEOF_INDEX field ≡ Some (pos place) →
+  without_oneof : is_optional field ≡ true → maybe_number_at proto.FIELD_ONEOF_INDEX field ≡ None
+      → HasBadOneof type field
+  not_alone : (place : ℕ) → is_optional field ≡ true
+      → maybe_number_at proto.FIELD_ONEOF_INDEX field ≡ Some (pos place) →
       members_at place (children_at proto.MESSAGE_FIELD type) ≢ 1 → HasBadOneof type field
   -- of another field: the oneof of an `optional` one, or one whose index 32 bits don't hold
-  of_optional : (place : ℕ) → is_optional field ≡ false → maybe_number_at proto.FIELD_ONEOF_INDEX field ≡ Some (pos place) →
+  of_optional : (place : ℕ) → is_optional field ≡ false
+      → maybe_number_at proto.FIELD_ONEOF_INDEX field ≡ Some (pos place) →
       is_marked (synthetic_places (children_at proto.MESSAGE_FIELD type)) place ≡ true → HasBadOneof type field
-  too_many_oneofs : (place : ℕ) → is_optional field ≡ false → maybe_number_at proto.FIELD_ONEOF_INDEX field ≡ Some (pos place) →
-      2 ^ 32 ≤ unmarked (synthetic_in (children_at proto.MESSAGE_FIELD type) (oneof_count type)) place → HasBadOneof type field
+  too_many_oneofs : (place : ℕ) → is_optional field ≡ false
+      → maybe_number_at proto.FIELD_ONEOF_INDEX field ≡ Some (pos place) →
+      2 ^ 32 ≤ unmarked (synthetic_in (children_at proto.MESSAGE_FIELD type) (oneof_count type)) place
+      → HasBadOneof type field
 
 -- an entry type has two fields, `key` and `value`, and nothing else
 pub data IsBadEntry (means : NameLookup) (entry : Message) : Type 0 where
   not_only_fields : has_fields_alone entry ≡ false → IsBadEntry means entry
   not_two : length (children_at proto.MESSAGE_FIELD entry) ≢ 2 → IsBadEntry means entry
-  bad_key : (key value : Message) → children_at proto.MESSAGE_FIELD entry ≡ key ∷ value ∷ [] → is_entry_field (codes "key") 1 key ≡ false → IsBadEntry means entry
-  bad_value : (key value : Message) → children_at proto.MESSAGE_FIELD entry ≡ key ∷ value ∷ [] → is_entry_field (codes "value") 2 value ≡ false → IsBadEntry means entry
+  bad_key : (key value : Message) → children_at proto.MESSAGE_FIELD entry ≡ key ∷ value ∷ []
+      → is_entry_field (codes "key") 1 key ≡ false → IsBadEntry means entry
+  bad_value : (key value : Message) → children_at proto.MESSAGE_FIELD entry ≡ key ∷ value ∷ []
+      → is_entry_field (codes "value") 2 value ≡ false → IsBadEntry means entry
   bad_item : Any (HasBadType means) (children_at proto.MESSAGE_FIELD entry) → IsBadEntry means entry
 
 -- the qualified name of the field's own entry type
@@ -90,8 +106,11 @@ own_entry_name r field = name_in r.0 (entry_name (text_at proto.FIELD_NAME field
 pub data IsBadMap (means : NameLookup) (r : Row) (field : Message) : Type 0 where
   not_repeated : int_eq (label_at field) (pos 3) ≡ false → IsBadMap means r field
   other_entry : says proto.FIELD_TYPE_NAME field (own_entry_name r field) ≡ false → IsBadMap means r field
-  no_entry : is_among (map (text_at proto.MESSAGE_NAME) (own_entries r.1)) (entry_name (text_at proto.FIELD_NAME field)) ≡ false → IsBadMap means r field
-  bad_entry : (entry : Message) → last_named (own_entries r.1) (entry_name (text_at proto.FIELD_NAME field)) ≡ Some entry → IsBadEntry means entry →
+  no_entry : is_among (map (text_at proto.MESSAGE_NAME) (own_entries r.1)) (entry_name (text_at proto.FIELD_NAME field))
+      ≡ false → IsBadMap means r field
+  bad_entry : (entry : Message)
+      → last_named (own_entries r.1) (entry_name (text_at proto.FIELD_NAME field)) ≡ Some entry
+      → IsBadEntry means entry →
       IsBadMap means r field
 
 -- a field in a message type
@@ -117,8 +136,10 @@ pub data IsBadType (means : NameLookup) (r : Row) : Type 0 where
 -- what files declare, in the order of their imports
 pub data IsBadDeclaration (files : List Message) : Type 0 where
   name_twice : are_distinct (files_names most_deep files) ≡ false → IsBadDeclaration files
-  part_of_package : Any (λ name. is_free_of (files_names most_deep files) name ≡ false) (packages_of files) → IsBadDeclaration files
-  entry_outside : Any (λ m. Any (λ type. is_entry type ≡ true) (children_at proto.FILE_MESSAGE_TYPE m)) files → IsBadDeclaration files
+  part_of_package : Any (λ name. is_free_of (files_names most_deep files) name ≡ false) (packages_of files)
+      → IsBadDeclaration files
+  entry_outside : Any (λ m. Any (λ type. is_entry type ≡ true) (children_at proto.FILE_MESSAGE_TYPE m)) files
+      → IsBadDeclaration files
   too_deep : Any (λ m. nests_within most_deep m ≡ false) files → IsBadDeclaration files
   too_many_types : 2 ^ 32 < length (flat_map (file_types most_deep) files) → IsBadDeclaration files
   too_many_enums : 2 ^ 32 < length (flat_map (file_enums most_deep) files) → IsBadDeclaration files
@@ -133,16 +154,20 @@ pub data IsBadDeclaration (files : List Message) : Type 0 where
 -- each of the paths is an import of the file whose path comes before it
 abbrev pub IsTrail : (leads : List ℕ → Option Paths) → List ℕ → Paths → Type 0
 IsTrail leads path [] = ⊤
-IsTrail leads path (next ∷ paths) = IsSomeAnd (leads path) (λ imports. is_among imports next ≡ true) × IsTrail leads next paths
+IsTrail leads path (next ∷ paths) =
+    IsSomeAnd (leads path) (λ imports. is_among imports next ≡ true) × IsTrail leads next paths
 
 -- The files' paths and imports, or what they declare.
 pub data IsBadReference (skips : Bool) (files : List Message) : Type 0 where
   path_twice : are_distinct (map (text_at proto.FILE_NAME) files) ≡ false → IsBadReference skips files
-  import_twice : Any (λ m. are_distinct (kept_paths skips (texts_at proto.FILE_DEPENDENCY m)) ≡ false) files → IsBadReference skips files
+  import_twice : Any (λ m. are_distinct (kept_paths skips (texts_at proto.FILE_DEPENDENCY m)) ≡ false) files
+      → IsBadReference skips files
   import_missing : Any (λ m. Any (λ path. is_among (map (text_at proto.FILE_NAME) files) path ≡ false) (kept_paths skips (texts_at proto.FILE_DEPENDENCY m))) files →
       IsBadReference skips files
-  imports_go_round : (path : List ℕ) (between : Paths) → IsTrail (imports_at (map (importer_of skips) files)) path (between ++ path ∷ []) → IsBadReference skips files
-  bad_declaration : (ordered : List Message) → in_post_order skips files ≡ Some ordered → IsBadDeclaration ordered → IsBadReference skips files
+  imports_go_round : (path : List ℕ) (between : Paths)
+      → IsTrail (imports_at (map (importer_of skips) files)) path (between ++ path ∷ []) → IsBadReference skips files
+  bad_declaration : (ordered : List Message) → in_post_order skips files ≡ Some ordered → IsBadDeclaration ordered
+      → IsBadReference skips files
 
 -- files state nothing where they have a bad reference, and there alone
 abbrev pub BadReferences : Type 0

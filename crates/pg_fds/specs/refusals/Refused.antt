@@ -28,9 +28,10 @@ abbrev pub BreaksRule : (skips : Bool) → List Message → CheckError → Type 
 BreaksRule skips files e =
     ((parts : Parts) × (stated_of skips files ≡ Some (parts_view parts)) × IsRefusedOf parts e) × (e ≢ rules.Memory)
 
--- What holds of the files of a set, without those that are skipped, the codec aside. A type is reported only where all files are proto3,
--- a bad reference and a rule only where their types and labels are all taken too: a bad reference where it has a cause, which is just where
--- they state nothing (`bad_references`), a rule where what they state breaks it.
+-- What holds of the files of a set, without those that are skipped, the codec aside. A type is reported only where all
+-- files are proto3, a bad reference and a rule only where their types and labels are all taken too: a bad reference
+-- where it has a cause, which is just where they state nothing (`bad_references`), a rule where what they state breaks
+-- it.
 abbrev pub MayRefuseFiles : (skips : Bool) → List Message → FdsError → Type 0
 MayRefuseFiles skips files errors.Memory = ⊤
 MayRefuseFiles skips files (errors.Bytes e) = ⊥
@@ -41,10 +42,12 @@ MayRefuseFiles skips files (errors.Rule e) = (are_taken files ≡ true) × Break
 
 -- that of the message that the bytes are, if they are one, and none in it is too deep
 abbrev pub MayRefuseRead : List ℕ → FdsError → Type 0
-MayRefuseRead bytes e = IsNotTooDeep bytes × IsSomeAnd (dec written_shape file_set bytes) (λ set. MayRefuseFiles (skips set) (kept_files set) e)
+MayRefuseRead bytes e =
+    IsNotTooDeep bytes
+    × IsSomeAnd (dec written_shape file_set bytes) (λ set. MayRefuseFiles (skips set) (kept_files set) e)
 
--- What the codec refuses is a fault of the bytes, with messages nested at most 100 deep, and never a lack of memory. Otherwise the bytes are
--- a message that isn't nested deeper, and what is said above holds of its files.
+-- What the codec refuses is a fault of the bytes, with messages nested at most 100 deep, and never a lack of memory.
+-- Otherwise the bytes are a message that isn't nested deeper, and what is said above holds of its files.
 abbrev pub MayRefuseSet : List ℕ → FdsError → Type 0
 MayRefuseSet bytes errors.Memory = ⊤
 MayRefuseSet bytes (errors.Bytes e) = (e ≢ messages.Memory) × MayRefuse written_shape file_set most_deep bytes e
@@ -57,7 +60,8 @@ MayRefuseSet bytes (errors.Rule e) = MayRefuseRead bytes (errors.Rule e)
 abbrev pub StatesNone : List ℕ → Type 0
 StatesNone bytes = (parts : Parts) → IsSound parts → fds_reads bytes parts → ⊥
 
--- Any fault is reported only where no schema is stated. A lack of memory and messages nested too deep aren't said to be.
+-- Any fault is reported only where no schema is stated. A lack of memory and messages nested too deep aren't said to
+-- be.
 abbrev pub NoneIsStated : List ℕ → FdsError → Type 0
 NoneIsStated bytes errors.Memory = ⊤
 NoneIsStated bytes (errors.Bytes messages.Memory) = ⊤

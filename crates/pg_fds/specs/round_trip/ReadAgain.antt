@@ -10,8 +10,9 @@ use Rattle.pg_fds.specs.stated.Reads.{fds_reads}
 use Rattle.pg_fds.specs.writing.Set.{fds}
 use Rattle.pg_fds.specs.writing.Written.{HasNoSet}
 
--- A schema whose set is read as the same schema: each file imports no path twice and comes after those that it imports, message types are
--- nested at most 64 deep, and message types, enums and services are numbered in the order of a schema that a set states.
+-- A schema whose set is read as the same schema: each file imports no path twice and comes after those that it imports,
+-- message types are nested at most 64 deep, and message types, enums and services are numbered in the order of a schema
+-- that a set states.
 abbrev pub IsReadAgain : Parts → Type 0
 IsReadAgain parts = StandingParts parts
 

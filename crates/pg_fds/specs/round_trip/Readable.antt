@@ -8,8 +8,8 @@ use Rattle.pg_check.specs.standing.InOrder.{StandInOrder}
 use Rattle.pg_check.specs.standing.Nesting.{nest_within}
 use Rattle.pg_check.specs.standing.Places.{most_deep}
 
--- each file imports no path twice and comes after those that it imports, messages are nested at most 100 deep, and all is numbered in the
--- order of a schema that a set states
+-- each file imports no path twice and comes after those that it imports, messages are nested at most 100 deep, and all
+-- is numbered in the order of a schema that a set states
 pub record IsReadable (parts : Parts) : Type 0 where
   pub imports_once : list_all imports_apart parts.files.items ≡ true
   pub behind : AreBehind [] parts.files.items

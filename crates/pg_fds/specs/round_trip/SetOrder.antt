@@ -7,4 +7,5 @@ use Rattle.pg_fds.specs.stated.Reads.{fds_reads}
 
 -- The set of each schema that a set states is read as that schema, where message types are nested at most 64 deep.
 abbrev pub SetsAreReadAgain : Type 0
-SetsAreReadAgain = (bytes : List ℕ) (parts : Parts) → fds_reads bytes parts → are_shallow parts ≡ true → IsReadAgain parts
+SetsAreReadAgain =
+    (bytes : List ℕ) (parts : Parts) → fds_reads bytes parts → are_shallow parts ≡ true → IsReadAgain parts

@@ -7,4 +7,6 @@ use Rattle.pg_fds.specs.round_trip.ReadAgain.{IsReadAgain}
 
 -- the set of each schema that linked files declare is read as that schema
 abbrev pub TextsAreReadAgain : Type 0
-TextsAreReadAgain = (linked : LinkedFiles) (parts : Parts) → IsLinkedUp linked → Declares (linked_sources linked.files) parts → IsReadAgain parts
+TextsAreReadAgain =
+    (linked : LinkedFiles) (parts : Parts) → IsLinkedUp linked → Declares (linked_sources linked.files) parts
+    → IsReadAgain parts

@@ -13,12 +13,14 @@ use Rattle.pg_fds.specs.declared.descriptor.proto.TheConstants as proto
 -- TYPE_DOUBLE and the others up to TYPE_SINT64, without TYPE_GROUP
 abbrev pub type_codes : List ℤ
 type_codes =
-    pos 1 ∷ pos 2 ∷ pos 3 ∷ pos 4 ∷ pos 5 ∷ pos 6 ∷ pos 7 ∷ pos 8 ∷ pos 9 ∷ pos 11 ∷ pos 12 ∷ pos 13 ∷ pos 14 ∷ pos 15 ∷ pos 16 ∷ pos 17 ∷ pos 18 ∷ []
+    pos 1 ∷ pos 2 ∷ pos 3 ∷ pos 4 ∷ pos 5 ∷ pos 6 ∷ pos 7 ∷ pos 8 ∷ pos 9 ∷ pos 11 ∷ pos 12 ∷ pos 13 ∷ pos 14 ∷ pos 15
+    ∷ pos 16 ∷ pos 17 ∷ pos 18 ∷ []
 
 -- the scalars, by rising code
 abbrev pub scalars : List Scalar
 scalars =
-    kinds.Double ∷ kinds.Float ∷ kinds.Int64 ∷ kinds.Uint64 ∷ kinds.Int32 ∷ kinds.Fixed64 ∷ kinds.Fixed32 ∷ kinds.Bool ∷ kinds.String ∷ kinds.Bytes ∷ kinds.Uint32
+    kinds.Double ∷ kinds.Float ∷ kinds.Int64 ∷ kinds.Uint64 ∷ kinds.Int32 ∷ kinds.Fixed64 ∷ kinds.Fixed32 ∷ kinds.Bool
+    ∷ kinds.String ∷ kinds.Bytes ∷ kinds.Uint32
     ∷ kinds.Sfixed32 ∷ kinds.Sfixed64 ∷ kinds.Sint32 ∷ kinds.Sint64 ∷ []
 
 -- LABEL_OPTIONAL, LABEL_REPEATED
@@ -31,7 +33,8 @@ is_taken m = list_any (int_eq (number_at proto.FIELD_TYPE m)) type_codes && list
 
 -- those of a message type's fields, and of what is inside it
 abbrev pub has_types : (List Message → Bool) → Message → Bool
-has_types inside m = list_all is_taken (children_at proto.MESSAGE_FIELD m) && inside (children_at proto.MESSAGE_NESTED_TYPE m)
+has_types inside m =
+    list_all is_taken (children_at proto.MESSAGE_FIELD m) && inside (children_at proto.MESSAGE_NESTED_TYPE m)
 
 -- those of message types, nested less deep than that
 abbrev pub have_types : (depth : ℕ) → List Message → Bool

@@ -1,5 +1,5 @@
--- What messages of files say, and which files of a set are left out of the schema (descriptor.proto). That descriptor.proto is left out is this
--- profile's choice.
+-- What messages of files say, and which files of a set are left out of the schema (descriptor.proto). That
+-- descriptor.proto is left out is this profile's choice.
 use Rattle.std.specs.Prelude.{ℕ, suc, ℤ, pos, negsuc, Bool, false, nat_lt, not, ◌&&◌, List, [], ◌∷◌, codes, filter, if◌then◌else◌}
 use Rattle.std.specs.List.{list_any}
 use Rattle.std.specs.Str.{bytes_eq}
@@ -17,8 +17,10 @@ is_place count (negsuc n) = false
 
 abbrev pub option_places : List ℕ
 option_places =
-    proto.FILE_JAVA_PACKAGE ∷ proto.FILE_JAVA_OUTER_CLASSNAME ∷ proto.FILE_OPTIMIZE_FOR ∷ proto.FILE_JAVA_MULTIPLE_FILES ∷ proto.FILE_GO_PACKAGE
-    ∷ proto.FILE_DEPRECATED ∷ proto.FILE_CC_ENABLE_ARENAS ∷ proto.FILE_OBJC_CLASS_PREFIX ∷ proto.FILE_CSHARP_NAMESPACE ∷ proto.FILE_SWIFT_PREFIX
+    proto.FILE_JAVA_PACKAGE ∷ proto.FILE_JAVA_OUTER_CLASSNAME ∷ proto.FILE_OPTIMIZE_FOR ∷ proto.FILE_JAVA_MULTIPLE_FILES
+    ∷ proto.FILE_GO_PACKAGE
+    ∷ proto.FILE_DEPRECATED ∷ proto.FILE_CC_ENABLE_ARENAS ∷ proto.FILE_OBJC_CLASS_PREFIX ∷ proto.FILE_CSHARP_NAMESPACE
+    ∷ proto.FILE_SWIFT_PREFIX
     ∷ proto.FILE_PHP_CLASS_PREFIX ∷ proto.FILE_PHP_NAMESPACE ∷ proto.FILE_RUBY_PACKAGE ∷ []
 
 -- ---- files
@@ -34,8 +36,8 @@ is_proto3 m = bytes_eq (text_at proto.FILE_SYNTAX m) (codes "proto3")
 abbrev pub is_skipped : Message → Bool
 is_skipped m = is_descriptor (text_at proto.FILE_NAME m) && not (is_proto3 m)
 
--- The paths of imports from an index on, and whether each is among the public ones, which are numbers of indices; without those of
--- descriptor.proto where it is skipped.
+-- The paths of imports from an index on, and whether each is among the public ones, which are numbers of indices;
+-- without those of descriptor.proto where it is skipped.
 abbrev pub kept_imports : (skips : Bool) → (public : List ℤ) → (place : ℕ) → List (List ℕ) → List (List ℕ × Bool)
 kept_imports skips public place [] = []
 kept_imports skips public place (path ∷ paths) =

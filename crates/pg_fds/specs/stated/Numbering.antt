@@ -1,5 +1,5 @@
--- How what files declare is numbered: the indices that each message type and each file keeps, of the message types, enums and services
--- declared in it, which are counted in the order of their rows.
+-- How what files declare is numbered: the indices that each message type and each file keeps, of the message types,
+-- enums and services declared in it, which are counted in the order of their rows.
 use Rattle.std.specs.Prelude.{ℕ, ◌+◌, List, [], ◌∷◌, ◌++◌, length, zero, suc, filter}
 use Rattle.pg_dyn.specs.message.Message.{Message}
 use Rattle.pg_fds.specs.stated.Outlines.{enum_rows, rows_of_enums, rows_of_type, type_rows, Row, row_in, file_enums, file_services, file_types}
@@ -19,7 +19,8 @@ abbrev pub no_counts : Counts
 no_counts = record { types = 0; enums = 0; services = 0 }
 
 -- what each message gives, where each moves the counts on
-abbrev pub each_from : {X : Type 0} → (on : Counts → Message → Counts) → (Counts → Message → List X) → Counts → List Message → List X
+abbrev pub each_from : {X : Type 0} → (on : Counts → Message → Counts) → (Counts → Message → List X) → Counts
+    → List Message → List X
 each_from on give counts [] = []
 each_from on give counts (m ∷ ms) = give counts m ++ each_from on give (on counts m) ms
 
@@ -53,7 +54,8 @@ abbrev pub inner_types : Message → List Message
 inner_types m = filter is_no_entry (children_at proto.MESSAGE_NESTED_TYPE m)
 
 -- a message type and those inside it, with what is in them
-abbrev pub placed_with : (depth : ℕ) → (inside : List ℕ → Counts → List Message → List PlacedType) → (scope : List ℕ) → Counts → Message → List PlacedType
+abbrev pub placed_with : (depth : ℕ) → (inside : List ℕ → Counts → List Message → List PlacedType) → (scope : List ℕ)
+    → Counts → Message → List PlacedType
 placed_with depth inside scope counts m =
     record {
       named = row_in scope m;
@@ -63,7 +65,8 @@ placed_with depth inside scope counts m =
 
 abbrev pub placed_types : (depth : ℕ) → (scope : List ℕ) → Counts → List Message → List PlacedType
 placed_types zero scope counts ms = []
-placed_types (suc depth) scope counts ms = each_from (behind_type depth scope) (placed_with depth (placed_types depth) scope) counts ms
+placed_types (suc depth) scope counts ms =
+    each_from (behind_type depth scope) (placed_with depth (placed_types depth) scope) counts ms
 
 -- ---- files
 

@@ -18,7 +18,8 @@ rows_in scope ms = map (row_in scope) ms
 
 -- a message type's, and then those of the types inside it
 abbrev pub rows_of_type : (inside : List ℕ → List Message → List Row) → (scope : List ℕ) → Message → List Row
-rows_of_type inside scope m = row_in scope m ∷ inside (qualified scope m) (filter is_no_entry (children_at proto.MESSAGE_NESTED_TYPE m))
+rows_of_type inside scope m =
+    row_in scope m ∷ inside (qualified scope m) (filter is_no_entry (children_at proto.MESSAGE_NESTED_TYPE m))
 
 -- message types, nested less deep than that
 abbrev pub type_rows : (depth : ℕ) → (scope : List ℕ) → List Message → List Row
@@ -27,7 +28,9 @@ type_rows (suc depth) scope ms = flat_map (rows_of_type (type_rows depth) scope)
 
 -- the enums of a message type, and then those of the types inside it
 abbrev pub rows_of_enums : (inside : List ℕ → List Message → List Row) → (scope : List ℕ) → Message → List Row
-rows_of_enums inside scope m = rows_in (qualified scope m) (children_at proto.MESSAGE_ENUM_TYPE m) ++ inside (qualified scope m) (filter is_no_entry (children_at proto.MESSAGE_NESTED_TYPE m))
+rows_of_enums inside scope m =
+    rows_in (qualified scope m) (children_at proto.MESSAGE_ENUM_TYPE m)
+    ++ inside (qualified scope m) (filter is_no_entry (children_at proto.MESSAGE_NESTED_TYPE m))
 
 -- the enums in message types, nested less deep than that
 abbrev pub enum_rows : (depth : ℕ) → (scope : List ℕ) → List Message → List Row
@@ -40,7 +43,9 @@ abbrev pub file_types : (depth : ℕ) → Message → List Row
 file_types depth m = type_rows depth (file_scope m) (children_at proto.FILE_MESSAGE_TYPE m)
 
 abbrev pub file_enums : (depth : ℕ) → Message → List Row
-file_enums depth m = rows_in (file_scope m) (children_at proto.FILE_ENUM_TYPE m) ++ enum_rows depth (file_scope m) (children_at proto.FILE_MESSAGE_TYPE m)
+file_enums depth m =
+    rows_in (file_scope m) (children_at proto.FILE_ENUM_TYPE m)
+    ++ enum_rows depth (file_scope m) (children_at proto.FILE_MESSAGE_TYPE m)
 
 abbrev pub file_services : Message → List Row
 file_services m = rows_in (file_scope m) (children_at proto.FILE_SERVICE m)

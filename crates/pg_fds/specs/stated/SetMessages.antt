@@ -1,5 +1,5 @@
--- What a message of a descriptor set says, by the numbers of its fields. A field that is missing says its default. Unknown records, and
--- fields that no fact of a set asks for, say nothing.
+-- What a message of a descriptor set says, by the numbers of its fields. A field that is missing says its default.
+-- Unknown records, and fields that no fact of a set asks for, say nothing.
 use Rattle.std.specs.Prelude.{ℕ, ◌^◌, nat_lt, ℤ, pos, negsuc, Bool, false, not, List, [], map, filter, filter_map, Option, Some, None, option_map, slice_get, if◌then◌else◌}
 use Rattle.std.specs.Option.{unwrap_or}
 use Rattle.std.specs.Ordering.{int_eq}
@@ -76,7 +76,8 @@ flag_at number m = unwrap_or (maybe_flag_at number m) false
 abbrev pub options_at : ℕ → Message → Message
 options_at number m = unwrap_or (option_map child_of (item_at number m)) (ends [])
 
--- The number of a field or of an end of a range. One that isn't above 0, or that 32 bits don't hold, comes to 0, which no rule takes.
+-- The number of a field or of an end of a range. One that isn't above 0, or that 32 bits don't hold, comes to 0, which
+-- no rule takes.
 abbrev pub natural : ℤ → ℕ
 natural (pos n) = if nat_lt n (2 ^ 32) then n else 0
 natural (negsuc n) = 0

@@ -1,7 +1,7 @@
--- The fully-qualified names that the messages of a set declare, in the order in which they are declared (descriptor.proto,
--- `FieldDescriptorProto.type_name`; proto3 language guide, "Enumerations": the values of an enum are siblings of its name). Of each name on
--- the way from the outermost scope they have a dot and the name. So that names of two scopes differ, whatever string a name is, a backslash
--- comes before each dot and each backslash in one.
+-- The fully-qualified names that the messages of a set declare, in the order in which they are declared
+-- (descriptor.proto, `FieldDescriptorProto.type_name`; proto3 language guide, "Enumerations": the values of an enum are
+-- siblings of its name). Of each name on the way from the outermost scope they have a dot and the name. So that names
+-- of two scopes differ, whatever string a name is, a backslash comes before each dot and each backslash in one.
 use Rattle.std.specs.Prelude.{ℕ, nat_eq, List, [], ◌∷◌, map, if◌then◌else◌, Bool, ◌||◌, ◌++◌, ◌≡◌, flat_map, filter, zero, suc}
 use Rattle.pg_fds.specs.writing.Fields.{dotted}
 use Rattle.pg_dyn.specs.message.Message.{Message}
@@ -12,9 +12,12 @@ use Rattle.pg_fds.specs.declared.descriptor.proto.TheConstants as proto
 -- what comes before each dot of a name, and the whole
 abbrev pub fronts : List ℕ → List (List ℕ)
 fronts [] = [] ∷ []
-fronts (byte ∷ bytes) = if nat_eq byte 46 then [] ∷ map (λ front. byte ∷ front) (fronts bytes) else map (λ front. byte ∷ front) (fronts bytes)
+fronts (byte ∷ bytes) =
+    if nat_eq byte 46 then []
+    ∷ map (λ front. byte ∷ front) (fronts bytes) else map (λ front. byte ∷ front) (fronts bytes)
 
--- The parts of a package, by its scope: what comes before each dot but the first, and the whole. Of the outermost scope there are none.
+-- The parts of a package, by its scope: what comes before each dot but the first, and the whole. Of the outermost scope
+-- there are none.
 abbrev pub package_parts : (scope : List ℕ) → List (List ℕ)
 package_parts [] = []
 package_parts (byte ∷ bytes) = map (λ front. byte ∷ front) (fronts bytes)
@@ -63,7 +66,8 @@ pub data IsScope : List ℕ → Type 0 where
 -- a qualified name is that of just one name in one scope
 abbrev pub NamesApart : Type 0
 NamesApart =
-    (scope other name another : List ℕ) → IsScope scope → IsScope other → name_in scope name ≡ name_in other another → (scope ≡ other) × (name ≡ another)
+    (scope other name another : List ℕ) → IsScope scope → IsScope other → name_in scope name ≡ name_in other another
+    → (scope ≡ other) × (name ≡ another)
 
 -- ---- the names of a set
 
@@ -80,12 +84,14 @@ member_names full m = qualified_names full (children_at proto.MESSAGE_FIELD m) +
 
 -- and of its entry types, without those of what it has inside
 abbrev pub own_names : (full : List ℕ) → Message → List (List ℕ)
-own_names full m = full ∷ member_names full m ++ qualified_names full (filter is_entry (children_at proto.MESSAGE_NESTED_TYPE m))
+own_names full m =
+    full ∷ member_names full m ++ qualified_names full (filter is_entry (children_at proto.MESSAGE_NESTED_TYPE m))
 
 -- with those of its enums and of the types inside it
 abbrev pub type_names : (inside : List ℕ → List Message → List (List ℕ)) → (scope : List ℕ) → Message → List (List ℕ)
 type_names inside scope m =
-    own_names (qualified scope m) m ++ enums_names (qualified scope m) (children_at proto.MESSAGE_ENUM_TYPE m) ++ inside (qualified scope m) (filter is_no_entry (children_at proto.MESSAGE_NESTED_TYPE m))
+    own_names (qualified scope m) m ++ enums_names (qualified scope m) (children_at proto.MESSAGE_ENUM_TYPE m)
+    ++ inside (qualified scope m) (filter is_no_entry (children_at proto.MESSAGE_NESTED_TYPE m))
 
 -- those of message types nested less deep than that
 abbrev pub types_names : (depth : ℕ) → (scope : List ℕ) → List Message → List (List ℕ)
@@ -102,7 +108,8 @@ services_names scope ms = flat_map (service_names scope) ms
 -- those of a file, with message types nested less deep than that
 abbrev pub file_names : (depth : ℕ) → Message → List (List ℕ)
 file_names depth m =
-    enums_names (file_scope m) (children_at proto.FILE_ENUM_TYPE m) ++ types_names depth (file_scope m) (children_at proto.FILE_MESSAGE_TYPE m)
+    enums_names (file_scope m) (children_at proto.FILE_ENUM_TYPE m)
+    ++ types_names depth (file_scope m) (children_at proto.FILE_MESSAGE_TYPE m)
     ++ services_names (file_scope m) (children_at proto.FILE_SERVICE m)
 
 abbrev pub files_names : (depth : ℕ) → List Message → List (List ℕ)

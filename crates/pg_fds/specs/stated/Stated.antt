@@ -1,5 +1,6 @@
--- The schema that a set states, as a function of its message (descriptor.proto; docs/PROOFS.md, "Descriptor sets"). Nothing where an import
--- or a name isn't there, occurs twice or is of another kind, or where a form isn't kept. Which rules the parts keep isn't asked here.
+-- The schema that a set states, as a function of its message (descriptor.proto; docs/PROOFS.md, "Descriptor sets").
+-- Nothing where an import or a name isn't there, occurs twice or is of another kind, or where a form isn't kept. Which
+-- rules the parts keep isn't asked here.
 use Rattle.std.specs.Prelude.{Bool, ◌&&◌, List, flat_map, map, Option, option_map}
 use Rattle.std.specs.List.{list_all}
 use Rattle.std.specs.Option.{option_and_then}
@@ -24,13 +25,14 @@ abbrev pub parts_of : List TypeView → List EnumView → List ServiceView → L
 parts_of types enums services files = record { files = files; types = types; enums = enums; services = services }
 
 -- the parts of these files, message types, enums and services, by what names mean
-abbrev pub parts_by : NameLookup → (skips : Bool) → List PlacedFile → List PlacedType → (enums services : List Row) → Option PartsView
+abbrev pub parts_by : NameLookup → (skips : Bool) → List PlacedFile → List PlacedType → (enums services : List Row)
+    → Option PartsView
 parts_by means skips files types enums services =
     option_and_then (λ made. option_and_then (λ named. option_map (λ called. parts_of named (map enum_type enums) called made)
     (each (service means) services)) (each (message_type means) types)) (each (file skips) files)
 
--- What the files declare, taken in this order. Indices are counted: those of message types and services in order of declaration, of enums
--- scope by scope.
+-- What the files declare, taken in this order. Indices are counted: those of message types and services in order of
+-- declaration, of enums scope by scope.
 abbrev pub declared_by : (skips : Bool) → List Message → Option PartsView
 declared_by skips files =
     only_if (may_declare most_deep files)

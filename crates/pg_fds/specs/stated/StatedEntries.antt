@@ -1,5 +1,6 @@
--- The items of a set's fields and its entry types, as a function of its messages (descriptor.proto, `FieldDescriptorProto`; proto3 language
--- guide). Nothing where a type isn't there or is of another kind, or where an entry type hasn't its form, which is this profile's choice.
+-- The items of a set's fields and its entry types, as a function of its messages (descriptor.proto,
+-- `FieldDescriptorProto`; proto3 language guide). Nothing where a type isn't there or is of another kind, or where an
+-- entry type hasn't its form, which is this profile's choice.
 use Rattle.std.specs.Prelude.{ℕ, ℤ, pos, Bool, not, ◌&&◌, nat_eq, List, [], ◌∷◌, find, length, codes, Option, Some, None, is_some, option_map, if◌then◌else◌}
 use Rattle.std.specs.Option.{option_and_then, unwrap_or}
 use Rattle.std.specs.Ordering.{int_eq}
@@ -56,14 +57,17 @@ may_say number m stated = bytes_eq (unwrap_or (maybe_text_at number m) stated) s
 -- the field `key` or `value` of an entry type, but for its items: it has no options, and is in no oneof
 abbrev pub is_entry_field : (called : List ℕ) → (place : ℕ) → Message → Bool
 is_entry_field called place m =
-    says proto.FIELD_NAME m called && int_eq (number_at proto.FIELD_NUMBER m) (pos place) && int_eq (label_at m) (pos 1) && is_empty (options_at proto.FIELD_OPTIONS m)
+    says proto.FIELD_NAME m called && int_eq (number_at proto.FIELD_NUMBER m) (pos place) && int_eq (label_at m) (pos 1)
+    && is_empty (options_at proto.FIELD_OPTIONS m)
     && lacks proto.FIELD_ONEOF_INDEX m && may_say proto.FIELD_JSON_NAME m called && not (is_optional m)
 
 -- an entry type has nothing but fields
 abbrev pub has_fields_alone : Message → Bool
 has_fields_alone m =
-    lacks_all proto.MESSAGE_NESTED_TYPE m && lacks_all proto.MESSAGE_ENUM_TYPE m && not (is_some (maybe_flag_at proto.MESSAGE_DEPRECATED (options_at proto.MESSAGE_OPTIONS m)))
-    && lacks_all proto.MESSAGE_ONEOF_DECL m && lacks_all proto.MESSAGE_RESERVED_RANGE m && lacks_all proto.MESSAGE_RESERVED_NAME m
+    lacks_all proto.MESSAGE_NESTED_TYPE m && lacks_all proto.MESSAGE_ENUM_TYPE m
+    && not (is_some (maybe_flag_at proto.MESSAGE_DEPRECATED (options_at proto.MESSAGE_OPTIONS m)))
+    && lacks_all proto.MESSAGE_ONEOF_DECL m && lacks_all proto.MESSAGE_RESERVED_RANGE m
+    && lacks_all proto.MESSAGE_RESERVED_NAME m
 
 -- a type that may not be a key is said as that of floats, which may not either: that is a rule
 abbrev pub key_of : Element → Scalar

@@ -1,5 +1,5 @@
--- The fields that a set states, as a function of its messages (descriptor.proto, `FieldDescriptorProto`; proto3 language guide). Nothing
--- where items, the oneof or the entry type of one aren't as they have to be.
+-- The fields that a set states, as a function of its messages (descriptor.proto, `FieldDescriptorProto`; proto3
+-- language guide). Nothing where items, the oneof or the entry type of one aren't as they have to be.
 use Rattle.std.specs.Prelude.{ℕ, ◌||◌, ◌&&◌, pos, Bool, not, nat_eq, List, filter, length, Option, Some, is_some, option_map, if◌then◌else◌}
 use Rattle.std.specs.List.{list_all}
 use Rattle.std.specs.Option.{option_and_then}
@@ -47,8 +47,8 @@ plain_items means m member = option_and_then (λ e. option_map (λ p. (p, e)) (p
 
 -- ---- maps
 
--- What the fields of a message type are made with: its qualified name; which of its oneofs are synthetic, and how many fields name each; its
--- entry types by their names.
+-- What the fields of a message type are made with: its qualified name; which of its oneofs are synthetic, and how many
+-- fields name each; its entry types by their names.
 pub record Owner : Type 0 where
   pub full : List ℕ
   pub synthetic : List Bool
@@ -57,12 +57,15 @@ pub record Owner : Type 0 where
 
 -- the field's type is an entry type
 abbrev pub is_map_field : NameLookup → Message → Bool
-is_map_field means m = is_entry_type (meant means (maybe_text_at proto.FIELD_TYPE_NAME m)) && int_eq (number_at proto.FIELD_TYPE m) (pos message_code)
+is_map_field means m =
+    is_entry_type (meant means (maybe_text_at proto.FIELD_TYPE_NAME m))
+    && int_eq (number_at proto.FIELD_TYPE m) (pos message_code)
 
 -- it is repeated, and its type the entry type of its own name in its own message type
 abbrev pub names_its_entry : Owner → Message → Bool
 names_its_entry o m =
-    int_eq (label_at m) (pos 3) && not (is_optional m) && says proto.FIELD_TYPE_NAME m (name_in o.full (entry_name (text_at proto.FIELD_NAME m)))
+    int_eq (label_at m) (pos 3) && not (is_optional m)
+    && says proto.FIELD_TYPE_NAME m (name_in o.full (entry_name (text_at proto.FIELD_NAME m)))
 
 abbrev pub map_of : Scalar × Element → Items
 map_of e = (presences.Map e.0, e.1)
@@ -89,7 +92,8 @@ field_of m own items = record {
 }
 
 abbrev pub field : NameLookup → Owner → Message → Option FieldView
-field means o m = option_and_then (λ own. option_map (field_of m own) (items means o m (is_some own))) (oneof o.synthetic o.members m)
+field means o m =
+    option_and_then (λ own. option_map (field_of m own) (items means o m (is_some own))) (oneof o.synthetic o.members m)
 
 abbrev pub is_map_view : FieldView → Bool
 is_map_view f = is_map f.presence
@@ -104,4 +108,5 @@ is_named_once fs entry = nat_eq (length (filter (is_map_of (text_at proto.MESSAG
 
 -- the fields of a message type with these entry types: each of those is that of just one field
 abbrev pub fields : NameLookup → Owner → (entries : List Message) → List Message → Option (List FieldView)
-fields means o entries ms = option_and_then (λ fs. only_if (list_all (is_named_once fs) entries) (Some fs)) (each (field means o) ms)
+fields means o entries ms =
+    option_and_then (λ fs. only_if (list_all (is_named_once fs) entries) (Some fs)) (each (field means o) ms)

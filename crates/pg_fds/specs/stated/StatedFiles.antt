@@ -1,4 +1,5 @@
--- The files that a set states, as a function of its messages (descriptor.proto, `FileDescriptorProto` and `FileOptions`).
+-- The files that a set states, as a function of its messages (descriptor.proto, `FileDescriptorProto` and
+-- `FileOptions`).
 use Rattle.std.specs.Prelude.{ℕ, ℤ, pos, Bool, nat_eq, not, List, [], filter_map, length, map, Option, Some, None, option_map, if◌then◌else◌}
 use Rattle.std.specs.List.{list_all}
 use Rattle.std.specs.Ordering.{int_eq}
@@ -49,7 +50,8 @@ options_under m numbers = filter_map (λ number. option_map (option_of number) (
 
 -- public ones are named by their indices among the imports
 abbrev pub has_public_places : Message → Bool
-has_public_places m = list_all (is_place (length (texts_at proto.FILE_DEPENDENCY m))) (numbers_at proto.FILE_PUBLIC_DEPENDENCY m)
+has_public_places m =
+    list_all (is_place (length (texts_at proto.FILE_DEPENDENCY m))) (numbers_at proto.FILE_PUBLIC_DEPENDENCY m)
 
 abbrev pub import_seen : List ℕ × Bool → ImportView
 import_seen i = record { path = i.0; is_public = i.1 }

@@ -45,7 +45,8 @@ type_of_named (nameds.Enum id) = None
 type_of_named nameds.Entry = None
 type_of_named nameds.Other = None
 
--- What the name in a message means, where there is one. A qualified name begins with a dot, so one that doesn't means nothing.
+-- What the name in a message means, where there is one. A qualified name begins with a dot, so one that doesn't means
+-- nothing.
 abbrev pub meant : NameLookup → Option (List ℕ) → Option Named
 meant means name = option_and_then means name
 

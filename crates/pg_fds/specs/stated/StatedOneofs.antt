@@ -1,5 +1,5 @@
--- The oneofs that a set's fields are in, as a function of its messages (descriptor.proto, `FieldDescriptorProto.oneof_index` and
--- `proto3_optional`).
+-- The oneofs that a set's fields are in, as a function of its messages (descriptor.proto,
+-- `FieldDescriptorProto.oneof_index` and `proto3_optional`).
 use Rattle.std.specs.Prelude.{Bool, true, false, not, Option, Some, None, ℕ, ℤ, pos, negsuc, List, slice_get, if◌then◌else◌, ◌^◌, nat_lt, filter, length, take, option_map, nat_eq, slice_index, map}
 use Rattle.std.specs.Option.{option_and_then}
 use Rattle.pg_fds.specs.stated.StatedNames.{only_if}
@@ -29,7 +29,8 @@ unmarked marks place = length (filter not (take place marks))
 
 -- the index among the real oneofs of the one that a number says
 abbrev pub real_place : (synthetic : List Bool) → ℤ → Option ℕ
-real_place synthetic number = option_and_then (λ place. small (unmarked synthetic place)) (place_marked synthetic false number)
+real_place synthetic number =
+    option_and_then (λ place. small (unmarked synthetic place)) (place_marked synthetic false number)
 
 -- of a field that isn't `optional`
 abbrev pub real_oneof : (synthetic : List Bool) → Option ℤ → Option (Option ℕ)
@@ -41,7 +42,8 @@ abbrev pub own_oneof : (synthetic : List Bool) → (members : List ℕ) → Opti
 own_oneof synthetic members None = None
 own_oneof synthetic members (Some number) = option_and_then (λ place. only_if (nat_eq (slice_index members place) 1) (Some None)) (place_marked synthetic true number)
 
--- The real oneof of a field, by its index among those, where it is known of each oneof whether it is synthetic and how many fields name it.
+-- The real oneof of a field, by its index among those, where it is known of each oneof whether it is synthetic and how
+-- many fields name it.
 abbrev pub oneof : (synthetic : List Bool) → (members : List ℕ) → Message → Option (Option ℕ)
 oneof synthetic members m =
     if is_optional m then own_oneof synthetic members (maybe_number_at proto.FIELD_ONEOF_INDEX m) else real_oneof synthetic (maybe_number_at proto.FIELD_ONEOF_INDEX m)

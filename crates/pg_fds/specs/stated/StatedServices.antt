@@ -1,5 +1,5 @@
--- The services that a set states, as a function of its messages (descriptor.proto, `ServiceDescriptorProto`). None where what a method
--- names is no message type.
+-- The services that a set states, as a function of its messages (descriptor.proto, `ServiceDescriptorProto`). None
+-- where what a method names is no message type.
 use Rattle.std.specs.Prelude.{List, Option, option_map}
 use Rattle.pg_schema.specs.declared.parts.field.TypeId.{TypeId}
 use Rattle.pg_dyn.specs.message.Message.{Message}

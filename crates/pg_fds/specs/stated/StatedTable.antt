@@ -1,5 +1,6 @@
--- What the names of a set mean, and when all that its files declare may be in one table: names occur once, 32 bits hold the
--- indices, `optional` fields name oneofs that are there, entry types are in message types, and no message type is nested too deep.
+-- What the names of a set mean, and when all that its files declare may be in one table: names occur once, 32 bits hold
+-- the indices, `optional` fields name oneofs that are there, entry types are in message types, and no message type is
+-- nested too deep.
 use Rattle.std.specs.Prelude.{ℕ, zero, suc, ◌^◌, Bool, true, false, ◌&&◌, nat_eq, nat_lt, List, [], ◌∷◌, filter, flat_map, length, map, Option, Some, None, option_map, if◌then◌else◌}
 use Rattle.std.specs.List.{list_all, position_from}
 use Rattle.std.specs.Str.{bytes_eq}
@@ -34,7 +35,8 @@ type_named place = nameds.Type (record { index = place })
 abbrev pub enum_named : ℕ → Named
 enum_named place = nameds.Enum (record { index = place })
 
--- What a name means where these are the message types and enums, in the order of their indices: one of them, or an entry type.
+-- What a name means where these are the message types and enums, in the order of their indices: one of them, or an
+-- entry type.
 abbrev pub meaning : (types enums : List Row) → NameLookup
 meaning types enums name =
     first_of (option_map type_named (place_of (names_of types) name))
@@ -53,7 +55,8 @@ packages_of files = filter has_name (map file_scope files)
 
 -- all names of the files occur once, and none is a part of a package
 abbrev pub are_free : (depth : ℕ) → List Message → Bool
-are_free depth files = are_distinct (files_names depth files) && list_all (is_free_of (files_names depth files)) (packages_of files)
+are_free depth files =
+    are_distinct (files_names depth files) && list_all (is_free_of (files_names depth files)) (packages_of files)
 
 -- no entry type is outside of message types
 abbrev pub has_no_entries : Message → Bool
@@ -62,7 +65,8 @@ has_no_entries m = nat_eq (length (filter is_entry (children_at proto.FILE_MESSA
 -- message types are nested less deep than that
 abbrev pub nest_within : (depth : ℕ) → List Message → Bool
 nest_within zero ms = nat_eq (length ms) 0
-nest_within (suc depth) ms = list_all (λ m. nest_within depth (filter is_no_entry (children_at proto.MESSAGE_NESTED_TYPE m))) ms
+nest_within (suc depth) ms =
+    list_all (λ m. nest_within depth (filter is_no_entry (children_at proto.MESSAGE_NESTED_TYPE m))) ms
 
 -- those of a file
 abbrev pub nests_within : (depth : ℕ) → Message → Bool
@@ -79,5 +83,7 @@ names_oneofs r = list_all (is_place (length (children_at proto.MESSAGE_ONEOF_DEC
 -- all that the files declare may be in one table, and message types are nested less deep than that
 abbrev pub may_declare : (depth : ℕ) → List Message → Bool
 may_declare depth files =
-    are_free depth files && list_all has_no_entries files && list_all (nests_within depth) files && list_all names_oneofs (flat_map (file_types depth) files)
-    && few (length (flat_map (file_types depth) files)) && few (length (flat_map (file_enums depth) files)) && few (length (flat_map file_services files))
+    are_free depth files && list_all has_no_entries files && list_all (nests_within depth) files
+    && list_all names_oneofs (flat_map (file_types depth) files)
+    && few (length (flat_map (file_types depth) files)) && few (length (flat_map (file_enums depth) files))
+    && few (length (flat_map file_services files))

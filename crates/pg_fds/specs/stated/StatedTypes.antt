@@ -20,7 +20,8 @@ use Rattle.pg_fds.specs.stated.Views.{FieldView, TypeView}
 -- the last message of that name; names of a set occur once
 abbrev pub last_named : List Message → List ℕ → Option Message
 last_named [] name = None
-last_named (m ∷ ms) name = first_of (last_named ms name) (if bytes_eq (text_at proto.MESSAGE_NAME m) name then Some m else None)
+last_named (m ∷ ms) name =
+    first_of (last_named ms name) (if bytes_eq (text_at proto.MESSAGE_NAME m) name then Some m else None)
 
 abbrev pub own_entries : Message → List Message
 own_entries m = filter is_entry (children_at proto.MESSAGE_NESTED_TYPE m)

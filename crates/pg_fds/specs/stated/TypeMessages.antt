@@ -1,5 +1,5 @@
--- What messages of fields, oneofs and message types say: a field's label and JSON name, which oneofs are synthetic, which types are entries
--- (descriptor.proto).
+-- What messages of fields, oneofs and message types say: a field's label and JSON name, which oneofs are synthetic,
+-- which types are entries (descriptor.proto).
 use Rattle.std.specs.Prelude.{ℤ, pos, ℕ, List, negsuc, Bool, false, nat_eq, filter, filter_map, suc, [], ◌∷◌, if◌then◌else◌, Option, None, Some, length, not}
 use Rattle.std.specs.Option.{unwrap_or}
 use Rattle.std.specs.List.{list_any}
@@ -40,7 +40,8 @@ synthetic_places fields = filter_map (maybe_number_at proto.FIELD_ONEOF_INDEX) (
 -- the oneofs at indices that aren't marked, counted from that of the first
 abbrev pub real_oneofs : List ℤ → (place : ℕ) → List Message → List Message
 real_oneofs marked place [] = []
-real_oneofs marked place (m ∷ ms) = if is_marked marked place then real_oneofs marked (suc place) ms else m ∷ real_oneofs marked (suc place) ms
+real_oneofs marked place (m ∷ ms) =
+    if is_marked marked place then real_oneofs marked (suc place) ms else m ∷ real_oneofs marked (suc place) ms
 
 -- the number, where there is one, is that of the index
 abbrev pub is_named : (place : ℕ) → Option ℤ → Bool

@@ -15,7 +15,8 @@ use Rattle.pg_fds.specs.declared.descriptor.proto.TheConstants as proto
 -- `key` 1 and `value` 2: label OPTIONAL, and a JSON name
 abbrev pub entry_field : Declared → (name : List ℕ) → (number : ℕ) → Element → Items
 entry_field all name number element =
-    text proto.FIELD_NAME name ++ count proto.FIELD_NUMBER number ++ count proto.FIELD_LABEL 1 ++ count proto.FIELD_TYPE (element_code element) ++ maybe_text proto.FIELD_TYPE_NAME (element_name all element)
+    text proto.FIELD_NAME name ++ count proto.FIELD_NUMBER number ++ count proto.FIELD_LABEL 1
+    ++ count proto.FIELD_TYPE (element_code element) ++ maybe_text proto.FIELD_TYPE_NAME (element_name all element)
     ++ text proto.FIELD_JSON_NAME name
 
 -- of a map field; other fields have none

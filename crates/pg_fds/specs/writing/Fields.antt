@@ -87,8 +87,10 @@ oneof_place next f = if f.states_optional then Some next else f.oneof
 -- a field of a message of that full name
 abbrev pub field_items : Declared → (scope : List ℕ) → (next : ℕ) → Field → Items
 field_items all scope next f =
-    text proto.FIELD_NAME (string_bytes f.name) ++ count proto.FIELD_NUMBER f.number ++ count proto.FIELD_LABEL (label f.presence) ++ count proto.FIELD_TYPE (type_code f.presence f.element)
-    ++ maybe_text proto.FIELD_TYPE_NAME (named_type all scope f) ++ options proto.FIELD_OPTIONS (field_options f.options) ++ maybe_count proto.FIELD_ONEOF_INDEX (oneof_place next f)
+    text proto.FIELD_NAME (string_bytes f.name) ++ count proto.FIELD_NUMBER f.number
+    ++ count proto.FIELD_LABEL (label f.presence) ++ count proto.FIELD_TYPE (type_code f.presence f.element)
+    ++ maybe_text proto.FIELD_TYPE_NAME (named_type all scope f)
+    ++ options proto.FIELD_OPTIONS (field_options f.options) ++ maybe_count proto.FIELD_ONEOF_INDEX (oneof_place next f)
     ++ text proto.FIELD_JSON_NAME (string_bytes f.json_name) ++ mark proto.FIELD_PROTO3_OPTIONAL f.states_optional
 
 -- fields in order of declaration, with the index of the first one's synthetic oneof

@@ -39,7 +39,9 @@ where_found f (Some x) = f x ∷ []
 -- ---- enums
 
 abbrev pub value_items : EnumValue → Items
-value_items v = text proto.VALUE_NAME (string_bytes v.name) ++ whole proto.VALUE_NUMBER v.number ++ options proto.VALUE_OPTIONS (stated proto.VALUE_DEPRECATED v.options.deprecated)
+value_items v =
+    text proto.VALUE_NAME (string_bytes v.name) ++ whole proto.VALUE_NUMBER v.number
+    ++ options proto.VALUE_OPTIONS (stated proto.VALUE_DEPRECATED v.options.deprecated)
 
 -- both ends are reserved too
 abbrev pub value_range : ReservedValues → Items
@@ -51,8 +53,10 @@ enum_options o = stated proto.ENUM_ALLOW_ALIAS o.allow_alias ++ stated proto.ENU
 
 abbrev pub enum_items : EnumType → Items
 enum_items e =
-    text proto.ENUM_NAME (own_name (string_bytes e.name)) ++ children proto.ENUM_VALUE (map value_items e.values.items) ++ options proto.ENUM_OPTIONS (enum_options e.options)
-    ++ children proto.ENUM_RESERVED_RANGE (map value_range e.reserved_numbers.items) ++ texts proto.ENUM_RESERVED_NAME (map string_bytes e.reserved_names.items)
+    text proto.ENUM_NAME (own_name (string_bytes e.name)) ++ children proto.ENUM_VALUE (map value_items e.values.items)
+    ++ options proto.ENUM_OPTIONS (enum_options e.options)
+    ++ children proto.ENUM_RESERVED_RANGE (map value_range e.reserved_numbers.items)
+    ++ texts proto.ENUM_RESERVED_NAME (map string_bytes e.reserved_names.items)
 
 -- the enums at these indices
 abbrev pub enums_items : Declared → List EnumId → List Items
@@ -70,12 +74,14 @@ own_type_name t = own_name (string_bytes t.name)
 abbrev pub own_enum_name : EnumType → List ℕ
 own_enum_name e = own_name (string_bytes e.name)
 
--- what a message type declares, by names in its scope: fields, oneofs, entry types, message types, enums and their values
+-- what a message type declares, by names in its scope: fields, oneofs, entry types, message types, enums and their
+-- values
 abbrev pub names_within : Declared → MessageType → List (List ℕ)
 names_within all t =
     field_names t.fields.items ++ map string_bytes t.oneofs.items ++ entry_names t.fields.items
     ++ flat_map (λ (id : TypeId). where_found own_type_name (slice_get all.types id.index)) t.nested_types.items
-    ++ flat_map (λ (id : EnumId). where_found own_enum_name (slice_get all.enums id.index)) t.nested_enums.items ++ values_at all.enums t.nested_enums.items
+    ++ flat_map (λ (id : EnumId). where_found own_enum_name (slice_get all.enums id.index)) t.nested_enums.items
+    ++ values_at all.enums t.nested_enums.items
 
 -- the real ones, and then the synthetic ones
 abbrev pub oneof_names : Declared → MessageType → List (List ℕ)
@@ -91,13 +97,17 @@ field_range r = count proto.RANGE_START r.first ++ count proto.RANGE_END (suc r.
 -- a message type with these message types inside it; after them are its entry types
 abbrev pub type_items : Declared → List Items → MessageType → Items
 type_items all nested t =
-    text proto.MESSAGE_NAME (own_type_name t) ++ children proto.MESSAGE_FIELD (fields_items all (string_bytes t.name) (length t.oneofs.items) (declared_fields t))
-    ++ children proto.MESSAGE_NESTED_TYPE (nested ++ entries all (declared_fields t)) ++ children proto.MESSAGE_ENUM_TYPE (enums_items all t.nested_enums.items)
-    ++ options proto.MESSAGE_OPTIONS (stated proto.MESSAGE_DEPRECATED t.options.deprecated) ++ children proto.MESSAGE_ONEOF_DECL (map oneof_items (oneof_names all t))
-    ++ children proto.MESSAGE_RESERVED_RANGE (map field_range t.reserved_numbers.items) ++ texts proto.MESSAGE_RESERVED_NAME (map string_bytes t.reserved_names.items)
+    text proto.MESSAGE_NAME (own_type_name t)
+    ++ children proto.MESSAGE_FIELD (fields_items all (string_bytes t.name) (length t.oneofs.items) (declared_fields t))
+    ++ children proto.MESSAGE_NESTED_TYPE (nested ++ entries all (declared_fields t))
+    ++ children proto.MESSAGE_ENUM_TYPE (enums_items all t.nested_enums.items)
+    ++ options proto.MESSAGE_OPTIONS (stated proto.MESSAGE_DEPRECATED t.options.deprecated)
+    ++ children proto.MESSAGE_ONEOF_DECL (map oneof_items (oneof_names all t))
+    ++ children proto.MESSAGE_RESERVED_RANGE (map field_range t.reserved_numbers.items)
+    ++ texts proto.MESSAGE_RESERVED_NAME (map string_bytes t.reserved_names.items)
 
--- The message types at these indices, with what is inside them, nested so many deep. Of a schema none is nested deeper than there
--- are types.
+-- The message types at these indices, with what is inside them, nested so many deep. Of a schema none is nested deeper
+-- than there are types.
 abbrev pub types_items : (depth : ℕ) → Declared → List TypeId → List Items
 types_items zero all ids = []
 types_items (suc depth) all ids =

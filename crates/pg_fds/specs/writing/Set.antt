@@ -31,16 +31,20 @@ called_type number None = []
 -- streams are marked where they are
 abbrev pub method_items : Declared → Method → Items
 method_items all m =
-    text proto.METHOD_NAME (string_bytes m.name) ++ called_type proto.METHOD_INPUT_TYPE (type_name all.types m.input) ++ called_type proto.METHOD_OUTPUT_TYPE (type_name all.types m.output)
-    ++ options proto.METHOD_OPTIONS (stated proto.METHOD_DEPRECATED m.options.deprecated) ++ mark proto.METHOD_CLIENT_STREAMING m.client_streaming ++ mark proto.METHOD_SERVER_STREAMING m.server_streaming
+    text proto.METHOD_NAME (string_bytes m.name) ++ called_type proto.METHOD_INPUT_TYPE (type_name all.types m.input)
+    ++ called_type proto.METHOD_OUTPUT_TYPE (type_name all.types m.output)
+    ++ options proto.METHOD_OPTIONS (stated proto.METHOD_DEPRECATED m.options.deprecated)
+    ++ mark proto.METHOD_CLIENT_STREAMING m.client_streaming ++ mark proto.METHOD_SERVER_STREAMING m.server_streaming
 
 abbrev pub service_items : Declared → Service → Items
 service_items all s =
-    text proto.SERVICE_NAME (own_name (string_bytes s.name)) ++ children proto.SERVICE_METHOD (map (method_items all) s.methods.items)
+    text proto.SERVICE_NAME (own_name (string_bytes s.name))
+    ++ children proto.SERVICE_METHOD (map (method_items all) s.methods.items)
     ++ options proto.SERVICE_OPTIONS (stated proto.SERVICE_DEPRECATED s.options.deprecated)
 
 abbrev pub services_items : Declared → List ServiceId → List Items
-services_items all ids = flat_map (λ (id : ServiceId). where_found (service_items all) (slice_get all.services id.index)) ids
+services_items all ids =
+    flat_map (λ (id : ServiceId). where_found (service_items all) (slice_get all.services id.index)) ids
 
 -- ---- files
 
@@ -62,14 +66,18 @@ file_options list = flat_map (λ (o : FileOption). option_items o.number o.value
 -- the indices of the public imports, counted from that of the first
 abbrev pub public_places : (place : ℕ) → List Import → List ℕ
 public_places place [] = []
-public_places place (i ∷ is) = if i.is_public then place ∷ public_places (suc place) is else public_places (suc place) is
+public_places place (i ∷ is) =
+    if i.is_public then place ∷ public_places (suc place) is else public_places (suc place) is
 
 -- the package where one is stated
 abbrev pub file_items : Declared → File → Items
 file_items all f =
-    text proto.FILE_NAME (string_bytes f.name) ++ filled proto.FILE_PACKAGE (string_bytes f.package) ++ texts proto.FILE_DEPENDENCY (map (λ (i : Import). string_bytes i.path) f.imports.items)
-    ++ children proto.FILE_MESSAGE_TYPE (types_items (length all.types) all f.types.items) ++ children proto.FILE_ENUM_TYPE (enums_items all f.enums.items)
-    ++ children proto.FILE_SERVICE (services_items all f.services.items) ++ options proto.FILE_OPTIONS (file_options f.options.items)
+    text proto.FILE_NAME (string_bytes f.name) ++ filled proto.FILE_PACKAGE (string_bytes f.package)
+    ++ texts proto.FILE_DEPENDENCY (map (λ (i : Import). string_bytes i.path) f.imports.items)
+    ++ children proto.FILE_MESSAGE_TYPE (types_items (length all.types) all f.types.items)
+    ++ children proto.FILE_ENUM_TYPE (enums_items all f.enums.items)
+    ++ children proto.FILE_SERVICE (services_items all f.services.items)
+    ++ options proto.FILE_OPTIONS (file_options f.options.items)
     ++ counts proto.FILE_PUBLIC_DEPENDENCY (public_places 0 f.imports.items) ++ text proto.FILE_SYNTAX (codes "proto3")
 
 -- ---- the set

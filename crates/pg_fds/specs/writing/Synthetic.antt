@@ -1,6 +1,6 @@
 -- Synthetic oneofs: an `optional` field is in a oneof of its own, after all real ones, in order of declaration
--- (descriptor.proto, `proto3_optional`). Their names are made as protoc makes them; that they avoid all names of the message, and not
--- those of fields and oneofs alone, is this profile's choice.
+-- (descriptor.proto, `proto3_optional`). Their names are made as protoc makes them; that they avoid all names of the
+-- message, and not those of fields and oneofs alone, is this profile's choice.
 use Rattle.std.specs.Prelude.{ℕ, zero, suc, List, [], ◌∷◌, map, filter, length, nat_eq, if◌then◌else◌}
 use Rattle.std.specs.String.{string_bytes}
 use Rattle.pg_schema.specs.declared.parts.field.Field.{Field}
@@ -16,8 +16,8 @@ abbrev pub with_underscore : List ℕ → List ℕ
 with_underscore [] = underscore ∷ []
 with_underscore (byte ∷ bytes) = if nat_eq byte underscore then byte ∷ bytes else underscore ∷ byte ∷ bytes
 
--- The name with as many `X` in front as free it of these names, tried so many times: as many names as there are can be met at most,
--- since each `X` makes it longer.
+-- The name with as many `X` in front as free it of these names, tried so many times: as many names as there are can be
+-- met at most, since each `X` makes it longer.
 abbrev pub freed : (tries : ℕ) → List (List ℕ) → List ℕ → List ℕ
 freed zero names name = name
 freed (suc tries) names name = if is_among names name then freed tries names (sign ∷ name) else name
@@ -29,7 +29,8 @@ synthetic_name names field = freed (length names) names (with_underscore field)
 -- of each of these fields in order; each name is one of the message for the later ones
 abbrev pub synthetic_names : List (List ℕ) → List (List ℕ) → List (List ℕ)
 synthetic_names names [] = []
-synthetic_names names (field ∷ fields) = synthetic_name names field ∷ synthetic_names (synthetic_name names field ∷ names) fields
+synthetic_names names (field ∷ fields) =
+    synthetic_name names field ∷ synthetic_names (synthetic_name names field ∷ names) fields
 
 -- the names of the synthetic oneofs of these fields, in a message that has these names
 abbrev pub synthetic_oneofs : List (List ℕ) → List Field → List (List ℕ)

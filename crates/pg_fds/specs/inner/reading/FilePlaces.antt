@@ -14,10 +14,12 @@ use Rattle.pg_fds.specs.inner.Lent.{lent}
 abbrev pub IsPostOrder : List Importer → List (List ℕ) → Type 0
 IsPostOrder files paths = Visits bytes_eq (imports_at files) [] (paths_of files) paths
 
--- a path occurs twice among the files, or among the imports of one, or they have no post-order: an import isn't there, or imports lead back
+-- a path occurs twice among the files, or among the imports of one, or they have no post-order: an import isn't there,
+-- or imports lead back
 abbrev pub HasNoOrder : List Importer → Type 0
 HasNoOrder files =
-    (are_distinct (paths_of files) ≡ false) ⊎ (list_all imports_once files ≡ false) ⊎ ((paths : List (List ℕ)) → IsPostOrder files paths → ⊥)
+    (are_distinct (paths_of files) ≡ false) ⊎ (list_all imports_once files ≡ false)
+    ⊎ ((paths : List (List ℕ)) → IsPostOrder files paths → ⊥)
 
 abbrev pub importer : Importing → Importer
 importer i = record { path = i.name.now; imports = lent i.paths.items }
@@ -27,7 +29,8 @@ importers files = map importer files
 
 -- the map has the index of each path, and no other
 abbrev pub IsIndex : {Y : Type 0} → List (List ℕ) → BTreeMap (String Y) ℕ → Type 0
-IsIndex paths index = (path : List ℕ) (place : ℕ) → (get_by_text index path ≡ Some place) ↔ (slice_get paths place ≡ Some path)
+IsIndex paths index =
+    (path : List ℕ) (place : ℕ) → (get_by_text index path ≡ Some place) ↔ (slice_get paths place ≡ Some path)
 
 -- at these indices are these paths
 abbrev pub StandAt : List (List ℕ) → (places : List ℕ) → List (List ℕ) → Type 0
@@ -41,7 +44,8 @@ ImportsAt files all = map (map (slice_get (paths_of files))) all ≡ map (λ (i 
 abbrev pub name_at : List (List ℕ) → ℕ → List ℕ
 name_at paths place = unwrap_or (slice_get paths place) []
 
--- These are the indices of the files in post-order of imports. Paths occur once, among the files and among the imports of each.
+-- These are the indices of the files in post-order of imports. Paths occur once, among the files and among the imports
+-- of each.
 pub record AreOrdered (files : List Importer) (places : List ℕ) : Type 0 where
   pub once : are_distinct (paths_of files) ≡ true
   pub imports : list_all imports_once files ≡ true

@@ -1,4 +1,5 @@
--- Messages as a decoded set has them: whatever might be bytes is kept as a string, each number is one of 32 bits, and there are no floats.
+-- Messages as a decoded set has them: whatever might be bytes is kept as a string, each number is one of 32 bits, and
+-- there are no floats.
 use Rattle.std.specs.Prelude.{◌≡◌, ⊤, true, List, [], ◌∷◌, map, FitsSigned}
 use Rattle.std.specs.Int.{w32}
 use Rattle.std.specs.List.{AllByRecursion}

@@ -16,7 +16,8 @@ use Rattle.pg_fds.specs.stated.SetNames.{file_scope}
 pub record OutlinesTypes (depth : ℕ) (scope : List ℕ) (ms : List Message) (old new : Outline) : Type 0 where
   pub rows : map type_row new.types.items ≡ map type_row old.types.items ++ type_rows depth scope ms
   pub enum_rows : map row new.enums.items ≡ map row old.enums.items ++ enum_rows depth scope ms
-  pub placed : map placed_type new.types.items ≡ map placed_type old.types.items ++ placed_types depth scope (counts_of old) ms
+  pub placed : map placed_type new.types.items
+      ≡ map placed_type old.types.items ++ placed_types depth scope (counts_of old) ms
   pub others : (new.services.items ≡ old.services.items) × (new.files.items ≡ old.files.items)
   pub adds : Adds (types_declared depth scope (counts_of old) ms) old.names new.names
   pub few_types : StayFew old.types.items new.types.items
@@ -28,9 +29,11 @@ pub record OutlinesFile (depth : ℕ) (m : Message) (old new : Outline) : Type 0
   pub types : map type_row new.types.items ≡ map type_row old.types.items ++ file_types depth m
   pub enums : map row new.enums.items ≡ map row old.enums.items ++ file_enums depth m
   pub services : map row new.services.items ≡ map row old.services.items ++ file_services m
-  pub files : map placed_file new.files.items ≡ map placed_file old.files.items ++ file_places depth (counts_of old) m ∷ []
+  pub files : map placed_file new.files.items
+      ≡ map placed_file old.files.items ++ file_places depth (counts_of old) m ∷ []
   pub placed : map placed_type new.types.items
-      ≡ map placed_type old.types.items ++ placed_types depth (file_scope m) (inside_file (counts_of old) m) (children_at proto.FILE_MESSAGE_TYPE m)
+      ≡ map placed_type old.types.items
+      ++ placed_types depth (file_scope m) (inside_file (counts_of old) m) (children_at proto.FILE_MESSAGE_TYPE m)
   pub adds : Adds (file_declared depth (counts_of old) m) old.names new.names
   pub few_types : StayFew old.types.items new.types.items
   pub few_enums : StayFew old.enums.items new.enums.items
@@ -38,8 +41,9 @@ pub record OutlinesFile (depth : ℕ) (m : Message) (old new : Outline) : Type 0
   pub oneofs : NameOneofs depth (children_at proto.FILE_MESSAGE_TYPE m)
   pub no_entries : filter is_entry (children_at proto.FILE_MESSAGE_TYPE m) ≡ []
 
--- All that a file declares may be placed, as far as its names aren't looked at, where so many message types, enums and services come
--- before it: none of its own message types is an entry type, `optional` fields name oneofs that are there, and 32 bits hold the indices.
+-- All that a file declares may be placed, as far as its names aren't looked at, where so many message types, enums and
+-- services come before it: none of its own message types is an entry type, `optional` fields name oneofs that are
+-- there, and 32 bits hold the indices.
 pub record MayPlace (depth : ℕ) (counts : Counts) (m : Message) : Type 0 where
   pub no_entries : filter is_entry (children_at proto.FILE_MESSAGE_TYPE m) ≡ []
   pub oneofs : NameOneofs depth (children_at proto.FILE_MESSAGE_TYPE m)

@@ -12,7 +12,8 @@ use Rattle.pg_fds.specs.declared.reading.made_fields.Scope.{Scope}
 use Rattle.pg_fds.specs.stated.StatedFields.{Owner}
 use Rattle.pg_fds.specs.declared.reading.outline.Named.TheVariants as nameds
 
--- What a field or a method may name. Names of packages, fields, oneofs, values and services are there only so that they occur once.
+-- What a field or a method may name. Names of packages, fields, oneofs, values and services are there only so that they
+-- occur once.
 abbrev pub may_name : Option Named → Option Named
 may_name None = None
 may_name (Some nameds.Package) = None

@@ -22,7 +22,9 @@ Walks all front visited listed = Visits nat_eq (slice_get all) front visited lis
 
 -- Files have ranks that fall along imports, so that none is on a circle.
 abbrev pub Falls : (rank : ℕ → ℕ) → List (List ℕ) → Type 0
-Falls rank all = (place : ℕ) (own : List ℕ) → slice_get all place ≡ Some own → AllByRecursion (λ import. rank import < rank place) own
+Falls rank all =
+    (place : ℕ) (own : List ℕ) → slice_get all place ≡ Some own
+    → AllByRecursion (λ import. rank import < rank place) own
 
 -- ---- files that are open
 
@@ -39,7 +41,8 @@ RanksFall rank (o ∷ later) = AllByRecursion (λ (u : Open). rank u.place < ran
 abbrev pub Ends : List (List ℕ) → List Open → (front listed : List ℕ) → Type 0
 Ends all [] front listed = front ≡ listed
 Ends all (o ∷ later) front listed =
-    (between own inside : List ℕ) × Ends all later front between × (slice_get all o.place ≡ Some own) × Walks all between (drop o.next own) inside
+    (between own inside : List ℕ) × Ends all later front between × (slice_get all o.place ≡ Some own)
+    × Walks all between (drop o.next own) inside
     × (listed ≡ inside ++ o.place ∷ [])
 
 -- ---- the walk
@@ -53,7 +56,8 @@ is_done (Some seen.Done) = true
 pub record IsWalk (all : List (List ℕ)) (marks : List Seen) (open_files : List Open) (done : List ℕ) : Type 0 where
   pub marked : length marks ≡ length all
   pub listed : (place : ℕ) → place < length all → is_done (slice_get marks place) ≡ list_any (nat_eq place) done
-  pub opened : (place : ℕ) → slice_get marks place ≡ Some seen.Open → list_any (λ (o : Open). nat_eq place o.place) open_files ≡ true
+  pub opened : (place : ℕ) → slice_get marks place ≡ Some seen.Open
+      → list_any (λ (o : Open). nat_eq place o.place) open_files ≡ true
   pub there : AllByRecursion (IsOpen all) open_files
   pub fall : (rank : ℕ → ℕ) → Falls rank all → RanksFall rank open_files
 

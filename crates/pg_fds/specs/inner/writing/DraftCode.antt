@@ -19,7 +19,8 @@ kept_as (model.nests number key child later) = nests number key false (kept_as c
 pub message_back : (m : Message) → message_of (kept_as m) ≡ m
 message_back (model.ends unknown) = refl
 message_back (model.holds number key leaf later) = ap (model.holds number key leaf) (message_back later)
-message_back (model.nests number key child later) = ap₂ (model.nests number key) (message_back child) (message_back later)
+message_back (model.nests number key child later) =
+    ap₂ (model.nests number key) (message_back child) (message_back later)
 
 part_back : (number : ℕ) (key : Option Leaf) (item : Item) (later : Message) → parts (with_part number key item later) ≡ record { number = number; key = key; item = item } ∷ parts later
 part_back number key (Plain leaf) later = refl

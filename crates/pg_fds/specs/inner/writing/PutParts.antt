@@ -19,16 +19,20 @@ set_items parts = children proto.SET_FILE (map (file_items (declared_in parts)) 
 -- what is in a message type after its enums
 abbrev pub type_rest : Declared → MessageType → Items
 type_rest all t =
-    options proto.MESSAGE_OPTIONS (stated proto.MESSAGE_DEPRECATED t.options.deprecated) ++ children proto.MESSAGE_ONEOF_DECL (map oneof_items (oneof_names all t))
-    ++ children proto.MESSAGE_RESERVED_RANGE (map field_range t.reserved_numbers.items) ++ texts proto.MESSAGE_RESERVED_NAME (map string_bytes t.reserved_names.items)
+    options proto.MESSAGE_OPTIONS (stated proto.MESSAGE_DEPRECATED t.options.deprecated)
+    ++ children proto.MESSAGE_ONEOF_DECL (map oneof_items (oneof_names all t))
+    ++ children proto.MESSAGE_RESERVED_RANGE (map field_range t.reserved_numbers.items)
+    ++ texts proto.MESSAGE_RESERVED_NAME (map string_bytes t.reserved_names.items)
 
 -- what a file declares
 abbrev pub declared_items : Declared → File → Items
 declared_items all f =
-    children proto.FILE_MESSAGE_TYPE (types_items (length all.types) all f.types.items) ++ children proto.FILE_ENUM_TYPE (enums_items all f.enums.items)
+    children proto.FILE_MESSAGE_TYPE (types_items (length all.types) all f.types.items)
+    ++ children proto.FILE_ENUM_TYPE (enums_items all f.enums.items)
     ++ children proto.FILE_SERVICE (services_items all f.services.items)
 
 -- how often a field's items occur and what they are, in a message of that full name
 abbrev pub kind_items : Declared → (scope : List ℕ) → Field → Items
 kind_items all scope f =
-    count proto.FIELD_LABEL (label f.presence) ++ count proto.FIELD_TYPE (type_code f.presence f.element) ++ maybe_text proto.FIELD_TYPE_NAME (named_type all scope f)
+    count proto.FIELD_LABEL (label f.presence) ++ count proto.FIELD_TYPE (type_code f.presence f.element)
+    ++ maybe_text proto.FIELD_TYPE_NAME (named_type all scope f)
