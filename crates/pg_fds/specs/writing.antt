@@ -1,4 +1,3 @@
-pub mod Building
 pub mod Entries
 pub mod Fields
 pub mod Items

@@ -136,3 +136,7 @@ descriptor_shape =
     ∷ service_fields ∷ method_fields ∷ file_options ∷ message_options ∷ field_options ∷ enum_options ∷ value_options
     ∷ service_options
     ∷ service_options ∷ []
+
+-- the shape of the schema that sets are read and written by; a proof unfolds it only where it says so
+unfoldable pub written_shape : Shape
+written_shape = descriptor_shape

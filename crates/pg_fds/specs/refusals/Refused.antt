@@ -13,12 +13,10 @@ use Rattle.pg_dyn.specs.reading.Refusals.{MayRefuse}
 use Rattle.pg_check.specs.standing.Places.{most_deep}
 use Rattle.pg_fds.specs.declared.error.FdsError.{FdsError}
 use Rattle.pg_fds.specs.declared.error.FdsError.TheVariants as errors
-use Rattle.pg_fds.specs.refusals.TooDeep.{IsNotTooDeep}
+use Rattle.pg_fds.specs.stated.Reads.{IsNotTooDeep, fds_reads}
 use Rattle.pg_fds.specs.refusals.BadReferences.{IsBadReference}
-use Rattle.pg_fds.specs.writing.Building.{written_shape}
+use Rattle.pg_fds.specs.descriptor.Descriptor.{written_shape, file_set}
 use Rattle.pg_fds.specs.stated.Codes.{file_has_types}
-use Rattle.pg_fds.specs.descriptor.Descriptor.{file_set}
-use Rattle.pg_fds.specs.stated.Reads.{fds_reads}
 use Rattle.pg_fds.specs.stated.FileMessages.{is_proto3, kept_files, skips}
 use Rattle.pg_fds.specs.stated.Stated.{are_taken, stated_of}
 use Rattle.pg_fds.specs.stated.Views.{parts_view}

@@ -28,8 +28,7 @@ use Rattle.pg_dyn.specs.message.KeptParts.{Plain, Msg, of_number}
 use Rattle.pg_dyn.specs.message.Message.{Bytes, F32, F64, Int, Part, is_of}
 use Rattle.pg_dyn.specs.message_ref.Borrowed.{content_seen, entry_part, item_part, item_seen}
 use Rattle.pg_dyn.specs.word.NumberLists.{numbers_in}
-use Rattle.pg_fds.specs.writing.Building.{written_shape}
-use Rattle.pg_fds.specs.descriptor.Descriptor.{descriptor_shape}
+use Rattle.pg_fds.specs.descriptor.Descriptor.{written_shape, descriptor_shape}
 use Rattle.pg_fds.specs.inner.reading.Held.{AreSaid, IsHeldMessage, IsSaid}
 
 -- ---- the schema

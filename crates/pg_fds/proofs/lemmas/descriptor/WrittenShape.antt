@@ -8,8 +8,7 @@ use Rattle.pg_schema.specs.declared.parts.field.Presence.TheVariants as presence
 use Rattle.pg_schema.specs.ShapeRules.{ElementFits, IsField, IsShape, IsType, PresenceFits, Rising}
 use Rattle.pg_schema.specs.Shape.{FieldShape, Shape}
 use Rattle.pg_schema.proofs.lemmas.rules.PairLemmas.{and_left, and_right}
-use Rattle.pg_fds.specs.descriptor.Descriptor.{descriptor_shape}
-use Rattle.pg_fds.specs.writing.Building.{written_shape}
+use Rattle.pg_fds.specs.descriptor.Descriptor.{descriptor_shape, written_shape}
 use Rattle.pg_fds.proofs.lemmas.lists.Tests.{below}
 
 -- one item, or a list that isn't packed, outside a oneof

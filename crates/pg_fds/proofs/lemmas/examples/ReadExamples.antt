@@ -15,8 +15,7 @@ use Rattle.pg_wire.specs.Records.{record_at, records_of, tag_parts}
 use Rattle.pg_dyn.specs.word.Coding.{word_in}
 use Rattle.pg_dyn.specs.reading.Decoding.{dec}
 use Rattle.pg_dyn.specs.message.Message.{Message, Int, Bytes, ends, holds, nests}
-use Rattle.pg_fds.specs.writing.Building.{written_shape}
-use Rattle.pg_fds.specs.descriptor.Descriptor.{file_set}
+use Rattle.pg_fds.specs.descriptor.Descriptor.{written_shape, file_set}
 use Rattle.pg_fds.specs.examples.Examples.{IsField, IsFile, IsMessage, one_field_bytes}
 use Rattle.pg_fds.specs.examples.ReadExamples.{OneFieldRead}
 use Rattle.pg_fds.specs.stated.Stated.{stated}

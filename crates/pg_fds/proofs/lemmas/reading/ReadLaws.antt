@@ -20,17 +20,15 @@ use Rattle.pg_fds.specs.declared.error.FdsError.TheVariants as errors
 use Rattle.pg_fds.specs.declared.error.Unstated.{Unstated}
 use Rattle.pg_fds.specs.declared.error.Unstated.TheVariants as unstated
 use Rattle.pg_fds.specs.declared.reading.outline.Outline.{Outline}
-use Rattle.pg_fds.specs.writing.Building.{written_shape}
+use Rattle.pg_fds.specs.descriptor.Descriptor.{written_shape, file_set}
 use Rattle.pg_fds.specs.stated.Codes.{file_has_types}
-use Rattle.pg_fds.specs.descriptor.Descriptor.{file_set}
 use Rattle.pg_fds.specs.stated.Numbering.{PlacedFile, PlacedType, no_counts, placed_files, types_of_files}
 use Rattle.pg_fds.specs.inner.reading.OutlinedPlaces.{placed_file, placed_type}
 use Rattle.pg_fds.specs.inner.reading.OutlinedScopes.{OutlinesFiles}
 use Rattle.pg_fds.specs.stated.Outlines.{Row, file_enums, file_services, file_types}
 use Rattle.pg_fds.specs.inner.reading.OutlinedRows.{files_at, row}
 use Rattle.pg_fds.specs.inner.reading.Owners.{means_of}
-use Rattle.pg_fds.specs.stated.Reads.{fds_reads}
-use Rattle.pg_fds.specs.refusals.TooDeep.{IsNotTooDeep}
+use Rattle.pg_fds.specs.stated.Reads.{fds_reads, IsNotTooDeep}
 use Rattle.pg_fds.specs.refusals.Refused.{MayRefuseFiles, MayRefuseSet}
 use Rattle.pg_fds.specs.inner.reading.RefusedParts.{IsOfParts, IsOfRules}
 use Rattle.pg_fds.specs.stated.SetMessages.{children_at}

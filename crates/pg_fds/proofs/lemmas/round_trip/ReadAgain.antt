@@ -16,9 +16,8 @@ use Rattle.pg_check.specs.standing.Places.{most_deep}
 use Rattle.pg_fds.specs.declared.error.FdsError.{FdsError}
 use Rattle.pg_fds.specs.declared.error.FdsError.TheVariants as errors
 use Rattle.pg_fds.specs.round_trip.Readable.{IsReadable}
-use Rattle.pg_fds.specs.refusals.TooDeep.{IsNotTooDeep}
+use Rattle.pg_fds.specs.stated.Reads.{IsNotTooDeep, fds_reads}
 use Rattle.pg_fds.specs.round_trip.ReadAgain.{IsReadAgain, IsTooLong, MayRefuseAgain, SetStates}
-use Rattle.pg_fds.specs.stated.Reads.{fds_reads}
 use Rattle.pg_fds.specs.refusals.Refused.{MayRefuseSet, NoneIsStated}
 use Rattle.pg_fds.specs.writing.Set.{fds}
 use Rattle.pg_fds.specs.stated.Views.{parts_view}

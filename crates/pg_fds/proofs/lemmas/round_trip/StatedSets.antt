@@ -23,7 +23,7 @@ use Rattle.pg_check.specs.standing.Places.{most_deep, places_from}
 use Rattle.pg_fds.specs.declared.descriptor.proto.TheConstants as proto
 use Rattle.pg_fds.specs.round_trip.Readable.{IsReadable}
 use Rattle.pg_fds.specs.round_trip.SetOrder.{SetsAreReadAgain}
-use Rattle.pg_fds.specs.descriptor.Descriptor.{file_set}
+use Rattle.pg_fds.specs.descriptor.Descriptor.{file_set, written_shape}
 use Rattle.pg_fds.specs.stated.Numbering.{Counts, PlacedType, behind_file, file_places, no_counts, placed_files, types_of_files}
 use Rattle.pg_fds.specs.stated.Outlines.{file_enums, file_services, file_types}
 use Rattle.pg_fds.specs.stated.PostOrder.{Importer, importer_of, imports_at, imports_once, kept_paths, paths_of}
@@ -40,7 +40,6 @@ use Rattle.pg_fds.specs.stated.StatedServices.{service}
 use Rattle.pg_fds.specs.stated.StatedTable.{may_declare, meaning}
 use Rattle.pg_fds.specs.stated.StatedTypes.{declared_fields, enum_id, message_type, type_id, type_of}
 use Rattle.pg_fds.specs.stated.Views.{FileView, ImportView, PartsView, TypeView, enum_view, file_view, import_view, parts_view, service_view, type_view}
-use Rattle.pg_fds.specs.writing.Building.{written_shape}
 use Rattle.pg_fds.proofs.lemmas.round_trip.ListedFiles.{AllFollow, all_follow}
 use Rattle.pg_fds.proofs.lemmas.round_trip.StatedPlaces.{ArePlaced, FilesNext, Keep, files_next, types_long}
 use Rattle.pg_fds.proofs.lemmas.order.Visited.{Among, Text, same_bytes}

@@ -20,9 +20,8 @@ use Rattle.pg_dyn.proofs.lemmas.reading.records.Splitting.{records_in_none}
 use Rattle.pg_dyn.specs.encoding.Growing.{ComesLast, IsOfField, leaf_for}
 use Rattle.pg_dyn.proofs.PublicLaws.{encoding_grows}
 use Rattle.pg_fds.specs.descriptor.Descriptor as descriptor
-use Rattle.pg_fds.specs.descriptor.Descriptor.{many, one}
+use Rattle.pg_fds.specs.descriptor.Descriptor.{many, one, written_shape}
 use Rattle.pg_fds.specs.inner.writing.HeldFields.{HasMany, HasOne, IsWhole}
-use Rattle.pg_fds.specs.writing.Building.{written_shape}
 use Rattle.pg_fds.specs.inner.writing.Drafts.{Drafted, IsDraft, IsEncoded, IsEncodingOf, Takes, begun, drafted, greatest, put, read_items}
 use Rattle.pg_fds.specs.writing.Items as rows
 use Rattle.pg_fds.specs.writing.Items.{Items, item}

@@ -13,9 +13,8 @@ use Rattle.pg_schema.specs.rules.Messages.{is_field, is_message_type}
 use Rattle.pg_schema.specs.rules.Uses.{is_reserved_range}
 use Rattle.pg_schema.proofs.lemmas.rules.PairLemmas.{and_left, and_right}
 use Rattle.pg_dyn.specs.encoding.Encoding.{cap, enc}
-use Rattle.pg_fds.specs.writing.Building.{written_shape}
+use Rattle.pg_fds.specs.descriptor.Descriptor.{written_shape, descriptor_shape, file_set}
 use Rattle.pg_fds.specs.inner.writing.Drafts.{IsEncodingOf}
-use Rattle.pg_fds.specs.descriptor.Descriptor.{descriptor_shape, file_set}
 use Rattle.pg_fds.specs.writing.Set.{fds, set_message}
 use Rattle.pg_fds.specs.writing.Written.{HasNoSet}
 use Rattle.pg_fds.specs.inner.writing.PutParts.{set_items}

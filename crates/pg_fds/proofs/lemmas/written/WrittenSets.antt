@@ -15,13 +15,11 @@ use Rattle.pg_dyn.specs.reading.Faults.{TooDeepIn}
 use Rattle.pg_check.specs.standing.Nesting.{are_shallow}
 use Rattle.pg_check.specs.standing.Places.{most_deep}
 use Rattle.pg_fds.specs.round_trip.Readable.{IsReadable}
-use Rattle.pg_fds.specs.refusals.TooDeep.{IsNotTooDeep}
-use Rattle.pg_fds.specs.writing.Building.{written_shape}
+use Rattle.pg_fds.specs.stated.Reads.{IsNotTooDeep, fds_reads}
+use Rattle.pg_fds.specs.descriptor.Descriptor.{written_shape, descriptor_shape, file_set}
 use Rattle.pg_fds.specs.stated.Codes.{file_has_types}
-use Rattle.pg_fds.specs.descriptor.Descriptor.{descriptor_shape, file_set}
 use Rattle.pg_fds.specs.writing.Places.{Declared, declared_in}
 use Rattle.pg_fds.specs.inner.writing.Small.{IsHeld}
-use Rattle.pg_fds.specs.stated.Reads.{fds_reads}
 use Rattle.pg_fds.specs.stated.SetMessages.{children_at, text_at}
 use Rattle.pg_fds.specs.stated.FileMessages.{is_descriptor, is_proto3, is_skipped, kept_files, skips}
 use Rattle.pg_fds.specs.writing.Set.{fds, file_items, set_message}

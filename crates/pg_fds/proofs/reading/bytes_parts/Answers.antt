@@ -1,8 +1,7 @@
 use Rattle.std.proofs.Common.{◌≡◌, Some, subst, sym}
 use Rattle.pg_dyn.specs.reading.Decoding.{dec}
 use Rattle.pg_dyn.specs.message.Kept.{message_of}
-use Rattle.pg_fds.specs.writing.Building.{written_shape}
-use Rattle.pg_fds.specs.descriptor.Descriptor.{file_set}
+use Rattle.pg_fds.specs.descriptor.Descriptor.{written_shape, file_set}
 use Rattle.pg_fds.proofs.lemmas.reading.ReadLaws.{always, bytes_refused, bytes_stated}
 use Rattle.pg_fds.proofs.reading.bytes_parts.Goals as goal
 

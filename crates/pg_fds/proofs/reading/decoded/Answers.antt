@@ -5,8 +5,7 @@ use Rattle.pg_dyn.specs.fitting.Fits.{Fits}
 use Rattle.pg_dyn.specs.message.Kept.{message_of}
 use Rattle.pg_dyn.specs.reading.Refusals.{MayRefuse}
 use Rattle.pg_dyn.specs.reading.Faults.{TooDeepIn}
-use Rattle.pg_fds.specs.writing.Building.{written_shape}
-use Rattle.pg_fds.specs.descriptor.Descriptor.{file_set}
+use Rattle.pg_fds.specs.descriptor.Descriptor.{written_shape, file_set}
 use Rattle.pg_fds.proofs.lemmas.descriptor.HeldFits.{set_held}
 use Rattle.pg_fds.proofs.reading.decoded.Goals as goal
 

@@ -10,7 +10,7 @@ use Rattle.pg_dyn.specs.encoding.Encoding.{enc}
 use Rattle.pg_dyn.specs.message.Message.{message_from, parts}
 use Rattle.pg_dyn.specs.reading.Decoding.{dec}
 use Rattle.pg_fds.specs.inner.writing.HeldFields.{HasMany, HasOne}
-use Rattle.pg_fds.specs.writing.Building.{written_shape}
+use Rattle.pg_fds.specs.descriptor.Descriptor.{written_shape}
 use Rattle.pg_fds.specs.inner.writing.DraftCode.{items_code}
 use Rattle.pg_fds.specs.writing.Items.{Items}
 
