@@ -241,7 +241,7 @@ pub fn read(alloc: Global, bytes: &[u8]) -> Result<Schema, FdsError>
     ensures readable { IfOk result IsReadable }
     ensures none_stated { IfErr result (NoneIsStated bytes.now) }
 {
-    // Bytes that have a fault have no reading.
+    // Bytes that have a fault, other than a message too deep, have no reading.
     faults_are_real();
     bytes_schema(alloc, bytes)
 }

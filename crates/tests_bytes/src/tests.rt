@@ -1,4 +1,5 @@
 //! What rows don't show: empty messages, and tables and certificates that callers hold.
+mod setting;
 mod tables;
 
 use pg_dyn::Message;

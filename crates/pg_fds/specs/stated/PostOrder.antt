@@ -1,4 +1,5 @@
--- The order of a set's files: depth first, each after those that it imports (this profile's choice).
+-- What each file of a set imports, and that files are in post-order: each after those that it imports (this profile's
+-- choice).
 use Rattle.std.specs.Prelude.{ℕ, List, map, Bool, not, ◌&&◌, filter, find, Option, option_map}
 use Rattle.std.specs.Str.{bytes_eq}
 use Rattle.pg_schema.specs.rules.Pairs.{are_distinct}
