@@ -232,7 +232,7 @@ def main():
             say(f"kept from earlier runs: {' '.join(build.kept)}")
         stamp.write(TOP, begun)
         much = size_of(f"{TOP}/crates") if keeps else shrink(build.names, MOST_LEFT)
-        say(f"built; only a next build needs the {much / 1e9:.1f} GB in crates/*/out: rm -rf crates/pg_*/out frees most of them")
+        say(f"built; a next build, or a crate of yours, needs the {much / 1e9:.1f} GB in crates/*/out: rm -rf crates/pg_*/out frees most of them")
     return 0
 
 

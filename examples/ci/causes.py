@@ -1,6 +1,6 @@
 """What a cause is, in sentences: why a change breaks, and how to mend it, by the word that the program has for the case."""
 
-CHANGE = "Give the field its old type back, or give what it holds now a field with a new number, and reserve the old number."
+CHANGE = "Give the field its old type back, or keep it as it was and add a field with a new number for the new type."
 NAMES = ("Give the number its old name back, or give what is meant now a number of its own. Where both names mean the same, compare by "
          "numbers alone.")
 NAMED = "The number is the same on both sides, and the enums give it other names."
@@ -24,8 +24,8 @@ MEND = {
     "unlike": (CHANGE, CHANGE),
     "value": (CHANGE, CHANGE),
     "name": (NAMES, NAMES),
-    "list-to-one": ("Keep the list, or give the single field a new number, and reserve the old one.",
-                    "Keep the single field, or give the list a new number, and reserve the old one."),
+    "list-to-one": ("Keep the list, or keep the old field and add the single one with a new number.",
+                    "Keep the single field, or keep the old field and add the list with a new number."),
     "map": (CHANGE, CHANGE),
     "map-key": (CHANGE, CHANGE),
     "map-value": (CHANGE, CHANGE),

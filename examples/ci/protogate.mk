@@ -3,7 +3,7 @@
 PROTO_FOLDER ?= proto
 PROTO_RELEASE ?= v1.4
 # What protogate.ini at the top of the repository says may be left out here: an empty release leaves the folder to it too.
-# A type that is removed on purpose: `--skip TYPE`. Source files with custom options, or that import google/protobuf/*.proto: `--with-protoc`,
+# A type that is removed or broken on purpose: `--skip TYPE`. Source files with custom options, or that import google/protobuf/*.proto: `--with-protoc`,
 # which needs protoc on the path.
 PROTO_OPTIONS ?=
 
