@@ -18,8 +18,7 @@ use Rattle.pg_dyn.specs.reading.Decoding.{Reader, read_item, read_part}
 use Rattle.pg_dyn.specs.views.Comparison.{View, is_zero_expected, hides_zero, same_key, matches, Comparand, writes}
 use Rattle.pg_pairs.proofs.lemmas.bounds.Packed.{Reads}
 use Rattle.pg_dyn.specs.laws.Bodies.{IsNestedLeaf}
-use Rattle.pg_pairs.proofs.lemmas.witness.Meeting.{two_records}
-use Rattle.pg_pairs.proofs.lemmas.witness.EntryRecords.{entry_records}
+use Rattle.pg_pairs.proofs.lemmas.witness.EntryRecords.{two_records, entry_records}
 use Rattle.pg_dyn.specs.laws.ByComparands.{field_read, is_field_kept}
 use Rattle.pg_pairs.proofs.lemmas.gaps.GapItems.{IsLeafy}
 use Rattle.pg_pairs.proofs.lemmas.bounds.AcrossMap.{is_map}

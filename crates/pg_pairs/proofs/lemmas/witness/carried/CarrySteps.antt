@@ -18,8 +18,7 @@ use Rattle.pg_dyn.specs.word.Coding.{form, zero_leaf}
 use Rattle.pg_dyn.specs.fitting.Belonging.{LeafFits, IsMessage}
 use Rattle.pg_dyn.specs.message.Message as model
 use Rattle.pg_dyn.specs.message.Kept.{Kept, ends, type_of, message_of}
-use Rattle.pg_dyn.specs.message.KeptParts.{KeptItem}
-use Rattle.pg_dyn.specs.message.KeptParts.{Plain, Msg}
+use Rattle.pg_dyn.specs.message.KeptParts.{KeptItem, Plain, Msg}
 use Rattle.pg_dyn.specs.reading.Content.{same_oneof, is_sibling}
 use Rattle.pg_dyn.specs.message.Replacing.{kept_part, kept_onto, kept_from, is_sibling_number, with_content}
 use Rattle.pg_dyn.specs.message.Seen.{leaf_of, item_seen, content_seen}

@@ -25,7 +25,7 @@ use Rattle.pg_dyn.specs.views.Comparison.{View, Alike, matches, alike_leaves, sa
 use Rattle.pg_dyn.proofs.Lists.{filter_none, option_map_some}
 use Rattle.pg_pairs.proofs.lemmas.bounds.Packed.{Reads}
 use Rattle.pg_dyn.specs.laws.Bodies.{IsNestedLeaf}
-use Rattle.pg_pairs.proofs.lemmas.witness.Meeting.{two_records}
+use Rattle.pg_pairs.proofs.lemmas.witness.EntryRecords.{two_records}
 use Rattle.pg_pairs.specs.declared.choices.choice.Pair.{Pair}
 use Rattle.pg_pairs.specs.views.EnumView.{EnumView}
 use Rattle.pg_pairs.specs.gaps.Likeness.{like}
