@@ -7,14 +7,18 @@ use Rattle.pg_schema.specs.declared.parts.field.TypeId.{TypeId}
 use Rattle.pg_schema.specs.declared.parts.file.File.{File}
 use Rattle.pg_schema.specs.declared.parts.message_type.MessageType.{MessageType}
 use Rattle.pg_schema.specs.declared.parts.Parts.{Parts}
+use Rattle.pg_schema.specs.Shape.{fields}
 use Rattle.pg_schema.specs.rules.Sound.{IsSound}
 use Rattle.pg_schema.proofs.lemmas.rules.PairLemmas.{and_both, and_left, and_right}
 use Rattle.pg_dyn.specs.declared.error.DynError.{DynError}
 use Rattle.pg_dyn.specs.declared.error.DynError.TheVariants as faults
+use Rattle.pg_dyn.specs.reading.Faults.{TooDeep}
+use Rattle.pg_dyn.proofs.lemmas.reading.faults.Faulty.{first_is_fault}
 use Rattle.pg_check.specs.standing.Nesting.{are_shallow, holds_inside, nest_within}
 use Rattle.pg_check.specs.standing.Places.{most_deep}
 use Rattle.pg_fds.specs.declared.error.FdsError.{FdsError}
 use Rattle.pg_fds.specs.declared.error.FdsError.TheVariants as errors
+use Rattle.pg_fds.specs.descriptor.Descriptor.{file_set, written_shape}
 use Rattle.pg_fds.specs.round_trip.Readable.{IsReadable}
 use Rattle.pg_fds.specs.stated.Reads.{IsNotTooDeep, fds_reads}
 use Rattle.pg_fds.specs.round_trip.ReadAgain.{IsReadAgain, IsTooLong, MayRefuseAgain, SetStates}
@@ -73,7 +77,8 @@ module _ (parts : Parts) (again : IsReadAgain parts) where
 module _ (parts : Parts) (bytes : List ℕ) (sound : IsSound parts) (states : fds_reads bytes parts) (level : IsNotTooDeep bytes) where
   by_codec : (e : DynError) → MayRefuseSet bytes (errors.Bytes e) → NoneIsStated bytes (errors.Bytes e) → ⊥
   by_codec faults.Memory may none = may.0 refl
-  by_codec (faults.TooDeep at) may none = level at may.1
+  by_codec (faults.TooDeep at) may none =
+      level at (first_is_fault written_shape most_deep (fields written_shape file_set) bytes TooDeep at may.1)
   by_codec faults.NoSuchField may none = none parts sound states
   by_codec faults.WrongKind may none = none parts sound states
   by_codec faults.OutOfRange may none = none parts sound states
