@@ -1,19 +1,19 @@
 //! Linked files.
-ghost use Rattle.std.specs.Prelude.{◌≡◌, ◌<◌, ◌∷◌, IfErr, IfNone, IfOk, IfSome, List, Some, length, map, slice_get, true, ℕ};
+ghost use Rattle.std.specs.Prelude.{◌≡◌, ◌<◌, ◌∷◌, IfErr, IfNone, IfOk, IfSome, Some, length, map, slice_get, string_bytes, true};
 ghost use Rattle.pg_link.specs.Linked.{IsDeclaredAt, IsDeclaredNowhere, IsLinkedUp};
 ghost use Rattle.pg_link.specs.inner.Index.{files_of};
 ghost use Rattle.pg_link.specs.inner.Refusals.{Refuses, SaysOf};
 ghost use Rattle.pg_link.specs.inner.Settled.{HasFirst, IsFirstPlace, IsRead};
 ghost use Rattle.pg_link.specs.names.Files.{all_names, visible_names};
-ghost use Rattle.pg_link.specs.names.Names.{texts};
+ghost use Rattle.pg_link.specs.names.Names.{texts, without_dot};
 ghost use Rattle.pg_link.specs.names.Resolves.{Resolves, reference};
-ghost use Rattle.pg_link.specs.uses.Targets.{file_places, file_targets};
+ghost use Rattle.pg_link.specs.uses.Targets.{all_declared, enum_names, file_places, file_targets};
 ghost use Rattle.pg_link.specs.uses.UseFaults.{IsNameFault, IsNoName};
 ghost use Rattle.pg_link.specs.walk.Walk.{Entry, outlines, path_of};
 
 use crate::error::{LinkError, Place};
 use crate::names::Named;
-use crate::names::index::{Index, Visible};
+use crate::names::index::{Index, Visible, behind_dot};
 use crate::names::indexing::index_names;
 use crate::names::resolve::Unresolved;
 use crate::names::visible_files::visible_files_of;
@@ -25,13 +25,6 @@ use pg_lex::place;
 use pg_syntax::tree::TypeName;
 use std::alloc::Global;
 use std::marker::Model;
-
-/// A full name without the dot in front.
-fn behind_dot(full: &str) -> &str
-    ensures { (rest : List ℕ) → full.now ≡ 46 ∷ rest → result.now ≡ rest }
-{
-    full.strip_prefix(".").unwrap_or(full)
-}
 
 /// Whether a full name is this one with a dot in front.
 fn is_behind_dot(full: &str, name: &str) -> bool
@@ -160,6 +153,14 @@ impl Linked {
             → result.now ≡ file_places e }
     {
         &self.targets[file].places
+    }
+
+    /// The full names of all enums, without a dot in front, as `Target::Enum` counts them.
+    pub fn enum_names(&self) -> &[String]
+        ensures { map string_bytes result.now
+            ≡ map without_dot (enum_names (all_declared self.now.files)) }
+    {
+        &self.index.enums
     }
 
     /// The path of a file.

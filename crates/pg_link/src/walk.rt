@@ -1,5 +1,5 @@
 //! The imports, followed depth first, each path read once.
-ghost use Rattle.std.specs.Prelude.{◌≡◌, ◌≤◌, IfErr, IfOk, OnOk, ◌++◌, ◌∷◌, [], List, ℕ, false, true, length, map, string_bytes};
+ghost use Rattle.std.specs.Prelude.{◌≡◌, IfErr, IfOk, OnOk, ◌++◌, ◌∷◌, [], List, ℕ, false, map, string_bytes};
 ghost use Rattle.pg_link.specs.names.Files.{is_path_of};
 ghost use Rattle.pg_link.specs.names.Names.{texts};
 ghost use Rattle.pg_link.specs.walk.Reads.{Reads, ReadsApart, ReadsEach, world_of};
@@ -66,8 +66,6 @@ impl Walk {
         ensures opened { OnOk result ((p : List ℕ) (ps : List (List ℕ))
             → walking.open_paths self.old ≡ p ∷ ps → walking.open_paths self.new ≡ ps) }
         ensures comes { OnOk result (walking.ComesLast self.old self.new path.now file) }
-        ensures grows { OnOk result (length (walking.entries self.old)
-            ≤ length (walking.entries self.new)) }
         ensures failure { IfErr result (λ e. e ≡ error.Memory) }
     {
         let path = String::from_str(alloc, path)?;
@@ -128,16 +126,10 @@ fn visit<S: Sources>(
         path.now
         → spec.Refuses (world_of S.Sources source.old folder.now roots) e) }
     ensures opened { OnOk result (walking.open_paths walk.new ≡ walking.open_paths walk.old) }
-    ensures has { OnOk result (walking.has_path walk.new path.now ≡ true) }
-    ensures kept { OnOk result (walking.Keeps walk.old walk.new) }
-    // What has come is the path, or what it leads to by the files that are kept.
     ensures extends { OnOk result (walking.Extends walk.old walk.new) }
-    ensures come { OnOk result (walking.ComeBy walk.old walk.new path.now) }
-    // They come in post-order of imports.
+    // Files come in post-order of imports.
     ensures lists { OnOk result
         (walking.VisitLists (walking.listed_paths walk.old) (path.now ∷ []) walk.new) }
-    ensures grows { OnOk result (length (walking.entries walk.old)
-        ≤ length (walking.entries walk.new)) }
     // Whatever is answered, the source was asked for no path twice, and for none that was begun.
     ensures reads_new { ReadsNew folder.now (S.reads source.old) (S.reads source.new) walk.old }
     ensures reads_all { OnOk result (ReadsAll folder.now (S.reads source.old)

@@ -9,8 +9,8 @@ mod sources;
 
 pub use counts::{add, note, note_path, path_record, record, tally};
 pub use errors::{code, place_of_fault};
-pub use linked::{files, place, places, resolve, targets};
+pub use linked::{enum_names, files, place, places, resolve, targets};
 pub use sources::{
-    folder, folder_read, link, link_below, link_error_of, link_error_of_failed, link_refused,
-    listed_read, place_in, read_file, source_error_of, source_error_of_failed,
+    folder, folder_read, link, link_below, link_error_of, link_error_of_failed, link_order,
+    link_refused, listed_read, place_in, read_file, source_error_of, source_error_of_failed,
 };

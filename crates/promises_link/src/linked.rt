@@ -1,11 +1,11 @@
 //! What a caller may ask of linked files.
 
-ghost use Rattle.std.specs.Prelude.{◌≡◌, ◌<◌, ◌∷◌, IfErr, IfNone, IfOk, IfSome, Some, length, map, slice_get, ℕ};
+ghost use Rattle.std.specs.Prelude.{◌≡◌, ◌<◌, ◌∷◌, IfErr, IfNone, IfOk, IfSome, Some, length, map, slice_get, string_bytes, ℕ};
 ghost use Rattle.pg_link.specs.names.Files.{all_names, visible_names};
-ghost use Rattle.pg_link.specs.names.Names.{texts};
+ghost use Rattle.pg_link.specs.names.Names.{texts, without_dot};
 ghost use Rattle.pg_link.specs.Linked.{IsDeclaredAt, IsDeclaredNowhere, IsLinkedUp};
 ghost use Rattle.pg_link.specs.names.Resolves.{Resolves, reference};
-ghost use Rattle.pg_link.specs.uses.Targets.{file_places, file_targets};
+ghost use Rattle.pg_link.specs.uses.Targets.{all_declared, enum_names, file_places, file_targets};
 ghost use Rattle.pg_link.specs.uses.UseFaults.{IsNoName};
 ghost use Rattle.pg_link.specs.walk.Walk.{Entry, outlines, path_of};
 
@@ -38,6 +38,14 @@ pub fn places(linked: &Linked, file: usize) -> &[usize]
     ensures { (e : Entry) → slice_get linked.now.files file ≡ Some e → result.now ≡ file_places e }
 {
     linked.places(file)
+}
+
+/// What `Linked::enum_names` answers.
+pub fn enum_names(linked: &Linked) -> &[String]
+    ensures { map string_bytes result.now
+        ≡ map without_dot (enum_names (all_declared linked.now.files)) }
+{
+    linked.enum_names()
 }
 
 /// What `Linked::resolve` answers.

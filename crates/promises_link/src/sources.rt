@@ -5,7 +5,8 @@ ghost use Rattle.pg_link.specs.walk.FolderPath.{path_below};
 ghost use Rattle.pg_link.specs.names.Names.{texts};
 ghost use Rattle.pg_link.specs.Linked.{IsLinkedUp};
 ghost use Rattle.pg_link.specs.Listed.{gives, lacks};
-ghost use Rattle.pg_link.specs.walk.Reads.{ReadsApart, ReadsEach};
+ghost use Rattle.pg_link.specs.walk.Reads.{ReadsApart, ReadsEach, world_of};
+ghost use Rattle.pg_link.specs.walk.PostOrder.{IsPostOrder};
 ghost use Rattle.pg_link.specs.Sources.{also, AtMostOne, failures_in};
 ghost use Rattle.pg_link.specs.uses.UseFaults.{LinkRefuses};
 ghost use Rattle.pg_link.specs.walk.Walk as spec;
@@ -19,12 +20,10 @@ use std::rt::Files;
 /// What `link` answers.
 pub fn link<S: Sources>(alloc: Global, source: &mut S, roots: &[&str]) -> Result<Linked, LinkError>
     ensures linked { IfOk result (λ linked.
-        spec.IsLinked (spec.world (S.may_give source.old) (S.may_lack source.old) (codes ".")
-        (texts roots.now)) linked.files) }
+        spec.IsLinked (world_of S.Sources source.old (codes ".") (texts roots.now)) linked.files) }
     ensures settled { IfOk result IsLinkedUp }
     ensures refused { IfErr result (LinkRefuses
-        (spec.world (S.may_give source.old) (S.may_lack source.old) (codes ".")
-        (texts roots.now))) }
+        (world_of S.Sources source.old (codes ".") (texts roots.now))) }
     ensures reads_apart { ReadsApart (S.reads source.old) (S.reads source.new) }
     ensures reads_each { IfOk result
         (λ linked. ReadsEach (codes ".") (S.reads source.old) (S.reads source.new) linked.files) }
@@ -35,6 +34,19 @@ pub fn link<S: Sources>(alloc: Global, source: &mut S, roots: &[&str]) -> Result
     pg_link::link(alloc, source, roots)
 }
 
+/// In which order `link` answers files.
+pub fn link_order<S: Sources>(
+    alloc: Global,
+    source: &mut S,
+    ordered: &[&str],
+) -> Result<Linked, LinkError>
+    ensures { IfOk result (λ linked.
+        IsPostOrder (texts ordered.now) (spec.files_in_order linked.files)) }
+{
+    let linked = pg_link::link(alloc, source, ordered)?;
+    Ok(linked)
+}
+
 /// What `link_below` answers.
 pub fn link_below<S: Sources>(
     alloc: Global,
@@ -43,8 +55,7 @@ pub fn link_below<S: Sources>(
     roots: &[&str],
 ) -> Result<Linked, LinkError>
     ensures linked { IfOk result (λ linked.
-        spec.IsLinked (spec.world (S.may_give source.old) (S.may_lack source.old) folder.now
-        (texts roots.now)) linked.files) }
+        spec.IsLinked (world_of S.Sources source.old folder.now (texts roots.now)) linked.files) }
     ensures settled { IfOk result IsLinkedUp }
     ensures reads_apart { ReadsApart (S.reads source.old) (S.reads source.new) }
     ensures reads_each { IfOk result
@@ -64,7 +75,7 @@ pub fn link_refused<S: Sources>(
     bad: &[&str],
 ) -> Result<Linked, LinkError>
     ensures { IfErr result (LinkRefuses
-        (spec.world (S.may_give source.old) (S.may_lack source.old) folder.now (texts bad.now))) }
+        (world_of S.Sources source.old folder.now (texts bad.now))) }
 {
     pg_link::link_below(alloc, source, folder, bad)
 }

@@ -5,12 +5,13 @@ use Rattle.std.specs.List.{All, IsAmong}
 use Rattle.std.specs.Str.{bytes_eq}
 use Rattle.pg_link.specs.names.Files.{File, Import, Imports, Next, Further, HasNoCycle, InOrder, Differ, import_paths, is_path_of, paths_of}
 use Rattle.pg_link.specs.names.Names.{Text}
-use Rattle.pg_link.specs.walk.PostOrder.{Visits, all_visited, imports_at, listed_last, passed_over}
+use Rattle.pg_link.specs.walk.PostOrder.{imports_at}
+use Rattle.pg_schema.specs.standing.Visits.{Visits, all_visited, listed_last, passed_over}
 use Rattle.pg_link.specs.SmallFiles.{SmallFiles, IsImporting, chain, declared, file_a, file_b, file_c, file_d, line}
 use Rattle.pg_link.specs.names.Standing.{Standing, NoneTwice, may_share, standing}
 use Rattle.pg_link.specs.declared.names.Kind.TheVariants.{Message, Package}
 use Rattle.pg_link.specs.walk.Walk.{outlines}
-use Rattle.pg_link.proofs.lemmas.names.OnceLaws.{none_twice_is_once}
+use Rattle.pg_link.proofs.lemmas.names.OnceLaws.{once_per_name}
 use Rattle.pg_link.proofs.lemmas.walk.PostOrderLaws.{visits_once}
 use Rattle.pg_link.proofs.lemmas.names.SeenPaths.{among_map}
 use Rattle.pg_link.proofs.lemmas.names.VisibleLaws.{first_among}
@@ -40,7 +41,7 @@ imports_differ (f ∷ files) order file (suc i, (within, is)) = imports_differ f
 
 -- the first two have one name, and may not share it
 clash : (s t : Standing) (more : List Standing) → NoneTwice (s ∷ (t ∷ more)) → s.declared.name ≡ t.declared.name → may_share s.declared.kind t.declared.kind ≡ false → ⊥
-clash s t more none name not = true≢false (sym ((none_twice_is_once (s ∷ (t ∷ more))).0 none 0 1 s t (omega arith) refl refl name) ∙ not)
+clash s t more none name not = true≢false (sym (once_per_name (s ∷ (t ∷ more)) none 0 1 s t (omega arith) refl refl name) ∙ not)
 
 -- ---- the order of files
 

@@ -6,8 +6,7 @@ use Rattle.std.specs.Prelude.{ℕ, Bool, true, false, List, [], ◌∷◌, Optio
 use Rattle.pg_link.specs.declared.names.index.Visible as visible_files
 use Rattle.pg_link.specs.declared.names.Kind.{Kind}
 use Rattle.pg_link.specs.declared.names.Named as nameds
-use Rattle.pg_link.specs.names.Names.{Text, Names}
-use Rattle.pg_link.specs.names.Resolves.{Reference}
+use Rattle.pg_link.specs.names.Names.{Names}
 
 -- the marks of what is visible in a file
 abbrev pub visible_of : Option visible_files.Visible → Option (List Bool)
@@ -34,6 +33,3 @@ kind_seen visible named = if is_seen visible (files_of named) then Some named.ki
 -- what bears a full name in the files that are seen
 abbrev pub names_seen : {S : Type 0} → HashMap (String Global) nameds.Named S → Option (List Bool) → Names
 names_seen index visible full = option_and_then (kind_seen visible) (get_by_text index full)
-
-abbrev pub word_alone : Text → Reference
-word_alone word = record { is_full = false; first = word; more = [] }

@@ -2,7 +2,7 @@
 use Rattle.std.specs.Global.{Global}
 use Rattle.std.specs.HashMap.{HashMap, get_by_text}
 use Rattle.std.specs.Option.{option_map}
-use Rattle.std.specs.Prelude.{◌≡◌, ℕ, Bool, true, false, List, [], ◌∷◌, ◌++◌, ◌+◌, Option, Some, None, length, map, String}
+use Rattle.std.specs.Prelude.{◌≡◌, ℕ, Bool, true, false, List, [], ◌∷◌, ◌++◌, ◌+◌, Option, Some, None, length, map, string_bytes, String}
 use Rattle.pg_link.specs.declared.error.LinkError as errors
 use Rattle.pg_link.specs.declared.error.LinkError.TheVariants as error
 use Rattle.pg_link.specs.declared.names.index.Index as indexes
@@ -13,7 +13,7 @@ use Rattle.pg_link.specs.declared.uses.target.Target.{Target}
 use Rattle.pg_link.specs.declared.uses.target.Target.TheVariants as targets
 use Rattle.pg_link.specs.names.Files.{Declared}
 use Rattle.pg_link.specs.inner.Index.{files_of}
-use Rattle.pg_link.specs.names.Names.{Text}
+use Rattle.pg_link.specs.names.Names.{Text, without_dot}
 use Rattle.pg_link.specs.names.Standing.{Standing, Bearer, bearer, MayStand, StandsTwice, NoneTwice, standing}
 use Rattle.pg_link.specs.uses.Targets.{enum_names, message_names, numbered}
 use Rattle.pg_link.specs.walk.Walk.{IsPlace}
@@ -36,6 +36,10 @@ added s (Some b) = record { kind = b.kind; at = b.at; files = b.files ++ s.file 
 abbrev pub one_if : Bool → ℕ
 one_if true = 1
 one_if false = 0
+
+abbrev pub name_if : Bool → Text → List Text
+name_if true name = name ∷ []
+name_if false name = []
 
 -- the number of the next that is declared as this
 abbrev pub next_number : indexes.Index → Kind → ℕ
@@ -61,10 +65,10 @@ target_of n = target_by n.kind n.number
 abbrev pub declared_in : List Standing → List Declared
 declared_in = map (λ s. s.declared)
 
--- Each message type and each enum has its number among all of its kind.
+-- Each message type and each enum has its number among all of its kind, and each number of an enum its name.
 pub record IsNumbered (index : indexes.Index) (all : List Standing) : Type 0 where
   pub messages : length index.messages.items ≡ length (message_names (declared_in all))
-  pub enums : length index.enums.items ≡ length (enum_names (declared_in all))
+  pub enums : map string_bytes index.enums.items ≡ map without_dot (enum_names (declared_in all))
   pub each : (full : Text) (n : nameds.Named) → get_by_text index.names full ≡ Some n
       → numbered (declared_in all) true full n.kind ≡ target_of n
 

@@ -1,7 +1,7 @@
 -- What is kept while imports are followed.
 use Rattle.std.specs.Global.{Global}
 use Rattle.std.specs.List.{All, Contains}
-use Rattle.std.specs.Prelude.{◌≡◌, ◌≤◌, ◌+◌, ◌⊎◌, Bool, true, false, List, [], ◌∷◌, ◌++◌, map, reverse, length, Option, Some, None, String, string_bytes, ◌||◌}
+use Rattle.std.specs.Prelude.{◌≡◌, ◌≤◌, ◌+◌, Bool, true, false, List, [], ◌∷◌, ◌++◌, map, reverse, length, Option, Some, None, String, string_bytes, ◌||◌}
 use Rattle.pg_lex.specs.Faults.{place_of as lex_place}
 use Rattle.pg_link.specs.declared.error.LinkError as errors
 use Rattle.pg_link.specs.declared.error.LinkError.TheVariants as error
@@ -9,11 +9,11 @@ use Rattle.pg_link.specs.declared.walk.Asking as askings
 use Rattle.pg_link.specs.declared.walk.SourceFile as kept
 use Rattle.pg_link.specs.declared.walk.Walk as walks
 use Rattle.pg_link.specs.walk.FolderPath.{path_below}
-use Rattle.pg_link.specs.names.Files.{File, Differ, InOrder, is_path_of, paths_of}
+use Rattle.pg_link.specs.names.Files.{Differ, InOrder, is_path_of, paths_of}
 use Rattle.pg_link.specs.names.Names.{Text}
 use Rattle.pg_link.specs.walk.PostOrder.{AreListed}
 use Rattle.pg_link.specs.Sources.{also}
-use Rattle.pg_link.specs.walk.Walk.{World, ImportsAt, Comes, Entry, files_in_order, outlines, IsEntry, ComesTo, IsPlace, syntax_place, HasNoTokens, HasNoTree}
+use Rattle.pg_link.specs.walk.Walk.{World, ImportsAt, Comes, Entry, files_in_order, outlines, IsEntry, IsPlace, syntax_place, HasNoTokens, HasNoTree}
 
 -- files that were read, while the imports of these paths are followed
 pub record IsSound (w : World) (open_paths : List Text) (entries : List Entry) : Type 0 where
@@ -31,18 +31,9 @@ open_paths walk = reverse (map string_bytes walk.opened.keys)
 abbrev pub has_path : walks.Walk → Text → Bool
 has_path walk path = is_path_of (paths_of (outlines (entries walk))) path
 
--- what was read is still there
-abbrev pub Keeps : walks.Walk → walks.Walk → Type 0
-Keeps old new = (path : Text) → has_path old path ≡ true → has_path new path ≡ true
-
--- the files that were read are still there, after those that have come
+-- the files that were read are still there, before those that have come
 abbrev pub Extends : walks.Walk → walks.Walk → Type 0
-Extends old new = (front : List File) × (outlines (entries new) ≡ front ++ outlines (entries old))
-
--- the path comes to each file that has come, by what was read
-abbrev pub ComeBy : walks.Walk → walks.Walk → Text → Type 0
-ComeBy old new path = (other : Text) → has_path new other ≡ true
-    → (has_path old other ≡ true) ⊎ ComesTo (outlines (entries new)) path other
+Extends old new = (more : List Entry) × (entries new ≡ entries old ++ more)
 
 -- a visit of these paths, after those in front, lists all that was read
 abbrev pub VisitLists : (front visited : List Text) → walks.Walk → Type 0
@@ -75,12 +66,10 @@ IsImportFault opened before a path (error.DuplicateImport place) = IsPlace place
 IsImportFault opened before a path error.Memory = Unit {0}
 IsImportFault opened before a path _ = ⊥
 
--- the file was appended where it wasn't there; what was there still is
-pub record ComesLast (old new : walks.Walk) (path : Text) (file : kept.SourceFile) : Type 0 where
-  pub is_there : has_path new path ≡ true
-  pub keeps : Keeps old new
-  pub is_last : has_path old path ≡ false
-      → (name : String Global) × (string_bytes name ≡ path) × (entries new ≡ entries old ++ (name, file) ∷ [])
+-- the file was appended where it wasn't there
+abbrev pub ComesLast : (old new : walks.Walk) → Text → kept.SourceFile → Type 0
+ComesLast old new path file = has_path old path ≡ false
+    → (name : String Global) × (string_bytes name ≡ path) × (entries new ≡ entries old ++ (name, file) ∷ [])
 
 -- what was read is sound, and the path is asked for where the walk is
 pub record Follows (w : World) (walk : walks.Walk) (asking : Option askings.Asking) (path : Text) : Type 0 where

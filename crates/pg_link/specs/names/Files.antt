@@ -112,8 +112,11 @@ pub data Leads (files : List File) : Text → Text → Type 0 where
 abbrev pub HasNoCycle : List File → Type 0
 HasNoCycle files = (path : Text) → Leads files path path → ⊥
 
--- Of files in order, what is computed is what is visible in a file, and nothing else.
-abbrev pub SeenPathsAreSeen : Type 0
-SeenPathsAreSeen = (files : List File) → InOrder files → Differ (paths_of files) → (path : Text)
-    → is_path_of (paths_of files) path ≡ true
+-- What is computed of each of the files is what is visible in it, and nothing else.
+abbrev pub SeesThese : List File → Type 0
+SeesThese files = (path : Text) → is_path_of (paths_of files) path ≡ true
     → (other : Text) → (is_path_of (seen_paths files path) other ≡ true) ↔ Sees files path other
+
+-- It is so of all files in order.
+abbrev pub SeenPathsAreSeen : Type 0
+SeenPathsAreSeen = (files : List File) → InOrder files → Differ (paths_of files) → SeesThese files

@@ -1,7 +1,7 @@
 -- Names in full, and what bears them (proto3 language guide, "Packages and Name Resolution").
 use Rattle.std.specs.Borrow.{Bor}
 use Rattle.std.specs.Option.{option_map_or}
-use Rattle.std.specs.Prelude.{ℕ, Bool, true, false, List, [], ◌∷◌, ◌++◌, Option, map}
+use Rattle.std.specs.Prelude.{◌==◌, ℕ, Bool, true, false, List, [], ◌∷◌, ◌++◌, if◌then◌else◌, Option, map}
 use Rattle.pg_link.specs.declared.names.Kind.{Kind}
 use Rattle.pg_link.specs.declared.names.Kind.TheVariants.{Package, Message, Enum, Entry}
 
@@ -12,6 +12,11 @@ Text = List ℕ
 abbrev pub called : List Text → Text
 called [] = []
 called (word ∷ words) = 46 ∷ (word ++ called words)
+
+-- a full name without the dot in front
+abbrev pub without_dot : Text → Text
+without_dot [] = []
+without_dot (byte ∷ rest) = if byte == 46 then rest else byte ∷ rest
 
 -- what bears a full name, of the names that are sought
 abbrev pub Names : Type 0

@@ -19,6 +19,13 @@ pub(crate) struct Visible<'a> {
     pub marks: &'a [bool],
 }
 
+/// A full name without the dot in front.
+pub(crate) fn behind_dot(full: &str) -> &str
+    ensures { result.now ≡ names.without_dot full.now }
+{
+    full.strip_prefix(".").unwrap_or(full)
+}
+
 /// Whether the file that asks is one of these, and is visible in itself.
 fn is_own(visible: Visible<'_>, files: &[usize]) -> bool
     ensures { result ≡ true → spec.sees_one visible.entry.marks.now files.now ≡ true }
@@ -112,23 +119,13 @@ pub(crate) fn push_name(text: &mut String, name: &TypeName) -> Result<(), AllocE
     Ok(())
 }
 
-/// The word of a name that is one word with no dot.
-fn only_word(name: &TypeName) -> Option<&str>
-    ensures { IfSome result (λ word. resolves.reference name.now ≡ spec.word_alone word.now) }
-{
-    if name.is_full || !name.path.more.is_empty() {
-        return None;
-    }
-    Some(name.path.first.text.as_str())
-}
-
-/// The names of all files, in the order in which they were first declared, and the indices among
-/// them of the message types and of the enums.
+/// The names of all files, in the order in which they were first declared, the indices among them
+/// of the message types, and the full names of the enums without a dot in front.
 #[derive(Debug, Drop)]
 pub(crate) struct Index {
     pub names: IndexMap<String, Named, TextKeys>,
     pub messages: Vec<usize>,
-    pub enums: Vec<usize>,
+    pub enums: Vec<String>,
 }
 
 impl Index {
@@ -147,40 +144,32 @@ impl Index {
         }
     }
 
-    /// What bears the name in the files that are seen, where the search for a word ends at it. As
-    /// what it is declared is looked at first: a part of a package, which may be in many files,
-    /// ends no such search.
-    fn seen_type(&self, visible: Option<Visible<'_>>, full: &str) -> Option<(&str, &Named)>
-        ensures borne { is_some result ≡ true
-            → option_map (λ f. (f.0.now, f.1.now.kind)) result
-            ≡ resolves.borne (spec.names_seen self.now.names (spec.visible_of visible.entry))
-            full.now }
+    /// What bears the name in the files that are seen, where the search for the first part of a
+    /// name ends at it, by the parts after that. As what it is declared is looked at first: a part
+    /// of a package, which may be in many files, ends no search for a word alone.
+    fn ended(
+        &self,
+        visible: Option<Visible<'_>>,
+        full: &str,
+        parts: &[Name],
+    ) -> Option<(&str, &Named)>
+        ensures borne { IfSome result (λ f. Some (f.0.now, f.1.now.kind) ≡ resolves.borne
+            (spec.names_seen self.now.names (spec.visible_of visible.entry)) full.now) }
         ensures ends { is_some result ≡ names.bears
-            (spec.names_seen self.now.names (spec.visible_of visible.entry)) names.ends_word
-            full.now }
+            (spec.names_seen self.now.names (spec.visible_of visible.entry))
+            (resolves.sought_among (resolves.part_words parts.now)) full.now }
         ensures held { IfSome result (λ f. get_by_text self.now.names f.0.now ≡ Some f.1.now) }
     {
         let (name, named) = self.names.get_key_value(full)?;
-        if named.kind.ends_word() && is_seen(visible, named) {
+        if ends_at(named.kind, parts) && is_seen(visible, named) {
             Some((name.as_str(), named))
         } else {
             None
         }
     }
 
-    /// Whether the search for the first part of a name ends at this full name.
-    fn ends(&self, visible: Option<Visible<'_>>, full: &str, parts: &[Name]) -> bool
-        ensures { result ≡ names.bears
-            (spec.names_seen self.now.names (spec.visible_of visible.entry))
-            (resolves.sought_among (resolves.part_words parts.now)) full.now }
-    {
-        match self.seen(visible, full) {
-            Some((_, named)) => ends_at(named.kind, parts),
-            None => false,
-        }
-    }
-
-    /// The full name of the innermost scope in which the search for a word ends.
+    /// The full name of the innermost scope in which the search for a word ends, and what bears the
+    /// word there.
     pub(crate) fn innermost(
         &self,
         alloc: Global,
@@ -188,74 +177,26 @@ impl Index {
         parts: &[Name],
         word: &str,
         scope: &[&str],
-    ) -> Result<Option<String>, AllocError>
-        ensures { IfOk result (λ outer. option_map string_bytes outer ≡ option_map names.called
+    ) -> Result<Option<(String, &str, &Named)>, AllocError>
+        ensures outer { IfOk result (λ f. option_map (λ f. string_bytes f.0) f
+            ≡ option_map names.called
             (resolves.innermost (spec.names_seen self.now.names (spec.visible_of visible.entry))
             (resolves.sought_among (resolves.part_words parts.now)) (names.called (word.now ∷ []))
             (names.texts scope.now))) }
-    {
-        let mut full = called(alloc, scope)?;
-        let mut len = scope.len();
-        'scopes: loop {
-            push_word(&mut full, word)?;
-            let ends = self.ends(visible, full.as_str(), parts);
-            pop_word(&mut full, word);
-            if ends {
-                return Ok(Some(full));
-            }
-            if len == 0 {
-                return Ok(None);
-            }
-            len -= 1;
-            pop_word(&mut full, scope[len]);
-        }
-    }
-
-    /// The full name of the scope in which a name is looked up: it is that of no words where the
-    /// name has a dot in front.
-    fn scope_of(
-        &self,
-        alloc: Global,
-        visible: Option<Visible<'_>>,
-        scope: &[&str],
-        name: &TypeName,
-    ) -> Result<Option<String>, AllocError>
-        ensures { IfOk result (λ outer. option_map
-            (λ o. string_bytes o ++ resolves.written (resolves.reference name.now)) outer
-            ≡ resolves.meant
-            (spec.names_seen self.now.names (spec.visible_of visible.entry))
-            (names.texts scope.now) (resolves.reference name.now)) }
-    {
-        if name.is_full {
-            return Ok(Some(String::with_capacity(alloc, ROOM)?));
-        }
-        let path = &name.path;
-        self.innermost(alloc, visible, &path.more, path.first.text.as_str(), scope)
-    }
-
-    /// What a word names in a scope, of the files that are seen: what the search for it ends at.
-    fn found_word(
-        &self,
-        alloc: Global,
-        visible: Option<Visible<'_>>,
-        scope: &[&str],
-        word: &str,
-    ) -> Result<Option<(&str, &Named)>, AllocError>
-        ensures found { IfOk result (λ f. option_map (λ f. (f.0.now, f.1.now.kind)) f
-            ≡ resolves.found
-            (spec.names_seen self.now.names (spec.visible_of visible.entry))
-            (names.texts scope.now) (spec.word_alone word.now)) }
+        ensures borne { IfOk result (λ f. IfSome f (λ f. Some (f.1.now, f.2.now.kind)
+            ≡ resolves.borne (spec.names_seen self.now.names (spec.visible_of visible.entry))
+            (string_bytes f.0 ++ names.called (word.now ∷ [])))) }
         ensures held { IfOk result (λ f. IfSome f
-            (λ f. get_by_text self.now.names f.0.now ≡ Some f.1.now)) }
+            (λ f. get_by_text self.now.names f.1.now ≡ Some f.2.now)) }
     {
         let mut full = called(alloc, scope)?;
         let mut len = scope.len();
         'scopes: loop {
             push_word(&mut full, word)?;
-            let found = self.seen_type(visible, full.as_str());
+            let ended = self.ended(visible, full.as_str(), parts);
             pop_word(&mut full, word);
-            if found.is_some() {
-                return Ok(found);
+            if let Some((name, named)) = ended {
+                return Ok(Some((full, name, named)));
             }
             if len == 0 {
                 return Ok(None);
@@ -265,8 +206,8 @@ impl Index {
         }
     }
 
-    /// What a name names in a scope, of the files that are seen. A word alone is looked for but
-    /// once in each scope.
+    /// What a name names in a scope, of the files that are seen. With a dot in front it is a full
+    /// name; a word alone is looked for but once in each scope.
     pub(crate) fn found(
         &self,
         alloc: Global,
@@ -281,12 +222,20 @@ impl Index {
         ensures held { IfOk result (λ f. IfSome f
             (λ f. get_by_text self.now.names f.0.now ≡ Some f.1.now)) }
     {
-        if let Some(word) = only_word(name) {
-            return self.found_word(alloc, visible, scope, word);
+        if name.is_full {
+            let mut text = String::with_capacity(alloc, ROOM)?;
+            push_name(&mut text, name)?;
+            return Ok(self.seen(visible, text.as_str()));
         }
-        let Some(mut full) = self.scope_of(alloc, visible, scope, name)? else {
+        let first = name.path.first.text.as_str();
+        let parts: &[Name] = &name.path.more;
+        let Some((mut full, word, named)) = self.innermost(alloc, visible, parts, first, scope)?
+        else {
             return Ok(None);
         };
+        if parts.is_empty() {
+            return Ok(Some((word, named)));
+        }
         push_name(&mut full, name)?;
         Ok(self.seen(visible, full.as_str()))
     }

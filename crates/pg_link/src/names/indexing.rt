@@ -1,7 +1,7 @@
 //! The names of files, put into an index one by one.
-ghost use Rattle.std.specs.Prelude.{◌≡◌, ◌+◌, IfErr, IfOk, IfSome, OnOk, Some, None, false, length};
+ghost use Rattle.std.specs.Prelude.{◌≡◌, ◌+◌, ◌++◌, IfErr, IfOk, IfSome, OnOk, Some, None, false, length, map, string_bytes};
 ghost use Rattle.pg_link.specs.names.Files.{Declared};
-ghost use Rattle.pg_link.specs.names.Names.{is_package};
+ghost use Rattle.pg_link.specs.names.Names.{is_package, without_dot};
 ghost use Rattle.pg_link.specs.inner.Made.{declared_of};
 ghost use Rattle.pg_link.specs.names.Standing as spec;
 ghost use Rattle.pg_link.specs.inner.Indexed as indexed;
@@ -9,7 +9,7 @@ ghost use Rattle.pg_link.specs.uses.Targets.{is_enum, is_message};
 
 use crate::error::{LinkError, place_in};
 use crate::names::declares::{DeclaredName, declared_names};
-use crate::names::index::Index;
+use crate::names::index::{Index, behind_dot};
 use crate::names::text_keys::TextKeys;
 use crate::names::{Kind, Named};
 use crate::walk::SourceFile;
@@ -67,18 +67,25 @@ impl Index {
         }
     }
 
-    /// Counts one more that is declared as this, whose name has this index.
-    fn count(&mut self, kind: Kind, place: usize) -> Result<(), AllocError>
+    /// Counts one more that is declared, and keeps the name of an enum.
+    fn count(&mut self, alloc: Global, declared: &DeclaredName) -> Result<(), AllocError>
         ensures names { OnOk result (self.new.names ≡ self.old.names) }
         ensures messages { OnOk result
             (length self.new.messages.items
-            ≡ length self.old.messages.items + indexed.one_if (is_message kind)) }
-        ensures enums { OnOk result (length self.new.enums.items
-            ≡ length self.old.enums.items + indexed.one_if (is_enum kind)) }
+            ≡ length self.old.messages.items + indexed.one_if (is_message declared.now.kind)) }
+        ensures enums { OnOk result (map string_bytes self.new.enums.items
+            ≡ map string_bytes self.old.enums.items ++ indexed.name_if (is_enum declared.now.kind)
+            (without_dot (string_bytes declared.now.name))) }
     {
-        match kind {
-            Kind::Message => self.messages.push(place)?,
-            Kind::Enum => self.enums.push(place)?,
+        match declared.kind {
+            Kind::Message => {
+                let place = self.names.len();
+                self.messages.push(place)?;
+            }
+            Kind::Enum => {
+                let name = String::from_str(alloc, behind_dot(&declared.name))?;
+                self.enums.push(name)?;
+            }
             _ => {}
         }
         Ok(())
@@ -95,23 +102,18 @@ impl Index {
         ensures { IfOk result (λ may. indexed.Adds self.old self.new
             (spec.standing file (declared_of declared)) may) }
     {
-        let kind = declared.kind;
-        let number = self.next_number(kind);
-        let place = self.names.len();
-        let name = declared.name.clone()?;
+        let number = self.next_number(declared.kind);
         let alone = first(alloc, file, &declared, number);
+        self.count(alloc, &declared)?;
+        let name = declared.name.clone()?;
         match self.names.insert(name, alone)? {
-            None => {
-                self.count(kind, place)?;
-                Ok(true)
-            }
+            None => Ok(true),
             Some(named) => {
-                if !may_share(named.kind, kind) {
+                if !may_share(named.kind, declared.kind) {
                     return Ok(false);
                 }
                 let more = again(file, named, number)?;
                 self.names.insert(declared.name, more)?;
-                self.count(kind, place)?;
                 Ok(true)
             }
         }
@@ -129,13 +131,12 @@ impl Index {
         ensures { IfOk result (λ may. indexed.Adds self.old self.new
             (spec.standing file (declared_of declared)) may) }
     {
-        let kind = declared.kind;
-        let number = self.next_number(kind);
+        let number = self.next_number(declared.kind);
         let named = first(alloc, file, &declared, number);
-        let place = self.names.len();
+        self.count(alloc, &declared)?;
         match self.names.insert(declared.name, named)? {
             Some(_) => return Ok(false),
-            None => self.count(kind, place)?,
+            None => {}
         }
         Ok(true)
     }

@@ -52,6 +52,13 @@ fn is_for(last: &Option<FoundScope<'_>>, site: &Site<'_>) -> bool
     are_same(&outer.scope, &site.scope)
 }
 
+/// The full name of a scope, without what was found there.
+fn scope_of(found: Option<(String, &str, &Named)>) -> Option<String>
+    ensures { result ≡ option_map (λ f. f.0) found.entry }
+{
+    found.map(|found| found.0)
+}
+
 impl Index {
     /// Looks for the first part of a dotted name in the scopes around it, unless it was just found.
     fn recall<'a>(
@@ -74,7 +81,8 @@ impl Index {
         }
         let path = &site.name.path;
         let word = path.first.text.as_str();
-        let full = self.innermost(alloc, Some(visible), &path.more, word, &site.scope)?;
+        let found = self.innermost(alloc, Some(visible), &path.more, word, &site.scope)?;
+        let full = scope_of(found);
         let scope = site.scope.clone()?;
         *last = Some(FoundScope { scope, word, full });
         Ok(())

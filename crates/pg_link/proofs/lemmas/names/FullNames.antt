@@ -1,5 +1,5 @@
 -- Full names begin with a dot, and names through the index of linked files.
-use Rattle.std.proofs.Common.{◌≡◌, ◌∙◌, ℕ, Bool, true, false, cond, List, [], ◌∷◌, ◌++◌, drop, refl, ap, subst, Option, Some, None, Result, Ok, Err, IfOk, IfErr}
+use Rattle.std.proofs.Common.{◌≡◌, ◌∙◌, ℕ, Bool, true, false, cond, List, [], ◌∷◌, ◌++◌, refl, ap, subst, Option, Some, None, Result, Ok, Err, IfOk, IfErr}
 use Rattle.std.proofs.lemmas.Option.{same_Some}
 use Rattle.std.specs.Option.{option_map, option_and_then}
 use Rattle.pg_link.specs.declared.names.Kind.{Kind}
@@ -36,13 +36,6 @@ found_dot names (Some m) full kind dotted is = dotted full (ap (λ (t : Text). S
 pub has_dot : (names : Names) (scope : List Text) (name : Reference) (full : Text) → Resolves names scope name full → HasDot full
 has_dot names scope name full r =
     found_dot names (meant names scope name) full r.kind (λ f is. meant_by names scope name name.is_full f is) r.is_found
-
-pub drop_none : (xs : Text) → drop 0 xs ≡ xs
-drop_none [] = refl
-drop_none (x ∷ xs) = refl
-
-pub stripped : (x full : Text) (k : ℕ) (rest : Text) → full ≡ 46 ∷ rest → k ≡ 1 → x ≡ drop k full → x ≡ rest
-stripped x full k rest is one same = same ∙ (ap (λ (n : ℕ). drop n full) one ∙ (ap (drop 1) is ∙ drop_none rest))
 
 pub if_ok : {X E : Type 0} (P Q : X → Type 0) (r : Result X E) → ((x : X) → P x → Q x) → IfOk r P → IfOk r Q
 if_ok P Q (Ok x) more is = more x is

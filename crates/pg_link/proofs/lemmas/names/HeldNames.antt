@@ -107,7 +107,7 @@ found_by : {X : Type 0} (q : X → Bool) (z : X) (xs : List X) (x : X) (b : Bool
 found_by q z xs x true pass rest is = let same = same_Some z x is in ((zero, (omega arith, sym same)), subst (λ w. q w ≡ true) same pass)
 found_by q z xs x false fail rest is = let h = rest is in (later_among z xs x h.0, h.1)
 
-find_among : {X : Type 0} (q : X → Bool) (xs : List X) (x : X) → find q xs ≡ Some x → IsAmong xs x × (q x ≡ true)
+pub find_among : {X : Type 0} (q : X → Bool) (xs : List X) (x : X) → find q xs ≡ Some x → IsAmong xs x × (q x ≡ true)
 find_among q [] x is = absurd (none_some x is)
 find_among q (z ∷ xs) x is = found_by q z xs x (q z) refl (find_among q xs x) is
 

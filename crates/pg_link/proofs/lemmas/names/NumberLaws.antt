@@ -1,7 +1,7 @@
 -- The numbers of message types and enums, with one more after the others.
-use Rattle.std.proofs.Common.{◌≡◌, ◌∙◌, ◌⊎◌, inl, inr, ℕ, suc, ◌<◌, ◌≤◌, ◌+◌, Bool, true, false, cond, List, [], ◌∷◌, ◌++◌, map, filter, length, refl, sym, ap, subst, true≢false, nat_lt, arith, Option, Some, None, position}
+use Rattle.std.proofs.Common.{◌≡◌, ◌∙◌, ◌⊎◌, inl, inr, ℕ, suc, ◌<◌, ◌≤◌, ◌+◌, Bool, true, false, cond, List, [], ◌∷◌, ◌++◌, map, filter, length, refl, sym, ap, subst, true≢false, nat_lt, arith, Option, Some, None, position, string_bytes}
 use Rattle.std.proofs.lemmas.Bool.{lt-ltb, le-ltb, cases_lt, or_parts}
-use Rattle.std.proofs.lemmas.List.{length-append, map-append}
+use Rattle.std.proofs.lemmas.List.{length-append, length-map, map-append}
 use Rattle.std.proofs.lemmas.List.Elements.{filter-append}
 use Rattle.std.proofs.lemmas.Option.{same_Some}
 use Rattle.std.specs.HashMap.{get_by_text}
@@ -15,9 +15,9 @@ use Rattle.pg_link.specs.declared.names.Kind.TheVariants as kinds
 use Rattle.pg_link.specs.declared.names.Named as nameds
 use Rattle.pg_link.specs.declared.uses.target.Target.TheVariants as targets
 use Rattle.pg_link.specs.names.Files.{Declared}
-use Rattle.pg_link.specs.names.Names.{Text, is_package}
+use Rattle.pg_link.specs.names.Names.{Text, is_package, without_dot}
 use Rattle.pg_link.specs.names.Standing.{Standing, Bearer, MayStand, bearer, bearers}
-use Rattle.pg_link.specs.inner.Indexed.{IsNumbered, added, declared_in, next_number, one_if, target_by, target_of, view}
+use Rattle.pg_link.specs.inner.Indexed.{IsNumbered, added, declared_in, name_if, next_number, one_if, target_by, target_of, view}
 use Rattle.pg_link.specs.uses.Targets.{enum_names, is_enum, is_message, message_names, names_of, number_in, numbered}
 use Rattle.pg_link.proofs.lemmas.names.HeldNames.{among_filter, both_true, filter_among, none_bears, package_is}
 use Rattle.pg_link.proofs.lemmas.names.FileMarks.{none_some, step_false, step_true}
@@ -93,6 +93,15 @@ count_push test ds d =
     ap length (names_push test ds d) ∙ (length-append (names_of test ds) (cond (test d.kind) (d.name ∷ []) [])
     ∙ ap (λ (n : ℕ). length (names_of test ds) + n) (one_length (test d.kind) d.name))
 
+enum_push : (ds : List Declared) (d : Declared) → map without_dot (enum_names ds) ++ name_if (is_enum d.kind) (without_dot d.name) ≡ map without_dot (enum_names (ds ++ d ∷ []))
+enum_push ds d =
+    ap (λ ns. map without_dot (enum_names ds) ++ ns) (by (is_enum d.kind))
+    ∙ (sym (map-append without_dot (enum_names ds) (cond (is_enum d.kind) (d.name ∷ []) [])) ∙ ap (map without_dot) (sym (names_push is_enum ds d)))
+  where
+    by : (b : Bool) → name_if b (without_dot d.name) ≡ map without_dot (cond b (d.name ∷ []) [])
+    by true = refl
+    by false = refl
+
 number_stays : (test : Kind → Bool) (ds : List Declared) (d : Declared) (full : Text) (k : ℕ) → number_in (names_of test ds) full ≡ Some k
     → number_in (names_of test (ds ++ d ∷ [])) full ≡ Some k
 number_stays test ds d full k at =
@@ -147,6 +156,9 @@ none_named_by test all full false none any = any
 none_named : (test : Kind → Bool) (all : List Standing) (full : Text) → bearer all full ≡ None → list_any (bytes_eq full) (names_of test (declared_in all)) ≡ false
 none_named test all full none = none_named_by test all full (list_any (bytes_eq full) (names_of test (declared_in all))) none refl
 
+enums_long : (index : indexes.Index) (all : List Standing) → IsNumbered index all → length index.enums.items ≡ length (enum_names (declared_in all))
+enums_long index all numbered = sym (length-map index.enums.items string_bytes) ∙ (ap length numbered.enums ∙ length-map (enum_names (declared_in all)) without_dot)
+
 -- the target of a new name
 new_target : (old : indexes.Index) (all : List Standing) (s : Standing) (number : ℕ) (kind : Kind) → IsNumbered old all → bearer all s.declared.name ≡ None
     → s.declared.kind ≡ kind → number ≡ next_number old kind → numbered (declared_in all ++ s.declared ∷ []) true s.declared.name kind ≡ target_by kind number
@@ -155,7 +167,7 @@ new_target old all s number kinds.Message before none is count =
     ∙ ap (λ (n : ℕ). Some (targets.Message n)) (sym before.messages ∙ sym count)
 new_target old all s number kinds.Enum before none is count =
     ap (option_map targets.Enum) (number_last is_enum (declared_in all) s.declared (ap is_enum is) (none_named is_enum all s.declared.name none))
-    ∙ ap (λ (n : ℕ). Some (targets.Enum n)) (sym before.enums ∙ sym count)
+    ∙ ap (λ (n : ℕ). Some (targets.Enum n)) (sym (enums_long old all before) ∙ sym count)
 new_target old all s number kinds.Package before none is count = refl
 new_target old all s number kinds.Entry before none is count = refl
 new_target old all s number kinds.Value before none is count = refl
@@ -188,15 +200,15 @@ each_by old new all s n m full false same before may made count at = target_stay
 pub numbered_more : (old new : indexes.Index) (all : List Standing) (s : Standing) (n : nameds.Named) (name : Text) → name ≡ s.declared.name
     → ((cs : Text) → get_by_text new.names cs ≡ update bytes_eq (get_by_text old.names) name (Some n) cs)
     → length new.messages.items ≡ length old.messages.items + one_if (is_message s.declared.kind)
-    → length new.enums.items ≡ length old.enums.items + one_if (is_enum s.declared.kind)
+    → map string_bytes new.enums.items ≡ map string_bytes old.enums.items ++ name_if (is_enum s.declared.kind) (without_dot s.declared.name)
     → MayStand all s → view n ≡ added s (bearer all s.declared.name) → n.number ≡ next_number old s.declared.kind
     → IsNumbered old all → IsNumbered new (all ++ s ∷ [])
 numbered_more old new all s n name same now messages enums may made count before =
     let push : declared_in (all ++ s ∷ []) ≡ declared_in all ++ s.declared ∷ [] = map-append (λ (x : Standing). x.declared) all (s ∷ []) in record {
       messages = messages ∙ (ap (λ (k : ℕ). k + one_if (is_message s.declared.kind)) before.messages
           ∙ (sym (count_push is_message (declared_in all) s.declared) ∙ ap (λ ds. length (message_names ds)) (sym push)));
-      enums = enums ∙ (ap (λ (k : ℕ). k + one_if (is_enum s.declared.kind)) before.enums
-          ∙ (sym (count_push is_enum (declared_in all) s.declared) ∙ ap (λ ds. length (enum_names ds)) (sym push)));
+      enums = enums ∙ (ap (λ ns. ns ++ name_if (is_enum s.declared.kind) (without_dot s.declared.name)) before.enums
+          ∙ (enum_push (declared_in all) s.declared ∙ ap (λ ds. map without_dot (enum_names ds)) (sym push)));
       each = λ full m at.
           subst (λ (ds : List Declared). numbered ds true full m.kind ≡ target_of m) (sym push)
           (each_by old new all s n m full (bytes_eq s.declared.name full) refl before may made count

@@ -6,7 +6,7 @@ use Rattle.std.proofs.lemmas.Slice.Eq.{bytes_eq-Decides}
 use Rattle.std.specs.Str.{bytes_eq}
 use Rattle.pg_link.specs.declared.names.Kind.{Kind}
 use Rattle.pg_link.specs.names.Names.{Text, is_package}
-use Rattle.pg_link.specs.names.Standing.{Standing, Bearer, bearers, first_of, may_share, MayStand, AllMayStand, OncePerName, NoneTwiceIsOnce}
+use Rattle.pg_link.specs.names.Standing.{Standing, Bearer, bearers, first_of, may_share, MayStand, AllMayStand, NoneTwice, OncePerName, NoneTwiceIsOnce}
 use Rattle.pg_link.proofs.lemmas.names.FileMarks.{none_some}
 use Rattle.pg_link.proofs.lemmas.names.VisibleFilesLaws.{push_cases}
 
@@ -157,8 +157,8 @@ all_of_once (s ∷ before) once =
     let whole : OncePerName (reverse before ++ s ∷ []) = subst OncePerName (pushed s before) once in
     (stands (reverse before) s (share_last (reverse before) s whole), all_of_once before (once_front (reverse before) s whole))
 
+pub once_per_name : (all : List Standing) → NoneTwice all → OncePerName all
+once_per_name all none = subst OncePerName (reverse-reverse all) (once_of (reverse all) none)
+
 pub none_twice_is_once : NoneTwiceIsOnce
-none_twice_is_once = λ all. (
-  λ none. subst OncePerName (reverse-reverse all) (once_of (reverse all) none),
-  λ once. all_of_once (reverse all) (subst OncePerName (sym (reverse-reverse all)) once),
-)
+none_twice_is_once = λ all. (once_per_name all, λ once. all_of_once (reverse all) (subst OncePerName (sym (reverse-reverse all)) once))

@@ -1,18 +1,16 @@
 -- Full names and scopes, word by word.
-use Rattle.std.proofs.Common.{◌≡◌, ◌∙◌, ℕ, Bool, true, false, List, [], ◌∷◌, ◌++◌, map, Option, Some, None, refl, ap, string_bytes, append_assoc}
+use Rattle.std.proofs.Common.{◌≡◌, ◌∙◌, ℕ, Bool, true, false, List, [], ◌∷◌, ◌++◌, map, Option, Some, None, if◌then◌else◌, refl, ap, append_assoc, true≢false}
 use Rattle.std.proofs.Common.{zero, suc, ◌+◌, ◌-◌, ◌<◌, ◌≤◌, ◌≢◌, String, length, take, slice_index_or, subst, sym, add-one, arith}
 use Rattle.std.proofs.lemmas.List.{map_more}
 use Rattle.std.specs.Borrow.{Bor}
 use Rattle.std.specs.Global.{Global}
 use Rattle.std.specs.HashMap.{HashMap, get_by_text}
 use Rattle.pg_link.specs.declared.names.Named as nameds
-use Rattle.pg_link.specs.inner.Index.{files_of, is_seen, names_seen, word_alone}
-use Rattle.pg_link.specs.names.Names.{texts, Text, Names, called, bears, ends_word}
+use Rattle.pg_link.specs.inner.Index.{files_of, is_seen, names_seen}
+use Rattle.pg_link.specs.names.Names.{texts, Text, Names, called, bears}
 use Rattle.std.specs.Option.{option_and_then, option_map}
-use Rattle.std.proofs.lemmas.Option.{same_Some}
 use Rattle.pg_link.specs.declared.names.Kind.{Kind}
-use Rattle.pg_link.specs.names.Resolves.{scopes, innermost, borne, part_words, reference}
-use Rattle.pg_syntax.specs.declared.tree as tree
+use Rattle.pg_link.specs.names.Resolves.{Reference, scopes, sought_among, innermost, borne, found, meant, written}
 
 pub called-append : (words more : List Text) → called (words ++ more) ≡ called words ++ called more
 called-append [] more = refl
@@ -77,44 +75,34 @@ pub called-behind : {X : Type 0} (first : Text) (f : X → Text) (xs : List X) (
     → called (first ∷ map f (take (i + 1) xs)) ≡ called (first ∷ map f (take i xs)) ++ called (f (slice_index_or xs i d) ∷ [])
 called-behind first f xs i d within = rw (map_more f xs i d within) (called-append (first ∷ map f (take i xs)) (f (slice_index_or xs i d) ∷ []))
 
--- ---- a word alone
+pub none_is : {X : Type 0} (o : Option X) → ((x : X) → o ≡ Some x → ⊥) → o ≡ None
+none_is None other = refl
+none_is (Some x) other = absurd (other x refl)
 
-abbrev pub shown : Bor Text × Bor nameds.Named → Text × Kind
-shown f = (f.0.now, f.1.now.kind)
+-- ---- what a name means
 
-none_some : {X : Type 0} (x : X) → None ≡ Some x → ⊥
-none_some x is = absurd (cc (is))
-
--- what the search ends at is what is meant
-pub word_found : (names : Names) (scope around : List Text) (outer part : Text) → innermost names ends_word part around ≡ innermost names ends_word part scope
-    → outer ≡ called around → bears names ends_word (outer ++ part) ≡ true
-    → borne names (outer ++ part) ≡ option_and_then (borne names) (option_map (λ (o : List Text). called o ++ part) (innermost names ends_word part scope))
-word_found names scope around outer part same is_called here =
-    through (innermost names ends_word part scope) (ends_here names ends_word part scope around outer same is_called here)
+meant_is : (names : Names) (scope : List Text) (r : Reference) (o : Option Text) → r.is_full ≡ false
+    → o ≡ option_map called (innermost names (sought_among r.more) (called (r.first ∷ [])) scope) → option_map (λ (outer : Text). outer ++ written r) o ≡ meant names scope r
+meant_is names scope r o full is =
+    ap (option_map (λ (outer : Text). outer ++ written r)) is ∙ (twice (innermost names (sought_among r.more) (called (r.first ∷ [])) scope) ∙ sym (unfull r.is_full full))
   where
-    through : (m : Option (List Text)) → Some outer ≡ option_map called m → borne names (outer ++ part) ≡ option_and_then (borne names) (option_map (λ (o : List Text). called o ++ part) m)
-    through None is = absurd (none_some outer (sym is))
-    through (Some w) is = ap (λ (o : Text). borne names (o ++ part)) (same_Some outer (called w) is)
+    inner : Option Text
+    inner = option_map (λ (outer : List Text). called outer ++ written r) (innermost names (sought_among r.more) (called (r.first ∷ [])) scope)
 
--- where it ends nowhere, nothing is meant
-pub word_not_found : (names : Names) (part : Text) (scope : List (Bor Text)) (len : ℕ) → len ≡ 0 → bears names ends_word (called (texts (take len scope)) ++ part) ≡ false
-    → innermost names ends_word part (texts (take len scope)) ≡ innermost names ends_word part (texts scope)
-    → None ≡ option_and_then (borne names) (option_map (λ (o : List Text). called o ++ part) (innermost names ends_word part (texts scope)))
-word_not_found names part scope len zero_len none same =
-    let empty : texts (take len scope) ≡ [] = ap (λ (n : ℕ). texts (take n scope)) zero_len ∙ ap texts (take_none scope) in
-    let none_here : bears names ends_word (called [] ++ part) ≡ false = subst (λ (ws : List Text). bears names ends_word (called ws ++ part) ≡ false) empty none in
-    let nowhere : innermost names ends_word part [] ≡ None = rw none_here refl in
-    let left : innermost names ends_word part (texts scope) ≡ None = sym same ∙ (ap (innermost names ends_word part) empty ∙ nowhere) in
-    sym (ap (λ (m : Option (List Text)). option_and_then (borne names) (option_map (λ (o : List Text). called o ++ part) m)) left)
-  where
-    take_none : (xs : List (Bor Text)) → take 0 xs ≡ []
-    take_none [] = refl
-    take_none (x ∷ xs) = refl
+    twice : (m : Option (List Text)) → option_map (λ (outer : Text). outer ++ written r) (option_map called m) ≡ option_map (λ (outer : List Text). called outer ++ written r) m
+    twice None = refl
+    twice (Some m) = refl
 
-pub one_word : (n : tree.TypeName.TypeName) (word : Text) → n.is_full ≡ false → n.path.more.items ≡ [] → word ≡ string_bytes n.path.first.text → reference n ≡ word_alone word
-one_word n word full more same =
-    let by_full : reference n ≡ record { is_full = false; first = string_bytes n.path.first.text; more = part_words n.path.more.items } =
-    ap (λ (b : Bool). record { is_full = b; first = string_bytes n.path.first.text; more = part_words n.path.more.items }) full in
-    let by_more : record { is_full = false; first = string_bytes n.path.first.text; more = part_words n.path.more.items } ≡ word_alone (string_bytes n.path.first.text) =
-    ap (λ (ps : List tree.Name.Name). record { is_full = false; first = string_bytes n.path.first.text; more = part_words ps }) more in
-    by_full ∙ (by_more ∙ ap word_alone (sym same))
+    unfull : (b : Bool) → b ≡ false → (if b then Some (written r) else inner) ≡ inner
+    unfull true is = absurd (true≢false is)
+    unfull false is = refl
+
+-- what is found of a name, by the full name of the scope that has its first part
+pub found_by : (names : Names) (scope : List Text) (r : Reference) (o : Option Text) → r.is_full ≡ false
+    → o ≡ option_map called (innermost names (sought_among r.more) (called (r.first ∷ [])) scope)
+    → option_and_then (borne names) (option_map (λ (outer : Text). outer ++ written r) o) ≡ found names scope r
+found_by names scope r o full is = ap (option_and_then (borne names)) (meant_is names scope r o full is)
+
+-- of a name with a dot in front it is what bears that name
+pub found_full : (names : Names) (scope : List Text) (r : Reference) → r.is_full ≡ true → borne names (written r) ≡ found names scope r
+found_full names scope r full = rw full refl

@@ -3,7 +3,7 @@ use Rattle.std.proofs.Common.{◌≡◌, ◌∙◌, inl, inr, zero, suc, Bool, t
 use Rattle.std.proofs.lemmas.Bool.{or_left, or_right}
 use Rattle.std.specs.List.{list_any, IsAmong}
 use Rattle.std.specs.Str.{bytes_eq}
-use Rattle.pg_link.specs.names.Files.{File, Import, Imports, HandsOn, Itself, Onwards, Sees, InOrder, Differ, is_path_of, paths_of, import_paths, public_paths, handed_on, seen_paths, SeenPathsAreSeen}
+use Rattle.pg_link.specs.names.Files.{File, Import, Imports, HandsOn, Itself, Onwards, Sees, InOrder, Differ, is_path_of, paths_of, import_paths, public_paths, handed_on, seen_paths, SeesThese}
 use Rattle.pg_link.specs.names.Names.{Text}
 use Rattle.pg_link.proofs.lemmas.names.SameBytes.{same_text, text_same}
 use Rattle.pg_link.proofs.lemmas.names.VisibleLaws.{each_at, first_among, later_among, any_found, any_at, any_flat, imports_there, handed_on_is, seen_paths_is}
@@ -172,5 +172,5 @@ seen_complete files order apart path other has (inr (next, i, hands)) =
     (among_all files i.file.path other next (import_paths i.file.imports) among
     (handed_complete files order apart next other (next_there files order path next i) hands)))
 
-pub seen_paths_are : SeenPathsAreSeen
-seen_paths_are = λ files order apart path has other. (seen_sound files order apart path other has, seen_complete files order apart path other has)
+pub sees_these : (files : List File) → InOrder files → Differ (paths_of files) → SeesThese files
+sees_these files order apart = λ path has other. (seen_sound files order apart path other has, seen_complete files order apart path other has)

@@ -1,14 +1,15 @@
 -- What was last found for the first part of a dotted name, and what the name then names.
 use lib.Pointwise.{pointwise}
-use Rattle.std.proofs.Common.{◌≡◌, ◌∙◌, ◌&&◌, Bool, true, false, not, List, [], ◌∷◌, ◌++◌, Option, Some, None, if◌then◌else◌, refl, sym, ap, subst, true≢false, string_bytes}
+use Rattle.std.proofs.Common.{◌≡◌, ◌∙◌, ◌&&◌, Bool, true, false, not, List, [], ◌∷◌, Option, Some, refl, sym, ap, subst, true≢false, string_bytes}
 use Rattle.std.proofs.lemmas.Slice.Eq.{bytes_eq-Decides}
 use Rattle.std.specs.Borrow.{Bor}
-use Rattle.std.specs.Option.{option_map, option_and_then}
+use Rattle.std.specs.Option.{option_map}
 use Rattle.std.specs.Str.{bytes_eq}
 use Rattle.pg_link.specs.declared.uses.found_scope.FoundScope as found_scopes
 use Rattle.pg_link.specs.names.Names.{texts, Text, Names, called, ends_part}
 use Rattle.pg_link.specs.inner.FoundScope.{IsDotted, IsFoundScope, Recalls, RecallsFor, found_in, full_of}
-use Rattle.pg_link.specs.names.Resolves.{Reference, borne, found, innermost, meant, part_words, reference, sought_among, written}
+use Rattle.pg_link.specs.names.Resolves.{found, innermost, part_words, reference, sought_among}
+use Rattle.pg_link.proofs.lemmas.names.ResolvesLaws.{found_by}
 use Rattle.pg_syntax.specs.declared.tree as tree
 
 -- ---- the same words
@@ -25,22 +26,6 @@ same_words (x ∷ a) (y ∷ b) same = by (bytes_eq x.now y.now) refl (same_words
 
 -- ---- what a name means
 
-meant_is : (names : Names) (scope : List Text) (r : Reference) (o : Option Text) → r.is_full ≡ false
-    → o ≡ option_map called (innermost names (sought_among r.more) (called (r.first ∷ [])) scope) → option_map (λ (outer : Text). outer ++ written r) o ≡ meant names scope r
-meant_is names scope r o full is =
-    ap (option_map (λ (outer : Text). outer ++ written r)) is ∙ (twice (innermost names (sought_among r.more) (called (r.first ∷ [])) scope) ∙ sym (unfull r.is_full full))
-  where
-    inner : Option Text
-    inner = option_map (λ (outer : List Text). called outer ++ written r) (innermost names (sought_among r.more) (called (r.first ∷ [])) scope)
-
-    twice : (m : Option (List Text)) → option_map (λ (outer : Text). outer ++ written r) (option_map called m) ≡ option_map (λ (outer : List Text). called outer ++ written r) m
-    twice None = refl
-    twice (Some m) = refl
-
-    unfull : (b : Bool) → b ≡ false → (if b then Some (written r) else inner) ≡ inner
-    unfull true is = absurd (true≢false is)
-    unfull false is = refl
-
 pub found_is : (names : Names) (scope : List Text) (n : tree.TypeName.TypeName) (last : Option found_scopes.FoundScope) → IsDotted n
     → RecallsFor names scope (string_bytes n.path.first.text) last → found_in names last (reference n) ≡ found names scope (reference n)
 found_is names scope n last dotted for =
@@ -50,7 +35,7 @@ found_is names scope n last dotted for =
     subst (λ (w : Text). IsFoundScope names scope w o.full) for.is_for.same_word (subst (λ (s : List Text). IsFoundScope names s o.word.now o.full) for.is_for.same_scope recalls) in
     let full : full_of last ≡ option_map called (innermost names (sought_among (reference n).more) (called ((reference n).first ∷ [])) scope) =
     ap full_of for.is_for.is_last ∙ (here ∙ ap (λ test. option_map called (innermost names test (called (string_bytes n.path.first.text ∷ [])) scope)) (sym dotted.ends)) in
-    ap (option_and_then (borne names)) (meant_is names scope (reference n) (full_of last) dotted.is_not_full full)
+    found_by names scope (reference n) (full_of last) dotted.is_not_full full
 
 -- ---- what was just found
 

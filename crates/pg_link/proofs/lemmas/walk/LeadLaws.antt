@@ -1,155 +1,106 @@
--- Which files have come by imports of those that are kept.
-use Rattle.std.proofs.Common.{◌≡◌, ◌∙◌, inl, inr, ◌⊎◌, suc, Bool, true, false, ◌||◌, List, [], ◌∷◌, ◌++◌, String, string_bytes, ap, refl, sym, subst, map, append_assoc, true≢false, arith}
+-- What a visit lists: each path that was visited, and none but those that these lead to.
+use Rattle.std.proofs.Common.{◌≡◌, ◌∙◌, inl, inr, ◌⊎◌, Bool, true, false, ◌||◌, List, [], ◌∷◌, ◌++◌, Option, Some, None, All, refl, sym, subst, true≢false, arith}
 use Rattle.std.proofs.lemmas.Bool.{or_left, or_right}
+use Rattle.std.proofs.lemmas.List.Elements.{All-cons}
 use Rattle.std.proofs.lemmas.List.Folds.{list_any-append}
-use Rattle.std.proofs.lemmas.Slice.Eq.{bytes_eq-Decides}
-use Rattle.std.specs.Global.{Global}
-use Rattle.std.specs.List.{Contains, IsAmong}
+use Rattle.std.proofs.lemmas.Option.{none-some, same_Some}
+use Rattle.std.specs.List.{find, Contains, IsAmong}
+use Rattle.std.specs.Option.{option_map}
 use Rattle.std.specs.Str.{bytes_eq}
-use Rattle.pg_link.specs.declared.walk.imports.ImportLine as lines
-use Rattle.pg_link.specs.declared.walk.SourceFile as kept
 use Rattle.pg_link.specs.declared.walk.Walk as walks
-use Rattle.pg_link.specs.names.Files.{File, Import, Imports, Leads, Next, Further, is_path_of, paths_of, import_paths}
-use Rattle.pg_link.specs.inner.Made.{line_of}
+use Rattle.pg_link.specs.names.Files.{File, Import, Imports, Next, Further, is_path_of, import_paths}
 use Rattle.pg_link.specs.names.Names.{Text}
-use Rattle.pg_link.specs.names.Outline.{file_imports}
-use Rattle.pg_link.specs.walk.Walk.{Entry, ComesTo, outline, outlines, path_of}
-use Rattle.pg_link.specs.inner.Walking.{ComeBy, Extends, entries, has_path}
-use Rattle.pg_link.proofs.lemmas.names.SameBytes.{same_text}
-use Rattle.pg_link.proofs.lemmas.walk.WalkLaws.{line_path, outlines-push, paths_of_lines}
+use Rattle.pg_link.specs.walk.PostOrder.{imports_at}
+use Rattle.pg_link.specs.walk.Walk.{ComesTo, files_in_order, outlines}
+use Rattle.pg_link.specs.inner.Walking.{VisitLists, entries, has_path, listed_paths}
+use Rattle.pg_schema.specs.standing.Visits.{Visits, all_visited, listed_last, passed_over}
+use Rattle.pg_link.proofs.lemmas.names.HeldNames.{among_reverse, find_among}
+use Rattle.pg_link.proofs.lemmas.names.SameBytes.{same_text, text_same}
+use Rattle.pg_link.proofs.lemmas.names.SeenPaths.{among_map}
+use Rattle.pg_link.proofs.lemmas.names.VisibleLaws.{first_among, later_among}
+use Rattle.pg_link.proofs.lemmas.walk.PostOrderLaws.{has_listed}
 
-itself : (a : Text) → bytes_eq a a ≡ true
-itself a = (bytes_eq-Decides a a).1 refl
+-- ---- what is listed
 
--- ---- more files in front
+module _ (leads : Text → Option (List Text)) where
+  -- what was listed in front still is
+  front_listed : (front visited listed : List Text) (p : Text) → Visits bytes_eq leads front visited listed → is_path_of front p ≡ true → is_path_of listed p ≡ true
+  front_listed front [] listed p (all_visited f) has = has
+  front_listed front (x ∷ later) listed p (passed_over f m l y found rest) has = front_listed f m l p rest has
+  front_listed front (x ∷ later) listed p (listed_last f own inside m l y missing is inner rest) has =
+      front_listed (inside ++ y ∷ []) m l p rest
+      (list_any-append (bytes_eq p) inside (y ∷ []) ∙ or_left (is_path_of inside p) (is_path_of (y ∷ []) p) (front_listed f own inside p inner has))
 
-imports_behind : (f : File) (files : List File) (p q : Text) → Imports files p q → Imports (f ∷ files) p q
-imports_behind f files p q i = record {
-  file = i.file;
-  line = i.line;
-  is_there = (suc i.is_there.0, (omega (arith, i.is_there.1.0), i.is_there.1.1));
-  has_line = i.has_line;
-  from_path = i.from_path;
-  to_other = i.to_other;
-}
+  -- and each that was visited is
+  each_listed : (front visited listed : List Text) → Visits bytes_eq leads front visited listed → All (λ p. is_path_of listed p ≡ true) visited
+  each_listed front [] listed (all_visited f) = λ k d within. absurd (omega (arith, within))
+  each_listed front (x ∷ later) listed (passed_over f m l y found rest) =
+      All-cons (λ p. is_path_of l p ≡ true) y m (front_listed f m l y rest found) (each_listed f m l rest)
+  each_listed front (x ∷ later) listed (listed_last f own inside m l y missing is inner rest) =
+      let last : is_path_of (inside ++ y ∷ []) y ≡ true =
+      list_any-append (bytes_eq y) inside (y ∷ []) ∙ or_right (is_path_of inside y) (is_path_of (y ∷ []) y) (or_left (bytes_eq y y) false (text_same y y refl)) in
+      All-cons (λ p. is_path_of l p ≡ true) y m (front_listed (inside ++ y ∷ []) m l y rest last) (each_listed (inside ++ y ∷ []) m l rest)
 
-leads_behind : (f : File) (files : List File) (p q : Text) → Leads files p q → Leads (f ∷ files) p q
-leads_behind f files p q (Next i) = Next (imports_behind f files p q i)
-leads_behind f files p q (Further {next = mid} i l) = Further (imports_behind f files p mid i) (leads_behind f files mid q l)
+-- ---- what these lead to
 
-to_behind : (f : File) (files : List File) (p q : Text) → ComesTo files p q → ComesTo (f ∷ files) p q
-to_behind f files p q (inl same) = inl same
-to_behind f files p q (inr l) = inr (leads_behind f files p q l)
+-- a path was listed in front, or one of those that were visited comes to it
+abbrev HasCome : (front visited : List Text) → List File → Text → Type 0
+HasCome front visited files path = (is_path_of front path ≡ true) ⊎ ((from : Text) × IsAmong visited from × ComesTo files from path)
 
-to_front : (front files : List File) (p q : Text) → ComesTo files p q → ComesTo (front ++ files) p q
-to_front [] files p q to = to
-to_front (f ∷ front) files p q to = to_behind f (front ++ files) p q (to_front front files p q to)
+-- by the imports of some of the files
+module _ (some files : List File) (among_all : (f : File) → IsAmong some f → IsAmong files f) where
+  imports_of : (path next : Text) (own : List Text) → imports_at some path ≡ Some own → IsAmong own next → Imports files path next
+  imports_of path next own is among = by (find (λ (f : File). bytes_eq f.path path) some) refl is
+    where
+      by : (o : Option File) → find (λ (f : File). bytes_eq f.path path) some ≡ o → option_map (λ (f : File). import_paths f.imports) o ≡ Some own → Imports files path next
+      by None found same = absurd (none-some own same)
+      by (Some f) found same =
+          let h = find_among (λ (f : File). bytes_eq f.path path) some f found in
+          let l = among_map (λ (x : Import). x.path) f.imports next (subst (λ ps. IsAmong ps next) (sym (same_Some (import_paths f.imports) own same)) among) in
+          record { file = f; line = l.0; is_there = among_all f h.0; has_line = l.1; from_path = same_text f.path path h.1; to_other = l.2 }
 
-to_later : (old new : walks.Walk) (p q : Text) → Extends old new → ComesTo (outlines (entries old)) p q → ComesTo (outlines (entries new)) p q
-to_later old new p q more to = subst (λ fs. ComesTo fs p q) (sym more.1) (to_front more.0 (outlines (entries old)) p q to)
+  comes_on : (path next other : Text) → Imports files path next → ComesTo files next other → ComesTo files path other
+  comes_on path next other i (inl same) = inr (Next (subst (λ p. Imports files path p) same i))
+  comes_on path next other i (inr l) = inr (Further i l)
 
-pub same_extends : (old new : walks.Walk) → entries new ≡ entries old → Extends old new
-same_extends old new same = ([], ap outlines same)
+  later_come : (front later : List Text) (x p : Text) → HasCome front later files p → HasCome front (x ∷ later) files p
+  later_come front later x p (inl had) = inl had
+  later_come front later x p (inr (from, among, to)) = inr (from, later_among x later from among, to)
 
-pub both_extend : (old mid new : walks.Walk) → Extends old mid → Extends mid new → Extends old new
-both_extend old mid new first next =
-    (next.0 ++ first.0, next.1 ∙ (ap (λ fs. next.0 ++ fs) first.1 ∙ sym (append_assoc next.0 first.0 (outlines (entries old)))))
+  inside_come : (front own inside later : List Text) (x p : Text) → imports_at some x ≡ Some own → (is_path_of inside p ≡ true → HasCome front own files p)
+      → HasCome (inside ++ x ∷ []) later files p → HasCome front (x ∷ later) files p
+  inside_come front own inside later x p is inner (inr (from, among, to)) = inr (from, later_among x later from among, to)
+  inside_come front own inside later x p is inner (inl had) =
+      at (is_path_of inside p) (bytes_eq p x) refl refl (sym (list_any-append (bytes_eq p) inside (x ∷ [])) ∙ had)
+    where
+      by : HasCome front own files p → HasCome front (x ∷ later) files p
+      by (inl here) = inl here
+      by (inr (from, among, to)) = inr (x, first_among x later, comes_on x from p (imports_of x from own is among) to)
 
-pub one_extends : (mid new : walks.Walk) (e : Entry) → entries new ≡ entries mid ++ e ∷ [] → Extends mid new
-one_extends mid new e is = (outline e ∷ [], ap outlines is ∙ outlines-push (entries mid) e)
+      at : (a b : Bool) → is_path_of inside p ≡ a → bytes_eq p x ≡ b → (a || (b || false)) ≡ true → HasCome front (x ∷ later) files p
+      at true b has same either = by (inner has)
+      at false true has same either = inr (x, first_among x later, inl (sym (same_text p x same)))
+      at false false has same either = absurd (true≢false (sym either))
 
--- ---- while the imports of a path are followed
+  all_come : (front visited listed : List Text) (p : Text) → Visits bytes_eq (imports_at some) front visited listed → is_path_of listed p ≡ true → HasCome front visited files p
+  all_come front [] listed p (all_visited f) has = inl has
+  all_come front (x ∷ later) listed p (passed_over f m l y found rest) has = later_come f m y p (all_come f m l p rest has)
+  all_come front (x ∷ later) listed p (listed_last f own inside m l y missing is inner rest) has =
+      inside_come f own inside m y p is (λ here. all_come f own inside p inner here) (all_come (inside ++ y ∷ []) m l p rest has)
 
--- each file that has come is one that these paths come to
-abbrev pub ComeByThese : walks.Walk → walks.Walk → List Text → Type 0
-ComeByThese old now paths = (other : Text) → has_path now other ≡ true
-    → (has_path old other ≡ true) ⊎ ((next : Text) × (is_path_of paths next ≡ true) × ComesTo (outlines (entries now)) next other)
+-- ---- a walk
 
-pub come_first : (old now : walks.Walk) (paths : List Text) → entries now ≡ entries old → ComeByThese old now paths
-come_first old now paths same = λ other has. inl (subst (λ (es : List Entry). is_path_of (paths_of (outlines es)) other ≡ true) same has)
+pub all_listed : (walk : walks.Walk) (front visited : List Text) → VisitLists front visited walk → All (λ p. has_path walk p ≡ true) visited
+all_listed walk front visited lists = λ k d within.
+    has_listed walk _ ∙ each_listed (imports_at (files_in_order (entries walk))) front visited (listed_paths walk) lists k d within
 
-pub come_next : (old mid new : walks.Walk) (paths : List Text) (next : Text) → ComeByThese old mid paths → Extends mid new → ComeBy mid new next
-    → ComeByThese old new (paths ++ next ∷ [])
-come_next old mid new paths next before more by = λ other has. last other (by other has)
+-- a root comes to each file
+pub from_roots : (walk : walks.Walk) (roots : List Text) → VisitLists [] roots walk → (path : Text) → has_path walk path ≡ true
+    → (root : Text) × Contains roots root × ComesTo (outlines (entries walk)) root path
+from_roots walk roots lists path has =
+    by (all_come (files_in_order (entries walk)) (outlines (entries walk)) (λ f among. among_reverse (files_in_order (entries walk)) f among)
+    [] roots (listed_paths walk) path lists (sym (has_listed walk path) ∙ has))
   where
-    earlier : (other : Text) → (has_path old other ≡ true) ⊎ ((n : Text) × (is_path_of paths n ≡ true) × ComesTo (outlines (entries mid)) n other)
-        → (has_path old other ≡ true) ⊎ ((n : Text) × (is_path_of (paths ++ next ∷ []) n ≡ true) × ComesTo (outlines (entries new)) n other)
-    earlier other (inl had) = inl had
-    earlier other (inr (n, among, to)) = inr (
-      n,
-      list_any-append (bytes_eq n) paths (next ∷ []) ∙ or_left (is_path_of paths n) (is_path_of (next ∷ []) n) among,
-      to_later mid new n other more to,
-    )
-
-    last : (other : Text) → (has_path mid other ≡ true) ⊎ ComesTo (outlines (entries new)) next other
-        → (has_path old other ≡ true) ⊎ ((n : Text) × (is_path_of (paths ++ next ∷ []) n ≡ true) × ComesTo (outlines (entries new)) n other)
-    last other (inl had) = earlier other (before other had)
-    last other (inr to) = inr (
-      next,
-      list_any-append (bytes_eq next) paths (next ∷ []) ∙ or_right (is_path_of paths next) (is_path_of (next ∷ []) next) (or_left (bytes_eq next next) false (itself next)),
-      to,
-    )
-
--- a path of imports is that of one
-line_by : (b : Bool) (p : Text) (l : Import) (ls : List Import) → bytes_eq p l.path ≡ b → (b || is_path_of (import_paths ls) p) ≡ true
-    → (is_path_of (import_paths ls) p ≡ true → (line : Import) × IsAmong ls line × (line.path ≡ p)) → (line : Import) × IsAmong (l ∷ ls) line × (line.path ≡ p)
-line_by true p l ls is among more = (l, (0, (omega arith, refl)), sym (same_text p l.path is))
-line_by false p l ls is among more = let m = more among in (m.0, (suc m.1.0, (omega (arith, m.1.1.0), m.1.1.1)), m.2)
-
-line_with : (p : Text) (ls : List Import) → is_path_of (import_paths ls) p ≡ true → (line : Import) × IsAmong ls line × (line.path ≡ p)
-line_with p [] among = absurd (true≢false (sym among))
-line_with p (l ∷ ls) among = line_by (bytes_eq p l.path) p l ls refl among (line_with p ls)
-
-pub come_done : (old mid new : walks.Walk) (path : Text) (name : String Global) (file : kept.SourceFile) (ls : List lines.ImportLine) → ComeByThese old mid (map line_path ls)
-    → map line_of ls ≡ file_imports file.tree → string_bytes name ≡ path → entries new ≡ entries mid ++ (name, file) ∷ [] → ComeBy old new path
-come_done old mid new path name file ls before its same is = λ other has.
-    here other (bytes_eq other (path_of e)) refl (sym (ap (λ fs. is_path_of (paths_of fs) other) grown) ∙ has)
-  where
-    e : Entry
-    e = (name, file)
-
-    grown : outlines (entries new) ≡ outline (name, file) ∷ outlines (entries mid)
-    grown = ap outlines is ∙ outlines-push (entries mid) (name, file)
-
-    imports : (next : Text) → is_path_of (map line_path ls) next ≡ true → Imports (outline (name, file) ∷ outlines (entries mid)) path next
-    imports next among =
-        let paths : map line_path ls ≡ import_paths (file_imports file.tree) = sym (paths_of_lines ls) ∙ ap import_paths its in
-        let l = line_with next (file_imports file.tree) (subst (λ ps. is_path_of ps next ≡ true) paths among) in
-        record {
-          file = outline (name, file);
-          line = l.0;
-          is_there = (0, (omega arith, refl));
-          has_line = l.1;
-          from_path = same;
-          to_other = l.2;
-        }
-
-    onwards : (other next : Text) → is_path_of (map line_path ls) next ≡ true → ComesTo (outlines (entries mid)) next other → Leads (outline (name, file) ∷ outlines (entries mid)) path other
-    onwards other next among (inl to) = Next (imports other (subst (λ p. is_path_of (map line_path ls) p ≡ true) to among))
-    onwards other next among (inr l) = Further (imports next among) (leads_behind (outline (name, file)) (outlines (entries mid)) next other l)
-
-    there : (other : Text) → (has_path old other ≡ true) ⊎ ((n : Text) × (is_path_of (map line_path ls) n ≡ true) × ComesTo (outlines (entries mid)) n other)
-        → (has_path old other ≡ true) ⊎ ComesTo (outlines (entries new)) path other
-    there other (inl had) = inl had
-    there other (inr (n, among, to)) = inr (inr (subst (λ fs. Leads fs path other) (sym grown) (onwards other n among to)))
-
-    here : (other : Text) (b : Bool) → bytes_eq other (string_bytes name) ≡ b → (b || has_path mid other) ≡ true
-        → (has_path old other ≡ true) ⊎ ComesTo (outlines (entries new)) path other
-    here other true own has = inr (inl (sym same ∙ sym (same_text other (string_bytes name) own)))
-    here other false own has = there other (before other has)
-
--- ---- all roots
-
--- each file is one that a root comes to
-abbrev pub ComeFrom : List Text → walks.Walk → Type 0
-ComeFrom roots now = (other : Text) → has_path now other ≡ true → (root : Text) × Contains roots root × ComesTo (outlines (entries now)) root other
-
-pub none_come : (roots : List Text) (now : walks.Walk) → entries now ≡ [] → ComeFrom roots now
-none_come roots now none = λ other has. absurd (true≢false (sym has ∙ ap (λ (es : List Entry). is_path_of (paths_of (outlines es)) other) none))
-
-pub root_next : (roots : List Text) (mid new : walks.Walk) (root : Text) → Contains roots root → ComeFrom roots mid → Extends mid new → ComeBy mid new root → ComeFrom roots new
-root_next roots mid new root is_root before more by = λ other has. last other (by other has)
-  where
-    last : (other : Text) → (has_path mid other ≡ true) ⊎ ComesTo (outlines (entries new)) root other → (r : Text) × Contains roots r × ComesTo (outlines (entries new)) r other
-    last other (inl had) = let b = before other had in (b.0, b.1, to_later mid new b.0 other more b.2)
-    last other (inr to) = (root, is_root, to)
+    by : HasCome [] roots (outlines (entries walk)) path → (root : Text) × Contains roots root × ComesTo (outlines (entries walk)) root path
+    by (inl none) = absurd (true≢false (sym none))
+    by (inr (root, (i, (within, is)), to)) = (root, (i, within, sym is), to)

@@ -3,13 +3,11 @@ use Rattle.std.proofs.Common.{◌≡◌, ◌∙◌, Bool, true, false, ◌||◌,
 use Rattle.std.proofs.lemmas.List.{map-append, reverse-append}
 use Rattle.std.proofs.lemmas.List.Folds.{list_any-append}
 use Rattle.std.proofs.lemmas.Map.Made.{is_some-lookup}
-use Rattle.std.proofs.lemmas.Slice.Eq.{bytes_eq-Decides}
 use Rattle.std.specs.Global.{Global}
 use Rattle.std.specs.HashMap.{get_by_text}
 use Rattle.std.specs.List.{list_any}
-use Rattle.std.specs.Map.{keys_of, update}
+use Rattle.std.specs.Map.{keys_of}
 use Rattle.std.specs.Str.{bytes_eq}
-use Rattle.pg_link.specs.declared.walk.SourceFile as kept
 use Rattle.pg_link.specs.declared.walk.Walk as walks
 use Rattle.pg_link.specs.names.Files.{File, is_path_of, paths_of}
 use Rattle.pg_link.specs.names.Names.{Text}
@@ -72,27 +70,6 @@ closes old new (x ∷ []) p ps one is opened =
     ap (λ ks. reverse (map string_bytes ks)) is ∙ (ap reverse (map-append string_bytes new (x ∷ [])) ∙ reverse-append (map string_bytes new) (string_bytes x ∷ [])) in
     cc (split, opened)
 closes old new (x ∷ (y ∷ more)) p ps one is opened = absurd (omega (arith, one))
-
--- ---- one more entry
-
-kept_by : {X : Type 0} (b : Bool) (x : X) (o : Option X) → is_some o ≡ true → is_some (cond b (Some x) o) ≡ true
-kept_by true x o some = refl
-kept_by false x o some = some
-
-pub keeps_path : (old new : walks.Walk) (bs : Text) (file : kept.SourceFile)
-    → ((cs : Text) → get_by_text new.files cs ≡ update bytes_eq (get_by_text old.files) bs (Some file) cs)
-    → (path : Text) → has_path old path ≡ true → has_path new path ≡ true
-keeps_path old new bs file now path has =
-    has_found new path ∙ (ap is_some (now path) ∙ kept_by (bytes_eq bs path) file (get_by_text old.files path) (sym (has_found old path) ∙ has))
-
-there_by : {X : Type 0} (b : Bool) (x : X) (o : Option X) → b ≡ true → is_some (cond b (Some x) o) ≡ true
-there_by true x o is = refl
-there_by false x o is = absurd (true≢false (sym is))
-
-pub has_newest : (old new : walks.Walk) (bs : Text) (file : kept.SourceFile)
-    → ((cs : Text) → get_by_text new.files cs ≡ update bytes_eq (get_by_text old.files) bs (Some file) cs) → has_path new bs ≡ true
-has_newest old new bs file now =
-    has_found new bs ∙ (ap is_some (now bs) ∙ there_by (bytes_eq bs bs) file (get_by_text old.files bs) ((bytes_eq-Decides bs bs).1 refl))
 
 pub none_of : {X : Type 0} (o : Option X) → is_some o ≡ false → o ≡ None
 none_of None none = refl

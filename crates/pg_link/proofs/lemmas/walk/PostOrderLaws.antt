@@ -1,7 +1,7 @@
 -- Files that are read depth first are in post-order of imports.
-use Rattle.std.proofs.Common.{◌≡◌, ◌∙◌, true, false, cond, List, [], ◌∷◌, ◌++◌, Option, Some, None, map, reverse, refl, sym, ap, subst, String, string_bytes, true≢false}
+use Rattle.std.proofs.Common.{◌≡◌, ◌≤◌, ◌∙◌, true, false, cond, List, [], ◌∷◌, ◌++◌, Option, Some, None, map, refl, sym, ap, subst, String, string_bytes, append-nil, append_assoc, length, length-append, true≢false, arith}
 use Rattle.std.proofs.lemmas.Bool.{or_parts}
-use Rattle.std.proofs.lemmas.List.{map-append, reverse-append, reverse-reverse}
+use Rattle.std.proofs.lemmas.List.{map-append}
 use Rattle.std.proofs.lemmas.List.Folds.{find-append}
 use Rattle.std.proofs.lemmas.Option.{none-some, same_Some}
 use Rattle.std.specs.Global.{Global}
@@ -15,7 +15,8 @@ use Rattle.pg_link.specs.names.Files.{File, import_paths, is_path_of, paths_of}
 use Rattle.pg_link.specs.inner.Made.{line_of}
 use Rattle.pg_link.specs.names.Names.{Text}
 use Rattle.pg_link.specs.names.Outline.{file_imports}
-use Rattle.pg_link.specs.walk.PostOrder.{AreListed, Visits, all_visited, imports_at, listed_last, passed_over}
+use Rattle.pg_link.specs.walk.PostOrder.{AreListed, imports_at}
+use Rattle.pg_schema.specs.standing.Visits.{Visits, all_visited, listed_last, passed_over}
 use Rattle.pg_link.specs.walk.Walk.{Entry, files_in_order, outline, outlines}
 use Rattle.pg_link.specs.inner.Walking.{Extends, VisitLists, entries, has_path, listed_paths}
 use Rattle.pg_link.proofs.lemmas.walk.PathLaws.{any-map, any-reverse}
@@ -84,13 +85,14 @@ has_listed walk path =
     ∙ (any-reverse (λ (f : File). bytes_eq path f.path) (files_in_order (entries walk))
     ∙ sym (any-map (bytes_eq path) (λ (f : File). f.path) (files_in_order (entries walk))))
 
-files_extend : (old new : walks.Walk) → Extends old new → (more : List File) × (files_in_order (entries new) ≡ files_in_order (entries old) ++ more)
-files_extend old new more = (
-  reverse more.0,
-  sym (reverse-reverse (files_in_order (entries new)))
-      ∙ (ap reverse more.1 ∙ (reverse-append more.0 (outlines (entries old))
-      ∙ ap (λ (fs : List File). fs ++ reverse more.0) (reverse-reverse (files_in_order (entries old))))),
-)
+pub same_extends : (old new : walks.Walk) → entries new ≡ entries old → Extends old new
+same_extends old new same = ([], same ∙ sym (append-nil (entries old)))
+
+pub both_extend : (old mid new : walks.Walk) → Extends old mid → Extends mid new → Extends old new
+both_extend old mid new first next = (first.0 ++ next.0, next.1 ∙ (ap (λ es. es ++ next.0) first.1 ∙ append_assoc (entries old) first.0 next.0))
+
+pub grown : (old new : walks.Walk) → Extends old new → length (entries old) ≤ length (entries new)
+grown old new more = omega (arith, ap length more.1, length-append (entries old) more.0)
 
 same_listed : (front visited : List Text) (old new : walks.Walk) → entries new ≡ entries old → VisitLists front visited old → VisitLists front visited new
 same_listed front visited old new same = subst (λ (es : List Entry). AreListed front visited (files_in_order es)) (sym same)
@@ -113,19 +115,20 @@ listed_before walk path has =
 pub next_listed : (front visited : List Text) (next : Text) (mid new : walks.Walk) → VisitLists front visited mid → Extends mid new
     → VisitLists (listed_paths mid) (next ∷ []) new → VisitLists front (visited ++ next ∷ []) new
 next_listed front visited next mid new before more after =
-    let grown = files_extend mid new more in
+    let files = files_in_order (entries mid) in
+    let whole : files_in_order (entries new) ≡ files ++ map outline more.0 = ap files_in_order more.1 ∙ map-append outline (entries mid) more.0 in
     let wider : Visits bytes_eq (imports_at (files_in_order (entries new))) front visited (listed_paths mid) =
-    visits_wider (imports_at (files_in_order (entries mid))) (imports_at (files_in_order (entries new)))
-    (λ x own is. subst (λ (fs : List File). imports_at fs x ≡ Some own) (sym grown.1) (imports_more (files_in_order (entries mid)) grown.0 x own is))
+    visits_wider (imports_at files) (imports_at (files_in_order (entries new)))
+    (λ x own is. subst (λ (fs : List File). imports_at fs x ≡ Some own) (sym whole) (imports_more files (map outline more.0) x own is))
     front visited (listed_paths mid) before in
     visits_on (imports_at (files_in_order (entries new))) front visited (listed_paths mid) (next ∷ []) (listed_paths new) wider after
 
 -- the file itself comes last, once all that it imports was visited
 pub file_listed : (old mid new : walks.Walk) (path : Text) (name : String Global) (file : kept.SourceFile) (ls : List lines.ImportLine)
     → VisitLists (listed_paths old) (map line_path ls) mid → map line_of ls ≡ file_imports file.tree → string_bytes name ≡ path
-    → entries new ≡ entries mid ++ (name, file) ∷ [] → Extends mid new → has_path old path ≡ false → has_path mid path ≡ false
+    → entries new ≡ entries mid ++ (name, file) ∷ [] → has_path old path ≡ false → has_path mid path ≡ false
     → VisitLists (listed_paths old) (path ∷ []) new
-file_listed old mid new path name file ls before its same is more none none_yet =
+file_listed old mid new path name file ls before its same is none none_yet =
     let e : Entry = (name, file) in
     let files = files_in_order (entries mid) in
     let grown : files_in_order (entries new) ≡ files ++ outline e ∷ [] = ap files_in_order is ∙ map-append outline (entries mid) (e ∷ []) in

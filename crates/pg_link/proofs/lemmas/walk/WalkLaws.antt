@@ -213,10 +213,6 @@ pub take_none : {X : Type 0} (xs : List X) → take 0 xs ≡ []
 take_none [] = refl
 take_none (x ∷ xs) = refl
 
-pub none_yet : {X : Type 0} (P : X → Type 0) (xs : List X) → All P (take 0 xs)
-none_yet P [] = λ k d within. absurd (omega (arith, within))
-none_yet P (x ∷ xs) = λ k d within. absurd (omega (arith, within))
-
 pub open_one : (w : World) (path : Text) (ps : List Text) (es new : List Entry) → IsSound w ps es → new ≡ es → is_path_of ps path ≡ false
     → is_path_of (paths_of (outlines es)) path ≡ false → length ps + length es < 1024 → IsSound w (path ∷ ps) new
 open_one w path ps es new sound same open_none none room =
@@ -245,7 +241,7 @@ not_read w path ps es sound = (or_parts (is_path_of ps path) (is_path_of (paths_
 
 pub one_more : (w : World) (path : Text) (ps : List Text) (es new : List Entry) (name : String Global) (file : kept.SourceFile) (ls : List lines.ImportLine)
     → IsSound w (path ∷ ps) es → string_bytes name ≡ path → new ≡ es ++ (name, file) ∷ [] → MayBe w path file.bytes.items file.tree → Reached w path
-    → map line_of ls ≡ file_imports file.tree → All (λ (l : lines.ImportLine). is_path_of (paths_of (outlines es)) (string_bytes l.path) ≡ true) ls
+    → map line_of ls ≡ file_imports file.tree → All (λ p. is_path_of (paths_of (outlines es)) p ≡ true) (map line_path ls)
     → Differ (map line_path ls) → IsSound w ps new
 one_more w path ps es new name file ls sound same is may_be reached its among differ =
     let e : Entry = (name, file) in
@@ -254,7 +250,7 @@ one_more w path ps es new name file ls sound same is may_be reached its among di
     let paths : map line_path ls ≡ import_paths (file_imports file.tree) = sym (paths_of_lines ls) ∙ ap import_paths its in
     let has = λ (p : Text). is_path_of (paths_of (outlines es)) p ≡ true in
     let first : InOrder (outline e ∷ outlines es) = (
-      subst (λ (xs : List Text). All has xs) paths (All-map has line_path ls among),
+      subst (λ (xs : List Text). All has xs) paths among,
       subst Differ paths differ,
       sound.in_order,
     ) in

@@ -1,24 +1,20 @@
-use Rattle.std.proofs.Common.{◌≡◌, inl, ◌∙◌, ◌+◌, ◌<◌, ◌≤◌, ℕ, List, [], ◌∷◌, ◌++◌, Some, All, true, false, sym, ap, subst, take, map, length, refl, string_bytes, arith, slice_index_or}
+use Rattle.std.proofs.Common.{◌≡◌, ◌∙◌, ◌+◌, ◌<◌, ◌≤◌, ℕ, List, [], ◌∷◌, ◌++◌, Some, true, false, sym, ap, subst, take, map, length, refl, string_bytes, arith, slice_index_or}
 use Rattle.std.proofs.lemmas.List.{map_more, take_all}
-use Rattle.std.proofs.lemmas.List.Elements.{All-more}
 use Rattle.std.proofs.lemmas.Result.{err_from_is_err_and}
 use Rattle.pg_link.specs.declared.walk.imports.ImportLine as lines
 use Rattle.pg_link.specs.declared.walk.Asking as askings
 use Rattle.pg_link.specs.declared.walk.SourceFile as kept
-use Rattle.pg_link.specs.names.Files.{Differ, is_path_of, paths_of}
+use Rattle.pg_link.specs.names.Files.{Differ, is_path_of}
 use Rattle.pg_link.specs.walk.Reads.{world_of}
-use Rattle.pg_link.specs.walk.Walk.{World, Entry, IsParsed, Refuses, outlines}
+use Rattle.pg_link.specs.walk.Walk.{World, IsParsed, Refuses}
 use Rattle.pg_link.specs.inner.Walking.{IsSound, Follows, IsTextFault, IsImportFault, VisitLists, entries, listed_paths, open_paths, has_path}
-use Rattle.pg_link.proofs.lemmas.walk.LeadLaws.{ComeByThese, both_extend, come_done, come_first, come_next, one_extends, same_extends}
+use Rattle.pg_link.proofs.lemmas.walk.LeadLaws.{all_listed}
 use Rattle.pg_link.proofs.lemmas.walk.OrderLaws.{apart_more}
 use Rattle.pg_link.proofs.lemmas.walk.PathLaws.{has_found}
-use Rattle.pg_link.proofs.lemmas.walk.PostOrderLaws.{file_listed, listed_before, next_listed, none_listed}
+use Rattle.pg_link.proofs.lemmas.walk.PostOrderLaws.{both_extend, file_listed, grown, listed_before, next_listed, none_listed, same_extends}
 use Rattle.pg_link.proofs.lemmas.walk.ReadLaws.{at_most_new, first_way, next_way, none_new, none_read, not_begun, one_new, reads_on, same_world, way_done, way_refused}
-use Rattle.pg_link.proofs.lemmas.walk.WalkLaws.{beyond, comes_of, follows_next, import_refused, line_path, next_import, none_yet, not_read, one_more, open_count, open_one, reached_of, read_refused, take_none, text_refused}
+use Rattle.pg_link.proofs.lemmas.walk.WalkLaws.{beyond, comes_of, follows_next, import_refused, line_path, next_import, not_read, one_more, open_count, open_one, reached_of, read_refused, take_none, text_refused}
 use Rattle.pg_link.proofs.walk.+visit.Goals as goal
-
-pub returns-then-contains_key-clause-has : goal.returns-then-contains_key-clause-has
-returns-then-contains_key-clause-has g t c = has_found c.args.walk.now c.args.path.now ∙ (sym c.contains_key.ensures ∙ c.if-contains_key.true)
 
 pub returns-then-contains_key-clause-reads_new : goal.returns-then-contains_key-clause-reads_new
 returns-then-contains_key-clause-reads_new g t c = none_new c.args.folder.now _ _ c.args.walk.now refl
@@ -69,17 +65,13 @@ lines-init g t c =
     record {
       sound = λ roots f. open_one (w roots) path (open_paths walk) (entries walk) (entries new) f.is_sound same c.requires.1.1.1 none room;
       opened = opened;
-      so_far = none_yet (λ (line : lines.ImportLine). has_path new (string_bytes line.path) ≡ true) ls;
       before_is = ap (map string_bytes) c.new-before.ensures.empty ∙ ap (map line_path) (sym (take_none ls));
       differ = subst Differ (ap (map line_path) (sym (take_none ls))) tt;
-      kept = λ p has. subst (λ (es : List Entry). is_path_of (paths_of (outlines es)) p ≡ true) (sym same) has;
       extends = same_extends walk new same;
-      come = come_first walk new (map line_path (take 0 ls)) same;
       lists = none_listed walk new (map line_path (take 0 ls)) same (ap (map line_path) (take_none ls));
       asked = first_way c.args.folder.now _ _ walk new path c.requires.1.1.1 none c.in_ok-bytes.ensures.asked same;
       reads = c.in_ok-bytes.ensures.reads;
       rises = omega (arith, ap length same, ap length opened);
-      grows = omega (arith, ap length same);
       room = room;
     }
 
@@ -140,9 +132,6 @@ lines-preserved g t c =
     let next : List ℕ = c.as_str-next.result.now in
     let w = λ (roots : List (List ℕ)). world_of g.S.Sources c.args.source.now c.args.folder.now roots in
     let parsed : IsParsed c.in_ok-bytes.bytes.items c.in_ok-tree.tree = subst (λ (text : List ℕ). IsParsed text c.in_ok-tree.tree) c.deref.ensures.value c.in_ok-tree.ensures.parsed in
-    let has = λ (l : lines.ImportLine). has_path new (string_bytes l.path) ≡ true in
-    let this : has line = subst (λ (q : List ℕ). has_path new q ≡ true) c.as_str-next.ensures.value after.has in
-    let those : All has (take c.lines.index ls) = λ k d within. after.kept _ (inv.so_far k d within) in
     let within : c.lines.index < length ls = omega arith in
     let at : next ≡ line_path (slice_index_or ls c.lines.index line) = c.as_str-next.ensures.value ∙ ap line_path c.index-line.ensures in
     let more : map line_path (take (c.lines.index + 1) ls) ≡ map line_path (take c.lines.index ls) ++ next ∷ [] =
@@ -161,18 +150,14 @@ lines-preserved g t c =
           (subst (λ (ps : List (List ℕ)). IsSound (world_of g.S.Sources c.lines.source c.args.folder.now roots) ps (entries new)) inv.opened
           (after.sound roots (subst (λ (x : World). Follows x c.lines.walk (Some here) next) (sym now) follows)));
       opened = after.opened ∙ inv.opened;
-      so_far = All-more has ls c.lines.index line within those (subst has c.index-line.ensures this);
       before_is = c.in_ok-check.ensures.noted ∙ (ap (λ (qs : List (List ℕ)). qs ++ next ∷ []) inv.before_is ∙ sym more);
       differ = subst Differ (sym more) (apart_more (map line_path (take c.lines.index ls)) next inv.differ first);
-      kept = λ q has. after.kept q (inv.kept q has);
       extends = both_extend walk c.lines.walk new inv.extends after.extends;
-      come = subst (λ (qs : List (List ℕ)). ComeByThese walk new qs) (sym more) (come_next walk c.lines.walk new (map line_path (take c.lines.index ls)) next inv.come after.extends after.come);
       lists = subst (λ (qs : List (List ℕ)). VisitLists (listed_paths walk) qs new) (sym more)
           (next_listed (listed_paths walk) (map line_path (take c.lines.index ls)) next c.lines.walk new inv.lists after.extends after.lists);
       asked = next_way c.args.folder.now _ _ _ walk c.lines.walk new path inv.asked inv.opened after.reads_all;
       reads = reads_on g.S.Sources c.args.source.now c.lines.source _ 0 inv.reads after.reads;
-      rises = omega (arith, after.grows, ap length after.opened, inv.rises);
-      grows = omega (arith, after.grows, inv.grows);
+      rises = omega (arith, grown c.lines.walk new after.extends, ap length after.opened, inv.rises);
       room = inv.room;
     }
 
@@ -188,12 +173,12 @@ returns-clause-sound g t c = λ roots f.
     let w = world_of g.S.Sources c.args.source.now c.args.folder.now roots in
     let parsed : IsParsed c.in_ok-bytes.bytes.items c.in_ok-tree.tree = subst (λ (text : List ℕ). IsParsed text c.in_ok-tree.tree) c.deref.ensures.value c.in_ok-tree.ensures.parsed in
     let sound : IsSound w (path ∷ open_paths walk) (entries mid) = inv.sound roots f in
-    let last = c.in_ok-end.ensures.comes.is_last (not_read w path (open_paths walk) (entries mid) sound) in
+    let last = c.in_ok-end.ensures.comes (not_read w path (open_paths walk) (entries mid) sound) in
     let whole : take c.lines.index ls ≡ ls = take_all c.lines.index ls (omega arith) in
-    let has = λ (l : lines.ImportLine). has_path mid (string_bytes l.path) ≡ true in
     one_more w path (open_paths walk) (entries mid) (entries new) last.0 file ls sound last.1 last.2
     record { is_given = c.in_ok-bytes.ensures.given; is_parsed = parsed } (reached_of w (open_paths walk) c.args.asking path f.asks) c.in_ok-lines.ensures
-    (subst (λ (xs : List lines.ImportLine). All has xs) whole inv.so_far) (subst (λ (xs : List lines.ImportLine). Differ (map line_path xs)) whole inv.differ)
+    (all_listed mid (listed_paths walk) (map line_path ls) (subst (λ (xs : List lines.ImportLine). VisitLists (listed_paths walk) (map line_path xs) mid) whole inv.lists))
+    (subst (λ (xs : List lines.ImportLine). Differ (map line_path xs)) whole inv.differ)
 
 pub returns-clause-reads_new : goal.returns-clause-reads_new
 returns-clause-reads_new g t c = c.lines.invariant.asked.reads
@@ -203,7 +188,7 @@ returns-clause-reads_all g t c =
     let walk = c.args.walk.now in
     let path : List ℕ = c.args.path.now in
     let inv = c.lines.invariant in
-    let last = c.in_ok-end.ensures.comes.is_last inv.asked.is_unread in
+    let last = c.in_ok-end.ensures.comes inv.asked.is_unread in
     let file : kept.SourceFile = record { bytes = c.in_ok-bytes.bytes; tree = c.in_ok-tree.tree } in
     way_done c.args.folder.now _ _ walk c.lines.walk c.end.new.self path last.0 file inv.asked last.1 last.2
 
@@ -235,20 +220,9 @@ returns-in_err-begin-clause-reads_new g t c =
 pub returns-clause-extends : goal.returns-clause-extends
 returns-clause-extends g t c =
     let inv = c.lines.invariant in
-    let last = c.in_ok-end.ensures.comes.is_last inv.asked.is_unread in
+    let last = c.in_ok-end.ensures.comes inv.asked.is_unread in
     let file : kept.SourceFile = record { bytes = c.in_ok-bytes.bytes; tree = c.in_ok-tree.tree } in
-    both_extend c.args.walk.now c.lines.walk c.end.new.self inv.extends (one_extends c.lines.walk c.end.new.self (last.0, file) last.2)
-
-pub returns-clause-come : goal.returns-clause-come
-returns-clause-come g t c =
-    let walk = c.args.walk.now in
-    let inv = c.lines.invariant in
-    let ls : List lines.ImportLine = c.in_ok-lines.lines.items in
-    let last = c.in_ok-end.ensures.comes.is_last inv.asked.is_unread in
-    let file : kept.SourceFile = record { bytes = c.in_ok-bytes.bytes; tree = c.in_ok-tree.tree } in
-    let whole : take c.lines.index ls ≡ ls = take_all c.lines.index ls (omega arith) in
-    come_done walk c.lines.walk c.end.new.self c.args.path.now last.0 file ls
-    (subst (λ (xs : List lines.ImportLine). ComeByThese walk c.lines.walk (map line_path xs)) whole inv.come) c.in_ok-lines.ensures last.1 last.2
+    both_extend c.args.walk.now c.lines.walk c.end.new.self inv.extends ((last.0, file) ∷ [], last.2)
 
 pub returns-clause-lists : goal.returns-clause-lists
 returns-clause-lists g t c =
@@ -258,12 +232,12 @@ returns-clause-lists g t c =
     let path : List ℕ = c.args.path.now in
     let inv = c.lines.invariant in
     let ls : List lines.ImportLine = c.in_ok-lines.lines.items in
-    let last = c.in_ok-end.ensures.comes.is_last inv.asked.is_unread in
+    let last = c.in_ok-end.ensures.comes inv.asked.is_unread in
     let file : kept.SourceFile = record { bytes = c.in_ok-bytes.bytes; tree = c.in_ok-tree.tree } in
     let whole : take c.lines.index ls ≡ ls = take_all c.lines.index ls (omega arith) in
     let none : has_path walk path ≡ false = has_found walk path ∙ (sym c.contains_key.ensures ∙ c.if-contains_key.false) in
     file_listed walk mid new path last.0 file ls (subst (λ (xs : List lines.ImportLine). VisitLists (listed_paths walk) (map line_path xs) mid) whole inv.lists)
-    c.in_ok-lines.ensures last.1 last.2 (one_extends mid new (last.0, file) last.2) none inv.asked.is_unread
+    c.in_ok-lines.ensures last.1 last.2 none inv.asked.is_unread
 
 pub returns-then-contains_key-clause-lists : goal.returns-then-contains_key-clause-lists
 returns-then-contains_key-clause-lists g t c =
@@ -271,9 +245,6 @@ returns-then-contains_key-clause-lists g t c =
 
 pub returns-then-contains_key-clause-extends : goal.returns-then-contains_key-clause-extends
 returns-then-contains_key-clause-extends g t c = same_extends c.args.walk.now c.args.walk.now refl
-
-pub returns-then-contains_key-clause-come : goal.returns-then-contains_key-clause-come
-returns-then-contains_key-clause-come g t c = λ other has. inl has
 
 pub returns-in_err-check-clause-reads_new : goal.returns-in_err-check-clause-reads_new
 returns-in_err-check-clause-reads_new g t c = c.lines.invariant.asked.reads

@@ -1,9 +1,8 @@
-use Rattle.std.proofs.Common.{◌≡◌, ◌-◌, ◌+◌, ◌<◌, ℕ, List, ◌∷◌, All, take, true, length, map, string_bytes}
+use Rattle.std.proofs.Common.{◌≡◌, ◌-◌, ◌+◌, ◌<◌, ℕ, List, ◌∷◌, take, length, map, string_bytes}
 use Rattle.pg_link.specs.declared.walk.imports.ImportLine as lines
 use Rattle.pg_link.specs.names.Files.{Differ}
 use Rattle.pg_link.specs.walk.Reads.{Reads, world_of}
-use Rattle.pg_link.specs.inner.Walking.{IsSound, Extends, Follows, Keeps, VisitLists, entries, listed_paths, open_paths, has_path}
-use Rattle.pg_link.proofs.lemmas.walk.LeadLaws.{ComeByThese}
+use Rattle.pg_link.specs.inner.Walking.{IsSound, Extends, Follows, VisitLists, entries, listed_paths, open_paths}
 use Rattle.pg_link.proofs.lemmas.walk.ReadLaws.{IsUnderWay}
 use Rattle.pg_link.proofs.lemmas.walk.WalkLaws.{line_path}
 use Rattle.pg_link.proofs.walk.+visit.Given as goal
@@ -17,17 +16,13 @@ invariant-lines g l = record {
   sound : (roots : List (List ℕ)) → Follows (world_of g.S.Sources l.fn.source l.folder roots) l.fn.walk l.asking l.path
       → IsSound (world_of g.S.Sources l.fn.source l.folder roots) (l.path ∷ open_paths l.fn.walk) (entries l.walk);
   opened : open_paths l.walk ≡ l.path ∷ open_paths l.fn.walk;
-  so_far : All (λ (line : lines.ImportLine). has_path l.walk (string_bytes line.path) ≡ true) (take l.index l.lines.items);
   before_is : map string_bytes l.before.keys ≡ map line_path (take l.index l.lines.items);
   differ : Differ (map line_path (take l.index l.lines.items));
-  kept : Keeps l.fn.walk l.walk;
   extends : Extends l.fn.walk l.walk;
-  come : ComeByThese l.fn.walk l.walk (map line_path (take l.index l.lines.items));
   lists : VisitLists (listed_paths l.fn.walk) (map line_path (take l.index l.lines.items)) l.walk;
   asked : IsUnderWay l.folder (g.S.Sources.reads l.fn.source) (g.S.Sources.reads l.source) l.fn.walk l.walk l.path;
   reads : Reads g.S.Sources l.fn.source l.source 0;
   rises : length (open_paths l.fn.walk) + length (entries l.fn.walk) < length (open_paths l.walk) + length (entries l.walk);
-  grows : length (entries l.fn.walk) < length (entries l.walk) + 1;
   room : length (open_paths l.fn.walk) + length (entries l.fn.walk) < 1024;
 }
 

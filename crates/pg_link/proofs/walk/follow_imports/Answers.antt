@@ -1,16 +1,14 @@
-use Rattle.std.proofs.Common.{◌≡◌, ◌∙◌, ℕ, List, [], None, String, string_bytes, All, ap, map, refl, reverse, take, true, sym, subst, slice_index_or, arith}
+use Rattle.std.proofs.Common.{◌≡◌, ◌∙◌, ℕ, List, [], None, String, string_bytes, ap, map, refl, reverse, take, sym, subst, slice_index_or, arith}
 use Rattle.std.proofs.lemmas.List.{map_more, take_all}
-use Rattle.std.proofs.lemmas.List.Elements.{All-more, All-map}
 use Rattle.std.proofs.lemmas.Result.{err_from_is_err_and}
 use Rattle.std.specs.Borrow.{Bor}
 use Rattle.std.specs.Global.{Global}
 use Rattle.pg_link.specs.declared.walk.Walk as walks
-use Rattle.pg_link.specs.names.Files.{is_path_of, paths_of}
 use Rattle.pg_link.specs.names.Names.{texts}
 use Rattle.pg_link.specs.walk.Reads.{world_of}
-use Rattle.pg_link.specs.walk.Walk.{World, Refuses, outlines}
-use Rattle.pg_link.specs.inner.Walking.{IsSound, Follows, VisitLists, entries, has_path}
-use Rattle.pg_link.proofs.lemmas.walk.LeadLaws.{none_come, root_next}
+use Rattle.pg_link.specs.walk.Walk.{World, Refuses}
+use Rattle.pg_link.specs.inner.Walking.{IsSound, Follows, VisitLists, entries}
+use Rattle.pg_link.proofs.lemmas.walk.LeadLaws.{all_listed, from_roots}
 use Rattle.pg_link.proofs.lemmas.walk.PostOrderLaws.{first_listed, next_listed}
 use Rattle.pg_link.proofs.lemmas.walk.ReadLaws.{all_far, far_apart, far_refused, first_far, next_far, reads_on, same_world, unasked}
 use Rattle.pg_link.proofs.lemmas.walk.WalkLaws.{contains_root, first_sound, follows_root, linked, take_none}
@@ -42,15 +40,11 @@ loop-root-preserved g c =
     let mid = world_of g.S.Sources c.loop-root.source c.args.folder.now (texts roots) in
     let now = same_world g.S.Sources c.args.source.now c.loop-root.source 0 c.args.folder.now (texts roots) inv.reads in
     let follows = follows_root w c.loop-root.walk root inv.opened inv.sound (contains_root roots c.loop-root.root-index none c.loop-root-test.true) in
-    let has = λ (root : Bor (List ℕ)). has_path new root.now ≡ true in
-    let those : All has (take c.loop-root.root-index roots) = λ k d within. after.kept _ (inv.has_roots k d within) in
     let sound : IsSound mid [] (entries new) = subst (λ (ps : List (List ℕ)). IsSound mid ps (entries new)) inv.opened
     (after.sound (texts roots) (subst (λ (x : World). Follows x c.loop-root.walk None root) (sym now) follows)) in
     record {
       sound = subst (λ (x : World). IsSound x [] (entries new)) now sound;
       opened = after.opened ∙ inv.opened;
-      has_roots = All-more has roots c.loop-root.root-index none c.loop-root-test.true those after.has;
-      from_roots = root_next (texts roots) c.loop-root.walk new root (contains_root roots c.loop-root.root-index none c.loop-root-test.true) inv.from_roots after.extends after.come;
       lists = subst (λ (ps : List (List ℕ)). VisitLists [] ps new) (sym (map_more (λ (r : Bor (List ℕ)). r.now) roots c.loop-root.root-index none c.loop-root-test.true))
           (next_listed [] (texts (take c.loop-root.root-index roots)) root c.loop-root.walk new inv.lists after.extends after.lists);
       asked = next_far c.args.folder.now _ _ _ c.loop-root.walk new inv.asked inv.opened after.reads_all;
@@ -62,13 +56,9 @@ returns-clause-linked g c =
     let inv = c.loop-root.invariant in
     let roots = c.args.roots.now in
     let w = world_of g.S.Sources c.args.source.now c.args.folder.now (texts roots) in
-    let has = λ (root : Bor (List ℕ)). has_path c.loop-root.walk root.now ≡ true in
     let whole : take c.loop-root.root-index roots ≡ roots = take_all c.loop-root.root-index roots (omega (arith, c.loop-root-test.false)) in
-    let all : All has roots = subst (λ (xs : List (Bor (List ℕ))). All has xs) whole inv.has_roots in
-    linked w (entries c.loop-root.walk) inv.sound
-    (subst (λ (rs : List (Bor (List ℕ))). VisitLists [] (texts rs) c.loop-root.walk) whole inv.lists)
-    (All-map (λ (root : List ℕ). is_path_of (paths_of (outlines (entries c.loop-root.walk))) root ≡ true) (λ (root : Bor (List ℕ)). root.now) roots all)
-    inv.from_roots
+    let lists : VisitLists [] (texts roots) c.loop-root.walk = subst (λ (rs : List (Bor (List ℕ))). VisitLists [] (texts rs) c.loop-root.walk) whole inv.lists in
+    linked w (entries c.loop-root.walk) inv.sound lists (all_listed c.loop-root.walk [] (texts roots) lists) (from_roots c.loop-root.walk (texts roots) lists)
 
 pub returns-clause-reads_each : goal.returns-clause-reads_each
 returns-clause-reads_each g c = all_far c.args.folder.now _ _ c.loop-root.walk c.loop-root.invariant.asked
@@ -88,8 +78,6 @@ loop-root-init g c =
     record {
       sound = first_sound _ (entries walk) none;
       opened = ap (λ (keys : List (String Global)). reverse (map string_bytes keys)) c.new-2.ensures.empty;
-      has_roots = λ k d within. absurd (omega (arith, within));
-      from_roots = none_come (texts c.args.roots.now) walk none;
       lists = first_listed walk (texts (take 0 c.args.roots.now)) none (ap texts (take_none c.args.roots.now));
       asked = first_far c.args.folder.now _ _ walk refl none;
       reads = unasked g.S.Sources c.args.source.now;

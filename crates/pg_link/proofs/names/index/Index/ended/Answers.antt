@@ -6,10 +6,10 @@ use Rattle.std.specs.Str.{bytes_eq}
 use Rattle.pg_link.specs.inner.Index as spec
 use Rattle.pg_link.proofs.lemmas.names.ResolvesLaws.{is_borne}
 use Rattle.pg_link.proofs.lemmas.names.SameBytes.{same_text}
-use Rattle.pg_link.proofs.names.index.Index.seen_type.Goals as goal
+use Rattle.pg_link.proofs.names.index.Index.ended.Goals as goal
 
 pub returns-then-is_seen-clause-borne : goal.returns-then-is_seen-clause-borne
-returns-then-is_seen-clause-borne c = λ yes.
+returns-then-is_seen-clause-borne c =
     let full = c.args.full.now in
     let name = c.in_ok-name.name.now in
     let passes : bytes_eq full (string_bytes name) ≡ true =
