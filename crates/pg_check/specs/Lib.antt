@@ -5,6 +5,5 @@ pub mod Codes
 pub mod RuleCodes
 pub mod rules
 pub mod parts
-pub mod standing
 pub mod admitting
 pub mod inner

@@ -12,7 +12,7 @@ ghost use Rattle.pg_check.specs.parts.Sources.{linked_sources};
 ghost use Rattle.pg_check.specs.inner.Sources.{source};
 ghost use Rattle.pg_check.specs.rules.BrokenRules.{IsFirstBroken};
 ghost use Rattle.pg_check.specs.inner.FirstBroken.{first_broken};
-ghost use Rattle.pg_check.specs.standing.StandingParts.{StandingParts};
+ghost use Rattle.pg_schema.specs.standing.StandingParts.{StandingParts};
 
 use crate::declare::{FileFault, Refusal, declare};
 use crate::error::{CheckError, error_of};

@@ -10,7 +10,7 @@ ghost use Rattle.pg_check.specs.rules.Outline.{file_messages};
 use crate::parts::made_parts::{Source, parts_of};
 use crate::rules::fault::Fault;
 use crate::rules::file::file_fault;
-use crate::rules::outline::{file_enums, file_messages};
+use crate::rules::outline::{file_messages, scoped_enums};
 use pg_schema::{MAX_MESSAGE_TYPES, Parts};
 use std::alloc::{AllocError, Global};
 
@@ -54,7 +54,7 @@ fn look_at(alloc: Global, file: &Source<'_>, left: usize) -> Result<Checked, All
     ensures left { IfOk result (λ c. c.left ≡ left - length (file_messages file.now.tree.now)) }
 {
     let messages = file_messages(alloc, file.tree)?;
-    let enums = file_enums(alloc, file.tree)?;
+    let enums = scoped_enums(alloc, file.tree, &messages)?;
     let fault = file_fault(alloc, &file.targets, left, file.tree, &messages, &enums)?;
     let left = left.saturating_sub(messages.as_slice().len());
     Ok(Checked { fault, left })

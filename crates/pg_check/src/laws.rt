@@ -20,7 +20,7 @@ ghost use Rattle.pg_check.specs.RuleCodes.{AreRuleCodes};
 ghost use Rattle.pg_check.specs.parts.PackedFields.{ArePackedByMeaning};
 ghost use Rattle.pg_check.specs.parts.ResolvedTypes.{AreResolved, ResolvesTo, full_name_of};
 ghost use Rattle.pg_check.specs.parts.Sources.{linked_sources};
-ghost use Rattle.pg_check.specs.standing.StandingParts.{StandingParts};
+ghost use Rattle.pg_schema.specs.standing.StandingParts.{StandingParts};
 ghost use Rattle.pg_check.specs.declared.error.CheckError.{CheckError};
 
 /// What the rules take and what they refuse, by small examples.

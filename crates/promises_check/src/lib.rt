@@ -10,7 +10,7 @@ ghost use Rattle.pg_check.specs.Errors as spec;
 ghost use Rattle.pg_check.specs.admitting.PartErrors.{IsRefusedOf};
 ghost use Rattle.pg_check.specs.parts.Sources.{linked_sources};
 ghost use Rattle.pg_check.specs.rules.KeepsRules.{KeepsRules};
-ghost use Rattle.pg_check.specs.standing.StandingParts.{StandingParts};
+ghost use Rattle.pg_schema.specs.standing.StandingParts.{StandingParts};
 ghost use Rattle.pg_check.specs.declared.error.CheckError.TheVariants.{Memory};
 
 mod resolved;

@@ -19,8 +19,8 @@
 //!   INDEX` what these calls of the schema answer.
 //!
 //! With `retry ` in front of the second part, the row is answered again where it lacks memory
-//! (`kit_rows::retry`). `kit_rows` says how source files are spelled. For any other row that runs out of
-//! memory, `Memory` is printed.
+//! (`kit_rows::retry`). `kit_rows` says how source files are spelled. For any other row that runs
+//! out of memory, `Memory` is printed.
 #![tactic(auto)]
 
 mod answer;

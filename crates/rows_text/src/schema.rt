@@ -54,7 +54,10 @@ fn answered(alloc: Global, schema: &Schema, call: &str, words: &str) -> Result<S
         "message" => debug(alloc, &schema.message(words)),
         "has" => debug(alloc, &schema.has(TypeId { index })),
         "type" => String::from_str(alloc, name_of_type(schema.message_type(TypeId { index }))),
-        "enum" => String::from_str(alloc, name_of_enum(schema.enum_type(EnumId { index }))),
+        "enum" => {
+            let index = index as usize;
+            String::from_str(alloc, name_of_enum(schema.enum_type(EnumId { index })))
+        }
         _ => String::from_str(alloc, field(schema, words)),
     }
 }

@@ -8,7 +8,6 @@ pub mod Wholes
 pub mod LinkedParts
 pub mod Totals
 pub mod SoundParts
-pub mod CountableParts
 pub mod Numbering
 pub mod PackedFields
 pub mod kept

@@ -12,7 +12,7 @@ use Rattle.pg_check.specs.inner.Faults.{broken, earlier, earliest, first_fault}
 use Rattle.pg_check.specs.rules.Files.{service_lines, rpc_lines, rpc_body, file_lines}
 use Rattle.pg_check.specs.inner.MessageFaults.{body_fault}
 use Rattle.pg_check.specs.inner.OptionFaults.{first_bad}
-use Rattle.pg_check.specs.rules.Outline.{Message, Enum, file_messages, file_enums, statements_behind}
+use Rattle.pg_check.specs.rules.Outline.{Enum, Message, file_messages, scoped_enums, statements_behind}
 
 abbrev pub rpc_fault : tree.Rpc.Rpc → Option Fault
 rpc_fault r = broken rules.BadOption (first_bad (rpc_lines (rpc_body r.body)))
@@ -60,4 +60,4 @@ statements_fault file =
 -- begins at a byte of the file names.
 abbrev pub file_fault : (ℕ → Option Target) → ℕ → tree.FileTree.FileTree → Option Fault
 file_fault targets left file =
-    earlier (types_fault targets left (file_messages file) (file_enums file)) (statements_fault file)
+    earlier (types_fault targets left (file_messages file) (scoped_enums file)) (statements_fault file)

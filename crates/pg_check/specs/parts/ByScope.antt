@@ -15,15 +15,14 @@ pub record Placed : Type 0 where
 -- what these scopes declare one by one, where so many come before
 abbrev pub placed_from : ℕ → List (List ℕ) → List Placed
 placed_from before [] = []
-placed_from before (scope ∷ scopes) =
-    record { scope = scope; index = index_of before } ∷ placed_from (before + 1) scopes
+placed_from before (scope ∷ scopes) = record { scope = scope; index = before } ∷ placed_from (before + 1) scopes
 
 -- the indexes of what the scope declares
 abbrev pub places_in : List ℕ → List Placed → List ℕ
 places_in scope list = map (λ (p : Placed). p.index) (filter (λ (p : Placed). bytes_eq scope p.scope) list)
 
 abbrev pub type_id : ℕ → TypeId
-type_id index = record { index = index }
+type_id index = record { index = index_of index }
 
 abbrev pub enum_id : ℕ → EnumId
 enum_id index = record { index = index }

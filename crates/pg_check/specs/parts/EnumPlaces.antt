@@ -6,14 +6,16 @@ use Rattle.std.specs.Str.{bytes_eq}
 use Rattle.pg_link.specs.walk.Walk.{Entry}
 use Rattle.pg_link.specs.declared.uses.target.Target.{Target}
 use Rattle.pg_link.specs.declared.uses.target.Target.TheVariants as targets
-use Rattle.pg_check.specs.rules.Outline.{Enum, file_enums, scoped_enums}
+use Rattle.pg_link.specs.names.Names.{without_dot}
+use Rattle.pg_link.specs.uses.Targets.{all_declared, enum_names}
+use Rattle.pg_check.specs.rules.Outline.{Enum, scoped_enums}
 
 abbrev pub enum_full : Enum → List ℕ
 enum_full e = e.full
 
--- the full names of all enums in order of declaration
+-- the full names of all enums in order of declaration, as they are numbered
 abbrev pub declared_names : List Entry → List (List ℕ)
-declared_names files = flat_map (λ (e : Entry). map enum_full (file_enums e.1.tree)) files
+declared_names files = map without_dot (enum_names (all_declared files))
 
 -- and scope by scope
 abbrev pub scoped_names : List Entry → List (List ℕ)

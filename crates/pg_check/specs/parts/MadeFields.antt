@@ -53,7 +53,7 @@ abbrev pub element_of : Option Scalar → Option Target → Element
 element_of (Some s) target = elements.Scalar s
 element_of None None = elements.Scalar scalars.Int32
 element_of None (Some (targets.Message n)) = elements.Message (record { index = index_of n })
-element_of None (Some (targets.Enum n)) = elements.Enum (record { index = index_of n })
+element_of None (Some (targets.Enum n)) = elements.Enum (record { index = n })
 
 abbrev pub element : (ℕ → Option Target) → tree.TypeName.TypeName → Element
 element targets name = element_of (scalar_named name) (targets name.span.from)

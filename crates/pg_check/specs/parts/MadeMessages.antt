@@ -1,5 +1,5 @@
 -- What a message declares, as a schema has it (proto3 language specification, "Message definition").
-use Rattle.std.specs.Prelude.{◌≡◌, ℕ, Bool, List, [], ◌∷◌, map, flat_map, codes, Option, string_bytes}
+use Rattle.std.specs.Prelude.{◌≡◌, ℕ, Bool, List, map, flat_map, codes, Option, string_bytes}
 use Rattle.std.specs.List.Sorted.{IsPermutation, IsNonDecreasingBy}
 use Rattle.pg_schema.specs.declared.parts.field.EnumId.{EnumId}
 use Rattle.pg_schema.specs.declared.parts.field.Field as schema
@@ -11,11 +11,10 @@ use Rattle.pg_link.specs.declared.uses.target.Target.{Target}
 use Rattle.pg_check.specs.parts.MadeFields.{MadeField, field, made_field, made_number}
 use Rattle.pg_check.specs.parts.MadeNumbers.{field_range}
 use Rattle.pg_check.specs.parts.MadeOptions.{flag_of}
-use Rattle.pg_check.specs.rules.Members.{members}
+use Rattle.pg_check.specs.rules.Members.{members, oneof_in as declared_oneof}
 use Rattle.pg_check.specs.rules.Messages as rules
 use Rattle.pg_syntax.specs.declared.tree as tree
 use Rattle.pg_syntax.specs.declared.tree.Part.{Part}
-use Rattle.pg_syntax.specs.declared.tree.Part.TheVariants as parts
 
 abbrev pub made_fields : (ℕ → Option Target) → List Part → List MadeField
 made_fields targets body = map (made_field targets) (members body)
@@ -25,27 +24,13 @@ abbrev pub declared : List Part → List ℕ
 declared body = map made_number (members body)
 
 abbrev pub oneof_in : Part → List (List ℕ)
-oneof_in (parts.Empty span) = []
-oneof_in (parts.Message' name shape row span) = []
-oneof_in (parts.Enum e) = []
-oneof_in (parts.Oneof o) = string_bytes o.name.text ∷ []
-oneof_in (parts.Option o) = []
-oneof_in (parts.Reserved r) = []
-oneof_in (parts.Map m) = []
-oneof_in (parts.Field f) = []
+oneof_in p = map (λ o. string_bytes o.name.text) (declared_oneof p)
 
 abbrev pub oneofs : List Part → List (List ℕ)
 oneofs body = flat_map oneof_in body
 
 abbrev pub setting_in : Part → List tree.Setting.Setting
-setting_in (parts.Empty span) = []
-setting_in (parts.Message' name shape row span) = []
-setting_in (parts.Enum e) = []
-setting_in (parts.Oneof o) = []
-setting_in (parts.Option o) = o.setting ∷ []
-setting_in (parts.Reserved r) = []
-setting_in (parts.Map m) = []
-setting_in (parts.Field f) = []
+setting_in p = map (λ o. o.setting) (rules.option_in p)
 
 abbrev pub body_settings : List Part → List tree.Setting.Setting
 body_settings body = flat_map setting_in body

@@ -68,10 +68,13 @@ made_method targets r = record {
   options = record { deprecated = rpc_flag (rpc_body r.body) };
 }
 
+abbrev pub rpc_in : tree.ServicePart.ServicePart → List tree.Rpc.Rpc
+rpc_in (parts.Empty span) = []
+rpc_in (parts.Option o) = []
+rpc_in (parts.Rpc r) = r ∷ []
+
 abbrev pub method_in : (ℕ → Option Target) → tree.ServicePart.ServicePart → List MadeMethod
-method_in targets (parts.Empty span) = []
-method_in targets (parts.Option o) = []
-method_in targets (parts.Rpc r) = made_method targets r ∷ []
+method_in targets p = map (made_method targets) (rpc_in p)
 
 abbrev pub made_methods : (ℕ → Option Target) → List tree.ServicePart.ServicePart → List MadeMethod
 made_methods targets body = flat_map (method_in targets) body
@@ -93,13 +96,16 @@ made_service targets scope s = record {
   options = record { deprecated = service_flag s.parts.items };
 }
 
+abbrev pub stated_service : tree.Statement.Statement → List tree.Service.Service
+stated_service (statements.Empty span) = []
+stated_service (statements.Import i) = []
+stated_service (statements.Option o) = []
+stated_service (statements.Message m) = []
+stated_service (statements.Enum e) = []
+stated_service (statements.Service s) = s ∷ []
+
 abbrev pub service_in : (ℕ → Option Target) → List ℕ → tree.Statement.Statement → List MadeService
-service_in targets scope (statements.Empty span) = []
-service_in targets scope (statements.Import i) = []
-service_in targets scope (statements.Option o) = []
-service_in targets scope (statements.Message m) = []
-service_in targets scope (statements.Enum e) = []
-service_in targets scope (statements.Service s) = made_service targets scope s ∷ []
+service_in targets scope s = map (made_service targets scope) (stated_service s)
 
 -- the services of statements, in order of declaration
 abbrev pub made_services : (ℕ → Option Target) → List ℕ → List tree.Statement.Statement → List MadeService
@@ -108,4 +114,4 @@ made_services targets scope list = flat_map (service_in targets scope) list
 -- the indexes of services, where so many come before
 abbrev pub service_ids : ℕ → List MadeService → List ServiceId
 service_ids before [] = []
-service_ids before (s ∷ ss) = record { index = index_of before } ∷ service_ids (before + 1) ss
+service_ids before (s ∷ ss) = record { index = before } ∷ service_ids (before + 1) ss

@@ -19,12 +19,11 @@ use Rattle.pg_link.specs.names.Resolves.{Resolves, reference}
 use Rattle.pg_link.specs.walk.Walk.{Entry, outlines, path_of}
 use Rattle.pg_check.specs.parts.MadeFields.{made_number}
 use Rattle.pg_check.specs.parts.MadeParts.{EachIs}
+use Rattle.pg_check.specs.parts.MadeServices.{rpc_in, stated_service}
 use Rattle.pg_check.specs.rules.Members.{DeclaredField, Plain, Mapped, members}
 use Rattle.pg_check.specs.rules.Outline.{Message, file_messages, full_name, package_of, statements_behind}
 use Rattle.pg_check.specs.rules.Types.{scalar_named}
 use Rattle.pg_syntax.specs.declared.tree as tree
-use Rattle.pg_syntax.specs.declared.tree.ServicePart.TheVariants as service_parts
-use Rattle.pg_syntax.specs.declared.tree.Statement.TheVariants as statements
 use Rattle.pg_syntax.specs.declared.tree.TypeName.{TypeName}
 
 -- ---- one type name
@@ -55,11 +54,6 @@ IsScalarOr resolves (Some s) element = element ≡ elements.Scalar s
 abbrev pub type_name_of : DeclaredField → TypeName
 type_name_of (Plain f oneof) = f.type_name
 type_name_of (Mapped m oneof) = m.value
-
-abbrev pub rpc_in : tree.ServicePart.ServicePart → List tree.Rpc.Rpc
-rpc_in (service_parts.Empty span) = []
-rpc_in (service_parts.Option o) = []
-rpc_in (service_parts.Rpc r) = r ∷ []
 
 -- ---- in a schema of linked files
 
@@ -111,17 +105,9 @@ module _ (files : List Entry) (parts : Parts) where
 abbrev pub messages_of : List Entry → List (Entry × Message)
 messages_of files = flat_map (λ (e : Entry). map (λ (m : Message). (e, m)) (file_messages e.1.tree)) files
 
-abbrev pub service_in : tree.Statement.Statement → List tree.Service.Service
-service_in (statements.Empty span) = []
-service_in (statements.Import i) = []
-service_in (statements.Option o) = []
-service_in (statements.Message m) = []
-service_in (statements.Enum e) = []
-service_in (statements.Service s) = s ∷ []
-
 abbrev pub file_services : tree.FileTree.FileTree → List tree.Service.Service
-file_services file = flat_map service_in file.statements.items
-    ++ flat_map service_in (statements_behind file.packaged)
+file_services file = flat_map stated_service file.statements.items
+    ++ flat_map stated_service (statements_behind file.packaged)
 
 -- the services that files declare, each with its file
 abbrev pub services_of : List Entry → List (Entry × tree.Service.Service)

@@ -20,7 +20,7 @@ use Rattle.pg_check.specs.rules.Messages as messages
 use Rattle.pg_check.specs.rules.Names as names
 use Rattle.pg_check.specs.rules.Numbers as numbers
 use Rattle.pg_check.specs.rules.Options.{OptionAt, name_of}
-use Rattle.pg_check.specs.rules.Outline.{Enum, Message, file_enums, statements_behind}
+use Rattle.pg_check.specs.rules.Outline.{Enum, Message, scoped_enums, statements_behind}
 use Rattle.pg_check.specs.rules.ReservedItems.{overlap}
 use Rattle.pg_syntax.specs.declared.tree as tree
 use Rattle.pg_syntax.specs.declared.tree.EnumPart.TheVariants as enum_parts
@@ -145,7 +145,7 @@ pub data BreaksFile (s : Source) (left : ℕ) (place : Place) : CheckError → (
       → BreaksFile s left place (errors.TooManyTypes place) 413 m.name.span.from m.name.span.from
   in_message : (m : Message) (e : CheckError) (code declared at : ℕ) → IsOneOf (source_messages s) m
       → BreaksMessage s.targets m.body place e code declared at → BreaksFile s left place e code declared at
-  in_enum : (n : Enum) (e : CheckError) (code declared at : ℕ) → IsOneOf (file_enums s.tree) n
+  in_enum : (n : Enum) (e : CheckError) (code declared at : ℕ) → IsOneOf (scoped_enums s.tree) n
       → BreaksEnum n.tree place e code declared at → BreaksFile s left place e code declared at
   bad_file_option : (at : ℕ) → IsFirstBadOption (file_lines s.tree) at
       → BreaksFile s left place (errors.BadOption place) 411 at at

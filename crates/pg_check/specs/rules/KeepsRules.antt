@@ -17,7 +17,7 @@ use Rattle.pg_check.specs.rules.Messages as messages
 use Rattle.pg_check.specs.rules.Names as names
 use Rattle.pg_check.specs.rules.Numbers as numbers
 use Rattle.pg_check.specs.rules.Options.{OptionAt, in_settings, name_of}
-use Rattle.pg_check.specs.rules.Outline.{Enum, Message, file_enums, file_messages, statements_behind}
+use Rattle.pg_check.specs.rules.Outline.{Enum, Message, file_messages, scoped_enums, statements_behind}
 use Rattle.pg_check.specs.rules.ReservedItems.{overlap}
 use Rattle.pg_syntax.specs.declared.tree as tree
 use Rattle.pg_syntax.specs.declared.tree.EnumPart.TheVariants as enum_parts
@@ -160,7 +160,7 @@ StatementKeeps (statements.Service s) = ServiceKeeps s.parts.items
 
 pub record FileKeeps (s : Source) : Type 0 where
   pub messages : AllByRecursion (λ (m : Message). MessageKeeps s.targets m.body) (file_messages s.tree)
-  pub enums : AllByRecursion (λ (e : Enum). EnumKeeps e.tree.parts.items) (file_enums s.tree)
+  pub enums : AllByRecursion (λ (e : Enum). EnumKeeps e.tree.parts.items) (scoped_enums s.tree)
   pub options : OptionsKeep (file_lines s.tree)
   pub front : AllByRecursion StatementKeeps s.tree.statements.items
   pub behind : AllByRecursion StatementKeeps (statements_behind s.tree.packaged)

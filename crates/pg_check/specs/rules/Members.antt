@@ -1,6 +1,6 @@
 -- The fields of a message, also maps and members of its oneofs, in order of declaration (proto3 language specification,
 -- "Message definition", "Oneof and oneof field", "Map field"; proto3 language guide, "JSON Mapping").
-use Rattle.std.specs.Prelude.{ℕ, ◌+◌, false, List, [], ◌∷◌, ◌++◌, flat_map, codes, Option, Some, None, string_bytes, if◌then◌else◌}
+use Rattle.std.specs.Prelude.{ℕ, ◌+◌, false, List, [], ◌∷◌, ◌++◌, flat_map, codes, length, Option, Some, None, string_bytes, if◌then◌else◌}
 use Rattle.pg_schema.specs.JsonName.{default_json_name}
 use Rattle.pg_check.specs.declared.rules.numbers.Keyed.{Keyed}
 use Rattle.pg_syntax.specs.declared.tree as tree
@@ -38,15 +38,18 @@ members_in place (parts.Reserved r) = []
 members_in place (parts.Map m) = Mapped m None ∷ []
 members_in place (parts.Field f) = Plain f None ∷ []
 
+abbrev pub oneof_in : Part → List tree.Oneof.Oneof
+oneof_in (parts.Empty span) = []
+oneof_in (parts.Message' name shape row span) = []
+oneof_in (parts.Enum e) = []
+oneof_in (parts.Oneof o) = o ∷ []
+oneof_in (parts.Option o) = []
+oneof_in (parts.Reserved r) = []
+oneof_in (parts.Map m) = []
+oneof_in (parts.Field f) = []
+
 abbrev pub oneofs_in : Part → ℕ
-oneofs_in (parts.Empty span) = 0
-oneofs_in (parts.Message' name shape row span) = 0
-oneofs_in (parts.Enum e) = 0
-oneofs_in (parts.Oneof o) = 1
-oneofs_in (parts.Option o) = 0
-oneofs_in (parts.Reserved r) = 0
-oneofs_in (parts.Map m) = 0
-oneofs_in (parts.Field f) = 0
+oneofs_in p = length (oneof_in p)
 
 abbrev pub members_from : ℕ → List Part → List DeclaredField
 members_from place [] = []

@@ -13,7 +13,7 @@ use Rattle.pg_syntax.specs.declared.tree.OneofPart.TheVariants as oneof_parts
 use Rattle.pg_syntax.specs.declared.tree.Part.{Part}
 use Rattle.pg_syntax.specs.declared.tree.Part.TheVariants as parts
 use Rattle.pg_check.specs.rules.Enums.{is_true}
-use Rattle.pg_check.specs.rules.Members.{DeclaredField, Plain, Mapped, members, key_of, named, json_named}
+use Rattle.pg_check.specs.rules.Members.{DeclaredField, Plain, Mapped, members, key_of, named, json_named, oneof_in}
 use Rattle.pg_check.specs.rules.Names.{Named}
 use Rattle.pg_check.specs.rules.Numbers as numbers
 use Rattle.pg_check.specs.rules.Options.{OptionAt, in_line, is_word}
@@ -22,55 +22,44 @@ use Rattle.pg_check.specs.rules.Types.{is_key_type, is_packable_type}
 
 -- ---- what a body has beside its fields
 
+abbrev pub in_reserved : {X : Type 0} → (tree.Reserved.Reserved → List X) → Part → List X
+in_reserved list (parts.Empty span) = []
+in_reserved list (parts.Message' name shape row span) = []
+in_reserved list (parts.Enum e) = []
+in_reserved list (parts.Oneof o) = []
+in_reserved list (parts.Option o) = []
+in_reserved list (parts.Reserved r) = list r
+in_reserved list (parts.Map m) = []
+in_reserved list (parts.Field f) = []
+
 abbrev pub items_in : Part → List Numbers
-items_in (parts.Empty span) = []
-items_in (parts.Message' name shape row span) = []
-items_in (parts.Enum e) = []
-items_in (parts.Oneof o) = []
-items_in (parts.Option o) = []
-items_in (parts.Reserved r) = numbers_in numbers.highest_field r.items
-items_in (parts.Map m) = []
-items_in (parts.Field f) = []
+items_in = in_reserved (λ r. numbers_in numbers.highest_field r.items)
 
 abbrev pub items : List Part → List Numbers
 items body = flat_map items_in body
 
 abbrev pub reserved_names_in : Part → List (List ℕ)
-reserved_names_in (parts.Empty span) = []
-reserved_names_in (parts.Message' name shape row span) = []
-reserved_names_in (parts.Enum e) = []
-reserved_names_in (parts.Oneof o) = []
-reserved_names_in (parts.Option o) = []
-reserved_names_in (parts.Reserved r) = names_in r.items
-reserved_names_in (parts.Map m) = []
-reserved_names_in (parts.Field f) = []
+reserved_names_in = in_reserved (λ r. names_in r.items)
 
 abbrev pub reserved_names : List Part → List (List ℕ)
 reserved_names body = flat_map reserved_names_in body
 
+abbrev pub option_in : Part → List tree.OptionLine.OptionLine
+option_in (parts.Empty span) = []
+option_in (parts.Message' name shape row span) = []
+option_in (parts.Enum e) = []
+option_in (parts.Oneof o) = []
+option_in (parts.Option o) = o ∷ []
+option_in (parts.Reserved r) = []
+option_in (parts.Map m) = []
+option_in (parts.Field f) = []
+
 abbrev pub lines_in : Part → List OptionAt
-lines_in (parts.Empty span) = []
-lines_in (parts.Message' name shape row span) = []
-lines_in (parts.Enum e) = []
-lines_in (parts.Oneof o) = []
-lines_in (parts.Option o) = in_line owners.Message o ∷ []
-lines_in (parts.Reserved r) = []
-lines_in (parts.Map m) = []
-lines_in (parts.Field f) = []
+lines_in p = map (in_line owners.Message) (option_in p)
 
 -- the option statements of the message
 abbrev pub lines : List Part → List OptionAt
 lines body = flat_map lines_in body
-
-abbrev pub oneof_in : Part → List tree.Oneof.Oneof
-oneof_in (parts.Empty span) = []
-oneof_in (parts.Message' name shape row span) = []
-oneof_in (parts.Enum e) = []
-oneof_in (parts.Oneof o) = o ∷ []
-oneof_in (parts.Option o) = []
-oneof_in (parts.Reserved r) = []
-oneof_in (parts.Map m) = []
-oneof_in (parts.Field f) = []
 
 abbrev pub oneofs : List Part → List tree.Oneof.Oneof
 oneofs body = flat_map oneof_in body

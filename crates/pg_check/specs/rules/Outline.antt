@@ -1,6 +1,5 @@
--- What files declare outside and inside of messages: statements, message types, enums and services, each in order of
--- declaration, and enums also scope by scope (proto3 language specification, "Message definition", "Enum definition",
--- "Package").
+-- What files declare outside and inside of messages: message types in order of declaration, and enums scope by scope
+-- (proto3 language specification, "Message definition", "Enum definition", "Package").
 use Rattle.std.specs.Prelude.{ℕ, List, [], ◌∷◌, ◌++◌, flat_map, Option, Some, None, string_bytes}
 use Rattle.pg_schema.specs.rules.DeclaredNames.{within}
 use Rattle.pg_syntax.specs.declared.tree as tree
@@ -59,26 +58,6 @@ abbrev pub messages_of : List ℕ → tree.Message.Message → List Message
 messages_of scope m = record { scope = scope; full = full_name scope m.name; name = m.name; body = m.parts.items }
     ∷ flat_map (messages_in (full_name scope m.name)) m.parts.items
 
--- ---- enums
-
-abbrev mutual
-  pub enums_in : List ℕ → Part → List Enum
-  enums_in scope (parts.Empty span) = []
-  enums_in scope (parts.Message' name shape row span) = row_enums (full_name scope name) row
-  enums_in scope (parts.Enum e) = an_enum scope e
-  enums_in scope (parts.Oneof o) = []
-  enums_in scope (parts.Option o) = []
-  enums_in scope (parts.Reserved r) = []
-  enums_in scope (parts.Map m) = []
-  enums_in scope (parts.Field f) = []
-
-  pub row_enums : {m : _} → List ℕ → Row_of-Part m → List Enum
-  row_enums scope end_of-Part = []
-  row_enums scope (more_of-Part p rest) = enums_in scope p ++ row_enums scope rest
-
-abbrev pub enums_of : List ℕ → tree.Message.Message → List Enum
-enums_of scope m = flat_map (enums_in (full_name scope m.name)) m.parts.items
-
 -- ---- files
 
 abbrev pub statement_messages : List ℕ → tree.Statement.Statement → List Message
@@ -88,14 +67,6 @@ statement_messages scope (statements.Option o) = []
 statement_messages scope (statements.Message m) = messages_of scope m
 statement_messages scope (statements.Enum e) = []
 statement_messages scope (statements.Service s) = []
-
-abbrev pub statement_enums : List ℕ → tree.Statement.Statement → List Enum
-statement_enums scope (statements.Empty span) = []
-statement_enums scope (statements.Import i) = []
-statement_enums scope (statements.Option o) = []
-statement_enums scope (statements.Message m) = enums_of scope m
-statement_enums scope (statements.Enum e) = an_enum scope e
-statement_enums scope (statements.Service s) = []
 
 abbrev pub statements_behind : Option tree.Packaged.Packaged → List tree.Statement.Statement
 statements_behind None = []
@@ -120,19 +91,12 @@ package_of file = package_in file.packaged
 abbrev pub all_messages : List ℕ → List tree.Statement.Statement → List Message
 all_messages scope statements = flat_map (statement_messages scope) statements
 
-abbrev pub all_enums : List ℕ → List tree.Statement.Statement → List Enum
-all_enums scope statements = flat_map (statement_enums scope) statements
-
 abbrev pub file_messages : tree.FileTree.FileTree → List Message
 file_messages file =
     all_messages (package_of file) file.statements.items
     ++ all_messages (package_of file) (statements_behind file.packaged)
 
-abbrev pub file_enums : tree.FileTree.FileTree → List Enum
-file_enums file =
-    all_enums (package_of file) file.statements.items ++ all_enums (package_of file) (statements_behind file.packaged)
-
--- ---- enums by their scopes
+-- ---- enums, scope by scope
 
 -- the enum that the part itself declares
 abbrev pub enum_in : List ℕ → Part → List Enum

@@ -1,12 +1,13 @@
 //! The rules that parts break which come from no source file.
 
 ghost use Rattle.std.specs.Prelude.{◌≡◌, IfOk, map, string_bytes};
-ghost use Rattle.std.specs.List.{list_any};
+ghost use Rattle.std.specs.List.{list_all};
 ghost use Rattle.pg_schema.specs.rules.Files.{is_file_option};
 ghost use Rattle.pg_check.specs.inner.Faults.{first_fault};
 ghost use Rattle.pg_check.specs.inner.MessageFaults as messages;
 ghost use Rattle.pg_check.specs.inner.NameFaults as names;
 ghost use Rattle.pg_check.specs.admitting.DeclaredParts as of_parts;
+ghost use Rattle.pg_check.specs.admitting.KeepsParts as keeps;
 ghost use Rattle.pg_check.specs.inner.PartFaults as spec;
 
 use crate::admitting::enum_part_faults::enum_fault;
@@ -24,14 +25,14 @@ use std::alloc::{AllocError, Global};
 /// The one position of all that no source file declares.
 pub(crate) const NOWHERE: usize = 0;
 
-/// The fault of a rule that is broken at no position.
-fn fault_if(rule: Rule, is_broken: bool) -> Option<Fault>
-    ensures { result ≡ spec.fault_if rule is_broken }
+/// The fault of the rule where this doesn't hold, at no position.
+fn fault_unless(rule: Rule, holds: bool) -> Option<Fault>
+    ensures { result ≡ spec.fault_unless rule holds }
 {
-    if is_broken {
-        broken(rule, Some(NOWHERE))
-    } else {
+    if holds {
         None
+    } else {
+        broken(rule, Some(NOWHERE))
     }
 }
 
@@ -93,53 +94,53 @@ fn json_names_of(alloc: Global, fields: &[Field]) -> Result<Vec<Titled>, AllocEr
     Ok(list)
 }
 
-/// The key may not be a map's.
-fn has_bad_key(field: &Field) -> bool
-    ensures { result ≡ spec.field_has_bad_key field.now }
+/// A map's key is of an integral type, bool or string.
+fn has_key(field: &Field) -> bool
+    ensures { result ≡ keeps.field_has_key field.now }
 {
     match field.presence {
-        Presence::Map { key } => matches!(key, Scalar::Double | Scalar::Float | Scalar::Bytes),
-        Presence::Implicit | Presence::Explicit | Presence::Repeated { .. } => false,
+        Presence::Map { key } => !matches!(key, Scalar::Double | Scalar::Float | Scalar::Bytes),
+        Presence::Implicit | Presence::Explicit | Presence::Repeated { .. } => true,
     }
 }
 
-/// The member of a oneof may not be one.
-fn is_bad_member(field: &Field) -> bool
-    ensures { result ≡ spec.is_bad_member field.now }
+/// A member of a oneof is singular, and not `optional`.
+fn may_be_member(field: &Field) -> bool
+    ensures { result ≡ keeps.may_be_member field.now }
 {
-    field.oneof.is_some() && (!field.presence.is_singular() || field.states_optional)
+    field.oneof.is_none() || (field.presence.is_singular() && !field.states_optional)
 }
 
-/// The field is packed, or stated to be, and may not.
-fn is_badly_packed(field: &Field) -> bool
-    ensures { result ≡ spec.field_badly_packed field.now }
+/// What is packed, or stated to be, may be.
+fn is_packed_rightly(field: &Field) -> bool
+    ensures { result ≡ keeps.is_packed_rightly field.now }
 {
     let stated = field.options.packed.unwrap_or(false);
     match field.presence {
-        Presence::Repeated { packed } => (packed || stated) && !field.element.is_packable(),
-        Presence::Implicit | Presence::Explicit | Presence::Map { .. } => stated,
+        Presence::Repeated { packed } => !(packed || stated) || field.element.is_packable(),
+        Presence::Implicit | Presence::Explicit | Presence::Map { .. } => !stated,
     }
 }
 
-/// A field has a key that may not be a map's.
-fn have_bad_key(fields: &[Field]) -> bool
-    ensures { result ≡ list_any spec.field_has_bad_key fields.now }
+/// Each map has a key that may be one.
+fn have_keys(fields: &[Field]) -> bool
+    ensures { result ≡ list_all keeps.field_has_key fields.now }
 {
-    fields.iter().any(|field| has_bad_key(field))
+    fields.iter().all(|field| has_key(field))
 }
 
-/// A field is a member of a oneof and may not be one.
-fn have_bad_member(fields: &[Field]) -> bool
-    ensures { result ≡ list_any spec.is_bad_member fields.now }
+/// Each member of a oneof may be one.
+fn may_be_members(fields: &[Field]) -> bool
+    ensures { result ≡ list_all keeps.may_be_member fields.now }
 {
-    fields.iter().any(|field| is_bad_member(field))
+    fields.iter().all(|field| may_be_member(field))
 }
 
-/// A field is packed, or stated to be, and may not.
-fn have_badly_packed(fields: &[Field]) -> bool
-    ensures { result ≡ list_any spec.field_badly_packed fields.now }
+/// What is packed, or stated to be, may be, in each field.
+fn are_packed_rightly(fields: &[Field]) -> bool
+    ensures { result ≡ list_all keeps.is_packed_rightly fields.now }
 {
-    fields.iter().any(|field| is_badly_packed(field))
+    fields.iter().all(|field| is_packed_rightly(field))
 }
 
 /// The first rule that the names break.
@@ -164,10 +165,10 @@ fn shapes_fault(alloc: Global, one: &MessageType) -> Result<Option<Fault>, Alloc
     ensures { IfOk result (λ fault. fault ≡ spec.shapes_fault one.now) }
 {
     let has_members = have_members(alloc, &one.fields, one.oneofs.as_slice().len())?;
-    let has_bad_oneof = have_bad_member(&one.fields) || !has_members;
-    let members = fault_if(Rule::BadOneofMember, has_bad_oneof);
-    let packed = fault_if(Rule::PackedNotAllowed, have_badly_packed(&one.fields));
-    let of_keys = fault_if(Rule::BadMapKey, have_bad_key(&one.fields));
+    let has_oneofs = may_be_members(&one.fields) && has_members;
+    let members = fault_unless(Rule::BadOneofMember, has_oneofs);
+    let packed = fault_unless(Rule::PackedNotAllowed, are_packed_rightly(&one.fields));
+    let of_keys = fault_unless(Rule::BadMapKey, have_keys(&one.fields));
     Ok(earlier(of_keys, earlier(members, packed)))
 }
 
@@ -222,11 +223,11 @@ fn is_right(option: &FileOption) -> bool
     }
 }
 
-/// An option isn't.
-fn have_bad_option(options: &[FileOption]) -> bool
-    ensures { result ≡ list_any spec.is_bad_option options.now }
+/// Each option is.
+fn are_right(options: &[FileOption]) -> bool
+    ensures { result ≡ list_all is_file_option options.now }
 {
-    options.iter().any(|option| !is_right(option))
+    options.iter().all(|option| is_right(option))
 }
 
 /// The options' numbers.
@@ -249,7 +250,7 @@ fn file_fault(alloc: Global, file: &File) -> Result<Option<Fault>, AllocError>
 {
     let keys = option_keys(alloc, &file.options)?;
     let twice = numbers::first_twice(alloc, &keys)?;
-    let bad = fault_if(Rule::BadOption, have_bad_option(&file.options));
+    let bad = fault_unless(Rule::BadOption, are_right(&file.options));
     Ok(earlier(bad, broken(Rule::BadOption, twice)))
 }
 

@@ -7,7 +7,7 @@ ghost use Rattle.std.specs.Str.{bytes_eq};
 ghost use Rattle.pg_check.specs.parts.EnumPlaces as spec;
 ghost use Rattle.pg_check.specs.inner.CodeViews.{enumeration};
 
-use crate::rules::outline::{FoundEnum, file_enums, file_messages, scoped_enums};
+use crate::rules::outline::{FoundEnum, file_messages, scoped_enums};
 use indexmap::IndexMap;
 use pg_link::{Linked, SourceFile};
 use std::alloc::{AllocError, Global};
@@ -22,25 +22,6 @@ fn push_names(names: &mut Vec<String>, found: &[FoundEnum<'_>]) -> Result<(), Al
         names.push(one.full.clone()?)?;
     }
     Ok(())
-}
-
-/// The full names of all enums, in order of declaration.
-fn declared_names(
-    alloc: Global,
-    files: &IndexMap<String, SourceFile>,
-) -> Result<Vec<String>, AllocError>
-    ensures { IfOk result (λ names. map string_bytes names.items
-        ≡ spec.declared_names files.now.entries) }
-{
-    let mut names = Vec::new(alloc);
-    for number in 0..files.len() {
-        let Some((_, file)) = files.get_index(number) else {
-            continue;
-        };
-        let found = file_enums(alloc, &file.tree)?;
-        push_names(&mut names, &found)?;
-    }
-    Ok(names)
 }
 
 /// The full names of all enums, scope by scope.
@@ -80,14 +61,13 @@ fn places_of(alloc: Global, mut names: Vec<String>) -> Result<BTreeMap<String, u
 pub(crate) fn enum_places(alloc: Global, linked: &Linked) -> Result<Vec<usize>, AllocError>
     ensures { IfOk result (λ places. places.items ≡ spec.enum_places linked.now.files) }
 {
-    let files = linked.files();
-    let declared = declared_names(alloc, files)?;
+    let declared = linked.enum_names();
     if declared.is_empty() {
         return Ok(Vec::new(alloc));
     }
-    let scoped = places_of(alloc, scoped_names(alloc, files)?)?;
+    let scoped = places_of(alloc, scoped_names(alloc, linked.files())?)?;
     let mut places = Vec::new(alloc);
-    for name in &declared {
+    for name in declared {
         places.push(scoped.get(name.as_str()).copied().unwrap_or(0))?;
     }
     Ok(places)

@@ -23,11 +23,9 @@ fn named_element(target: Option<Target>) -> Element
 {
     match target {
         Some(Target::Message(place)) => Element::Message(TypeId {
-            index: index_of(place as u128),
+            index: index_of(place),
         }),
-        Some(Target::Enum(place)) => Element::Enum(EnumId {
-            index: index_of(place as u128),
-        }),
+        Some(Target::Enum(place)) => Element::Enum(EnumId { index: place }),
         None => Element::Scalar(Scalar::Int32),
     }
 }
@@ -123,7 +121,7 @@ fn oneof_of(one: &DeclaredField<'_>) -> Option<u32>
         DeclaredField::Map(_, oneof) => *oneof,
     };
     match oneof {
-        Some(place) => Some(index_of(place as u128)),
+        Some(place) => Some(index_of(place)),
         None => None,
     }
 }

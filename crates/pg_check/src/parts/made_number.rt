@@ -1,7 +1,7 @@
 //! Numbers as a schema has them. One that its kind can't have comes to 0; a file that breaks no
 //! rule has none.
 
-ghost use Rattle.std.specs.Prelude.{◌≡◌, ◌++◌, IfOk, OnOk, map};
+ghost use Rattle.std.specs.Prelude.{◌≡◌, IfOk, map};
 ghost use Rattle.pg_check.specs.parts.MadeNumbers as spec;
 
 use crate::rules::numbers::{
@@ -37,7 +37,7 @@ pub(crate) fn field_number(rank: u128) -> u32
 }
 
 /// An index of at most 32 bits.
-pub(crate) fn index_of(place: u128) -> u32
+pub(crate) fn index_of(place: usize) -> u32
     ensures { result ≡ spec.index_of place }
 {
     if place < 0x1_0000_0000 {

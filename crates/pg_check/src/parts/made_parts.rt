@@ -33,31 +33,31 @@ pub(crate) struct Source<'a> {
     pub targets: Targets<'a>,
 }
 
-/// The message types of a file by the scopes that declare them; so many come before.
+/// The message types of a file by the scopes that declare them, behind those before.
 fn message_groups(
     alloc: Global,
-    before: usize,
+    before: &[MessageType],
     tree: &FileTree,
     found: &[FoundMessage<'_>],
 ) -> Result<ByScope, AllocError>
     requires { map views.message found.now ≡ outline.file_messages tree.now }
-    ensures { IfOk result (λ by_scope. (scope : List ℕ)
-        → in_scope by_scope scope ≡ places_in scope (spec.placed_messages before tree.now)) }
+    ensures { IfOk result (λ by_scope. (scope : List ℕ) → in_scope by_scope scope
+        ≡ places_in scope (spec.placed_messages (length before.now) tree.now)) }
 {
     let list = placed_messages(alloc, before, found)?;
     grouped(alloc, &list)
 }
 
-/// The enums of a file by the scopes that declare them; so many come before.
+/// The enums of a file by the scopes that declare them, behind those before.
 fn enum_groups(
     alloc: Global,
-    before: usize,
+    before: &[EnumType],
     tree: &FileTree,
     found: &[FoundEnum<'_>],
 ) -> Result<ByScope, AllocError>
     requires { map views.enumeration found.now ≡ outline.scoped_enums tree.now }
-    ensures { IfOk result (λ by_scope. (scope : List ℕ)
-        → in_scope by_scope scope ≡ places_in scope (spec.placed_enums before tree.now)) }
+    ensures { IfOk result (λ by_scope. (scope : List ℕ) → in_scope by_scope scope
+        ≡ places_in scope (spec.placed_enums (length before.now) tree.now)) }
 {
     let list = placed_enums(alloc, before, found)?;
     grouped(alloc, &list)
@@ -177,24 +177,19 @@ struct Made {
     file: File,
 }
 
-/// What a file declares, after so many message types, enums and services.
-fn made_by(
-    alloc: Global,
-    types: usize,
-    enums: usize,
-    services: usize,
-    file: &Source<'_>,
-) -> Result<Made, AllocError>
-    ensures { IfOk result (IsMadeBy types enums services (source file.now)) }
+/// What a file declares, after what other files do.
+fn made_by(alloc: Global, before: &Parts, file: &Source<'_>) -> Result<Made, AllocError>
+    ensures { IfOk result (IsMadeBy (length before.now.types.items) (length before.now.enums.items)
+        (length before.now.services.items) (source file.now)) }
 {
     let messages = file_messages(alloc, file.tree)?;
     let found = scoped_enums(alloc, file.tree, &messages)?;
-    let in_types = message_groups(alloc, types, file.tree, &messages)?;
-    let in_enums = enum_groups(alloc, enums, file.tree, &found)?;
+    let in_types = message_groups(alloc, &before.types, file.tree, &messages)?;
+    let in_enums = enum_groups(alloc, &before.enums, file.tree, &found)?;
     let types = made_types(alloc, &file.targets, &in_types, &in_enums, &messages)?;
     let enums = made_enums(alloc, &found)?;
     let made = file_services(alloc, file)?;
-    let ids = service_ids(alloc, services, &made)?;
+    let ids = service_ids(alloc, &before.services, &made)?;
     let file = made_file(alloc, file, &in_types, &in_enums, ids)?;
     Ok(Made {
         types,
@@ -232,10 +227,7 @@ fn push_file(alloc: Global, parts: &mut Parts, file: &Source<'_>) -> Result<(), 
     ensures { OnOk result ((d : spec.Declared) → spec.States d parts.old
         → spec.States (spec.with_file d (source file.now)) parts.new) }
 {
-    let types = parts.types.as_slice().len();
-    let enums = parts.enums.as_slice().len();
-    let services = parts.services.as_slice().len();
-    let made = made_by(alloc, types, enums, services, file)?;
+    let made = made_by(alloc, parts, file)?;
     push_made(parts, made)?;
     Ok(())
 }

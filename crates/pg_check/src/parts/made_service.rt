@@ -18,7 +18,7 @@ fn message_at(target: Option<Target>) -> TypeId
 {
     match target {
         Some(Target::Message(place)) => TypeId {
-            index: index_of(place as u128),
+            index: index_of(place),
         },
         Some(Target::Enum(_)) => TypeId { index: 0 },
         None => TypeId { index: 0 },
@@ -134,19 +134,19 @@ pub(crate) fn push_services(
     Ok(())
 }
 
-/// The indexes of the services from one index on.
+/// The indexes of the services, behind those that come before.
 pub(crate) fn service_ids(
     alloc: Global,
-    before: usize,
+    before: &[Service],
     services: &[Service],
 ) -> Result<Vec<ServiceId>, AllocError>
     ensures { IfOk result (λ ids. ids.items
-        ≡ spec.service_ids before (map spec.service services.now)) }
+        ≡ spec.service_ids (length before.now) (map spec.service services.now)) }
 {
     let mut ids = Vec::new(alloc);
     for (index, _service) in services.iter().enumerate() {
         ids.push(ServiceId {
-            index: index_of(before as u128 + index as u128),
+            index: before.len() + index,
         })?;
     }
     Ok(ids)

@@ -7,7 +7,7 @@ ghost use Rattle.pg_check.specs.rules.Files as spec;
 ghost use Rattle.pg_check.specs.inner.FileFaults as faults;
 ghost use Rattle.pg_check.specs.inner.OptionFaults.{stated};
 ghost use Rattle.pg_check.specs.inner.CodeViews.{enumeration, message};
-ghost use Rattle.pg_check.specs.rules.Outline.{file_enums, file_messages};
+ghost use Rattle.pg_check.specs.rules.Outline.{file_messages, scoped_enums};
 
 use crate::rules::enumeration::enum_fault;
 use crate::rules::fault::{Fault, Rule, broken, earlier};
@@ -185,7 +185,7 @@ pub(crate) fn file_fault(
     enums: &[FoundEnum<'_>],
 ) -> Result<Option<Fault>, AllocError>
     requires messages { map message messages.now ≡ file_messages file.now }
-    requires enums { map enumeration enums.now ≡ file_enums file.now }
+    requires enums { map enumeration enums.now ≡ scoped_enums file.now }
     ensures { IfOk result (λ fault. fault
         ≡ faults.file_fault (target_in targets.now) left file.now) }
 {

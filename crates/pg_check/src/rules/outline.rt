@@ -1,6 +1,6 @@
-//! What files declare, inside and outside of messages, in order of declaration.
+//! What files declare, inside and outside of messages.
 
-ghost use Rattle.std.specs.Prelude.{◌≡◌, ◌++◌, [], ℕ, IfOk, List, OnOk, false, flat_map, map, string_bytes};
+ghost use Rattle.std.specs.Prelude.{◌≡◌, ◌++◌, IfOk, OnOk, flat_map, map, string_bytes};
 ghost use Rattle.pg_schema.specs.rules.DeclaredNames.{within};
 ghost use Rattle.pg_check.specs.rules.Outline as spec;
 ghost use Rattle.pg_check.specs.inner.CodeViews as views;
@@ -105,95 +105,6 @@ fn push_enum<'a>(
     Ok(())
 }
 
-/// Whether a part may have enums in it, or is one.
-fn may_hold_enums(part: &Part) -> bool
-    ensures { result ≡ false → (scope : List ℕ) → spec.enums_in scope part.now ≡ [] }
-{
-    match part {
-        Part::Message(_) => true,
-        Part::Enum(_) => true,
-        Part::Empty(_) => false,
-        Part::Oneof(_) => false,
-        Part::Option(_) => false,
-        Part::Reserved(_) => false,
-        Part::Map(_) => false,
-        Part::Field(_) => false,
-    }
-}
-
-/// Whether a part of a body may.
-fn may_have_enums(body: &[Part]) -> bool
-    ensures { result ≡ false → (scope : List ℕ) → flat_map (spec.enums_in scope) body.now ≡ [] }
-{
-    for part in body {
-        if may_hold_enums(part) {
-            return true;
-        }
-    }
-    false
-}
-
-/// Appends the enums of a part.
-#[cycle(enums)]
-fn push_enums_in<'a>(
-    alloc: Global,
-    found: &mut Vec<FoundEnum<'a>>,
-    scope: &str,
-    part: &'a Part,
-) -> Result<(), AllocError>
-    ensures { OnOk result (map views.enumeration found.new.items
-        ≡ map views.enumeration found.old.items ++ spec.enums_in scope.now part.now) }
-{
-    match part {
-        Part::Message(message) => {
-            push_enums_of(alloc, found, scope, message)?;
-            Ok(())
-        }
-        Part::Enum(tree) => push_enum(alloc, found, scope, tree),
-        Part::Empty(_) => Ok(()),
-        Part::Oneof(_) => Ok(()),
-        Part::Option(_) => Ok(()),
-        Part::Reserved(_) => Ok(()),
-        Part::Map(_) => Ok(()),
-        Part::Field(_) => Ok(()),
-    }
-}
-
-/// Appends the enums of a body.
-#[cycle(enums)]
-fn push_body_enums<'a>(
-    alloc: Global,
-    found: &mut Vec<FoundEnum<'a>>,
-    scope: &str,
-    body: &'a [Part],
-) -> Result<(), AllocError>
-    ensures { OnOk result (map views.enumeration found.new.items
-        ≡ map views.enumeration found.old.items ++ flat_map (spec.enums_in scope.now) body.now) }
-{
-    for part in body {
-        push_enums_in(alloc, found, scope, part)?;
-    }
-    Ok(())
-}
-
-/// Appends the enums of a message.
-#[cycle(enums)]
-fn push_enums_of<'a>(
-    alloc: Global,
-    found: &mut Vec<FoundEnum<'a>>,
-    scope: &str,
-    message: &'a Message,
-) -> Result<(), AllocError>
-    ensures { OnOk result (map views.enumeration found.new.items
-        ≡ map views.enumeration found.old.items ++ spec.enums_of scope.now message.now) }
-{
-    if !may_have_enums(&message.parts) {
-        return Ok(());
-    }
-    let inner = full_name(alloc, scope, &message.name.text)?;
-    push_body_enums(alloc, found, &inner, &message.parts)
-}
-
 /// Names with dots between.
 fn dotted(alloc: Global, name: &Dotted) -> Result<String, AllocError>
     ensures { IfOk result (λ text. string_bytes text ≡ spec.dotted name.now) }
@@ -229,29 +140,6 @@ fn push_messages<'a>(
     for statement in statements {
         if let Statement::Message(message) = statement {
             push_message(alloc, found, scope, message)?;
-        }
-    }
-    Ok(())
-}
-
-/// Appends the enums of statements.
-fn push_enums<'a>(
-    alloc: Global,
-    found: &mut Vec<FoundEnum<'a>>,
-    scope: &str,
-    statements: &'a [Statement],
-) -> Result<(), AllocError>
-    ensures { OnOk result (map views.enumeration found.new.items
-        ≡ map views.enumeration found.old.items ++ spec.all_enums scope.now statements.now) }
-{
-    for statement in statements {
-        match statement {
-            Statement::Message(message) => push_enums_of(alloc, found, scope, message)?,
-            Statement::Enum(tree) => push_enum(alloc, found, scope, tree)?,
-            Statement::Empty(_) => {}
-            Statement::Import(_) => {}
-            Statement::Option(_) => {}
-            Statement::Service(_) => {}
         }
     }
     Ok(())
@@ -332,20 +220,6 @@ pub(crate) fn file_messages<'a>(
     let mut found = Vec::new(alloc);
     push_messages(alloc, &mut found, &package, &file.statements)?;
     push_messages(alloc, &mut found, &package, statements_behind(file))?;
-    Ok(found)
-}
-
-/// The enums of a file, in order of declaration.
-pub(crate) fn file_enums<'a>(
-    alloc: Global,
-    file: &'a FileTree,
-) -> Result<Vec<FoundEnum<'a>>, AllocError>
-    ensures { IfOk result (λ list. map views.enumeration list.items ≡ spec.file_enums file.now) }
-{
-    let package = package_of(alloc, file)?;
-    let mut found = Vec::new(alloc);
-    push_enums(alloc, &mut found, &package, &file.statements)?;
-    push_enums(alloc, &mut found, &package, statements_behind(file))?;
     Ok(found)
 }
 

@@ -57,10 +57,10 @@ pub fn add_to_file(
             index: number_of(words),
         })?,
         "top_enum" => file.enums.push(EnumId {
-            index: number_of(words),
+            index: number_of(words) as usize,
         })?,
         "top_service" => file.services.push(ServiceId {
-            index: number_of(words),
+            index: number_of(words) as usize,
         })?,
         _ => {}
     }

@@ -130,7 +130,7 @@ pub fn add_to_type(
             index: number_of(words),
         })?,
         "inner_enum" => made.nested_enums.push(EnumId {
-            index: number_of(words),
+            index: number_of(words) as usize,
         })?,
         "deprecated_type" => made.options.deprecated = Some(false),
         _ => {}

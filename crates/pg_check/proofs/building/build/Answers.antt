@@ -5,7 +5,7 @@ use Rattle.pg_check.specs.parts.MadeParts.{Source}
 use Rattle.pg_check.specs.parts.ResolvedTypes.{AreResolved}
 use Rattle.pg_check.specs.parts.Sources.{linked_sources}
 use Rattle.pg_check.specs.inner.Sources.{source}
-use Rattle.pg_check.specs.standing.StandingParts.{StandingParts}
+use Rattle.pg_schema.specs.standing.StandingParts.{StandingParts}
 use Rattle.pg_check.proofs.lemmas.parts.uses.ResolvedTypes.{resolved_types}
 use Rattle.pg_check.proofs.lemmas.parts.SoundParts.{linked_sound}
 use Rattle.pg_check.proofs.lemmas.standing.StandingParts.{standing_parts}

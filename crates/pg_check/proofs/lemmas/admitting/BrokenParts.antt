@@ -1,16 +1,15 @@
 -- What is reported of parts that come from no source file is the first rule that they break, and of one part the lowest code.
-use Rattle.std.proofs.Common.{◌≡◌, ◌≤◌, ◌<◌, inl, inr, ℕ, Bool, true, false, not, nat_le, List, [], ◌∷◌, ◌++◌, length, map, Option, Some, None, sym, ap, subst, refl, arith}
-use Rattle.std.specs.List.{list_any, AllByRecursion}
+use Rattle.std.proofs.Common.{◌≡◌, ◌∙◌, ◌≤◌, ◌<◌, inl, inr, ℕ, Bool, true, false, nat_le, List, [], ◌∷◌, ◌++◌, length, map, Option, Some, None, sym, subst, refl, arith}
+use Rattle.std.specs.List.{list_all, AllByRecursion}
+use Rattle.std.proofs.lemmas.Bool.{false≢true}
 use Rattle.std.proofs.lemmas.Bool.Decides.{nat_tests}
 use Rattle.pg_link.specs.declared.error.Place.{Place}
 use Rattle.pg_schema.specs.declared.parts.enum_type.EnumType.{EnumType}
 use Rattle.pg_schema.specs.declared.parts.file.File.{File}
-use Rattle.pg_schema.specs.declared.parts.message_type.MessageType.{MessageType}
 use Rattle.pg_schema.specs.declared.parts.Parts.{Parts}
 use Rattle.pg_schema.specs.rules.Files.{is_file_option}
 use Rattle.pg_check.specs.declared.error.CheckError.{CheckError}
 use Rattle.pg_check.specs.declared.rules.fault.Fault.{Fault}
-use Rattle.pg_check.specs.declared.rules.fault.Rule.{Rule}
 use Rattle.pg_check.specs.declared.rules.fault.Rule.TheVariants as rules
 use Rattle.pg_check.specs.admitting.BrokenParts.{BreaksFilePart, BreaksFirst, IsFirstBrokenPart, IsNowhere, bad_option, in_enum, in_file, in_type, option_again, too_many_types}
 use Rattle.pg_check.specs.Errors.{error_of}
@@ -27,9 +26,9 @@ use Rattle.pg_check.proofs.lemmas.rules.Judged.{again}
 use Rattle.pg_check.proofs.lemmas.rules.JudgedEnums.{values_judged}
 use Rattle.pg_check.proofs.lemmas.rules.NoneLaws.{first_fault_none}
 use Rattle.pg_check.proofs.lemmas.admitting.PartRules.{At, one_of, test_meets, test_found}
-use Rattle.pg_check.proofs.lemmas.admitting.PartShapes.{some_one, any_one, of_not}
+use Rattle.pg_check.proofs.lemmas.admitting.PartShapes.{fails, passes, some_fails}
 use Rattle.pg_check.proofs.lemmas.admitting.BrokenTypes.{type_meets, type_found}
-use Rattle.pg_check.proofs.lemmas.admitting.KeptPartRules.{fault_if_none, file_part_keeps, kept_file_part, kept_type, type_keeps}
+use Rattle.pg_check.proofs.lemmas.admitting.KeptPartRules.{fault_unless_none, file_part_keeps, kept_file_part, kept_type, type_keeps}
 use Rattle.pg_check.proofs.lemmas.admitting.BrokenEnumTypes.{enum_type_meets, enum_type_found}
 
 -- ---- all parts
@@ -40,21 +39,21 @@ option_at f k first = one_of declared.option_key number_faults.at (λ o. refl) f
 file_part_meets : (f : File) (place : Place) → Meets (At (BreaksFilePart f place) place) (faults.file_fault f)
 file_part_meets f place =
     let B = BreaksFilePart f place in
-    earlier_meets (At B place) (faults.fault_if rules.BadOption (list_any faults.is_bad_option f.options.items)) _
-    (test_meets B place rules.BadOption (list_any faults.is_bad_option f.options.items) (λ h.
-    let (o, (one, is)) = some_one faults.is_bad_option f.options.items h in
-    bad_option o one (of_not (is_file_option o) is)))
+    earlier_meets (At B place) (faults.fault_unless rules.BadOption (list_all is_file_option f.options.items)) _
+    (test_meets B place rules.BadOption (list_all is_file_option f.options.items) (λ h.
+    let (o, (one, is)) = some_fails is_file_option f.options.items h in
+    bad_option o one is))
     (λ g h. let (k, first, is) = (again rules.BadOption numbers.is_same number_faults.at (map declared.option_key f.options.items)).meets g h in
     subst (At B place) (sym is) (option_at f k first, option_again k first))
 
 file_part_found : (f : File) (place : Place) (error : CheckError) (c : ℕ) → BreaksFilePart f place error c → IsFound (faults.file_fault f) 0 c
 file_part_found f place error c (bad_option o one is) =
-    found_left (faults.fault_if rules.BadOption (list_any faults.is_bad_option f.options.items)) _ 0 411
-    (test_found rules.BadOption (list_any faults.is_bad_option f.options.items) (any_one faults.is_bad_option f.options.items o one (ap not is)))
+    found_left (faults.fault_unless rules.BadOption (list_all is_file_option f.options.items)) _ 0 411
+    (test_found rules.BadOption (list_all is_file_option f.options.items) (fails _ (λ all. false≢true (sym is ∙ passes is_file_option f.options.items o all one))))
 file_part_found f place error c (option_again k first) =
     let keys = map declared.option_key f.options.items in
     let twice = broken rules.BadOption (number_faults.first_twice keys) in
-    found_right (faults.fault_if rules.BadOption (list_any faults.is_bad_option f.options.items)) twice 0 411
+    found_right (faults.fault_unless rules.BadOption (list_all is_file_option f.options.items)) twice 0 411
     (subst (λ n. IsFound twice n 411) (option_at f k first) ((again rules.BadOption numbers.is_same number_faults.at keys).found (broken_at rules.BadOption k.at) (k, first, refl)))
 
 code_low : (declared code other : ℕ) → declared ≡ 0 → IsNotAfter declared code 0 other → code ≤ other
@@ -78,10 +77,10 @@ or_meets : (P : Fault → Type 0) (a b : Option Fault) → Meets P a → (a ≡ 
 or_meets P None b one other = other refl
 or_meets P (Some f) b one other = one
 
-many : (n : ℕ) → not (nat_le n 4096) ≡ true → 4096 < n
+many : (n : ℕ) → nat_le n 4096 ≡ false → 4096 < n
 many n h = grind (arith, nat_tests)
 
-few : (n : ℕ) → not (nat_le n 4096) ≡ false → n ≤ 4096
+few : (n : ℕ) → nat_le n 4096 ≡ true → n ≤ 4096
 few n h = grind (arith, nat_tests)
 
 types_meet : (parts : Parts) (place : Place) → length parts.types.items ≤ 4096 → Meets (Reports parts place) (first_fault faults.message_fault parts.types.items)
@@ -103,15 +102,15 @@ files_meet parts place small types enumerations =
     (λ x behind f h. in_file x (error_of f.rule place) (order f.rule) small types enumerations behind (file_part_meets x place f h).1)
 
 parts_meet : (parts : Parts) (place : Place) → Meets (Reports parts place) (faults.parts_fault parts)
-parts_meet parts place = by (not (nat_le (length parts.types.items) 4096)) refl
+parts_meet parts place = by (nat_le (length parts.types.items) 4096) refl
   where
     rest : Option Fault
     rest = or_else (first_fault faults.enum_fault parts.enums.items) (first_fault faults.file_fault parts.files.items)
 
-    by : (b : Bool) → not (nat_le (length parts.types.items) 4096) ≡ b
-        → Meets (Reports parts place) (or_else (or_else (faults.fault_if rules.TooManyTypes b) (first_fault faults.message_fault parts.types.items)) rest)
-    by true e = λ f h. let same : broken_at rules.TooManyTypes 0 ≡ f = cc (h) in subst (Reports parts place) same (too_many_types (many (length parts.types.items) e))
-    by false e =
+    by : (b : Bool) → nat_le (length parts.types.items) 4096 ≡ b
+        → Meets (Reports parts place) (or_else (or_else (faults.fault_unless rules.TooManyTypes b) (first_fault faults.message_fault parts.types.items)) rest)
+    by false e = λ f h. let same : broken_at rules.TooManyTypes 0 ≡ f = cc (h) in subst (Reports parts place) same (too_many_types (many (length parts.types.items) e))
+    by true e =
         let small = few (length parts.types.items) e in
         or_meets (Reports parts place) (first_fault faults.message_fault parts.types.items) rest (types_meet parts place small) (λ none.
         let types = all_keep _ KeepsType type_keeps parts.types.items ((first_fault_none faults.message_fault parts.types.items).0 none) in
@@ -132,10 +131,10 @@ or_none (Some f) b h = absurd (cc)
 pub none_broken : (parts : Parts) → faults.parts_fault parts ≡ None → KeepsAll parts
 none_broken parts none =
     let (of_types, others) = or_none (faults.types_fault parts.types.items) _ none in
-    let (of_count, each_type) = or_none (faults.fault_if rules.TooManyTypes (not (nat_le (length parts.types.items) 4096))) (first_fault faults.message_fault parts.types.items) of_types in
+    let (of_count, each_type) = or_none (faults.fault_unless rules.TooManyTypes (nat_le (length parts.types.items) 4096)) (first_fault faults.message_fault parts.types.items) of_types in
     let (each_enum, each_file) = or_none (first_fault faults.enum_fault parts.enums.items) (first_fault faults.file_fault parts.files.items) others in
     record {
-      few_types = few (length parts.types.items) (fault_if_none rules.TooManyTypes (not (nat_le (length parts.types.items) 4096)) of_count);
+      few_types = few (length parts.types.items) (fault_unless_none rules.TooManyTypes (nat_le (length parts.types.items) 4096) of_count);
       types = all_keep _ KeepsType type_keeps parts.types.items ((first_fault_none faults.message_fault parts.types.items).0 each_type);
       enums = all_keep _ KeepsEnumType enum_type_keeps parts.enums.items ((first_fault_none faults.enum_fault parts.enums.items).0 each_enum);
       files = all_keep _ KeepsFilePart file_part_keeps parts.files.items ((first_fault_none faults.file_fault parts.files.items).0 each_file);

@@ -1,6 +1,7 @@
 -- What is reported of a message type is a rule that it breaks, and of its rules none is lower. All its faults are at one position.
-use Rattle.std.proofs.Common.{◌≡◌, ℕ, true, List, ◌∷◌, ◌++◌, map, subst, refl}
-use Rattle.std.specs.List.{list_any}
+use Rattle.std.proofs.Common.{◌≡◌, ◌∙◌, ℕ, false, List, ◌∷◌, ◌++◌, map, sym, subst, refl}
+use Rattle.std.specs.List.{list_all}
+use Rattle.std.proofs.lemmas.Bool.{false≢true}
 use Rattle.pg_link.specs.declared.error.Place.{Place}
 use Rattle.pg_schema.specs.declared.parts.message_type.MessageType.{MessageType}
 use Rattle.pg_check.specs.declared.error.CheckError.{CheckError}
@@ -10,6 +11,7 @@ use Rattle.pg_check.specs.Errors.{error_of}
 use Rattle.pg_check.specs.admitting.BrokenParts.{BreaksType, bad_map_key, bad_oneof_member, empty_oneof, packed_not_allowed}
 use Rattle.pg_check.specs.admitting.BrokenParts as broken_parts
 use Rattle.pg_check.specs.admitting.DeclaredParts as declared
+use Rattle.pg_check.specs.admitting.KeepsParts as keeps
 use Rattle.pg_check.specs.inner.PartFaults as faults
 use Rattle.pg_check.specs.rules.BrokenRules.{BreaksFields, bad_field_item, bad_field_number, duplicate_number, json_name_clash, reserved_field_name, reserved_field_number}
 use Rattle.pg_check.specs.inner.Faults.{order}
@@ -20,7 +22,8 @@ use Rattle.pg_check.specs.inner.NumberFaults as number_faults
 use Rattle.pg_check.proofs.lemmas.rules.FirstFaults.{IsFound, Meets, earlier_meets, found_left, found_right}
 use Rattle.pg_check.proofs.lemmas.rules.JudgedMessages.{fields_judged, fields_tell, fields_broken}
 use Rattle.pg_check.proofs.lemmas.admitting.PartRules.{At, item_at, one_of, test_meets, test_found}
-use Rattle.pg_check.proofs.lemmas.admitting.PartShapes.{any_one, key_is_bad, key_breaks, oneof_breaks, oneof_is_bad, oneof_is_empty, packed_is_bad, packed_breaks}
+use Rattle.pg_check.proofs.lemmas.admitting.PartShapes.{fails, key_breaks, key_fails, member_fails, oneof_breaks, packed_breaks, packed_fails}
+use Rattle.pg_check.proofs.lemmas.rules.NoneLaws.{and_left, and_right}
 
 module _ (t : MessageType) (place : Place) where
   at_key : (before after : List Keyed) (k : Keyed) → map declared.key_of t.fields.items ≡ before ++ k ∷ after → number_faults.at k ≡ 0
@@ -49,31 +52,30 @@ module _ (t : MessageType) (place : Place) where
       let B = BreaksType t place in
       let P = At B place in
       earlier_meets P (fields_fault (declared.declared_message t)) (faults.shapes_fault t) fields_meet
-      (earlier_meets P (faults.fault_if rules.BadMapKey (list_any faults.field_has_bad_key t.fields.items)) _
-      (test_meets B place rules.BadMapKey (list_any faults.field_has_bad_key t.fields.items) (key_breaks t place))
-      (earlier_meets P (faults.fault_if rules.BadOneofMember (faults.has_bad_oneof t)) (faults.fault_if rules.PackedNotAllowed (list_any faults.field_badly_packed t.fields.items))
-      (test_meets B place rules.BadOneofMember (faults.has_bad_oneof t) (oneof_breaks t place))
-      (test_meets B place rules.PackedNotAllowed (list_any faults.field_badly_packed t.fields.items) (packed_breaks t place))))
+      (earlier_meets P (faults.fault_unless rules.BadMapKey (list_all keeps.field_has_key t.fields.items)) _
+      (test_meets B place rules.BadMapKey (list_all keeps.field_has_key t.fields.items) (key_breaks t place))
+      (earlier_meets P (faults.fault_unless rules.BadOneofMember (faults.has_oneofs t)) (faults.fault_unless rules.PackedNotAllowed (list_all keeps.is_packed_rightly t.fields.items))
+      (test_meets B place rules.BadOneofMember (faults.has_oneofs t) (oneof_breaks t place))
+      (test_meets B place rules.PackedNotAllowed (list_all keeps.is_packed_rightly t.fields.items) (packed_breaks t place))))
 
   in_shapes : (c : ℕ) → IsFound (faults.shapes_fault t) 0 c → IsFound (faults.message_fault t) 0 c
   in_shapes c h = found_right (fields_fault (declared.declared_message t)) (faults.shapes_fault t) 0 c h
 
-  bad_oneof_found : faults.has_bad_oneof t ≡ true → IsFound (faults.message_fault t) 0 408
+  bad_oneof_found : faults.has_oneofs t ≡ false → IsFound (faults.message_fault t) 0 408
   bad_oneof_found h =
-      in_shapes 408 (found_right (faults.fault_if rules.BadMapKey (list_any faults.field_has_bad_key t.fields.items)) _ 0 408
-      (found_left (faults.fault_if rules.BadOneofMember (faults.has_bad_oneof t)) _ 0 408 (test_found rules.BadOneofMember (faults.has_bad_oneof t) h)))
+      in_shapes 408 (found_right (faults.fault_unless rules.BadMapKey (list_all keeps.field_has_key t.fields.items)) _ 0 408
+      (found_left (faults.fault_unless rules.BadOneofMember (faults.has_oneofs t)) _ 0 408 (test_found rules.BadOneofMember (faults.has_oneofs t) h)))
 
   pub type_found : (e : CheckError) (c : ℕ) → BreaksType t place e c → IsFound (faults.message_fault t) 0 c
   type_found e c (broken_parts.in_fields e1 c1 h) =
       found_left (fields_fault (declared.declared_message t)) (faults.shapes_fault t) 0 c
       (fields_broken (IsFound (fields_fault (declared.declared_message t))) (declared.declared_message t) place (fields_judged (declared.declared_message t)).found e c 0 0 h)
   type_found e c (bad_map_key f key one is bad) =
-      in_shapes 407 (found_left (faults.fault_if rules.BadMapKey (list_any faults.field_has_bad_key t.fields.items)) _ 0 407
-      (test_found rules.BadMapKey (list_any faults.field_has_bad_key t.fields.items) (any_one faults.field_has_bad_key t.fields.items f one (key_is_bad f.presence key is bad))))
-  type_found e c (bad_oneof_member f one has why) = bad_oneof_found (oneof_is_bad t f one has why)
-  type_found e c (empty_oneof h) = bad_oneof_found (oneof_is_empty t h)
+      in_shapes 407 (found_left (faults.fault_unless rules.BadMapKey (list_all keeps.field_has_key t.fields.items)) _ 0 407
+      (test_found rules.BadMapKey (list_all keeps.field_has_key t.fields.items) (fails _ (key_fails t.fields.items f key one is bad))))
+  type_found e c (bad_oneof_member f one has why) = bad_oneof_found (fails _ (λ both. member_fails t.fields.items f one has why (and_left _ _ both)))
+  type_found e c (empty_oneof h) = bad_oneof_found (fails _ (λ both. false≢true (sym h ∙ and_right (list_all keeps.may_be_member t.fields.items) _ both)))
   type_found e c (packed_not_allowed f one packed why) =
-      in_shapes 412 (found_right (faults.fault_if rules.BadMapKey (list_any faults.field_has_bad_key t.fields.items)) _ 0 412
-      (found_right (faults.fault_if rules.BadOneofMember (faults.has_bad_oneof t)) _ 0 412
-      (test_found rules.PackedNotAllowed (list_any faults.field_badly_packed t.fields.items)
-      (any_one faults.field_badly_packed t.fields.items f one (packed_is_bad f.presence f.element f.options.packed packed why)))))
+      in_shapes 412 (found_right (faults.fault_unless rules.BadMapKey (list_all keeps.field_has_key t.fields.items)) _ 0 412
+      (found_right (faults.fault_unless rules.BadOneofMember (faults.has_oneofs t)) _ 0 412
+      (test_found rules.PackedNotAllowed (list_all keeps.is_packed_rightly t.fields.items) (fails _ (packed_fails t.fields.items f one packed why)))))

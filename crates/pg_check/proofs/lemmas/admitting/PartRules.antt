@@ -15,12 +15,12 @@ use Rattle.pg_check.proofs.lemmas.rules.FirstFaults.{IsFound, Meets, broken_foun
 abbrev pub At : (CheckError → ℕ → Type 0) → Place → Fault → Type 0
 At B place f = (f.declared ≡ 0) × B (error_of f.rule place) (order f.rule)
 
-pub test_meets : (B : CheckError → ℕ → Type 0) (place : Place) (rule : Rule) (b : Bool) → (b ≡ true → B (error_of rule place) (order rule)) → Meets (At B place) (faults.fault_if rule b)
-test_meets B place rule true k = broken_meets (At B place) rule (Some 0) (λ n e. let same : 0 ≡ n = cc (e) in (sym same, k refl))
-test_meets B place rule false k = broken_meets (At B place) rule None (λ n e. absurd (cc (e)))
+pub test_meets : (B : CheckError → ℕ → Type 0) (place : Place) (rule : Rule) (b : Bool) → (b ≡ false → B (error_of rule place) (order rule)) → Meets (At B place) (faults.fault_unless rule b)
+test_meets B place rule true k = broken_meets (At B place) rule None (λ n e. absurd (cc (e)))
+test_meets B place rule false k = broken_meets (At B place) rule (Some 0) (λ n e. let same : 0 ≡ n = cc (e) in (sym same, k refl))
 
-pub test_found : (rule : Rule) (b : Bool) → b ≡ true → IsFound (faults.fault_if rule b) 0 (order rule)
-test_found rule b h = broken_found rule (faults.where_broken b) 0 (ap faults.where_broken h)
+pub test_found : (rule : Rule) (b : Bool) → b ≡ false → IsFound (faults.fault_unless rule b) 0 (order rule)
+test_found rule b h = broken_found rule (faults.where_not b) 0 (ap faults.where_not h)
 
 -- what each item of a list has, one of its items has
 pub one_of : {A X : Type 0} (view : A → X) (place : X → ℕ) → ((a : A) → place (view a) ≡ 0) → (xs : List A) (before after : List X) (x : X) → map view xs ≡ before ++ x ∷ after → place x ≡ 0

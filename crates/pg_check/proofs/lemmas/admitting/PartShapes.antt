@@ -1,10 +1,9 @@
--- The rules of maps, oneofs and packed fields, by one of a list that a test finds.
-use Rattle.std.proofs.Common.{◌≡◌, ◌∙◌, inl, inr, Bool, true, false, not, ◌||◌, ◌&&◌, ◌⊎◌, List, [], ◌∷◌, length, Option, is_some, sym, ap, refl}
-use Rattle.std.specs.List.{list_any}
+-- The rules of maps, oneofs and packed fields, by one of a list that fails a test.
+use Rattle.std.proofs.Common.{◌≡◌, ◌∙◌, inl, inr, Bool, true, false, not, ◌||◌, ◌&&◌, ◌⊎◌, List, [], ◌∷◌, length, is_some, sym, ap, refl}
+use Rattle.std.specs.List.{list_all}
 use Rattle.std.proofs.lemmas.Bool.{false≢true}
-use Rattle.std.proofs.lemmas.List.Folds.{list_any-append}
+use Rattle.std.proofs.lemmas.List.Folds.{list_all-append}
 use Rattle.pg_link.specs.declared.error.Place.{Place}
-use Rattle.pg_schema.specs.declared.parts.field.Element.{Element}
 use Rattle.pg_schema.specs.declared.parts.field.Field.{Field}
 use Rattle.pg_schema.specs.declared.parts.field.Presence.{Presence}
 use Rattle.pg_schema.specs.declared.parts.field.Presence.TheVariants as presences
@@ -15,120 +14,118 @@ use Rattle.pg_schema.specs.rules.Messages.{have_members}
 use Rattle.pg_schema.specs.Shape.{is_packable, is_repeated, is_singular}
 use Rattle.pg_check.specs.declared.rules.fault.Rule.TheVariants as rules
 use Rattle.pg_check.specs.admitting.BrokenParts.{BreaksType, bad_map_key, bad_oneof_member, empty_oneof, packed_not_allowed}
+use Rattle.pg_check.specs.admitting.KeepsParts as keeps
 use Rattle.pg_check.specs.Errors.{error_of}
+use Rattle.pg_check.specs.inner.PartFaults.{has_oneofs}
 use Rattle.pg_check.specs.rules.Firsts.{IsOneOf}
-use Rattle.pg_check.specs.inner.PartFaults as faults
 use Rattle.pg_check.proofs.lemmas.rules.FirstFaults.{one_more}
+use Rattle.pg_check.proofs.lemmas.rules.NoneLaws.{and_left, and_right}
 
--- ---- one of a list that a test finds
+-- ---- one of a list that fails a test
 
-pub some_one : {X : Type 0} (p : X → Bool) (xs : List X) → list_any p xs ≡ true → (x : X) × (IsOneOf xs x × (p x ≡ true))
-some_one p [] h = absurd (false≢true h)
-some_one p (x ∷ xs) h = by (p x) refl h (some_one p xs)
+pub some_fails : {X : Type 0} (test : X → Bool) (xs : List X) → list_all test xs ≡ false → (x : X) × (IsOneOf xs x × (test x ≡ false))
+some_fails test [] h = absurd (false≢true (sym h))
+some_fails test (x ∷ xs) h = by (test x) refl h (some_fails test xs)
   where
-    by : (b : Bool) → p x ≡ b → (b || list_any p xs) ≡ true → (list_any p xs ≡ true → (y : _) × (IsOneOf xs y × (p y ≡ true)))
-        → (y : _) × (IsOneOf (x ∷ xs) y × (p y ≡ true))
-    by true is g later = (x, (record { before = []; after = xs; is = refl }, is))
-    by false is g later = let (y, (one, test)) = later g in (y, (one_more x xs y one, test))
+    by : (b : Bool) → test x ≡ b → (b && list_all test xs) ≡ false → (list_all test xs ≡ false → (y : _) × (IsOneOf xs y × (test y ≡ false)))
+        → (y : _) × (IsOneOf (x ∷ xs) y × (test y ≡ false))
+    by false is g later = (x, (record { before = []; after = xs; is = refl }, is))
+    by true is g later = let (y, (one, fails)) = later g in (y, (one_more x xs y one, fails))
 
-or_true : (b : Bool) → (b || true) ≡ true
-or_true true = refl
-or_true false = refl
+pub passes : {X : Type 0} (test : X → Bool) (xs : List X) (x : X) → list_all test xs ≡ true → IsOneOf xs x → test x ≡ true
+passes test xs x h one =
+    let here : (list_all test one.before && (test x && list_all test one.after)) ≡ true = sym (list_all-append test one.before (x ∷ one.after)) ∙ (sym (ap (list_all test) one.is) ∙ h) in
+    and_left _ _ (and_right (list_all test one.before) _ here)
 
-pub any_one : {X : Type 0} (p : X → Bool) (xs : List X) (x : X) → IsOneOf xs x → p x ≡ true → list_any p xs ≡ true
-any_one p xs x one is =
-    ap (list_any p) one.is ∙ (list_any-append p one.before (x ∷ one.after)
-    ∙ (ap (λ b. list_any p one.before || (b || list_any p one.after)) is ∙ or_true (list_any p one.before)))
+pub fails : (b : Bool) → (b ≡ true → ⊥) → b ≡ false
+fails true none = absurd (none refl)
+fails false none = refl
 
-pub of_not : (b : Bool) → not b ≡ true → b ≡ false
-of_not true h = absurd (false≢true h)
-of_not false h = refl
+-- ---- keys of maps
 
--- ---- the rules of maps, oneofs and packed fields
+key_of : (p : Presence) → keeps.has_key p ≡ false → (key : Scalar) × ((p ≡ presences.Map key) × (is_key key ≡ false))
+key_of presences.Implicit h = absurd (false≢true (sym h))
+key_of presences.Explicit h = absurd (false≢true (sym h))
+key_of (presences.Repeated packed) h = absurd (false≢true (sym h))
+key_of (presences.Map key) h = (key, (refl, h))
 
-bad_key_of : (p : Presence) → faults.has_bad_key p ≡ true → (key : Scalar) × ((p ≡ presences.Map key) × (is_key key ≡ false))
-bad_key_of presences.Implicit h = absurd (false≢true h)
-bad_key_of presences.Explicit h = absurd (false≢true h)
-bad_key_of (presences.Repeated packed) h = absurd (false≢true h)
-bad_key_of (presences.Map key) h = (key, (refl, of_not (is_key key) h))
-
-pub key_is_bad : (p : Presence) (key : Scalar) → p ≡ presences.Map key → is_key key ≡ false → faults.has_bad_key p ≡ true
-key_is_bad p key is bad = ap faults.has_bad_key is ∙ ap not bad
-
-pub key_breaks : (t : MessageType) (place : Place) → list_any faults.field_has_bad_key t.fields.items ≡ true → BreaksType t place (error_of rules.BadMapKey place) 407
+pub key_breaks : (t : MessageType) (place : Place) → list_all keeps.field_has_key t.fields.items ≡ false → BreaksType t place (error_of rules.BadMapKey place) 407
 key_breaks t place h =
-    let (f, (one, is)) = some_one faults.field_has_bad_key t.fields.items h in
-    let (key, (of_map, bad)) = bad_key_of f.presence is in
+    let (f, (one, is)) = some_fails keeps.field_has_key t.fields.items h in
+    let (key, (of_map, bad)) = key_of f.presence is in
     bad_map_key f key one of_map bad
 
-bad_member_of : (f : Field) → faults.is_bad_member f ≡ true → (is_some f.oneof ≡ true) × ((is_singular f.presence ≡ false) ⊎ (f.states_optional ≡ true))
-bad_member_of f h = by (is_some f.oneof) (is_singular f.presence) f.states_optional h
-  where
-    by : (member singular states : Bool) → (member && (not singular || states)) ≡ true → (member ≡ true) × ((singular ≡ false) ⊎ (states ≡ true))
-    by true false states g = (refl, inl refl)
-    by true true true g = (refl, inr refl)
-    by true true false g = absurd (false≢true g)
-    by false singular states g = absurd (false≢true g)
+pub key_fails : (fs : List Field) (f : Field) (key : Scalar) → IsOneOf fs f → f.presence ≡ presences.Map key → is_key key ≡ false → list_all keeps.field_has_key fs ≡ true → ⊥
+key_fails fs f key one is bad h = false≢true (sym bad ∙ (sym (ap keeps.has_key is) ∙ passes keeps.field_has_key fs f h one))
 
-member_is_bad : (f : Field) → is_some f.oneof ≡ true → (is_singular f.presence ≡ false) ⊎ (f.states_optional ≡ true) → faults.is_bad_member f ≡ true
-member_is_bad f has why = ap (λ b. b && (not (is_singular f.presence) || f.states_optional)) has ∙ by (is_singular f.presence) f.states_optional why
-  where
-    by : (singular states : Bool) → (singular ≡ false) ⊎ (states ≡ true) → (not singular || states) ≡ true
-    by singular states (inl is) = ap (λ b. not b || states) is
-    by singular states (inr is) = ap (λ b. not singular || b) is ∙ or_true (not singular)
+-- ---- members of oneofs
 
-pub oneof_breaks : (t : MessageType) (place : Place) → faults.has_bad_oneof t ≡ true → BreaksType t place (error_of rules.BadOneofMember place) 408
-oneof_breaks t place h = by (list_any faults.is_bad_member t.fields.items) refl h
+member_of : (member singular states : Bool) → (not member || (singular && not states)) ≡ false → (member ≡ true) × ((singular ≡ false) ⊎ (states ≡ true))
+member_of true false states h = (refl, inl refl)
+member_of true true true h = (refl, inr refl)
+member_of true true false h = absurd (false≢true (sym h))
+member_of false singular states h = absurd (false≢true (sym h))
+
+no_member : (member singular states : Bool) → (not member || (singular && not states)) ≡ true → member ≡ true → (singular ≡ false) ⊎ (states ≡ true) → ⊥
+no_member false singular states h is why = false≢true is
+no_member true false states h is why = false≢true h
+no_member true true true h is why = false≢true h
+no_member true true false h is (inl why) = false≢true (sym why)
+no_member true true false h is (inr why) = false≢true why
+
+pub oneof_breaks : (t : MessageType) (place : Place) → has_oneofs t ≡ false → BreaksType t place (error_of rules.BadOneofMember place) 408
+oneof_breaks t place h = by (list_all keeps.may_be_member t.fields.items) refl h
   where
-    by : (b : Bool) → list_any faults.is_bad_member t.fields.items ≡ b → (b || not (have_members (length t.oneofs.items) t.fields.items)) ≡ true
+    by : (b : Bool) → list_all keeps.may_be_member t.fields.items ≡ b → (b && have_members (length t.oneofs.items) t.fields.items) ≡ false
         → BreaksType t place (error_of rules.BadOneofMember place) 408
-    by true is g =
-        let (f, (one, bad)) = some_one faults.is_bad_member t.fields.items is in
-        let (has, why) = bad_member_of f bad in
+    by false is g =
+        let (f, (one, bad)) = some_fails keeps.may_be_member t.fields.items is in
+        let (has, why) = member_of (is_some f.oneof) (is_singular f.presence) f.states_optional bad in
         bad_oneof_member f one has why
-    by false is g = empty_oneof (of_not (have_members (length t.oneofs.items) t.fields.items) g)
+    by true is g = empty_oneof g
 
-pub oneof_is_bad : (t : MessageType) (f : Field) → IsOneOf t.fields.items f → is_some f.oneof ≡ true → (is_singular f.presence ≡ false) ⊎ (f.states_optional ≡ true) → faults.has_bad_oneof t ≡ true
-oneof_is_bad t f one has why =
-    ap (λ b. b || not (have_members (length t.oneofs.items) t.fields.items)) (any_one faults.is_bad_member t.fields.items f one (member_is_bad f has why))
+pub member_fails : (fs : List Field) (f : Field) → IsOneOf fs f → is_some f.oneof ≡ true → (is_singular f.presence ≡ false) ⊎ (f.states_optional ≡ true) → list_all keeps.may_be_member fs ≡ true → ⊥
+member_fails fs f one has why h = no_member (is_some f.oneof) (is_singular f.presence) f.states_optional (passes keeps.may_be_member fs f h one) has why
 
-pub oneof_is_empty : (t : MessageType) → have_members (length t.oneofs.items) t.fields.items ≡ false → faults.has_bad_oneof t ≡ true
-oneof_is_empty t h =
-    ap (λ b. list_any faults.is_bad_member t.fields.items || not b) h ∙ or_true (list_any faults.is_bad_member t.fields.items)
+-- ---- packed fields
 
-badly_packed_of : (p : Presence) (e : Element) (stated : Option Bool) → faults.is_badly_packed p e stated ≡ true
-    → ((p ≡ presences.Repeated true) ⊎ (stated_or stated false ≡ true)) × ((is_repeated p ≡ false) ⊎ (is_packable e ≡ false))
-badly_packed_of presences.Implicit e stated h = (inr h, inl refl)
-badly_packed_of presences.Explicit e stated h = (inr h, inl refl)
-badly_packed_of (presences.Map key) e stated h = (inr h, inl refl)
-badly_packed_of (presences.Repeated packed) e stated h = by packed (stated_or stated false) (is_packable e) h
-  where
-    by : (a s k : Bool) → ((a || s) && not k) ≡ true
-        → ((presences.Repeated a ≡ presences.Repeated true) ⊎ (s ≡ true)) × ((is_repeated (presences.Repeated a) ≡ false) ⊎ (k ≡ false))
-    by true s false g = (inl refl, inr refl)
-    by true s true g = absurd (false≢true g)
-    by false true false g = (inr refl, inr refl)
-    by false true true g = absurd (false≢true g)
-    by false false k g = absurd (false≢true g)
+packs_of : (p : Presence) (s : Bool) → (keeps.is_packed p || s) ≡ true → (p ≡ presences.Repeated true) ⊎ (s ≡ true)
+packs_of presences.Implicit s h = inr h
+packs_of presences.Explicit s h = inr h
+packs_of (presences.Map key) s h = inr h
+packs_of (presences.Repeated true) s h = inl refl
+packs_of (presences.Repeated false) s h = inr h
 
-pub packed_is_bad : (p : Presence) (e : Element) (stated : Option Bool) → (p ≡ presences.Repeated true) ⊎ (stated_or stated false ≡ true)
-    → (is_repeated p ≡ false) ⊎ (is_packable e ≡ false) → faults.is_badly_packed p e stated ≡ true
-packed_is_bad presences.Implicit e stated (inl is) why = absurd (cc (is))
-packed_is_bad presences.Implicit e stated (inr is) why = is
-packed_is_bad presences.Explicit e stated (inl is) why = absurd (cc (is))
-packed_is_bad presences.Explicit e stated (inr is) why = is
-packed_is_bad (presences.Map key) e stated (inl is) why = absurd (cc (is))
-packed_is_bad (presences.Map key) e stated (inr is) why = is
-packed_is_bad (presences.Repeated packed) e stated is (inl single) = absurd (false≢true (sym single))
-packed_is_bad (presences.Repeated packed) e stated is (inr apart) = by packed (stated_or stated false) (is_packable e) is apart
-  where
-    by : (a s k : Bool) → (presences.Repeated a ≡ presences.Repeated true) ⊎ (s ≡ true) → k ≡ false → ((a || s) && not k) ≡ true
-    by true s k g others = ap not others
-    by false s k (inl g) others = let same : false ≡ true = cc (g) in absurd (false≢true same)
-    by false s k (inr g) others = ap (λ b. b && not k) g ∙ ap not others
+packed_of : (packed repeated packable : Bool) → (not packed || (repeated && packable)) ≡ false → (packed ≡ true) × ((repeated ≡ false) ⊎ (packable ≡ false))
+packed_of true false packable h = (refl, inl refl)
+packed_of true true false h = (refl, inr refl)
+packed_of true true true h = absurd (false≢true (sym h))
+packed_of false repeated packable h = absurd (false≢true (sym h))
 
-pub packed_breaks : (t : MessageType) (place : Place) → list_any faults.field_badly_packed t.fields.items ≡ true → BreaksType t place (error_of rules.PackedNotAllowed place) 412
+pub packed_breaks : (t : MessageType) (place : Place) → list_all keeps.is_packed_rightly t.fields.items ≡ false → BreaksType t place (error_of rules.PackedNotAllowed place) 412
 packed_breaks t place h =
-    let (f, (one, is)) = some_one faults.field_badly_packed t.fields.items h in
-    let (packed, why) = badly_packed_of f.presence f.element f.options.packed is in
-    packed_not_allowed f one packed why
+    let (f, (one, is)) = some_fails keeps.is_packed_rightly t.fields.items h in
+    let states = stated_or f.options.packed false in
+    let (packed, why) = packed_of (keeps.is_packed f.presence || states) (is_repeated f.presence) (is_packable f.element) is in
+    packed_not_allowed f one (packs_of f.presence states packed) why
+
+packs : (p : Presence) (s : Bool) → (p ≡ presences.Repeated true) ⊎ (s ≡ true) → (keeps.is_packed p || s) ≡ true
+packs p s (inl is) = ap (λ q. keeps.is_packed q || s) is
+packs p s (inr is) = ap (λ b. keeps.is_packed p || b) is ∙ or_last (keeps.is_packed p)
+  where
+    or_last : (b : Bool) → (b || true) ≡ true
+    or_last true = refl
+    or_last false = refl
+
+no_packed : (packed repeated packable : Bool) → (not packed || (repeated && packable)) ≡ true → packed ≡ true → (repeated ≡ false) ⊎ (packable ≡ false) → ⊥
+no_packed false repeated packable h is why = false≢true is
+no_packed true false packable h is why = false≢true h
+no_packed true true false h is why = false≢true h
+no_packed true true true h is (inl why) = false≢true (sym why)
+no_packed true true true h is (inr why) = false≢true (sym why)
+
+pub packed_fails : (fs : List Field) (f : Field) → IsOneOf fs f → (f.presence ≡ presences.Repeated true) ⊎ (stated_or f.options.packed false ≡ true)
+    → (is_repeated f.presence ≡ false) ⊎ (is_packable f.element ≡ false) → list_all keeps.is_packed_rightly fs ≡ true → ⊥
+packed_fails fs f one packed why h =
+    let states = stated_or f.options.packed false in
+    no_packed (keeps.is_packed f.presence || states) (is_repeated f.presence) (is_packable f.element) (passes keeps.is_packed_rightly fs f h one) (packs f.presence states packed) why

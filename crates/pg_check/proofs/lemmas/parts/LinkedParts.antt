@@ -33,7 +33,8 @@ use Rattle.pg_check.specs.parts.MadeEnums.{MadeEnum, MadeValue, enumeration, mad
 use Rattle.pg_check.specs.parts.MadeFields.{MadeField, element_in, field, made_field}
 use Rattle.pg_check.specs.parts.MadeMessages.{made_fields}
 use Rattle.pg_check.specs.parts.MadeParts.{EachIs, FileShape, IsFileOf, IsTypeOf, Source, TypeTree, nothing, type_tree, with_files}
-use Rattle.pg_check.specs.parts.ResolvedTypes.{IsNamed, IsResolvedMethod, IsResolvedService, IsScalarOr, ResolvesTo, file_services, full_name_of, messages_of, rpc_in, service_in, services_of, type_name_of, words_of}
+use Rattle.pg_check.specs.parts.MadeServices.{rpc_in, stated_service}
+use Rattle.pg_check.specs.parts.ResolvedTypes.{IsNamed, IsResolvedMethod, IsResolvedService, IsScalarOr, ResolvesTo, file_services, full_name_of, messages_of, services_of, type_name_of, words_of}
 use Rattle.pg_check.specs.parts.Sources.{linked_source, linked_sources}
 use Rattle.pg_check.specs.rules.Members.{DeclaredField, members}
 use Rattle.pg_check.specs.rules.Outline.{Enum, Message, file_messages, package_of, scoped_enums, statements_behind}
@@ -137,7 +138,7 @@ rpcs_good (service_parts.Empty span ∷ ps) h = rpcs_good ps h.1
 rpcs_good (service_parts.Option o ∷ ps) h = rpcs_good ps h.1
 rpcs_good (service_parts.Rpc r ∷ ps) h = (h.0.1.0, rpcs_good ps h.1)
 
-services_good : (ss : List tree.Statement.Statement) → AllByRecursion IsGoodStatement ss → AllByRecursion IsGoodService (flat_map service_in ss)
+services_good : (ss : List tree.Statement.Statement) → AllByRecursion IsGoodStatement ss → AllByRecursion IsGoodService (flat_map stated_service ss)
 services_good [] h = tt
 services_good (statements.Empty span ∷ ss) h = services_good ss h.1
 services_good (statements.Import i ∷ ss) h = services_good ss h.1
@@ -192,8 +193,8 @@ all_messages_good (e ∷ es) h =
 all_services_good : (files : List Entry) → AllByRecursion IsGoodEntry files → AllByRecursion (λ (x : Entry × tree.Service.Service). IsGoodService x.1) (services_of files)
 all_services_good [] h = tt
 all_services_good (e ∷ es) h =
-    let front = flat_map service_in e.1.tree.statements.items in
-    let behind = flat_map service_in (statements_behind e.1.tree.packaged) in
+    let front = flat_map stated_service e.1.tree.statements.items in
+    let behind = flat_map stated_service (statements_behind e.1.tree.packaged) in
     let own : AllByRecursion IsGoodService (file_services e.1.tree) = joined_all IsGoodService front behind (services_good e.1.tree.statements.items h.0.front) (services_good (statements_behind e.1.tree.packaged) h.0.behind) in
     joined_all (λ (x : Entry × tree.Service.Service). IsGoodService x.1) (map (λ (s : tree.Service.Service). (e, s)) (file_services e.1.tree)) (services_of es) (each_mapped (λ (x : Entry × tree.Service.Service). IsGoodService x.1) (λ (s : tree.Service.Service). (e, s)) (file_services e.1.tree) own) (all_services_good es h.1)
 

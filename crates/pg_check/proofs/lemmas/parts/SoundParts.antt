@@ -5,9 +5,7 @@ use Rattle.pg_schema.specs.rules.Sound.{IsSound}
 use Rattle.pg_link.specs.Linked.{IsLinkedUp, LinkedFiles}
 use Rattle.pg_check.specs.Declares.{Declares}
 use Rattle.pg_check.proofs.lemmas.parts.kept.KeptParts.{KeptParts}
-use Rattle.pg_check.proofs.lemmas.parts.places.PlacedParts.{IsCountable}
 use Rattle.pg_check.specs.parts.Sources.{linked_sources}
-use Rattle.pg_check.proofs.lemmas.parts.CountableParts.{countable}
 use Rattle.pg_check.proofs.lemmas.parts.names.FreePackages.{free_packages}
 use Rattle.pg_check.proofs.lemmas.parts.kept.KeptFiles.{kept_parts}
 use Rattle.pg_check.proofs.lemmas.parts.LinkedParts.{linked_parts}
@@ -19,16 +17,15 @@ pub linked_sound : (l : LinkedFiles) (parts : Parts) → IsLinkedUp l → Declar
 linked_sound l parts up h =
     let ss = linked_sources l.files in
     let are = h.has_parts in
-    let few : IsCountable parts = countable l parts up are in
     let kept : KeptParts parts = kept_parts ss parts h in
     let at_most = kept.few_types in
     let few_types : length parts.types.items ≤ 2 ^ 32 = omega (arith, at_most) in
     let settled = settled_files l up in
     sound_from parts kept (linked_parts l parts up h (record {
-      values_once = values_once l up parts are few_types few.enums few.services;
-      declared_once = declared_once ss parts are settled few_types few.enums few.services;
-      file_scopes = file_scopes ss parts are settled few_types few.enums few.services;
-      type_scopes = type_scopes ss parts are settled few_types few.enums few.services;
-      names = names_differ l up parts are few_types few.enums few.services;
-      free_packages = free_packages l up parts are few_types few.enums few.services;
+      values_once = values_once l up parts are;
+      declared_once = declared_once ss parts are settled few_types;
+      file_scopes = file_scopes ss parts are settled few_types;
+      type_scopes = type_scopes ss parts are settled few_types;
+      names = names_differ l up parts are;
+      free_packages = free_packages l up parts are;
     }))

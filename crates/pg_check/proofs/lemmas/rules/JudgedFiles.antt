@@ -12,7 +12,7 @@ use Rattle.pg_check.specs.inner.FileFaults as file_faults
 use Rattle.pg_check.specs.rules.Firsts.{IsBehind, IsOneOf}
 use Rattle.pg_check.specs.rules.KeepsRules.{EnumKeeps, FileKeeps, MessageKeeps, StatementKeeps}
 use Rattle.pg_check.specs.parts.MadeParts.{Source}
-use Rattle.pg_check.specs.rules.Outline.{Enum, Message, file_enums, file_messages, statements_behind}
+use Rattle.pg_check.specs.rules.Outline.{Enum, Message, file_messages, scoped_enums, statements_behind}
 use Rattle.pg_check.proofs.lemmas.rules.FirstFaults.{IsFound}
 use Rattle.pg_check.proofs.lemmas.rules.Judged.{Judged, all, at_one, both, each, kept_as, nothing, broken_as}
 use Rattle.pg_check.proofs.lemmas.rules.JudgedEnums.{EnumFault, ServiceFault, enum_judged, enum_tells, enum_broken, service_judged, service_tells, service_broken}
@@ -70,7 +70,7 @@ statement_judged (statements.Service v) =
 abbrev pub FileFault : Source → ℕ → Fault → Type 0
 FileFault s left f =
     (((n : ℕ) × OneMore left (file_messages s.tree) n × (f ≡ broken_at rules.TooManyTypes n))
-    ⊎ (((m : Message) × IsOneOf (file_messages s.tree) m × MessageFault s.targets m.body f) ⊎ ((e : Enum) × IsOneOf (file_enums s.tree) e × EnumFault e.tree f)))
+    ⊎ (((m : Message) × IsOneOf (file_messages s.tree) m × MessageFault s.targets m.body f) ⊎ ((e : Enum) × IsOneOf (scoped_enums s.tree) e × EnumFault e.tree f)))
     ⊎ (OptionFault (files.file_lines s.tree) f
     ⊎ (((p : tree.Statement.Statement) × IsBehind StatementKeeps s.tree.statements.items p × StatementFault p f)
     ⊎ ((p : tree.Statement.Statement) × IsBehind StatementKeeps (statements_behind s.tree.packaged) p × StatementFault p f)))
@@ -80,7 +80,7 @@ file_judged s left =
     kept_as (both _ _
     (both _ _ (few_judged left (file_messages s.tree))
     (both _ _ (all (file_faults.message_fault s.targets) (λ (m : Message). MessageKeeps s.targets m.body) (λ (m : Message). MessageFault s.targets m.body) (λ m. message_judged s.targets m.body) (file_messages s.tree))
-    (all file_faults.found_fault (λ (e : Enum). EnumKeeps e.tree.parts.items) (λ (e : Enum). EnumFault e.tree) (λ e. enum_judged e.tree) (file_enums s.tree))))
+    (all file_faults.found_fault (λ (e : Enum). EnumKeeps e.tree.parts.items) (λ (e : Enum). EnumFault e.tree) (λ e. enum_judged e.tree) (scoped_enums s.tree))))
     (both _ _ (options_judged (files.file_lines s.tree))
     (both _ _ (each file_faults.statement_fault StatementKeeps StatementFault statement_judged s.tree.statements.items)
     (each file_faults.statement_fault StatementKeeps StatementFault statement_judged (statements_behind s.tree.packaged))))) (

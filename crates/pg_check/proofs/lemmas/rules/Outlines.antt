@@ -4,7 +4,7 @@ use Rattle.pg_syntax.specs.declared.tree as tree
 use Rattle.pg_syntax.specs.declared.tree.Part.{Row_of-Part, end_of-Part, more_of-Part, items-the_row-Part, items_hidden-the_row-Part-0}
 use Rattle.pg_syntax.specs.declared.tree.Part.TheBlock.{hidden-the_row-Part-0}
 use Rattle.pg_syntax.specs.declared.tree.Part.TheVariants as parts
-use Rattle.pg_check.specs.rules.Outline.{messages_in, messages_of, row_messages, enums_in, enums_of, row_enums, row_list, full_name}
+use Rattle.pg_check.specs.rules.Outline.{full_name, messages_in, messages_of, row_list, row_messages}
 
 row_is : {m : _} (row : Row_of-Part m) → row_list row ≡ items-the_row-Part m row
 row_is end_of-Part = refl
@@ -14,10 +14,6 @@ messages_are : {m : _} (scope : List ℕ) (row : Row_of-Part m) → row_messages
 messages_are scope end_of-Part = refl
 messages_are scope (more_of-Part p rest) = ap (λ ms. messages_in scope p ++ ms) (messages_are scope rest)
 
-enums_are : {m : _} (scope : List ℕ) (row : Row_of-Part m) → row_enums scope row ≡ flat_map (enums_in scope) (items-the_row-Part m row)
-enums_are scope end_of-Part = refl
-enums_are scope (more_of-Part p rest) = ap (λ es. enums_in scope p ++ es) (enums_are scope rest)
-
 body_is : (m : tree.Message.Message) → row_list (hidden-the_row-Part-0 m.parts) ≡ m.parts.items
 body_is m = row_is (hidden-the_row-Part-0 m.parts) ∙ items_hidden-the_row-Part-0 m.parts
 
@@ -26,7 +22,3 @@ part_messages scope m =
     ap (λ body. record { scope = scope; full = full_name scope m.name; name = m.name; body = body } ∷ row_messages (full_name scope m.name) (hidden-the_row-Part-0 m.parts)) (body_is m)
     ∙ ap (λ ms. record { scope = scope; full = full_name scope m.name; name = m.name; body = m.parts.items } ∷ ms)
     (messages_are (full_name scope m.name) (hidden-the_row-Part-0 m.parts) ∙ ap (flat_map (messages_in (full_name scope m.name))) (items_hidden-the_row-Part-0 m.parts))
-
-pub part_enums : (scope : List ℕ) (m : tree.Message.Message) → enums_in scope (parts.Message m) ≡ enums_of scope m
-part_enums scope m =
-    enums_are (full_name scope m.name) (hidden-the_row-Part-0 m.parts) ∙ ap (flat_map (enums_in (full_name scope m.name))) (items_hidden-the_row-Part-0 m.parts)

@@ -1,5 +1,5 @@
 -- A file of one message type, and the rules at work on it.
-use Rattle.std.proofs.Common.{◌≡◌, ◌≤◌, ◌∙◌, ℕ, Bool, true, not, ◌&&◌, ◌||◌, List, [], ◌∷◌, ◌++◌, codes, length, flat_map, Option, None, string_bytes, sym, ap, subst, refl, arith}
+use Rattle.std.proofs.Common.{◌≡◌, ◌≤◌, ◌∙◌, ℕ, Bool, true, not, ◌&&◌, ◌||◌, List, [], ◌∷◌, ◌++◌, codes, length, flat_map, Option, None, string_bytes, sym, ap, ap₂, subst, refl, arith}
 use Rattle.std.specs.List.{list_all, AllByRecursion}
 use Rattle.std.proofs.lemmas.Bool.{false≢true}
 use Rattle.pg_link.specs.declared.uses.target.Target.{Target}
@@ -12,7 +12,7 @@ use Rattle.pg_check.specs.rules.Members.{settings}
 use Rattle.pg_check.specs.rules.Messages as messages
 use Rattle.pg_check.specs.rules.Names as names
 use Rattle.pg_check.specs.rules.Options.{OptionAt, in_settings}
-use Rattle.pg_check.specs.rules.Outline.{Enum, Message, all_enums, all_messages, enums_in, file_enums, file_messages, full_name, messages_in, package_in, statements_behind}
+use Rattle.pg_check.specs.rules.Outline.{Enum, Message, all_messages, enum_stated, file_messages, full_name, messages_in, own_enums, package_in, scoped_enums, statements_behind}
 use Rattle.pg_check.specs.rules.ReservedItems.{names_in}
 use Rattle.pg_check.specs.rules.Types.{is_packable_type}
 use Rattle.pg_syntax.specs.declared.tree as tree
@@ -37,11 +37,8 @@ module _ (s : Source) (body : List Part) (one : HasOneMessage s body) where
   messages_are : file_messages s.tree ≡ messages_in_all body
   messages_are = listed_once all_messages ∙ ap messages_in_all one.has_body
 
-  abbrev enums_in_all : List Part → List Enum
-  enums_in_all b = (flat_map (enums_in (full_name [] one.message.name)) b ++ []) ++ []
-
-  enums_are : file_enums s.tree ≡ enums_in_all body
-  enums_are = listed_once all_enums ∙ ap enums_in_all one.has_body
+  enums_are : scoped_enums s.tree ≡ flat_map own_enums (messages_in_all body)
+  enums_are = ap₂ (λ es ms. es ++ flat_map own_enums ms) (listed_once (λ scope ss. flat_map (enum_stated scope) ss)) messages_are
 
   lines_are : file_lines s.tree ≡ []
   lines_are = listed_once (λ scope ss. flat_map file_line ss)

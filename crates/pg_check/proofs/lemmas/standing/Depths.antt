@@ -19,7 +19,7 @@ use Rattle.pg_check.specs.parts.MadeNumbers.{index_of}
 use Rattle.pg_check.specs.parts.MadeParts.{Declared, EachIs, FileShape, IsFileOf, IsTypeOf, Source, TypeTree, file_shape, nothing, placed_enums, placed_messages, type_tree, type_trees, with_file, with_files}
 use Rattle.pg_check.specs.rules.Outline.{Message, file_messages, message_scope, package_of}
 use Rattle.pg_check.specs.parts.Sources.{linked_source, linked_sources}
-use Rattle.pg_check.specs.standing.Nesting.{holds_inside, nest_within}
+use Rattle.pg_schema.specs.standing.Nesting.{holds_inside, nest_within}
 use Rattle.pg_check.proofs.lemmas.parts.Eachs.{each-length, joined_all}
 use Rattle.pg_check.proofs.lemmas.parts.names.WordTrees.{file_good}
 use Rattle.pg_check.proofs.lemmas.standing.Levels.{AreLevelled, file_levelled, words_in}
@@ -74,7 +74,7 @@ module _ (types : List MessageType) (targets : ℕ → Option Target) (before : 
 
   -- the indexes of a scope's message types, where the first of some messages is one of them or not
   abbrev ids : Bool → (place : ℕ) → Message → List Placed → List TypeId
-  ids is_one place m found = map type_id (map (λ (p : Placed). p.index) (cond is_one (record { scope = m.scope; index = index_of place } ∷ found) found))
+  ids is_one place m found = map type_id (map (λ (p : Placed). p.index) (cond is_one (record { scope = m.scope; index = place } ∷ found) found))
 
   abbrev found : List ℕ → List Placed → List Placed
   found scope list = filter (λ (p : Placed). bytes_eq scope p.scope) list

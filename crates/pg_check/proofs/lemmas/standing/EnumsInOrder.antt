@@ -18,19 +18,18 @@ use Rattle.pg_schema.proofs.lemmas.rules.PairLemmas.{and_both, and_left, and_rig
 use Rattle.pg_link.specs.declared.uses.target.Target.{Target}
 use Rattle.pg_check.specs.parts.ByScope.{Placed, enum_id, placed_from, places_in}
 use Rattle.pg_check.specs.parts.MadeEnums.{enumeration, made_enum}
-use Rattle.pg_check.specs.parts.MadeNumbers.{index_of}
 use Rattle.pg_check.specs.parts.MadeParts.{ArePartsOf, Declared, EachIs, IsFileOf, IsTypeOf, Source, TypeTree, file_shape, nothing, placed_enums, placed_messages, type_tree, type_trees, with_file, with_files}
 use Rattle.pg_check.specs.rules.Outline.{Enum, Message, enum_in, enum_scope, enum_stated, file_messages, own_enums, package_enums, package_of, scoped_enums, statements_behind}
-use Rattle.pg_check.specs.standing.InOrder.{enums_below, inner_enums, inner_types, types_below}
-use Rattle.pg_check.specs.standing.Nesting.{nest_within}
-use Rattle.pg_check.specs.standing.Places.{places_from}
+use Rattle.pg_schema.specs.standing.InOrder.{enums_below, inner_enums, inner_types, types_below}
+use Rattle.pg_schema.specs.standing.Nesting.{nest_within}
+use Rattle.pg_schema.specs.standing.Places.{places_from}
 use Rattle.pg_check.proofs.lemmas.parts.Eachs.{each-length, joined_all}
 use Rattle.pg_syntax.specs.declared.tree as tree
 use Rattle.pg_syntax.specs.declared.tree.Part.{Part}
 use Rattle.pg_syntax.specs.declared.tree.Part.TheVariants as parts
 use Rattle.pg_syntax.specs.declared.tree.Statement.TheVariants as statements
 use Rattle.pg_check.proofs.lemmas.standing.UniqueNames.{IsUncalled, type_name, types_distinct, uncalled}
-use Rattle.pg_check.proofs.lemmas.standing.TreePlaces.{apart, index_is, one_place}
+use Rattle.pg_check.proofs.lemmas.standing.TreePlaces.{apart, one_place}
 use Rattle.pg_check.proofs.lemmas.standing.TypesInOrder.{each_splits, file_apart, file_in_order, files_declared, later_files, later_types, types_declared}
 use Rattle.pg_check.proofs.lemmas.standing.Walks.{from_joined, full_of}
 
@@ -54,9 +53,9 @@ scopes bs = map (λ (b : Block). b.0) bs
 abbrev found : List ℕ → ℕ → List (List ℕ) → List ℕ
 found scope k rest = places_in scope (placed_from k rest)
 
-one_found : (scope : List ℕ) (k : ℕ) (s : List ℕ) (rest : List (List ℕ)) → found scope k (s ∷ rest) ≡ cond (bytes_eq scope s) (index_of k ∷ found scope (k + 1) rest) (found scope (k + 1) rest)
+one_found : (scope : List ℕ) (k : ℕ) (s : List ℕ) (rest : List (List ℕ)) → found scope k (s ∷ rest) ≡ cond (bytes_eq scope s) (k ∷ found scope (k + 1) rest) (found scope (k + 1) rest)
 one_found scope k s rest =
-    one_place (bytes_eq scope s) (record { scope = s; index = index_of k })
+    one_place (bytes_eq scope s) (record { scope = s; index = k })
     (filter (λ (p : Placed). bytes_eq scope p.scope) (placed_from (k + 1) rest))
 
 repeated_long : (n : ℕ) (s : List ℕ) → length (repeated n s) ≡ n
@@ -64,15 +63,15 @@ repeated_long zero s = refl
 repeated_long (suc n) s = ap suc (repeated_long n s)
 
 -- its own are the next ones
-own_found : (n : ℕ) (s : List ℕ) (k : ℕ) (rest : List (List ℕ)) → k + n ≤ 2 ^ 32 → found s k (repeated n s ++ rest) ≡ places_from k n ++ found s (k + n) rest
-own_found zero s k rest few = let none : k ≡ k + 0 = omega arith in ap (λ n. found s n rest) none
-own_found (suc n) s k rest few =
+own_found : (n : ℕ) (s : List ℕ) (k : ℕ) (rest : List (List ℕ)) → found s k (repeated n s ++ rest) ≡ places_from k n ++ found s (k + n) rest
+own_found zero s k rest = let none : k ≡ k + 0 = omega arith in ap (λ n. found s n rest) none
+own_found (suc n) s k rest =
     let next : k + 1 ≡ suc k = omega arith in
     let more : suc k + n ≡ k + suc n = omega arith in
     one_found s k s (repeated n s ++ rest)
-    ∙ (ap (λ b. cond b (index_of k ∷ found s (k + 1) (repeated n s ++ rest)) (found s (k + 1) (repeated n s ++ rest))) ((bytes_eq-Decides s s).1 refl)
-    ∙ ap₂ (λ i ps. i ∷ ps) (index_is k (omega (arith, few)))
-    (ap (λ j. found s j (repeated n s ++ rest)) next ∙ (own_found n s (suc k) rest (omega (arith, few)) ∙ ap (λ j. places_from (suc k) n ++ found s j rest) more)))
+    ∙ (ap (λ b. cond b (k ∷ found s (k + 1) (repeated n s ++ rest)) (found s (k + 1) (repeated n s ++ rest))) ((bytes_eq-Decides s s).1 refl)
+    ∙ ap (λ ps. k ∷ ps)
+    (ap (λ j. found s j (repeated n s ++ rest)) next ∙ (own_found n s (suc k) rest ∙ ap (λ j. places_from (suc k) n ++ found s j rest) more)))
 
 -- those of another are passed over
 other_found : (n : ℕ) (s other : List ℕ) (k : ℕ) (rest : List (List ℕ)) → bytes_eq s other ≡ false → found s k (repeated n other ++ rest) ≡ found s (k + n) rest
@@ -80,7 +79,7 @@ other_found zero s other k rest differs = let none : k ≡ k + 0 = omega arith i
 other_found (suc n) s other k rest differs =
     let more : (k + 1) + n ≡ k + suc n = omega arith in
     one_found s k other (repeated n other ++ rest)
-    ∙ (ap (λ b. cond b (index_of k ∷ found s (k + 1) (repeated n other ++ rest)) (found s (k + 1) (repeated n other ++ rest))) differs
+    ∙ (ap (λ b. cond b (k ∷ found s (k + 1) (repeated n other ++ rest)) (found s (k + 1) (repeated n other ++ rest))) differs
     ∙ (other_found n s other (k + 1) rest differs ∙ ap (λ j. found s j rest) more))
 
 turned : (a b : List ℕ) → not (bytes_eq a b) ≡ true → bytes_eq b a ≡ false
@@ -105,19 +104,18 @@ others_found n s k rest (c ∷ cs) differs =
     (others_found n s k rest cs (and_right (differ s c.0) (list_all (differ s) (scopes cs)) differs))
 
 -- scope by scope, one index after the other
-in_order : (k : ℕ) (bs : List Block) → are_distinct (scopes bs) ≡ true → k + length (rows bs) ≤ 2 ^ 32
-    → flat_map (λ (b : Block). found b.0 k (rows bs)) bs ≡ places_from k (length (rows bs))
-in_order k [] once few = refl
-in_order k (b ∷ bs) once few =
+in_order : (k : ℕ) (bs : List Block) → are_distinct (scopes bs) ≡ true → flat_map (λ (b : Block). found b.0 k (rows bs)) bs ≡ places_from k (length (rows bs))
+in_order k [] once = refl
+in_order k (b ∷ bs) once =
     let s = b.0 in
     let n = b.1 in
     let differs : list_all (differ s) (scopes bs) ≡ true = and_left (list_all (differ s) (scopes bs)) (are_distinct (scopes bs)) once in
     let long : length (repeated n s ++ rows bs) ≡ n + length (rows bs) = length-append (repeated n s) (rows bs) ∙ ap (λ m. m + length (rows bs)) (repeated_long n s) in
     let own : found s k (repeated n s ++ rows bs) ≡ places_from k n =
-    own_found n s k (rows bs) (omega (arith, few, long)) ∙ (ap (λ ps. places_from k n ++ ps) (none_found s (k + n) bs differs) ∙ append-nil (places_from k n)) in
+    own_found n s k (rows bs) ∙ (ap (λ ps. places_from k n ++ ps) (none_found s (k + n) bs differs) ∙ append-nil (places_from k n)) in
     let others : flat_map (λ (c : Block). found c.0 k (repeated n s ++ rows bs)) bs ≡ places_from (k + n) (length (rows bs)) =
     others_found n s k (rows bs) bs differs
-    ∙ in_order (k + n) bs (and_right (list_all (differ s) (scopes bs)) (are_distinct (scopes bs)) once) (omega (arith, few, long)) in
+    ∙ in_order (k + n) bs (and_right (list_all (differ s) (scopes bs)) (are_distinct (scopes bs)) once) in
     ap₂ (λ xs ys. xs ++ ys) own others ∙ (from_joined k n (length (rows bs)) ∙ ap (places_from k) (sym long))
 
 -- ---- the enums of a file
@@ -193,9 +191,8 @@ blocks_found k rest [] = refl
 blocks_found k rest (m ∷ ms) = ap (λ ps. found m.full k rest ++ ps) (blocks_found k rest ms)
 
 file_found : (k : ℕ) (file : tree.FileTree.FileTree) → are_distinct (map full_of (file_messages file)) ≡ true → is_among (map full_of (file_messages file)) (package_of file) ≡ false
-    → k + length (scoped_enums file) ≤ 2 ^ 32
     → places_in (package_of file) (placed_enums k file) ++ flat_map (λ (m : Message). places_in m.full (placed_enums k file)) (file_messages file) ≡ places_from k (length (scoped_enums file))
-file_found k file once uncalled few =
+file_found k file once uncalled =
     let ms = file_messages file in
     let same = scoped_rows file in
     let long : length (scoped_enums file) ≡ length (rows (blocks file)) = sym (length-map (scoped_enums file) enum_scope) ∙ ap length same in
@@ -203,7 +200,7 @@ file_found k file once uncalled few =
     ap (λ ns. are_distinct (package_of file ∷ ns)) (scopes_are ms) ∙ and_both (list_all (differ (package_of file)) (map full_of ms)) (are_distinct (map full_of ms)) (unlike (package_of file) (map full_of ms) uncalled) once in
     ap (λ ss. found (package_of file) k ss ++ flat_map (λ (m : Message). found m.full k ss) ms) same
     ∙ (ap (λ ps. found (package_of file) k (rows (blocks file)) ++ ps) (sym (blocks_found k (rows (blocks file)) ms))
-    ∙ (in_order k (blocks file) names (omega (arith, few, long)) ∙ ap (places_from k) (sym long)))
+    ∙ (in_order k (blocks file) names ∙ ap (places_from k) (sym long)))
 
 -- ---- the enums of message types, one after the other
 
@@ -272,9 +269,9 @@ later_enums ss = flat_map (λ (s : Source). scoped_enums s.tree) ss
 module _ (depth : ℕ) (types : List MessageType) (few : length types ≤ 2 ^ 32) (once : are_distinct (map type_name types) ≡ true) where
   file_enums_in_order : (front own back : List MessageType) (d : Declared) (s : Source) (f : File) → types ≡ front ++ (own ++ back) → length front ≡ length d.types
       → EachIs IsTypeOf (type_trees (length d.types) (length d.enums) s) own → IsFileOf (file_shape (length d.types) (length d.enums) (length d.services) s) f
-      → IsUncalled (map type_name types) f → nest_within depth types f.types.items ≡ true → length d.enums + length (scoped_enums s.tree) ≤ 2 ^ 32
+      → IsUncalled (map type_name types) f → nest_within depth types f.types.items ≡ true
       → in_scopes depth types f ≡ places_from (length d.enums) (length (scoped_enums s.tree))
-  file_enums_in_order front own back d s f whole long each is free shallow few_enums =
+  file_enums_in_order front own back d s f whole long each is free shallow =
       let ms = file_messages s.tree in
       let all = placed_enums (length d.enums) s.tree in
       let apart = file_apart depth types few once front own back d s f whole each is free in
@@ -284,16 +281,16 @@ module _ (depth : ℕ) (types : List MessageType) (few : length types ≤ 2 ^ 32
       ∙ (ap₂ (λ ts k. flat_map (enums_at ts) (places_from k (length own))) whole (sym long)
       ∙ (taken_from front own back ∙ made_enums s.targets (placed_messages (length d.types) s.tree) all ms own each))) in
       ap₂ (λ xs ys. xs ++ ys) (ap enum_places is.enums ∙ ids_back (places_in (package_of s.tree) all)) inside
-      ∙ file_found (length d.enums) s.tree apart.0 apart.1 few_enums
+      ∙ file_found (length d.enums) s.tree apart.0 apart.1
 
   all_enums_in_order : (front back : List MessageType) (d : Declared) (ss : List Source) (fs : List File) → types ≡ front ++ back → length front ≡ length d.types
       → EachIs IsTypeOf (later_types d ss) back → EachIs IsFileOf (later_files d ss) fs → AllByRecursion (IsUncalled (map type_name types)) fs
-      → list_all (λ (f : File). nest_within depth types f.types.items) fs ≡ true → length d.enums + length (later_enums ss) ≤ 2 ^ 32
+      → list_all (λ (f : File). nest_within depth types f.types.items) fs ≡ true
       → flat_map (in_scopes depth types) fs ≡ places_from (length d.enums) (length (later_enums ss))
-  all_enums_in_order front back d [] [] whole long each are free shallow few_enums = refl
-  all_enums_in_order front back d [] (f ∷ fs) whole long each are free shallow few_enums = absurd are
-  all_enums_in_order front back d (s ∷ ss) [] whole long each are free shallow few_enums = absurd are
-  all_enums_in_order front back d (s ∷ ss) (f ∷ fs) whole long each are free shallow few_enums =
+  all_enums_in_order front back d [] [] whole long each are free shallow = refl
+  all_enums_in_order front back d [] (f ∷ fs) whole long each are free shallow = absurd are
+  all_enums_in_order front back d (s ∷ ss) [] whole long each are free shallow = absurd are
+  all_enums_in_order front back d (s ∷ ss) (f ∷ fs) whole long each are free shallow =
       let own : List TypeTree = type_trees (length d.types) (length d.enums) s in
       let found = scoped_enums s.tree in
       let split = each_splits IsTypeOf own (later_types (with_file d s) ss) back each in
@@ -305,8 +302,8 @@ module _ (depth : ℕ) (types : List MessageType) (few : length types ≤ 2 ^ 32
       let both : length (found ++ later_enums ss) ≡ length found + length (later_enums ss) = length-append found (later_enums ss) in
       let inside = nest_within depth types f.types.items in
       let later = list_all (λ (g : File). nest_within depth types g.types.items) fs in
-      ap₂ (λ xs ys. xs ++ ys) (file_enums_in_order front split.front split.back d s f here long split.each_front are.0 free.0 (and_left inside later shallow) (omega (arith, few_enums, both)))
-      (all_enums_in_order (front ++ split.front) split.back (with_file d s) ss fs further longer split.each_back are.1 free.1 (and_right inside later shallow) (omega (arith, few_enums, both, more))
+      ap₂ (λ xs ys. xs ++ ys) (file_enums_in_order front split.front split.back d s f here long split.each_front are.0 free.0 (and_left inside later shallow))
+      (all_enums_in_order (front ++ split.front) split.back (with_file d s) ss fs further longer split.each_back are.1 free.1 (and_right inside later shallow)
       ∙ ap (λ n. places_from n (length (later_enums ss))) more)
       ∙ (from_joined (length d.enums) (length found) (length (later_enums ss)) ∙ ap (places_from (length d.enums)) (sym both))
 
@@ -320,15 +317,15 @@ enums_declared d (s ∷ ss) =
     omega (arith, rest, more, both)
 
 -- enums of source files come scope by scope, where message types are nested no deeper than that
-pub enums_in_order : (depth : ℕ) (sources : List Source) (parts : Parts) → ArePartsOf sources parts → IsSound parts → length parts.enums.items ≤ 2 ^ 32
+pub enums_in_order : (depth : ℕ) (sources : List Source) (parts : Parts) → ArePartsOf sources parts → IsSound parts
     → list_all (λ (f : File). nest_within depth parts.types.items f.types.items) parts.files.items ≡ true
     → flat_map (in_scopes depth parts.types.items) parts.files.items ≡ places_from 0 (length parts.enums.items)
-enums_in_order depth sources parts are sound few_enums shallow =
+enums_in_order depth sources parts are sound shallow =
     let few = sound.few_types in
     let many : length parts.enums.items ≡ length (with_files nothing sources).enums = sym (length-map parts.enums.items enumeration) ∙ ap length are.enums in
     let counted : length (with_files nothing sources).enums ≡ 0 + length (later_enums sources) = enums_declared nothing sources in
     all_enums_in_order depth parts.types.items (omega (arith, few)) (types_distinct parts sound) [] parts.types.items nothing sources parts.files.items refl refl
     (subst (λ ts. EachIs IsTypeOf ts parts.types.items) (types_declared nothing sources) are.types)
     (subst (λ ws. EachIs IsFileOf ws parts.files.items) (files_declared nothing sources) are.files)
-    (uncalled parts parts.files.items sound.packages) shallow (omega (arith, few_enums, many, counted))
+    (uncalled parts parts.files.items sound.packages) shallow
     ∙ ap (places_from 0) (omega (arith, many, counted))

@@ -23,7 +23,7 @@ use Rattle.pg_check.specs.parts.MadeFiles.{MadeImport, file_import, import_in, m
 use Rattle.pg_check.specs.parts.MadeParts.{Declared, EachIs, FileShape, IsFileOf, Source, file_shape, nothing, with_file, with_files}
 use Rattle.pg_check.specs.rules.Outline.{statements_behind}
 use Rattle.pg_check.specs.parts.Sources.{linked_source, linked_sources}
-use Rattle.pg_check.specs.standing.Imports.{AreBehind, file_name, imports_apart}
+use Rattle.pg_schema.specs.standing.Imports.{AreBehind, file_name, imports_apart}
 use Rattle.pg_syntax.specs.declared.tree as tree
 use Rattle.pg_syntax.specs.declared.tree.Statement.TheVariants as statements
 use Rattle.pg_check.proofs.lemmas.standing.UniqueNames.{neither}

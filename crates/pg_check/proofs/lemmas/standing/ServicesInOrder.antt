@@ -1,15 +1,13 @@
 -- The services of source files come in order of declaration, file after file.
-use Rattle.std.proofs.Common.{◌≡◌, ◌∙◌, ℕ, suc, ◌+◌, ◌^◌, ◌≤◌, List, [], ◌∷◌, ◌++◌, flat_map, length, refl, sym, ap, ap₂, arith}
+use Rattle.std.proofs.Common.{◌≡◌, ◌∙◌, ℕ, suc, ◌+◌, List, [], ◌∷◌, ◌++◌, flat_map, length, refl, sym, ap, ap₂, arith}
 use Rattle.std.proofs.lemmas.Grind.{flat_map-append}
 use Rattle.std.proofs.lemmas.List.{append-nil, length-map}
 use Rattle.pg_schema.specs.declared.parts.file.File.{File}
 use Rattle.pg_schema.specs.declared.parts.Parts.{Parts}
 use Rattle.pg_schema.specs.rules.Scopes.{declared_services, service_places}
-use Rattle.pg_check.specs.parts.MadeNumbers.{index_of}
 use Rattle.pg_check.specs.parts.MadeParts.{ArePartsOf, Declared, EachIs, FileShape, IsFileOf, Source, file_services, file_shape, nothing, with_file, with_files}
 use Rattle.pg_check.specs.parts.MadeServices.{MadeService, service, service_ids}
-use Rattle.pg_check.specs.standing.Places.{places_from}
-use Rattle.pg_check.proofs.lemmas.standing.TreePlaces.{index_is}
+use Rattle.pg_schema.specs.standing.Places.{places_from}
 
 -- ---- indexes of services
 
@@ -21,13 +19,13 @@ numbered_joined : (before : ℕ) (xs ys : List MadeService) → numbered before 
 numbered_joined before [] ys = let none : before ≡ before + 0 = omega arith in ap (λ n. numbered n ys) none
 numbered_joined before (x ∷ xs) ys =
     let next : (before + 1) + length xs ≡ before + length (x ∷ xs) = omega arith in
-    ap (λ ns. index_of before ∷ ns) (numbered_joined (before + 1) xs ys ∙ ap (λ n. numbered (before + 1) xs ++ numbered n ys) next)
+    ap (λ ns. before ∷ ns) (numbered_joined (before + 1) xs ys ∙ ap (λ n. numbered (before + 1) xs ++ numbered n ys) next)
 
-in_order : (before : ℕ) (ss : List MadeService) → before + length ss ≤ 2 ^ 32 → numbered before ss ≡ places_from before (length ss)
-in_order before [] few = refl
-in_order before (s ∷ ss) few =
+in_order : (before : ℕ) (ss : List MadeService) → numbered before ss ≡ places_from before (length ss)
+in_order before [] = refl
+in_order before (s ∷ ss) =
     let next : before + 1 ≡ suc before = omega arith in
-    ap₂ (λ n ns. n ∷ ns) (index_is before (omega (arith, few))) (ap (λ n. numbered n ss) next ∙ in_order (suc before) ss (omega (arith, few)))
+    ap (λ ns. before ∷ ns) (ap (λ n. numbered n ss) next ∙ in_order (suc before) ss)
 
 -- ---- file after file
 
@@ -57,11 +55,11 @@ files_places (w ∷ ws) [] each = absurd each
 files_places (w ∷ ws) (f ∷ fs) each = ap₂ (λ xs ys. xs ++ ys) (ap service_places each.0.services) (files_places ws fs each.1)
 
 -- services of linked files are in order
-pub services_in_order : (sources : List Source) (parts : Parts) → ArePartsOf sources parts → length parts.services.items ≤ 2 ^ 32
+pub services_in_order : (sources : List Source) (parts : Parts) → ArePartsOf sources parts
     → declared_services parts.files.items ≡ places_from 0 (length parts.services.items)
-services_in_order sources parts are few =
+services_in_order sources parts are =
     let all = (with_files nothing sources).services in
     let places : declared_services parts.files.items ≡ numbered 0 all =
     files_places (with_files nothing sources).files parts.files.items are.files ∙ all_numbered nothing sources refl in
     let many : length parts.services.items ≡ length all = sym (length-map parts.services.items service) ∙ ap length are.services in
-    places ∙ (in_order 0 all (omega (arith, few, many)) ∙ ap (places_from 0) (sym many))
+    places ∙ (in_order 0 all ∙ ap (places_from 0) (sym many))

@@ -7,11 +7,9 @@ use Rattle.pg_schema.specs.rules.Sound.{IsSound}
 use Rattle.pg_link.specs.Linked.{IsLinkedUp, LinkedFiles}
 use Rattle.pg_check.specs.Declares.{Declares}
 use Rattle.pg_check.specs.parts.Sources.{linked_sources}
-use Rattle.pg_check.specs.standing.Nesting.{nest_within}
-use Rattle.pg_check.specs.standing.Places.{most_deep}
-use Rattle.pg_check.specs.standing.StandingParts.{StandingParts}
-use Rattle.pg_check.proofs.lemmas.parts.CountableParts.{countable}
-use Rattle.pg_check.proofs.lemmas.parts.places.PlacedParts.{IsCountable}
+use Rattle.pg_schema.specs.standing.Nesting.{nest_within}
+use Rattle.pg_schema.specs.standing.Places.{most_deep}
+use Rattle.pg_schema.specs.standing.StandingParts.{StandingParts}
 use Rattle.pg_check.proofs.lemmas.parts.SoundParts.{linked_sound}
 use Rattle.pg_check.proofs.lemmas.standing.Depths.{nested_within}
 use Rattle.pg_check.proofs.lemmas.standing.EnumsInOrder.{enums_in_order}
@@ -24,7 +22,6 @@ standing_parts linked parts up h =
     let sources = linked_sources linked.files in
     let are = h.has_parts in
     let sound : IsSound parts = linked_sound linked parts up h in
-    let few : IsCountable parts = countable linked parts up are in
     let nest : list_all (λ (f : File). nest_within most_deep parts.types.items f.types.items) parts.files.items ≡ true =
     nested_within most_deep (omega arith) linked parts up h sound.few_types in
     record {
@@ -33,7 +30,7 @@ standing_parts linked parts up h =
       shallow = nested_within 64 (omega arith) linked parts up h sound.few_types;
       places = record {
         types = types_in_order most_deep sources parts are sound nest;
-        enums = enums_in_order most_deep sources parts are sound few.enums nest;
-        services = services_in_order sources parts are few.services;
+        enums = enums_in_order most_deep sources parts are sound nest;
+        services = services_in_order sources parts are;
       };
     }

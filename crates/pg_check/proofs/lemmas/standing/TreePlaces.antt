@@ -1,5 +1,5 @@
 -- Indexes of message types as trees: those of a scope are the roots of its trees, and a walk from them comes to one after the other.
-use Rattle.std.proofs.Common.{◌≡◌, ◌∙◌, ◌⊎◌, inl, inr, ℕ, suc, ◌+◌, ◌^◌, ◌<◌, ◌≤◌, Bool, true, false, cond, nat_lt, List, [], ◌∷◌, ◌++◌, map, length, refl, sym, ap, ap₂, subst, arith, length-append}
+use Rattle.std.proofs.Common.{◌≡◌, ◌∙◌, ◌⊎◌, inl, inr, ℕ, suc, ◌+◌, ◌^◌, ◌<◌, Bool, true, false, cond, nat_lt, List, [], ◌∷◌, ◌++◌, map, length, refl, sym, ap, ap₂, subst, arith}
 use Rattle.std.specs.Bool.{⊤}
 use Rattle.std.specs.List.{filter}
 use Rattle.std.specs.Str.{bytes_eq}
@@ -41,9 +41,9 @@ cond_joined true k xs ys = refl
 cond_joined false k xs ys = refl
 
 first_place : (scope : List ℕ) (k : ℕ) (m : Message) (ms : List Message)
-    → places_of scope k (m ∷ ms) ≡ cond (bytes_eq scope m.scope) (index_of k ∷ places_of scope (k + 1) ms) (places_of scope (k + 1) ms)
+    → places_of scope k (m ∷ ms) ≡ cond (bytes_eq scope m.scope) (k ∷ places_of scope (k + 1) ms) (places_of scope (k + 1) ms)
 first_place scope k m ms =
-    one_place (bytes_eq scope m.scope) (record { scope = m.scope; index = index_of k })
+    one_place (bytes_eq scope m.scope) (record { scope = m.scope; index = k })
     (filter (λ (p : Placed). bytes_eq scope p.scope) (placed_from (k + 1) (map message_scope ms)))
 
 places_joined : (scope : List ℕ) (k : ℕ) (xs ys : List Message) → places_of scope k (xs ++ ys) ≡ places_of scope k xs ++ places_of scope (k + length xs) ys
@@ -51,8 +51,8 @@ places_joined scope k [] ys = let none : k ≡ k + 0 = omega arith in ap (λ n. 
 places_joined scope k (x ∷ xs) ys =
     let next : (k + 1) + length xs ≡ k + length (x ∷ xs) = omega arith in
     first_place scope k x (xs ++ ys)
-    ∙ (ap (λ ns. cond (bytes_eq scope x.scope) (index_of k ∷ ns) ns) (places_joined scope (k + 1) xs ys ∙ ap (λ n. places_of scope (k + 1) xs ++ places_of scope n ys) next)
-    ∙ (cond_joined (bytes_eq scope x.scope) (index_of k) (places_of scope (k + 1) xs) (places_of scope (k + length (x ∷ xs)) ys)
+    ∙ (ap (λ ns. cond (bytes_eq scope x.scope) (k ∷ ns) ns) (places_joined scope (k + 1) xs ys ∙ ap (λ n. places_of scope (k + 1) xs ++ places_of scope n ys) next)
+    ∙ (cond_joined (bytes_eq scope x.scope) k (places_of scope (k + 1) xs) (places_of scope (k + length (x ∷ xs)) ys)
     ∙ ap (λ ns. ns ++ places_of scope (k + length (x ∷ xs)) ys) (sym (first_place scope k x xs))))
 
 -- an index of 32 bits is itself
@@ -62,16 +62,14 @@ index_is n less = small n less
     small : (n : ℕ) → n < 2 ^ 32 → cond (nat_lt n (2 ^ 32)) n 0 ≡ n
     small n less = grind (arith, nat_tests)
 
-found_is : (scope : List ℕ) (k : ℕ) (f : Trees) → k + size f ≤ 2 ^ 32 → places_of scope k (flat f) ≡ found scope k f
-found_is scope k Bare few = refl
-found_is scope k (Grown m inside others) few =
-    let long : length (flat inside ++ flat others) ≡ size inside + size others = length-append (flat inside) (flat others) in
+found_is : (scope : List ℕ) (k : ℕ) (f : Trees) → places_of scope k (flat f) ≡ found scope k f
+found_is scope k Bare = refl
+found_is scope k (Grown m inside others) =
     let next : k + 1 ≡ suc k = omega arith in
-    let here : index_of k ≡ k = index_is k (omega (arith, few)) in
     let later : places_of scope (k + 1) (flat inside ++ flat others) ≡ found scope (suc k) inside ++ found scope (suc k + size inside) others =
     ap (λ n. places_of scope n (flat inside ++ flat others)) next ∙ (places_joined scope (suc k) (flat inside) (flat others)
-    ∙ ap₂ (λ xs ys. xs ++ ys) (found_is scope (suc k) inside (omega (arith, few, long))) (found_is scope (suc k + size inside) others (omega (arith, few, long)))) in
-    first_place scope k m (flat inside ++ flat others) ∙ ap₂ (λ n ns. cond (bytes_eq scope m.scope) (n ∷ ns) ns) here later
+    ∙ ap₂ (λ xs ys. xs ++ ys) (found_is scope (suc k) inside) (found_is scope (suc k + size inside) others)) in
+    first_place scope k m (flat inside ++ flat others) ∙ ap (λ ns. cond (bytes_eq scope m.scope) (k ∷ ns) ns) later
 
 -- ---- of names that are there once, those of each scope are its roots
 
@@ -161,10 +159,9 @@ each_found scope k (Grown m inside others) own none once = (
 
 -- ---- the indexes that are looked up by scope
 
-pub roots_held : (scope : List ℕ) (k : ℕ) (f : Trees) → IsIn scope f → (Names scope f → ⊥) → k + size f ≤ 2 ^ 32 → places_of scope k (flat f) ≡ roots k f
-roots_held scope k f own none few = found_is scope k f few ∙ roots_found scope k f own none
+pub roots_held : (scope : List ℕ) (k : ℕ) (f : Trees) → IsIn scope f → (Names scope f → ⊥) → places_of scope k (flat f) ≡ roots k f
+roots_held scope k f own none = found_is scope k f ∙ roots_found scope k f own none
 
-pub places_held : (scope : List ℕ) (k : ℕ) (f : Trees) → IsIn scope f → (Names scope f → ⊥) → NamedApart f → k + size f ≤ 2 ^ 32
-    → HoldsOf (λ name places. places_of name k (flat f) ≡ places) k f
-places_held scope k f own none once few =
-    holds_too (λ name places. found name k f ≡ places) (λ name places. places_of name k (flat f) ≡ places) k f (λ name places names is. found_is name k f few ∙ is) (each_found scope k f own none once)
+pub places_held : (scope : List ℕ) (k : ℕ) (f : Trees) → IsIn scope f → (Names scope f → ⊥) → NamedApart f → HoldsOf (λ name places. places_of name k (flat f) ≡ places) k f
+places_held scope k f own none once =
+    holds_too (λ name places. found name k f ≡ places) (λ name places. places_of name k (flat f) ≡ places) k f (λ name places names is. found_is name k f ∙ is) (each_found scope k f own none once)

@@ -14,9 +14,9 @@ use Rattle.pg_link.specs.declared.uses.target.Target.{Target}
 use Rattle.pg_check.specs.parts.ByScope.{Placed}
 use Rattle.pg_check.specs.parts.MadeParts.{ArePartsOf, Declared, EachIs, FileShape, IsFileOf, IsTypeOf, Source, TypeTree, file_shape, nothing, placed_enums, placed_messages, type_tree, type_trees, with_file, with_files}
 use Rattle.pg_check.specs.rules.Outline.{Message, file_messages, package_of}
-use Rattle.pg_check.specs.standing.InOrder.{types_below}
-use Rattle.pg_check.specs.standing.Nesting.{nest_within}
-use Rattle.pg_check.specs.standing.Places.{places_from}
+use Rattle.pg_schema.specs.standing.InOrder.{types_below}
+use Rattle.pg_schema.specs.standing.Nesting.{nest_within}
+use Rattle.pg_schema.specs.standing.Places.{places_from}
 use Rattle.pg_check.proofs.lemmas.parts.Eachs.{each-length}
 use Rattle.pg_check.proofs.lemmas.standing.UniqueNames.{IsUncalled, distinct_left, distinct_right, not_between, type_name, types_distinct, uncalled}
 use Rattle.pg_check.proofs.lemmas.standing.MessageTrees.{file_trees}

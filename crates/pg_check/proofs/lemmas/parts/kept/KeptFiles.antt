@@ -19,7 +19,6 @@ use Rattle.pg_check.proofs.lemmas.parts.Eachs.{each-length, each_all, each_flat,
 use Rattle.pg_check.proofs.lemmas.parts.kept.KeptEnums.{kept_enum}
 use Rattle.pg_check.proofs.lemmas.parts.kept.KeptMessages.{kept_message}
 use Rattle.pg_check.proofs.lemmas.parts.kept.KeptOptions.{kept_options}
-use Rattle.pg_check.proofs.lemmas.parts.places.ScopedEnums.{scoped_all}
 
 -- ---- message types
 
@@ -67,7 +66,7 @@ enums_are d (s ∷ ss) =
 
 all_enums_keep : (ss : List Source) → AllByRecursion FileKeeps ss → AllByRecursion FoundKeeps (flat_map source_enums ss)
 all_enums_keep ss h =
-    each_flat FoundKeeps source_enums ss (each_weaker FileKeeps (λ s. AllByRecursion FoundKeeps (source_enums s)) (λ s k. scoped_all FoundKeeps s.tree k.enums) ss h)
+    each_flat FoundKeeps source_enums ss (each_weaker FileKeeps (λ s. AllByRecursion FoundKeeps (source_enums s)) (λ s k. k.enums) ss h)
 
 kept_enums : (es : List EnumType) (found : List Enum) → map enumeration es ≡ map made_enum found → AllByRecursion FoundKeeps found → AllByRecursion KeptEnum es
 kept_enums = same_all enumeration made_enum FoundKeeps KeptEnum (λ e m is h. kept_enum e m.full m.tree.parts.items is h)

@@ -14,8 +14,8 @@ use Rattle.pg_link.specs.declared.uses.target.Target.{Target}
 use Rattle.pg_check.specs.rules.KeepsRules.{is_no_option, oneof_keeps}
 use Rattle.pg_check.specs.parts.MadeFields.{MadeField, field, made_field, oneof_of}
 use Rattle.pg_check.specs.parts.MadeNumbers.{index_of}
-use Rattle.pg_check.specs.rules.Members.{DeclaredField, members_from, members_in, oneof_members, oneofs_in}
-use Rattle.pg_check.specs.rules.Messages.{has_member, oneof_in, oneofs}
+use Rattle.pg_check.specs.rules.Members.{DeclaredField, members_from, members_in, oneof_in, oneof_members, oneofs_in}
+use Rattle.pg_check.specs.rules.Messages.{has_member, oneofs}
 use Rattle.pg_check.proofs.lemmas.parts.kept.KeptFields.{oneof_count}
 use Rattle.pg_check.proofs.lemmas.rules.NoneLaws.{and_both, and_left, and_right}
 use Rattle.pg_syntax.specs.declared.tree as tree

@@ -12,10 +12,9 @@ use Rattle.pg_schema.specs.rules.DeclaredNames.{entry_name, within}
 use Rattle.pg_schema.specs.rules.Words.{is_word}
 use Rattle.pg_check.specs.rules.Enums as enums
 use Rattle.pg_check.specs.parts.MadeServices.{MadeMethod, MadeService, made_methods, made_service, made_services, service_in}
-use Rattle.pg_check.specs.rules.Outline.{Enum, Message, all_enums, all_messages, dotted_more, enums_in, file_enums, file_messages, full_name, messages_in, package_in, package_of, row_enums, row_list, row_messages, scoped_enums, statement_enums, statement_messages, statements_behind}
+use Rattle.pg_check.specs.rules.Outline.{Enum, Message, all_messages, dotted_more, enum_in, enum_stated, file_messages, full_name, messages_in, own_enums, package_enums, package_in, package_of, row_list, row_messages, scoped_enums, statement_messages, statements_behind}
 use Rattle.pg_check.proofs.lemmas.parts.names.NamedOnce.{weight}
-use Rattle.pg_check.proofs.lemmas.parts.places.ScopedEnums.{scoped_total}
-use Rattle.pg_check.proofs.lemmas.parts.Totals.{total, total_joined}
+use Rattle.pg_check.proofs.lemmas.parts.Totals.{total, total_both, total_flat, total_joined}
 use Rattle.pg_check.proofs.lemmas.parts.names.WordTrees.{IsGood, nodes_good, runs_good}
 use Rattle.pg_check.proofs.lemmas.parts.names.WordedFiles.{IsGoodFile, IsGoodPart, IsGoodStatement}
 use Rattle.pg_syntax.specs.declared.tree as tree
@@ -83,6 +82,10 @@ module _ (f : Text → ℕ) where
 
   abbrev pub of_enum_type : Enum → ℕ
   of_enum_type e = counts e.full + total (inside e.scope) (value_texts e.tree.parts.items)
+
+  -- with the enums that the message type itself declares
+  abbrev of_whole : Message → ℕ
+  of_whole m = of_message_type m + total of_enum_type (own_enums m)
 
   abbrev pub method_counts : List ℕ → MadeMethod → ℕ
   method_counts full m = inside full m.name
@@ -159,13 +162,13 @@ module _ (f : Text → ℕ) where
 
   mutual
     part_is : (scope : List ℕ) (p : Part) (rest : Declarations) → IsGoodPart p
-        → all (names_in (behind_dot scope) (of_part p rest)) ≡ ((total of_message_type (messages_in scope p) + total of_enum_type (enums_in scope p)) + total (inside scope) (part_names p)) + all (names_in (behind_dot scope) rest)
+        → all (names_in (behind_dot scope) (of_part p rest)) ≡ ((total of_whole (messages_in scope p) + total of_enum_type (enum_in scope p)) + total (inside scope) (part_names p)) + all (names_in (behind_dot scope) rest)
     part_is scope (parts.Empty span) rest h = omega arith
     part_is scope (parts.Message' name shape row span) rest h =
         let full = full_name scope name in
         let inner = names_in (linked_within (behind_dot scope) (string_bytes name.text)) (of_row row) in
         let of_name : f (linked_within (behind_dot scope) (string_bytes name.text)) ≡ counts full = name_is scope (string_bytes name.text) in
-        let of_inner : all inner ≡ (total of_message_type (row_messages full row) + total of_enum_type (row_enums full row)) + total (inside full) (flat_map part_names (row_list row)) =
+        let of_inner : all inner ≡ (total of_whole (row_messages full row) + total of_enum_type (flat_map (enum_in full) (row_list row))) + total (inside full) (flat_map part_names (row_list row)) =
         ap (λ t. all (names_in t (of_row row))) (scope_is scope (string_bytes name.text) h.1.0) ∙ row_is full row h.1.1.1.0 in
         let both : all (inner ++ names_in (behind_dot scope) rest) ≡ all inner + all (names_in (behind_dot scope) rest) = total_joined (weight f) inner (names_in (behind_dot scope) rest) in
         omega (arith, of_name, of_inner, both)
@@ -182,30 +185,30 @@ module _ (f : Text → ℕ) where
         omega (arith, name)
 
     row_is : {n : _} (scope : List ℕ) (row : Row_of-Part n) → IsGood (view.row (view.part_nodes row))
-        → all (names_in (behind_dot scope) (of_row row)) ≡ (total of_message_type (row_messages scope row) + total of_enum_type (row_enums scope row)) + total (inside scope) (flat_map part_names (row_list row))
+        → all (names_in (behind_dot scope) (of_row row)) ≡ (total of_whole (row_messages scope row) + total of_enum_type (flat_map (enum_in scope) (row_list row))) + total (inside scope) (flat_map part_names (row_list row))
     row_is scope end_of-Part h = refl
     row_is scope (more_of-Part p rest) h =
         let good = nodes_good (view.part p) (view.part_nodes rest) h in
         let one = part_is scope p (of_row rest) good.0 in
         let others = row_is scope rest good.1 in
-        let messages : total of_message_type (messages_in scope p ++ row_messages scope rest) ≡ total of_message_type (messages_in scope p) + total of_message_type (row_messages scope rest) = total_joined of_message_type (messages_in scope p) (row_messages scope rest) in
-        let enum_types : total of_enum_type (enums_in scope p ++ row_enums scope rest) ≡ total of_enum_type (enums_in scope p) + total of_enum_type (row_enums scope rest) = total_joined of_enum_type (enums_in scope p) (row_enums scope rest) in
+        let messages : total of_whole (messages_in scope p ++ row_messages scope rest) ≡ total of_whole (messages_in scope p) + total of_whole (row_messages scope rest) = total_joined of_whole (messages_in scope p) (row_messages scope rest) in
+        let enum_types : total of_enum_type (enum_in scope p ++ flat_map (enum_in scope) (row_list rest)) ≡ total of_enum_type (enum_in scope p) + total of_enum_type (flat_map (enum_in scope) (row_list rest)) = total_joined of_enum_type (enum_in scope p) (flat_map (enum_in scope) (row_list rest)) in
         let names : total (inside scope) (part_names p ++ flat_map part_names (row_list rest)) ≡ total (inside scope) (part_names p) + total (inside scope) (flat_map part_names (row_list rest)) = total_joined (inside scope) (part_names p) (flat_map part_names (row_list rest)) in
         omega (arith, one, others, messages, enum_types, names)
 
   body_is : (scope : List ℕ) (ps : List Part) → AllByRecursion IsGoodPart ps
-      → all (names_in (behind_dot scope) (all_of of_part ps Done)) ≡ (total of_message_type (flat_map (messages_in scope) ps) + total of_enum_type (flat_map (enums_in scope) ps)) + total (inside scope) (flat_map part_names ps)
+      → all (names_in (behind_dot scope) (all_of of_part ps Done)) ≡ (total of_whole (flat_map (messages_in scope) ps) + total of_enum_type (flat_map (enum_in scope) ps)) + total (inside scope) (flat_map part_names ps)
   body_is scope [] h = refl
   body_is scope (p ∷ ps) h =
       let one = part_is scope p (all_of of_part ps Done) h.0 in
       let others = body_is scope ps h.1 in
-      let messages : total of_message_type (messages_in scope p ++ flat_map (messages_in scope) ps) ≡ total of_message_type (messages_in scope p) + total of_message_type (flat_map (messages_in scope) ps) = total_joined of_message_type (messages_in scope p) (flat_map (messages_in scope) ps) in
-      let enum_types : total of_enum_type (enums_in scope p ++ flat_map (enums_in scope) ps) ≡ total of_enum_type (enums_in scope p) + total of_enum_type (flat_map (enums_in scope) ps) = total_joined of_enum_type (enums_in scope p) (flat_map (enums_in scope) ps) in
+      let messages : total of_whole (messages_in scope p ++ flat_map (messages_in scope) ps) ≡ total of_whole (messages_in scope p) + total of_whole (flat_map (messages_in scope) ps) = total_joined of_whole (messages_in scope p) (flat_map (messages_in scope) ps) in
+      let enum_types : total of_enum_type (enum_in scope p ++ flat_map (enum_in scope) ps) ≡ total of_enum_type (enum_in scope p) + total of_enum_type (flat_map (enum_in scope) ps) = total_joined of_enum_type (enum_in scope p) (flat_map (enum_in scope) ps) in
       let names : total (inside scope) (part_names p ++ flat_map part_names ps) ≡ total (inside scope) (part_names p) + total (inside scope) (flat_map part_names ps) = total_joined (inside scope) (part_names p) (flat_map part_names ps) in
       omega (arith, one, others, messages, enum_types, names)
 
   statement_is : (targets : ℕ → Option Target) (scope : List ℕ) (s : tree.Statement.Statement) (rest : Declarations) → IsGoodStatement s
-      → all (names_in (behind_dot scope) (of_statement s rest)) ≡ ((total of_message_type (statement_messages scope s) + total of_enum_type (statement_enums scope s)) + total of_made_service (service_in targets scope s)) + all (names_in (behind_dot scope) rest)
+      → all (names_in (behind_dot scope) (of_statement s rest)) ≡ ((total of_whole (statement_messages scope s) + total of_enum_type (enum_stated scope s)) + total of_made_service (service_in targets scope s)) + all (names_in (behind_dot scope) rest)
   statement_is targets scope (statements.Empty span) rest h = omega arith
   statement_is targets scope (statements.Import i) rest h = omega arith
   statement_is targets scope (statements.Option o) rest h = omega arith
@@ -213,7 +216,7 @@ module _ (f : Text → ℕ) where
       let full = full_name scope m.name in
       let inner = names_in (linked_within (behind_dot scope) (string_bytes m.name.text)) (all_of of_part m.parts.items Done) in
       let of_name : f (linked_within (behind_dot scope) (string_bytes m.name.text)) ≡ counts full = name_is scope (string_bytes m.name.text) in
-      let of_inner : all inner ≡ (total of_message_type (flat_map (messages_in full) m.parts.items) + total of_enum_type (flat_map (enums_in full) m.parts.items)) + total (inside full) (flat_map part_names m.parts.items) =
+      let of_inner : all inner ≡ (total of_whole (flat_map (messages_in full) m.parts.items) + total of_enum_type (flat_map (enum_in full) m.parts.items)) + total (inside full) (flat_map part_names m.parts.items) =
       ap (λ t. all (names_in t (all_of of_part m.parts.items Done))) (scope_is scope (string_bytes m.name.text) h.1.0) ∙ body_is full m.parts.items (runs_good view.part m.parts.items h.1.1.1.0) in
       let both : all (inner ++ names_in (behind_dot scope) rest) ≡ all inner + all (names_in (behind_dot scope) rest) = total_joined (weight f) inner (names_in (behind_dot scope) rest) in
       omega (arith, of_name, of_inner, both)
@@ -221,13 +224,13 @@ module _ (f : Text → ℕ) where
   statement_is targets scope (statements.Service s) rest h = let one = service_is targets scope s rest h.1.0 in omega (arith, one)
 
   statements_are : (targets : ℕ → Option Target) (scope : List ℕ) (ss : List tree.Statement.Statement) → AllByRecursion IsGoodStatement ss
-      → all (names_in (behind_dot scope) (all_of of_statement ss Done)) ≡ (total of_message_type (all_messages scope ss) + total of_enum_type (all_enums scope ss)) + total of_made_service (made_services targets scope ss)
+      → all (names_in (behind_dot scope) (all_of of_statement ss Done)) ≡ (total of_whole (all_messages scope ss) + total of_enum_type (flat_map (enum_stated scope) ss)) + total of_made_service (made_services targets scope ss)
   statements_are targets scope [] h = refl
   statements_are targets scope (s ∷ ss) h =
       let one = statement_is targets scope s (all_of of_statement ss Done) h.0 in
       let others = statements_are targets scope ss h.1 in
-      let messages : total of_message_type (statement_messages scope s ++ all_messages scope ss) ≡ total of_message_type (statement_messages scope s) + total of_message_type (all_messages scope ss) = total_joined of_message_type (statement_messages scope s) (all_messages scope ss) in
-      let enum_types : total of_enum_type (statement_enums scope s ++ all_enums scope ss) ≡ total of_enum_type (statement_enums scope s) + total of_enum_type (all_enums scope ss) = total_joined of_enum_type (statement_enums scope s) (all_enums scope ss) in
+      let messages : total of_whole (statement_messages scope s ++ all_messages scope ss) ≡ total of_whole (statement_messages scope s) + total of_whole (all_messages scope ss) = total_joined of_whole (statement_messages scope s) (all_messages scope ss) in
+      let enum_types : total of_enum_type (enum_stated scope s ++ flat_map (enum_stated scope) ss) ≡ total of_enum_type (enum_stated scope s) + total of_enum_type (flat_map (enum_stated scope) ss) = total_joined of_enum_type (enum_stated scope s) (flat_map (enum_stated scope) ss) in
       let services : total of_made_service (service_in targets scope s ++ made_services targets scope ss) ≡ total of_made_service (service_in targets scope s) + total of_made_service (made_services targets scope ss) = total_joined of_made_service (service_in targets scope s) (made_services targets scope ss) in
       omega (arith, one, others, messages, enum_types, services)
 
@@ -269,16 +272,20 @@ file_is f targets file good =
     let first = names_in (package_scope words) (all_of of_statement file.statements.items Done) in
     let second = package_names [] words in
     let third = names_in (package_scope words) (all_of of_statement behind Done) in
-    let of_first : total (weight f) first ≡ (total (of_message_type f) (all_messages scope file.statements.items) + total (of_enum_type f) (all_enums scope file.statements.items)) + total (of_made_service f) (made_services targets scope file.statements.items) =
+    let of_first : total (weight f) first ≡ (total (of_whole f) (all_messages scope file.statements.items) + total (of_enum_type f) (flat_map (enum_stated scope) file.statements.items)) + total (of_made_service f) (made_services targets scope file.statements.items) =
     ap (λ t. total (weight f) (names_in t (all_of of_statement file.statements.items Done))) same ∙ statements_are f targets scope file.statements.items good.front in
     let of_second : total (weight f) second ≡ 0 = packages_none f [] words in
-    let of_third : total (weight f) third ≡ (total (of_message_type f) (all_messages scope behind) + total (of_enum_type f) (all_enums scope behind)) + total (of_made_service f) (made_services targets scope behind) =
+    let of_third : total (weight f) third ≡ (total (of_whole f) (all_messages scope behind) + total (of_enum_type f) (flat_map (enum_stated scope) behind)) + total (of_made_service f) (made_services targets scope behind) =
     ap (λ t. total (weight f) (names_in t (all_of of_statement behind Done))) same ∙ statements_are f targets scope behind good.behind in
     let whole : total (weight f) (first ++ (second ++ third)) ≡ total (weight f) first + total (weight f) (second ++ third) = total_joined (weight f) first (second ++ third) in
     let later : total (weight f) (second ++ third) ≡ total (weight f) second + total (weight f) third = total_joined (weight f) second third in
-    let messages : total (of_message_type f) (file_messages file) ≡ total (of_message_type f) (all_messages scope file.statements.items) + total (of_message_type f) (all_messages scope behind) = total_joined (of_message_type f) (all_messages scope file.statements.items) (all_messages scope behind) in
-    let enum_types : total (of_enum_type f) (file_enums file) ≡ total (of_enum_type f) (all_enums scope file.statements.items) + total (of_enum_type f) (all_enums scope behind) = total_joined (of_enum_type f) (all_enums scope file.statements.items) (all_enums scope behind) in
+    let ms = file_messages file in
+    let messages : total (of_whole f) ms ≡ total (of_whole f) (all_messages scope file.statements.items) + total (of_whole f) (all_messages scope behind) = total_joined (of_whole f) (all_messages scope file.statements.items) (all_messages scope behind) in
+    let inner : total (of_whole f) ms ≡ total (of_message_type f) ms + total (of_enum_type f) (flat_map own_enums ms) =
+    total_both (of_message_type f) (λ (m : Message). total (of_enum_type f) (own_enums m)) ms ∙ ap (λ n. total (of_message_type f) ms + n) (sym (total_flat (of_enum_type f) own_enums ms)) in
+    let stated : total (of_enum_type f) (package_enums file) ≡ total (of_enum_type f) (flat_map (enum_stated scope) file.statements.items) + total (of_enum_type f) (flat_map (enum_stated scope) behind) =
+    total_joined (of_enum_type f) (flat_map (enum_stated scope) file.statements.items) (flat_map (enum_stated scope) behind) in
+    let enum_types : total (of_enum_type f) (scoped_enums file) ≡ total (of_enum_type f) (package_enums file) + total (of_enum_type f) (flat_map own_enums ms) = total_joined (of_enum_type f) (package_enums file) (flat_map own_enums ms) in
     let services : total (of_made_service f) (made_services targets scope file.statements.items ++ made_services targets scope behind) ≡ total (of_made_service f) (made_services targets scope file.statements.items) + total (of_made_service f) (made_services targets scope behind) =
     total_joined (of_made_service f) (made_services targets scope file.statements.items) (made_services targets scope behind) in
-    let moved : total (of_enum_type f) (scoped_enums file) ≡ total (of_enum_type f) (file_enums file) = scoped_total (of_enum_type f) file in
-    omega (arith, of_first, of_second, of_third, whole, later, messages, enum_types, moved, services)
+    omega (arith, of_first, of_second, of_third, whole, later, messages, inner, stated, enum_types, services)

@@ -1,5 +1,5 @@
 -- No full name of the parts of linked files is a part of a package.
-use Rattle.std.proofs.Common.{◌≡◌, ◌∙◌, ℕ, ◌+◌, ◌^◌, ◌≤◌, Bool, true, false, not, ◌&&◌, List, [], ◌∷◌, ◌++◌, length, map, flat_map, Option, Some, None, string_bytes, sym, ap, subst, refl, arith}
+use Rattle.std.proofs.Common.{◌≡◌, ◌∙◌, ℕ, ◌+◌, ◌≤◌, Bool, true, false, not, ◌&&◌, List, [], ◌∷◌, ◌++◌, length, map, flat_map, Option, Some, None, string_bytes, sym, ap, subst, refl, arith}
 use Rattle.std.specs.List.{list_all, AllByRecursion}
 use Rattle.std.proofs.lemmas.Bool.{false≢true}
 use Rattle.pg_schema.specs.declared.parts.file.File.{File}
@@ -119,13 +119,12 @@ below_all g (e ∷ es) =
           (λ x here. omega (arith, here, both)) es (below_all g es),
     )
 
-module _ (l : LinkedFiles) (up : IsLinkedUp l) (parts : Parts) (are : ArePartsOf (linked_sources l.files) parts)
-    (few_types : length parts.types.items ≤ 2 ^ 32) (few_enums : length parts.enums.items ≤ 2 ^ 32) (few_services : length parts.services.items ≤ 2 ^ 32) where
+module _ (l : LinkedFiles) (up : IsLinkedUp l) (parts : Parts) (are : ArePartsOf (linked_sources l.files) parts) where
   abbrev counted : (y : List ℕ) → times y (declared_names parts) ≡ total (weight (one (46 ∷ y))) (all_declared l.files)
-  counted = names_counted l up parts are few_types few_enums few_services
+  counted = names_counted l up parts are
 
   empty_nowhere : times [] (declared_names parts) ≡ 0
-  empty_nowhere = counted [] ∙ (names_in_files l up parts are few_types few_enums few_services [] ∙ none_empty (linked_sources l.files) (settled_files l up))
+  empty_nowhere = counted [] ∙ (names_in_files l up parts are [] ∙ none_empty (linked_sources l.files) (settled_files l up))
 
   abbrev BelowAll : Entry → Type 0
   BelowAll e = (y : List ℕ) → total (part (one (46 ∷ y))) (file_names e.1.tree) ≤ total (part (one (46 ∷ y))) (all_declared l.files)

@@ -1,5 +1,5 @@
 -- All full names of the parts of linked files, counted in the files.
-use Rattle.std.proofs.Common.{◌≡◌, ◌∙◌, ℕ, ◌+◌, ◌^◌, ◌≤◌, true, List, [], ◌∷◌, ◌++◌, length, map, flat_map, string_bytes, sym, ap, refl, arith}
+use Rattle.std.proofs.Common.{◌≡◌, ◌∙◌, ℕ, ◌+◌, ◌≤◌, true, List, [], ◌∷◌, ◌++◌, length, map, flat_map, string_bytes, sym, ap, refl, arith}
 use Rattle.std.specs.List.{AllByRecursion}
 use Rattle.std.proofs.lemmas.List.{map-append}
 use Rattle.std.proofs.lemmas.List.Elements.{recursion_from_All}
@@ -29,7 +29,7 @@ use Rattle.pg_check.proofs.lemmas.parts.kept.KeptFiles.{source_enums}
 use Rattle.pg_check.proofs.lemmas.parts.LinkedParts.{distinct_before}
 use Rattle.pg_check.proofs.lemmas.parts.names.NamedOnce.{once_named, weight}
 use Rattle.pg_check.proofs.lemmas.parts.names.PartNames.{enum_values_are, file_is_so, own_counts, own_is, service_is_so, tree_counts, type_is, values_count, values_looked}
-use Rattle.pg_check.proofs.lemmas.parts.places.PartPlaces.{IsSettledSource, each_total, enum_count, enum_names_are, enums_made, enums_summed, file_enum_ids, made_in, nested_enums, scoped_all, scoped_services, services_back, services_made}
+use Rattle.pg_check.proofs.lemmas.parts.places.PartPlaces.{IsSettledSource, each_total, enum_names_are, enums_made, enums_summed, file_enum_ids, made_in, nested_enums, scoped_all, scoped_services, services_back, services_made}
 use Rattle.pg_check.proofs.lemmas.parts.places.Regrouped.{everywhere}
 use Rattle.pg_check.proofs.lemmas.parts.places.ScopesOnce.{NamesOnce, each_file_once, file_scoped}
 use Rattle.pg_check.proofs.lemmas.parts.Totals.{distinct_from_times, one, times, total, total_both, total_flat, total_joined, total_map, total_same}
@@ -83,8 +83,7 @@ module _ (y : List ℕ) where
 
 -- ---- the parts
 
-module _ (l : LinkedFiles) (up : IsLinkedUp l) (parts : Parts) (are : ArePartsOf (linked_sources l.files) parts)
-    (few_types : length parts.types.items ≤ 2 ^ 32) (few_enums : length parts.enums.items ≤ 2 ^ 32) (few_services : length parts.services.items ≤ 2 ^ 32) where
+module _ (l : LinkedFiles) (up : IsLinkedUp l) (parts : Parts) (are : ArePartsOf (linked_sources l.files) parts) where
   abbrev ss : List Source
   ss = linked_sources l.files
 
@@ -115,11 +114,10 @@ module _ (l : LinkedFiles) (up : IsLinkedUp l) (parts : Parts) (are : ArePartsOf
       let f : Text → ℕ = one (46 ∷ y) in
       let of_values = λ (e : Enum). total (inside f e.scope) (value_texts e.tree.parts.items) in
       let own : times y (map (λ (e : EnumType). string_bytes e.name) enums) ≡ total (λ (e : Enum). one y e.full) all_es =
-      ap (times y) (enum_names_are ss parts are settled few_types few_enums few_services) ∙ total_map (one y) (λ (e : Enum). e.full) all_es in
+      ap (times y) (enum_names_are ss parts are settled) ∙ total_map (one y) (λ (e : Enum). e.full) all_es in
       let summed = enums_summed (values_count y enums) ss parts are (scoped_all ss settled) in
-      let few : length all_es ≤ 2 ^ 32 = let long = enum_count ss parts are settled few_types few_enums few_services in omega (arith, long, few_enums) in
       let looked : total (λ (p : Placed). values_count y enums p.scope p.index) (placed_from 0 (map enum_scope all_es)) ≡ total of_values all_es =
-      looked_up enum_scope (values_count y enums) of_values 0 all_es (omega (arith, few)) (values_looked y enums all_es (enums_made ss parts are settled few_types few_enums few_services)) in
+      looked_up enum_scope (values_count y enums) of_values 0 all_es (values_looked y enums all_es (enums_made ss parts are settled)) in
       let both : total (λ (e : Enum). one y e.full + of_values e) all_es ≡ total (λ (e : Enum). one y e.full) all_es + total of_values all_es = total_both (λ (e : Enum). one y e.full) of_values all_es in
       omega (arith, own, summed, looked, both)
 
@@ -127,7 +125,7 @@ module _ (l : LinkedFiles) (up : IsLinkedUp l) (parts : Parts) (are : ArePartsOf
   services_count y =
       total_flat (one y) service_names parts.services.items
       ∙ (total_same _ _ parts.services.items (everywhere _ parts.services.items (service_is_so y))
-      ∙ (sym (total_map (of_made_service (one (46 ∷ y))) service parts.services.items) ∙ ap (total (of_made_service (one (46 ∷ y)))) (services_made ss parts are settled few_types few_enums few_services)))
+      ∙ (sym (total_map (of_made_service (one (46 ∷ y))) service parts.services.items) ∙ ap (total (of_made_service (one (46 ∷ y)))) (services_made ss parts are settled)))
 
   files_count : (y : List ℕ) → times y (flat_map (names.file_names enums) parts.files.items) ≡ total (file_enum_ids (values_count y enums)) parts.files.items
   files_count y = total_flat (one y) (names.file_names enums) parts.files.items ∙ total_same _ _ parts.files.items (everywhere _ parts.files.items (file_is_so y enums))
@@ -170,4 +168,4 @@ module _ (l : LinkedFiles) (up : IsLinkedUp l) (parts : Parts) (are : ArePartsOf
   pub values_once : AllByRecursion HasValuesOnce enums
   values_once =
       same_all enumeration made_enum (λ (e : Enum). are_distinct (value_texts e.tree.parts.items) ≡ true) HasValuesOnce (λ x e is h. ap are_distinct (enum_values_are [] x e is) ∙ h)
-      enums all_es (enums_made ss parts are settled few_types few_enums few_services) (each_few all_es values_few)
+      enums all_es (enums_made ss parts are settled) (each_few all_es values_few)

@@ -8,10 +8,10 @@ use Rattle.pg_schema.specs.rules.DeclaredNames.{within}
 use Rattle.pg_schema.specs.rules.Words.{before_first, is_package, is_word, is_word_byte, parts_at_dots}
 use Rattle.pg_check.specs.parts.MadeMessages.{oneof_in, oneofs}
 use Rattle.pg_check.specs.rules.Members.{DeclaredField, members_from, members_in, name_of, oneof_members, oneofs_in}
-use Rattle.pg_check.specs.rules.Outline.{Enum, Message, all_enums, all_messages, an_enum, dotted, dotted_more, enums_in, file_messages, full_name, messages_in, package_in, package_of, row_enums, row_list, row_messages, scoped_enums, statement_enums, statement_messages, statements_behind}
-use Rattle.pg_check.proofs.lemmas.parts.Eachs.{joined_all}
+use Rattle.pg_check.specs.rules.Outline.{Enum, Message, all_messages, an_enum, dotted, dotted_more, enum_stated, file_messages, full_name, messages_in, own_enums, package_enums, package_in, package_of, row_list, row_messages, scoped_enums, statement_messages, statements_behind}
+use Rattle.pg_check.proofs.lemmas.parts.Eachs.{each_flat, each_weaker, joined_all}
 use Rattle.pg_check.proofs.lemmas.rules.NoneLaws.{and_both, and_left, and_right}
-use Rattle.pg_check.proofs.lemmas.parts.places.ScopedEnums.{scoped_all}
+use Rattle.pg_check.proofs.lemmas.parts.places.ScopedEnums.{own_all, stated_all}
 use Rattle.pg_check.proofs.lemmas.parts.names.WordTrees.{IsGood, IsGoodName, field_name_good, map_name_good, nodes_good, rows_good, runs_good}
 use Rattle.pg_syntax.specs.declared.tree as tree
 use Rattle.pg_syntax.specs.declared.tree.OneofPart.TheVariants as oneof_parts
@@ -142,39 +142,6 @@ pub record IsGoodEnum (e : Enum) : Type 0 where
 enum_good : (scope : List ℕ) (e : tree.Enum.Enum) → IsGood (view.enumeration e) → AllByRecursion IsGoodEnum (an_enum scope e)
 enum_good scope e h = (record { name = h.1.0; is_full = refl; body = runs_good view.enum_part e.parts.items h.1.1.1.0 }, tt)
 
-mutual
-  part_enums_good : (scope : List ℕ) (p : Part) → IsGoodPart p → AllByRecursion IsGoodEnum (enums_in scope p)
-  part_enums_good scope (parts.Empty span) h = tt
-  part_enums_good scope (parts.Message' name shape row span) h = row_enums_good (full_name scope name) row h.1.1.1.0
-  part_enums_good scope (parts.Enum e) h = enum_good scope e h
-  part_enums_good scope (parts.Oneof o) h = tt
-  part_enums_good scope (parts.Option o) h = tt
-  part_enums_good scope (parts.Reserved r) h = tt
-  part_enums_good scope (parts.Map m) h = tt
-  part_enums_good scope (parts.Field f) h = tt
-
-  row_enums_good : {m : _} (scope : List ℕ) (row : Row_of-Part m) → IsGood (view.row (view.part_nodes row)) → AllByRecursion IsGoodEnum (row_enums scope row)
-  row_enums_good scope end_of-Part h = tt
-  row_enums_good scope (more_of-Part p rest) h =
-      let both = nodes_good (view.part p) (view.part_nodes rest) h in
-      joined_all IsGoodEnum (enums_in scope p) (row_enums scope rest) (part_enums_good scope p both.0) (row_enums_good scope rest both.1)
-
-body_enums_good : (scope : List ℕ) (ps : List Part) → AllByRecursion IsGoodPart ps → AllByRecursion IsGoodEnum (flat_map (enums_in scope) ps)
-body_enums_good scope [] h = tt
-body_enums_good scope (p ∷ ps) h = joined_all IsGoodEnum (enums_in scope p) (flat_map (enums_in scope) ps) (part_enums_good scope p h.0) (body_enums_good scope ps h.1)
-
-enums_good : (scope : List ℕ) (s : tree.Statement.Statement) → IsGoodStatement s → AllByRecursion IsGoodEnum (statement_enums scope s)
-enums_good scope (statements.Empty span) h = tt
-enums_good scope (statements.Import i) h = tt
-enums_good scope (statements.Option o) h = tt
-enums_good scope (statements.Message m) h = body_enums_good (full_name scope m.name) m.parts.items (runs_good view.part m.parts.items h.1.1.1.0)
-enums_good scope (statements.Enum e) h = enum_good scope e h
-enums_good scope (statements.Service s) h = tt
-
-all_enums_good : (scope : List ℕ) (ss : List tree.Statement.Statement) → AllByRecursion IsGoodStatement ss → AllByRecursion IsGoodEnum (all_enums scope ss)
-all_enums_good scope [] h = tt
-all_enums_good scope (s ∷ ss) h = joined_all IsGoodEnum (statement_enums scope s) (all_enums scope ss) (enums_good scope s h.0) (all_enums_good scope ss h.1)
-
 -- ---- packages
 
 abbrev are_words : List ℕ → Bool
@@ -269,10 +236,15 @@ good_file file h =
     let front : AllByRecursion IsGoodStatement file.statements.items = runs_good view.statement file.statements.items h.1.1.0 in
     let behind : AllByRecursion IsGoodStatement (statements_behind file.packaged) = behind_good file.packaged h.1.1.1 in
     let scope = package_of file in
+    let messages : AllByRecursion IsGoodMessage (file_messages file) =
+    joined_all IsGoodMessage (all_messages scope file.statements.items) (all_messages scope (statements_behind file.packaged)) (all_messages_good scope file.statements.items front) (all_messages_good scope (statements_behind file.packaged) behind) in
     record {
-      messages = joined_all IsGoodMessage (all_messages scope file.statements.items) (all_messages scope (statements_behind file.packaged)) (all_messages_good scope file.statements.items front) (all_messages_good scope (statements_behind file.packaged) behind);
-      enums = scoped_all IsGoodEnum file
-          (joined_all IsGoodEnum (all_enums scope file.statements.items) (all_enums scope (statements_behind file.packaged)) (all_enums_good scope file.statements.items front) (all_enums_good scope (statements_behind file.packaged) behind));
+      messages = messages;
+      enums = joined_all IsGoodEnum (package_enums file) (flat_map own_enums (file_messages file))
+          (joined_all IsGoodEnum (flat_map (enum_stated scope) file.statements.items) (flat_map (enum_stated scope) (statements_behind file.packaged))
+          (stated_all IsGoodEnum IsGoodStatement scope (enum_good scope) file.statements.items front) (stated_all IsGoodEnum IsGoodStatement scope (enum_good scope) (statements_behind file.packaged) behind))
+          (each_flat IsGoodEnum own_enums (file_messages file)
+          (each_weaker IsGoodMessage (λ (m : Message). AllByRecursion IsGoodEnum (own_enums m)) (λ m k. own_all IsGoodEnum IsGoodPart m.full (enum_good m.full) m.body k.body) (file_messages file) messages));
       front = front;
       behind = behind;
       package_good = h.1.1.1;

@@ -26,7 +26,7 @@ use Rattle.pg_check.specs.parts.MadeEnums.{MadeEnum, enumeration, made_enum}
 use Rattle.pg_check.specs.parts.MadeParts.{ArePartsOf, Declared, EachIs, FileShape, IsFileOf, IsTypeOf, Source, TypeTree, file_services, nothing, placed_enums, placed_messages, type_tree, type_trees, with_file, with_files}
 use Rattle.pg_check.specs.parts.MadeServices.{MadeService, made_services, service}
 use Rattle.pg_check.specs.rules.Outline.{Enum, Message, enum_scope, file_messages, message_scope, package_of, statements_behind}
-use Rattle.pg_check.proofs.lemmas.parts.places.DeclaredPlaces.{all_enum_places, all_service_places, all_types, enums_of_file, enums_of_tree, looked_up, service_scopes, services_of_file, types_of_file, types_of_tree}
+use Rattle.pg_check.proofs.lemmas.parts.places.DeclaredPlaces.{all_enum_places, all_kept, all_service_places, all_types, enums_of_file, enums_of_tree, looked_up, service_scopes, services_of_file, types_of_file, types_of_tree}
 use Rattle.pg_check.proofs.lemmas.parts.Eachs.{each_flat, each_weaker, joined_all}
 use Rattle.pg_check.proofs.lemmas.parts.kept.KeptFiles.{enums_are, source_enums}
 use Rattle.pg_check.proofs.lemmas.rules.NoneLaws.{and_both}
@@ -83,13 +83,15 @@ module _ (h : List ℕ → ℕ → ℕ) where
     abbrev es : List Enum
     es = flat_map source_enums ss
 
-    pub types_summed : total file_types parts.files.items + total nested_types parts.types.items ≡ total (λ (p : Placed). h p.scope p.index) (placed_from 0 (map message_scope ms))
-    types_summed =
+    pub types_summed : length ms ≤ 2 ^ 32 → total file_types parts.files.items + total nested_types parts.types.items ≡ total (λ (p : Placed). h p.scope p.index) (placed_from 0 (map message_scope ms))
+    types_summed few =
         let d = with_files nothing ss in
         let files : total file_types parts.files.items ≡ total (types_of_file h) d.files = each_total IsFileOf file_types (types_of_file h) d.files parts.files.items are.files file_types_are in
         let types : total nested_types parts.types.items ≡ total (types_of_tree h) d.types = each_total IsTypeOf nested_types (types_of_tree h) d.types parts.types.items are.types nested_types_are in
         let all = all_types h nothing ss scoped in
-        omega (arith, files, types, all)
+        let long : length (map message_scope ms) ≡ length ms = length-map ms message_scope in
+        let same = all_kept h 0 (map message_scope ms) (omega (arith, few, long)) in
+        omega (arith, files, types, all, same)
 
     pub enums_summed : total file_enum_ids parts.files.items + total nested_enums parts.types.items ≡ total (λ (p : Placed). h p.scope p.index) (placed_from 0 (map enum_scope es))
     enums_summed =
@@ -267,14 +269,14 @@ services_are d (s ∷ ss) =
 
 -- indexes that files and message types declare come to as many numbers, from 0 on
 places_come : {I : Type 0} (index : I → ℕ) (in_file : File → List I) (in_type : MessageType → List I) (files : List File) (types : List MessageType) (g : ℕ → ℕ)
-    (scopes : List (List ℕ)) (count : ℕ) → length scopes ≡ count → count ≤ 2 ^ 32
+    (scopes : List (List ℕ)) (count : ℕ) → length scopes ≡ count
     → total (λ (f : File). total (λ id. g (index id)) (in_file f)) files + total (λ (t : MessageType). total (λ id. g (index id)) (in_type t)) types
     ≡ total (λ (p : Placed). g p.index) (placed_from 0 scopes)
     → total g (flat_map (λ (f : File). map index (in_file f)) files ++ flat_map (λ (t : MessageType). map index (in_type t)) types) ≡ total g (count_from 0 count)
-places_come {I} index in_file in_type files types g scopes count long few summed =
+places_come {I} index in_file in_type files types g scopes count long summed =
     total_joined g (flat_map (λ (f : File). map index (in_file f)) files) (flat_map (λ (t : MessageType). map index (in_type t)) types)
     ∙ (ap₂ (λ m n. m + n) (each in_file files) (each in_type types)
-    ∙ (summed ∙ (placed_total g 0 scopes (omega (arith, long, few)) ∙ ap (λ n. total g (count_from 0 n)) long)))
+    ∙ (summed ∙ (placed_total g 0 scopes ∙ ap (λ n. total g (count_from 0 n)) long)))
   where
     each : {X : Type 0} (ids : X → List I) (xs : List X) → total g (flat_map (λ x. map index (ids x)) xs) ≡ total (λ x. total (λ id. g (index id)) (ids x)) xs
     each ids [] = refl
@@ -286,14 +288,13 @@ name_fails name ts scope i = as_one (not (is_named_in scope (option_map name (sl
 
 -- no index does, where each has the name of what is declared
 none_fails : {A X : Type 0} (name : A → List ℕ) (full scope : X → List ℕ) (ts : List A) (xs : List X) → map name ts ≡ map full xs
-    → AllByRecursion (λ x. IsUnder (scope x) (full x)) xs → length xs ≤ 2 ^ 32 → total (λ (p : Placed). name_fails name ts p.scope p.index) (placed_from 0 (map scope xs)) ≡ 0
-none_fails {A} {X} name full scope ts xs same under few =
-    looked_up scope (name_fails name ts) (λ (x : X). 0) 0 xs (omega (arith, few)) (λ i x at.
+    → AllByRecursion (λ x. IsUnder (scope x) (full x)) xs → total (λ (p : Placed). name_fails name ts p.scope p.index) (placed_from 0 (map scope xs)) ≡ 0
+none_fails {A} {X} name full scope ts xs same under =
+    looked_up scope (name_fails name ts) (λ (x : X). 0) 0 xs (λ i x at.
     ap (λ b. as_one (not b)) (named_under (scope x) (full x) (option_map name (slice_get ts (0 + i))) (at_place name full ts xs same i x at)
     (all_at (λ y. IsUnder (scope y) (full y)) xs under i x at))) ∙ total_none xs
 
-module _ (ss : List Source) (parts : Parts) (are : ArePartsOf ss parts) (settled : AllByRecursion IsSettledSource ss)
-    (few_types : length parts.types.items ≤ 2 ^ 32) (few_enums : length parts.enums.items ≤ 2 ^ 32) (few_services : length parts.services.items ≤ 2 ^ 32) where
+module _ (ss : List Source) (parts : Parts) (are : ArePartsOf ss parts) (settled : AllByRecursion IsSettledSource ss) where
   abbrev types : List MessageType
   types = parts.types.items
 
@@ -338,15 +339,18 @@ module _ (ss : List Source) (parts : Parts) (are : ArePartsOf ss parts) (settled
 
   -- indexes
 
-  types_placed : (g : ℕ → ℕ) → total g (declared_types parts.files.items types) ≡ total g (count_from 0 (length types))
-  types_placed g =
+  few_messages : length types ≤ 2 ^ 32 → length all_ms ≤ 2 ^ 32
+  few_messages few = let long = type_count in omega (arith, long, few)
+
+  types_placed : length types ≤ 2 ^ 32 → (g : ℕ → ℕ) → total g (declared_types parts.files.items types) ≡ total g (count_from 0 (length types))
+  types_placed few g =
       places_come (λ (id : TypeId). id.index) (λ f. f.types.items) (λ t. t.nested_types.items) parts.files.items types g (map message_scope all_ms) (length types)
-      (length-map all_ms message_scope ∙ sym type_count) few_types (types_summed (λ s. g) ss parts are scoped)
+      (length-map all_ms message_scope ∙ sym type_count) (types_summed (λ s. g) ss parts are scoped (few_messages few))
 
   enums_placed : (g : ℕ → ℕ) → total g (declared_enums parts.files.items types) ≡ total g (count_from 0 (length enums))
   enums_placed g =
       places_come (λ (id : EnumId). id.index) (λ f. f.enums.items) (λ t. t.nested_enums.items) parts.files.items types g (map enum_scope all_es) (length enums)
-      (length-map all_es enum_scope ∙ sym enum_count) few_enums (enums_summed (λ s. g) ss parts are scoped)
+      (length-map all_es enum_scope ∙ sym enum_count) (enums_summed (λ s. g) ss parts are scoped)
 
   service_scope_count : length (flat_map service_scopes ss) ≡ length parts.services.items
   service_scope_count = ap length (service_scopes_are ss) ∙ (length-map all_xs service_scope ∙ sym service_count)
@@ -357,11 +361,11 @@ module _ (ss : List Source) (parts : Parts) (are : ArePartsOf ss parts) (settled
       services_summed (λ s. g) ss parts are scoped in
       ap (total g) (sym (append-nil (declared_services parts.files.items)))
       ∙ places_come (λ (id : ServiceId). id.index) (λ f. f.services.items) (λ t. []) parts.files.items [] g (flat_map service_scopes ss) (length parts.services.items)
-      service_scope_count few_services (omega (arith, summed))
+      service_scope_count (omega (arith, summed))
 
-  pub declared_once : are_declared_once parts.files.items types (length enums) (length parts.services.items) ≡ true
-  declared_once =
-      let of_types : are_each_once (length types) (declared_types parts.files.items types) ≡ true = each_once (length types) (declared_types parts.files.items types) types_placed in
+  pub declared_once : length types ≤ 2 ^ 32 → are_declared_once parts.files.items types (length enums) (length parts.services.items) ≡ true
+  declared_once few =
+      let of_types : are_each_once (length types) (declared_types parts.files.items types) ≡ true = each_once (length types) (declared_types parts.files.items types) (types_placed few) in
       let of_enums : are_each_once (length enums) (declared_enums parts.files.items types) ≡ true = each_once (length enums) (declared_enums parts.files.items types) enums_placed in
       let of_services : are_each_once (length parts.services.items) (declared_services parts.files.items) ≡ true = each_once (length parts.services.items) (declared_services parts.files.items) services_placed in
       and_both (are_each_once (length types) (declared_types parts.files.items types) && are_each_once (length enums) (declared_enums parts.files.items types)) (are_each_once (length parts.services.items) (declared_services parts.files.items))
@@ -369,10 +373,10 @@ module _ (ss : List Source) (parts : Parts) (are : ArePartsOf ss parts) (settled
 
   -- scopes
 
-  no_type_fails : total (file_types (name_fails type_named types)) parts.files.items + total (nested_types (name_fails type_named types)) types ≡ 0
-  no_type_fails =
-      types_summed (name_fails type_named types) ss parts are scoped
-      ∙ none_fails type_named full_of message_scope types all_ms (type_names_are ss parts are) (all_messages_under ss settled) (let long = type_count in omega (arith, long, few_types))
+  no_type_fails : length types ≤ 2 ^ 32 → total (file_types (name_fails type_named types)) parts.files.items + total (nested_types (name_fails type_named types)) types ≡ 0
+  no_type_fails few =
+      types_summed (name_fails type_named types) ss parts are scoped (few_messages few)
+      ∙ none_fails type_named full_of message_scope types all_ms (type_names_are ss parts are) (all_messages_under ss settled)
 
   pub enum_names_are : map enum_named enums ≡ map (λ (e : Enum). e.full) all_es
   enum_names_are =
@@ -381,7 +385,7 @@ module _ (ss : List Source) (parts : Parts) (are : ArePartsOf ss parts) (settled
   no_enum_fails : total (file_enum_ids (name_fails enum_named enums)) parts.files.items + total (nested_enums (name_fails enum_named enums)) types ≡ 0
   no_enum_fails =
       enums_summed (name_fails enum_named enums) ss parts are scoped
-      ∙ none_fails enum_named (λ (e : Enum). e.full) enum_scope enums all_es enum_names_are (all_enums_under ss settled) (let long = enum_count in omega (arith, long, few_enums))
+      ∙ none_fails enum_named (λ (e : Enum). e.full) enum_scope enums all_es enum_names_are (all_enums_under ss settled)
 
   service_names_are : map service_named parts.services.items ≡ map (λ (s : List ℕ × MadeService). s.1.name) all_xs
   service_names_are =
@@ -392,20 +396,19 @@ module _ (ss : List Source) (parts : Parts) (are : ArePartsOf ss parts) (settled
       let fails = name_fails service_named parts.services.items in
       services_summed fails ss parts are scoped
       ∙ (ap (λ xs. total (λ (p : Placed). fails p.scope p.index) (placed_from 0 xs)) (service_scopes_are ss)
-      ∙ none_fails service_named (λ (s : List ℕ × MadeService). s.1.name) service_scope parts.services.items all_xs service_names_are (all_services_under ss settled)
-      (let long = service_count in omega (arith, long, few_services)))
+      ∙ none_fails service_named (λ (s : List ℕ × MadeService). s.1.name) service_scope parts.services.items all_xs service_names_are (all_services_under ss settled))
 
-  pub type_scopes : list_all (is_type_scope types enums) types ≡ true
-  type_scopes =
-      let in_types = no_type_fails in
+  pub type_scopes : length types ≤ 2 ^ 32 → list_all (is_type_scope types enums) types ≡ true
+  type_scopes few =
+      let in_types = no_type_fails few in
       let in_enums = no_enum_fails in
       both_pass (λ (t : MessageType). are_types_in types (string_bytes t.name) t.nested_types.items) (λ (t : MessageType). are_enums_in enums (string_bytes t.name) t.nested_enums.items) types
       (all_pass_in (λ (t : MessageType) (id : TypeId). is_named_in (string_bytes t.name) (type_name types id)) (λ (t : MessageType). t.nested_types.items) types (omega (arith, in_types)))
       (all_pass_in (λ (t : MessageType) (id : EnumId). is_named_in (string_bytes t.name) (enum_name enums id)) (λ (t : MessageType). t.nested_enums.items) types (omega (arith, in_enums)))
 
-  pub file_scopes : list_all (is_file_scope types enums parts.services.items) parts.files.items ≡ true
-  file_scopes =
-      let in_types = no_type_fails in
+  pub file_scopes : length types ≤ 2 ^ 32 → list_all (is_file_scope types enums parts.services.items) parts.files.items ≡ true
+  file_scopes few =
+      let in_types = no_type_fails few in
       let in_enums = no_enum_fails in
       let in_services = no_service_fails in
       both_pass (λ (f : File). are_types_in types (string_bytes f.package) f.types.items && are_enums_in enums (string_bytes f.package) f.enums.items) (λ (f : File). are_services_in parts.services.items (string_bytes f.package) f.services.items) parts.files.items

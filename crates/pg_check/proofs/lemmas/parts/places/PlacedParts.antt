@@ -1,5 +1,5 @@
 -- Of a schema's facts, where its files are linked and keep to the rules, those on indexes and full names.
-use Rattle.std.proofs.Common.{◌≡◌, ◌≤◌, ◌^◌, true, length}
+use Rattle.std.proofs.Common.{◌≡◌, true, length}
 use Rattle.std.specs.List.{list_all, AllByRecursion}
 use Rattle.pg_schema.specs.declared.parts.enum_type.EnumType.{EnumType}
 use Rattle.pg_schema.specs.declared.parts.Parts.{Parts}
@@ -19,8 +19,3 @@ pub record PlacedParts (parts : Parts) : Type 0 where
   pub type_scopes : list_all (is_type_scope parts.types.items parts.enums.items) parts.types.items ≡ true
   pub names : are_distinct (declared_names parts) ≡ true
   pub free_packages : are_free_of (declared_names parts) parts.files.items ≡ true
-
--- indexes of 32 bits are enough for the enums and the services
-pub record IsCountable (parts : Parts) : Type 0 where
-  pub enums : length parts.enums.items ≤ 2 ^ 32
-  pub services : length parts.services.items ≤ 2 ^ 32

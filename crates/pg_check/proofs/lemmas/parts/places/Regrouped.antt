@@ -1,12 +1,11 @@
 -- What scopes declare, scope by scope, is what is declared, one by one.
-use Rattle.std.proofs.Common.{◌≡◌, ◌∙◌, ℕ, zero, suc, ◌+◌, ◌^◌, ◌<◌, ◌≤◌, Bool, true, false, cond, not, nat_eq, nat_lt, ◌&&◌, List, [], ◌∷◌, length, map, sym, ap, refl, arith}
+use Rattle.std.proofs.Common.{◌≡◌, ◌∙◌, ℕ, zero, suc, ◌+◌, ◌<◌, ◌≤◌, Bool, true, false, cond, not, nat_eq, nat_lt, ◌&&◌, List, [], ◌∷◌, length, map, sym, ap, refl, arith}
 use Rattle.std.specs.List.{list_all, filter, AllByRecursion}
 use Rattle.std.specs.Str.{bytes_eq}
 use Rattle.std.proofs.lemmas.Bool.Decides.{nat_tests}
 use Rattle.pg_schema.specs.rules.Pairs.{all_pairs}
 use Rattle.pg_schema.specs.rules.Scopes.{are_each_once}
 use Rattle.pg_check.specs.parts.ByScope.{Placed, placed_from, places_in}
-use Rattle.pg_check.specs.parts.MadeNumbers.{index_of}
 use Rattle.pg_check.proofs.lemmas.rules.NoneLaws.{and_both}
 use Rattle.pg_check.proofs.lemmas.parts.Totals.{once_there, times, total, total_same, total_turned}
 
@@ -44,16 +43,9 @@ abbrev pub count_from : ℕ → ℕ → List ℕ
 count_from before zero = []
 count_from before (suc n) = before ∷ count_from (before + 1) n
 
-pub placed_total : (g : ℕ → ℕ) (before : ℕ) (ss : List (List ℕ)) → before + length ss ≤ 2 ^ 32
-    → total (λ (p : Placed). g p.index) (placed_from before ss) ≡ total g (count_from before (length ss))
-placed_total g before [] few = refl
-placed_total g before (s ∷ ss) few =
-    let rest : total (λ (p : Placed). g p.index) (placed_from (before + 1) ss) ≡ total g (count_from (before + 1) (length ss)) = placed_total g (before + 1) ss (omega (arith, few)) in
-    let within : index_of before ≡ before = small before (omega (arith, few)) in
-    ap (λ n. g n + total (λ (p : Placed). g p.index) (placed_from (before + 1) ss)) within ∙ ap (λ n. g before + n) rest
-  where
-    small : (n : ℕ) → n < 2 ^ 32 → cond (nat_lt n (2 ^ 32)) n 0 ≡ n
-    small n h = grind (arith, nat_tests)
+pub placed_total : (g : ℕ → ℕ) (before : ℕ) (ss : List (List ℕ)) → total (λ (p : Placed). g p.index) (placed_from before ss) ≡ total g (count_from before (length ss))
+placed_total g before [] = refl
+placed_total g before (s ∷ ss) = ap (λ n. g before + n) (placed_total g (before + 1) ss)
 
 -- ---- each index once
 

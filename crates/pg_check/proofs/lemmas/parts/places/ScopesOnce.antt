@@ -15,12 +15,13 @@ use Rattle.pg_link.specs.names.Names.{Text, called}
 use Rattle.pg_link.specs.names.Outline.{all_of, file_names, of_statement, package_words, word}
 use Rattle.pg_link.specs.uses.Targets.{all_declared}
 use Rattle.pg_link.specs.walk.Walk.{Entry}
-use Rattle.pg_check.specs.rules.Outline.{Enum, Message, all_enums, all_messages, dotted_more, enums_in, file_enums, file_messages, full_name, messages_in, package_in, package_of, row_enums, row_list, row_messages, scoped_enums, statement_enums, statement_messages, statements_behind}
+use Rattle.pg_check.specs.rules.Outline.{Enum, Message, all_messages, dotted_more, enum_stated, file_messages, full_name, messages_in, own_enums, package_enums, package_in, package_of, row_list, row_messages, scoped_enums, statement_messages, statements_behind}
 use Rattle.pg_check.proofs.lemmas.parts.names.DeclaredTotals.{file_is, more_dotted, of_message_type}
 use Rattle.pg_check.proofs.lemmas.parts.Eachs.{joined_all}
 use Rattle.pg_check.proofs.lemmas.parts.names.NamedOnce.{IsOnce, none_of, part, weight}
 use Rattle.pg_check.proofs.lemmas.rules.NoneLaws.{and_left, and_right}
-use Rattle.pg_check.proofs.lemmas.parts.places.ScopedEnums.{scoped_all}
+use Rattle.pg_check.proofs.lemmas.parts.places.Regrouped.{everywhere}
+use Rattle.pg_check.proofs.lemmas.parts.places.ScopedEnums.{own_all, stated_all}
 use Rattle.pg_check.proofs.lemmas.standing.UniqueNames.{whole_front}
 use Rattle.pg_check.proofs.lemmas.parts.Totals.{as_one, one, one_from, same_one, times, total, total_joined, total_map}
 use Rattle.pg_check.proofs.lemmas.parts.names.WordTrees.{IsGood, rows_good}
@@ -69,58 +70,57 @@ module _ (ss : List (List ℕ)) where
   right_there : (ms ns : List Message) → AllThere (ms ++ ns) → AllThere ns
   right_there ms ns h y = let all : total (full_is y) (ms ++ ns) ≤ times y ss = h y in let both : total (full_is y) (ms ++ ns) ≡ total (full_is y) ms + total (full_is y) ns = total_joined (full_is y) ms ns in omega (arith, all, both)
 
-  -- the scopes of these message types and enums are there
-  abbrev Both : List Message → List Enum → Type 0
-  Both ms es = AllByRecursion MessageThere ms × AllByRecursion EnumThere es
-
-  joined : (ms ns : List Message) (es fs : List Enum) → (AllThere ms → Both ms es) → (AllThere ns → Both ns fs) → AllThere (ms ++ ns) → Both (ms ++ ns) (es ++ fs)
-  joined ms ns es fs front behind h =
-      let left = front (left_there ms ns h) in
-      let right = behind (right_there ms ns h) in
-      (joined_all MessageThere ms ns left.0 right.0, joined_all EnumThere es fs left.1 right.1)
+  joined : (ms ns : List Message) → (AllThere ms → AllByRecursion MessageThere ms) → (AllThere ns → AllByRecursion MessageThere ns) → AllThere (ms ++ ns) → AllByRecursion MessageThere (ms ++ ns)
+  joined ms ns front behind h = joined_all MessageThere ms ns (front (left_there ms ns h)) (behind (right_there ms ns h))
 
   mutual
-    part_there : (scope : List ℕ) (p : Part) → There scope → AllThere (messages_in scope p) → Both (messages_in scope p) (enums_in scope p)
-    part_there scope (parts.Empty span) h k = (tt, tt)
+    part_there : (scope : List ℕ) (p : Part) → There scope → AllThere (messages_in scope p) → AllByRecursion MessageThere (messages_in scope p)
+    part_there scope (parts.Empty span) h k = tt
     part_there scope (parts.Message' name shape row span) h k =
         let full = full_name scope name in
         let m : Message = record { scope = scope; full = full; name = name; body = row_list row } in
-        let inner = row_there full row (first_there m (row_messages full row) k) (others_there m (row_messages full row) k) in
-        ((h, inner.0), inner.1)
-    part_there scope (parts.Enum e) h k = (tt, (h, tt))
-    part_there scope (parts.Oneof o) h k = (tt, tt)
-    part_there scope (parts.Option o) h k = (tt, tt)
-    part_there scope (parts.Reserved r) h k = (tt, tt)
-    part_there scope (parts.Map m) h k = (tt, tt)
-    part_there scope (parts.Field f) h k = (tt, tt)
+        (h, row_there full row (first_there m (row_messages full row) k) (others_there m (row_messages full row) k))
+    part_there scope (parts.Enum e) h k = tt
+    part_there scope (parts.Oneof o) h k = tt
+    part_there scope (parts.Option o) h k = tt
+    part_there scope (parts.Reserved r) h k = tt
+    part_there scope (parts.Map m) h k = tt
+    part_there scope (parts.Field f) h k = tt
 
-    row_there : {n : _} (scope : List ℕ) (row : Row_of-Part n) → There scope → AllThere (row_messages scope row) → Both (row_messages scope row) (row_enums scope row)
-    row_there scope end_of-Part h k = (tt, tt)
-    row_there scope (more_of-Part p rest) h k =
-        joined (messages_in scope p) (row_messages scope rest) (enums_in scope p) (row_enums scope rest) (part_there scope p h) (row_there scope rest h) k
+    row_there : {n : _} (scope : List ℕ) (row : Row_of-Part n) → There scope → AllThere (row_messages scope row) → AllByRecursion MessageThere (row_messages scope row)
+    row_there scope end_of-Part h k = tt
+    row_there scope (more_of-Part p rest) h k = joined (messages_in scope p) (row_messages scope rest) (part_there scope p h) (row_there scope rest h) k
 
-  body_there : (scope : List ℕ) (ps : List Part) → There scope → AllThere (flat_map (messages_in scope) ps) → Both (flat_map (messages_in scope) ps) (flat_map (enums_in scope) ps)
-  body_there scope [] h k = (tt, tt)
-  body_there scope (p ∷ ps) h k =
-      joined (messages_in scope p) (flat_map (messages_in scope) ps) (enums_in scope p) (flat_map (enums_in scope) ps) (part_there scope p h) (body_there scope ps h) k
+  body_there : (scope : List ℕ) (ps : List Part) → There scope → AllThere (flat_map (messages_in scope) ps) → AllByRecursion MessageThere (flat_map (messages_in scope) ps)
+  body_there scope [] h k = tt
+  body_there scope (p ∷ ps) h k = joined (messages_in scope p) (flat_map (messages_in scope) ps) (part_there scope p h) (body_there scope ps h) k
 
-  statement_there : (scope : List ℕ) (s : tree.Statement.Statement) → There scope → AllThere (statement_messages scope s) → Both (statement_messages scope s) (statement_enums scope s)
-  statement_there scope (statements.Empty span) h k = (tt, tt)
-  statement_there scope (statements.Import i) h k = (tt, tt)
-  statement_there scope (statements.Option o) h k = (tt, tt)
+  statement_there : (scope : List ℕ) (s : tree.Statement.Statement) → There scope → AllThere (statement_messages scope s) → AllByRecursion MessageThere (statement_messages scope s)
+  statement_there scope (statements.Empty span) h k = tt
+  statement_there scope (statements.Import i) h k = tt
+  statement_there scope (statements.Option o) h k = tt
   statement_there scope (statements.Message d) h k =
       let full = full_name scope d.name in
       let m : Message = record { scope = scope; full = full; name = d.name; body = d.parts.items } in
       let messages = flat_map (messages_in full) d.parts.items in
-      let inner = body_there full d.parts.items (first_there m messages k) (others_there m messages k) in
-      ((h, inner.0), inner.1)
-  statement_there scope (statements.Enum e) h k = (tt, (h, tt))
-  statement_there scope (statements.Service s) h k = (tt, tt)
+      (h, body_there full d.parts.items (first_there m messages k) (others_there m messages k))
+  statement_there scope (statements.Enum e) h k = tt
+  statement_there scope (statements.Service s) h k = tt
 
-  all_there : (scope : List ℕ) (xs : List tree.Statement.Statement) → There scope → AllThere (all_messages scope xs) → Both (all_messages scope xs) (all_enums scope xs)
-  all_there scope [] h k = (tt, tt)
-  all_there scope (x ∷ xs) h k =
-      joined (statement_messages scope x) (all_messages scope xs) (statement_enums scope x) (all_enums scope xs) (statement_there scope x h) (all_there scope xs h) k
+  all_there : (scope : List ℕ) (xs : List tree.Statement.Statement) → There scope → AllThere (all_messages scope xs) → AllByRecursion MessageThere (all_messages scope xs)
+  all_there scope [] h k = tt
+  all_there scope (x ∷ xs) h k = joined (statement_messages scope x) (all_messages scope xs) (statement_there scope x h) (all_there scope xs h) k
+
+  -- the enums of these message types
+  own_there : (ms : List Message) → AllThere ms → AllByRecursion EnumThere (flat_map own_enums ms)
+  own_there [] h = tt
+  own_there (m ∷ ms) h =
+      let here = first_there m ms h in
+      joined_all EnumThere (own_enums m) (flat_map own_enums ms) (own_all EnumThere (λ p. There m.full) m.full (λ e k. (k, tt)) m.body (everywhere (λ p. There m.full) m.body (λ p. here)))
+      (own_there ms (others_there m ms h))
+
+  stated_there : (scope : List ℕ) (xs : List tree.Statement.Statement) → There scope → AllByRecursion EnumThere (flat_map (enum_stated scope) xs)
+  stated_there scope xs h = stated_all EnumThere (λ x. There scope) scope (λ e k. (k, tt)) xs (everywhere (λ x. There scope) xs (λ x. h))
 
 module _ (file : tree.FileTree.FileTree) where
   abbrev front : List Message
@@ -132,13 +132,23 @@ module _ (file : tree.FileTree.FileTree) where
   package_there : There (scopes_of file) (package_of file)
   package_there = let here : one (package_of file) (package_of file) ≡ 1 = same_one (package_of file) in omega (arith, here)
 
-  both_there : Both (scopes_of file) (file_messages file) (file_enums file)
-  both_there =
+  fulls_there : AllThere (scopes_of file) (file_messages file)
+  fulls_there y = let is : times y (map full_of (file_messages file)) ≡ total (full_is y) (file_messages file) = total_map (one y) full_of (file_messages file) in omega (arith, is)
+
+  messages_there : AllByRecursion (MessageThere (scopes_of file)) (file_messages file)
+  messages_there =
       let scope = package_of file in
       let ss = scopes_of file in
-      joined ss front behind (all_enums scope file.statements.items) (all_enums scope (statements_behind file.packaged))
-      (all_there ss scope file.statements.items package_there) (all_there ss scope (statements_behind file.packaged) package_there)
-      (λ y. let is : times y (map full_of (file_messages file)) ≡ total (full_is y) (file_messages file) = total_map (one y) full_of (file_messages file) in omega (arith, is))
+      joined ss front behind (all_there ss scope file.statements.items package_there) (all_there ss scope (statements_behind file.packaged) package_there) fulls_there
+
+  enums_there : AllByRecursion (EnumThere (scopes_of file)) (scoped_enums file)
+  enums_there =
+      let scope = package_of file in
+      let ss = scopes_of file in
+      joined_all (EnumThere ss) (package_enums file) (flat_map own_enums (file_messages file))
+      (joined_all (EnumThere ss) (flat_map (enum_stated scope) file.statements.items) (flat_map (enum_stated scope) (statements_behind file.packaged))
+      (stated_there ss scope file.statements.items package_there) (stated_there ss scope (statements_behind file.packaged) package_there))
+      (own_there ss (file_messages file) fulls_there)
 
 -- ---- the front of a package is one of its parts
 
@@ -327,6 +337,6 @@ each_is scope_of ss (x ∷ xs) few h = let at_most : times (scope_of x) ss ≤ 1
 
 pub file_scoped : (file : tree.FileTree.FileTree) → IsGoodFile file → NamesOnce (file_names file) → IsScoped file
 file_scoped file good once = record {
-  messages = each_is (λ (m : Message). m.scope) (scopes_of file) (file_messages file) (scopes_few file good once) (both_there file).0;
-  enums = each_is (λ (e : Enum). e.scope) (scopes_of file) (scoped_enums file) (scopes_few file good once) (scoped_all (EnumThere (scopes_of file)) file (both_there file).1);
+  messages = each_is (λ (m : Message). m.scope) (scopes_of file) (file_messages file) (scopes_few file good once) (messages_there file);
+  enums = each_is (λ (e : Enum). e.scope) (scopes_of file) (scoped_enums file) (scopes_few file good once) (enums_there file);
 }

@@ -1,5 +1,5 @@
 -- What a type name of linked files resolves to is what the parts have under its number.
-use Rattle.std.proofs.Common.{◌≡◌, ◌∙◌, ℕ, ◌+◌, ◌^◌, ◌<◌, ◌≤◌, Bool, true, false, cond, not, ◌&&◌, is_some, List, [], ◌∷◌, ◌++◌, length, map, get_or, slice_get, Option, Some, None, option_map, string_bytes, sym, ap, subst, refl, arith}
+use Rattle.std.proofs.Common.{◌≡◌, ◌∙◌, ℕ, ◌^◌, ◌<◌, ◌≤◌, Bool, true, false, cond, not, ◌&&◌, is_some, List, [], ◌∷◌, length, map, get_or, slice_get, Option, Some, None, option_map, string_bytes, sym, ap, subst, refl, arith}
 use Rattle.std.specs.List.{AllByRecursion}
 use Rattle.std.specs.Option.{option_and_then}
 use Rattle.std.specs.Str.{bytes_eq}
@@ -24,7 +24,7 @@ use Rattle.pg_link.specs.uses.Targets.{all_declared, enum_names, message_names, 
 use Rattle.pg_link.specs.uses.Uses.{Use, field_uses, file_uses, in_field, in_rpc, is_scalar, is_scalar_alone}
 use Rattle.pg_link.specs.walk.Walk.{Entry, outlines, path_of}
 use Rattle.pg_check.proofs.lemmas.parts.Numbering.{AreNumbered, declared_messages}
-use Rattle.pg_check.specs.parts.EnumPlaces.{by_scope, declared_names, enum_places, scoped_names}
+use Rattle.pg_check.specs.parts.EnumPlaces.{by_scope, enum_places, scoped_names}
 use Rattle.pg_check.specs.parts.MadeFields.{element_of}
 use Rattle.pg_check.specs.parts.MadeNumbers.{index_of}
 use Rattle.pg_check.specs.parts.MadeServices.{message_at}
@@ -46,32 +46,31 @@ pub record HasNumber (names : List (List ℕ)) (full : Text) (number : ℕ) : Ty
   pub is_dotted : full ≡ 46 ∷ name
   pub is_there : slice_get names number ≡ Some name
 
-has_number : (dotted : List Text) (names : List (List ℕ)) (full : Text) (number : ℕ) → dotted ≡ map dot names → number_in dotted full ≡ Some number → HasNumber names full number
-has_number dotted names full number are at =
-    let place = position-Some (bytes_eq full) dotted number [] at in
-    let same : full ≡ get_or dotted number [] = (bytes_eq-Decides full (get_or dotted number [])).0 place.1 in
-    let there : slice_get dotted number ≡ Some full = slice_get-get_or dotted number [] place.0 ∙ ap (λ t. Some t) (sym same) in
-    by (slice_get names number) refl (sym there ∙ (ap (λ xs. slice_get xs number) are ∙ slice_get-map dot names number))
+behind_dots : (names : List (List ℕ)) (full : Text) (number : ℕ) → slice_get (map dot names) number ≡ Some full → HasNumber names full number
+behind_dots names full number there = by (slice_get names number) refl (sym there ∙ slice_get-map dot names number)
   where
     by : (o : Option (List ℕ)) → slice_get names number ≡ o → Some full ≡ option_map dot o → HasNumber names full number
     by None is none = absurd (cc (none))
     by (Some name) is some = let dotted_is : full ≡ 46 ∷ name = cc (some) in record { name = name; is_dotted = dotted_is; is_there = is }
 
-numbered_as : (make : ℕ → Target) (dotted : List Text) (names : List (List ℕ)) (full : Text) (t : Target) → dotted ≡ map dot names
-    → option_map make (number_in dotted full) ≡ Some t → (n : ℕ) × (make n ≡ t) × HasNumber names full n
-numbered_as make dotted names full t are is = by (number_in dotted full) refl is
+-- the name at the number that a target has
+numbered_as : (make : ℕ → Target) (dotted : List Text) (full : Text) (t : Target) → option_map make (number_in dotted full) ≡ Some t → (n : ℕ) × (make n ≡ t) × (slice_get dotted n ≡ Some full)
+numbered_as make dotted full t is = by (number_in dotted full) refl is
   where
-    by : (o : Option ℕ) → number_in dotted full ≡ o → option_map make o ≡ Some t → (n : ℕ) × (make n ≡ t) × HasNumber names full n
+    by : (o : Option ℕ) → number_in dotted full ≡ o → option_map make o ≡ Some t → (n : ℕ) × (make n ≡ t) × (slice_get dotted n ≡ Some full)
     by None at none = absurd (cc (none))
-    by (Some n) at some = let same : make n ≡ t = cc (some) in (n, same, has_number dotted names full n are at)
+    by (Some n) at some =
+        let same : make n ≡ t = cc (some) in
+        let place = position-Some (bytes_eq full) dotted n [] at in
+        let name : full ≡ get_or dotted n [] = (bytes_eq-Decides full (get_or dotted n [])).0 place.1 in
+        (n, same, slice_get-get_or dotted n [] place.0 ∙ ap (λ t. Some t) (sym name))
 
 -- ---- files and parts that meet
 
--- the names that linking numbers are those of the parts, and there are few of them
+-- the names that linking numbers are those of the parts, and message types are few
 pub record IsMet (files : List Entry) (parts : Parts) : Type 0 where
   pub numbers : AreNumbered files
   pub few_types : length parts.types.items ≤ 2 ^ 32
-  pub few_enums : length parts.enums.items ≤ 2 ^ 32
   pub types_are : map (λ (t : MessageType). string_bytes t.name) parts.types.items ≡ declared_messages files
   pub enums_are : map (λ (e : EnumType). string_bytes e.name) parts.enums.items ≡ scoped_names files
 
@@ -93,16 +92,17 @@ module _ (files : List Entry) (parts : Parts) (met : IsMet files parts) where
   -- the number is that of the full name; where no enum may be it is a message type's
   abbrev pub HasName : Bool → Text → Target → Type 0
   HasName takes full (targets.Message n) = HasNumber (declared_messages files) full n
-  HasName true full (targets.Enum n) = HasNumber (declared_names files) full n
+  HasName true full (targets.Enum n) = HasNumber (scoped_names files) full (get_or (enum_places files) n 0)
   HasName false full (targets.Enum n) = ⊥
 
   kind_named : (takes : Bool) (full : Text) (k : Kind) (t : Target) → numbered all takes full k ≡ Some t → (is_type k ≡ true) × HasName takes full t
   kind_named takes full kinds.Message t is =
-      let at = numbered_as targets.Message (message_names all) (declared_messages files) full t met.numbers.types is in
-      (refl, subst (HasName takes full) at.1 at.2)
+      let at = numbered_as targets.Message (message_names all) full t is in
+      (refl, subst (HasName takes full) at.1 (behind_dots (declared_messages files) full at.0 (ap (λ xs. slice_get xs at.0) (sym met.numbers.types) ∙ at.2)))
   kind_named true full kinds.Enum t is =
-      let at = numbered_as targets.Enum (enum_names all) (declared_names files) full t met.numbers.enums is in
-      (refl, subst (HasName true full) at.1 at.2)
+      let at = numbered_as targets.Enum (enum_names all) full t is in
+      let there = met.numbers.placed at.0 full at.2 in
+      (refl, subst (HasName true full) at.1 (record { name = there.0; is_dotted = there.1; is_there = there.2 }))
   kind_named false full kinds.Enum t is = absurd (cc (is))
   kind_named takes full kinds.Entry t is = absurd (cc (is))
   kind_named takes full kinds.Package t is = absurd (cc (is))
@@ -163,16 +163,8 @@ module _ (files : List Entry) (parts : Parts) (met : IsMet files parts) where
       ap (λ i. option_map type_name (slice_get parts.types.items i)) (index_is n (omega (arith, within, long, few)))
       ∙ (sym (slice_get-map type_name parts.types.items n) ∙ (ap (λ xs. slice_get xs n) met.types_are ∙ is))
 
-  enum_there : (n : ℕ) (name : List ℕ) → slice_get (declared_names files) n ≡ Some name → option_map enum_name (slice_get parts.enums.items (index_of (get_or (enum_places files) n 0))) ≡ Some name
-  enum_there n name is =
-      let j = get_or (enum_places files) n 0 in
-      let few = met.few_enums in
-      let scoped = scoped_names files in
-      let same : slice_get scoped j ≡ Some name = met.numbers.placed n (slice_get_within (declared_names files) n name is) ∙ is in
-      let inside : j < length scoped = slice_get_within scoped j name same in
-      let long : length parts.enums.items ≡ length scoped = sym (length-map parts.enums.items enum_name) ∙ ap length met.enums_are in
-      ap (λ i. option_map enum_name (slice_get parts.enums.items i)) (index_is j (omega (arith, inside, long, few)))
-      ∙ (sym (slice_get-map enum_name parts.enums.items j) ∙ (ap (λ xs. slice_get xs j) met.enums_are ∙ same))
+  enum_there : (i : ℕ) (name : List ℕ) → slice_get (scoped_names files) i ≡ Some name → option_map enum_name (slice_get parts.enums.items i) ≡ Some name
+  enum_there i name is = sym (slice_get-map enum_name parts.enums.items i) ∙ (ap (λ xs. slice_get xs i) met.enums_are ∙ is)
 
   abbrev of_target : Target → Element
   of_target t = element_of None (Some (by_scope (enum_places files) t))
@@ -185,7 +177,7 @@ module _ (files : List Entry) (parts : Parts) (met : IsMet files parts) where
 
   target_full : (takes : Bool) (full : Text) (t : Target) → HasName takes full t → HasFull full (of_target t)
   target_full takes full (targets.Message n) h = record { name = h.name; is_dotted = h.is_dotted; has_name = type_there n h.name h.is_there }
-  target_full true full (targets.Enum n) h = record { name = h.name; is_dotted = h.is_dotted; has_name = enum_there n h.name h.is_there }
+  target_full true full (targets.Enum n) h = record { name = h.name; is_dotted = h.is_dotted; has_name = enum_there (get_or (enum_places files) n 0) h.name h.is_there }
   target_full false full (targets.Enum n) h = absurd h
 
   -- an rpc's type

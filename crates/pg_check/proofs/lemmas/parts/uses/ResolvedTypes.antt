@@ -32,12 +32,11 @@ use Rattle.pg_check.specs.parts.MadeEnums.{MadeEnum, enumeration, made_enum}
 use Rattle.pg_check.specs.parts.MadeFields.{MadeField, element_in, field, made_field}
 use Rattle.pg_check.specs.parts.MadeMessages.{made_fields}
 use Rattle.pg_check.specs.parts.MadeParts.{Declared, EachIs, IsTypeOf, Source, TypeTree, file_services as made_file_services, nothing, placed_enums, placed_messages, type_tree, type_trees, with_file, with_files}
-use Rattle.pg_check.specs.parts.MadeServices.{MadeMethod, MadeService, made_method, made_methods, made_service, made_services, method, service}
-use Rattle.pg_check.specs.parts.ResolvedTypes.{AreResolved, HasField, IsNamed, IsResolvedMethod, IsResolvedService, IsResolvedType, ResolvesTo, file_services, full_name_of, messages_of, rpc_in, service_in, services_of, type_name_of, words_of}
+use Rattle.pg_check.specs.parts.MadeServices.{MadeMethod, MadeService, made_method, made_methods, made_service, made_services, method, rpc_in, service, stated_service}
+use Rattle.pg_check.specs.parts.ResolvedTypes.{AreResolved, HasField, IsNamed, IsResolvedMethod, IsResolvedService, IsResolvedType, ResolvesTo, file_services, full_name_of, messages_of, services_of, type_name_of, words_of}
 use Rattle.pg_check.specs.parts.Sources.{linked_source, linked_sources}
 use Rattle.pg_check.specs.rules.Members.{DeclaredField, Mapped, Plain, members}
 use Rattle.pg_check.specs.rules.Outline.{Enum, Message, file_messages, full_name, package_of, scoped_enums, statements_behind}
-use Rattle.pg_check.proofs.lemmas.parts.CountableParts.{countable}
 use Rattle.pg_check.proofs.lemmas.parts.Eachs.{each-append, each_mapped, each_weaker, joined_all}
 use Rattle.pg_check.proofs.lemmas.parts.kept.KeptFiles.{enums_are, kept_parts, source_enums}
 use Rattle.pg_check.proofs.lemmas.parts.uses.NamedUses.{Here, IsMet, all_found, element_named, method_resolves}
@@ -264,7 +263,7 @@ module _ (files : List Entry) where
         (service_resolved x m s tied.0 one held.0, services_resolved_all xs ms ss tied.1 others held.1)
 
     own_services : (e : Entry) (ss : List tree.Statement.Statement)
-        → EachIs IsMadeOf (map (λ (s : tree.Service.Service). (e, s)) (flat_map service_in ss)) (made_services (targets_of e) (package_of e.1.tree) ss)
+        → EachIs IsMadeOf (map (λ (s : tree.Service.Service). (e, s)) (flat_map stated_service ss)) (made_services (targets_of e) (package_of e.1.tree) ss)
     own_services e [] = tt
     own_services e (statements.Empty span ∷ ss) = own_services e ss
     own_services e (statements.Import i ∷ ss) = own_services e ss
@@ -278,8 +277,8 @@ module _ (files : List Entry) where
     services_are d front (e ∷ es) h =
         let s : Source = linked_source files e in
         let pair : tree.Service.Service → Entry × tree.Service.Service = λ (x : tree.Service.Service). (e, x) in
-        let first = flat_map service_in e.1.tree.statements.items in
-        let last = flat_map service_in (statements_behind e.1.tree.packaged) in
+        let first = flat_map stated_service e.1.tree.statements.items in
+        let last = flat_map stated_service (statements_behind e.1.tree.packaged) in
         let own : List (Entry × tree.Service.Service) = map pair (file_services e.1.tree) in
         let both : EachIs IsMadeOf (map pair first ++ map pair last) (made_file_services s) =
         each-append IsMadeOf (map pair first) (made_services (targets_of e) (package_of e.1.tree) e.1.tree.statements.items) (map pair last) (made_services (targets_of e) (package_of e.1.tree) (statements_behind e.1.tree.packaged))
@@ -298,12 +297,10 @@ pub linked_meet : (l : LinkedFiles) (parts : Parts) → IsLinkedUp l → Declare
 linked_meet l parts up h =
     let files = l.files in
     let sources = linked_sources files in
-    let few = countable l parts up h.has_parts in
     let at_most = (kept_parts sources parts h).few_types in
     record {
       numbers = are_numbered l up;
       few_types = omega (arith, at_most);
-      few_enums = few.enums;
       types_are = types_named files (messages_of files) (with_files nothing sources).types parts.types.items (linked_trees l) h.has_parts.types ∙ fulls_are files files;
       enums_are = enums_named files parts.enums.items (flat_map source_enums sources) (h.has_parts.enums ∙ enums_are nothing sources) ∙ scoped_are files files;
     }

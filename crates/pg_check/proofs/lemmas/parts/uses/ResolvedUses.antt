@@ -3,7 +3,8 @@ use Rattle.std.proofs.Common.{◌≡◌, ℕ, ◌+◌, List, [], ◌∷◌, ◌+
 use Rattle.std.specs.List.{AllByRecursion}
 use Rattle.pg_link.specs.names.Names.{Text}
 use Rattle.pg_link.specs.uses.Uses.{Use, field_uses, file_scope, file_uses, in_rpc, map_uses, oneof_part_uses, part_uses, row_uses, service_part_uses, statement_uses}
-use Rattle.pg_check.specs.parts.ResolvedTypes.{file_services, rpc_in, service_in, type_name_of, words_of}
+use Rattle.pg_check.specs.parts.MadeServices.{rpc_in, stated_service}
+use Rattle.pg_check.specs.parts.ResolvedTypes.{file_services, type_name_of, words_of}
 use Rattle.pg_check.specs.rules.Members.{DeclaredField, members, members_from, members_in, oneof_members, oneofs_in}
 use Rattle.pg_check.specs.rules.Outline.{Message, all_messages, file_messages, full_name, messages_in, package_of, row_list, row_messages, statement_messages, statements_behind}
 use Rattle.pg_check.proofs.lemmas.parts.Eachs.{back_of, front_of, joined_all}
@@ -129,7 +130,7 @@ module _ (P : Use → Type 0) where
   rpcs_hold scope (service_parts.Option o ∷ ps) h = rpcs_hold scope ps h
   rpcs_hold scope (service_parts.Rpc r ∷ ps) h = ((h.0, h.1.0), rpcs_hold scope ps h.1.1)
 
-  all_services_hold : (scope : List Text) (place : List ℕ) (ss : List tree.Statement.Statement) → Fits scope place → AllByRecursion IsGoodStatement ss → AllByRecursion P (flat_map (statement_uses scope) ss) → AllByRecursion (ServiceHolds place) (flat_map service_in ss)
+  all_services_hold : (scope : List Text) (place : List ℕ) (ss : List tree.Statement.Statement) → Fits scope place → AllByRecursion IsGoodStatement ss → AllByRecursion P (flat_map (statement_uses scope) ss) → AllByRecursion (ServiceHolds place) (flat_map stated_service ss)
   all_services_hold scope place [] fits good h = tt
   all_services_hold scope place (statements.Empty span ∷ ss) fits good h = all_services_hold scope place ss fits good.1 h
   all_services_hold scope place (statements.Import i ∷ ss) fits good h = all_services_hold scope place ss fits good.1 h
@@ -166,6 +167,6 @@ module _ (P : Use → Type 0) where
     pub services_resolved : AllByRecursion (ServiceHolds (package_of file)) (file_services file)
     services_resolved =
         let fits : Fits (file_scope file) (package_of file) = file_fits file good in
-        joined_all (ServiceHolds (package_of file)) (flat_map service_in file.statements.items) (flat_map service_in (statements_behind file.packaged))
+        joined_all (ServiceHolds (package_of file)) (flat_map stated_service file.statements.items) (flat_map stated_service (statements_behind file.packaged))
         (all_services_hold (file_scope file) (package_of file) file.statements.items fits good.front (front_of P front behind h))
         (all_services_hold (file_scope file) (package_of file) (statements_behind file.packaged) fits good.behind (back_of P front behind h))

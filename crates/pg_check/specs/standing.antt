@@ -1,5 +1,0 @@
-pub mod Places
-pub mod Imports
-pub mod Nesting
-pub mod InOrder
-pub mod StandingParts
