@@ -1,5 +1,6 @@
 pub mod BorrowedDepth
 pub mod Copies
 pub mod Depth
-pub mod KeptCode
-pub mod Weights
+pub mod FaultSteps
+pub mod PartsDepth
+pub mod Reported

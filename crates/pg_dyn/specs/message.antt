@@ -1,7 +1,9 @@
 pub mod FieldList
 pub mod Kept
+pub mod KeptCode
 pub mod KeptParts
 pub mod KeyOrder
 pub mod Message
 pub mod Replacing
 pub mod Seen
+pub mod Weights

@@ -3,7 +3,6 @@ pub mod Content
 pub mod Decoding
 pub mod EntryParts
 pub mod EntrySteps
-pub mod FaultSteps
 pub mod Faults
 pub mod Gathering
 pub mod Held

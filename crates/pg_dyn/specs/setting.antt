@@ -1,3 +1,2 @@
 pub mod ContentFaults
-pub mod Reported
 pub mod Setting

@@ -44,7 +44,6 @@ pub enum DynError {
 
 impl DynError {
     ghost use Rattle.std.specs.Prelude.{◌≡◌};
-    ghost use Rattle.pg_dyn.specs.setting.ContentFaults.{code};
     ghost use Rattle.pg_dyn.specs.error.Codes.{code_of, place_of};
 
     /// The number after the E by which users know the error.
@@ -62,24 +61,6 @@ impl DynError {
             DynError::TooLong => 607,
             DynError::TooDeep { .. } => 608,
             DynError::Wire(error) => error.code(),
-        }
-    }
-
-    // The position of the error in the order of a content's faults.
-    pub(crate) fn rank(self) -> u16
-        ensures { result ≡ code self }
-    {
-        match self {
-            DynError::Memory => 1,
-            DynError::NoSuchField => 601,
-            DynError::WrongKind => 602,
-            DynError::OutOfRange => 603,
-            DynError::NotUtf8 { .. } => 604,
-            DynError::OneofTwice => 605,
-            DynError::DuplicateKey => 606,
-            DynError::TooLong => 607,
-            DynError::TooDeep { .. } => 608,
-            DynError::Wire(_) => 609,
         }
     }
 

@@ -30,7 +30,7 @@ impl Model for Integer {
 impl Integer {
     /// The integer of the number.
     #[inline]
-    pub fn new(number: i128) -> Integer
+    pub(crate) fn new(number: i128) -> Integer
         ensures { result ≡ number }
     {
         let bits = number.cast_unsigned();

@@ -59,7 +59,7 @@ pub struct MessageRef<'a> {
 
 impl<'a> Model for MessageRef<'a> {
     ghost use Rattle.pg_dyn.specs.message.Kept.{Kept};
-    ghost use Rattle.pg_dyn.specs.inner.KeptCode.{kept_code};
+    ghost use Rattle.pg_dyn.specs.message.KeptCode.{kept_code};
 
     ghost Value = { Kept };
 
@@ -71,7 +71,7 @@ impl<'a> Model for MessageRef<'a> {
 
     ghost invariant = { IsWellKept };
 
-    ghost use Rattle.pg_dyn.specs.inner.Weights.{weight};
+    ghost use Rattle.pg_dyn.specs.message.Weights.{weight};
 
     ghost size = { weight };
 

@@ -1,13 +1,14 @@
-//! Messages that borrow, turned into ones that own their parts. Each message is freed once it is
-//! copied, and a list or a map once all its items are, so that its memory serves what comes after.
+//! Messages that borrow, turned into ones that own their parts. Each message of a list is freed
+//! once it is copied, and a content once all its items are, so that its memory serves what comes
+//! after.
 
 ghost use Rattle.std.specs.Prelude.{◌≡◌, map, true, IfOk};
-ghost use Rattle.pg_dyn.specs.inner.Copies.{AreEntryCopies, IsContentCopy, IsEntryCopy, IsItemCopy};
+ghost use Rattle.pg_dyn.specs.inner.Copies.{IsContentCopy, IsItemCopy};
 ghost use Rattle.pg_dyn.specs.message_ref.Borrowed as borrowed;
 ghost use Rattle.pg_dyn.specs.message.Seen.{item_seen};
 
 use crate::message::{Content, Message, Value};
-use crate::message_ref::{ContentRef, EntryRef, MessageRef, ValueRef};
+use crate::message_ref::{ContentRef, MessageRef, ValueRef};
 use crate::owned_copies::owned_records;
 use std::alloc::{AllocError, Global};
 
@@ -30,19 +31,6 @@ impl<'a> ValueRef<'a> {
     }
 }
 
-impl<'a> EntryRef<'a> {
-    // The entry with a key and a value of its own.
-    #[cycle(moving)]
-    fn into_entry(self, alloc: Global) -> Result<(Value, Value), AllocError>
-        ensures { IfOk result (IsEntryCopy self.entry) }
-    {
-        let EntryRef { key, value } = self;
-        let owned_key = key.into_value(alloc)?;
-        let owned_value = value.into_value(alloc)?;
-        Ok((owned_key, owned_value))
-    }
-}
-
 impl<'a> ContentRef<'a> {
     // The items of a list, each with parts of its own.
     #[cycle(moving)]
@@ -57,21 +45,6 @@ impl<'a> ContentRef<'a> {
         Ok(owned)
     }
 
-    // The entries of a map, each with parts of its own.
-    #[cycle(moving)]
-    fn into_entries(
-        entries: Vec<EntryRef<'a>>,
-        alloc: Global,
-    ) -> Result<Vec<(Value, Value)>, AllocError>
-        ensures { IfOk result (λ owned. AreEntryCopies entries.entry.items owned.items) }
-    {
-        let mut owned = Vec::with_capacity(alloc, entries.len())?;
-        for entry in entries {
-            owned.push(entry.into_entry(alloc)?)?;
-        }
-        Ok(owned)
-    }
-
     // The content with items of its own.
     #[cycle(moving)]
     fn into_content(self, alloc: Global) -> Result<Content, AllocError>
@@ -80,7 +53,7 @@ impl<'a> ContentRef<'a> {
         match self {
             ContentRef::One(value) => Ok(Content::One(value.into_value(alloc)?)),
             ContentRef::Many(values) => Ok(Content::Many(ContentRef::into_values(values, alloc)?)),
-            ContentRef::Map(entries) => Ok(Content::Map(ContentRef::into_entries(entries, alloc)?)),
+            ContentRef::Map(entries) => Ok(Content::Map(ContentRef::to_entries(&entries, alloc)?)),
             ContentRef::Numbers(numbers) => Ok(Content::Many(numbers.to_values(alloc)?)),
         }
     }

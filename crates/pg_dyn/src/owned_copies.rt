@@ -123,7 +123,7 @@ impl<'a> ContentRef<'a> {
 
     // The entries of a map, each with parts of its own.
     #[cycle(owning)]
-    fn to_entries(
+    pub(crate) fn to_entries(
         entries: &[EntryRef<'a>],
         alloc: Global,
     ) -> Result<Vec<(Value, Value)>, AllocError>

@@ -12,7 +12,7 @@ ghost use Rattle.std.specs.Prelude.{◌≡◌, OnOk, IfErr, Some};
 ghost use Rattle.pg_schema.specs.Parts.{field_shape, shape_of};
 ghost use Rattle.pg_schema.specs.Shape.{field_at, fields};
 ghost use Rattle.pg_dyn.specs.declared.error.DynError.TheVariants as errors;
-ghost use Rattle.pg_dyn.specs.setting.ContentFaults.{ContentFault, HasKeyTwice, HasNoEarlyFault, HasNoFault, MayRefuseFor};
+ghost use Rattle.pg_dyn.specs.setting.ContentFaults.{ContentFault, HasKeyTwice, HasNoEarlyFault, IsContentOf, MayRefuseFor};
 ghost use Rattle.pg_dyn.specs.fitting.Fits.{Fits};
 ghost use Rattle.pg_dyn.specs.message.Kept.{type_of};
 ghost use Rattle.pg_dyn.specs.setting.Setting.{IsSetTo};
@@ -45,8 +45,8 @@ impl Message {
         requires fits { Fits (shape_of schema.now) self.old }
         ensures ok { OnOk result (IsSetTo (shape_of schema.now) number content self.old self.new) }
         ensures fits { OnOk result (Fits (shape_of schema.now) self.new) }
-        ensures accepted { OnOk result
-            (HasNoFault (ContentFault (shape_of schema.now) (type_of self.old) number content)) }
+        ensures content { OnOk result
+            (IsContentOf (shape_of schema.now) (type_of self.old) number content) }
         ensures refused { IfErr result
             (λ e. (e.1 ≡ content) × (self.new ≡ self.old)
             × MayRefuseFor (ContentFault (shape_of schema.now) (type_of self.old) number content)
@@ -80,7 +80,7 @@ impl Message {
     ghost use Rattle.pg_dyn.specs.message.Replacing.{with_parts, without_siblings};
     ghost use Rattle.pg_dyn.specs.message.Seen.{content_seen};
     ghost use Rattle.pg_dyn.specs.setting.Setting.{normalized};
-    ghost use Rattle.pg_dyn.specs.setting.Reported.{ItemsFit};
+    ghost use Rattle.pg_dyn.specs.fitting.ContentFits.{ItemsFit};
 
     /// Puts a content that is one of the field, in place of the one that is there, whatever
     /// is in other members of the field's oneof. Where memory is refused, the content comes

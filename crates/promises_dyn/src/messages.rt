@@ -6,14 +6,13 @@ ghost use Rattle.pg_schema.specs.Parts.{shape_of};
 ghost use Rattle.pg_schema.specs.Shape.{Shape};
 ghost use Rattle.pg_schema.specs.ShapeRules.{IsShape};
 ghost use Rattle.pg_dyn.specs.declared.error.DynError.TheVariants as errors;
-ghost use Rattle.pg_dyn.specs.setting.ContentFaults.{ContentFault, ContentsFault, HasKeyTwice, HasNoEarlyFault, HasNoFault, MayRefuseFor};
+ghost use Rattle.pg_dyn.specs.setting.ContentFaults.{ContentFault, ContentsFault, HasNoEarlyFault, HasNoFault, IsContentOf, MayRefuseFor};
 ghost use Rattle.pg_dyn.specs.fitting.ContentFits.{HoldsContent};
 ghost use Rattle.pg_dyn.specs.fitting.Fits.{Fits};
 ghost use Rattle.pg_dyn.specs.message.KeptParts.{IsPlain, of_number, unknown_of};
 ghost use Rattle.pg_dyn.specs.message.Kept.{ends, type_of};
 ghost use Rattle.pg_dyn.specs.message.Seen.{HasBody, HasKeys, IsFilled, Rises, content_seen, fields_onto, record_seen};
 ghost use Rattle.pg_dyn.specs.setting.Setting.{IsSetTo, IsWhole};
-ghost use Rattle.pg_dyn.specs.setting.Reported.{TakesContent};
 
 use pg_dyn::{Content, DynError, Message, UnknownRecord};
 use pg_schema::{Schema, TypeId};
@@ -89,8 +88,8 @@ pub fn set(
     ensures ok { OnOk result (IsSetTo
         (shape_of schema.now) number content message.old message.new) }
     ensures fits { OnOk result (Fits (shape_of schema.now) message.new) }
-    ensures accepted { OnOk result (HasNoFault
-        (ContentFault (shape_of schema.now) (type_of message.old) number content)) }
+    ensures content { OnOk result
+        (IsContentOf (shape_of schema.now) (type_of message.old) number content) }
     ensures refused { IfErr result (λ e. (e.1 ≡ content) × (message.new ≡ message.old)
         × MayRefuseFor (ContentFault (shape_of schema.now) (type_of message.old) number content)
         e.0) }
@@ -108,8 +107,7 @@ pub fn put(
     content: Content,
 ) -> Result<(), Content>
     requires fits { Fits (shape_of schema.now) message.old }
-    requires taken { TakesContent (shape_of schema.now) (type_of message.old) (number, content) }
-    requires once { HasKeyTwice content → ⊥ }
+    requires content { IsContentOf (shape_of schema.now) (type_of message.old) number content }
     ensures ok { OnOk result (IsSetTo
         (shape_of schema.now) number content message.old message.new) }
     ensures fits { OnOk result (Fits (shape_of schema.now) message.new) }

@@ -23,13 +23,6 @@ pub fn complement_64(number: i128) -> u64
     pg_dyn::complement_64(number)
 }
 
-/// What `Integer::new` answers.
-pub fn integer_of(number: i128) -> Integer
-    ensures { result ≡ number }
-{
-    Integer::new(number)
-}
-
 /// What `Integer::get` answers.
 pub fn number_of(integer: Integer) -> i128
     ensures { result ≡ integer }

@@ -1,3 +1,4 @@
+pub mod ContentParts
 pub mod EncodeSteps
 pub mod EncodedFields
 pub mod Growing

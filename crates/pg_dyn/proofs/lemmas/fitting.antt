@@ -2,6 +2,7 @@ pub mod Belonging
 pub mod FitsByContents
 pub mod FitsChecks
 pub mod FitsSteps
+pub mod FitsToParts
 pub mod ItemLeaves
 pub mod NoSiblings
 pub mod OneofLaws

@@ -1,3 +1,2 @@
 pub mod BorrowedItems
 pub mod BorrowedParts
-pub mod BorrowedPlainness

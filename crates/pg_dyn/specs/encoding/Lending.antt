@@ -1,5 +1,5 @@
 -- A message as a writer goes over it, whoever owns its parts.
-use Rattle.std.specs.Prelude.{◌≡◌, ◌≢◌, ℕ, List, [], flat_map, ⊤, Bool, false, Some, None}
+use Rattle.std.specs.Prelude.{◌≡◌, ◌≢◌, ℕ, List, [], ⊤, Bool, false, Some, None}
 use Rattle.std.specs.List.{AllByRecursion}
 use Rattle.pg_schema.specs.declared.parts.field.Scalar.{Scalar}
 use Rattle.pg_schema.specs.declared.parts.field.TypeId.{TypeId}
@@ -61,15 +61,12 @@ leaf_lent (leaves.F32 bits) = F32 bits
 leaf_lent (leaves.F64 bits) = F64 bits
 leaf_lent (leaves.Bytes bytes) = Bytes bytes.now
 
--- an item and an entry as parts of a number, and the parts of all fields
+-- an item and an entry as parts of a number
 abbrev pub item_part : {V : Type 0} → (V → Bare) → ℕ → Bool → V → Part KeptItem
 item_part item number listed v = record { number = number; key = None; item = in_list listed (item v) }
 
 abbrev pub entry_part : {V E : Type 0} → (V → Bare) → (E → V) → (E → V) → ℕ → E → Part KeptItem
 entry_part item key value number e = record { number = number; key = Some (bare_leaf (item (key e))); item = in_list false (item (value e)) }
-
-abbrev pub all_parts : {C : Type 0} → (ℕ → C → List (Part KeptItem)) → List (ℕ × C) → List (Part KeptItem)
-all_parts {C} parts cs = flat_map (λ (c : ℕ × C). parts c.0 c.1) cs
 
 -- the content is no list of numbers
 abbrev pub HasValues : ContentRef → Type 0
@@ -84,9 +81,6 @@ AreKeyless ps = AllByRecursion (λ (p : Part KeptItem). p.key ≡ None) ps
 
 abbrev pub AreKeyed : List (Part KeptItem) → Type 0
 AreKeyed ps = AllByRecursion (λ (p : Part KeptItem). p.key ≢ None) ps
-
-abbrev pub AreOf : ℕ → List (Part KeptItem) → Type 0
-AreOf number ps = AllByRecursion (λ (p : Part KeptItem). p.number ≡ number) ps
 
 -- the parts are those of the field with the number
 pub record HoldsParts (shape : Shape) (type : TypeId) (number : ℕ) (ps : List (Part KeptItem)) : Type 0 where

@@ -87,17 +87,17 @@ CanBePacked presences.Explicit e = ⊤
 CanBePacked (presences.Map key) e = ⊤
 
 -- a leaf of an element that is no message, and an item of any
-abbrev pub LeafFits : Element → Leaf → Type 0
-LeafFits (elements.Scalar s) leaf = InRange (form (elements.Scalar s)) leaf
-LeafFits (elements.Enum e) leaf = InRange (form (elements.Enum e)) leaf
-LeafFits (elements.Message t) leaf = ⊥
+abbrev pub IsLeafOf : Element → Leaf → Type 0
+IsLeafOf (elements.Scalar s) leaf = InRange (form (elements.Scalar s)) leaf
+IsLeafOf (elements.Enum e) leaf = InRange (form (elements.Enum e)) leaf
+IsLeafOf (elements.Message t) leaf = ⊥
 
 abbrev pub BareFits : Shape → Element → Bare → Type 0
-BareFits shape e (Lone text leaf) = LeafFits e leaf
+BareFits shape e (Lone text leaf) = IsLeafOf e leaf
 BareFits shape e (Child m) = Fits shape m × (e ≡ elements.Message (type_of m))
 
 abbrev pub LeavesFit : {V : Type 0} → (V → Bare) → Element → List V → Type 0
-LeavesFit item e vs = AllByRecursion (λ v. LeafFits e (bare_leaf (item v))) vs
+LeavesFit item e vs = AllByRecursion (λ v. IsLeafOf e (bare_leaf (item v))) vs
 
 -- A length as it is counted: all that is too long is one.
 abbrev pub capped : ℕ → ℕ

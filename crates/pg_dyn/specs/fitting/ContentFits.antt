@@ -35,7 +35,19 @@ ItemFits shape (elements.Enum e) value = IsItemOf Int32 value
 ItemFits shape (elements.Message t) (values.Msg child) = Fits shape child.value × (type_of child.value ≡ t)
 ItemFits shape (elements.Message t) value = ⊥
 
--- so is it, as a field of the element holds it: `Text` just where the element is string
+-- an entry of a map
+abbrev pub EntryFits : Shape → Scalar → Element → Value × Value → Type 0
+EntryFits shape key element e = IsItemOf key e.0 × ItemFits shape element e.1
+
+-- the content has the shape of the presence, and each item is one of its element
+abbrev pub ItemsFit : Shape → Presence → Element → Content → Type 0
+ItemsFit shape presences.Implicit element (contents.One value) = ItemFits shape element value
+ItemsFit shape presences.Explicit element (contents.One value) = ItemFits shape element value
+ItemsFit shape (presences.Repeated packed) element (contents.Many vs) = AllByRecursion (ItemFits shape element) vs.items
+ItemsFit shape (presences.Map key) element (contents.Map es) = AllByRecursion (EntryFits shape key element) es.items
+ItemsFit shape presence element content = ⊥
+
+-- the item is one of the element, as a field of the element holds it: `Text` just where the element is string
 abbrev pub ItemKept : Shape → Element → Value → Type 0
 ItemKept shape e value = ItemFits shape e value × (is_text value ≡ is_string e)
 

@@ -1,11 +1,8 @@
 -- Items of scalar fields, as the program holds them.
-use Rattle.std.specs.Prelude.{◌≡◌, ℕ, ⊤, List, length}
+use Rattle.std.specs.Prelude.{◌≡◌, ℕ, ⊤}
 use Rattle.std.specs.Str.{IsValidUpTo}
 use Rattle.pg_schema.specs.declared.parts.field.Scalar.{Scalar}
 use Rattle.pg_schema.specs.declared.parts.field.Scalar.TheVariants as scalars
-use Rattle.pg_wire.specs.declared.record.WireType.{WireType}
-use Rattle.pg_wire.specs.declared.record.WireType.TheVariants.{Varint, I64, Len, I32}
-use Rattle.pg_wire.specs.Varint.{IsVarint}
 use Rattle.pg_dyn.specs.declared.message.Value.{Value}
 use Rattle.pg_dyn.specs.declared.message.Value.TheVariants as values
 use Rattle.pg_dyn.specs.word.Coding.{Form, Integer, Single, Double, Text, Raw, InRange, scalar_form}
@@ -13,13 +10,6 @@ use Rattle.pg_dyn.specs.message.Seen.{leaf_of}
 use Rattle.pg_dyn.specs.word.WordOf.{IsInteger, IsIntegerOf}
 use Rattle.pg_dyn.specs.declared.error.DynError.{DynError}
 use Rattle.pg_dyn.specs.declared.error.DynError.TheVariants as errors
-
--- the bytes have the shape of a body of this wire type
-abbrev pub HasShape : WireType → List ℕ → Type 0
-HasShape Varint body = IsVarint body
-HasShape I64 body = length body ≡ 8
-HasShape I32 body = length body ≡ 4
-HasShape Len body = ⊤
 
 -- the item is one of the scalar: of its kind, in its range, a string UTF-8
 abbrev pub IsItemOf : Scalar → Value → Type 0

@@ -1,5 +1,5 @@
 -- Parts of a message that own what those of a message that borrows lend: contracts see the same of both.
-use Rattle.std.specs.Prelude.{◌≡◌, ℕ, Bool, false, List, map, Some}
+use Rattle.std.specs.Prelude.{◌≡◌, ℕ, Bool, List, map}
 use Rattle.std.specs.List.{AllByRecursion}
 use Rattle.pg_dyn.specs.declared.message.Content.{Content}
 use Rattle.pg_dyn.specs.declared.message.Value.{Value}
@@ -7,16 +7,10 @@ use Rattle.pg_dyn.specs.declared.message_ref.ContentRef.{ContentRef}
 use Rattle.pg_dyn.specs.declared.message_ref.EntryRef.{EntryRef}
 use Rattle.pg_dyn.specs.declared.message_ref.ValueRef.{ValueRef}
 use Rattle.pg_dyn.specs.message_ref.Borrowed as borrowed
-use Rattle.pg_dyn.specs.message.KeptParts.{KeptItem}
-use Rattle.pg_dyn.specs.message.Message.{Part}
-use Rattle.pg_dyn.specs.message.Seen.{HasKeys, IsFilled, IsMapKey, content_seen, item_seen, leaf_of}
+use Rattle.pg_dyn.specs.message.Seen.{HasKeys, IsFilled, IsMapKey, content_seen, entry_part, item_seen}
 
 abbrev pub IsItemCopy : ValueRef → Value → Type 0
 IsItemCopy lent copy = (listed : Bool) → item_seen listed copy ≡ borrowed.item_seen listed lent
-
--- an entry as a part of a number
-abbrev pub entry_part : ℕ → Value × Value → Part KeptItem
-entry_part number e = record { number = number; key = Some (leaf_of e.0); item = item_seen false e.1 }
 
 pub record IsEntryCopy (lent : EntryRef) (copy : Value × Value) : Type 0 where
   pub part : (number : ℕ) → entry_part number copy ≡ borrowed.entry_part number lent

@@ -6,26 +6,17 @@ use Rattle.pg_schema.specs.declared.parts.field.Scalar.{Scalar}
 use Rattle.pg_schema.specs.declared.parts.field.Element.{Element}
 use Rattle.pg_schema.specs.declared.parts.field.Element.TheVariants as elements
 use Rattle.pg_schema.specs.Shape.{FieldShape, is_packable}
-use Rattle.pg_wire.specs.declared.record.WireType.{WireType}
-use Rattle.pg_wire.specs.declared.record.WireType.TheVariants.{Varint, I64, Len, I32}
-use Rattle.pg_wire.specs.Varint.{IsVarint}
+use Rattle.pg_wire.specs.declared.record.WireType.TheVariants.{Len}
 use Rattle.pg_wire.specs.Records.{WireRecord, records_of, written}
 use Rattle.pg_dyn.specs.message.Message.{Leaf, Bytes}
-use Rattle.pg_dyn.specs.word.Coding.{Form, InRange, body, form, form_wire, leaf_in}
+use Rattle.pg_dyn.specs.word.Coding.{Form, HasShape, InRange, body, form, form_wire, leaf_in}
 use Rattle.pg_dyn.specs.reading.Content.{entry_in, leaf_bytes, leaves_in, packed_leaves}
 use Rattle.pg_dyn.specs.reading.Optional.{all_some}
-
--- what a body is by its wire type alone
-abbrev pub BodyShape : WireType → List ℕ → Type 0
-BodyShape Varint bytes = IsVarint bytes
-BodyShape I64 bytes = length bytes ≡ 8
-BodyShape I32 bytes = length bytes ≡ 4
-BodyShape Len bytes = ⊤
 
 -- a reader of that form reads the body as the item
 pub record IsReadAs (f : Form) (bytes : List ℕ) (leaf : Leaf) : Type 0 where
   pub read : leaf_in f bytes ≡ Some leaf
-  pub shape : BodyShape (form_wire f) bytes
+  pub shape : HasShape (form_wire f) bytes
 
 -- the bytes of a child are Bytes
 abbrev pub IsNestedLeaf : Element → Leaf → Type 0

@@ -31,6 +31,7 @@ use Rattle.pg_dyn.specs.message.Seen.{IsKey, content_seen}
 use Rattle.pg_dyn.specs.fitting.Texts.{kept_in}
 use Rattle.pg_dyn.specs.fitting.ScalarItems.{IsItemOf}
 use Rattle.pg_dyn.specs.message.Replacing.{kept_onto, with_parts, without_siblings}
+use Rattle.pg_dyn.specs.setting.ContentFaults.{ContentFault, HasNoFault, IsContentOf}
 
 -- The fields of each type of a sound shape are sound; the field that is found by a number has it; each field of a type is found by
 -- its number; the type of a message field is that of its children.
@@ -100,6 +101,12 @@ PlainIsKept = (m : Kept) → kept_parts.IsPlain m ↔ model.IsPlain (message_of 
 abbrev pub UnknownIsKept : Type 0
 UnknownIsKept =
     ((m : Kept) → model.unknown_of (message_of m) ≡ kept_parts.unknown_of m) × ((v : Message) → model.IsPlain v → model.unknown_of v ≡ [])
+
+-- A content of a field has none of the faults for which contents are refused.
+abbrev pub ContentsHaveNoFault : Type 0
+ContentsHaveNoFault =
+    (shape : Shape) (type : TypeId) (number : ℕ) (c : Content) →
+    IsContentOf shape type number c → HasNoFault (ContentFault shape type number c)
 
 -- Items are equal just where the test says so.
 abbrev pub EqualLeaves : Type 0

@@ -1,5 +1,6 @@
 -- The parts of a message as the program keeps them, field by field.
-use Rattle.std.specs.Prelude.{ℕ, ⊤, List, [], ◌∷◌, filter, Bool}
+use Rattle.std.specs.Prelude.{◌≡◌, ℕ, ⊤, List, [], ◌∷◌, filter, Bool}
+use Rattle.std.specs.List.{AllByRecursion}
 use Rattle.pg_wire.specs.Records.{WireRecord}
 use Rattle.pg_dyn.specs.message.Message.{Leaf, Part, is_of}
 use Rattle.pg_dyn.specs.message.Kept.{Manner, Kept, ends, holds, nests}
@@ -18,6 +19,10 @@ abbrev pub unknown_of : Kept → List WireRecord
 unknown_of (ends type unknown) = unknown
 unknown_of (holds number key manner leaf later) = unknown_of later
 unknown_of (nests number key listed child later) = unknown_of later
+
+-- the parts are all of the number
+abbrev pub AreOf : ℕ → List (Part KeptItem) → Type 0
+AreOf number ps = AllByRecursion (λ (p : Part KeptItem). p.number ≡ number) ps
 
 -- the parts of a field
 abbrev pub of_number : ℕ → Kept → List (Part KeptItem)

@@ -1,5 +1,5 @@
 -- A message with another content under a number.
-use Rattle.std.specs.Prelude.{ℕ, List, [], ◌∷◌, ◌++◌, filter, nat_lt, nat_eq, Bool, not, ◌&&◌, Option}
+use Rattle.std.specs.Prelude.{ℕ, List, [], ◌∷◌, ◌++◌, filter, flat_map, nat_lt, nat_eq, Bool, not, ◌&&◌, Option}
 use Rattle.std.specs.List.{list_any}
 use Rattle.pg_schema.specs.declared.parts.field.TypeId.{TypeId}
 use Rattle.pg_schema.specs.Shape.{FieldShape}
@@ -17,6 +17,10 @@ kept_part number key (Msg listed child) later = nests number key listed child la
 abbrev pub kept_onto : List (Part KeptItem) → Kept → Kept
 kept_onto [] later = later
 kept_onto (p ∷ ps) later = kept_part p.number p.key p.item (kept_onto ps later)
+
+-- the parts of all fields, each of whose contents shows these
+abbrev pub all_parts : {C : Type 0} → (ℕ → C → List (Part KeptItem)) → List (ℕ × C) → List (Part KeptItem)
+all_parts {C} parts cs = flat_map (λ (c : ℕ × C). parts c.0 c.1) cs
 
 -- the message of a type with these parts and these unknown records
 abbrev pub kept_from : TypeId → List (Part KeptItem) → List WireRecord → Kept

@@ -1,5 +1,5 @@
 -- What the program's message keeps: where its vectors and strings are in memory isn't seen.
-use Rattle.std.specs.Prelude.{◌≢◌, ℕ, ◌<◌, ◌≤◌, List, [], ◌∷◌, length, map, drop, ⊤, Bool, true, false, Option, Some, None, string_bytes}
+use Rattle.std.specs.Prelude.{◌≢◌, ℕ, ◌<◌, ◌≤◌, List, [], ◌∷◌, length, map, drop, ⊤, Bool, true, false, Some, None, string_bytes}
 use Rattle.std.specs.List.{AllByRecursion}
 use Rattle.pg_wire.specs.Records.{WireRecord, IsRecord}
 use Rattle.pg_dyn.specs.declared.message.UnknownRecord.{UnknownRecord}
@@ -9,8 +9,9 @@ use Rattle.pg_dyn.specs.declared.message.Value.{Value}
 use Rattle.pg_dyn.specs.declared.message.Value.TheVariants as values
 use Rattle.pg_dyn.specs.declared.message.Message.TheInside.{Inside}
 use Rattle.pg_dyn.specs.message.Message.{Leaf, Int, F32, F64, Bytes, Part}
-use Rattle.pg_dyn.specs.message.Kept.{Kept, Manner, ends, holds, nests}
+use Rattle.pg_dyn.specs.message.Kept.{Kept, Manner, ends}
 use Rattle.pg_dyn.specs.message.KeptParts.{KeptItem, Plain, Msg, IsPlainItem}
+use Rattle.pg_dyn.specs.message.Replacing.{all_parts, kept_onto}
 
 abbrev pub record_seen : UnknownRecord → WireRecord
 record_seen r = record { number = r.number; wire = r.wire_type; body = drop r.body_start r.bytes.items; bytes = r.bytes.items }
@@ -36,42 +37,30 @@ is_text value = false
 abbrev pub manner : Bool → Value → Manner
 manner listed value = record { listed = listed; text = is_text value }
 
--- One part in front, the parts of a content, and those of all fields.
-
-abbrev pub value_onto : ℕ → Option Leaf → Bool → Value → Kept → Kept
-value_onto number key listed (values.Msg child) later = nests number key listed child.value later
-value_onto number key listed value later = holds number key (manner listed value) (leaf_of value) later
-
-abbrev pub items_onto : ℕ → List Value → Kept → Kept
-items_onto number [] later = later
-items_onto number (value ∷ vs) later = value_onto number None true value (items_onto number vs later)
-
-abbrev pub entries_onto : ℕ → List (Value × Value) → Kept → Kept
-entries_onto number [] later = later
-entries_onto number (e ∷ es) later = value_onto number (Some (leaf_of e.0)) false e.1 (entries_onto number es later)
-
-abbrev pub content_onto : ℕ → Content → Kept → Kept
-content_onto number (contents.One value) later = value_onto number None false value later
-content_onto number (contents.Many vs) later = items_onto number vs.items later
-content_onto number (contents.Map es) later = entries_onto number es.items later
-
-abbrev pub fields_onto : List (ℕ × Content) → Kept → Kept
-fields_onto [] later = later
-fields_onto (f ∷ fs) later = content_onto f.0 f.1 (fields_onto fs later)
-
-abbrev pub kept_seen : Inside → Kept
-kept_seen a = fields_onto a.fields.items (ends a.type_id (map record_seen a.unknown.items))
-
--- A content by itself, as the parts of that number.
-
 abbrev pub item_seen : Bool → Value → KeptItem
 item_seen listed (values.Msg child) = Msg listed child.value
 item_seen listed value = Plain (manner listed value) (leaf_of value)
 
+-- an item and an entry as parts of a number, a content by itself, and the contents of all fields
+abbrev pub item_part : ℕ → Bool → Value → Part KeptItem
+item_part number listed value = record { number = number; key = None; item = item_seen listed value }
+
+abbrev pub entry_part : ℕ → Value × Value → Part KeptItem
+entry_part number e = record { number = number; key = Some (leaf_of e.0); item = item_seen false e.1 }
+
 abbrev pub content_seen : ℕ → Content → List (Part KeptItem)
-content_seen number (contents.One value) = record { number = number; key = None; item = item_seen false value } ∷ []
-content_seen number (contents.Many vs) = map (λ value. record { number = number; key = None; item = item_seen true value }) vs.items
-content_seen number (contents.Map es) = map (λ (e : Value × Value). record { number = number; key = Some (leaf_of e.0); item = item_seen false e.1 }) es.items
+content_seen number (contents.One value) = item_part number false value ∷ []
+content_seen number (contents.Many vs) = map (item_part number true) vs.items
+content_seen number (contents.Map es) = map (entry_part number) es.items
+
+abbrev pub all_seen : List (ℕ × Content) → List (Part KeptItem)
+all_seen fs = all_parts content_seen fs
+
+abbrev pub fields_onto : List (ℕ × Content) → Kept → Kept
+fields_onto fs later = kept_onto (all_seen fs) later
+
+abbrev pub kept_seen : Inside → Kept
+kept_seen a = fields_onto a.fields.items (ends a.type_id (map record_seen a.unknown.items))
 
 -- What holds of every message: the numbers of its fields rise, no content is empty, the keys of its maps are numbers or strings, and
 -- each of its unknown records is one, with its body inside.

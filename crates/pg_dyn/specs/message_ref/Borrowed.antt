@@ -1,5 +1,5 @@
 -- What a message that borrows keeps, as `Seen` says it of one that owns its parts.
-use Rattle.std.specs.Prelude.{◌≢◌, ℕ, List, [], ◌∷◌, map, flat_map, ⊤, Bool, true, false, Some, None}
+use Rattle.std.specs.Prelude.{◌≢◌, ℕ, List, [], ◌∷◌, map, ⊤, Bool, true, false, Some, None}
 use Rattle.std.specs.List.{AllByRecursion}
 use Rattle.pg_wire.specs.Records.{IsRecord}
 use Rattle.pg_wire.specs.Reads.{seen_record}
@@ -12,7 +12,7 @@ use Rattle.pg_dyn.specs.declared.message_ref.MessageRef.TheInside.{Inside}
 use Rattle.pg_dyn.specs.message.Message.{Leaf, Int, F32, F64, Bytes, Part}
 use Rattle.pg_dyn.specs.message.Kept.{Kept, Manner, ends}
 use Rattle.pg_dyn.specs.message.KeptParts.{KeptItem, Plain, Msg, IsPlainItem}
-use Rattle.pg_dyn.specs.message.Replacing.{kept_onto}
+use Rattle.pg_dyn.specs.message.Replacing.{all_parts, kept_onto}
 use Rattle.pg_dyn.specs.word.NumberLists.{numbers_in}
 use Rattle.pg_dyn.specs.message.Seen.{Rises}
 
@@ -51,7 +51,7 @@ content_seen number (contents.Map es) = map (entry_part number) es.items
 content_seen number (contents.Numbers ns) = map (item_part number true) (numbers_in ns)
 
 abbrev pub all_seen : List (ℕ × ContentRef) → List (Part KeptItem)
-all_seen fs = flat_map (λ (f : ℕ × ContentRef). content_seen f.0 f.1) fs
+all_seen fs = all_parts content_seen fs
 
 abbrev pub fields_onto : List (ℕ × ContentRef) → Kept → Kept
 fields_onto fs later = kept_onto (all_seen fs) later

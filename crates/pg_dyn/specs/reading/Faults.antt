@@ -12,6 +12,7 @@ use Rattle.pg_wire.specs.Reading.{Fault, row}
 use Rattle.pg_wire.specs.Records.{WireRecord, Spells, record_at}
 use Rattle.pg_dyn.specs.word.Coding.{Text, form, form_wire, element_at}
 use Rattle.pg_dyn.specs.reading.Content.{same_wire, takes, value_field, entry_fields}
+use Rattle.pg_dyn.specs.reading.Decoding.{all_readable, dec}
 
 -- the bytes aren't records, a string isn't UTF-8, or a message is deeper than a limit
 pub data Code : Type 0 where
@@ -69,13 +70,16 @@ TooDeepIn shape limit fs bytes place = HasFault shape limit fs bytes TooDeep pla
 abbrev pub TooDeepOf : Shape → ℕ → FieldShape → WireRecord → ℕ → Type 0
 TooDeepOf shape levels f r place = FaultOf shape AreRecords levels f r TooDeep place
 
--- the bytes are records without a fault
-abbrev pub AreFaultless : Shape → ℕ → List FieldShape → List ℕ → Type 0
-AreFaultless shape limit fs bytes = AreRecords limit fs bytes × ((code : Code) (place : ℕ) → HasFault shape limit fs bytes code place → ⊥)
+-- The bytes are records, each that a field accepts has a reading, and no message in them is deeper than the limit.
+pub record AreRead (shape : Shape) (limit : ℕ) (fs : List FieldShape) (bytes : List ℕ) : Type 0 where
+  pub records : List WireRecord
+  pub spelled : Spells bytes records
+  pub readable : all_readable (dec shape) fs records ≡ true
+  pub shallow : (place : ℕ) → TooDeepIn shape limit fs bytes place → ⊥
 
--- the fault of the first record in byte order that has one
+-- The fault of the first record in byte order that has one: what is before that record is read.
 abbrev pub FirstFault : Shape → ℕ → List FieldShape → List ℕ → Code → ℕ → Type 0
-FirstFault shape = FaultIn shape (AreFaultless shape)
+FirstFault shape = FaultIn shape (AreRead shape)
 
 abbrev pub FirstFaultOf : Shape → ℕ → FieldShape → WireRecord → Code → ℕ → Type 0
-FirstFaultOf shape = FaultOf shape (AreFaultless shape)
+FirstFaultOf shape = FaultOf shape (AreRead shape)

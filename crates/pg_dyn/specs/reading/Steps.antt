@@ -1,12 +1,12 @@
 -- What a field holds as parts of a message, why bytes are refused, and where no message is too deep (Encoding guide, "Message
 -- Structure"). Offsets are counted from the first byte of what is gone over.
-use Rattle.std.specs.Prelude.{◌≡◌, ◌⊎◌, ℕ, ◌+◌, ⊤, true, false, List, [], ◌++◌, map, Option, Some, None, Ok, Err}
+use Rattle.std.specs.Prelude.{◌≡◌, ℕ, ◌+◌, ⊤, true, false, List, [], ◌++◌, map, Option, Some, None, IsSomeAnd, Ok, Err}
 use Rattle.std.specs.List.{AllByRecursion}
 use Rattle.pg_schema.specs.declared.parts.field.Scalar.{Scalar}
 use Rattle.pg_schema.specs.declared.parts.field.Element.{Element}
 use Rattle.pg_schema.specs.Shape.{Shape, FieldShape, field_at, is_map}
 use Rattle.pg_wire.specs.declared.record.WireType.{WireType}
-use Rattle.pg_wire.specs.Errors.{error_at, fault_of, place_of}
+use Rattle.pg_wire.specs.Errors.{error_at}
 use Rattle.pg_wire.specs.Reading.{Fault, row}
 use Rattle.pg_wire.specs.Records.{WireRecord}
 use Rattle.pg_dyn.specs.declared.error.DynError.{DynError}
@@ -24,7 +24,8 @@ use Rattle.pg_dyn.specs.message.KeptParts.{KeptItem, Plain, Msg}
 use Rattle.pg_dyn.specs.message.Kept.{message_of}
 use Rattle.pg_dyn.specs.message_ref.Borrowed.{HasKeys, IsFilled, content_seen, leaf_of}
 use Rattle.pg_dyn.specs.fitting.PartsFit.{FieldHolds}
-use Rattle.pg_dyn.specs.reading.Faults.{Code, Wire, NotUtf8, TooDeep, FirstFault, FirstFaultOf, TooDeepIn, TooDeepOf}
+use Rattle.pg_dyn.specs.reading.Faults.{Code, FirstFault, FirstFaultOf, TooDeepIn, TooDeepOf}
+use Rattle.pg_dyn.specs.reading.Refusals.{fault_named}
 
 -- what a field holds, as parts of a message
 abbrev pub item_of : KeptItem → Item
@@ -43,18 +44,10 @@ abbrev pub HeldFits : Shape → FieldShape → Option ContentRef → Type 0
 HeldFits shape f None = ⊤
 HeldFits shape f (Some content) = FieldHolds shape f (content_seen f.number content) × IsFilled content × HasKeys content
 
--- Why reading is refused: memory was, or what the error names is that many bytes after an offset.
+-- Why bytes are refused: what the error names is that many bytes after an offset.
 abbrev pub RefusedBy : (Code → ℕ → Type 0) → ℕ → DynError → Type 0
-RefusedBy IsFirst at errors.Memory = ⊤
-RefusedBy IsFirst at (errors.NotUtf8 there) = (place : ℕ) × (there ≡ at + place) × IsFirst NotUtf8 place
-RefusedBy IsFirst at (errors.TooDeep there) = (place : ℕ) × (there ≡ at + place) × IsFirst TooDeep place
-RefusedBy IsFirst at (errors.Wire e) = (place : ℕ) × (place_of e ≡ at + place) × IsFirst (Wire (fault_of e)) place
-RefusedBy IsFirst at errors.NoSuchField = ⊥
-RefusedBy IsFirst at errors.WrongKind = ⊥
-RefusedBy IsFirst at errors.OutOfRange = ⊥
-RefusedBy IsFirst at errors.OneofTwice = ⊥
-RefusedBy IsFirst at errors.DuplicateKey = ⊥
-RefusedBy IsFirst at errors.TooLong = ⊥
+RefusedBy IsFirst at e =
+    IsSomeAnd (fault_named e) (λ (fault : Code × ℕ). (place : ℕ) × (fault.1 ≡ at + place) × IsFirst fault.0 place)
 
 -- Of a record that the field takes, of one that some field takes, and of bytes: refused, and no message is too deep. Below the
 -- message there may be as many levels.
@@ -109,4 +102,6 @@ RowReads s body old new =
     × AllByRecursion (IsItemKept s) (map (number_item (scalar_form s)) words)
 
 abbrev pub RowRefused : Scalar → List ℕ → ℕ → DynError → Type 0
-RowRefused s body at e = (e ≡ errors.Memory) ⊎ ((fault : Fault) × (e ≡ errors.Wire (error_at fault at)) × (row (element_at (form_wire (scalar_form s))) body ≡ Err fault))
+RowRefused s body at e =
+    (fault : Fault) × (e ≡ errors.Wire (error_at fault at))
+    × (row (element_at (form_wire (scalar_form s))) body ≡ Err fault)

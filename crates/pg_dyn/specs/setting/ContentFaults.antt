@@ -15,9 +15,11 @@ use Rattle.pg_dyn.specs.declared.message.Content.TheVariants as contents
 use Rattle.pg_dyn.specs.declared.message.Value.{Value}
 use Rattle.pg_dyn.specs.declared.message.Value.TheVariants as values
 use Rattle.pg_dyn.specs.message.Message.{Leaf, leaf_eq}
+use Rattle.pg_dyn.specs.error.Codes.{code_of}
 use Rattle.pg_dyn.specs.reading.Content.{same_oneof}
 use Rattle.pg_dyn.specs.message.Kept.{type_of}
 use Rattle.pg_dyn.specs.message.Seen.{leaf_of}
+use Rattle.pg_dyn.specs.fitting.ContentFits.{ItemsFit}
 use Rattle.pg_dyn.specs.fitting.Fits.{Fits}
 use Rattle.pg_dyn.specs.fitting.ScalarItems.{IsFaultOf}
 
@@ -56,27 +58,14 @@ ElementFault shape (elements.Scalar s) value e = IsFaultOf s value e
 ElementFault shape (elements.Enum enum) value e = IsFaultOf Int32 value e
 ElementFault shape (elements.Message t) value e = ChildFault shape t value e
 
--- The order of faults: by the number after the E. What bytes are refused for is never the fault of a content, and is above all.
-abbrev pub code : DynError → ℕ
-code errors.Memory = 1
-code errors.NoSuchField = 601
-code errors.WrongKind = 602
-code errors.OutOfRange = 603
-code (errors.NotUtf8 at) = 604
-code errors.OneofTwice = 605
-code errors.DuplicateKey = 606
-code errors.TooLong = 607
-code (errors.TooDeep at) = 608
-code (errors.Wire e) = 609
-
 -- the former is wrong so, or nothing of that code is wrong with it and the latter is
-abbrev pub FirstFault : (DynError → Type 0) → (DynError → Type 0) → DynError → Type 0
-FirstFault F G e = F e ⊎ (((other : DynError) → code other ≡ code e → F other → ⊥) × G e)
+abbrev pub FirstOfTwo : (DynError → Type 0) → (DynError → Type 0) → DynError → Type 0
+FirstOfTwo F G e = F e ⊎ (((other : DynError) → code_of other ≡ code_of e → F other → ⊥) × G e)
 
 -- so is the first element of a list with which anything of that code is wrong
 abbrev pub FirstOf : {A : Type 0} → (A → DynError → Type 0) → List A → DynError → Type 0
 FirstOf F [] e = ⊥
-FirstOf F (x ∷ xs) e = FirstFault (F x) (FirstOf F xs) e
+FirstOf F (x ∷ xs) e = FirstOfTwo (F x) (FirstOf F xs) e
 
 abbrev pub AnyOf : {A : Type 0} → (A → Type 0) → List A → Type 0
 AnyOf P [] = ⊥
@@ -109,7 +98,16 @@ FieldFault shape f content e = ⊥
 -- the content under a number of the type has it
 abbrev pub ContentFault : Shape → TypeId → ℕ → Content → DynError → Type 0
 ContentFault shape type number content errors.NoSuchField = field_at (fields shape type) number ≡ None
-ContentFault shape type number content e = (f : FieldShape) × (field_at (fields shape type) number ≡ Some f) × FieldFault shape f content e
+ContentFault shape type number content e =
+    (f : FieldShape) × (field_at (fields shape type) number ≡ Some f) × FieldFault shape f content e
+
+-- A content of the field of its number: of the shape that the field's presence asks, each item one of its element, and
+-- in a map no key twice. Such a content has none of these faults (`ContentsHaveNoFault`).
+pub record IsContentOf (shape : Shape) (type : TypeId) (number : ℕ) (content : Content) : Type 0 where
+  pub field : FieldShape
+  pub found : field_at (fields shape type) number ≡ Some field
+  pub items : ItemsFit shape field.presence field.element content
+  pub once : HasKeyTwice content → ⊥
 
 -- two contents are of one number, or of members of one oneof
 abbrev pub is_in_oneof : List FieldShape → ℕ → ℕ → Bool
@@ -131,11 +129,11 @@ ContentsFault shape type cs e = FirstOf (λ (c : ℕ × Content). ContentFault s
 
 -- of what is wrong, the error has the lowest code
 abbrev pub IsLowest : (DynError → Type 0) → DynError → Type 0
-IsLowest Fault e = Fault e × ((other : DynError) → code other < code e → Fault other → ⊥)
+IsLowest Fault e = Fault e × ((other : DynError) → code_of other < code_of e → Fault other → ⊥)
 
 -- none of the faults of an item or a field, which are looked for before any memory is taken
 abbrev pub HasNoEarlyFault : (DynError → Type 0) → Type 0
-HasNoEarlyFault Fault = (e : DynError) → code e < 605 → Fault e → ⊥
+HasNoEarlyFault Fault = (e : DynError) → code_of e < 605 → Fault e → ⊥
 
 -- nothing is wrong
 abbrev pub HasNoFault : (DynError → Type 0) → Type 0

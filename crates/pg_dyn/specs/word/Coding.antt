@@ -1,7 +1,7 @@
 -- How an item of an element's type is written in the body of a record (Encoding guide, "Signed Integers", "Non-varint Numbers",
 -- "Length-Delimited Records"). That enums and sint32 keep the low 32 bits, that a bool is true for every word but 0 and that
 -- a string must be UTF-8 are this profile's choices.
-use Rattle.std.specs.Prelude.{◌≡◌, ℕ, ℤ, pos, ◌%◌, ◌^◌, ◌<◌, true, nat_eq, List, [], if◌then◌else◌, Option, Some, None, Err}
+use Rattle.std.specs.Prelude.{◌≡◌, ⊤, ℕ, ℤ, pos, ◌%◌, ◌^◌, ◌<◌, true, nat_eq, List, [], length, if◌then◌else◌, Option, Some, None, Err}
 use Rattle.std.specs.List.{AllByRecursion}
 use Rattle.std.specs.Int.{w32, w64, to_le_bytes, from_le_bytes}
 use Rattle.std.specs.Str.{is_utf8}
@@ -12,7 +12,7 @@ use Rattle.pg_schema.specs.declared.parts.field.Element.TheVariants as elements
 use Rattle.pg_wire.specs.declared.record.WireType.{WireType}
 use Rattle.pg_wire.specs.declared.record.WireType.TheVariants.{Varint, I64, Len, I32}
 use Rattle.pg_wire.specs.Reading.{Front, exactly, Truncated}
-use Rattle.pg_wire.specs.Varint.{varint, varint_at, varint_value}
+use Rattle.pg_wire.specs.Varint.{IsVarint, varint, varint_at, varint_value}
 use Rattle.pg_wire.specs.Words.{IsBetween, twos_complement, signed, zigzag, unzigzag}
 use Rattle.pg_dyn.specs.message.Message.{Leaf, Int, F32, F64, Bytes}
 
@@ -65,6 +65,13 @@ form_wire Single = I32
 form_wire Double = I64
 form_wire Text = Len
 form_wire Raw = Len
+
+-- the bytes have the shape of a body of this wire type
+abbrev pub HasShape : WireType → List ℕ → Type 0
+HasShape Varint bytes = IsVarint bytes
+HasShape I64 bytes = length bytes ≡ 8
+HasShape I32 bytes = length bytes ≡ 4
+HasShape Len bytes = ⊤
 
 -- a word as a body, and the word of a body
 unfoldable pub word_bytes : WireType → ℕ → List ℕ

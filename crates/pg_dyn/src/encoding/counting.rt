@@ -14,7 +14,7 @@ ghost use Rattle.pg_dyn.specs.encoding.Lending.{bare_leaf, leaf_lent};
 ghost use Rattle.pg_dyn.specs.fitting.PartsFit.{IsPartOf};
 ghost use Rattle.pg_dyn.specs.word.WordOf.{HasBits};
 ghost use Rattle.pg_dyn.specs.encoding.Writing.{item_record};
-ghost use Rattle.pg_dyn.specs.encoding.Written.{BareFits, CanBePacked, LeafFits, LeavesFit, capped, entry_record, field_lengths, field_written, inner_lengths, item_body, item_bytes, item_lengths, own_bytes, packed_body, packed_bytes, packed_lengths};
+ghost use Rattle.pg_dyn.specs.encoding.Written.{BareFits, CanBePacked, IsLeafOf, LeavesFit, capped, entry_record, field_lengths, field_written, inner_lengths, item_body, item_bytes, item_lengths, own_bytes, packed_body, packed_bytes, packed_lengths};
 ghost use Rattle.pg_schema.specs.declared.parts.field.Element.TheVariants as elements;
 
 use crate::accept::{element_wire_type, is_packed, map_key};
@@ -98,7 +98,7 @@ pub(crate) fn record_len(number: u32, wire_type: WireType, len: usize) -> usize
 
 /// How many bytes the body of an item takes that is no message.
 pub(crate) fn leaf_len(element: Element, leaf: LeafRef<'_>) -> usize
-    requires { LeafFits element (leaf_lent leaf) }
+    requires { IsLeafOf element (leaf_lent leaf) }
     ensures { result ≡ length (body (form element) (leaf_lent leaf.entry)) }
 {
     match element {

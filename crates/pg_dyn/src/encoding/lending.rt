@@ -4,11 +4,11 @@ ghost use Rattle.std.specs.Prelude.{◌≡◌, ◌≢◌, [], ℕ, List, Bool, t
 ghost use Rattle.std.specs.List.{AllByRecursion};
 ghost use Rattle.pg_wire.specs.Records.{WireRecord};
 ghost use Rattle.pg_dyn.specs.message.Kept.{Kept, ends, type_of};
-ghost use Rattle.pg_dyn.specs.message.KeptParts.{KeptItem, unknown_of};
-ghost use Rattle.pg_dyn.specs.encoding.Lending.{AreKeyed, AreKeyless, AreOf, Bare, Child, IsLone, all_parts, bare_leaf, entry_part, item_part, leaf_lent, lent_item};
+ghost use Rattle.pg_dyn.specs.message.KeptParts.{AreOf, KeptItem, unknown_of};
+ghost use Rattle.pg_dyn.specs.encoding.Lending.{AreKeyed, AreKeyless, Bare, Child, IsLone, bare_leaf, entry_part, item_part, leaf_lent, lent_item};
+ghost use Rattle.pg_dyn.specs.message.Replacing.{all_parts, kept_onto};
 ghost use Rattle.pg_dyn.specs.word.NumberLists.{numbers_in};
 ghost use Rattle.pg_dyn.specs.message.Message.{Part};
-ghost use Rattle.pg_dyn.specs.message.Replacing.{kept_onto};
 ghost use Rattle.pg_dyn.specs.message.Seen.{Rises};
 
 use crate::message::{Content, Message, UnknownRecord, Value};

@@ -7,7 +7,7 @@ ghost use Rattle.pg_wire.specs.Records.{length_before, tag, wire_code};
 ghost use Rattle.pg_dyn.specs.word.Coding.{InRange, body, form, scalar_form};
 ghost use Rattle.pg_dyn.specs.encoding.Lending.{bare_leaf, leaf_lent};
 ghost use Rattle.pg_dyn.specs.encoding.Writing.{item_record};
-ghost use Rattle.pg_dyn.specs.encoding.Written.{Adds, LeafFits, LeavesFit, MayNotAdd, MayNotWrite, capped, packed_body, packed_bytes, packed_lengths};
+ghost use Rattle.pg_dyn.specs.encoding.Written.{Adds, IsLeafOf, LeavesFit, MayNotAdd, MayNotWrite, capped, packed_body, packed_bytes, packed_lengths};
 
 use crate::encoding::body::{push_body, push_varint, wire_type_of};
 use crate::encoding::counting::{MAX_ENCODING_LEN, body_len};
@@ -93,7 +93,7 @@ pub(crate) fn push_item<M: Lends>(
 // Adds the body of an item that is no message.
 #[inline(always)]
 fn push_leaf(out: &mut Vec<u8>, element: Element, leaf: LeafRef<'_>) -> Result<(), AllocError>
-    requires { LeafFits element (leaf_lent leaf) }
+    requires { IsLeafOf element (leaf_lent leaf) }
     ensures ok { OnOk result (out.new.items
         ≡ out.old.items ++ body (form element) (leaf_lent leaf.entry)) }
 {

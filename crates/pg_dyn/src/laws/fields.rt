@@ -1,7 +1,7 @@
 //! Laws of a type's fields, of what is written and read of them, and of the contents that a message
 //! holds. Each is the contract of a function that does nothing.
 
-ghost use Rattle.pg_dyn.specs.laws.FieldLaws.{ContentsAreSeen, EqualLeaves, FieldsAreFound, LastItems, OwnContents, PackableWires, PartsKeepTypes, PlainIsKept, RecordsOfFields, RisingEntriesStay, UnknownIsKept};
+ghost use Rattle.pg_dyn.specs.laws.FieldLaws.{ContentsAreSeen, ContentsHaveNoFault, EqualLeaves, FieldsAreFound, LastItems, OwnContents, PackableWires, PartsKeepTypes, PlainIsKept, RecordsOfFields, RisingEntriesStay, UnknownIsKept};
 
 /// The fields of each type of a sound schema are sound; the field that is found by a number has it;
 /// each field of a type is found by its number; the type of a message field is that of its
@@ -57,6 +57,11 @@ pub fn plain_is_kept()
 /// What is kept has the unknown records of the message that it means; a plain message has none.
 pub fn unknown_is_kept()
     ensures { UnknownIsKept }
+{}
+
+/// A content of a field has none of the faults for which contents are refused.
+pub fn contents_have_no_fault()
+    ensures { ContentsHaveNoFault }
 {}
 
 /// Items are equal just where the test says so.

@@ -13,7 +13,7 @@ ghost use Rattle.pg_dyn.specs.declared.error.DynError.TheVariants as errors;
 use crate::error::DynError;
 use crate::message::Message;
 use crate::message_ref::MessageRef;
-use crate::reading::faults::find_fault;
+use crate::reading::faults::{Holder, find_fault};
 use crate::reading::read_message;
 use crate::reading::stop::Stop;
 use pg_schema::{Schema, TypeId};
@@ -63,7 +63,7 @@ pub fn decode_ref<'a>(
         Ok(message) => Ok(message),
         Err(stop) => {
             // The first fault in the bytes is reported; where they have none, memory was refused.
-            find_fault(schema, type_id, bytes, 0, limit - 1)?;
+            find_fault(schema, Holder::Message(type_id), bytes, 0, limit - 1)?;
             match stop {
                 Stop::Memory => Err(DynError::Memory),
                 Stop::Fault => unreachable!(),

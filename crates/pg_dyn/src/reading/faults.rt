@@ -1,18 +1,18 @@
 //! Where bytes have a fault: in the record that has it itself, of several the first.
 
-ghost use Rattle.std.specs.Prelude.{◌≡◌, ◌+◌, ◌^◌, ◌<◌, ◌∷◌, [], length, suc, true, false, is_some, OnOk, IfOk, IfErr};
+ghost use Rattle.std.specs.Prelude.{◌≡◌, ◌+◌, ◌^◌, ◌<◌, ◌∷◌, [], length, suc, true, false, is_some, None, Some, OnOk, IfErr, MatchOption};
 ghost use Rattle.std.specs.Str.{is_utf8};
 ghost use Rattle.pg_schema.specs.Invariant.{IsSchema};
 ghost use Rattle.pg_schema.specs.Parts.{field_shape, shape_of};
-ghost use Rattle.pg_schema.specs.Shape.{fields};
+ghost use Rattle.pg_schema.specs.Shape.{field_at};
 ghost use Rattle.pg_schema.specs.declared.parts.field.Presence.TheVariants as presences;
 ghost use Rattle.pg_wire.specs.Reads.{seen_record};
 ghost use Rattle.pg_wire.specs.Records.{IsRecord};
 ghost use Rattle.pg_dyn.specs.word.Coding.{Text, form, form_wire, leaf_in, scalar_form};
-ghost use Rattle.pg_dyn.specs.reading.Content.{same_wire, takes, value_field, entry_fields};
+ghost use Rattle.pg_dyn.specs.reading.Content.{same_wire, takes, entry_fields};
 ghost use Rattle.pg_dyn.specs.reading.Decoding.{all_readable, dec};
 ghost use Rattle.pg_dyn.specs.reading.Faults.{body_start};
-ghost use Rattle.pg_dyn.specs.reading.FaultSteps.{EntryReads, ItemReads};
+ghost use Rattle.pg_dyn.specs.inner.FaultSteps.{HolderReads, ItemReads, held_fields, part_field};
 ghost use Rattle.pg_dyn.specs.reading.Steps.{FieldReads, IsShallow, IsShallowIn, IsShallowItem, IsShallowRecord, RefusedIn, RefusedItem, RefusedOf, RefusedRecord};
 ghost use Rattle.pg_dyn.specs.declared.error.DynError.TheVariants as errors;
 
@@ -22,6 +22,25 @@ use crate::reading::elements::scalar_of;
 use crate::reading::packed::check_packed;
 use pg_schema::{Element, Field, Presence, Scalar, Schema, TypeId};
 use pg_wire::{Record, Records};
+
+/// What holds records: a message of the type, or an entry of a map.
+#[derive(Clone, Copy, Debug, Drop)]
+pub(crate) enum Holder {
+    Message(TypeId),
+    Entry { key: Scalar, element: Element },
+}
+
+// The element of an entry's part with that number: of its key or its value.
+fn part_at(key: Scalar, element: Element, number: u32) -> Option<Element>
+    ensures { MatchOption result (field_at (entry_fields key element) number ≡ None)
+        (λ part. field_at (entry_fields key element) number ≡ Some (part_field number part)) }
+{
+    match number {
+        1 => Some(Element::Scalar(key)),
+        2 => Some(element),
+        _ => None,
+    }
+}
 
 // Where a record's body begins, if the record begins at that offset.
 fn body_place(found: &Record<'_>, at: usize) -> usize
@@ -69,7 +88,6 @@ fn check_item(
         (seen_record found.now)) }
     ensures err { IfErr result (RefusedItem (shape_of schema.now) levels element
         (seen_record found.now) at) }
-    ensures not_memory { IfErr result (λ e. e ≡ errors.Memory → ⊥) }
 {
     match element {
         Element::Scalar(_) | Element::Enum(_) => check_scalar(scalar_of(element), found, at),
@@ -77,78 +95,16 @@ fn check_item(
             if levels == 0 {
                 return Err(DynError::TooDeep { at });
             }
-            let start = body_place(found, at);
-            find_fault(schema, type_id, found.body, start, levels - 1)
+            let holder = Holder::Message(type_id);
+            find_fault(
+                schema,
+                holder,
+                found.body,
+                body_place(found, at),
+                levels - 1,
+            )
         }
     }
-}
-
-// Refuses a record of an entry that has a fault. Answers whether it is one of the entry's value.
-#[cycle(faults)]
-fn check_part(
-    schema: &Schema,
-    key: Scalar,
-    element: Element,
-    found: &Record<'_>,
-    at: usize,
-    levels: usize,
-) -> Result<bool, DynError>
-    requires is_schema { IsSchema schema.now }
-    requires is_record { IsRecord (seen_record found.now) }
-    requires room { at + length found.now.bytes.now < 2 ^ 64 }
-    ensures value { IfOk result (λ is_value. is_value
-        ≡ takes (value_field element) (seen_record found.now)) }
-    ensures readable { OnOk result (all_readable (dec (shape_of schema.now))
-        (entry_fields key element) (seen_record found.now ∷ []) ≡ true) }
-    ensures shallow { OnOk result (IsShallowRecord (shape_of schema.now) levels
-        (entry_fields key element) (seen_record found.now)) }
-    ensures err { IfErr result (RefusedRecord (shape_of schema.now) levels
-        (entry_fields key element) (seen_record found.now) at) }
-    ensures not_memory { IfErr result (λ e. e ≡ errors.Memory → ⊥) }
-{
-    if found.number == 1 && is_own(found.wire_type, Element::Scalar(key)) {
-        check_scalar(key, found, at)?;
-        return Ok(false);
-    }
-    if found.number == 2 && is_own(found.wire_type, element) {
-        check_item(schema, element, found, at, levels)?;
-        return Ok(true);
-    }
-    Ok(false)
-}
-
-// Refuses an entry whose records, which begin at that offset, have a fault. Answers whether one is
-// of its value.
-#[cycle(faults)]
-fn check_parts(
-    schema: &Schema,
-    key: Scalar,
-    element: Element,
-    bytes: &[u8],
-    start: usize,
-    levels: usize,
-) -> Result<bool, DynError>
-    requires is_schema { IsSchema schema.now }
-    requires room { start + length bytes.now < 2 ^ 64 }
-    ensures readable { IfOk result (EntryReads (shape_of schema.now) key element bytes.now) }
-    ensures shallow { OnOk result (IsShallowIn (shape_of schema.now) (suc levels)
-        (entry_fields key element) bytes.now) }
-    ensures err { IfErr result (RefusedIn (shape_of schema.now) (suc levels)
-        (entry_fields key element) bytes.now start) }
-    ensures not_memory { IfErr result (λ e. e ≡ errors.Memory → ⊥) }
-{
-    let mut has_value = false;
-    let mut at = start;
-    for found in Records::new(bytes) {
-        match found {
-            Ok(record) => {
-                has_value |= check_part(schema, key, element, &record, at, levels)?;
-                at += record.bytes.len();
-            }
-            Err(error) => return Err(DynError::Wire(error.after(start))),
-        }
-    }
-    Ok(has_value)
 }
 
 // Refuses a record of a map field that has a fault. Where the entry lacks a value that is a
@@ -172,14 +128,20 @@ fn check_entry(
         (seen_record found.now)) }
     ensures err { IfErr result (RefusedOf (shape_of schema.now) levels (field_shape field.now)
         (seen_record found.now) at) }
-    ensures not_memory { IfErr result (λ e. e ≡ errors.Memory → ⊥) }
 {
-    let start = body_place(found, at);
-    let has_value = check_parts(schema, key, field.element, found.body, start, levels)?;
-    if !has_value && levels == 0 && matches!(field.element, Element::Message(_)) {
-        return Err(DynError::TooDeep { at });
+    let element = field.element;
+    let holder = Holder::Entry { key, element };
+    find_fault(schema, holder, found.body, body_place(found, at), levels)?;
+    match element {
+        Element::Message(_) => {
+            if levels > 0 {
+                return Ok(());
+            }
+            // A value that is there is too deep itself, and so found already.
+            Err(DynError::TooDeep { at })
+        }
+        Element::Scalar(_) | Element::Enum(_) => Ok(()),
     }
-    Ok(())
 }
 
 // Refuses a record that the field takes and that has a fault.
@@ -201,7 +163,6 @@ fn check_known(
         (seen_record found.now)) }
     ensures err { IfErr result (RefusedOf (shape_of schema.now) levels (field_shape field.now)
         (seen_record found.now) at) }
-    ensures not_memory { IfErr result (λ e. e ≡ errors.Memory → ⊥) }
 {
     if let Presence::Map { key } = field.presence {
         return check_entry(schema, field, key, found, at, levels);
@@ -212,11 +173,11 @@ fn check_known(
     check_packed(scalar_of(field.element), found.body, at)
 }
 
-// Refuses a record of a message that has a fault.
+// Refuses a record that has a fault.
 #[cycle(faults)]
 fn check_record(
     schema: &Schema,
-    type_id: TypeId,
+    holder: Holder,
     found: &Record<'_>,
     at: usize,
     levels: usize,
@@ -225,45 +186,52 @@ fn check_record(
     requires is_record { IsRecord (seen_record found.now) }
     requires room { at + length found.now.bytes.now < 2 ^ 64 }
     ensures readable { OnOk result (all_readable (dec (shape_of schema.now))
-        (fields (shape_of schema.now) type_id) (seen_record found.now ∷ []) ≡ true) }
+        (held_fields (shape_of schema.now) holder) (seen_record found.now ∷ []) ≡ true) }
     ensures shallow { OnOk result (IsShallowRecord (shape_of schema.now) levels
-        (fields (shape_of schema.now) type_id) (seen_record found.now)) }
+        (held_fields (shape_of schema.now) holder) (seen_record found.now)) }
     ensures err { IfErr result (RefusedRecord (shape_of schema.now) levels
-        (fields (shape_of schema.now) type_id) (seen_record found.now) at) }
-    ensures not_memory { IfErr result (λ e. e ≡ errors.Memory → ⊥) }
+        (held_fields (shape_of schema.now) holder) (seen_record found.now) at) }
 {
-    match schema.field(type_id, found.number) {
-        Some(field) if accepts(field, found.wire_type) => {
-            check_known(schema, field, found, at, levels)
-        }
-        _ => Ok(()),
+    match holder {
+        Holder::Message(type_id) => match schema.field(type_id, found.number) {
+            Some(field) if accepts(field, found.wire_type) => {
+                check_known(schema, field, found, at, levels)
+            }
+            _ => Ok(()),
+        },
+        Holder::Entry { key, element } => match part_at(key, element, found.number) {
+            Some(part) if is_own(found.wire_type, part) => {
+                check_item(schema, part, found, at, levels)
+            }
+            _ => Ok(()),
+        },
     }
 }
 
 /// Refuses bytes, which begin at that offset, that have a fault, or a message that is more than
-/// as many levels below theirs: the fault with its offset, of several the first in the bytes.
+/// as many levels below theirs: the fault with its offset, of several the first in the bytes. An
+/// entry is on the level of the message that holds it.
 #[cycle(faults)]
 pub(crate) fn find_fault(
     schema: &Schema,
-    type_id: TypeId,
+    holder: Holder,
     bytes: &[u8],
     start: usize,
     levels: usize,
 ) -> Result<(), DynError>
     requires is_schema { IsSchema schema.now }
     requires room { start + length bytes.now < 2 ^ 64 }
-    ensures readable { OnOk result (is_some (dec (shape_of schema.now) type_id bytes.now) ≡ true) }
+    ensures readable { OnOk result (HolderReads (shape_of schema.now) holder bytes.now) }
     ensures shallow { OnOk result (IsShallowIn (shape_of schema.now) (suc levels)
-        (fields (shape_of schema.now) type_id) bytes.now) }
+        (held_fields (shape_of schema.now) holder) bytes.now) }
     ensures err { IfErr result (RefusedIn (shape_of schema.now) (suc levels)
-        (fields (shape_of schema.now) type_id) bytes.now start) }
-    ensures not_memory { IfErr result (λ e. e ≡ errors.Memory → ⊥) }
+        (held_fields (shape_of schema.now) holder) bytes.now start) }
 {
     let mut at = start;
     for found in Records::new(bytes) {
         match found {
             Ok(record) => {
-                check_record(schema, type_id, &record, at, levels)?;
+                check_record(schema, holder, &record, at, levels)?;
                 at += record.bytes.len();
             }
             Err(error) => return Err(DynError::Wire(error.after(start))),

@@ -9,7 +9,6 @@ ghost use Rattle.pg_wire.specs.declared.error.WireError.TheVariants as wire_erro
 ghost use Rattle.pg_dyn.specs.reading.ByFields.{StopsFor};
 ghost use Rattle.pg_dyn.specs.word.Coding.{element_at, form_wire, scalar_form, word_in};
 ghost use Rattle.pg_dyn.specs.reading.Content.{packed_leaves};
-ghost use Rattle.pg_dyn.specs.declared.error.DynError.TheVariants as errors;
 ghost use Rattle.pg_dyn.specs.reading.Steps.{IsRow, RowReads, RowRefused, WordsRead};
 ghost use Rattle.pg_dyn.specs.word.WordOf.{HasBits};
 
@@ -128,7 +127,6 @@ pub(crate) fn check_packed(scalar: Scalar, body: &[u8], at: usize) -> Result<(),
     requires { is_packable (elements.Scalar scalar) ≡ true }
     ensures readable { OnOk result (is_some (packed_leaves (scalar_form scalar) body.now) ≡ true) }
     ensures err { IfErr result (RowRefused scalar body.now at) }
-    ensures not_memory { IfErr result (λ e. e ≡ errors.Memory → ⊥) }
 {
     let wire_type = wire_type_of(scalar);
     let mut start = 0;

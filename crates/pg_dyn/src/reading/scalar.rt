@@ -3,9 +3,8 @@
 ghost use Rattle.std.specs.Prelude.{◌≡◌, ◌<◌, ℕ, List, true, Some, IfOk, IfErr, is_some};
 ghost use Rattle.pg_schema.specs.declared.parts.field.Element.TheVariants as elements;
 ghost use Rattle.pg_schema.specs.Shape.{is_packable};
-ghost use Rattle.pg_dyn.specs.word.Coding.{Text, form_wire, leaf_in, scalar_form, word_in};
+ghost use Rattle.pg_dyn.specs.word.Coding.{Text, form_wire, leaf_in, scalar_form, word_in, HasShape};
 ghost use Rattle.pg_dyn.specs.declared.error.DynError.TheVariants as errors;
-ghost use Rattle.pg_dyn.specs.fitting.ScalarItems.{HasShape};
 ghost use Rattle.pg_dyn.specs.message_ref.Borrowed.{leaf_of};
 ghost use Rattle.pg_dyn.specs.message_ref.BorrowedItems.{IsItemKept};
 ghost use Rattle.pg_dyn.specs.reading.ByFields.{StopsFor};

@@ -7,11 +7,12 @@ ghost use Rattle.pg_schema.specs.Invariant.{IsSchema};
 ghost use Rattle.pg_schema.specs.Parts.{field_shape, shape_of};
 ghost use Rattle.pg_dyn.specs.declared.error.DynError.TheVariants as errors;
 ghost use Rattle.pg_dyn.specs.word.Coding.{InRange, Text, scalar_form};
-ghost use Rattle.pg_dyn.specs.setting.ContentFaults.{code, ContentFault, ElementFault, FieldFault, FirstOf, IsLowest};
-ghost use Rattle.pg_dyn.specs.fitting.ContentFits.{ItemFits};
+ghost use Rattle.pg_dyn.specs.setting.ContentFaults.{ContentFault, ElementFault, FieldFault, FirstOf, IsLowest};
+ghost use Rattle.pg_dyn.specs.error.Codes.{code_of};
+ghost use Rattle.pg_dyn.specs.fitting.ContentFits.{ItemFits, EntryFits, ItemsFit};
 ghost use Rattle.pg_dyn.specs.message.Message.{Bytes, F32, F64};
 ghost use Rattle.pg_dyn.specs.fitting.ScalarItems.{HoldsBytes, IsFaultOf, IsItemOf};
-ghost use Rattle.pg_dyn.specs.setting.Reported.{EntryFault, EntryFits, IsTaken, ItemsFit, Reports, reported_code};
+ghost use Rattle.pg_dyn.specs.inner.Reported.{EntryFault, IsTaken, Reports, reported_code};
 ghost use Rattle.pg_dyn.specs.word.WordOf.{IsInteger, IsIntegerOf};
 
 use crate::error::DynError;
@@ -124,7 +125,7 @@ pub(crate) fn lower(
         (Ok(()), Err(_)) => second,
         (Err(_), Ok(())) => first,
         (Err(one), Err(other)) => {
-            if other.rank() < one.rank() {
+            if other.code() < one.code() {
                 second
             } else {
                 first
@@ -230,7 +231,7 @@ pub(crate) fn check_content<'a>(
         (field_shape f.now)) }
     ensures err { IfErr result (IsLowest
         (ContentFault (shape_of schema.now) type_id number content.now)) }
-    ensures early { IfErr result (λ e. code e < 605) }
+    ensures early { IfErr result (λ e. code_of e < 605) }
 {
     let Some(field) = schema.field(type_id, number) else {
         return Err(DynError::NoSuchField);

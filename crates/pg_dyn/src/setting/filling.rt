@@ -12,7 +12,7 @@ ghost use Rattle.pg_dyn.specs.fitting.ContentFits.{NoneSiblings};
 ghost use Rattle.pg_dyn.specs.fitting.Fits.{Fits};
 ghost use Rattle.pg_dyn.specs.message.Seen.{Rises};
 ghost use Rattle.pg_dyn.specs.setting.Setting.{IsWhole};
-ghost use Rattle.pg_dyn.specs.setting.Reported.{TakesContent, Reports};
+ghost use Rattle.pg_dyn.specs.inner.Reported.{TakesContent, Reports};
 
 use crate::error::DynError;
 use crate::message::{Content, Message};

@@ -5,11 +5,11 @@ ghost use Rattle.std.specs.List.{AllByRecursion};
 ghost use Rattle.pg_schema.specs.declared.parts.field.Element.TheVariants as elements;
 ghost use Rattle.pg_schema.specs.Parts.{field_shape, shape_of};
 ghost use Rattle.pg_dyn.specs.setting.ContentFaults.{HasKeyTwice};
-ghost use Rattle.pg_dyn.specs.fitting.ContentFits.{ContentFits, ItemFits};
+ghost use Rattle.pg_dyn.specs.fitting.ContentFits.{ContentFits, ItemFits, EntryFits, ItemsFit};
 ghost use Rattle.pg_dyn.specs.message.KeyOrder.{KeysAlike};
 ghost use Rattle.pg_dyn.specs.message.Seen.{content_seen, HasKeys, IsFilled, item_seen};
 ghost use Rattle.pg_dyn.specs.setting.Setting.{normalized};
-ghost use Rattle.pg_dyn.specs.setting.Reported.{EntryFits, entry_kept, entry_seen, is_nothing, ItemsFit, MayHoldKeys};
+ghost use Rattle.pg_dyn.specs.inner.Reported.{entry_kept, entry_seen, is_nothing, MayHoldKeys};
 ghost use Rattle.pg_dyn.specs.fitting.ScalarItems.{IsKeptAs};
 ghost use Rattle.pg_dyn.specs.fitting.Texts.{holds_bytes, kept_item};
 

@@ -17,7 +17,7 @@ pub struct TypeId {
 #[derive(Clone, Copy, Debug, PartialEq, Eq)]
 pub struct EnumId {
     /// Counted from 0 in `Parts::enums`.
-    pub index: u32,
+    pub index: usize,
 }
 
 /// The 15 scalar types (proto3 language guide, "Scalar Value Types").
@@ -49,7 +49,7 @@ pub enum Scalar {
     Sfixed64,
     /// `bool`: a varint, 0 or 1.
     Bool,
-    /// `string`: UTF-8.
+    /// `string`: a string in UTF-8.
     String,
     /// `bytes`: any bytes.
     Bytes,

@@ -7,7 +7,7 @@ use crate::parts::options::{MethodOptions, ServiceOptions};
 #[derive(Clone, Copy, Debug, PartialEq, Eq)]
 pub struct ServiceId {
     /// Counted from 0 in `Parts::services`.
-    pub index: u32,
+    pub index: usize,
 }
 
 /// A service.

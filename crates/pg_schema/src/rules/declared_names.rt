@@ -143,7 +143,7 @@ fn push_values_of(
         ≡ map string_bytes names.old.items
         ++ map (within scope.now) (values_of (slice_get enums.now id.index))) }
 {
-    match enums.get(id.index as usize) {
+    match enums.get(id.index) {
         Some(enum_type) => push_value_names(alloc, names, scope, &enum_type.values),
         None => Ok(()),
     }

@@ -59,7 +59,7 @@ pub(crate) fn is_known(types: usize, enums: usize, element: Element) -> bool
 {
     match element {
         Element::Scalar(_) => true,
-        Element::Enum(id) => (id.index as usize) < enums,
+        Element::Enum(id) => id.index < enums,
         Element::Message(id) => (id.index as usize) < types,
     }
 }

@@ -52,7 +52,7 @@ fn is_type_in(types: &[MessageType], scope: &str, id: TypeId) -> bool
 fn is_enum_in(enums: &[EnumType], scope: &str, id: EnumId) -> bool
     ensures { result ≡ is_named_in scope.now (enum_name enums.now id) }
 {
-    match enums.get(id.index as usize) {
+    match enums.get(id.index) {
         Some(enum_type) => is_in(scope.as_bytes(), enum_type.name.as_bytes()),
         None => false,
     }
@@ -62,7 +62,7 @@ fn is_enum_in(enums: &[EnumType], scope: &str, id: EnumId) -> bool
 fn is_service_in(services: &[Service], scope: &str, id: ServiceId) -> bool
     ensures { result ≡ is_named_in scope.now (service_name services.now id) }
 {
-    match services.get(id.index as usize) {
+    match services.get(id.index) {
         Some(service) => is_in(scope.as_bytes(), service.name.as_bytes()),
         None => false,
     }
@@ -141,17 +141,17 @@ pub(crate) fn are_file_scopes(
 }
 
 /// Appends the indices of these message types.
-fn push_type_places(places: &mut Vec<u32>, ids: &[TypeId]) -> Result<(), AllocError>
+fn push_type_places(places: &mut Vec<usize>, ids: &[TypeId]) -> Result<(), AllocError>
     ensures { OnOk result (places.new.items ≡ places.old.items ++ type_places ids.now) }
 {
     for id in ids {
-        places.push(id.index)?;
+        places.push(id.index as usize)?;
     }
     Ok(())
 }
 
 /// Appends the indices of these enums.
-fn push_enum_places(places: &mut Vec<u32>, ids: &[EnumId]) -> Result<(), AllocError>
+fn push_enum_places(places: &mut Vec<usize>, ids: &[EnumId]) -> Result<(), AllocError>
     ensures { OnOk result (places.new.items ≡ places.old.items ++ enum_places ids.now) }
 {
     for id in ids {
@@ -161,7 +161,7 @@ fn push_enum_places(places: &mut Vec<u32>, ids: &[EnumId]) -> Result<(), AllocEr
 }
 
 /// Appends the indices of these services.
-fn push_service_places(places: &mut Vec<u32>, ids: &[ServiceId]) -> Result<(), AllocError>
+fn push_service_places(places: &mut Vec<usize>, ids: &[ServiceId]) -> Result<(), AllocError>
     ensures { OnOk result (places.new.items ≡ places.old.items ++ service_places ids.now) }
 {
     for id in ids {
@@ -171,7 +171,7 @@ fn push_service_places(places: &mut Vec<u32>, ids: &[ServiceId]) -> Result<(), A
 }
 
 /// Appends the indices of the message types that files declare.
-fn push_file_types(places: &mut Vec<u32>, files: &[File]) -> Result<(), AllocError>
+fn push_file_types(places: &mut Vec<usize>, files: &[File]) -> Result<(), AllocError>
     ensures { OnOk result (places.new.items ≡ places.old.items ++ file_types files.now) }
 {
     for file in files {
@@ -181,7 +181,7 @@ fn push_file_types(places: &mut Vec<u32>, files: &[File]) -> Result<(), AllocErr
 }
 
 /// Appends the indices of the message types that message types declare.
-fn push_nested_types(places: &mut Vec<u32>, types: &[MessageType]) -> Result<(), AllocError>
+fn push_nested_types(places: &mut Vec<usize>, types: &[MessageType]) -> Result<(), AllocError>
     ensures { OnOk result (places.new.items ≡ places.old.items ++ nested_types types.now) }
 {
     for message_type in types {
@@ -195,7 +195,7 @@ fn declared_types(
     alloc: Global,
     files: &[File],
     types: &[MessageType],
-) -> Result<Vec<u32>, AllocError>
+) -> Result<Vec<usize>, AllocError>
     ensures { IfOk result (λ places. places.items ≡ declared_types files.now types.now) }
 {
     let mut places = Vec::new(alloc);
@@ -205,7 +205,7 @@ fn declared_types(
 }
 
 /// Appends the indices of the enums that files declare.
-fn push_file_enums(places: &mut Vec<u32>, files: &[File]) -> Result<(), AllocError>
+fn push_file_enums(places: &mut Vec<usize>, files: &[File]) -> Result<(), AllocError>
     ensures { OnOk result (places.new.items ≡ places.old.items ++ file_enums files.now) }
 {
     for file in files {
@@ -215,7 +215,7 @@ fn push_file_enums(places: &mut Vec<u32>, files: &[File]) -> Result<(), AllocErr
 }
 
 /// Appends the indices of the enums that message types declare.
-fn push_nested_enums(places: &mut Vec<u32>, types: &[MessageType]) -> Result<(), AllocError>
+fn push_nested_enums(places: &mut Vec<usize>, types: &[MessageType]) -> Result<(), AllocError>
     ensures { OnOk result (places.new.items ≡ places.old.items ++ nested_enums types.now) }
 {
     for message_type in types {
@@ -229,7 +229,7 @@ fn declared_enums(
     alloc: Global,
     files: &[File],
     types: &[MessageType],
-) -> Result<Vec<u32>, AllocError>
+) -> Result<Vec<usize>, AllocError>
     ensures { IfOk result (λ places. places.items ≡ declared_enums files.now types.now) }
 {
     let mut places = Vec::new(alloc);
@@ -239,7 +239,7 @@ fn declared_enums(
 }
 
 /// The indices of the services that files declare.
-fn declared_services(alloc: Global, files: &[File]) -> Result<Vec<u32>, AllocError>
+fn declared_services(alloc: Global, files: &[File]) -> Result<Vec<usize>, AllocError>
     ensures { IfOk result (λ places. places.items ≡ declared_services files.now) }
 {
     let mut places = Vec::new(alloc);
@@ -250,11 +250,11 @@ fn declared_services(alloc: Global, files: &[File]) -> Result<Vec<u32>, AllocErr
 }
 
 /// The indices are below the count.
-fn are_below(count: usize, places: &[u32]) -> bool
+fn are_below(count: usize, places: &[usize]) -> bool
     ensures { result ≡ list_all (λ place. nat_lt place count) places.now }
 {
     for place in places {
-        if count <= *place as usize {
+        if count <= *place {
             return false;
         }
     }
@@ -262,14 +262,14 @@ fn are_below(count: usize, places: &[u32]) -> bool
 }
 
 /// The indices, each as a number that is used.
-fn place_uses(alloc: Global, places: &[u32]) -> Result<Vec<Use>, AllocError>
+fn place_uses(alloc: Global, places: &[usize]) -> Result<Vec<Use>, AllocError>
     ensures { IfOk result (λ uses. uses.items ≡ map place_use places.now) }
 {
     let mut uses = Vec::new(alloc);
     for place in places {
         uses.push(Use {
-            first: *place,
-            last: *place,
+            first: *place as u64,
+            last: *place as u64,
             is_reserved: false,
         })?;
     }
@@ -277,7 +277,7 @@ fn place_uses(alloc: Global, places: &[u32]) -> Result<Vec<Use>, AllocError>
 }
 
 /// The indices are so many, all below that count, and each is there once.
-fn are_each_once(alloc: Global, count: usize, places: &[u32]) -> Result<bool, AllocError>
+fn are_each_once(alloc: Global, count: usize, places: &[usize]) -> Result<bool, AllocError>
     ensures { IfOk result (λ b. b ≡ are_each_once count places.now) }
 {
     if places.len() != count || !are_below(count, places) {

@@ -15,9 +15,9 @@ use std::alloc::{AllocError, Global};
 #[derive(Clone, Copy, Debug, PartialEq, Eq)]
 pub(crate) struct Use {
     /// The lowest. Of an enum counted from -2,147,483,648.
-    pub first: u32,
+    pub first: u64,
     /// The highest, counted likewise.
-    pub last: u32,
+    pub last: u64,
     /// Whether the numbers are reserved, and no field's or value's.
     pub is_reserved: bool,
 }
@@ -27,8 +27,8 @@ fn field_use(field: &Field) -> Use
     ensures { result ≡ field_use field.now }
 {
     Use {
-        first: field.number,
-        last: field.number,
+        first: u64::from(field.number),
+        last: u64::from(field.number),
         is_reserved: false,
     }
 }
@@ -38,8 +38,8 @@ fn reserved_use(range: ReservedFields) -> Use
     ensures { result ≡ reserved_use range }
 {
     Use {
-        first: range.first,
-        last: range.last,
+        first: u64::from(range.first),
+        last: u64::from(range.last),
         is_reserved: true,
     }
 }
@@ -71,10 +71,10 @@ pub(crate) fn message_uses(
 }
 
 /// The number counted from -2,147,483,648.
-pub(crate) fn from_lowest(number: i32) -> u32
+pub(crate) fn from_lowest(number: i32) -> u64
     ensures { result ≡ from_lowest number }
 {
-    (i64::from(number) + 0x8000_0000) as u32
+    (i64::from(number) + 0x8000_0000) as u64
 }
 
 /// What the value uses.

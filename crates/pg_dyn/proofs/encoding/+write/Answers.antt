@@ -1,11 +1,8 @@
 -- What is written of each item, entry, content and message, and the lengths that are left.
-use Rattle.std.proofs.Common.{true, ◌≡◌, ◌≤◌, ◌++◌, length, flat_map, Some, refl, ap, ap₂, sym, subst, ◌∙◌, arith, append_assoc, length-append}
-use Rattle.std.proofs.lemmas.Result.{IfErr-weaker, err_from_is_err_and}
-use Rattle.std.specs.List.{AllByRecursion}
+use Rattle.std.proofs.Common.{true, ◌≡◌, ◌≤◌, ◌++◌, length, flat_map, Some, refl, ap, ap₂, sym, ◌∙◌, arith, append_assoc, length-append}
+use Rattle.std.proofs.lemmas.Result.{IfErr-weaker, IfOk-weaker, err_from_is_err_and}
 use Rattle.pg_schema.specs.declared.parts.field.Element.TheVariants as elements
 use Rattle.pg_schema.specs.declared.parts.field.Scalar.{Scalar}
-use Rattle.pg_dyn.specs.word.NumberLists.{numbers_in}
-use Rattle.pg_dyn.proofs.lemmas.encoding.NumberWords.{numbers_fit, numbers_noted, numbers_written}
 use Rattle.pg_schema.specs.Parts.{field_shape, shape_of}
 use Rattle.pg_schema.specs.Shape.{fields, field_at}
 use Rattle.pg_wire.specs.declared.record.WireType.TheVariants.{Len}
@@ -13,13 +10,13 @@ use Rattle.pg_wire.specs.Records.{written}
 use Rattle.pg_dyn.specs.word.Coding.{InRange, scalar_form}
 use Rattle.pg_dyn.specs.message.Kept.{type_of}
 use Rattle.pg_dyn.specs.message.KeptParts.{unknown_of}
-use Rattle.pg_dyn.specs.encoding.Lending.{HoldsParts, bare_leaf, item_part, lent_item}
-use Rattle.pg_dyn.specs.fitting.PartsFit.{IsPartOf}
+use Rattle.pg_dyn.specs.encoding.Lending.{HoldsParts, bare_leaf}
 use Rattle.pg_dyn.specs.encoding.Writing.{bytes_of, item_record}
-use Rattle.pg_dyn.specs.encoding.Written.{BareFits, LeavesFit, capped, entry_body, entry_record, field_lengths, field_written, item_body, item_bytes, item_lengths, number_bytes, number_lengths, own_bytes}
-use Rattle.pg_dyn.proofs.lemmas.encoding.EncodeSteps.{adds_as, at_the_end, content_bytes, contents_held, entries_fit, entries_noted, entries_written, entry_in_turn, field_bytes, field_fits, first_is, if_ok, values_fit, items_noted, items_written, keyed, keyless, keys_fit, later_is, leaves_fit, longer, may_not_as, on_the_way, own_is, packable, packed_noted, packed_written, packs, record_in_turn, record_size, records_are, stopped_on_the_way}
+use Rattle.pg_dyn.specs.encoding.Written.{BareFits, capped, entry_body, entry_record, item_body, item_bytes, item_lengths, own_bytes}
+use Rattle.pg_dyn.proofs.lemmas.encoding.ContentParts.{adds, may_not, entries, items, numbers}
+use Rattle.pg_dyn.proofs.lemmas.encoding.EncodeSteps.{at_the_end, content_bytes, contents_held, entry_in_turn, field_bytes, field_fits, first_is, later_is, leaves_fit, longer, on_the_way, own_is, packable, packs, record_in_turn, record_size, records_are, stopped_on_the_way, under}
 use Rattle.pg_dyn.proofs.lemmas.fitting.FitsSteps.{some_not_none}
-use Rattle.pg_dyn.proofs.lemmas.encoding.LentWeights.{content_lighter, entries_weigh, item_lighter, items_weigh, parts_weight}
+use Rattle.pg_dyn.proofs.lemmas.encoding.LentWeights.{content_lighter, item_lighter, parts_weight}
 use Rattle.pg_dyn.proofs.Lists.{each_at_index}
 use Rattle.pg_dyn.proofs.lemmas.encoding.NotedLengths.{content_lengths, field_noted, inner_is}
 use Rattle.pg_dyn.proofs.lemmas.reading.records.Splitting.{found_number}
@@ -31,7 +28,7 @@ pub write_items-write_item-requires : goal.write_items-write_item-requires
 write_items-write_item-requires g t c κs within =
     let lighter = item_lighter g.M.Lends.item c.args.values.now c.loop-value.value-index c.value-item.result c.loop-value-test.true c.value-item.is in
     let fits = each_at_index (λ v. BareFits (shape_of c.args.schema.now) c.args.element (g.M.Lends.item v)) c.args.values.now c.args.values.now c.loop-value.value-index c.value-item.result refl c.loop-value-test.true c.value-item.is c.requires.fit in
-    (omega (arith, lighter, c.decreases), (within.0, (within.1.0, (within.1.1.0, (within.1.1.1.0, (within.1.1.1.1, (c.requires.is_schema, fits)))))))
+    (omega (arith, lighter, c.decreases), under within (c.requires.is_schema, fits))
 
 pub write_items-loop-value-preserved : goal.write_items-loop-value-preserved
 write_items-loop-value-preserved g t c =
@@ -57,7 +54,7 @@ write_entries-write_entry-requires g t c κs within =
     let lighter = item_lighter (λ e. g.M.Lends.item (g.M.Lends.value_of e)) c.args.entries.now c.loop-entry.entry-index c.entry-item.result c.loop-entry-test.true c.entry-item.is in
     let fits = each_at_index (λ e. BareFits (shape_of c.args.schema.now) c.args.element (g.M.Lends.item (g.M.Lends.value_of e))) c.args.entries.now c.args.entries.now c.loop-entry.entry-index c.entry-item.result refl c.loop-entry-test.true c.entry-item.is c.requires.fit in
     let key = each_at_index (λ e. InRange (scalar_form c.args.key) (bare_leaf (g.M.Lends.item (g.M.Lends.key_of e)))) c.args.entries.now c.args.entries.now c.loop-entry.entry-index c.entry-item.result refl c.loop-entry-test.true c.entry-item.is c.requires.keys in
-    (omega (arith, lighter, c.decreases), (within.0, (within.1.0, (within.1.1.0, (within.1.1.1.0, (within.1.1.1.1, (c.requires.is_schema, (key, fits))))))))
+    (omega (arith, lighter, c.decreases), under within (c.requires.is_schema, (key, fits)))
 
 pub write_entries-loop-entry-preserved : goal.write_entries-loop-entry-preserved
 write_entries-loop-entry-preserved g t c =
@@ -101,31 +98,8 @@ write_message-write_content-requires g t c κs within =
     let held = contents_held parts shape m ms c.requires.is_schema.shape c.requires.fits c.fields-number-items.ensures.whole c.fields-number-items.ensures.filled c.fields-number-items.ensures.numbered in
     let here = each_at_index (λ x. HoldsParts (shape_of c.args.schema.now) (type_of (g.M.Lends.kept c.args.message.now)) x.0 (g.M.Lends.parts x.0 x.1)) ms ms c.loop-number.number-index c.loop-number-item.result refl c.loop-number-test.true c.loop-number-item.is held in
     let lighter = content_lighter parts m ms c.loop-number.number-index c.loop-number-item.result c.fields-number-items.ensures.whole c.loop-number-test.true c.loop-number-item.is in
-    let same = ap (λ k. parts_weight (g.M.Lends.parts k c.loop-number-item.result.1)) number in (
-      omega (arith, lighter, same, c.decreases),
-      (
-        within.0,
-        (
-          within.1.0,
-          (
-            within.1.1.0,
-            (
-              within.1.1.1.0,
-              (
-                within.1.1.1.1,
-                (
-                  c.requires.is_schema,
-                  (
-                    packs shape (type_of m) c.requires.is_schema.shape c.loop-number-item.result.0 f found,
-                    field_fits parts shape m c.loop-number-item.result f found here,
-                  ),
-                ),
-              ),
-            ),
-          ),
-        ),
-      ),
-    )
+    let same = ap (λ k. parts_weight (g.M.Lends.parts k c.loop-number-item.result.1)) number in
+    (omega (arith, lighter, same, c.decreases), under within (c.requires.is_schema, (packs shape (type_of m) c.requires.is_schema.shape c.loop-number-item.result.0 f found, field_fits parts shape m c.loop-number-item.result f found here)))
 
 pub write_message-loop-number-preserved : goal.write_message-loop-number-preserved
 write_message-loop-number-preserved g t c =
@@ -183,7 +157,7 @@ write_message-returns-in_err-left-clause-err g t c =
 pub write_child-returns-in_ok-push_front-in-len1-up-clause-ok : goal.write_child-returns-in_ok-push_front-in-len1-up-clause-ok
 write_child-returns-in_ok-push_front-in-len1-up-clause-ok g t c =
     let own = own_bytes (shape_of c.args.schema.now) (g.M.Lends.kept c.args.child.now) in
-    if_ok _ _ c.write_message.result
+    IfOk-weaker c.write_message.result _ _
     (λ left k rest whole.
     let told = c.in_ok-not_too_long-in-len1-up.ensures.ok (length own) (first_is c.args.lengths.now _ _ whole) in
     let front = c.in_ok-push_front-in-len1-up.ensures.ok own (sym told) in
@@ -215,7 +189,7 @@ write_entry-returns-clause-ok g t c =
     let k = bare_leaf (g.M.Lends.item (g.M.Lends.key_of c.args.entry.now)) in
     let b = entry_body (shape_of c.args.schema.now) c.args.key c.args.element k x in
     let key_is = ap (λ v. bare_leaf (g.M.Lends.item v)) c.key-entry_key.ensures in
-    if_ok _ _ c.write_item.result
+    IfOk-weaker c.write_item.result _ _
     (λ left done rest whole.
     let ahead = whole ∙ ap (λ v. item_lengths (shape_of c.args.schema.now) (g.M.Lends.item v) ++ rest) (sym c.value-item.ensures) in
     let value = c.counted_len-value_len.ensures rest ahead ∙ ap (λ v. capped (length (item_body (shape_of c.args.schema.now) c.args.element (g.M.Lends.item v)))) c.value-item.ensures in
@@ -260,163 +234,84 @@ write_entry-returns-clause-err g t c =
     (why rest (whole ∙ ap (λ v. item_lengths (shape_of c.args.schema.now) (g.M.Lends.item v) ++ rest) (sym c.value-item.ensures))))
     c.write_item.ensures.err
 
--- A content.
+-- A content: a map's entries, numbers, a packed list, or items one by one.
 
 pub write_content-write_entries-requires : goal.write_content-write_entries-requires
 write_content-write_entries-requires g t c κs within =
     let shape = shape_of c.args.schema.now in
     let f = field_shape c.args.field.now in
     let ps = g.M.Lends.parts c.args.field.now.number c.args.content.now in
-    let are = c.entries-held.ensures c.args.field.now.number (keyed shape f c.in-Some.key ps c.in-Some.ensures c.requires.fit) in
-    let fit = subst (AllByRecursion (IsPartOf (shape_of c.args.schema.now) (field_shape c.args.field.now))) are c.requires.fit in
-    let weigh = ap parts_weight are ∙ entries_weigh g.M.Lends.item g.M.Lends.key_of g.M.Lends.value_of c.args.field.now.number c.entries-held.result.now in (
-      omega (arith, weigh, c.decreases),
-      (
-        within.0,
-        (
-          within.1.0,
-          (
-            within.1.1.0,
-            (
-              within.1.1.1.0,
-              (
-                within.1.1.1.1,
-                (
-                  c.requires.is_schema,
-                  (
-                    keys_fit g.M.Lends.item g.M.Lends.key_of g.M.Lends.value_of shape f c.args.field.now.number c.in-Some.key c.entries-held.result.now c.in-Some.ensures fit,
-                    entries_fit g.M.Lends.item g.M.Lends.key_of g.M.Lends.value_of shape f c.args.field.now.number c.entries-held.result.now fit,
-                  ),
-                ),
-              ),
-            ),
-          ),
-        ),
-      ),
-    )
+    let w = entries g.M.Lends.item g.M.Lends.key_of g.M.Lends.value_of shape f c.in-Some.key c.entries-held.result.now ps c.in-Some.ensures c.requires.fit (c.entries-held.ensures c.args.field.now.number) in
+    (omega (arith, w.weigh, c.decreases), under within (c.requires.is_schema, (w.keys, w.fit)))
 
-pub write_content-returns-in-Some-clause-ok : goal.write_content-returns-in-Some-clause-ok
-write_content-returns-in-Some-clause-ok g t c =
+pub write_content-returns-in-Some : goal.write_content-returns-in-Some
+write_content-returns-in-Some g t c =
     let shape = shape_of c.args.schema.now in
     let f = field_shape c.args.field.now in
     let ps = g.M.Lends.parts c.args.field.now.number c.args.content.now in
-    let are = c.entries-held.ensures c.args.field.now.number (keyed shape f c.in-Some.key ps c.in-Some.ensures c.requires.fit) in
-    adds_as c.write_entries.result (λ x. x.now) c.args.lengths.now _ _ c.args.out.now.items _ _ c.write_entries.new.out.items
-    (sym (ap (field_lengths shape f) are ∙ entries_noted g.M.Lends.item g.M.Lends.key_of g.M.Lends.value_of shape f c.in-Some.key c.entries-held.result.now c.in-Some.ensures))
-    (sym (ap (field_written shape f) are ∙ entries_written g.M.Lends.item g.M.Lends.key_of g.M.Lends.value_of shape f c.in-Some.key c.entries-held.result.now c.in-Some.ensures))
-    c.write_entries.ensures.ok
-
-pub write_content-returns-in-Some-clause-err : goal.write_content-returns-in-Some-clause-err
-write_content-returns-in-Some-clause-err g t c =
-    let shape = shape_of c.args.schema.now in
-    let f = field_shape c.args.field.now in
-    let ps = g.M.Lends.parts c.args.field.now.number c.args.content.now in
-    let are = c.entries-held.ensures c.args.field.now.number (keyed shape f c.in-Some.key ps c.in-Some.ensures c.requires.fit) in
-    may_not_as c.write_entries.result c.args.lengths.now _ _ _ _
-    (sym (ap (field_lengths shape f) are ∙ entries_noted g.M.Lends.item g.M.Lends.key_of g.M.Lends.value_of shape f c.in-Some.key c.entries-held.result.now c.in-Some.ensures))
-    (sym (ap (field_written shape f) are ∙ entries_written g.M.Lends.item g.M.Lends.key_of g.M.Lends.value_of shape f c.in-Some.key c.entries-held.result.now c.in-Some.ensures))
-    c.write_entries.ensures.err
-
-pub write_content-push_packed-requires : goal.write_content-push_packed-requires
-write_content-push_packed-requires g t c =
-    let shape = shape_of c.args.schema.now in
-    let f = field_shape c.args.field.now in
-    let are = c.items-values.ensures c.args.field.now.number c.in_default.ensures (keyless shape f (g.M.Lends.parts c.args.field.now.number c.args.content.now) c.in-None.ensures c.requires.fit) in
-    let fit = subst (AllByRecursion (IsPartOf (shape_of c.args.schema.now) (field_shape c.args.field.now))) are.1 c.requires.fit in
-    let packed = sym c.is_packed-packed.ensures ∙ c.if-packed.true in
-    leaves_fit g.M.Lends.item shape f.element c.items-values.result.now (packable f.presence f.element packed c.requires.packed) (values_fit g.M.Lends.item shape f c.args.field.now.number are.0 c.items-values.result.now fit)
-
-pub write_content-returns-then-packed-clause-ok : goal.write_content-returns-then-packed-clause-ok
-write_content-returns-then-packed-clause-ok g t c =
-    let shape = shape_of c.args.schema.now in
-    let f = field_shape c.args.field.now in
-    let are = c.items-values.ensures c.args.field.now.number c.in_default.ensures (keyless shape f (g.M.Lends.parts c.args.field.now.number c.args.content.now) c.in-None.ensures c.requires.fit) in
-    let fit = subst (AllByRecursion (IsPartOf (shape_of c.args.schema.now) (field_shape c.args.field.now))) are.1 c.requires.fit in
-    let packed = sym c.is_packed-packed.ensures ∙ c.if-packed.true in
-    adds_as c.push_packed.result (λ x. x.now) c.args.lengths.now _ _ c.args.out.now.items _ _ c.push_packed.new.out.items
-    (sym (ap (field_lengths shape f) are.1 ∙ packed_noted g.M.Lends.item shape f are.0 c.items-values.result.now packed))
-    (sym (ap (field_written shape f) are.1 ∙ packed_written g.M.Lends.item shape f are.0 c.items-values.result.now packed (packable f.presence f.element packed c.requires.packed) (values_fit g.M.Lends.item shape f c.args.field.now.number are.0 c.items-values.result.now fit)))
-    c.push_packed.ensures.ok
-
-pub write_content-returns-then-packed-clause-err : goal.write_content-returns-then-packed-clause-err
-write_content-returns-then-packed-clause-err g t c =
-    let shape = shape_of c.args.schema.now in
-    let f = field_shape c.args.field.now in
-    let are = c.items-values.ensures c.args.field.now.number c.in_default.ensures (keyless shape f (g.M.Lends.parts c.args.field.now.number c.args.content.now) c.in-None.ensures c.requires.fit) in
-    let fit = subst (AllByRecursion (IsPartOf (shape_of c.args.schema.now) (field_shape c.args.field.now))) are.1 c.requires.fit in
-    let packed = sym c.is_packed-packed.ensures ∙ c.if-packed.true in
-    may_not_as c.push_packed.result c.args.lengths.now _ _ _ _
-    (sym (ap (field_lengths shape f) are.1 ∙ packed_noted g.M.Lends.item shape f are.0 c.items-values.result.now packed))
-    (sym (ap (field_written shape f) are.1 ∙ packed_written g.M.Lends.item shape f are.0 c.items-values.result.now packed (packable f.presence f.element packed c.requires.packed) (values_fit g.M.Lends.item shape f c.args.field.now.number are.0 c.items-values.result.now fit)))
-    c.push_packed.ensures.err
-
-pub write_content-write_items-requires : goal.write_content-write_items-requires
-write_content-write_items-requires g t c κs within =
-    let shape = shape_of c.args.schema.now in
-    let f = field_shape c.args.field.now in
-    let are = c.items-values.ensures c.args.field.now.number c.in_default.ensures (keyless shape f (g.M.Lends.parts c.args.field.now.number c.args.content.now) c.in-None.ensures c.requires.fit) in
-    let fit = subst (AllByRecursion (IsPartOf (shape_of c.args.schema.now) (field_shape c.args.field.now))) are.1 c.requires.fit in
-    let weigh = ap parts_weight are.1 ∙ items_weigh g.M.Lends.item c.args.field.now.number are.0 c.items-values.result.now in (
-      omega (arith, weigh, c.decreases),
-      (within.0, (within.1.0, (within.1.1.0, (within.1.1.1.0, (within.1.1.1.1, (c.requires.is_schema, values_fit g.M.Lends.item shape f c.args.field.now.number are.0 c.items-values.result.now fit)))))),
-    )
-
-pub write_content-returns-else-packed-clause-ok : goal.write_content-returns-else-packed-clause-ok
-write_content-returns-else-packed-clause-ok g t c =
-    let shape = shape_of c.args.schema.now in
-    let f = field_shape c.args.field.now in
-    let are = c.items-values.ensures c.args.field.now.number c.in_default.ensures (keyless shape f (g.M.Lends.parts c.args.field.now.number c.args.content.now) c.in-None.ensures c.requires.fit) in
-    let single = sym c.is_packed-packed.ensures ∙ c.if-packed.false in
-    adds_as c.write_items.result (λ x. x.now) c.args.lengths.now _ _ c.args.out.now.items _ _ c.write_items.new.out.items
-    (sym (ap (field_lengths shape f) are.1 ∙ items_noted g.M.Lends.item shape f are.0 c.items-values.result.now single))
-    (sym (ap (field_written shape f) are.1 ∙ items_written g.M.Lends.item shape f are.0 c.items-values.result.now single c.in-None.ensures))
-    c.write_items.ensures.ok
-
-pub write_content-returns-else-packed-clause-err : goal.write_content-returns-else-packed-clause-err
-write_content-returns-else-packed-clause-err g t c =
-    let shape = shape_of c.args.schema.now in
-    let f = field_shape c.args.field.now in
-    let are = c.items-values.ensures c.args.field.now.number c.in_default.ensures (keyless shape f (g.M.Lends.parts c.args.field.now.number c.args.content.now) c.in-None.ensures c.requires.fit) in
-    let single = sym c.is_packed-packed.ensures ∙ c.if-packed.false in
-    may_not_as c.write_items.result c.args.lengths.now _ _ _ _
-    (sym (ap (field_lengths shape f) are.1 ∙ items_noted g.M.Lends.item shape f are.0 c.items-values.result.now single))
-    (sym (ap (field_written shape f) are.1 ∙ items_written g.M.Lends.item shape f are.0 c.items-values.result.now single c.in-None.ensures))
-    c.write_items.ensures.err
-
--- A content of numbers.
+    let w = entries g.M.Lends.item g.M.Lends.key_of g.M.Lends.value_of shape f c.in-Some.key c.entries-held.result.now ps c.in-Some.ensures c.requires.fit (c.entries-held.ensures c.args.field.now.number) in
+    record {
+      ok = adds w.says c.write_entries.result (λ x. x.now) c.args.lengths.now c.args.out.now.items c.write_entries.new.out.items c.write_entries.ensures.ok;
+      err = may_not w.says c.write_entries.result c.args.lengths.now c.write_entries.ensures.err;
+    }
 
 pub write_content-push_numbers-requires : goal.write_content-push_numbers-requires
 write_content-push_numbers-requires g t c =
     let shape = shape_of c.args.schema.now in
     let f = field_shape c.args.field.now in
-    let ns = c.in-Some-numbers.numbers.now in
-    let are = c.in-Some-numbers.ensures c.args.field.now.number in
-    let fit = subst (AllByRecursion (IsPartOf (shape_of c.args.schema.now) (field_shape c.args.field.now))) are c.requires.fit in
-    let fits = values_fit lent_item shape f c.args.field.now.number true (numbers_in c.in-Some-numbers.numbers.now) fit in
-    subst (λ (s : Scalar). LeavesFit lent_item (elements.Scalar s) (numbers_in c.in-Some-numbers.numbers.now)) (sym c.scalar_of-scalar.ensures) (numbers_fit shape f ns fits)
+    let ps = g.M.Lends.parts c.args.field.now.number c.args.content.now in
+    let w = numbers shape f c.in-Some-numbers.numbers.now ps _ _ c.is_packed-packed.ensures c.scalar_of-scalar.ensures c.in-None.ensures c.requires.packed c.requires.fit (c.in-Some-numbers.ensures c.args.field.now.number) in
+    w.fit
 
-pub write_content-returns-in-Some-numbers-clause-ok : goal.write_content-returns-in-Some-numbers-clause-ok
-write_content-returns-in-Some-numbers-clause-ok g t c =
+pub write_content-returns-in-Some-numbers : goal.write_content-returns-in-Some-numbers
+write_content-returns-in-Some-numbers g t c =
     let shape = shape_of c.args.schema.now in
     let f = field_shape c.args.field.now in
-    let ns = c.in-Some-numbers.numbers.now in
-    let are = c.in-Some-numbers.ensures c.args.field.now.number in
-    let fit = subst (AllByRecursion (IsPartOf (shape_of c.args.schema.now) (field_shape c.args.field.now))) are c.requires.fit in
-    let fits = values_fit lent_item shape f c.args.field.now.number true (numbers_in c.in-Some-numbers.numbers.now) fit in
-    adds_as c.push_numbers.result (λ x. x.now) c.args.lengths.now _ _ c.args.out.now.items _ _ c.push_numbers.new.out.items
-    (ap₂ (λ b (s : Scalar). number_lengths b (elements.Scalar s) c.in-Some-numbers.numbers.now) c.is_packed-packed.ensures c.scalar_of-scalar.ensures ∙ sym (ap (field_lengths shape f) are ∙ numbers_noted shape f ns))
-    (ap₂ (λ b (s : Scalar). number_bytes b c.args.field.now.number (elements.Scalar s) c.in-Some-numbers.numbers.now) c.is_packed-packed.ensures c.scalar_of-scalar.ensures ∙ sym (ap (field_written shape f) are ∙ numbers_written shape f ns c.in-None.ensures c.requires.packed fits))
-    c.push_numbers.ensures.ok
+    let ps = g.M.Lends.parts c.args.field.now.number c.args.content.now in
+    let w = numbers shape f c.in-Some-numbers.numbers.now ps _ _ c.is_packed-packed.ensures c.scalar_of-scalar.ensures c.in-None.ensures c.requires.packed c.requires.fit (c.in-Some-numbers.ensures c.args.field.now.number) in
+    record {
+      ok = adds w.says c.push_numbers.result (λ x. x.now) c.args.lengths.now c.args.out.now.items c.push_numbers.new.out.items c.push_numbers.ensures.ok;
+      err = may_not w.says c.push_numbers.result c.args.lengths.now c.push_numbers.ensures.err;
+    }
 
-pub write_content-returns-in-Some-numbers-clause-err : goal.write_content-returns-in-Some-numbers-clause-err
-write_content-returns-in-Some-numbers-clause-err g t c =
+pub write_content-push_packed-requires : goal.write_content-push_packed-requires
+write_content-push_packed-requires g t c =
     let shape = shape_of c.args.schema.now in
     let f = field_shape c.args.field.now in
-    let ns = c.in-Some-numbers.numbers.now in
-    let are = c.in-Some-numbers.ensures c.args.field.now.number in
-    let fit = subst (AllByRecursion (IsPartOf (shape_of c.args.schema.now) (field_shape c.args.field.now))) are c.requires.fit in
-    let fits = values_fit lent_item shape f c.args.field.now.number true (numbers_in c.in-Some-numbers.numbers.now) fit in
-    may_not_as c.push_numbers.result c.args.lengths.now _ _ _ _
-    (ap₂ (λ b (s : Scalar). number_lengths b (elements.Scalar s) c.in-Some-numbers.numbers.now) c.is_packed-packed.ensures c.scalar_of-scalar.ensures ∙ sym (ap (field_lengths shape f) are ∙ numbers_noted shape f ns))
-    (ap₂ (λ b (s : Scalar). number_bytes b c.args.field.now.number (elements.Scalar s) c.in-Some-numbers.numbers.now) c.is_packed-packed.ensures c.scalar_of-scalar.ensures ∙ sym (ap (field_written shape f) are ∙ numbers_written shape f ns c.in-None.ensures c.requires.packed fits))
-    c.push_numbers.ensures.err
+    let ps = g.M.Lends.parts c.args.field.now.number c.args.content.now in
+    let w = items g.M.Lends.item shape f c.items-values.result.now ps c.in-None.ensures c.requires.fit (c.items-values.ensures c.args.field.now.number c.in_default.ensures) in
+    let packed = sym c.is_packed-packed.ensures ∙ c.if-packed.true in
+    let can = packable f.presence f.element packed c.requires.packed in
+    leaves_fit g.M.Lends.item shape f.element c.items-values.result.now can w.fit
+
+pub write_content-returns-then-packed : goal.write_content-returns-then-packed
+write_content-returns-then-packed g t c =
+    let shape = shape_of c.args.schema.now in
+    let f = field_shape c.args.field.now in
+    let ps = g.M.Lends.parts c.args.field.now.number c.args.content.now in
+    let w = items g.M.Lends.item shape f c.items-values.result.now ps c.in-None.ensures c.requires.fit (c.items-values.ensures c.args.field.now.number c.in_default.ensures) in
+    let packed = sym c.is_packed-packed.ensures ∙ c.if-packed.true in
+    let can = packable f.presence f.element packed c.requires.packed in
+    record {
+      ok = adds (w.packed packed can) c.push_packed.result (λ x. x.now) c.args.lengths.now c.args.out.now.items c.push_packed.new.out.items c.push_packed.ensures.ok;
+      err = may_not (w.packed packed can) c.push_packed.result c.args.lengths.now c.push_packed.ensures.err;
+    }
+
+pub write_content-write_items-requires : goal.write_content-write_items-requires
+write_content-write_items-requires g t c κs within =
+    let shape = shape_of c.args.schema.now in
+    let f = field_shape c.args.field.now in
+    let ps = g.M.Lends.parts c.args.field.now.number c.args.content.now in
+    let w = items g.M.Lends.item shape f c.items-values.result.now ps c.in-None.ensures c.requires.fit (c.items-values.ensures c.args.field.now.number c.in_default.ensures) in
+    (omega (arith, w.weigh, c.decreases), under within (c.requires.is_schema, w.fit))
+
+pub write_content-returns-else-packed : goal.write_content-returns-else-packed
+write_content-returns-else-packed g t c =
+    let shape = shape_of c.args.schema.now in
+    let f = field_shape c.args.field.now in
+    let ps = g.M.Lends.parts c.args.field.now.number c.args.content.now in
+    let w = items g.M.Lends.item shape f c.items-values.result.now ps c.in-None.ensures c.requires.fit (c.items-values.ensures c.args.field.now.number c.in_default.ensures) in
+    record {
+      ok = adds (w.singly (sym c.is_packed-packed.ensures ∙ c.if-packed.false)) c.write_items.result (λ x. x.now) c.args.lengths.now c.args.out.now.items c.write_items.new.out.items c.write_items.ensures.ok;
+      err = may_not (w.singly (sym c.is_packed-packed.ensures ∙ c.if-packed.false)) c.write_items.result c.args.lengths.now c.write_items.ensures.err;
+    }

@@ -2,7 +2,7 @@
 -- the message.
 use Rattle.std.proofs.Common.{◌+◌, ◌*◌}
 use Rattle.pg_schema.specs.Parts.{shape_of}
-use Rattle.pg_dyn.specs.inner.Weights.{weight}
+use Rattle.pg_dyn.specs.message.Weights.{weight}
 use Rattle.pg_dyn.specs.encoding.Lending.{bare_leaf}
 use Rattle.pg_dyn.specs.encoding.Written.{entry_record, item_bytes, item_lengths}
 use Rattle.pg_dyn.proofs.lemmas.encoding.EncodeSteps.{IsOnTheWay, content_bytes}

@@ -1,5 +1,5 @@
 -- The bytes and the lengths of a message, content by content.
-use Rattle.std.proofs.Common.{◌⊎◌, ⊎_elim, inl, inr, nat_lt, ◌≡◌, ◌≢◌, ℕ, zero, suc, ◌+◌, ◌-◌, ◌<◌, ◌≤◌, List, [], ◌∷◌, ◌++◌, length, take, drop, get_or, map, flat_map, Bool, true, false, cond, Option, Some, None, Result, Ok, Err, IfErr, IfOk, OnOk, refl, ap, ap₂, sym, subst, ◌∙◌, arith, add-one, append_assoc, length-append}
+use Rattle.std.proofs.Common.{◌⊎◌, ⊎_elim, inl, inr, nat_lt, ◌≡◌, ◌≢◌, ℕ, zero, suc, ◌+◌, ◌-◌, ◌<◌, ◌≤◌, List, [], ◌∷◌, ◌++◌, length, take, drop, get_or, map, flat_map, Bool, true, false, cond, Option, Some, None, Result, Ok, Err, IfOk, OnOk, refl, ap, ap₂, sym, subst, ◌∙◌, arith, add-one, append_assoc, length-append}
 use Rattle.std.proofs.lemmas.List.{append-nil}
 use Rattle.std.proofs.Common.{take_all}
 use Rattle.std.proofs.lemmas.Bool.{ltb-true, ltb-false}
@@ -23,13 +23,13 @@ use Rattle.pg_dyn.specs.word.Coding.{InRange, body, form, scalar_form}
 use Rattle.pg_dyn.specs.encoding.Encoding.{enc}
 use Rattle.pg_dyn.specs.fitting.Fits.{Fits}
 use Rattle.pg_dyn.specs.message.Kept.{Kept, ends, message_of, type_of}
-use Rattle.pg_dyn.specs.message.KeptParts.{KeptItem, Plain, Msg, parts_of, unknown_of}
-use Rattle.pg_dyn.specs.encoding.Lending.{AreKeyed, AreKeyless, AreOf, Bare, Child, HoldsParts, IsLone, Lone, all_parts, bare, bare_leaf, entry_part, in_list, item_part}
+use Rattle.pg_dyn.specs.message.KeptParts.{AreOf, KeptItem, Msg, parts_of, Plain, unknown_of}
+use Rattle.pg_dyn.specs.encoding.Lending.{AreKeyed, AreKeyless, Bare, Child, HoldsParts, IsLone, Lone, bare, bare_leaf, entry_part, in_list, item_part}
+use Rattle.pg_dyn.specs.message.Replacing.{all_parts, kept_onto}
 use Rattle.pg_dyn.specs.fitting.PartsFit.{HoldsItem, HoldsPart, IsPartOf}
-use Rattle.pg_dyn.specs.message.Replacing.{kept_onto}
 use Rattle.pg_dyn.specs.message.Seen.{Rises}
 use Rattle.pg_dyn.specs.encoding.Writing.{bytes_of, field_records, is_packed, item_record}
-use Rattle.pg_dyn.specs.encoding.Written.{Adds, BareFits, CanBePacked, LeafFits, LeavesFit, MayNotAdd, MayNotWrite, capped, entry_record, field_lengths, field_written, item_bytes, item_leaf, item_lengths, own_bytes, packed_body, packed_bytes, packed_lengths, parts_written, records_by, written_part}
+use Rattle.pg_dyn.specs.encoding.Written.{BareFits, CanBePacked, IsLeafOf, LeavesFit, MayNotWrite, capped, entry_record, field_lengths, field_written, item_bytes, item_leaf, item_lengths, own_bytes, packed_body, packed_bytes, packed_lengths, parts_written, records_by, written_part}
 use Rattle.pg_dyn.proofs.lemmas.fitting.Belonging.{fields-IsType}
 use Rattle.pg_dyn.proofs.lemmas.encoding.EncodedFields.{by_fields, encodes_by_fields, written_row}
 use Rattle.pg_dyn.proofs.lemmas.fitting.FitsChecks.{same_field}
@@ -135,23 +135,13 @@ later_is ls x later e =
 
 -- what a call that may fail says, said otherwise
 
-pub if_ok : {A E : Type 0} (P Q : A → Type 0) (r : Result A E) → ((x : A) → P x → Q x) → IfOk r P → IfOk r Q
-if_ok P Q (Ok x) f h = f x h
-if_ok P Q (Err e) f h = tt
-
-pub ok_is : {A E B : Type 0} (r : Result A E) (P : B → A → Type 0) {x y : B} → x ≡ y → IfOk r (P x) → IfOk r (P y)
-ok_is r P same h = subst (λ z. IfOk r (P z)) same h
-
 pub if_on_ok : {A E : Type 0} {P Q : Type 0} (r : Result A E) → OnOk r P → (P → Q) → IfOk r (λ x. Q)
 if_on_ok (Ok x) h f = f h
 if_on_ok (Err e) h f = tt
 
--- the same, where what is noted and what is written are the same
-pub adds_as : {A E : Type 0} (r : Result A E) (left : A → List ℕ) (lengths m n before a b after : List ℕ) → m ≡ n → a ≡ b → IfOk r (λ x. Adds lengths m before a after (left x)) → IfOk r (λ x. Adds lengths n before b after (left x))
-adds_as r left lengths m n before a b after noted bytes h = subst (λ k. IfOk r (λ x. Adds lengths k before b after (left x))) noted (subst (λ bs. IfOk r (λ x. Adds lengths m before bs after (left x))) bytes h)
-
-pub may_not_as : {A : Type 0} (r : Result A DynError) (lengths m n a b : List ℕ) → m ≡ n → a ≡ b → IfErr r (MayNotAdd lengths m a) → IfErr r (MayNotAdd lengths n b)
-may_not_as r lengths m n a b noted bytes h = subst (λ k. IfErr r (MayNotAdd lengths k b)) noted (subst (λ bs. IfErr r (MayNotAdd lengths m bs)) bytes h)
+-- what is asked of a call within a cycle: what is known of its lifetimes, and what it requires
+pub under : {A B C D E F : Type 0} → A × (B × (C × (D × E))) → F → A × (B × (C × (D × (E × F))))
+under w h = (w.0, (w.1.0, (w.1.1.0, (w.1.1.1.0, (w.1.1.1.1, h)))))
 
 -- the bytes of records that are lent
 pub records_are : {U : Type 0} (record_of : U → WireRecord) (us : List U) (rs : List WireRecord) → map record_of us ≡ rs → flat_map (λ u. (record_of u).bytes) us ≡ bytes_of rs
@@ -172,7 +162,7 @@ pub bare_seen : (l : Bool) (x : Bare) → bare (in_list l x) ≡ x
 bare_seen l (Lone text leaf) = refl
 bare_seen l (Child m) = refl
 
-leaf_of_element : (n : ℕ) (p : Presence) (e : Element) (o : Option ℕ) (leaf : Leaf) → belonging.LeafFits (record { number = n; presence = p; element = e; oneof = o }) leaf → LeafFits e leaf
+leaf_of_element : (n : ℕ) (p : Presence) (e : Element) (o : Option ℕ) (leaf : Leaf) → belonging.LeafFits (record { number = n; presence = p; element = e; oneof = o }) leaf → IsLeafOf e leaf
 leaf_of_element n p (elements.Scalar s) o leaf h = h.0
 leaf_of_element n p (elements.Enum t) o leaf h = h.0
 leaf_of_element n p (elements.Message t) o leaf h = absurd h
@@ -190,7 +180,7 @@ pub packed_lone : (shape : Shape) (e : Element) (x : Bare) → is_packable e ≡
 packed_lone shape e (Lone text leaf) can h = tt
 packed_lone shape e (Child m) can h = absurd (let no : is_packable (elements.Message (type_of m)) ≡ true = ap is_packable (sym h.1) ∙ can in cc)
 
-pub lone_fits : (shape : Shape) (e : Element) (x : Bare) → IsLone x → BareFits shape e x → LeafFits e (bare_leaf x)
+pub lone_fits : (shape : Shape) (e : Element) (x : Bare) → IsLone x → BareFits shape e x → IsLeafOf e (bare_leaf x)
 lone_fits shape e (Lone text leaf) lone h = h
 lone_fits shape e (Child m) lone h = absurd lone
 
@@ -248,7 +238,7 @@ module _ {V : Type 0} (item : V → Bare) (shape : Shape) where
 
   pub leaves_fit : (e : Element) (vs : List V) → is_packable e ≡ true → AllByRecursion (λ v. BareFits shape e (item v)) vs → LeavesFit item e vs
   leaves_fit e vs can h =
-      each_weaker (λ v. BareFits shape e (item v)) (λ v. LeafFits e (bare_leaf (item v))) (λ v k. lone_fits shape e (item v) (packed_lone shape e (item v) can k) k) vs h
+      each_weaker (λ v. BareFits shape e (item v)) (λ v. IsLeafOf e (bare_leaf (item v))) (λ v k. lone_fits shape e (item v) (packed_lone shape e (item v) can k) k) vs h
 
   all_lone : (e : Element) (vs : List V) → is_packable e ≡ true → AllByRecursion (λ v. BareFits shape e (item v)) vs → AllByRecursion (λ v. IsLone (item v)) vs
   all_lone e vs can h = each_weaker (λ v. BareFits shape e (item v)) (λ v. IsLone (item v)) (λ v k. packed_lone shape e (item v) can k) vs h

@@ -10,12 +10,12 @@ use Rattle.pg_wire.specs.Records.{WireRecord}
 use Rattle.pg_dyn.specs.message.Message.{Leaf, Bytes, Part, is_of}
 use Rattle.pg_dyn.specs.message.Message as model
 use Rattle.pg_dyn.specs.message.Kept.{Kept, message_of, type_of}
-use Rattle.pg_dyn.specs.message.KeptParts.{KeptItem, Plain, Msg}
+use Rattle.pg_dyn.specs.message.KeptParts.{AreOf, KeptItem, Msg, Plain}
 use Rattle.pg_dyn.specs.message.Kept as kept
 use Rattle.pg_dyn.specs.message.KeptParts as kept_parts
-use Rattle.pg_dyn.specs.encoding.Lending.{AreOf, HoldsParts, all_parts}
+use Rattle.pg_dyn.specs.encoding.Lending.{HoldsParts}
+use Rattle.pg_dyn.specs.message.Replacing.{all_parts, kept_onto, kept_part}
 use Rattle.pg_dyn.specs.fitting.PartsFit.{HoldsItem, IsPartOf}
-use Rattle.pg_dyn.specs.message.Replacing.{kept_onto, kept_part}
 use Rattle.pg_dyn.specs.message.Seen.{Rises}
 use Rattle.pg_dyn.specs.encoding.Writing.{field_records, records_in, bytes_of}
 use Rattle.pg_dyn.specs.encoding.Encoding.{encoded_parts, enc}

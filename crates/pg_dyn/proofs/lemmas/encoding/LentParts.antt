@@ -1,7 +1,5 @@
 -- The parts that messages lend, of those that own them and of those that borrow.
 use Rattle.std.proofs.Common.{◌≡◌, ◌≢◌, ℕ, List, [], ◌∷◌, map, Bool, true, false, Option, Some, None, refl, ap, ap₂, sym, ◌∙◌}
-use Rattle.pg_schema.specs.declared.parts.field.TypeId.{TypeId}
-use Rattle.pg_wire.specs.Records.{WireRecord}
 use Rattle.pg_dyn.specs.declared.message.Content.{Content}
 use Rattle.pg_dyn.specs.declared.message.Content.TheVariants as owned
 use Rattle.pg_dyn.specs.declared.message.Value.{Value}
@@ -13,25 +11,12 @@ use Rattle.pg_dyn.specs.declared.message_ref.ValueRef.{ValueRef}
 use Rattle.pg_dyn.specs.declared.message_ref.ValueRef.TheVariants as borrows
 use Rattle.pg_dyn.specs.declared.number_list.NumberList.{NumberList}
 use Rattle.pg_dyn.specs.message_ref.Borrowed as borrowed
-use Rattle.pg_dyn.specs.message.Kept.{Kept, ends, type_of}
-use Rattle.pg_dyn.specs.message.KeptParts.{KeptItem, unknown_of}
-use Rattle.pg_dyn.specs.encoding.Lending.{AreKeyed, AreKeyless, all_parts, bare_leaf, entry_part, in_list, item_part, lent_item, owned_item}
+use Rattle.pg_dyn.specs.message.KeptParts.{KeptItem}
+use Rattle.pg_dyn.specs.encoding.Lending.{AreKeyed, AreKeyless, bare_leaf, entry_part, in_list, item_part, lent_item, owned_item}
 use Rattle.pg_dyn.specs.message.Message.{Leaf, Part}
 use Rattle.pg_dyn.specs.word.NumberLists.{numbers_in}
-use Rattle.pg_dyn.specs.message.Replacing.{kept_onto}
-use Rattle.pg_dyn.specs.message.Seen.{IsFilled, content_seen, fields_onto, item_seen, leaf_of}
-use Rattle.pg_dyn.proofs.lemmas.message.ReplacingLaws.{fields_from, type_of-kept_onto, unknown_of-kept_onto}
-
--- a message is its parts, its type and its unknown records
-pub lent_whole : {C : Type 0} (parts : ℕ → C → List (Part KeptItem)) (ms : List (ℕ × C)) (type : TypeId) (us : List WireRecord) (m : Kept) → kept_onto (all_parts parts ms) (ends type us) ≡ m
-    → m ≡ kept_onto (all_parts parts ms) (ends (type_of m) (unknown_of m))
-lent_whole parts ms type us m view =
-    sym view
-    ∙ ap₂ (λ t u. kept_onto (all_parts parts ms) (ends t u)) (sym (type_of-kept_onto (all_parts parts ms) (ends type us)) ∙ ap type_of view)
-    (sym (unknown_of-kept_onto (all_parts parts ms) (ends type us)) ∙ ap unknown_of view)
-
-pub owned_whole : (ms : List (ℕ × Content)) (type : TypeId) (us : List WireRecord) (m : Kept) → fields_onto ms (ends type us) ≡ m → m ≡ kept_onto (all_parts content_seen ms) (ends (type_of m) (unknown_of m))
-owned_whole ms type us m view = lent_whole content_seen ms type us m (sym (fields_from ms (ends type us)) ∙ view)
+use Rattle.pg_dyn.specs.message.Seen.{IsFilled, content_seen, item_seen, leaf_of}
+use Rattle.pg_dyn.specs.message.Seen as seen
 
 some_of : {A B : Type 0} (h : A → B) (xs : List A) → xs ≢ [] → map h xs ≢ []
 some_of h [] filled e = filled refl
@@ -53,7 +38,7 @@ map_as g h is (x ∷ xs) = ap₂ (λ y ys. y ∷ ys) (is x) (map_as g h is xs)
 
 -- Messages that own their parts.
 
-owned_seen : (l : Bool) (v : Value) → item_seen l v ≡ in_list l (owned_item v)
+pub owned_seen : (l : Bool) (v : Value) → item_seen l v ≡ in_list l (owned_item v)
 owned_seen l (values.Int n) = refl
 owned_seen l (values.F32 n) = refl
 owned_seen l (values.F64 n) = refl
@@ -69,19 +54,16 @@ owned_leaf (values.Text n) = refl
 owned_leaf (values.Bytes n) = refl
 owned_leaf (values.Msg child) = refl
 
-owned_item_part : (n : ℕ) (l : Bool) (v : Value) → record { number = n; key = None; item = item_seen l v } ≡ item_part owned_item n l v
+owned_item_part : (n : ℕ) (l : Bool) (v : Value) → seen.item_part n l v ≡ item_part owned_item n l v
 owned_item_part n l v = ap (λ (x : KeptItem). record { number = n; key = None; item = x }) (owned_seen l v)
 
-abbrev owned_entry_part : ℕ → Value × Value → Part KeptItem
-owned_entry_part n e = record { number = n; key = Some (leaf_of e.0); item = item_seen false e.1 }
-
-owned_entry_is : (n : ℕ) (e : Value × Value) → owned_entry_part n e ≡ entry_part owned_item (λ (x : Value × Value). x.0) (λ (x : Value × Value). x.1) n e
+owned_entry_is : (n : ℕ) (e : Value × Value) → seen.entry_part n e ≡ entry_part owned_item (λ (x : Value × Value). x.0) (λ (x : Value × Value). x.1) n e
 owned_entry_is n e = ap₂ (λ k (x : KeptItem). record { number = n; key = Some k; item = x }) (owned_leaf e.0) (owned_seen false e.1)
 
 pub owned_filled : (n : ℕ) (c : Content) → IsFilled c → content_seen n c ≢ []
 owned_filled n (owned.One v) filled e = absurd (cc)
-owned_filled n (owned.Many vs) filled e = some_of (λ v. record { number = n; key = None; item = item_seen true v }) vs.items filled e
-owned_filled n (owned.Map es) filled e = some_of (owned_entry_part n) es.items filled e
+owned_filled n (owned.Many vs) filled e = some_of (seen.item_part n true) vs.items filled e
+owned_filled n (owned.Map es) filled e = some_of (seen.entry_part n) es.items filled e
 
 abbrev pub owned_items : Content → List Value
 owned_items (owned.One v) = v ∷ []
@@ -95,17 +77,17 @@ owned_entries (owned.Map es) = es.items
 
 pub owned_items_are : (n : ℕ) (c : Content) → AreKeyless (content_seen n c) → (l : Bool) × (content_seen n c ≡ map (item_part owned_item n l) (owned_items c))
 owned_items_are n (owned.One v) keyless = (false, ap (λ p. p ∷ []) (owned_item_part n false v))
-owned_items_are n (owned.Many vs) keyless = (true, map_as (λ v. record { number = n; key = None; item = item_seen true v }) (item_part owned_item n true) (owned_item_part n true) vs.items)
-owned_items_are n (owned.Map es) keyless = (false, no_keys (owned_entry_part n) (λ (e : Value × Value). leaf_of e.0) (λ e. refl) es.items keyless)
+owned_items_are n (owned.Many vs) keyless = (true, map_as (seen.item_part n true) (item_part owned_item n true) (owned_item_part n true) vs.items)
+owned_items_are n (owned.Map es) keyless = (false, no_keys (seen.entry_part n) (λ (e : Value × Value). leaf_of e.0) (λ e. refl) es.items keyless)
 
 pub owned_entries_are : (n : ℕ) (c : Content) → AreKeyed (content_seen n c) → content_seen n c ≡ map (entry_part owned_item (λ (x : Value × Value). x.0) (λ (x : Value × Value). x.1) n) (owned_entries c)
 owned_entries_are n (owned.One v) keyed = absurd (keyed.0 refl)
-owned_entries_are n (owned.Many vs) keyed = all_keys (λ v. record { number = n; key = None; item = item_seen true v }) (λ v. refl) vs.items keyed
-owned_entries_are n (owned.Map es) keyed = map_as (owned_entry_part n) (entry_part owned_item (λ (x : Value × Value). x.0) (λ (x : Value × Value). x.1) n) (owned_entry_is n) es.items
+owned_entries_are n (owned.Many vs) keyed = all_keys (seen.item_part n true) (λ v. refl) vs.items keyed
+owned_entries_are n (owned.Map es) keyed = map_as (seen.entry_part n) (entry_part owned_item (λ (x : Value × Value). x.0) (λ (x : Value × Value). x.1) n) (owned_entry_is n) es.items
 
 -- Messages that borrow.
 
-lent_seen : (l : Bool) (v : ValueRef) → borrowed.item_seen l v ≡ in_list l (lent_item v)
+pub lent_seen : (l : Bool) (v : ValueRef) → borrowed.item_seen l v ≡ in_list l (lent_item v)
 lent_seen l (borrows.Int n) = refl
 lent_seen l (borrows.F32 n) = refl
 lent_seen l (borrows.F64 n) = refl

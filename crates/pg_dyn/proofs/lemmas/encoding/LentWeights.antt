@@ -2,10 +2,10 @@
 use Rattle.std.proofs.Common.{◌≡◌, ℕ, zero, suc, ◌+◌, ◌<◌, ◌≤◌, List, [], ◌∷◌, ◌++◌, length, map, get_or, Bool, false, Option, refl, ap, ap₂, arith}
 use Rattle.pg_dyn.specs.message.Kept.{Kept, ends, type_of}
 use Rattle.pg_dyn.specs.message.KeptParts.{KeptItem, Plain, Msg, unknown_of}
-use Rattle.pg_dyn.specs.inner.Weights.{weight}
-use Rattle.pg_dyn.specs.encoding.Lending.{Bare, Lone, Child, all_parts, bare, entry_part, item_part}
+use Rattle.pg_dyn.specs.message.Weights.{weight}
+use Rattle.pg_dyn.specs.encoding.Lending.{Bare, Lone, Child, bare, entry_part, item_part}
+use Rattle.pg_dyn.specs.message.Replacing.{all_parts, kept_onto, kept_part}
 use Rattle.pg_dyn.specs.message.Message.{Leaf, Part}
-use Rattle.pg_dyn.specs.message.Replacing.{kept_onto, kept_part}
 use Rattle.pg_dyn.proofs.lemmas.encoding.EncodeSteps.{bare_seen}
 
 abbrev pub bare_weight : Bare → ℕ

@@ -10,9 +10,9 @@ use Rattle.pg_wire.specs.Records.{WireRecord}
 use Rattle.pg_dyn.specs.message.Message.{Leaf, Part}
 use Rattle.pg_dyn.specs.word.Coding.{body, form}
 use Rattle.pg_dyn.specs.message.Kept.{Kept, ends, holds, type_of}
-use Rattle.pg_dyn.specs.message.KeptParts.{KeptItem, Plain, Msg, unknown_of}
-use Rattle.pg_dyn.specs.encoding.Lending.{AreOf, HoldsParts, IsLone, all_parts, bare, bare_leaf}
-use Rattle.pg_dyn.specs.message.Replacing.{kept_onto, kept_part}
+use Rattle.pg_dyn.specs.message.KeptParts.{AreOf, KeptItem, Msg, Plain, unknown_of}
+use Rattle.pg_dyn.specs.encoding.Lending.{HoldsParts, IsLone, bare, bare_leaf}
+use Rattle.pg_dyn.specs.message.Replacing.{all_parts, kept_onto, kept_part}
 use Rattle.pg_dyn.specs.message.Seen.{Rises}
 use Rattle.pg_dyn.specs.encoding.Writing.{is_packed}
 use Rattle.pg_dyn.specs.encoding.Written.{capped, field_lengths, front_bodies, inner_lengths, item_lengths, lengths_behind, lengths_by, packed_body, packed_lengths, parts_lengths, row_behind, row_by}

@@ -3,28 +3,24 @@ use Rattle.std.proofs.Common.{◌≡◌, ℕ, List, [], ◌∷◌, map, flat_map
 use Rattle.std.specs.List.{AllByRecursion}
 use Rattle.pg_schema.specs.declared.parts.field.Element.{Element}
 use Rattle.pg_schema.specs.declared.parts.field.Element.TheVariants as elements
-use Rattle.pg_schema.specs.Shape.{FieldShape, Shape, is_map, is_packable}
+use Rattle.pg_schema.specs.Shape.{FieldShape, Shape, is_map}
 use Rattle.pg_dyn.specs.declared.message_ref.ValueRef.{ValueRef}
 use Rattle.pg_dyn.specs.declared.message_ref.ValueRef.TheVariants as values
 use Rattle.pg_dyn.specs.declared.number_list.NumberList.{NumberList}
 use Rattle.pg_dyn.specs.word.Coding.{body, form, scalar_form}
 use Rattle.pg_dyn.specs.encoding.Lending.{IsLone, bare_leaf, item_part, lent_item, word_item}
-use Rattle.pg_dyn.specs.encoding.Written.{BareFits, CanBePacked, LeafFits, LeavesFit, field_lengths, field_written, item_bytes, item_lengths, number_bytes, number_lengths, packed_body, packed_bytes, packed_lengths, single_bytes}
+use Rattle.pg_dyn.specs.encoding.Written.{BareFits, CanBePacked, IsLeafOf, LeavesFit, field_lengths, field_written, item_bytes, number_bytes, number_lengths, packed_body, packed_bytes, packed_lengths, single_bytes}
 use Rattle.pg_dyn.specs.encoding.Writing.{is_packed, item_record}
 use Rattle.pg_dyn.specs.word.NumberLists.{IsNumber, number_item, numbers_in}
 use Rattle.pg_dyn.specs.reading.Held.{read_as}
 use Rattle.pg_dyn.proofs.lemmas.encoding.EncodeSteps.{items_noted, items_written, lone_fits, packable, packed_no_lengths, packed_noted, packed_written}
 use Rattle.pg_dyn.proofs.lemmas.word.NumberLaws.{numbers_are}
-use Rattle.pg_dyn.proofs.Lists.{each_weaker, flat_map-map}
-
-each_unmapped : {A B : Type 0} (P : B → Type 0) (h : A → B) (xs : List A) → AllByRecursion P (map h xs) → AllByRecursion (λ x. P (h x)) xs
-each_unmapped P h [] e = tt
-each_unmapped P h (x ∷ xs) e = (e.0, each_unmapped P h xs e.1)
+use Rattle.pg_dyn.proofs.Lists.{each_unmapped, each_weaker, flat_map-map}
 
 -- the bytes of the words of a list are those of its numbers
 module _ (ns : NumberList) (e : Element) where
   pub words_fit : LeavesFit lent_item e (numbers_in ns) → LeavesFit (word_item ns.scalar) e ns.words.items
-  words_fit h = each_unmapped (λ v. LeafFits e (bare_leaf (lent_item v))) (number_item (scalar_form ns.scalar)) ns.words.items h
+  words_fit h = each_unmapped (λ v. IsLeafOf e (bare_leaf (lent_item v))) (number_item (scalar_form ns.scalar)) ns.words.items h
 
   pub words_packed : packed_body (word_item ns.scalar) e ns.words.items ≡ packed_body lent_item e (numbers_in ns)
   words_packed = sym (flat_map-map (λ v. body (form e) (bare_leaf (lent_item v))) (number_item (scalar_form ns.scalar)) ns.words.items)
@@ -79,7 +75,7 @@ module _ (n : ℕ) (ns : NumberList) where
 
 -- What is written of a field's list of numbers, and the lengths that are noted of it.
 module _ (shape : Shape) (f : FieldShape) (ns : NumberList) where
-  leaf_as : (e : Element) (v : ValueRef) → IsNumber v → BareFits shape e (lent_item v) → LeafFits (elements.Scalar (read_as e)) (bare_leaf (lent_item v))
+  leaf_as : (e : Element) (v : ValueRef) → IsNumber v → BareFits shape e (lent_item v) → IsLeafOf (elements.Scalar (read_as e)) (bare_leaf (lent_item v))
   leaf_as (elements.Scalar s) v h fits = lone_fits shape (elements.Scalar s) (lent_item v) (number_lone v h) fits
   leaf_as (elements.Enum x) v h fits = lone_fits shape (elements.Enum x) (lent_item v) (number_lone v h) fits
   leaf_as (elements.Message t) v h fits = absurd (lone_fits shape (elements.Message t) (lent_item v) (number_lone v h) fits)

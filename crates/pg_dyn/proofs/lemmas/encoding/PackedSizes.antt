@@ -7,7 +7,7 @@ use Rattle.pg_wire.specs.declared.record.WireType.TheVariants.{I64, I32}
 use Rattle.pg_dyn.specs.message.Message.{Leaf, Int, F32, F64, Bytes}
 use Rattle.pg_dyn.specs.word.Coding.{Form, Integer, Single, Double, Text, Raw, InRange, body, form, form_wire, word_bytes}
 use Rattle.pg_dyn.specs.encoding.Lending.{Bare, bare_leaf}
-use Rattle.pg_dyn.specs.encoding.Written.{LeafFits, LeavesFit, packed_body}
+use Rattle.pg_dyn.specs.encoding.Written.{IsLeafOf, LeavesFit, packed_body}
 use Rattle.pg_dyn.proofs.Lists.{each_weaker}
 
 eight_bytes : (f : Form) (l : Leaf) → form_wire f ≡ I64 → InRange f l → length (body f l) ≡ 8
@@ -28,7 +28,7 @@ four_bytes Text (Bytes bytes) is fits = absurd (cc)
 four_bytes Raw (Bytes bytes) is fits = absurd (cc)
 four_bytes f l is fits = absurd fits
 
-in_range : (e : Element) (leaf : Leaf) → LeafFits e leaf → InRange (form e) leaf
+in_range : (e : Element) (leaf : Leaf) → IsLeafOf e leaf → InRange (form e) leaf
 in_range (elements.Scalar s) leaf fits = fits
 in_range (elements.Enum e) leaf fits = fits
 in_range (elements.Message t) leaf fits = absurd fits
@@ -41,8 +41,8 @@ module _ {V : Type 0} (item : V → Bare) where
 
   pub packed_eights : (e : Element) (vs : List V) → form_wire (form e) ≡ I64 → LeavesFit item e vs → length (packed_body item e vs) ≡ length vs * 8
   packed_eights e vs is fits =
-      all_of 8 e vs (each_weaker (λ v. LeafFits e (bare_leaf (item v))) (λ v. length (body (form e) (bare_leaf (item v))) ≡ 8) (λ v h. eight_bytes (form e) (bare_leaf (item v)) is (in_range e (bare_leaf (item v)) h)) vs fits)
+      all_of 8 e vs (each_weaker (λ v. IsLeafOf e (bare_leaf (item v))) (λ v. length (body (form e) (bare_leaf (item v))) ≡ 8) (λ v h. eight_bytes (form e) (bare_leaf (item v)) is (in_range e (bare_leaf (item v)) h)) vs fits)
 
   pub packed_fours : (e : Element) (vs : List V) → form_wire (form e) ≡ I32 → LeavesFit item e vs → length (packed_body item e vs) ≡ length vs * 4
   packed_fours e vs is fits =
-      all_of 4 e vs (each_weaker (λ v. LeafFits e (bare_leaf (item v))) (λ v. length (body (form e) (bare_leaf (item v))) ≡ 4) (λ v h. four_bytes (form e) (bare_leaf (item v)) is (in_range e (bare_leaf (item v)) h)) vs fits)
+      all_of 4 e vs (each_weaker (λ v. IsLeafOf e (bare_leaf (item v))) (λ v. length (body (form e) (bare_leaf (item v))) ≡ 4) (λ v h. four_bytes (form e) (bare_leaf (item v)) is (in_range e (bare_leaf (item v)) h)) vs fits)

@@ -8,8 +8,8 @@ use Rattle.pg_wire.specs.Records.{WireRecord}
 use Rattle.pg_dyn.specs.message.Message.{Leaf, Part, is_of}
 use Rattle.pg_dyn.specs.message.Kept.{Kept, ends, message_of, type_of}
 use Rattle.pg_dyn.specs.message.KeptParts.{KeptItem, unknown_of}
-use Rattle.pg_dyn.specs.encoding.Lending.{HoldsParts, all_parts}
-use Rattle.pg_dyn.specs.message.Replacing.{kept_onto}
+use Rattle.pg_dyn.specs.encoding.Lending.{HoldsParts}
+use Rattle.pg_dyn.specs.message.Replacing.{all_parts, kept_onto}
 use Rattle.pg_dyn.specs.message.Seen.{Rises}
 use Rattle.pg_dyn.specs.encoding.Writing.{field_records, records_in, bytes_of}
 use Rattle.pg_dyn.specs.encoding.Encoding.{encoded_parts}
@@ -20,18 +20,13 @@ use Rattle.pg_dyn.proofs.Lists.{each_weaker, each_of_all, each-filter, filter-ap
 use Rattle.pg_dyn.proofs.lemmas.reading.records.Splitting.{found_number}
 use Rattle.pg_dyn.proofs.lemmas.fitting.Belonging.{fields-IsType}
 use Rattle.pg_dyn.proofs.lemmas.encoding.EncodedFields.{IsFound, IsNumbered, by_fields, fields_shown, merged, other_parts, row_numbered, written_row}
+use Rattle.pg_dyn.proofs.lemmas.message.FieldListLaws.{rises-filter}
 
 rising_kept : (test : FieldShape → Bool) (fs : List FieldShape) → Rising fs → Rising (filter test fs)
 rising_kept test [] h = tt
 rising_kept test (f ∷ fs) h =
     elim (test f) as (λ b. test f ≡ b → Rising (cond b (f ∷ filter test fs) (filter test fs)))
     [ true ↦ λ e. (each_filtered (λ g. f.number < g.number) test fs h.0, rising_kept test fs h.1) | false ↦ λ e. rising_kept test fs h.1 ] refl
-
-rises_kept : {C : Type 0} (test : ℕ × C → Bool) (ms : List (ℕ × C)) → Rises ms → Rises (filter test ms)
-rises_kept test [] h = tt
-rises_kept {C} test (m ∷ ms) h =
-    elim (test m) as (λ b. test m ≡ b → Rises (cond b (m ∷ filter test ms) (filter test ms)))
-    [ true ↦ λ e. (each_filtered (λ (x : ℕ × C). m.0 < x.0) test ms h.0, rises_kept test ms h.1) | false ↦ λ e. rises_kept test ms h.1 ] refl
 
 -- a field that passes is found among those that do
 found_kept : (test : FieldShape → Bool) (fs : List FieldShape) (n : ℕ) (g : FieldShape) → field_at fs n ≡ Some g → test g ≡ true → field_at (filter test fs) n ≡ Some g
@@ -118,7 +113,7 @@ module _ {C : Type 0} (parts : ℕ → C → List (Part KeptItem)) (shape : Shap
       let found = each_weaker Lone (IsFound row lone) (λ m l. (l.held.field, found_out m l)) (filter is_out ms) alone in
       let numbered = each_weaker Lone (IsNumbered row) (λ m l. row_numbered parts shape type m l.held) (filter is_out ms) alone in
       let by : records_in lone (flat_map row (filter is_out ms)) ≡ by_fields row lone (filter is_out ms) =
-      merged row lone (filter is_out ms) (rising_kept (λ (f : FieldShape). is_none (field_at gs f.number)) (fields shape type) (fields-IsType shape type is_shape).rising) (rises_kept is_out ms rises) numbered found in
+      merged row lone (filter is_out ms) (rising_kept (λ (f : FieldShape). is_none (field_at gs f.number)) (fields shape type) (fields-IsType shape type is_shape).rising) (rises-filter is_out ms rises) numbered found in
       sym (ap (λ ps. bytes_of (records_in lone ps)) parts_are ∙ ap bytes_of (out_records lone ms lone_out hold ∙ by) ∙ lone_bytes (filter is_out ms) alone ∙ only_out ms)
 
 -- the same of a message whose contents are lent

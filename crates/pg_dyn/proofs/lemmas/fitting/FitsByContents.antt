@@ -1,5 +1,5 @@
 -- A message fits where each of its contents does, no two are members of one oneof, and its unknown records are unknown.
-use Rattle.std.proofs.Common.{Vec, Global, ◌≡◌, ◌≢◌, ℕ, ◌<◌, List, [], ◌∷◌, ◌++◌, length, map, Bool, true, false, Option, Some, None, refl, ap, sym, subst, ◌∙◌, arith, ⊎_elim}
+use Rattle.std.proofs.Common.{Vec, Global, ◌≡◌, ◌≢◌, ℕ, ◌<◌, List, [], ◌∷◌, length, map, Bool, true, false, Option, Some, None, refl, ap, sym, subst, ◌∙◌}
 use Rattle.std.specs.List.{AllByRecursion}
 use Rattle.std.specs.declared.cmp.Ordering.TheVariants.{Less}
 use Rattle.pg_schema.specs.declared.parts.field.Scalar.{Scalar}
@@ -8,108 +8,31 @@ use Rattle.pg_schema.specs.declared.parts.field.Element.{Element}
 use Rattle.pg_schema.specs.declared.parts.field.Element.TheVariants as elements
 use Rattle.pg_schema.specs.declared.parts.field.Presence.{Presence}
 use Rattle.pg_schema.specs.declared.parts.field.Presence.TheVariants as presences
-use Rattle.pg_schema.specs.Shape.{Shape, FieldShape, fields, field_at, is_repeated}
-use Rattle.pg_schema.specs.ShapeRules.{IsField, IsShape, ElementFits}
+use Rattle.pg_schema.specs.Shape.{Shape, FieldShape, fields, is_repeated}
+use Rattle.pg_schema.specs.ShapeRules.{IsShape}
 use Rattle.pg_wire.specs.Records.{WireRecord}
 use Rattle.pg_dyn.specs.declared.message.Content.{Content}
 use Rattle.pg_dyn.specs.declared.message.Content.TheVariants as contents
 use Rattle.pg_dyn.specs.declared.message.Value.{Value}
 use Rattle.pg_dyn.specs.declared.message.Value.TheVariants as values
-use Rattle.pg_dyn.specs.message.Message.{Leaf, Part, Place, places, key_cmp}
-use Rattle.pg_dyn.specs.reading.Content.{is_sibling}
-use Rattle.pg_dyn.specs.encoding.Encoding.{child_type}
-use Rattle.pg_dyn.specs.message.Kept.{Kept, ends, holds, type_of, message_of}
+use Rattle.pg_dyn.specs.message.Message.{Leaf, Part, key_cmp}
+use Rattle.pg_dyn.specs.message.Kept.{Kept, ends}
 use Rattle.pg_dyn.specs.message.KeptParts.{KeptItem}
-use Rattle.pg_dyn.specs.message.Seen.{is_text, leaf_of, manner, content_seen, item_seen, value_onto, items_onto, entries_onto, content_onto, fields_onto, Rises, IsFilled, IsKey, IsMapKey, HasKeys}
-use Rattle.pg_dyn.specs.fitting.Belonging.{KeyFits, MayFollow, ComesBefore, IsPart, IsUnknown, IsMessage}
-use Rattle.pg_dyn.specs.fitting.Fits.{Fits, PartsAgree, is_listed, is_listed_by, is_string, is_string_by}
-use Rattle.pg_dyn.specs.fitting.PartsFit.{FieldHolds, HoldsItem, IsPartOf}
-use Rattle.pg_dyn.specs.fitting.ContentFits.{EntryKept, ItemKept, KeysRise, ContentFits, HoldsContent, AreApart, NoneSiblings, FitsByContents}
-use Rattle.pg_dyn.proofs.lemmas.fitting.Belonging.{child_type_is, fields-IsType}
-use Rattle.pg_dyn.proofs.lemmas.message.KeptParts.{unknown_of-items, unknown_of-entries, fields_keep}
-use Rattle.pg_dyn.proofs.Lists.{each_weaker, each_at, each_before, each_after}
+use Rattle.pg_dyn.specs.message.Seen.{all_seen, content_seen, entry_part, fields_onto, is_text, item_part, item_seen, leaf_of, Rises, IsFilled, IsKey, IsMapKey, HasKeys}
+use Rattle.pg_dyn.specs.fitting.Belonging.{KeyFits, LeafFits, MayFollow}
+use Rattle.pg_dyn.specs.fitting.Fits.{Fits, is_string}
+use Rattle.pg_dyn.specs.fitting.PartsFit.{FieldHolds, HoldsItem, InOrder, IsPartOf}
+use Rattle.pg_dyn.specs.fitting.ContentFits.{EntryKept, ItemKept, KeysRise, ContentFits, HoldsContent, FitsByContents}
+use Rattle.pg_dyn.proofs.Lists.{each_both, each_weaker}
+use Rattle.pg_dyn.proofs.lemmas.encoding.LentParts.{owned_filled}
+use Rattle.pg_dyn.proofs.lemmas.fitting.FitsToParts.{contents_back}
 use Rattle.pg_dyn.proofs.lemmas.fitting.ItemLeaves.{in_range, item_of_range, map_key_is_key, ZeroFits, zero_of_child, leaf_to, leaf_back, child_of}
+use Rattle.pg_dyn.proofs.lemmas.fitting.PartsToFits.{fits_of_contents, HoldsParts, listed_keyless, whole_of, list_holds, map_holds}
+use Rattle.pg_dyn.proofs.lemmas.message.ReplacingLaws.{content_number, type_of-kept_onto}
 use Rattle.pg_dyn.proofs.lemmas.reading.Fields.{field_of}
-use Rattle.pg_dyn.proofs.lemmas.fitting.PartsToFits.{HoldsParts, contents_whole}
-use Rattle.pg_dyn.proofs.lemmas.message.ReplacingLaws.{fields_from}
 use Rattle.pg_dyn.proofs.lemmas.reading.records.Splitting.{found_number}
 
--- Where parts are.
-
-abbrev place_at : ℕ → Option Leaf → Place
-place_at n k = record { number = n; key = k }
-
-abbrev key_place : ℕ → Value × Value → Place
-key_place n e = place_at n (Some (leaf_of e.0))
-
-places-value_onto : (n : ℕ) (k : Option Leaf) (l : Bool) (v : Value) (later : Kept) → places (message_of (value_onto n k l v later)) ≡ place_at n k ∷ places (message_of later)
-places-value_onto n k l (values.Int x) later = refl
-places-value_onto n k l (values.F32 x) later = refl
-places-value_onto n k l (values.F64 x) later = refl
-places-value_onto n k l (values.Text x) later = refl
-places-value_onto n k l (values.Bytes x) later = refl
-places-value_onto n k l (values.Msg x) later = refl
-
-places-items_onto : (n : ℕ) (vs : List Value) (later : Kept) → places (message_of (items_onto n vs later)) ≡ map (λ (v : Value). place_at n None) vs ++ places (message_of later)
-places-items_onto n [] later = refl
-places-items_onto n (v ∷ vs) later = places-value_onto n None true v (items_onto n vs later) ∙ ap (λ ps. place_at n None ∷ ps) (places-items_onto n vs later)
-
-places-entries_onto : (n : ℕ) (es : List (Value × Value)) (later : Kept) → places (message_of (entries_onto n es later)) ≡ map (key_place n) es ++ places (message_of later)
-places-entries_onto n [] later = refl
-places-entries_onto n (e ∷ es) later = places-value_onto n (Some (leaf_of e.0)) false e.1 (entries_onto n es later) ∙ ap (λ ps. key_place n e ∷ ps) (places-entries_onto n es later)
-
 module _ (shape : Shape) (type : TypeId) where
-  abbrev pub Whole : Kept → Type 0
-  Whole m = IsMessage shape type (message_of m) × PartsAgree shape m
-
-  same_found : (n : ℕ) (f g : FieldShape) → field_at (fields shape type) n ≡ Some f → field_at (fields shape type) n ≡ Some g → f ≡ g
-  same_found n f g a b = of (sym a ∙ b)
-    where
-      of : ◌≡◌ {A = Option FieldShape} (Some f) (Some g) → f ≡ g
-      of e = cc
-
-  -- What one part in front asks.
-
-  abbrev Here : ℕ → Option Leaf → Bool → Value → Kept → Type 0
-  Here n k l v later =
-      (part : IsPart (fields shape type) n k (places (message_of later))) × (is_repeated part.field.presence ≡ l) × ItemKept shape part.field.element v × ZeroFits part.field.presence v
-
-  listed_back : (n : ℕ) (l : Bool) (later : Kept) (f : FieldShape) → type_of later ≡ type → field_at (fields shape type) n ≡ Some f → is_listed (fields shape (type_of later)) n ≡ l → is_repeated f.presence ≡ l
-  listed_back n l later f same found is = sym (ap (λ t. is_listed (fields shape t) n) same ∙ ap is_listed_by found) ∙ is
-
-  text_back : (n : ℕ) (text : Bool) (later : Kept) (f : FieldShape) → type_of later ≡ type → field_at (fields shape type) n ≡ Some f → text ≡ is_string_by (field_at (fields shape (type_of later)) n) → text ≡ is_string f.element
-  text_back n text later f same found is = is ∙ ap (λ t. is_string_by (field_at (fields shape t) n)) same ∙ ap is_string_by found
-
-  leaf_off : (n : ℕ) (k : Option Leaf) (l : Bool) (v : Value) (later : Kept) → IsKey v → type_of later ≡ type → Whole (holds n k (manner l v) (leaf_of v) later) → Here n k l v later × Whole later
-  leaf_off n k l v later key same h =
-      let part = h.0.0 in
-      let fits = leaf_back shape part.field.number part.field.presence part.field.element part.field.oneof v key h.0.1 in
-      ((part, listed_back n l later part.field same part.found h.1.0, (fits.0, text_back n (is_text v) later part.field same part.found h.1.1), fits.1), (h.0.2, h.1.2))
-
-  pub value_back : IsShape shape → (n : ℕ) (k : Option Leaf) (l : Bool) (v : Value) (later : Kept) → type_of later ≡ type → Whole (value_onto n k l v later) → Here n k l v later × Whole later
-  value_back is_shape n k l (values.Int x) later same h = leaf_off n k l (values.Int x) later tt same h
-  value_back is_shape n k l (values.F32 x) later same h = leaf_off n k l (values.F32 x) later tt same h
-  value_back is_shape n k l (values.F64 x) later same h = leaf_off n k l (values.F64 x) later tt same h
-  value_back is_shape n k l (values.Text x) later same h = leaf_off n k l (values.Text x) later tt same h
-  value_back is_shape n k l (values.Bytes x) later same h = leaf_off n k l (values.Bytes x) later tt same h
-  value_back is_shape n k l (values.Msg child) later same h =
-      let part = h.0.0 in
-      let t = h.0.1 in
-      let is : part.field.element ≡ elements.Message t = h.0.2 in
-      let of_type : type_of child.value ≡ t = sym h.1.1 ∙ ap (λ x. child_type (fields shape x) n) same ∙ child_type_is (fields shape type) n part.field t part.found is in
-      let there : t.index < length shape = subst (λ (e : Element). ElementFits (length shape) e) is (each_at (IsField (length shape)) (fields shape type) n part.field part.found (fields-IsType shape type is_shape).each).element_fits in
-      let fits : Fits shape child.value = record {
-        type_is_there = subst (λ (x : TypeId). x.index < length shape) (sym of_type) there;
-        is_message = subst (λ x. IsMessage shape x (message_of child.value)) (sym of_type) h.0.3;
-        parts_agree = h.1.2;
-      } in (
-        (part, listed_back n l later part.field same part.found h.1.0, subst (λ e. ItemKept shape e (values.Msg child)) (sym is) ((fits, of_type), refl), zero_of_child part.field.presence (values.Msg child) refl),
-        (h.0.4, h.1.3),
-      )
-
-  abbrev NotSibling : FieldShape → ℕ → Type 0
-  NotSibling f number = (g : FieldShape) → field_at (fields shape type) number ≡ Some g → is_sibling f g ≡ false
-
   -- what each shape of a content says of its field's presence
   one_gives : (p : Presence) (e : Element) (v : Value) → ContentFits shape p e (contents.One v) → KeyFits p None × (is_repeated p ≡ false) × ItemKept shape e v × ZeroFits p v
   one_gives presences.Implicit e v h = (refl, refl, h.0, h.1)
@@ -144,18 +67,6 @@ module _ (shape : Shape) (type : TypeId) where
   map_takes : (p : Presence) (e : Element) (es : Vec (Value × Value) Global) (key : Scalar) → p ≡ presences.Map key → AllByRecursion (EntryKept shape key e) es.items → KeysRise es.items → ContentFits shape p e (contents.Map es)
   map_takes p e es key is each rise = subst (λ x. ContentFits shape x e (contents.Map es)) (sym is) (each, rise)
 
-  keyless : (p : Presence) → is_repeated p ≡ true → KeyFits p None
-  keyless presences.Implicit h = refl
-  keyless presences.Explicit h = refl
-  keyless (presences.Repeated packed) h = refl
-  keyless (presences.Map key) h = absurd (cc)
-
-  follows : (p : Presence) → is_repeated p ≡ true → MayFollow p None None
-  follows presences.Implicit h = absurd (cc)
-  follows presences.Explicit h = absurd (cc)
-  follows (presences.Repeated packed) h = tt
-  follows (presences.Map key) h = absurd (cc)
-
   zero_listed : (p : Presence) (v : Value) → is_repeated p ≡ true → ZeroFits p v
   zero_listed presences.Implicit v h = absurd (cc)
   zero_listed presences.Explicit v h = tt
@@ -184,39 +95,19 @@ module _ (shape : Shape) (type : TypeId) where
     }
 
     items_hold : is_repeated f.presence ≡ true → (vs : List Value) → AllByRecursion (ItemKept shape f.element) vs
-        → FieldHolds shape f (map (λ value. record { number = n; key = None; item = item_seen true value }) vs)
-    items_hold listed [] h = record { each = tt; in_order = tt }
-    items_hold listed (v ∷ vs) h =
-        let rest = items_hold listed vs h.1 in
-        record {
-          each = (one_part None true v (keyless f.presence listed) listed h.0 (zero_listed f.presence v listed), rest.each);
-          in_order = (behind vs, rest.in_order);
-        }
-      where
-        behind : (xs : List Value)
-            → AllByRecursion (λ (q : Part KeptItem). MayFollow f.presence None q.key) (map (λ value. record { number = n; key = None; item = item_seen true value }) xs)
-        behind [] = tt
-        behind (x ∷ xs) = (follows f.presence listed, behind xs)
+        → FieldHolds shape f (map (item_part n true) vs)
+    items_hold listed vs h =
+        list_holds shape f (item_part n true) listed (λ v. refl) vs
+        (each_weaker (ItemKept shape f.element) (λ v. IsPartOf shape f (item_part n true v))
+        (λ v k. one_part None true v (listed_keyless f.presence listed) listed k (zero_listed f.presence v listed)) vs h)
 
     entries_hold : (key : Scalar) → f.presence ≡ presences.Map key → (es : List (Value × Value)) → AllByRecursion (EntryKept shape key f.element) es → KeysRise es
-        → FieldHolds shape f (map (λ (e : Value × Value). record { number = n; key = Some (leaf_of e.0); item = item_seen false e.1 }) es)
-    entries_hold key is [] h rise = record { each = tt; in_order = tt }
-    entries_hold key is (e ∷ es) h rise =
-        let rest = entries_hold key is es h.1 rise.1 in
-        record {
-          each = (
-            one_part (Some (leaf_of e.0)) false e.1 (subst (λ p. KeyFits p (Some (leaf_of e.0))) (sym is) (in_range key e.0 h.0.0)) (ap is_repeated is) h.0.1
-                (subst (λ p. ZeroFits p e.1) (sym is) tt),
-            rest.each,
-          );
-          in_order = (behind es rise.0, rest.in_order);
-        }
-      where
-        behind : (xs : List (Value × Value)) → AllByRecursion (λ (x : Value × Value). key_cmp (leaf_of e.0) (leaf_of x.0) ≡ Less) xs
-            → AllByRecursion (λ (q : Part KeptItem). MayFollow f.presence (Some (leaf_of e.0)) q.key)
-            (map (λ (x : Value × Value). record { number = n; key = Some (leaf_of x.0); item = item_seen false x.1 }) xs)
-        behind [] k = tt
-        behind (x ∷ xs) k = (subst (λ p. MayFollow p (Some (leaf_of e.0)) (Some (leaf_of x.0))) (sym is) k.0, behind xs k.1)
+        → FieldHolds shape f (map (entry_part n) es)
+    entries_hold key is es h rise =
+        map_holds shape f (entry_part n) key is (λ (e : Value × Value). leaf_of e.0) (λ e. refl) es
+        (each_weaker (EntryKept shape key f.element) (λ (e : Value × Value). IsPartOf shape f (entry_part n e))
+        (λ e k. one_part (Some (leaf_of e.0)) false e.1 (subst (λ p. KeyFits p (Some (leaf_of e.0))) (sym is) (in_range key e.0 k.0)) (ap is_repeated is) k.1
+        (subst (λ p. ZeroFits p e.1) (sym is) tt)) es h) rise
 
     content_holds : (c : Content) → ContentFits shape f.presence f.element c → FieldHolds shape f (content_seen n c)
     content_holds (contents.One v) h =
@@ -232,61 +123,31 @@ module _ (shape : Shape) (type : TypeId) where
     holds = content_holds c.0 h.field (sym (found_number (fields shape type) c.0 h.field h.found)) c.1 h.fits;
   }
 
-  abbrev shown : List (ℕ × Content) → List WireRecord → Kept
-  shown ms us = fields_onto ms (ends type us)
-
-  -- each of the contents' numbers has a part
-  module _ (Q : ℕ → Type 0) where
-    places_off : (n : ℕ) (c : Content) (later : Kept) → IsFilled c → AllByRecursion (λ (p : Place). Q p.number) (places (message_of (content_onto n c later))) → Q n × AllByRecursion (λ (p : Place). Q p.number) (places (message_of later))
-    places_off n (contents.One v) later filled h = let k = subst (AllByRecursion (λ (p : Place). Q p.number)) (places-value_onto n None false v later) h in (k.0, k.1)
-    places_off n (contents.Many vs) later filled h =
-        let k = subst (AllByRecursion (λ (p : Place). Q p.number)) (places-items_onto n vs.items later) h in
-        (first vs.items filled (each_before (λ (p : Place). Q p.number) (map (λ (x : Value). place_at n None) vs.items) (places (message_of later)) k), each_after (λ (p : Place). Q p.number) (map (λ (x : Value). place_at n None) vs.items) (places (message_of later)) k)
-      where
-        first : (xs : List Value) → xs ≢ [] → AllByRecursion (λ (p : Place). Q p.number) (map (λ (x : Value). place_at n None) xs) → Q n
-        first [] some k = absurd (some refl)
-        first (x ∷ xs) some k = k.0
-    places_off n (contents.Map es) later filled h =
-        let k = subst (AllByRecursion (λ (p : Place). Q p.number)) (places-entries_onto n es.items later) h in
-        (first es.items filled (each_before (λ (p : Place). Q p.number) (map (key_place n) es.items) (places (message_of later)) k), each_after (λ (p : Place). Q p.number) (map (key_place n) es.items) (places (message_of later)) k)
-      where
-        first : (xs : List (Value × Value)) → xs ≢ [] → AllByRecursion (λ (p : Place). Q p.number) (map (key_place n) xs) → Q n
-        first [] some k = absurd (some refl)
-        first (x ∷ xs) some k = k.0
-
-    numbers_from : (ms : List (ℕ × Content)) (us : List WireRecord) → AllByRecursion (λ (m : ℕ × Content). IsFilled m.1) ms → AllByRecursion (λ (p : Place). Q p.number) (places (message_of (shown ms us))) → AllByRecursion (λ (m : ℕ × Content). Q m.0) ms
-    numbers_from [] us filled h = tt
-    numbers_from (m ∷ ms) us filled h = let k = places_off m.0 m.1 (shown ms us) filled.0 h in (k.0, numbers_from ms us filled.1 k.1)
-
-  contents_to : (ms : List (ℕ × Content)) (us : List WireRecord) → Rises ms → AllByRecursion (HoldsContent shape type) ms → NoneSiblings (fields shape type) ms
-      → AllByRecursion (IsUnknown (fields shape type)) us → Whole (shown ms us)
-  contents_to ms us rises each apart unknown =
-      subst Whole (sym (fields_from ms (ends type us)))
-      (contents_whole content_seen shape type ms us rises (each_weaker (HoldsContent shape type) (HoldsParts content_seen shape type) holds_parts ms each) apart unknown)
-
   -- And back.
 
-  module _ (is_shape : IsShape shape) where
-    abbrev Back : ℕ → Content → Kept → Type 0
-    Back n c later =
-        (f : FieldShape) × (field_at (fields shape type) n ≡ Some f) × ContentFits shape f.presence f.element c × AllByRecursion (λ (p : Place). NotSibling f p.number) (places (message_of later)) × Whole later
+  leaf_held : (f : FieldShape) (l : Bool) (v : Value) → IsKey v → is_repeated f.presence ≡ l → is_text v ≡ is_string f.element → LeafFits f (leaf_of v)
+      → (is_repeated f.presence ≡ l) × ItemKept shape f.element v × ZeroFits f.presence v
+  leaf_held f l v key listed text h =
+      let fits = leaf_back shape f.number f.presence f.element f.oneof v key h in
+      (listed, (fits.0, text), fits.1)
 
-    items_each : (n : ℕ) (f : FieldShape) → field_at (fields shape type) n ≡ Some f → (vs : List Value) (later : Kept) → type_of later ≡ type → Whole (items_onto n vs later) → AllByRecursion (ItemKept shape f.element) vs × Whole later
-    items_each n f found [] later same h = (tt, h)
-    items_each n f found (v ∷ vs) later same h =
-        let (here, rest) = value_back is_shape n None true v (items_onto n vs later) ((unknown_of-items n vs later).1 ∙ same) h in
-        let more = items_each n f found vs later same rest in
-        ((subst (λ (g : FieldShape). ItemKept shape g.element v) (same_found n here.0.field f here.0.found found) here.2, more.0), more.1)
+  item_held : (f : FieldShape) (l : Bool) (v : Value) → HoldsItem shape f (item_seen l v) → (is_repeated f.presence ≡ l) × ItemKept shape f.element v × ZeroFits f.presence v
+  item_held f l (values.Int x) h = leaf_held f l (values.Int x) tt h.0 h.1 h.2
+  item_held f l (values.F32 x) h = leaf_held f l (values.F32 x) tt h.0 h.1 h.2
+  item_held f l (values.F64 x) h = leaf_held f l (values.F64 x) tt h.0 h.1 h.2
+  item_held f l (values.Text x) h = leaf_held f l (values.Text x) tt h.0 h.1 h.2
+  item_held f l (values.Bytes x) h = leaf_held f l (values.Bytes x) tt h.0 h.1 h.2
+  item_held f l (values.Msg child) h =
+      (h.0, subst (λ e. ItemKept shape e (values.Msg child)) (sym h.2) ((h.1, refl), refl), zero_of_child f.presence (values.Msg child) refl)
 
-    items_back : (n : ℕ) (vs : List Value) (later : Kept) → type_of later ≡ type → vs ≢ [] → Whole (items_onto n vs later)
-        → (f : FieldShape) × (field_at (fields shape type) n ≡ Some f) × (is_repeated f.presence ≡ true) × AllByRecursion (ItemKept shape f.element) vs × AllByRecursion (λ (p : Place). NotSibling f p.number) (places (message_of later)) × Whole later
-    items_back n [] later same some h = absurd (some refl)
-    items_back n (v ∷ vs) later same some h =
-        let (here, rest) = value_back is_shape n None true v (items_onto n vs later) ((unknown_of-items n vs later).1 ∙ same) h in
-        let part = here.0 in
-        let more = items_each n part.field part.found vs later same rest in
-        let alone = subst (AllByRecursion (λ (p : Place). NotSibling part.field p.number)) (places-items_onto n vs later) part.alone in
-        (part.field, part.found, here.1, (here.2, more.0), each_after (λ (p : Place). NotSibling part.field p.number) (map (λ (x : Value). place_at n None) vs) (places (message_of later)) alone, more.1)
+  module _ (n : ℕ) (f : FieldShape) where
+    items_listed : (vs : List Value) → vs ≢ [] → AllByRecursion (IsPartOf shape f) (map (item_part n true) vs) → is_repeated f.presence ≡ true
+    items_listed [] some h = absurd (some refl)
+    items_listed (v ∷ vs) some h = (item_held f true v h.0.item).0
+
+    items_kept : (vs : List Value) → AllByRecursion (IsPartOf shape f) (map (item_part n true) vs) → AllByRecursion (ItemKept shape f.element) vs
+    items_kept [] h = tt
+    items_kept (v ∷ vs) h = ((item_held f true v h.0.item).1, items_kept vs h.1)
 
     map_of : (p : Presence) (k : Leaf) → KeyFits p (Some k) → (key : Scalar) × (p ≡ presences.Map key)
     map_of presences.Implicit k h = absurd (cc)
@@ -294,75 +155,61 @@ module _ (shape : Shape) (type : TypeId) where
     map_of (presences.Repeated packed) k h = absurd (cc)
     map_of (presences.Map key) k h = (key, refl)
 
-    entries_each : (n : ℕ) (f : FieldShape) → field_at (fields shape type) n ≡ Some f → (key : Scalar) → f.presence ≡ presences.Map key → (es : List (Value × Value)) (later : Kept) → type_of later ≡ type
-        → AllByRecursion (λ (e : Value × Value). IsKey e.0) es → Whole (entries_onto n es later) → AllByRecursion (EntryKept shape key f.element) es × KeysRise es × Whole later
-    entries_each n f found key is [] later same keys h = (tt, tt, h)
-    entries_each n f found key is (e ∷ es) later same keys h =
-        let (here, rest) = value_back is_shape n (Some (leaf_of e.0)) false e.1 (entries_onto n es later) ((unknown_of-entries n es later).1 ∙ same) h in
-        let part = here.0 in
-        let is_f = same_found n part.field f part.found found in
-        let more = entries_each n f found key is es later same keys.1 rest in
-        let map_here : part.field.presence ≡ presences.Map key = ap (λ (g : FieldShape). g.presence) is_f ∙ is in
-        let item = item_of_range key e.0 keys.0 (subst (λ p. KeyFits p (Some (leaf_of e.0))) map_here part.key_fits) in
-        let number = found_number (fields shape type) n part.field part.found in
-        let before = subst (ComesBefore part.field (Some (leaf_of e.0))) (places-entries_onto n es later) part.before in
-        (((item, subst (λ (g : FieldShape). ItemKept shape g.element e.1) is_f here.2), more.0), (rising part.field number map_here (leaf_of e.0) es (places (message_of later)) before, more.1), more.2)
+    entries_keyed : (es : List (Value × Value)) → es ≢ [] → AllByRecursion (IsPartOf shape f) (map (entry_part n) es) → (key : Scalar) × (f.presence ≡ presences.Map key)
+    entries_keyed [] some h = absurd (some refl)
+    entries_keyed (e ∷ es) some h = map_of f.presence (leaf_of e.0) h.0.key_fits
+
+    entries_kept : (key : Scalar) → f.presence ≡ presences.Map key → (es : List (Value × Value)) → AllByRecursion (λ (e : Value × Value). IsMapKey e.0) es
+        → AllByRecursion (IsPartOf shape f) (map (entry_part n) es) → AllByRecursion (EntryKept shape key f.element) es
+    entries_kept key is [] keys h = tt
+    entries_kept key is (e ∷ es) keys h = (
+      (
+        item_of_range key e.0 (map_key_is_key e.0 keys.0) (subst (λ p. KeyFits p (Some (leaf_of e.0))) is h.0.key_fits),
+        (item_held f false e.1 h.0.item).1,
+      ),
+      entries_kept key is es keys.1 h.1,
+    )
+
+    entries_rise : (key : Scalar) → f.presence ≡ presences.Map key → (es : List (Value × Value)) → InOrder f.presence (map (entry_part n) es) → KeysRise es
+    entries_rise key is [] h = tt
+    entries_rise key is (e ∷ es) h = (below es h.0, entries_rise key is es h.1)
       where
-        rising : (g : FieldShape) → g.number ≡ n → g.presence ≡ presences.Map key → (k : Leaf) (xs : List (Value × Value)) (ps : List Place) → ComesBefore g (Some k) (map (key_place n) xs ++ ps) → AllByRecursion (λ (x : Value × Value). key_cmp k (leaf_of x.0) ≡ Less) xs
-        rising g number map_here k [] ps h' = tt
-        rising g number map_here k (x ∷ xs) ps h' =
-            (⊎_elim (λ low. absurd (omega (arith, low, number))) (λ own. subst (λ p. MayFollow p (Some k) (Some (leaf_of x.0))) map_here own.1) h'.0, rising g number map_here k xs ps h'.1)
+        below : (xs : List (Value × Value)) → AllByRecursion (λ (q : Part KeptItem). MayFollow f.presence (Some (leaf_of e.0)) q.key) (map (entry_part n) xs)
+            → AllByRecursion (λ (x : Value × Value). key_cmp (leaf_of e.0) (leaf_of x.0) ≡ Less) xs
+        below [] k = tt
+        below (x ∷ xs) k = (subst (λ p. MayFollow p (Some (leaf_of e.0)) (Some (leaf_of x.0))) is k.0, below xs k.1)
 
-    entries_back : (n : ℕ) (es : List (Value × Value)) (later : Kept) → type_of later ≡ type → es ≢ [] → AllByRecursion (λ (e : Value × Value). IsKey e.0) es → Whole (entries_onto n es later)
-        → (f : FieldShape) × (field_at (fields shape type) n ≡ Some f) × ((key : Scalar) × (f.presence ≡ presences.Map key) × AllByRecursion (EntryKept shape key f.element) es × KeysRise es) × AllByRecursion (λ (p : Place). NotSibling f p.number) (places (message_of later)) × Whole later
-    entries_back n [] later same some keys h = absurd (some refl)
-    entries_back n (e ∷ es) later same some keys h =
-        let (here, rest) = value_back is_shape n (Some (leaf_of e.0)) false e.1 (entries_onto n es later) ((unknown_of-entries n es later).1 ∙ same) h in
-        let part = here.0 in
-        let (key, is) = map_of part.field.presence (leaf_of e.0) part.key_fits in
-        let all = entries_each n part.field part.found key is (e ∷ es) later same keys h in
-        let alone = subst (AllByRecursion (λ (p : Place). NotSibling part.field p.number)) (places-entries_onto n es later) part.alone in
-        (part.field, part.found, (key, is, all.0, all.1), each_after (λ (p : Place). NotSibling part.field p.number) (map (key_place n) es) (places (message_of later)) alone, all.2)
+    content_held : (c : Content) → IsFilled c → HasKeys c → FieldHolds shape f (content_seen n c) → ContentFits shape f.presence f.element c
+    content_held (contents.One v) filled keys h =
+        let k = item_held f false v h.each.0.item in one_takes f.presence f.element v h.each.0.key_fits k.0 k.1 k.2
+    content_held (contents.Many vs) filled keys h = many_takes f.presence f.element vs (items_listed vs.items filled h.each) (items_kept vs.items h.each)
+    content_held (contents.Map es) filled keys h =
+        let (key, is) = entries_keyed es.items filled h.each in
+        map_takes f.presence f.element es key is (entries_kept key is es.items keys h.each) (entries_rise key is es.items h.in_order)
 
-    content_back : (n : ℕ) (c : Content) (later : Kept) → type_of later ≡ type → IsFilled c → HasKeys c → Whole (content_onto n c later) → Back n c later
-    content_back n (contents.One v) later same filled keys h =
-        let (here, rest) = value_back is_shape n None false v later same h in
-        (here.0.field, here.0.found, one_takes here.0.field.presence here.0.field.element v here.0.key_fits here.1 here.2 here.3, here.0.alone, rest)
-    content_back n (contents.Many vs) later same filled keys h =
-        let k = items_back n vs.items later same filled h in
-        (k.0, k.1, many_takes k.0.presence k.0.element vs k.2 k.3, k.4, k.5)
-    content_back n (contents.Map es) later same filled keys h =
-        let k =
-        entries_back n es.items later same filled (each_weaker (λ (e : Value × Value). IsMapKey e.0) (λ (e : Value × Value). IsKey e.0) (λ e. map_key_is_key e.0) es.items keys) h in
-        (k.0, k.1, map_takes k.0.presence k.0.element es k.2.0 k.2.1 k.2.2 k.2.3, k.3, k.4)
-
-    pub contents_back : (ms : List (ℕ × Content)) (us : List WireRecord) → AllByRecursion (λ (m : ℕ × Content). IsFilled m.1) ms → AllByRecursion (λ (m : ℕ × Content). HasKeys m.1) ms → Whole (shown ms us)
-        → AllByRecursion (HoldsContent shape type) ms × NoneSiblings (fields shape type) ms × AllByRecursion (IsUnknown (fields shape type)) us
-    contents_back [] us filled keys h = (tt, tt, h.0)
-    contents_back (m ∷ ms) us filled keys h =
-        let k = content_back m.0 m.1 (shown ms us) (fields_keep ms (ends type us)).1 filled.0 keys.0 h in
-        let rest = contents_back ms us filled.1 keys.1 k.4 in
-        let apart = each_weaker (λ (l : ℕ × Content). NotSibling k.0 l.0) (λ (l : ℕ × Content). AreApart (fields shape type) m.0 l.0) (λ l none g j at there. subst (λ x. is_sibling x j ≡ false) (same_found m.0 k.0 g k.1 at) (none j there)) ms
-        (numbers_from (NotSibling k.0) ms us filled.1 k.3) in
-        ((record { field = k.0; found = k.1; fits = k.2 }, rest.0), (apart, rest.1), rest.2)
+  held_parts : (c : ℕ × Content) → IsFilled c.1 → HasKeys c.1 → HoldsParts content_seen shape type c → HoldsContent shape type c
+  held_parts c filled keys h = record { field = h.field; found = h.found; fits = content_held c.0 h.field c.1 filled keys h.holds }
 
 -- A message fits just where its contents do.
 module _ (shape : Shape) (type : TypeId) (ms : List (ℕ × Content)) (us : List WireRecord) (m : Kept) (view : fields_onto ms (ends type us) ≡ m) where
-  type_is : type_of (fields_onto ms (ends type us)) ≡ type
-  type_is = (fields_keep ms (ends type us)).1
-
   pub fits_from_contents : Rises ms → FitsByContents shape type ms us → Fits shape m
   fits_from_contents rises h =
-      let whole = contents_to shape type ms us rises h.each h.apart h.unknown in
-      subst (Fits shape) view (record {
-        type_is_there = subst (λ (t : TypeId). t.index < length shape) (sym type_is) h.type_is_there;
-        is_message = subst (λ (t : TypeId). IsMessage shape t (message_of (fields_onto ms (ends type us)))) (sym type_is) whole.0;
-        parts_agree = whole.1;
-      })
+      subst (Fits shape) view
+      (fits_of_contents content_seen shape type ms us h.type_is_there rises
+      (each_weaker (HoldsContent shape type) (HoldsParts content_seen shape type) (holds_parts shape type) ms h.each) h.apart h.unknown)
 
   pub contents_from_fits : IsShape shape → AllByRecursion (λ (x : ℕ × Content). IsFilled x.1) ms → AllByRecursion (λ (x : ℕ × Content). HasKeys x.1) ms → Fits shape m → FitsByContents shape type ms us
   contents_from_fits is_shape filled keys fits =
       let here = subst (Fits shape) (sym view) fits in
-      let is_m = subst (λ (t : TypeId). IsMessage shape t (message_of (fields_onto ms (ends type us)))) type_is here.is_message in
-      let k = contents_back shape type is_shape ms us filled keys (is_m, here.parts_agree) in
-      record { type_is_there = subst (λ (t : TypeId). t.index < length shape) type_is here.type_is_there; each = k.0; apart = k.1; unknown = k.2 }
+      let same = type_of-kept_onto (all_seen ms) (ends type us) in
+      let there = each_weaker (λ (x : ℕ × Content). IsFilled x.1) (λ (x : ℕ × Content). content_seen x.0 x.1 ≢ []) (λ x. owned_filled x.0 x.1) ms filled in
+      let (held, apart, unknown) = contents_back content_seen content_number shape type is_shape ms us there (whole_of shape type (fields_onto ms (ends type us)) same here) in
+      record {
+        type_is_there = subst (λ (t : TypeId). t.index < length shape) same here.type_is_there;
+        each = each_weaker (λ (x : ℕ × Content). (IsFilled x.1 × HasKeys x.1) × HoldsParts content_seen shape type x) (HoldsContent shape type)
+            (λ x k. held_parts shape type x k.0.0 k.0.1 k.1) ms
+            (each_both (λ (x : ℕ × Content). IsFilled x.1 × HasKeys x.1) (HoldsParts content_seen shape type) ms
+            (each_both (λ (x : ℕ × Content). IsFilled x.1) (λ (x : ℕ × Content). HasKeys x.1) ms filled keys) held);
+        apart = apart;
+        unknown = unknown;
+      }

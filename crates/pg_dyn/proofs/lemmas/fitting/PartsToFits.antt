@@ -1,26 +1,31 @@
 -- A message fits where its parts fit their fields, are in order, and no two are of members of one oneof.
-use Rattle.std.proofs.Common.{◌≡◌, ℕ, ◌<◌, ◌⊎◌, List, [], ◌∷◌, ◌++◌, length, map, flat_map, Bool, false, Option, Some, not, ◌&&◌, refl, ap, sym, subst, ◌∙◌, arith, ⊎_elim, inl, inr, eq-eqb}
+use Rattle.std.proofs.Common.{◌≡◌, ℕ, ◌<◌, ◌⊎◌, List, [], ◌∷◌, ◌++◌, length, map, Bool, true, false, Option, Some, None, not, ◌&&◌, refl, ap, sym, subst, ◌∙◌, arith, ⊎_elim, inl, inr, eq-eqb}
 use Rattle.std.specs.List.{AllByRecursion}
+use Rattle.std.specs.declared.cmp.Ordering.TheVariants.{Less}
 use Rattle.std.proofs.Math.Bool.{and-false}
 use Rattle.pg_schema.specs.declared.parts.field.TypeId.{TypeId}
+use Rattle.pg_schema.specs.declared.parts.field.Scalar.{Scalar}
+use Rattle.pg_schema.specs.declared.parts.field.Presence.{Presence}
+use Rattle.pg_schema.specs.declared.parts.field.Presence.TheVariants as presences
 use Rattle.pg_schema.specs.Shape.{Shape, FieldShape, fields, field_at, is_repeated}
 use Rattle.pg_wire.specs.Records.{WireRecord}
-use Rattle.pg_dyn.specs.fitting.Belonging.{ComesBefore, IsAlone, IsMessage, IsPart, IsUnknown, MayFollow}
+use Rattle.pg_dyn.specs.fitting.Belonging.{ComesBefore, IsAlone, IsMessage, IsPart, IsUnknown, KeyFits, MayFollow}
 use Rattle.pg_dyn.specs.reading.Content.{is_sibling, same_oneof}
 use Rattle.pg_dyn.specs.fitting.ContentFits.{AreApart, NoneSiblings}
 use Rattle.pg_dyn.specs.encoding.Encoding.{child_type}
 use Rattle.pg_dyn.specs.fitting.Fits.{Fits, PartsAgree, is_listed, is_listed_by, is_string, is_string_by}
 use Rattle.pg_dyn.specs.message.Kept.{Kept, ends, message_of, type_of}
 use Rattle.pg_dyn.specs.message.KeptParts.{KeptItem, Plain, Msg}
-use Rattle.pg_dyn.specs.message.Message.{Leaf, Part, Place, place_of, places}
-use Rattle.pg_dyn.specs.fitting.PartsFit.{FieldHolds, HoldsItem, IsPartOf}
-use Rattle.pg_dyn.specs.message.Replacing.{kept_onto, kept_part}
+use Rattle.pg_dyn.specs.message.Message.{Leaf, Part, Place, key_cmp, place_of, places}
+use Rattle.pg_dyn.specs.fitting.PartsFit.{FieldHolds, HoldsItem, InOrder, IsPartOf}
+use Rattle.pg_dyn.specs.message.Replacing.{all_parts, kept_onto, kept_part}
 use Rattle.pg_dyn.specs.message.Seen.{Rises}
 use Rattle.pg_dyn.proofs.lemmas.fitting.Belonging.{child_type_is}
 use Rattle.pg_dyn.proofs.lemmas.reading.gathered.GoodRecords.{same_found}
 use Rattle.pg_dyn.proofs.Lists.{each-append, each-map, each_both, each_weaker}
 use Rattle.pg_dyn.proofs.lemmas.message.ReplacingLaws.{kept_onto-append, type_of-kept_onto}
 use Rattle.pg_dyn.proofs.lemmas.reading.records.Splitting.{found_number}
+use Rattle.pg_dyn.specs.message.KeyOrder.{Rise}
 
 -- Where parts are.
 
@@ -35,12 +40,63 @@ places_kept [] later = refl
 places_kept (p ∷ ps) later =
     first_place p.number p.key p.item (kept_onto ps later) ∙ ap (λ qs. place_of p ∷ qs) (places_kept ps later)
 
+-- items of lists have no keys, and follow one another
+pub listed_keyless : (p : Presence) → is_repeated p ≡ true → KeyFits p None
+listed_keyless presences.Implicit h = refl
+listed_keyless presences.Explicit h = refl
+listed_keyless (presences.Repeated packed) h = refl
+listed_keyless (presences.Map key) h = absurd (cc)
+
+pub listed_follows : (p : Presence) → is_repeated p ≡ true → MayFollow p None None
+listed_follows presences.Implicit h = absurd (cc)
+listed_follows presences.Explicit h = absurd (cc)
+listed_follows (presences.Repeated packed) h = tt
+listed_follows (presences.Map key) h = absurd (cc)
+
+-- The parts of a list hold where each does; those of a map, where the keys rise too.
+module _ {A : Type 0} (shape : Shape) (f : FieldShape) (part : A → Part KeptItem) where
+  pub list_holds : is_repeated f.presence ≡ true → ((x : A) → (part x).key ≡ None) → (xs : List A) → AllByRecursion (λ x. IsPartOf shape f (part x)) xs
+      → FieldHolds shape f (map part xs)
+  list_holds listed keyless xs each = record { each = each-map (IsPartOf shape f) part xs each; in_order = in_order xs }
+    where
+      follows : (x y : A) → MayFollow f.presence (part x).key (part y).key
+      follows x y =
+          subst (λ k. MayFollow f.presence k (part y).key) (sym (keyless x))
+          (subst (λ k. MayFollow f.presence None k) (sym (keyless y)) (listed_follows f.presence listed))
+
+      behind : (x : A) (ys : List A) → AllByRecursion (λ (q : Part KeptItem). MayFollow f.presence (part x).key q.key) (map part ys)
+      behind x [] = tt
+      behind x (y ∷ ys) = (follows x y, behind x ys)
+
+      in_order : (ys : List A) → InOrder f.presence (map part ys)
+      in_order [] = tt
+      in_order (y ∷ ys) = (behind y ys, in_order ys)
+
+  pub map_holds : (key : Scalar) → f.presence ≡ presences.Map key → (key_of : A → Leaf) → ((x : A) → (part x).key ≡ Some (key_of x)) → (xs : List A)
+      → AllByRecursion (λ x. IsPartOf shape f (part x)) xs → Rise key_of xs → FieldHolds shape f (map part xs)
+  map_holds key is key_of keyed xs each rise = record { each = each-map (IsPartOf shape f) part xs each; in_order = in_order xs rise }
+    where
+      follows : (x y : A) → key_cmp (key_of x) (key_of y) ≡ Less → MayFollow f.presence (part x).key (part y).key
+      follows x y h =
+          subst (λ p. MayFollow p (part x).key (part y).key) (sym is)
+          (subst (λ k. MayFollow (presences.Map key) k (part y).key) (sym (keyed x))
+          (subst (λ k. MayFollow (presences.Map key) (Some (key_of x)) k) (sym (keyed y)) h))
+
+      behind : (x : A) (ys : List A) → AllByRecursion (λ y. key_cmp (key_of x) (key_of y) ≡ Less) ys
+          → AllByRecursion (λ (q : Part KeptItem). MayFollow f.presence (part x).key q.key) (map part ys)
+      behind x [] h = tt
+      behind x (y ∷ ys) h = (follows x y h.0, behind x ys h.1)
+
+      in_order : (ys : List A) → Rise key_of ys → InOrder f.presence (map part ys)
+      in_order [] h = tt
+      in_order (y ∷ ys) h = (behind y ys h.0, in_order ys h.1)
+
 -- a field isn't its own sibling
 pub own_sibling : (f : FieldShape) → is_sibling f f ≡ false
 own_sibling f = ap (λ b. same_oneof f.oneof f.oneof && not b) (eq-eqb f.number f.number refl) ∙ and-false (same_oneof f.oneof f.oneof)
 
 module _ (shape : Shape) (type : TypeId) where
-  abbrev Whole : Kept → Type 0
+  abbrev pub Whole : Kept → Type 0
   Whole m = IsMessage shape type (message_of m) × PartsAgree shape m
 
   -- One part in front.
@@ -70,7 +126,7 @@ module _ (shape : Shape) (type : TypeId) where
 
   -- The parts after a part: of its own field, or of a later one that is no sibling.
 
-  abbrev NotSibling : FieldShape → ℕ → Type 0
+  abbrev pub NotSibling : FieldShape → ℕ → Type 0
   NotSibling f number = (g : FieldShape) → field_at (fields shape type) number ≡ Some g → is_sibling f g ≡ false
 
   abbrev Beyond : FieldShape → ℕ → Type 0
@@ -183,7 +239,7 @@ module _ (shape : Shape) (type : TypeId) where
       (type_of-kept_onto ps (ends type us) ∙ sym (type_of-kept_onto ps (ends type vs)))
       (places_kept ps (ends type us) ∙ sym (places_kept ps (ends type vs))) (other_end us vs unknown ps) h
 
-  whole_of : (m : Kept) → type_of m ≡ type → Fits shape m → Whole m
+  pub whole_of : (m : Kept) → type_of m ≡ type → Fits shape m → Whole m
   whole_of m is fits = (subst (λ t. IsMessage shape t (message_of m)) is fits.is_message, fits.parts_agree)
 
   of_whole : (m : Kept) → type_of m ≡ type → type.index < length shape → Whole m → Fits shape m
@@ -208,40 +264,37 @@ module _ {C : Type 0} (seen : ℕ → C → List (Part KeptItem)) (shape : Shape
     pub found : field_at (fields shape type) c.0 ≡ Some field
     pub holds : FieldHolds shape field (seen c.0 c.1)
 
-  abbrev all : List (ℕ × C) → List (Part KeptItem)
-  all cs = flat_map (λ (c : ℕ × C). seen c.0 c.1) cs
-
   numbers_of : (Q : ℕ → Type 0) (cs : List (ℕ × C)) → AllByRecursion HoldsParts cs → AllByRecursion (λ (c : ℕ × C). Q c.0) cs
-      → AllByRecursion (λ (p : Part KeptItem). Q p.number) (all cs)
+      → AllByRecursion (λ (p : Part KeptItem). Q p.number) (all_parts seen cs)
   numbers_of Q [] h q = tt
   numbers_of Q (c ∷ cs) h q =
-      each-append (λ (p : Part KeptItem). Q p.number) (seen c.0 c.1) (all cs)
+      each-append (λ (p : Part KeptItem). Q p.number) (seen c.0 c.1) (all_parts seen cs)
       (each_weaker (IsPartOf shape h.0.field) (λ (p : Part KeptItem). Q p.number)
       (λ p k. subst Q (sym (k.number_is ∙ found_number (fields shape type) c.0 h.0.field h.0.found)) q.0) (seen c.0 c.1) h.0.holds.each)
       (numbers_of Q cs h.1 q.1)
 
   pub contents_whole : (cs : List (ℕ × C)) (us : List WireRecord) → Rises cs → AllByRecursion HoldsParts cs → NoneSiblings (fields shape type) cs
-      → AllByRecursion (IsUnknown (fields shape type)) us → Whole shape type (kept_onto (all cs) (ends type us))
+      → AllByRecursion (IsUnknown (fields shape type)) us → Whole shape type (kept_onto (all_parts seen cs) (ends type us))
   contents_whole [] us rises each apart unknown = (unknown, tt)
   contents_whole (c ∷ cs) us rises each apart unknown =
       let f = each.0.field in
       let number : f.number ≡ c.0 = found_number (fields shape type) c.0 f each.0.found in
-      let later = kept_onto (all cs) (ends type us) in
+      let later = kept_onto (all_parts seen cs) (ends type us) in
       let far : AllByRecursion (λ (l : ℕ × C). Beyond shape type f l.0) cs =
       each_weaker (λ (l : ℕ × C). (c.0 < l.0) × AreApart (fields shape type) c.0 l.0) (λ (l : ℕ × C). Beyond shape type f l.0)
       (λ l k. (let low : f.number < l.0 = omega (arith, number, k.0) in low, λ g there. k.1 f g each.0.found there)) cs
       (each_both (λ (l : ℕ × C). c.0 < l.0) (λ (l : ℕ × C). AreApart (fields shape type) c.0 l.0) cs rises.0 apart.0) in
       let beyond : AllByRecursion (λ (p : Place). Beyond shape type f p.number) (places (message_of later)) =
-      subst (AllByRecursion (λ (p : Place). Beyond shape type f p.number)) (sym (places_kept (all cs) (ends type us)))
-      (each-append (λ (p : Place). Beyond shape type f p.number) (map place_of (all cs)) []
-      (each-map (λ (p : Place). Beyond shape type f p.number) place_of (all cs) (numbers_of (Beyond shape type f) cs each.1 far)) tt) in
-      subst (Whole shape type) (sym (kept_onto-append (seen c.0 c.1) (all cs) (ends type us)))
-      (field_to shape type f (ap (field_at (fields shape type)) number ∙ each.0.found) later (type_of-kept_onto (all cs) (ends type us)) beyond
+      subst (AllByRecursion (λ (p : Place). Beyond shape type f p.number)) (sym (places_kept (all_parts seen cs) (ends type us)))
+      (each-append (λ (p : Place). Beyond shape type f p.number) (map place_of (all_parts seen cs)) []
+      (each-map (λ (p : Place). Beyond shape type f p.number) place_of (all_parts seen cs) (numbers_of (Beyond shape type f) cs each.1 far)) tt) in
+      subst (Whole shape type) (sym (kept_onto-append (seen c.0 c.1) (all_parts seen cs) (ends type us)))
+      (field_to shape type f (ap (field_at (fields shape type)) number ∙ each.0.found) later (type_of-kept_onto (all_parts seen cs) (ends type us)) beyond
       (contents_whole cs us rises.1 each.1 apart.1 unknown) (seen c.0 c.1) each.0.holds)
 
   -- The message of contents that hold parts of their fields fits, where no two are of members of one oneof.
   pub fits_of_contents : (cs : List (ℕ × C)) (us : List WireRecord) → type.index < length shape → Rises cs → AllByRecursion HoldsParts cs
-      → NoneSiblings (fields shape type) cs → AllByRecursion (IsUnknown (fields shape type)) us → Fits shape (kept_onto (all cs) (ends type us))
+      → NoneSiblings (fields shape type) cs → AllByRecursion (IsUnknown (fields shape type)) us → Fits shape (kept_onto (all_parts seen cs) (ends type us))
   fits_of_contents cs us there rises each apart unknown =
-      of_whole shape type (kept_onto (all cs) (ends type us)) (type_of-kept_onto (all cs) (ends type us)) there
+      of_whole shape type (kept_onto (all_parts seen cs) (ends type us)) (type_of-kept_onto (all_parts seen cs) (ends type us)) there
       (contents_whole cs us rises each apart unknown)

@@ -17,29 +17,28 @@ use Rattle.pg_dyn.specs.word.Coding.{word_bytes, word_in}
 use Rattle.pg_dyn.specs.reading.Content.{takes, key_field, value_field}
 use Rattle.pg_dyn.specs.encoding.Encoding.{enc}
 use Rattle.pg_dyn.specs.reading.Decoding.{all_readable, dec}
-use Rattle.pg_dyn.specs.reading.Faults.{AreFaultless, Code, FirstFault, FirstFaultOf, NotUtf8, TooDeep, TooDeepOf, Wire, the_root, no_record, in_record, not_text, bad_element, the_child, in_child, in_entry, missing_value}
+use Rattle.pg_dyn.specs.reading.Faults.{AreRead, Code, FirstFault, FirstFaultOf, NotUtf8, TooDeep, TooDeepOf, Wire, the_root, no_record, in_record, not_text, bad_element, the_child, in_child, in_entry, missing_value}
 use Rattle.pg_dyn.specs.reading.ReadingOn.{IsNoMessage}
 use Rattle.pg_dyn.specs.reading.Steps.{IsShallowRecord}
 use Rattle.pg_dyn.specs.laws.Examples.{first, field, scalar, member, int32}
 use Rattle.pg_dyn.specs.laws.FaultExamples.{FaultExamples, text, text_or_number, packed, packed_of_four, child_and_text, children_by_text, too_long}
-use Rattle.pg_dyn.proofs.lemmas.reading.faults.Ahead.{faultless}
 use Rattle.pg_dyn.proofs.lemmas.reading.by_fields.BodiesByFields.{shallow_from_records}
 use Rattle.pg_dyn.proofs.lemmas.reading.gathered.GoodRecords.{same_found}
 use Rattle.pg_dyn.proofs.lemmas.reading.faults.ShallowRecords.{scalar_shallow}
 
 -- nothing in front
-front_empty : (shape : Shape) (levels : ℕ) (fs : List FieldShape) → AreFaultless shape (suc levels) fs []
+front_empty : (shape : Shape) (levels : ℕ) (fs : List FieldShape) → AreRead shape (suc levels) fs []
 front_empty shape levels fs =
     let spelled : Spells [] [] = record { joined = refl; each = tt } in
-    faultless shape (suc levels) fs [] [] spelled refl (shallow_from_records shape levels fs [] [] (records_of_Spells [] [] spelled) tt)
+    record { records = []; spelled = spelled; readable = refl; shallow = shallow_from_records shape levels fs [] [] (records_of_Spells [] [] spelled) tt }
 
 -- a record of a field that is no message in front
 front_of_one : (shape : Shape) (levels : ℕ) (fs : List FieldShape) (r : WireRecord) (f : FieldShape) (front : List ℕ) → Spells front (r ∷ [])
     → field_at fs r.number ≡ Some f → is_map f.presence ≡ false → IsNoMessage f.element → all_readable (dec shape) fs (r ∷ []) ≡ true
-    → AreFaultless shape (suc levels) fs front
+    → AreRead shape (suc levels) fs front
 front_of_one shape levels fs r f front spelled found no_map scalar readable =
     let shallow = shallow_from_records shape levels fs front (r ∷ []) (records_of_Spells front (r ∷ []) spelled) (one, tt) in
-    faultless shape (suc levels) fs front (r ∷ []) spelled readable shallow
+    record { records = r ∷ []; spelled = spelled; readable = readable; shallow = shallow }
   where
     one : IsShallowRecord shape levels fs r
     one g taken place deep =

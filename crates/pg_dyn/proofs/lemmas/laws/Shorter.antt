@@ -1,5 +1,5 @@
 -- The bytes of a child are fewer than those of the message around it.
-use Rattle.std.proofs.Common.{◌≡◌, ℕ, ◌<◌, ◌≤◌, List, [], ◌∷◌, map, filter, flat_map, length, Bool, true, false, cond, nat_eq, Option, refl, ap, sym, ◌∙◌, arith, length-append, eq-eqb}
+use Rattle.std.proofs.Common.{◌≡◌, ℕ, ◌<◌, ◌≤◌, List, map, filter, flat_map, length, true, false, nat_eq, Option, refl, ap, sym, ◌∙◌, arith, length-append, eq-eqb}
 use Rattle.std.specs.List.{AllByRecursion}
 use Rattle.pg_schema.specs.declared.parts.field.TypeId.{TypeId}
 use Rattle.pg_schema.specs.declared.parts.field.Scalar.{Scalar}
@@ -17,7 +17,7 @@ use Rattle.pg_dyn.specs.reading.Content.{leaf_bytes}
 use Rattle.pg_dyn.specs.encoding.Writing.{item_record, entry_bytes, key_of, field_records, records_in, bytes_of}
 use Rattle.pg_dyn.specs.encoding.Encoding.{child_type, encoded_parts, enc}
 use Rattle.pg_dyn.specs.fitting.Belonging.{IsMessage}
-use Rattle.pg_dyn.proofs.Lists.{each_weaker, each_both, each_of_all, each_swap, flat_map-map, each_at, each_within}
+use Rattle.pg_dyn.proofs.Lists.{each_at, each_both, each_of_all, each_passing, each_swap, each_weaker, each_within, flat_map-map}
 use Rattle.pg_dyn.proofs.lemmas.reading.entries.Entries.{length_body-written}
 use Rattle.pg_dyn.specs.laws.OwnParts.{FitsField, ChildrenShorter}
 use Rattle.pg_dyn.proofs.lemmas.reading.Fields.{field_of}
@@ -75,15 +75,6 @@ shorter_of_field number p (elements.Message u) oneof fits qs h t is = shorter_in
 shorter_of_field number p (elements.Scalar s) oneof fits qs h t is = absurd (cc)
 shorter_of_field number p (elements.Enum e) oneof fits qs h t is = absurd (cc)
 
-unfiltered : {A : Type 0} (P : A → Type 0) (test : A → Bool) (xs : List A) → AllByRecursion P (filter test xs) → AllByRecursion (λ x. test x ≡ true → P x) xs
-unfiltered P test [] h = tt
-unfiltered P test (x ∷ xs) h =
-    elim (test x) as (λ b. test x ≡ b → AllByRecursion P (cond b (x ∷ filter test xs) (filter test xs)) → (test x ≡ true → P x) × AllByRecursion (λ y. test y ≡ true → P y) xs)
-    [ true ↦ λ e g. ((λ k. g.0), unfiltered P test xs g.1) | false ↦ λ e g. ((λ k. absurd (differ e k)), unfiltered P test xs g) ] refl h
-  where
-    differ : test x ≡ false → test x ≡ true → ⊥
-    differ e k = cc
-
 module _ (types : ℕ) (fs : List FieldShape) (ps : List (Part Leaf)) (us : List WireRecord) (flat : IsFlat types fs ps us) where
   -- a part that is a child of the field has fewer bytes than all that is written
   abbrev pub IsShorter : FieldShape → Part Leaf → Type 0
@@ -104,7 +95,7 @@ module _ (types : ℕ) (fs : List FieldShape) (ps : List (Part Leaf)) (us : List
       parts_of (elements.Message u) is =
           each_weaker (λ p. is_of f.number p ≡ true → length (leaf_bytes p.item) < length (bytes_of (own_records types fs ps us flat f))) (IsShorter f)
           (λ p g t k at. let first = g at in omega arith) ps
-          (unfiltered (λ p. length (leaf_bytes p.item) < length (bytes_of (own_records types fs ps us flat f))) (is_of f.number) ps
+          (each_passing (λ p. length (leaf_bytes p.item) < length (bytes_of (own_records types fs ps us flat f))) (is_of f.number) ps
           (shorter_of_field f.number f.presence f.element f.oneof known.1.presence_fits (filter (is_of f.number) ps) (each_fits fs f known.0 ps flat.parts) u is))
 
   each_part_shorter : AllByRecursion (λ p. AllByRecursion (λ f. IsShorter f p) fs) ps

@@ -9,6 +9,7 @@ use Rattle.std.specs.List.Sorted.{IsNonDecreasingBy}
 use Rattle.pg_dyn.specs.message.Seen.{Rises}
 use Rattle.pg_dyn.specs.message.FieldList.{fields_below, fields_above, put_field, remove_field}
 use Rattle.pg_dyn.proofs.Lists.{filter_all, filter_none, filter-append', each_weaker, each-append, each-filter, each_of_all}
+use Rattle.pg_dyn.proofs.lemmas.fitting.FitsSteps.{same_default}
 
 abbrev pub AllBelow : {A : Type 0} → ℕ → List (ℕ × A) → Type 0
 AllBelow {A} n fs = AllByRecursion (λ (f : ℕ × A). f.0 < n) fs
@@ -150,15 +151,9 @@ none_there {A} fs i n rises low high apart =
     (each_weaker (λ (f : ℕ × A). f.0 < n) (λ (f : ℕ × A). f.0 ≢ n) (λ f below e. absurd (omega arith)) (take i fs) low)
     (each_weaker (λ (f : ℕ × A). n < f.0) (λ (f : ℕ × A). f.0 ≢ n) (λ f above e. absurd (omega arith)) (drop i fs) (strictly_above n (drop i fs) (rises_drop i fs rises) high apart)))
 
--- a field within the list doesn't depend on the default
-pub same_at : {A : Type 0} (fs : List (ℕ × A)) (i : ℕ) (d e : ℕ × A) → i < length fs → get_or fs i d ≡ get_or fs i e
-same_at {A} [] i d e inside = absurd (omega arith)
-same_at {A} (f ∷ fs) zero d e inside = refl
-same_at {A} (f ∷ fs) (suc i) d e inside = same_at fs i d e (omega arith)
-
 -- the number of the field that was read at an index
 pub number_at : {A : Type 0} (fs : List (ℕ × A)) (i n : ℕ) (x d : ℕ × A) → i < length fs → x ≡ get_or fs i x → x.0 ≡ n → (get_or fs i d).0 ≡ n
-number_at {A} fs i n x d inside is number = ap (λ (f : ℕ × A). f.0) (same_at fs i d x inside ∙ sym is) ∙ number
+number_at {A} fs i n x d inside is number = ap (λ (f : ℕ × A). f.0) (same_default fs i d x inside ∙ sym is) ∙ number
 
 -- a call that fails only without room
 pub with_room : {T E X : Type 0} {len cap : ℕ} {new done : X} (r : Result T E) (old : X) → OnErr r (cap ≤ len) → len < cap → new ≡ (if is_ok r then done else old) → new ≡ done

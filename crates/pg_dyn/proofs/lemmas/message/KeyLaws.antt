@@ -23,6 +23,7 @@ use Rattle.pg_dyn.specs.message.Message.{Leaf, Int, F32, F64, Bytes, key_cmp, le
 use Rattle.pg_dyn.specs.message.Seen.{IsKey, leaf_of}
 use Rattle.pg_dyn.proofs.lemmas.fitting.FitsSteps.{IsBelow, fact_at, rises_from, same_default}
 use Rattle.pg_dyn.proofs.lemmas.word.Leaves.{same_leaf, leaf_eq_self}
+use Rattle.pg_dyn.proofs.Lists.{each_weaker}
 
 -- The order is one.
 
@@ -159,14 +160,10 @@ text_key (values.Text x) h = tt
 text_key (values.Bytes x) h = tt
 text_key (values.Msg x) h = absurd h
 
-each_to : {A : Type 0} (P Q : A → Type 0) → ((x : A) → P x → Q x) → (xs : List A) → AllByRecursion P xs → AllByRecursion Q xs
-each_to P Q w [] h = tt
-each_to P Q w (x ∷ xs) h = (w x h.0, each_to P Q w xs h.1)
-
 pub alike_keys : (es : List (Value × Value)) → AreAlike es → AllByRecursion (λ (e : Value × Value). IsKey e.0) es
 alike_keys es h =
-    ⊎_elim (λ n. each_to (λ (e : Value × Value). IsNumber e.0) (λ (e : Value × Value). IsKey e.0) (λ e. number_key e.0) es n)
-    (λ t. each_to (λ (e : Value × Value). IsText e.0) (λ (e : Value × Value). IsKey e.0) (λ e. text_key e.0) es t) h
+    ⊎_elim (λ n. each_weaker (λ (e : Value × Value). IsNumber e.0) (λ (e : Value × Value). IsKey e.0) (λ e. number_key e.0) es n)
+    (λ t. each_weaker (λ (e : Value × Value). IsText e.0) (λ (e : Value × Value). IsKey e.0) (λ e. text_key e.0) es t) h
 
 from_places : {A : Type 0} (P : A → Type 0) (xs : List A) → ((k : ℕ) (d : A) → k < length xs → P (get_or xs k d)) → AllByRecursion P xs
 from_places P [] h = tt

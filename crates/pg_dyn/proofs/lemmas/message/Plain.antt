@@ -17,8 +17,8 @@ use Rattle.pg_wire.proofs.Varints.{varint_at-append, length-IsVarint}
 use Rattle.pg_wire.proofs.RecordLaws.{exactly-append}
 use Rattle.pg_dyn.specs.reading.Optional.{all_some}
 use Rattle.pg_dyn.specs.message.Message.{Leaf, Bytes}
-use Rattle.pg_dyn.specs.laws.Bodies.{BodyShape, IsNestedLeaf, IsReadAs, record_with}
-use Rattle.pg_dyn.specs.word.Coding.{form, form_wire, leaf_in, element_at}
+use Rattle.pg_dyn.specs.laws.Bodies.{IsNestedLeaf, IsReadAs, record_with}
+use Rattle.pg_dyn.specs.word.Coding.{HasShape, form, form_wire, leaf_in, element_at}
 use Rattle.pg_dyn.specs.reading.Content.{same_wire, packed_leaves, leaves_in, leaf_bytes, last_item, plain_content}
 use Rattle.pg_dyn.specs.fitting.Belonging.{MayBeZero}
 use Rattle.pg_dyn.proofs.Lists.{all_some-map_map, flat_map-map, each-map, each_weaker}
@@ -55,7 +55,7 @@ packable_wire (elements.Scalar s) h = refl
 packable_wire (elements.Enum e) h = refl
 packable_wire (elements.Message t) h = absurd (cc)
 
-packed_shape : (wire : WireType) (bytes : List ℕ) → same_wire Len wire ≡ false → BodyShape wire bytes → Packed wire bytes
+packed_shape : (wire : WireType) (bytes : List ℕ) → same_wire Len wire ≡ false → HasShape wire bytes → Packed wire bytes
 packed_shape Varint bytes h shape = shape
 packed_shape I64 bytes h shape = shape
 packed_shape I32 bytes h shape = shape

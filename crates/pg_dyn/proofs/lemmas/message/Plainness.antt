@@ -1,73 +1,122 @@
--- Whether a message is plain, level by level.
-use Rattle.std.proofs.Common.{◌≡◌, ◌↔◌, ℕ, List, [], ◌∷◌, map, length, Vec, Global, Bool, IsTrue, eqb, vec_len, true, false, Option, Some, None, refl, ap, sym, ◌∙◌, arith, eq-eqb, eqb-true}
+-- Whether a message is plain, level by level, whatever kind its contents are of.
+use Rattle.std.proofs.Common.{◌≡◌, ◌↔◌, ℕ, List, [], ◌∷◌, ◌++◌, map, length, Vec, Global, Bool, IsTrue, eqb, vec_len, true, false, Option, refl, ap, sym, subst, ◌∙◌, arith, eq-eqb, eqb-true}
 use Rattle.std.specs.List.{AllByRecursion}
 use Rattle.pg_schema.specs.declared.parts.field.TypeId.{TypeId}
-use Rattle.pg_dyn.specs.declared.message.UnknownRecord.{UnknownRecord}
+use Rattle.pg_wire.specs.Records.{WireRecord}
 use Rattle.pg_dyn.specs.declared.message.Content.{Content}
-use Rattle.pg_dyn.specs.declared.message.Content.TheVariants as contents
+use Rattle.pg_dyn.specs.declared.message.Content.TheVariants as owned
 use Rattle.pg_dyn.specs.declared.message.Value.{Value}
-use Rattle.pg_dyn.specs.declared.message.Value.TheVariants as values
-use Rattle.pg_dyn.specs.message.Message.{Leaf}
+use Rattle.pg_dyn.specs.declared.message_ref.ContentRef.{ContentRef}
+use Rattle.pg_dyn.specs.declared.message_ref.ContentRef.TheVariants as lent
+use Rattle.pg_dyn.specs.declared.message_ref.EntryRef.{EntryRef}
+use Rattle.pg_dyn.specs.declared.message_ref.ValueRef.{ValueRef}
+use Rattle.pg_dyn.specs.declared.message_ref.ValueRef.TheVariants as borrows
+use Rattle.pg_dyn.specs.message.Message.{Leaf, Part}
 use Rattle.pg_dyn.specs.message.Kept.{Kept, ends}
-use Rattle.pg_dyn.specs.message.KeptParts.{IsPlain, IsPlainItem}
-use Rattle.pg_dyn.specs.message.Seen.{leaf_of, item_seen, record_seen, value_onto, items_onto, entries_onto, content_onto, fields_onto, ArePlain}
+use Rattle.pg_dyn.specs.message.KeptParts.{KeptItem, Plain, Msg, IsPlain, IsPlainItem}
+use Rattle.pg_dyn.specs.message.Replacing.{all_parts, kept_onto, kept_part}
+use Rattle.pg_dyn.specs.message.Seen.{ArePlain, content_seen, entry_part, item_part, item_seen}
+use Rattle.pg_dyn.specs.message_ref.Borrowed as borrowed
+use Rattle.pg_dyn.specs.word.NumberLists.{IsNumber, numbers_in}
+use Rattle.pg_dyn.proofs.lemmas.word.NumberLaws.{numbers_are}
+use Rattle.pg_dyn.specs.encoding.Lending.{Bare, Child, Lone, in_list, lent_item, owned_item}
+use Rattle.pg_dyn.proofs.lemmas.encoding.LentParts.{lent_seen, owned_seen}
 
-value_plain : (n : ℕ) (k : Option Leaf) (l : Bool) (v : Value) (later : Kept) → (IsPlainItem (item_seen false v) × IsPlain later) ↔ IsPlain (value_onto n k l v later)
-value_plain n k l (values.Int x) later = ((λ e. e.1), λ e. (tt, e))
-value_plain n k l (values.F32 x) later = ((λ e. e.1), λ e. (tt, e))
-value_plain n k l (values.F64 x) later = ((λ e. e.1), λ e. (tt, e))
-value_plain n k l (values.Text x) later = ((λ e. e.1), λ e. (tt, e))
-value_plain n k l (values.Bytes x) later = ((λ e. e.1), λ e. (tt, e))
-value_plain n k l (values.Msg m) later = ((λ e. e), λ e. e)
+-- one more part, and more
+part_plain : (n : ℕ) (k : Option Leaf) (item : KeptItem) (later : Kept) → (IsPlainItem item × IsPlain later) ↔ IsPlain (kept_part n k item later)
+part_plain n k (Plain listed leaf) later = ((λ e. e.1), λ e. (tt, e))
+part_plain n k (Msg listed child) later = ((λ e. e), λ e. e)
 
-items_plain : (n : ℕ) (vs : List Value) (later : Kept) → (AllByRecursion (λ v. IsPlainItem (item_seen false v)) vs × IsPlain later) ↔ IsPlain (items_onto n vs later)
-items_plain n [] later = ((λ e. e.1), λ e. (tt, e))
-items_plain n (v ∷ vs) later =
-    let first = value_plain n None true v (items_onto n vs later) in
-    let rest = items_plain n vs later in
+abbrev pub Parts : List (Part KeptItem) → Type 0
+Parts ps = AllByRecursion (λ (p : Part KeptItem). IsPlainItem p.item) ps
+
+parts_plain : (ps : List (Part KeptItem)) (later : Kept) → (Parts ps × IsPlain later) ↔ IsPlain (kept_onto ps later)
+parts_plain [] later = ((λ e. e.1), λ e. (tt, e))
+parts_plain (p ∷ ps) later =
+    let first = part_plain p.number p.key p.item (kept_onto ps later) in
+    let rest = parts_plain ps later in
     ((λ e. first.0 (e.0.0, rest.0 (e.0.1, e.1))), λ e. let k = first.1 e in let r = rest.1 k.1 in ((k.0, r.0), r.1))
 
-entries_plain : (n : ℕ) (es : List (Value × Value)) (later : Kept) → (AllByRecursion (λ (e : Value × Value). IsPlainItem (item_seen false e.1)) es × IsPlain later) ↔ IsPlain (entries_onto n es later)
-entries_plain n [] later = ((λ e. e.1), λ e. (tt, e))
-entries_plain n (v ∷ vs) later =
-    let first = value_plain n (Some (leaf_of v.0)) false v.1 (entries_onto n vs later) in
-    let rest = entries_plain n vs later in
-    ((λ e. first.0 (e.0.0, rest.0 (e.0.1, e.1))), λ e. let k = first.1 e in let r = rest.1 k.1 in ((k.0, r.0), r.1))
+both_parts : (ps qs : List (Part KeptItem)) → (Parts ps × Parts qs) ↔ Parts (ps ++ qs)
+both_parts [] qs = ((λ e. e.1), λ e. (tt, e))
+both_parts (p ∷ ps) qs = let rest = both_parts ps qs in ((λ e. (e.0.0, rest.0 (e.0.1, e.1))), λ e. let r = rest.1 e.1 in ((e.0, r.0), r.1))
 
-content_plain : (n : ℕ) (c : Content) (later : Kept) → (ArePlain c × IsPlain later) ↔ IsPlain (content_onto n c later)
-content_plain n (contents.One v) later = value_plain n None false v later
-content_plain n (contents.Many vs) later = items_plain n vs.items later
-content_plain n (contents.Map es) later = entries_plain n es.items later
+-- the parts of a list are plain where its elements are
+list_plain : {A : Type 0} (part : A → Part KeptItem) (P : A → Type 0) → ((x : A) → P x ↔ IsPlainItem (part x).item) → (xs : List A) → AllByRecursion P xs ↔ Parts (map part xs)
+list_plain part P each [] = ((λ e. e), λ e. e)
+list_plain part P each (x ∷ xs) =
+    let first = each x in
+    let rest = list_plain part P each xs in
+    ((λ e. (first.0 e.0, rest.0 e.1)), λ e. (first.1 e.0, rest.1 e.1))
 
-fields_plain : (fs : List (ℕ × Content)) (later : Kept) → (AllByRecursion (λ (f : ℕ × Content). ArePlain f.1) fs × IsPlain later) ↔ IsPlain (fields_onto fs later)
-fields_plain [] later = ((λ e. e.1), λ e. (tt, e))
-fields_plain (f ∷ fs) later =
-    let first = content_plain f.0 f.1 (fields_onto fs later) in
-    let rest = fields_plain fs later in
-    ((λ e. first.0 (e.0.0, rest.0 (e.0.1, e.1))), λ e. let k = first.1 e in let r = rest.1 k.1 in ((k.0, r.0), r.1))
-
-ends_plain : (type : TypeId) (us : List UnknownRecord) → (us ≡ []) ↔ IsPlain (ends type (map record_seen us))
-ends_plain type [] = ((λ e. tt), λ e. refl)
-ends_plain type (u ∷ us) = ((λ e. absurd (cons_nil e)), λ e. absurd e)
+ends_plain : {U : Type 0} (record_of : U → WireRecord) (type : TypeId) (us : List U) → (us ≡ []) ↔ IsPlain (ends type (map record_of us))
+ends_plain record_of type [] = ((λ e. tt), λ e. refl)
+ends_plain record_of type (u ∷ us) = ((λ e. absurd (cons_nil e)), λ e. absurd e)
   where
     cons_nil : u ∷ us ≡ [] → ⊥
     cons_nil e = cc
 
--- a message is plain where each of its contents is and no record is unknown
-pub message_plain : (fs : List (ℕ × Content)) (type : TypeId) (us : List UnknownRecord)
-    → (AllByRecursion (λ (f : ℕ × Content). ArePlain f.1) fs × (us ≡ [])) ↔ IsPlain (fields_onto fs (ends type (map record_seen us)))
-message_plain fs type us =
-    let level = fields_plain fs (ends type (map record_seen us)) in
-    let last = ends_plain type us in
-    ((λ e. level.0 (e.0, last.0 e.1)), λ e. let k = level.1 e in (k.0, last.1 k.1))
+module _ {C U : Type 0} (parts : ℕ → C → List (Part KeptItem)) (P : C → Type 0) (each : (n : ℕ) (c : C) → P c ↔ Parts (parts n c)) (record_of : U → WireRecord) where
+  fields_plain : (fs : List (ℕ × C)) → AllByRecursion (λ (f : ℕ × C). P f.1) fs ↔ Parts (all_parts parts fs)
+  fields_plain [] = ((λ e. e), λ e. e)
+  fields_plain (f ∷ fs) =
+      let first = each f.0 f.1 in
+      let rest = fields_plain fs in
+      let both = both_parts (parts f.0 f.1) (all_parts parts fs) in
+      ((λ e. both.0 (first.0 e.0, rest.0 e.1)), λ e. let k = both.1 e in (first.1 k.0, rest.1 k.1))
+
+  -- a message is plain where each of its contents is and no record is unknown
+  pub message_plain : (fs : List (ℕ × C)) (type : TypeId) (us : List U)
+      → (AllByRecursion (λ (f : ℕ × C). P f.1) fs × (us ≡ [])) ↔ IsPlain (kept_onto (all_parts parts fs) (ends type (map record_of us)))
+  message_plain fs type us =
+      let level = parts_plain (all_parts parts fs) (ends type (map record_of us)) in
+      let all = fields_plain fs in
+      let last = ends_plain record_of type us in
+      ((λ e. level.0 (all.0 e.0, last.0 e.1)), λ e. let k = level.1 e in (all.1 k.0, last.1 k.1))
+
+-- The contents of a message that owns its parts, and of one that borrows.
+
+bare_in_list : (x : Bare) → IsPlainItem (in_list false x) ↔ IsPlainItem (in_list true x)
+bare_in_list (Lone text leaf) = ((λ e. e), λ e. e)
+bare_in_list (Child m) = ((λ e. e), λ e. e)
+
+plain_listed : (x : Bare) (one many : KeptItem) → one ≡ in_list false x → many ≡ in_list true x → IsPlainItem one ↔ IsPlainItem many
+plain_listed x one many is are =
+    subst (λ i. IsPlainItem i ↔ IsPlainItem many) (sym is) (subst (λ i. IsPlainItem (in_list false x) ↔ IsPlainItem i) (sym are) (bare_in_list x))
+
+pub content_plain : (n : ℕ) (c : Content) → ArePlain c ↔ Parts (content_seen n c)
+content_plain n (owned.One v) = ((λ e. (e, tt)), λ e. e.0)
+content_plain n (owned.Many vs) = list_plain (item_part n true) (λ v. IsPlainItem (item_seen false v))
+    (λ v. plain_listed (owned_item v) (item_seen false v) (item_seen true v) (owned_seen false v) (owned_seen true v)) vs.items
+content_plain n (owned.Map es) = list_plain (entry_part n) (λ (e : Value × Value). IsPlainItem (item_seen false e.1)) (λ e. ((λ k. k), λ k. k)) es.items
+
+-- numbers are plain
+numbers_plain : (n : ℕ) (vs : List ValueRef) → AllByRecursion IsNumber vs → Parts (map (borrowed.item_part n true) vs)
+numbers_plain n [] h = tt
+numbers_plain n (v ∷ vs) h = (one v h.0, numbers_plain n vs h.1)
+  where
+    one : (x : ValueRef) → IsNumber x → IsPlainItem (borrowed.item_seen true x)
+    one (borrows.Int k) h = tt
+    one (borrows.F32 k) h = tt
+    one (borrows.F64 k) h = tt
+    one (borrows.Text k) h = absurd h
+    one (borrows.Bytes k) h = absurd h
+    one (borrows.Msg m) h = absurd h
+
+pub lent_plain : (n : ℕ) (c : ContentRef) → borrowed.ArePlain c ↔ Parts (borrowed.content_seen n c)
+lent_plain n (lent.One v) = ((λ e. (e, tt)), λ e. e.0)
+lent_plain n (lent.Many vs) = list_plain (borrowed.item_part n true) (λ v. IsPlainItem (borrowed.item_seen false v))
+    (λ v. plain_listed (lent_item v) (borrowed.item_seen false v) (borrowed.item_seen true v) (lent_seen false v) (lent_seen true v)) vs.items
+lent_plain n (lent.Map es) = list_plain (borrowed.entry_part n) (λ (e : EntryRef). IsPlainItem (borrowed.item_seen false e.value)) (λ e. ((λ k. k), λ k. k)) es.items
+lent_plain n (lent.Numbers ns) = ((λ e. numbers_plain n (numbers_in ns) (numbers_are ns)), λ e. tt)
 
 -- a vector is empty where its length is zero
-pub none_from_empty : (v : Vec UnknownRecord Global) (empty : Bool) → empty ≡ eqb (vec_len v) 0 → IsTrue empty → v.items ≡ []
-none_from_empty v empty says e = nil v.items (sym v.ok.0 ∙ eqb-true (vec_len v) 0 (sym says ∙ e))
+pub none_from_empty : {A : Type 0} (v : Vec A Global) (empty : Bool) → empty ≡ eqb (vec_len v) 0 → IsTrue empty → v.items ≡ []
+none_from_empty {A} v empty says e = nil v.items (sym v.ok.0 ∙ eqb-true (vec_len v) 0 (sym says ∙ e))
   where
-    nil : (xs : List UnknownRecord) → length xs ≡ 0 → xs ≡ []
+    nil : (xs : List A) → length xs ≡ 0 → xs ≡ []
     nil [] h = refl
     nil (x ∷ xs) h = absurd (omega arith)
 
-pub empty_from_none : (v : Vec UnknownRecord Global) (empty : Bool) → empty ≡ eqb (vec_len v) 0 → v.items ≡ [] → IsTrue empty
+pub empty_from_none : {A : Type 0} (v : Vec A Global) (empty : Bool) → empty ≡ eqb (vec_len v) 0 → v.items ≡ [] → IsTrue empty
 empty_from_none v empty says none = says ∙ eq-eqb (vec_len v) 0 (v.ok.0 ∙ ap length none)

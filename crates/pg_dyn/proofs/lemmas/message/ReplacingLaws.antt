@@ -1,6 +1,5 @@
 -- A content under a number, among the parts of a message.
-use Rattle.std.proofs.Common.{◌≡◌, ℕ, List, [], ◌∷◌, ◌++◌, map, filter, flat_map, nat_lt, nat_eq, Bool, true, false, cond, not, ◌&&◌, Option, Some, None, refl, ap, ap₂, sym, ◌∙◌}
-use Rattle.std.specs.List.{AllByRecursion}
+use Rattle.std.proofs.Common.{◌≡◌, ℕ, List, [], ◌∷◌, ◌++◌, map, filter, nat_lt, nat_eq, Bool, true, false, cond, not, ◌&&◌, Option, None, refl, ap, ap₂, sym, ◌∙◌}
 use Rattle.std.proofs.lemmas.List.{append-nil}
 use Rattle.pg_schema.specs.declared.parts.field.Element.{Element}
 use Rattle.pg_schema.specs.declared.parts.field.TypeId.{TypeId}
@@ -8,53 +7,21 @@ use Rattle.pg_schema.specs.Shape.{FieldShape}
 use Rattle.pg_wire.specs.Records.{WireRecord}
 use Rattle.pg_dyn.specs.declared.message.Content.{Content}
 use Rattle.pg_dyn.specs.declared.message.Content.TheVariants as contents
-use Rattle.pg_dyn.specs.declared.message.Value.{Value}
-use Rattle.pg_dyn.specs.declared.message.Value.TheVariants as values
 use Rattle.pg_dyn.specs.message.Message.{Leaf, Part, Item, Message, message_from}
 use Rattle.pg_dyn.specs.message.Message as model
 use Rattle.pg_dyn.specs.message.Kept.{Kept, ends, holds, nests, type_of, message_of}
-use Rattle.pg_dyn.specs.message.KeptParts.{KeptItem, Plain, Msg, parts_of, unknown_of}
-use Rattle.pg_dyn.specs.message.Seen.{leaf_of, item_seen, content_seen, value_onto, items_onto, entries_onto, content_onto, fields_onto}
+use Rattle.pg_dyn.specs.message.KeptParts.{AreOf, KeptItem, Plain, Msg, parts_of, unknown_of}
+use Rattle.pg_dyn.specs.message.Seen.{all_seen, content_seen, entry_part, fields_onto, item_part}
 use Rattle.pg_dyn.specs.message.FieldList.{fields_below, fields_above, put_field, remove_field}
 use Rattle.pg_dyn.specs.reading.Content.{is_sibling}
-use Rattle.pg_dyn.specs.message.Replacing.{kept_part, kept_onto, kept_from, with_parts, is_sibling_number, without_siblings}
+use Rattle.pg_dyn.specs.message.Replacing.{all_parts, kept_part, kept_onto, kept_from, with_parts, is_sibling_number, without_siblings}
 use Rattle.pg_dyn.specs.fitting.Texts.{kept_in, kept_item}
 use Rattle.pg_dyn.proofs.Lists.{filter_all, filter_none, filter-append', each_weaker, each-map, each_of_all, flat_map-append', list_any_none}
 use Rattle.pg_dyn.proofs.lemmas.fitting.NoSiblings.{no_sibling}
 
--- the parts of all fields
-abbrev pub all_seen : List (ℕ × Content) → List (Part KeptItem)
-all_seen ms = flat_map (λ (f : ℕ × Content). content_seen f.0 f.1) ms
-
-value_part : (n : ℕ) (k : Option Leaf) (l : Bool) (v : Value) (later : Kept) → value_onto n k l v later ≡ kept_part n k (item_seen l v) later
-value_part n k l (values.Int x) later = refl
-value_part n k l (values.F32 x) later = refl
-value_part n k l (values.F64 x) later = refl
-value_part n k l (values.Text x) later = refl
-value_part n k l (values.Bytes x) later = refl
-value_part n k l (values.Msg x) later = refl
-
-items_part : (n : ℕ) (vs : List Value) (later : Kept) → items_onto n vs later ≡ kept_onto (map (λ value. record { number = n; key = None; item = item_seen true value }) vs) later
-items_part n [] later = refl
-items_part n (v ∷ vs) later = value_part n None true v (items_onto n vs later) ∙ ap (kept_part n None (item_seen true v)) (items_part n vs later)
-
-entries_part : (n : ℕ) (es : List (Value × Value)) (later : Kept) → entries_onto n es later ≡ kept_onto (map (λ (e : Value × Value). record { number = n; key = Some (leaf_of e.0); item = item_seen false e.1 }) es) later
-entries_part n [] later = refl
-entries_part n (e ∷ es) later = value_part n (Some (leaf_of e.0)) false e.1 (entries_onto n es later) ∙ ap (kept_part n (Some (leaf_of e.0)) (item_seen false e.1)) (entries_part n es later)
-
-content_part : (n : ℕ) (c : Content) (later : Kept) → content_onto n c later ≡ kept_onto (content_seen n c) later
-content_part n (contents.One v) later = value_part n None false v later
-content_part n (contents.Many vs) later = items_part n vs.items later
-content_part n (contents.Map es) later = entries_part n es.items later
-
 pub kept_onto-append : (ps qs : List (Part KeptItem)) (later : Kept) → kept_onto (ps ++ qs) later ≡ kept_onto ps (kept_onto qs later)
 kept_onto-append [] qs later = refl
 kept_onto-append (p ∷ ps) qs later = ap (kept_part p.number p.key p.item) (kept_onto-append ps qs later)
-
-pub fields_from : (ms : List (ℕ × Content)) (later : Kept) → fields_onto ms later ≡ kept_onto (all_seen ms) later
-fields_from [] later = refl
-fields_from (m ∷ ms) later =
-    content_part m.0 m.1 (fields_onto ms later) ∙ ap (kept_onto (content_seen m.0 m.1)) (fields_from ms later) ∙ sym (kept_onto-append (content_seen m.0 m.1) (all_seen ms) later)
 
 -- what one more part leaves
 part_shown : (n : ℕ) (k : Option Leaf) (item : KeptItem) (later : Kept)
@@ -92,6 +59,14 @@ pub type_of-kept_onto : (ps : List (Part KeptItem)) (later : Kept) → type_of (
 type_of-kept_onto [] later = refl
 type_of-kept_onto (p ∷ ps) later = (part_shown p.number p.key p.item (kept_onto ps later)).2 ∙ type_of-kept_onto ps later
 
+-- a message of these contents is made of them, its type and its unknown records
+pub shown_whole : {C : Type 0} (parts : ℕ → C → List (Part KeptItem)) (ms : List (ℕ × C)) (type : TypeId) (us : List WireRecord) (m : Kept) → kept_onto (all_parts parts ms) (ends type us) ≡ m
+    → m ≡ kept_onto (all_parts parts ms) (ends (type_of m) (unknown_of m))
+shown_whole parts ms type us m view =
+    sym view
+    ∙ ap₂ (λ t u. kept_onto (all_parts parts ms) (ends t u)) (sym (type_of-kept_onto (all_parts parts ms) (ends type us)) ∙ ap type_of view)
+    (sym (unknown_of-kept_onto (all_parts parts ms) (ends type us)) ∙ ap unknown_of view)
+
 -- a message is made of what it shows
 pub kept_whole : (m : Kept) → kept_from (type_of m) (parts_of m) (unknown_of m) ≡ m
 kept_whole (ends type us) = refl
@@ -102,26 +77,29 @@ abbrev pub shown : TypeId → List (ℕ × Content) → List WireRecord → Kept
 shown type ms us = fields_onto ms (ends type us)
 
 pub parts_shown : (type : TypeId) (ms : List (ℕ × Content)) (us : List WireRecord) → parts_of (shown type ms us) ≡ all_seen ms
-parts_shown type ms us = ap parts_of (fields_from ms (ends type us)) ∙ parts_of-kept_onto (all_seen ms) (ends type us) ∙ append-nil (all_seen ms)
+parts_shown type ms us = parts_of-kept_onto (all_seen ms) (ends type us) ∙ append-nil (all_seen ms)
 
 pub unknown_shown : (type : TypeId) (ms : List (ℕ × Content)) (us : List WireRecord) → unknown_of (shown type ms us) ≡ us
-unknown_shown type ms us = ap unknown_of (fields_from ms (ends type us)) ∙ unknown_of-kept_onto (all_seen ms) (ends type us)
+unknown_shown type ms us = unknown_of-kept_onto (all_seen ms) (ends type us)
 
 pub type_shown : (type : TypeId) (ms : List (ℕ × Content)) (us : List WireRecord) → type_of (shown type ms us) ≡ type
-type_shown type ms us = ap type_of (fields_from ms (ends type us)) ∙ type_of-kept_onto (all_seen ms) (ends type us)
+type_shown type ms us = type_of-kept_onto (all_seen ms) (ends type us)
 
 -- the parts of a content are all of its number
-pub content_number : (n : ℕ) (c : Content) → AllByRecursion (λ (p : Part KeptItem). p.number ≡ n) (content_seen n c)
+pub mapped_number : {A : Type 0} (n : ℕ) (part : A → Part KeptItem) → ((x : A) → (part x).number ≡ n) → (xs : List A) → AreOf n (map part xs)
+mapped_number n part is xs = each-map (λ (p : Part KeptItem). p.number ≡ n) part xs (each_of_all (λ x. (part x).number ≡ n) is xs)
+
+pub content_number : (n : ℕ) (c : Content) → AreOf n (content_seen n c)
 content_number n (contents.One v) = (refl, tt)
-content_number n (contents.Many vs) = each-map (λ (p : Part KeptItem). p.number ≡ n) (λ value. record { number = n; key = None; item = item_seen true value }) vs.items (each_of_all (λ v. n ≡ n) (λ v. refl) vs.items)
-content_number n (contents.Map es) = each-map (λ (p : Part KeptItem). p.number ≡ n) (λ (e : Value × Value). record { number = n; key = Some (leaf_of e.0); item = item_seen false e.1 }) es.items (each_of_all (λ (e : Value × Value). n ≡ n) (λ e. refl) es.items)
+content_number n (contents.Many vs) = mapped_number n (item_part n true) (λ v. refl) vs.items
+content_number n (contents.Map es) = mapped_number n (entry_part n) (λ e. refl) es.items
 
 -- a test of numbers goes over fields as over parts
 module _ (test : ℕ → Bool) where
-  kept_all : (n : ℕ) (ps : List (Part KeptItem)) → AllByRecursion (λ (p : Part KeptItem). p.number ≡ n) ps → test n ≡ true → filter (λ (p : Part KeptItem). test p.number) ps ≡ ps
+  pub kept_all : (n : ℕ) (ps : List (Part KeptItem)) → AreOf n ps → test n ≡ true → filter (λ (p : Part KeptItem). test p.number) ps ≡ ps
   kept_all n ps h hit = filter_all (λ (p : Part KeptItem). test p.number) ps (each_weaker (λ (p : Part KeptItem). p.number ≡ n) (λ (p : Part KeptItem). test p.number ≡ true) (λ p e. ap test e ∙ hit) ps h)
 
-  kept_none : (n : ℕ) (ps : List (Part KeptItem)) → AllByRecursion (λ (p : Part KeptItem). p.number ≡ n) ps → test n ≡ false → filter (λ (p : Part KeptItem). test p.number) ps ≡ []
+  pub kept_none : (n : ℕ) (ps : List (Part KeptItem)) → AreOf n ps → test n ≡ false → filter (λ (p : Part KeptItem). test p.number) ps ≡ []
   kept_none n ps h miss = filter_none (λ (p : Part KeptItem). test p.number) ps (each_weaker (λ (p : Part KeptItem). p.number ≡ n) (λ (p : Part KeptItem). test p.number ≡ false) (λ p e. ap test e ∙ miss) ps h)
 
   pub seen-filter : (ms : List (ℕ × Content)) → filter (λ (p : Part KeptItem). test p.number) (all_seen ms) ≡ all_seen (filter (λ (f : ℕ × Content). test f.0) ms)
@@ -140,8 +118,7 @@ around type n xs ms us =
     let below = seen-filter (λ k. nat_lt k n) ms in
     let above = seen-filter (λ k. nat_lt n k) ms in
     let parts_are = parts_shown type ms us in
-    fields_from (fields_below n ms ++ (xs ++ fields_above n ms)) (ends type us)
-    ∙ ap (λ ps. kept_onto ps (ends type us))
+    ap (λ ps. kept_onto ps (ends type us))
     (flat_map-append' (λ (f : ℕ × Content). content_seen f.0 f.1) (fields_below n ms) (xs ++ fields_above n ms)
     ∙ ap (λ ps. all_seen (fields_below n ms) ++ ps) (flat_map-append' (λ (f : ℕ × Content). content_seen f.0 f.1) xs (fields_above n ms))
     ∙ ap₂ (λ ps qs. ps ++ (all_seen xs ++ qs)) (sym below) (sym above)

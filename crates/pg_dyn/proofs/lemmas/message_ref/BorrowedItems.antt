@@ -6,7 +6,6 @@ use Rattle.std.specs.Cmp.{IsStrictWeakOrder}
 use Rattle.std.proofs.lemmas.List.MinMax.{ranks_by}
 use Rattle.pg_schema.specs.declared.parts.field.Scalar.{Scalar}
 use Rattle.pg_schema.specs.declared.parts.field.Scalar.TheVariants as scalars
-use Rattle.pg_schema.specs.declared.parts.field.Scalar.TheVariants.{Int32}
 use Rattle.pg_schema.specs.declared.parts.field.Element.{Element}
 use Rattle.pg_schema.specs.declared.parts.field.Element.TheVariants as elements
 use Rattle.pg_schema.specs.declared.parts.field.Presence.{Presence}
@@ -99,30 +98,31 @@ value_holds shape f listed (values.Msg x) is h zero = child_item_holds shape f f
 
 -- Entries and their keys.
 
--- no map has keys of type bytes
-bytes_key : (s : Scalar) (bytes : List ℕ) → is_key s ≡ true → InRange (scalar_form s) (Bytes bytes) × (false ≡ is_string (elements.Scalar s)) → ⊥
-bytes_key scalars.Double bytes key h = h.0
-bytes_key scalars.Float bytes key h = h.0
-bytes_key scalars.Int32 bytes key h = h.0
-bytes_key scalars.Int64 bytes key h = h.0
-bytes_key scalars.Uint32 bytes key h = h.0
-bytes_key scalars.Uint64 bytes key h = h.0
-bytes_key scalars.Sint32 bytes key h = h.0
-bytes_key scalars.Sint64 bytes key h = h.0
-bytes_key scalars.Fixed32 bytes key h = h.0
-bytes_key scalars.Fixed64 bytes key h = h.0
-bytes_key scalars.Sfixed32 bytes key h = h.0
-bytes_key scalars.Sfixed64 bytes key h = h.0
-bytes_key scalars.Bool bytes key h = h.0
-bytes_key scalars.String bytes key h = let no : false ≡ true = h.1 in absurd (cc)
-bytes_key scalars.Bytes bytes key h = absurd (cc)
+-- a key that is bytes is one of type string
+pub key_bytes : (s : Scalar) (bytes : List ℕ) → is_key s ≡ true → InRange (scalar_form s) (Bytes bytes) → s ≡ scalars.String
+key_bytes scalars.Double bytes key h = absurd h
+key_bytes scalars.Float bytes key h = absurd h
+key_bytes scalars.Int32 bytes key h = absurd h
+key_bytes scalars.Int64 bytes key h = absurd h
+key_bytes scalars.Uint32 bytes key h = absurd h
+key_bytes scalars.Uint64 bytes key h = absurd h
+key_bytes scalars.Sint32 bytes key h = absurd h
+key_bytes scalars.Sint64 bytes key h = absurd h
+key_bytes scalars.Fixed32 bytes key h = absurd h
+key_bytes scalars.Fixed64 bytes key h = absurd h
+key_bytes scalars.Sfixed32 bytes key h = absurd h
+key_bytes scalars.Sfixed64 bytes key h = absurd h
+key_bytes scalars.Bool bytes key h = absurd h
+key_bytes scalars.String bytes key h = refl
+key_bytes scalars.Bytes bytes key h = absurd (cc)
 
 pub map_key : (s : Scalar) (v : ValueRef) → is_key s ≡ true → IsItemKept s v → IsMapKey v
 map_key s (values.Int x) key h = tt
 map_key s (values.F32 x) key h = tt
 map_key s (values.F64 x) key h = tt
 map_key s (values.Text x) key h = tt
-map_key s (values.Bytes x) key h = bytes_key s x.now key h
+map_key s (values.Bytes x) key h =
+    let no : false ≡ true = h.1 ∙ ap (λ y. is_string (elements.Scalar y)) (key_bytes s x.now key h.0) in absurd (cc)
 map_key s (values.Msg x) key h = absurd h
 
 pub ranks_entries : IsStrictWeakOrder ranks_below

@@ -30,12 +30,9 @@ abbrev pub bodies : List WireRecord → List ℕ
 bodies rs = flat_map (λ (r : WireRecord). r.body) rs
 
 -- a record's body is shorter than the record
-body_shorter : (r : WireRecord) → IsRecord r → length r.body < length r.bytes
+pub body_shorter : (r : WireRecord) → IsRecord r → length r.body < length r.bytes
 body_shorter r h =
-    let total = length-append (h.tag ++ h.before) r.body in
-    let front = length-append h.tag h.before in
-    let same = ap length h.bytes_are in
-    omega (arith, length-IsVarint h.tag h.tag_is_varint)
+    rw (h.bytes_are) (omega (arith, length-IsVarint h.tag h.tag_is_varint, length-append (h.tag ++ h.before) r.body, length-append h.tag h.before))
 
 -- each body is shorter than all records, and all bodies together are, where there is a record
 bodies_shorter : (rs : List WireRecord) → AllByRecursion IsRecord rs → length (bodies rs) + length rs ≤ length (flat_map (λ (r : WireRecord). r.bytes) rs)

@@ -1,5 +1,5 @@
 -- The fields of a type of a schema, and which of them takes a record.
-use Rattle.std.proofs.Common.{Result, Ok, Err, OnOk, ◌≡◌, ◌≢◌, ℕ, zero, suc, ◌<◌, List, [], ◌∷◌, length, get_or, nat_eq, true, false, cond, not, ◌&&◌, Option, Some, None, ap, sym, ◌∙◌, arith, ⊎_elim, eq-eqb, ne_eqb}
+use Rattle.std.proofs.Common.{◌≡◌, ◌≢◌, ℕ, zero, suc, ◌<◌, List, [], ◌∷◌, length, get_or, nat_eq, true, false, cond, not, ◌&&◌, Option, Some, None, ap, sym, ◌∙◌, arith, ⊎_elim, eq-eqb, ne_eqb}
 use Rattle.std.specs.List.{AllByRecursion}
 use Rattle.std.proofs.lemmas.Bool.{cases_eq}
 use Rattle.std.proofs.Math.Bool.{and-false}
@@ -66,9 +66,3 @@ unknown_where_none fs r h = unknown_from fs r (none_takes fs r h)
 
 pub unknown_where_not_accepted : (fs : List FieldShape) (r : WireRecord) (g : FieldShape) → Rising fs → field_at fs r.number ≡ Some g → is_accepted g r ≡ false → is_unknown fs r ≡ true
 unknown_where_not_accepted fs r g rises found h = unknown_from fs r (not_accepted fs r g rises found h)
-
--- Results.
-
-pub on_ok_map : {T E : Type 0} {A B : Type 0} (r : Result T E) → (A → B) → OnOk r A → OnOk r B
-on_ok_map (Ok x) f h = f h
-on_ok_map (Err e) f h = tt

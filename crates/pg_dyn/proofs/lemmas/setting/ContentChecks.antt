@@ -12,6 +12,7 @@ use Rattle.pg_schema.specs.declared.parts.field.Element.TheVariants as elements
 use Rattle.pg_schema.specs.declared.parts.field.Presence.{Presence}
 use Rattle.pg_schema.specs.declared.parts.field.Presence.TheVariants as presences
 use Rattle.pg_schema.specs.Shape.{Shape, FieldShape, fields, field_at}
+use Rattle.pg_wire.specs.declared.error.WireError.{WireError}
 use Rattle.pg_dyn.specs.declared.error.DynError.{DynError}
 use Rattle.pg_dyn.specs.declared.error.DynError.TheVariants as errors
 use Rattle.pg_dyn.specs.declared.message.Content.{Content}
@@ -23,19 +24,21 @@ use Rattle.pg_dyn.specs.message.Message.{Int}
 use Rattle.pg_dyn.specs.word.WordOf.{IsInteger, IsIntegerOf}
 use Rattle.pg_dyn.specs.message.Seen.{leaf_of, IsKey}
 use Rattle.pg_dyn.specs.fitting.ScalarItems.{IsItemOf, IsKindOf, IsOutOfRange, IsNoText, IsFaultOf}
-use Rattle.pg_dyn.specs.setting.ContentFaults.{ElementFault, FirstFault, FirstOf, HasPresence, HasItemFault, HasKeyTwice, FieldFault, ContentFault, items_in, code, IsLowest, HasNoFault, HasNoEarlyFault}
-use Rattle.pg_dyn.specs.fitting.ContentFits.{ItemFits}
-use Rattle.pg_dyn.specs.setting.Reported.{Reports, EntryFits, EntryFault, ItemsFit, TakesContent}
+use Rattle.pg_dyn.specs.setting.ContentFaults.{ElementFault, FirstOfTwo, FirstOf, HasPresence, HasItemFault, HasKeyTwice, FieldFault, ContentFault, items_in, IsLowest, HasNoFault, HasNoEarlyFault}
+use Rattle.pg_dyn.specs.error.Codes.{code_of}
+use Rattle.pg_dyn.specs.fitting.ContentFits.{ItemFits, EntryFits, ItemsFit}
+use Rattle.pg_dyn.specs.inner.Reported.{Reports, EntryFault, TakesContent}
 use Rattle.pg_dyn.proofs.lemmas.setting.LowestFault.{none_first, reported_so}
+use Rattle.pg_dyn.proofs.lemmas.fitting.ItemLeaves.{in_range, item_is_key}
 
 -- Of several faults.
 
 module _ (F : DynError → Type 0) where
-  pub lowest : (e : DynError) → F e → code e ≤ 605 → (F errors.Memory → ⊥) → (601 < code e → F errors.NoSuchField → ⊥) → (602 < code e → F errors.WrongKind → ⊥) → (603 < code e → F errors.OutOfRange → ⊥)
-      → (604 < code e → (at : ℕ) → F (errors.NotUtf8 at) → ⊥) → IsLowest F e
-  lowest e h most memory number kind range text = (h, below)
+  pub lowest : (e : DynError) → F e → code_of e ≤ 605 → (F errors.Memory → ⊥) → ((w : WireError) → F (errors.Wire w) → ⊥) → (601 < code_of e → F errors.NoSuchField → ⊥) → (602 < code_of e → F errors.WrongKind → ⊥) → (603 < code_of e → F errors.OutOfRange → ⊥)
+      → (604 < code_of e → (at : ℕ) → F (errors.NotUtf8 at) → ⊥) → IsLowest F e
+  lowest e h most memory wire number kind range text = (h, below)
     where
-      below : (other : DynError) → code other < code e → F other → ⊥
+      below : (other : DynError) → code_of other < code_of e → F other → ⊥
       below errors.Memory low k = memory k
       below errors.NoSuchField low k = number low k
       below errors.WrongKind low k = kind low k
@@ -45,17 +48,9 @@ module _ (F : DynError → Type 0) where
       below errors.DuplicateKey low k = absurd (omega arith)
       below errors.TooLong low k = absurd (omega arith)
       below (errors.TooDeep at) low k = absurd (omega arith)
-      below (errors.Wire w) low k = absurd (omega arith)
+      below (errors.Wire w) low k = wire w k
 
 -- What is wrong with an item.
-
-pub key_of_item : (s : Scalar) (v : Value) → IsItemOf s v → IsKey v
-key_of_item s (values.Int x) h = tt
-key_of_item s (values.F32 x) h = tt
-key_of_item s (values.F64 x) h = tt
-key_of_item s (values.Text x) h = tt
-key_of_item s (values.Bytes x) h = tt
-key_of_item s (values.Msg x) h = absurd h
 
 integer_kind : (f : Form) (n : ℤ) → IsInteger f → IsKindOf f (values.Int n)
 integer_kind (Integer w) n h = tt
@@ -120,16 +115,8 @@ item_kind Text (values.Bytes x) key h = tt
 item_kind Raw (values.Bytes x) key h = tt
 item_kind f (values.Msg x) key h = absurd key
 
-in_range : (s : Scalar) (v : Value) → IsItemOf s v → InRange (scalar_form s) (leaf_of v)
-in_range s (values.Int x) h = h
-in_range s (values.F32 x) h = h
-in_range s (values.F64 x) h = h
-in_range s (values.Text x) h = h
-in_range s (values.Bytes x) h = h
-in_range s (values.Msg x) h = absurd h
-
 kind_of_item : (s : Scalar) (v : Value) → IsItemOf s v → IsKindOf (scalar_form s) v
-kind_of_item s v h = item_kind (scalar_form s) v (key_of_item s v h) (in_range s v h)
+kind_of_item s v h = item_kind (scalar_form s) v (item_is_key s v h) (in_range s v h)
 
 range_of_item : (s : Scalar) (v : Value) → IsItemOf s v → IsOutOfRange s v → ⊥
 range_of_item s (values.Int n) h out = out.1 (int_range (scalar_form s) n h)
@@ -164,12 +151,12 @@ no_scalar_fault s v item errors.TooLong k = k
 no_scalar_fault s v item (errors.TooDeep at) k = k
 no_scalar_fault s v item (errors.Wire w) k = k
 
-scalar_lowest : (s : Scalar) (v : Value) (e : DynError) → IsFaultOf s v e → IsLowest (IsFaultOf s v) e × (code e < 605)
-scalar_lowest s v errors.WrongKind k = (lowest (IsFaultOf s v) errors.WrongKind k (omega arith) (λ x. x) (λ low x. x) (λ low x. omega arith) (λ low x. omega arith) (λ low at x. omega arith), omega arith)
+scalar_lowest : (s : Scalar) (v : Value) (e : DynError) → IsFaultOf s v e → IsLowest (IsFaultOf s v) e × (code_of e < 605)
+scalar_lowest s v errors.WrongKind k = (lowest (IsFaultOf s v) errors.WrongKind k (omega arith) (λ x. x) (λ w x. x) (λ low x. x) (λ low x. omega arith) (λ low x. omega arith) (λ low at x. omega arith), omega arith)
 scalar_lowest s v errors.OutOfRange k =
-    (lowest (IsFaultOf s v) errors.OutOfRange k (omega arith) (λ x. x) (λ low x. x) (λ low x. x (of_integer s v k)) (λ low x. omega arith) (λ low at x. omega arith), omega arith)
+    (lowest (IsFaultOf s v) errors.OutOfRange k (omega arith) (λ x. x) (λ w x. x) (λ low x. x) (λ low x. x (of_integer s v k)) (λ low x. omega arith) (λ low at x. omega arith), omega arith)
 scalar_lowest s v (errors.NotUtf8 at) k =
-    (lowest (IsFaultOf s v) (errors.NotUtf8 at) k (omega arith) (λ x. x) (λ low x. x) (λ low x. x (of_text s v at k).0) (λ low x. (of_text s v at k).1 x) (λ low other x. omega arith), omega arith)
+    (lowest (IsFaultOf s v) (errors.NotUtf8 at) k (omega arith) (λ x. x) (λ w x. x) (λ low x. x) (λ low x. x (of_text s v at k).0) (λ low x. (of_text s v at k).1 x) (λ low other x. omega arith), omega arith)
 scalar_lowest s v errors.Memory k = absurd k
 scalar_lowest s v errors.NoSuchField k = absurd k
 scalar_lowest s v errors.OneofTwice k = absurd k
@@ -255,9 +242,9 @@ module _ (shape : Shape) where
   item_right (elements.Enum n) v h e early k = no_scalar_fault Int32 v h e k
   item_right (elements.Message t) v h e early k = child_right t v h e k
 
-  pub reported_other : (t : TypeId) (v : Value) → (ItemFits shape (elements.Message t) v → ⊥) → IsLowest (ElementFault shape (elements.Message t) v) errors.WrongKind × (code errors.WrongKind < 605)
+  pub reported_other : (t : TypeId) (v : Value) → (ItemFits shape (elements.Message t) v → ⊥) → IsLowest (ElementFault shape (elements.Message t) v) errors.WrongKind × (code_of errors.WrongKind < 605)
   reported_other t v none =
-      (lowest (ElementFault shape (elements.Message t) v) errors.WrongKind (child_wrong t v none) (omega arith) (λ x. x) (λ low x. x) (λ low x. omega arith) (λ low x. omega arith) (λ low at x. omega arith), omega arith)
+      (lowest (ElementFault shape (elements.Message t) v) errors.WrongKind (child_wrong t v none) (omega arith) (λ x. x) (λ w x. x) (λ low x. x) (λ low x. omega arith) (λ low x. omega arith) (λ low at x. omega arith), omega arith)
 
   pub entry_right : (key : Scalar) (element : Element) (x : Value × Value) → EntryFits shape key element x → HasNoEarlyFault (EntryFault shape key element x)
   entry_right key element x h e early k = ⊎_elim (λ a. item_right (elements.Scalar key) x.0 h.0 e early a) (λ b. item_right element x.1 h.1 e early b.1) k
@@ -275,19 +262,19 @@ first_back F f (x ∷ xs) e (inl k) = inl k
 first_back F f (x ∷ xs) e (inr k) = inr (k.0, first_back F f xs e k.1)
 
 -- of two elements for each one
-first_two : {A B : Type 0} (F : B → DynError → Type 0) (f g : A → B) (xs : List A) (e : DynError) → FirstOf (λ x. FirstFault (F (f x)) (F (g x))) xs e → FirstOf F (flat_map (λ x. f x ∷ g x ∷ []) xs) e
+first_two : {A B : Type 0} (F : B → DynError → Type 0) (f g : A → B) (xs : List A) (e : DynError) → FirstOf (λ x. FirstOfTwo (F (f x)) (F (g x))) xs e → FirstOf F (flat_map (λ x. f x ∷ g x ∷ []) xs) e
 first_two F f g [] e k = k
 first_two F f g (x ∷ xs) e (inl (inl k)) = inl k
 first_two F f g (x ∷ xs) e (inl (inr k)) = inr (k.0, inl k.1)
 first_two F f g (x ∷ xs) e (inr k) =
-    let none : (other : DynError) → code other ≡ code e → F (f x) other → ⊥ = λ other same h. k.0 other same (inl h) in
+    let none : (other : DynError) → code_of other ≡ code_of e → F (f x) other → ⊥ = λ other same h. k.0 other same (inl h) in
     inr (none, inr ((λ other same h. k.0 other same (inr ((λ another alike. none another (alike ∙ same)), h))), first_two F f g xs e k.1))
 
-neither : {A B : Type 0} (F : B → DynError → Type 0) (f g : A → B) (x : A) (other : DynError) → (F (f x) other → ⊥) → (F (g x) other → ⊥) → FirstFault (F (f x)) (F (g x)) other → ⊥
+neither : {A B : Type 0} (F : B → DynError → Type 0) (f g : A → B) (x : A) (other : DynError) → (F (f x) other → ⊥) → (F (g x) other → ⊥) → FirstOfTwo (F (f x)) (F (g x)) other → ⊥
 neither F f g x other first second (inl h) = first h
 neither F f g x other first second (inr h) = second h.1
 
-two_back : {A B : Type 0} (F : B → DynError → Type 0) (f g : A → B) (xs : List A) (e : DynError) → FirstOf F (flat_map (λ x. f x ∷ g x ∷ []) xs) e → FirstOf (λ x. FirstFault (F (f x)) (F (g x))) xs e
+two_back : {A B : Type 0} (F : B → DynError → Type 0) (f g : A → B) (xs : List A) (e : DynError) → FirstOf F (flat_map (λ x. f x ∷ g x ∷ []) xs) e → FirstOf (λ x. FirstOfTwo (F (f x)) (F (g x))) xs e
 two_back F f g [] e k = k
 two_back F f g (x ∷ xs) e (inl k) = inl (inl k)
 two_back F f g (x ∷ xs) e (inr (none, inl k)) = inl (inr (none, k))
@@ -307,7 +294,7 @@ module _ (shape : Shape) (f : FieldShape) (c : Content) where
   to_field (errors.Wire w) k = any_error shape (items_in f c) (errors.Wire w) k
 
   module _ (has : HasPresence f.presence c) where
-    from_field : (e : DynError) → code e < 605 → FieldFault shape f c e → HasItemFault shape f c e
+    from_field : (e : DynError) → code_of e < 605 → FieldFault shape f c e → HasItemFault shape f c e
     from_field errors.WrongKind early k = ⊎_elim (λ none. absurd (none has)) (λ h. h) k
     from_field errors.OutOfRange early k = k
     from_field (errors.NotUtf8 at) early k = k
@@ -371,7 +358,7 @@ module _ (shape : Shape) (type : TypeId) (n : ℕ) (c : Content) where
   Fault = ContentFault shape type n c
 
   pub no_such_field : None ≡ field_at (fields shape type) n → IsLowest Fault errors.NoSuchField
-  no_such_field is = lowest Fault errors.NoSuchField (sym is) (omega arith) (λ k. k.2) (λ low k. omega arith) (λ low k. omega arith) (λ low k. omega arith) (λ low at k. omega arith)
+  no_such_field is = lowest Fault errors.NoSuchField (sym is) (omega arith) (λ k. k.2) (λ w k. k.2) (λ low k. omega arith) (λ low k. omega arith) (λ low k. omega arith) (λ low at k. omega arith)
 
   module _ (f : FieldShape) (found : field_at (fields shape type) n ≡ Some f) where
     to_content : (e : DynError) → FieldFault shape f c e → Fault e
@@ -439,7 +426,7 @@ module _ (shape : Shape) (type : TypeId) (n : ℕ) (c : Content) where
       pub taken_twice : HasKeyTwice c → IsLowest Fault errors.DuplicateKey
       taken_twice twice = (to_content errors.DuplicateKey twice, λ other low k. below other low (from_content other k))
         where
-          below : (e : DynError) → code e < 606 → FieldFault shape f c e → ⊥
+          below : (e : DynError) → code_of e < 606 → FieldFault shape f c e → ⊥
           below errors.Memory low k = k
           below errors.NoSuchField low k = k
           below errors.WrongKind low k = right errors.WrongKind (omega arith) k

@@ -1,7 +1,7 @@
 -- A message that fits and holds a member of a oneof holds no other, and loses just that one where another is set.
 use Rattle.std.proofs.Common.{◌≡◌, ℕ, zero, suc, ◌<◌, List, [], ◌∷◌, length, get_or, Bool, true, false, not, Option, Some, None, refl, ap, sym, subst, ◌∙◌, arith, true≢false, ◌≢◌, filter, nat_eq, cond, ⊎_elim, eq-eqb, ne_eqb}
 use Rattle.std.specs.List.{AllByRecursion}
-use Rattle.std.proofs.lemmas.Bool.{and_parts, and_from, cases_eq, eqb-true}
+use Rattle.std.proofs.lemmas.Bool.{and_parts, and_from, cases_eq, eqb-true, not-true}
 use Rattle.pg_schema.specs.Shape.{FieldShape, field_at}
 use Rattle.pg_schema.specs.ShapeRules.{Rising}
 use Rattle.pg_dyn.specs.declared.message.Content.{Content}
@@ -97,15 +97,11 @@ module _ (fs : List FieldShape) (rising : Rising fs) (f : FieldShape) (found : f
             ∙ third f g h one (sym (sibling_found fs g h m rising at) ∙ none) (λ e. other (sym (found_number fs n g there) ∙ e ∙ found_number fs m h at))
         of None at = sibling_nowhere fs f m at
 
-    not_true : (b : Bool) → not b ≡ true → b ≡ false
-    not_true true h = absurd (cc)
-    not_true false h = refl
-
     same_test : (x : ℕ × Content) → not (is_sibling_number fs g x.0) ≡ true → not (is_sibling_number fs f x.0) ≡ not (nat_eq n x.0)
     same_test x stays =
         ⊎_elim
         (λ same. ap not (ap (is_sibling_number fs f) (sym same) ∙ sibling ∙ sym (eq-eqb n x.0 same)))
-        (λ other. ap not (off x.0 other (not_true (is_sibling_number fs g x.0) stays) ∙ sym (ne_eqb n x.0 other)))
+        (λ other. ap not (off x.0 other (not-true (is_sibling_number fs g x.0) stays) ∙ sym (ne_eqb n x.0 other)))
         (cases_eq n x.0)
 
     one_out : filter (λ (x : ℕ × Content). not (is_sibling_number fs f x.0)) ms ≡ remove_field n ms

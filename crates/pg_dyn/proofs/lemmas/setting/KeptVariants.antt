@@ -1,5 +1,5 @@
 -- Which variant a field keeps of a string or bytes.
-use Rattle.std.proofs.Common.{◌≡◌, ℕ, List, [], ◌∷◌, map, Bool, true, false, ◌||◌, refl, ap₂}
+use Rattle.std.proofs.Common.{◌≡◌, ℕ, List, [], ◌∷◌, map, Bool, true, false, ◌||◌, refl, ap₂, subst}
 use Rattle.std.specs.List.{AllByRecursion}
 use Rattle.pg_schema.specs.declared.parts.field.Element.{Element}
 use Rattle.pg_schema.specs.declared.parts.field.Element.TheVariants as elements
@@ -10,14 +10,15 @@ use Rattle.pg_schema.specs.rules.Fields.{is_key}
 use Rattle.pg_dyn.specs.declared.message.Value.{Value}
 use Rattle.pg_dyn.specs.declared.message.Value.TheVariants as values
 use Rattle.pg_dyn.specs.word.Coding.{InRange, scalar_form}
-use Rattle.pg_dyn.specs.fitting.ContentFits.{ItemFits}
+use Rattle.pg_dyn.specs.fitting.ContentFits.{ItemFits, EntryFits}
 use Rattle.pg_dyn.specs.message.KeptParts.{KeptItem, Plain}
 use Rattle.pg_dyn.specs.message.Message.{Leaf, Bytes}
 use Rattle.pg_dyn.specs.fitting.ScalarItems.{IsItemOf, IsKeptAs}
 use Rattle.pg_dyn.specs.message.Seen.{IsMapKey, item_seen, leaf_of}
-use Rattle.pg_dyn.specs.setting.Reported.{EntryFits, entry_kept, entry_seen}
+use Rattle.pg_dyn.specs.inner.Reported.{entry_kept, entry_seen}
 use Rattle.pg_dyn.specs.fitting.Fits.{is_string}
 use Rattle.pg_dyn.specs.fitting.Texts.{holds_bytes, kept_item}
+use Rattle.pg_dyn.proofs.lemmas.message_ref.BorrowedItems.{key_bytes}
 
 -- Of a scalar whose items are numbers.
 
@@ -96,29 +97,12 @@ same_kept shape (elements.Message t) (values.Msg x) listed h item = refl
 
 -- A map's key that is kept as its scalar keeps it is a number or a string.
 
-bytes_key : (s : Scalar) (bytes : _) → is_key s ≡ true → IsItemOf s (values.Bytes bytes) → IsKeptAs s (values.Bytes bytes) → ⊥
-bytes_key scalars.Int32 bytes key item kept = item
-bytes_key scalars.Int64 bytes key item kept = item
-bytes_key scalars.Uint32 bytes key item kept = item
-bytes_key scalars.Uint64 bytes key item kept = item
-bytes_key scalars.Sint32 bytes key item kept = item
-bytes_key scalars.Sint64 bytes key item kept = item
-bytes_key scalars.Fixed32 bytes key item kept = item
-bytes_key scalars.Fixed64 bytes key item kept = item
-bytes_key scalars.Sfixed32 bytes key item kept = item
-bytes_key scalars.Sfixed64 bytes key item kept = item
-bytes_key scalars.Bool bytes key item kept = item
-bytes_key scalars.Float bytes key item kept = item
-bytes_key scalars.Double bytes key item kept = item
-bytes_key scalars.String bytes key item kept = kept
-bytes_key scalars.Bytes bytes key item kept = absurd (cc)
-
 pub map_key : (s : Scalar) (v : Value) → is_key s ≡ true → IsItemOf s v → IsKeptAs s v → IsMapKey v
 map_key s (values.Int x) key item kept = tt
 map_key s (values.F32 x) key item kept = tt
 map_key s (values.F64 x) key item kept = tt
 map_key s (values.Text x) key item kept = tt
-map_key s (values.Bytes x) key item kept = bytes_key s x key item kept
+map_key s (values.Bytes x) key item kept = subst (λ y. IsKeptAs y (values.Bytes x)) (key_bytes s x.items key item) kept
 map_key s (values.Msg x) key item kept = absurd item
 
 -- Lists and maps whose items hold no bytes stay as they are.

@@ -1,5 +1,5 @@
 -- Entries sorted in any way are the entries by rising key.
-use Rattle.std.proofs.Common.{◌≡◌, ℕ, ◌<◌, List, [], ◌∷◌, length, map, filter, Bool, true, false, true≢false, cond, if◌then◌else◌, Some, ◌⊎◌, inl, inr, ⊎_elim, refl, ap, ap₂, sym, subst, ◌∙◌, arith}
+use Rattle.std.proofs.Common.{◌≡◌, ℕ, ◌<◌, List, [], ◌∷◌, length, map, filter, Bool, true, false, true≢false, cond, if◌then◌else◌, Some, ◌⊎◌, inl, inr, ⊎_elim, refl, ap, sym, subst, ◌∙◌, arith}
 use Rattle.std.specs.List.{AllByRecursion}
 use Rattle.std.specs.List.Sorted.{IsPermutation}
 use Rattle.std.specs.Ordering.{is_lt}
@@ -15,8 +15,9 @@ use Rattle.pg_dyn.specs.message.Seen.{item_seen, leaf_of}
 use Rattle.pg_dyn.specs.setting.Setting.{put_entry, by_rising_key}
 use Rattle.pg_dyn.proofs.lemmas.fitting.FitsSteps.{key_trans}
 use Rattle.pg_dyn.proofs.lemmas.reading.Standing.{StandsIn, all_in, moved_in, one_in, passes_once}
-use Rattle.pg_dyn.proofs.lemmas.message.KeyLaws.{compared, key_less_self, later_twice, number_same, text_same}
+use Rattle.pg_dyn.proofs.lemmas.message.KeyLaws.{compared, later_twice, number_same, text_same}
 use Rattle.pg_dyn.proofs.lemmas.word.Leaves.{leaf_eq_self}
+use Rattle.pg_dyn.proofs.lemmas.reading.entries.LastOfKeys.{same_rising}
 
 abbrev Entry : Type 0
 Entry = Value × Value
@@ -144,31 +145,8 @@ sort_rises (e ∷ es) alike once =
     (all_in (Apart e) (sort es) (λ f there. let here = in_sort f es there in (one_in (λ (x : Entry). AreSame (leaf_of x.0) (leaf_of e.0)) f es same here, first_alone e f es once here)))
     (sort_rises es rest (λ twice. once (later_twice e es twice)))
 
--- Rising entries are known by what is among them.
-
-not_below_self : (x : Entry) (ys : List Entry) → AllByRecursion (Below x) ys → StandsIn x ys → ⊥
-not_below_self x ys below h = key_less_self (leaf_of x.0) (one_in (Below x) x ys below h)
-
-same_rising : (xs ys : List Entry) → KeysRise xs → KeysRise ys → ((z : Entry) → StandsIn z xs → StandsIn z ys) → ((z : Entry) → StandsIn z ys → StandsIn z xs) → xs ≡ ys
-same_rising [] [] rise up to back = refl
-same_rising [] (y ∷ ys) rise up to back = absurd (back y (inl refl))
-same_rising (x ∷ xs) [] rise up to back = absurd (to x (inl refl))
-same_rising (x ∷ xs) (y ∷ ys) rise up to back =
-    let heads : x ≡ y =
-    ⊎_elim (λ same. same)
-    (λ later. ⊎_elim (λ same. sym same)
-    (λ after.
-    let first : Below y x = one_in (Below y) x ys up.0 later in
-    let second : Below x y = one_in (Below x) y xs rise.0 after in
-    absurd (key_less_self (leaf_of x.0) (key_trans (leaf_of x.0) (leaf_of y.0) (leaf_of x.0) second first))) (back y (inl refl))) (to x (inl refl)) in
-    let rest_to : (z : Entry) → StandsIn z xs → StandsIn z ys =
-    λ z h. ⊎_elim (λ same. absurd (not_below_self x xs rise.0 (subst (λ w. StandsIn w xs) (same ∙ sym heads) h))) (λ k. k) (to z (inr h)) in
-    let rest_back : (z : Entry) → StandsIn z ys → StandsIn z xs =
-    λ z h. ⊎_elim (λ same. absurd (not_below_self y ys up.0 (subst (λ w. StandsIn w ys) (same ∙ heads) h))) (λ k. k) (back z (inr h)) in
-    ap₂ (λ w ws. w ∷ ws) heads (same_rising xs ys rise.1 up.1 rest_to rest_back)
-
 pub sorted_is : (es fs : List Entry) → AreAlike es → (HasEntryTwice es → ⊥) → IsPermutation es fs → KeysRise fs → (n : ℕ) → map (entry_part n) fs ≡ by_rising_key (map (entry_part n) es)
 sorted_is es fs alike once moved rise n =
     let same : fs ≡ sort es =
-    same_rising fs (sort es) rise (sort_rises es alike once) (λ z h. sort_in z es (moved_in z fs es (IsPermutation-sym es fs moved) h)) (λ z h. moved_in z es fs moved (in_sort z es h)) in
+    same_rising (λ (e : Entry). leaf_of e.0) fs (sort es) rise (sort_rises es alike once) (λ z h. sort_in z es (moved_in z fs es (IsPermutation-sym es fs moved) h)) (λ z h. moved_in z es fs moved (in_sort z es h)) in
     ap (map (entry_part n)) same ∙ sym (sort_same n es)

@@ -3,8 +3,9 @@ use Rattle.std.proofs.Common.{◌≡◌, ◌≤◌, ◌<◌, ◌+◌, ℕ, zero,
 use Rattle.std.specs.List.{AllByRecursion}
 use Rattle.std.proofs.lemmas.List.{take_all}
 use Rattle.pg_dyn.specs.declared.error.DynError.{DynError}
-use Rattle.pg_dyn.specs.setting.ContentFaults.{AnyOf, FirstFault, FirstOf, HasNoEarlyFault, code}
-use Rattle.pg_dyn.specs.setting.Reported.{Reports, reported_code}
+use Rattle.pg_dyn.specs.setting.ContentFaults.{AnyOf, FirstOfTwo, FirstOf, HasNoEarlyFault}
+use Rattle.pg_dyn.specs.error.Codes.{code_of}
+use Rattle.pg_dyn.specs.inner.Reported.{Reports, reported_code}
 use Rattle.pg_dyn.proofs.Lists.{each-append}
 
 module _ {A : Type 0} (F : A → DynError → Type 0) where
@@ -19,7 +20,7 @@ module _ {A : Type 0} (F : A → DynError → Type 0) where
   first_left (x ∷ xs) ys e (inr h) = inr (h.0, first_left xs ys e h.1)
 
   abbrev NoneSo : (DynError → Type 0) → DynError → Type 0
-  NoneSo G e = (other : DynError) → code other ≡ code e → G other → ⊥
+  NoneSo G e = (other : DynError) → code_of other ≡ code_of e → G other → ⊥
 
   first_last : (xs : List A) (x : A) (e : DynError) → NoneSo (FirstOf F xs) e → F x e → FirstOf F (xs ++ x ∷ []) e
   first_last [] x e none h = inl h
@@ -31,7 +32,7 @@ module _ {A : Type 0} (F : A → DynError → Type 0) where
   none_so y xs e here later other same (inl k) = here other same k
   none_so y xs e here later other same (inr k) = later other same k.1
 
-  first_split : (xs : List A) (x : A) (e : DynError) → FirstOf F (xs ++ x ∷ []) e → FirstFault (FirstOf F xs) (F x) e
+  first_split : (xs : List A) (x : A) (e : DynError) → FirstOf F (xs ++ x ∷ []) e → FirstOfTwo (FirstOf F xs) (F x) e
   first_split [] x e (inl h) = inr ((λ other same k. k), h)
   first_split [] x e (inr h) = absurd h.1
   first_split (y ∷ xs) x e (inl h) = inl (inl h)
@@ -39,32 +40,32 @@ module _ {A : Type 0} (F : A → DynError → Type 0) where
 
 -- Of two answers the lower one is that of both, of equal ones the first.
 module _ (P Q : Type 0) (F G : DynError → Type 0) (p : P → HasNoEarlyFault F) (q : Q → HasNoEarlyFault G) where
-  first_lower : (a b : Result (Unit {0}) DynError) → Reports P F a → Reports Q G b → reported_code a ≤ reported_code b → Reports (P × Q) (FirstFault F G) a
+  first_lower : (a b : Result (Unit {0}) DynError) → Reports P F a → Reports Q G b → reported_code a ≤ reported_code b → Reports (P × Q) (FirstOfTwo F G) a
   first_lower (Ok t) (Ok u) x y le = (x, y)
-  first_lower (Ok t) (Err e) x y le = absurd (let early : code e < 605 = y.1 in omega arith)
+  first_lower (Ok t) (Err e) x y le = absurd (let early : code_of e < 605 = y.1 in omega arith)
   first_lower (Err e) (Ok u) x y le =
-      ((inl x.0.0, λ other low. ⊎_elim (λ k. x.0.1 other low k) (λ k. let early : code other < 605 = omega (arith, x.1) in q y other early k.1)), x.1)
-  first_lower (Err e) (Err d) x y le = ((inl x.0.0, λ other low. ⊎_elim (λ k. x.0.1 other low k) (λ k. let below : code other < code d = omega arith in y.0.1 other below k.1)), x.1)
+      ((inl x.0.0, λ other low. ⊎_elim (λ k. x.0.1 other low k) (λ k. let early : code_of other < 605 = omega (arith, x.1) in q y other early k.1)), x.1)
+  first_lower (Err e) (Err d) x y le = ((inl x.0.0, λ other low. ⊎_elim (λ k. x.0.1 other low k) (λ k. let below : code_of other < code_of d = omega arith in y.0.1 other below k.1)), x.1)
 
-  second_lower : (a b : Result (Unit {0}) DynError) → Reports P F a → Reports Q G b → reported_code b < reported_code a → Reports (P × Q) (FirstFault F G) b
+  second_lower : (a b : Result (Unit {0}) DynError) → Reports P F a → Reports Q G b → reported_code b < reported_code a → Reports (P × Q) (FirstOfTwo F G) b
   second_lower (Ok t) (Ok u) x y lt = absurd (omega arith)
-  second_lower (Err e) (Ok u) x y lt = absurd (let early : code e < 605 = x.1 in omega arith)
+  second_lower (Err e) (Ok u) x y lt = absurd (let early : code_of e < 605 = x.1 in omega arith)
   second_lower (Ok t) (Err e) x y lt =
-      let none : (other : DynError) → code other ≡ code e → F other → ⊥ = λ other same k. let early : code other < 605 = omega (arith, y.1) in p x other early k in
-      ((inr (none, y.0.0), λ other low. ⊎_elim (λ k. let early : code other < 605 = omega (arith, y.1) in p x other early k) (λ k. y.0.1 other low k.1)), y.1)
+      let none : (other : DynError) → code_of other ≡ code_of e → F other → ⊥ = λ other same k. let early : code_of other < 605 = omega (arith, y.1) in p x other early k in
+      ((inr (none, y.0.0), λ other low. ⊎_elim (λ k. let early : code_of other < 605 = omega (arith, y.1) in p x other early k) (λ k. y.0.1 other low k.1)), y.1)
   second_lower (Err e) (Err d) x y lt =
-      let none : (other : DynError) → code other ≡ code d → F other → ⊥ = λ other same k. let below : code other < code e = omega arith in x.0.1 other below k in
-      ((inr (none, y.0.0), λ other low. ⊎_elim (λ k. let below : code other < code e = omega arith in x.0.1 other below k) (λ k. y.0.1 other low k.1)), y.1)
+      let none : (other : DynError) → code_of other ≡ code_of d → F other → ⊥ = λ other same k. let below : code_of other < code_of e = omega arith in x.0.1 other below k in
+      ((inr (none, y.0.0), λ other low. ⊎_elim (λ k. let below : code_of other < code_of e = omega arith in x.0.1 other below k) (λ k. y.0.1 other low k.1)), y.1)
 
-  pub reported_both : (a b r : Result (Unit {0}) DynError) → Reports P F a → Reports Q G b → (r ≡ a) ⊎ ((r ≡ b) × (reported_code b < reported_code a)) → reported_code r ≤ reported_code b → Reports (P × Q) (FirstFault F G) r
+  pub reported_both : (a b r : Result (Unit {0}) DynError) → Reports P F a → Reports Q G b → (r ≡ a) ⊎ ((r ≡ b) × (reported_code b < reported_code a)) → reported_code r ≤ reported_code b → Reports (P × Q) (FirstOfTwo F G) r
   reported_both a b r x y one le =
-      ⊎_elim (λ is. subst (Reports (P × Q) (FirstFault F G)) (sym is) (first_lower a b x y (subst (λ k. reported_code k ≤ reported_code b) is le)))
-      (λ is. subst (Reports (P × Q) (FirstFault F G)) (sym is.0) (second_lower a b x y is.1)) one
+      ⊎_elim (λ is. subst (Reports (P × Q) (FirstOfTwo F G)) (sym is) (first_lower a b x y (subst (λ k. reported_code k ≤ reported_code b) is le)))
+      (λ is. subst (Reports (P × Q) (FirstOfTwo F G)) (sym is.0) (second_lower a b x y is.1)) one
 
 -- the same in other words
-pub reported_so : (P Q : Type 0) (F G : DynError → Type 0) → (P → Q) → ((e : DynError) → F e → G e) → ((e : DynError) → code e < 605 → G e → F e) → (r : Result (Unit {0}) DynError) → Reports P F r → Reports Q G r
+pub reported_so : (P Q : Type 0) (F G : DynError → Type 0) → (P → Q) → ((e : DynError) → F e → G e) → ((e : DynError) → code_of e < 605 → G e → F e) → (r : Result (Unit {0}) DynError) → Reports P F r → Reports Q G r
 reported_so P Q F G right to back (Ok t) x = right x
-reported_so P Q F G right to back (Err e) x = ((to e x.0.0, λ other low k. let early : code other < 605 = omega (arith, x.1) in x.0.1 other low (back other early k)), x.1)
+reported_so P Q F G right to back (Err e) x = ((to e x.0.0, λ other low k. let early : code_of other < 605 = omega (arith, x.1) in x.0.1 other low (back other early k)), x.1)
 
 pub take_more : {X : Type 0} (xs : List X) (i : ℕ) (x : X) → i < length xs → x ≡ get_or xs i x → take (i + 1) xs ≡ take i xs ++ x ∷ []
 take_more xs i x inside is = ap (λ n. take n xs) (add-one i) ∙ more xs i x inside is
@@ -90,7 +91,7 @@ module _ {A : Type 0} (P : A → Type 0) (F : A → DynError → Type 0) (p : (x
       let front = take i xs in
       let more : take (i + 1) xs ≡ front ++ x ∷ [] = take_more xs i x inside is in
       subst (λ ys. ReportsEach ys r) (sym more)
-      (reported_so (AllByRecursion P front × P x) (AllByRecursion P (front ++ x ∷ [])) (FirstFault (FirstOf F front) (F x)) (FirstOf F (front ++ x ∷ []))
+      (reported_so (AllByRecursion P front × P x) (AllByRecursion P (front ++ x ∷ [])) (FirstOfTwo (FirstOf F front) (F x)) (FirstOf F (front ++ x ∷ []))
       (λ k. each-append P front (x ∷ []) k.0 (k.1, tt)) (λ e. ⊎_elim (λ k. first_left F front (x ∷ []) e k) (λ k. first_last F front x e k.0 k.1)) (λ e early k. first_split F front x e k) r
       (reported_both (AllByRecursion P front) (P x) (FirstOf F front) (F x) (none_first front) (p x) a b r of_front of_next one le))
 

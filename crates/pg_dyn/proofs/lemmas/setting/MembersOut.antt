@@ -14,7 +14,7 @@ use Rattle.pg_dyn.specs.message.FieldList.{fields_below, fields_above, remove_fi
 use Rattle.pg_dyn.specs.message.Replacing.{is_sibling_number}
 use Rattle.pg_dyn.specs.message.Seen.{Rises}
 use Rattle.pg_dyn.proofs.lemmas.message.FieldListLaws.{below_none, rises-filter}
-use Rattle.pg_dyn.proofs.Lists.{each_weaker, each_of_all, filter_all}
+use Rattle.pg_dyn.proofs.Lists.{each_of_all, each_weaker, filter_alike, filter_all}
 
 -- Tests one after the other.
 
@@ -25,10 +25,6 @@ filter-both p q (x ∷ xs) =
       | true ↦ ap (cond (q x) (x ∷ filter q (filter p xs))) (filter-both p q xs) ∙ ap (λ ys. cond (q x) (x ∷ ys) (filter (λ y. p y && q y) xs)) (filter-both p q xs)
       | false ↦ filter-both p q xs
     ]
-
-filter_alike : {A : Type 0} (p q : A → Bool) → ((x : A) → p x ≡ q x) → (xs : List A) → filter p xs ≡ filter q xs
-filter_alike p q same [] = refl
-filter_alike p q same (x ∷ xs) = ap (λ b. cond b (x ∷ filter p xs) (filter p xs)) (same x) ∙ ap (λ ys. cond (q x) (x ∷ ys) ys) (filter_alike p q same xs)
 
 neither : (a b : Bool) → (not a && not b) ≡ not (a || b)
 neither true b = refl

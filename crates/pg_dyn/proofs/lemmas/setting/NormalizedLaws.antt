@@ -15,13 +15,13 @@ use Rattle.pg_dyn.specs.declared.message.Content.TheVariants as contents
 use Rattle.pg_dyn.specs.declared.message.Value.{Value}
 use Rattle.pg_dyn.specs.declared.message.Value.TheVariants as values
 use Rattle.pg_dyn.specs.setting.ContentFaults.{HasEntryTwice}
-use Rattle.pg_dyn.specs.fitting.ContentFits.{ContentFits, EntryKept, ItemFits, ItemKept, KeysRise, is_zero_value}
+use Rattle.pg_dyn.specs.fitting.ContentFits.{ContentFits, EntryKept, ItemFits, ItemKept, KeysRise, is_zero_value, EntryFits, ItemsFit}
 use Rattle.pg_dyn.specs.message.KeptParts.{KeptItem, Plain, Msg}
 use Rattle.pg_dyn.specs.message.KeyOrder.{AreAlike}
 use Rattle.pg_dyn.specs.message.Message.{Leaf, Part, key_cmp}
 use Rattle.pg_dyn.specs.message.Seen.{content_seen, item_seen, leaf_of}
 use Rattle.pg_dyn.specs.setting.Setting.{by_rising_key, is_zero_kept, normalized_by}
-use Rattle.pg_dyn.specs.setting.Reported.{EntryFits, entry_kept, entry_seen, is_nothing, ItemsFit}
+use Rattle.pg_dyn.specs.inner.Reported.{entry_kept, entry_seen, is_nothing}
 use Rattle.pg_dyn.specs.fitting.Texts.{kept_in, kept_item}
 use Rattle.pg_dyn.proofs.lemmas.fitting.ItemLeaves.{kept_text}
 use Rattle.pg_dyn.proofs.lemmas.setting.KeySorting.{entry_part, sorted_is}

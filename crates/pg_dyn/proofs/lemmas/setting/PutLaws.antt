@@ -20,7 +20,7 @@ use Rattle.pg_dyn.specs.declared.message.Value.{Value}
 use Rattle.pg_dyn.specs.declared.message.Value.TheVariants as values
 use Rattle.pg_dyn.specs.word.Coding.{Whole, Integer, InRange, scalar_form}
 use Rattle.pg_dyn.specs.reading.Content.{is_sibling}
-use Rattle.pg_dyn.specs.fitting.ContentFits.{ContentFits, HoldsContent, AreApart, NoneSiblings, FitsByContents}
+use Rattle.pg_dyn.specs.fitting.ContentFits.{ContentFits, HoldsContent, AreApart, NoneSiblings, FitsByContents, EntryFits, ItemsFit}
 use Rattle.pg_dyn.specs.message.FieldList.{fields_below, fields_above, put_field, remove_field}
 use Rattle.pg_dyn.specs.fitting.Fits.{Fits}
 use Rattle.pg_dyn.specs.message.Kept.{Kept, ends, type_of}
@@ -32,7 +32,7 @@ use Rattle.pg_dyn.specs.fitting.ScalarItems.{IsItemOf}
 use Rattle.pg_dyn.specs.message.Seen.{content_seen, item_seen, leaf_of, Rises, IsFilled, HasKeys}
 use Rattle.pg_dyn.specs.setting.Setting.{normalized, normalized_by}
 use Rattle.pg_dyn.specs.fitting.Texts.{kept_in}
-use Rattle.pg_dyn.specs.setting.Reported.{EntryFits, is_nothing, ItemsFit, MayHoldKeys}
+use Rattle.pg_dyn.specs.inner.Reported.{is_nothing, MayHoldKeys}
 use Rattle.pg_dyn.proofs.lemmas.reading.TypeFields.{is_type, rising}
 use Rattle.pg_dyn.proofs.lemmas.message.FieldListLaws.{rises-filter, rises_put, rises_remove, each_put, each_removed}
 use Rattle.pg_dyn.proofs.lemmas.fitting.FitsByContents.{fits_from_contents, contents_from_fits}
@@ -45,6 +45,7 @@ use Rattle.pg_dyn.proofs.lemmas.setting.NormalizedLaws.{zero_seen}
 use Rattle.pg_dyn.proofs.lemmas.setting.NormalizedParts.{normalized_each}
 use Rattle.pg_dyn.proofs.lemmas.setting.WithoutSiblings.{sibling_found, cleared_shown, each_left}
 use Rattle.std.proofs.lemmas.List.{append-nil}
+use Rattle.std.proofs.lemmas.Bool.{not-true}
 
 -- The keys of a map are alike.
 
@@ -247,10 +248,6 @@ passed test (x ∷ xs) = of (test x) refl (passed test xs)
     of true e rest = (e, rest)
     of false e rest = rest
 
-not_true : (b : Bool) → not b ≡ true → b ≡ false
-not_true true h = absurd (cc)
-not_true false h = refl
-
 -- A message that fits without a field's siblings still does with another content in the field.
 
 module _ (parts : Parts) (h : IsSchema parts) (type : TypeId) (f : FieldShape) (n : ℕ) (found : field_at (fields (shape_of parts) type) n ≡ Some f) where
@@ -267,7 +264,7 @@ module _ (parts : Parts) (h : IsSchema parts) (type : TypeId) (f : FieldShape) (
       one : (x : ℕ × Content) → not (is_sibling_number (fields (shape_of parts) type) f x.0) ≡ true → AreApart (fields (shape_of parts) type) n x.0
       one x stays g j at there =
           let same : f ≡ g = same_field f g (sym found ∙ at) in
-          subst (λ y. is_sibling y j ≡ false) same (sym (sibling_found (fields (shape_of parts) type) f j x.0 (rising parts h type) there) ∙ not_true (is_sibling_number (fields (shape_of parts) type) f x.0) stays)
+          subst (λ y. is_sibling y j ≡ false) same (sym (sibling_found (fields (shape_of parts) type) f j x.0 (rising parts h type) there) ∙ not-true (is_sibling_number (fields (shape_of parts) type) f x.0) stays)
 
       of : (xs : List (ℕ × Content)) → AllByRecursion (λ (x : ℕ × Content). not (is_sibling_number (fields (shape_of parts) type) f x.0) ≡ true) xs → AllByRecursion (λ (x : ℕ × Content). AreApart (fields (shape_of parts) type) n x.0) xs
       of xs k = each_weaker (λ (x : ℕ × Content). not (is_sibling_number (fields (shape_of parts) type) f x.0) ≡ true) (λ (x : ℕ × Content). AreApart (fields (shape_of parts) type) n x.0) one xs k

@@ -1,5 +1,5 @@
 -- What setting a content does.
-use Rattle.std.proofs.Common.{◌≡◌, ℕ, List, nat_eq, not, ◌&&◌, false, Option, Some, None, IfSome, ap, sym, subst, ◌∙◌, ⊎_elim, eq-eqb, ne_eqb}
+use Rattle.std.proofs.Common.{◌≡◌, ℕ, List, map, nat_eq, not, ◌&&◌, false, Option, Some, None, IfSome, ap, sym, subst, ◌∙◌, ⊎_elim, eq-eqb, ne_eqb}
 use Rattle.std.specs.List.{AllByRecursion}
 use Rattle.std.proofs.lemmas.Bool.{cases_eq}
 use Rattle.std.proofs.Math.Bool.{and-false}
@@ -7,20 +7,20 @@ use Rattle.pg_schema.specs.declared.parts.field.TypeId.{TypeId}
 use Rattle.pg_schema.specs.declared.parts.Parts.{Parts}
 use Rattle.pg_schema.specs.Parts.{shape_of}
 use Rattle.pg_schema.specs.Invariant.{IsSchema}
-use Rattle.pg_schema.specs.Shape.{FieldShape, fields, field_at}
+use Rattle.pg_schema.specs.Shape.{Shape, FieldShape, fields, field_at}
 use Rattle.pg_dyn.specs.declared.error.DynError.{DynError}
 use Rattle.pg_dyn.specs.declared.error.DynError.TheVariants as errors
 use Rattle.pg_dyn.specs.declared.message.Content.{Content}
+use Rattle.pg_dyn.specs.declared.message.Message.TheInside.{Inside}
 use Rattle.pg_dyn.specs.message.Kept.{Kept, type_of}
 use Rattle.pg_dyn.specs.message.KeptParts.{KeptItem}
 use Rattle.pg_dyn.specs.message.Message.{Part}
-use Rattle.pg_dyn.specs.message.Seen.{content_seen}
+use Rattle.pg_dyn.specs.message.Seen.{content_seen, kept_seen, record_seen}
 use Rattle.pg_dyn.specs.reading.Content.{is_sibling, same_oneof}
 use Rattle.pg_dyn.specs.message.Replacing.{is_sibling_number, with_parts, with_content, without_siblings}
-use Rattle.pg_dyn.specs.setting.ContentFaults.{ContentFault, HasKeyTwice, HasNoEarlyFault, IsLowest, HasNoFault, MayRefuseFor}
+use Rattle.pg_dyn.specs.setting.ContentFaults.{ContentFault, IsLowest, MayRefuseFor}
 use Rattle.pg_dyn.specs.setting.Setting.{normalized, IsSetTo}
-use Rattle.pg_dyn.specs.setting.Reported.{IsTaken}
-use Rattle.pg_dyn.proofs.lemmas.setting.ContentChecks.{takes_early, taken_once, taken_twice}
+use Rattle.pg_dyn.proofs.lemmas.message.ReplacingLaws.{type_shown}
 use Rattle.pg_dyn.proofs.Lists.{each_of_all, list_any_none}
 use Rattle.pg_dyn.proofs.lemmas.setting.PutLaws.{no_self_sibling, siblings_after, normalized_number}
 use Rattle.pg_dyn.proofs.lemmas.reading.records.Splitting.{found_number}
@@ -42,32 +42,32 @@ may_refuse F (errors.Wire w) h = h
 pub no_memory : (parts : Parts) (type : TypeId) (n : ℕ) (c : Content) (e : DynError) → e ≡ errors.Memory → IsLowest (ContentFault (shape_of parts) type n c) e → ⊥
 no_memory parts type n c e is lowest = (subst (ContentFault (shape_of parts) type n c) is lowest.0).2
 
-module _ (parts : Parts) (h : IsSchema parts) (n : ℕ) (c : Content) (f : FieldShape) where
-  -- the field that takes the content has its number
-  pub number_is : (type : TypeId) → IsTaken (shape_of parts) type n c f → f.number ≡ n
-  number_is type taken = found_number (fields (shape_of parts) type) n f taken.found
+-- a message is of the type beside its fields
+pub own_type : (a : Inside) (m : Kept) → kept_seen a ≡ m → type_of m ≡ a.type_id
+own_type a m seen = sym (ap type_of seen) ∙ type_shown a.type_id a.fields.items (map record_seen a.unknown.items)
 
-  pub set_to : (m put new : Kept) → IsTaken (shape_of parts) (type_of m) n c f → put ≡ with_parts f.number (normalized f (content_seen f.number c)) m → new ≡ without_siblings (fields (shape_of parts) (type_of m)) f put → IsSetTo (shape_of parts) n c m new
-  set_to m put new taken is_put is_new =
+-- so a field of that type is one of the message's
+pub own_field : (shape : Shape) (a : Inside) (m : Kept) → kept_seen a ≡ m → (n : ℕ) (f : FieldShape) → field_at (fields shape a.type_id) n ≡ Some f
+    → field_at (fields shape (type_of m)) n ≡ Some f
+own_field shape a m seen n f found = ap (λ (t : TypeId). field_at (fields shape t) n) (own_type a m seen) ∙ found
+
+-- a field is found by its own number
+pub by_own_number : (fs : List FieldShape) (n : ℕ) (f : FieldShape) → field_at fs n ≡ Some f → field_at fs f.number ≡ Some f
+by_own_number fs n f found = ap (field_at fs) (found_number fs n f found) ∙ found
+
+module _ (parts : Parts) (h : IsSchema parts) (n : ℕ) (c : Content) (f : FieldShape) where
+  pub set_to : (m put new : Kept) → field_at (fields (shape_of parts) (type_of m)) n ≡ Some f → put ≡ with_parts f.number (normalized f (content_seen f.number c)) m → new ≡ without_siblings (fields (shape_of parts) (type_of m)) f put → IsSetTo (shape_of parts) n c m new
+  set_to m put new there is_put is_new =
       let fs = fields (shape_of parts) (type_of m) in
-      let number = number_is (type_of m) taken in
-      let found : field_at (fields (shape_of parts) (type_of m)) f.number ≡ Some f = ap (field_at (fields (shape_of parts) (type_of m))) number ∙ taken.found in
+      let number = found_number fs n f there in
+      let found = by_own_number fs n f there in
       let ps = normalized f (content_seen f.number c) in (
         f,
-        taken.found,
+        there,
         is_new ∙ ap (without_siblings fs f) is_put
             ∙ siblings_after fs f f.number (no_self_sibling parts h (type_of m) f f.number found) ps m (normalized_number f f.number c)
             ∙ ap (λ k. with_content (fields (shape_of parts) (type_of m)) f (normalized f (content_seen k c)) m) number,
       )
-
-  pub accepted : (type : TypeId) → IsTaken (shape_of parts) type n c f → (HasKeyTwice c → ⊥) → HasNoFault (ContentFault (shape_of parts) type n c)
-  accepted type taken once = taken_once (shape_of parts) type n c f taken.found taken.items once
-
-  pub none_early : (type : TypeId) → IsTaken (shape_of parts) type n c f → HasNoEarlyFault (ContentFault (shape_of parts) type n c)
-  none_early type taken = takes_early (shape_of parts) type (n, c) (f, taken)
-
-  pub key_twice : (type : TypeId) → IsTaken (shape_of parts) type n c f → HasKeyTwice c → MayRefuseFor (ContentFault (shape_of parts) type n c) errors.DuplicateKey
-  key_twice type taken twice = taken_twice (shape_of parts) type n c f taken.found taken.items twice
 
 -- Which other members are looked for makes no difference after a content of the field is put in, if it made none before.
 

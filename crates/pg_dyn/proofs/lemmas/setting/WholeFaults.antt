@@ -13,9 +13,10 @@ use Rattle.pg_dyn.specs.reading.Content.{same_oneof, is_sibling}
 use Rattle.pg_dyn.specs.message.Kept.{Kept}
 use Rattle.pg_dyn.specs.message.Seen.{Rises}
 use Rattle.pg_dyn.specs.fitting.ContentFits.{AreApart, NoneSiblings}
-use Rattle.pg_dyn.specs.setting.ContentFaults.{AnyOf, ContentFault, ContentsFault, FirstOf, HasFieldTwice, HasKeyTwice, is_in_oneof, members, code, IsLowest, HasNoEarlyFault, HasNoFault, MayRefuseFor}
+use Rattle.pg_dyn.specs.setting.ContentFaults.{AnyOf, ContentFault, ContentsFault, FirstOf, HasFieldTwice, HasKeyTwice, is_in_oneof, members, IsLowest, HasNoEarlyFault, HasNoFault, MayRefuseFor}
+use Rattle.pg_dyn.specs.error.Codes.{code_of}
 use Rattle.pg_dyn.specs.setting.Setting.{normalized_parts, IsWhole}
-use Rattle.pg_dyn.specs.setting.Reported.{TakesContent}
+use Rattle.pg_dyn.specs.inner.Reported.{TakesContent}
 use Rattle.pg_dyn.proofs.Lists.{filter_none, each_weaker, each_both}
 use Rattle.pg_dyn.proofs.lemmas.setting.ContentChecks.{lowest, taken_once, takes_early}
 use Rattle.pg_dyn.proofs.lemmas.setting.SetSteps.{may_refuse}
@@ -97,6 +98,12 @@ module _ (parts : Parts) (type : TypeId) where
   early : (cs : List (ℕ × Content)) → Takes parts type cs → HasNoEarlyFault (FirstContent cs)
   early cs takes = none_first (TakesContent (shape_of parts) type) (λ (c : ℕ × Content). ContentFault (shape_of parts) type c.0 c.1) (takes_early (shape_of parts) type) cs takes
 
+  -- an error that is never that of a content
+  never : (e : DynError) → ((c : ℕ × Content) → ContentFault (shape_of parts) type c.0 c.1 e → ⊥) → (cs : List (ℕ × Content)) → FirstContent cs e → ⊥
+  never e none [] k = k
+  never e none (c ∷ cs) (inl k) = none c k
+  never e none (c ∷ cs) (inr k) = never e none cs k.1
+
   no_fault : (cs : List (ℕ × Content)) (e : DynError) → AllByRecursion (λ (c : ℕ × Content). HasNoFault (ContentFault (shape_of parts) type c.0 c.1)) cs → AnyOf (λ (c : ℕ × Content). ContentFault (shape_of parts) type c.0 c.1 e) cs → ⊥
   no_fault [] e h k = k
   no_fault (c ∷ cs) e h (inl k) = h.0 e k
@@ -126,7 +133,7 @@ module _ (parts : Parts) (type : TypeId) where
       none (errors.Wire w) k = first (errors.Wire w) k
 
   pub whole_twice : (cs : List (ℕ × Content)) → Takes parts type cs → HasFieldTwice (fields (shape_of parts) type) cs → MayRefuseFor (Faults cs) errors.OneofTwice
-  whole_twice cs takes two = lowest (Faults cs) errors.OneofTwice two (omega arith) (λ k. early cs takes errors.Memory (omega arith) k) (λ low k. early cs takes errors.NoSuchField (omega arith) k) (λ low k. early cs takes errors.WrongKind (omega arith) k)
+  whole_twice cs takes two = lowest (Faults cs) errors.OneofTwice two (omega arith) (λ k. early cs takes errors.Memory (omega arith) k) (λ w k. never (errors.Wire w) (λ c h. h.2) cs k) (λ low k. early cs takes errors.NoSuchField (omega arith) k) (λ low k. early cs takes errors.WrongKind (omega arith) k)
       (λ low k. early cs takes errors.OutOfRange (omega arith) k) (λ low at k. early cs takes (errors.NotUtf8 at) (omega arith) k)
 
   to_key_fault : (cs : List (ℕ × Content)) → Takes parts type cs → AnyOf (λ (c : ℕ × Content). HasKeyTwice c.1) cs → AnyOf (λ (c : ℕ × Content). ContentFault (shape_of parts) type c.0 c.1 errors.DuplicateKey) cs
@@ -137,7 +144,7 @@ module _ (parts : Parts) (type : TypeId) where
   pub whole_key_twice : (cs : List (ℕ × Content)) → Takes parts type cs → (HasFieldTwice (fields (shape_of parts) type) cs → ⊥) → AnyOf (λ (c : ℕ × Content). HasKeyTwice c.1) cs → MayRefuseFor (Faults cs) errors.DuplicateKey
   whole_key_twice cs takes fields_once two = (to_key_fault cs takes two, below)
     where
-      below : (other : DynError) → code other < 606 → Faults cs other → ⊥
+      below : (other : DynError) → code_of other < 606 → Faults cs other → ⊥
       below errors.Memory low k = early cs takes errors.Memory (omega arith) k
       below errors.NoSuchField low k = early cs takes errors.NoSuchField (omega arith) k
       below errors.WrongKind low k = early cs takes errors.WrongKind (omega arith) k
@@ -147,9 +154,9 @@ module _ (parts : Parts) (type : TypeId) where
       below errors.DuplicateKey low k = absurd (omega arith)
       below errors.TooLong low k = absurd (omega arith)
       below (errors.TooDeep at) low k = absurd (omega arith)
-      below (errors.Wire w) low k = absurd (omega arith)
+      below (errors.Wire w) low k = never (errors.Wire w) (λ c h. h.2) cs k
 
-  to_faults : (cs : List (ℕ × Content)) (e : DynError) → code e < 605 → FirstContent cs e → Faults cs e
+  to_faults : (cs : List (ℕ × Content)) (e : DynError) → code_of e < 605 → FirstContent cs e → Faults cs e
   to_faults cs errors.Memory early k = k
   to_faults cs errors.NoSuchField early k = k
   to_faults cs errors.WrongKind early k = k
@@ -161,7 +168,7 @@ module _ (parts : Parts) (type : TypeId) where
   to_faults cs (errors.TooDeep at) early k = k
   to_faults cs (errors.Wire w) early k = k
 
-  from_faults : (cs : List (ℕ × Content)) (e : DynError) → code e < 605 → Faults cs e → FirstContent cs e
+  from_faults : (cs : List (ℕ × Content)) (e : DynError) → code_of e < 605 → Faults cs e → FirstContent cs e
   from_faults cs errors.Memory early k = k
   from_faults cs errors.NoSuchField early k = k
   from_faults cs errors.WrongKind early k = k
@@ -176,18 +183,13 @@ module _ (parts : Parts) (type : TypeId) where
   pub whole_early : (cs : List (ℕ × Content)) → Takes parts type cs → HasNoEarlyFault (Faults cs)
   whole_early cs takes e low k = early cs takes e low (from_faults cs e low k)
 
-  no_memory_first : (cs : List (ℕ × Content)) → FirstContent cs errors.Memory → ⊥
-  no_memory_first [] k = k
-  no_memory_first (c ∷ cs) (inl k) = k.2
-  no_memory_first (c ∷ cs) (inr k) = no_memory_first cs k.1
-
   -- memory is never the fault of a content
   pub whole_no_memory : (cs : List (ℕ × Content)) (e : DynError) → e ≡ errors.Memory → IsLowest (FirstContent cs) e → ⊥
-  whole_no_memory cs e is lowest = no_memory_first cs (subst (FirstContent cs) is lowest.0)
+  whole_no_memory cs e is lowest = never errors.Memory (λ c k. k.2) cs (subst (FirstContent cs) is lowest.0)
 
-  pub whole_refused : (cs : List (ℕ × Content)) (e : DynError) → IsLowest (FirstContent cs) e → code e < 605 → MayRefuseFor (Faults cs) e
+  pub whole_refused : (cs : List (ℕ × Content)) (e : DynError) → IsLowest (FirstContent cs) e → code_of e < 605 → MayRefuseFor (Faults cs) e
   whole_refused cs e fault early =
-      may_refuse (Faults cs) e (to_faults cs e early fault.0, λ other low k. let lt : code other < 605 = omega arith in fault.1 other low (from_faults cs other lt k))
+      may_refuse (Faults cs) e (to_faults cs e early fault.0, λ other low k. let lt : code_of other < 605 = omega arith in fault.1 other low (from_faults cs other lt k))
 
   -- the message of sorted contents is that of the contents
   pub whole_unsorted : (xs ys : List (ℕ × Content)) (m : Kept) → ((number : ℕ) → filter (of_field number) ys ≡ filter (of_field number) xs) → IsWhole (shape_of parts) type ys m → IsWhole (shape_of parts) type xs m

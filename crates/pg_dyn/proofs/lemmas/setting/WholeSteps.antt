@@ -24,8 +24,8 @@ use Rattle.pg_dyn.specs.message.Replacing.{kept_from, with_parts, is_sibling_num
 use Rattle.pg_dyn.specs.fitting.ContentFits.{AreApart, NoneSiblings}
 use Rattle.pg_dyn.specs.setting.ContentFaults.{PassTwice}
 use Rattle.pg_dyn.specs.setting.Setting.{normalized, normalized_parts, IsWhole}
-use Rattle.pg_dyn.specs.setting.Reported.{TakesContent}
-use Rattle.pg_dyn.proofs.Lists.{filter_all, filter_none, filter-append', flat_map-append', each_weaker, each_both}
+use Rattle.pg_dyn.specs.inner.Reported.{TakesContent}
+use Rattle.pg_dyn.proofs.Lists.{each_both, each_weaker, filter-append', filter_alike, filter_all, filter_none, flat_map-append'}
 use Rattle.pg_dyn.proofs.lemmas.message.KeptParts.{each_from_index}
 use Rattle.pg_dyn.proofs.lemmas.reading.TypeFields.{rising}
 use Rattle.pg_dyn.proofs.lemmas.setting.PutLaws.{no_self_sibling, siblings_back, normalized_number}
@@ -267,17 +267,9 @@ tied n c d y = ⊎_elim same other (cases_eq y n)
         of true e = ap₂ (λ a b. not a && not b) (not_less n y (let lt = ltb-true y n e in omega arith)) (less y n (ltb-true y n e))
         of false e = ap (λ a. not a && not (is_lt (nat_cmp y n))) (less n y (let le = ltb-false y n e in omega (arith, apart)))
 
-filter_same : (t u : ℕ × Content → Bool) → ((x : ℕ × Content) → t x ≡ u x) → (xs : List (ℕ × Content)) → filter t xs ≡ filter u xs
-filter_same t u h [] = refl
-filter_same t u h (x ∷ xs) = ap₂ (λ b ys. cond b (x ∷ ys) ys) (h x) (filter_same t u h xs)
-
 pub kept_under : (xs ys : List (ℕ × Content)) → IsStableByKey (λ (c : ℕ × Content). c.0) nat_cmp xs ys → (number : ℕ) → filter (of_field number) ys ≡ filter (of_field number) xs
 kept_under xs ys stable number =
     let c = contents.One (values.Int (pos 0)) in
     let test = ties (λ (a : ℕ × Content) (b : ℕ × Content). is_lt (nat_cmp a.0 b.0)) (number, c) in
     let same : (x : ℕ × Content) → of_field number x ≡ test x = λ x. sym (tied number c x.1 x.0) in
-    filter_same (of_field number) test same ys ∙ stable (number, c) ∙ sym (filter_same (of_field number) test same xs)
-
-pub facts_before : (P : ℕ × Content → Type 0) (xs ys : List (ℕ × Content)) → AllByRecursion P (xs ++ ys) → AllByRecursion P xs
-facts_before P [] ys h = tt
-facts_before P (x ∷ xs) ys h = (h.0, facts_before P xs ys h.1)
+    filter_alike (of_field number) test same ys ∙ stable (number, c) ∙ sym (filter_alike (of_field number) test same xs)

@@ -15,7 +15,7 @@ use Rattle.pg_dyn.specs.message.KeptParts.{KeptItem, parts_of}
 use Rattle.pg_dyn.specs.message.Replacing.{kept_onto, kept_from, is_sibling_number, without_siblings}
 use Rattle.pg_dyn.proofs.Lists.{each_weaker, each-filter, list_any_none}
 use Rattle.pg_dyn.proofs.lemmas.reading.records.Splitting.{found_first, found_later}
-use Rattle.pg_dyn.proofs.lemmas.message.ReplacingLaws.{shown, fields_from, seen-filter, parts_shown, unknown_shown, type_shown}
+use Rattle.pg_dyn.proofs.lemmas.message.ReplacingLaws.{shown, seen-filter, parts_shown, unknown_shown, type_shown}
 
 -- The sibling of a number is the field that is found there.
 
@@ -62,7 +62,7 @@ pub cleared_shown : (fs : List FieldShape) (f : FieldShape) (type : TypeId) (ms 
     → shown type new us ≡ without_siblings fs f m
 cleared_shown fs f type ms new us m is view =
     let test : ℕ → Bool = λ n. not (is_sibling_number fs f n) in
-    ap (λ xs. shown type xs us) is ∙ fields_from (filter (λ (c : ℕ × Content). test c.0) ms) (ends type us)
+    ap (λ xs. shown type xs us) is
     ∙ ap (λ ps. kept_onto ps (ends type us)) (sym (seen-filter test ms) ∙ ap (filter (λ (p : Part KeptItem). test p.number)) (sym (parts_shown type ms us)))
     ∙ ap₂ (λ t u. kept_from t (filter (λ (p : Part KeptItem). test p.number) (parts_of (shown type ms us))) u) (sym (type_shown type ms us)) (sym (unknown_shown type ms us))
     ∙ ap (without_siblings fs f) view

@@ -12,8 +12,8 @@ use Rattle.pg_wire.specs.Words.{IsBetween, twos_complement, signed, zigzag, unzi
 use Rattle.pg_wire.proofs.Varints.{IsVarint-varint, varint_value-varint}
 use Rattle.pg_wire.proofs.Words.{signed-twos_complement, unzigzag-zigzag, zigzag_below}
 use Rattle.pg_dyn.specs.message.Message.{Leaf, Int, F32, F64, Bytes}
-use Rattle.pg_dyn.specs.laws.Bodies.{BodyShape, IsReadAs}
-use Rattle.pg_dyn.specs.word.Coding.{Whole, Form, Integer, Single, Double, Text, Raw, int32, scalar_form, form, word_bytes, word_in, body, InRange}
+use Rattle.pg_dyn.specs.laws.Bodies.{IsReadAs}
+use Rattle.pg_dyn.specs.word.Coding.{HasShape, Whole, Form, Integer, Single, Double, Text, Raw, int32, scalar_form, form, word_bytes, word_in, body, InRange}
 
 -- the word fits a body of the wire type
 abbrev WordFits : WireType → ℕ → Type 0
@@ -29,12 +29,12 @@ word_in-word_bytes I64 word h = from_le_bytes-to_le_bytes_8 word h
 word_in-word_bytes I32 word h = from_le_bytes-to_le_bytes_4 word h
 word_in-word_bytes Len word h = absurd h
 
-BodyShape-word_bytes : (wire : WireType) (word : ℕ) → WordFits wire word → BodyShape wire (word_bytes wire word)
+HasShape-word_bytes : (wire : WireType) (word : ℕ) → WordFits wire word → HasShape wire (word_bytes wire word)
 unfolding word_bytes
-BodyShape-word_bytes Varint word h = IsVarint-varint word h
-BodyShape-word_bytes I64 word h = refl
-BodyShape-word_bytes I32 word h = refl
-BodyShape-word_bytes Len word h = tt
+HasShape-word_bytes Varint word h = IsVarint-varint word h
+HasShape-word_bytes I64 word h = refl
+HasShape-word_bytes I32 word h = refl
+HasShape-word_bytes Len word h = tt
 
 -- each number in range is read again from its word
 abbrev IsSoundWhole : Whole → Type 0
@@ -115,17 +115,17 @@ Reads f leaf = IsReadAs f (body f leaf) leaf
 form_reads : (f : Form) (leaf : Leaf) → IsSound f → InRange f leaf → Reads f leaf
 form_reads (Integer w) (Int n) sound h =
     let word = sound n h in
-    record { read = rw (word_in-word_bytes w.wire (w.word n) word.0, word.1); shape = BodyShape-word_bytes w.wire (w.word n) word.0 }
+    record { read = rw (word_in-word_bytes w.wire (w.word n) word.0, word.1); shape = HasShape-word_bytes w.wire (w.word n) word.0 }
 form_reads (Integer w) (F32 bits) sound h = absurd h
 form_reads (Integer w) (F64 bits) sound h = absurd h
 form_reads (Integer w) (Bytes bytes) sound h = absurd h
 form_reads Single (Int n) sound h = absurd h
-form_reads Single (F32 bits) sound h = record { read = rw (word_in-word_bytes I32 bits h); shape = BodyShape-word_bytes I32 bits h }
+form_reads Single (F32 bits) sound h = record { read = rw (word_in-word_bytes I32 bits h); shape = HasShape-word_bytes I32 bits h }
 form_reads Single (F64 bits) sound h = absurd h
 form_reads Single (Bytes bytes) sound h = absurd h
 form_reads Double (Int n) sound h = absurd h
 form_reads Double (F32 bits) sound h = absurd h
-form_reads Double (F64 bits) sound h = record { read = rw (word_in-word_bytes I64 bits h); shape = BodyShape-word_bytes I64 bits h }
+form_reads Double (F64 bits) sound h = record { read = rw (word_in-word_bytes I64 bits h); shape = HasShape-word_bytes I64 bits h }
 form_reads Double (Bytes bytes) sound h = absurd h
 form_reads Text (Int n) sound h = absurd h
 form_reads Text (F32 bits) sound h = absurd h

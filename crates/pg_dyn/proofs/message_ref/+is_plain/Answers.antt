@@ -4,11 +4,12 @@ use denote.Param.Weighed.{most}
 use Rattle.pg_dyn.specs.declared.message_ref.MessageRef.TheDeep.{deep-ContentRef, deep-EntryRef, deep-ValueRef}
 use Rattle.pg_dyn.specs.declared.message_ref.ValueRef.{ValueRef}
 use Rattle.std.specs.List.{AllByRecursion}
+use Rattle.pg_wire.specs.Reads.{seen_record}
 use Rattle.pg_dyn.specs.declared.message_ref.ContentRef.{ContentRef}
 use Rattle.pg_dyn.specs.declared.message_ref.EntryRef.{EntryRef}
-use Rattle.pg_dyn.specs.message_ref.Borrowed.{ArePlain, item_seen}
+use Rattle.pg_dyn.specs.message_ref.Borrowed.{ArePlain, content_seen, item_seen}
 use Rattle.pg_dyn.specs.message.KeptParts.{IsPlain, IsPlainItem}
-use Rattle.pg_dyn.proofs.lemmas.message_ref.BorrowedPlainness.{message_plain, none_from_empty, empty_from_none}
+use Rattle.pg_dyn.proofs.lemmas.message.Plainness.{lent_plain, message_plain, none_from_empty, empty_from_none}
 use Rattle.pg_dyn.proofs.message_ref.+is_plain.Goals as goal
 use Rattle.pg_dyn.proofs.Lists.{each_at_index, each_from_take}
 
@@ -20,7 +21,7 @@ MessageRef::is_plain-returns-then-not-is_plain t c =
     let a = c.self.inside in (
       (λ e. absurd (true≢false (sym e))),
       λ plain.
-          let each = ((message_plain a.fields.items a.type_id a.unknown.items).1 (subst IsPlain (sym c.self.view_is) plain)).0 in
+          let each = ((message_plain content_seen ArePlain lent_plain seen_record a.fields.items a.type_id a.unknown.items).1 (subst IsPlain (sym c.self.view_is) plain)).0 in
           let content = each_at_index (λ (f : ℕ × ContentRef). ArePlain f.1) _ _ c.loop-content.content-index c.loop-content-item.result c.deref-content-items.ensures.value c.loop-content-test.true c.loop-content-item.is each in
           subst IsTrue c.if-not-is_plain.true (c.is_plain.ensures.1 content),
     )
@@ -28,7 +29,7 @@ MessageRef::is_plain-returns-then-not-is_plain t c =
 pub MessageRef::is_plain-returns : goal.MessageRef::is_plain-returns
 MessageRef::is_plain-returns t c =
     let a = c.self.inside in
-    let level = message_plain a.fields.items a.type_id a.unknown.items in (
+    let level = message_plain content_seen ArePlain lent_plain seen_record a.fields.items a.type_id a.unknown.items in (
       (λ e.
           subst IsPlain c.self.view_is (level.0 (
             each_from_take (λ (f : ℕ × ContentRef). ArePlain f.1) _ _ c.loop-content.content-index c.deref-content-items.ensures.value c.loop-content-test.false c.loop-content.invariant,

@@ -6,31 +6,23 @@ use Rattle.pg_wire.specs.Reads.{seen_record}
 use Rattle.pg_wire.specs.Records.{IsRecord}
 use Rattle.pg_dyn.specs.declared.message.Content.TheVariants as held
 use Rattle.pg_dyn.specs.declared.message_ref.ContentRef.{ContentRef}
-use Rattle.pg_dyn.specs.inner.Copies.{IsContentCopy}
+use Rattle.pg_dyn.specs.declared.message_ref.EntryRef.{EntryRef}
+use Rattle.pg_dyn.specs.inner.Copies.{AreEntryCopies, IsContentCopy}
 use Rattle.pg_dyn.specs.message.Seen.{record_seen}
-use Rattle.pg_dyn.proofs.lemmas.message_ref.BorrowedParts.{AreCopies, copy_shows, entry_copied, list_copied, map_copied, numbers_copied, one_content_more, one_entry_more, rises_same}
+use Rattle.pg_dyn.proofs.lemmas.message_ref.BorrowedParts.{AreCopies, copy_shows, list_copied, map_copied, numbers_copied, one_content_more, rises_same}
 use Rattle.pg_dyn.proofs.lemmas.message.TakenApart.{taken_all, taken_more}
 use Rattle.pg_dyn.proofs.message_ref.+moving.Goals as goal
-
-pub EntryRef::into_entry-returns : goal.EntryRef::into_entry-returns
-EntryRef::into_entry-returns t c = entry_copied c.args.self c.in_ok-owned_key.owned_key c.in_ok-owned_value.owned_value c.in_ok-owned_key.ensures c.in_ok-owned_value.ensures
-
-pub ContentRef::into_entries-loop-entry-preserved : goal.ContentRef::into_entries-loop-entry-preserved
-ContentRef::into_entries-loop-entry-preserved t c =
-    let l = c.loop-entry in (
-      taken_more c.args.entries.items l.yielded l.entry-iterator c.next.new.self c.in-Some.entry l.invariant.0 c.in-Some.ensures.steps,
-      rw c.in_ok-push.ensures.items (one_entry_more l.yielded l.owned.items c.in-Some.entry c.in_ok-into_entry.field-0 l.invariant.1 c.in_ok-into_entry.ensures),
-    )
 
 pub ContentRef::into_content-returns-in_ok-into_values-in-Many : goal.ContentRef::into_content-returns-in_ok-into_values-in-Many
 ContentRef::into_content-returns-in_ok-into_values-in-Many t c =
     subst (λ (r : ContentRef). IsContentCopy r (held.Many c.in_ok-into_values-in-Many.field-0)) (sym c.in-Many.is)
     (list_copied c.in-Many.values c.in_ok-into_values-in-Many.field-0 c.in_ok-into_values-in-Many.ensures)
 
-pub ContentRef::into_content-returns-in_ok-into_entries-in-Map : goal.ContentRef::into_content-returns-in_ok-into_entries-in-Map
-ContentRef::into_content-returns-in_ok-into_entries-in-Map t c =
-    subst (λ (r : ContentRef). IsContentCopy r (held.Map c.in_ok-into_entries-in-Map.field-0)) (sym c.in-Map.is)
-    (map_copied c.in-Map.entries c.in_ok-into_entries-in-Map.field-0 c.in_ok-into_entries-in-Map.ensures)
+pub ContentRef::into_content-returns-in_ok-to_entries-in-Map : goal.ContentRef::into_content-returns-in_ok-to_entries-in-Map
+ContentRef::into_content-returns-in_ok-to_entries-in-Map t c =
+    let made = c.in_ok-to_entries-in-Map.field-0 in
+    subst (λ (r : ContentRef). IsContentCopy r (held.Map made)) (sym c.in-Map.is)
+    (map_copied c.in-Map.entries made (subst (λ (es : List EntryRef). AreEntryCopies es made.items) c.deref.ensures.value c.in_ok-to_entries-in-Map.ensures))
 
 pub ContentRef::into_content-returns-in_ok-to_values-in-Numbers : goal.ContentRef::into_content-returns-in_ok-to_values-in-Numbers
 ContentRef::into_content-returns-in_ok-to_values-in-Numbers t c =

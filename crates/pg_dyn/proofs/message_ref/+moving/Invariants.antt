@@ -2,11 +2,9 @@
 use Rattle.std.proofs.Common.{◌+◌, ◌*◌, ◌≡◌, true, map}
 use Rattle.std.specs.Vec.Iter.{into_iter_items}
 use denote.Param.Weighed.{most}
-use Rattle.pg_dyn.specs.declared.message_ref.EntryRef.{EntryRef}
 use Rattle.pg_dyn.specs.declared.message_ref.ValueRef.{ValueRef}
-use Rattle.pg_dyn.specs.declared.message_ref.MessageRef.TheDeep.{deep-EntryRef, deep-ValueRef}
+use Rattle.pg_dyn.specs.declared.message_ref.MessageRef.TheDeep.{deep-ValueRef}
 use Rattle.pg_dyn.specs.message_ref.Borrowed as borrowed
-use Rattle.pg_dyn.specs.inner.Copies.{AreEntryCopies}
 use Rattle.pg_dyn.specs.message.Seen.{item_seen}
 use Rattle.pg_dyn.proofs.lemmas.message_ref.BorrowedParts.{AreCopies}
 use Rattle.pg_dyn.proofs.lemmas.message.TakenApart.{IsTaken}
@@ -15,14 +13,8 @@ use Rattle.pg_dyn.proofs.message_ref.+moving.Given as goal
 abbrev pub decreases-ContentRef::into_values : goal.decreases-ContentRef::into_values
 decreases-ContentRef::into_values l = 8 * most (λ (v : ValueRef). deep-ValueRef v) l.values.items + 5
 
-abbrev pub decreases-ContentRef::into_entries : goal.decreases-ContentRef::into_entries
-decreases-ContentRef::into_entries l = 8 * most (λ (e : EntryRef). deep-EntryRef e) l.entries.items + 5
-
 abbrev pub decreases-ContentRef::into_content : goal.decreases-ContentRef::into_content
 decreases-ContentRef::into_content l = 2 * goal.size-ContentRef::into_content l
-
-abbrev pub decreases-EntryRef::into_entry : goal.decreases-EntryRef::into_entry
-decreases-EntryRef::into_entry l = 2 * goal.size-EntryRef::into_entry l
 
 abbrev pub decreases-MessageRef::into_message : goal.decreases-MessageRef::into_message
 decreases-MessageRef::into_message l = 2 * goal.size-MessageRef::into_message l
@@ -36,9 +28,6 @@ decreases-ValueRef::into_value l = 2 * goal.size-ValueRef::into_value l
 abbrev pub invariant-ContentRef::into_values-loop-value : goal.invariant-ContentRef::into_values-loop-value
 invariant-ContentRef::into_values-loop-value l =
     IsTaken l.fn.values.items l.yielded l.value-iterator × (map (item_seen true) l.owned.items ≡ map (borrowed.item_seen true) l.yielded)
-
-abbrev pub invariant-ContentRef::into_entries-loop-entry : goal.invariant-ContentRef::into_entries-loop-entry
-invariant-ContentRef::into_entries-loop-entry l = IsTaken l.fn.entries.items l.yielded l.entry-iterator × AreEntryCopies l.yielded l.owned.items
 
 abbrev pub invariant-MessageRef::into_message-loop-number : goal.invariant-MessageRef::into_message-loop-number
 invariant-MessageRef::into_message-loop-number l =

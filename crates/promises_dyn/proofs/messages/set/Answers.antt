@@ -7,8 +7,8 @@ returns-clause-ok c = search rules
 pub returns-clause-fits : goal.returns-clause-fits
 returns-clause-fits c = search rules
 
-pub returns-clause-accepted : goal.returns-clause-accepted
-returns-clause-accepted c = search rules
+pub returns-clause-content : goal.returns-clause-content
+returns-clause-content c = search rules
 
 pub returns-clause-refused : goal.returns-clause-refused
 returns-clause-refused c = search rules

@@ -1,7 +1,7 @@
 -- The items, entries and contents before the index are counted, and the lengths that are noted in them listed. Each call goes to a part of the message.
 use Rattle.std.proofs.Common.{◌≡◌, ◌+◌, ◌*◌, ◌++◌, length, take, flat_map}
 use Rattle.pg_schema.specs.Parts.{shape_of}
-use Rattle.pg_dyn.specs.inner.Weights.{weight}
+use Rattle.pg_dyn.specs.message.Weights.{weight}
 use Rattle.pg_dyn.specs.encoding.Lending.{bare_leaf}
 use Rattle.pg_dyn.specs.encoding.Written.{capped, entry_record, item_bytes, item_lengths}
 use Rattle.pg_dyn.proofs.lemmas.encoding.EncodeSteps.{content_bytes}

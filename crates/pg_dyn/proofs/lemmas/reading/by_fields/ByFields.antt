@@ -27,7 +27,7 @@ use Rattle.pg_dyn.proofs.lemmas.reading.records.RecordsRead.{assembled}
 use Rattle.pg_dyn.proofs.lemmas.fitting.PartsToFits.{HoldsParts, contents_whole, fits_of_contents}
 use Rattle.pg_dyn.proofs.lemmas.laws.Order.{NeverFalls, never_falls, of_each, of_each_is, places-parts}
 use Rattle.pg_dyn.proofs.lemmas.reading.records.ReadSplits.{parts-message_from}
-use Rattle.pg_dyn.proofs.lemmas.message.ReplacingLaws.{filter-part_item, message_of-kept_from}
+use Rattle.pg_dyn.proofs.lemmas.message.ReplacingLaws.{filter-part_item, kept_all, kept_none, message_of-kept_from}
 use Rattle.pg_dyn.specs.message_ref.Borrowed.{all_seen}
 use Rattle.pg_dyn.proofs.lemmas.reading.records.Splitting.{each_found, found_number, takes_number}
 
@@ -97,25 +97,13 @@ sibling_absent fs rs all f g found_f found_g some_f some_g = of (is_sibling f g)
 
 -- What a content keeps.
 
-module _ (n : ℕ) where
-  own_parts : (ps : List (Part KeptItem)) → AllByRecursion (λ (p : Part KeptItem). p.number ≡ n) ps → filter (is_of n) ps ≡ ps
-  own_parts ps h =
-      filter_all (is_of n) ps
-      (each_weaker (λ (p : Part KeptItem). p.number ≡ n) (λ (p : Part KeptItem). is_of n p ≡ true) (λ p e. eq-eqb p.number n e) ps h)
-
-  other_parts : (m : ℕ) (ps : List (Part KeptItem)) → n ≢ m → AllByRecursion (λ (p : Part KeptItem). p.number ≡ n) ps → filter (is_of m) ps ≡ []
-  other_parts m ps apart h =
-      filter_none (is_of m) ps
-      (each_weaker (λ (p : Part KeptItem). p.number ≡ n) (λ (p : Part KeptItem). is_of m p ≡ false)
-      (λ p e. ne_eqb p.number m (λ k. apart (sym e ∙ k))) ps h)
-
 own_held : (n : ℕ) (held : Option ContentRef) → filter (is_of n) (parts_held n held) ≡ parts_held n held
 own_held n None = refl
-own_held n (Some c) = own_parts n (content_seen n c) (content_number n c)
+own_held n (Some c) = kept_all (λ k. nat_eq k n) n (content_seen n c) (content_number n c) (eq-eqb n n refl)
 
 other_held : (n m : ℕ) (held : Option ContentRef) → n ≢ m → filter (is_of m) (parts_held n held) ≡ []
 other_held n m None apart = refl
-other_held n m (Some c) apart = other_parts n m (content_seen n c) apart (content_number n c)
+other_held n m (Some c) apart = kept_none (λ k. nat_eq k m) n (content_seen n c) (content_number n c) (ne_eqb n m apart)
 
 -- the content of a field, where it has one, by its number
 abbrev pub with_held : ℕ → Option ContentRef → List (ℕ × ContentRef)
@@ -130,7 +118,7 @@ none_seen : (n : ℕ) (cs : List (ℕ × ContentRef)) → AllByRecursion (λ (c 
 none_seen n [] h = refl
 none_seen n (c ∷ cs) h =
     filter-append' (is_of n) (content_seen c.0 c.1) (all_seen cs)
-    ∙ ap₂ (λ xs ys. xs ++ ys) (other_parts c.0 n (content_seen c.0 c.1) (λ e. absurd (omega (arith, h.0))) (content_number c.0 c.1)) (none_seen n cs h.1)
+    ∙ ap₂ (λ xs ys. xs ++ ys) (kept_none (λ k. nat_eq k n) c.0 (content_seen c.0 c.1) (content_number c.0 c.1) (ne_eqb c.0 n (λ e. absurd (omega (arith, h.0))))) (none_seen n cs h.1)
 
 -- a content at the end, with the greatest number
 rises_end : (n : ℕ) (held : Option ContentRef) (cs : List (ℕ × ContentRef)) → AllByRecursion (λ (c : ℕ × ContentRef). c.0 < n) cs → Rises cs

@@ -1,7 +1,7 @@
 -- An entry of a map is good exactly where the records of its key and of its value are, and what they say is what it holds.
-use Rattle.std.proofs.Common.{Result, ◌<◌, get_or, length, take, ◌≡◌, ◌≢◌, ℕ, suc, ◌+◌, List, [], ◌∷◌, ◌++◌, map, filter, Bool, true, false, not, ◌&&◌, ◌||◌, cond, nat_eq, Option, Some, None, is_some, option_map, option_and_then, Ok, refl, ap, sym, ◌∙◌, subst, true≢false}
+use Rattle.std.proofs.Common.{Result, ◌<◌, get_or, length, take, ◌≡◌, ◌≢◌, ℕ, suc, ◌+◌, List, [], ◌∷◌, ◌++◌, map, filter, Bool, true, false, not, ◌&&◌, ◌||◌, cond, Option, Some, None, is_some, option_map, option_and_then, Ok, refl, ap, sym, ◌∙◌, subst}
 use Rattle.std.specs.List.{AllByRecursion, list_all}
-use Rattle.std.proofs.lemmas.Bool.{and_from, and_parts, eqb-true}
+use Rattle.std.proofs.lemmas.Bool.{and_from, eqb-true}
 use Rattle.std.proofs.lemmas.List.{map_more}
 use Rattle.pg_schema.specs.declared.parts.field.TypeId.{TypeId}
 use Rattle.pg_schema.specs.declared.parts.field.Scalar.{Scalar}
@@ -22,7 +22,7 @@ use Rattle.pg_dyn.specs.declared.message_ref.ValueRef.{ValueRef}
 use Rattle.pg_dyn.specs.declared.reading.parts.Parts.{Parts}
 use Rattle.pg_dyn.specs.reading.ByFields.{AreGood, AreOf, BodiesGood, IsChildOf, IsEntryRead}
 use Rattle.pg_dyn.specs.word.Coding.{form, zero_leaf}
-use Rattle.pg_dyn.specs.reading.Content.{entry_part, is_accepted, key_field, leaves_in, merged, option_from, takes, value_field, entry_fields}
+use Rattle.pg_dyn.specs.reading.Content.{entry_part, key_field, leaves_in, merged, option_from, takes, value_field, entry_fields}
 use Rattle.pg_dyn.specs.message_ref.BorrowedItems.{ItemKept}
 use Rattle.pg_dyn.specs.reading.Decoding.{all_plain_readable, dec, entry_records, is_plain_readable, is_readable}
 use Rattle.pg_dyn.specs.reading.EntryParts.{AreParts, AreReadable, ScalarsGood}
@@ -41,23 +41,11 @@ use Rattle.pg_dyn.proofs.lemmas.reading.by_fields.PlainFields.{no_child}
 use Rattle.pg_dyn.proofs.lemmas.reading.faults.Faulty.{entry_records_of}
 use Rattle.pg_dyn.proofs.lemmas.reading.FieldKinds.{message_clash}
 use Rattle.pg_dyn.proofs.lemmas.message_ref.BorrowedItems.{item_is_key, key_seen}
-use Rattle.pg_dyn.proofs.lemmas.reading.records.Joining.{implied}
+use Rattle.pg_dyn.proofs.lemmas.reading.gathered.GoodRecords.{IsGood, good_of_field}
+use Rattle.pg_dyn.proofs.lemmas.reading.records.Splitting.{takes_number}
 use Rattle.pg_dyn.proofs.lemmas.reading.by_fields.MapsByFields.{AreEntriesRead, one_entry_more}
-use Rattle.pg_dyn.proofs.Lists.{each-append, each-filter, each_at, each_both, each_weaker, list_all_each, list_all_true}
+use Rattle.pg_dyn.proofs.Lists.{each-append, each-filter, each_at, each_both, each_passing, each_weaker, list_all_each, list_all_true, each_passed}
 use Rattle.pg_dyn.proofs.lemmas.reading.faults.ShallowRecords.{entry_shallow, scalar_shallow}
-
--- what holds of what a filter keeps holds of each that passes, and the other way round
-unfiltered : {A : Type 0} (P : A → Type 0) (test : A → Bool) (xs : List A) → AllByRecursion P (filter test xs) → AllByRecursion (λ x. test x ≡ true → P x) xs
-unfiltered P test [] h = tt
-unfiltered P test (x ∷ xs) h =
-    elim (test x) as (λ b. AllByRecursion P (cond b (x ∷ filter test xs) (filter test xs)) → (b ≡ true → P x) × AllByRecursion (λ y. test y ≡ true → P y) xs)
-    [ true ↦ λ k. (λ e. k.0, unfiltered P test xs k.1) | false ↦ λ k. (λ e. absurd (true≢false (sym e)), unfiltered P test xs k) ] h
-
-filtered : {A : Type 0} (P : A → Type 0) (test : A → Bool) (xs : List A) → AllByRecursion (λ x. test x ≡ true → P x) xs → AllByRecursion P (filter test xs)
-filtered P test [] h = tt
-filtered P test (x ∷ xs) h =
-    elim (test x) as (λ b. (b ≡ true → P x) → AllByRecursion P (cond b (x ∷ filter test xs) (filter test xs)))
-    [ true ↦ λ k. (k refl, filtered P test xs h.1) | false ↦ λ k. filtered P test xs h.1 ] h.0
 
 implies : (a b : Bool) → (a ≡ true → b ≡ true) → (not a || b) ≡ true
 implies true b h = h refl
@@ -71,6 +59,9 @@ pub are_of : (g : FieldShape) (rs : List WireRecord) → AllByRecursion IsRecord
 are_of g rs h = each-filter IsRecord (takes g) rs h
 
 -- Which records of an entry are good.
+
+abbrev explicit : ℕ → Element → FieldShape
+explicit n e = record { number = n; presence = presences.Explicit; element = e; oneof = None }
 
 module _ (shape : Shape) (levels : ℕ) (key : Scalar) (e : Element) where
   abbrev both_fields : List FieldShape
@@ -92,30 +83,8 @@ module _ (shape : Shape) (levels : ℕ) (key : Scalar) (e : Element) where
   one_shallow s k v g h =
       each_at (λ x. takes x s ≡ true → IsShallow shape levels x s) both_fields s.number g h.found (λ taken. (k taken).1, (λ taken. (v taken).1, tt)) h.taken
 
-  key_found : (s : WireRecord) → takes (key_field key) s ≡ true → Taken both_fields s (key_field key)
-  key_found s taken =
-      let at = eqb-true s.number 1 (and_parts (nat_eq s.number 1) (is_accepted (key_field key) s) taken).0 in
-      record { found = subst (λ n. field_at both_fields n ≡ Some (key_field key)) (sym at) refl; taken = taken }
-
-  value_found : (s : WireRecord) → takes (value_field e) s ≡ true → Taken both_fields s (value_field e)
-  value_found s taken =
-      let at = eqb-true s.number 2 (and_parts (nat_eq s.number 2) (is_accepted (value_field e) s) taken).0 in
-      record { found = subst (λ n. field_at both_fields n ≡ Some (value_field e)) (sym at) refl; taken = taken }
-
-  good_for_key : (s : WireRecord) → list_all (λ g. not (takes g s) || is_plain_readable (dec shape) g s) both_fields ≡ true
-      → IsShallowRecord shape levels both_fields s → takes (key_field key) s ≡ true → GoodFor (key_field key) s
-  good_for_key s readable shallow taken =
-      let each = list_all_true (λ g. not (takes g s) || is_plain_readable (dec shape) g s) both_fields readable in
-      (implied (takes (key_field key) s) (is_plain_readable (dec shape) (key_field key) s) each.0 taken, shallow (key_field key) (key_found s taken))
-
-  good_for_value : (s : WireRecord) → list_all (λ g. not (takes g s) || is_plain_readable (dec shape) g s) both_fields ≡ true
-      → IsShallowRecord shape levels both_fields s → takes (value_field e) s ≡ true → GoodFor (value_field e) s
-  good_for_value s readable shallow taken =
-      let each = list_all_true (λ g. not (takes g s) || is_plain_readable (dec shape) g s) both_fields readable in
-      (implied (takes (value_field e) s) (is_plain_readable (dec shape) (value_field e) s) each.1.0 taken, shallow (value_field e) (value_found s taken))
-
   abbrev IsTested : WireRecord → Type 0
-  IsTested s = (list_all (λ g. not (takes g s) || is_plain_readable (dec shape) g s) both_fields ≡ true) × IsShallowRecord shape levels both_fields s
+  IsTested s = IsGood shape levels both_fields s
 
   all_tested : (rs : List WireRecord) → AreGood shape levels (key_field key) (own (key_field key) rs)
       → AreGood shape levels (value_field e) (own (value_field e) rs) → AllByRecursion IsTested rs
@@ -123,17 +92,21 @@ module _ (shape : Shape) (levels : ℕ) (key : Scalar) (e : Element) where
       each_weaker (λ s. (takes (key_field key) s ≡ true → GoodFor (key_field key) s)
       × (takes (value_field e) s ≡ true → GoodFor (value_field e) s)) IsTested (λ s h. (one_readable s h.0 h.1, one_shallow s h.0 h.1)) rs
       (each_both (λ s. takes (key_field key) s ≡ true → GoodFor (key_field key) s) (λ s. takes (value_field e) s ≡ true → GoodFor (value_field e) s) rs
-      (unfiltered (GoodFor (key_field key)) (takes (key_field key)) rs k) (unfiltered (GoodFor (value_field e)) (takes (value_field e)) rs v))
+      (each_passing (GoodFor (key_field key)) (takes (key_field key)) rs k) (each_passing (GoodFor (value_field e)) (takes (value_field e)) rs v))
 
-  tested_key : (rs : List WireRecord) → AllByRecursion IsTested rs → AreGood shape levels (key_field key) (own (key_field key) rs)
-  tested_key rs h =
-      filtered (GoodFor (key_field key)) (takes (key_field key)) rs
-      (each_weaker IsTested (λ s. takes (key_field key) s ≡ true → GoodFor (key_field key) s) (λ s k. good_for_key s k.0 k.1) rs h)
-
-  tested_value : (rs : List WireRecord) → AllByRecursion IsTested rs → AreGood shape levels (value_field e) (own (value_field e) rs)
-  tested_value rs h =
-      filtered (GoodFor (value_field e)) (takes (value_field e)) rs
-      (each_weaker IsTested (λ s. takes (value_field e) s ≡ true → GoodFor (value_field e) s) (λ s k. good_for_value s k.0 k.1) rs h)
+  -- so they are for the one and for the other
+  tested_for : (n : ℕ) (x : Element) → field_at both_fields n ≡ Some (explicit n x) → (rs : List WireRecord) → AllByRecursion IsTested rs
+      → AreGood shape levels (explicit n x) (own (explicit n x) rs)
+  tested_for n x there rs h =
+      each_passed (GoodFor (explicit n x)) (takes (explicit n x)) rs
+      (each_weaker IsTested (λ s. takes (explicit n x) s ≡ true → GoodFor (explicit n x) s)
+      (λ s k taken. good_of_field shape levels both_fields s (explicit n x) (here s taken) k) rs h)
+    where
+      here : (s : WireRecord) → takes (explicit n x) s ≡ true → Taken both_fields s (explicit n x)
+      here s taken = record {
+        found = subst (λ m. field_at both_fields m ≡ Some (explicit n x)) (sym (eqb-true s.number n (takes_number (explicit n x) s taken))) there;
+        taken = taken;
+      }
 
 -- What makes an entry good: its records are, and a message that stands for a missing value isn't too deep.
 pub record EntryGood (shape : Shape) (levels : ℕ) (key : Scalar) (e : Element) (rs : List WireRecord) : Type 0 where
@@ -182,11 +155,11 @@ module _ (shape : Shape) (f : FieldShape) (key : Scalar) (of_map : f.presence �
       let tested =
       each_both (λ s. test s ≡ true) (IsShallowRecord shape levels (entry_fields key f.element)) rs (list_all_true test rs readable)
       (records_shallow shape levels (entry_fields key f.element) r.body rs records below) in
-      let value = tested_value shape levels key f.element rs tested in (
+      let value = tested_for shape levels key f.element 2 f.element refl rs tested in (
         rs,
         records,
         record {
-          key_good = tested_key shape levels key f.element rs tested;
+          key_good = tested_for shape levels key f.element 1 (elements.Scalar key) refl rs tested;
           value_good = value;
           has_room = λ t. has_room_for levels rs t (Spells_from_records_of r.body rs records) good.0.1 value;
         },
@@ -194,13 +167,10 @@ module _ (shape : Shape) (f : FieldShape) (key : Scalar) (of_map : f.presence �
 
 -- Records of a field of an entry that is no message.
 
-abbrev explicit : ℕ → Element → FieldShape
-explicit n e = record { number = n; presence = presences.Explicit; element = e; oneof = None }
-
 module _ (n : ℕ) (e : Element) (scalar : IsNoMessage e) (rs : List WireRecord) where
   pub scalars_good : (shape : Shape) (levels : ℕ) → AreReadable (explicit n e) rs → AreGood shape levels (explicit n e) (own (explicit n e) rs)
   scalars_good shape levels h =
-      filtered (λ s. FieldReads shape (explicit n e) s × IsShallow shape levels (explicit n e) s) (takes (explicit n e)) rs
+      each_passed (λ s. FieldReads shape (explicit n e) s × IsShallow shape levels (explicit n e) s) (takes (explicit n e)) rs
       (each_weaker (λ s. takes (explicit n e) s ≡ true → is_plain_readable (dec shape) (explicit n e) s ≡ true)
       (λ s. takes (explicit n e) s ≡ true → FieldReads shape (explicit n e) s × IsShallow shape levels (explicit n e) s)
       (λ s k taken. (k taken, scalar_shallow shape levels e s scalar (explicit n e) refl refl)) rs (h shape))
@@ -211,7 +181,7 @@ module _ (n : ℕ) (e : Element) (scalar : IsNoMessage e) (rs : List WireRecord)
       (λ s. takes (explicit n e) s ≡ true → is_plain_readable (dec other) (explicit n e) s ≡ true)
       (λ s k taken. ap (λ b. is_some (leaves_in (explicit n e) s) && b) (no_child (dec other) e s.body scalar ∙ sym (no_child (dec shape) e s.body scalar))
       ∙ (k taken).0) rs
-      (unfiltered (λ s. FieldReads shape (explicit n e) s × IsShallow shape levels (explicit n e) s) (takes (explicit n e)) rs h)
+      (each_passing (λ s. FieldReads shape (explicit n e) s × IsShallow shape levels (explicit n e) s) (takes (explicit n e)) rs h)
 
 -- what a good entry says of its scalars
 pub scalars_of_good : (shape : Shape) (levels : ℕ) (key : Scalar) (e : Element) (rs : List WireRecord) → EntryGood shape levels key e rs → ScalarsGood key e rs

@@ -1,7 +1,6 @@
 -- What a field holds together: one item, a list, or entries by rising key.
-use Rattle.std.proofs.Common.{Global, Vec, ◌≡◌, ◌≢◌, ℕ, List, [], ◌∷◌, map, true, false, Some, None, refl, ap, sym, subst}
+use Rattle.std.proofs.Common.{Global, Vec, ◌≡◌, ◌≢◌, List, [], map, true, false, Some, None, refl, ap, sym, subst}
 use Rattle.std.specs.List.{AllByRecursion}
-use Rattle.std.specs.declared.cmp.Ordering.TheVariants.{Less}
 use Rattle.pg_schema.specs.declared.parts.field.Presence.{Presence}
 use Rattle.pg_schema.specs.declared.parts.field.Presence.TheVariants as presences
 use Rattle.pg_schema.specs.declared.parts.field.Element.TheVariants as elements
@@ -14,28 +13,22 @@ use Rattle.pg_dyn.specs.declared.message_ref.EntryRef.{EntryRef}
 use Rattle.pg_dyn.specs.declared.message_ref.ValueRef.{ValueRef}
 use Rattle.pg_dyn.specs.declared.message_ref.ValueRef.TheVariants as values
 use Rattle.pg_dyn.specs.declared.number_list.NumberList.{NumberList}
-use Rattle.pg_dyn.specs.fitting.Belonging.{KeyFits, MayFollow}
+use Rattle.pg_dyn.specs.fitting.Belonging.{KeyFits}
 use Rattle.pg_dyn.specs.message_ref.Borrowed.{IsMapKey, entry_part, item_part, item_seen}
 use Rattle.pg_dyn.specs.message_ref.BorrowedItems.{IsItemKept, ItemKept, KeysRise, key_of}
 use Rattle.pg_dyn.specs.message.KeptParts.{KeptItem, Plain, Msg}
-use Rattle.pg_dyn.specs.message.Message.{Part, key_cmp}
 use Rattle.pg_dyn.specs.word.NumberLists.{numbers_in}
-use Rattle.pg_dyn.specs.fitting.PartsFit.{FieldHolds, InOrder, IsPartOf}
+use Rattle.pg_dyn.specs.fitting.PartsFit.{FieldHolds, IsPartOf}
 use Rattle.pg_dyn.specs.reading.Steps.{HeldFits}
 use Rattle.pg_dyn.proofs.lemmas.message_ref.BorrowedItems.{LeafMayBeZero, in_range, map_key, value_holds}
-use Rattle.pg_dyn.proofs.Lists.{each-map, each_weaker}
+use Rattle.pg_dyn.proofs.Lists.{each_weaker}
+use Rattle.pg_dyn.proofs.lemmas.fitting.PartsToFits.{list_holds, listed_keyless, map_holds}
 
 keyless : (p : Presence) → is_map p ≡ false → KeyFits p None
 keyless presences.Implicit h = refl
 keyless presences.Explicit h = refl
 keyless (presences.Repeated packed) h = refl
 keyless (presences.Map key) h = absurd (cc)
-
-list_keyless : (p : Presence) → is_repeated p ≡ true → KeyFits p None
-list_keyless presences.Implicit h = refl
-list_keyless presences.Explicit h = refl
-list_keyless (presences.Repeated packed) h = refl
-list_keyless (presences.Map key) h = absurd (cc)
 
 -- items of lists and of maps may be zero, and so may messages
 list_zero : (p : Presence) (item : KeptItem) → is_repeated p ≡ true → LeafMayBeZero p item
@@ -57,29 +50,6 @@ child_zero shape t p (values.Text x) h = absurd h
 child_zero shape t p (values.Bytes x) h = absurd h
 child_zero shape t p (values.Msg x) h = tt
 
-follows : (p : Presence) → is_repeated p ≡ true → MayFollow p None None
-follows presences.Implicit h = absurd (cc)
-follows presences.Explicit h = absurd (cc)
-follows (presences.Repeated packed) h = tt
-follows (presences.Map key) h = absurd (cc)
-
-list_in_order : (p : Presence) (n : ℕ) → is_repeated p ≡ true → (vs : List ValueRef) → InOrder p (map (item_part n true) vs)
-list_in_order p n h [] = tt
-list_in_order p n h (v ∷ vs) = (each vs, list_in_order p n h vs)
-  where
-    each : (ws : List ValueRef) → AllByRecursion (λ (q : Part KeptItem). MayFollow p None q.key) (map (item_part n true) ws)
-    each [] = tt
-    each (w ∷ ws) = (follows p h, each ws)
-
-map_in_order : (p : Presence) (n : ℕ) (key : Scalar) → p ≡ presences.Map key → (es : List EntryRef) → KeysRise es → InOrder p (map (entry_part n) es)
-map_in_order p n key is [] rise = tt
-map_in_order p n key is (e ∷ es) rise = (each es rise.0, map_in_order p n key is es rise.1)
-  where
-    each : (xs : List EntryRef) → AllByRecursion (λ (x : EntryRef). key_cmp (key_of e) (key_of x) ≡ Less) xs
-        → AllByRecursion (λ (q : Part KeptItem). MayFollow p (Some (key_of e)) q.key) (map (entry_part n) xs)
-    each [] h = tt
-    each (x ∷ xs) h = (subst (λ q. MayFollow q (Some (key_of e)) (Some (key_of x))) (sym is) h.0, each xs h.1)
-
 module _ (shape : Shape) (f : FieldShape) where
   pub one_held : (v : ValueRef) → is_repeated f.presence ≡ false → is_map f.presence ≡ false → ItemKept shape f.element v
       → LeafMayBeZero f.presence (item_seen false v) → HeldFits shape f (Some (contents.One v))
@@ -93,16 +63,14 @@ module _ (shape : Shape) (f : FieldShape) where
   )
 
   list_fits : (vs : List ValueRef) → is_repeated f.presence ≡ true → AllByRecursion (ItemKept shape f.element) vs → FieldHolds shape f (map (item_part f.number true) vs)
-  list_fits vs repeated fit = record {
-    each = each-map (IsPartOf shape f) (item_part f.number true) vs
-        (each_weaker (ItemKept shape f.element) (λ (v : ValueRef). IsPartOf shape f (item_part f.number true v)) one vs fit);
-    in_order = list_in_order f.presence f.number repeated vs;
-  }
+  list_fits vs repeated fit =
+      list_holds shape f (item_part f.number true) repeated (λ v. refl) vs
+      (each_weaker (ItemKept shape f.element) (λ (v : ValueRef). IsPartOf shape f (item_part f.number true v)) one vs fit)
     where
       one : (v : ValueRef) → ItemKept shape f.element v → IsPartOf shape f (item_part f.number true v)
       one v h = record {
         number_is = refl;
-        key_fits = list_keyless f.presence repeated;
+        key_fits = listed_keyless f.presence repeated;
         item = value_holds shape f true v repeated h (list_zero f.presence (item_seen false v) repeated);
       }
 
@@ -121,11 +89,8 @@ module _ (shape : Shape) (f : FieldShape) where
   pub map_held : (key : Scalar) (es : Vec EntryRef Global) → f.presence ≡ presences.Map key → is_key key ≡ true → AllByRecursion (EntryFits key) es.items → KeysRise es.items
       → es.items ≢ [] → HeldFits shape f (Some (contents.Map es))
   map_held key es is keyed fit rise some = (
-    record {
-      each = each-map (IsPartOf shape f) (entry_part f.number) es.items
-          (each_weaker (EntryFits key) (λ (e : EntryRef). IsPartOf shape f (entry_part f.number e)) one es.items fit);
-      in_order = map_in_order f.presence f.number key is es.items rise;
-    },
+    map_holds shape f (entry_part f.number) key is key_of (λ e. refl) es.items
+        (each_weaker (EntryFits key) (λ (e : EntryRef). IsPartOf shape f (entry_part f.number e)) one es.items fit) rise,
     some,
     each_weaker (EntryFits key) (λ (e : EntryRef). IsMapKey e.key) (λ e h. map_key key e.key keyed h.0) es.items fit,
   )

@@ -9,14 +9,14 @@ use Rattle.pg_wire.specs.Records.{IsRecord, written, wire_code, tag, length_befo
 use Rattle.pg_wire.proofs.Varints.{length-varint_positive}
 use Rattle.pg_wire.proofs.RecordLaws.{BodyFits, IsRecord-written, records_of_Spells}
 use Rattle.pg_dyn.specs.message.Message.{Leaf}
-use Rattle.pg_dyn.specs.laws.Bodies.{BodyShape, IsNestedLeaf, IsReadAs, entry_body, record_with, two_records}
-use Rattle.pg_dyn.specs.word.Coding.{form, form_wire, body}
+use Rattle.pg_dyn.specs.laws.Bodies.{IsNestedLeaf, IsReadAs, entry_body, record_with, two_records}
+use Rattle.pg_dyn.specs.word.Coding.{HasShape, form, form_wire, body}
 use Rattle.pg_dyn.specs.reading.Content.{key_field, value_field, entry_part, entry_in}
 use Rattle.pg_dyn.specs.encoding.Writing.{item_record}
 use Rattle.pg_dyn.proofs.lemmas.word.Codings.{Reads}
 use Rattle.pg_dyn.proofs.lemmas.message.Plain.{same_wire_self, plain_content_one}
 
-pub BodyFits-from_shape : (wire : WireType) (bytes : List ℕ) → BodyShape wire bytes → length bytes < 2 ^ 64 → BodyFits wire bytes
+pub BodyFits-from_shape : (wire : WireType) (bytes : List ℕ) → HasShape wire bytes → length bytes < 2 ^ 64 → BodyFits wire bytes
 BodyFits-from_shape Varint bytes h fits = h
 BodyFits-from_shape I64 bytes h fits = h
 BodyFits-from_shape Len bytes h fits = fits

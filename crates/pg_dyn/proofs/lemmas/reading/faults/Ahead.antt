@@ -1,20 +1,21 @@
 -- Going over the records of bytes, of a message or of an entry, in search of a fault.
-use Rattle.std.proofs.Common.{◌≡◌, ℕ, suc, ◌+◌, ◌<◌, ◌≤◌, ◌^◌, List, [], ◌∷◌, ◌++◌, length, true, Result, Ok, Err, refl, ap, sym, subst, ◌∙◌, arith, length-append}
+use Rattle.std.proofs.Common.{◌≡◌, ℕ, suc, ◌+◌, ◌<◌, ◌≤◌, ◌^◌, List, [], ◌∷◌, ◌++◌, length, true, Option, Some, None, Result, Ok, Err, refl, ap, sym, subst, ◌∙◌, arith, length-append}
+use Rattle.std.specs.Prelude.{IsSomeAnd}
 use Rattle.std.specs.List.{AllByRecursion}
 use Rattle.pg_schema.specs.Shape.{Shape, FieldShape}
 use Rattle.pg_wire.specs.declared.error.WireError.{WireError}
 use Rattle.pg_wire.specs.Errors.{error_at, fault_of, place_of}
-use Rattle.pg_wire.specs.Records.{WireRecord, IsRecord, Spells, records_of}
+use Rattle.pg_wire.specs.Records.{WireRecord, IsRecord, records_of}
 use Rattle.pg_wire.specs.Reads.{results}
 use Rattle.pg_wire.proofs.RecordLaws.{records_of_Spells}
 use Rattle.pg_wire.proofs.Results.{fault_of-error_at}
 use Rattle.pg_dyn.specs.declared.error.DynError.{DynError}
 use Rattle.pg_dyn.specs.declared.error.DynError.TheVariants as errors
 use Rattle.pg_dyn.specs.reading.Decoding.{all_readable, dec}
-use Rattle.pg_dyn.specs.reading.Faults.{AreFaultless, Code, FirstFault, FirstFaultOf, HasFault, NotUtf8, TooDeep, Wire, no_record}
+use Rattle.pg_dyn.specs.reading.Faults.{AreRead, Code, FirstFault, FirstFaultOf, Wire, no_record}
 use Rattle.pg_dyn.specs.reading.Faults as faults
+use Rattle.pg_dyn.specs.reading.Refusals.{fault_named}
 use Rattle.pg_dyn.specs.reading.Steps.{RefusedBy, RefusedIn, RefusedRecord, Taken, IsShallowRecord, IsShallowIn}
-use Rattle.pg_dyn.proofs.lemmas.reading.faults.Faulty.{fault_unreadable, text_not_deep, wire_not_deep}
 use Rattle.pg_dyn.proofs.lemmas.reading.by_fields.BodiesByFields.{shallow_from_records}
 use Rattle.pg_dyn.proofs.lemmas.reading.DecodeLoop.{err_step}
 use Rattle.pg_dyn.proofs.lemmas.reading.records.Joining.{list_all-append}
@@ -25,26 +26,12 @@ use Rattle.pg_dyn.proofs.lemmas.reading.records.RecordFronts.{Front, all_read, b
 module _ (HasPart HasWhole : Code → ℕ → Type 0) (base k at : ℕ) (there : at ≡ base + k) where
   pub refused_on : ((code : Code) (p : ℕ) → HasPart code p → HasWhole code (k + p)) → (e : DynError)
       → RefusedBy HasPart at e → RefusedBy HasWhole base e
-  refused_on fault errors.Memory h = tt
-  refused_on fault (errors.NotUtf8 x) h = (k + h.0, let e = h.1 in omega arith, fault NotUtf8 h.0 h.2)
-  refused_on fault (errors.TooDeep x) h = (k + h.0, let e = h.1 in omega arith, fault TooDeep h.0 h.2)
-  refused_on fault (errors.Wire x) h = (k + h.0, let e = h.1 in omega arith, fault (Wire (fault_of x)) h.0 h.2)
-  refused_on fault errors.NoSuchField h = absurd h
-  refused_on fault errors.WrongKind h = absurd h
-  refused_on fault errors.OutOfRange h = absurd h
-  refused_on fault errors.OneofTwice h = absurd h
-  refused_on fault errors.DuplicateKey h = absurd h
-  refused_on fault errors.TooLong h = absurd h
-
--- Bytes whose records are readable, and in which nothing is too deep, have no fault.
-pub faultless : (shape : Shape) (limit : ℕ) (fs : List FieldShape) (bytes : List ℕ) (rs : List WireRecord) → Spells bytes rs
-    → all_readable (dec shape) fs rs ≡ true → IsShallowIn shape limit fs bytes → AreFaultless shape limit fs bytes
-faultless shape limit fs bytes rs spelled readable shallow = ((rs, spelled), none)
-  where
-    none : (code : Code) (place : ℕ) → HasFault shape limit fs bytes code place → ⊥
-    none TooDeep place fault = shallow place fault
-    none NotUtf8 place fault = fault_unreadable shape limit fs bytes NotUtf8 place fault text_not_deep rs (records_of_Spells bytes rs spelled) readable
-    none (Wire w) place fault = fault_unreadable shape limit fs bytes (Wire w) place fault (wire_not_deep w) rs (records_of_Spells bytes rs spelled) readable
+  refused_on fault e = of (fault_named e)
+    where
+      of : (named : Option (Code × ℕ)) → IsSomeAnd named (λ (x : Code × ℕ). (p : ℕ) × (x.1 ≡ at + p) × HasPart x.0 p)
+          → IsSomeAnd named (λ (x : Code × ℕ). (p : ℕ) × (x.1 ≡ base + p) × HasWhole x.0 p)
+      of None h = h
+      of (Some x) h = (k + h.0, let e = h.1 in omega arith, fault x.0 h.0 h.2)
 
 -- The bytes from a start, of which a front is gone over: its records are readable, and nothing in them is too deep.
 pub record Ahead (shape : Shape) (levels : ℕ) (fs : List FieldShape) (bytes : List ℕ) (start at : ℕ) (left : List (Result WireRecord WireError)) : Type 0 where
@@ -59,10 +46,13 @@ module _ (shape : Shape) (levels : ℕ) (fs : List FieldShape) (bytes : List ℕ
   begin = record { records = []; seen = none_yet bytes; place = omega arith; readable = refl; shallow = tt }
 
   module _ (at : ℕ) (left : List (Result WireRecord WireError)) (a : Ahead shape levels fs bytes start at left) where
-    front_is : AreFaultless shape (suc levels) fs a.seen.front
-    front_is =
-        faultless shape (suc levels) fs a.seen.front a.records a.seen.spelled a.readable
-        (shallow_from_records shape levels fs a.seen.front a.records (records_of_Spells a.seen.front a.records a.seen.spelled) a.shallow)
+    front_is : AreRead shape (suc levels) fs a.seen.front
+    front_is = record {
+      records = a.records;
+      spelled = a.seen.spelled;
+      readable = a.readable;
+      shallow = shallow_from_records shape levels fs a.seen.front a.records (records_of_Spells a.seen.front a.records a.seen.spelled) a.shallow;
+    }
 
     pub all_records : left ≡ [] → records_of bytes ≡ Ok a.records
     all_records = all_read bytes left a.records a.seen
@@ -103,15 +93,11 @@ module _ (shape : Shape) (levels : ℕ) (fs : List FieldShape) (bytes : List ℕ
           start (length a.seen.front) at a.place
           (λ code p x. faults.in_record levels fs bytes a.seen.front a.seen.rest back r x.0 code p a.seen.joined front_is read x.1.found x.1.taken x.2)
 
-      pub onward : all_readable (dec shape) fs (r ∷ []) ≡ true → IsShallowRecord shape levels fs r
-          → (b : Ahead shape levels fs bytes start (at + length r.bytes) later) × (b.records ≡ a.records ++ r ∷ [])
-      onward readable shallow = (
-        record {
-          records = a.records ++ r ∷ [];
-          seen = one_read bytes left a.records a.seen r later h;
-          place = omega (arith, a.place, further bytes left a.records a.seen r later h);
-          readable = list_all-append _ a.records (r ∷ []) a.readable readable;
-          shallow = each-append (IsShallowRecord shape levels fs) a.records (r ∷ []) a.shallow (shallow, tt);
-        },
-        refl,
-      )
+      pub onward : all_readable (dec shape) fs (r ∷ []) ≡ true → IsShallowRecord shape levels fs r → Ahead shape levels fs bytes start (at + length r.bytes) later
+      onward readable shallow = record {
+        records = a.records ++ r ∷ [];
+        seen = one_read bytes left a.records a.seen r later h;
+        place = omega (arith, a.place, further bytes left a.records a.seen r later h);
+        readable = list_all-append _ a.records (r ∷ []) a.readable readable;
+        shallow = each-append (IsShallowRecord shape levels fs) a.records (r ∷ []) a.shallow (shallow, tt);
+      }

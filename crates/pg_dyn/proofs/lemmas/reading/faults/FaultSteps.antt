@@ -1,5 +1,5 @@
 -- The steps of looking for faults: of a record and of its item.
-use Rattle.std.proofs.Common.{◌≡◌, ℕ, suc, ◌+◌, List, [], ◌∷◌, Bool, true, false, ◌&&◌, Option, Some, None, is_some, option_map, Result, Ok, Err, OnOk, IfErr, ⊎_elim, refl, ap, ap₂, sym, subst, ◌∙◌, arith, zero-add}
+use Rattle.std.proofs.Common.{◌≡◌, ℕ, suc, ◌+◌, List, [], ◌∷◌, Bool, true, false, ◌&&◌, Option, Some, None, is_some, option_map, Result, Ok, Err, OnOk, IfErr, refl, ap, ap₂, sym, subst, ◌∙◌, arith, zero-add}
 use Rattle.std.specs.Bool.{⊤}
 use Rattle.std.specs.Str.{is_utf8}
 use Rattle.pg_schema.specs.declared.parts.field.TypeId.{TypeId}
@@ -18,16 +18,16 @@ use Rattle.pg_dyn.specs.reading.Content.{same_wire, is_accepted, is_unknown, lea
 use Rattle.pg_dyn.specs.reading.Decoding.{is_child, all_readable, dec}
 use Rattle.pg_dyn.specs.reading.Faults.{Wire, FirstFault, FirstFaultOf, body_start}
 use Rattle.pg_dyn.specs.reading.Faults as faults
-use Rattle.pg_dyn.specs.reading.FaultSteps.{ItemReads}
+use Rattle.pg_dyn.specs.inner.FaultSteps.{ItemReads}
 use Rattle.pg_dyn.specs.reading.Held.{read_as}
 use Rattle.pg_dyn.specs.message.Message.{Leaf}
 use Rattle.pg_dyn.specs.reading.ReadingOn.{IsNoMessage}
-use Rattle.pg_dyn.specs.reading.Steps.{FieldReads, RefusedOf, RefusedIn, RefusedItem, RefusedRecord, RowRefused, Taken, IsShallow, IsShallowIn, IsShallowItem}
+use Rattle.pg_dyn.specs.reading.Steps.{FieldReads, RefusedOf, RefusedIn, RefusedItem, RefusedRecord, RowRefused, Taken, IsShallow, IsShallowIn, IsShallowItem, IsShallowRecord}
 use Rattle.pg_dyn.proofs.lemmas.reading.faults.Ahead.{refused_on}
 use Rattle.pg_dyn.proofs.lemmas.reading.TypeFields.{takes_it}
 use Rattle.pg_dyn.proofs.lemmas.reading.by_fields.PlainFields.{readable_is, no_child}
 use Rattle.pg_dyn.proofs.lemmas.reading.FieldKinds.{form_as, packable_no_message}
-use Rattle.pg_dyn.proofs.lemmas.reading.gathered.GoodRecords.{read_by_field, read_unknown}
+use Rattle.pg_dyn.proofs.lemmas.reading.gathered.GoodRecords.{good_by_field, good_unknown}
 use Rattle.pg_dyn.proofs.lemmas.reading.faults.ShallowRecords.{body_shallow, scalar_shallow}
 use Rattle.pg_dyn.proofs.lemmas.reading.records.Splitting.{found_number}
 
@@ -48,7 +48,7 @@ own_leaves f r own there = rw own (of (leaf_in (form f.element) r.body) there)
     of None h = absurd (cc)
     of (Some leaf) h = refl
 
-pub item_reads : (shape : Shape) (e : Element) (r : WireRecord) → is_own e r ≡ true → is_some (leaf_in (form e) r.body) ≡ true
+item_reads : (shape : Shape) (e : Element) (r : WireRecord) → is_own e r ≡ true → is_some (leaf_in (form e) r.body) ≡ true
     → is_child (dec shape) e r.body ≡ true → ItemReads shape e r
 item_reads shape e r own there child f no_map is =
     plain_reads shape f r no_map
@@ -69,13 +69,6 @@ pub record ScalarChecked (shape : Shape) (levels : ℕ) (e : Element) (r : WireR
   pub readable : OnOk result (ItemReads shape e r)
   pub shallow : OnOk result (IsShallowItem shape levels e r)
   pub err : IfErr result (RefusedItem shape levels e r at)
-  pub not_memory : IfErr result (λ x. x ≡ errors.Memory → ⊥)
-
-not_text : (error : DynError) (at : ℕ) → error ≡ errors.NotUtf8 at → error ≡ errors.Memory → ⊥
-not_text error at is memory = of (sym memory ∙ is)
-  where
-    of : errors.Memory ≡ errors.NotUtf8 at → ⊥
-    of h = cc
 
 pub scalar_checked : (shape : Shape) (levels : ℕ) (e : Element) (r : WireRecord) (at : ℕ) (result : Result ⊤ DynError) (s : Scalar) → IsNoMessage e
     → s ≡ read_as e → is_own e r ≡ true
@@ -88,16 +81,18 @@ scalar_checked shape levels e r at (Ok x) s scalar is own ok err =
       readable = item_reads shape e r own (subst (λ f. is_some (leaf_in f r.body) ≡ true) same ok) (no_child (dec shape) e r.body scalar);
       shallow = scalar_shallow shape levels e r scalar;
       err = tt;
-      not_memory = tt;
     }
 scalar_checked shape levels e r at (Err x) s scalar is own ok err = record {
   readable = tt;
   shallow = tt;
   err = λ f no_map same. text_refused shape levels f r at x s no_map (ap form same ∙ form_as e ∙ ap scalar_form (sym is)) err;
-  not_memory = not_text x at err.0;
 }
 
 -- Messages inside.
+
+pub message_reads : (shape : Shape) (t : TypeId) (r : WireRecord) → is_own (elements.Message t) r ≡ true → is_some (dec shape t r.body) ≡ true
+    → ItemReads shape (elements.Message t) r
+message_reads shape t r own h = item_reads shape (elements.Message t) r own refl h
 
 pub message_shallow : (shape : Shape) (levels l : ℕ) (t : TypeId) (r : WireRecord) → levels ≡ suc l
     → IsShallowIn shape (suc l) (fields shape t) r.body → IsShallowItem shape levels (elements.Message t) r
@@ -130,13 +125,11 @@ module _ (shape : Shape) (f : FieldShape) (r : WireRecord) (no_map : is_map f.pr
   row_shallow levels = scalar_shallow shape levels f.element r (packable_no_message f.element packable) f no_map refl
 
   pub row_refused : (levels at : ℕ) (e : DynError) → RowRefused (read_as f.element) r.body at e → RefusedOf shape levels f r at e
-  row_refused levels at e h =
-      ⊎_elim (λ memory. subst (RefusedOf shape levels f r at) (sym memory) tt)
-      (λ bad.
+  row_refused levels at e bad =
       let k = fault_of-error_at bad.0 at in
       let broken = ap (λ x. row (element_at (form_wire x)) r.body) (form_as f.element) ∙ bad.2 in
       subst (RefusedOf shape levels f r at) (sym bad.1)
-      (0, (let p = k.1 in omega arith), subst (λ x. FirstFaultOf shape levels f r (Wire x) 0) (sym k.0) (faults.bad_element levels f r bad.0 no_map other broken))) h
+      (0, (let p = k.1 in omega arith), subst (λ x. FirstFaultOf shape levels f r (Wire x) 0) (sym k.0) (faults.bad_element levels f r bad.0 no_map other broken))
 
 -- The field that takes a record.
 
@@ -149,11 +142,21 @@ taken_refused shape levels fs r f at e taken h =
     refused_on (FirstFaultOf shape levels f r) (λ code p. (g : FieldShape) × Taken fs r g × FirstFaultOf shape levels g r code p) at 0 at (omega arith)
     (λ code p x. (f, taken, subst (λ n. FirstFaultOf shape levels f r code n) (sym (zero-add p)) x)) e h
 
-pub taken_reads : (shape : Shape) (fs : List FieldShape) (r : WireRecord) (f : FieldShape) → Rising fs → Taken fs r f → FieldReads shape f r
-    → all_readable (dec shape) fs (r ∷ []) ≡ true
-taken_reads shape fs r f rises taken readable = ap (λ b. b && true) (read_by_field shape fs rises r f taken readable)
+-- what is known of a record that is looked at, of which no field has to take it
+pub record RecordChecked (shape : Shape) (levels : ℕ) (fs : List FieldShape) (r : WireRecord) (at : ℕ) (result : Result ⊤ DynError) : Type 0 where
+  pub readable : OnOk result (all_readable (dec shape) fs (r ∷ []) ≡ true)
+  pub shallow : OnOk result (IsShallowRecord shape levels fs r)
+  pub err : IfErr result (RefusedRecord shape levels fs r at)
 
--- A record that no field takes.
+pub known_checked : (shape : Shape) (levels : ℕ) (fs : List FieldShape) (r : WireRecord) (f : FieldShape) (at : ℕ) (result : Result ⊤ DynError) → Rising fs → Taken fs r f
+    → OnOk result (FieldReads shape f r) → OnOk result (IsShallow shape levels f r) → IfErr result (RefusedOf shape levels f r at)
+    → RecordChecked shape levels fs r at result
+known_checked shape levels fs r f at (Ok x) rises taken reads shallow err =
+    let good = good_by_field shape levels fs rises r f taken (reads, shallow) in
+    record { readable = ap (λ b. b && true) good.0; shallow = good.1; err = tt }
+known_checked shape levels fs r f at (Err e) rises taken reads shallow err = record { readable = tt; shallow = tt; err = taken_refused shape levels fs r f at e taken err }
 
-pub unknown_reads : (shape : Shape) (fs : List FieldShape) (r : WireRecord) → is_unknown fs r ≡ true → all_readable (dec shape) fs (r ∷ []) ≡ true
-unknown_reads shape fs r unknown = ap (λ b. b && true) (read_unknown shape fs r unknown)
+pub unknown_checked : (shape : Shape) (levels : ℕ) (fs : List FieldShape) (r : WireRecord) (at : ℕ) → is_unknown fs r ≡ true → RecordChecked shape levels fs r at (Ok tt)
+unknown_checked shape levels fs r at unknown =
+    let good = good_unknown shape levels fs r unknown in
+    record { readable = ap (λ b. b && true) good.0; shallow = good.1; err = tt }

@@ -17,11 +17,12 @@ use Rattle.pg_dyn.specs.message.Message.{Message}
 use Rattle.pg_dyn.specs.word.Coding.{Text, form, form_wire, element_at}
 use Rattle.pg_dyn.specs.reading.Content.{same_wire, own_wire, is_accepted, takes, leaves_in, option_from, entry_fields}
 use Rattle.pg_dyn.specs.encoding.Writing.{bytes_of}
-use Rattle.pg_dyn.specs.reading.Decoding.{Reader, is_child, is_plain_readable, all_plain_readable, is_readable, all_readable, dec}
+use Rattle.pg_dyn.specs.reading.Decoding.{Reader, is_child, all_plain_readable, is_readable, all_readable, dec}
 use Rattle.pg_dyn.specs.reading.Faults.{AreRecords, Code, FirstFault, FirstFaultOf, HasFault, FaultOf, NotUtf8, TooDeep, Wire, no_record, in_record, the_root, not_text, bad_element, the_child, in_child, in_entry, missing_value}
 use Rattle.pg_dyn.proofs.lemmas.reading.Fields.{field_of}
 use Rattle.pg_dyn.proofs.lemmas.reading.records.Joining.{implied, readable_from_dec}
 use Rattle.pg_dyn.proofs.Lists.{each_at, list_all_true}
+use Rattle.pg_dyn.proofs.lemmas.reading.by_fields.PlainFields.{readable_is}
 
 pub text_not_deep : NotUtf8 ≢ TooDeep
 text_not_deep e = cc
@@ -108,13 +109,6 @@ entry_records_of child fs bytes h = of (records_of bytes) refl h
     of (Ok rs) is g =
         (rs, is, elim (all_plain_readable child fs rs) as (λ b. is_some (cond b (Some rs) None) ≡ true → b ≡ true) [ true ↦ λ k. refl | false ↦ λ k. k ] g)
 
--- a field that is no map reads its records as items
-plain_readable : (child : Reader) (number : ℕ) (p : Presence) (e : Element) (oneof : Option ℕ) (r : WireRecord) → is_map p ≡ false → is_readable child (field_of number p e oneof) r ≡ is_plain_readable child (field_of number p e oneof) r
-plain_readable child number presences.Implicit e oneof r h = refl
-plain_readable child number presences.Explicit e oneof r h = refl
-plain_readable child number (presences.Repeated packed) e oneof r h = refl
-plain_readable child number (presences.Map key) e oneof r h = absurd (cc)
-
 module _ (shape : Shape) where
   -- what the reading of all records says of the one at the back
   back_readable : (fs : List FieldShape) (bytes front back rest : List ℕ) (r : WireRecord) (f : FieldShape) (fr rs : List WireRecord) → bytes ≡ front ++ back → Spells front fr → record_at back ≡ Ok (r, rest) → field_at fs r.number ≡ Some f → takes f r ≡ true → records_of bytes ≡ Ok rs → all_readable (dec shape) fs rs ≡ true → is_readable (dec shape) f r ≡ true
@@ -135,7 +129,7 @@ module _ (shape : Shape) where
 
   text_unreadable : (f : FieldShape) (r : WireRecord) → is_map f.presence ≡ false → form f.element ≡ Text → is_utf8 r.body ≡ false → takes f r ≡ true → is_readable (dec shape) f r ≡ true → ⊥
   text_unreadable f r no_map is bad taken readable =
-      let plain = sym (plain_readable (dec shape) f.number f.presence f.element f.oneof r no_map) ∙ readable in
+      let plain = sym (readable_is (dec shape) f.number f.presence f.element f.oneof r no_map) ∙ readable in
       let some = (and_parts (is_some (leaves_in f r)) (is_child (dec shape) f.element r.body) plain).0 in
       let wire : same_wire r.wire Len ≡ true = text_wire f.number f.presence f.element f.oneof r is (and_parts (nat_eq r.number f.number) (is_accepted f r) taken).1 in
       let none : leaves_in f r ≡ None = rw (is, wire, bad) refl in
@@ -143,13 +137,13 @@ module _ (shape : Shape) where
 
   element_unreadable : (f : FieldShape) (r : WireRecord) (fault : Fault) → is_map f.presence ≡ false → same_wire r.wire (form_wire (form f.element)) ≡ false → row (element_at (form_wire (form f.element))) r.body ≡ Err fault → is_readable (dec shape) f r ≡ true → ⊥
   element_unreadable f r fault no_map other bad readable =
-      let plain = sym (plain_readable (dec shape) f.number f.presence f.element f.oneof r no_map) ∙ readable in
+      let plain = sym (readable_is (dec shape) f.number f.presence f.element f.oneof r no_map) ∙ readable in
       let some = (and_parts (is_some (leaves_in f r)) (is_child (dec shape) f.element r.body) plain).0 in
       let none : leaves_in f r ≡ None = rw (other, bad) refl in
       true≢false (sym some ∙ ap is_some none)
 
   mutual
-    pub fault_unreadable : (limit : ℕ) (fs : List FieldShape) (bytes : List ℕ) (code : Code) (place : ℕ) → HasFault shape limit fs bytes code place → code ≢ TooDeep
+    fault_unreadable : (limit : ℕ) (fs : List FieldShape) (bytes : List ℕ) (code : Code) (place : ℕ) → HasFault shape limit fs bytes code place → code ≢ TooDeep
         → (rs : List WireRecord) → records_of bytes ≡ Ok rs → all_readable (dec shape) fs rs ≡ true → ⊥
     fault_unreadable _ fs bytes code place (the_root _ _) other rs records readable = other refl
     fault_unreadable _ fs bytes code place (no_record levels _ _ front back fault joined before some read) other rs records readable =
@@ -163,7 +157,7 @@ module _ (shape : Shape) where
     record_unreadable levels f r code place (bad_element _ _ _ fault no_map packed bad) other taken readable = element_unreadable f r fault no_map packed bad readable
     record_unreadable _ f r code place (the_child _ _ t no_map is) other taken readable = other refl
     record_unreadable _ f r code place (in_child levels _ _ t _ inner no_map is fault) other taken readable =
-        let plain = sym (plain_readable (dec shape) f.number f.presence f.element f.oneof r no_map) ∙ readable in
+        let plain = sym (readable_is (dec shape) f.number f.presence f.element f.oneof r no_map) ∙ readable in
         let child = (and_parts (is_some (leaves_in f r)) (is_child (dec shape) f.element r.body) plain).1 in
         let some : is_some (dec shape t r.body) ≡ true = subst (λ e. is_child (dec shape) e r.body ≡ true) is child in
         let inside = readable_from_dec shape t r.body some in
@@ -180,9 +174,9 @@ module _ (shape : Shape) where
         → HasFault shape limit fs bytes code place
     first_is_fault _ fs bytes _ _ (the_root _ _) = the_root fs bytes
     first_is_fault _ fs bytes _ _ (no_record levels _ _ front back fault joined before some read) =
-        no_record levels fs bytes front back fault joined before.0 some read
+        no_record levels fs bytes front back fault joined (before.records, before.spelled) some read
     first_is_fault _ fs bytes _ _ (in_record levels _ _ front back rest r f code place joined before read found taken fault) =
-        in_record levels fs bytes front back rest r f code place joined before.0 read found taken (first_of_record levels f r code place fault)
+        in_record levels fs bytes front back rest r f code place joined (before.records, before.spelled) read found taken (first_of_record levels f r code place fault)
 
     first_of_record : (levels : ℕ) (f : FieldShape) (r : WireRecord) (code : Code) (place : ℕ) → FirstFaultOf shape levels f r code place
         → FaultOf shape AreRecords levels f r code place
@@ -193,7 +187,7 @@ module _ (shape : Shape) where
         in_child levels f r t code place no_map is (first_is_fault (suc levels) (fields shape t) r.body code place fault)
     first_of_record levels f r _ _ (in_entry _ _ _ key code place is fault) =
         in_entry levels f r key code place is (first_is_fault (suc levels) (entry_fields key f.element) r.body code place fault)
-    first_of_record _ f r _ _ (missing_value _ _ key t rs is message spelled none before) = missing_value f r key t rs is message spelled none before.0
+    first_of_record _ f r _ _ (missing_value _ _ key t rs is message spelled none before) = missing_value f r key t rs is message spelled none (before.records, before.spelled)
 
   -- Bytes that have a fault, other than a message too deep, have no reading.
   pub dec_of_fault : (type : TypeId) (limit : ℕ) (bytes : List ℕ) (code : Code) (place : ℕ) → HasFault shape limit (fields shape type) bytes code place → code ≢ TooDeep

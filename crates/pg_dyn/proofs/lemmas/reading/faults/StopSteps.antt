@@ -11,8 +11,8 @@ pub stops_for : (More Less : Type 0) → (Less → More) → (e : Stop) → Stop
 stops_for More Less w stops.Memory h = tt
 stops_for More Less w stops.Fault h = λ k. h (w k)
 
--- a stop that a call hands on
-pub handed_on : {T : Type 0} (P : Stop → Type 0) (result : Result T Stop) (x y : Stop) → result ≡ Err y → y ≡ x → P x → IfErr result P
+-- an error that a call hands on
+pub handed_on : {T E : Type 0} (P : E → Type 0) (result : Result T E) (x y : E) → result ≡ Err y → y ≡ x → P x → IfErr result P
 handed_on P result x y is from h = subst (λ r. IfErr r P) (sym is) (subst P (sym from) h)
 
 -- a `?` hands on why a call stops: of less, where more follows from it

@@ -1,22 +1,17 @@
 -- Where a message is deeper than a limit, the bytes are at least as many: each message inside another has a byte more around it.
-use Rattle.std.proofs.Common.{◌≡◌, ◌≢◌, ℕ, suc, ◌+◌, ◌≤◌, ◌<◌, List, ◌++◌, length, None, Result, Ok, Err, IfErr, refl, ap, sym, arith, length-append}
+use Rattle.std.proofs.Common.{◌≡◌, ◌≢◌, ℕ, suc, ◌+◌, ◌≤◌, ◌<◌, List, length, None, Result, Ok, Err, IfErr, refl, ap, sym, arith, length-append}
 use Rattle.pg_schema.specs.declared.parts.field.TypeId.{TypeId}
 use Rattle.pg_schema.specs.Shape.{Shape, FieldShape, fields}
 use Rattle.pg_wire.specs.Errors.{fault_of, place_of}
 use Rattle.pg_wire.specs.Records.{WireRecord, IsRecord}
 use Rattle.pg_wire.proofs.RecordLaws.{record_at_takes, length-IsRecord}
-use Rattle.pg_wire.proofs.Varints.{length-IsVarint}
 use Rattle.pg_dyn.specs.declared.error.DynError.{DynError}
 use Rattle.pg_dyn.specs.declared.error.DynError.TheVariants as errors
 use Rattle.pg_dyn.specs.reading.Decoding.{dec}
 use Rattle.pg_dyn.specs.reading.Refusals.{MayRefuse, MayRefuseUnlimited}
 use Rattle.pg_dyn.proofs.lemmas.reading.faults.Faulty.{dec_of_fault, first_is_fault, text_not_deep, wire_not_deep}
 use Rattle.pg_dyn.specs.reading.Faults.{Code, FirstFault, NotUtf8, TooDeep, TooDeepIn, TooDeepOf, Wire, the_root, in_record, the_child, in_child, in_entry, missing_value}
-
--- a record is longer than its body
-body_shorter : (r : WireRecord) → IsRecord r → length r.body < length r.bytes
-body_shorter r h =
-    rw (h.bytes_are) (omega (arith, length-IsVarint h.tag h.tag_is_varint, length-append (h.tag ++ h.before) r.body, length-append h.tag h.before))
+use Rattle.pg_dyn.proofs.lemmas.reading.Depth.{body_shorter}
 
 module _ (shape : Shape) where
   mutual

@@ -11,6 +11,7 @@ use Rattle.pg_dyn.specs.reading.Steps.{FieldReads, IsShallow, IsShallowRecord, T
 use Rattle.pg_dyn.specs.reading.Faults.{TooDeepOf}
 use Rattle.pg_dyn.proofs.Lists.{each_at, each_both, each_weaker, list_all_each, list_all_true, list_any_at, none_list_any}
 use Rattle.pg_dyn.proofs.lemmas.reading.records.Splitting.{each_found, takes_number}
+use Rattle.std.proofs.lemmas.Bool.{not-true}
 
 pub same_found : (f g : FieldShape) → ◌≡◌ {A = Option FieldShape} (Some f) (Some g) → f ≡ g
 same_found f g e = cc
@@ -45,12 +46,8 @@ module _ (shape : Shape) (fs : List FieldShape) where
       (each_weaker (λ g. takes g r ≡ false) (λ g. (not (takes g r) || is_readable (dec shape) g r) ≡ true)
       (λ g e. ap (λ b. not b || is_readable (dec shape) g r) e) fs none)
     where
-      not_true : (b : Bool) → not b ≡ true → b ≡ false
-      not_true true e = absurd (cc)
-      not_true false e = refl
-
       none : AllByRecursion (λ g. takes g r ≡ false) fs
-      none = none_list_any (λ g. takes g r) fs (not_true (list_any (λ g. takes g r) fs) unknown)
+      none = none_list_any (λ g. takes g r) fs (not-true (list_any (λ g. takes g r) fs) unknown)
 
 module _ (shape : Shape) (levels : ℕ) (fs : List FieldShape) where
   abbrev reads : WireRecord → Bool

@@ -5,7 +5,7 @@ use Rattle.std.proofs.Math.Bool.{and-false, or-false}
 use Rattle.pg_schema.specs.Shape.{Shape, FieldShape, is_map, is_repeated, is_packable}
 use Rattle.pg_wire.specs.Records.{WireRecord, IsBody}
 use Rattle.pg_wire.specs.declared.record.WireType.TheVariants.{Len, Varint, I64, I32}
-use Rattle.pg_dyn.specs.word.Coding.{form, form_wire, leaf_in}
+use Rattle.pg_dyn.specs.word.Coding.{form, form_wire, leaf_in, HasShape}
 use Rattle.pg_dyn.specs.reading.Content.{same_wire, own_wire, is_accepted, takes, leaves_in, packed_leaves}
 use Rattle.pg_dyn.specs.reading.Decoding.{dec}
 use Rattle.pg_dyn.specs.message.Message.{Leaf}
@@ -13,7 +13,6 @@ use Rattle.pg_dyn.specs.reading.ReadingOn.{IsNoMessage}
 use Rattle.pg_dyn.specs.reading.Steps.{FieldReads}
 use Rattle.pg_dyn.proofs.lemmas.reading.by_fields.PlainFields.{own_is, readable_is, no_child}
 use Rattle.pg_wire.specs.declared.record.WireType.{WireType}
-use Rattle.pg_dyn.specs.fitting.ScalarItems.{HasShape}
 
 -- What a record of the wire type holds.
 

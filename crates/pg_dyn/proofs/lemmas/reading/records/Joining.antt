@@ -19,7 +19,7 @@ use Rattle.pg_dyn.specs.message.Message.{Leaf, Bytes, Part, Plain, Msg}
 use Rattle.pg_dyn.specs.word.Coding.{form, zero_leaf}
 use Rattle.pg_dyn.specs.reading.Content.{same_wire, takes, is_sibling, counted, option_from, packed_leaves, leaves_in, leaf_bytes, last_item, plain_content, key_field, value_field, entry_part, entry_in, by_key, content}
 use Rattle.pg_dyn.specs.reading.Decoding.{Reader, is_plain_readable, all_plain_readable, is_readable, all_readable, read_item, read_part, field_parts, read_records, dec}
-use Rattle.pg_dyn.proofs.Lists.{each-map, each-append, each_of_all, each_both, each_swap, each_weaker, flat_map-append', list_all_true, each-joined}
+use Rattle.pg_dyn.proofs.Lists.{each-map, each-append, each_of_all, each_both, each_swap, each_weaker, flat_map-append', list_all_true, each-joined, each_passed}
 use Rattle.pg_dyn.proofs.lemmas.message.Plain.{last_item_none}
 use Rattle.pg_dyn.proofs.lemmas.reading.Fields.{field_of}
 use Rattle.pg_dyn.proofs.lemmas.reading.records.ReadSplits.{all_some_gives, reading_of}
@@ -43,12 +43,6 @@ found_all g P (x ∷ xs) h =
 
 found_map : {A B : Type 0} (g : A → B) (P : A → Type 0) (Q : B → Type 0) (o : Option A) → ((x : A) → P x → Q (g x)) → Found o P → Found (option_map g o) Q
 found_map g P Q o w h = let (x, at, good) = h in (g x, rw at, w x good)
-
-each_kept : {A : Type 0} (P : A → Type 0) (test : A → Bool) (xs : List A) → AllByRecursion (λ x. test x ≡ true → P x) xs → AllByRecursion P (filter test xs)
-each_kept P test [] h = tt
-each_kept P test (x ∷ xs) h =
-    elim (test x) as (λ b. test x ≡ b → AllByRecursion P (cond b (x ∷ filter test xs) (filter test xs)))
-    [ true ↦ λ e. (h.0 e, each_kept P test xs h.1) | false ↦ λ e. each_kept P test xs h.1 ] refl
 
 pub each_after_last : {A : Type 0} (P : A → Type 0) (test : A → Bool) (xs : List A) → AllByRecursion P xs → AllByRecursion P (after_last_of test xs)
 each_after_last P test [] h = tt
@@ -135,7 +129,7 @@ module _ (child : Reader) (n : ℕ) (joins : Joins child n) where
   part_of_entry : (number : ℕ) (e : Element) (rs : List WireRecord) → AllByRecursion (λ r. takes (field_of number presences.Explicit e None) r ≡ true → is_plain_readable child (field_of number presences.Explicit e None) r ≡ true) rs → weight rs < n → Found (entry_part (field_of number presences.Explicit e None) rs) (ChildReads child e)
   part_of_entry number e rs h w =
       let f = field_of number presences.Explicit e None in
-      let (leaves, read, good) = plain_found number presences.Explicit e None (filter (takes f) rs) (each_kept (λ r. is_plain_readable child f r ≡ true) (takes f) rs h) (omega (arith, weight-filter (takes f) rs)) in
+      let (leaves, read, good) = plain_found number presences.Explicit e None (filter (takes f) rs) (each_passed (λ r. is_plain_readable child f r ≡ true) (takes f) rs h) (omega (arith, weight-filter (takes f) rs)) in
       (first_or (zero_leaf (form e)) leaves, ap (option_map (first_or (zero_leaf (form e)))) read, first_reads e (zero_leaf (form e)) leaves (zero_reads e (omega arith)) good)
 
   entry_found : (number : ℕ) (key : Scalar) (e : Element) (oneof : Option ℕ) (r : WireRecord) → length r.body < n → is_readable child (field_of number (presences.Map key) e oneof) r ≡ true → Found (entry_in key e r) (λ (x : Leaf × Leaf). ChildReads child e x.1)
@@ -210,7 +204,7 @@ module _ (child : Reader) (n : ℕ) (joins : Joins child n) where
     field_found : (f : FieldShape) → AllByRecursion (λ r. takes f r ≡ true → is_readable child f r ≡ true) rs → Found (field_parts child fs rs f) (λ x. ⊤)
     field_found f h =
         let test : WireRecord → Bool = λ r. list_any (λ g. is_sibling f g && takes g r) fs in
-        let each = each_kept (λ r. is_readable child f r ≡ true) (takes f) (after_last_of test rs) (each_after_last (λ r. takes f r ≡ true → is_readable child f r ≡ true) test rs h) in
+        let each = each_passed (λ r. is_readable child f r ≡ true) (takes f) (after_last_of test rs) (each_after_last (λ r. takes f r ≡ true → is_readable child f r ≡ true) test rs h) in
         let (ps, read, good) = content_found f.number f.presence f.element f.oneof (counted fs f rs) (omega (arith, weight-counted fs f rs)) each in
         let (items, made, all) = found_all (read_part child f.element) (λ x. ⊤) ps (each_weaker (λ (q : Part Leaf). ChildReads child f.element q.item) (λ q. Found (read_part child f.element q) (λ x. ⊤)) (part_found f.element) ps good) in
         (items, rw read made, tt)

@@ -20,8 +20,9 @@ use Rattle.pg_dyn.specs.message_ref.Borrowed.{fields_onto}
 use Rattle.pg_dyn.specs.reading.Steps.{FieldReads, HeldFits, IsShallow, Taken}
 use Rattle.pg_dyn.proofs.lemmas.reading.by_fields.ByFields.{ReadSoFar, one_field, whole_fits, whole_read, with_held}
 use Rattle.pg_dyn.proofs.lemmas.reading.gathered.GoodRecords.{IsGood, each_good, good_by_field, good_each, good_of_field, same_found}
-use Rattle.pg_dyn.proofs.Lists.{each-append, each-map, each_both, each_weaker}
+use Rattle.pg_dyn.proofs.Lists.{each-append, each-map, each_both, each_unmapped, each_weaker}
 use Rattle.pg_dyn.proofs.lemmas.reading.records.Splitting.{found_number}
+use Rattle.pg_dyn.proofs.lemmas.fitting.FitsSteps.{same_default}
 
 rise_drop : (k : ℕ) (rs : List Record) → NumbersRise rs → NumbersRise (drop k rs)
 rise_drop zero rs h = h
@@ -38,10 +39,6 @@ each_drop P zero xs h = h
 each_drop P (suc k) [] h = tt
 each_drop P (suc k) (x ∷ xs) h = each_drop P k xs h.1
 
-each_mapped : {A B : Type 0} (P : B → Type 0) (h : A → B) (xs : List A) → AllByRecursion P (map h xs) → AllByRecursion (λ x. P (h x)) xs
-each_mapped P h [] e = tt
-each_mapped P h (x ∷ xs) e = (e.0, each_mapped P h xs e.1)
-
 -- in records by rising number, those from an index on where the number is another have greater numbers than the first
 greater : (n k : ℕ) (rs : List Record) → NumbersRise rs → AllByRecursion (λ (s : Record). n ≤ s.number) rs
     → ((d : Record) → k < length rs → (get_or rs k d).number ≢ n)
@@ -53,12 +50,6 @@ greater n zero (r ∷ rs) rise h other =
     let above : n < r.number = omega (arith, h.0) in
     (above, each_weaker (λ (s : Record). r.number ≤ s.number) (λ (s : Record). n < s.number) (λ s low. omega arith) rs rise.0)
 greater n (suc k) (r ∷ rs) rise h other = greater n k rs rise.1 h.1 (λ d low. other d (omega arith))
-
--- a default doesn't matter inside
-get_or-default : {A : Type 0} (xs : List A) (k : ℕ) (d e : A) → k < length xs → get_or xs k d ≡ get_or xs k e
-get_or-default [] k d e h = absurd (omega arith)
-get_or-default (x ∷ xs) zero d e h = refl
-get_or-default (x ∷ xs) (suc k) d e h = get_or-default xs k d e (omega arith)
 
 -- the first of them has the least number
 least : (rs : List Record) (k : ℕ) (d : Record) → k < length rs → NumbersRise rs
@@ -95,7 +86,7 @@ module _ (shape : Shape) (levels : ℕ) (type : TypeId) (sorted : List Record) w
       (here : place < length sorted) where
     -- some field takes the record at the index
     pub field_there : (d : Record) → Known (get_or sorted place d)
-    field_there d = of sorted place here (each_mapped (λ r. (f : FieldShape) × Taken (fields shape type) r f) seen_record sorted all.known)
+    field_there d = of sorted place here (each_unmapped (λ r. (f : FieldShape) × Taken (fields shape type) r f) seen_record sorted all.known)
       where
         of : (rs : List Record) (k : ℕ) → k < length rs → AllByRecursion Known rs → Known (get_or rs k d)
         of [] k inside h = absurd (omega arith)
@@ -114,7 +105,7 @@ module _ (shape : Shape) (levels : ℕ) (type : TypeId) (sorted : List Record) w
 
       own_rows : AllByRecursion (Own f) (map seen_record rows)
       own_rows =
-          let known = each_mapped (λ r. IsRecord r × ((g : FieldShape) × Taken (fields shape type) r g)) seen_record sorted
+          let known = each_unmapped (λ r. IsRecord r × ((g : FieldShape) × Taken (fields shape type) r g)) seen_record sorted
           (each_both IsRecord (λ r. (g : FieldShape) × Taken (fields shape type) r g) (map seen_record sorted) all.are_records all.known) in
           let in_run =
           each_take (λ (r : Record). IsRecord (seen_record r) × Known r) (end - place) (drop place sorted)
@@ -147,7 +138,7 @@ module _ (shape : Shape) (levels : ℕ) (type : TypeId) (sorted : List Record) w
           → AreGood shape levels f (map seen_record (take (end - place) (drop place sorted)))
       good_run h =
           let each =
-          each_mapped (IsGood shape levels (fields shape type)) seen_record sorted (good_each shape levels (fields shape type) (map seen_record sorted) h) in
+          each_unmapped (IsGood shape levels (fields shape type)) seen_record sorted (good_each shape levels (fields shape type) (map seen_record sorted) h) in
           let these =
           each-map (IsGood shape levels (fields shape type)) seen_record rows
           (each_take Good (end - place) (drop place sorted) (each_drop Good place sorted each)) in
@@ -175,7 +166,7 @@ module _ (shape : Shape) (levels : ℕ) (type : TypeId) (sorted : List Record) w
             ∙ at_place e)))
           where
             at_place : (e : Record) → (get_or sorted place d).number ≡ (get_or sorted place e).number
-            at_place e = ap (λ (r : Record). r.number) (get_or-default sorted place d e here)
+            at_place e = ap (λ (r : Record). r.number) (same_default sorted place d e here)
 
         below_next : AllByRecursion (Below end) (take end sorted)
         below_next =

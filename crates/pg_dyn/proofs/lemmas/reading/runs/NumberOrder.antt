@@ -1,5 +1,5 @@
 -- Records by rising number.
-use Rattle.std.proofs.Common.{◌≡◌, ℕ, suc, ◌<◌, ◌≤◌, List, [], ◌∷◌, ◌++◌, length, get_or, filter, Bool, cond, not, ◌&&◌, nat_eq, refl, ap₂, sym, ◌∙◌, arith}
+use Rattle.std.proofs.Common.{◌≡◌, ℕ, suc, ◌<◌, ◌≤◌, List, [], ◌∷◌, ◌++◌, length, get_or, filter, Bool, not, ◌&&◌, nat_eq, refl, sym, ◌∙◌, arith}
 use Rattle.std.specs.Prelude.{nat_lt}
 use Rattle.std.specs.List.{AllByRecursion}
 use Rattle.std.specs.List.Sorted.{IsNonDecreasingBy, IsStableBy, ties}
@@ -7,7 +7,7 @@ use Rattle.std.proofs.lemmas.Bool.Decides.{nat_tests}
 use Rattle.pg_wire.specs.declared.record.Record.{Record}
 use Rattle.pg_wire.specs.declared.record.WireType.TheVariants.{Len}
 use Rattle.pg_dyn.specs.reading.Gathering.{AreByNumber, NumbersRise}
-use Rattle.pg_dyn.proofs.Lists.{each-append, each_weaker}
+use Rattle.pg_dyn.proofs.Lists.{each-append, each_weaker, filter_alike}
 
 abbrev has_number : ℕ → Record → Bool
 has_number n r = nat_eq r.number n
@@ -38,10 +38,6 @@ sorted_rise (r ∷ rs) h = (
   each_here (λ (x : Record). r.number ≤ x.number) rs (λ k d inside. h 0 (suc k) d (omega arith) (omega (arith, inside))),
   sorted_rise rs (λ i j d up inside. h (suc i) (suc j) d (omega (arith, up)) (omega (arith, inside))),
 )
-
-filter_alike : {A : Type 0} (p q : A → Bool) → ((x : A) → p x ≡ q x) → (xs : List A) → filter p xs ≡ filter q xs
-filter_alike p q same [] = refl
-filter_alike p q same (x ∷ xs) = ap₂ (λ b ys. cond b (x ∷ ys) ys) (same x) (filter_alike p q same xs)
 
 abbrev pub lower : Record → Record → Bool
 lower a b = nat_lt a.number b.number

@@ -17,6 +17,8 @@ use Rattle.pg_dyn.specs.reading.ReadingOn.{clears}
 use Rattle.pg_dyn.proofs.Lists.{each_weaker, filter-append', list_any_at, list_any_none}
 use Rattle.pg_dyn.proofs.lemmas.reading.records.ReadsOn.{counted-append}
 use Rattle.pg_dyn.proofs.lemmas.reading.records.Splitting.{each_found, takes_number}
+use Rattle.pg_dyn.proofs.lemmas.fitting.NoSiblings.{no_sibling_behind}
+use Rattle.pg_dyn.proofs.lemmas.laws.Flat.{sibling_apart}
 
 -- Filters by index.
 
@@ -42,10 +44,6 @@ filter_at_none test place [] fails = refl
 filter_at_none test place (x ∷ xs) fails = rw (fails place x) (filter_at_none test (suc place) xs fails)
 
 -- Members of oneofs.
-
-none_shared : (a : Option ℕ) → same_oneof a None ≡ false
-none_shared None = refl
-none_shared (Some x) = refl
 
 shared_is : (a : Option ℕ) (oneof : ℕ) → same_oneof a (Some oneof) ≡ true → a ≡ Some oneof
 shared_is None oneof h = absurd (true≢false (sym h))
@@ -160,17 +158,9 @@ module _ (fs : List FieldShape) (rising : Rising fs) (f : FieldShape) (found : f
 
 -- What the next oneof_runs are.
 
-no_siblings : (f g : FieldShape) → f.oneof ≡ None → is_sibling g f ≡ false
-no_siblings f g is = ap (λ o. same_oneof g.oneof o && not (nat_eq g.number f.number)) is ∙ ap (λ b. b && not (nat_eq g.number f.number)) (none_shared g.oneof)
-
 sibling_shares : (f g : FieldShape) (oneof : ℕ) → f.oneof ≡ Some oneof → is_sibling g f ≡ true → g.oneof ≡ Some oneof
 sibling_shares f g oneof is h =
     shared_is g.oneof oneof (ap (same_oneof g.oneof) (sym is) ∙ (and_parts (same_oneof g.oneof f.oneof) (not (nat_eq g.number f.number)) h).0)
-
-sibling_apart : (f g : FieldShape) → is_sibling g f ≡ true → g.number ≢ f.number
-sibling_apart f g h e =
-    true≢false (sym (eq-eqb g.number f.number e)
-    ∙ not-true (nat_eq g.number f.number) ((and_parts (same_oneof g.oneof f.oneof) (not (nat_eq g.number f.number)) h).1))
 
 own_number : (f g : FieldShape) (oneof : ℕ) → f.oneof ≡ Some oneof → g.oneof ≡ Some oneof → is_sibling g f ≡ false → g.number ≡ f.number
 own_number f g oneof in_f in_g apart =
@@ -186,8 +176,8 @@ module _ (f : FieldShape) (place : ℕ) (old : OneofRuns) (begun : (oneof : ℕ)
     begun = begun;
     own = counts_outside old f is place;
     others = λ g apart p inside. refl;
-    siblings = λ g sibling. absurd (true≢false (sym sibling ∙ no_siblings f g is));
-    before = λ every g sibling. absurd (true≢false (sym sibling ∙ no_siblings f g is));
+    siblings = λ g sibling. absurd (true≢false (sym sibling ∙ no_sibling_behind g f is));
+    before = λ every g sibling. absurd (true≢false (sym sibling ∙ no_sibling_behind g f is));
   }
 
   module _ (oneof : ℕ) (is : f.oneof ≡ Some oneof) where
@@ -195,7 +185,7 @@ module _ (f : FieldShape) (place : ℕ) (old : OneofRuns) (begun : (oneof : ℕ)
     goes_on s here own =
         let siblings : (g : FieldShape) → is_sibling g f ≡ true → (p : ℕ) → counts_at old g p ≡ false =
         λ g sibling p. counts_in old g oneof (sibling_shares f g oneof is sibling) (Some s) here p
-        ∙ ap (λ b. b && nat_le s.start p) (ne_eqb s.number g.number (λ e. sibling_apart f g sibling (sym e ∙ own))) in
+        ∙ ap (λ b. b && nat_le s.start p) (ne_eqb s.number g.number (λ e. sibling_apart g f sibling (sym e ∙ own))) in
         record {
           all = λ h. h;
           begun = begun;
@@ -233,7 +223,7 @@ module _ (f : FieldShape) (place : ℕ) (old : OneofRuns) (begun : (oneof : ℕ)
             ∙ and_from (nat_eq s.number f.number) (nat_le s.start place) (eq-eqb s.number f.number number) (le-leb s.start place (omega (arith, start)));
         others = λ g apart p inside. others g apart p inside g.oneof refl;
         siblings = λ g sibling p. counts_in new g oneof (sibling_shares f g oneof is sibling) (Some s) here p
-            ∙ ap (λ b. b && nat_le s.start p) (ne_eqb s.number g.number (λ e. sibling_apart f g sibling (sym e ∙ number)));
+            ∙ ap (λ b. b && nat_le s.start p) (ne_eqb s.number g.number (λ e. sibling_apart g f sibling (sym e ∙ number)));
         before = λ every g sibling p. counts_in old g oneof (sibling_shares f g oneof is sibling) None ((all every).1) p;
       }
 

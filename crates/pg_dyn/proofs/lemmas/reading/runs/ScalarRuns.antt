@@ -14,8 +14,8 @@ use Rattle.pg_dyn.specs.declared.message_ref.ContentRef.{ContentRef}
 use Rattle.pg_dyn.specs.declared.message_ref.ContentRef.TheVariants as contents
 use Rattle.pg_dyn.specs.declared.message_ref.ValueRef.{ValueRef}
 use Rattle.pg_dyn.specs.reading.ByFields.{AreGood, HoldsOf}
-use Rattle.pg_dyn.specs.word.Coding.{form, form_wire, leaf_in, scalar_form}
-use Rattle.pg_dyn.specs.reading.Content.{content, last_item, leaves_in, packed_leaves, plain_content, same_wire, takes}
+use Rattle.pg_dyn.specs.word.Coding.{form, form_wire, leaf_in, scalar_form, HasShape}
+use Rattle.pg_dyn.specs.reading.Content.{last_item, leaves_in, packed_leaves, plain_content, same_wire, takes}
 use Rattle.pg_dyn.specs.message_ref.BorrowedItems.{ItemKept, is_zero_value}
 use Rattle.pg_dyn.specs.reading.Decoding.{dec, is_child, read_part}
 use Rattle.pg_dyn.specs.reading.Held.{IsHeldList, item_left, read_as}
@@ -23,15 +23,13 @@ use Rattle.pg_dyn.specs.reading.ItemRuns.{AllRead, AreItemsOf}
 use Rattle.pg_dyn.specs.message.Message.{Item, Leaf, Part, Plain, is_zero}
 use Rattle.pg_dyn.specs.reading.Optional.{all_some, joined, last_of}
 use Rattle.pg_dyn.specs.reading.ReadingOn.{IsNoMessage}
-use Rattle.pg_dyn.specs.fitting.ScalarItems.{HasShape}
 use Rattle.pg_dyn.specs.message_ref.BorrowedItems.{IsItemKept}
 use Rattle.pg_dyn.specs.message_ref.Borrowed.{IsKey, item_seen, leaf_of}
 use Rattle.pg_dyn.specs.reading.Steps.{FieldReads, HeldFits, IsShallow, item_of, part_of, parts_held}
 use Rattle.pg_dyn.proofs.lemmas.reading.FieldKinds.{form_as, lists_no_map}
 use Rattle.pg_dyn.proofs.lemmas.reading.records.FieldRecords.{own_leaves, packable_of, reads_scalar, row_leaves, shape_of_body}
-use Rattle.pg_dyn.proofs.lemmas.reading.by_fields.PlainFields.{readable_is}
+use Rattle.pg_dyn.proofs.lemmas.reading.by_fields.PlainFields.{readable_is, content_plain}
 use Rattle.pg_dyn.proofs.lemmas.reading.by_fields.EntryByParts.{item_as}
-use Rattle.pg_dyn.proofs.lemmas.reading.Fields.{field_of}
 use Rattle.pg_dyn.proofs.lemmas.message_ref.BorrowedItems.{LeafMayBeZero, item_is_key, key_listed, key_seen, zero_of_key}
 use Rattle.pg_dyn.proofs.lemmas.reading.by_fields.HeldFields.{list_held, numbers_held, one_held}
 use Rattle.pg_dyn.proofs.Lists.{and_then_some, each-append, option_map_some}
@@ -155,13 +153,6 @@ parts_read shape n (elements.Scalar s) [] scalar = refl
 parts_read shape n (elements.Scalar s) (l ∷ ls) scalar = rw (parts_read shape n (elements.Scalar s) ls scalar)
 parts_read shape n (elements.Enum x) [] scalar = refl
 parts_read shape n (elements.Enum x) (l ∷ ls) scalar = rw (parts_read shape n (elements.Enum x) ls scalar)
-
-content_plain : (n : ℕ) (p : Presence) (e : Element) (o : Option ℕ) (rs : List WireRecord) → is_map p ≡ false
-    → content (field_of n p e o) rs ≡ option_map (map (λ leaf. record { number = n; key = None; item = leaf })) (plain_content (field_of n p e o) rs)
-content_plain n presences.Implicit e o rs h = refl
-content_plain n presences.Explicit e o rs h = refl
-content_plain n (presences.Repeated packed) e o rs h = refl
-content_plain n (presences.Map key) e o rs h = absurd (cc)
 
 plain_holds : (shape : Shape) (f : FieldShape) (rs : List WireRecord) (ls : List Leaf) (held : Option ContentRef) → is_map f.presence ≡ false
     → IsNoMessage f.element → plain_content f rs ≡ Some ls

@@ -7,11 +7,11 @@ use Rattle.pg_dyn.specs.declared.message.Content.{Content}
 use Rattle.pg_dyn.specs.declared.message.Content.TheVariants as contents
 use Rattle.pg_dyn.specs.declared.message.Value.{Value}
 use Rattle.pg_dyn.specs.setting.ContentFaults.{HasKeyTwice}
-use Rattle.pg_dyn.specs.fitting.ContentFits.{ContentFits}
+use Rattle.pg_dyn.specs.fitting.ContentFits.{ContentFits, EntryFits, ItemsFit}
 use Rattle.pg_dyn.specs.message.KeyOrder.{KeysAlike}
 use Rattle.pg_dyn.specs.message.Seen.{content_seen, IsMapKey}
 use Rattle.pg_dyn.specs.setting.Setting.{normalized, normalized_by}
-use Rattle.pg_dyn.specs.setting.Reported.{EntryFits, is_nothing, ItemsFit, MayHoldKeys}
+use Rattle.pg_dyn.specs.inner.Reported.{is_nothing, MayHoldKeys}
 use Rattle.pg_dyn.specs.fitting.ScalarItems.{IsKeptAs}
 use Rattle.pg_dyn.specs.fitting.Texts.{kept_in}
 use Rattle.pg_dyn.proofs.lemmas.message.KeyLaws.{each_moved}

@@ -1,5 +1,5 @@
 -- The field that takes the content is the one that is found.
-use Rattle.std.proofs.Common.{◌≡◌, ℕ, Some, Result, OnOk, map, ap, sym, subst, ◌∙◌}
+use Rattle.std.proofs.Common.{◌≡◌, ℕ, Some, Result, OnOk, ap, sym, subst, ◌∙◌}
 use Rattle.pg_schema.specs.declared.parts.field.TypeId.{TypeId}
 use Rattle.pg_schema.specs.Parts.{field_shape, shape_of}
 use Rattle.pg_schema.specs.Shape.{FieldShape, fields, field_at}
@@ -7,46 +7,40 @@ use Rattle.pg_dyn.specs.declared.error.DynError.{DynError}
 use Rattle.pg_dyn.specs.fitting.Fits.{Fits}
 use Rattle.pg_dyn.specs.message.Kept.{type_of}
 use Rattle.pg_dyn.specs.message.Replacing.{with_parts, without_siblings}
-use Rattle.pg_dyn.specs.message.Seen.{content_seen, record_seen}
+use Rattle.pg_dyn.specs.message.Seen.{content_seen}
 use Rattle.pg_dyn.specs.setting.Setting.{normalized}
-use Rattle.pg_dyn.specs.setting.Reported.{ItemsFit}
+use Rattle.pg_dyn.specs.fitting.ContentFits.{ItemsFit}
 use Rattle.pg_dyn.proofs.lemmas.fitting.FitsChecks.{none_found, same_field}
-use Rattle.pg_dyn.proofs.lemmas.message.ReplacingLaws.{type_shown}
+use Rattle.pg_dyn.proofs.lemmas.setting.SetSteps.{by_own_number, own_field, own_type}
 use Rattle.pg_dyn.proofs.lemmas.reading.records.Splitting.{found_number}
 use Rattle.pg_dyn.proofs.message.Message.add.Goals.{in-Ok, in-Err}
 use Rattle.pg_dyn.proofs.message.Message.add.Goals as goal
 
 pub put_content-requires-clause-found : goal.put_content-requires-clause-found
 put_content-requires-clause-found c =
-    let a = c.self.inside in
-    let same : type_of c.args.self.now ≡ a.type_id = sym (ap type_of c.self.view_is) ∙ type_shown a.type_id a.fields.items (map record_seen a.unknown.items) in
-    let found = sym c.in-Some.ensures.shape in
-    let number = found_number (fields (shape_of c.args.schema.now) a.type_id) c.args.number (field_shape c.in-Some.field.now) found in
-    ap (λ (t : TypeId). field_at (fields (shape_of c.args.schema.now) t) c.in-Some.field.now.number) same ∙ ap (field_at (fields (shape_of c.args.schema.now) a.type_id)) number ∙ found
+    let f = field_shape c.in-Some.field.now in
+    let found = own_field (shape_of c.args.schema.now) c.self.inside c.args.self.now c.self.view_is c.args.number f (sym c.in-Some.ensures.shape) in
+    by_own_number (fields (shape_of c.args.schema.now) (type_of c.args.self.now)) c.args.number f found
 
 pub put_content-requires-clause-items : goal.put_content-requires-clause-items
 put_content-requires-clause-items c =
-    let a = c.self.inside in
-    let same : type_of c.args.self.now ≡ a.type_id = sym (ap type_of c.self.view_is) ∙ type_shown a.type_id a.fields.items (map record_seen a.unknown.items) in
+    let f = field_shape c.in-Some.field.now in
+    let found = own_field (shape_of c.args.schema.now) c.self.inside c.args.self.now c.self.view_is c.args.number f (sym c.in-Some.ensures.shape) in
     let (g, taken) = c.requires.taken in
-    let found = ap (λ (t : TypeId). field_at (fields (shape_of c.args.schema.now) t) c.args.number) same ∙ sym c.in-Some.ensures.shape in
-    let is = same_field g (field_shape c.in-Some.field.now) (sym taken.found ∙ found) in
-    subst (λ (f : FieldShape). ItemsFit (shape_of c.args.schema.now) f.presence f.element c.args.content) is taken.items
+    let is = same_field g f (sym taken.found ∙ found) in
+    subst (λ (x : FieldShape). ItemsFit (shape_of c.args.schema.now) x.presence x.element c.args.content) is taken.items
 
 pub unreachable-requires : goal.unreachable-requires
 unreachable-requires c =
-    let a = c.self.inside in
-    let same : type_of c.args.self.now ≡ a.type_id = sym (ap type_of c.self.view_is) ∙ type_shown a.type_id a.fields.items (map record_seen a.unknown.items) in
+    let same = own_type c.self.inside c.args.self.now c.self.view_is in
     let (g, taken) = c.requires.taken in
     none_found g (c.in_default.ensures.shape ∙ ap (λ (t : TypeId). field_at (fields (shape_of c.args.schema.now) t) c.args.number) (sym same) ∙ taken.found)
 
 pub returns-clause-ok : goal.returns-clause-ok
 returns-clause-ok c =
-    let a = c.self.inside in
-    let same : type_of c.args.self.now ≡ a.type_id = sym (ap type_of c.self.view_is) ∙ type_shown a.type_id a.fields.items (map record_seen a.unknown.items) in
     let f = field_shape c.in-Some.field.now in
-    let found = ap (λ (t : TypeId). field_at (fields (shape_of c.args.schema.now) t) c.args.number) same ∙ sym c.in-Some.ensures.shape in
-    let number = found_number (fields (shape_of c.args.schema.now) a.type_id) c.args.number f (sym c.in-Some.ensures.shape) in
+    let found = own_field (shape_of c.args.schema.now) c.self.inside c.args.self.now c.self.view_is c.args.number f (sym c.in-Some.ensures.shape) in
+    let number = found_number (fields (shape_of c.args.schema.now) (type_of c.args.self.now)) c.args.number f found in
     elim c.match-put_content.branch as (λ b. OnOk c.match-put_content.result ((g : FieldShape) → field_at (fields (shape_of c.args.schema.now) (type_of c.args.self.now)) c.args.number ≡ Some g → c.put_content.new.self ≡ with_parts c.args.number (normalized g (content_seen c.args.number c.args.content)) c.args.self.now)) [
       | in-Ok w ↦
           subst (λ (r : Result (Unit {0}) DynError). OnOk r ((g : FieldShape) → field_at (fields (shape_of c.args.schema.now) (type_of c.args.self.now)) c.args.number ≡ Some g → c.put_content.new.self ≡ with_parts c.args.number (normalized g (content_seen c.args.number c.args.content)) c.args.self.now))
@@ -61,10 +55,8 @@ returns-clause-ok c =
 
 pub returns-clause-fits : goal.returns-clause-fits
 returns-clause-fits c =
-    let a = c.self.inside in
-    let same : type_of c.args.self.now ≡ a.type_id = sym (ap type_of c.self.view_is) ∙ type_shown a.type_id a.fields.items (map record_seen a.unknown.items) in
     let f = field_shape c.in-Some.field.now in
-    let found = ap (λ (t : TypeId). field_at (fields (shape_of c.args.schema.now) t) c.args.number) same ∙ sym c.in-Some.ensures.shape in
+    let found = own_field (shape_of c.args.schema.now) c.self.inside c.args.self.now c.self.view_is c.args.number f (sym c.in-Some.ensures.shape) in
     elim c.match-put_content.branch as (λ b. OnOk c.match-put_content.result ((g : FieldShape) → field_at (fields (shape_of c.args.schema.now) (type_of c.args.self.now)) c.args.number ≡ Some g
     → Fits (shape_of c.args.schema.now) (without_siblings (fields (shape_of c.args.schema.now) (type_of c.args.self.now)) g c.args.self.now) → Fits (shape_of c.args.schema.now) (without_siblings (fields (shape_of c.args.schema.now) (type_of c.args.self.now)) g c.put_content.new.self))) [
       | in-Ok w ↦

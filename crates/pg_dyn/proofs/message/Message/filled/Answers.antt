@@ -11,9 +11,10 @@ use Rattle.pg_dyn.specs.fitting.Fits.{Fits}
 use Rattle.pg_dyn.specs.message.Kept.{type_of}
 use Rattle.pg_dyn.specs.message.Replacing.{without_siblings}
 use Rattle.pg_dyn.specs.message.Seen.{Rises}
-use Rattle.pg_dyn.specs.setting.Reported.{TakesContent}
-use Rattle.pg_dyn.proofs.lemmas.setting.WholeSteps.{whole_more, fill_fits, rises_before, fact_of_next, facts_before}
+use Rattle.pg_dyn.specs.inner.Reported.{TakesContent}
+use Rattle.pg_dyn.proofs.lemmas.setting.WholeSteps.{whole_more, fill_fits, rises_before, fact_of_next}
 use Rattle.pg_dyn.proofs.message.Message.filled.Goals as goal
+use Rattle.pg_dyn.proofs.Lists.{each_before}
 
 pub loop-number-preserved : goal.loop-number-preserved
 loop-number-preserved c =
@@ -35,7 +36,7 @@ loop-number-preserved c =
     record {
       given = append_assoc l.yielded (x ∷ []) _ ∙ given;
       whole = whole;
-      fits = fill_fits c.args.schema.now type c.requires.schema x.0 f taken.found l.yielded rest x.1 l.message c.add.new.self l.invariant.whole whole (facts_before (TakesContent shape type) l.yielded (x ∷ rest) takes) apart put l.invariant.fits;
+      fits = fill_fits c.args.schema.now type c.requires.schema x.0 f taken.found l.yielded rest x.1 l.message c.add.new.self l.invariant.whole whole (each_before (TakesContent shape type) l.yielded (x ∷ rest) takes) apart put l.invariant.fits;
     }
 
 pub add-requires-clause-taken : goal.add-requires-clause-taken

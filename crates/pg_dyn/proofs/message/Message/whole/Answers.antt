@@ -14,7 +14,7 @@ use Rattle.pg_dyn.specs.declared.message.Message.{Message}
 use Rattle.pg_dyn.specs.message.Seen.{Rises}
 use Rattle.pg_dyn.specs.setting.ContentFaults.{AnyOf, FirstOf, PassTwice, ContentsFault, ContentFault, HasKeyTwice, HasNoEarlyFault, is_in_oneof, members, IsLowest, MayRefuseFor}
 use Rattle.pg_dyn.specs.setting.Setting.{IsWhole}
-use Rattle.pg_dyn.specs.setting.Reported.{TakesContent}
+use Rattle.pg_dyn.specs.inner.Reported.{TakesContent}
 use Rattle.pg_dyn.proofs.lemmas.message.KeyLaws.{count_moved, each_moved}
 use Rattle.pg_dyn.proofs.lemmas.reading.Standing.{any_moved}
 use Rattle.pg_dyn.proofs.lemmas.setting.WholeSteps.{of_field, kept_under}

@@ -3,18 +3,19 @@ use Rattle.std.proofs.Common.{◌≡◌, ◌<◌, ◌≢◌, ℕ, List, ◌∷�
 use Rattle.std.specs.List.{AllByRecursion}
 use Rattle.pg_wire.specs.Reads.{seen_record}
 use Rattle.pg_dyn.specs.declared.message_ref.ContentRef.{ContentRef}
-use Rattle.pg_dyn.specs.message_ref.Borrowed.{HasKeys, IsFilled}
+use Rattle.pg_dyn.specs.message_ref.Borrowed.{HasKeys, IsFilled, content_seen}
 use Rattle.pg_dyn.specs.message.KeptParts.{of_number, parts_of}
 use Rattle.pg_dyn.specs.message.Kept.{type_of}
 use Rattle.pg_dyn.specs.message.Message.{is_of}
 use Rattle.pg_dyn.specs.fitting.PartsFit.{HoldsPart}
-use Rattle.pg_dyn.proofs.lemmas.message_ref.BorrowedParts.{found_field, of_number_none}
-use Rattle.pg_dyn.proofs.lemmas.message.FieldListLaws.{AllBelow, AllFrom, apart_past_end, apart_there, none_there, same_at}
-use Rattle.pg_dyn.proofs.lemmas.message.KeptParts.{found_fact}
+use Rattle.pg_dyn.proofs.lemmas.message_ref.BorrowedParts.{content_number}
+use Rattle.pg_dyn.proofs.lemmas.message.FieldListLaws.{AllBelow, AllFrom, apart_past_end, apart_there, none_there}
+use Rattle.pg_dyn.proofs.lemmas.message.KeptParts.{found_fact, found_field, of_number_none}
 use Rattle.pg_dyn.proofs.Lists.{each_filtered}
 use Rattle.pg_dyn.proofs.lemmas.fitting.PartsFit.{parts_hold}
 use Rattle.pg_dyn.proofs.message_ref.MessageRef.get.Goals.{else-place-len-via-then-place-len+else-index-number, else-place-len-via-else-place-len}
 use Rattle.pg_dyn.proofs.message_ref.MessageRef.get.Goals as goal
+use Rattle.pg_dyn.proofs.lemmas.fitting.FitsSteps.{same_default}
 
 pub returns-then-index-number-clause-content : goal.returns-then-index-number-clause-content
 returns-then-index-number-clause-content c =
@@ -22,8 +23,8 @@ returns-then-index-number-clause-content c =
     let place = c.place_of-place.result in
     let inside : place < length a.fields.items = omega (arith, c.if-place-len.true, c.len.ensures, a.fields.ok.0) in
     ap (of_number c.args.number) (sym c.self.view_is)
-    ∙ found_field c.args.number a.fields.items place c.index-then-index-number.result.now a.type_id (map seen_record a.unknown.items) inside c.self.invariant.rises c.index-then-index-number.ensures
-    (ap (λ (f : ℕ × ContentRef). f.0) (c.index-then-index-number.ensures ∙ same_at a.fields.items place c.index-then-index-number.result.now c.index.result.now inside ∙ sym c.index.ensures) ∙ c.if-index-number.true)
+    ∙ found_field content_seen content_number c.args.number a.fields.items place c.index-then-index-number.result.now a.type_id (map seen_record a.unknown.items) inside c.self.invariant.rises c.index-then-index-number.ensures
+    (ap (λ (f : ℕ × ContentRef). f.0) (c.index-then-index-number.ensures ∙ same_default a.fields.items place c.index-then-index-number.result.now c.index.result.now inside ∙ sym c.index.ensures) ∙ c.if-index-number.true)
 
 pub returns-then-index-number-clause-filled : goal.returns-then-index-number-clause-filled
 returns-then-index-number-clause-filled c =
@@ -59,4 +60,4 @@ returns-clause-content c =
           apart_past_end fs place c.args.number (omega (arith, w.if-place-len.false, c.len.ensures, a.fields.ok.0))
     ] in
     ap (of_number c.args.number) (sym c.self.view_is)
-    ∙ of_number_none c.args.number fs a.type_id (map seen_record a.unknown.items) (none_there fs place c.args.number c.self.invariant.rises low high apart)
+    ∙ of_number_none content_seen content_number c.args.number fs a.type_id (map seen_record a.unknown.items) (none_there fs place c.args.number c.self.invariant.rises low high apart)

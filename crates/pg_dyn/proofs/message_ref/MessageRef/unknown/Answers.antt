@@ -2,10 +2,11 @@ use Rattle.std.proofs.Common.{map, ap, sym, ◌∙◌}
 use Rattle.pg_wire.specs.Reads.{seen_record}
 use Rattle.pg_dyn.specs.message.Kept.{ends}
 use Rattle.pg_dyn.specs.message.KeptParts.{unknown_of}
-use Rattle.pg_dyn.proofs.lemmas.message_ref.BorrowedParts.{fields_keep}
+use Rattle.pg_dyn.specs.message_ref.Borrowed.{all_seen}
+use Rattle.pg_dyn.proofs.lemmas.message.ReplacingLaws.{unknown_of-kept_onto}
 use Rattle.pg_dyn.proofs.message_ref.MessageRef.unknown.Goals as goal
 
 pub returns : goal.returns
 returns c =
     let a = c.self.inside in
-    ap (map seen_record) c.as_slice.ensures.value ∙ sym (fields_keep a.fields.items (ends a.type_id (map seen_record a.unknown.items))).0 ∙ ap unknown_of c.self.view_is
+    ap (map seen_record) c.as_slice.ensures.value ∙ sym (unknown_of-kept_onto (all_seen a.fields.items) (ends a.type_id (map seen_record a.unknown.items))) ∙ ap unknown_of c.self.view_is

@@ -1,6 +1,6 @@
 -- The bytes' records are gathered and read.
-use Rattle.std.proofs.Common.{◌≡◌, true, suc, [], Ok, Err, IfOk, IfErr, Result, is_some}
-use Rattle.std.proofs.lemmas.Result.{err_from_is_err_and}
+use Rattle.std.proofs.Common.{◌≡◌, true, suc, [], is_some}
+use Rattle.std.proofs.lemmas.Result.{IfErr-weaker, IfOk-weaker, err_from_is_err_and, on_ok_weaker}
 use Rattle.pg_schema.specs.Parts.{shape_of}
 use Rattle.pg_schema.specs.Shape.{fields}
 use Rattle.pg_dyn.specs.reading.ByFields.{StopsFor}
@@ -8,18 +8,9 @@ use Rattle.pg_dyn.specs.reading.Decoding.{dec}
 use Rattle.pg_dyn.specs.message.Kept.{message_of}
 use Rattle.pg_dyn.specs.reading.Steps.{IsShallowIn}
 use Rattle.pg_dyn.proofs.lemmas.reading.by_fields.BodiesByFields.{bytes_good, bytes_read, records_good}
-use Rattle.pg_dyn.proofs.lemmas.reading.TypeFields.{on_ok_map}
 use Rattle.pg_dyn.proofs.lemmas.reading.records.Joining.{readable_from_dec}
 use Rattle.pg_dyn.proofs.lemmas.reading.faults.StopSteps.{handed_on, stops_for}
 use Rattle.pg_dyn.proofs.reading.nested.read_message.Goals as goal
-
-if_ok : {T E : Type 0} (P Q : T → Type 0) (r : Result T E) → ((x : T) → P x → Q x) → IfOk r P → IfOk r Q
-if_ok P Q (Ok x) f h = f x h
-if_ok P Q (Err e) f h = tt
-
-if_err : {T E : Type 0} (P Q : E → Type 0) (r : Result T E) → ((e : E) → P e → Q e) → IfErr r P → IfErr r Q
-if_err P Q (Ok x) f h = tt
-if_err P Q (Err e) f h = f e h
 
 pub returns-in_err-add_all-clause-err : goal.returns-in_err-add_all-clause-err
 returns-in_err-add_all-clause-err c =
@@ -40,7 +31,7 @@ returns-clause-ok c =
     let shape = shape_of c.args.schema.now in
     let all = c.in_ok-add_all.ensures.ok in
     let are = all.2 [] (c.new-gathered.ensures shape c.args.type_id) in
-    if_ok _ _ c.read_gathered.result (λ m read. bytes_read shape c.args.levels c.args.type_id c.args.bytes.now all.0 all.1 (message_of m)
+    IfOk-weaker c.read_gathered.result _ _ (λ m read. bytes_read shape c.args.levels c.args.type_id c.args.bytes.now all.0 all.1 (message_of m)
     (read all.0 are)) c.read_gathered.ensures.ok
 
 pub returns-clause-shallow : goal.returns-clause-shallow
@@ -48,7 +39,7 @@ returns-clause-shallow c =
     let shape = shape_of c.args.schema.now in
     let all = c.in_ok-add_all.ensures.ok in
     let are = all.2 [] (c.new-gathered.ensures shape c.args.type_id) in
-    on_ok_map c.read_gathered.result (λ good. (bytes_good shape c.args.levels c.args.type_id c.args.bytes.now all.0 all.1
+    on_ok_weaker c.read_gathered.result (λ good. (bytes_good shape c.args.levels c.args.type_id c.args.bytes.now all.0 all.1
     (good all.0 are)).1) c.read_gathered.ensures.good
 
 pub returns-clause-err : goal.returns-clause-err
@@ -56,5 +47,5 @@ returns-clause-err c =
     let shape = shape_of c.args.schema.now in
     let all = c.in_ok-add_all.ensures.ok in
     let are = all.2 [] (c.new-gathered.ensures shape c.args.type_id) in
-    if_err _ _ c.read_gathered.result (λ e stop. stops_for _ _ (records_good shape c.args.levels c.args.type_id c.args.bytes.now all.0 all.1) e
+    IfErr-weaker c.read_gathered.result _ _ (λ e stop. stops_for _ _ (records_good shape c.args.levels c.args.type_id c.args.bytes.now all.0 all.1) e
     (stop all.0 are)) c.read_gathered.ensures.err

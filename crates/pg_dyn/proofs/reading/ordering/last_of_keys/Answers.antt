@@ -1,16 +1,13 @@
 -- Entries that rise stay as they are, and sorted ones normalize alike.
-use Rattle.std.proofs.Common.{◌≡◌, [], Result, Ok, Err, IfOk, sym, subst, ◌∙◌, rules}
+use Rattle.std.proofs.Common.{◌≡◌, [], sym, subst, ◌∙◌, rules}
 use Rattle.std.specs.Ordering.{is_lt}
+use Rattle.std.proofs.lemmas.Result.{IfOk-weaker}
 use Rattle.std.proofs.lemmas.List.Sorted.{answers_always}
 use Rattle.pg_dyn.specs.message_ref.BorrowedItems.{AreAlike, KeysRise, key_of, ranks_below}
 use Rattle.pg_dyn.specs.reading.Normalized.{placed}
 use Rattle.pg_dyn.proofs.lemmas.message_ref.BorrowedItems.{ranks_entries}
 use Rattle.pg_dyn.proofs.lemmas.reading.entries.NormalizedEntries.{alike_moved, rising_stay, normalized_stable}
 use Rattle.pg_dyn.proofs.reading.ordering.last_of_keys.Goals as goal
-
-if_ok : {T E : Type 0} (P Q : T → Type 0) (r : Result T E) → ((x : T) → P x → Q x) → IfOk r P → IfOk r Q
-if_ok P Q (Ok x) f h = f x h
-if_ok P Q (Err e) f h = tt
 
 pub keys_rise-requires : goal.keys_rise-requires
 keys_rise-requires c = subst AreAlike (sym c.deref.ensures.value) c.requires
@@ -28,4 +25,4 @@ returns c =
     let fs = c.sort_by.new.self.items in
     let stable = c.sort_by.ensures.stable ranks_below ranks_entries (answers_always _ (λ a r. is_lt r ≡ ranks_below a.0.now a.1.0.now) _ (λ f a r g k. search rules)) in
     let same = normalized_stable es fs c.requires c.sort_by.ensures.permutation stable in
-    if_ok (λ v. v.items ≡ placed key_of [] fs) (λ v. v.items ≡ placed key_of [] es) c.put_all.result (λ v is. is ∙ same) c.put_all.ensures
+    IfOk-weaker c.put_all.result (λ v. v.items ≡ placed key_of [] fs) (λ v. v.items ≡ placed key_of [] es) (λ v is. is ∙ same) c.put_all.ensures

@@ -1,5 +1,5 @@
 -- Each element that is there is passed.
-use Rattle.std.proofs.Common.{ℕ, List, inr, ap, ap₂, sym, subst₂, ◌∙◌}
+use Rattle.std.proofs.Common.{ℕ, List, ap, ap₂, sym, subst₂, ◌∙◌}
 use Rattle.pg_wire.specs.declared.record.WireType.{WireType}
 use Rattle.pg_dyn.specs.declared.error.DynError.TheVariants as errors
 use Rattle.pg_dyn.specs.word.Coding.{element_at}
@@ -18,8 +18,7 @@ loop-start-preserved c =
 
 pub returns-in-Err-clause-err : goal.returns-in-Err-clause-err
 returns-in-Err-clause-err c =
-    let e = c.in-Err.ensures.err in
-    inr (
+    let e = c.in-Err.ensures.err in (
       e.0,
       ap (λ x. errors.Wire x) (c.after.ensures ∙ error_after e.0 c.in-Err.error c.args.at e.2),
       row_breaks c.args.scalar c.args.body.now c.loop-start.start c.loop-start.invariant c.loop-start-test.true e.0

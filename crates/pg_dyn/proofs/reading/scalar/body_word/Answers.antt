@@ -1,7 +1,6 @@
 use Rattle.std.proofs.Common.{subst}
 use Rattle.pg_wire.specs.declared.record.WireType.{WireType}
-use Rattle.pg_dyn.specs.word.Coding.{word_in}
-use Rattle.pg_dyn.specs.fitting.ScalarItems.{HasShape}
+use Rattle.pg_dyn.specs.word.Coding.{word_in, HasShape}
 use Rattle.pg_dyn.proofs.lemmas.laws.Bodies.{word_read, word_not_refused}
 use Rattle.pg_dyn.proofs.reading.scalar.body_word.Goals as goal
 

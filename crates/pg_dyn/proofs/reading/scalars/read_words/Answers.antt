@@ -6,14 +6,13 @@ use Rattle.pg_schema.specs.Parts.{field_shape}
 use Rattle.pg_wire.specs.declared.record.WireType.{WireType}
 use Rattle.pg_wire.specs.Reads.{seen_record}
 use Rattle.pg_wire.specs.Records.{IsRecord}
-use Rattle.pg_dyn.specs.word.Coding.{form_wire, scalar_form}
+use Rattle.pg_dyn.specs.word.Coding.{form_wire, scalar_form, HasShape}
 use Rattle.pg_dyn.specs.word.NumberLists.{number_item}
 use Rattle.pg_dyn.specs.reading.ByFields.{StopsFor}
 use Rattle.pg_dyn.specs.reading.Content.{leaves_in, packed_leaves, takes}
 use Rattle.pg_dyn.specs.reading.Held.{read_as}
 use Rattle.pg_dyn.specs.reading.ItemRuns.{AllRead}
 use Rattle.pg_dyn.specs.reading.Steps.{RowReads}
-use Rattle.pg_dyn.specs.fitting.ScalarItems.{HasShape}
 use Rattle.pg_dyn.proofs.lemmas.reading.FieldKinds.{packable_as}
 use Rattle.pg_dyn.proofs.lemmas.reading.runs.NumberRuns.{own_number, row_numbers}
 use Rattle.pg_dyn.proofs.lemmas.reading.runs.ScalarRuns.{ItemsSoFar, own_shape, row_there}

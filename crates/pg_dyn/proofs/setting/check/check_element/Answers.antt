@@ -5,7 +5,7 @@ use Rattle.pg_schema.specs.declared.parts.field.Scalar.TheVariants.{Int32}
 use Rattle.pg_schema.specs.Parts.{shape_of}
 use Rattle.pg_dyn.specs.setting.ContentFaults.{ElementFault}
 use Rattle.pg_dyn.specs.fitting.ContentFits.{ItemFits}
-use Rattle.pg_dyn.specs.setting.Reported.{Reports}
+use Rattle.pg_dyn.specs.inner.Reported.{Reports}
 use Rattle.pg_dyn.specs.declared.error.DynError.TheVariants as errors
 use Rattle.pg_dyn.proofs.lemmas.fitting.ItemLeaves.{child_text}
 use Rattle.pg_dyn.proofs.lemmas.setting.ContentChecks.{reported_scalar, reported_other}

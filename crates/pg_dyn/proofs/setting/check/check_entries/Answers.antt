@@ -1,5 +1,6 @@
 use Rattle.pg_schema.specs.Parts.{shape_of}
-use Rattle.pg_dyn.specs.setting.Reported.{EntryFault, EntryFits}
+use Rattle.pg_dyn.specs.inner.Reported.{EntryFault}
+use Rattle.pg_dyn.specs.fitting.ContentFits.{EntryFits}
 use Rattle.pg_dyn.proofs.lemmas.setting.ContentChecks.{entry_right}
 use Rattle.pg_dyn.proofs.lemmas.setting.LowestFault.{reported_more, reported_all}
 use Rattle.pg_dyn.proofs.setting.check.check_entries.Goals as goal

@@ -1,7 +1,8 @@
 -- what is reported of the entries so far
 use Rattle.std.proofs.Common.{take}
 use Rattle.pg_schema.specs.Parts.{shape_of}
-use Rattle.pg_dyn.specs.setting.Reported.{EntryFault, EntryFits}
+use Rattle.pg_dyn.specs.inner.Reported.{EntryFault}
+use Rattle.pg_dyn.specs.fitting.ContentFits.{EntryFits}
 use Rattle.pg_dyn.proofs.lemmas.setting.ContentChecks.{entry_right}
 use Rattle.pg_dyn.proofs.lemmas.setting.LowestFault.{ReportsEach}
 use Rattle.pg_dyn.proofs.setting.check.check_entries.Given as goal

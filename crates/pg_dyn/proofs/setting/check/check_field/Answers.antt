@@ -7,8 +7,8 @@ use Rattle.pg_schema.specs.Parts.{field_shape, shape_of}
 use Rattle.pg_dyn.specs.declared.message.Content.{Content}
 use Rattle.pg_dyn.specs.declared.message.Value.{Value}
 use Rattle.pg_dyn.specs.setting.ContentFaults.{ElementFault, FieldFault, FirstOf}
-use Rattle.pg_dyn.specs.fitting.ContentFits.{ItemFits}
-use Rattle.pg_dyn.specs.setting.Reported.{EntryFault, EntryFits, ItemsFit, Reports}
+use Rattle.pg_dyn.specs.fitting.ContentFits.{ItemFits, EntryFits, ItemsFit}
+use Rattle.pg_dyn.specs.inner.Reported.{EntryFault, Reports}
 use Rattle.pg_dyn.proofs.lemmas.setting.ContentChecks.{reported_list, reported_map}
 use Rattle.pg_dyn.proofs.setting.check.check_field.Goals as goal
 

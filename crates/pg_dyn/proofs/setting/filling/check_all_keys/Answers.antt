@@ -2,7 +2,7 @@ use Rattle.std.proofs.Common.{ℕ, inl, inr, ⊎_elim}
 use Rattle.pg_schema.specs.Parts.{shape_of}
 use Rattle.pg_dyn.specs.declared.message.Content.{Content}
 use Rattle.pg_dyn.specs.setting.ContentFaults.{HasKeyTwice}
-use Rattle.pg_dyn.specs.setting.Reported.{TakesContent}
+use Rattle.pg_dyn.specs.inner.Reported.{TakesContent}
 use Rattle.pg_dyn.proofs.lemmas.fitting.FitsSteps.{each_more}
 use Rattle.pg_dyn.proofs.lemmas.setting.PutLaws.{content_alike}
 use Rattle.pg_dyn.proofs.lemmas.setting.NormalizedLaws.{found_at}

@@ -2,7 +2,7 @@ use Rattle.std.proofs.Common.{ℕ}
 use Rattle.pg_schema.specs.Parts.{shape_of}
 use Rattle.pg_dyn.specs.declared.message.Content.{Content}
 use Rattle.pg_dyn.specs.setting.ContentFaults.{ContentFault}
-use Rattle.pg_dyn.specs.setting.Reported.{TakesContent}
+use Rattle.pg_dyn.specs.inner.Reported.{TakesContent}
 use Rattle.pg_dyn.proofs.lemmas.setting.ContentChecks.{takes_early}
 use Rattle.pg_dyn.proofs.lemmas.setting.LowestFault.{reported_more, reported_all}
 use Rattle.pg_dyn.proofs.setting.filling.check_contents.Goals as goal

@@ -1,6 +1,7 @@
 use Rattle.std.proofs.Common.{arith, ap, sym, subst, map, drop, length, ◌∙◌}
 use Rattle.pg_schema.specs.Parts.{shape_of}
-use Rattle.pg_dyn.specs.setting.Reported.{EntryFits, entry_kept, entry_seen}
+use Rattle.pg_dyn.specs.inner.Reported.{entry_kept, entry_seen}
+use Rattle.pg_dyn.specs.fitting.ContentFits.{EntryFits}
 use Rattle.pg_dyn.specs.fitting.ScalarItems.{IsKeptAs}
 use Rattle.pg_dyn.proofs.lemmas.setting.KeptVariants.{entries_same, keys_same}
 use Rattle.pg_dyn.proofs.lemmas.setting.NormalizedLaws.{all_kept, each_replaced, each_up_to, entry_once, found_at, keep_entry, kept_next, written_back}

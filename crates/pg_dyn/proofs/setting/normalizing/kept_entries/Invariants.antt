@@ -3,7 +3,8 @@ use Rattle.std.proofs.Common.{take}
 use Rattle.std.specs.List.{AllByRecursion}
 use Rattle.pg_schema.specs.Parts.{shape_of}
 use Rattle.pg_dyn.specs.fitting.ScalarItems.{IsKeptAs}
-use Rattle.pg_dyn.specs.setting.Reported.{EntryFits, entry_seen}
+use Rattle.pg_dyn.specs.inner.Reported.{entry_seen}
+use Rattle.pg_dyn.specs.fitting.ContentFits.{EntryFits}
 use Rattle.pg_dyn.proofs.lemmas.setting.NormalizedLaws.{KeptUpTo, keep_entry, entry_once}
 use Rattle.pg_dyn.proofs.setting.normalizing.kept_entries.Given as goal
 

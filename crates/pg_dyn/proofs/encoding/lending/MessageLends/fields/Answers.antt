@@ -1,19 +1,18 @@
 use Rattle.std.proofs.Common.{◌≢◌, [], map, sym, ap, subst, ◌∙◌}
 use Rattle.std.specs.List.{AllByRecursion}
 use Rattle.pg_dyn.specs.message.Kept.{ends, type_of}
-use Rattle.pg_dyn.specs.message.KeptParts.{unknown_of}
-use Rattle.pg_dyn.specs.encoding.Lending.{AreOf, all_parts}
-use Rattle.pg_dyn.specs.message.Replacing.{kept_onto}
+use Rattle.pg_dyn.specs.message.KeptParts.{AreOf, unknown_of}
+use Rattle.pg_dyn.specs.message.Replacing.{all_parts, kept_onto}
 use Rattle.pg_dyn.specs.message.Seen.{IsFilled, content_seen, record_seen}
-use Rattle.pg_dyn.proofs.lemmas.encoding.LentParts.{owned_filled, owned_whole}
+use Rattle.pg_dyn.proofs.lemmas.encoding.LentParts.{owned_filled}
 use Rattle.pg_dyn.proofs.Lists.{each_of_all, each_weaker}
-use Rattle.pg_dyn.proofs.lemmas.message.ReplacingLaws.{content_number}
+use Rattle.pg_dyn.proofs.lemmas.message.ReplacingLaws.{content_number, shown_whole}
 use Rattle.pg_dyn.proofs.encoding.lending.MessageLends.fields.Goals as goal
 
 pub returns-clause-whole : goal.returns-clause-whole
 returns-clause-whole c =
     let a = c.self.inside in
-    owned_whole a.fields.items a.type_id (map record_seen a.unknown.items) c.args.self.now c.self.view_is
+    shown_whole content_seen a.fields.items a.type_id (map record_seen a.unknown.items) c.args.self.now c.self.view_is
     ∙ ap (λ ms. kept_onto (all_parts content_seen ms) (ends (type_of c.args.self.now) (unknown_of c.args.self.now))) (sym c.deref.ensures.value)
 
 pub returns-clause-filled : goal.returns-clause-filled

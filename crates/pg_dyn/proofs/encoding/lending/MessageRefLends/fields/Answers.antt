@@ -3,18 +3,18 @@ use Rattle.std.specs.List.{AllByRecursion}
 use Rattle.pg_wire.specs.Reads.{seen_record}
 use Rattle.pg_dyn.specs.message_ref.Borrowed.{IsFilled, content_seen}
 use Rattle.pg_dyn.specs.message.Kept.{ends, type_of}
-use Rattle.pg_dyn.specs.message.KeptParts.{unknown_of}
-use Rattle.pg_dyn.specs.encoding.Lending.{AreOf, all_parts}
-use Rattle.pg_dyn.specs.message.Replacing.{kept_onto}
+use Rattle.pg_dyn.specs.message.KeptParts.{AreOf, unknown_of}
+use Rattle.pg_dyn.specs.message.Replacing.{all_parts, kept_onto}
 use Rattle.pg_dyn.proofs.lemmas.message_ref.BorrowedParts.{content_number}
-use Rattle.pg_dyn.proofs.lemmas.encoding.LentParts.{lent_filled, lent_whole}
+use Rattle.pg_dyn.proofs.lemmas.encoding.LentParts.{lent_filled}
+use Rattle.pg_dyn.proofs.lemmas.message.ReplacingLaws.{shown_whole}
 use Rattle.pg_dyn.proofs.Lists.{each_of_all, each_weaker}
 use Rattle.pg_dyn.proofs.encoding.lending.MessageRefLends.fields.Goals as goal
 
 pub returns-clause-whole : goal.returns-clause-whole
 returns-clause-whole c =
     let a = c.self.inside in
-    lent_whole content_seen a.fields.items a.type_id (map seen_record a.unknown.items) c.args.self.now c.self.view_is
+    shown_whole content_seen a.fields.items a.type_id (map seen_record a.unknown.items) c.args.self.now c.self.view_is
     ∙ ap (λ ms. kept_onto (all_parts content_seen ms) (ends (type_of c.args.self.now) (unknown_of c.args.self.now))) (sym c.deref.ensures.value)
 
 pub returns-clause-filled : goal.returns-clause-filled

@@ -1,7 +1,6 @@
 -- What a test of contents reports: nothing, or of what is wrong the error of the lowest code. A key that is there twice is found by a test
 -- of its own, since two contents of one oneof are reported before it.
 use Rattle.std.specs.Prelude.{◌≡◌, ℕ, ◌<◌, ⊤, Bool, true, false, length, nat_eq, Some, Result, Ok, Err}
-use Rattle.std.specs.List.{AllByRecursion}
 use Rattle.pg_schema.specs.declared.parts.field.TypeId.{TypeId}
 use Rattle.pg_schema.specs.declared.parts.field.Scalar.{Scalar}
 use Rattle.pg_schema.specs.declared.parts.field.Element.{Element}
@@ -14,38 +13,26 @@ use Rattle.pg_dyn.specs.declared.error.DynError.{DynError}
 use Rattle.pg_dyn.specs.declared.message.Content.{Content}
 use Rattle.pg_dyn.specs.declared.message.Content.TheVariants as contents
 use Rattle.pg_dyn.specs.declared.message.Value.{Value}
-use Rattle.pg_dyn.specs.setting.ContentFaults.{ElementFault, FirstFault, code, IsLowest}
-use Rattle.pg_dyn.specs.fitting.ContentFits.{ItemFits, is_zero_value}
+use Rattle.pg_dyn.specs.setting.ContentFaults.{ElementFault, FirstOfTwo, IsLowest}
+use Rattle.pg_dyn.specs.error.Codes.{code_of}
+use Rattle.pg_dyn.specs.fitting.ContentFits.{ItemsFit, is_zero_value}
 use Rattle.pg_dyn.specs.message.KeptParts.{KeptItem}
 use Rattle.pg_dyn.specs.message.Message.{Leaf}
 use Rattle.pg_dyn.specs.message.Seen.{item_seen, leaf_of}
-use Rattle.pg_dyn.specs.fitting.ScalarItems.{IsItemOf}
 use Rattle.pg_dyn.specs.fitting.Texts.{kept_item}
 
 -- all is right, or the error is the lowest fault, and not that of a key twice
 abbrev pub Reports : Type 0 → (DynError → Type 0) → Result (Unit {0}) DynError → Type 0
 Reports Right Fault (Ok t) = Right
-Reports Right Fault (Err e) = IsLowest Fault e × (code e < 605)
+Reports Right Fault (Err e) = IsLowest Fault e × (code_of e < 605)
 
 -- the code of what is reported; where nothing is, it is above all
 abbrev pub reported_code : Result (Unit {0}) DynError → ℕ
 reported_code (Ok t) = 1000
-reported_code (Err e) = code e
-
--- an entry of a map
-abbrev pub EntryFits : Shape → Scalar → Element → Value × Value → Type 0
-EntryFits shape key element e = IsItemOf key e.0 × ItemFits shape element e.1
+reported_code (Err e) = code_of e
 
 abbrev pub EntryFault : Shape → Scalar → Element → Value × Value → DynError → Type 0
-EntryFault shape key element e error = FirstFault (ElementFault shape (elements.Scalar key) e.0) (ElementFault shape element e.1) error
-
--- the content has the shape of the presence, and each item is one of its element
-abbrev pub ItemsFit : Shape → Presence → Element → Content → Type 0
-ItemsFit shape presences.Implicit element (contents.One value) = ItemFits shape element value
-ItemsFit shape presences.Explicit element (contents.One value) = ItemFits shape element value
-ItemsFit shape (presences.Repeated packed) element (contents.Many vs) = AllByRecursion (ItemFits shape element) vs.items
-ItemsFit shape (presences.Map key) element (contents.Map es) = AllByRecursion (EntryFits shape key element) es.items
-ItemsFit shape presence element content = ⊥
+EntryFault shape key element e error = FirstOfTwo (ElementFault shape (elements.Scalar key) e.0) (ElementFault shape element e.1) error
 
 -- the content is one of the field of its number, but for keys twice
 pub record IsTaken (shape : Shape) (type : TypeId) (number : ℕ) (content : Content) (f : FieldShape) : Type 0 where
