@@ -1,11 +1,2 @@
-pub mod examples
-pub mod lists
-pub mod writing
-pub mod descriptor
-pub mod reading
-pub mod written
-pub mod order
-pub mod refusals
-pub mod round_trip
-pub mod outline
-pub mod rows
+pub mod ReadAgain
+pub mod Rules

@@ -1,7 +1,3 @@
-pub mod round_trip
-pub mod descriptor
-pub mod examples
 pub mod inner
 pub mod refusals
-pub mod stated
-pub mod writing
+pub mod round_trip

@@ -1,5 +1,1 @@
-pub mod Declarations
-pub mod Lent
-pub mod Rows
-pub mod reading
-pub mod writing
+pub mod OfRules

@@ -1,3 +1,3 @@
-pub mod Refused
 pub mod ErrorCodes
-pub mod BadReferences
+pub mod Refused
+pub mod SetErrors

@@ -1,4 +1,2 @@
-pub mod Readable
 pub mod ReadAgain
 pub mod SourceOrder
-pub mod SetOrder

@@ -2,6 +2,7 @@
 
 use pg_check::CheckError;
 use pg_dyn::DynError;
+use pg_set::SetError;
 use std::alloc::{AllocError, AllocFailed};
 use thiserror::Error;
 
@@ -22,7 +23,7 @@ pub enum FdsError {
     BadType,
     /// E704: an import or a name isn't in the set, occurs twice or is of another kind, imports form
     /// a cycle, an index is out of range, an `optional` field or an entry type isn't in its form,
-    /// or an entry type isn't that of just one field.
+    /// or an entry type belongs to no field, or to several.
     #[error("The set has an invalid reference.")]
     BadReference,
     /// E705: what the set declares breaks a rule of the language, by the rule's error without a
@@ -87,49 +88,19 @@ impl From<AllocError> for FdsError {
     }
 }
 
-/// Why the messages of a set make no schema.
-#[derive(Clone, Copy, Debug, PartialEq, Eq, Drop)]
-pub(crate) enum Unstated {
-    /// Memory was refused.
-    Memory,
-    /// A name, an index or a form isn't what it has to be.
-    Reference,
-}
-
-impl<T: Drop> From<AllocFailed<T>> for Unstated {
+impl From<SetError> for FdsError {
     ghost use Rattle.std.specs.Prelude.{◌≡◌};
-    ghost use Rattle.pg_fds.specs.declared.error.Unstated.TheVariants.{Memory};
+    ghost use Rattle.pg_fds.specs.refusals.SetErrors.{of_set};
 
-    ghost from_gives = { λ _ e. e ≡ Memory };
+    ghost from_gives = { λ set e. e ≡ of_set set };
 
-    fn from(_e: AllocFailed<T>) -> Unstated {
-        Unstated::Memory
-    }
-}
-
-impl From<AllocError> for Unstated {
-    ghost use Rattle.std.specs.Prelude.{◌≡◌};
-    ghost use Rattle.pg_fds.specs.declared.error.Unstated.TheVariants.{Memory};
-
-    ghost from_gives = { λ _ e. e ≡ Memory };
-
-    fn from(_e: AllocError) -> Unstated {
-        Unstated::Memory
-    }
-}
-
-impl From<Unstated> for FdsError {
-    ghost use Rattle.std.specs.Prelude.{◌≡◌, ◌⊎◌};
-    ghost use Rattle.pg_fds.specs.declared.error.FdsError.TheVariants.{BadReference, Memory};
-    ghost use Rattle.pg_fds.specs.declared.error.Unstated.TheVariants as unstated;
-
-    ghost from_gives = { λ u e. ((u ≡ unstated.Memory) × (e ≡ Memory))
-        ⊎ ((u ≡ unstated.Reference) × (e ≡ BadReference)) };
-
-    fn from(error: Unstated) -> FdsError {
+    fn from(error: SetError) -> FdsError {
         match error {
-            Unstated::Memory => FdsError::Memory,
-            Unstated::Reference => FdsError::BadReference,
+            SetError::Memory => FdsError::Memory,
+            SetError::Bytes(error) => FdsError::Bytes(error),
+            SetError::NotProto3 => FdsError::NotProto3,
+            SetError::BadType => FdsError::BadType,
+            SetError::BadReference => FdsError::BadReference,
         }
     }
 }

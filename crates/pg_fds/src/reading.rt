@@ -1,120 +1,21 @@
 //! Descriptor sets, read.
 
-mod codes;
-mod declare;
-mod inner_types;
-mod made_entries;
-mod made_fields;
-mod made_files;
-mod made_oneofs;
-mod made_parts;
-mod made_types;
-mod name_lookup;
-mod named_entries;
-mod names_table;
-mod order;
-mod outline;
-mod set_files;
-mod set_names;
-mod walk;
-
-ghost use Rattle.std.specs.Prelude.{◌≡◌, ◌⊎◌, ℕ, List, None, Some, IfErr, IfOk, OnOk, map};
-ghost use Rattle.std.specs.List.{list_all};
+ghost use Rattle.std.specs.Prelude.{◌≡◌, IfErr, IfOk, OnOk};
 ghost use Rattle.pg_schema.specs.declared.parts.Parts.{Parts as StatedParts};
 ghost use Rattle.pg_schema.specs.rules.Sound.{IsSound};
 ghost use Rattle.pg_check.specs.admitting.PartErrors.{IsRefusedOf};
-ghost use Rattle.pg_dyn.specs.reading.Decoding.{dec};
-ghost use Rattle.pg_dyn.specs.reading.Refusals.{MayRefuse};
-ghost use Rattle.pg_dyn.specs.message.Kept.{message_of};
-ghost use Rattle.pg_check.specs.standing.Places.{most_deep};
-ghost use Rattle.pg_fds.specs.declared.error.Unstated.TheVariants.{Memory};
-ghost use Rattle.pg_fds.specs.round_trip.Readable.{IsReadable};
-ghost use Rattle.pg_fds.specs.descriptor.Descriptor.{written_shape, file_set};
-ghost use Rattle.pg_fds.specs.stated.Reads.{IsNotTooDeep, fds_reads};
-ghost use Rattle.pg_fds.specs.inner.reading.FilePlaces.{AreOrdered};
-ghost use Rattle.pg_fds.specs.inner.reading.Held.{IsHeldMessage};
-ghost use Rattle.pg_fds.specs.inner.reading.OutlinedRows.{files_at};
-ghost use Rattle.pg_fds.specs.stated.PostOrder.{importer_of};
-ghost use Rattle.pg_fds.specs.refusals.Refused.{MayRefuseFiles, MayRefuseSet, NoneIsStated};
-ghost use Rattle.pg_fds.specs.inner.reading.RefusedParts.{IsOfParts, IsOfRules};
-ghost use Rattle.pg_fds.specs.stated.FileMessages.{is_proto3, kept_files, skips};
-ghost use Rattle.pg_fds.specs.stated.Stated.{declared_by, stated, stated_files, stated_of};
-ghost use Rattle.pg_fds.specs.stated.Views.{parts_view};
+ghost use Rattle.pg_set.specs.round_trip.Readable.{IsReadable};
+ghost use Rattle.pg_set.specs.stated.Reads.{IsNotTooDeep, fds_reads};
+ghost use Rattle.pg_set.specs.stated.Views.{parts_view};
+ghost use Rattle.pg_fds.specs.inner.OfRules.{IsOfRules};
+ghost use Rattle.pg_fds.specs.refusals.Refused.{MayRefuseSet, NoneIsStated};
 
-use crate::descriptor::access::{SetMessage, children};
-use crate::descriptor::places::SET;
-use crate::descriptor::{descriptor_schema, proto};
-use crate::error::{FdsError, Unstated};
-use crate::reading::codes::files_have_types;
-use crate::reading::made_parts::made_parts;
-use crate::reading::names_table::SetKeys;
-use crate::reading::order::order;
-use crate::reading::outline::outline_files;
-use crate::reading::set_files::{is_proto3, kept, skips};
+use crate::error::FdsError;
 use pg_check::{CheckError, admit};
-use pg_dyn::laws::faults_are_real;
-use pg_dyn::{DEFAULT_DEPTH_LIMIT, DynError, MessageRef, decode_ref};
 use pg_schema::{Parts, Schema};
+use pg_set::laws::alike_are_sound;
+use pg_set::read_parts;
 use std::alloc::Global;
-
-// What is reported of bytes that the codec refuses so.
-fn undecoded(error: DynError) -> FdsError
-    ensures { (bytes : List ℕ) → MayRefuse written_shape file_set most_deep bytes error
-        → MayRefuseSet bytes result }
-{
-    match error {
-        DynError::Memory => FdsError::Memory,
-        _ => FdsError::Bytes(error),
-    }
-}
-
-// The message of a set.
-fn decoded(alloc: Global, bytes: &[u8]) -> Result<MessageRef<'_>, FdsError>
-    ensures message { IfOk result (λ set. dec written_shape file_set bytes.now
-        ≡ Some (message_of set)) }
-    ensures texts { IfOk result IsHeldMessage }
-    ensures level { OnOk result (IsNotTooDeep bytes.now) }
-    ensures refused { IfErr result (MayRefuseSet bytes.now) }
-{
-    let table = descriptor_schema(alloc)?;
-    match decode_ref(alloc, &table, SET, bytes, DEFAULT_DEPTH_LIMIT) {
-        Ok(set) => Ok(set),
-        Err(error) => Err(undecoded(error)),
-    }
-}
-
-// Whether the files are all proto3.
-fn are_proto3(files: &[SetMessage<'_, '_>]) -> bool
-    ensures { result ≡ list_all is_proto3 (map message_of files.now) }
-{
-    for file in files {
-        let proto3 = is_proto3(file);
-        if !proto3 {
-            return false;
-        }
-    }
-    true
-}
-
-// The parts that the files declare, in that order. Refused, memory aside, only where they declare
-// none.
-fn parts(
-    alloc: Global,
-    keys: SetKeys,
-    skips: bool,
-    files: &[SetMessage<'_, '_>],
-    order: &[usize],
-) -> Result<Parts, Unstated>
-    requires { AreOrdered (map (importer_of skips) (map message_of files.now)) order.now }
-    ensures made { IfOk result (λ made.
-        declared_by skips (files_at (map message_of files.now) order.now)
-        ≡ Some (parts_view made)) }
-    ensures none { IfErr result (λ e. (e ≡ Memory)
-        ⊎ (declared_by skips (files_at (map message_of files.now) order.now) ≡ None)) }
-{
-    let outline = outline_files(alloc, keys, DEFAULT_DEPTH_LIMIT, files, order)?;
-    made_parts(alloc, skips, &outline)
-}
 
 // What is reported of parts that are refused so.
 fn reported(error: CheckError) -> FdsError
@@ -138,82 +39,6 @@ fn admitted(alloc: Global, parts: Parts) -> Result<Schema, FdsError>
     }
 }
 
-// The parts that the files state, which are proto3 and have types that are taken.
-fn kept_parts(
-    alloc: Global,
-    keys: SetKeys,
-    skips: bool,
-    files: &[SetMessage<'_, '_>],
-) -> Result<Parts, FdsError>
-    ensures ok { IfOk result (λ parts. stated_of skips (map message_of files.now)
-        ≡ Some (parts_view parts)) }
-    ensures refused { IfErr result (IsOfParts skips (map message_of files.now)) }
-{
-    let order = order(alloc, skips, files)?;
-    let parts = parts(alloc, keys, skips, files, order.as_slice())?;
-    Ok(parts)
-}
-
-// The parts that the files state.
-fn files_parts(
-    alloc: Global,
-    keys: SetKeys,
-    skips: bool,
-    files: &[SetMessage<'_, '_>],
-) -> Result<Parts, FdsError>
-    ensures ok { IfOk result (λ parts. stated_files skips (map message_of files.now)
-        ≡ Some (parts_view parts)) }
-    ensures refused { IfErr result (MayRefuseFiles skips (map message_of files.now)) }
-{
-    let proto3 = are_proto3(files);
-    if !proto3 {
-        return Err(FdsError::NotProto3);
-    }
-    let typed = files_have_types(alloc, files)?;
-    if !typed {
-        return Err(FdsError::BadType);
-    }
-    kept_parts(alloc, keys, skips, files)
-}
-
-// The parts that a set's message states.
-fn set_parts(alloc: Global, keys: SetKeys, set: &SetMessage<'_, '_>) -> Result<Parts, FdsError>
-    ensures ok { IfOk result (λ parts. stated (message_of set.now) ≡ Some (parts_view parts)) }
-    ensures refused { IfErr result (MayRefuseFiles (skips (message_of set.now))
-        (kept_files (message_of set.now))) }
-{
-    let all_files = children(alloc, set, proto::SET_FILE)?;
-    let all = all_files.as_slice();
-    let skips = skips(all);
-    let kept_files = kept(alloc, all)?;
-    let files = kept_files.as_slice();
-    files_parts(alloc, keys, skips, files)
-}
-
-// The parts that the bytes state. The message of the set is dropped with this call, so that it
-// takes no memory while the rules are tested.
-fn bytes_parts(alloc: Global, bytes: &[u8]) -> Result<Parts, FdsError>
-    ensures ok { IfOk result (λ parts. fds_reads bytes.now parts) }
-    ensures level { OnOk result (IsNotTooDeep bytes.now) }
-    ensures refused { IfErr result (MayRefuseSet bytes.now) }
-{
-    let set = decoded(alloc, bytes)?;
-    let message = SetMessage::new(&set);
-    let keys = SetKeys::of(bytes);
-    set_parts(alloc, keys, &message)
-}
-
-// The schema that the bytes state.
-fn bytes_schema(alloc: Global, bytes: &[u8]) -> Result<Schema, FdsError>
-    ensures ok { IfOk result (λ schema. fds_reads bytes.now schema) }
-    ensures sound { IfOk result IsSound }
-    ensures level { OnOk result (IsNotTooDeep bytes.now) }
-    ensures refused { IfErr result (MayRefuseSet bytes.now) }
-{
-    let parts = bytes_parts(alloc, bytes)?;
-    admitted(alloc, parts)
-}
-
 /// The schema that the bytes of a descriptor set state (descriptor.proto; docs/PROOFS.md,
 /// "Descriptor sets"). Files may come in any order; those of the schema are in post-order of
 /// imports, begun at the set's in their order. File after file, message types and services are
@@ -225,12 +50,12 @@ fn bytes_schema(alloc: Global, bytes: &[u8]) -> Result<Schema, FdsError>
 /// field has a type or a label that isn't taken, or no type; `BadReference` where the files state
 /// nothing, since an import or a name isn't there, occurs twice or is of another kind, imports form
 /// a cycle, an index is out of range, an `optional` field or an entry type isn't in its form, or an
-/// entry type isn't that of just one field; `Rule` with the error of the first rule that what they
-/// state breaks. A file `google/protobuf/descriptor.proto` that isn't proto3 is left out, as are
-/// imports of it. `Memory` may come in place of any. The others, but for messages nested too deep,
-/// come only where the bytes state no schema. The schema that is answered is the one that they
-/// state, and one whose own set states it again: so `read_again` gives it back where message types
-/// are nested at most 64 deep.
+/// entry type belongs to no field, or to several; `Rule` with the error of the first rule that what
+/// they state breaks. A file `google/protobuf/descriptor.proto` that isn't proto3 is left out, as
+/// are imports of it. `Memory` may come in place of any. The others, but for messages nested too
+/// deep, come only where the bytes state no schema. The schema that is answered is the one that
+/// they state, and one whose own set states it again: so `read_again` gives it back where message
+/// types are nested at most 64 deep.
 pub fn read(alloc: Global, bytes: &[u8]) -> Result<Schema, FdsError>
     ensures ok { IfOk result (λ schema. fds_reads bytes.now schema) }
     ensures sound { IfOk result IsSound }
@@ -241,7 +66,10 @@ pub fn read(alloc: Global, bytes: &[u8]) -> Result<Schema, FdsError>
     ensures readable { IfOk result IsReadable }
     ensures none_stated { IfErr result (NoneIsStated bytes.now) }
 {
-    // Bytes that have a fault, other than a message too deep, have no reading.
-    faults_are_real();
-    bytes_schema(alloc, bytes)
+    // What keeps to the rules is told by what is shown.
+    alike_are_sound();
+    // The message of the set is dropped with this call, so that it takes no memory while the rules
+    // are tested.
+    let parts = read_parts(alloc, bytes)?;
+    admitted(alloc, parts)
 }

@@ -3,13 +3,15 @@
 ghost use Rattle.std.specs.Prelude.{◌≡◌, ◌⊎◌, IfErr, IfOk};
 ghost use Rattle.pg_schema.specs.rules.Sound.{IsSound};
 ghost use Rattle.pg_fds.specs.declared.error.FdsError.TheVariants as errors;
-ghost use Rattle.pg_fds.specs.round_trip.ReadAgain.{IsReadAgain, IsTooLong, MayRefuseAgain, SetStates};
-ghost use Rattle.pg_fds.specs.stated.Views.{parts_view};
+ghost use Rattle.pg_set.specs.round_trip.Readable.{IsReadAgain};
+ghost use Rattle.pg_set.specs.stated.Views.{parts_view};
+ghost use Rattle.pg_fds.specs.round_trip.ReadAgain.{IsTooLong, MayRefuseAgain, SetStates};
 
 use crate::error::FdsError;
 use crate::reading::read;
 use crate::writing::write;
 use pg_schema::Schema;
+use pg_set::laws::read_again_are_readable;
 use std::alloc::Global;
 
 /// The schema that `read` makes of what `write` writes. Where each file imports no path twice and
@@ -19,7 +21,7 @@ use std::alloc::Global;
 ///
 /// Of any other it is a schema that the same set states, and the errors are those of `write` and of
 /// `read`.
-#[tactic(auto, using(crate::proofs::lemmas::round_trip::ReadAgain::write_refused))]
+#[tactic(auto, using(crate::proofs::lemmas::ReadAgain::write_refused))]
 pub fn read_again(alloc: Global, schema: &Schema) -> Result<Schema, FdsError>
     ensures stated { IfOk result (SetStates schema.now) }
     ensures sound { IfOk result IsSound }
@@ -29,8 +31,9 @@ pub fn read_again(alloc: Global, schema: &Schema) -> Result<Schema, FdsError>
         → (e ≡ errors.Memory) ⊎ IsTooLong schema.now e) }
     ensures reported { IfErr result (MayRefuseAgain schema.now) }
 {
-    // What holds of every schema.
+    // What holds of every schema, and of each that is read again.
     schema.parts();
+    read_again_are_readable();
     let bytes = write(alloc, schema)?;
     read(alloc, bytes.as_slice())
 }

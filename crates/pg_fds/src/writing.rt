@@ -1,79 +1,17 @@
 //! Descriptor sets, written.
 
-mod draft;
-mod entries;
-mod enums;
-pub(crate) mod fields;
-mod files;
-mod messages;
-mod records;
-mod scope;
-mod services;
-mod synthetic;
-
-ghost use Rattle.std.specs.Prelude.{◌≡◌, ◌⊎◌, false, true, IfErr, IfOk};
-ghost use Rattle.std.specs.List.{list_all};
+ghost use Rattle.std.specs.Prelude.{◌≡◌, ◌⊎◌, true, IfErr, IfOk};
 ghost use Rattle.pg_dyn.specs.declared.error.DynError.TheVariants as faults;
-ghost use Rattle.pg_check.specs.standing.Nesting.{are_shallow};
+ghost use Rattle.pg_schema.specs.standing.Nesting.{are_shallow};
 ghost use Rattle.pg_fds.specs.declared.error.FdsError.TheVariants as errors;
-ghost use Rattle.pg_fds.specs.round_trip.Readable.{IsReadable};
-ghost use Rattle.pg_fds.specs.stated.Reads.{IsNotTooDeep, fds_reads};
-ghost use Rattle.pg_fds.specs.inner.writing.Drafts.{IsEncodingOf};
-ghost use Rattle.pg_fds.specs.writing.Set.{fds};
-ghost use Rattle.pg_fds.specs.writing.Written.{HasNoSet};
-ghost use Rattle.pg_fds.specs.inner.writing.PutParts.{set_items};
-ghost use Rattle.pg_fds.specs.inner.writing.Writable.{has_counted_imports};
+ghost use Rattle.pg_set.specs.round_trip.Readable.{IsReadable};
+ghost use Rattle.pg_set.specs.stated.Reads.{IsNotTooDeep, fds_reads};
+ghost use Rattle.pg_set.specs.writing.Set.{fds};
+ghost use Rattle.pg_set.specs.writing.Written.{HasNoSet};
 
-use crate::descriptor::places::SET;
-use crate::descriptor::proto;
 use crate::error::FdsError;
-use crate::held_places::see_places;
-use crate::writing::draft::Writer;
-use crate::writing::files::files;
-use pg_dyn::laws::{encoding_spells, reads_again, writing_splits};
-use pg_dyn::{DynError, MAX_ENCODING_LEN};
-use pg_schema::{File, Parts, Schema};
-use pg_wire::laws::lengths_grow;
-use std::alloc::{AllocError, Global};
-
-// An int32 counts up to this.
-const MAX_COUNT: usize = 2147483647;
-
-// The indices of each file's imports are those of an int32.
-fn have_counted_imports(files: &[File]) -> bool
-    ensures { result ≡ list_all has_counted_imports files.now }
-{
-    for file in files {
-        if file.imports.len() > MAX_COUNT {
-            return false;
-        }
-    }
-    true
-}
-
-// The indices of imports are those of an int32. Where they aren't, the set is too long: an import
-// takes two bytes at least.
-#[tactic(auto, using(crate::proofs::lemmas::writing::LongSets::set_too_long))]
-fn are_counted(parts: &Parts) -> bool
-    ensures counted { result ≡ list_all has_counted_imports parts.now.files.items }
-    ensures too_long { result ≡ false → HasNoSet parts.now }
-{
-    lengths_grow();
-    have_counted_imports(&parts.files)
-}
-
-// The bytes of the set's message.
-fn set(alloc: Global, source: &Schema) -> Result<Vec<u8>, AllocError>
-    requires { list_all has_counted_imports source.now.files.items ≡ true }
-    ensures { IfOk result (λ bytes. IsEncodingOf SET (set_items source.now) bytes.items) }
-{
-    // What holds of every schema.
-    let parts = source.parts();
-    let writer = Writer::new(alloc, source);
-    let mut draft = writer.draft(SET);
-    draft.put_children(proto::SET_FILE, files(&writer, &parts.files)?)?;
-    Ok(draft.into_bytes())
-}
+use pg_schema::Schema;
+use std::alloc::Global;
 
 /// The bytes of the schema's descriptor set: a `FileDescriptorSet` of its files, in their order
 /// (descriptor.proto; docs/PROOFS.md, "Descriptor sets"). They are those of the definition, and at
@@ -93,18 +31,8 @@ pub fn write(alloc: Global, schema: &Schema) -> Result<Vec<u8>, FdsError>
     ensures err { IfErr result (λ e. (e ≡ errors.Memory)
         ⊎ ((e ≡ errors.Bytes faults.TooLong) × HasNoSet schema.now)) }
 {
-    see_places(schema);
-    let parts = schema.parts();
-    if !are_counted(parts) {
-        return Err(FdsError::Bytes(DynError::TooLong));
+    match pg_set::write(alloc, schema) {
+        Ok(bytes) => Ok(bytes),
+        Err(error) => Err(FdsError::from(error)),
     }
-    // What holds of what is written.
-    reads_again();
-    encoding_spells();
-    writing_splits();
-    let bytes = set(alloc, schema)?;
-    if bytes.len() > MAX_ENCODING_LEN {
-        return Err(FdsError::Bytes(DynError::TooLong));
-    }
-    Ok(bytes)
 }

@@ -1,8 +1,8 @@
 //! Reads the descriptor set that each line of standard input spells, and prints the set of what it
-//! states, or its refusal. With `source ` in front of a file, as `kit_rows` spells it, it prints the set
-//! of the file's schema; with `decoded ` in front of a set what the written schema reads of it, as
-//! bytes again. `field MESSAGE NUMBER` is answered with the name of that field of the written
-//! schema, and `descriptor_schema` with the names of its message types.
+//! states, or its refusal. With `source ` in front of a file, as `kit_rows` spells it, it prints
+//! the set of the file's schema; with `decoded ` in front of a set what the written schema reads of
+//! it, as bytes again. `field MESSAGE NUMBER` is answered with the name of that field of the
+//! written schema, and `descriptor_schema` with the names of its message types.
 //!
 //! With `retry ` in front of all that, the line is answered again where it lacks memory
 //! (`kit_rows::retry`). For any other line that runs out of memory, `Memory` is printed.

@@ -2,19 +2,12 @@
 use Rattle.std.specs.Prelude.{◌≡◌, ℕ, ◌⊎◌, List}
 use Rattle.pg_schema.specs.declared.parts.Parts.{Parts}
 use Rattle.pg_dyn.specs.declared.error.DynError.TheVariants as faults
-use Rattle.pg_check.specs.standing.StandingParts.{StandingParts}
 use Rattle.pg_fds.specs.declared.error.FdsError.{FdsError}
 use Rattle.pg_fds.specs.declared.error.FdsError.TheVariants as errors
 use Rattle.pg_fds.specs.refusals.Refused.{MayRefuseSet, NoneIsStated}
-use Rattle.pg_fds.specs.stated.Reads.{fds_reads}
-use Rattle.pg_fds.specs.writing.Set.{fds}
-use Rattle.pg_fds.specs.writing.Written.{HasNoSet}
-
--- A schema whose set is read as the same schema: each file imports no path twice and comes after those that it imports,
--- message types are nested at most 64 deep, and message types, enums and services are numbered in the order of a schema
--- that a set states.
-abbrev pub IsReadAgain : Parts → Type 0
-IsReadAgain parts = StandingParts parts
+use Rattle.pg_set.specs.stated.Reads.{fds_reads}
+use Rattle.pg_set.specs.writing.Set.{fds}
+use Rattle.pg_set.specs.writing.Written.{HasNoSet}
 
 -- the schema has no set
 abbrev pub IsTooLong : Parts → FdsError → Type 0

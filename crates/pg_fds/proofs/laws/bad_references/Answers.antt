@@ -1,5 +1,0 @@
-use Rattle.pg_fds.proofs.lemmas.refusals.BadReferences.{bad_references}
-use Rattle.pg_fds.proofs.laws.bad_references.Goals as goal
-
-pub returns : goal.returns
-returns c = bad_references

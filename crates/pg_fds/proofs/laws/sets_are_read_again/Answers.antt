@@ -1,5 +1,0 @@
-use Rattle.pg_fds.proofs.lemmas.round_trip.StatedSets.{sets_again}
-use Rattle.pg_fds.proofs.laws.sets_are_read_again.Goals as goal
-
-pub returns : goal.returns
-returns c = sets_again

@@ -1,5 +1,0 @@
-use Rattle.pg_fds.proofs.lemmas.examples.CauseExamples.{worked_causes}
-use Rattle.pg_fds.proofs.laws.worked_causes.Goals as goal
-
-pub returns : goal.returns
-returns c = worked_causes

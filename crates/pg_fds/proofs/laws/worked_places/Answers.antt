@@ -1,5 +1,0 @@
-use Rattle.pg_fds.proofs.lemmas.examples.PlaceExamples.{worked_places}
-use Rattle.pg_fds.proofs.laws.worked_places.Goals as goal
-
-pub returns : goal.returns
-returns c = worked_places

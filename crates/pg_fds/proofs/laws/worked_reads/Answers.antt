@@ -1,5 +1,0 @@
-use Rattle.pg_fds.proofs.lemmas.examples.ReadExamples.{one_field_read}
-use Rattle.pg_fds.proofs.laws.worked_reads.Goals as goal
-
-pub returns : goal.returns
-returns c = one_field_read

@@ -1,4 +1,0 @@
-pub mod ReadAgain
-pub mod ListedFiles
-pub mod StatedPlaces
-pub mod StatedSets

@@ -1,9 +1,0 @@
-use Rattle.std.proofs.Common.{◌≡◌, take}
-use Rattle.pg_fds.specs.declared.descriptor.places.TheConstants.{ENUM}
-use Rattle.pg_fds.specs.inner.writing.Drafts.{listed}
-use Rattle.pg_fds.specs.writing.Messages.{enums_items}
-use Rattle.pg_fds.specs.writing.Places.{declared_in}
-use Rattle.pg_fds.proofs.writing.enums.enums.Given as goal
-
-abbrev pub invariant-loop-id : goal.invariant-loop-id
-invariant-loop-id l = l.made ≡ listed ENUM (enums_items (declared_in l.writer) (take l.id-index l.ids))

@@ -1,8 +1,0 @@
-use Rattle.std.proofs.Common.{◌≡◌, map, take}
-use Rattle.pg_fds.specs.declared.descriptor.places.TheConstants.{VALUE_RANGE}
-use Rattle.pg_fds.specs.inner.writing.Drafts.{listed}
-use Rattle.pg_fds.specs.writing.Messages.{value_range}
-use Rattle.pg_fds.proofs.writing.enums.ranges.Given as goal
-
-abbrev pub invariant-loop-range : goal.invariant-loop-range
-invariant-loop-range l = l.made ≡ listed VALUE_RANGE (map value_range (take l.range-index l.ranges))

@@ -1,9 +1,0 @@
-use Rattle.std.proofs.Common.{◌≡◌, map, take}
-use Rattle.pg_fds.specs.declared.descriptor.places.TheConstants.{FILE}
-use Rattle.pg_fds.specs.inner.writing.Drafts.{listed}
-use Rattle.pg_fds.specs.writing.Places.{declared_in}
-use Rattle.pg_fds.specs.writing.Set.{file_items}
-use Rattle.pg_fds.proofs.writing.files.files.Given as goal
-
-abbrev pub invariant-loop-file : goal.invariant-loop-file
-invariant-loop-file l = l.made ≡ listed FILE (map (file_items (declared_in l.writer)) (take l.file-index l.files))

@@ -1,0 +1,11 @@
+pub mod examples
+pub mod lists
+pub mod writing
+pub mod descriptor
+pub mod reading
+pub mod written
+pub mod order
+pub mod refusals
+pub mod round_trip
+pub mod outline
+pub mod rows

@@ -1,0 +1,4 @@
+pub mod Deeper
+pub mod ListedFiles
+pub mod StatedPlaces
+pub mod StatedSets

@@ -1,0 +1,12 @@
+pub mod Growing
+pub mod Records
+pub mod Bodies
+pub mod NameLaws
+pub mod Calls
+pub mod SyntheticLaws
+pub mod FieldLaws
+pub mod FileLaws
+pub mod SmallLaws
+pub mod FewOneofs
+pub mod LongSets
+pub mod SoundPlaces

@@ -1,0 +1,5 @@
+pub mod Declarations
+pub mod Lent
+pub mod Rows
+pub mod reading
+pub mod writing
