@@ -11,7 +11,7 @@ use Rattle.pg_dyn.specs.word.NumberLists.{numbers_in}
 use Rattle.pg_dyn.specs.message.Message.{Leaf, Part}
 use Rattle.pg_dyn.specs.message.Kept.{Kept, ends, holds, nests}
 use Rattle.pg_dyn.specs.message.KeptParts.{KeptItem}
-use Rattle.pg_dyn.specs.inner.Weights.{weight}
+use Rattle.pg_dyn.specs.message.Weights.{weight}
 use Rattle.pg_dyn.specs.message.Replacing.{kept_onto, kept_part}
 
 abbrev pub value_weight : ValueRef → ℕ

@@ -81,8 +81,8 @@ fn alone_again(rt: &HostRuntime, call: &str, words: &str) -> io::Result<String> 
 }
 
 /// What is printed of `CALL | OLD SCHEMA | NEW SCHEMA | WORDS`, or of a call without schemas, with
-/// what comes in front of the answer (`kit_rows::retry`). The words are those of the row that shows the
-/// same answer.
+/// what comes in front of the answer (`kit_rows::retry`). The words are those of the row that shows
+/// the same answer.
 pub(crate) fn answer(rt: &HostRuntime, input: &str) -> io::Result<String> {
     let input = unrolled(rt.alloc(), input)?;
     let (call, words) = cut(&input);

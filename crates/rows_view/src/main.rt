@@ -7,8 +7,8 @@
 //! their names. Where bytes follow the schemas, as ` | DIGITS`, it is what the first type of the
 //! new schema hands on of them; or, of several new schemas with ` > ` between them, what the last
 //! of them hands on. With `retry CALL ` in front of the schemas it is that call's answer, made
-//! again where it lacks memory (`kit_rows::retry`). For any other row that runs out of memory, `Memory`
-//! is printed.
+//! again where it lacks memory (`kit_rows::retry`). For any other row that runs out of memory,
+//! `Memory` is printed.
 #![tactic(auto)]
 
 mod overviews;

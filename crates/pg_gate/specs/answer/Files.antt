@@ -8,10 +8,10 @@ use Rattle.pg_check.specs.parts.Sources.{linked_sources}
 use Rattle.pg_check.specs.declared.error.CheckError.{CheckError}
 use Rattle.pg_check.specs.declared.error.CheckError.TheVariants as checks
 use Rattle.pg_dyn.specs.declared.error.DynError.TheVariants as messages
-use Rattle.pg_fds.specs.stated.Reads.{fds_reads}
+use Rattle.pg_set.specs.stated.Reads.{fds_reads}
 use Rattle.pg_fds.specs.refusals.Refused.{MayRefuseSet, NoneIsStated}
-use Rattle.pg_fds.specs.writing.Set.{fds}
-use Rattle.pg_fds.specs.writing.Written.{HasNoSet}
+use Rattle.pg_set.specs.writing.Set.{fds}
+use Rattle.pg_set.specs.writing.Written.{HasNoSet}
 use Rattle.pg_fds.specs.declared.error.FdsError.{FdsError}
 use Rattle.pg_fds.specs.declared.error.FdsError.TheVariants as sets
 use Rattle.pg_link.specs.walk.FolderPath.{path_below}

@@ -9,7 +9,7 @@ use Rattle.pg_dyn.specs.declared.message.Content.TheVariants as contents
 use Rattle.pg_dyn.specs.declared.message.Value.{Value}
 use Rattle.pg_dyn.specs.declared.message.Value.TheVariants as values
 use Rattle.pg_dyn.specs.setting.ContentFaults.{HasKeyTwice}
-use Rattle.pg_dyn.specs.setting.Reported.{ItemsFit}
+use Rattle.pg_dyn.specs.fitting.ContentFits.{ItemsFit}
 use Rattle.pg_dyn.specs.message.Message.{Leaf, Item, Plain, Msg, Message, ends, with_part}
 use Rattle.pg_dyn.specs.word.Coding.{Form, zero_leaf}
 use Rattle.pg_dyn.specs.fitting.Fits.{Fits}

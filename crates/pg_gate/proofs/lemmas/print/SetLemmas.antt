@@ -1,7 +1,7 @@
 -- Why files are refused where no set is written of them.
 use Rattle.std.proofs.Common.{◌≡◌, ◌⊎◌, inl, inr}
 use Rattle.pg_dyn.specs.declared.error.DynError.TheVariants as messages
-use Rattle.pg_fds.specs.writing.Written.{HasNoSet}
+use Rattle.pg_set.specs.writing.Written.{HasNoSet}
 use Rattle.pg_fds.specs.declared.error.FdsError.{FdsError}
 use Rattle.pg_fds.specs.declared.error.FdsError.TheVariants as sets
 use Rattle.pg_link.specs.walk.Walk.{World}

@@ -14,13 +14,13 @@ use Rattle.pg_wire.specs.declared.record.WireType.TheVariants.{Varint, I64, Len,
 use Rattle.pg_wire.specs.Varint.{varint}
 use Rattle.pg_wire.specs.Records.{WireRecord, tag, written}
 use Rattle.pg_dyn.specs.message.Message.{Leaf, Bytes, Plain, Message, Part, is_zero}
-use Rattle.pg_dyn.specs.word.Coding.{form, form_wire, body, zero_leaf, InRange}
+use Rattle.pg_dyn.specs.word.Coding.{form, form_wire, body, zero_leaf, InRange, HasShape}
 use Rattle.pg_dyn.specs.encoding.Writing.{item_record, entry_bytes, key_of, field_records, bytes_of}
 use Rattle.pg_dyn.specs.reading.Decoding.{Reader, is_child, read_item}
 use Rattle.pg_dyn.specs.fitting.Belonging.{KeyFits}
 use Rattle.pg_dyn.specs.views.Comparison.{View, Alike, Kept, Comparand, writes}
 use Rattle.pg_pairs.proofs.lemmas.bounds.Packed.{Reads}
-use Rattle.pg_dyn.specs.laws.Bodies.{BodyShape, IsNestedLeaf}
+use Rattle.pg_dyn.specs.laws.Bodies.{IsNestedLeaf}
 use Rattle.pg_dyn.proofs.Lists.{each_weaker, each_both, flat_map-map, map_map, each_within}
 use Rattle.pg_pairs.specs.gaps.Likeness.{like}
 use Rattle.pg_pairs.specs.gaps.Gaps.{body_length}
@@ -166,7 +166,7 @@ leafy_seen view child f g c leafy_old leafy_new is_like holds seen =
       number_is = holds.number_is;
       body_read = record {
         read = seen_read view f.element g.element c.written seen;
-        shape = subst (λ w. BodyShape w (body (form f.element) c.written)) (same_wire-true _ _ (like_wire f.element g.element is_like)) (comparand_reads f.element c holds.item).shape;
+        shape = subst (λ w. HasShape w (body (form f.element) c.written)) (same_wire-true _ _ (like_wire f.element g.element is_like)) (comparand_reads f.element c holds.item).shape;
       };
       nested = reader.nested_is c.written;
       child_there = reader.child_is (body (form f.element) c.written);

@@ -14,11 +14,10 @@ use Rattle.pg_schema.specs.Shape.{FieldShape}
 use Rattle.pg_schema.specs.ShapeRules.{PresenceFits}
 use Rattle.pg_wire.specs.Varint.{varint}
 use Rattle.pg_dyn.specs.message.Message.{Leaf, is_zero}
-use Rattle.pg_dyn.specs.word.Coding.{form, body, zero_leaf, InRange, word_bytes}
+use Rattle.pg_dyn.specs.word.Coding.{form, body, zero_leaf, InRange, word_bytes, HasShape}
 use Rattle.pg_dyn.specs.reading.Decoding.{Reader}
 use Rattle.pg_dyn.specs.encoding.Writing.{key_of}
 use Rattle.pg_dyn.specs.fitting.Belonging.{KeyFits}
-use Rattle.pg_dyn.specs.laws.Bodies.{BodyShape}
 use Rattle.pg_dyn.specs.views.Comparison.{Comparand, writes}
 use Rattle.pg_dyn.proofs.Lists.{each_weaker, each_both, each_of_all, each_before, each_after}
 use Rattle.pg_pairs.specs.declared.choices.case.Case.{Case}
@@ -271,7 +270,7 @@ module _ (enum_view : EnumView) (law : IsEnumView enum_view) (table : Table) (ch
         key_there = key_there k c holds.key_fits;
         key_seen = record {
           read = seen_read enum_view.alike (elements.Scalar k) (elements.Scalar l) (key_of k (writes c)) seen;
-          shape = subst (λ w. BodyShape w (body (form (elements.Scalar k)) (key_of k (writes c)))) (same_wire-true _ _ (like_wire (elements.Scalar k) (elements.Scalar l) is_like)) reads.shape;
+          shape = subst (λ w. HasShape w (body (form (elements.Scalar k)) (key_of k (writes c)))) (same_wire-true _ _ (like_wire (elements.Scalar k) (elements.Scalar l) is_like)) reads.shape;
         };
         short = omega arith;
       }

@@ -9,11 +9,10 @@ use Rattle.pg_wire.specs.declared.record.WireType.TheVariants.{Varint, I64, Len,
 use Rattle.pg_wire.specs.Varint.{varint}
 use Rattle.pg_wire.specs.Records.{WireRecord, tag, written, length_before}
 use Rattle.pg_dyn.specs.message.Message.{Leaf, Int, F32, F64, Bytes, Part, is_zero}
-use Rattle.pg_dyn.specs.word.Coding.{Form, Integer, Single, Double, Text, Raw, form, form_wire, body, InRange}
+use Rattle.pg_dyn.specs.word.Coding.{Form, Integer, Single, Double, Text, Raw, form, form_wire, body, InRange, HasShape}
 use Rattle.pg_dyn.specs.reading.Content.{same_wire}
 use Rattle.pg_dyn.specs.encoding.Writing.{item_record, field_records, bytes_of}
 use Rattle.pg_pairs.proofs.lemmas.bounds.Packed.{Reads}
-use Rattle.pg_dyn.specs.laws.Bodies.{BodyShape}
 use Rattle.pg_dyn.proofs.Lists.{each_weaker, flat_map-map, map_map, each_within}
 use Rattle.pg_pairs.specs.gaps.Gaps.{body_length}
 use Rattle.pg_pairs.specs.choices.Costs.{with_length, least_of_wire, least_body, least_nonzero, nonzero_body, one_item}
@@ -42,7 +41,7 @@ length-item_record number e item = length-written number (form_wire (form e)) (b
 
 -- Bodies.
 
-least_by_shape : (wire : WireType) (bytes : List ℕ) → BodyShape wire bytes → least_of_wire wire ≤ length (length_before wire bytes ++ bytes)
+least_by_shape : (wire : WireType) (bytes : List ℕ) → HasShape wire bytes → least_of_wire wire ≤ length (length_before wire bytes ++ bytes)
 least_by_shape Varint bytes h = (lengths_grow.4 bytes h).0
 least_by_shape I64 bytes h = omega arith
 least_by_shape I32 bytes h = omega arith
@@ -56,7 +55,7 @@ least_text : (bytes : List ℕ) → is_zero (Bytes bytes) ≡ false → 2 ≤ le
 least_text [] h = absurd (cc)
 least_text (b ∷ bytes) h = omega (arith, lengths_grow.3 (length (b ∷ bytes)), length-append (varint (length (b ∷ bytes))) (b ∷ bytes))
 
-nonzero_by_form : (f : Form) (item : Leaf) → InRange f item → BodyShape (form_wire f) (body f item) → is_zero item ≡ false → least_nonzero f ≤ body_length f item
+nonzero_by_form : (f : Form) (item : Leaf) → InRange f item → HasShape (form_wire f) (body f item) → is_zero item ≡ false → least_nonzero f ≤ body_length f item
 nonzero_by_form (Integer w) item range shape h = least_by_shape w.wire (body (Integer w) item) shape
 nonzero_by_form Single item range shape h = least_by_shape I32 (body Single item) shape
 nonzero_by_form Double item range shape h = least_by_shape I64 (body Double item) shape

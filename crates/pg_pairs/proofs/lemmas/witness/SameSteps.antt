@@ -11,7 +11,7 @@ use Rattle.pg_dyn.specs.declared.message_ref.ValueRef.TheVariants as values
 use Rattle.pg_dyn.specs.message.Message.{Part, is_of}
 use Rattle.pg_dyn.specs.message.Kept.{Kept}
 use Rattle.pg_dyn.specs.message.KeptParts.{KeptItem, parts_of, of_number}
-use Rattle.pg_dyn.specs.inner.Weights.{weight}
+use Rattle.pg_dyn.specs.message.Weights.{weight}
 use Rattle.pg_dyn.specs.message.Kept as kept
 use Rattle.pg_dyn.specs.message.KeptParts as kept_parts
 use Rattle.pg_dyn.specs.message_ref.Borrowed.{leaf_of, item_part, entry_part, item_seen, content_seen}

@@ -4,7 +4,7 @@ use Rattle.std.proofs.lemmas.Result.{on_ok_weaker}
 use denote.Param.Weighed.{at_most}
 use Rattle.pg_dyn.specs.message.Kept.{ends, type_of}
 use Rattle.pg_dyn.specs.message.KeptParts.{unknown_of}
-use Rattle.pg_dyn.specs.inner.Weights.{weight}
+use Rattle.pg_dyn.specs.message.Weights.{weight}
 use Rattle.pg_dyn.specs.message_ref.Borrowed.{fields_onto}
 use Rattle.pg_dyn.specs.word.NumberLists.{numbers_in}
 use Rattle.pg_show.specs.Contents.{content_lines, record_line, value_lines}

@@ -1,7 +1,7 @@
 -- Each call goes to a part of the message. The items, entries and contents before the index have their lines.
 use Rattle.std.proofs.Common.{◌≡◌, ◌+◌, ◌-◌, ◌*◌, ◌++◌, flat_map, None, string_bytes, take}
 use denote.Param.Weighed.{most}
-use Rattle.pg_dyn.specs.inner.Weights.{weight}
+use Rattle.pg_dyn.specs.message.Weights.{weight}
 use Rattle.pg_dyn.specs.word.NumberLists.{numbers_in}
 use Rattle.pg_show.specs.Contents.{content_lines, entry_lines, value_lines}
 use Rattle.pg_show.proofs.Weights.{content_weight, entry_weight, value_weight}

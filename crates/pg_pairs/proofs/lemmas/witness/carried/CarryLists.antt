@@ -15,13 +15,13 @@ use Rattle.pg_wire.specs.Varint.{varint}
 use Rattle.pg_wire.specs.Records.{tag, written, length_before}
 use Rattle.pg_dyn.specs.reading.Optional.{all_some}
 use Rattle.pg_dyn.specs.message.Message.{Leaf, ends, holds, Item, Part}
-use Rattle.pg_dyn.specs.word.Coding.{Form, Integer, Single, Double, Text, Raw, form, form_wire, body, leaf_in, word_bytes, zero_leaf, InRange}
+use Rattle.pg_dyn.specs.word.Coding.{Form, Integer, Single, Double, Text, Raw, form, form_wire, body, leaf_in, word_bytes, zero_leaf, InRange, HasShape}
 use Rattle.pg_dyn.specs.reading.Content.{same_wire, takes, leaves_in, content}
 use Rattle.pg_dyn.specs.encoding.Writing.{item_record, field_records}
 use Rattle.pg_dyn.specs.encoding.Encoding.{cap}
 use Rattle.pg_dyn.specs.reading.Decoding.{read_part, dec}
 use Rattle.pg_dyn.specs.views.Comparison.{Alike, hides_zero, Comparand, writes}
-use Rattle.pg_dyn.specs.laws.Bodies.{BodyShape, IsReadAs}
+use Rattle.pg_dyn.specs.laws.Bodies.{IsReadAs}
 use Rattle.pg_pairs.specs.declared.choices.choice.Pair.{Pair}
 use Rattle.pg_pairs.specs.views.EnumView.{EnumView}
 use Rattle.pg_pairs.specs.gaps.Likeness.{like}
@@ -204,7 +204,7 @@ module _ (enum_view : EnumView) (old new : Shape) (shape_old : IsShape old) (sha
 
       of : (qs : List (Part Item)) → (leaf : Leaf) × (leaf_in (form d) (body (form e) item) ≡ Some leaf) → field_read (dec new) (beside (presences.Repeated w)) (field_records (list true) (writes (leaf_comparand item) ∷ [])) ≡ Some qs → NoneMatches enum_view.alike (list true) (beside (presences.Repeated w)) (leaf_comparand item) qs
       of qs (read, read_is) h =
-          let shape = subst (λ x. BodyShape x (body (form e) item)) (same_wire-true _ _ wires) (bodies_read_again e item range).shape in
+          let shape = subst (λ x. HasShape x (body (form e) item)) (same_wire-true _ _ wires) (bodies_read_again e item range).shape in
           let leaves : leaves_in (beside (presences.Repeated w)) (written number Len (body (form e) item ++ [])) ≡ Some (read ∷ []) =
           leaves_of_one w item read (record { read = read_is; shape = shape }) packable in
           let content_is : content (beside (presences.Repeated w)) (filter (takes (beside (presences.Repeated w))) (written number Len (body (form e) item ++ []) ∷ [])) ≡ Some (map (plain_part number) (read ∷ [])) =

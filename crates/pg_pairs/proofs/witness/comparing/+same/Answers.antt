@@ -7,7 +7,7 @@ use Rattle.pg_schema.specs.Shape.{field_at, fields}
 use Rattle.pg_dyn.specs.views.Comparison.{hides_zero}
 use Rattle.pg_dyn.specs.message.Kept.{type_of}
 use Rattle.pg_dyn.specs.message.KeptParts.{unknown_of}
-use Rattle.pg_dyn.specs.inner.Weights.{weight}
+use Rattle.pg_dyn.specs.message.Weights.{weight}
 use Rattle.pg_dyn.specs.message.KeptParts as kept_parts
 use Rattle.pg_dyn.specs.message_ref.Borrowed.{item_seen}
 use Rattle.std.proofs.lemmas.Result.{IfOk-weaker}

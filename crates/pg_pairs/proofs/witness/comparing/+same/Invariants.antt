@@ -5,7 +5,7 @@ use Rattle.pg_schema.specs.Parts.{field_shape, shape_of}
 use Rattle.pg_schema.specs.Shape.{field_at, fields}
 use Rattle.pg_dyn.specs.declared.message_ref.ContentRef.{ContentRef}
 use Rattle.pg_dyn.specs.message.Kept.{type_of}
-use Rattle.pg_dyn.specs.inner.Weights.{weight}
+use Rattle.pg_dyn.specs.message.Weights.{weight}
 use Rattle.pg_pairs.specs.inner.Comparing.{all_match, is_same_if, keyed}
 use Rattle.pg_pairs.proofs.lemmas.witness.SameSteps.{held_weight, total}
 use Rattle.pg_pairs.proofs.witness.comparing.+same.Given as goal

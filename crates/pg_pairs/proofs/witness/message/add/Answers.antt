@@ -1,7 +1,11 @@
-use Rattle.pg_schema.specs.Parts.{shape_of}
+use Rattle.pg_schema.specs.Parts.{field_shape, shape_of}
 use Rattle.pg_pairs.proofs.lemmas.witness.SetTypes.{type_set}
 use Rattle.pg_pairs.proofs.witness.message.add.Goals as goal
 use Rattle.pg_pairs.proofs.witness.message.add.Goals.{in-Ok, in-Err}
+
+pub put-requires-clause-content : goal.put-requires-clause-content
+put-requires-clause-content c =
+    record { field = field_shape c.args.field.now; found = c.requires.found; items = c.requires.taken.0; once = c.requires.taken.1 }
 
 pub returns-clause-type_is : goal.returns-clause-type_is
 returns-clause-type_is c =
