@@ -14,7 +14,8 @@ What earlier runs on this machine passed isn't proved again; with --anew all is 
 
 It says at the start, and each minute, how long it is likely to take. A line of rt follows the seconds since the start. The last lines are the
 processor seconds of each crate by kind: its proof, its seeds (a second proof, where edits are left to `rt ci`), its edits, its tests, and
-what builds and runs programs, with what tries the built ones. With --costs these become what later runs are measured by (costs.txt).
+what builds and runs programs, with what tries the built ones. With --costs these become what later runs are measured by (costs.txt),
+and the page that has their sums says so (costs_table.py).
 """
 
 import hashlib
@@ -40,7 +41,8 @@ from machine import is_confined, lanes, missing, processors  # noqa: E402
 from try_edits import plan, try_all  # noqa: E402
 
 # What compares the documents, pictures and edits with what they are of: it takes seconds.
-COMPARED = ("docs/model_files.py", "docs/links.py", "docs/pictures.py", "docs/errors.py", "docs/plain_words.py", "gate/held_edits.py")
+COMPARED = ("docs/model_files.py", "docs/links.py", "docs/pictures.py", "docs/errors.py", "docs/plain_words.py", "docs/costs_table.py",
+            "gate/held_edits.py")
 # What tries what was built: the program and the calls with each request for memory refused, the program on rows, and the scripts that
 # call it. The last ones try the launcher and the gate itself.
 TESTERS = (
@@ -55,7 +57,9 @@ TESTERS = (
     "dist/test_ci_causes.py",
     "docs/test_errors.py",
     "docs/test_plain_words.py",
+    "docs/test_costs_table.py",
     "dist/test_packages.py",
+    "gate/test_wrong_copies.py",
     "gate/test_try_edits.py",
     "dist/test_launcher.py",
     "gate/test_gate.py",
@@ -259,7 +263,7 @@ def put_back(room, copied, begun):
 
 def documents_agree():
     """Returns whether the documents name the files that the promise rests on, their links lead somewhere, the pictures are those of their sources,
-    errors have one wording, words are plain, and each public function has an edit."""
+    errors have one wording, words are plain, costs are those that were measured, and each public function has an edit."""
     return all([subprocess.run([f"tools/{it}", "--compare"]).returncode == 0 for it in COMPARED])
 
 
@@ -363,6 +367,7 @@ def main():
         kept = {} if not names else times.read()
         found = {it: {**row, "proof": row["proof"] + row["seeds"]} for it, row in table.items()}
         times.write({**kept, **found})
+        subprocess.run(["tools/docs/costs_table.py", "--write"], check=False)
     return status
 
 

@@ -62,20 +62,72 @@ class Built(Checkout):
         self.is_built()
 
     def test_edits(self):
-        for it in ("crates.txt", "crates/pg_low/src/lib.rt", "crates/pg_low/src/deep/er/deepest.rt", "crates/pg_low/specs/Lib.antt",
+        for it in ("crates/pg_low/src/lib.rt", "crates/pg_low/src/deep/er/deepest.rt", "crates/pg_low/specs/Lib.antt",
                    "crates/protogate/src/main.rt", "crates/protogate/specs/Lib.antt"):
             with self.subTest(it):
                 with open(f"{self.top}/{it}", "a", encoding="utf-8") as file:
                     file.write("more\n")
                 self.is_stale()
                 self.age(f"{self.top}/crates")
-                os.utime(f"{self.top}/crates.txt", (0, 0))
                 os.utime(f"{self.out}/protogate.begun")
                 self.is_built()
 
-    def changes(self, change):
-        """A change by a shell's line, in the folder of the crates, is seen."""
+    def change(self, change):
+        """Makes a change by a shell's line, in the folder of the crates."""
         subprocess.run(["sh", "-ec", change], cwd=f"{self.top}/crates", check=True)
+
+    def changes(self, change):
+        """A change is seen."""
+        self.change(change)
+        self.is_stale()
+
+    def changes_nothing(self, change):
+        """A change is none of what the program is made of, by the contents: without their checksum nobody knows."""
+        self.change(change)
+        self.is_built()
+        self.changes("rm protogate/out/protogate.sum")
+
+    def test_a_crate_that_is_added(self):
+        self.changes_nothing("mkdir -p mine/src; : >mine/src/main.rt; echo 'mine: pg_low hex # one of ours' >>../crates.txt")
+
+    def test_a_folder_that_is_added(self):
+        self.changes_nothing("mkdir mine")
+
+    def test_a_crate_that_is_removed(self):
+        self.changes_nothing("rm -r rows_wire")
+
+    def test_lines_in_another_order(self):
+        self.changes_nothing("printf '# lines\\n\\nprotogate:  pg_low\\npg_low:\\thex # of the kit\\n' >../crates.txt")
+
+    def test_a_crate_that_the_program_uses_is_added(self):
+        self.changes("mkdir -p mine/src; : >mine/src/lib.rt; printf 'mine:\\npg_low: hex mine\\nprotogate: pg_low\\n' >../crates.txt")
+
+    def test_a_crate_in_the_place_of_the_kits_library(self):
+        self.changes("mkdir -p hex/src; : >hex/src/lib.rt; echo 'hex:' >>../crates.txt")
+
+    def test_a_crate_in_its_place_by_its_name_alone(self):
+        self.changes("mkdir -p hex/src; : >hex/src/lib.rt; echo hex >>../crates.txt")
+
+    def test_a_crate_in_its_place_behind_a_comma(self):
+        self.change("printf 'protogate: pg_low\\npg_low: ,hex\\n' >../crates.txt")
+        self.is_built()
+        self.changes("mkdir -p hex/src; : >hex/src/lib.rt; echo 'hex:' >>../crates.txt")
+
+    def test_a_second_line_of_a_crate(self):
+        self.changes("echo 'pg_low: hex' >>../crates.txt")
+
+    def test_a_colon_elsewhere(self):
+        self.changes("sed 's/^pg_low:.*/pg_low hex:/' ../crates.txt >lines; mv lines ../crates.txt")
+
+    def test_no_lines(self):
+        self.changes("rm ../crates.txt")
+
+    def test_a_crate_that_came_and_went_while_the_program_was_built(self):
+        read = stamp.read_now(self.top)
+        stamp.write_sum(self.top, read)
+        self.is_built()
+        self.change("sleep 0.1; mkdir hex; rmdir hex")
+        stamp.write_sum(self.top, read)
         self.is_stale()
 
     def test_a_new_file(self):

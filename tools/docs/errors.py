@@ -30,7 +30,7 @@ VARIANT = re.compile(r'#\[error\("((?:\\.|[^"\\])*)"\)\]\s*(\w+)(\([^)]*\)|\s*\{
 CODES = re.compile(r"^    pub fn code\(.*?^    \}", re.M | re.S)
 ARM = re.compile(r"(\w+)::(\w+)(?:\([^)]*\)|\s*\{[^}]*\})?\s*=>\s*(\d+),")
 # Crates whose errors are at a byte of what they read. Those of the others are in source files, at a line and a column.
-OF_BYTES = ("pg_wire", "pg_dyn", "pg_fds")
+OF_BYTES = ("pg_wire", "pg_dyn", "pg_set", "pg_fds")
 # Of what a descriptor set declares: its variant has a position that is always empty.
 WITHOUT_POSITION = (415,)
 

@@ -162,7 +162,7 @@ def write_report(room, program):
 
 def photograph_report(program):
     """Takes report.png, as Chromium shows the page."""
-    browser = shutil.which("chromium") or shutil.which("chromium-browser") or shutil.which("google-chrome")
+    browser = next(filter(None, map(shutil.which, ("chromium", "chromium-browser", "chromium-headless-shell", "google-chrome"))), None)
     if not browser:
         print("pictures: there is no Chromium", file=sys.stderr)
         return 3

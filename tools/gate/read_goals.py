@@ -12,23 +12,32 @@ prover's search, which proves the body without the edit, finds no proof of it.
   does one of which nothing is said, and one whose check the system ends, as for memory.
 
 What that rests on. `rt check` is asked for these functions alone (`--only`), by their whole paths. It proves them and what they call in the
-crate, and so on down. It runs in a repository of its own, in which nothing is kept of earlier checks but libraries, and, for an edit in
-place, what the check of the same crate's copies proved just before. A function is said to be proved only where a proof of its own statement was admitted, and a proof cites what the
-functions that it calls are proved to do, so it is admitted only where theirs are: no contract of theirs can be left out. Left out are the
-other functions, with their proof files, and lemmas that none of these proofs cites. No edit changes those, and the gate proves them with
-the crate. So a check counts only where each function that was asked for is among those of which something is said, its last line counts
-just these, and each of them is proved but the wrong bodies and what is proved together with one; among them each function without the edit, by
-the same proof files.
+crate, and so on down to stubs. It runs in a repository of its own, in which nothing is kept of earlier checks but libraries, and, for an
+edit in place, what the check of the same crate's copies proved just before. A function is said to be proved only where a proof of its own
+statement was admitted, and a proof cites what the functions that it calls are proved to do, so it is admitted only where theirs are: no
+contract of theirs can be left out. A stub's theorem is admitted as it is stated, and left open (`--allow-holes`): of each function whose
+proof rests on it the prover says that it depends on a hole, and names it. Such a function counts as proved where all that is named are
+theorems of stubs; and what is open in the whole check has to be as many as the stubs that it reached, so nothing else passes as proved. A
+caller knows just the contract of what it calls, and the code of that is shut to its proof: so what is refused over a stub, in a function
+that is proved without the edit over the same stub, would be refused over the body too, and what is proved would be proved. A copy of a
+function that calls itself has the goals of the function but those of the measure by which the calls end, and knows the same of what it
+calls: so what is refused there would be refused in the cycle too. Left out are the other functions, the stubs' bodies, and lemmas that none
+of these proofs cites. No edit changes those, and the gate proves them with the crate. So a check counts only where each function that was
+asked for is among those of which something is said, its last line counts just these, and each of them is proved but the wrong bodies and
+what is proved together with one; among them each function without the edit, by the same proof files.
 """
 
 import re
+from types import MappingProxyType
 
 from why_refused import OPEN, clause_of
 from wrong_copies import CONTROL
 
 # What a wrong body comes to: a goal of its own stays open, it is still proved, or neither is shown.
 REFUSED, PROVED, OTHER = "refused", "proved", "other"
-FUNCTION = re.compile(r"fn (.+?): (proved|not proved|no proof|could not tell|assumed|not assumed)\b")
+FUNCTION = re.compile(r"fn (.+?): (proved|not proved|no proof|could not tell|assumed|not assumed|no holes|depends on a hole)\b(.*)")
+# What is said where stubs leave something open: of a function that rests on none of them, and of one that does.
+OVER_STUBS = ("no holes", "depends on a hole")
 # What the name of a closure, or of another part of a function that the last line doesn't count, has before the function's own name.
 INSIDE = "::fn::"
 # A line that complains of a position: an error, or a note of a goal that stays open.
@@ -49,6 +58,10 @@ FALSE, SOUGHT, LIMITED, BY_HAND = " shown false", "", " at a limit", " by hand"
 # find none of it either where it holds.
 WEAK = " (its like is proved by hand)"
 KIND = re.compile(r"clause-\w+|loop-\w+(?=-preserved|-init)|returns(?!.*clause-)")
+# A name in what the prover says, and what takes the quotes away that it gives to words of its own.
+PLAIN = str.maketrans("", "", "«»")
+SAME = re.compile(r" in the same \d+ declarations as `([^`]*)`$")
+QUOTED = re.compile(r"`([^`]*)`")
 GOAL = re.compile(r"error: `([^`]*)`: |\(`([^`]*)`\)|was not checked: (\S+)")
 
 
@@ -121,6 +134,12 @@ def as_told(goal, how, function, by_hand):
     return clause_of(goal) + how + WEAK * is_weak
 
 
+def states_of(told):
+    """Returns what is said of each function, by its name: past what stubs leave open, `proved` of one that is proved over what they state."""
+    found = {it[1]: it[2] for it in map(FUNCTION.match, told.split("\n")) if it}
+    return {name: "proved" if state in OVER_STUBS else state for name, state in found.items()}
+
+
 def verdict(it, state, lines, searched=frozenset(), by_hand=frozenset()):
     """Returns what the copy or turned function comes to, and what is to be said of it."""
     others = [line for line in lines if not OPEN.search(line) and not UNFIT.match(line) and not LOST.match(line)]
@@ -153,27 +172,52 @@ def may_fail(name, crate, made):
     return False
 
 
-def faults(crate, status, told, made):
-    """Returns what shows that the check says nothing of the wrong bodies: a function that isn't proved and may not fail, one of which nothing is said, a
-    complaint of something else, or another end than the count of what was said."""
-    said = [(found[1], found[2]) for found in map(FUNCTION.match, told.split("\n")) if found]
-    found = [f"{name} is {state}" for name, state in said if state != "proved" and not may_fail(name, crate, made)]
-    asked = [name_of(crate, it) for spot in made.values() for it in (spot.place, *spot.members)]
-    found += [f"{name} is not there" for name in dict.fromkeys(asked) if name not in dict(said)]
-    found += [it for at, lines in complaints(told, made).items() if at is None or at.edit == CONTROL for it in lines]
-    counted = [state for name, state in said if INSIDE not in name]
-    proved = counted.count("proved")
+def named_holes(told):
+    """Returns of each function that rests on holes which these are. Of many the prover may say that they are the same as those of another function."""
+    found = [it for it in map(FUNCTION.match, told.split("\n")) if it and it[2] == "depends on a hole"]
+    said = {it[1]: it[3].translate(PLAIN) for it in found}
+    named = {name: {*QUOTED.findall(text)} for name, text in said.items() if not SAME.match(text)}
+    return {name: named.get(SAME.match(text)[1], set()) if SAME.match(text) else named[name] for name, text in said.items()}
+
+
+def faults_of_stubs(told, stubs_holes):
+    """Returns what shows that something rests on more than stubs: a hole that is none of theirs."""
+    holes = named_holes(told)
+    others = {name: those - {*stubs_holes.values()} for name, those in holes.items()}
+    wrong = [f"{name} rests on {min(those)}" for name, those in others.items() if those]
+    return wrong + [f"{name} rests on a hole of which nothing is said" for name, those in holes.items() if not those]
+
+
+def ended(status, told, states, stubs_holes):
+    """Returns how the check has to end, and how it did: its status, and its last line. This counts the functions of which something is said, and
+    those that are proved, or, where there are stubs, what these leave open."""
+    counted = {name: state for name, state in states.items() if INSIDE not in name}
+    proved, left = [*counted.values()].count("proved"), len({*counted} & {*stubs_holes})
     last = told.rstrip("\n").rpartition("\n")[2]
-    if (status, last) != (int(proved < len(counted)), f"only={len(counted)} proved={proved}"):
-        found.append(f"the check ended with status {status}, {proved} of {len(counted)} functions proved: {last[:200]}")
+    if not stubs_holes:
+        return (int(proved < len(counted)), f"only={len(counted)} proved={proved}"), (status, last)
+    return (int(left > 0 or proved < len(counted)), f"only={len(counted)} holes={left}"), (status, last)
+
+
+def faults(crate, status, told, made, stubs_holes=MappingProxyType({})):
+    """Returns what shows that the check says nothing of the wrong bodies: a function that isn't proved and may not fail, one of which nothing is said, a
+    complaint of something else, or another end than the count of what was said. Of stubs the theorems are given that they leave open, by functions."""
+    states = states_of(told)
+    found = [f"{name} is {state}" for name, state in states.items() if state != "proved" and not may_fail(name, crate, made)]
+    asked = [name_of(crate, it) for spot in made.values() for it in (spot.place, *spot.members)]
+    found += [f"{name} is not there" for name in dict.fromkeys(asked) if name not in states]
+    found += [it for at, lines in complaints(told, made).items() if at is None or at.edit == CONTROL for it in lines]
+    found += faults_of_stubs(told, stubs_holes)
+    wanted, was = ended(status, told, states, stubs_holes)
+    if wanted != was:
+        found.append(f"the check ended with status {was[0]} and {was[1][:200]}, and not with {wanted[0]} and {wanted[1]}")
     return found
 
 
-def verdicts(crate, status, told, made):
+def verdicts(crate, status, told, made, stubs_holes=MappingProxyType({})):
     """Returns what each copy or turned function comes to and what is to be said of it, and what is wrong with the check as a whole: then nothing of it
     counts."""
-    states = {found[1]: found[2] for found in map(FUNCTION.match, told.split("\n")) if found}
-    said, wrong = complaints(told, made), faults(crate, status, told, made)
+    states, said, wrong = states_of(told), complaints(told, made), faults(crate, status, told, made, stubs_holes)
     found = {it: verdict(it, states.get(name_of(crate, at.place)), said.get(it, []), at.searched, at.by_hand) for it, at in made.items()}
     if wrong:
         found = {it: (OTHER, f"NOT TRIED: {wrong[0][:300]}") for it in found}

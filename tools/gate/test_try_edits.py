@@ -1,7 +1,7 @@
 #!/usr/bin/env python3
-"""Tests of try_edits.py: of copies of functions, and of what edits come to.
+"""Tests of try_edits.py and read_goals.py: of what edits come to.
 
-usage: tools/gate/test_try_edits.py    takes some checks of a crate of ten functions, a minute or two
+usage: tools/gate/test_try_edits.py    takes some checks of a crate of a dozen functions, a minute or two
 
 The crate has edits that must not count as refused: one that changes nothing of what is answered, one that breaks a name, one that can't be
 parsed. A tool that took any complaint of the prover for a refusal would pass these. One more crate has a function that isn't proved
@@ -20,301 +20,12 @@ from unittest import mock
 
 sys.dont_write_bytecode = True
 import child_programs  # noqa: E402
-from read_goals import faults, of_edits, verdict, verdicts  # noqa: E402
+from read_goals import faults, verdict, verdicts  # noqa: E402
+from edited_crate import ANSWERS, DOUBLED, DOUBLES, EDITS, FALLS, HALVING, MEASURE, SOURCE, write  # noqa: E402
 from try_edits import plan, said_before, table_of, try_all, try_one  # noqa: E402
-from wrong_copies import CONTROL, Bad, Function, Left, Spot, Turned, answers_in, controls, copies_for, file_of_type  # noqa: E402
-from wrong_copies import functions_in, make_room, spots_of  # noqa: E402
+from wrong_copies import Bad, CONTROL, Function, Spot, Turned  # noqa: E402
 
-SOURCE = """//! Numbers.
-#![tactic(auto)]
-
-ghost use Rattle.std.specs.Prelude.{◌≡◌, ◌+◌, ◌/◌, ◌≤◌, IfSome, IsSome, option_map};
-ghost use Rattle.promises_number.specs.Doubles.{double};
-
-mod halving;
-
-/// A number of which little is asked.
-pub struct Number(pub u8);
-
-impl Number {
-    /// The number as it is.
-    #[inline]
-    pub fn get(&self) -> u8
-        ensures { result ≡ self.now.0 }
-    {
-        self.0
-    }
-}
-
-/// Twice the number.
-pub fn twice(number: u8) -> u16
-    ensures { result ≡ number + number }
-{
-    u16::from(number) * 2
-}
-
-/// The number that follows, where there is one.
-pub fn next(
-    number: u8,
-) -> Option<u8>
-    ensures value { IfSome result (λ found. found ≡ number + 1) }
-    ensures some { number ≤ 254 → IsSome result }
-{
-    number.checked_add(1)
-}
-
-/// Less than it could say.
-pub fn some(number: u8) -> u8 {
-    number // all of it
-}
-
-/// Half the number, where there is one.
-pub fn half(number: Option<u8>) -> Option<u8>
-    ensures { result ≡ option_map (λ found. found / 2) number }
-{
-    number.map(|found| found / 2)
-}
-
-/// Twice the number, as the definition has it.
-pub fn doubled(number: u8) -> u16
-    ensures { result ≡ double number }
-{
-    u16::from(number) + u16::from(number)
-}
-
-/// Zero, one by one.
-pub fn down(number: u8) -> u8
-    ensures { result ≡ 0 }
-{
-    if number == 0 {
-        return 0; // at the end
-    }
-    down(number - 1)
-}
-
-/// Zero, by way of the other.
-#[cycle(both)]
-pub fn one(number: u8) -> u8
-    ensures { result ≡ 0 }
-{
-    if number == 0 {
-        return 0; // of one
-    }
-    other(number - 1)
-}
-
-/// Zero, by way of the one.
-#[cycle(both)]
-pub fn other(number: u8) -> u8
-    ensures { result ≡ 0 }
-{
-    if number == 0 {
-        return 0; // of the other
-    }
-    one(number - 1)
-}
-"""
-# A method of a type that the crate's root declares.
-HALVING = """//! Halves.
-
-ghost use Rattle.std.specs.Prelude.{◌≡◌, ◌/◌};
-
-use crate::Number;
-
-impl Number {
-    /// Half the number.
-    pub fn halved(&self) -> u8
-        ensures { result ≡ self.now.0 / 2 }
-    {
-        self.0 / 2
-    }
-}
-"""
-ANSWERS = """use Rattle.std.proofs.Common.{rules}
-use Rattle.promises_number.proofs.next.Goals as goal
-
-pub returns-clause-value : goal.returns-clause-value
-returns-clause-value c = search rules
-
-pub returns-clause-some : goal.returns-clause-some
-returns-clause-some c = search rules
-"""
-# A method of the name of another, of another type of one file.
-ANOTHER = """
-/// Another number.
-pub struct OtherNumber(pub u8);
-
-impl OtherNumber {
-    /// The number as it is.
-    pub fn get(&self) -> u8 {
-        self.0 // of the other
-    }
-}
-"""
-# A definition that a search opens only where an answer says so.
-DOUBLES = """use Rattle.std.specs.Prelude.{ℕ, ◌+◌}
-
--- twice a number
-unfoldable pub double : ℕ → ℕ
-double n = n + n
-"""
-DOUBLED = """use Rattle.std.proofs.Common.{rules}
-use Rattle.promises_number.specs.Doubles.{double}
-use Rattle.promises_number.proofs.doubled.Goals as goal
-
-pub returns : goal.returns
-unfolding double
-returns c = search rules
-"""
-# What falls with each call.
-MEASURE = """use Rattle.promises_number.proofs.+{cycle}.Given as goal
-"""
-FALLS = """
-abbrev pub decreases-{name} : goal.decreases-{name}
-decreases-{name} l = l.number
-"""
-# What another run of the script says of the tries of a repository's first crate with edits.
 KEY = "import sys; from try_edits import key_of, plan; print(key_of(plan(sys.argv[1])[0]))"
-# By edit: what it turns, and what has to be said of it, or nothing where that is left to rt.
-EDITS = {
-    "one_more": ("    u16::from(number) * 2", "    u16::from(number) * 2 + 1", "twice: returns"),
-    "the_same_otherwise": ("    u16::from(number) * 2", "    u16::from(number) + u16::from(number)", "NOT REFUSED"),
-    "a_sum_that_wraps": ("    u16::from(number) * 2", "    u16::from(number + number)", "twice: overflow"),
-    "a_name_is_lost": ("    u16::from(number) * 2", "    u16::from(numbers) * 2", "BAD EDIT"),
-    "a_type_is_lost": ("    u16::from(number) * 2", "    u32::from(number) * 2", "BAD EDIT"),
-    "a_bracket_is_lost": ("    u16::from(number) * 2", "    (u16::from(number) * 2", "BAD EDIT"),
-    "there_is_none": ("    number.checked_add(1)", "    None", "next: some"),
-    "another_shape": ("    number.checked_add(1)", "    match number { 255 => None, _ => Some(number + 1) }", "REFUSED FOR NO GOAL"),
-    "more_than_double": ("    u16::from(number) + u16::from(number)", "    u16::from(number) + u16::from(number) + 1", "doubled: returns"),
-    "another_shape_of_double": (
-        "    u16::from(number) + u16::from(number)",
-        "    match number { 0 => 0, _ => u16::from(number) + u16::from(number) }",
-        "REFUSED FOR NO GOAL",
-    ),
-    "half": ("        self.0", "        self.0 / 2", "get: returns"),
-    "nothing_is_asked": ("    number // all of it", "    number / 2", "NOT REFUSED"),
-    "another_clause": ("    ensures some { number ≤ 254 → IsSome result }", "    ensures some { number ≤ 255 → IsSome result }", None),
-    "another_struct": ("pub struct Number(pub u8);", "pub struct Number(pub u16);", None),
-    "both": ("    u16::from(number) * 2", "    u16::from(number) * 3", "next: some"),
-    "not_there": ("    number.checked_sub(1)", "    None", "BAD EDIT"),
-    "another_closure": ("|found| found / 2", "|found| found / 3", "half: returns"),
-    "the_end_is_one": ("        return 0; // at the end", "        return 1;", "down: returns"),
-    "the_same_end": ("        return 0; // at the end", "        return number;", "NOT REFUSED"),
-    "an_end_of_another_type": ("        return 0; // at the end", "        return true;", "BAD EDIT"),
-    "one_is_one": ("        return 0; // of one", "        return 1;", "lib.rt one: "),
-    "the_same_one": ("        return 0; // of one", "        return number;", "NOT REFUSED"),
-    "the_other_is_one": ("        return 0; // of the other", "        return 1;", "lib.rt other: "),
-    "a_third": ("        self.0 / 2", "        self.0 / 3", "halving.rt halved: returns"),
-}
-
-
-def write(path, text):
-    os.makedirs(os.path.dirname(path), exist_ok=True)
-    with open(path, "w", encoding="utf-8") as file:
-        file.write(text)
-
-
-class Copies(unittest.TestCase):
-    """What functions a file has, and which of them an edit turns."""
-
-    def setUp(self):
-        self.room = tempfile.TemporaryDirectory()
-        self.addCleanup(self.room.cleanup)
-        write(f"{self.room.name}/src/lib.rt", SOURCE)
-
-    def copy(self, old, new):
-        (found,) = copies_for({"src/lib.rt": SOURCE.replace(old, new)}, self.room.name, "turned")
-        return found
-
-    def test_functions_have_their_comments_and_bodies(self):
-        lines = SOURCE.split("\n")
-        found = {it.name: (lines[it.first], lines[it.opens], lines[it.last]) for it in functions_in(SOURCE)}
-        self.assertEqual(found["get"], ("    /// The number as it is.", "    {", "    }"))
-        self.assertEqual(found["twice"], ("/// Twice the number.", "{", "}"))
-        self.assertEqual(found["next"], ("/// The number that follows, where there is one.", "{", "}"))
-        self.assertEqual(found["some"], ("/// Less than it could say.", "pub fn some(number: u8) -> u8 {", "}"))
-
-    def test_functions_without_a_body_of_lines_are_none(self):
-        text = "trait Read {\n    fn read(&self) -> u8;\n}\n\nfn none() {}\n\nfn one() -> u8 {\n    1\n}\n"
-        self.assertEqual([it.name for it in functions_in(text)], ["one"])
-
-    def test_a_copy_has_a_name_of_its_own(self):
-        found = self.copy("    u16::from(number) * 2", "    0")
-        self.assertEqual(found.lines[1], "pub fn twice_as_turned(number: u8) -> u16")
-        self.assertEqual(found.lines[2:], ("    ensures { result ≡ number + number }", "{", "    0", "}"))
-
-    def test_what_is_no_body_is_left(self):
-        for old, new in [("number + number }", "number }"), ("Number(pub u8)", "Number(u8)"), ("pub fn twice", "fn twice")]:
-            self.assertRaises(Left, self.copy, old, new)
-
-    def test_two_functions_have_two_copies(self):
-        text = SOURCE.replace("* 2", "* 3").replace("checked_add(1)", "checked_add(2)")
-        found = copies_for({"src/lib.rt": text}, self.room.name, "turned")
-        self.assertEqual([it.name for it in found], ["twice_as_turned", "next_as_turned"])
-
-    def test_methods_of_one_name_have_copies_of_their_own(self):
-        text = SOURCE + ANOTHER
-        write(f"{self.room.name}/src/lib.rt", text)
-        both = text.replace("        self.0\n", "        1\n").replace("        self.0 // of the other", "        1")
-        copies = copies_for({"src/lib.rt": both}, self.room.name, "turned")
-        copies += controls(self.room.name, copies)
-        names = [f"get_of_{owner}_as_{edit}" for edit in ("turned", CONTROL) for owner in ("number", "other_number")]
-        self.assertEqual([it.name for it in copies], names)
-        with tempfile.TemporaryDirectory() as room:
-            found = make_room(room, "promises_number", self.room.name, copies)
-        owners = ["Number", "OtherNumber"] * 2
-        self.assertEqual([found[it].place for it in copies], [f"{owner}/{name}" for owner, name in zip(owners, names)])
-
-    def test_an_edit_is_refused_where_one_of_its_copies_is(self):
-        text = SOURCE.replace("* 2", "* 3").replace("add(1)", "add(2)")
-        both = copies_for({"src/lib.rt": text}, self.room.name, "turned")
-        for kinds, wanted in [(("refused", "proved"), True), (("proved", "proved"), False), (("refused", "other"), False)]:
-            found = of_edits(dict(zip(both, zip(kinds, ("said of one", "said of the other")))))
-            self.assertEqual(found["turned"][0], wanted)
-
-    def test_a_function_that_calls_itself_is_tried_in_place(self):
-        texts = {"src/lib.rt": SOURCE.replace("    u16::from(number) * 2", "    twice(number)")}
-        self.assertEqual(copies_for(texts, self.room.name, "turned"), [])
-        ((turned, spot),) = spots_of(texts, self.room.name, "turned").items()
-        self.assertEqual((turned.function.name, spot.place, spot.cycle, spot.members), ("twice", "twice", "twice", ("twice",)))
-        self.assertEqual(self.copy("    u16::from(number) * 2", "    other::twice(number)").name, "twice_as_turned")
-
-    def test_a_function_of_a_cycle_is_tried_in_place(self):
-        texts = {"src/lib.rt": SOURCE.replace("return 0; // of one", "return 1;")}
-        self.assertEqual(copies_for(texts, self.room.name, "turned"), [])
-        ((turned, spot),) = spots_of(texts, self.room.name, "turned").items()
-        self.assertEqual((turned.function.name, spot.place, spot.cycle, spot.members), ("one", "one", "both", ("one", "other")))
-        self.assertEqual(SOURCE.split("\n")[spot.lines[0] - 1], "/// Zero, by way of the other.")
-
-    def test_an_edit_that_turns_one_of_a_cycle_has_no_copies(self):
-        texts = {"src/lib.rt": SOURCE.replace("return 0; // of one", "return 1;").replace("* 2", "* 3")}
-        self.assertEqual(copies_for(texts, self.room.name, "turned"), [])
-        self.assertEqual([it.function.name for it in spots_of(texts, self.room.name, "turned")], ["twice", "one"])
-
-    def test_an_answer_by_a_plain_search_is_told_from_others(self):
-        answers = "use a as goal\n\n{0}{1}pub third : goal.third\nunfolding f\nthird c = search rules\n".format(
-            "pub first : goal.first\nfirst g c = search rules\n\n", "pub second : goal.second\nsecond c =\n    search rules\n\n"
-        )
-        write(f"{self.room.name}/proofs/f/Answers.antt", answers)
-        self.assertEqual(answers_in(self.room.name, "f", "+f"), ({"first"}, {"second", "third"}))
-
-    def test_a_method_stands_with_its_type(self):
-        write(f"{self.room.name}/src/halving.rt", HALVING)
-        self.assertEqual(file_of_type(self.room.name, "src/halving.rt", "Number"), "src/lib.rt")
-        self.assertRaises(Left, file_of_type, self.room.name, "src/halving.rt", "Numbers")
-        write(f"{self.room.name}/src/other.rt", "struct Number;\n")
-        self.assertRaises(Left, file_of_type, self.room.name, "src/halving.rt", "Number")
-        self.assertEqual(file_of_type(self.room.name, "src/other.rt", "Number"), "src/other.rt")
-
-    def test_a_method_of_a_trait_is_left(self):
-        text = SOURCE.replace("impl Number {", "impl Read for Number {")
-        write(f"{self.room.name}/src/lib.rt", text)
-        self.assertRaises(Left, copies_for, {"src/lib.rt": text.replace("self.0\n", "1\n")}, self.room.name, "turned")
-
-    def test_specs_are_left_and_no_change_is_bad(self):
-        self.assertRaises(Left, copies_for, {"specs/Lib.antt": ""}, self.room.name, "turned")
-        self.assertRaises(Bad, self.copy, "", "")
-        self.assertRaises(Bad, copies_for, {"src/lib.rt": SOURCE}, self.room.name, "it_stands")
 
 
 class Said(unittest.TestCase):
@@ -350,6 +61,33 @@ class Said(unittest.TestCase):
         found = faults("x", 1, f"{self.TOLD}\nonly=3 proved=1", made)
         self.assertEqual(found[:3], [f"x::a::{it} is not proved" for it in ("f", "fn::f::map", "g")])
         self.assertIn("it is not proved that", found[3])
+
+    STUBS = {"x::b": "Rattle.x.proofs.b.Proof.left_open"}
+    OVER = TOLD.replace("b: proved", "b: depends on a hole in `Rattle.x.proofs.b.Proof.left_open`") + "\nfn x::c: no holes"
+
+    def test_what_rests_on_stubs_alone_is_proved(self):
+        told = f"{self.OVER}\nfn x::d: depends on a hole in `Rattle.x.proofs.b.Proof.left_open`\nonly=5 holes=1"
+        self.assertEqual(faults("x", 1, told, self.MADE, self.STUBS), [])
+        self.assertEqual(verdicts("x", 1, told, self.MADE, self.STUBS)[0][self.OF][0], "refused")
+        proved = told.replace("a::f: not proved", "a::f: depends on a hole in `Rattle.x.proofs.b.Proof.left_open`")
+        self.assertEqual(verdicts("x", 1, proved, self.MADE, self.STUBS)[0][self.OF][0], "proved")
+
+    def test_what_rests_on_the_same_as_another_rests_on_that(self):
+        told = f"{self.OVER}\nfn x::d: depends on a hole in the same 1 declarations as `x::{{}}`\nonly=5 holes=1"
+        self.assertEqual(faults("x", 1, told.format("b"), self.MADE, self.STUBS), [])
+        for other in ("c", "d", "e"):
+            self.assertEqual(faults("x", 1, told.format(other), self.MADE, self.STUBS), ["x::d rests on a hole of which nothing is said"])
+
+    def test_another_hole_than_those_of_stubs_is_a_fault(self):
+        for said, last in [
+            ("depends on a hole in `Rattle.x.proofs.d.Answers.returns`", "only=5 holes=1"),
+            ("depends on a hole in `Rattle.x.proofs.b.Proof.left_open` and `Rattle.x.proofs.d.Answers.returns`", "only=5 holes=1"),
+            ("depends on a hole", "only=5 holes=1"),
+            ("no holes", "only=5 holes=2"),
+            ("no holes", "only=5 proved=4"),
+            ("not proved; it calls `x::b`, which is not proved", "only=5 holes=1"),
+        ]:
+            self.assertEqual(len(faults("x", 1, f"{self.OVER}\nfn x::d: {said}\n{last}", self.MADE, self.STUBS)), 1)
 
     def test_a_goal_of_another_of_the_cycle_is_no_refusal(self):
         for goal, wanted in [("f-returns", "refused"), ("g-returns", "other")]:
@@ -435,6 +173,11 @@ class Kept(unittest.TestCase):
         kept = self.run_with((True, "src/lib.rt twice: returns"))
         self.assertEqual((kept.is_kept, kept.passed(), kept.failed()), (True, 1, 1))
 
+    def test_an_edit_that_says_what_another_says_fails(self):
+        self.edit("one_more_again", "number) * 2", "number) * 2 + 1")
+        (tries,) = plan(self.room.name)
+        self.assertEqual(tries.said, {"one_more_again": (False, "BAD EDIT: it says what one_more says")})
+
     def test_a_fault_of_one_crate_is_told_and_the_others_are_tried(self):
         write(f"{self.room.name}/crates.txt", "promises_number:\npromises_other:\n")
         shutil.copytree(self.crate, f"{self.room.name}/crates/promises_other")
@@ -449,6 +192,52 @@ class Kept(unittest.TestCase):
             self.assertEqual(try_all(plan(self.room.name), 1, True), (1, 1))
         self.assertIn("promises_number: Bad: a copy is not found", printed.getvalue())
         self.assertIn("promises_other/one_more: src/lib.rt twice: returns", printed.getvalue())
+
+    def tried(self, is_refused):
+        """Returns the tries of the crate where a check of these edits comes to this with stubs and without them, and which edits each check had, as copies
+        and in place."""
+        checks = []
+
+        def try_copies(tries, copies, standing, _):
+            checks.append(([it.edit for it in copies], [it.function.name for it in standing]))
+            found = is_refused(tries.stubs)
+            tries.said.update({it.edit: (found is True, "src/lib.rt twice: returns" if found else "NOT REFUSED") for it in copies})
+            tries.faults += ["a function is not proved"] * (found is None)
+
+        def try_in_place(tries, edit, _):
+            checks.append(edit)
+            tries.said[edit] = (True, "src/lib.rt down: returns")
+
+        (tries,) = plan(self.room.name)
+        mocks = {"try_copies": try_copies, "try_in_place": try_in_place}
+        with mock.patch.multiple("try_edits", **mocks), mock.patch("kit.store", lambda: None):
+            return try_one(tries, True), checks
+
+    def test_what_isn_t_refused_over_stubs_is_tried_over_the_bodies(self):
+        self.edit("the_end_is_one", "        return 0; // at the end", "        return 1;")
+        edits = ["one_more", "the_end_is_one"]
+        tries, checks = self.tried(lambda stubs: True)
+        self.assertEqual((tries.passed(), tries.failed(), tries.over_stubs, checks), (2, 0, [], [(edits, [])]))
+        for over_stubs in (False, None):
+            tries, checks = self.tried(lambda stubs: over_stubs if stubs else True)
+            self.assertEqual((tries.passed(), tries.failed(), checks), (2, 0, [(edits, []), (["one_more"], ["down"]), "the_end_is_one"]))
+            self.assertIn("promises_number: over stubs: one_more: NOT REFUSED", tries.lines())
+
+    def test_what_is_refused_over_stubs_is_not_tried_again(self):
+        self.edit("another_end", "        return 0; // at the end", "        return 2;")
+        (tries,) = plan(self.room.name)
+        tries.said.update({"one_more": (True, "src/lib.rt twice: returns"), "another_end": (False, "NOT REFUSED")})
+        tries.begin_again({"not_there": (False, "BAD EDIT")})
+        self.assertEqual((tries.stubs, sorted(tries.said), tries.over_stubs), ([], ["not_there", "one_more"], ["another_end: NOT REFUSED"]))
+
+    def test_an_edit_that_nothing_refuses_fails(self):
+        def try_each(tries, _):
+            tries.said.update({it.edit: (False, "NOT REFUSED") for it in tries.copies})
+            tries.faults.append("a function is not proved")
+
+        (tries,) = plan(self.room.name)
+        with mock.patch("try_edits.try_each", try_each), mock.patch("kit.store", lambda: None):
+            self.assertEqual((try_one(tries, True).passed(), tries.failed()), (0, 2))
 
     def key(self, folder, seed):
         """Returns what a run of its own, with this seed for the order of sets, says that the tries rest on."""
@@ -505,6 +294,8 @@ class Tries(unittest.TestCase):
     def test_each_edit_comes_to_what_it_is(self):
         tries = self.make(SOURCE, EDITS)
         self.assertEqual(tries.faults, [])
+        again = {edit for edit, (_, _, wanted) in EDITS.items() if wanted and ": " not in wanted} - {"not_there"} | {"it_never_ends"}
+        self.assertEqual({it.partition(":")[0] for it in tries.over_stubs}, again)
         for edit, (_, _, wanted) in EDITS.items():
             is_refused, said = tries.said.get(edit, (False, ""))
             with self.subTest(edit=edit, said=said):
@@ -513,9 +304,10 @@ class Tries(unittest.TestCase):
                 self.assertEqual(is_refused, ": " in (wanted or ""))
 
     def test_where_a_function_as_it_stands_is_not_proved_no_edit_counts(self):
-        of_a_cycle = SOURCE.replace("return 0; // of one", "return 1; // of one"), ("one_more", "the_other_is_one")
+        of_a_cycle = SOURCE.replace("other(number: u8) -> u8\n    ensures { result ≡ 0 }", "other(number: u8) -> u8"), ("one_more", "one_is_one")
         copied = SOURCE.replace("-> u8 {", "-> u8\n    ensures { result ≡ 0 }\n{"), ("one_more", "nothing_is_asked", "the_other_is_one")
-        for source, edits in (of_a_cycle, copied):
+        by_a_body = SOURCE.replace("    ensures { result ≤ 100 }\n{\n    little", "    ensures { result ≤ 9 }\n{\n    little"), ("one_more", "by_a_body_alone")
+        for source, edits in (of_a_cycle, copied, by_a_body):
             tries = self.make(source, {it: EDITS[it] for it in edits})
             self.assertNotEqual(tries.faults, [])
             self.assertEqual((tries.passed(), len(tries.said)), (0, len(edits)))

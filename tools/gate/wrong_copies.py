@@ -5,8 +5,9 @@ original's proof files. Nothing of the originals is changed. For each function w
 NAME_as_it_stands: it has to be proved, so that no wrong copy is refused for its name alone. Copies of a method have its type in their names,
 NAME_of_TYPE_as_EDIT, since a file may have methods of one name for several types.
 
-A function that calls itself, or that is proved together with others (`#[cycle(..)]`), has no copy: what it calls would call the original.
-Its edit is written in place (spots_of), in a copy of the crate of its own.
+A copy of a function that calls itself, or that is proved together with others (`#[cycle(..)]`), calls the originals, and is in no cycle. So
+its proof files are those answers of the cycle's that are its own (alone), and it need not fall by the cycle's measure: a body that breaks just
+this is refused where it is written in place (spots_of), in a copy of the crate of its own.
 """
 
 import collections
@@ -35,7 +36,12 @@ Turned = collections.namedtuple("Turned", "edit path function")
 Spot = collections.namedtuple("Spot", "place lines cycle members searched by_hand", defaults=[frozenset(), frozenset()])
 # An answer in a proof file, and one that is a plain search.
 ANSWERED = re.compile(r"^pub (\S+) : goal\.\1$", re.M)
+# An answer in the proof file of a cycle: its goal, after a word for the kind of those that are no theorems.
+OF_CYCLE = re.compile(r"^(?:abbrev )?pub (decreases-|invariant-|)(\S+) : goal\.\1\2$", re.M)
 SEARCHED = re.compile(r"^pub (\S+) : goal\.\1\n\1(?: \w+)* = search rules$", re.M)
+# A line that takes places from a cycle's goals, and an answer whose first part is a measure's.
+PLACES = re.compile(r"^(use \S*\+\S*\.Goals\.\{)([^}]*)\}\n", re.M)
+MEASURED = re.compile(r" c = \(omega ")
 
 
 class Left(Exception):
@@ -115,7 +121,7 @@ def cycle_named(lines, function):
     return next((it[1] for it in named), "")
 
 
-def can_be_copied(text, function):
+def is_free(text, function):
     """Returns whether the function calls neither itself nor others that call it."""
     lines = text.split("\n")
     return not cycle_named(lines, function) and not calls_itself(function.name, lines[function.opens + 1 : function.last])
@@ -127,14 +133,13 @@ def snake(name):
 
 
 def copy_of(text, path, function, edit):
-    """Returns a copy of this function as this file has it, for this edit."""
+    """Returns a copy of this function as this file has it, for this edit. It is in no cycle."""
     lines = text.split("\n")
     owner = owner_of(lines, function)
     name = f"{function.name}_of_{snake(owner)}_as_{edit}" if owner else f"{function.name}_as_{edit}"
-    own = lines[function.first : function.last + 1]
-    head = function.head - function.first
-    own[head] = own[head].replace(f"fn {function.name}", f"fn {name}", 1)
-    return Copy(edit, path, function, name, tuple(own))
+    above = [it for it in lines[function.first : function.head] if not CYCLE.match(it)]
+    head = lines[function.head].replace(f"fn {function.name}", f"fn {name}", 1)
+    return Copy(edit, path, function, name, (*above, head, *lines[function.head + 1 : function.last + 1]))
 
 
 def text_of(path):
@@ -158,12 +163,11 @@ def functions_of(texts, folder, edit):
 
 
 def copies_for(texts, folder, edit):
-    """Returns the wrong copies of the edit that makes these contents of the crate's files: one of each function that it turns, or none where one of
-    these has no copy."""
+    """Returns the wrong copies of the edit that makes these contents of the crate's files, one of each function that it turns, and whether one of
+    these calls itself, or others that call it."""
     found = functions_of(texts, folder, edit)
-    if not all(can_be_copied(text, it) for path, it in found for text in (text_of(f"{folder}/{path}"), texts[path])):
-        return []
-    return [copy_of(texts[path], path, it, edit) for path, it in found]
+    are_free = [is_free(text, it) for path, it in found for text in (text_of(f"{folder}/{path}"), texts[path])]
+    return [copy_of(texts[path], path, it, edit) for path, it in found], not all(are_free)
 
 
 def controls(folder, copies):
@@ -213,19 +217,29 @@ def places(room, path, copies):
     return {it: Spot(place_of(room, path, lines, at), range(at.first + 1, at.last + 2), "", ()) for it, at in made.items()}
 
 
+def cycle_folders(place, cycle):
+    """Returns the folders of proof files that a cycle may have, nearest first: beside those of a function that is in it, or further up."""
+    above = place.split("/")[:-1]
+    return ["/".join([*above[:count], f"+{cycle}"]) for count in range(len(above), -1, -1)] if cycle else []
+
+
+def cycle_of(text, function):
+    """Returns the name of the cycle that the function is in, which is its own where it just calls itself, and the functions that are."""
+    lines = text.split("\n")
+    cycle = cycle_named(lines, function)
+    return cycle or function.name, [it for it in functions_in(text) if cycle_named(lines, it) == cycle] if cycle else [function]
+
+
 def spots_of(texts, folder, edit):
     """Returns where the functions are that the edit turns which makes these contents of the crate's files: it changes no number of a line."""
     found = {}
     for path, function in functions_of(texts, folder, edit):
         text = text_of(f"{folder}/{path}")
-        lines = text.split("\n")
-        cycle = cycle_named(lines, function)
-        together = [it for it in functions_in(text) if cycle_named(lines, it) == cycle] if cycle else [function]
-        members = tuple(place_of(folder, path, lines, it) for it in together)
+        cycle, together = cycle_of(text, function)
+        members = tuple(place_of(folder, path, text.split("\n"), it) for it in together)
         own = range(function.first + 1, function.last + 2)
-        place = place_of(folder, path, lines, function)
-        beside = f"{place.rpartition('/')[0]}/+{cycle or function.name}".lstrip("/")
-        found[Turned(edit, path, function)] = Spot(place, own, cycle or function.name, members, *answers_in(folder, place, beside))
+        place = place_of(folder, path, text.split("\n"), function)
+        found[Turned(edit, path, function)] = Spot(place, own, cycle, members, *answers_in(folder, place, *cycle_folders(place, cycle)))
     return found
 
 
@@ -234,18 +248,56 @@ def controls_in_place(spots):
     return {it._replace(edit=CONTROL): spot._replace(lines=range(0)) for it, spot in spots.items()}
 
 
-def copy_proof(room, crate, original, place):
-    """Copies what is beside the original's proof, renamed. A name of the original's own modules becomes one of the copy's."""
+def own_places(line, name):
+    """Returns a line that takes places from a cycle's goals with those of the function of this name, as they are where that is in no cycle; nothing where
+    it has none."""
+    places = [it.removeprefix(f"{name}-") for it in line[2].split(", ") if it.startswith(f"{name}-")]
+    return f"{line[1]}{', '.join(places)}}}\n" if places else ""
+
+
+def is_measured(goal, item, members):
+    """Returns whether an answer is one to what a call of one of these requires, with a measure by which it falls."""
+    return goal.endswith("-requires") and goal.split("-")[0] in members and bool(MEASURED.search(item))
+
+
+def alone(text, name, is_only, members=()):
+    """Returns what a cycle's proof file has for the function of this name, as it is where that is in no cycle with these: its goals have no such name,
+    which they don't have in a cycle of one either, and its answers aren't given that all fall by a measure. Those of the measure go, also what a
+    call of one of these requires: beside the measure it is left to the search."""
+    found = []
+    for item in (text if is_only else PLACES.sub(lambda line: own_places(line, name), text)).split("\n\n"):
+        of = OF_CYCLE.search(item)
+        own = of and (of[2] if is_only else of[2].removeprefix(f"{name}-"))
+        if not of:
+            found.append(item)
+        elif "c.decreases" not in item and of[1] + of[2] != f"decreases-{name}" and (is_only or own != of[2]) and not is_measured(own, item, members):
+            found.append(re.sub(rf"(?<!\S)(goal\.)?{re.escape(of[1] + of[2])}((?: g)?)(?: t(?= c =))?(?!\S)", rf"\g<1>{of[1]}{own}\g<2>", item))
+    return "\n\n".join(found)
+
+
+def copy_proof(room, crate, original, place, turn=lambda text: text):
+    """Copies what is in the original's folder of proof files, renamed. A name of the original's own modules becomes one of the copy's."""
     old, new = (it.replace("/", ".") for it in (original, place))
     named = re.compile(rf"(Rattle\.{crate}\.(?:proofs|specs\.contracts)\.){re.escape(old)}(?=[.\s])")
     for at, _, names in os.walk(f"{room}/proofs/{original}"):
         to = f"{room}/proofs/{place}{at.removeprefix(f'{room}/proofs/{original}')}"
-        os.makedirs(to)
+        os.makedirs(to, exist_ok=True)
         for name in names:
-            with open(f"{at}/{name}", encoding="utf-8") as file:
-                text = file.read()
+            text = turn(text_of(f"{at}/{name}"))
             with open(f"{to}/{name}", "w", encoding="utf-8") as file:
                 file.write(named.sub(rf"\g<1>{new}", text))
+
+
+def copy_proofs(room, crate, folder, it, place):
+    """Copies the proof files of a copy's original, and of those of its cycle what is its own."""
+    text = text_of(f"{folder}/{it.path}")
+    original = place_of(folder, it.path, text.split("\n"), it.function)
+    copy_proof(room, crate, original, place)
+    cycle, together = cycle_of(text, it.function)
+    at = next((at for at in cycle_folders(original, cycle) if os.path.isdir(f"{room}/proofs/{at}")), "")
+    if at and not is_free(text, it.function):
+        name = original.removeprefix(at.rpartition("+")[0]).replace("/", "::")
+        copy_proof(room, crate, at, place, lambda text: alone(text, name, len(together) == 1, {it.name for it in together}))
 
 
 def write_copies(room, path, copies):
@@ -274,8 +326,7 @@ def make_room(room, crate, folder, copies):
         write_copies(room, path, inside)
         found.update(places(room, path, inside))
     for it, spot in found.items():
-        original = f"{spot.place.rpartition('/')[0]}/{it.function.name}".lstrip("/")
-        copy_proof(room, crate, original, spot.place)
+        copy_proofs(room, crate, folder, it, spot.place)
         found[it] = Spot(spot.place, spot.lines, spot.cycle, spot.members, *answers_in(room, spot.place))
     return found
 

@@ -148,7 +148,7 @@ CALLS = [
     Rows("from_text to_text", "rows_answer", ["a text of two pairs without a witness", "a text of a witness of all letters"]),
     Rows("from_text to_text", "rows_answer", ["a renamed number in a text by names"]),
     Line("descriptor_schema", "rows_fds", "descriptor_schema", "".join(f"google.protobuf.{it} " for it in DESCRIPTOR)),
-    Rows("read", "rows_fds", ["changed: no JSON name in oneofs", "refused: an alias"]),
+    Rows("read read_parts", "rows_fds", ["changed: no JSON name in oneofs", "refused: an alias"]),
     Rows("read write read_again", "rows_fds", SETS),
     Rows("gate", "rows_view", ["a renamed number in a child"], "gate"),
     Rows("gate_with", "rows_view", ["a renamed number in a child"], "gate_with"),

@@ -1,0 +1,78 @@
+#!/usr/bin/env python3
+"""Sums up tools/gate/costs.txt: what the gate takes of each layer of crates, in processor seconds by kind, as a table in docs/LIMITS.md.
+
+usage: tools/docs/costs_table.py --write      writes the table
+       tools/docs/costs_table.py --compare    status 1 where the table isn't so
+
+`tools/prove.py --costs` measures costs.txt again, and then writes the table too.
+"""
+
+import os
+import sys
+
+sys.dont_write_bytecode = True
+sys.path.append(f"{os.path.dirname(os.path.realpath(__file__))}/../gate")
+import times  # noqa: E402
+from crates import crates_of  # noqa: E402
+from pictures import layers_of  # noqa: E402
+from stamp import PROGRAM  # noqa: E402
+
+TOP = os.path.dirname(os.path.dirname(os.path.dirname(os.path.realpath(__file__))))
+PAGE = "docs/LIMITS.md"
+# The first line of the table.
+HEAD = f"| Processor seconds | {' | '.join(times.KINDS)} | all |"
+# What has a row of its own beside the layers of the product, by the beginning of its crates' names.
+OTHERS = (("`promises_*`", "promises_"), ("`rows_*`", "rows_"), ("`tests_*`, `kit_*`, `examples_*`", ("tests_", "kit_", "examples_")))
+# What tries the built program, as costs.txt calls it.
+TESTERS = "testers"
+
+
+def groups():
+    """Returns the name of each row, and what its row sums up: the layers of the product from the lowest on, then what tests it."""
+    names = [*crates_of(TOP)]
+    layers = layers_of([it for it in names if it.startswith("pg_") or it == PROGRAM])
+    found = [(", ".join(f"`{it}`" for it in layer), layer) for layer in layers]
+    found += [(said, [it for it in names if it.startswith(begin)]) for said, begin in OTHERS]
+    return [*found, ("what tries the built program", [TESTERS])]
+
+
+def row(said, seconds):
+    return f"| {said} | " + " | ".join(f"{it:,}" for it in (*seconds, sum(seconds))) + " |"
+
+
+def table(costs, rows):
+    """Returns the lines of the table. What costs.txt doesn't have counts for nothing."""
+    sums = [[sum(costs.get(it, {}).get(kind, 0) for it in names) for kind in times.KINDS] for _, names in rows]
+    lines = [row(said, seconds) for (said, _), seconds in zip(rows, sums)]
+    return [HEAD, "|" + "---|" * (len(times.KINDS) + 2), *lines, row("**all**", [sum(it) for it in zip(*sums)])]
+
+
+def page_with(page, lines):
+    """Returns a page with these lines in the place of the table that begins like them."""
+    before, head, after = page.partition(f"{HEAD}\n")
+    if not head:
+        raise SystemExit(f"{PAGE} has no table that begins '{HEAD}'")
+    rest = after.split("\n")
+    end = next(at for at, line in enumerate(rest) if not line.startswith("|"))
+    return before + "\n".join([*lines, *rest[end:]])
+
+
+def main(words):
+    if words not in (["--write"], ["--compare"]):
+        print(__doc__, file=sys.stderr)
+        return 4
+    with open(f"{TOP}/{PAGE}", encoding="utf-8") as file:
+        page = file.read()
+    wanted = page_with(page, table(times.read(), groups()))
+    if words == ["--write"]:
+        with open(f"{TOP}/{PAGE}", "w", encoding="utf-8") as file:
+            file.write(wanted)
+    elif page != wanted:
+        print(f"{PAGE} doesn't say what tools/gate/costs.txt does: tools/docs/costs_table.py --write", file=sys.stderr)
+        return 1
+    print(f"{PAGE} has the sums of tools/gate/costs.txt")
+    return 0
+
+
+if __name__ == "__main__":
+    sys.exit(main(sys.argv[1:]))
