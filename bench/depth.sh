@@ -20,7 +20,7 @@ case " $* " in
 esac
 case " $* " in
     *:* | *" types "*)
-        build_bench "$top" "$work" depth depth_main.rt.txt "pg_lex pg_syntax pg_link pg_wire pg_schema pg_dyn pg_fds pg_pairs pg_gate anyhow"
+        build_bench "$top" "$work" depth depth_main.rt.txt "pg_lex pg_syntax pg_link pg_wire pg_schema pg_dyn pg_set pg_fds pg_pairs pg_gate anyhow"
         ;;
 esac
 ulimit -S -s "$stack"
