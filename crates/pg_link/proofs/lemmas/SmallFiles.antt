@@ -1,5 +1,5 @@
 -- Each by computing it, but for what is never linked.
-use Rattle.std.proofs.Common.{◌≡◌, ◌∙◌, ap, false, inl, inr, zero, suc, true, List, [], ◌∷◌, Option, Some, codes, drop, refl, sym, subst, take, true≢false, arith}
+use Rattle.std.proofs.Common.{◌≡◌, ◌∙◌, false, inl, inr, zero, suc, true, List, [], ◌∷◌, Option, Some, codes, drop, refl, sym, subst, take, true≢false, arith, rules}
 use Rattle.std.proofs.lemmas.List.Elements.{All-nil}
 use Rattle.std.specs.List.{All, IsAmong}
 use Rattle.std.specs.Str.{bytes_eq}
@@ -30,8 +30,7 @@ circle_of_one : (files : List File) (path : Text) → Imports files path path �
 circle_of_one files path there none = none path (Next there)
 
 of_one : {X : Type 0} (P : X → Type 0) (x : X) → P x → All P (x ∷ [])
-of_one P x is zero d inside = is
-of_one P x is (suc i) d inside = absurd (omega (arith, inside))
+of_one P x is h4 d inside = grind arith
 
 -- of files in order, none imports a path twice
 imports_differ : (files : List File) → InOrder files → (file : File) → IsAmong files file → Differ (import_paths file.imports)
@@ -75,8 +74,7 @@ module _ (leads : Text → Option (List Text)) (of_b : leads b ≡ Some (d ∷ [
 -- of two lists of one visit the second path is one
 not_second : (leads : Text → Option (List Text)) (visited first second : List Text) → Visits bytes_eq leads [] visited first → Visits bytes_eq leads [] visited second
     → is_path_of (take 1 (drop 1 first)) b ≡ true → is_path_of (take 1 (drop 1 second)) b ≡ false → ⊥
-not_second leads visited first second one other has has_not =
-    true≢false (sym has ∙ (ap (λ (ps : List Text). is_path_of (take 1 (drop 1 ps)) b) (visits_once leads [] visited first second one other) ∙ has_not))
+not_second leads visited first second one other has has_not = search (rules, true≢false, visits_once)
 
 abbrev backwards : Text → Option (List Text)
 backwards = imports_at (file_d ∷ file_c ∷ file_b ∷ file_a ∷ [])

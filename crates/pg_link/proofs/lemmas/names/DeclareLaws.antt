@@ -1,13 +1,10 @@
 -- What comes one after the other declares its names one after the other.
-use Rattle.std.proofs.Common.{◌≡◌, ◌∙◌, ℕ, ◌+◌, ◌<◌, List, [], ◌∷◌, ◌++◌, length, refl, sym, ap, append_assoc, map, take, drop, drop-cons, add-one, slice_index_or, string_bytes}
+use Rattle.std.proofs.Common.{◌≡◌, ◌∙◌, ℕ, ◌+◌, ◌<◌, List, [], ◌∷◌, ◌++◌, length, refl, sym, ap, append_assoc, map, take, drop, drop-cons, add-one, slice_index_or, string_bytes, arith, rules}
 use Rattle.std.proofs.lemmas.List.{append-nil, map-append, map_more}
 use Rattle.pg_syntax.specs.declared.tree as tree
 use Rattle.pg_syntax.specs.declared.tree.Part.{Part, Row_of-Part, end_of-Part, more_of-Part, items-the_row-Part, items_hidden-the_row-Part-0}
 use Rattle.pg_syntax.specs.declared.tree.Part.TheBlock.{hidden-the_row-Part-0}
 use Rattle.pg_syntax.specs.declared.tree.Part.TheVariants as parts
-use Rattle.pg_syntax.specs.declared.tree.EnumPart.TheVariants as enum_parts
-use Rattle.pg_syntax.specs.declared.tree.OneofPart.TheVariants as oneof_parts
-use Rattle.pg_syntax.specs.declared.tree.ServicePart.TheVariants as service_parts
 use Rattle.pg_syntax.specs.declared.tree.Statement.TheVariants as statements
 use Rattle.pg_link.specs.declared.names.Kind.{Kind}
 use Rattle.pg_link.specs.declared.names.Kind.TheVariants as kinds
@@ -28,23 +25,15 @@ within_rest scope kind w inner rest = ap (λ l. declared scope kind w ∷ (l ++ 
 
 pub enum_part_rest : (scope : Text) (p : tree.EnumPart.EnumPart) (rest : Declarations)
     → names_in scope (of_enum_part p rest) ≡ names_in scope (of_enum_part p Done) ++ names_in scope rest
-enum_part_rest scope (enum_parts.Empty span) rest = refl
-enum_part_rest scope (enum_parts.Option o) rest = refl
-enum_part_rest scope (enum_parts.Reserved r) rest = refl
-enum_part_rest scope (enum_parts.Value v) rest = refl
+enum_part_rest scope p rest = grind arith
 
 pub oneof_part_rest : (scope : Text) (p : tree.OneofPart.OneofPart) (rest : Declarations)
     → names_in scope (of_oneof_part p rest) ≡ names_in scope (of_oneof_part p Done) ++ names_in scope rest
-oneof_part_rest scope (oneof_parts.Empty span) rest = refl
-oneof_part_rest scope (oneof_parts.Option o) rest = refl
-oneof_part_rest scope (oneof_parts.Map m) rest = refl
-oneof_part_rest scope (oneof_parts.Field f) rest = refl
+oneof_part_rest scope p rest = grind arith
 
 pub service_part_rest : (scope : Text) (p : tree.ServicePart.ServicePart) (rest : Declarations)
     → names_in scope (of_service_part p rest) ≡ names_in scope (of_service_part p Done) ++ names_in scope rest
-service_part_rest scope (service_parts.Empty span) rest = refl
-service_part_rest scope (service_parts.Option o) rest = refl
-service_part_rest scope (service_parts.Rpc r) rest = refl
+service_part_rest scope p rest = grind arith
 
 pub part_rest : (scope : Text) (p : Part) (rest : Declarations) → names_in scope (of_part p rest) ≡ names_in scope (of_part p Done) ++ names_in scope rest
 part_rest scope (parts.Empty span) rest = refl
@@ -71,9 +60,7 @@ row-items end_of-Part = refl
 row-items (more_of-Part p rest) = ap (of_part p) (row-items rest)
 
 pub part_message : (m : tree.Message.Message) → of_part (parts.Message m) Done ≡ of_message m Done
-part_message m =
-    ap (λ inner. Within kinds.Message (word m.name) inner Done)
-    (row-items (hidden-the_row-Part-0 m.parts) ∙ ap (λ xs. all_of of_part xs Done) (items_hidden-the_row-Part-0 m.parts))
+part_message m = search (rules, row-items, hidden-the_row-Part-0, items_hidden-the_row-Part-0)
 
 -- one more of a list
 pub one_more : {X : Type 0} (scope : Text) (declares : X → Declarations → Declarations)
@@ -82,13 +69,7 @@ pub one_more : {X : Type 0} (scope : Text) (declares : X → Declarations → De
     → new ≡ mid ++ names_in scope (declares x Done)
     → mid ++ names_in scope (all_of declares (drop i xs) Done) ≡ old ++ names_in scope (all_of declares xs Done)
     → new ++ names_in scope (all_of declares (drop (i + 1) xs) Done) ≡ old ++ names_in scope (all_of declares xs Done)
-one_more scope declares splits xs i x old mid new inside is added before =
-    let rest = all_of declares (drop (i + 1) xs) Done in
-    let left : drop i xs ≡ x ∷ drop (i + 1) xs = drop-cons xs i x inside ∙ (ap (λ n. slice_index_or xs i x ∷ drop n xs) (sym (add-one i)) ∙ ap (λ y. y ∷ drop (i + 1) xs) (sym is)) in
-    let whole : names_in scope (all_of declares (drop i xs) Done) ≡ names_in scope (declares x Done) ++ names_in scope rest =
-    ap (λ ys. names_in scope (all_of declares ys Done)) left ∙ splits x rest in
-    ap (λ l. l ++ names_in scope rest) added ∙ (append_assoc mid (names_in scope (declares x Done)) (names_in scope rest)
-    ∙ (ap (λ l. mid ++ l) (sym whole) ∙ before))
+one_more scope declares splits xs i x old mid new inside is added before = search (rules, drop-cons, slice_index_or, add-one, append_assoc)
 
 -- ---- packages
 

@@ -1,5 +1,5 @@
 -- Masks of files: which indices they mark, and what one import adds.
-use Rattle.std.proofs.Common.{◌≡◌, ◌∙◌, ◌⊎◌, inl, inr, ℕ, zero, suc, ◌<◌, ◌≤◌, ◌+◌, Bool, true, false, ◌||◌, cond, List, [], ◌∷◌, ◌++◌, map, flat_map, take, reverse, length, get_or, slice_index_or, append_assoc, slice_get, refl, sym, ap, subst, true≢false, nat_eq, arith, Some, None, is_some, String, string_bytes, position}
+use Rattle.std.proofs.Common.{◌≡◌, ◌∙◌, ℕ, zero, suc, ◌<◌, ◌+◌, Bool, true, false, ◌||◌, cond, List, [], ◌∷◌, ◌++◌, map, flat_map, take, reverse, length, get_or, slice_index_or, append_assoc, slice_get, refl, sym, ap, subst, true≢false, nat_eq, arith, Some, None, is_some, String, string_bytes, position, rules}
 use Rattle.std.proofs.Math.ListN.{set}
 use Rattle.std.proofs.lemmas.Bool.{lt-ltb, eq-eqb, ne_eqb, cases_lt, or_parts, or_right}
 use Rattle.std.proofs.lemmas.Bool.Decides.{Decides-eqb}
@@ -13,7 +13,7 @@ use Rattle.std.specs.Map.{keys_of}
 use Rattle.std.specs.Option.{option_map}
 use Rattle.std.specs.Str.{bytes_eq}
 use Rattle.pg_link.specs.declared.walk.imports.ImportLine as made
-use Rattle.pg_link.specs.names.Files.{File, Import, Differ, is_path_of, paths_of, public_paths, handed_on}
+use Rattle.pg_link.specs.names.Files.{File, Import, Differ, is_path_of, paths_of, handed_on}
 use Rattle.pg_link.specs.inner.Made.{line_of}
 use Rattle.pg_link.specs.names.Names.{Text}
 use Rattle.pg_link.specs.inner.VisibleFiles.{Marks, IsMask, AreHanded, AreNumbers, is_numbered, taken}
@@ -40,13 +40,7 @@ pub record FirstAt {X : Type 0} (p : X → Bool) (xs : List X) (n : ℕ) : Type 
 
 first_by : {X : Type 0} (p : X → Bool) (x : X) (xs : List X) (n : ℕ) (b : Bool) → p x ≡ b → (list_any p (take n xs) ≡ true → FirstAt p xs n)
     → (b || list_any p (take n xs)) ≡ true → FirstAt p (x ∷ xs) (suc n)
-first_by p x xs n true pass rest any =
-    let at = step_true p x xs pass in
-    record { item = x; before = omega (arith, at); is_there = subst (λ k. slice_get (x ∷ xs) k ≡ Some x) (sym at) refl; passes = pass }
-first_by p x xs n false fail rest any =
-    let at = step_false p x xs fail in
-    let h = rest any in
-    record { item = h.item; before = omega (arith, at, h.before); is_there = subst (λ k. slice_get (x ∷ xs) k ≡ Some h.item) (sym at) h.is_there; passes = h.passes }
+first_by p x xs n b pass rest any = grind (arith, step_true, slice_get, step_false)
 
 pub first_at : {X : Type 0} (p : X → Bool) (xs : List X) (n : ℕ) → list_any p (take n xs) ≡ true → FirstAt p xs n
 first_at p [] zero any = absurd (true≢false (sym any))
@@ -109,14 +103,10 @@ numbered_push : (numbers : List ℕ) (n k : ℕ) → is_numbered (numbers ++ n �
 numbered_push numbers n k = list_any-append (nat_eq k) numbers (n ∷ [])
 
 or_none : (a b : Bool) → b ≡ false → (a || (b || false)) ≡ a
-or_none true b is = refl
-or_none false true is = is
-or_none false false is = refl
+or_none a b is = grind arith
 
 or_last : (a b : Bool) → b ≡ true → (a || (b || false)) ≡ true
-or_last true b is = refl
-or_last false true is = refl
-or_last false false is = is
+or_last a b is = grind arith
 
 -- the marks of the numbers so far, and of one more
 pub one_more_mark : (old mid : List Bool) (numbers : List ℕ) (i n : ℕ) → i < length numbers → n ≡ get_or numbers i 0 → n < length mid
@@ -129,91 +119,53 @@ one_more_mark old mid numbers i n inside is within so_far k = by (nat_eq k n) re
         ap (λ (l : List ℕ). is_numbered l k) (take_more numbers i 0 inside ∙ ap (λ (m : ℕ). take i numbers ++ m ∷ []) (sym is)) ∙ numbered_push (take i numbers) n k
 
     by : (b : Bool) → nat_eq k n ≡ b → get_or (set mid n true) k false ≡ (get_or old k false || is_numbered (take (i + 1) numbers) k)
-    by true same =
-        let at : k ≡ n = (Decides-eqb k n).0 same in
-        get_or-set_at mid n k true false at within
-        ∙ sym (or_right (get_or old k false) (is_numbered (take (i + 1) numbers) k) (whole ∙ or_last (is_numbered (take i numbers) k) (nat_eq k n) same))
-    by false other =
-        get_or-set_other mid n k true false (λ (same : k ≡ n). true≢false (sym (eq-eqb k n same) ∙ other))
-        ∙ (so_far k ∙ sym (ap (λ b. get_or old k false || b) (whole ∙ or_none (is_numbered (take i numbers) k) (nat_eq k n) other)))
+    by true same = search (rules, Decides-eqb, get_or-set_at, or_right, whole, or_last)
+    by false other = search (rules, get_or-set_other, true≢false, eq-eqb, whole, or_none)
 
 -- the numbers of the marks so far, where the next is set
 pub one_more_number : (marks : List Bool) (numbers : List ℕ) (i : ℕ) → get_or marks i false ≡ true
     → ((k : ℕ) → k < i → is_numbered numbers k ≡ get_or marks k false) → (k : ℕ) → k < i + 1 → is_numbered (numbers ++ i ∷ []) k ≡ get_or marks k false
-one_more_number marks numbers i marked so_far k within = by (cases_lt k i)
-  where
-    by : (k < i) ⊎ (i ≤ k) → is_numbered (numbers ++ i ∷ []) k ≡ get_or marks k false
-    by (inl less) =
-        numbered_push numbers i k ∙ (or_none (is_numbered numbers k) (nat_eq k i) (ne_eqb k i (λ (same : k ≡ i). omega (arith, same, less))) ∙ so_far k less)
-    by (inr more) =
-        let at : k ≡ i = omega (arith, within, more) in
-        numbered_push numbers i k ∙ (or_last (is_numbered numbers k) (nat_eq k i) (eq-eqb k i at) ∙ sym (ap (λ (n : ℕ). get_or marks n false) at ∙ marked))
+one_more_number marks numbers i marked so_far k within = search (rules, cases_lt, numbered_push, or_none, ne_eqb, or_last, eq-eqb)
 
 -- and where it isn't
 pub no_more_number : (marks : List Bool) (numbers : List ℕ) (i : ℕ) → get_or marks i false ≡ false → All (λ n. n < i) numbers
     → ((k : ℕ) → k < i → is_numbered numbers k ≡ get_or marks k false) → (k : ℕ) → k < i + 1 → is_numbered numbers k ≡ get_or marks k false
-no_more_number marks numbers i unmarked below so_far k within = by (cases_lt k i)
-  where
-    by : (k < i) ⊎ (i ≤ k) → is_numbered numbers k ≡ get_or marks k false
-    by (inl less) = so_far k less
-    by (inr more) =
-        let at : k ≡ i = omega (arith, within, more) in
-        ap (is_numbered numbers) at ∙ (none_beyond numbers i below ∙ sym (ap (λ (n : ℕ). get_or marks n false) at ∙ unmarked))
+no_more_number marks numbers i unmarked below so_far k within = search (rules, cases_lt, none_beyond)
 
 pub below_more : (numbers : List ℕ) (i : ℕ) → All (λ n. n < i) numbers → All (λ n. n < i + 1) numbers
 below_more numbers i below = λ k d within. let less = below k d within in omega (arith, less)
 
 pub numbers_are : (es : List Entry) (paths : List Text) (marks : List Bool) (numbers : List ℕ) → IsMask es paths marks → All (λ n. n < length marks) numbers
     → ((k : ℕ) → k < length marks → is_numbered numbers k ≡ get_or marks k false) → AreNumbers es paths numbers
-numbers_are es paths marks numbers mask within each = record {
-  within = subst (λ (n : ℕ). All (λ m. m < n) numbers) mask.same_length within;
-  are_theirs = λ i e at. each i (omega (arith, mask.same_length, slice_get_within es i e at)) ∙ mask.is_marked i e at;
-}
+numbers_are es paths marks numbers mask within each = search (rules, slice_get_within)
 
 -- ---- what an import adds
 
 pub import_numbers : (es : List Entry) (handed : List (List ℕ)) (path : Text) (number : ℕ) (numbers : List ℕ) → AreHanded es handed
     → (e : Entry) × (slice_get es number ≡ Some e) × (path_of e ≡ path) → slice_get handed number ≡ Some numbers → AreNumbers es (handed_on (outlines es) path) numbers
-import_numbers es handed path number numbers ready (e, there, is) at =
-    subst (λ (p : Text). AreNumbers es (handed_on (outlines es) p) numbers) is (ready number numbers e at there)
+import_numbers es handed path number numbers ready (e, there, is) at = search rules
 
 pub marks_both : (es : List Entry) (ps qs : List Text) (old : List Bool) (numbers : List ℕ) (new : List Bool) → Marks es ps old → AreNumbers es qs numbers
     → ((k : ℕ) → get_or new k false ≡ (get_or old k false || is_numbered numbers k)) → Marks es (ps ++ qs) new
-marks_both es ps qs old numbers new first second both = λ i e at.
-    both i ∙ (ap (λ b. b || is_numbered numbers i) (first i e at) ∙ (ap (λ b. is_path_of ps (path_of e) || b) (second.are_theirs i e at)
-    ∙ sym (list_any-append (bytes_eq (path_of e)) ps qs)))
+marks_both es ps qs old numbers new first second both = search (rules, list_any-append)
 
 -- ---- the imports that count
 
 taken_append : (all : Bool) (xs ys : List Import) → taken all (xs ++ ys) ≡ taken all xs ++ taken all ys
 taken_append true xs ys = map-append (λ (l : Import). l.path) xs ys
 taken_append false [] ys = refl
-taken_append false (x ∷ xs) ys = ap (cond_path x.is_public x.path) (taken_append false xs ys) ∙ front x.is_public x.path (public_paths xs) (public_paths ys)
-  where
-    cond_path : Bool → Text → List Text → List Text
-    cond_path b p l = cond b (p ∷ l) l
-
-    front : (b : Bool) (p : Text) (l r : List Text) → cond b (p ∷ (l ++ r)) (l ++ r) ≡ cond b (p ∷ l) l ++ r
-    front true p l r = refl
-    front false p l r = refl
+taken_append false (x ∷ xs) ys = search (rules, taken_append false xs ys)
 
 taken_one : (all : Bool) (l : Import) → taken all (l ∷ []) ≡ cond (all || l.is_public) (l.path ∷ []) []
-taken_one true l = refl
-taken_one false l = refl
+taken_one all l = grind arith
 
 pub untaken : (es : List Entry) (ps : List Text) (marks : List Bool) (all : Bool) (l : Import) → false ≡ (all || l.is_public) → Marks es ps marks
     → Marks es (ps ++ flat_map (handed_on (outlines es)) (taken all (l ∷ []))) marks
-untaken es ps marks all l is marked =
-    let none : taken all (l ∷ []) ≡ [] = taken_one all l ∙ ap (λ (b : Bool). cond b (l.path ∷ []) []) (sym is) in
-    subst (λ (qs : List Text). Marks es qs marks) (sym (ap (λ (t : List Text). ps ++ flat_map (handed_on (outlines es)) t) none ∙ append-nil ps)) marked
+untaken es ps marks all l is marked = search (rules, taken_one, flat_map, append-nil)
 
 pub taken_line : (es : List Entry) (ps : List Text) (marks : List Bool) (all : Bool) (l : Import) (path : Text) → true ≡ (all || l.is_public) → path ≡ l.path
     → Marks es (ps ++ handed_on (outlines es) path) marks → Marks es (ps ++ flat_map (handed_on (outlines es)) (taken all (l ∷ []))) marks
-taken_line es ps marks all l path is same marked =
-    let one : taken all (l ∷ []) ≡ l.path ∷ [] = taken_one all l ∙ ap (λ (b : Bool). cond b (l.path ∷ []) []) (sym is) in
-    let flat : handed_on (outlines es) path ≡ flat_map (handed_on (outlines es)) (taken all (l ∷ [])) =
-    ap (handed_on (outlines es)) same ∙ (sym (append-nil (handed_on (outlines es) l.path)) ∙ ap (flat_map (handed_on (outlines es))) (sym one)) in
-    subst (λ (qs : List Text). Marks es (ps ++ qs) marks) flat marked
+taken_line es ps marks all l path is same marked = search (rules, taken_one, flat_map, append-nil)
 
 pub one_more_line : (h : Text → List Text) (all : Bool) (ps : List Text) (lines : List made.ImportLine) (i : ℕ) (x : made.ImportLine) → i < length lines
     → x ≡ slice_index_or lines i x
@@ -231,11 +183,7 @@ one_more_line h all ps lines i x inside is =
 
 apart_split : (ys : List Text) (x : Text) → Differ (ys ++ x ∷ []) → Differ ys × (is_path_of ys x ≡ false)
 apart_split [] x d = (tt, refl)
-apart_split (y ∷ ys) x d =
-    let h = apart_split ys x d.1 in
-    let f = or_parts (is_path_of ys y) (bytes_eq y x || false) (sym (list_any-append (bytes_eq y) ys (x ∷ [])) ∙ d.0) in
-    let other : bytes_eq x y ≡ false = differ_turned y x (or_parts (bytes_eq y x) false f.1).0 in
-    ((f.0, h.0), rw other h.1)
+apart_split (y ∷ ys) x d = search (rules, or_parts, list_any-append, differ_turned, apart_split ys x d.1)
 
 pub apart_reverse : (xs : List Text) → Differ (reverse xs) → Differ xs
 apart_reverse [] d = tt
@@ -257,10 +205,8 @@ there_at (q ∷ ps) (suc i) p at = or_right (bytes_eq p q) (is_path_of ps p) (th
 distinct_at : (ps : List Text) → Differ ps → (i j : ℕ) (p : Text) → slice_get ps i ≡ Some p → slice_get ps j ≡ Some p → i ≡ j
 distinct_at [] d i j p at there = absurd (none_some p at)
 distinct_at (q ∷ ps) d zero zero p at there = refl
-distinct_at (q ∷ ps) d zero (suc j) p at there =
-    absurd (true≢false (sym (there_at ps j p there) ∙ subst (λ (t : Text). is_path_of ps t ≡ false) (same_Some q p at) d.0))
-distinct_at (q ∷ ps) d (suc i) zero p at there =
-    absurd (true≢false (sym (there_at ps i p at) ∙ subst (λ (t : Text). is_path_of ps t ≡ false) (same_Some q p there) d.0))
+distinct_at (q ∷ ps) d zero (suc j) p at there = search (rules, true≢false, there_at, same_Some)
+distinct_at (q ∷ ps) d (suc i) zero p at there = search (rules, true≢false, there_at, same_Some)
 distinct_at (q ∷ ps) d (suc i) (suc j) p at there = ap (λ (n : ℕ). suc n) (distinct_at ps d.1 i j p at there)
 
 -- files of one path are one
@@ -273,9 +219,7 @@ same_number es d i j a b at there same =
 
 own_by : (es : List Entry) → Differ (paths_of (outlines es)) → (i own : ℕ) (a b : Entry) → slice_get es i ≡ Some a → slice_get es own ≡ Some b
     → (c : Bool) → bytes_eq (path_of a) (path_of b) ≡ c → nat_eq i own ≡ (c || false)
-own_by es d i own a b at there true is = eq-eqb i own (same_number es d i own a b at there (same_text (path_of a) (path_of b) is))
-own_by es d i own a b at there false is =
-    ne_eqb i own (λ same. true≢false (sym (text_same (path_of a) (path_of b) (ap path_of (same_Some a b (sym at ∙ (ap (slice_get es) same ∙ there))))) ∙ is))
+own_by es d i own a b at there c is = grind (arith, eq-eqb, same_number, same_text, ne_eqb, true≢false, text_same, same_Some, slice_get)
 
 pub own_marks : (es : List Entry) (own : ℕ) (e : Entry) (marks : List Bool) → Differ (paths_of (outlines es)) → slice_get es own ≡ Some e
     → ((k : ℕ) → get_or marks k false ≡ nat_eq k own) → Marks es (path_of e ∷ []) marks
@@ -284,18 +228,4 @@ own_marks es own e marks d there one = λ i a at. one i ∙ own_by es d i own a 
 -- a file that hands on itself alone
 pub own_number : (es : List Entry) (own : ℕ) (e : Entry) (paths : List Text) → Differ (paths_of (outlines es)) → slice_get es own ≡ Some e → paths ≡ []
     → AreNumbers es (path_of e ∷ flat_map (handed_on (outlines es)) paths) (own ∷ [])
-own_number es own e paths d there none = subst (λ (ps : List Text). AreNumbers es (path_of e ∷ flat_map (handed_on (outlines es)) ps) (own ∷ [])) (sym none) alone
-  where
-    below : (k m : ℕ) → k < length (own ∷ []) → get_or (own ∷ []) k m < length es
-    below zero m within = slice_get_within es own e there
-    below (suc k) m within = absurd (omega (arith, within))
-
-    or_false : (b : Bool) → (b || false) ≡ b
-    or_false true = refl
-    or_false false = refl
-
-    alone : AreNumbers es (path_of e ∷ []) (own ∷ [])
-    alone = record {
-      within = below;
-      are_theirs = λ i a at. or_false (nat_eq i own) ∙ own_by es d i own a e at there (bytes_eq (path_of a) (path_of e)) refl;
-    }
+own_number es own e paths d there none = search (rules, flat_map, slice_get_within, own_by)

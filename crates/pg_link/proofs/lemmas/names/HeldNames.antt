@@ -1,5 +1,5 @@
 -- The names that an index holds are those that the files declare.
-use Rattle.std.proofs.Common.{◌≡◌, ◌∙◌, ◌⊎◌, inl, inr, ℕ, zero, suc, ◌+◌, Bool, true, false, ◌||◌, ◌&&◌, cond, List, [], ◌∷◌, ◌++◌, map, flat_map, reverse, length, get_or, slice_get, refl, sym, ap, subst, true≢false, arith, Option, Some, None, String}
+use Rattle.std.proofs.Common.{◌≡◌, ◌∙◌, ◌⊎◌, inl, inr, ℕ, zero, suc, ◌+◌, Bool, true, false, ◌&&◌, cond, List, [], ◌∷◌, ◌++◌, map, flat_map, reverse, length, get_or, slice_get, refl, sym, ap, subst, true≢false, arith, Option, Some, None, String, rules}
 use Rattle.std.proofs.lemmas.List.{reverse-append}
 use Rattle.std.proofs.lemmas.Option.{same_Some, slice_get_read}
 use Rattle.std.specs.Global.{Global}
@@ -36,8 +36,7 @@ right_among [] ys x among = among
 right_among (z ∷ xs) ys x among = later_among z (xs ++ ys) x (right_among xs ys x among)
 
 sides_later : {X : Type 0} (z : X) (xs ys : List X) (x : X) → (IsAmong xs x) ⊎ (IsAmong ys x) → (IsAmong (z ∷ xs) x) ⊎ (IsAmong ys x)
-sides_later z xs ys x (inl a) = inl (later_among z xs x a)
-sides_later z xs ys x (inr b) = inr b
+sides_later z xs ys x h5 = grind (arith, later_among)
 
 sides : {X : Type 0} (xs ys : List X) (x : X) → IsAmong (xs ++ ys) x → (IsAmong xs x) ⊎ (IsAmong ys x)
 sides [] ys x among = inr among
@@ -65,8 +64,7 @@ flat_later f z xs y (x, a, b) = (x, later_among z xs x a, b)
 
 flat_by : {X Y : Type 0} (f : X → List Y) (z : X) (xs : List X) (y : Y) → (IsAmong (f z) y) ⊎ (IsAmong (flat_map f xs) y)
     → (IsAmong (flat_map f xs) y → (x : X) × IsAmong xs x × IsAmong (f x) y) → (x : X) × IsAmong (z ∷ xs) x × IsAmong (f x) y
-flat_by f z xs y (inl a) rest = (z, first_among z xs, a)
-flat_by f z xs y (inr b) rest = flat_later f z xs y (rest b)
+flat_by f z xs y h5 rest = grind (arith, first_among, flat_later)
 
 pub flat_among : {X Y : Type 0} (f : X → List Y) (xs : List X) (y : Y) → IsAmong (flat_map f xs) y → (x : X) × IsAmong xs x × IsAmong (f x) y
 flat_among f [] y (i, (within, is)) = absurd (omega (arith, within))
@@ -79,17 +77,14 @@ among_flat f (z ∷ xs) x y (suc i, (within, is)) b = right_among (f z) (flat_ma
 
 filter_by : {X : Type 0} (q : X → Bool) (z : X) (xs : List X) (x : X) (b : Bool) → q z ≡ b → (IsAmong (filter q xs) x → IsAmong xs x × (q x ≡ true))
     → IsAmong (cond b (z ∷ filter q xs) (filter q xs)) x → IsAmong (z ∷ xs) x × (q x ≡ true)
-filter_by q z xs x true pass rest (zero, (within, is)) = ((zero, (omega arith, is)), subst (λ w. q w ≡ true) (sym is) pass)
-filter_by q z xs x true pass rest (suc i, (within, is)) = let h = rest (i, (omega (arith, within), is)) in (later_among z xs x h.0, h.1)
-filter_by q z xs x false fail rest among = let h = rest among in (later_among z xs x h.0, h.1)
+filter_by q z xs x b pass rest among = grind (arith, later_among)
 
 pub filter_among : {X : Type 0} (q : X → Bool) (xs : List X) (x : X) → IsAmong (filter q xs) x → IsAmong xs x × (q x ≡ true)
 filter_among q [] x (i, (within, is)) = absurd (omega (arith, within))
 filter_among q (z ∷ xs) x among = filter_by q z xs x (q z) refl (filter_among q xs x) among
 
 first_passes : {X : Type 0} (q : X → Bool) (z : X) (xs : List X) (x : X) (b : Bool) → b ≡ true → x ≡ z → IsAmong (cond b (z ∷ filter q xs) (filter q xs)) x
-first_passes q z xs x true pass is = (zero, (omega arith, is))
-first_passes q z xs x false pass is = absurd (true≢false (sym pass))
+first_passes q z xs x b pass is = grind (arith, true≢false)
 
 other_passes : {X : Type 0} (q : X → Bool) (z : X) (xs : List X) (x : X) (b : Bool) → IsAmong (filter q xs) x → IsAmong (cond b (z ∷ filter q xs) (filter q xs)) x
 other_passes q z xs x true among = later_among z (filter q xs) x among
@@ -104,23 +99,19 @@ among_filter q (z ∷ xs) x (suc i, (within, is)) pass = other_passes q z xs x (
 
 found_by : {X : Type 0} (q : X → Bool) (z : X) (xs : List X) (x : X) (b : Bool) → q z ≡ b → (find q xs ≡ Some x → IsAmong xs x × (q x ≡ true))
     → cond b (Some z) (find q xs) ≡ Some x → IsAmong (z ∷ xs) x × (q x ≡ true)
-found_by q z xs x true pass rest is = let same = same_Some z x is in ((zero, (omega arith, sym same)), subst (λ w. q w ≡ true) same pass)
-found_by q z xs x false fail rest is = let h = rest is in (later_among z xs x h.0, h.1)
+found_by q z xs x b pass rest is = grind (arith, same_Some, later_among)
 
 pub find_among : {X : Type 0} (q : X → Bool) (xs : List X) (x : X) → find q xs ≡ Some x → IsAmong xs x × (q x ≡ true)
 find_among q [] x is = absurd (none_some x is)
 find_among q (z ∷ xs) x is = found_by q z xs x (q z) refl (find_among q xs x) is
 
 none_by : {X : Type 0} (q : X → Bool) (z : X) (xs : List X) (b : Bool) → q z ≡ b → cond b (Some z) (find q xs) ≡ None → (q z ≡ false) × (find q xs ≡ None)
-none_by q z xs true pass is = absurd (none_some z (sym is))
-none_by q z xs false fail is = (fail, is)
+none_by q z xs b pass is = grind (arith, none_some)
 
 find_none : {X : Type 0} (q : X → Bool) (xs : List X) (x : X) → IsAmong xs x → q x ≡ true → find q xs ≡ None → ⊥
 find_none q [] x (i, (within, is)) pass none = absurd (omega (arith, within))
-find_none q (z ∷ xs) x (zero, (within, is)) pass none =
-    true≢false (sym (subst (λ w. q w ≡ true) is pass) ∙ (none_by q z xs (q z) refl none).0)
-find_none q (z ∷ xs) x (suc i, (within, is)) pass none =
-    find_none q xs x (i, (omega (arith, within), is)) pass (none_by q z xs (q z) refl none).1
+find_none q (z ∷ xs) x (zero, (within, is)) pass none = search (rules, true≢false, none_by)
+find_none q (z ∷ xs) x (suc i, (within, is)) pass none = search (rules, find_none q xs x (i, (omega (arith, within), is)) pass (none_by q z xs (q z) refl none).1)
 
 -- ---- the kind that is seen
 
@@ -176,19 +167,10 @@ kinds_agree test (s ∷ more) ds full one two same = any_by test s more ds full 
 -- ---- one name has one kind
 
 pub package_is : (k : Kind) → is_package k ≡ true → k ≡ kinds.Package
-package_is kinds.Package is = refl
-package_is kinds.Message is = absurd (true≢false (sym is))
-package_is kinds.Enum is = absurd (true≢false (sym is))
-package_is kinds.Entry is = absurd (true≢false (sym is))
-package_is kinds.Value is = absurd (true≢false (sym is))
-package_is kinds.Field is = absurd (true≢false (sym is))
-package_is kinds.Oneof is = absurd (true≢false (sym is))
-package_is kinds.Service is = absurd (true≢false (sym is))
-package_is kinds.Method is = absurd (true≢false (sym is))
+package_is k is = grind (arith, true≢false)
 
 pub both_true : (a b : Bool) → (a && b) ≡ true → (a ≡ true) × (b ≡ true)
-both_true true b is = (refl, is)
-both_true false b is = absurd (true≢false (sym is))
+both_true a b is = grind (arith, true≢false)
 
 -- who bears a name first
 first_bears : (bs : List Standing) (b : Bearer) → first_of bs ≡ Some b → (s : Standing) × IsAmong bs s × (s.declared.kind ≡ b.kind)
@@ -196,8 +178,7 @@ first_bears [] b is = absurd (none_some b is)
 first_bears (s ∷ more) b is = (s, first_among s more, ap (λ (x : Bearer). x.kind) (same_Some _ b is))
 
 pub none_bears : (bs : List Standing) (s : Standing) → first_of bs ≡ None → IsAmong bs s → ⊥
-none_bears [] s none (i, (within, is)) = omega (arith, within)
-none_bears (t ∷ more) s none among = none_some _ (sym none)
+none_bears bs s none among = grind (arith, none_some)
 
 -- one that is before another of the name
 one_kind : (before : List Standing) (x t : Standing) → MayStand (reverse before) x → IsAmong before t → bytes_eq x.declared.name t.declared.name ≡ true
@@ -226,8 +207,7 @@ kinds_same (x ∷ before) may full a b (suc i, (within, is)) (zero, (inside, at)
     sym (one_kind before x a may.0 among (text_same x.declared.name a.declared.name (name ∙ here))
     (λ u there named. kinds_same before may.1 full u a there among (sym name ∙ same_text x.declared.name u.declared.name named) here))
     ∙ ap (λ (s : Standing). s.declared.kind) (sym at)
-kinds_same (x ∷ before) may full a b (suc i, (within, is)) (suc j, (inside, at)) here same =
-    kinds_same before may.1 full a b (i, (omega (arith, within), is)) (j, (omega (arith, inside), at)) here same
+kinds_same (x ∷ before) may full a b (suc i, (within, is)) (suc j, (inside, at)) here same = search (rules, kinds_same before may.1 full a b (i, (omega (arith, within), is)) (j, (omega (arith, inside), at)) here same)
 
 -- ---- standings and files
 
@@ -239,8 +219,7 @@ standing_there n (x ∷ es) zero m e d sum at among =
     let same : m ≡ n = omega (arith, sum) in
     left_among (standings n x.1.tree) (standings_from (n + 1) es) (standing m d)
     (subst (λ (k : ℕ). IsAmong (standings n x.1.tree) (standing k d)) (sym same) (map_among (standing n) (file_names x.1.tree) d here))
-standing_there n (x ∷ es) (suc i) m e d sum at among =
-    right_among (standings n x.1.tree) (standings_from (n + 1) es) (standing m d) (standing_there (n + 1) es i m e d (omega (arith, sum)) at among)
+standing_there n (x ∷ es) (suc i) m e d sum at among = search (rules, right_among, standing_there (n + 1) es i m e d (omega (arith, sum)) at among)
 
 pub record Stands (n : ℕ) (es : List Entry) (s : Standing) : Type 0 where
   pub number : ℕ
@@ -272,26 +251,14 @@ stands_of n (x ∷ es) s among = stands_by n x es s (sides (standings n x.1.tree
 
 sees_any : (visible : List Bool) (bs : List Standing) → sees_one visible (map (λ (s : Standing). s.file) bs) ≡ list_any (λ (s : Standing). get_or visible s.file false) bs
 sees_any visible [] = refl
-sees_any visible (s ∷ bs) = or_else (get_or visible s.file false) (sees_one visible (map (λ (t : Standing). t.file) bs)) (list_any (λ (t : Standing). get_or visible t.file false) bs) (sees_any visible bs)
-  where
-    or_else : (a b c : Bool) → b ≡ c → cond a true b ≡ (a || c)
-    or_else true b c is = refl
-    or_else false b c is = is
+sees_any visible (s ∷ bs) = search (rules, sees_any visible bs)
 
 seen_is : (visible : List Bool) (o : Option nameds.Named) (bs : List Standing) → option_map view o ≡ first_of bs
     → option_and_then (kind_seen (Some visible)) o ≡ kind_by (λ s. get_or visible s.file false) bs
-seen_is visible None [] is = refl
-seen_is visible None (s ∷ more) is = absurd (none_some _ is)
-seen_is visible (Some n) [] is = absurd (none_some _ (sym is))
-seen_is visible (Some n) (s ∷ more) is =
-    let same = same_Some (view n) _ is in
-    ap (λ (b : Bearer). cond (sees_one visible b.files) (Some b.kind) None) same ∙ ap (λ (b : Bool). cond b (Some s.declared.kind) None) (sees_any visible (s ∷ more))
+seen_is visible o bs is = grind (arith, none_some, same_Some, sees_any)
 
 all_is : (o : Option nameds.Named) (bs : List Standing) → option_map view o ≡ first_of bs → option_and_then (kind_seen None) o ≡ kind_by (λ s. true) bs
-all_is None [] is = refl
-all_is None (s ∷ more) is = absurd (none_some _ is)
-all_is (Some n) [] is = absurd (none_some _ (sym is))
-all_is (Some n) (s ∷ more) is = ap (λ (b : Bearer). Some b.kind) (same_Some (view n) _ is)
+all_is o bs is = grind (arith, none_some, same_Some)
 
 abbrev names_it : Text → Standing → Bool
 names_it full s = bytes_eq full s.declared.name

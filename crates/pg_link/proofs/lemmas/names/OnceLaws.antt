@@ -1,11 +1,11 @@
 -- No name is declared twice exactly where any two that are one are parts of packages.
-use Rattle.std.proofs.Common.{◌≡◌, ◌∙◌, inl, inr, ◌⊎◌, ℕ, zero, suc, ◌<◌, ◌≤◌, Bool, true, false, ◌&&◌, cond, List, [], ◌∷◌, ◌++◌, Some, None, map, reverse, length, refl, sym, ap, subst, slice_get, is_some, true≢false, arith}
+use Rattle.std.proofs.Common.{◌≡◌, ◌∙◌, inl, inr, ◌⊎◌, ℕ, zero, suc, ◌<◌, ◌≤◌, Bool, true, false, ◌&&◌, cond, List, [], ◌∷◌, ◌++◌, Some, None, map, reverse, length, refl, sym, subst, slice_get, true≢false, arith, rules}
 use Rattle.std.proofs.lemmas.List.{reverse-append, reverse-reverse}
 use Rattle.std.proofs.lemmas.Option.{same_Some, slice_get_within}
 use Rattle.std.proofs.lemmas.Slice.Eq.{bytes_eq-Decides}
 use Rattle.std.specs.Str.{bytes_eq}
 use Rattle.pg_link.specs.declared.names.Kind.{Kind}
-use Rattle.pg_link.specs.names.Names.{Text, is_package}
+use Rattle.pg_link.specs.names.Names.{Text}
 use Rattle.pg_link.specs.names.Standing.{Standing, Bearer, bearers, first_of, may_share, MayStand, AllMayStand, NoneTwice, OncePerName, NoneTwiceIsOnce}
 use Rattle.pg_link.proofs.lemmas.names.FileMarks.{none_some}
 use Rattle.pg_link.proofs.lemmas.names.VisibleFilesLaws.{push_cases}
@@ -24,8 +24,7 @@ FirstShares kind found = (first_of found ≡ None) ⊎ ((b : Bearer) × (first_o
 
 first_shares_by : (kind : Kind) (b : Bool) (t : Standing) (rest : List Standing) → (b ≡ true → may_share t.declared.kind kind ≡ true) → FirstShares kind rest
     → FirstShares kind (cond b (t ∷ rest) rest)
-first_shares_by kind true t rest this more = inr (record { kind = t.declared.kind; at = t.declared.at; files = t.file ∷ map (λ u. u.file) rest }, refl, this refl)
-first_shares_by kind false t rest this more = more
+first_shares_by kind b t rest this more = grind arith
 
 stands : (before : List Standing) (s : Standing) → AllShare before s → MayStand before s
 stands [] s share = inl refl
@@ -59,8 +58,7 @@ bears_by true x before full i t is at name more = record {
   is_first = refl;
   is_kind = refl;
 }
-bears_by false x before full zero t is at name more =
-    absurd (true≢false (sym ((bytes_eq-Decides full x.declared.name).1 (sym (ap (λ (u : Standing). u.declared.name) (inner at) ∙ name))) ∙ is))
+bears_by false x before full zero t is at name more = search (rules, true≢false, bytes_eq-Decides, inner)
 bears_by false x before full (suc i) t is at name more =
     let b = more i at in
     record {
@@ -80,38 +78,26 @@ bears (x ∷ before) full i t at name =
     bears_by (bytes_eq full x.declared.name) x before full i t refl at name (λ j there. bears before full j t there name)
 
 third : (a b c : Bool) → (a && b) ≡ true → (a && c) ≡ true → (b && c) ≡ true
-third true true true one other = refl
-third true true false one other = absurd (true≢false (sym other))
-third true false c one other = absurd (true≢false (sym one))
-third false b c one other = absurd (true≢false (sym one))
+third a b c one other = grind (arith, true≢false)
 
 same_or_before : (j i : ℕ) → j ≤ i → (j ≡ i) ⊎ (j < i)
 same_or_before zero zero less = inl refl
 same_or_before zero (suc i) less = inr (omega arith)
 same_or_before (suc j) zero less = absurd (omega (arith, less))
-same_or_before (suc j) (suc i) less = more (same_or_before j i (omega (arith, less)))
-  where
-    more : (j ≡ i) ⊎ (j < i) → (suc j ≡ suc i) ⊎ (suc j < suc i)
-    more (inl is) = inl (ap suc is)
-    more (inr is) = inr (omega (arith, is))
+same_or_before (suc j) (suc i) less = search (rules, same_or_before j i (omega (arith, less)))
 
 shares : (before : List Standing) (s : Standing) → MayStand before s → OncePerName before → AllShare before s
 shares before s may once = λ i t at name. by i t at name (bears before s.declared.name i t at name) may
   where
     later : (i j : ℕ) (t f : Standing) → slice_get before i ≡ Some t → slice_get before j ≡ Some f → f.declared.name ≡ t.declared.name → (j ≡ i) ⊎ (j < i)
         → may_share f.declared.kind s.declared.kind ≡ true → may_share t.declared.kind s.declared.kind ≡ true
-    later i j t f at there name (inl is) share =
-        subst (λ (u : Standing). may_share u.declared.kind s.declared.kind ≡ true) (inner (sym there ∙ (ap (slice_get before) is ∙ at))) share
-    later i j t f at there name (inr less) share =
-        third (is_package f.declared.kind) (is_package t.declared.kind) (is_package s.declared.kind) (once j i f t less there at name) share
+    later i j t f at there name (inl is) share = search (rules, inner, slice_get)
+    later i j t f at there name (inr less) share = search (rules, third)
 
     by : (i : ℕ) (t : Standing) → slice_get before i ≡ Some t → t.declared.name ≡ s.declared.name → Bears before (bearers before s.declared.name) s.declared.name i
         → MayStand before s → may_share t.declared.kind s.declared.kind ≡ true
     by i t at name b (inl none) = absurd (none_some b.bearer (sym none ∙ b.is_first))
-    by i t at name b (inr (other, is, share)) =
-        let same : other ≡ b.bearer = inner (sym is ∙ b.is_first) in
-        later i b.place t b.first at b.is_at (b.is_name ∙ sym name) (same_or_before b.place i b.is_before)
-        (subst (λ (k : Kind). may_share k s.declared.kind ≡ true) (ap (λ (x : Bearer). x.kind) same ∙ b.is_kind) share)
+    by i t at name b (inr (other, is, share)) = search (rules, inner, later, same_or_before)
 
 -- ---- one more after the others
 
@@ -125,16 +111,7 @@ get_last [] s = refl
 get_last (x ∷ front) s = get_last front s
 
 once_push : (front : List Standing) (s : Standing) → OncePerName front → AllShare front s → OncePerName (front ++ s ∷ [])
-once_push front s once share = λ i j t u less at there name. by i j t u less name (push_cases front s i t at) (push_cases front s j u there)
-  where
-    by : (i j : ℕ) (t u : Standing) → i < j → t.declared.name ≡ u.declared.name → (slice_get front i ≡ Some t) ⊎ ((i ≡ length front) × (s ≡ t))
-        → (slice_get front j ≡ Some u) ⊎ ((j ≡ length front) × (s ≡ u)) → may_share t.declared.kind u.declared.kind ≡ true
-    by i j t u less name (inl at) (inl there) = once i j t u less at there name
-    by i j t u less name (inl at) (inr last) =
-        subst (λ (v : Standing). may_share t.declared.kind v.declared.kind ≡ true) last.1
-        (share i t at (name ∙ ap (λ (v : Standing). v.declared.name) (sym last.1)))
-    by i j t u less name (inr last) (inl there) = absurd (omega (arith, less, last.0, slice_get_within front j u there))
-    by i j t u less name (inr last) (inr other) = absurd (omega (arith, less, last.0, other.0))
+once_push front s once share = search (rules, push_cases, slice_get, slice_get_within)
 
 once_front : (front : List Standing) (s : Standing) → OncePerName (front ++ s ∷ []) → OncePerName front
 once_front front s once = λ i j t u less at there name. once i j t u less (get_front front s i t at) (get_front front s j u there) name
@@ -147,9 +124,7 @@ pushed s before = reverse-append (s ∷ []) before
 
 once_of : (before : List Standing) → AllMayStand before → OncePerName (reverse before)
 once_of [] all = λ i j t u less at there name. absurd (none_some t at)
-once_of (s ∷ before) all =
-    let front : OncePerName (reverse before) = once_of before all.1 in
-    subst OncePerName (sym (pushed s before)) (once_push (reverse before) s front (shares (reverse before) s all.0 front))
+once_of (s ∷ before) all = search (rules, pushed, once_push, shares, once_of before all.1)
 
 all_of_once : (before : List Standing) → OncePerName (reverse before) → AllMayStand before
 all_of_once [] once = tt

@@ -24,8 +24,7 @@ use Rattle.pg_link.proofs.lemmas.names.SameBytes.{same_text, text_same}
 use Rattle.pg_link.proofs.lemmas.uses.UseFaultLaws.{among_at}
 
 pub if_some : {X : Type 0} (P Q : X → Type 0) (o : Option X) → ((x : X) → P x → Q x) → IfSome o P → IfSome o Q
-if_some P Q None more is = is
-if_some P Q (Some x) more is = more x is
+if_some P Q o more is = grind arith
 
 -- who bears a name first
 pub record FirstBearer (bs : List Standing) (b : Bearer) : Type 0 where
@@ -125,5 +124,4 @@ has_first index es name n lists held =
     }
 
 pub if_none : {X : Type 0} (P Q : Type 0) (o : Option X) → (P → Q) → IfNone o P → IfNone o Q
-if_none P Q None more is = more is
-if_none P Q (Some x) more is = is
+if_none P Q o more is = grind arith

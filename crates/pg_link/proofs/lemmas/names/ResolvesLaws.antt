@@ -1,5 +1,5 @@
 -- Full names and scopes, word by word.
-use Rattle.std.proofs.Common.{◌≡◌, ◌∙◌, ℕ, Bool, true, false, List, [], ◌∷◌, ◌++◌, map, Option, Some, None, if◌then◌else◌, refl, ap, append_assoc, true≢false}
+use Rattle.std.proofs.Common.{◌≡◌, ◌∙◌, ℕ, Bool, true, false, List, [], ◌∷◌, ◌++◌, map, Option, Some, None, refl, ap, append_assoc, true≢false, arith, rules}
 use Rattle.std.proofs.Common.{zero, suc, ◌+◌, ◌-◌, ◌<◌, ◌≤◌, ◌≢◌, String, length, take, slice_index_or, subst, sym, add-one, arith}
 use Rattle.std.proofs.lemmas.List.{map_more}
 use Rattle.std.specs.Borrow.{Bor}
@@ -76,26 +76,13 @@ pub called-behind : {X : Type 0} (first : Text) (f : X → Text) (xs : List X) (
 called-behind first f xs i d within = rw (map_more f xs i d within) (called-append (first ∷ map f (take i xs)) (f (slice_index_or xs i d) ∷ []))
 
 pub none_is : {X : Type 0} (o : Option X) → ((x : X) → o ≡ Some x → ⊥) → o ≡ None
-none_is None other = refl
-none_is (Some x) other = absurd (other x refl)
+none_is o other = grind arith
 
 -- ---- what a name means
 
 meant_is : (names : Names) (scope : List Text) (r : Reference) (o : Option Text) → r.is_full ≡ false
     → o ≡ option_map called (innermost names (sought_among r.more) (called (r.first ∷ [])) scope) → option_map (λ (outer : Text). outer ++ written r) o ≡ meant names scope r
-meant_is names scope r o full is =
-    ap (option_map (λ (outer : Text). outer ++ written r)) is ∙ (twice (innermost names (sought_among r.more) (called (r.first ∷ [])) scope) ∙ sym (unfull r.is_full full))
-  where
-    inner : Option Text
-    inner = option_map (λ (outer : List Text). called outer ++ written r) (innermost names (sought_among r.more) (called (r.first ∷ [])) scope)
-
-    twice : (m : Option (List Text)) → option_map (λ (outer : Text). outer ++ written r) (option_map called m) ≡ option_map (λ (outer : List Text). called outer ++ written r) m
-    twice None = refl
-    twice (Some m) = refl
-
-    unfull : (b : Bool) → b ≡ false → (if b then Some (written r) else inner) ≡ inner
-    unfull true is = absurd (true≢false is)
-    unfull false is = refl
+meant_is names scope r o full is = search (rules, true≢false)
 
 -- what is found of a name, by the full name of the scope that has its first part
 pub found_by : (names : Names) (scope : List Text) (r : Reference) (o : Option Text) → r.is_full ≡ false

@@ -1,5 +1,5 @@
 -- Lists of bytes that are the same, or differ.
-use Rattle.std.proofs.Common.{◌≡◌, ◌∙◌, Bool, true, false, refl, sym, true≢false}
+use Rattle.std.proofs.Common.{◌≡◌, true, false, true≢false, rules}
 use Rattle.std.proofs.lemmas.Slice.Eq.{bytes_eq-Decides}
 use Rattle.std.specs.Str.{bytes_eq}
 use Rattle.pg_link.specs.names.Names.{Text}
@@ -12,8 +12,4 @@ text_same a b is = (bytes_eq-Decides a b).1 is
 
 -- they differ either way
 pub differ_turned : (a b : Text) → bytes_eq a b ≡ false → bytes_eq b a ≡ false
-differ_turned a b other = by (bytes_eq b a) refl
-  where
-    by : (t : Bool) → bytes_eq b a ≡ t → bytes_eq b a ≡ false
-    by true is = absurd (true≢false (sym (text_same a b (sym (same_text b a is))) ∙ other))
-    by false is = is
+differ_turned a b other = search (rules, true≢false, text_same, same_text)

@@ -1,5 +1,5 @@
 -- The paths that are computed are those that are visible in a file, and no others.
-use Rattle.std.proofs.Common.{◌≡◌, ◌∙◌, inl, inr, zero, suc, Bool, true, false, ◌||◌, cond, List, [], ◌∷◌, map, flat_map, refl, sym, ap, subst, true≢false, arith}
+use Rattle.std.proofs.Common.{◌≡◌, ◌∙◌, inl, inr, zero, suc, Bool, true, false, ◌||◌, cond, List, [], ◌∷◌, map, flat_map, refl, sym, ap, subst, true≢false, arith, rules}
 use Rattle.std.proofs.lemmas.Bool.{or_left, or_right}
 use Rattle.std.specs.List.{list_any, IsAmong}
 use Rattle.std.specs.Str.{bytes_eq}
@@ -18,9 +18,7 @@ map_among f (y ∷ ys) x (suc i, (within, is)) = later_among (f y) (map f ys) (f
 pub among_map : {X Y : Type 0} (f : X → Y) (xs : List X) (y : Y) → IsAmong (map f xs) y → (x : X) × IsAmong xs x × (f x ≡ y)
 among_map f [] y (i, (within, is)) = absurd (omega (arith, within))
 among_map f (x ∷ xs) y (zero, (within, is)) = (x, first_among x xs, sym is)
-among_map f (x ∷ xs) y (suc i, (within, is)) =
-    let h = among_map f xs y (i, (omega (arith, within), is)) in
-    (h.0, later_among x xs h.0 h.1, h.2)
+among_map f (x ∷ xs) y (suc i, (within, is)) = search (rules, later_among, among_map f xs y (i, (omega (arith, within), is)))
 
 -- the file of a path
 pub file_of : (files : List File) (path : Text) → is_path_of (paths_of files) path ≡ true → (file : File) × IsAmong files file × (file.path ≡ path)
@@ -39,9 +37,7 @@ line_later l lines next h = (h.0, later_among l lines h.0 h.1, h.2, h.3)
 
 line_by : (l : Import) (lines : List Import) (next : Text) (b : Bool) → l.is_public ≡ b → (IsAmong (public_paths lines) next → PublicLine lines next)
     → IsAmong (cond b (l.path ∷ public_paths lines) (public_paths lines)) next → PublicLine (l ∷ lines) next
-line_by l lines next true is rest (zero, (within, same)) = (l, first_among l lines, is, sym same)
-line_by l lines next true is rest (suc i, (within, same)) = line_later l lines next (rest (i, (omega (arith, within), same)))
-line_by l lines next false is rest among = line_later l lines next (rest among)
+line_by l lines next b is rest among = grind (arith, first_among, line_later)
 
 -- a public path is that of a public line
 line_of : (lines : List Import) (next : Text) → IsAmong (public_paths lines) next → PublicLine lines next
@@ -53,14 +49,12 @@ public_by l lines true path among = later_among l.path (public_paths lines) path
 public_by l lines false path among = among
 
 first_public : (l : Import) (lines : List Import) (b : Bool) → b ≡ true → IsAmong (cond b (l.path ∷ public_paths lines) (public_paths lines)) l.path
-first_public l lines true is = first_among l.path (public_paths lines)
-first_public l lines false is = absurd (true≢false (sym is))
+first_public l lines b is = grind (arith, first_among, true≢false)
 
 -- and the other way round
 public_among : (lines : List Import) (line : Import) → IsAmong lines line → line.is_public ≡ true → IsAmong (public_paths lines) line.path
 public_among [] line (i, (within, is)) public = absurd (omega (arith, within))
-public_among (l ∷ lines) line (zero, (within, is)) public =
-    subst (λ (x : Import). IsAmong (public_paths (l ∷ lines)) x.path) (sym is) (first_public l lines l.is_public (ap (λ (x : Import). x.is_public) (sym is) ∙ public))
+public_among (l ∷ lines) line (zero, (within, is)) public = search (rules, first_public)
 public_among (l ∷ lines) line (suc i, (within, is)) public = public_by l lines l.is_public line.path (public_among lines line (i, (omega (arith, within), is)) public)
 
 -- ---- what is handed on
@@ -93,11 +87,7 @@ first_hands f files other rest false same is =
 sound_by : (f : File) (files : List File) (path other : Text) → ((next : Text) → is_path_of (handed_on files next) other ≡ true → HandsOn files next other)
     → (b : Bool) → bytes_eq f.path path ≡ b
     → is_path_of (cond b (path ∷ flat_map (handed_on files) (public_paths f.imports)) (handed_on files path)) other ≡ true → HandsOn (f ∷ files) path other
-sound_by f files path other rest true same is =
-    let at : f.path ≡ path = same_text f.path path same in
-    subst (λ (p : Text). HandsOn (f ∷ files) p other) at
-    (first_hands f files other rest (bytes_eq other f.path) refl
-    (subst (λ (p : Text). is_path_of (p ∷ flat_map (handed_on files) (public_paths f.imports)) other ≡ true) (sym at) is))
+sound_by f files path other rest true same is = search (rules, same_text, first_hands, flat_map)
 sound_by f files path other rest false same is = hands_more f files path other (rest path is)
 
 pub handed_sound : (files : List File) (path other : Text) → is_path_of (handed_on files path) other ≡ true → HandsOn files path other
@@ -105,9 +95,7 @@ handed_sound [] path other is = absurd (true≢false (sym is))
 handed_sound (f ∷ files) path other is = sound_by f files path other (λ next h. handed_sound files next other h) (bytes_eq f.path path) refl is
 
 own_first : (files : List File) → InOrder files → Differ (paths_of files) → (file : File) → IsAmong files file → is_path_of (handed_on files file.path) file.path ≡ true
-own_first files order apart file among =
-    subst (λ (l : List Text). is_path_of l file.path ≡ true) (sym (handed_on_is files order apart file among))
-    (or_left (bytes_eq file.path file.path) (is_path_of (flat_map (handed_on files) (public_paths file.imports)) file.path) (text_same file.path file.path refl))
+own_first files order apart file among = search (rules, handed_on_is, or_left, flat_map, text_same)
 
 -- what one of these hands on is among all that they do
 among_all : (files : List File) (first other next : Text) (nexts : List Text) → IsAmong nexts next → is_path_of (handed_on files next) other ≡ true
@@ -125,9 +113,7 @@ next_there files order path next i =
 
 pub handed_complete : (files : List File) → InOrder files → Differ (paths_of files) → (path other : Text) → is_path_of (paths_of files) path ≡ true
     → HandsOn files path other → is_path_of (handed_on files path) other ≡ true
-handed_complete files order apart path other has Itself =
-    let f = file_of files path has in
-    subst (λ (p : Text). is_path_of (handed_on files p) p ≡ true) f.2 (own_first files order apart f.0 f.1)
+handed_complete files order apart path other has Itself = search (rules, file_of, own_first)
 handed_complete files order apart path other has (Onwards {next = next} public rest) =
     let i = public.imports in
     let there : is_path_of (paths_of files) next ≡ true = next_there files order path next i in
@@ -158,12 +144,7 @@ seen_sound files order apart path other has is =
 
 seen_complete : (files : List File) → InOrder files → Differ (paths_of files) → (path other : Text) → is_path_of (paths_of files) path ≡ true
     → Sees files path other → is_path_of (seen_paths files path) other ≡ true
-seen_complete files order apart path other has (inl same) =
-    let f = file_of files path has in
-    let own : is_path_of (seen_paths files f.0.path) f.0.path ≡ true =
-    subst (λ (l : List Text). is_path_of l f.0.path ≡ true) (sym (seen_paths_is files order apart f.0 f.1))
-    (or_left (bytes_eq f.0.path f.0.path) (is_path_of (flat_map (handed_on files) (import_paths f.0.imports)) f.0.path) (text_same f.0.path f.0.path refl)) in
-    subst (λ (p : Text). is_path_of (seen_paths files path) p ≡ true) same (subst (λ (p : Text). is_path_of (seen_paths files p) p ≡ true) f.2 own)
+seen_complete files order apart path other has (inl same) = search (rules, file_of, seen_paths_is, or_left, flat_map, text_same)
 seen_complete files order apart path other has (inr (next, i, hands)) =
     let among : IsAmong (import_paths i.file.imports) next =
     subst (λ (p : Text). IsAmong (import_paths i.file.imports) p) i.to_other (map_among (λ (l : Import). l.path) i.file.imports i.line i.has_line) in

@@ -1,5 +1,5 @@
 -- One more name after the others.
-use Rattle.std.proofs.Common.{◌≡◌, ◌∙◌, ℕ, Bool, true, false, cond, List, [], ◌∷◌, ◌++◌, Option, Some, None, String, map, refl, sym, ap, subst, true≢false, append_assoc, take, slice_get, is_some, zero, suc, ◌+◌, arith}
+use Rattle.std.proofs.Common.{◌≡◌, ◌∙◌, ℕ, Bool, true, false, cond, List, [], ◌∷◌, ◌++◌, Option, Some, None, String, map, refl, sym, ap, subst, true≢false, append_assoc, take, slice_get, is_some, zero, suc, ◌+◌, arith, rules}
 use Rattle.std.proofs.lemmas.List.{map-append, reverse-append, reverse-reverse, append-nil}
 use Rattle.std.proofs.lemmas.List.Elements.{filter-append}
 use Rattle.std.proofs.lemmas.Slice.Eq.{bytes_eq-Decides}
@@ -17,7 +17,7 @@ use Rattle.pg_link.specs.declared.error.LinkError as errors
 use Rattle.pg_link.specs.declared.error.LinkError.TheVariants as error
 use Rattle.pg_link.specs.walk.Walk.{Entry, IsPlace, path_of}
 use Rattle.std.proofs.lemmas.Option.{same_Some}
-use Rattle.pg_link.specs.names.Standing.{Standing, Bearer, bearers, bearer, first_of, MayStand, NoneTwice, AllMayStand, StandsTwice, standing, standings, standings_from, all_standings, IsTwiceIn}
+use Rattle.pg_link.specs.names.Standing.{Standing, bearers, bearer, first_of, MayStand, NoneTwice, StandsTwice, standing, standings, standings_from, all_standings, IsTwiceIn}
 use Rattle.pg_link.specs.inner.Indexed.{added, Adds, AddsAll, Holds, Lists, IsTwice, view}
 use Rattle.pg_link.proofs.lemmas.names.SameBytes.{same_text, differ_turned}
 
@@ -26,21 +26,17 @@ bearers-push all s full = filter-append (λ (t : Standing). bytes_eq full t.decl
 
 -- another name bears what it bore
 other_by : (all : List Standing) (s : Standing) (full : Text) (b : Bool) → b ≡ false → first_of (bearers all full ++ cond b (s ∷ []) []) ≡ bearer all full
-other_by all s full true none = absurd (true≢false none)
-other_by all s full false none = ap first_of (append-nil (bearers all full))
+other_by all s full b none = grind (arith, true≢false, append-nil)
 
 other_name : (all : List Standing) (s : Standing) (full : Text) → bytes_eq full s.declared.name ≡ false → bearer (all ++ s ∷ []) full ≡ bearer all full
 other_name all s full none = ap first_of (bearers-push all s full) ∙ other_by all s full (bytes_eq full s.declared.name) none
 
 -- what bears the name of the last
 added-first : (xs : List Standing) (s : Standing) → first_of (xs ++ s ∷ []) ≡ Some (added s (first_of xs))
-added-first [] s = refl
-added-first (x ∷ xs) s =
-    ap (λ (fs : List ℕ). Some (record { kind = x.declared.kind; at = x.declared.at; files = x.file ∷ fs })) (map-append (λ (t : Standing). t.file) xs (s ∷ []))
+added-first xs s = grind (arith, map-append)
 
 own_by : (all : List Standing) (s : Standing) (full : Text) (b : Bool) → b ≡ true → first_of (bearers all full ++ cond b (s ∷ []) []) ≡ Some (added s (bearer all full))
-own_by all s full true is = added-first (bearers all full) s
-own_by all s full false is = absurd (true≢false (sym is))
+own_by all s full b is = grind (arith, added-first, true≢false)
 
 own_name : (all : List Standing) (s : Standing) (full : Text) → bytes_eq full s.declared.name ≡ true → bearer (all ++ s ∷ []) full ≡ Some (added s (bearer all full))
 own_name all s full is = ap first_of (bearers-push all s full) ∙ own_by all s full (bytes_eq full s.declared.name) is
@@ -48,23 +44,15 @@ own_name all s full is = ap first_of (bearers-push all s full) ∙ own_by all s 
 holds_by : {S : Type 0} (old new : HashMap (String Global) nameds.Named S) (all : List Standing) (s : Standing) (n : nameds.Named) (full : Text) (b : Bool)
     → bytes_eq s.declared.name full ≡ b → Holds old all → view n ≡ added s (bearer all s.declared.name)
     → get_by_text new full ≡ cond b (Some n) (get_by_text old full) → option_map view (get_by_text new full) ≡ bearer (all ++ s ∷ []) full
-holds_by old new all s n full true same holds made now =
-    let is : s.declared.name ≡ full = same_text s.declared.name full same in
-    ap (option_map view) now ∙ (ap (λ (b : Bearer). Some b) (made ∙ ap (λ (t : Text). added s (bearer all t)) is)
-    ∙ sym (own_name all s full ((bytes_eq-Decides full s.declared.name).1 (sym is))))
-holds_by old new all s n full false same holds made now =
-    ap (option_map view) now ∙ (holds full ∙ sym (other_name all s full (differ_turned s.declared.name full same)))
+holds_by old new all s n full b same holds made now = grind (arith, same_text, own_name, bytes_eq-Decides, other_name, differ_turned)
 
 pub holds_more : {S : Type 0} (old new : HashMap (String Global) nameds.Named S) (all : List Standing) (s : Standing) (n : nameds.Named) (name : Text)
     → name ≡ s.declared.name → ((cs : Text) → get_by_text new cs ≡ update bytes_eq (get_by_text old) name (Some n) cs)
     → Holds old all → view n ≡ added s (bearer all s.declared.name) → Holds new (all ++ s ∷ [])
-holds_more old new all s n name same now holds made = λ full.
-    holds_by old new all s n full (bytes_eq s.declared.name full) refl holds made
-    (subst (λ (t : Text). get_by_text new full ≡ update bytes_eq (get_by_text old) t (Some n) full) same (now full))
+holds_more old new all s n name same now holds made = search (rules, holds_by)
 
 pub none_twice_more : (all : List Standing) (s : Standing) → NoneTwice all → MayStand all s → NoneTwice (all ++ s ∷ [])
-none_twice_more all s none may =
-    subst AllMayStand (sym (reverse-append all (s ∷ []))) (subst (λ xs. MayStand xs s) (sym (reverse-reverse all)) may, none)
+none_twice_more all s none may = search (rules, reverse-append, reverse-reverse)
 
 -- ---- what a map says of a name
 
@@ -77,14 +65,12 @@ one_held index all full n holds some = sym (holds full) ∙ ap (option_map view)
 
 -- what is put under a name over what was just put there
 over : {X : Type 0} (b : Bool) (first second : Option X) (before : Option X) → cond b second (cond b first before) ≡ cond b second before
-over true first second before = refl
-over false first second before = refl
+over b first second before = grind arith
 
 pub put_over : {X : Type 0} (old mid new : Text → Option X) (name : Text) (first second : Option X)
     → ((cs : Text) → mid cs ≡ update bytes_eq old name first cs) → ((cs : Text) → new cs ≡ update bytes_eq mid name second cs)
     → (cs : Text) → new cs ≡ update bytes_eq old name second cs
-put_over {X = X} old mid new name first second before now cs =
-    now cs ∙ (ap (λ (o : Option X). cond (bytes_eq name cs) second o) (before cs) ∙ over (bytes_eq name cs) first second (old cs))
+put_over {X = X} old mid new name first second before now cs = search (rules, over)
 
 -- ---- the names of a file, one by one
 
@@ -111,18 +97,8 @@ stands_twice old mid new front s before adds = λ all holds. let h = before all 
 
 pub standings_more : (n : ℕ) (es : List Entry) (i : ℕ) (e : Entry) → slice_get es i ≡ Some e
     → standings_from n (take (i + 1) es) ≡ standings_from n (take i es) ++ standings (n + i) e.1.tree
-standings_more n [] i e at = absurd (some_none at)
-  where
-    some_none : None ≡ Some e → ⊥
-    some_none is = absurd (true≢false (sym (ap is_some is)))
-standings_more n (x ∷ es) zero e at =
-    let none : n ≡ n + 0 = omega arith in
-    ap (standings_from n) (take_first x es) ∙ (append-nil (standings n x.1.tree)
-    ∙ (ap (λ (y : Entry). standings n y.1.tree) (same_Some x e at) ∙ ap (λ (m : ℕ). standings m e.1.tree) none))
-  where
-    take_first : (x : Entry) (es : List Entry) → take (zero + 1) (x ∷ es) ≡ x ∷ []
-    take_first x [] = refl
-    take_first x (y ∷ es) = refl
+standings_more n [] i e at = search (rules, true≢false, is_some)
+standings_more n (x ∷ es) zero e at = search (rules, append-nil, same_Some)
 standings_more n (x ∷ es) (suc i) e at =
     let next : suc i + 1 ≡ suc (i + 1) = omega arith in
     let sum : (n + 1) + i ≡ n + suc i = omega arith in
@@ -136,15 +112,9 @@ files_more es i e at =
     standings_more 0 es i e at ∙ ap (λ (m : ℕ). all_standings (take i es) ++ standings m e.1.tree) sum
 
 standings_split : (n : ℕ) (es : List Entry) (i : ℕ) → (rest : List Standing) × (standings_from n es ≡ standings_from n (take i es) ++ rest)
-standings_split n es zero = (standings_from n es, none es)
-  where
-    none : (es : List Entry) → standings_from n es ≡ standings_from n (take zero es) ++ standings_from n es
-    none [] = refl
-    none (x ∷ es) = refl
+standings_split n es zero = search rules
 standings_split n [] (suc i) = ([], refl)
-standings_split n (x ∷ es) (suc i) =
-    let h = standings_split (n + 1) es i in
-    (h.0, ap (λ l. standings n x.1.tree ++ l) h.1 ∙ sym (append_assoc (standings n x.1.tree) (standings_from (n + 1) (take i es)) h.0))
+standings_split n (x ∷ es) (suc i) = search (rules, append_assoc, standings_split (n + 1) es i)
 
 pub twice_in : (index : indexes.Index) (es : List Entry) (i : ℕ) (e : Entry) (path : Text) (err : errors.LinkError)
     → slice_get es i ≡ Some e → path ≡ path_of e → Lists index (all_standings (take i es)) → NoneTwice (all_standings (take i es))

@@ -1,11 +1,11 @@
 -- The masks of all files, one by one.
-use Rattle.std.proofs.Common.{◌≡◌, ◌∙◌, ◌⊎◌, inl, inr, ℕ, zero, suc, ◌<◌, Bool, true, false, List, [], ◌∷◌, ◌++◌, map, flat_map, take, drop, reverse, length, slice_get, slice_index_or, append_assoc, refl, sym, ap, subst, arith, Some, Vec}
+use Rattle.std.proofs.Common.{◌≡◌, ◌∙◌, ◌⊎◌, inl, inr, ℕ, zero, suc, ◌<◌, Bool, true, false, List, [], ◌∷◌, ◌++◌, map, flat_map, take, drop, reverse, length, slice_get, slice_index_or, append_assoc, refl, sym, ap, subst, arith, Some, Vec, rules}
 use Rattle.std.proofs.lemmas.List.{length-map, map-append, reverse-append}
 use Rattle.std.proofs.lemmas.Option.{same_Some}
 use Rattle.std.specs.Global.{Global}
 use Rattle.std.specs.List.{All, IsAmong}
 use Rattle.pg_link.specs.declared.walk.imports.ImportLine as made
-use Rattle.pg_link.specs.names.Files.{File, Import, InOrder, Differ, is_path_of, paths_of, import_paths, public_paths, handed_on, seen_paths}
+use Rattle.pg_link.specs.names.Files.{File, Import, InOrder, Differ, is_path_of, paths_of, import_paths, handed_on, seen_paths}
 use Rattle.pg_link.specs.inner.Made.{line_of}
 use Rattle.pg_link.specs.names.Names.{Text}
 use Rattle.pg_link.specs.names.Outline.{file_imports}
@@ -21,11 +21,7 @@ pub push_cases : {X : Type 0} (xs : List X) (x : X) (i : ℕ) (y : X) → slice_
 push_cases [] x zero y at = inr (refl, same_Some x y at)
 push_cases [] x (suc i) y at = absurd (none_some y at)
 push_cases (z ∷ xs) x zero y at = inl at
-push_cases (z ∷ xs) x (suc i) y at = next (push_cases xs x i y at)
-  where
-    next : (slice_get xs i ≡ Some y) ⊎ ((i ≡ length xs) × (x ≡ y)) → (slice_get xs i ≡ Some y) ⊎ ((suc i ≡ suc (length xs)) × (x ≡ y))
-    next (inl h) = inl h
-    next (inr (same, is)) = inr (ap (λ (n : ℕ). suc n) same, is)
+push_cases (z ∷ xs) x (suc i) y at = search (rules, slice_get, push_cases xs x i y at)
 
 pub split_get : {X : Type 0} (xs : List X) (i : ℕ) (x : X) → slice_get xs i ≡ Some x → xs ≡ take i xs ++ x ∷ drop (suc i) xs
 split_get [] i x at = absurd (none_some x at)
@@ -37,8 +33,7 @@ among_middle [] x ys = first_among x ys
 among_middle (z ∷ xs) x ys = later_among z (xs ++ x ∷ ys) x (among_middle xs x ys)
 
 all_at : {X : Type 0} (P : X → Type 0) (x : X) (xs : List X) → P x → All P xs → (k : ℕ) (d : X) → k < length (x ∷ xs) → P (slice_index_or (x ∷ xs) k d)
-all_at P x xs first rest zero d within = first
-all_at P x xs first rest (suc k) d within = rest k d (omega (arith, within))
+all_at P x xs first rest k d within = grind arith
 
 all_of_each : {X : Type 0} (P : X → Type 0) (xs : List X) → Each P xs → All P xs
 all_of_each P [] each = λ k d within. absurd (omega (arith, within))
@@ -85,8 +80,7 @@ lines_there es i e lines order at own =
 more_by : {X : Type 0} (P : Entry → X → Type 0) (es : List Entry) (xs : List X) (x : X) (i : ℕ) (y : X) (e : Entry)
     → ((j : ℕ) (z : X) (a : Entry) → slice_get xs j ≡ Some z → slice_get es j ≡ Some a → P a z) → ((a : Entry) → slice_get es (length xs) ≡ Some a → P a x)
     → slice_get es i ≡ Some e → (slice_get xs i ≡ Some y) ⊎ ((i ≡ length xs) × (x ≡ y)) → P e y
-more_by P es xs x i y e before here there (inl at) = before i y e at there
-more_by P es xs x i y e before here there (inr (same, is)) = subst (P e) is (here e (subst (λ (n : ℕ). slice_get es n ≡ Some e) same there))
+more_by P es xs x i y e before here there h11 = grind (arith, slice_get)
 
 pub masks_more : (es : List Entry) (paths : Text → List Text) (masks : List (List Bool)) (m : List Bool) → AreMasks es paths masks
     → ((a : Entry) → slice_get es (length masks) ≡ Some a → IsMask es (paths (path_of a)) m) → AreMasks es paths (masks ++ m ∷ [])
@@ -95,25 +89,17 @@ masks_more es paths masks m before here = λ i marks e at there.
 
 numbers_more : (es : List Entry) (handed : List (List ℕ)) (own : List ℕ) → AreHanded es handed
     → ((a : Entry) → slice_get es (length handed) ≡ Some a → AreNumbers es (handed_on (outlines es) (path_of a)) own) → AreHanded es (handed ++ own ∷ [])
-numbers_more es handed own before here = λ i numbers e at there.
-    more_by (λ (a : Entry) (l : List ℕ). AreNumbers es (handed_on (outlines es) (path_of a)) l) es handed own i numbers e before here there
-    (push_cases handed own i numbers at)
+numbers_more es handed own before here = search (rules, more_by, push_cases)
 
 pub handed_numbers : (es : List Entry) (i : ℕ) (e : Entry) (lines : List made.ImportLine) (numbers : List ℕ) → InOrder (outlines es) → Differ (paths_of (outlines es))
     → slice_get es i ≡ Some e → map line_of lines ≡ file_imports e.1.tree
     → AreNumbers es (path_of e ∷ flat_map (handed_on (outlines es)) (taken false (map line_of lines))) numbers → AreNumbers es (handed_on (outlines es) (path_of e)) numbers
-handed_numbers es i e lines numbers order apart at own theirs =
-    subst (λ (ps : List Text). AreNumbers es ps numbers)
-    (ap (λ (ls : List Import). path_of e ∷ flat_map (handed_on (outlines es)) (public_paths ls)) own
-    ∙ sym (handed_on_is (outlines es) order apart (outline e) (among_outlines es i e at))) theirs
+handed_numbers es i e lines numbers order apart at own theirs = search (rules, flat_map, handed_on_is, among_outlines)
 
 pub seen_mask : (es : List Entry) (i : ℕ) (e : Entry) (lines : List made.ImportLine) (marks : List Bool) → InOrder (outlines es) → Differ (paths_of (outlines es))
     → slice_get es i ≡ Some e → map line_of lines ≡ file_imports e.1.tree
     → IsMask es (path_of e ∷ flat_map (handed_on (outlines es)) (taken true (map line_of lines))) marks → IsMask es (seen_paths (outlines es) (path_of e)) marks
-seen_mask es i e lines marks order apart at own mask =
-    subst (λ (ps : List Text). IsMask es ps marks)
-    (ap (λ (ls : List Import). path_of e ∷ flat_map (handed_on (outlines es)) (import_paths ls)) own
-    ∙ sym (seen_paths_is (outlines es) order apart (outline e) (among_outlines es i e at))) mask
+seen_mask es i e lines marks order apart at own mask = search (rules, flat_map, seen_paths_is, among_outlines)
 
 abbrev pub Mask : Type 0
 Mask = Vec Bool Global
@@ -132,15 +118,11 @@ numbers_in v = v.items
 pub there_of : (es : List Entry) (i count : ℕ) (e : Entry) (lines shown : List made.ImportLine) → InOrder (outlines es) → slice_get es i ≡ Some e
     → map line_of lines ≡ file_imports e.1.tree → shown ≡ lines → count ≡ i
     → All (λ l. is_path_of (paths_of (outlines (take count es))) (line_of l).path ≡ true) shown
-there_of es i count e lines shown order at own same number =
-    subst (λ (n : ℕ). All (λ l. is_path_of (paths_of (outlines (take n es))) (line_of l).path ≡ true) shown) (sym number)
-    (subst (λ (ls : List made.ImportLine). All (λ l. is_path_of (paths_of (outlines (take i es))) (line_of l).path ≡ true) ls) (sym same)
-    (lines_there es i e lines order at own))
+there_of es i count e lines shown order at own same number = search (rules, lines_there)
 
 its_imports : (es : List Entry) (i : ℕ) (e a : Entry) (lines shown : List made.ImportLine) → slice_get es i ≡ Some e → slice_get es i ≡ Some a
     → map line_of lines ≡ file_imports e.1.tree → shown ≡ lines → map line_of shown ≡ file_imports a.1.tree
-its_imports es i e a lines shown at there own same =
-    ap (map line_of) same ∙ (own ∙ ap (λ (x : Entry). file_imports x.1.tree) (same_Some e a (sym at ∙ there)))
+its_imports es i e a lines shown at there own same = search (rules, same_Some)
 
 -- the same number, counted by masks
 counted : {X Y : Type 0} (f : X → Y) (es : List Entry) (old : List X) (i : ℕ) (a : Entry) → length old ≡ i → slice_get es (length (map f old)) ≡ Some a → slice_get es i ≡ Some a

@@ -1,5 +1,5 @@
 -- What files hand on and what is visible in them: it is what is computed where each is before those that it imports.
-use Rattle.std.proofs.Common.{◌≡◌, ◌∙◌, zero, suc, Bool, true, false, ◌||◌, cond, List, [], ◌∷◌, ◌++◌, flat_map, refl, sym, ap, subst, true≢false, arith}
+use Rattle.std.proofs.Common.{◌≡◌, ◌∙◌, zero, suc, Bool, true, false, ◌||◌, cond, List, [], ◌∷◌, ◌++◌, flat_map, refl, sym, ap, subst, true≢false, arith, rules}
 use Rattle.std.proofs.lemmas.Bool.{or_left, or_right}
 use Rattle.std.proofs.lemmas.List.Folds.{list_any-append, flat_map-map}
 use Rattle.std.specs.List.{list_any, All, IsAmong}
@@ -39,8 +39,7 @@ Found {X = X} test xs = (x : X) × IsAmong xs x × (test x ≡ true)
 
 found_by : {X : Type 0} (test : X → Bool) (x : X) (xs : List X) (b : Bool) → test x ≡ b → (list_any test xs ≡ true → Found test xs)
     → (b || list_any test xs) ≡ true → Found test (x ∷ xs)
-found_by test x xs true pass rest is = (x, first_among x xs, pass)
-found_by test x xs false fail rest is = let h = rest is in (h.0, later_among x xs h.0 h.1, h.2)
+found_by test x xs b pass rest is = grind (arith, first_among, later_among)
 
 -- one that passes the test
 pub any_found : {X : Type 0} (test : X → Bool) (xs : List X) → list_any test xs ≡ true → Found test xs
@@ -64,8 +63,7 @@ flat_same f g (x ∷ xs) each = ap (λ l. l ++ flat_map f xs) each.0 ∙ ap (λ 
 
 apart_by : (files : List File) (path first : Text) (b : Bool) → bytes_eq first path ≡ b → is_path_of (paths_of files) path ≡ true
     → is_path_of (paths_of files) first ≡ false → bytes_eq first path ≡ false
-apart_by files path first true is has none =
-    absurd (true≢false (sym has ∙ subst (λ (p : Text). is_path_of (paths_of files) p ≡ false) (same_text first path is) none))
+apart_by files path first true is has none = search (rules, true≢false, same_text)
 apart_by files path first false is has none = is
 
 -- a path among files isn't one that is not
@@ -76,29 +74,19 @@ apart_from files path first has none = apart_by files path first (bytes_eq first
 
 pub path_there : (files : List File) (file : File) → IsAmong files file → is_path_of (paths_of files) file.path ≡ true
 path_there [] file (i, (within, is)) = absurd (omega (arith, within))
-path_there (f ∷ files) file (zero, (within, is)) =
-    or_left (bytes_eq file.path f.path) (is_path_of (paths_of files) file.path) (text_same file.path f.path (ap (λ (x : File). x.path) is))
-path_there (f ∷ files) file (suc i, (within, is)) =
-    or_right (bytes_eq file.path f.path) (is_path_of (paths_of files) file.path) (path_there files file (i, (omega (arith, within), is)))
+path_there (f ∷ files) file (zero, (within, is)) = search (rules, or_left, text_same)
+path_there (f ∷ files) file (suc i, (within, is)) = search (rules, or_right, path_there files file (i, (omega (arith, within), is)))
 
 -- what a file imports is there
 pub imports_there : (files : List File) → InOrder files → (file : File) → IsAmong files file
     → Each (λ p. is_path_of (paths_of files) p ≡ true) (import_paths file.imports)
 imports_there [] order file (i, (within, is)) = absurd (omega (arith, within))
-imports_there (f ∷ files) order file (zero, (within, is)) =
-    subst (λ (x : File). Each (λ p. is_path_of (paths_of (f ∷ files)) p ≡ true) (import_paths x.imports)) (sym is)
-    (each_more (λ p. is_path_of (paths_of files) p ≡ true) (λ p. is_path_of (paths_of (f ∷ files)) p ≡ true) (import_paths f.imports)
-    (λ p has. or_right (bytes_eq p f.path) (is_path_of (paths_of files) p) has)
-    (each_of (λ p. is_path_of (paths_of files) p ≡ true) (import_paths f.imports) order.0))
-imports_there (f ∷ files) order file (suc i, (within, is)) =
-    each_more (λ p. is_path_of (paths_of files) p ≡ true) (λ p. is_path_of (paths_of (f ∷ files)) p ≡ true) (import_paths file.imports)
-    (λ p has. or_right (bytes_eq p f.path) (is_path_of (paths_of files) p) has)
-    (imports_there files order.2 file (i, (omega (arith, within), is)))
+imports_there (f ∷ files) order file (zero, (within, is)) = search (rules, each_more, or_right, each_of)
+imports_there (f ∷ files) order file (suc i, (within, is)) = search (rules, each_more, or_right, imports_there files order.2 file (i, (omega (arith, within), is)))
 
 publics_by : (P : Text → Type 0) (line : Import) (lines : List Import) (b : Bool) → line.is_public ≡ b → P line.path → Each P (public_paths lines)
     → Each P (cond b (line.path ∷ public_paths lines) (public_paths lines))
-publics_by P line lines true is here rest = (here, rest)
-publics_by P line lines false is here rest = rest
+publics_by P line lines b is here rest = grind arith
 
 publics : (P : Text → Type 0) (lines : List Import) → Each P (import_paths lines) → Each P (public_paths lines)
 publics P [] each = tt
@@ -115,10 +103,7 @@ seen_later f files path has none = rw (apart_from files path f.path has none) re
 
 all_later : (f : File) (files : List File) (paths : List Text) → is_path_of (paths_of files) f.path ≡ false
     → Each (λ p. is_path_of (paths_of files) p ≡ true) paths → flat_map (handed_on files) paths ≡ flat_map (handed_on (f ∷ files)) paths
-all_later f files paths none each =
-    flat_same (handed_on files) (handed_on (f ∷ files)) paths
-    (each_more (λ p. is_path_of (paths_of files) p ≡ true) (λ p. handed_on files p ≡ handed_on (f ∷ files) p) paths
-    (λ p has. sym (handed_later f files p has none)) each)
+all_later f files paths none each = search (rules, flat_same, each_more, handed_later)
 
 handed_first : (f : File) (files : List File) → handed_on (f ∷ files) f.path ≡ f.path ∷ flat_map (handed_on files) (public_paths f.imports)
 handed_first f files = rw (text_same f.path f.path refl) refl
@@ -150,9 +135,7 @@ lines_flat files lines = sym (flat_map-map (handed_on files) (λ (l : Import). l
 pub seen_paths_is : (files : List File) → InOrder files → Differ (paths_of files) → (file : File) → IsAmong files file
     → seen_paths files file.path ≡ file.path ∷ flat_map (handed_on files) (import_paths file.imports)
 seen_paths_is [] order apart file (i, (within, is)) = absurd (omega (arith, within))
-seen_paths_is (f ∷ files) order apart file (zero, (within, is)) =
-    subst (λ (x : File). seen_paths (f ∷ files) x.path ≡ x.path ∷ flat_map (handed_on (f ∷ files)) (import_paths x.imports)) (sym is)
-    (seen_first f files ∙ ap (λ l. f.path ∷ l) (lines_flat files f.imports ∙ all_later f files (import_paths f.imports) apart.0 (own_imports f files order)))
+seen_paths_is (f ∷ files) order apart file (zero, (within, is)) = search (rules, flat_map, seen_first, lines_flat, all_later, own_imports)
 seen_paths_is (f ∷ files) order apart file (suc i, (within, is)) =
     let among : IsAmong files file = (i, (omega (arith, within), is)) in
     seen_later f files file.path (path_there files file among) apart.0 ∙ (seen_paths_is files order.2 apart.1 file among

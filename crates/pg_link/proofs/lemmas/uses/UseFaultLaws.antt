@@ -1,11 +1,11 @@
 -- What the uses of files resolve to, and which are at fault: through the index, and by the files.
-use Rattle.std.proofs.Common.{◌≡◌, ◌∙◌, ℕ, ◌+◌, ◌<◌, Bool, List, [], ◌∷◌, ◌++◌, map, length, slice_get, get_or, take, drop, suc, Option, add-one, arith, drop-cons, refl, sym, ap, subst, Some, None, Vec}
+use Rattle.std.proofs.Common.{◌≡◌, ◌∙◌, ℕ, ◌+◌, ◌<◌, Bool, List, [], ◌∷◌, ◌++◌, map, length, slice_get, get_or, take, drop, suc, Option, add-one, arith, drop-cons, refl, sym, ap, subst, Some, None, Vec, rules}
 use Rattle.std.proofs.lemmas.List.{map-append, take-append-drop}
 use Rattle.std.proofs.lemmas.List.Elements.{All-cons, All-head, All-tail}
 use Rattle.std.proofs.lemmas.Option.{slice_get-map, slice_get_read, slice_get_within, get_or_from_slice_get}
 use Rattle.std.specs.Global.{Global}
 use Rattle.std.specs.List.{All, IsAmong}
-use Rattle.std.specs.Option.{IsSome, option_map}
+use Rattle.std.specs.Option.{IsSome}
 use Rattle.pg_syntax.specs.declared.tree as tree
 use Rattle.pg_link.specs.declared.error.LinkError as errors
 use Rattle.pg_link.specs.declared.error.LinkError.TheVariants as error
@@ -15,10 +15,9 @@ use Rattle.pg_link.specs.declared.uses.target.Target.{Target}
 use Rattle.pg_link.specs.names.Files.{Declared, all_names, seen_paths, visible_names}
 use Rattle.pg_link.specs.inner.Index.{names_seen}
 use Rattle.pg_link.specs.names.Names.{Text, Names}
-use Rattle.pg_link.specs.names.Outline.{file_names}
-use Rattle.pg_link.specs.inner.VisibleFiles.{AreVisibleFiles, IsMask, Marks}
+use Rattle.pg_link.specs.inner.VisibleFiles.{AreVisibleFiles, Marks}
 use Rattle.pg_link.specs.inner.Indexed.{IsNumbered, Lists, declared_in}
-use Rattle.pg_link.specs.names.Standing.{NoneTwice, Standing, all_standings, standing, standings, standings_from}
+use Rattle.pg_link.specs.names.Standing.{NoneTwice, Standing, all_standings, standing, standings_from}
 use Rattle.pg_link.specs.uses.Targets.{Resolution, all_declared, file_targets, target_in}
 use Rattle.pg_link.specs.inner.Refusals.{RefusesUse, Says}
 use Rattle.pg_link.specs.uses.UseFaults.{IsUseFault, IsUseFaultIn}
@@ -48,9 +47,7 @@ standing_declared n (d ∷ ds) = ap (λ l. d ∷ l) (standing_declared n ds)
 
 declared_from : (n : ℕ) (es : List Entry) → declared_in (standings_from n es) ≡ all_declared es
 declared_from n [] = refl
-declared_from n (e ∷ es) =
-    map-append (λ (s : Standing). s.declared) (standings n e.1.tree) (standings_from (n + 1) es)
-    ∙ (ap (λ l. l ++ declared_in (standings_from (n + 1) es)) (standing_declared n (file_names e.1.tree)) ∙ ap (λ l. file_names e.1.tree ++ l) (declared_from (n + 1) es))
+declared_from n (e ∷ es) = search (rules, map-append, standing_declared, declared_from (n + 1) es)
 
 pub all_declared_are : (es : List Entry) → declared_in (all_standings es) ≡ all_declared es
 all_declared_are es = declared_from 0 es
@@ -131,14 +128,7 @@ fault_is index es i e visible path err ts lists once marks at came same fault = 
 }
 
 pub no_memory : (es : List Entry) (i : ℕ) (e : Entry) (ts : List (List Target)) → slice_get es i ≡ Some e → map (map Some) ts ≡ map (file_targets es) (take i es) → IsUseFaultIn es error.Memory
-no_memory es i e ts at came = record {
-  front = take i es;
-  file = e;
-  back = drop (i + 1) es;
-  splits = split_file es i e at;
-  before = files_resolve es (take i es) ts came;
-  fault = tt;
-}
+no_memory es i e ts at came = search (rules, split_file, files_resolve)
 
 pub among_at : (es : List Entry) (i : ℕ) (e : Entry) → slice_get es i ≡ Some e → IsAmong es e
 among_at es i e at = (i, (slice_get_within es i e at, sym (get_or_from_slice_get es i e e at)))
@@ -147,8 +137,4 @@ among_at es i e at = (i, (slice_get_within es i e at, sym (get_or_from_slice_get
 pub its_marks : (es : List Entry) (visible_files : List (Vec Bool Global)) (i : ℕ) (e : Entry) (v : Vec Bool Global) (marks : List Bool)
     → AreVisibleFiles es (map (λ (m : Vec Bool Global). m.items) visible_files) → slice_get es i ≡ Some e → i < length visible_files → v ≡ get_or visible_files i v → marks ≡ v.items
     → Marks es (seen_paths (outlines es) (path_of e)) marks
-its_marks es visible_files i e v marks are at within is same =
-    let m : IsMask es (seen_paths (outlines es) (path_of e)) marks =
-    are i marks e (slice_get-map (λ (m : Vec Bool Global). m.items) visible_files i
-    ∙ (ap (option_map (λ (m : Vec Bool Global). m.items)) (slice_get_read visible_files (length visible_files) i v refl within is) ∙ ap (λ (l : List Bool). Some l) (sym same))) at in
-    m.is_marked
+its_marks es visible_files i e v marks are at within is same = search (rules, slice_get-map, slice_get_read)

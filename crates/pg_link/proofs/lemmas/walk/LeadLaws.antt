@@ -1,5 +1,5 @@
 -- What a visit lists: each path that was visited, and none but those that these lead to.
-use Rattle.std.proofs.Common.{◌≡◌, ◌∙◌, inl, inr, ◌⊎◌, Bool, true, false, ◌||◌, List, [], ◌∷◌, ◌++◌, Option, Some, None, All, refl, sym, subst, true≢false, arith}
+use Rattle.std.proofs.Common.{◌≡◌, ◌∙◌, inl, inr, ◌⊎◌, Bool, true, false, ◌||◌, List, [], ◌∷◌, ◌++◌, Option, Some, None, All, refl, sym, subst, true≢false, arith, rules}
 use Rattle.std.proofs.lemmas.Bool.{or_left, or_right}
 use Rattle.std.proofs.lemmas.List.Elements.{All-cons}
 use Rattle.std.proofs.lemmas.List.Folds.{list_any-append}
@@ -27,19 +27,13 @@ module _ (leads : Text → Option (List Text)) where
   front_listed : (front visited listed : List Text) (p : Text) → Visits bytes_eq leads front visited listed → is_path_of front p ≡ true → is_path_of listed p ≡ true
   front_listed front [] listed p (all_visited f) has = has
   front_listed front (x ∷ later) listed p (passed_over f m l y found rest) has = front_listed f m l p rest has
-  front_listed front (x ∷ later) listed p (listed_last f own inside m l y missing is inner rest) has =
-      front_listed (inside ++ y ∷ []) m l p rest
-      (list_any-append (bytes_eq p) inside (y ∷ []) ∙ or_left (is_path_of inside p) (is_path_of (y ∷ []) p) (front_listed f own inside p inner has))
+  front_listed front (x ∷ later) listed p (listed_last f own inside m l y missing is inner rest) has = search (rules, front_listed (inside ++ y ∷ []) m l p rest (list_any-append (bytes_eq p) inside (y ∷ []) ∙ or_left (is_path_of inside p) (is_path_of (y ∷ []) p) (front_listed f own inside p inner has)))
 
   -- and each that was visited is
   each_listed : (front visited listed : List Text) → Visits bytes_eq leads front visited listed → All (λ p. is_path_of listed p ≡ true) visited
   each_listed front [] listed (all_visited f) = λ k d within. absurd (omega (arith, within))
-  each_listed front (x ∷ later) listed (passed_over f m l y found rest) =
-      All-cons (λ p. is_path_of l p ≡ true) y m (front_listed f m l y rest found) (each_listed f m l rest)
-  each_listed front (x ∷ later) listed (listed_last f own inside m l y missing is inner rest) =
-      let last : is_path_of (inside ++ y ∷ []) y ≡ true =
-      list_any-append (bytes_eq y) inside (y ∷ []) ∙ or_right (is_path_of inside y) (is_path_of (y ∷ []) y) (or_left (bytes_eq y y) false (text_same y y refl)) in
-      All-cons (λ p. is_path_of l p ≡ true) y m (front_listed (inside ++ y ∷ []) m l y rest last) (each_listed (inside ++ y ∷ []) m l rest)
+  each_listed front (x ∷ later) listed (passed_over f m l y found rest) = search (rules, All-cons, front_listed, each_listed f m l rest)
+  each_listed front (x ∷ later) listed (listed_last f own inside m l y missing is inner rest) = search (rules, list_any-append, or_right, or_left, text_same, All-cons, front_listed, each_listed (inside ++ y ∷ []) m l rest)
 
 -- ---- what these lead to
 
@@ -64,8 +58,7 @@ module _ (some files : List File) (among_all : (f : File) → IsAmong some f →
   comes_on path next other i (inr l) = inr (Further i l)
 
   later_come : (front later : List Text) (x p : Text) → HasCome front later files p → HasCome front (x ∷ later) files p
-  later_come front later x p (inl had) = inl had
-  later_come front later x p (inr (from, among, to)) = inr (from, later_among x later from among, to)
+  later_come front later x p h5 = grind (arith, later_among)
 
   inside_come : (front own inside later : List Text) (x p : Text) → imports_at some x ≡ Some own → (is_path_of inside p ≡ true → HasCome front own files p)
       → HasCome (inside ++ x ∷ []) later files p → HasCome front (x ∷ later) files p
@@ -91,8 +84,7 @@ module _ (some files : List File) (among_all : (f : File) → IsAmong some f →
 -- ---- a walk
 
 pub all_listed : (walk : walks.Walk) (front visited : List Text) → VisitLists front visited walk → All (λ p. has_path walk p ≡ true) visited
-all_listed walk front visited lists = λ k d within.
-    has_listed walk _ ∙ each_listed (imports_at (files_in_order (entries walk))) front visited (listed_paths walk) lists k d within
+all_listed walk front visited lists = search (rules, has_listed, each_listed)
 
 -- a root comes to each file
 pub from_roots : (walk : walks.Walk) (roots : List Text) → VisitLists [] roots walk → (path : Text) → has_path walk path ≡ true

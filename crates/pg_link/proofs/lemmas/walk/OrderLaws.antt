@@ -1,5 +1,5 @@
 -- Files of which each is before those that it imports: none is on a circle.
-use Rattle.std.proofs.Common.{◌≡◌, ◌∙◌, ℕ, zero, suc, ◌<◌, ◌+◌, Bool, true, false, ◌||◌, cond, List, [], ◌∷◌, ◌++◌, refl, sym, ap, subst, true≢false, arith}
+use Rattle.std.proofs.Common.{◌≡◌, ◌∙◌, ℕ, zero, suc, ◌<◌, ◌+◌, Bool, true, false, ◌||◌, cond, List, [], ◌∷◌, ◌++◌, refl, sym, ap, subst, true≢false, arith, rules}
 use Rattle.std.proofs.lemmas.Bool.{or_left, or_parts, or_right}
 use Rattle.std.proofs.lemmas.List.Folds.{list_any-append}
 use Rattle.std.proofs.lemmas.Slice.Eq.{bytes_eq-Decides}
@@ -36,9 +36,7 @@ imported [] order file line (i, (within, is)) has = absurd (omega (arith, within
 imported (f ∷ files) order file line (zero, (within, is)) has =
     or_right (bytes_eq line.path f.path) (is_path_of (paths_of files) line.path)
     (line_in (λ p. is_path_of (paths_of files) p ≡ true) f.imports line order.0 (subst (λ (x : File). IsAmong x.imports line) is has))
-imported (f ∷ files) order file line (suc i, (within, is)) has =
-    or_right (bytes_eq line.path f.path) (is_path_of (paths_of files) line.path)
-    (imported files order.2 file line (i, (omega (arith, within), is)) has)
+imported (f ∷ files) order file line (suc i, (within, is)) has = search (rules, or_right, imported files order.2 file line (i, (omega (arith, within), is)) has)
 
 -- how far after the first file a path is
 abbrev behind : List File → Text → ℕ
@@ -48,22 +46,16 @@ behind (f ∷ files) path = cond (bytes_eq path f.path) 0 (behind files path + 1
 -- a path that is among the files isn't that of one before them
 other_by : (b : Bool) (files : List File) (path first : Text) → bytes_eq path first ≡ b → is_path_of (paths_of files) path ≡ true
     → is_path_of (paths_of files) first ≡ false → bytes_eq path first ≡ false
-other_by true files path first same has none =
-    absurd (true≢false (sym has ∙ subst (λ (p : Text). is_path_of (paths_of files) p ≡ false) (sym ((bytes_eq-Decides path first).0 same)) none))
-other_by false files path first same has none = same
+other_by b files path first same has none = grind (arith, true≢false, bytes_eq-Decides)
 
 other : (files : List File) (path first : Text) → is_path_of (paths_of files) path ≡ true → is_path_of (paths_of files) first ≡ false → bytes_eq path first ≡ false
 other files path first has none = other_by (bytes_eq path first) files path first refl has none
 
 first_before : (p q : Bool) (m n : ℕ) → p ≡ true → q ≡ false → cond p 0 (m + 1) < cond q 0 (n + 1)
-first_before true true m n is none = absurd (true≢false none)
-first_before true false m n is none = omega arith
-first_before false q m n is none = absurd (true≢false (sym is))
+first_before p q m n is none = grind (arith, true≢false)
 
 both_later : (p q : Bool) (m n : ℕ) → p ≡ false → q ≡ false → m < n → cond p 0 (m + 1) < cond q 0 (n + 1)
-both_later true q m n is none less = absurd (true≢false is)
-both_later false true m n is none less = absurd (true≢false none)
-both_later false false m n is none less = omega (arith, less)
+both_later p q m n is none less = grind (arith, true≢false)
 
 goes_back : (files : List File) → InOrder files → Differ (paths_of files) → (path other : Text) (file : File) (line : Import)
     → IsAmong files file → IsAmong file.imports line → file.path ≡ path → line.path ≡ other → behind files path < behind files other
@@ -87,8 +79,7 @@ back_by files order apart path next i = goes_back files order apart path next i.
 
 leads_back : (files : List File) → InOrder files → Differ (paths_of files) → (path next : Text) → Leads files path next → behind files path < behind files next
 leads_back files order apart path next (Next i) = back_by files order apart path next i
-leads_back files order apart path next (Further {next = mid} i l) =
-    omega (arith, back_by files order apart path mid i, leads_back files order apart mid next l)
+leads_back files order apart path next (Further {next = mid} i l) = search (rules, back_by, leads_back files order apart mid next l)
 
 pub no_cycle : (files : List File) → InOrder files → Differ (paths_of files) → HasNoCycle files
 no_cycle files order apart = λ path leads. absurd (omega (arith, leads_back files order apart path path leads))
@@ -97,12 +88,4 @@ no_cycle files order apart = λ path leads. absurd (omega (arith, leads_back fil
 
 pub apart_more : (xs : List Text) (x : Text) → Differ xs → is_path_of xs x ≡ false → Differ (xs ++ x ∷ [])
 apart_more [] x apart none = (refl, tt)
-apart_more (y ∷ ys) x apart none = (
-  list_any-append (bytes_eq y) ys (x ∷ []) ∙ both_none (list_any (bytes_eq y) ys) (bytes_eq y x) apart.0 (differ_turned x y (or_parts (bytes_eq x y) (is_path_of ys x) none).0),
-  apart_more ys x apart.1 (or_parts (bytes_eq x y) (is_path_of ys x) none).1,
-)
-  where
-    both_none : (a b : Bool) → a ≡ false → b ≡ false → (a || (b || false)) ≡ false
-    both_none true b none other = absurd (true≢false none)
-    both_none false true none other = absurd (true≢false other)
-    both_none false false none other = refl
+apart_more (y ∷ ys) x apart none = search (rules, list_any-append, differ_turned, or_parts, other, true≢false, apart_more ys x apart.1 (or_parts (bytes_eq x y) (is_path_of ys x) none).1)

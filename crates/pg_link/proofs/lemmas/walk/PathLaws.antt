@@ -1,5 +1,5 @@
 -- Which paths are among files, and among the keys of sets and maps.
-use Rattle.std.proofs.Common.{◌≡◌, ◌∙◌, Bool, true, false, ◌||◌, List, [], ◌∷◌, ◌++◌, map, reverse, length, String, Some, None, Option, refl, sym, ap, subst, cond, is_some, string_bytes, true≢false, not, arith}
+use Rattle.std.proofs.Common.{◌≡◌, ◌∙◌, Bool, true, false, ◌||◌, List, [], ◌∷◌, ◌++◌, map, reverse, length, String, None, Option, refl, sym, ap, subst, cond, is_some, string_bytes, true≢false, not, arith, rules}
 use Rattle.std.proofs.lemmas.List.{map-append, reverse-append}
 use Rattle.std.proofs.lemmas.List.Folds.{list_any-append}
 use Rattle.std.proofs.lemmas.Map.Made.{is_some-lookup}
@@ -9,9 +9,9 @@ use Rattle.std.specs.List.{list_any}
 use Rattle.std.specs.Map.{keys_of}
 use Rattle.std.specs.Str.{bytes_eq}
 use Rattle.pg_link.specs.declared.walk.Walk as walks
-use Rattle.pg_link.specs.names.Files.{File, is_path_of, paths_of}
+use Rattle.pg_link.specs.names.Files.{is_path_of, paths_of}
 use Rattle.pg_link.specs.names.Names.{Text}
-use Rattle.pg_link.specs.walk.Walk.{Entry, outline, outlines}
+use Rattle.pg_link.specs.walk.Walk.{Entry, outlines}
 use Rattle.pg_link.specs.inner.Walking.{has_path}
 
 pub any-map : {X Y : Type 0} (test : Y → Bool) (f : X → Y) (xs : List X) → list_any test (map f xs) ≡ list_any (λ x. test (f x)) xs
@@ -19,10 +19,7 @@ any-map test f [] = refl
 any-map test f (x ∷ xs) = ap (λ b. test (f x) || b) (any-map test f xs)
 
 or_turned : (a b : Bool) → (a || (b || false)) ≡ (b || a)
-or_turned true true = refl
-or_turned true false = refl
-or_turned false true = refl
-or_turned false false = refl
+or_turned a b = grind arith
 
 pub any-reverse : {X : Type 0} (test : X → Bool) (xs : List X) → list_any test (reverse xs) ≡ list_any test xs
 any-reverse test [] = refl
@@ -39,10 +36,7 @@ among_open path keys = any-reverse (bytes_eq path) (map string_bytes keys) ∙ a
 
 -- the entries of a map hold a path
 pub among_entries : (path : Text) (es : List Entry) → is_path_of (paths_of (outlines es)) path ≡ list_any (λ k. bytes_eq path (string_bytes k)) (keys_of es)
-among_entries path es = any-map (bytes_eq path) (λ (f : File). f.path) (reverse (map outline es))
-    ∙ (any-reverse (λ (f : File). bytes_eq path f.path) (map outline es)
-    ∙ (any-map (λ (f : File). bytes_eq path f.path) outline es
-    ∙ sym (any-map (λ (k : String Global). bytes_eq path (string_bytes k)) (λ (e : Entry). e.0) es)))
+among_entries path es = search (rules, any-map, reverse, any-reverse, string_bytes)
 
 pub has_found : (walk : walks.Walk) (path : Text) → has_path walk path ≡ is_some (get_by_text walk.files path)
 has_found walk path = among_entries path walk.files.entries ∙ sym (is_some-lookup (λ (k : String Global). bytes_eq path (string_bytes k)) walk.files.entries)
@@ -50,8 +44,7 @@ has_found walk path = among_entries path walk.files.entries ∙ sym (is_some-loo
 -- a new key goes last, so first among those that are open
 key_last : (keys : List (String Global)) (k : String Global) (b : Bool) → b ≡ false
     → reverse (map string_bytes (cond b keys (keys ++ k ∷ []))) ≡ string_bytes k ∷ reverse (map string_bytes keys)
-key_last keys k true none = absurd (true≢false none)
-key_last keys k false none = ap reverse (map-append string_bytes keys (k ∷ [])) ∙ reverse-append (map string_bytes keys) (string_bytes k ∷ [])
+key_last keys k b none = grind (arith, true≢false, reverse, map-append, string_bytes, reverse-append)
 
 pub opens : (keys new : List (String Global)) (k : String Global) (path : Text) → string_bytes k ≡ path
     → new ≡ cond (list_any (λ x. bytes_eq (string_bytes k) (string_bytes x)) keys) keys (keys ++ k ∷ [])
@@ -65,25 +58,19 @@ opens keys new k path same is none =
 pub closes : (old new : List (String Global)) (out : List (String Global)) (p : Text) (ps : List Text)
     → length out ≡ 1 → old ≡ new ++ out → reverse (map string_bytes old) ≡ p ∷ ps → reverse (map string_bytes new) ≡ ps
 closes old new [] p ps one is opened = absurd (omega (arith, one))
-closes old new (x ∷ []) p ps one is opened =
-    let split : reverse (map string_bytes old) ≡ string_bytes x ∷ reverse (map string_bytes new) =
-    ap (λ ks. reverse (map string_bytes ks)) is ∙ (ap reverse (map-append string_bytes new (x ∷ [])) ∙ reverse-append (map string_bytes new) (string_bytes x ∷ [])) in
-    cc (split, opened)
+closes old new (x ∷ []) p ps one is opened = search (rules, reverse, string_bytes, map-append, reverse-append)
 closes old new (x ∷ (y ∷ more)) p ps one is opened = absurd (omega (arith, one))
 
 pub none_of : {X : Type 0} (o : Option X) → is_some o ≡ false → o ≡ None
-none_of None none = refl
-none_of (Some x) none = absurd (true≢false none)
+none_of o none = grind (arith, true≢false)
 
 -- ---- what a set says when a path is put into it
 
 not_true : (b r : Bool) → r ≡ not b → r ≡ false → b ≡ true
-not_true true r is none = refl
-not_true false r is none = absurd (true≢false (sym is ∙ none))
+not_true b r is none = grind (arith, true≢false)
 
 not_false : (b r : Bool) → r ≡ not b → r ≡ true → b ≡ false
-not_false true r is new = absurd (true≢false (sym new ∙ is))
-not_false false r is new = refl
+not_false b r is new = grind (arith, true≢false)
 
 abbrev holds : List (String Global) → String Global → Bool
 holds keys k = list_any (λ x. bytes_eq (string_bytes k) (string_bytes x)) keys
@@ -101,12 +88,9 @@ first_seen keys k path added same is new = among_by keys k path same ∙ not_fal
 
 added_last : (keys : List (String Global)) (k : String Global) (b : Bool) → b ≡ false
     → map string_bytes (cond b keys (keys ++ k ∷ [])) ≡ map string_bytes keys ++ string_bytes k ∷ []
-added_last keys k true none = absurd (true≢false none)
-added_last keys k false none = map-append string_bytes keys (k ∷ [])
+added_last keys k b none = grind (arith, true≢false, map-append, string_bytes)
 
 pub noted : (keys new : List (String Global)) (k : String Global) (path : Text) (added : Bool) → string_bytes k ≡ path
     → added ≡ not (holds keys k) → added ≡ true → new ≡ cond (holds keys k) keys (keys ++ k ∷ [])
     → map string_bytes new ≡ map string_bytes keys ++ path ∷ []
-noted keys new k path added same is fresh made =
-    ap (map string_bytes) made ∙ (added_last keys k (holds keys k) (not_false (holds keys k) added is fresh)
-    ∙ ap (λ (p : Text). map string_bytes keys ++ p ∷ []) same)
+noted keys new k path added same is fresh made = search (rules, string_bytes, added_last, not_false)

@@ -1,12 +1,12 @@
 -- Files that are read depth first are in post-order of imports.
-use Rattle.std.proofs.Common.{◌≡◌, ◌≤◌, ◌∙◌, true, false, cond, List, [], ◌∷◌, ◌++◌, Option, Some, None, map, refl, sym, ap, subst, String, string_bytes, append-nil, append_assoc, length, length-append, true≢false, arith}
+use Rattle.std.proofs.Common.{◌≡◌, ◌≤◌, ◌∙◌, true, false, cond, List, [], ◌∷◌, ◌++◌, Option, Some, map, refl, sym, ap, subst, String, string_bytes, append-nil, append_assoc, length, length-append, true≢false, arith, rules}
 use Rattle.std.proofs.lemmas.Bool.{or_parts}
 use Rattle.std.proofs.lemmas.List.{map-append}
 use Rattle.std.proofs.lemmas.List.Folds.{find-append}
 use Rattle.std.proofs.lemmas.Option.{none-some, same_Some}
 use Rattle.std.specs.Global.{Global}
 use Rattle.std.specs.List.{find}
-use Rattle.std.specs.Option.{option_map, option_or}
+use Rattle.std.specs.Option.{option_map}
 use Rattle.std.specs.Str.{bytes_eq}
 use Rattle.pg_link.specs.declared.walk.imports.ImportLine as lines
 use Rattle.pg_link.specs.declared.walk.SourceFile as kept
@@ -17,7 +17,7 @@ use Rattle.pg_link.specs.names.Names.{Text}
 use Rattle.pg_link.specs.names.Outline.{file_imports}
 use Rattle.pg_link.specs.walk.PostOrder.{AreListed, imports_at}
 use Rattle.pg_schema.specs.standing.Visits.{Visits, all_visited, listed_last, passed_over}
-use Rattle.pg_link.specs.walk.Walk.{Entry, files_in_order, outline, outlines}
+use Rattle.pg_link.specs.walk.Walk.{Entry, files_in_order, outline}
 use Rattle.pg_link.specs.inner.Walking.{Extends, VisitLists, entries, has_path, listed_paths}
 use Rattle.pg_link.proofs.lemmas.walk.PathLaws.{any-map, any-reverse}
 use Rattle.pg_link.proofs.lemmas.names.SameBytes.{text_same, differ_turned}
@@ -39,10 +39,8 @@ module _ (leads : Text → Option (List Text)) where
   pub visits_once : (front visited listed other : List Text) → Visits bytes_eq leads front visited listed → Visits bytes_eq leads front visited other → listed ≡ other
   visits_once front [] listed other (all_visited f) (all_visited g) = refl
   visits_once front (x ∷ later) listed other (passed_over f m l y found rest) (passed_over g n k z there more) = visits_once f later listed other rest more
-  visits_once front (x ∷ later) listed other (passed_over f m l y found rest) (listed_last g own inside n k z missing is inner more) =
-      absurd (true≢false (sym found ∙ missing))
-  visits_once front (x ∷ later) listed other (listed_last f own inside m l y missing is inner rest) (passed_over g n k z found more) =
-      absurd (true≢false (sym found ∙ missing))
+  visits_once front (x ∷ later) listed other (passed_over f m l y found rest) (listed_last g own inside n k z missing is inner more) = search (rules, true≢false)
+  visits_once front (x ∷ later) listed other (listed_last f own inside m l y missing is inner rest) (passed_over g n k z found more) = search (rules, true≢false)
   visits_once front (x ∷ later) listed other (listed_last f own inside m l y missing is inner rest) (listed_last g own' inside' n k z missing' is' inner' more) =
       let same : own ≡ own' = same_Some own own' (sym is ∙ is') in
       let alike : inside ≡ inside' = visits_once f own inside inside' inner (subst (λ (o : List Text). Visits bytes_eq leads f o inside') (sym same) inner') in
@@ -59,17 +57,10 @@ module _ (leads : Text → Option (List Text)) where
 -- ---- what a path imports, where files are appended
 
 imports_more : (files more : List File) (path : Text) (own : List Text) → imports_at files path ≡ Some own → imports_at (files ++ more) path ≡ Some own
-imports_more files more path own is =
-    ap (option_map (λ (f : File). import_paths f.imports)) (find-append (λ (f : File). bytes_eq f.path path) files more) ∙ of (find (λ (f : File). bytes_eq f.path path) files) is
-  where
-    of : (found : Option File) → option_map (λ (f : File). import_paths f.imports) found ≡ Some own
-        → option_map (λ (f : File). import_paths f.imports) (option_or found (find (λ (f : File). bytes_eq f.path path) more)) ≡ Some own
-    of None none = absurd (none-some own none)
-    of (Some f) found = found
+imports_more files more path own is = search (rules, find-append, none-some)
 
 imports_last : (files : List File) (f : File) → is_path_of (paths_of files) f.path ≡ false → imports_at (files ++ f ∷ []) f.path ≡ Some (import_paths f.imports)
-imports_last [] f none =
-    ap (λ b. option_map (λ (g : File). import_paths g.imports) (cond b (Some f) None)) (text_same f.path f.path refl)
+imports_last [] f none = search (rules, text_same)
 imports_last (g ∷ files) f none =
     let both = or_parts (bytes_eq f.path g.path) (is_path_of (paths_of files) f.path) none in
     ap (λ b. option_map (λ (h : File). import_paths h.imports) (cond b (Some g) (find (λ (h : File). bytes_eq h.path f.path) (files ++ f ∷ []))))
@@ -80,10 +71,7 @@ imports_last (g ∷ files) f none =
 
 -- what was read, the first first
 pub has_listed : (walk : walks.Walk) (path : Text) → has_path walk path ≡ is_path_of (listed_paths walk) path
-has_listed walk path =
-    any-map (bytes_eq path) (λ (f : File). f.path) (outlines (entries walk))
-    ∙ (any-reverse (λ (f : File). bytes_eq path f.path) (files_in_order (entries walk))
-    ∙ sym (any-map (bytes_eq path) (λ (f : File). f.path) (files_in_order (entries walk))))
+has_listed walk path = search (rules, any-map, any-reverse)
 
 pub same_extends : (old new : walks.Walk) → entries new ≡ entries old → Extends old new
 same_extends old new same = ([], same ∙ sym (append-nil (entries old)))

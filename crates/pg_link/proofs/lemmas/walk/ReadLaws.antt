@@ -1,5 +1,5 @@
 -- What reads leave of a source, and which paths it is asked for, step by step.
-use Rattle.std.proofs.Common.{◌≡◌, ◌∙◌, inl, inr, ◌+◌, ℕ, Bool, true, false, ◌||◌, List, [], ◌∷◌, ◌++◌, Option, Some, None, All, String, string_bytes, ap, refl, sym, subst, length, length-append, map, append-nil, append_assoc, true≢false, codes, if◌then◌else◌, slice_index_or, arith}
+use Rattle.std.proofs.Common.{◌≡◌, ◌∙◌, ◌+◌, ℕ, Bool, true, false, ◌||◌, List, [], ◌∷◌, ◌++◌, Option, All, String, string_bytes, ap, refl, sym, subst, length, length-append, map, append-nil, append_assoc, true≢false, codes, if◌then◌else◌, slice_index_or, arith, rules}
 use Rattle.std.proofs.lemmas.Bool.{or_from, or_parts}
 use Rattle.std.proofs.lemmas.List.{append_cancel_left, map-append, length-map}
 use Rattle.std.proofs.lemmas.List.Folds.{list_any-append, list_any_at}
@@ -15,7 +15,7 @@ use Rattle.pg_link.specs.names.Names.{Text}
 use Rattle.pg_link.specs.walk.Reads.{Reads, ReadsApart, ReadsEach, world_of}
 use Rattle.pg_link.specs.inner.Walking.{ReadsNew, ReadsAll, is_begun, entries, open_paths, has_path}
 use Rattle.pg_link.specs.Sources.{also, AtMostOne}
-use Rattle.pg_link.specs.walk.Walk.{Entry, World, outlines, path_of, world}
+use Rattle.pg_link.specs.walk.Walk.{Entry, outlines, path_of}
 use Rattle.pg_link.proofs.lemmas.walk.PathLaws.{any-map, among_entries}
 use Rattle.pg_link.proofs.lemmas.names.SameBytes.{same_text}
 use Rattle.pg_link.proofs.lemmas.walk.WalkLaws.{outlines-push}
@@ -29,46 +29,30 @@ module _ {S : Type 0} (members : Ghosts S) (old : S) where
 
   -- reads, and then further ones
   pub reads_on : (mid new : S) (n : ℕ) → Reads members old mid 0 → Reads members mid new n → Reads members old new n
-  reads_on mid new n first second = record {
-    counted = omega (arith, first.counted, second.counted);
-    same_given = second.same_given ∙ first.same_given;
-    same_lacked = second.same_lacked ∙ first.same_lacked;
-  }
+  reads_on mid new n first second = search rules
 
   pub same_world : (new : S) (n : ℕ) (folder : Text) (roots : List Text) → Reads members old new n → world_of members new folder roots ≡ world_of members old folder roots
-  same_world new n folder roots reads =
-      ap (λ (g : Text → Text → Bool). world g (members.may_lack new) folder roots) reads.same_given
-      ∙ ap (λ (l : Text → Bool). world (members.may_give old) l folder roots) reads.same_lacked
+  same_world new n folder roots reads = search rules
 
 -- ---- tests
 
 not_both : (a b : Bool) → (a ≡ true → b ≡ false) → b ≡ true → a ≡ false
-not_both true b not is = absurd (true≢false (sym is ∙ not refl))
-not_both false b not is = refl
+not_both a b not is = grind (arith, true≢false)
 
 equal : (a b : Bool) → (a ≡ true → b ≡ true) → (b ≡ true → a ≡ true) → a ≡ b
-equal true b there back = sym (there refl)
-equal false true there back = back refl
-equal false false there back = refl
+equal a b there back = grind arith
 
 turned : (a b : Bool) → (a || b) ≡ (b || (a || false))
-turned true true = refl
-turned true false = refl
-turned false true = refl
-turned false false = refl
+turned a b = grind arith
 
 or_none : (a : Bool) → a ≡ (a || false)
-or_none true = refl
-or_none false = refl
+or_none a = grind arith
 
 grouped : (a b c : Bool) → (a || (b || c)) ≡ ((a || b) || c)
-grouped true b c = refl
-grouped false b c = refl
+grouped a b c = grind arith
 
 passed : (a b c : Bool) → ((a || b) || c) ≡ (b || (a || c))
-passed true true c = refl
-passed true false c = refl
-passed false b c = refl
+passed a b c = grind arith
 
 itself : (a : Text) → bytes_eq a a ≡ true
 itself a = (bytes_eq-Decides a a).1 refl
@@ -76,12 +60,10 @@ itself a = (bytes_eq-Decides a a).1 refl
 -- ---- lists of paths
 
 none_more : (x : Option (List Text)) → x ≡ also [] x
-none_more None = refl
-none_more (Some xs) = ap Some (sym (append-nil xs))
+none_more x = grind (arith, append-nil)
 
 also_both : (ps qs : List Text) (x : Option (List Text)) → also qs (also ps x) ≡ also (ps ++ qs) x
-also_both ps qs None = refl
-also_both ps qs (Some xs) = ap Some (append_assoc xs ps qs)
+also_both ps qs x = grind (arith, append_assoc)
 
 among_both : (p : Text) (ps qs : List Text) → is_path_of (ps ++ qs) p ≡ (is_path_of ps p || is_path_of qs p)
 among_both p ps qs = list_any-append (bytes_eq p) ps qs
@@ -98,20 +80,14 @@ apart_both (p ∷ ps) qs first next out = (
 
 below_equal : (b : Bool) (folder p q : Text)
     → (if b then p else folder ++ (codes "/" ++ p)) ≡ (if b then q else folder ++ (codes "/" ++ q)) → p ≡ q
-below_equal true folder p q is = is
-below_equal false folder p q is = append_cancel_left (codes "/") p q (append_cancel_left folder (codes "/" ++ p) (codes "/" ++ q) is)
+below_equal b folder p q is = grind (arith, append_cancel_left, codes)
 
 pub below_differs : (folder p q : Text) → bytes_eq (path_below folder p) (path_below folder q) ≡ bytes_eq p q
-below_differs folder p q =
-    equal (bytes_eq (path_below folder p) (path_below folder q)) (bytes_eq p q)
-    (λ is. (bytes_eq-Decides p q).1 (below_equal (bytes_eq folder (codes ".")) folder p q (same_text (path_below folder p) (path_below folder q) is)))
-    (λ is. (bytes_eq-Decides (path_below folder p) (path_below folder q)).1 (ap (path_below folder) (same_text p q is)))
+below_differs folder p q = search (rules, equal, bytes_eq-Decides, below_equal, codes, same_text)
 
 among_below : (folder p : Text) (ps : List Text) → is_path_of (map (path_below folder) ps) (path_below folder p) ≡ is_path_of ps p
 among_below folder p [] = refl
-among_below folder p (q ∷ qs) =
-    ap (λ b. b || is_path_of (map (path_below folder) qs) (path_below folder p)) (below_differs folder p q)
-    ∙ ap (λ b. bytes_eq p q || b) (among_below folder p qs)
+among_below folder p (q ∷ qs) = search (rules, below_differs, among_below folder p qs)
 
 apart_below : (folder : Text) (ps : List Text) → Differ ps → Differ (map (path_below folder) ps)
 apart_below folder [] apart = tt
@@ -136,8 +112,7 @@ one_new folder x y walk path none adds = record {
 
 pub at_most_new : (folder : Text) (x y : Option (List Text)) (walk : walks.Walk) (path : Text) → is_begun walk path ≡ false
     → AtMostOne (path_below folder path) x y → ReadsNew folder x y walk
-at_most_new folder x y walk path none (inl same) = none_new folder x y walk same
-at_most_new folder x y walk path none (inr adds) = one_new folder x y walk path none adds
+at_most_new folder x y walk path none h7 = grind (arith, none_new, one_new)
 
 pub none_read : (folder : Text) (x y : Option (List Text)) (walk : walks.Walk) → y ≡ x → ReadsAll folder x y walk walk
 unfolding none_new
@@ -185,11 +160,7 @@ first_way folder x y old now path closed none adds same =
 
 begun_meanwhile : (folder : Text) (x y : Option (List Text)) (old now : walks.Walk) (path : Text) (w : IsUnderWay folder x y old now path) → open_paths now ≡ path ∷ open_paths old
     → (p : Text) → is_begun now p ≡ (is_begun old p || is_path_of w.reads.added p)
-begun_meanwhile folder x y old now path w opened p =
-    ap (λ (ps : List Text). is_path_of ps p || has_path now p) opened
-    ∙ (passed (bytes_eq p path) (is_path_of (open_paths old) p) (has_path now p)
-    ∙ (ap (λ b. is_path_of (open_paths old) p || b) (w.each p)
-    ∙ grouped (is_path_of (open_paths old) p) (has_path old p) (is_path_of w.reads.added p)))
+begun_meanwhile folder x y old now path w opened p = search (rules, passed, grouped)
 
 pub way_refused : (folder : Text) (x y z : Option (List Text)) (old now : walks.Walk) (path : Text) → IsUnderWay folder x y old now path → open_paths now ≡ path ∷ open_paths old
     → ReadsNew folder y z now → ReadsNew folder x z old
@@ -238,13 +209,7 @@ pub record IsSoFar (folder : Text) (before after : Option (List Text)) (now : wa
   pub each : (p : Text) → has_path now p ≡ is_path_of added p
 
 pub first_far : (folder : Text) (x y : Option (List Text)) (now : walks.Walk) → y ≡ x → entries now ≡ [] → IsSoFar folder x y now
-first_far folder x y now same none = record {
-  added = [];
-  adds = same ∙ none_more x;
-  apart = tt;
-  count = ap length none;
-  each = λ p. ap (λ (es : List Entry). is_path_of (paths_of (outlines es)) p) none;
-}
+first_far folder x y now same none = search (rules, none_more)
 
 far_new : (folder : Text) (x y z : Option (List Text)) (mid : walks.Walk) (far : IsSoFar folder x y mid) → open_paths mid ≡ [] → (next : ReadsNew folder y z mid)
     → (z ≡ also (map (path_below folder) (far.added ++ next.added)) x) × Differ (far.added ++ next.added)
@@ -273,10 +238,7 @@ next_far folder x y z mid now far opened after =
     }
 
 has_own : (now : walks.Walk) → All (λ (e : Entry). has_path now (path_of e) ≡ true) (entries now)
-has_own now = λ k d within.
-    let path : Text = path_of (slice_index_or (entries now) k d) in
-    among_entries path (entries now) ∙ (any-map (λ (s : String Global). bytes_eq path (string_bytes s)) (λ (e : Entry). e.0) (entries now)
-    ∙ list_any_at (λ (e : Entry). bytes_eq path (path_of e)) (entries now) k d within (itself path))
+has_own now = search (rules, slice_index_or, among_entries, any-map, string_bytes, list_any_at, itself)
 
 pub far_apart : (folder : Text) (x y : Option (List Text)) (now : walks.Walk) → IsSoFar folder x y now → ReadsApart x y
 far_apart folder x y now far = record { asked = map (path_below folder) far.added; adds = far.adds; apart = apart_below folder far.added far.apart }

@@ -1,5 +1,5 @@
 -- A walk over imports, step by step.
-use Rattle.std.proofs.Common.{◌≡◌, ◌∙◌, inl, inr, ℕ, ◌≤◌, ◌<◌, ◌+◌, Bool, true, false, ◌||◌, List, [], ◌∷◌, ◌++◌, Some, None, Option, length, map, reverse, take, drop, refl, sym, ap, subst, String, string_bytes, slice_index_or, All, length-append, arith, drop-cons, add-one, true≢false}
+use Rattle.std.proofs.Common.{◌≡◌, ◌∙◌, ℕ, ◌≤◌, ◌<◌, ◌+◌, Bool, true, false, ◌||◌, List, [], ◌∷◌, ◌++◌, Some, None, Option, length, map, reverse, take, drop, refl, sym, ap, subst, String, string_bytes, slice_index_or, All, length-append, arith, drop-cons, add-one, true≢false, rules}
 use Rattle.std.proofs.lemmas.Bool.{or_from, or_parts}
 use Rattle.std.proofs.lemmas.List.{map-append, reverse-append, take-append-drop, length-reverse, length-map, get_or-map}
 use Rattle.std.proofs.lemmas.List.Elements.{All-push, All-append, All-map, All-cons, All-head, All-tail}
@@ -29,37 +29,22 @@ use Rattle.pg_link.proofs.lemmas.names.SameBytes.{same_text, differ_turned}
 -- ---- who asks
 
 pub comes_of : (w : World) (ps : List Text) (a : Option askings.Asking) (path : Text) → Asks w ps a path → Comes w ps path
-comes_of w [] None path asks = asks
-comes_of w [] (Some a) path asks = absurd asks
-comes_of w (p ∷ ps) None path asks = absurd asks
-comes_of w (p ∷ ps) (Some a) path asks = ((a.text.now, a.at, asks.1), asks.2)
+comes_of w ps a path asks = grind arith
 
 pub reached_of : (w : World) (ps : List Text) (a : Option askings.Asking) (path : Text) → Asks w ps a path → Reached w path
 reached_of w ps a path asks = (ps, comes_of w ps a path asks)
 
 asked_of : (w : World) (ps : List Text) (a : Option askings.Asking) (path : Text) (place : places.Place) → Asks w ps a path → IsAsked place a path → IsAskedAt w place path
-asked_of w [] None path place asks at = inl (asks, at)
-asked_of w [] (Some a) path place asks at = absurd asks
-asked_of w (p ∷ ps) None path place asks at = absurd asks
-asked_of w (p ∷ ps) (Some a) path place asks at =
-    inr (p, a.text.now, a.at, asks.1, (ps, asks.2), subst (λ (f : Text). IsPlace place f a.text.now a.at) asks.0 at)
+asked_of w ps a path place asks at = grind arith
 
 -- ---- refusals
 
 pub read_refused : (w : World) (ps : List Text) (a : Option askings.Asking) (path : Text) (e : errors.LinkError) → Asks w ps a path
     → IsReadFault w.may_lack w.folder a path e → Refuses w e
-read_refused w ps a path (error.MissingFile place) asks fault = (path, asked_of w ps a path place asks fault.0, fault.1)
-read_refused w ps a path (error.SourceFailed place) asks fault = (path, reached_of w ps a path asks, fault)
-read_refused w ps a path error.Memory asks fault = tt
-read_refused w ps a path _ asks fault = absurd fault
+read_refused w ps a path e asks fault = grind (arith, asked_of, reached_of)
 
 pub text_refused : (w : World) (path text : Text) (e : errors.LinkError) → Gives w path text → Reached w path → IsTextFault path text e → Refuses w e
-text_refused w path text (error.Lex e place) given reached fault =
-    record { path = path; text = text; is_given = given; reached = reached; is_place = fault.0; holds = fault.1 }
-text_refused w path text (error.Syntax e place) given reached fault =
-    record { path = path; text = text; is_given = given; reached = reached; is_place = fault.0; holds = fault.1 }
-text_refused w path text error.Memory given reached fault = tt
-text_refused w path text _ given reached fault = absurd fault
+text_refused w path text e given reached fault = grind arith
 
 -- the paths that come to a path lead to it
 leads_by : (w : World) (b : Bool) (p : Text) (ps : List Text) (from path : Text) → bytes_eq from p ≡ b → (b || is_path_of ps from) ≡ true
@@ -81,16 +66,7 @@ leads_last w false p ps from is among comes = leads w ps from p comes among
 pub import_refused : (w : World) (ps : List Text) (path : Text) (here : askings.Asking) (next : Text) (before : List Text) (e : errors.LinkError)
     → here.file.now ≡ path → (i : ImportsAt w path here.text.now here.at next) → Comes w ps path → import_paths i.front ≡ before
     → IsImportFault (path ∷ ps) before here next e → Refuses w e
-import_refused w ps path here next before (error.ImportCycle place) file i comes fronts fault = record {
-  from = path;
-  text = here.text.now;
-  at = here.at;
-  path = next;
-  imports = i;
-  reached = (ps, comes);
-  is_place = subst (λ (f : Text). IsPlace place f here.text.now here.at) file fault.0;
-  holds = leads_last w (bytes_eq next path) path ps next refl fault.1 comes;
-}
+import_refused w ps path here next before (error.ImportCycle place) file i comes fronts fault = search (rules, leads_last)
 import_refused w ps path here next before (error.DuplicateImport place) file i comes fronts fault = record {
   from = path;
   text = here.text.now;
@@ -140,14 +116,11 @@ entries_there w es each =
     (all_reversed (IsThere w) (paths_of (map outline es)) (files_there w es each))
 
 path_count : (es : List Entry) → length (paths_of (outlines es)) ≡ length es
-path_count es =
-    length-map (outlines es) (λ (f : File). f.path) ∙ (length-reverse (map outline es)
-    ∙ length-map es outline)
+path_count es = search (rules, length-map, length-reverse)
 
 pub apart_from : (w : World) (ps : List Text) (es : List Entry) (path : Text) → IsSound w ps es → is_path_of ps path ≡ false
     → is_path_of (paths_of (outlines es)) path ≡ false → Differ (path ∷ (ps ++ paths_of (outlines es)))
-apart_from w ps es path sound open_none none =
-    (list_any-append (bytes_eq path) ps (paths_of (outlines es)) ∙ or_from (is_path_of ps path) (is_path_of (paths_of (outlines es)) path) open_none none, sound.apart)
+apart_from w ps es path sound open_none none = search (rules, list_any-append, or_from)
 
 pub beyond : (w : World) (ps : List Text) (es : List Entry) (a : Option askings.Asking) (path text : Text) (place : places.Place) → IsSound w ps es → Asks w ps a path
     → is_path_of ps path ≡ false → is_path_of (paths_of (outlines es)) path ≡ false → Gives w path text
@@ -201,17 +174,13 @@ next_import w path text now next file ls i l may_be same to its within is = (
 
 pub follows_next : (w : World) (walk : walks.Walk) (path : Text) (ps : List Text) (here : askings.Asking) (next : Text) → open_paths walk ≡ path ∷ ps
     → IsSound w (path ∷ ps) (entries walk) → here.file.now ≡ path → ImportsAt w path here.text.now here.at next → Comes w ps path → Follows w walk (Some here) next
-follows_next w walk path ps here next opened sound file imports comes = record {
-  is_sound = subst (λ (xs : List Text). IsSound w xs (entries walk)) (sym opened) sound;
-  asks = subst (λ (xs : List Text). Asks w xs (Some here) next) (sym opened) (file, imports, comes);
-}
+follows_next w walk path ps here next opened sound file imports comes = search rules
 
 pub open_count : (walk : walks.Walk) → length (open_paths walk) ≡ length walk.opened.keys
 open_count walk = length-reverse (map string_bytes walk.opened.keys) ∙ length-map walk.opened.keys string_bytes
 
 pub take_none : {X : Type 0} (xs : List X) → take 0 xs ≡ []
-take_none [] = refl
-take_none (x ∷ xs) = refl
+take_none xs = grind arith
 
 pub open_one : (w : World) (path : Text) (ps : List Text) (es new : List Entry) → IsSound w ps es → new ≡ es → is_path_of ps path ≡ false
     → is_path_of (paths_of (outlines es)) path ≡ false → length ps + length es < 1024 → IsSound w (path ∷ ps) new
@@ -223,15 +192,7 @@ open_one w path ps es new sound same open_none none room =
 
 moved : (ps fs : List Text) (path : Text) → is_path_of (ps ++ fs) path ≡ false → Differ (ps ++ fs) → Differ (ps ++ path ∷ fs)
 moved [] fs path none apart = (none, apart)
-moved (p ∷ ps) fs path none apart = (
-  kept_out p ps fs path (differ_turned path p (or_parts (bytes_eq path p) (is_path_of (ps ++ fs) path) none).0) apart.0,
-  moved ps fs path (or_parts (bytes_eq path p) (is_path_of (ps ++ fs) path) none).1 apart.1,
-)
-  where
-    kept_out : (p : Text) (ps fs : List Text) (path : Text) → bytes_eq p path ≡ false → is_path_of (ps ++ fs) p ≡ false → is_path_of (ps ++ path ∷ fs) p ≡ false
-    kept_out p ps fs path other none =
-        list_any-append (bytes_eq p) ps (path ∷ fs) ∙ (let apart = or_parts (is_path_of ps p) (is_path_of fs p) (sym (list_any-append (bytes_eq p) ps fs) ∙ none) in
-        or_from (is_path_of ps p) (bytes_eq p path || is_path_of fs p) apart.0 (or_from (bytes_eq p path) (is_path_of fs p) other apart.1))
+moved (p ∷ ps) fs path none apart = search (rules, differ_turned, or_parts, list_any-append, or_from, moved ps fs path (or_parts (bytes_eq path p) (is_path_of (ps ++ fs) path) none).1 apart.1)
 
 pub outlines-push : (es : List Entry) (e : Entry) → outlines (es ++ e ∷ []) ≡ outline e ∷ outlines es
 outlines-push es e = ap reverse (map-append outline es (e ∷ [])) ∙ reverse-append (map outline es) (outline e ∷ [])
@@ -273,28 +234,11 @@ contains_root roots k d within = (
 )
 
 pub first_sound : (w : World) (es : List Entry) → es ≡ [] → IsSound w [] es
-first_sound w es none = subst (λ (xs : List Entry). IsSound w [] xs) (sym none) record {
-  each = λ k d within. absurd (omega (arith, within));
-  in_order = tt;
-  apart = tt;
-  few = omega arith;
-}
+first_sound w es none = search rules
 
 pub follows_root : (w : World) (walk : walks.Walk) (root : Text) → open_paths walk ≡ [] → IsSound w [] (entries walk) → Contains w.roots root → Follows w walk None root
-follows_root w walk root opened sound is_root = record {
-  is_sound = subst (λ (xs : List Text). IsSound w xs (entries walk)) (sym opened) sound;
-  asks = subst (λ (xs : List Text). Asks w xs None root) (sym opened) is_root;
-}
+follows_root w walk root opened sound is_root = search rules
 
 pub linked : (w : World) (es : List Entry) → IsSound w [] es → IsPostOrder w.roots (files_in_order es) → All (λ root. is_path_of (paths_of (outlines es)) root ≡ true) w.roots
     → ((path : Text) → is_path_of (paths_of (outlines es)) path ≡ true → (root : Text) × Contains w.roots root × ComesTo (outlines es) root path) → IsLinked w es
-linked w es sound listed has from = record {
-  each = sound.each;
-  in_post_order = listed;
-  in_order = sound.in_order;
-  apart = sound.apart;
-  few = omega (arith, sound.few);
-  has_roots = has;
-  from_roots = from;
-  no_cycle = no_cycle (outlines es) sound.in_order sound.apart;
-}
+linked w es sound listed has from = search (rules, no_cycle)
