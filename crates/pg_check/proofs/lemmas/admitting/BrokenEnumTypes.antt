@@ -1,5 +1,5 @@
 -- What is reported of an enum is a rule that it breaks, and of its rules none is lower. All its faults are at one position.
-use Rattle.std.proofs.Common.{◌≡◌, ℕ, List, [], ◌∷◌, ◌++◌, map, subst, refl}
+use Rattle.std.proofs.Common.{◌≡◌, ℕ, List, [], ◌∷◌, ◌++◌, map, subst, refl, rules}
 use Rattle.pg_link.specs.declared.error.Place.{Place}
 use Rattle.pg_schema.specs.declared.parts.enum_type.EnumType.{EnumType}
 use Rattle.pg_check.specs.declared.error.CheckError.{CheckError}
@@ -12,7 +12,6 @@ use Rattle.pg_check.specs.rules.BrokenRules.{BreaksValues, alias, bad_value_item
 use Rattle.pg_check.specs.inner.Faults.{order}
 use Rattle.pg_check.specs.rules.Names as names
 use Rattle.pg_check.specs.inner.NameFaults as name_faults
-use Rattle.pg_check.specs.rules.Numbers as numbers
 use Rattle.pg_check.specs.inner.NumberFaults as number_faults
 use Rattle.pg_check.proofs.lemmas.rules.FirstFaults.{IsFound, Meets}
 use Rattle.pg_check.proofs.lemmas.rules.JudgedEnums.{values_judged, values_tell, values_broken}
@@ -29,8 +28,7 @@ module _ (e : EnumType) (place : Place) where
   nowhere error c d a (bad_value_number k first) = let at = at_key first.before first.after k first.is in (at, at)
   nowhere error c d a (reserved_value_number k first) = let at = at_key first.before first.after k first.is in (at, at)
   nowhere error c d a (reserved_value_name n first) = let at = at_name first.before first.after n first.is in (at, at)
-  nowhere error c d a (bad_value_item e1 c1 a1 h) =
-      let at = item_at declared.value_item (λ r. refl) e.reserved_numbers.items numbers.lowest_value numbers.highest_value place e1 c1 a1 h in (at, at)
+  nowhere error c d a (bad_value_item e1 c1 a1 h) = search (rules, item_at)
   nowhere error c d a (first_not_zero k more is fails) = let at = at_key [] more k is in (at, at)
   nowhere error c d a (alias k denied first) = let at = at_key first.before first.after k first.is in (at, at)
   nowhere error c d a (empty_enum none) = (refl, refl)

@@ -1,7 +1,6 @@
 -- What is reported of parts that come from no source file is the first rule that they break, and of one part the lowest code.
-use Rattle.std.proofs.Common.{◌≡◌, ◌∙◌, ◌≤◌, ◌<◌, inl, inr, ℕ, Bool, true, false, nat_le, List, [], ◌∷◌, ◌++◌, length, map, Option, Some, None, sym, subst, refl, arith}
+use Rattle.std.proofs.Common.{◌≡◌, ◌≤◌, ◌<◌, ℕ, Bool, true, false, nat_le, List, [], ◌∷◌, ◌++◌, length, map, Option, Some, None, sym, subst, refl, arith}
 use Rattle.std.specs.List.{list_all, AllByRecursion}
-use Rattle.std.proofs.lemmas.Bool.{false≢true}
 use Rattle.std.proofs.lemmas.Bool.Decides.{nat_tests}
 use Rattle.pg_link.specs.declared.error.Place.{Place}
 use Rattle.pg_schema.specs.declared.parts.enum_type.EnumType.{EnumType}
@@ -14,19 +13,19 @@ use Rattle.pg_check.specs.declared.rules.fault.Rule.TheVariants as rules
 use Rattle.pg_check.specs.admitting.BrokenParts.{BreaksFilePart, BreaksFirst, IsFirstBrokenPart, IsNowhere, bad_option, in_enum, in_file, in_type, option_again, too_many_types}
 use Rattle.pg_check.specs.Errors.{error_of}
 use Rattle.pg_check.specs.declared.rules.numbers.Keyed.{Keyed}
-use Rattle.pg_check.specs.inner.Faults.{broken, broken_at, first_fault, or_else, order}
+use Rattle.pg_check.specs.inner.Faults.{broken_at, first_fault, or_else, order}
 use Rattle.pg_check.specs.rules.Firsts.{IsBehind, IsFirstAgain, IsNotAfter}
 use Rattle.pg_check.specs.rules.Numbers as numbers
 use Rattle.pg_check.specs.inner.NumberFaults as number_faults
 use Rattle.pg_check.specs.admitting.DeclaredParts as declared
 use Rattle.pg_check.specs.admitting.KeepsParts.{KeepsAll, KeepsEnumType, KeepsFilePart, KeepsType}
 use Rattle.pg_check.specs.inner.PartFaults as faults
-use Rattle.pg_check.proofs.lemmas.rules.FirstFaults.{IsFound, Meets, earlier_meets, first_meets, found_left, found_right}
+use Rattle.pg_check.proofs.lemmas.rules.FirstFaults.{IsFound, Meets, earlier_meets, first_meets}
 use Rattle.pg_check.proofs.lemmas.rules.Judged.{again}
 use Rattle.pg_check.proofs.lemmas.rules.JudgedEnums.{values_judged}
 use Rattle.pg_check.proofs.lemmas.rules.NoneLaws.{first_fault_none}
-use Rattle.pg_check.proofs.lemmas.admitting.PartRules.{At, one_of, test_meets, test_found}
-use Rattle.pg_check.proofs.lemmas.admitting.PartShapes.{fails, passes, some_fails}
+use Rattle.pg_check.proofs.lemmas.admitting.PartRules.{At, one_of, test_meets}
+use Rattle.pg_check.proofs.lemmas.admitting.PartShapes.{some_fails}
 use Rattle.pg_check.proofs.lemmas.admitting.BrokenTypes.{type_meets, type_found}
 use Rattle.pg_check.proofs.lemmas.admitting.KeptPartRules.{fault_unless_none, file_part_keeps, kept_file_part, kept_type, type_keeps}
 use Rattle.pg_check.proofs.lemmas.admitting.BrokenEnumTypes.{enum_type_meets, enum_type_found}
@@ -46,19 +45,8 @@ file_part_meets f place =
     (λ g h. let (k, first, is) = (again rules.BadOption numbers.is_same number_faults.at (map declared.option_key f.options.items)).meets g h in
     subst (At B place) (sym is) (option_at f k first, option_again k first))
 
-file_part_found : (f : File) (place : Place) (error : CheckError) (c : ℕ) → BreaksFilePart f place error c → IsFound (faults.file_fault f) 0 c
-file_part_found f place error c (bad_option o one is) =
-    found_left (faults.fault_unless rules.BadOption (list_all is_file_option f.options.items)) _ 0 411
-    (test_found rules.BadOption (list_all is_file_option f.options.items) (fails _ (λ all. false≢true (sym is ∙ passes is_file_option f.options.items o all one))))
-file_part_found f place error c (option_again k first) =
-    let keys = map declared.option_key f.options.items in
-    let twice = broken rules.BadOption (number_faults.first_twice keys) in
-    found_right (faults.fault_unless rules.BadOption (list_all is_file_option f.options.items)) twice 0 411
-    (subst (λ n. IsFound twice n 411) (option_at f k first) ((again rules.BadOption numbers.is_same number_faults.at keys).found (broken_at rules.BadOption k.at) (k, first, refl)))
-
 code_low : (declared code other : ℕ) → declared ≡ 0 → IsNotAfter declared code 0 other → code ≤ other
-code_low declared code other zero (inl h) = absurd (omega (arith, h))
-code_low declared code other zero (inr h) = h.1
+code_low declared code other h4 h5 = grind arith
 
 lowest : (o : Option Fault) (f : Fault) (c : ℕ) → o ≡ Some f → f.declared ≡ 0 → IsFound o 0 c → order f.rule ≤ c
 lowest o f c is zero h = code_low f.declared (order f.rule) c zero (subst (λ p. IsFound p 0 c) is h)
@@ -74,8 +62,7 @@ abbrev Reports : Parts → Place → Fault → Type 0
 Reports parts place f = BreaksFirst parts place (error_of f.rule place)
 
 or_meets : (P : Fault → Type 0) (a b : Option Fault) → Meets P a → (a ≡ None → Meets P b) → Meets P (or_else a b)
-or_meets P None b one other = other refl
-or_meets P (Some f) b one other = one
+or_meets P a b one other = grind arith
 
 many : (n : ℕ) → nat_le n 4096 ≡ false → 4096 < n
 many n h = grind (arith, nat_tests)
@@ -125,8 +112,7 @@ reported_part parts f place is_first nowhere = record { place = place; is_nowher
 -- ---- parts of which no rule is reported
 
 or_none : (a b : Option Fault) → or_else a b ≡ None → (a ≡ None) × (b ≡ None)
-or_none None b h = (refl, h)
-or_none (Some f) b h = absurd (cc)
+or_none a b h = grind arith
 
 pub none_broken : (parts : Parts) → faults.parts_fault parts ≡ None → KeepsAll parts
 none_broken parts none =

@@ -1,9 +1,10 @@
 -- What is reported of a message type is a rule that it breaks, and of its rules none is lower. All its faults are at one position.
-use Rattle.std.proofs.Common.{◌≡◌, ◌∙◌, ℕ, false, List, ◌∷◌, ◌++◌, map, sym, subst, refl}
+use Rattle.std.proofs.Common.{◌≡◌, ◌∙◌, ℕ, false, List, ◌∷◌, ◌++◌, map, sym, subst, refl, rules}
 use Rattle.std.specs.List.{list_all}
 use Rattle.std.proofs.lemmas.Bool.{false≢true}
 use Rattle.pg_link.specs.declared.error.Place.{Place}
 use Rattle.pg_schema.specs.declared.parts.message_type.MessageType.{MessageType}
+use Rattle.pg_schema.proofs.lemmas.rules.PairLemmas.{and_left, and_right}
 use Rattle.pg_check.specs.declared.error.CheckError.{CheckError}
 use Rattle.pg_check.specs.declared.rules.fault.Rule.TheVariants as rules
 use Rattle.pg_check.specs.declared.rules.numbers.Keyed.{Keyed}
@@ -17,13 +18,11 @@ use Rattle.pg_check.specs.rules.BrokenRules.{BreaksFields, bad_field_item, bad_f
 use Rattle.pg_check.specs.inner.Faults.{order}
 use Rattle.pg_check.specs.inner.MessageFaults.{fields_fault}
 use Rattle.pg_check.specs.inner.NameFaults as names
-use Rattle.pg_check.specs.rules.Numbers as numbers
 use Rattle.pg_check.specs.inner.NumberFaults as number_faults
 use Rattle.pg_check.proofs.lemmas.rules.FirstFaults.{IsFound, Meets, earlier_meets, found_left, found_right}
 use Rattle.pg_check.proofs.lemmas.rules.JudgedMessages.{fields_judged, fields_tell, fields_broken}
 use Rattle.pg_check.proofs.lemmas.admitting.PartRules.{At, item_at, one_of, test_meets, test_found}
 use Rattle.pg_check.proofs.lemmas.admitting.PartShapes.{fails, key_breaks, key_fails, member_fails, oneof_breaks, packed_breaks, packed_fails}
-use Rattle.pg_check.proofs.lemmas.rules.NoneLaws.{and_left, and_right}
 
 module _ (t : MessageType) (place : Place) where
   at_key : (before after : List Keyed) (k : Keyed) → map declared.key_of t.fields.items ≡ before ++ k ∷ after → number_faults.at k ≡ 0
@@ -35,8 +34,7 @@ module _ (t : MessageType) (place : Place) where
   nowhere error c d a (reserved_field_number k first) = let at = at_key first.before first.after k first.is in (at, at)
   nowhere error c d a (reserved_field_name n first) =
       let at = one_of declared.name_of names.at (λ f. refl) t.fields.items first.before first.after n first.is in (at, at)
-  nowhere error c d a (bad_field_item e1 c1 a1 h) =
-      let at = item_at declared.item_of (λ r. refl) t.reserved_numbers.items numbers.lowest_field numbers.highest_field place e1 c1 a1 h in (at, at)
+  nowhere error c d a (bad_field_item e1 c1 a1 h) = search (rules, item_at)
   nowhere error c d a (json_name_clash n first) =
       let at = one_of declared.json_name_of names.at (λ f. refl) t.fields.items first.before first.after n first.is in (at, at)
 
@@ -48,23 +46,13 @@ module _ (t : MessageType) (place : Place) where
       (d, broken_parts.in_fields (error_of f.rule place) (order f.rule) (subst (λ n. B n 0) d (subst (B f.declared) a tells)))
 
   pub type_meets : Meets (At (BreaksType t place) place) (faults.message_fault t)
-  type_meets =
-      let B = BreaksType t place in
-      let P = At B place in
-      earlier_meets P (fields_fault (declared.declared_message t)) (faults.shapes_fault t) fields_meet
-      (earlier_meets P (faults.fault_unless rules.BadMapKey (list_all keeps.field_has_key t.fields.items)) _
-      (test_meets B place rules.BadMapKey (list_all keeps.field_has_key t.fields.items) (key_breaks t place))
-      (earlier_meets P (faults.fault_unless rules.BadOneofMember (faults.has_oneofs t)) (faults.fault_unless rules.PackedNotAllowed (list_all keeps.is_packed_rightly t.fields.items))
-      (test_meets B place rules.BadOneofMember (faults.has_oneofs t) (oneof_breaks t place))
-      (test_meets B place rules.PackedNotAllowed (list_all keeps.is_packed_rightly t.fields.items) (packed_breaks t place))))
+  type_meets = search (rules, earlier_meets, fields_meet, test_meets, key_breaks, oneof_breaks, packed_breaks)
 
   in_shapes : (c : ℕ) → IsFound (faults.shapes_fault t) 0 c → IsFound (faults.message_fault t) 0 c
   in_shapes c h = found_right (fields_fault (declared.declared_message t)) (faults.shapes_fault t) 0 c h
 
   bad_oneof_found : faults.has_oneofs t ≡ false → IsFound (faults.message_fault t) 0 408
-  bad_oneof_found h =
-      in_shapes 408 (found_right (faults.fault_unless rules.BadMapKey (list_all keeps.field_has_key t.fields.items)) _ 0 408
-      (found_left (faults.fault_unless rules.BadOneofMember (faults.has_oneofs t)) _ 0 408 (test_found rules.BadOneofMember (faults.has_oneofs t) h)))
+  bad_oneof_found h = search (rules, in_shapes, found_right, found_left, test_found)
 
   pub type_found : (e : CheckError) (c : ℕ) → BreaksType t place e c → IsFound (faults.message_fault t) 0 c
   type_found e c (broken_parts.in_fields e1 c1 h) =

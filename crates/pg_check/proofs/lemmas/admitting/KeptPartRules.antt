@@ -1,11 +1,12 @@
 -- Where no fault of a message type or a file is found it keeps to the rules, and what keeps to them breaks none.
-use Rattle.std.proofs.Common.{◌≡◌, ◌∙◌, ℕ, Bool, true, false, map, None, sym, subst, refl}
+use Rattle.std.proofs.Common.{◌≡◌, ◌∙◌, ℕ, Bool, true, map, None, sym, subst, refl, arith, rules}
 use Rattle.std.specs.List.{list_all}
 use Rattle.std.proofs.lemmas.Bool.{false≢true}
 use Rattle.pg_link.specs.declared.error.Place.{Place}
 use Rattle.pg_schema.specs.declared.parts.file.File.{File}
 use Rattle.pg_schema.specs.declared.parts.message_type.MessageType.{MessageType}
 use Rattle.pg_schema.specs.rules.Files.{is_file_option}
+use Rattle.pg_schema.proofs.lemmas.rules.PairLemmas.{and_left, and_right}
 use Rattle.pg_check.specs.declared.error.CheckError.{CheckError}
 use Rattle.pg_check.specs.declared.rules.fault.Rule.{Rule}
 use Rattle.pg_check.specs.declared.rules.fault.Rule.TheVariants as rules
@@ -14,7 +15,7 @@ use Rattle.pg_check.specs.admitting.DeclaredParts as declared
 use Rattle.pg_check.specs.admitting.KeepsParts as keeps
 use Rattle.pg_check.specs.admitting.KeepsParts.{KeepsFilePart, KeepsType}
 use Rattle.pg_check.specs.inner.PartFaults as faults
-use Rattle.pg_check.specs.inner.Faults.{broken, broken_at}
+use Rattle.pg_check.specs.inner.Faults.{broken_at}
 use Rattle.pg_check.specs.inner.MessageFaults.{fields_fault}
 use Rattle.pg_check.specs.rules.Numbers as numbers
 use Rattle.pg_check.specs.inner.NumberFaults as number_faults
@@ -22,13 +23,12 @@ use Rattle.pg_check.proofs.lemmas.admitting.PartShapes.{key_fails, member_fails,
 use Rattle.pg_check.proofs.lemmas.rules.FirstFaults.{IsFound}
 use Rattle.pg_check.proofs.lemmas.rules.Judged.{again}
 use Rattle.pg_check.proofs.lemmas.rules.JudgedMessages.{fields_broken, fields_judged}
-use Rattle.pg_check.proofs.lemmas.rules.NoneLaws.{and_left, and_right, earlier_none}
+use Rattle.pg_check.proofs.lemmas.rules.NoneLaws.{earlier_none}
 
 -- ---- where no fault is found
 
 pub fault_unless_none : (rule : Rule) (b : Bool) → faults.fault_unless rule b ≡ None → b ≡ true
-fault_unless_none rule true h = refl
-fault_unless_none rule false h = absurd (cc (h))
+fault_unless_none rule b h = grind arith
 
 pub type_keeps : (t : MessageType) → faults.message_fault t ≡ None → KeepsType t
 type_keeps t none =
@@ -45,12 +45,7 @@ type_keeps t none =
     }
 
 pub file_part_keeps : (f : File) → faults.file_fault f ≡ None → KeepsFilePart f
-file_part_keeps f none =
-    let two = (earlier_none (faults.fault_unless rules.BadOption (list_all is_file_option f.options.items)) (broken rules.BadOption (number_faults.first_twice (map declared.option_key f.options.items)))).0 none in
-    record {
-      known = fault_unless_none rules.BadOption _ two.0;
-      once = (again rules.BadOption numbers.is_same number_faults.at (map declared.option_key f.options.items)).none.0 two.1;
-    }
+file_part_keeps f none = search (rules, earlier_none, fault_unless_none, again)
 
 -- ---- what keeps to the rules breaks none
 

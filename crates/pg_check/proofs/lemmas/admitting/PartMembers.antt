@@ -12,12 +12,10 @@ is_last : (k m : ℕ) → k < suc m → nat_lt k m ≡ false → k ≡ m
 is_last k m below is = grind (arith, nat_tests)
 
 and_none : (a b : Bool) → b ≡ false → (a && b) ≡ false
-and_none true b e = e
-and_none false b e = refl
+and_none a b e = grind arith
 
 none_and : (a b : Bool) → a ≡ false → (a && b) ≡ false
-none_and true b e = absurd (cc (e))
-none_and false b e = refl
+none_and a b e = grind arith
 
 -- a oneof without a member
 pub none_there : (n k : ℕ) (fields : List Field) → k < n → list_any (is_member k) fields ≡ false → have_members n fields ≡ false

@@ -1,5 +1,5 @@
 -- What is said of the faults of parts, which are all at one position.
-use Rattle.std.proofs.Common.{◌≡◌, ◌∙◌, ℕ, Bool, true, false, List, [], ◌∷◌, ◌++◌, map, Some, None, sym, ap, refl}
+use Rattle.std.proofs.Common.{◌≡◌, ◌∙◌, ℕ, Bool, false, List, [], ◌∷◌, ◌++◌, map, sym, ap, arith}
 use Rattle.pg_link.specs.declared.error.Place.{Place}
 use Rattle.pg_check.specs.declared.error.CheckError.{CheckError}
 use Rattle.pg_check.specs.declared.rules.fault.Fault.{Fault}
@@ -16,8 +16,7 @@ abbrev pub At : (CheckError → ℕ → Type 0) → Place → Fault → Type 0
 At B place f = (f.declared ≡ 0) × B (error_of f.rule place) (order f.rule)
 
 pub test_meets : (B : CheckError → ℕ → Type 0) (place : Place) (rule : Rule) (b : Bool) → (b ≡ false → B (error_of rule place) (order rule)) → Meets (At B place) (faults.fault_unless rule b)
-test_meets B place rule true k = broken_meets (At B place) rule None (λ n e. absurd (cc (e)))
-test_meets B place rule false k = broken_meets (At B place) rule (Some 0) (λ n e. let same : 0 ≡ n = cc (e) in (sym same, k refl))
+test_meets B place rule b k = grind (arith, broken_meets)
 
 pub test_found : (rule : Rule) (b : Bool) → b ≡ false → IsFound (faults.fault_unless rule b) 0 (order rule)
 test_found rule b h = broken_found rule (faults.where_not b) 0 (ap faults.where_not h)

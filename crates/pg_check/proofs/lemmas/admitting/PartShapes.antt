@@ -1,5 +1,5 @@
 -- The rules of maps, oneofs and packed fields, by one of a list that fails a test.
-use Rattle.std.proofs.Common.{◌≡◌, ◌∙◌, inl, inr, Bool, true, false, not, ◌||◌, ◌&&◌, ◌⊎◌, List, [], ◌∷◌, length, is_some, sym, ap, refl}
+use Rattle.std.proofs.Common.{◌≡◌, ◌∙◌, Bool, true, false, not, ◌||◌, ◌&&◌, ◌⊎◌, List, [], ◌∷◌, length, is_some, sym, ap, refl, arith, rules}
 use Rattle.std.specs.List.{list_all}
 use Rattle.std.proofs.lemmas.Bool.{false≢true}
 use Rattle.std.proofs.lemmas.List.Folds.{list_all-append}
@@ -12,6 +12,7 @@ use Rattle.pg_schema.specs.declared.parts.message_type.MessageType.{MessageType}
 use Rattle.pg_schema.specs.rules.Fields.{stated_or, is_key}
 use Rattle.pg_schema.specs.rules.Messages.{have_members}
 use Rattle.pg_schema.specs.Shape.{is_packable, is_repeated, is_singular}
+use Rattle.pg_schema.proofs.lemmas.rules.PairLemmas.{and_left, and_right}
 use Rattle.pg_check.specs.declared.rules.fault.Rule.TheVariants as rules
 use Rattle.pg_check.specs.admitting.BrokenParts.{BreaksType, bad_map_key, bad_oneof_member, empty_oneof, packed_not_allowed}
 use Rattle.pg_check.specs.admitting.KeepsParts as keeps
@@ -19,7 +20,6 @@ use Rattle.pg_check.specs.Errors.{error_of}
 use Rattle.pg_check.specs.inner.PartFaults.{has_oneofs}
 use Rattle.pg_check.specs.rules.Firsts.{IsOneOf}
 use Rattle.pg_check.proofs.lemmas.rules.FirstFaults.{one_more}
-use Rattle.pg_check.proofs.lemmas.rules.NoneLaws.{and_left, and_right}
 
 -- ---- one of a list that fails a test
 
@@ -33,21 +33,15 @@ some_fails test (x ∷ xs) h = by (test x) refl h (some_fails test xs)
     by true is g later = let (y, (one, fails)) = later g in (y, (one_more x xs y one, fails))
 
 pub passes : {X : Type 0} (test : X → Bool) (xs : List X) (x : X) → list_all test xs ≡ true → IsOneOf xs x → test x ≡ true
-passes test xs x h one =
-    let here : (list_all test one.before && (test x && list_all test one.after)) ≡ true = sym (list_all-append test one.before (x ∷ one.after)) ∙ (sym (ap (list_all test) one.is) ∙ h) in
-    and_left _ _ (and_right (list_all test one.before) _ here)
+passes test xs x h one = search (rules, list_all-append, and_left, and_right)
 
 pub fails : (b : Bool) → (b ≡ true → ⊥) → b ≡ false
-fails true none = absurd (none refl)
-fails false none = refl
+fails b none = grind arith
 
 -- ---- keys of maps
 
 key_of : (p : Presence) → keeps.has_key p ≡ false → (key : Scalar) × ((p ≡ presences.Map key) × (is_key key ≡ false))
-key_of presences.Implicit h = absurd (false≢true (sym h))
-key_of presences.Explicit h = absurd (false≢true (sym h))
-key_of (presences.Repeated packed) h = absurd (false≢true (sym h))
-key_of (presences.Map key) h = (key, (refl, h))
+key_of p h = grind (arith, false≢true)
 
 pub key_breaks : (t : MessageType) (place : Place) → list_all keeps.field_has_key t.fields.items ≡ false → BreaksType t place (error_of rules.BadMapKey place) 407
 key_breaks t place h =
@@ -61,17 +55,10 @@ key_fails fs f key one is bad h = false≢true (sym bad ∙ (sym (ap keeps.has_k
 -- ---- members of oneofs
 
 member_of : (member singular states : Bool) → (not member || (singular && not states)) ≡ false → (member ≡ true) × ((singular ≡ false) ⊎ (states ≡ true))
-member_of true false states h = (refl, inl refl)
-member_of true true true h = (refl, inr refl)
-member_of true true false h = absurd (false≢true (sym h))
-member_of false singular states h = absurd (false≢true (sym h))
+member_of member singular states h = grind (arith, false≢true)
 
 no_member : (member singular states : Bool) → (not member || (singular && not states)) ≡ true → member ≡ true → (singular ≡ false) ⊎ (states ≡ true) → ⊥
-no_member false singular states h is why = false≢true is
-no_member true false states h is why = false≢true h
-no_member true true true h is why = false≢true h
-no_member true true false h is (inl why) = false≢true (sym why)
-no_member true true false h is (inr why) = false≢true why
+no_member member singular states h is why = grind (arith, false≢true)
 
 pub oneof_breaks : (t : MessageType) (place : Place) → has_oneofs t ≡ false → BreaksType t place (error_of rules.BadOneofMember place) 408
 oneof_breaks t place h = by (list_all keeps.may_be_member t.fields.items) refl h
@@ -90,17 +77,10 @@ member_fails fs f one has why h = no_member (is_some f.oneof) (is_singular f.pre
 -- ---- packed fields
 
 packs_of : (p : Presence) (s : Bool) → (keeps.is_packed p || s) ≡ true → (p ≡ presences.Repeated true) ⊎ (s ≡ true)
-packs_of presences.Implicit s h = inr h
-packs_of presences.Explicit s h = inr h
-packs_of (presences.Map key) s h = inr h
-packs_of (presences.Repeated true) s h = inl refl
-packs_of (presences.Repeated false) s h = inr h
+packs_of p s h = grind arith
 
 packed_of : (packed repeated packable : Bool) → (not packed || (repeated && packable)) ≡ false → (packed ≡ true) × ((repeated ≡ false) ⊎ (packable ≡ false))
-packed_of true false packable h = (refl, inl refl)
-packed_of true true false h = (refl, inr refl)
-packed_of true true true h = absurd (false≢true (sym h))
-packed_of false repeated packable h = absurd (false≢true (sym h))
+packed_of packed repeated packable h = grind (arith, false≢true)
 
 pub packed_breaks : (t : MessageType) (place : Place) → list_all keeps.is_packed_rightly t.fields.items ≡ false → BreaksType t place (error_of rules.PackedNotAllowed place) 412
 packed_breaks t place h =
@@ -110,19 +90,10 @@ packed_breaks t place h =
     packed_not_allowed f one (packs_of f.presence states packed) why
 
 packs : (p : Presence) (s : Bool) → (p ≡ presences.Repeated true) ⊎ (s ≡ true) → (keeps.is_packed p || s) ≡ true
-packs p s (inl is) = ap (λ q. keeps.is_packed q || s) is
-packs p s (inr is) = ap (λ b. keeps.is_packed p || b) is ∙ or_last (keeps.is_packed p)
-  where
-    or_last : (b : Bool) → (b || true) ≡ true
-    or_last true = refl
-    or_last false = refl
+packs p s h3 = grind arith
 
 no_packed : (packed repeated packable : Bool) → (not packed || (repeated && packable)) ≡ true → packed ≡ true → (repeated ≡ false) ⊎ (packable ≡ false) → ⊥
-no_packed false repeated packable h is why = false≢true is
-no_packed true false packable h is why = false≢true h
-no_packed true true false h is why = false≢true h
-no_packed true true true h is (inl why) = false≢true (sym why)
-no_packed true true true h is (inr why) = false≢true (sym why)
+no_packed packed repeated packable h is why = grind (arith, false≢true)
 
 pub packed_fails : (fs : List Field) (f : Field) → IsOneOf fs f → (f.presence ≡ presences.Repeated true) ⊎ (stated_or f.options.packed false ≡ true)
     → (is_repeated f.presence ≡ false) ⊎ (is_packable f.element ≡ false) → list_all keeps.is_packed_rightly fs ≡ true → ⊥

@@ -1,5 +1,5 @@
 -- The parts of a schema keep to the rules.
-use Rattle.std.proofs.Common.{◌≡◌, ◌∙◌, ℕ, suc, ℤ, pos, negsuc, ◌+◌, ◌-◌, ◌^◌, ◌≤◌, Bool, true, false, cond, not, ◌&&◌, ◌||◌, nat_lt, nat_le, nat_eq, List, [], ◌∷◌, length, map, Option, Some, None, is_some, string_bytes, sym, ap, refl, arith}
+use Rattle.std.proofs.Common.{◌≡◌, ◌∙◌, ℕ, ℤ, ◌+◌, ◌^◌, Bool, true, false, cond, not, ◌&&◌, ◌||◌, nat_lt, nat_le, nat_eq, List, [], ◌∷◌, length, map, Option, is_some, string_bytes, sym, ap, refl, arith, rules}
 use Rattle.std.specs.List.{list_all, AllByRecursion}
 use Rattle.std.proofs.lemmas.Bool.{false≢true}
 use Rattle.std.proofs.lemmas.Bool.Decides.{nat_tests}
@@ -10,34 +10,30 @@ use Rattle.pg_schema.specs.declared.parts.enum_type.ReservedValues.{ReservedValu
 use Rattle.pg_schema.specs.declared.parts.field.Element.{Element}
 use Rattle.pg_schema.specs.declared.parts.field.Field.{Field}
 use Rattle.pg_schema.specs.declared.parts.field.Presence.{Presence}
-use Rattle.pg_schema.specs.declared.parts.field.Presence.TheVariants as presences
 use Rattle.pg_schema.specs.declared.parts.file.File.{File}
 use Rattle.pg_schema.specs.declared.parts.message_type.MessageType.{MessageType}
 use Rattle.pg_schema.specs.declared.parts.message_type.ReservedFields.{ReservedFields}
-use Rattle.pg_schema.specs.declared.parts.options.FileOption.{FileOption}
 use Rattle.pg_schema.specs.declared.parts.Parts.{Parts}
 use Rattle.pg_schema.specs.rules.Enums as schema_enums
 use Rattle.pg_schema.specs.rules.Fields as schema_fields
-use Rattle.pg_schema.specs.rules.Files.{is_file, is_file_option, option_numbers}
+use Rattle.pg_schema.specs.rules.Files.{is_file}
 use Rattle.pg_schema.specs.rules.Messages as schema
-use Rattle.pg_schema.specs.rules.Pairs.{all_pairs, are_distinct, differ, is_rising}
+use Rattle.pg_schema.specs.rules.Pairs.{all_pairs, differ}
 use Rattle.pg_schema.specs.rules.Sound.{IsSound}
-use Rattle.pg_schema.specs.rules.TextSets.{are_named_once, is_among}
+use Rattle.pg_schema.specs.rules.TextSets.{are_named_once}
 use Rattle.pg_schema.specs.rules.Uses.{are_aliases, are_apart as uses_apart, field_use, from_lowest, is_reserved_range, is_used_once, is_value_range, message_uses, enum_uses, reserved_use, reserved_values_use, value_use}
-use Rattle.pg_schema.specs.rules.Fields.{is_key}
 use Rattle.pg_schema.specs.Shape.{is_packable, is_repeated, is_singular}
+use Rattle.pg_schema.proofs.lemmas.rules.PairLemmas.{and_left, and_right, and_both, bytes_eq-sym}
 use Rattle.pg_check.specs.admitting.DeclaredParts as declared
 use Rattle.pg_check.specs.admitting.KeepsParts as keeps
 use Rattle.pg_check.specs.admitting.KeepsParts.{KeepsAll, KeepsEnumType, KeepsFilePart, KeepsType}
 use Rattle.pg_check.specs.admitting.SoundParts.{HasInt32s, HaveInt32s, is_int32, range_is_int32, value_is_int32}
-use Rattle.pg_check.specs.rules.KeepsRules.{are_apart, begins_with_zero, has_field_number, has_some, is_free_name, lies_within, rises}
+use Rattle.pg_check.specs.rules.KeepsRules.{begins_with_zero, has_field_number, has_some, is_free_name, lies_within, rises}
 use Rattle.pg_check.specs.rules.Names as names
 use Rattle.pg_check.specs.rules.Numbers as numbers
 use Rattle.pg_check.proofs.lemmas.admitting.SoundUses.{all_free, items_apart, keys_apart, or_left, pairs_split}
 use Rattle.pg_check.proofs.lemmas.parts.kept.KeptEnums.{free_of_each_other}
 use Rattle.pg_check.proofs.lemmas.parts.Moved.{all_weaker, pairs_of_map, pairs_weaker}
-use Rattle.pg_check.proofs.lemmas.rules.NoneLaws.{and_both, and_left, and_right}
-use Rattle.pg_check.proofs.lemmas.rules.TextSets.{bytes_eq-sym}
 
 -- ---- lists
 
@@ -52,9 +48,7 @@ moved_pairs test wanted f k xs h = pairs_of_map wanted f xs ∙ pairs_weaker tes
 -- names of which none is reserved
 free_names : {A : Type 0} (name : A → List ℕ) (named : A → names.Named) → ((a : A) → (named a).text ≡ name a) → (xs : List A) (reserved : List (List ℕ)) → are_named_once (map name xs) reserved ≡ true
     → list_all (is_free_name reserved) (map named xs) ≡ true
-free_names name named same xs reserved h =
-    moved (λ a. not (is_among reserved (name a))) (is_free_name reserved) named (λ a k. ap (λ n. not (is_among reserved n)) (same a) ∙ k) xs
-    (sym (list_all-map (λ n. not (is_among reserved n)) name xs) ∙ free_of_each_other reserved (map name xs) (and_right (are_distinct (map name xs)) _ h))
+free_names name named same xs reserved h = search (rules, moved, list_all-map, free_of_each_other, and_right)
 
 -- ---- numbers
 
@@ -74,41 +68,22 @@ range_rises s t a b e f h = grind (arith, nat_tests)
 -- ---- fields
 
 key_kept : (p : Presence) (e : Element) (member stated : Bool) → schema_fields.has_presence p e member stated ≡ true → keeps.has_key p ≡ true
-key_kept presences.Implicit e member stated h = refl
-key_kept presences.Explicit e member stated h = refl
-key_kept (presences.Repeated packed) e member stated h = refl
-key_kept (presences.Map key) e member stated h = and_right (not (member || stated)) _ h
+key_kept p e member stated h = grind (arith, and_right)
 
 member_kept : (p : Presence) (e : Element) (member stated : Bool) → schema_fields.has_presence p e member stated ≡ true → (not member || (is_singular p && not stated)) ≡ true
-member_kept p e false stated h = refl
-member_kept presences.Implicit e true stated h = absurd (none (schema_fields.is_message e) h)
-  where
-    none : (b : Bool) → not (b || true || stated) ≡ true → ⊥
-    none true k = false≢true k
-    none false k = false≢true k
-member_kept presences.Explicit e true true h = absurd (false≢true (and_right (schema_fields.is_message e || true || true) _ h))
-member_kept presences.Explicit e true false h = refl
-member_kept (presences.Repeated packed) e true stated h = absurd (false≢true h)
-member_kept (presences.Map key) e true stated h = absurd (false≢true h)
+member_kept p e member stated h = grind (arith, false≢true, and_right)
 
 none_packed : (s c : Bool) → not s ≡ true → (not (false || s) || c) ≡ true
-none_packed true c h = absurd (false≢true h)
-none_packed false c h = refl
+none_packed s c h = grind (arith, false≢true)
 
 list_packed : (packed packable : Bool) (stated : Option Bool)
     → ((cond packed (schema_fields.stated_or stated packable) (not (schema_fields.stated_or stated packable))) && (not packed || packable)) ≡ true
     → (not (packed || schema_fields.stated_or stated false) || packable) ≡ true
-list_packed true packable stated h = and_right (schema_fields.stated_or stated packable) _ h
-list_packed false packable None h = refl
-list_packed false packable (Some true) h = absurd (false≢true h)
-list_packed false packable (Some false) h = refl
+list_packed packed packable stated h = grind (arith, and_right, false≢true)
 
 packed_kept : (p : Presence) (e : Element) (stated : Option Bool) → schema_fields.is_packed p e stated ≡ true
     → (not (keeps.is_packed p || schema_fields.stated_or stated false) || (is_repeated p && is_packable e)) ≡ true
-packed_kept presences.Implicit e stated h = none_packed (schema_fields.stated_or stated false) _ h
-packed_kept presences.Explicit e stated h = none_packed (schema_fields.stated_or stated false) _ h
-packed_kept (presences.Repeated packed) e stated h = list_packed packed (is_packable e) stated h
-packed_kept (presences.Map key) e stated h = none_packed (schema_fields.stated_or stated false) _ h
+packed_kept p e stated h = grind (arith, none_packed, list_packed)
 
 -- ---- message types
 
@@ -121,25 +96,13 @@ all_hold (x ∷ xs) = all_hold xs
 
 module _ (oneofs types enums : ℕ) (f : Field) (h : schema.is_field oneofs types enums f ≡ true) where
   pub number_is : schema_fields.is_field_number f.number ≡ true
-  number_is =
-      let known_and = and_left _ _ h in
-      let packed_and = and_left _ _ known_and in
-      let presence_and = and_left _ _ packed_and in
-      let word_and = and_left _ _ presence_and in
-      and_left _ _ word_and
+  number_is = search (rules, and_left)
 
   pub presence_is : schema_fields.has_presence f.presence f.element (is_some f.oneof) f.states_optional ≡ true
-  presence_is =
-      let known_and = and_left _ _ h in
-      let packed_and = and_left _ _ known_and in
-      let presence_and = and_left _ _ packed_and in
-      and_right _ _ presence_and
+  presence_is = search (rules, and_left, and_right)
 
   pub packed_is : schema_fields.is_packed f.presence f.element f.options.packed ≡ true
-  packed_is =
-      let known_and = and_left _ _ h in
-      let packed_and = and_left _ _ known_and in
-      and_right _ _ packed_and
+  packed_is = search (rules, and_left, and_right)
 
 of_field : (f : Field) → holds f ≡ true → f.number + 2 ^ 64 ≡ (declared.key_of f).key
 of_field f h = ranked f.number
@@ -189,11 +152,7 @@ type_keeps types enums t h =
 
 -- counted from the lowest, and from -2^64
 int32_ranked : (n : ℤ) → is_int32 n ≡ true → from_lowest n + numbers.lowest_value ≡ declared.value_rank n
-int32_ranked (pos n) h = omega arith
-int32_ranked (negsuc n) h = let low : numbers.lowest_value ≤ numbers.rank true (suc n) = at_least (numbers.rank true (suc n)) h in omega (arith, low)
-  where
-    at_least : (r : ℕ) → numbers.is_within numbers.lowest_value numbers.highest_value r ≡ true → numbers.lowest_value ≤ r
-    at_least r k = grind (arith, nat_tests)
+int32_ranked n h = grind (arith, nat_tests)
 
 of_value : (v : EnumValue) → value_is_int32 v ≡ true → from_lowest v.number + numbers.lowest_value ≡ (declared.value_key v).key
 of_value v h = int32_ranked v.number h
@@ -203,9 +162,7 @@ of_values : (r : ReservedValues) → range_is_int32 r ≡ true
 of_values r h = (int32_ranked r.first (and_left _ _ h), int32_ranked r.last (and_right (is_int32 r.first) _ h))
 
 no_alias : (al a : Bool) → (al && a && false) ≡ false
-no_alias true true = refl
-no_alias true false = refl
-no_alias false a = refl
+no_alias al a = grind arith
 
 denied : (al : Bool) → al ≡ false → (al && true && true) ≡ false
 denied al off = ap (λ b. b && true && true) off
@@ -215,25 +172,19 @@ rises_on s t a b base e f h = grind (arith, nat_tests)
 
 ranges_rise : (rs : List ReservedValues) → list_all range_is_int32 rs ≡ true → list_all is_value_range rs ≡ true → list_all rises (map declared.value_item rs) ≡ true
 ranges_rise [] fit h = refl
-ranges_rise (r ∷ rs) fit h =
-    let fits = and_left (range_is_int32 r) (list_all range_is_int32 rs) fit in
-    and_both _ _ (rises_on (from_lowest r.first) (from_lowest r.last) _ _ numbers.lowest_value (int32_ranked r.first (and_left _ _ fits)) (int32_ranked r.last (and_right (is_int32 r.first) _ fits)) (and_left _ _ h))
-    (ranges_rise rs (and_right (range_is_int32 r) _ fit) (and_right (is_value_range r) _ h))
+ranges_rise (r ∷ rs) fit h = search (rules, and_left, and_both, rises_on, int32_ranked, and_right, ranges_rise rs (and_right (range_is_int32 r) _ fit) (and_right (is_value_range r) _ h))
 
 zero_key : (n r : ℕ) → n + 2 ^ 64 ≡ r → nat_eq n 0 ≡ true → nat_eq r (numbers.rank false 0) ≡ true
 zero_key n r e h = grind (arith, nat_tests)
 
 zero_ranked : (n : ℤ) → schema_enums.is_zero n ≡ true → nat_eq (declared.value_rank n) (numbers.rank false 0) ≡ true
-zero_ranked (pos n) h = zero_key n _ (ranked n) h
-zero_ranked (negsuc n) h = absurd (false≢true h)
+zero_ranked n h = grind (arith, zero_key, ranked, false≢true)
 
 zero_first : (vs : List EnumValue) → schema_enums.begins_with_zero vs ≡ true → (has_some (map declared.value_key vs) ≡ true) × (begins_with_zero (map declared.value_key vs) ≡ true)
-zero_first [] h = absurd (false≢true h)
-zero_first (v ∷ vs) h = (refl, zero_ranked v.number h)
+zero_first vs h = grind (arith, false≢true, zero_ranked)
 
 with_aliases : (al : Bool) (c : Bool) → (al ≡ false → c ≡ true) → (al || c) ≡ true
-with_aliases true c k = refl
-with_aliases false c k = k refl
+with_aliases al c k = grind arith
 
 enum_keeps : (e : EnumType) → HasInt32s e → schema_enums.is_enum e ≡ true → KeepsEnumType e
 enum_keeps e fit h =
@@ -266,14 +217,7 @@ below_other : (m n : ℕ) → nat_lt m n ≡ true → not (nat_eq n m) ≡ true
 below_other m n h = grind (arith, nat_tests)
 
 file_keeps : (f : File) → is_file f ≡ true → KeepsFilePart f
-file_keeps f h =
-    let os = f.options.items in
-    let rising : is_rising (0 ∷ option_numbers os) ≡ true = and_right _ _ (and_left _ _ h) in
-    record {
-      known = and_right _ _ h;
-      once = moved_pairs (λ (o p : FileOption). nat_lt o.number p.number) (λ a b. not (numbers.is_same b a)) declared.option_key (λ o p k. below_other o.number p.number k) os
-          (sym (pairs_of_map nat_lt (λ (o : FileOption). o.number) os) ∙ and_right (list_all (nat_lt 0) (option_numbers os)) _ rising);
-    }
+file_keeps f h = search (rules, and_right, and_left, moved_pairs, nat_lt, below_other, pairs_of_map)
 
 -- ---- all parts
 
@@ -286,9 +230,4 @@ enums_keep [] fit h = tt
 enums_keep (e ∷ es) fit h = (enum_keeps e fit.0 (and_left _ _ h), enums_keep es fit.1 (and_right (schema_enums.is_enum e) _ h))
 
 pub sound_keep : (parts : Parts) → IsSound parts → HaveInt32s parts → KeepsAll parts
-sound_keep parts sound fit = record {
-  few_types = sound.few_types;
-  types = each_keeps KeepsType _ (λ t h. type_keeps (length parts.types.items) (length parts.enums.items) t h) parts.types.items sound.message_types;
-  enums = enums_keep parts.enums.items fit sound.enums;
-  files = each_keeps KeepsFilePart is_file file_keeps parts.files.items sound.files;
-}
+sound_keep parts sound fit = search (rules, each_keeps, type_keeps, enums_keep, file_keeps)

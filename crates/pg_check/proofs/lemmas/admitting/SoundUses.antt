@@ -1,16 +1,16 @@
 -- Numbers of which a schema says that they are used once, as the rules read them: each is declared once, is free, and lies in one item.
-use Rattle.std.proofs.Common.{◌≡◌, ◌∙◌, ℕ, ◌+◌, Bool, true, false, not, ◌&&◌, ◌||◌, nat_lt, nat_le, nat_eq, List, [], ◌∷◌, ◌++◌, map, sym, ap, refl, arith}
-use Rattle.std.specs.List.{list_all, list_any}
+use Rattle.std.proofs.Common.{◌≡◌, ◌∙◌, ℕ, ◌+◌, Bool, true, false, not, ◌&&◌, ◌||◌, nat_lt, nat_le, nat_eq, List, [], ◌∷◌, ◌++◌, map, sym, refl, arith, rules}
+use Rattle.std.specs.List.{list_all}
 use Rattle.std.proofs.lemmas.Bool.{false≢true}
 use Rattle.std.proofs.lemmas.Bool.Decides.{nat_tests}
 use Rattle.std.proofs.lemmas.List.Folds.{list_all-append}
 use Rattle.pg_schema.specs.rules.Pairs.{all_pairs}
+use Rattle.pg_schema.proofs.lemmas.rules.PairLemmas.{and_left, and_right, and_both}
 use Rattle.pg_check.specs.declared.rules.numbers.Keyed.{Keyed}
 use Rattle.pg_check.specs.declared.rules.numbers.Numbers.{Numbers}
 use Rattle.pg_check.specs.rules.KeepsRules.{are_apart, is_free}
-use Rattle.pg_check.specs.rules.Numbers.{is_in, is_same}
+use Rattle.pg_check.specs.rules.Numbers.{is_same}
 use Rattle.pg_check.specs.rules.ReservedItems.{overlap}
-use Rattle.pg_check.proofs.lemmas.rules.NoneLaws.{and_both, and_left, and_right}
 
 -- ---- lists
 
@@ -24,12 +24,10 @@ pairs_split test (x ∷ xs) ys h =
     (and_both _ _ (and_left _ _ here) rest.0, (rest.1.0, and_both _ _ (and_right (list_all (test x) xs) _ here) rest.1.1))
 
 not_either : (a b : Bool) → not a ≡ true → not b ≡ true → not (a || b) ≡ true
-not_either true b h k = absurd (false≢true h)
-not_either false b h k = k
+not_either a b h k = grind (arith, false≢true)
 
 pub or_left : (a b : Bool) → b ≡ false → (a || b) ≡ true → a ≡ true
-or_left true b none h = refl
-or_left false b none h = absurd (false≢true (sym none ∙ h))
+or_left a b none h = grind (arith, false≢true)
 
 -- ---- numbers, counted from another one
 
@@ -53,19 +51,13 @@ module _ {U X R : Type 0} (base : ℕ) (beside : U → U → Bool) (use_of : X �
   free : ((x : X) (r : R) → beside (use_of x) (reserves r) ≡ true → (nat_lt (number x) (first r) || nat_lt (last r) (number x)) ≡ true)
       → (x : X) (rs : List R) → fits x ≡ true → list_all item_fits rs ≡ true → list_all (beside (use_of x)) (map reserves rs) ≡ true → is_free (map item rs) (key x) ≡ true
   free apart x [] fit all h = refl
-  free apart x (r ∷ rs) fit all h =
-      let i = of_item r (and_left _ _ all) in
-      not_either (is_in (key x).key (item r)) (list_any (is_in (key x).key) (map item rs))
-      (free_of (key x).key (item r).first (item r).last (number x) (first r) (last r) base (of_key x fit) i.0 i.1 (apart x r (and_left _ _ h)))
-      (free apart x rs fit (and_right (item_fits r) _ all) (and_right (beside (use_of x) (reserves r)) _ h))
+  free apart x (r ∷ rs) fit all h = search (rules, and_left, not_either, free_of, and_right, free apart x rs fit (and_right (item_fits r) _ all) (and_right (beside (use_of x) (reserves r)) _ h))
 
   pub all_free : ((x : X) (r : R) → beside (use_of x) (reserves r) ≡ true → (nat_lt (number x) (first r) || nat_lt (last r) (number x)) ≡ true)
       → (xs : List X) (rs : List R) → list_all fits xs ≡ true → list_all item_fits rs ≡ true
       → list_all (λ u. list_all (beside u) (map reserves rs)) (map use_of xs) ≡ true → list_all (is_free (map item rs)) (map key xs) ≡ true
   all_free apart [] rs fit all h = refl
-  all_free apart (x ∷ xs) rs fit all h =
-      and_both _ _ (free apart x rs (and_left _ _ fit) all (and_left _ _ h))
-      (all_free apart xs rs (and_right (fits x) _ fit) all (and_right (list_all (beside (use_of x)) (map reserves rs)) _ h))
+  all_free apart (x ∷ xs) rs fit all h = search (rules, and_both, free, and_left, and_right, all_free apart xs rs (and_right (fits x) _ fit) all (and_right (list_all (beside (use_of x)) (map reserves rs)) _ h))
 
   -- ---- items
 
@@ -73,11 +65,7 @@ module _ {U X R : Type 0} (base : ℕ) (beside : U → U → Bool) (use_of : X �
       → (q : R) (rs : List R) → item_fits q ≡ true → list_all item_fits rs ≡ true → list_all (beside (reserves q)) (map reserves rs) ≡ true
       → list_all (λ r. not (overlap r (item q))) (map item rs) ≡ true
   item_apart apart q [] fit all h = refl
-  item_apart apart q (r ∷ rs) fit all h =
-      let j = of_item q fit in
-      let i = of_item r (and_left _ _ all) in
-      and_both _ _ (apart_of (item q).first (item q).last (item r).first (item r).last (first q) (last q) (first r) (last r) base j.0 j.1 i.0 i.1 (apart q r (and_left _ _ h)))
-      (item_apart apart q rs fit (and_right (item_fits r) _ all) (and_right (beside (reserves q) (reserves r)) _ h))
+  item_apart apart q (r ∷ rs) fit all h = search (rules, and_left, and_both, apart_of, and_right, item_apart apart q rs fit (and_right (item_fits r) _ all) (and_right (beside (reserves q) (reserves r)) _ h))
 
   pub items_apart : ((q r : R) → beside (reserves q) (reserves r) ≡ true → (nat_lt (last q) (first r) || nat_lt (last r) (first q)) ≡ true)
       → (rs : List R) → list_all item_fits rs ≡ true → all_pairs beside (map reserves rs) ≡ true → are_apart overlap (map item rs) ≡ true
@@ -91,9 +79,7 @@ module _ {U X R : Type 0} (base : ℕ) (beside : U → U → Bool) (use_of : X �
   key_apart : ((x y : X) → beside (use_of x) (use_of y) ≡ true → (nat_lt (number x) (number y) || nat_lt (number y) (number x)) ≡ true)
       → (x : X) (ys : List X) → fits x ≡ true → list_all fits ys ≡ true → list_all (beside (use_of x)) (map use_of ys) ≡ true → list_all (λ k. not (is_same k (key x))) (map key ys) ≡ true
   key_apart apart x [] fit all h = refl
-  key_apart apart x (y ∷ ys) fit all h =
-      and_both _ _ (other_of (key x).key (key y).key (number x) (number y) base (of_key x fit) (of_key y (and_left _ _ all)) (apart x y (and_left _ _ h)))
-      (key_apart apart x ys fit (and_right (fits y) _ all) (and_right (beside (use_of x) (use_of y)) _ h))
+  key_apart apart x (y ∷ ys) fit all h = search (rules, and_both, other_of, and_left, and_right, key_apart apart x ys fit (and_right (fits y) _ all) (and_right (beside (use_of x) (use_of y)) _ h))
 
   pub keys_apart : ((x y : X) → beside (use_of x) (use_of y) ≡ true → (nat_lt (number x) (number y) || nat_lt (number y) (number x)) ≡ true)
       → (xs : List X) → list_all fits xs ≡ true → all_pairs beside (map use_of xs) ≡ true → are_apart is_same (map key xs) ≡ true

@@ -1,5 +1,5 @@
 -- The parts of linked files: their names are words, and what is named is there.
-use Rattle.std.proofs.Common.{◌≡◌, ◌∙◌, ℕ, ◌<◌, Bool, true, false, not, ◌&&◌, nat_lt, List, [], ◌∷◌, ◌++◌, length, map, flat_map, Option, Some, None, option_map, slice_get, string_bytes, sym, ap, subst, refl, arith}
+use Rattle.std.proofs.Common.{◌≡◌, ◌∙◌, ℕ, ◌<◌, Bool, true, ◌&&◌, nat_lt, List, [], ◌∷◌, length, map, flat_map, Option, Some, option_map, slice_get, string_bytes, sym, ap, subst, refl, arith, rules}
 use Rattle.std.specs.List.{list_all, AllByRecursion}
 use Rattle.std.proofs.lemmas.Bool.{false≢true}
 use Rattle.std.proofs.lemmas.Bool.Decides.{nat_tests}
@@ -7,18 +7,16 @@ use Rattle.std.proofs.lemmas.List.Elements.{recursion_from_All}
 use Rattle.std.proofs.lemmas.List.Folds.{list_all-map}
 use Rattle.std.proofs.lemmas.Option.{slice_get_within}
 use Rattle.std.proofs.lemmas.Slice.Eq.{bytes_eq-Decides}
-use Rattle.std.specs.Str.{bytes_eq}
 use Rattle.pg_schema.specs.declared.parts.enum_type.EnumType.{EnumType}
 use Rattle.pg_schema.specs.declared.parts.field.Element.{Element}
 use Rattle.pg_schema.specs.declared.parts.field.Element.TheVariants as elements
-use Rattle.pg_schema.specs.declared.parts.field.Scalar.{Scalar}
 use Rattle.pg_schema.specs.declared.parts.field.TypeId.{TypeId}
 use Rattle.pg_schema.specs.declared.parts.file.File.{File}
 use Rattle.pg_schema.specs.declared.parts.message_type.MessageType.{MessageType}
 use Rattle.pg_schema.specs.declared.parts.Parts.{Parts}
 use Rattle.pg_schema.specs.declared.parts.service.Method.{Method}
 use Rattle.pg_schema.specs.declared.parts.service.Service as schema_services
-use Rattle.pg_schema.specs.rules.DeclaredNames.{declared_names, entry_names, file_names, service_names, type_names, values_at, within}
+use Rattle.pg_schema.specs.rules.DeclaredNames.{declared_names, type_names}
 use Rattle.pg_schema.specs.rules.Enums.{is_value}
 use Rattle.pg_schema.specs.rules.Fields.{is_known}
 use Rattle.pg_schema.specs.rules.Files.{is_method, is_service}
@@ -27,18 +25,18 @@ use Rattle.pg_schema.specs.rules.Pairs.{are_distinct, differ}
 use Rattle.pg_schema.specs.rules.Words.{is_package, is_word}
 use Rattle.pg_link.specs.Linked.{IsLinkedUp, LinkedFiles}
 use Rattle.pg_link.specs.walk.Walk.{Entry, IsParsed}
+use Rattle.pg_schema.proofs.lemmas.rules.PairLemmas.{and_left, and_right, and_both}
 use Rattle.pg_check.specs.Declares.{Declares}
 use Rattle.pg_check.specs.rules.Enums as enums
-use Rattle.pg_check.specs.parts.MadeEnums.{MadeEnum, MadeValue, enumeration, made_enum, made_values, value}
-use Rattle.pg_check.specs.parts.MadeFields.{MadeField, element_in, field, made_field}
+use Rattle.pg_check.specs.parts.MadeEnums.{MadeValue, enumeration, made_enum, made_values}
+use Rattle.pg_check.specs.parts.MadeFields.{MadeField, field, made_field}
 use Rattle.pg_check.specs.parts.MadeMessages.{made_fields}
 use Rattle.pg_check.specs.parts.MadeParts.{EachIs, FileShape, IsFileOf, IsTypeOf, Source, TypeTree, nothing, type_tree, with_files}
 use Rattle.pg_check.specs.parts.MadeServices.{rpc_in, stated_service}
-use Rattle.pg_check.specs.parts.ResolvedTypes.{IsNamed, IsResolvedMethod, IsResolvedService, IsScalarOr, ResolvesTo, file_services, full_name_of, messages_of, services_of, type_name_of, words_of}
+use Rattle.pg_check.specs.parts.ResolvedTypes.{IsNamed, IsResolvedMethod, IsResolvedService, ResolvesTo, full_name_of, messages_of, services_of, words_of}
 use Rattle.pg_check.specs.parts.Sources.{linked_source, linked_sources}
 use Rattle.pg_check.specs.rules.Members.{DeclaredField, members}
-use Rattle.pg_check.specs.rules.Outline.{Enum, Message, file_messages, package_of, scoped_enums, statements_behind}
-use Rattle.pg_check.specs.rules.Types.{scalar_named}
+use Rattle.pg_check.specs.rules.Outline.{Enum, Message, package_of, scoped_enums}
 use Rattle.pg_check.proofs.lemmas.parts.Eachs.{each_mapped, joined_all, same_all}
 use Rattle.pg_check.proofs.lemmas.standing.UniqueNames.{distinct_left, distinct_right}
 use Rattle.pg_check.proofs.lemmas.parts.kept.KeptFiles.{each_shape, enums_are, source_enums}
@@ -50,7 +48,6 @@ use Rattle.pg_check.proofs.lemmas.parts.uses.ResolvedTypes.{IsHeld, IsTreeOf, li
 use Rattle.pg_check.proofs.lemmas.parts.uses.ResolvedUses.{MemberHolds}
 use Rattle.pg_check.proofs.lemmas.parts.names.WordTrees.{file_good, runs_good}
 use Rattle.pg_check.proofs.lemmas.parts.names.WordedFiles.{IsGoodEnum, IsGoodEnumPart, IsGoodFile, IsGoodMessage, IsGoodServicePart, IsGoodStatement, good_file, is_word_member, members_worded, oneofs_worded}
-use Rattle.pg_check.proofs.lemmas.rules.NoneLaws.{and_both, and_left, and_right}
 use Rattle.pg_syntax.specs.declared.tree as tree
 use Rattle.pg_syntax.specs.declared.tree.EnumPart.TheVariants as enum_parts
 use Rattle.pg_syntax.specs.declared.tree.ServicePart.TheVariants as service_parts
@@ -63,13 +60,10 @@ within_is : (i n : ℕ) → i < n → nat_lt i n ≡ true
 within_is i n less = grind (arith, nat_tests)
 
 there : {X : Type 0} (name : X → List ℕ) (xs : List X) (i : ℕ) (full : List ℕ) (o : Option X) → slice_get xs i ≡ o → option_map name o ≡ Some full → nat_lt i (length xs) ≡ true
-there name xs i full None at none = absurd (cc (none))
-there name xs i full (Some x) at some = within_is i (length xs) (slice_get_within xs i x at)
+there name xs i full o at none = grind (arith, within_is, slice_get_within)
 
 named_is_known : (parts : Parts) (element : Element) (full : List ℕ) → full_name_of parts element ≡ Some full → is_known (length parts.types.items) (length parts.enums.items) element ≡ true
-named_is_known parts (elements.Scalar s) full is = refl
-named_is_known parts (elements.Message id) full is = there (λ (t : MessageType). string_bytes t.name) parts.types.items id.index full (slice_get parts.types.items id.index) refl is
-named_is_known parts (elements.Enum id) full is = there (λ (e : EnumType). string_bytes e.name) parts.enums.items id.index full (slice_get parts.enums.items id.index) refl is
+named_is_known parts element full is = grind (arith, there, string_bytes, slice_get)
 
 -- ---- message types
 
@@ -85,20 +79,12 @@ module _ (files : List Entry) (parts : Parts) (met : IsMet files parts) where
   enum_types = length parts.enums.items
 
   element_known : (e : Entry) (scope : List ℕ) (name : tree.TypeName.TypeName) (element : Element) → IsNamed files parts e scope name element → is_known types enum_types element ≡ true
-  element_known e scope name element h = by (scalar_named name) h
-    where
-      by : (o : Option Scalar) → IsScalarOr (ResolvesTo files parts e scope name element) o element → is_known types enum_types element ≡ true
-      by (Some s) is = ap (is_known types enum_types) is
-      by None k = named_is_known parts element k.full k.has_name
+  element_known e scope name element h = search (rules, named_is_known)
 
   members_named : (e : Entry) (full : List ℕ) (ms : List DeclaredField) → AllByRecursion (MemberHolds (Here files parts met e) (words_of full)) ms → list_all is_word_member ms ≡ true
       → list_all (is_named types enum_types) (map (made_field (targets_of files e)) ms) ≡ true
   members_named e full [] held good = refl
-  members_named e full (m ∷ ms) held good =
-      and_both (is_named types enum_types (made_field (targets_of files e) m)) (list_all (is_named types enum_types) (map (made_field (targets_of files e)) ms))
-      (and_both (is_word_member m) (is_known types enum_types (element_in (targets_of files e) m)) (and_left (is_word_member m) (list_all is_word_member ms) good)
-      (element_known e full (type_name_of m) (element_in (targets_of files e) m) (member_named files parts met e full m held.0)))
-      (members_named e full ms held.1 (and_right (is_word_member m) (list_all is_word_member ms) good))
+  members_named e full (m ∷ ms) held good = search (rules, and_both, is_word_member, and_left, element_known, member_named, and_right, members_named e full ms held.1 (and_right (is_word_member m) (list_all is_word_member ms) good))
 
   abbrev IsNamedType : MessageType → Type 0
   IsNamedType t = (list_all (is_named_field types enum_types) t.fields.items ≡ true) × (list_all (λ text. is_word (string_bytes text)) t.oneofs.items ≡ true)
@@ -172,9 +158,7 @@ module _ (files : List Entry) (parts : Parts) where
   services_named [] [] is good = refl
   services_named [] (s ∷ ss) is good = absurd is
   services_named (x ∷ xs) [] is good = absurd is
-  services_named (x ∷ xs) (s ∷ ss) is good =
-      and_both (is_service (length parts.types.items) s) (list_all (is_service (length parts.types.items)) ss)
-      (methods_named x.0 (string_bytes s.name) (flat_map rpc_in x.1.parts.items) s.methods.items is.0.methods good.0) (services_named xs ss is.1 good.1)
+  services_named (x ∷ xs) (s ∷ ss) is good = search (rules, and_both, methods_named, string_bytes, flat_map, services_named xs ss is.1 good.1)
 
 -- ---- files
 
@@ -187,16 +171,11 @@ entries_good (e ∷ es) parsed = (good_file e.1.tree (file_good e.1.bytes.items 
 
 all_messages_good : (files : List Entry) → AllByRecursion IsGoodEntry files → AllByRecursion (λ (x : Entry × Message). IsGoodMessage x.1) (messages_of files)
 all_messages_good [] h = tt
-all_messages_good (e ∷ es) h =
-    joined_all (λ (x : Entry × Message). IsGoodMessage x.1) (map (λ (m : Message). (e, m)) (file_messages e.1.tree)) (messages_of es) (each_mapped (λ (x : Entry × Message). IsGoodMessage x.1) (λ (m : Message). (e, m)) (file_messages e.1.tree) h.0.messages) (all_messages_good es h.1)
+all_messages_good (e ∷ es) h = search (rules, joined_all, each_mapped, all_messages_good es h.1)
 
 all_services_good : (files : List Entry) → AllByRecursion IsGoodEntry files → AllByRecursion (λ (x : Entry × tree.Service.Service). IsGoodService x.1) (services_of files)
 all_services_good [] h = tt
-all_services_good (e ∷ es) h =
-    let front = flat_map stated_service e.1.tree.statements.items in
-    let behind = flat_map stated_service (statements_behind e.1.tree.packaged) in
-    let own : AllByRecursion IsGoodService (file_services e.1.tree) = joined_all IsGoodService front behind (services_good e.1.tree.statements.items h.0.front) (services_good (statements_behind e.1.tree.packaged) h.0.behind) in
-    joined_all (λ (x : Entry × tree.Service.Service). IsGoodService x.1) (map (λ (s : tree.Service.Service). (e, s)) (file_services e.1.tree)) (services_of es) (each_mapped (λ (x : Entry × tree.Service.Service). IsGoodService x.1) (λ (s : tree.Service.Service). (e, s)) (file_services e.1.tree) own) (all_services_good es h.1)
+all_services_good (e ∷ es) h = search (rules, joined_all, services_good, each_mapped, all_services_good es h.1)
 
 all_enums_good : (all files : List Entry) → AllByRecursion IsGoodEntry files → AllByRecursion IsGoodEnum (flat_map source_enums (map (linked_source all) files))
 all_enums_good all [] h = tt
@@ -227,47 +206,25 @@ abbrev HasWords : EnumType → Type 0
 HasWords e = list_all is_value e.values.items ≡ true
 
 enums_named : (es : List EnumType) (found : List Enum) → map enumeration es ≡ map made_enum found → AllByRecursion IsGoodEnum found → AllByRecursion HasWords es
-enums_named = same_all enumeration made_enum IsGoodEnum HasWords (λ e m is h.
-    sym (list_all-map is_word_value value e.values.items) ∙ (ap (list_all is_word_value) (ap (λ (x : MadeEnum). x.values) is) ∙ values_worded m.tree.parts.items h.body))
+enums_named = search (rules, same_all, list_all-map, values_worded)
 
 -- ---- names in one message, of names that all differ
 
 differ_before : (f : List ℕ → List ℕ) (a b : List ℕ) → differ (f a) (f b) ≡ true → differ a b ≡ true
-differ_before f a b h = by (bytes_eq a b) refl
-  where
-    by : (c : Bool) → bytes_eq a b ≡ c → differ a b ≡ true
-    by true is =
-        let same : a ≡ b = (bytes_eq-Decides a b).0 is in
-        let eq : bytes_eq (f a) (f b) ≡ true = (bytes_eq-Decides (f a) (f b)).1 (ap f same) in
-        absurd (false≢true (ap not (sym eq) ∙ h))
-    by false is = ap not is
+differ_before f a b h = search (rules, bytes_eq-Decides, false≢true)
 
 pub distinct_before : (f : List ℕ → List ℕ) (xs : List (List ℕ)) → are_distinct (map f xs) ≡ true → are_distinct xs ≡ true
 distinct_before f xs h = pairs_weaker (λ a b. differ (f a) (f b)) differ (differ_before f) xs (sym (pairs_of_map differ f xs) ∙ h)
 
 fields_once : (enums : List EnumType) (t : MessageType) → are_distinct (type_names enums t) ≡ true → are_distinct (field_names t.fields.items) ≡ true
-fields_once enums t h =
-    let fields = field_names t.fields.items in
-    let others = map string_bytes t.oneofs.items in
-    let entries = entry_names t.fields.items in
-    let values = values_at enums t.nested_enums.items in
-    let inner : are_distinct (fields ++ others ++ entries ++ values) ≡ true =
-    distinct_before (within (string_bytes t.name)) (fields ++ others ++ entries ++ values)
-    (and_right (list_all (differ (string_bytes t.name)) (map (within (string_bytes t.name)) (fields ++ others ++ entries ++ values))) _ h) in
-    distinct_left fields others (distinct_left (fields ++ others) entries (distinct_left (fields ++ others ++ entries) values inner))
+fields_once enums t h = search (rules, string_bytes, distinct_before, and_right, distinct_left)
 
 all_fields_once : (enums : List EnumType) (ts : List MessageType) → are_distinct (flat_map (type_names enums) ts) ≡ true → AllByRecursion (λ (t : MessageType). are_distinct (field_names t.fields.items) ≡ true) ts
 all_fields_once enums [] h = tt
-all_fields_once enums (t ∷ ts) h =
-    (fields_once enums t (distinct_left (type_names enums t) (flat_map (type_names enums) ts) h), all_fields_once enums ts (distinct_right (type_names enums t) (flat_map (type_names enums) ts) h))
+all_fields_once enums (t ∷ ts) h = search (rules, fields_once, distinct_left, distinct_right, all_fields_once enums ts (distinct_right (type_names enums t) (flat_map (type_names enums) ts) h))
 
 types_distinct : (parts : Parts) → are_distinct (declared_names parts) ≡ true → are_distinct (flat_map (type_names parts.enums.items) parts.types.items) ≡ true
-types_distinct parts h =
-    let types = flat_map (type_names parts.enums.items) parts.types.items in
-    let enum_names = map (λ (e : EnumType). string_bytes e.name) parts.enums.items in
-    let services = flat_map service_names parts.services.items in
-    let files = flat_map (file_names parts.enums.items) parts.files.items in
-    distinct_left types enum_names (distinct_left (types ++ enum_names) services (distinct_left (types ++ enum_names ++ services) files h))
+types_distinct parts h = search (rules, flat_map, string_bytes, distinct_left)
 
 -- ---- the parts
 

@@ -1,5 +1,5 @@
 -- Linked files, as sources.
-use Rattle.std.proofs.Common.{◌≡◌, ◌∙◌, ◌+◌, ℕ, suc, List, [], ◌∷◌, ◌++◌, map, take, slice_get, Option, Some, option_map, ap, sym, arith}
+use Rattle.std.proofs.Common.{◌≡◌, ◌∙◌, ◌+◌, ℕ, suc, List, [], ◌∷◌, ◌++◌, map, take, slice_get, Option, Some, option_map, ap, sym, arith, rules}
 use Rattle.std.proofs.Math.Seq.{take-suc}
 use Rattle.std.proofs.lemmas.List.{map-append}
 use Rattle.std.proofs.lemmas.Option.{get_or_from_slice_get, slice_get_within}
@@ -21,11 +21,7 @@ scoped files e at = option_map (by_scope (enum_places files)) (target_at files e
 -- the file of the code is the one that is linked
 source_is : (files : List Entry) (e : Entry) (s : code.Source) → s.path.now ≡ path_of e → s.text.now ≡ e.1.bytes.items → s.tree.now ≡ e.1.tree
     → ((at : ℕ) → target_in s.targets at ≡ scoped files e at) → source s ≡ linked_source files e
-source_is files e s path text tree targets =
-    ap (λ p. record { path = p; text = s.text.now; tree = s.tree.now; targets = target_in s.targets }) path
-    ∙ (ap (λ t. record { path = path_of e; text = t; tree = s.tree.now; targets = target_in s.targets }) text
-    ∙ (ap (λ t. record { path = path_of e; text = e.1.bytes.items; tree = t; targets = target_in s.targets }) tree
-    ∙ ap (λ g. record { path = path_of e; text = e.1.bytes.items; tree = e.1.tree; targets = g }) (same_functions (target_in s.targets) (scoped files e) targets)))
+source_is files e s path text tree targets = search (rules, same_functions)
 
 pub take_next : {X : Type 0} (xs : List X) (i : ℕ) (x : X) → slice_get xs i ≡ Some x → take (i + 1) xs ≡ take i xs ++ x ∷ []
 take_next xs i x at =

@@ -1,5 +1,5 @@
 -- What holds of each item of a list, and of each two, in whatever order they are.
-use Rattle.std.proofs.Common.{◌≡◌, ◌∙◌, ℕ, zero, suc, ◌<◌, Bool, true, ◌&&◌, nat_eq, cond, List, [], ◌∷◌, ◌++◌, length, map, get_or, arith, sym, ap, subst, refl}
+use Rattle.std.proofs.Common.{◌≡◌, ◌∙◌, ℕ, zero, suc, ◌<◌, Bool, true, nat_eq, cond, List, [], ◌∷◌, ◌++◌, length, map, get_or, arith, ap, refl, rules}
 use Rattle.std.specs.List.{list_all, swap}
 use Rattle.std.specs.List.Sorted.{IsPermutation}
 use Rattle.std.proofs.lemmas.Bool.Decides.{nat_tests}
@@ -8,7 +8,7 @@ use Rattle.std.proofs.lemmas.List.Edits.{length-swap}
 use Rattle.std.proofs.lemmas.List.Folds.{list_all-append, list_all-map}
 use Rattle.std.proofs.lemmas.List.Sorted.{IsPermutation-keeps}
 use Rattle.pg_schema.specs.rules.Pairs.{all_pairs}
-use Rattle.pg_check.proofs.lemmas.rules.NoneLaws.{and_both, and_left, and_right}
+use Rattle.pg_schema.proofs.lemmas.rules.PairLemmas.{and_left, and_right, and_both}
 
 -- ---- each item
 
@@ -35,9 +35,7 @@ origin_apart : (a b i j : ℕ) → (i ≡ j → ⊥) → origin a b i ≡ origin
 origin_apart a b i j ne e = grind (arith, nat_tests)
 
 all_swapped : {A : Type 0} (test : A → Bool) (xs : List A) (a b : ℕ) → a < length xs → b < length xs → list_all test xs ≡ true → list_all test (swap xs a b) ≡ true
-all_swapped test xs a b la lb h = all_from test (swap xs a b) (λ i d li.
-    let within : i < length xs = subst (λ n. i < n) (length-swap xs a b) li in
-    subst (λ u. test u ≡ true) (sym (swapped_at xs a b i d la lb within)) (all_at test xs (origin a b i) d h (origin_within (length xs) a b i la lb within)))
+all_swapped test xs a b la lb h = search (rules, all_from, length-swap, swapped_at, all_at, origin_within)
 
 pub all_moved : {A : Type 0} (test : A → Bool) (xs ys : List A) → IsPermutation xs ys → list_all test xs ≡ true → list_all test ys ≡ true
 all_moved test xs ys moved h = IsPermutation-keeps xs (λ zs. list_all test zs ≡ true) h (λ zs a b la lb k. all_swapped test zs a b la lb k) ys moved
@@ -66,12 +64,7 @@ pairs_from_each test (x ∷ xs) h =
     (pairs_from_each test xs (λ i j d li lj ne. h (suc i) (suc j) d (omega (arith, li)) (omega (arith, lj)) (λ e. ne (omega (arith, e)))))
 
 swap_keeps : {A : Type 0} (test : A → A → Bool) (xs : List A) (a b : ℕ) → a < length xs → b < length xs → EachTwo test xs → EachTwo test (swap xs a b)
-swap_keeps test xs a b la lb h i j d li lj ne =
-    let within_i : i < length xs = subst (λ n. i < n) (length-swap xs a b) li in
-    let within_j : j < length xs = subst (λ n. j < n) (length-swap xs a b) lj in
-    subst (λ u. test u (get_or (swap xs a b) j d) ≡ true) (sym (swapped_at xs a b i d la lb within_i))
-    (subst (λ u. test (get_or xs (origin a b i) d) u ≡ true) (sym (swapped_at xs a b j d la lb within_j))
-    (h (origin a b i) (origin a b j) d (origin_within (length xs) a b i la lb within_i) (origin_within (length xs) a b j la lb within_j) (origin_apart a b i j ne)))
+swap_keeps test xs a b la lb h i j d li lj ne = search (rules, length-swap, swapped_at, origin_within, origin_apart)
 
 pub pairs_moved : {A : Type 0} (test : A → A → Bool) → IsSymmetric test → (xs ys : List A) → IsPermutation xs ys → all_pairs test xs ≡ true → all_pairs test ys ≡ true
 pairs_moved test same xs ys moved h =
@@ -97,5 +90,4 @@ pairs_weaker p q f (x ∷ xs) h = and_both _ _ (all_weaker (p x) (q x) (f x) xs 
 
 pub pairs_of_map : {A B : Type 0} (test : B → B → Bool) (f : A → B) (xs : List A) → all_pairs test (map f xs) ≡ all_pairs (λ x y. test (f x) (f y)) xs
 pairs_of_map test f [] = refl
-pairs_of_map test f (x ∷ xs) =
-    ap (λ b. b && all_pairs test (map f xs)) (list_all-map (test (f x)) f xs) ∙ ap (λ b. list_all (λ y. test (f x) (f y)) xs && b) (pairs_of_map test f xs)
+pairs_of_map test f (x ∷ xs) = search (rules, list_all-map, pairs_of_map test f xs)

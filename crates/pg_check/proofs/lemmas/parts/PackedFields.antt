@@ -1,13 +1,10 @@
 -- What the rules say of a type name by its first byte, of linked files, is what it means.
-use Rattle.std.proofs.Common.{◌≡◌, ◌∙◌, ◌↔◌, ℕ, Bool, true, false, cond, ◌&&◌, List, [], ◌∷◌, map, Option, Some, None, option_map, sym, ap, subst, refl}
+use Rattle.std.proofs.Common.{◌≡◌, ◌∙◌, ◌↔◌, ℕ, true, List, [], ◌∷◌, map, Option, Some, None, option_map, ap, refl, arith, rules}
 use Rattle.std.specs.List.{AllByRecursion}
 use Rattle.std.specs.Option.{option_and_then}
 use Rattle.std.proofs.lemmas.Bool.{false≢true}
 use Rattle.std.proofs.lemmas.List.Elements.{recursion_from_All}
 use Rattle.std.proofs.lemmas.Option.{same_Some}
-use Rattle.pg_schema.specs.declared.parts.field.Element.TheVariants as elements
-use Rattle.pg_schema.specs.declared.parts.field.Scalar.{Scalar}
-use Rattle.pg_schema.specs.Shape.{is_packable}
 use Rattle.pg_link.specs.declared.names.Kind.{Kind}
 use Rattle.pg_link.specs.declared.names.Kind.TheVariants as kinds
 use Rattle.pg_link.specs.declared.uses.target.Target.{Target}
@@ -15,15 +12,15 @@ use Rattle.pg_link.specs.declared.uses.target.Target.TheVariants as targets
 use Rattle.pg_link.specs.names.Files.{Declared, visible_names}
 use Rattle.pg_link.specs.Linked.{IsLinkedUp, LinkedFiles}
 use Rattle.pg_link.specs.names.Names.{Text}
-use Rattle.pg_link.specs.names.Resolves.{found, reference}
-use Rattle.pg_link.specs.uses.Targets.{all_declared, number_in, enum_names, message_names, numbered, target_at, target_in, use_at}
-use Rattle.pg_link.specs.uses.Uses.{Use, field_uses, file_uses, in_field, is_scalar}
+use Rattle.pg_link.specs.names.Resolves.{found}
+use Rattle.pg_link.specs.uses.Targets.{all_declared, numbered, target_at, target_in, use_at}
+use Rattle.pg_link.specs.uses.Uses.{Use, field_uses, file_uses, in_field}
 use Rattle.pg_link.specs.walk.Walk.{Entry, IsParsed, outlines, path_of}
+use Rattle.pg_schema.proofs.lemmas.rules.PairLemmas.{and_left, and_right, and_both}
 use Rattle.pg_check.specs.parts.EnumPlaces.{by_scope, enum_places}
-use Rattle.pg_check.specs.parts.PackedFields.{ArePackedByMeaning, IsPackable, IsPackedByMeaning, MayBePacked, ResolvesToEnum}
+use Rattle.pg_check.specs.parts.PackedFields.{ArePackedByMeaning, IsPackable, IsPackedByMeaning, ResolvesToEnum}
 use Rattle.pg_check.specs.parts.ResolvedTypes.{messages_of, words_of}
-use Rattle.pg_check.specs.rules.Members.{DeclaredField, Mapped, Plain, members}
-use Rattle.pg_check.specs.rules.Messages.{is_repeated}
+use Rattle.pg_check.specs.rules.Members.{DeclaredField, members}
 use Rattle.pg_check.specs.rules.Outline.{Message, file_messages}
 use Rattle.pg_check.specs.rules.Types.{is_enum, is_packable as may_be, scalar_named}
 use Rattle.pg_check.proofs.lemmas.parts.Eachs.{each_mapped, each_weaker, joined_all}
@@ -33,12 +30,10 @@ use Rattle.pg_check.proofs.lemmas.parts.uses.ResolvedUses.{MemberHolds, MessageH
 use Rattle.pg_check.proofs.lemmas.parts.uses.UsesRise.{uses_found}
 use Rattle.pg_check.proofs.lemmas.parts.names.WordTrees.{file_good}
 use Rattle.pg_check.proofs.lemmas.parts.names.WordedFiles.{IsGoodFile, good_file}
-use Rattle.pg_check.proofs.lemmas.rules.NoneLaws.{and_both, and_left, and_right}
 use Rattle.pg_syntax.specs.declared.tree as tree
 
 made_of : (make : ℕ → Target) (o : Option ℕ) (t : Target) → option_map make o ≡ Some t → (n : ℕ) × (make n ≡ t)
-made_of make None t h = absurd (cc (h))
-made_of make (Some n) t h = let same : make n ≡ t = cc (h) in (n, same)
+made_of make o t h = grind arith
 
 kind_of : (f g : Text × Kind) → Some f ≡ Some g → f.1 ≡ g.1
 kind_of f g h = ap (λ (m : Text × Kind). m.1) (same_Some f g h)
@@ -52,19 +47,7 @@ module _ (files : List Entry) where
 
   -- an enum's number is that of an enum's name
   kind_says : (full : Text) (k : Kind) (t : Target) → numbered all true full k ≡ Some t → (is_enum (here t) ≡ true) ↔ (k ≡ kinds.Enum)
-  kind_says full kinds.Enum t is =
-      let (n, same) = made_of targets.Enum (number_in (enum_names all) full) t is in
-      ((λ h. refl), λ h. ap (λ s. is_enum (here s)) (sym same))
-  kind_says full kinds.Message t is =
-      let (n, same) = made_of targets.Message (number_in (message_names all) full) t is in
-      ((λ h. absurd (false≢true (ap (λ s. is_enum (here s)) same ∙ h))), λ h. absurd (cc (h)))
-  kind_says full kinds.Entry t is = absurd (cc (is))
-  kind_says full kinds.Package t is = absurd (cc (is))
-  kind_says full kinds.Value t is = absurd (cc (is))
-  kind_says full kinds.Field t is = absurd (cc (is))
-  kind_says full kinds.Oneof t is = absurd (cc (is))
-  kind_says full kinds.Service t is = absurd (cc (is))
-  kind_says full kinds.Method t is = absurd (cc (is))
+  kind_says full k t is = grind (arith, made_of, false≢true)
 
   -- what a use means, and what is found at its byte
   pub record IsMeant (e : Entry) (u : Use) : Type 0 where
@@ -97,28 +80,14 @@ module _ (files : List Entry) where
   -- ---- a field
 
   name_says : (e : Entry) (scope : List ℕ) (name : tree.TypeName.TypeName) → IsMeant e (in_field (words_of scope) name) → (is_enum (targets_of files e name.span.from) ≡ true) ↔ ResolvesToEnum files e scope name
-  name_says e scope name h =
-      let says = kind_says h.full h.kind h.target h.is_numbered in
-      let there : is_enum (targets_of files e name.span.from) ≡ is_enum (here h.target) = ap (λ o. is_enum (option_map (by_scope (enum_places files)) o)) h.at in (
-        (λ is. record { full = h.full; is_enum = subst (λ k. found (visible_names (outlines files) (path_of e)) (words_of scope) (reference name) ≡ Some (h.full, k)) (says.0 (sym there ∙ is)) h.is_found }),
-        λ r. there ∙ says.1 (kind_of (h.full, h.kind) (r.full, kinds.Enum) (sym h.is_found ∙ r.is_enum)),
-      )
+  name_says e scope name h = search (rules, kind_says, kind_of)
 
   type_says : (e : Entry) (scope : List ℕ) (name : tree.TypeName.TypeName) → AllByRecursion (IsMeant e) (field_uses (words_of scope) name)
       → (may_be (scalar_named name) (targets_of files e name.span.from) ≡ true) ↔ IsPackable (scalar_named name) (ResolvesToEnum files e scope name)
-  type_says e scope name h = by (scalar_named name) refl
-    where
-      by : (o : Option Scalar) → scalar_named name ≡ o → (may_be o (targets_of files e name.span.from) ≡ true) ↔ IsPackable o (ResolvesToEnum files e scope name)
-      by (Some s) is = ((λ k. k), λ k. k)
-      by None is = name_says e scope name (subst (λ b. AllByRecursion (IsMeant e) (cond b [] (in_field (words_of scope) name ∷ []))) (no_scalar name is) h).0
+  type_says e scope name h = search (rules, targets_of, name_says, no_scalar)
 
   member_says : (e : Entry) (scope : List ℕ) (m : DeclaredField) → MemberHolds (IsMeant e) (words_of scope) m → IsPackedByMeaning files e scope m
-  member_says e scope (Plain f oneof) h =
-      let says = type_says e scope f.type_name h in (
-        (λ k. (and_left _ _ k, says.0 (and_right (is_repeated f.label) _ k))),
-        λ k. and_both _ _ k.0 (says.1 k.1),
-      )
-  member_says e scope (Mapped m oneof) h = ((λ k. false≢true k), λ k. absurd k)
+  member_says e scope m h = grind (arith, type_says, and_left, and_right, and_both, false≢true)
 
   -- ---- files
 
@@ -136,8 +105,7 @@ module _ (files : List Entry) where
   files_say : (es : List Entry) → AllByRecursion (λ (e : Entry). IsParsed e.1.bytes.items e.1.tree) es → AllByRecursion (λ e. AllByRecursion (HasTarget (resolve_in files e)) (file_uses e.1.tree)) es
       → AllByRecursion IsSaid (messages_of es)
   files_say [] parsed resolved = tt
-  files_say (e ∷ es) parsed resolved =
-      joined_all IsSaid (map (λ (m : Message). (e, m)) (file_messages e.1.tree)) (messages_of es) (file_says e parsed.0 resolved.0) (files_say es parsed.1 resolved.1)
+  files_say (e ∷ es) parsed resolved = search (rules, joined_all, file_says, files_say es parsed.1 resolved.1)
 
 pub packed_fields : (l : LinkedFiles) → IsLinkedUp l → ArePackedByMeaning l.files
 packed_fields l up =

@@ -5,8 +5,8 @@ use Rattle.std.specs.List.Sorted.{IsPermutation, IsNonDecreasingBy}
 use Rattle.std.proofs.lemmas.Bool.Decides.{nat_tests}
 use Rattle.std.proofs.lemmas.List.Sorted.{IsPermutation-map}
 use Rattle.pg_schema.specs.rules.Pairs.{all_pairs, is_rising}
+use Rattle.pg_schema.proofs.lemmas.rules.PairLemmas.{and_left, and_right, and_both}
 use Rattle.pg_check.proofs.lemmas.parts.Moved.{IsSymmetric, pairs_moved}
-use Rattle.pg_check.proofs.lemmas.rules.NoneLaws.{and_both, and_left, and_right}
 use Rattle.pg_check.proofs.lemmas.parts.UsesApart.{two_apart}
 
 pub two_symmetric : IsSymmetric two_apart

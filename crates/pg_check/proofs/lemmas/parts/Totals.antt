@@ -1,5 +1,5 @@
 -- Sums over lists, and how often a name is in one.
-use Rattle.std.proofs.Common.{◌≡◌, ◌∙◌, ℕ, ◌+◌, ◌≤◌, Bool, true, false, cond, not, List, [], ◌∷◌, ◌++◌, map, flat_map, sym, ap, subst, refl, arith}
+use Rattle.std.proofs.Common.{◌≡◌, ◌∙◌, ℕ, ◌+◌, ◌≤◌, Bool, true, false, cond, List, [], ◌∷◌, ◌++◌, map, flat_map, sym, ap, subst, refl, arith, rules}
 use Rattle.std.specs.List.{list_all, sum_by, AllByRecursion}
 use Rattle.std.specs.List.Sorted.{IsPermutation}
 use Rattle.std.specs.Str.{bytes_eq}
@@ -8,7 +8,7 @@ use Rattle.std.proofs.lemmas.List.Sorted.{sum_by-IsPermutation}
 use Rattle.std.proofs.lemmas.List.Sums.{sum_by-cons}
 use Rattle.std.proofs.lemmas.Slice.Eq.{bytes_eq-Decides}
 use Rattle.pg_schema.specs.rules.Pairs.{are_distinct, differ}
-use Rattle.pg_check.proofs.lemmas.rules.NoneLaws.{and_both}
+use Rattle.pg_schema.proofs.lemmas.rules.PairLemmas.{and_both}
 
 abbrev pub total : {X : Type 0} → (X → ℕ) → List X → ℕ
 total f [] = 0
@@ -67,11 +67,7 @@ pub same_one : (x : List ℕ) → one x x ≡ 1
 same_one x = ap as_one ((bytes_eq-Decides x x).1 refl)
 
 pub one_from : (x y : List ℕ) → (x ≡ y → ⊥) → one x y ≡ 0
-one_from x y other = by (bytes_eq x y) refl
-  where
-    by : (b : Bool) → bytes_eq x y ≡ b → as_one b ≡ 0
-    by true is = absurd (other ((bytes_eq-Decides x y).0 is))
-    by false is = refl
+one_from x y other = search (rules, bytes_eq-Decides)
 
 -- a name that is nowhere differs from each
 absent : (x : List ℕ) (ys : List (List ℕ)) → times x ys ≡ 0 → list_all (differ x) ys ≡ true
@@ -80,10 +76,7 @@ absent x (y ∷ ys) h = by (bytes_eq x y) refl (λ none. absent x ys none)
   where
     by : (b : Bool) → bytes_eq x y ≡ b → (times x ys ≡ 0 → list_all (differ x) ys ≡ true) → list_all (differ x) (y ∷ ys) ≡ true
     by true is others = let first : one x y ≡ 1 = ap as_one is in absurd (omega (arith, first, h))
-    by false is others =
-        let first : one x y ≡ 0 = ap as_one is in
-        let rest : times x ys ≡ 0 = omega (arith, first, h) in
-        and_both (differ x y) (list_all (differ x) ys) (ap not is) (others rest)
+    by false is others = search (rules, and_both)
 
 pub distinct_from_times : (xs : List (List ℕ)) → ((x : List ℕ) → times x xs ≤ 1) → are_distinct xs ≡ true
 distinct_from_times [] h = refl
@@ -115,14 +108,5 @@ once_there f q [] h = absurd (omega (arith, h))
 once_there f q (s ∷ ss) h = by (bytes_eq s q) refl (λ once. once_there f q ss once)
   where
     by : (b : Bool) → bytes_eq s q ≡ b → (times q ss ≡ 1 → total (at_text f q) ss ≡ f q) → cond b (f s) 0 + total (at_text f q) ss ≡ f q
-    by true is next =
-        let first : one q s ≡ 1 = one_alike q s is in
-        let rest : times q ss ≡ 0 = omega (arith, first, h) in
-        let others : total (at_text f q) ss ≡ 0 = none_there f q ss rest in
-        let same : f s ≡ f q = ap f ((bytes_eq-Decides s q).0 is) in
-        omega (arith, others, same)
-    by false is next =
-        let first : one q s ≡ 0 = one_from q s (λ same. false≢true (sym is ∙ (bytes_eq-Decides s q).1 (sym same))) in
-        let rest : times q ss ≡ 1 = omega (arith, first, h) in
-        let others : total (at_text f q) ss ≡ f q = next rest in
-        omega (arith, others)
+    by true is next = search (rules, one_alike, none_there, bytes_eq-Decides)
+    by false is next = search (rules, one_from, false≢true, bytes_eq-Decides)

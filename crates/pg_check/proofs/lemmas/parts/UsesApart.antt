@@ -1,17 +1,17 @@
 -- Numbers that are declared and numbers that are reserved, as a schema has them: none is there twice.
-use Rattle.std.proofs.Common.{◌≡◌, ◌∙◌, ℕ, ◌+◌, Bool, true, false, not, ◌&&◌, ◌||◌, nat_lt, nat_le, nat_eq, List, [], ◌∷◌, ◌++◌, map, sym, arith, refl}
+use Rattle.std.proofs.Common.{◌≡◌, ℕ, ◌+◌, Bool, true, not, ◌&&◌, ◌||◌, nat_lt, nat_le, nat_eq, List, [], ◌∷◌, ◌++◌, map, arith, refl, rules}
 use Rattle.std.specs.List.{list_all, list_any}
 use Rattle.std.proofs.lemmas.Bool.{false≢true}
 use Rattle.std.proofs.lemmas.Bool.Decides.{nat_tests}
 use Rattle.std.proofs.lemmas.List.Folds.{list_all-map}
 use Rattle.pg_schema.specs.rules.Pairs.{all_pairs}
+use Rattle.pg_schema.proofs.lemmas.rules.PairLemmas.{and_left, and_right, and_both}
 use Rattle.pg_check.specs.declared.rules.numbers.Keyed.{Keyed}
 use Rattle.pg_check.specs.declared.rules.numbers.Numbers.{Numbers}
 use Rattle.pg_check.specs.rules.KeepsRules.{are_apart, is_free, lies_within, rises}
 use Rattle.pg_check.specs.rules.Numbers.{is_in, is_same, is_within}
 use Rattle.pg_check.specs.rules.ReservedItems.{overlap}
 use Rattle.pg_check.proofs.lemmas.parts.Moved.{all_weaker, pairs_joined, pairs_of_map, pairs_weaker}
-use Rattle.pg_check.proofs.lemmas.rules.NoneLaws.{and_both, and_left, and_right}
 
 -- ---- two numbers, two ranges, and a number and a range
 
@@ -40,9 +40,7 @@ module _ (lowest highest base : ℕ) (conv : ℕ → ℕ) (counts : (r : ℕ) �
 
   key_apart : (j : Keyed) (ks : List Keyed) → within j ≡ true → list_all within ks ≡ true → list_all (λ k. not (is_same k j)) ks ≡ true → list_all (two_apart (number j)) (map number ks) ≡ true
   key_apart j [] wj ws h = refl
-  key_apart j (k ∷ ks) wj ws h =
-      and_both _ _ (apart_numbers j.key k.key (conv j.key) (conv k.key) (counts j.key wj) (counts k.key (and_left _ _ ws)) (and_left _ _ h))
-      (key_apart j ks wj (and_right (within k) _ ws) (and_right (not (is_same k j)) _ h))
+  key_apart j (k ∷ ks) wj ws h = search (rules, and_both, apart_numbers, and_left, and_right, key_apart j ks wj (and_right (within k) _ ws) (and_right (not (is_same k j)) _ h))
 
   pub keys_apart : (ks : List Keyed) → list_all within ks ≡ true → are_apart is_same ks ≡ true → all_pairs two_apart (map number ks) ≡ true
   keys_apart [] ws h = refl
@@ -57,16 +55,12 @@ module _ (lowest highest base : ℕ) (conv : ℕ → ℕ) (counts : (r : ℕ) �
   apart_four a b c d s t u v e f g i p q h = grind (arith, nat_tests)
 
   two_items : (q r : Numbers) → lies_within lowest highest q ≡ true → lies_within lowest highest r ≡ true → rises q ≡ true → rises r ≡ true → not (overlap r q) ≡ true → ranges_apart (range q) (range r) ≡ true
-  two_items q r wq wr uq ur h =
-      apart_four q.first q.last r.first r.last (conv q.first) (conv q.last) (conv r.first) (conv r.last)
-      (counts q.first (and_left _ _ wq)) (counts q.last (and_right (is_within lowest highest q.first) _ wq)) (counts r.first (and_left _ _ wr)) (counts r.last (and_right (is_within lowest highest r.first) _ wr)) uq ur h
+  two_items q r wq wr uq ur h = search (rules, apart_four, and_left, and_right)
 
   item_apart : (q : Numbers) (rs : List Numbers) → lies_within lowest highest q ≡ true → rises q ≡ true → list_all (lies_within lowest highest) rs ≡ true → list_all rises rs ≡ true
       → list_all (λ r. not (overlap r q)) rs ≡ true → list_all (ranges_apart (range q)) (map range rs) ≡ true
   item_apart q [] wq uq ws us h = refl
-  item_apart q (r ∷ rs) wq uq ws us h =
-      and_both _ _ (two_items q r wq (and_left _ _ ws) uq (and_left _ _ us) (and_left _ _ h))
-      (item_apart q rs wq uq (and_right (lies_within lowest highest r) _ ws) (and_right (rises r) _ us) (and_right (not (overlap r q)) _ h))
+  item_apart q (r ∷ rs) wq uq ws us h = search (rules, and_both, two_items, and_left, and_right, item_apart q rs wq uq (and_right (lies_within lowest highest r) _ ws) (and_right (rises r) _ us) (and_right (not (overlap r q)) _ h))
 
   pub items_apart : (rs : List Numbers) → list_all (lies_within lowest highest) rs ≡ true → list_all rises rs ≡ true → are_apart overlap rs ≡ true → all_pairs ranges_apart (map range rs) ≡ true
   items_apart [] ws us h = refl
@@ -80,8 +74,7 @@ module _ (lowest highest base : ℕ) (conv : ℕ → ℕ) (counts : (r : ℕ) �
   apart_from n a b u s t e f g h i = grind (arith, nat_tests)
 
   not_either : (a b : Bool) → not (a || b) ≡ true → (not a ≡ true) × (not b ≡ true)
-  not_either true b h = absurd (false≢true h)
-  not_either false b h = (refl, h)
+  not_either a b h = grind (arith, false≢true)
 
   key_free : (k : Keyed) (rs : List Numbers) → within k ≡ true → list_all (lies_within lowest highest) rs ≡ true → list_all rises rs ≡ true → is_free rs k ≡ true → list_all (is_outside (number k)) (map range rs) ≡ true
   key_free k [] wk ws us h = refl
@@ -95,24 +88,16 @@ module _ (lowest highest base : ℕ) (conv : ℕ → ℕ) (counts : (r : ℕ) �
   pub keys_free : (ks : List Keyed) (rs : List Numbers) → list_all within ks ≡ true → list_all (lies_within lowest highest) rs ≡ true → list_all rises rs ≡ true → list_all (is_free rs) ks ≡ true
       → list_all (λ n. list_all (is_outside n) (map range rs)) (map number ks) ≡ true
   keys_free [] rs wk ws us h = refl
-  keys_free (k ∷ ks) rs wk ws us h =
-      and_both _ _ (key_free k rs (and_left _ _ wk) ws us (and_left _ _ h)) (keys_free ks rs (and_right (within k) _ wk) ws us (and_right (is_free rs k) _ h))
+  keys_free (k ∷ ks) rs wk ws us h = search (rules, and_both, key_free, and_left, and_right, keys_free ks rs (and_right (within k) _ wk) ws us (and_right (is_free rs k) _ h))
 
 -- ---- uses of a schema
 
 pub or_first : (a b : Bool) → a ≡ true → (a || b) ≡ true
-or_first true b h = refl
-or_first false b h = absurd (false≢true h)
+or_first a b h = grind (arith, false≢true)
 
 -- what is declared and what is reserved, of which no two share a number
 pub all_uses : {U X R : Type 0} (beside : U → U → Bool) (use_of : X → U) (reserves : R → U) (number_of : X → ℕ) (span : R → ℕ × ℕ)
     → ((p q : R) → ranges_apart (span p) (span q) ≡ true → beside (reserves p) (reserves q) ≡ true) → ((x : X) (p : R) → is_outside (number_of x) (span p) ≡ true → beside (use_of x) (reserves p) ≡ true)
     → (xs : List X) (rs : List R) → all_pairs (λ x y. beside (use_of x) (use_of y)) xs ≡ true → all_pairs ranges_apart (map span rs) ≡ true
     → list_all (λ n. list_all (is_outside n) (map span rs)) (map number_of xs) ≡ true → all_pairs beside (map use_of xs ++ map reserves rs) ≡ true
-all_uses beside use_of reserves number_of span two out xs rs h k m =
-    pairs_joined beside (map use_of xs) (map reserves rs) (pairs_of_map beside use_of xs ∙ h)
-    (pairs_of_map beside reserves rs ∙ pairs_weaker (λ p q. ranges_apart (span p) (span q)) (λ p q. beside (reserves p) (reserves q)) two rs (sym (pairs_of_map ranges_apart span rs) ∙ k))
-    (list_all-map (λ w. list_all (beside w) (map reserves rs)) use_of xs
-    ∙ all_weaker (λ x. list_all (is_outside (number_of x)) (map span rs)) (λ x. list_all (beside (use_of x)) (map reserves rs)) (λ x l. list_all-map (beside (use_of x)) reserves rs
-    ∙ all_weaker (λ p. is_outside (number_of x) (span p)) (λ p. beside (use_of x) (reserves p)) (out x) rs (sym (list_all-map (is_outside (number_of x)) span rs) ∙ l)) xs
-    (sym (list_all-map (λ n. list_all (is_outside n) (map span rs)) number_of xs) ∙ m))
+all_uses beside use_of reserves number_of span two out xs rs h k m = search (rules, pairs_joined, pairs_of_map, pairs_weaker, list_all-map, all_weaker)

@@ -1,5 +1,5 @@
 -- What is reported of files is a rule that the first of them breaks which breaks one, and each rule that it breaks comes no earlier.
-use Rattle.std.proofs.Common.{◌≡◌, ◌∙◌, ◌+◌, ◌-◌, ℕ, List, [], ◌∷◌, ◌++◌, length, flat_map, Option, Some, None, slice_get, sym, ap, subst, refl, arith, length-append}
+use Rattle.std.proofs.Common.{◌≡◌, ◌∙◌, ◌+◌, ◌-◌, ℕ, List, [], ◌∷◌, ◌++◌, length, flat_map, Option, Some, None, slice_get, sym, ap, subst, refl, arith, length-append, rules}
 use Rattle.pg_link.specs.declared.error.Place.{Place}
 use Rattle.pg_link.specs.walk.Walk.{IsPlace}
 use Rattle.pg_check.specs.declared.declare.FileFault.{FileFault}
@@ -111,10 +111,7 @@ reported ss e h =
 
 none_at : (left place : ℕ) (before after : List Source) (s : Source) → files_fault left place (before ++ s ∷ after) ≡ None
     → files.file_fault s.targets (left - length (flat_map source_messages before)) s.tree ≡ None
-none_at left place [] after s none =
-    let whole : left - 0 ≡ left = omega arith in
-    let mine = (in_file_none place (files.file_fault s.targets left s.tree) (files_fault (left - length (file_messages s.tree)) (place + 1) after)).0 none in
-    ap (λ n. files.file_fault s.targets n s.tree) whole ∙ mine.0
+none_at left place [] after s none = search (rules, in_file_none)
 none_at left place (b ∷ bs) after s none =
     let mine = file_messages b.tree in
     let theirs = flat_map source_messages bs in

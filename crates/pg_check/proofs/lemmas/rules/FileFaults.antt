@@ -1,5 +1,5 @@
 -- The first rule that files break, one file after the other.
-use Rattle.std.proofs.Common.{◌≡◌, ◌∙◌, ℕ, suc, arith, ◌+◌, ◌-◌, ◌<◌, List, [], ◌∷◌, map, drop, get_or, length, Option, Some, None, sym, ap}
+use Rattle.std.proofs.Common.{◌≡◌, ◌∙◌, ℕ, ◌+◌, ◌-◌, ◌<◌, List, [], ◌∷◌, map, drop, get_or, length, Option, Some, None, sym, ap, rules}
 use Rattle.pg_check.specs.declared.declare.FileFault.{FileFault}
 use Rattle.pg_check.specs.declared.rules.fault.Fault.{Fault}
 use Rattle.pg_check.specs.declared.parts.made_parts.Source as code
@@ -36,9 +36,4 @@ next_file left place next files i x f whole h is of none goes before =
 -- the file whose fault is reported is one of them
 pub fault_within : (left place : ℕ) (ss : List Source) (f : FileFault) → files_fault left place ss ≡ Some f → f.file < place + length ss
 fault_within left place [] f h = absurd (cc (h))
-fault_within left place (s ∷ ss) f h = by (file_fault s.targets left s.tree) h (fault_within (left - length (file_messages s.tree)) (place + 1) ss f)
-  where
-    by : (o : Option Fault) → in_file place o (files_fault (left - length (file_messages s.tree)) (place + 1) ss) ≡ Some f
-        → (files_fault (left - length (file_messages s.tree)) (place + 1) ss ≡ Some f → f.file < place + 1 + length ss) → f.file < place + suc (length ss)
-    by None h k = let less = k h in omega (arith, less)
-    by (Some x) h k = let same : record { file = place; fault = x } ≡ f = cc (h) in let at : place ≡ f.file = ap (λ (g : FileFault). g.file) same in omega (arith, at)
+fault_within left place (s ∷ ss) f h = search (rules, fault_within (left - length (file_messages s.tree)) (place + 1) ss f)

@@ -1,16 +1,17 @@
 -- The fault that is chosen of several, and that of a list: what is said of each is said of it, and it comes after none.
-use Rattle.std.proofs.Common.{◌≡◌, ◌∙◌, inl, inr, ℕ, Bool, true, false, cond, not, nat_lt, nat_le, nat_eq, ◌&&◌, ◌||◌, List, [], ◌∷◌, ◌++◌, Option, Some, None, sym, ap, subst, refl, arith}
+use Rattle.std.proofs.Common.{◌≡◌, ◌∙◌, inr, ℕ, Bool, true, false, cond, not, nat_lt, nat_le, nat_eq, ◌&&◌, ◌||◌, List, [], ◌∷◌, ◌++◌, Option, Some, None, sym, ap, subst, refl, arith, rules}
 use Rattle.std.specs.List.{list_all, list_any, AllByRecursion}
 use Rattle.std.proofs.lemmas.Bool.{false≢true}
 use Rattle.std.proofs.lemmas.Bool.Decides.{nat_tests}
 use Rattle.std.proofs.lemmas.List.{append-nil, append_assoc}
+use Rattle.pg_schema.proofs.lemmas.rules.PairLemmas.{and_left, and_right, and_both}
 use Rattle.pg_check.specs.declared.rules.fault.Fault.{Fault}
 use Rattle.pg_check.specs.declared.rules.fault.Rule.{Rule}
-use Rattle.pg_check.specs.inner.Faults.{broken, broken_at, chosen, earlier, earliest, first_fault, is_before, option_fault, or_else, order, declared_fault}
+use Rattle.pg_check.specs.inner.Faults.{broken, broken_at, chosen, earlier, earliest, first_fault, is_before, or_else, order}
 use Rattle.pg_check.specs.rules.Firsts.{IsBehind, IsFirst, IsFirstAgain, IsNotAfter, IsOneOf}
 use Rattle.pg_check.specs.inner.NumberFaults.{first_again, first_such}
 use Rattle.pg_check.proofs.lemmas.rules.FirstLaws.{new_item, old_item}
-use Rattle.pg_check.proofs.lemmas.rules.NoneLaws.{and_both, and_left, and_right, none_again}
+use Rattle.pg_check.proofs.lemmas.rules.NoneLaws.{none_again}
 
 -- ---- what is said of a fault, if there is one
 
@@ -30,8 +31,7 @@ earlier_meets P (Some a) (Some b) one other f h = by (is_before a b) h
     by false e = other f e
 
 pub broken_meets : (P : Fault → Type 0) (rule : Rule) (o : Option ℕ) → ((n : ℕ) → o ≡ Some n → P (broken_at rule n)) → Meets P (broken rule o)
-broken_meets P rule None k f h = absurd (cc (h))
-broken_meets P rule (Some n) k f h = let same : broken_at rule n ≡ f = cc (h) in subst P same (k n refl)
+broken_meets P rule o k f h = grind arith
 
 behind_more : {X : Type 0} (Keeps : X → Type 0) (x : X) (xs : List X) (y : X) → Keeps x → IsBehind Keeps xs y → IsBehind Keeps (x ∷ xs) y
 behind_more Keeps x xs y keeps h = record { before = x ∷ h.before; after = h.after; is = ap (λ ys. x ∷ ys) h.is; before_keep = (keeps, h.before_keep) }
@@ -63,10 +63,7 @@ IsFound None declared code = ⊥
 IsFound (Some f) declared code = IsNotAfter f.declared (order f.rule) declared code
 
 through : (a b c d e f : ℕ) → IsNotAfter a b c d → IsNotAfter c d e f → IsNotAfter a b e f
-through a b c d e f (inl h) (inl k) = inl (omega (arith, h, k))
-through a b c d e f (inl h) (inr k) = let i = k.0 in inl (omega (arith, h, i))
-through a b c d e f (inr h) (inl k) = let i = h.0 in inl (omega (arith, i, k))
-through a b c d e f (inr h) (inr k) = let i = h.1 in let j = k.1 in inr (h.0 ∙ k.0, omega (arith, i, j))
+through a b c d e f h7 h8 = grind arith
 
 before_is : (a b c d : ℕ) → (nat_lt a c || (nat_eq a c && nat_le b d)) ≡ false → IsNotAfter c d a b
 before_is a b c d h = grind (arith, nat_tests)
@@ -96,19 +93,16 @@ pub broken_found : (rule : Rule) (o : Option ℕ) (n : ℕ) → o ≡ Some n →
 broken_found rule o n h = subst (λ p. IsFound (broken rule p) n (order rule)) (sym h) (inr (refl, omega arith))
 
 or_else_found : (a b : Option Fault) (d c : ℕ) → IsFound a d c → IsFound (or_else a b) d c
-or_else_found None b d c h = absurd h
-or_else_found (Some f) b d c h = h
+or_else_found a b d c h = grind arith
 
 found_behind : {X : Type 0} (fault : X → Option Fault) (Keeps : X → Type 0) → ((x : X) → Keeps x → fault x ≡ None) → (before after : List X) (x : X) (d c : ℕ)
     → AllByRecursion Keeps before → IsFound (fault x) d c → IsFound (first_fault fault (before ++ x ∷ after)) d c
 found_behind fault Keeps none [] after x d c keep h = or_else_found (fault x) (first_fault fault after) d c h
-found_behind fault Keeps none (y ∷ ys) after x d c keep h =
-    subst (λ o. IsFound (or_else o (first_fault fault (ys ++ x ∷ after))) d c) (sym (none y keep.0)) (found_behind fault Keeps none ys after x d c keep.1 h)
+found_behind fault Keeps none (y ∷ ys) after x d c keep h = search (rules, found_behind fault Keeps none ys after x d c keep.1 h)
 
 pub first_found : {X : Type 0} (fault : X → Option Fault) (Keeps : X → Type 0) → ((x : X) → Keeps x → fault x ≡ None) → (xs : List X) (x : X) (d c : ℕ)
     → IsBehind Keeps xs x → IsFound (fault x) d c → IsFound (first_fault fault xs) d c
-first_found fault Keeps none xs x d c b h =
-    subst (λ ys. IsFound (first_fault fault ys) d c) (sym b.is) (found_behind fault Keeps none b.before b.after x d c b.before_keep h)
+first_found fault Keeps none xs x d c b h = search (rules, found_behind)
 
 found_stays : {X : Type 0} (fault : X → Option Fault) (found : Option Fault) (xs : List X) (d c : ℕ) → IsFound found d c → IsFound (earliest fault found xs) d c
 found_stays fault found [] d c h = h
@@ -142,17 +136,8 @@ such_reported P test keeps place iff (x ∷ xs) k n h = by (test x) (iff x) h (s
 
 such_at : {X : Type 0} (test keeps : X → Bool) (place : X → ℕ) → ((x : X) → not (test x) ≡ keeps x) → (before after : List X) (x : X)
     → list_all keeps before ≡ true → keeps x ≡ false → first_such test place (before ++ x ∷ after) ≡ Some (place x)
-such_at test keeps place iff [] after x pass fails = by (test x) (iff x)
-  where
-    by : (b : Bool) → not b ≡ keeps x → cond b (Some (place x)) (first_such test place after) ≡ Some (place x)
-    by true e = refl
-    by false e = absurd (false≢true (sym fails ∙ sym e))
-such_at test keeps place iff (y ∷ ys) after x pass fails = by (test y) (iff y) (such_at test keeps place iff ys after x (and_right (keeps y) _ pass) fails)
-  where
-    by : (b : Bool) → not b ≡ keeps y → first_such test place (ys ++ x ∷ after) ≡ Some (place x)
-        → cond b (Some (place y)) (first_such test place (ys ++ x ∷ after)) ≡ Some (place x)
-    by true e others = absurd (false≢true (e ∙ and_left _ _ pass))
-    by false e others = others
+such_at test keeps place iff [] after x pass fails = search (rules, false≢true)
+such_at test keeps place iff (y ∷ ys) after x pass fails = search (rules, and_right, false≢true, and_left, such_at test keeps place iff ys after x (and_right (keeps y) _ pass) fails)
 
 pub such_there : {X : Type 0} (test keeps : X → Bool) (place : X → ℕ) → ((x : X) → not (test x) ≡ keeps x) → (xs : List X) (x : X)
     → IsFirst keeps xs x → first_such test place xs ≡ Some (place x)
@@ -191,16 +176,7 @@ again_reported P same place xs k n h =
 again_at : {X : Type 0} (same : X → X → Bool) (place : X → ℕ) (front before after : List X) (x : X)
     → first_again same place front before ≡ None → list_any (same x) (front ++ before) ≡ true → first_again same place front (before ++ x ∷ after) ≡ Some (place x)
 again_at same place front [] after x none any = old_item same place front x after (subst (λ ys. list_any (same x) ys ≡ true) (append-nil front) any)
-again_at same place front (y ∷ ys) after x none any = by (list_any (same y) front) refl (again_at same place (front ++ y ∷ []) ys after x)
-  where
-    by : (b : Bool) → list_any (same y) front ≡ b
-        → (first_again same place (front ++ y ∷ []) ys ≡ None → list_any (same x) ((front ++ y ∷ []) ++ ys) ≡ true → first_again same place (front ++ y ∷ []) (ys ++ x ∷ after) ≡ Some (place x))
-        → first_again same place front (y ∷ (ys ++ x ∷ after)) ≡ Some (place x)
-    by true e others = let is : Some (place y) ≡ None = sym (old_item same place front y ys e) ∙ none in absurd (cc (is))
-    by false e others =
-        new_item same place front y (ys ++ x ∷ after) e
-        ∙ others (sym (new_item same place front y ys e) ∙ none) (subst (λ zs. list_any (same x) zs ≡ true) (sym (append_assoc front (y ∷ []) ys)) any)
+again_at same place front (y ∷ ys) after x none any = search (rules, old_item, new_item, append_assoc, again_at same place (front ++ y ∷ []) ys after x)
 
 pub again_there : {X : Type 0} (same : X → X → Bool) (place : X → ℕ) (xs : List X) (x : X) → IsFirstAgain same xs x → first_again same place [] xs ≡ Some (place x)
-again_there same place xs x h =
-    ap (first_again same place []) h.is ∙ again_at same place [] h.before h.after x ((none_again same place h.before).1 h.before_apart) h.again
+again_there same place xs x h = search (rules, again_at, none_again)

@@ -1,5 +1,5 @@
 -- The first of a list that is the same as one before it, one item after the other.
-use Rattle.std.proofs.Common.{◌≡◌, ℕ, ◌+◌, ◌<◌, Bool, true, false, not, List, [], ◌∷◌, ◌++◌, length, map, take, drop, get_or, Option, Some, add-one, sym, ◌∙◌, ap, refl}
+use Rattle.std.proofs.Common.{◌≡◌, ℕ, ◌+◌, ◌<◌, Bool, true, false, not, List, [], ◌∷◌, ◌++◌, length, map, take, drop, get_or, Option, Some, add-one, refl, arith, rules}
 use Rattle.std.specs.List.{list_any}
 use Rattle.std.proofs.Math.Seq.{drop-cons, take-suc}
 use Rattle.pg_check.specs.inner.NumberFaults.{first_again, first_such}
@@ -20,27 +20,18 @@ old_item same place before x xs h = rw h refl
 
 pub again_more : {A : Type 0} (same : A → A → Bool) (place : A → ℕ) (xs : List A) (i : ℕ) (d : A) (whole : Option ℕ) → i < length xs → list_any (same (get_or xs i d)) (take i xs) ≡ false
     → first_again same place (take i xs) (drop i xs) ≡ whole → first_again same place (take (i + 1) xs) (drop (i + 1) xs) ≡ whole
-again_more same place xs i d whole h new left =
-    ap (λ ys. first_again same place ys (drop (i + 1) xs)) (take_item xs i d h)
-    ∙ (sym (new_item same place (take i xs) (get_or xs i d) (drop (i + 1) xs) new)
-    ∙ (ap (first_again same place (take i xs)) (sym (item_and_rest xs i d h)) ∙ left))
+again_more same place xs i d whole h new left = search (rules, take_item, new_item, item_and_rest)
 
 pub again_found : {A : Type 0} (same : A → A → Bool) (place : A → ℕ) (xs : List A) (i : ℕ) (d : A) (whole : Option ℕ) → i < length xs → list_any (same (get_or xs i d)) (take i xs) ≡ true
     → first_again same place (take i xs) (drop i xs) ≡ whole → Some (place (get_or xs i d)) ≡ whole
-again_found same place xs i d whole h old left =
-    sym (old_item same place (take i xs) (get_or xs i d) (drop (i + 1) xs) old)
-    ∙ (ap (first_again same place (take i xs)) (sym (item_and_rest xs i d h)) ∙ left)
+again_found same place xs i d whole h old left = search (rules, old_item, item_and_rest)
 
 -- a set answered that the item is new, or that it isn't
 pub was_new : (b held among : Bool) → b ≡ not held → held ≡ among → b ≡ true → among ≡ false
-was_new true false among h e t = sym e
-was_new true true among h e t = absurd (cc (h))
-was_new false held among h e t = absurd (cc (t))
+was_new b held among h e t = grind arith
 
 pub was_old : (b held among : Bool) → b ≡ not held → held ≡ among → b ≡ false → among ≡ true
-was_old false true among h e t = sym e
-was_old false false among h e t = absurd (cc (h))
-was_old true held among h e t = absurd (cc (t))
+was_old b held among h e t = grind arith
 
 new_such : {X : Type 0} (test : X → Bool) (place : X → ℕ) (x : X) (xs : List X) → test x ≡ false → first_such test place (x ∷ xs) ≡ first_such test place xs
 new_such test place x xs h = rw h refl
@@ -48,6 +39,4 @@ new_such test place x xs h = rw h refl
 -- past an item that doesn't pass the test
 pub such_more : {A X : Type 0} (view : A → X) (test : X → Bool) (place : X → ℕ) (xs : List A) (i : ℕ) (d : A) (whole : Option ℕ) → i < length xs → test (view (get_or xs i d)) ≡ false
     → first_such test place (map view (drop i xs)) ≡ whole → first_such test place (map view (drop (i + 1) xs)) ≡ whole
-such_more view test place xs i d whole h fails left =
-    sym (new_such test place (view (get_or xs i d)) (map view (drop (i + 1) xs)) fails)
-    ∙ (ap (λ ys. first_such test place (map view ys)) (sym (item_and_rest xs i d h)) ∙ left)
+such_more view test place xs i d whole h fails left = search (rules, new_such, item_and_rest)

@@ -1,11 +1,12 @@
 -- Reserved items that have a number in common: those in a row have none, and the fewest that have two are found by halves.
-use Rattle.std.proofs.Common.{◌≡◌, ◌∙◌, ℕ, zero, suc, ◌+◌, ◌<◌, ◌≤◌, Bool, true, false, cond, not, ◌&&◌, ◌||◌, nat_lt, nat_le, List, [], ◌∷◌, ◌++◌, length, take, drop, get_or, Option, Some, None, arith, add-one, sym, ap, subst, refl}
+use Rattle.std.proofs.Common.{◌≡◌, ◌∙◌, ℕ, zero, suc, ◌+◌, ◌<◌, ◌≤◌, Bool, true, false, cond, not, ◌&&◌, nat_lt, nat_le, List, [], ◌∷◌, ◌++◌, length, take, drop, get_or, Option, Some, None, arith, add-one, sym, ap, subst, refl, rules}
 use Rattle.std.specs.List.{filter, list_all, list_any}
 use Rattle.std.specs.List.Sorted.{IsPermutation, IsNonDecreasingBy}
 use Rattle.std.proofs.lemmas.Bool.{false≢true}
 use Rattle.std.proofs.lemmas.Bool.Decides.{nat_tests}
 use Rattle.std.proofs.lemmas.List.Folds.{list_all-append}
 use Rattle.std.proofs.lemmas.List.Sorted.{IsPermutation-sym}
+use Rattle.pg_schema.proofs.lemmas.rules.PairLemmas.{and_left, and_right, and_both, and_true_right}
 use Rattle.pg_check.specs.declared.rules.numbers.Numbers.{Numbers}
 use Rattle.pg_check.specs.rules.KeepsRules.{are_apart, rises}
 use Rattle.pg_check.specs.inner.NumberFaults.{first_again}
@@ -13,13 +14,11 @@ use Rattle.pg_check.specs.rules.ReservedItems.{overlap}
 use Rattle.pg_check.specs.inner.Rows.{follow, is_behind}
 use Rattle.pg_check.proofs.lemmas.rules.FirstLaws.{again_found, again_more, take_item}
 use Rattle.pg_check.proofs.lemmas.parts.Moved.{IsSymmetric, all_moved, all_weaker, pairs_moved}
-use Rattle.pg_check.proofs.lemmas.rules.NoneLaws.{and_both, and_left, and_right}
 
 -- ---- in a row
 
 later : (end : Option ℕ) (a b c : ℕ) → is_behind end a ≡ true → not (nat_lt b a) ≡ true → nat_lt b c ≡ true → is_behind end c ≡ true
-later None a b c h k m = refl
-later (Some e) a b c h k m = grind (arith, nat_tests)
+later end a b c h k m = grind (arith, nat_tests)
 
 behind_apart : (a b c d : ℕ) → nat_lt b c ≡ true → not ((nat_le c d && nat_le a b) && (nat_le c b && nat_le a d)) ≡ true
 behind_apart a b c d h = grind (arith, nat_tests)
@@ -54,13 +53,10 @@ apart_row end (r ∷ rs) order up h first =
     (and_right (list_all (λ q. not (overlap q r)) rs) _ h) (next_behind r rs order up h))
 
 none_before : (rs : List Numbers) → first_behind None rs ≡ true
-none_before [] = refl
-none_before (r ∷ rs) = refl
+none_before rs = grind arith
 
 same_tests : (p q : Bool) → (p ≡ true → q ≡ true) → (q ≡ true → p ≡ true) → p ≡ q
-same_tests true q f g = sym (f refl)
-same_tests false true f g = g refl
-same_tests false false f g = refl
+same_tests p q f g = grind arith
 
 -- ---- items that fall have no number
 
@@ -72,12 +68,7 @@ no_overlap_back q r h = grind (arith, nat_tests)
 
 all_without : (r : Numbers) (xs : List Numbers) → list_all (λ q. not (overlap q r)) (filter rises xs) ≡ list_all (λ q. not (overlap q r)) xs
 all_without r [] = refl
-all_without r (x ∷ xs) = by (rises x) refl (all_without r xs)
-  where
-    by : (b : Bool) → rises x ≡ b → list_all (λ q. not (overlap q r)) (filter rises xs) ≡ list_all (λ q. not (overlap q r)) xs
-        → list_all (λ q. not (overlap q r)) (cond b (x ∷ filter rises xs) (filter rises xs)) ≡ (not (overlap x r) && list_all (λ q. not (overlap q r)) xs)
-    by true up others = ap (λ b. not (overlap x r) && b) others
-    by false falls others = others ∙ sym (ap (λ b. b && list_all (λ q. not (overlap q r)) xs) (no_overlap x r falls))
+all_without r (x ∷ xs) = search (rules, no_overlap, all_without r xs)
 
 none_overlap : (x : Numbers) (xs : List Numbers) → rises x ≡ false → list_all (λ q. not (overlap q x)) xs ≡ true
 none_overlap x [] h = refl
@@ -94,11 +85,7 @@ without_falling (x ∷ xs) = by (rises x) refl (without_falling xs)
 
 all_rise : (xs : List Numbers) → list_all rises (filter rises xs) ≡ true
 all_rise [] = refl
-all_rise (x ∷ xs) = by (rises x) refl (all_rise xs)
-  where
-    by : (b : Bool) → rises x ≡ b → list_all rises (filter rises xs) ≡ true → list_all rises (cond b (x ∷ filter rises xs) (filter rises xs)) ≡ true
-    by true up others = and_both _ _ up others
-    by false falls others = others
+all_rise (x ∷ xs) = search (rules, and_both, all_rise xs)
 
 apart_symmetric : IsSymmetric (λ (a b : Numbers). not (overlap b a))
 apart_symmetric a b h = grind (arith, nat_tests)
@@ -118,49 +105,22 @@ row_is items rising sorted is moved order =
 
 -- ---- the first that isn't apart
 
-and_true_right : (a : Bool) → (a && true) ≡ a
-and_true_right true = refl
-and_true_right false = refl
-
 regroup : (a b c d : Bool) → ((a && b) && (c && d)) ≡ ((a && c) && (b && d))
-regroup true true c d = refl
-regroup true false true d = refl
-regroup true false false d = refl
-regroup false b c d = refl
-
-none_same : {X : Type 0} (same : X → X → Bool) (y : X) (xs : List X) → list_all (λ x. not (same y x)) xs ≡ not (list_any (same y) xs)
-none_same same y [] = refl
-none_same same y (x ∷ xs) = by (same y x) (none_same same y xs)
-  where
-    by : (b : Bool) → list_all (λ x. not (same y x)) xs ≡ not (list_any (same y) xs) → (not b && list_all (λ x. not (same y x)) xs) ≡ not (b || list_any (same y) xs)
-    by true others = refl
-    by false others = others
+regroup a b c d = grind arith
 
 -- one more item
 apart_more : {X : Type 0} (same : X → X → Bool) (xs : List X) (y : X) → are_apart same (xs ++ y ∷ []) ≡ (are_apart same xs && not (list_any (same y) xs))
 apart_more same [] y = refl
-apart_more same (x ∷ xs) y =
-    ap (λ b. b && are_apart same (xs ++ y ∷ [])) (list_all-append (λ z. not (same z x)) xs (y ∷ []))
-    ∙ (ap (λ b. (list_all (λ z. not (same z x)) xs && b) && are_apart same (xs ++ y ∷ [])) (and_true_right (not (same y x)))
-    ∙ (ap (λ b. (list_all (λ z. not (same z x)) xs && not (same y x)) && b) (apart_more same xs y)
-    ∙ (regroup (list_all (λ z. not (same z x)) xs) (not (same y x)) (are_apart same xs) (not (list_any (same y) xs))
-    ∙ ap (λ b. (list_all (λ z. not (same z x)) xs && are_apart same xs) && b) (both (same y x) (list_any (same y) xs)))))
-  where
-    both : (a b : Bool) → (not a && not b) ≡ not (a || b)
-    both true b = refl
-    both false b = refl
+apart_more same (x ∷ xs) y = search (rules, list_all-append, and_true_right, regroup, apart_more same xs y)
 
 apart_take : {X : Type 0} (same : X → X → Bool) (xs : List X) (k : ℕ) (d : X) → k < length xs → are_apart same (take (k + 1) xs) ≡ (are_apart same (take k xs) && not (list_any (same (get_or xs k d)) (take k xs)))
 apart_take same xs k d h = ap (are_apart same) (take_item xs k d h) ∙ apart_more same (take k xs) (get_or xs k d)
 
 not_any : (b : Bool) → not b ≡ true → b ≡ false
-not_any true h = absurd (false≢true h)
-not_any false h = refl
+not_any b h = grind (arith, false≢true)
 
 is_any : (a b : Bool) → (a && not b) ≡ false → a ≡ true → b ≡ true
-is_any true true h k = refl
-is_any true false h k = absurd (false≢true (sym h))
-is_any false b h k = absurd (false≢true k)
+is_any a b h k = grind (arith, false≢true)
 
 -- up to an item before which all are apart none was the same
 goes_on : {X : Type 0} (same : X → X → Bool) (place : X → ℕ) (xs : List X) (k : ℕ) (d : X) → k ≤ length xs → are_apart same (take k xs) ≡ true → first_again same place (take k xs) (drop k xs) ≡ first_again same place [] xs

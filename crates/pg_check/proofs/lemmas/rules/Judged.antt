@@ -1,6 +1,6 @@
 -- A rule and the fault that is found of it, in one: none is found exactly where the rule is kept, what is found breaks it, and of what
 -- breaks it none comes before.
-use Rattle.std.proofs.Common.{◌≡◌, ◌⊎◌, ◌↔◌, inl, inr, ℕ, Bool, true, not, List, [], Option, Some, None, option_map, sym, subst, refl, arith}
+use Rattle.std.proofs.Common.{◌≡◌, ◌⊎◌, ◌↔◌, inl, inr, ℕ, Bool, true, not, List, [], Option, Some, None, option_map, sym, subst, refl, rules}
 use Rattle.std.specs.List.{list_all, AllByRecursion}
 use Rattle.pg_check.specs.declared.rules.fault.Fault.{Fault}
 use Rattle.pg_check.specs.declared.rules.fault.Rule.{Rule}
@@ -21,9 +21,7 @@ pub both : {K L : Type 0} {B C : Fault → Type 0} (a b : Option Fault) → Judg
 both {K} {L} {B} {C} a b j k = record { none = none; meets = earlier_meets _ a b (λ f h. inl (j.meets f h)) (λ f h. inr (k.meets f h)); found = found }
   where
     none : (earlier a b ≡ None) ↔ (K × L)
-    none =
-        let two = earlier_none a b in
-        ((λ h. let e = two.0 h in (j.none.0 e.0, k.none.0 e.1)), λ h. two.1 (j.none.1 h.0, k.none.1 h.1))
+    none = search (rules, earlier_none)
 
     found : (f : Fault) → B f ⊎ C f → IsFound (earlier a b) f.declared (order f.rule)
     found f (inl h) = found_left a b f.declared (order f.rule) (j.found f h)
@@ -53,9 +51,7 @@ of_item {X} {K} {B} fault place o iff reported there = record { none = none o if
         subst (λ g. (x : X) × B x × (g ≡ fault (place x))) (sym is) (reported (λ m. (x : X) × B x × (fault m ≡ fault (place x))) (λ x b. (x, b, refl)) n at)
 
     found : (f : Fault) → (x : X) × B x × (f ≡ fault (place x)) → IsFound (option_map fault o) f.declared (order f.rule)
-    found f (x, b, is) =
-        subst (λ g. IsFound (option_map fault o) g.declared (order g.rule)) (sym is)
-        (subst (λ p. IsFound (option_map fault p) (fault (place x)).declared (order (fault (place x)).rule)) (sym (there x b)) (inr (refl, omega arith)))
+    found f (x, b, is) = search rules
 
 -- no item of a list fails a test
 such_by : {X : Type 0} (fault : ℕ → Fault) (test keeps : X → Bool) (place : X → ℕ) → ((x : X) → not (test x) ≡ keeps x) → (xs : List X)

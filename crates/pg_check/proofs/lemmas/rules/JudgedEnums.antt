@@ -1,6 +1,5 @@
 -- Enums and services, each rule with the fault that is found of it.
-use Rattle.std.proofs.Common.{◌≡◌, ◌∙◌, ◌⊎◌, ◌↔◌, inl, inr, ℕ, Bool, true, false, cond, not, nat_eq, ◌||◌, List, [], ◌∷◌, Option, Some, None, sym, ap, subst, refl}
-use Rattle.std.specs.List.{AllByRecursion}
+use Rattle.std.proofs.Common.{◌≡◌, ◌∙◌, ◌⊎◌, ◌↔◌, inl, inr, ℕ, Bool, true, false, not, nat_eq, ◌||◌, List, ◌∷◌, Option, Some, None, sym, ap, subst, refl, rules}
 use Rattle.std.proofs.lemmas.Bool.{false≢true}
 use Rattle.pg_link.specs.declared.error.Place.{Place}
 use Rattle.pg_schema.specs.rules.TextSets.{is_among}
@@ -35,19 +34,7 @@ abbrev pub EmptyFault : ℕ → List Keyed → Fault → Type 0
 EmptyFault at keys f = (n : ℕ) × ((has_some keys ≡ false) × (n ≡ at)) × (f ≡ broken_at rules.EnumEmpty n)
 
 empty_judged : (at : ℕ) (keys : List Keyed) → Judged (broken rules.EnumEmpty (enum_faults.empty_at at keys)) (has_some keys ≡ true) (EmptyFault at keys)
-empty_judged at keys = at_one rules.EnumEmpty (enum_faults.empty_at at keys) (iff keys) (is keys) (there keys)
-  where
-    iff : (ks : List Keyed) → (enum_faults.empty_at at ks ≡ None) ↔ (has_some ks ≡ true)
-    iff [] = ((λ h. absurd (cc (h))), λ h. absurd (false≢true h))
-    iff (k ∷ ks) = ((λ h. refl), λ h. refl)
-
-    is : (ks : List Keyed) (n : ℕ) → enum_faults.empty_at at ks ≡ Some n → (has_some ks ≡ false) × (n ≡ at)
-    is [] n h = let same : at ≡ n = cc (h) in (refl, sym same)
-    is (k ∷ ks) n h = absurd (cc (h))
-
-    there : (ks : List Keyed) (n : ℕ) → (has_some ks ≡ false) × (n ≡ at) → enum_faults.empty_at at ks ≡ Some n
-    there [] n h = ap Some (sym h.1)
-    there (k ∷ ks) n h = absurd (false≢true (sym h.0))
+empty_judged at keys = search (rules, at_one, false≢true)
 
 -- ---- a first value that isn't 0
 
@@ -55,26 +42,7 @@ abbrev pub BeginsAt : List Keyed → ℕ → Type 0
 BeginsAt keys n = (k : Keyed) × (more : List Keyed) × (keys ≡ k ∷ more) × (nat_eq k.key (numbers.rank false 0) ≡ false) × (n ≡ k.at)
 
 zero_judged : (keys : List Keyed) → Judged (broken rules.EnumFirstNotZero (enum_faults.first_not_zero keys)) (begins_with_zero keys ≡ true) (λ f. (n : ℕ) × BeginsAt keys n × (f ≡ broken_at rules.EnumFirstNotZero n))
-zero_judged keys = at_one rules.EnumFirstNotZero (enum_faults.first_not_zero keys) (iff keys) (is keys) (there keys)
-  where
-    iff : (ks : List Keyed) → (enum_faults.first_not_zero ks ≡ None) ↔ (begins_with_zero ks ≡ true)
-    iff [] = ((λ h. refl), λ h. refl)
-    iff (k ∷ ks) = by (nat_eq k.key (numbers.rank false 0))
-      where
-        by : (b : Bool) → (cond b None (Some k.at) ≡ None) ↔ (b ≡ true)
-        by true = ((λ h. refl), λ h. refl)
-        by false = ((λ h. absurd (cc (h))), λ h. absurd (false≢true h))
-
-    is : (ks : List Keyed) (n : ℕ) → enum_faults.first_not_zero ks ≡ Some n → BeginsAt ks n
-    is [] n h = absurd (cc (h))
-    is (k ∷ ks) n h = by (nat_eq k.key (numbers.rank false 0)) refl h
-      where
-        by : (b : Bool) → nat_eq k.key (numbers.rank false 0) ≡ b → cond b None (Some k.at) ≡ Some n → BeginsAt (k ∷ ks) n
-        by true e g = absurd (cc (g))
-        by false e g = let same : k.at ≡ n = cc (g) in (k, ks, refl, e, sym same)
-
-    there : (ks : List Keyed) (n : ℕ) → BeginsAt ks n → enum_faults.first_not_zero ks ≡ Some n
-    there ks n (k, more, same, fails, at) = ap enum_faults.first_not_zero same ∙ (ap (λ b. cond b None (Some k.at)) fails ∙ ap Some (sym at))
+zero_judged keys = search (rules, at_one, false≢true)
 
 -- ---- a number twice, without `allow_alias`
 

@@ -1,5 +1,5 @@
 -- A file, each rule with the fault that is found of it.
-use Rattle.std.proofs.Common.{◌≡◌, ◌∙◌, ◌⊎◌, ◌↔◌, inl, inr, ◌≤◌, ℕ, zero, suc, List, [], ◌∷◌, ◌++◌, length, Option, Some, None, sym, ap, subst, refl, arith}
+use Rattle.std.proofs.Common.{◌≡◌, ◌∙◌, ◌⊎◌, ◌↔◌, inl, inr, ◌≤◌, ℕ, zero, suc, List, [], ◌∷◌, ◌++◌, length, Option, Some, None, sym, ap, subst, refl, arith, rules}
 use Rattle.pg_link.specs.declared.error.Place.{Place}
 use Rattle.pg_check.specs.declared.error.CheckError.{CheckError}
 use Rattle.pg_check.specs.declared.rules.fault.Fault.{Fault}
@@ -32,9 +32,7 @@ few_judged left ms = at_one rules.TooManyTypes (file_faults.too_many left ms) (i
     iff : (left : ℕ) (ms : List Message) → (file_faults.too_many left ms ≡ None) ↔ (length ms ≤ left)
     iff left [] = ((λ h. omega arith), λ h. refl)
     iff zero (m ∷ ms) = ((λ h. absurd (cc (h))), λ h. absurd (omega (arith, h)))
-    iff (suc left) (m ∷ ms) =
-        let others = iff left ms in
-        ((λ h. let k : length ms ≤ left = others.0 h in omega (arith, k)), λ h. others.1 (omega (arith, h)))
+    iff (suc left) (m ∷ ms) = search (rules, iff left ms)
 
     is : (left : ℕ) (ms : List Message) (n : ℕ) → file_faults.too_many left ms ≡ Some n → OneMore left ms n
     is left [] n h = absurd (cc (h))
@@ -48,8 +46,7 @@ few_judged left ms = at_one rules.TooManyTypes (file_faults.too_many left ms) (i
     many_at (x ∷ xs) after m = many_at xs after m
 
     there : (n : ℕ) → OneMore left ms n → file_faults.too_many left ms ≡ Some n
-    there n (m, before, after, split, many, at) =
-        ap (file_faults.too_many left) split ∙ (ap (λ k. file_faults.too_many k (before ++ m ∷ after)) (sym many) ∙ (many_at before after m ∙ ap Some (sym at)))
+    there n (m, before, after, split, many, at) = search (rules, many_at)
 
 -- ---- statements
 

@@ -1,5 +1,5 @@
 -- Options and reserved items, each rule with the fault that is found of it.
-use Rattle.std.proofs.Common.{◌≡◌, ◌∙◌, ◌⊎◌, ◌↔◌, ◌≤◌, inl, inr, ℕ, Bool, true, false, cond, not, nat_lt, List, map, Option, Some, None, sym, ap, subst, refl, arith}
+use Rattle.std.proofs.Common.{◌≡◌, ◌∙◌, ◌⊎◌, ◌↔◌, ◌≤◌, inl, inr, ℕ, not, nat_lt, List, map, Option, Some, None, sym, ap, subst, refl, arith, rules}
 use Rattle.std.proofs.lemmas.Bool.Decides.{nat_tests}
 use Rattle.pg_link.specs.declared.error.Place.{Place}
 use Rattle.pg_check.specs.declared.error.CheckError.{CheckError}
@@ -26,11 +26,7 @@ use Rattle.pg_check.proofs.lemmas.rules.NoneLaws.{least_none, none_again, not_no
 -- ---- options
 
 options_keep : (options : List OptionAt) → (first_bad options ≡ None) ↔ OptionsKeep options
-options_keep options =
-    let two = least_none (first_wrong options) (name_faults.first_twice (map name_of options)) in
-    let right = such_kept (λ (o : OptionAt). not o.is_right) is_right (λ (o : OptionAt). o.at) (λ o. not_not o.is_right) options in
-    let once = none_again names.is_same name_faults.at (map name_of options) in
-    ((λ h. let e = two.0 h in record { right = right.0 e.0; once = once.0 e.1 }), λ k. two.1 (right.1 k.right, once.1 k.once))
+options_keep options = search (rules, least_none, such_kept, not_not, none_again)
 
 option_reported : (options : List OptionAt) (n : ℕ) → (first_wrong options ≡ Some n) ⊎ (name_faults.first_twice (map name_of options) ≡ Some n) → IsBadOption options n
 option_reported options n (inl h) = such_reported (IsBadOption options) (λ (o : OptionAt). not o.is_right) is_right (λ (o : OptionAt). o.at) (λ o. not_not o.is_right) options (λ o first. wrong o first) n h
@@ -41,38 +37,16 @@ option_there options n (wrong o first) = inl (such_there (λ (o : OptionAt). not
 option_there options n (given_again o first) = inr (again_there names.is_same name_faults.at (map name_of options) o first)
 
 least_is : (w t : Option ℕ) (at : ℕ) → numbers.least w t ≡ Some at → (w ≡ Some at) ⊎ (t ≡ Some at)
-least_is None t at h = inr h
-least_is (Some a) None at h = inl h
-least_is (Some a) (Some b) at h = by (nat_lt b a) h
-  where
-    by : (less : Bool) → Some (cond less b a) ≡ Some at → (Some a ≡ Some at) ⊎ (Some b ≡ Some at)
-    by true e = inr e
-    by false e = inl e
+least_is w t at h = grind (arith, nat_lt)
 
 least_below : (w t : Option ℕ) (at n : ℕ) → numbers.least w t ≡ Some at → (w ≡ Some n) ⊎ (t ≡ Some n) → at ≤ n
-least_below None None at n h k = absurd (cc (h))
-least_below None (Some b) at n h (inl k) = absurd (cc (k))
-least_below None (Some b) at n h (inr k) = let same : at ≡ n = cc (h, k) in omega (arith, same)
-least_below (Some a) None at n h (inl k) = let same : at ≡ n = cc (h, k) in omega (arith, same)
-least_below (Some a) None at n h (inr k) = absurd (cc (k))
-least_below (Some a) (Some b) at n h k = below k (cond (nat_lt b a) b a) refl
-  where
-    low : (c : ℕ) → cond (nat_lt b a) b a ≡ c → (c ≤ a) × (c ≤ b)
-    low c e = (grind (arith, nat_tests), grind (arith, nat_tests))
-
-    below : (Some a ≡ Some n) ⊎ (Some b ≡ Some n) → (c : ℕ) → cond (nat_lt b a) b a ≡ c → at ≤ n
-    below (inl i) c e = let less = (low c e).0 in let same : at ≡ c = cc (h, e) in let is : a ≡ n = cc (i) in omega (arith, same, is, less)
-    below (inr i) c e = let less = (low c e).1 in let same : at ≡ c = cc (h, e) in let is : b ≡ n = cc (i) in omega (arith, same, is, less)
+least_below w t at n h k = grind (arith, nat_lt, nat_tests)
 
 bad_reported : (options : List OptionAt) (at : ℕ) → first_bad options ≡ Some at → IsFirstBadOption options at
-bad_reported options at h = record {
-  is = option_reported options at (least_is (first_wrong options) (name_faults.first_twice (map name_of options)) at h);
-  is_first = λ n bad. least_below (first_wrong options) (name_faults.first_twice (map name_of options)) at n h (option_there options n bad);
-}
+bad_reported options at h = search (rules, option_reported, least_is, least_below, option_there)
 
 none_bad : (w t : Option ℕ) (n : ℕ) → numbers.least w t ≡ None → (w ≡ Some n) ⊎ (t ≡ Some n) → ⊥
-none_bad w t n e (inl h) = let none : w ≡ None = ((least_none w t).0 e).0 in absurd (cc (none, h))
-none_bad w t n e (inr h) = let none : t ≡ None = ((least_none w t).0 e).1 in absurd (cc (none, h))
+none_bad w t n e h5 = grind (arith, least_none)
 
 bad_there : (options : List OptionAt) (at : ℕ) → IsFirstBadOption options at → first_bad options ≡ Some at
 bad_there options at h = by (first_bad options) refl

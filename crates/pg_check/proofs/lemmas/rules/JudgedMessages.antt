@@ -1,5 +1,5 @@
 -- A message's own body, each rule with the fault that is found of it.
-use Rattle.std.proofs.Common.{◌≡◌, ◌∙◌, ◌⊎◌, inl, inr, ℕ, Bool, true, false, cond, not, ◌&&◌, ◌||◌, List, map, Option, Some, None, sym, ap, subst, refl, arith}
+use Rattle.std.proofs.Common.{◌≡◌, ◌⊎◌, inl, inr, ℕ, Bool, true, false, cond, not, ◌&&◌, ◌||◌, List, Option, Some, None, sym, subst, refl, rules}
 use Rattle.std.specs.List.{list_all}
 use Rattle.std.proofs.lemmas.Bool.{false≢true}
 use Rattle.pg_link.specs.declared.error.Place.{Place}
@@ -9,7 +9,6 @@ use Rattle.pg_check.specs.declared.error.CheckError.{CheckError}
 use Rattle.pg_check.specs.declared.rules.fault.Fault.{Fault}
 use Rattle.pg_check.specs.declared.rules.fault.Rule.TheVariants as rules
 use Rattle.pg_check.specs.declared.rules.numbers.Keyed.{Keyed}
-use Rattle.pg_check.specs.declared.rules.numbers.Numbers.{Numbers}
 use Rattle.pg_check.specs.Errors.{error_of}
 use Rattle.pg_check.specs.rules.BrokenRules.{BreaksFields, BreaksMessage, bad_field_item, bad_field_number, bad_field_option, bad_map_key, bad_message_option, bad_oneof_member, duplicate_number, empty_oneof, in_fields, json_name_clash, oneof_option, packed_not_allowed, reserved_field_name, reserved_field_number}
 use Rattle.pg_check.specs.inner.Faults.{broken, broken_at, declared_fault, first_fault, option_fault, or_else, order}
@@ -70,9 +69,7 @@ line_judged (oneof_parts.Option o) = record {
   where
     of_line : (f : Fault) (line : tree.OptionLine.OptionLine) → oneof_parts.Option o ≡ oneof_parts.Option line → f ≡ broken_at rules.BadOption line.span.from
         → IsFound (broken rules.BadOption (Some o.span.from)) f.declared (order f.rule)
-    of_line f line same is =
-        let one : o ≡ line = cc (same) in
-        subst (λ g. IsFound (broken rules.BadOption (Some o.span.from)) g.declared (order g.rule)) (sym (is ∙ ap (λ (l : tree.OptionLine.OptionLine). broken_at rules.BadOption l.span.from) (sym one))) (inr (refl, omega arith))
+    of_line f line same is = search rules
 line_judged (oneof_parts.Map m) = nothing refl (λ f h. let is = h.1 in cc (is))
 line_judged (oneof_parts.Field x) = nothing refl (λ f h. let is = h.1 in cc (is))
 
@@ -94,25 +91,8 @@ oneof_judged o = by (messages.has_member o.parts.items)
         ((b && list_all is_no_option o.parts.items) ≡ true)
         (λ f. ((b ≡ false) × (f ≡ broken_at rules.BadOneofMember o.name.span.from))
         ⊎ ((b ≡ true) × ((p : tree.OneofPart.OneofPart) × IsBehind (λ p. is_no_option p ≡ true) o.parts.items p × LineFault p f)))
-    by true = broken_as lines (λ f h. inr (refl, h)) of_lines
-      where
-        of_lines : (f : Fault) → ((true ≡ false) × (f ≡ broken_at rules.BadOneofMember o.name.span.from))
-            ⊎ ((true ≡ true) × ((p : tree.OneofPart.OneofPart) × IsBehind (λ p. is_no_option p ≡ true) o.parts.items p × LineFault p f))
-            → (p : tree.OneofPart.OneofPart) × IsBehind (λ p. is_no_option p ≡ true) o.parts.items p × LineFault p f
-        of_lines f (inl h) = absurd (false≢true (sym h.0))
-        of_lines f (inr h) = h.1
-    by false = record { none = ((λ h. absurd (cc (h))), λ h. absurd (false≢true h)); meets = meets; found = found }
-      where
-        meets : (f : Fault) → Some (broken_at rules.BadOneofMember o.name.span.from) ≡ Some f
-            → ((false ≡ false) × (f ≡ broken_at rules.BadOneofMember o.name.span.from))
-            ⊎ ((false ≡ true) × ((p : tree.OneofPart.OneofPart) × IsBehind (λ p. is_no_option p ≡ true) o.parts.items p × LineFault p f))
-        meets f h = let same : broken_at rules.BadOneofMember o.name.span.from ≡ f = cc (h) in inl (refl, sym same)
-
-        found : (f : Fault) → ((false ≡ false) × (f ≡ broken_at rules.BadOneofMember o.name.span.from))
-            ⊎ ((false ≡ true) × ((p : tree.OneofPart.OneofPart) × IsBehind (λ p. is_no_option p ≡ true) o.parts.items p × LineFault p f))
-            → IsFound (Some (broken_at rules.BadOneofMember o.name.span.from)) f.declared (order f.rule)
-        found f (inl h) = subst (λ g. IsFound (Some (broken_at rules.BadOneofMember o.name.span.from)) g.declared (order g.rule)) (sym h.1) (inr (refl, omega arith))
-        found f (inr h) = absurd (false≢true h.0)
+    by true = search (rules, broken_as, lines, false≢true)
+    by false = search (rules, false≢true)
 
 -- ---- the body
 

@@ -1,5 +1,5 @@
 -- No rule is reported of files exactly where they keep to the rules.
-use Rattle.std.proofs.Common.{◌≡◌, ◌↔◌, ◌+◌, ◌-◌, ◌≤◌, ℕ, List, [], ◌∷◌, ◌++◌, length, flat_map, Option, Some, None, sym, subst, refl, arith, length-append}
+use Rattle.std.proofs.Common.{◌≡◌, ◌↔◌, ◌+◌, ◌-◌, ◌≤◌, ℕ, List, [], ◌∷◌, ◌++◌, length, flat_map, Option, None, sym, subst, refl, arith, length-append, rules}
 use Rattle.std.specs.List.{AllByRecursion}
 use Rattle.pg_check.specs.declared.declare.FileFault.{FileFault}
 use Rattle.pg_check.specs.declared.rules.fault.Fault.{Fault}
@@ -11,8 +11,7 @@ use Rattle.pg_check.specs.rules.Outline.{file_messages}
 use Rattle.pg_check.proofs.lemmas.rules.JudgedFiles.{file_judged}
 
 pub in_file_none : (place : ℕ) (f : Option Fault) (others : Option FileFault) → (in_file place f others ≡ None) ↔ ((f ≡ None) × (others ≡ None))
-in_file_none place None others = ((λ h. (refl, h)), λ h. h.1)
-in_file_none place (Some f) others = ((λ h. absurd (cc (h))), λ h. absurd (cc (h.0)))
+in_file_none place f others = grind arith
 
 split_count : (m n left : ℕ) → (m + n ≤ left) ↔ ((m ≤ left) × (n ≤ left - m))
 split_count m n left = ((λ h. (omega (arith, h), omega (arith, h))), λ h. let a = h.0 in let b = h.1 in omega (arith, a, b))
@@ -31,6 +30,4 @@ files_keep left place (s ∷ ss) =
     )
 
 pub none_broken : (ss : List Source) → (first_broken ss ≡ None) ↔ KeepsRules ss
-none_broken ss =
-    let all = files_keep 4096 0 ss in
-    ((λ h. let k = all.0 h in record { few_types = k.0; each = k.1 }), λ k. all.1 (k.few_types, k.each))
+none_broken ss = search (rules, files_keep)

@@ -1,10 +1,10 @@
 -- A message as a part of another.
-use Rattle.std.proofs.Common.{◌≡◌, ◌∙◌, ℕ, List, ◌∷◌, ◌++◌, flat_map, refl, ap}
+use Rattle.std.proofs.Common.{◌≡◌, ◌∙◌, ℕ, List, ◌∷◌, ◌++◌, flat_map, refl, ap, rules}
 use Rattle.pg_syntax.specs.declared.tree as tree
 use Rattle.pg_syntax.specs.declared.tree.Part.{Row_of-Part, end_of-Part, more_of-Part, items-the_row-Part, items_hidden-the_row-Part-0}
 use Rattle.pg_syntax.specs.declared.tree.Part.TheBlock.{hidden-the_row-Part-0}
 use Rattle.pg_syntax.specs.declared.tree.Part.TheVariants as parts
-use Rattle.pg_check.specs.rules.Outline.{full_name, messages_in, messages_of, row_list, row_messages}
+use Rattle.pg_check.specs.rules.Outline.{messages_in, messages_of, row_list, row_messages}
 
 row_is : {m : _} (row : Row_of-Part m) → row_list row ≡ items-the_row-Part m row
 row_is end_of-Part = refl
@@ -18,7 +18,4 @@ body_is : (m : tree.Message.Message) → row_list (hidden-the_row-Part-0 m.parts
 body_is m = row_is (hidden-the_row-Part-0 m.parts) ∙ items_hidden-the_row-Part-0 m.parts
 
 pub part_messages : (scope : List ℕ) (m : tree.Message.Message) → messages_in scope (parts.Message m) ≡ messages_of scope m
-part_messages scope m =
-    ap (λ body. record { scope = scope; full = full_name scope m.name; name = m.name; body = body } ∷ row_messages (full_name scope m.name) (hidden-the_row-Part-0 m.parts)) (body_is m)
-    ∙ ap (λ ms. record { scope = scope; full = full_name scope m.name; name = m.name; body = m.parts.items } ∷ ms)
-    (messages_are (full_name scope m.name) (hidden-the_row-Part-0 m.parts) ∙ ap (flat_map (messages_in (full_name scope m.name))) (items_hidden-the_row-Part-0 m.parts))
+part_messages scope m = search (rules, hidden-the_row-Part-0, body_is, messages_are, flat_map, items_hidden-the_row-Part-0)

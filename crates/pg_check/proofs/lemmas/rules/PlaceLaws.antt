@@ -1,20 +1,16 @@
 -- What is named at an offset, among offsets that rise and others.
-use Rattle.std.proofs.Common.{◌≡◌, ◌∙◌, ◌==◌, ◌<◌, ◌≤◌, ℕ, zero, suc, Bool, true, false, cond, List, [], ◌∷◌, Option, Some, None, length, map, get_or, slice_get, nat_lt, refl, sym, ap, arith}
+use Rattle.std.proofs.Common.{◌≡◌, ◌∙◌, ◌==◌, ◌<◌, ◌≤◌, ℕ, zero, suc, Bool, true, false, cond, List, [], ◌∷◌, Option, Some, None, length, map, get_or, slice_get, nat_lt, refl, sym, ap, arith, rules}
 use Rattle.std.specs.List.{list_all}
 use Rattle.std.specs.Borrow.{Bor}
 use Rattle.std.specs.Option.{IfSome, MatchOption, option_and_then, option_copied}
 use Rattle.std.proofs.lemmas.Bool.Decides.{nat_tests}
 use Rattle.std.proofs.lemmas.Option.{slice_get_past, slice_get_read}
 use Rattle.pg_link.specs.declared.uses.target.Target.{Target}
-use Rattle.pg_link.specs.uses.Targets.{Resolution, resolved_at, use_at}
+use Rattle.pg_link.specs.uses.Targets.{Resolution, resolved_at}
 use Rattle.pg_link.specs.uses.Uses.{Use}
 use Rattle.pg_schema.specs.rules.Pairs.{is_rising}
 use Rattle.pg_schema.proofs.lemmas.rules.PairLemmas.{and_left, and_right}
 use Rattle.pg_check.specs.inner.ByPlace.{named_at}
-
-abbrev first_of : {X : Type 0} → X → List X → X
-first_of d [] = d
-first_of d (x ∷ xs) = x
 
 abbrev rest_of : {X : Type 0} → List X → List X
 rest_of [] = []
@@ -23,16 +19,13 @@ rest_of (x ∷ xs) = xs
 -- what is in front of others
 by_test : (resolve : Resolution) (u : Use) (others : Option Use) (b : Bool) (t : Target) (old : Option Target) → resolve u ≡ Some t → old ≡ option_and_then resolve others
     → cond b (Some t) old ≡ option_and_then resolve (cond b (Some u) others)
-by_test resolve u others true t old is before = sym is
-by_test resolve u others false t old is before = before
+by_test resolve u others b t old is before = grind arith
 
 resolved_uses : (resolve : Resolution) (us : List Use) (targets : List Target) → map (λ (t : Target). Some t) targets ≡ map resolve us
     → (at : ℕ) → named_at (map (λ (u : Use). u.at) us) targets at ≡ resolved_at resolve us at
 resolved_uses resolve [] targets same at = refl
 resolved_uses resolve (u ∷ us) [] same at = absurd (omega (arith, ap length same))
-resolved_uses resolve (u ∷ us) (t ∷ ts) same at =
-    by_test resolve u (use_at us at) (u.at == at) t (named_at (map (λ (v : Use). v.at) us) ts at) (sym (ap (first_of None) same))
-    (resolved_uses resolve us ts (ap rest_of same) at)
+resolved_uses resolve (u ∷ us) (t ∷ ts) same at = search (rules, by_test, resolved_uses resolve us ts (ap rest_of same) at)
 
 -- the targets of uses, by the offsets of these
 pub resolved_places : (resolve : Resolution) (us : List Use) (places : List ℕ) (targets : List Target) → map (λ (t : Target). Some t) targets ≡ map resolve us
@@ -64,10 +57,7 @@ pub found_there : (ps : List ℕ) (ts : List Target) (i at : ℕ) → is_rising 
 found_there [] ts i at h lt is = absurd (omega (arith, lt))
 found_there (p ∷ ps) [] i at h lt is = sym (slice_get_past [] i (omega arith))
 found_there (p ∷ ps) (t ∷ ts) zero at h lt is = ap (λ (b : Bool). cond b (Some t) (named_at ps ts at)) (is_same p at is)
-found_there (p ∷ ps) (t ∷ ts) (suc i) at h lt is =
-    let more = above p ps i (and_left (list_all (nat_lt p) ps) (is_rising ps) h) (omega (arith, lt)) in
-    ap (λ (b : Bool). cond b (Some t) (named_at ps ts at)) (is_other p at (λ e. omega (arith, more, is, e)))
-    ∙ found_there ps ts i at (and_right (list_all (nat_lt p) ps) (is_rising ps) h) (omega (arith, lt)) is
+found_there (p ∷ ps) (t ∷ ts) (suc i) at h lt is = search (rules, above, and_left, nat_lt, is_other, and_right, found_there ps ts i at (and_right (list_all (nat_lt p) ps) (is_rising ps) h) (omega (arith, lt)) is)
 
 -- none of the offsets is that one
 pub found_nowhere : (ps : List ℕ) (ts : List Target) (at : ℕ) → ((i : ℕ) → i < length ps → get_or ps i 0 ≡ at → ⊥) → named_at ps ts at ≡ None
@@ -81,5 +71,4 @@ found_nowhere (p ∷ ps) (t ∷ ts) at none =
 
 pub copied_is : (ts : List Target) (i : ℕ) (found : Option (Bor Target)) (P : Bor Target → Type 0) → IfSome found (λ x. x.now ≡ get_or ts i x.now)
     → MatchOption found (length ts ≤ i) (λ x. (i < length ts) × P x) → option_copied found ≡ slice_get ts i
-copied_is ts i None P is there = sym (slice_get_past ts i there)
-copied_is ts i (Some x) P is there = sym (slice_get_read ts (length ts) i x.now refl there.0 is)
+copied_is ts i found P is there = grind (arith, slice_get_past, slice_get_read)

@@ -1,5 +1,5 @@
 -- Numbers among reserved items that are sorted by first numbers.
-use Rattle.std.proofs.Common.{◌≡◌, ◌∙◌, ℕ, zero, suc, ◌<◌, ◌≤◌, max, Bool, true, false, cond, Some, ◌&&◌, ◌||◌, nat_le, List, [], ◌∷◌, length, take, get_or, sym, ap, refl, arith}
+use Rattle.std.proofs.Common.{◌≡◌, ◌∙◌, ℕ, zero, suc, ◌<◌, ◌≤◌, max, Bool, true, false, ◌&&◌, ◌||◌, nat_le, List, [], ◌∷◌, length, take, get_or, sym, ap, refl, arith, rules}
 use Rattle.std.specs.List.{list_any}
 use Rattle.std.specs.List.Sorted.{IsNonDecreasingBy, IsPartitionedBy, IsPartitionPoint, IsPermutation}
 use Rattle.std.proofs.lemmas.Bool.Decides.{nat_tests}
@@ -21,12 +21,10 @@ top_of n r [] = alone n r.last
 top_of n r (q ∷ qs) = ap (λ b. nat_le n r.last || b) (top_of n q qs) ∙ or_max n r.last (highest (q ∷ qs))
 
 front_true : (a b : Bool) → a ≡ true → (a && b) ≡ b
-front_true true b h = refl
-front_true false b h = absurd (cc (h))
+front_true a b h = grind arith
 
 front_false : (a b c : Bool) → a ≡ false → ((a && b) || c) ≡ c
-front_false false b c h = refl
-front_false true b c h = absurd (cc (h))
+front_false a b c h = grind arith
 
 -- only items that begin at the number or before it can have it
 pub reserved_front : (n : ℕ) (rs : List Numbers) (k : ℕ) → ((i : ℕ) (d : Numbers) → i < k → i < length rs → nat_le (get_or rs i d).first n ≡ true) → ((i : ℕ) (d : Numbers) → k ≤ i → i < length rs → nat_le (get_or rs i d).first n ≡ false)
@@ -41,8 +39,7 @@ reserved_front n (r ∷ rs) (suc k) low high =
     ∙ ap (λ b. nat_le n r.last || b) (reserved_front n rs k (λ i d h l. low (suc i) d (omega (arith, h)) (omega (arith, l))) (λ i d h l. high (suc i) d (omega (arith, h)) (omega (arith, l))))
 
 pub reserved_top : (n : ℕ) (rs : List Numbers) (j : ℕ) → j < length rs → list_any (λ (q : Numbers). nat_le n q.last) (take (suc j) rs) ≡ nat_le n (highest (take (suc j) rs))
-reserved_top n [] j h = absurd (omega (arith, h))
-reserved_top n (r ∷ rs) j h = top_of n r (take j rs)
+reserved_top n rs j h = grind (arith, top_of)
 
 pub tops_at : (t : ℕ) (rs : List Numbers) (j : ℕ) → j < length rs → get_or (tops_from t rs) j 0 ≡ max t (highest (take (suc j) rs))
 tops_at t [] j h = absurd (omega (arith, h))
@@ -57,8 +54,7 @@ tops_length t (r ∷ rs) = ap suc (tops_length (max t r.last) rs)
 
 such_congr : (p q : Keyed → Bool) → ((k : Keyed) → p k ≡ q k) → (ks : List Keyed) → first_such p at ks ≡ first_such q at ks
 such_congr p q same [] = refl
-such_congr p q same (k ∷ ks) =
-    ap (λ b. cond b (Some k.at) (first_such p at ks)) (same k) ∙ ap (λ o. cond (q k) (Some k.at) o) (such_congr p q same ks)
+such_congr p q same (k ∷ ks) = search (rules, such_congr p q same ks)
 
 -- items in another order reserve the same numbers
 pub reserved_moved : (xs ys : List Numbers) → IsPermutation xs ys → (ks : List Keyed) → first_reserved ys ks ≡ first_reserved xs ks

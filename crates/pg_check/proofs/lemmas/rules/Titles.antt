@@ -1,5 +1,5 @@
 -- Names with their offsets, one after the other.
-use Rattle.std.proofs.Common.{◌≡◌, ℕ, ◌+◌, ◌<◌, Bool, true, false, List, [], ◌∷◌, ◌++◌, length, map, take, drop, get_or, Option, Some, sym, ◌∙◌, ap, subst}
+use Rattle.std.proofs.Common.{◌≡◌, ℕ, ◌+◌, ◌<◌, Bool, true, false, List, [], ◌∷◌, ◌++◌, length, map, take, drop, get_or, Option, Some, sym, ◌∙◌, ap, subst, rules}
 use Rattle.std.specs.List.{list_any}
 use Rattle.std.specs.String.{string_bytes}
 use Rattle.std.proofs.lemmas.List.{get_or-map, length-map, map_more}
@@ -19,8 +19,7 @@ within texts i h = subst (λ n. i < n) (sym (length-map texts titled)) h
 
 among_at : (texts : List Titled) (i : ℕ) (x : Titled) (b : Bool) → i < length texts → x ≡ get_or texts i x → is_among (map text_of (take i (map titled texts))) (string_bytes x.text) ≡ b
     → list_any (is_same (get_or (map titled texts) i (titled x))) (take i (map titled texts)) ≡ b
-among_at texts i x b h is e =
-    ap (λ n. list_any (is_same n) (take i (map titled texts))) (named_at texts i x h is) ∙ (same_among (titled x) (take i (map titled texts)) ∙ e)
+among_at texts i x b h is e = search (rules, named_at, same_among)
 
 pub title_found : (texts : List Titled) (i : ℕ) (x : Titled) (whole : Option ℕ) → i < length texts → x ≡ get_or texts i x → is_among (map text_of (take i (map titled texts))) (string_bytes x.text) ≡ true
     → first_again is_same at (take i (map titled texts)) (drop i (map titled texts)) ≡ whole → Some x.at ≡ whole

@@ -1,5 +1,5 @@
 -- Message types of linked files are nested at most 64 deep, as deep as the grammar lets messages be nested in source files.
-use Rattle.std.proofs.Common.{◌≡◌, ◌∙◌, ℕ, zero, suc, ◌+◌, ◌^◌, ◌≤◌, Bool, true, false, cond, List, [], ◌∷◌, ◌++◌, filter, length, map, Option, Some, slice_get, sym, ap, subst, refl, arith, append_assoc, length-append}
+use Rattle.std.proofs.Common.{◌≡◌, ◌∙◌, ℕ, zero, suc, ◌+◌, ◌^◌, ◌≤◌, Bool, true, false, cond, List, [], ◌∷◌, ◌++◌, filter, length, map, Option, Some, slice_get, sym, ap, subst, refl, arith, append_assoc, length-append, rules}
 use Rattle.std.specs.List.{list_all, AllByRecursion}
 use Rattle.std.specs.Str.{bytes_eq}
 use Rattle.std.proofs.lemmas.List.{length-map}
@@ -39,14 +39,8 @@ module _ (types : List MessageType) where
   front_from place (v ∷ vs) ws h = (h.0, front_from (place + 1) vs ws h.1)
 
   back_from : (place : ℕ) (vs ws : List TypeTree) → AreFrom place (vs ++ ws) → AreFrom (place + length vs) ws
-  back_from place [] ws h = subst (λ n. AreFrom n ws) (none_more place) h
-    where
-      none_more : (n : ℕ) → n ≡ n + 0
-      none_more n = omega arith
-  back_from place (v ∷ vs) ws h = subst (λ n. AreFrom n ws) (one_more place (length vs)) (back_from (place + 1) vs ws h.1)
-    where
-      one_more : (n k : ℕ) → (n + 1) + k ≡ n + suc k
-      one_more n k = omega arith
+  back_from place [] ws h = search rules
+  back_from place (v ∷ vs) ws h = search (rules, back_from (place + 1) vs ws h.1)
 
   all_from : (before after : List MessageType) (ws : List TypeTree) → types ≡ before ++ after → EachIs IsTypeOf ws after → AreFrom (length before) ws
   all_from before [] [] is h = tt
@@ -86,9 +80,7 @@ module _ (types : List MessageType) (targets : ℕ → Option Target) (before : 
     where
       by : (c : Bool) → bytes_eq scope m.scope ≡ c → types_in scope (places (place + 1) rest) ≡ []
           → ids c place m (found scope (places (place + 1) rest)) ≡ []
-      by true is others =
-          let same : words_in scope ≡ words_in m.scope = same_scope scope m.scope is in
-          absurd (omega (arith, same, high, levelled.0.below, levelled.0.shallow))
+      by true is others = search (rules, same_scope)
       by false is others = others
 
   abbrev Fits : ℕ → Type 0
@@ -97,21 +89,14 @@ module _ (types : List MessageType) (targets : ℕ → Option Target) (before : 
   each_inside : (n : ℕ) → Fits n → (scope : List ℕ) → top ≤ words_in scope + suc n → (place : ℕ) (rest : List Message) → AreLevelled top rest
       → place + length rest ≤ 2 ^ 32 → AreFrom types place (map tree_of rest) → nest_within (suc n) types (types_in scope (places place rest)) ≡ true
   each_inside n inside scope high place [] levelled few are = refl
-  each_inside n inside scope high place (m ∷ rest) levelled few are =
-      by (bytes_eq scope m.scope) refl (each_inside n inside scope high (place + 1) rest levelled.1 (omega (arith, few)) are.1)
+  each_inside n inside scope high place (m ∷ rest) levelled few are = search (rules, by, each_inside n inside scope high (place + 1) rest levelled.1 (omega (arith, few)) are.1)
     where
       here : bytes_eq scope m.scope ≡ true → holds_inside (nest_within n types) (slice_get types (index_of place)) ≡ true
-      here is =
-          let same : words_in scope ≡ words_in m.scope = same_scope scope m.scope is in
-          ap (λ k. holds_inside (nest_within n types) (slice_get types k)) (index_is place (omega (arith, few)))
-          ∙ (ap (holds_inside (nest_within n types)) are.0.1
-          ∙ (ap (nest_within n types) are.0.2.nested_types ∙ inside m.full (omega (arith, same, high, levelled.0.below))))
+      here is = search (rules, same_scope, slice_get, index_is)
 
       by : (c : Bool) → bytes_eq scope m.scope ≡ c → nest_within (suc n) types (types_in scope (places (place + 1) rest)) ≡ true
           → nest_within (suc n) types (ids c place m (found scope (places (place + 1) rest))) ≡ true
-      by true is others =
-          and_both (holds_inside (nest_within n types) (slice_get types (index_of place)))
-          (nest_within (suc n) types (types_in scope (places (place + 1) rest))) (here is) others
+      by true is others = search (rules, and_both, here)
       by false is others = others
 
   nested : AreLevelled top ms → before + length ms ≤ 2 ^ 32 → AreFrom types before (map tree_of ms) → (n : ℕ) → Fits n
@@ -158,9 +143,7 @@ module _ (types : List MessageType) (depth : ℕ) (enough : 64 ≤ depth) where
   shapes_shallow [] [] h shallow = refl
   shapes_shallow [] (f ∷ fs) h shallow = absurd h
   shapes_shallow (w ∷ ws) [] h shallow = absurd h
-  shapes_shallow (w ∷ ws) (f ∷ fs) h shallow =
-      and_both (nest_within depth types f.types.items) (list_all (λ (g : File). nest_within depth types g.types.items) fs)
-      (ap (nest_within depth types) h.0.types ∙ shallow.0) (shapes_shallow ws fs h.1 shallow.1)
+  shapes_shallow (w ∷ ws) (f ∷ fs) h shallow = search (rules, and_both, shapes_shallow ws fs h.1 shallow.1)
 
 -- ---- linked files
 

@@ -1,6 +1,6 @@
 -- The enums of source files come scope by scope, file after file.
-use Rattle.std.proofs.Common.{◌≡◌, ◌∙◌, ℕ, zero, suc, ◌+◌, ◌^◌, ◌≤◌, Bool, true, false, cond, not, ◌&&◌, ◌||◌, List, [], ◌∷◌, ◌++◌, map, flat_map, length, Option, Some, None, slice_get, refl, sym, ap, ap₂, subst, arith, length-append}
-use Rattle.std.specs.List.{AllByRecursion, filter, list_all}
+use Rattle.std.proofs.Common.{◌≡◌, ◌∙◌, ℕ, zero, suc, ◌+◌, ◌^◌, ◌≤◌, Bool, true, false, cond, not, List, [], ◌∷◌, ◌++◌, map, flat_map, length, Option, Some, None, slice_get, refl, sym, ap, ap₂, subst, arith, length-append, rules}
+use Rattle.std.specs.List.{AllByRecursion, list_all}
 use Rattle.std.specs.Str.{bytes_eq}
 use Rattle.std.proofs.lemmas.Bool.{false≢true}
 use Rattle.std.proofs.lemmas.Grind.{flat_map-append}
@@ -54,9 +54,7 @@ abbrev found : List ℕ → ℕ → List (List ℕ) → List ℕ
 found scope k rest = places_in scope (placed_from k rest)
 
 one_found : (scope : List ℕ) (k : ℕ) (s : List ℕ) (rest : List (List ℕ)) → found scope k (s ∷ rest) ≡ cond (bytes_eq scope s) (k ∷ found scope (k + 1) rest) (found scope (k + 1) rest)
-one_found scope k s rest =
-    one_place (bytes_eq scope s) (record { scope = s; index = k })
-    (filter (λ (p : Placed). bytes_eq scope p.scope) (placed_from (k + 1) rest))
+one_found scope k s rest = search (rules, one_place)
 
 repeated_long : (n : ℕ) (s : List ℕ) → length (repeated n s) ≡ n
 repeated_long zero s = refl
@@ -65,13 +63,7 @@ repeated_long (suc n) s = ap suc (repeated_long n s)
 -- its own are the next ones
 own_found : (n : ℕ) (s : List ℕ) (k : ℕ) (rest : List (List ℕ)) → found s k (repeated n s ++ rest) ≡ places_from k n ++ found s (k + n) rest
 own_found zero s k rest = let none : k ≡ k + 0 = omega arith in ap (λ n. found s n rest) none
-own_found (suc n) s k rest =
-    let next : k + 1 ≡ suc k = omega arith in
-    let more : suc k + n ≡ k + suc n = omega arith in
-    one_found s k s (repeated n s ++ rest)
-    ∙ (ap (λ b. cond b (k ∷ found s (k + 1) (repeated n s ++ rest)) (found s (k + 1) (repeated n s ++ rest))) ((bytes_eq-Decides s s).1 refl)
-    ∙ ap (λ ps. k ∷ ps)
-    (ap (λ j. found s j (repeated n s ++ rest)) next ∙ (own_found n s (suc k) rest ∙ ap (λ j. places_from (suc k) n ++ found s j rest) more)))
+own_found (suc n) s k rest = search (rules, one_found, bytes_eq-Decides, own_found n s (suc k) rest)
 
 -- those of another are passed over
 other_found : (n : ℕ) (s other : List ℕ) (k : ℕ) (rest : List (List ℕ)) → bytes_eq s other ≡ false → found s k (repeated n other ++ rest) ≡ found s (k + n) rest
@@ -87,9 +79,7 @@ turned a b differs = apart b a (λ same. false≢true (ap not (sym ((bytes_eq-De
 
 none_found : (s : List ℕ) (k : ℕ) (bs : List Block) → list_all (differ s) (scopes bs) ≡ true → found s k (rows bs) ≡ []
 none_found s k [] differs = refl
-none_found s k (b ∷ bs) differs =
-    other_found b.1 s b.0 k (rows bs) (was_not (bytes_eq s b.0) (and_left (differ s b.0) (list_all (differ s) (scopes bs)) differs))
-    ∙ none_found s (k + b.1) bs (and_right (differ s b.0) (list_all (differ s) (scopes bs)) differs)
+none_found s k (b ∷ bs) differs = search (rules, other_found, was_not, and_left, and_right, none_found s (k + b.1) bs (and_right (differ s b.0) (list_all (differ s) (scopes bs)) differs))
   where
     was_not : (b : Bool) → not b ≡ true → b ≡ false
     was_not true is = absurd (false≢true is)
@@ -99,9 +89,7 @@ none_found s k (b ∷ bs) differs =
 others_found : (n : ℕ) (s : List ℕ) (k : ℕ) (rest : List (List ℕ)) (cs : List Block) → list_all (differ s) (scopes cs) ≡ true
     → flat_map (λ (c : Block). found c.0 k (repeated n s ++ rest)) cs ≡ flat_map (λ (c : Block). found c.0 (k + n) rest) cs
 others_found n s k rest [] differs = refl
-others_found n s k rest (c ∷ cs) differs =
-    ap₂ (λ xs ys. xs ++ ys) (other_found n c.0 s k rest (turned s c.0 (and_left (differ s c.0) (list_all (differ s) (scopes cs)) differs)))
-    (others_found n s k rest cs (and_right (differ s c.0) (list_all (differ s) (scopes cs)) differs))
+others_found n s k rest (c ∷ cs) differs = search (rules, other_found, turned, and_left, and_right, others_found n s k rest cs (and_right (differ s c.0) (list_all (differ s) (scopes cs)) differs))
 
 -- scope by scope, one index after the other
 in_order : (k : ℕ) (bs : List Block) → are_distinct (scopes bs) ≡ true → flat_map (λ (b : Block). found b.0 k (rows bs)) bs ≡ places_from k (length (rows bs))
@@ -135,29 +123,11 @@ all_repeated scope (e ∷ es) stand = ap₂ (λ s ss. s ∷ ss) stand.0 (all_rep
 
 body_stands : (scope : List ℕ) (ps : List Part) → AllByRecursion (Stands scope) (flat_map (enum_in scope) ps)
 body_stands scope [] = tt
-body_stands scope (p ∷ ps) = joined_all (Stands scope) (enum_in scope p) (flat_map (enum_in scope) ps) (one p) (body_stands scope ps)
-  where
-    one : (q : Part) → AllByRecursion (Stands scope) (enum_in scope q)
-    one (parts.Empty span) = tt
-    one (parts.Message' name shape row span) = tt
-    one (parts.Enum e) = (refl, tt)
-    one (parts.Oneof o) = tt
-    one (parts.Option o) = tt
-    one (parts.Reserved r) = tt
-    one (parts.Map m) = tt
-    one (parts.Field f) = tt
+body_stands scope (p ∷ ps) = search (rules, joined_all, flat_map, body_stands scope ps)
 
 statements_stand : (scope : List ℕ) (ss : List tree.Statement.Statement) → AllByRecursion (Stands scope) (flat_map (enum_stated scope) ss)
 statements_stand scope [] = tt
-statements_stand scope (s ∷ ss) = joined_all (Stands scope) (enum_stated scope s) (flat_map (enum_stated scope) ss) (one s) (statements_stand scope ss)
-  where
-    one : (t : tree.Statement.Statement) → AllByRecursion (Stands scope) (enum_stated scope t)
-    one (statements.Empty span) = tt
-    one (statements.Import i) = tt
-    one (statements.Option o) = tt
-    one (statements.Message m) = tt
-    one (statements.Enum e) = (refl, tt)
-    one (statements.Service s) = tt
+statements_stand scope (s ∷ ss) = search (rules, joined_all, flat_map, statements_stand scope ss)
 
 own_rows : (ms : List Message) → map enum_scope (flat_map own_enums ms) ≡ rows (map block ms)
 own_rows [] = refl
@@ -176,11 +146,7 @@ scoped_rows file =
 
 unlike : (scope : List ℕ) (names : List (List ℕ)) → is_among names scope ≡ false → list_all (differ scope) names ≡ true
 unlike scope [] none = refl
-unlike scope (n ∷ names) none = by (bytes_eq scope n) none (unlike scope names)
-  where
-    by : (b : Bool) → (b || is_among names scope) ≡ false → (is_among names scope ≡ false → list_all (differ scope) names ≡ true) → (not b && list_all (differ scope) names) ≡ true
-    by true is later = absurd (false≢true (sym is))
-    by false is later = later is
+unlike scope (n ∷ names) none = search (rules, false≢true, unlike scope names)
 
 scopes_are : (ms : List Message) → scopes (map block ms) ≡ map full_of ms
 scopes_are [] = refl
@@ -216,8 +182,7 @@ module _ (types : List MessageType) where
   AreFlat depth = (ids : List TypeId) → enums_below depth types ids ≡ flat_map enums_at (types_below depth types ids)
 
   one_flat : (depth : ℕ) → AreFlat depth → (o : Option MessageType) → inner_enums (enums_below depth types) o ≡ own_at o ++ flat_map enums_at (inner_types (types_below depth types) o)
-  one_flat depth deeper None = refl
-  one_flat depth deeper (Some t) = ap (λ ps. enum_places t.nested_enums.items ++ ps) (deeper t.nested_types.items)
+  one_flat depth deeper o = grind arith
 
   each_flat : (depth : ℕ) → AreFlat depth → (ids : List TypeId) → enums_below (suc depth) types ids ≡ flat_map enums_at (types_below (suc depth) types ids)
   each_flat depth deeper [] = refl
@@ -255,8 +220,7 @@ made_enums : (targets : ℕ → Option Target) (types enums : List Placed) (ms :
 made_enums targets types enums [] [] each = refl
 made_enums targets types enums [] (t ∷ ts) each = absurd each
 made_enums targets types enums (m ∷ ms) [] each = absurd each
-made_enums targets types enums (m ∷ ms) (t ∷ ts) each =
-    ap₂ (λ xs ys. xs ++ ys) (ap enum_places each.0.nested_enums ∙ ids_back (places_in m.full enums)) (made_enums targets types enums ms ts each.1)
+made_enums targets types enums (m ∷ ms) (t ∷ ts) each = search (rules, ids_back, made_enums targets types enums ms ts each.1)
 
 -- ---- file after file
 
@@ -309,12 +273,7 @@ module _ (depth : ℕ) (types : List MessageType) (few : length types ≤ 2 ^ 32
 
 enums_declared : (d : Declared) (ss : List Source) → length (with_files d ss).enums ≡ length d.enums + length (later_enums ss)
 enums_declared d [] = omega arith
-enums_declared d (s ∷ ss) =
-    let found = scoped_enums s.tree in
-    let rest = enums_declared (with_file d s) ss in
-    let more : length (d.enums ++ map made_enum found) ≡ length d.enums + length found = length-append d.enums (map made_enum found) ∙ ap (λ n. length d.enums + n) (length-map found made_enum) in
-    let both : length (found ++ later_enums ss) ≡ length found + length (later_enums ss) = length-append found (later_enums ss) in
-    omega (arith, rest, more, both)
+enums_declared d (s ∷ ss) = search (rules, length-append, length-map, enums_declared (with_file d s) ss)
 
 -- enums of source files come scope by scope, where message types are nested no deeper than that
 pub enums_in_order : (depth : ℕ) (sources : List Source) (parts : Parts) → ArePartsOf sources parts → IsSound parts

@@ -1,5 +1,5 @@
 -- Linked files: each imports no path twice, and comes after those that it imports.
-use Rattle.std.proofs.Common.{◌≡◌, ◌∙◌, ℕ, Bool, true, false, not, ◌||◌, List, [], ◌∷◌, ◌++◌, map, flat_map, length, reverse, Option, Some, None, refl, sym, ap, ap₂, subst}
+use Rattle.std.proofs.Common.{◌≡◌, ◌∙◌, ℕ, Bool, true, false, not, ◌||◌, List, [], ◌∷◌, ◌++◌, map, flat_map, reverse, Option, refl, sym, ap, ap₂, subst, arith, rules}
 use Rattle.std.specs.Bool.{⊤}
 use Rattle.std.specs.List.{AllByRecursion, list_all, list_any}
 use Rattle.std.specs.Str.{bytes_eq}
@@ -19,13 +19,12 @@ use Rattle.pg_link.specs.Linked.{IsLinkedUp, LinkedFiles}
 use Rattle.pg_link.specs.names.Outline.{file_imports, imports_in, statements_behind as linked_behind}
 use Rattle.pg_link.specs.walk.Walk.{Entry, outline, path_of}
 use Rattle.pg_check.specs.Declares.{Declares}
-use Rattle.pg_check.specs.parts.MadeFiles.{MadeImport, file_import, import_in, made_imports}
-use Rattle.pg_check.specs.parts.MadeParts.{Declared, EachIs, FileShape, IsFileOf, Source, file_shape, nothing, with_file, with_files}
+use Rattle.pg_check.specs.parts.MadeFiles.{MadeImport, import_in, made_imports}
+use Rattle.pg_check.specs.parts.MadeParts.{Declared, EachIs, FileShape, IsFileOf, Source, with_file, with_files}
 use Rattle.pg_check.specs.rules.Outline.{statements_behind}
-use Rattle.pg_check.specs.parts.Sources.{linked_source, linked_sources}
+use Rattle.pg_check.specs.parts.Sources.{linked_sources}
 use Rattle.pg_schema.specs.standing.Imports.{AreBehind, file_name, imports_apart}
 use Rattle.pg_syntax.specs.declared.tree as tree
-use Rattle.pg_syntax.specs.declared.tree.Statement.TheVariants as statements
 use Rattle.pg_check.proofs.lemmas.standing.UniqueNames.{neither}
 
 -- ---- paths
@@ -55,10 +54,7 @@ distinct [] apart = refl
 distinct (p ∷ paths) apart = and_both (list_all (differ p) paths) (are_distinct paths) (none_alike p paths apart.0) (distinct paths apart.1)
 
 or_turned : (a b : Bool) → (a || (b || false)) ≡ (b || a)
-or_turned true true = refl
-or_turned true false = refl
-or_turned false true = refl
-or_turned false false = refl
+or_turned a b = grind arith
 
 -- ---- files, the last first, by their paths and imports
 
@@ -70,12 +66,7 @@ last_first f files = ap (map outline_importer) (reverse-append (f ∷ []) files)
 
 among_turned : (files : List File) (path : List ℕ) → is_among (paths_of (map outline_importer (reverse files))) path ≡ is_path_of (linked_paths files) path
 among_turned [] path = refl
-among_turned (f ∷ files) path =
-    ap (λ is. is_among (paths_of is) path) (last_first f files)
-    ∙ (ap (λ ps. is_among ps path) (map-append (λ (i : Importer). i.path) (map outline_importer (reverse files)) (outline_importer f ∷ []))
-    ∙ (list_any-append (bytes_eq path) (paths_of (map outline_importer (reverse files))) (f.path ∷ [])
-    ∙ (or_turned (is_among (paths_of (map outline_importer (reverse files))) path) (bytes_eq path f.path)
-    ∙ ap (λ b. bytes_eq path f.path || b) (among_turned files path))))
+among_turned (f ∷ files) path = search (rules, last_first, map-append, reverse, list_any-append, or_turned, among_turned files path)
 
 -- the file after those of these names
 record Follows (names : List (List ℕ)) (i : Importer) : Type 0 where
@@ -96,18 +87,11 @@ listed_more names (x ∷ is) i listed next =
 all_there : (files : List File) (paths : List (List ℕ)) → AllByRecursion (λ path. is_path_of (linked_paths files) path ≡ true) paths
     → list_all (is_among (paths_of (map outline_importer (reverse files)))) paths ≡ true
 all_there files [] there = refl
-all_there files (p ∷ paths) there =
-    and_both (is_among (paths_of (map outline_importer (reverse files))) p) (list_all (is_among (paths_of (map outline_importer (reverse files)))) paths)
-    (among_turned files p ∙ there.0) (all_there files paths there.1)
+all_there files (p ∷ paths) there = search (rules, and_both, reverse, among_turned, all_there files paths there.1)
 
 listed : (files : List File) → InOrder files → Differ (linked_paths files) → AreListed [] (map outline_importer (reverse files))
 listed [] order apart = tt
-listed (f ∷ files) order apart =
-    subst (AreListed []) (sym (last_first f files)) (listed_more [] (map outline_importer (reverse files)) (outline_importer f) (listed files order.2 apart.1) (record {
-      imports_once = distinct (import_paths f.imports) order.1;
-      imports_there = all_there files (import_paths f.imports) (recursion_from_All (λ path. is_path_of (linked_paths files) path ≡ true) (import_paths f.imports) order.0);
-      is_new = among_turned files f.path ∙ apart.0;
-    }))
+listed (f ∷ files) order apart = search (rules, last_first, listed_more, distinct, all_there, recursion_from_All, among_turned, listed files order.2 apart.1)
 
 -- ---- imports
 
@@ -115,28 +99,17 @@ abbrev made_path : MadeImport → List ℕ
 made_path i = i.path
 
 imports_are : (s : tree.Statement.Statement) → map made_path (import_in s) ≡ import_paths (imports_in s)
-imports_are (statements.Empty span) = refl
-imports_are (statements.Import i) = refl
-imports_are (statements.Option o) = refl
-imports_are (statements.Message m) = refl
-imports_are (statements.Enum e) = refl
-imports_are (statements.Service s) = refl
+imports_are s = grind arith
 
 all_imports_are : (ss : List tree.Statement.Statement) → map made_path (flat_map import_in ss) ≡ import_paths (flat_map imports_in ss)
 all_imports_are [] = refl
-all_imports_are (s ∷ ss) =
-    map-append made_path (import_in s) (flat_map import_in ss)
-    ∙ (ap₂ (λ xs ys. xs ++ ys) (imports_are s) (all_imports_are ss) ∙ sym (map-append (λ line. line.path) (imports_in s) (flat_map imports_in ss)))
+all_imports_are (s ∷ ss) = search (rules, map-append, flat_map, imports_are, all_imports_are ss)
 
 imports_behind : (p : Option tree.Packaged.Packaged) → map made_path (flat_map import_in (statements_behind p)) ≡ import_paths (flat_map imports_in (linked_behind p))
-imports_behind None = refl
-imports_behind (Some p) = all_imports_are p.statements.items
+imports_behind p = grind (arith, all_imports_are)
 
 made_imports_are : (file : tree.FileTree.FileTree) → map made_path (made_imports file) ≡ import_paths (file_imports file)
-made_imports_are file =
-    map-append made_path (flat_map import_in file.statements.items) (flat_map import_in (statements_behind file.packaged))
-    ∙ (ap₂ (λ xs ys. xs ++ ys) (all_imports_are file.statements.items) (imports_behind file.packaged)
-    ∙ sym (map-append (λ line. line.path) (flat_map imports_in file.statements.items) (flat_map imports_in (linked_behind file.packaged))))
+made_imports_are file = search (rules, map-append, flat_map, all_imports_are, imports_behind)
 
 -- ---- the files of a schema are those that are linked, in order
 
@@ -154,17 +127,10 @@ entry_importer e = tree_importer (path_of e) e.1.tree
 
 shapes_are : (d : Declared) (ss : List Source) → map shape_importer (with_files d ss).files ≡ map shape_importer d.files ++ map source_importer ss
 shapes_are d [] = sym (append-nil (map shape_importer d.files))
-shapes_are d (s ∷ ss) =
-    shapes_are (with_file d s) ss
-    ∙ (ap (λ is. is ++ map source_importer ss) (map-append shape_importer d.files (file_shape (length d.types) (length d.enums) (length d.services) s ∷ []))
-    ∙ append_assoc (map shape_importer d.files) (source_importer s ∷ []) (map source_importer ss))
-
-abbrev importer : List ℕ → List (List ℕ) → Importer
-importer path imports = record { path = path; imports = imports }
+shapes_are d (s ∷ ss) = search (rules, map-append, append_assoc, shapes_are (with_file d s) ss)
 
 file_is : (w : FileShape) (f : schema.File) → IsFileOf w f → file_importer f ≡ shape_importer w
-file_is w f is = ap₂ importer is.name
-    (sym (map-map made_path file_import f.imports.items) ∙ (ap (map made_path) is.imports ∙ made_imports_are w.tree))
+file_is w f is = search (rules, map-map, made_imports_are)
 
 files_are : (ws : List FileShape) (fs : List schema.File) → EachIs IsFileOf ws fs → map file_importer fs ≡ map shape_importer ws
 files_are [] [] each = refl
@@ -173,16 +139,13 @@ files_are (w ∷ ws) [] each = absurd each
 files_are (w ∷ ws) (f ∷ fs) each = ap₂ (λ i is. i ∷ is) (file_is w f each.0) (files_are ws fs each.1)
 
 text_files : (linked : LinkedFiles) (parts : Parts) → Declares (linked_sources linked.files) parts → map file_importer parts.files.items ≡ map entry_importer linked.files
-text_files linked parts h =
-    files_are (with_files nothing (linked_sources linked.files)).files parts.files.items h.has_parts.files
-    ∙ (shapes_are nothing (linked_sources linked.files) ∙ map-map source_importer (linked_source linked.files) linked.files)
+text_files linked parts h = search (rules, files_are, shapes_are, map-map)
 
 entries_turned : (es : List Entry) → map outline_importer (reverse (reverse (map outline es))) ≡ map entry_importer es
 entries_turned es = ap (map outline_importer) (reverse-reverse (map outline es)) ∙ map-map outline_importer outline es
 
 texts_listed : (linked : LinkedFiles) (parts : Parts) → IsLinkedUp linked → Declares (linked_sources linked.files) parts → AreListed [] (map file_importer parts.files.items)
-texts_listed linked parts up h =
-    subst (AreListed []) (entries_turned linked.files ∙ sym (text_files linked parts h)) (listed (reverse (map outline linked.files)) up.in_order up.apart)
+texts_listed linked parts up h = search (rules, entries_turned, text_files, listed, reverse)
 
 -- ---- what is said of them
 
@@ -192,8 +155,7 @@ all_once names (f ∷ fs) listed = and_both (imports_apart f) (list_all imports_
 
 all_behind : (names : List (List ℕ)) (fs : List schema.File) → AreListed names (map file_importer fs) → AreBehind names fs
 all_behind names [] listed = tt
-all_behind names (f ∷ fs) listed =
-    (sym (list_all-map (is_among names) import_path f.imports.items) ∙ listed.0.imports_there, listed.0.is_new, all_behind (names ++ file_name f ∷ []) fs listed.1)
+all_behind names (f ∷ fs) listed = search (rules, list_all-map, listed, all_behind (names ++ file_name f ∷ []) fs listed.1)
 
 -- no linked file imports a path twice
 pub texts_import_once : (linked : LinkedFiles) (parts : Parts) → IsLinkedUp linked → Declares (linked_sources linked.files) parts → list_all imports_apart parts.files.items ≡ true

@@ -1,5 +1,5 @@
 -- Messages of a source file are at most 64 levels below its package: the full name of each has one word more than that of its scope.
-use Rattle.std.proofs.Common.{◌≡◌, ◌∙◌, inl, inr, ◌⊎◌, ℕ, zero, suc, ◌+◌, ◌≤◌, Bool, true, false, cond, ◌==◌, List, [], ◌∷◌, ◌++◌, flat_map, codes, Option, Some, None, string_bytes, sym, refl, arith}
+use Rattle.std.proofs.Common.{◌≡◌, inl, inr, ◌⊎◌, ℕ, ◌+◌, ◌≤◌, Bool, true, false, cond, ◌==◌, List, [], ◌∷◌, ◌++◌, flat_map, codes, Option, Some, None, string_bytes, refl, arith, rules}
 use Rattle.std.specs.List.{list_all, AllByRecursion}
 use Rattle.std.proofs.lemmas.Bool.{false≢true}
 use Rattle.std.proofs.lemmas.Bool.Decides.{nat_tests}
@@ -44,22 +44,14 @@ no_dot b h = grind (arith, nat_tests)
 
 no_dots : (bs : List ℕ) → list_all is_word_byte bs ≡ true → dots bs ≡ 0
 no_dots [] h = refl
-no_dots (b ∷ bs) h =
-    let first : dot b ≡ 0 = no_dot b (and_left (is_word_byte b) (list_all is_word_byte bs) h) in
-    let others : dots bs ≡ 0 = no_dots bs (and_right (is_word_byte b) (list_all is_word_byte bs) h) in
-    omega (arith, first, others)
+no_dots (b ∷ bs) h = search (rules, no_dot, and_left, and_right, no_dots bs (and_right (is_word_byte b) (list_all is_word_byte bs) h))
 
 one_word : (w : List ℕ) → is_word w ≡ true → words_in w ≡ 1
-one_word [] h = absurd (false≢true h)
-one_word (b ∷ bs) h = let none : dots (b ∷ bs) ≡ 0 = no_dots (b ∷ bs) (word_bytes (b ∷ bs) h) in omega (arith, none)
+one_word w h = grind (arith, false≢true, no_dots, word_bytes)
 
 -- a word within a scope has one more than the scope
 word_within : (scope w : List ℕ) → is_word w ≡ true → words_in (within scope w) ≡ words_in scope + 1
-word_within [] w h = let one = one_word w h in omega (arith, one)
-word_within (b ∷ bs) w h =
-    let none : dots w ≡ 0 = no_dots w (word_bytes w h) in
-    let both : dots ((b ∷ bs) ++ 46 ∷ w) ≡ dots (b ∷ bs) + dots (46 ∷ w) = dots_joined (b ∷ bs) (46 ∷ w) in
-    omega (arith, none, both)
+word_within scope w h = grind (arith, one_word, no_dots, word_bytes, dots_joined)
 
 -- ---- message types
 
@@ -77,13 +69,11 @@ message_tree span rest = At span (Both (view.word (codes "message")) rest)
 
 -- of two choices the first, where the symbols look as it asks
 first_chosen : {A B : Type 0} (looks : Bool) → looks ≡ true → A ⊎ (B × (looks ≡ false)) → A
-first_chosen looks so (inl h) = h
-first_chosen looks so (inr h) = absurd (false≢true (sym h.1 ∙ so))
+first_chosen looks so h3 = grind (arith, false≢true)
 
 -- of two choices the second, where the first is none
 second_chosen : {A B C : Type 0} → (A → ⊥) → A ⊎ (B × C) → B
-second_chosen none (inl h) = absurd (none h)
-second_chosen none (inr h) = h.0
+second_chosen none h2 = grind arith
 
 -- among parts of messages it is a message
 nested_derives : (g : Grammar) (span : Span) (rest : Tree) → Derives (grammar.part_in g) (message_tree span rest) → Derives g (message_tree span rest)
@@ -94,8 +84,7 @@ nested_derives g span rest h = first_chosen true refl (second_chosen (λ k. k) h
 stated_derives : (depth : ℕ) (span : Span) (rest : Tree) → Derives (grammar.statement depth) (message_tree span rest)
     → Derives (grammar.message depth) (message_tree span rest)
 unfolding grammar.statement grammar.empty grammar.import_line grammar.option
-stated_derives depth span rest h =
-    first_chosen true refl (second_chosen (λ k. false≢true k.0) (second_chosen (λ k. false≢true k.0) (second_chosen (λ k. k) h)))
+stated_derives depth span rest h = search (rules, first_chosen, second_chosen, false≢true)
 
 -- a message's parts have one level less
 pub record HasLeft (depth : ℕ) (parts : Tree) : Type 0 where
@@ -106,8 +95,7 @@ pub record HasLeft (depth : ℕ) (parts : Tree) : Type 0 where
 has_left : (depth : ℕ) (span : Span) (name open_mark parts close_mark : Tree)
     → Derives (grammar.message depth) (message_tree span (Both name (Both open_mark (Both parts close_mark)))) → HasLeft depth parts
 unfolding grammar.message
-has_left zero span name open_mark parts close_mark h = absurd h
-has_left (suc left) span name open_mark parts close_mark h = record { left = left; is = omega arith; derives = h.1.1.1.0 }
+has_left depth span name open_mark parts close_mark h = grind arith
 
 -- each node of the tree is one that the grammar derives
 abbrev AreNodes : Grammar → Tree → Type 0
@@ -193,10 +181,4 @@ behind_levelled depth top scope (Some p) fits h (inr d) = statements_levelled de
 pub file_levelled : (depth : ℕ) (file : tree.FileTree.FileTree) → IsGood (view.file file) → Derives (grammar.file depth) (view.file file)
     → AreLevelled (words_in (package_of file) + depth) (file_messages file)
 unfolding grammar.file
-file_levelled depth file h d =
-    let scope = package_of file in
-    let top = words_in scope + depth in
-    let behind = statements_behind file.packaged in
-    joined_all (IsLevelled top) (all_messages scope file.statements.items) (all_messages scope behind)
-    (statements_levelled depth top scope file.statements.items (omega arith) h.1.1.0 d.1.1.0)
-    (behind_levelled depth top scope file.packaged (omega arith) h.1.1.1 d.1.1.1)
+file_levelled depth file h d = search (rules, joined_all, statements_levelled, behind_levelled)

@@ -1,12 +1,11 @@
 -- The message types of a source file as trees: each before those in it.
-use Rattle.std.proofs.Common.{◌≡◌, ◌∙◌, ℕ, List, [], ◌∷◌, ◌++◌, flat_map, refl, sym, ap, ap₂}
+use Rattle.std.proofs.Common.{◌≡◌, ◌∙◌, ℕ, List, [], ◌∷◌, ◌++◌, flat_map, refl, ap, arith, rules}
 use Rattle.std.specs.Bool.{⊤}
 use Rattle.std.proofs.lemmas.List.{append-nil, append_assoc}
-use Rattle.pg_check.specs.rules.Outline.{Message, all_messages, file_messages, full_name, messages_in, messages_of, package_of, row_list, row_messages, statement_messages, statements_behind}
+use Rattle.pg_check.specs.rules.Outline.{Message, file_messages, full_name, messages_in, messages_of, package_of, row_list, row_messages, statement_messages}
 use Rattle.pg_syntax.specs.declared.tree as tree
 use Rattle.pg_syntax.specs.declared.tree.Part.{Part, Row_of-Part, end_of-Part, more_of-Part}
 use Rattle.pg_syntax.specs.declared.tree.Part.TheVariants as parts
-use Rattle.pg_syntax.specs.declared.tree.Statement.TheVariants as statements
 
 -- a message type with those in it, and the others that follow it in its scope
 pub data Trees : Type 0 where
@@ -28,8 +27,7 @@ beside (Grown m inside more) others = Grown m inside (beside more others)
 
 flat_beside : (f g : Trees) → flat (beside f g) ≡ flat f ++ flat g
 flat_beside Bare g = refl
-flat_beside (Grown m inside others) g =
-    ap (λ ms. m ∷ flat inside ++ ms) (flat_beside others g) ∙ ap (λ ms. m ∷ ms) (sym (append_assoc (flat inside) (flat others) (flat g)))
+flat_beside (Grown m inside others) g = search (rules, append_assoc, flat_beside others g)
 
 in_beside : (scope : List ℕ) (f g : Trees) → IsIn scope f → IsIn scope g → IsIn scope (beside f g)
 in_beside scope Bare g own more = more
@@ -44,11 +42,7 @@ no_trees : (scope : List ℕ) → HasTrees scope []
 no_trees scope = record { trees = Bare; is_flat = refl; is_in = tt }
 
 both_trees : (scope : List ℕ) (xs ys : List Message) → HasTrees scope xs → HasTrees scope ys → HasTrees scope (xs ++ ys)
-both_trees scope xs ys f g = record {
-  trees = beside f.trees g.trees;
-  is_flat = flat_beside f.trees g.trees ∙ ap₂ (λ us vs. us ++ vs) f.is_flat g.is_flat;
-  is_in = in_beside scope f.trees g.trees f.is_in g.is_in;
-}
+both_trees scope xs ys f g = search (rules, flat_beside, in_beside)
 
 one_tree : (m : Message) (inside : List Message) → HasTrees m.full inside → HasTrees m.scope (m ∷ inside)
 one_tree m inside f = record {
@@ -85,16 +79,7 @@ message_trees scope m =
     (all_trees full (messages_in full) (part_trees full) m.parts.items)
 
 statement_trees : (scope : List ℕ) (s : tree.Statement.Statement) → HasTrees scope (statement_messages scope s)
-statement_trees scope (statements.Empty span) = no_trees scope
-statement_trees scope (statements.Import i) = no_trees scope
-statement_trees scope (statements.Option o) = no_trees scope
-statement_trees scope (statements.Message m) = message_trees scope m
-statement_trees scope (statements.Enum e) = no_trees scope
-statement_trees scope (statements.Service s) = no_trees scope
+statement_trees scope s = grind (arith, no_trees, message_trees)
 
 pub file_trees : (file : tree.FileTree.FileTree) → HasTrees (package_of file) (file_messages file)
-file_trees file =
-    let scope = package_of file in
-    both_trees scope (all_messages scope file.statements.items) (all_messages scope (statements_behind file.packaged))
-    (all_trees scope (statement_messages scope) (statement_trees scope) file.statements.items)
-    (all_trees scope (statement_messages scope) (statement_trees scope) (statements_behind file.packaged))
+file_trees file = search (rules, both_trees, all_trees, statement_trees)

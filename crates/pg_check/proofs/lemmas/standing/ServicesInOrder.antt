@@ -1,12 +1,12 @@
 -- The services of source files come in order of declaration, file after file.
-use Rattle.std.proofs.Common.{◌≡◌, ◌∙◌, ℕ, suc, ◌+◌, List, [], ◌∷◌, ◌++◌, flat_map, length, refl, sym, ap, ap₂, arith}
+use Rattle.std.proofs.Common.{◌≡◌, ◌∙◌, ℕ, suc, ◌+◌, List, [], ◌∷◌, ◌++◌, flat_map, length, refl, ap, ap₂, arith, rules}
 use Rattle.std.proofs.lemmas.Grind.{flat_map-append}
 use Rattle.std.proofs.lemmas.List.{append-nil, length-map}
 use Rattle.pg_schema.specs.declared.parts.file.File.{File}
 use Rattle.pg_schema.specs.declared.parts.Parts.{Parts}
 use Rattle.pg_schema.specs.rules.Scopes.{declared_services, service_places}
-use Rattle.pg_check.specs.parts.MadeParts.{ArePartsOf, Declared, EachIs, FileShape, IsFileOf, Source, file_services, file_shape, nothing, with_file, with_files}
-use Rattle.pg_check.specs.parts.MadeServices.{MadeService, service, service_ids}
+use Rattle.pg_check.specs.parts.MadeParts.{ArePartsOf, Declared, EachIs, FileShape, IsFileOf, Source, with_file, with_files}
+use Rattle.pg_check.specs.parts.MadeServices.{MadeService, service_ids}
 use Rattle.pg_schema.specs.standing.Places.{places_from}
 
 -- ---- indexes of services
@@ -37,12 +37,7 @@ abbrev AreNumbered : Declared → Type 0
 AreNumbered d = flat_map shape_places d.files ≡ numbered 0 d.services
 
 file_numbered : (d : Declared) (s : Source) → AreNumbered d → AreNumbered (with_file d s)
-file_numbered d s so_far =
-    let own : FileShape = file_shape (length d.types) (length d.enums) (length d.services) s in
-    let zero_more : length d.services ≡ 0 + length d.services = omega arith in
-    flat_map-append shape_places d.files (own ∷ [])
-    ∙ (ap₂ (λ xs ys. xs ++ ys) so_far (append-nil (shape_places own) ∙ ap (λ n. numbered n (file_services s)) zero_more)
-    ∙ sym (numbered_joined 0 d.services (file_services s)))
+file_numbered d s so_far = search (rules, flat_map-append, append-nil, numbered_joined)
 
 all_numbered : (d : Declared) (ss : List Source) → AreNumbered d → AreNumbered (with_files d ss)
 all_numbered d [] so_far = so_far
@@ -57,9 +52,4 @@ files_places (w ∷ ws) (f ∷ fs) each = ap₂ (λ xs ys. xs ++ ys) (ap service
 -- services of linked files are in order
 pub services_in_order : (sources : List Source) (parts : Parts) → ArePartsOf sources parts
     → declared_services parts.files.items ≡ places_from 0 (length parts.services.items)
-services_in_order sources parts are =
-    let all = (with_files nothing sources).services in
-    let places : declared_services parts.files.items ≡ numbered 0 all =
-    files_places (with_files nothing sources).files parts.files.items are.files ∙ all_numbered nothing sources refl in
-    let many : length parts.services.items ≡ length all = sym (length-map parts.services.items service) ∙ ap length are.services in
-    places ∙ (in_order 0 all ∙ ap (places_from 0) (sym many))
+services_in_order sources parts are = search (rules, files_places, all_numbered, length-map, in_order)

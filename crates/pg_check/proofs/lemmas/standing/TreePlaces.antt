@@ -1,7 +1,6 @@
 -- Indexes of message types as trees: those of a scope are the roots of its trees, and a walk from them comes to one after the other.
-use Rattle.std.proofs.Common.{◌≡◌, ◌∙◌, ◌⊎◌, inl, inr, ℕ, suc, ◌+◌, ◌^◌, ◌<◌, Bool, true, false, cond, nat_lt, List, [], ◌∷◌, ◌++◌, map, length, refl, sym, ap, ap₂, subst, arith}
+use Rattle.std.proofs.Common.{◌≡◌, ◌∙◌, ◌⊎◌, inl, inr, ℕ, suc, ◌+◌, ◌^◌, ◌<◌, Bool, true, false, cond, nat_lt, List, [], ◌∷◌, ◌++◌, map, length, refl, sym, ap, ap₂, subst, arith, rules}
 use Rattle.std.specs.Bool.{⊤}
-use Rattle.std.specs.List.{filter}
 use Rattle.std.specs.Str.{bytes_eq}
 use Rattle.std.proofs.lemmas.Bool.Decides.{nat_tests}
 use Rattle.std.proofs.lemmas.List.{append-nil}
@@ -33,18 +32,14 @@ found scope k (Grown m inside others) =
 
 pub one_place : (b : Bool) (p : Placed) (ps : List Placed)
     → map (λ (q : Placed). q.index) (cond b (p ∷ ps) ps) ≡ cond b (p.index ∷ map (λ (q : Placed). q.index) ps) (map (λ (q : Placed). q.index) ps)
-one_place true p ps = refl
-one_place false p ps = refl
+one_place b p ps = grind arith
 
 cond_joined : (b : Bool) (k : ℕ) (xs ys : List ℕ) → cond b (k ∷ xs ++ ys) (xs ++ ys) ≡ cond b (k ∷ xs) xs ++ ys
-cond_joined true k xs ys = refl
-cond_joined false k xs ys = refl
+cond_joined b k xs ys = grind arith
 
 first_place : (scope : List ℕ) (k : ℕ) (m : Message) (ms : List Message)
     → places_of scope k (m ∷ ms) ≡ cond (bytes_eq scope m.scope) (k ∷ places_of scope (k + 1) ms) (places_of scope (k + 1) ms)
-first_place scope k m ms =
-    one_place (bytes_eq scope m.scope) (record { scope = m.scope; index = k })
-    (filter (λ (p : Placed). bytes_eq scope p.scope) (placed_from (k + 1) (map message_scope ms)))
+first_place scope k m ms = search (rules, one_place)
 
 places_joined : (scope : List ℕ) (k : ℕ) (xs ys : List Message) → places_of scope k (xs ++ ys) ≡ places_of scope k xs ++ places_of scope (k + length xs) ys
 places_joined scope k [] ys = let none : k ≡ k + 0 = omega arith in ap (λ n. places_of scope n ys) none
@@ -57,10 +52,7 @@ places_joined scope k (x ∷ xs) ys =
 
 -- an index of 32 bits is itself
 pub index_is : (n : ℕ) → n < 2 ^ 32 → index_of n ≡ n
-index_is n less = small n less
-  where
-    small : (n : ℕ) → n < 2 ^ 32 → cond (nat_lt n (2 ^ 32)) n 0 ≡ n
-    small n less = grind (arith, nat_tests)
+index_is n less = search (rules, nat_lt, nat_tests)
 
 found_is : (scope : List ℕ) (k : ℕ) (f : Trees) → places_of scope k (flat f) ≡ found scope k f
 found_is scope k Bare = refl
@@ -85,11 +77,7 @@ NamedApart (Grown m inside others) =
     × NamedApart inside × NamedApart others
 
 pub apart : (a b : List ℕ) → (a ≡ b → ⊥) → bytes_eq a b ≡ false
-apart a b differ = by (bytes_eq a b) refl
-  where
-    by : (c : Bool) → bytes_eq a b ≡ c → c ≡ false
-    by true is = absurd (differ ((bytes_eq-Decides a b).0 is))
-    by false is = refl
+apart a b differ = search (rules, bytes_eq-Decides)
 
 none_found : (name scope : List ℕ) (k : ℕ) (f : Trees) → IsIn scope f → (name ≡ scope → ⊥) → (Names name f → ⊥) → found name k f ≡ []
 none_found name scope k Bare own other none = refl
@@ -132,30 +120,19 @@ each_found scope k (Grown m inside others) own none once = (
     behind = suc k + size inside
 
     passed : (name : List ℕ) → (name ≡ scope → ⊥) → found name k (Grown m inside others) ≡ found name (suc k) inside ++ found name behind others
-    passed name other = ap (λ b. cond b (k ∷ found name (suc k) inside ++ found name behind others) (found name (suc k) inside ++ found name behind others))
-        (apart name m.scope (λ same. other (same ∙ own.0)))
+    passed name other = search (rules, behind, apart)
 
     of_this : found m.full k (Grown m inside others) ≡ roots (suc k) inside
-    of_this =
-        let other : m.full ≡ scope → ⊥ = λ same. none (inl (sym same)) in
-        passed m.full other
-        ∙ (ap₂ (λ xs ys. xs ++ ys) (roots_found m.full (suc k) inside own.1 once.0) (none_found m.full scope behind others own.2 other once.1)
-        ∙ append-nil (roots (suc k) inside))
+    of_this = search (rules, passed, roots_found, none_found, behind, append-nil)
 
     not_scope : (name : List ℕ) → Names name inside ⊎ Names name others → name ≡ scope → ⊥
     not_scope name names same = none (inr (subst (λ n. Names n inside ⊎ Names n others) same names))
 
     of_inside : HoldsOf (λ name places. found name (suc k) inside ≡ places) (suc k) inside → HoldsOf (λ name places. found name k (Grown m inside others) ≡ places) (suc k) inside
-    of_inside = holds_too (λ name places. found name (suc k) inside ≡ places) (λ name places. found name k (Grown m inside others) ≡ places) (suc k) inside
-        (λ name places names is. passed name (not_scope name (inl names))
-        ∙ (ap (λ ys. found name (suc k) inside ++ ys) (none_found name scope behind others own.2 (not_scope name (inl names)) (λ again. once.2 name names again))
-        ∙ (append-nil (found name (suc k) inside) ∙ is)))
+    of_inside = search (rules, holds_too, passed, not_scope, none_found, behind, append-nil)
 
     of_others : HoldsOf (λ name places. found name behind others ≡ places) behind others → HoldsOf (λ name places. found name k (Grown m inside others) ≡ places) behind others
-    of_others = holds_too (λ name places. found name behind others ≡ places) (λ name places. found name k (Grown m inside others) ≡ places) behind others
-        (λ name places names is. passed name (not_scope name (inr names))
-        ∙ (ap (λ xs. xs ++ found name behind others)
-        (none_found name m.full (suc k) inside own.1 (λ same. once.1 (subst (λ n. Names n others) same names)) (λ again. once.2 name again names)) ∙ is))
+    of_others = search (rules, holds_too, behind, passed, not_scope, none_found)
 
 -- ---- the indexes that are looked up by scope
 
@@ -163,5 +140,4 @@ pub roots_held : (scope : List ℕ) (k : ℕ) (f : Trees) → IsIn scope f → (
 roots_held scope k f own none = found_is scope k f ∙ roots_found scope k f own none
 
 pub places_held : (scope : List ℕ) (k : ℕ) (f : Trees) → IsIn scope f → (Names scope f → ⊥) → NamedApart f → HoldsOf (λ name places. places_of name k (flat f) ≡ places) k f
-places_held scope k f own none once =
-    holds_too (λ name places. found name k f ≡ places) (λ name places. places_of name k (flat f) ≡ places) k f (λ name places names is. found_is name k f ∙ is) (each_found scope k f own none once)
+places_held scope k f own none once = search (rules, holds_too, flat, found_is, each_found)

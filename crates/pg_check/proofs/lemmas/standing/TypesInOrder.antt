@@ -1,7 +1,6 @@
 -- The message types of source files come in order of declaration, file after file.
-use Rattle.std.proofs.Common.{◌≡◌, ◌∙◌, ℕ, suc, ◌+◌, ◌^◌, ◌≤◌, true, false, List, [], ◌∷◌, ◌++◌, map, flat_map, length, Option, Some, slice_get, refl, sym, ap, ap₂, subst, arith, length-append}
+use Rattle.std.proofs.Common.{◌≡◌, ◌∙◌, ℕ, suc, ◌+◌, ◌^◌, ◌≤◌, true, false, List, [], ◌∷◌, ◌++◌, map, flat_map, length, Option, Some, slice_get, refl, sym, ap, ap₂, subst, arith, length-append, rules}
 use Rattle.std.specs.List.{AllByRecursion, list_all}
-use Rattle.std.specs.String.{string_bytes}
 use Rattle.std.proofs.lemmas.List.{append-nil, append_assoc, length-map, map-append}
 use Rattle.pg_schema.specs.declared.parts.file.File.{File}
 use Rattle.pg_schema.specs.declared.parts.message_type.MessageType.{MessageType}
@@ -12,7 +11,7 @@ use Rattle.pg_schema.specs.rules.TextSets.{is_among}
 use Rattle.pg_schema.proofs.lemmas.rules.PairLemmas.{and_left, and_right}
 use Rattle.pg_link.specs.declared.uses.target.Target.{Target}
 use Rattle.pg_check.specs.parts.ByScope.{Placed}
-use Rattle.pg_check.specs.parts.MadeParts.{ArePartsOf, Declared, EachIs, FileShape, IsFileOf, IsTypeOf, Source, TypeTree, file_shape, nothing, placed_enums, placed_messages, type_tree, type_trees, with_file, with_files}
+use Rattle.pg_check.specs.parts.MadeParts.{ArePartsOf, Declared, EachIs, FileShape, IsFileOf, IsTypeOf, Source, TypeTree, file_shape, nothing, type_tree, type_trees, with_file, with_files}
 use Rattle.pg_check.specs.rules.Outline.{Message, file_messages, package_of}
 use Rattle.pg_schema.specs.standing.InOrder.{types_below}
 use Rattle.pg_schema.specs.standing.Nesting.{nest_within}
@@ -34,15 +33,11 @@ later_files d (s ∷ ss) = file_shape (length d.types) (length d.enums) (length 
 
 pub types_declared : (d : Declared) (ss : List Source) → (with_files d ss).types ≡ d.types ++ later_types d ss
 types_declared d [] = sym (append-nil d.types)
-types_declared d (s ∷ ss) =
-    let own = type_trees (length d.types) (length d.enums) s in
-    types_declared (with_file d s) ss ∙ append_assoc d.types own (later_types (with_file d s) ss)
+types_declared d (s ∷ ss) = search (rules, append_assoc, types_declared (with_file d s) ss)
 
 pub files_declared : (d : Declared) (ss : List Source) → (with_files d ss).files ≡ d.files ++ later_files d ss
 files_declared d [] = sym (append-nil d.files)
-files_declared d (s ∷ ss) =
-    let own = file_shape (length d.types) (length d.enums) (length d.services) s in
-    files_declared (with_file d s) ss ∙ append_assoc d.files (own ∷ []) (later_files (with_file d s) ss)
+files_declared d (s ∷ ss) = search (rules, append_assoc, files_declared (with_file d s) ss)
 
 pub record EachSplits {A B : Type 0} (is : A → B → Type 0) (xs ys : List A) (zs : List B) : Type 0 where
   pub front : List B
@@ -93,33 +88,13 @@ module _ (depth : ℕ) (types : List MessageType) (few : length types ≤ 2 ^ 32
   pub file_apart : (front own back : List MessageType) (d : Declared) (s : Source) (f : File) → types ≡ front ++ (own ++ back)
       → EachIs IsTypeOf (type_trees (length d.types) (length d.enums) s) own → IsFileOf (file_shape (length d.types) (length d.enums) (length d.services) s) f → IsUncalled (map type_name types) f
       → (are_distinct (map full_of (file_messages s.tree)) ≡ true) × (is_among (map full_of (file_messages s.tree)) (package_of s.tree) ≡ false)
-  file_apart front own back d s f whole each is free =
-      let ms = file_messages s.tree in
-      let same : map full_of ms ≡ map type_name own = names_are s.targets (placed_messages (length d.types) s.tree) (placed_enums (length d.enums) s.tree) ms own each in
-      let names : map type_name types ≡ map type_name front ++ (map type_name own ++ map type_name back) =
-      ap (map type_name) whole ∙ (map-append type_name front (own ++ back) ∙ ap (λ ns. map type_name front ++ ns) (map-append type_name own back)) in (
-        ap are_distinct same ∙ distinct_left (map type_name own) (map type_name back)
-            (distinct_right (map type_name front) (map type_name own ++ map type_name back) (ap are_distinct (sym names) ∙ once)),
-        ap₂ is_among same (sym is.in_package) ∙ not_between (map type_name front) (map type_name own) (map type_name back) (string_bytes f.package)
-            (ap (λ ns. is_among ns (string_bytes f.package)) (sym names) ∙ free),
-      )
+  file_apart front own back d s f whole each is free = search (rules, names_are, map-append, distinct_left, distinct_right, not_between)
 
   -- after the message types in front those of the file are in order
   pub file_in_order : (front own back : List MessageType) (d : Declared) (s : Source) (f : File) → types ≡ front ++ (own ++ back) → length front ≡ length d.types
       → EachIs IsTypeOf (type_trees (length d.types) (length d.enums) s) own → IsFileOf (file_shape (length d.types) (length d.enums) (length d.services) s) f
       → IsUncalled (map type_name types) f → nest_within depth types f.types.items ≡ true → in_file depth types f ≡ places_from (length d.types) (length own)
-  file_in_order front own back d s f whole long each is free shallow =
-      let k = length d.types in
-      let ms = file_messages s.tree in
-      let all = placed_messages k s.tree in
-      let many : length ms ≡ length own = sym (length-map ms (type_tree s.targets all (placed_enums (length d.enums) s.tree))) ∙ each-length IsTypeOf (type_trees k (length d.enums) s) own each in
-      let apart = file_apart front own back d s f whole each is free in
-      let total : length types ≡ length front + (length own + length back) = ap length whole ∙ (length-append front (own ++ back) ∙ ap (λ n. length front + n) (length-append own back)) in
-      let these : AreTyped types all k ms =
-      subst (λ n. AreTyped types all n ms) long (subst (λ ts. AreTyped ts all (length front) ms) (sym whole) (typed s.targets all (placed_enums (length d.enums) s.tree) front own back ms each)) in
-      ap (types_below depth types) is.types
-      ∙ (walk_in_order types depth (package_of s.tree) k ms (file_trees s.tree) apart.0 apart.1 (omega (arith, few, total, long, many)) these (ap (nest_within depth types) (sym is.types) ∙ shallow)
-      ∙ ap (places_from k) many)
+  file_in_order front own back d s f whole long each is free shallow = search (rules, length-map, each-length, file_apart, length-append, typed, walk_in_order, file_trees)
 
   files_in_order : (front back : List MessageType) (d : Declared) (ss : List Source) (fs : List File) → types ≡ front ++ back → length front ≡ length d.types
       → EachIs IsTypeOf (later_types d ss) back → EachIs IsFileOf (later_files d ss) fs → AllByRecursion (IsUncalled (map type_name types)) fs

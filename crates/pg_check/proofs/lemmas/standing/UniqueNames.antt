@@ -1,5 +1,5 @@
 -- Names that are there once: among the full names of a sound schema's message types none is there twice, and none is a file's package.
-use Rattle.std.proofs.Common.{◌≡◌, ◌∙◌, ℕ, Bool, true, false, not, nat_eq, ◌&&◌, ◌||◌, List, [], ◌∷◌, ◌++◌, map, flat_map, refl, sym, ap, subst, arith}
+use Rattle.std.proofs.Common.{◌≡◌, ◌∙◌, ℕ, Bool, true, false, not, nat_eq, ◌||◌, List, [], ◌∷◌, ◌++◌, map, flat_map, refl, sym, arith, rules}
 use Rattle.std.specs.List.{AllByRecursion, list_all}
 use Rattle.std.specs.Str.{bytes_eq}
 use Rattle.std.specs.String.{string_bytes}
@@ -11,7 +11,7 @@ use Rattle.pg_schema.specs.declared.parts.enum_type.EnumType.{EnumType}
 use Rattle.pg_schema.specs.declared.parts.file.File.{File}
 use Rattle.pg_schema.specs.declared.parts.message_type.MessageType.{MessageType}
 use Rattle.pg_schema.specs.declared.parts.Parts.{Parts}
-use Rattle.pg_schema.specs.rules.DeclaredNames.{declared_names, entry_names, file_names, service_names, type_names, values_at, within}
+use Rattle.pg_schema.specs.rules.DeclaredNames.{declared_names, entry_names, type_names, values_at, within}
 use Rattle.pg_schema.specs.rules.Messages.{field_names}
 use Rattle.pg_schema.specs.rules.Packages.{are_free_of, is_free_of, is_front}
 use Rattle.pg_schema.specs.rules.Pairs.{are_distinct, differ}
@@ -23,18 +23,11 @@ use Rattle.pg_schema.proofs.lemmas.rules.PairLemmas.{and_both, and_left, and_rig
 
 pub not_among : (name : List ℕ) (xs : List (List ℕ)) → list_all (differ name) xs ≡ true → is_among xs name ≡ true → ⊥
 not_among name [] all among = false≢true among
-not_among name (x ∷ xs) all among = by (bytes_eq name x) all among (not_among name xs)
-  where
-    by : (b : Bool) → (not b && list_all (differ name) xs) ≡ true → (b || is_among xs name) ≡ true → (list_all (differ name) xs ≡ true → is_among xs name ≡ true → ⊥) → ⊥
-    by true all among later = false≢true all
-    by false all among later = later all among
+not_among name (x ∷ xs) all among = search (rules, false≢true, not_among name xs)
 
 pub distinct_left : (xs ys : List (List ℕ)) → are_distinct (xs ++ ys) ≡ true → are_distinct xs ≡ true
 distinct_left [] ys once = refl
-distinct_left (x ∷ xs) ys once =
-    and_both (list_all (differ x) xs) (are_distinct xs)
-    (and_left (list_all (differ x) xs) (list_all (differ x) ys) (sym (list_all-append (differ x) xs ys) ∙ and_left (list_all (differ x) (xs ++ ys)) (are_distinct (xs ++ ys)) once))
-    (distinct_left xs ys (and_right (list_all (differ x) (xs ++ ys)) (are_distinct (xs ++ ys)) once))
+distinct_left (x ∷ xs) ys once = search (rules, and_both, and_left, list_all-append, and_right, distinct_left xs ys (and_right (list_all (differ x) (xs ++ ys)) (are_distinct (xs ++ ys)) once))
 
 pub distinct_right : (xs ys : List (List ℕ)) → are_distinct (xs ++ ys) ≡ true → are_distinct ys ≡ true
 distinct_right [] ys once = once
@@ -42,26 +35,16 @@ distinct_right (x ∷ xs) ys once = distinct_right xs ys (and_right (list_all (d
 
 pub not_in_both : (name : List ℕ) (xs ys : List (List ℕ)) → are_distinct (xs ++ ys) ≡ true → is_among xs name ≡ true → is_among ys name ≡ true → ⊥
 not_in_both name [] ys once first second = false≢true first
-not_in_both name (x ∷ xs) ys once first second = by (bytes_eq name x) refl first (not_in_both name xs ys (and_right (list_all (differ x) (xs ++ ys)) (are_distinct (xs ++ ys)) once))
-  where
-    by : (b : Bool) → bytes_eq name x ≡ b → (b || is_among xs name) ≡ true → (is_among xs name ≡ true → is_among ys name ≡ true → ⊥) → ⊥
-    by false is among later = later among second
-    by true is among later =
-        not_among x ys
-        (and_right (list_all (differ x) xs) (list_all (differ x) ys) (sym (list_all-append (differ x) xs ys) ∙ and_left (list_all (differ x) (xs ++ ys)) (are_distinct (xs ++ ys)) once))
-        (subst (λ n. is_among ys n ≡ true) ((bytes_eq-Decides name x).0 is) second)
+not_in_both name (x ∷ xs) ys once first second = search (rules, and_right, not_among, list_all-append, and_left, bytes_eq-Decides, not_in_both name xs ys (and_right (list_all (differ x) (xs ++ ys)) (are_distinct (xs ++ ys)) once))
 
 all_left : {X : Type 0} (test : X → Bool) (xs ys : List X) → list_all test (xs ++ ys) ≡ true → list_all test xs ≡ true
 all_left test xs ys all = and_left (list_all test xs) (list_all test ys) (sym (list_all-append test xs ys) ∙ all)
 
 pub neither : (a b : Bool) → (a || b) ≡ false → (a ≡ false) × (b ≡ false)
-neither true b none = absurd (false≢true (sym none))
-neither false b none = (refl, none)
+neither a b none = grind (arith, false≢true)
 
 pub not_between : (xs ys zs : List (List ℕ)) (name : List ℕ) → is_among (xs ++ (ys ++ zs)) name ≡ false → is_among ys name ≡ false
-not_between xs ys zs name none =
-    let later = (neither (is_among xs name) (is_among (ys ++ zs) name) (sym (list_any-append (bytes_eq name) xs (ys ++ zs)) ∙ none)).1 in
-    (neither (is_among ys name) (is_among zs name) (sym (list_any-append (bytes_eq name) ys zs) ∙ later)).0
+not_between xs ys zs name none = search (rules, neither, list_any-append)
 
 -- ---- of message types
 
@@ -95,13 +78,7 @@ firsts_distinct enums (t ∷ types) once =
     (firsts_distinct enums types (distinct_right own others (and_right (list_all (differ (type_name t)) (own ++ others)) (are_distinct (own ++ others)) once)))
 
 pub types_distinct : (parts : Parts) → IsSound parts → are_distinct (map type_name parts.types.items) ≡ true
-types_distinct parts sound =
-    let types = flat_map (type_names parts.enums.items) parts.types.items in
-    let enum_names = map (λ (e : EnumType). string_bytes e.name) parts.enums.items in
-    let services = flat_map service_names parts.services.items in
-    let files = flat_map (file_names parts.enums.items) parts.files.items in
-    firsts_distinct parts.enums.items parts.types.items
-    (distinct_left types enum_names (distinct_left (types ++ enum_names) services (distinct_left (types ++ enum_names ++ services) files sound.names)))
+types_distinct parts sound = search (rules, flat_map, firsts_distinct, distinct_left)
 
 same_byte : (b : ℕ) → nat_eq b b ≡ true
 same_byte b = grind (arith, nat_tests)
@@ -117,10 +94,7 @@ not_named scope (n ∷ names) free = by (bytes_eq scope n) refl (not_named scope
   where
     by : (b : Bool) → bytes_eq scope n ≡ b → is_among names scope ≡ false → (b || is_among names scope) ≡ false
     by false is later = later
-    by true is later =
-        let same : scope ≡ n = (bytes_eq-Decides scope n).0 is in
-        let front : is_front n scope ≡ true = subst (λ x. is_front x scope ≡ true) same (whole_front scope) in
-        absurd (false≢true (ap not (sym front) ∙ and_left (not (is_front n scope)) (is_free_of names scope) free))
+    by true is later = search (rules, bytes_eq-Decides, whole_front, false≢true, and_left)
 
 -- no message type is called as the package
 abbrev pub IsUncalled : List (List ℕ) → File → Type 0
@@ -128,26 +102,4 @@ IsUncalled names f = is_among names (string_bytes f.package) ≡ false
 
 pub uncalled : (parts : Parts) (files : List File) → are_free_of (declared_names parts) files ≡ true → AllByRecursion (IsUncalled (map type_name parts.types.items)) files
 uncalled parts [] free = tt
-uncalled parts (f ∷ files) free = (
-  not_named (string_bytes f.package) (map type_name parts.types.items) (firsts_pass parts.enums.items (λ name. not (is_front name (string_bytes f.package))) parts.types.items own),
-  uncalled parts files (and_right (is_free_of (declared_names parts) (string_bytes f.package)) (are_free_of (declared_names parts) files) free),
-)
-  where
-    types : List (List ℕ)
-    types = flat_map (type_names parts.enums.items) parts.types.items
-
-    enums : List (List ℕ)
-    enums = map (λ (e : EnumType). string_bytes e.name) parts.enums.items
-
-    services : List (List ℕ)
-    services = flat_map service_names parts.services.items
-
-    values : List (List ℕ)
-    values = flat_map (file_names parts.enums.items) parts.files.items
-
-    is_apart : List ℕ → Bool
-    is_apart name = not (is_front name (string_bytes f.package))
-
-    own : list_all (λ name. not (is_front name (string_bytes f.package))) types ≡ true
-    own = all_left is_apart types enums (all_left is_apart (types ++ enums) services (all_left is_apart (types ++ enums ++ services) values
-        (and_left (is_free_of (declared_names parts) (string_bytes f.package)) (are_free_of (declared_names parts) files) free)))
+uncalled parts (f ∷ files) free = search (rules, not_named, firsts_pass, and_right, all_left, and_left, uncalled parts files (and_right (is_free_of (declared_names parts) (string_bytes f.package)) (are_free_of (declared_names parts) files) free))

@@ -1,8 +1,7 @@
 -- Where each message type lists the indexes of those that its scope declares, a walk from a scope comes to one index after the other.
-use Rattle.std.proofs.Common.{◌≡◌, ◌∙◌, ◌⊎◌, inl, inr, ℕ, zero, suc, ◌+◌, ◌^◌, ◌≤◌, Bool, true, false, ◌&&◌, ◌||◌, List, [], ◌∷◌, ◌++◌, map, length, Some, slice_get, refl, sym, ap, ap₂, subst, arith, length-append, true≢false}
+use Rattle.std.proofs.Common.{◌≡◌, ◌∙◌, inl, inr, ℕ, zero, suc, ◌+◌, ◌^◌, ◌≤◌, true, false, ◌&&◌, ◌||◌, List, [], ◌∷◌, ◌++◌, map, length, Some, slice_get, refl, sym, ap, ap₂, subst, arith, length-append, true≢false, rules}
 use Rattle.std.specs.Bool.{⊤}
 use Rattle.std.specs.List.{list_all}
-use Rattle.std.specs.Str.{bytes_eq}
 use Rattle.std.proofs.lemmas.Bool.{false≢true}
 use Rattle.std.proofs.lemmas.List.{map-append}
 use Rattle.std.proofs.lemmas.List.Folds.{list_all-append, list_any-append}
@@ -111,19 +110,7 @@ full_of m = m.full
 named : (name : List ℕ) (f : Trees) → Names name f → is_among (map full_of (flat f)) name ≡ true
 named name Bare names = absurd names
 named name (Grown m inside others) (inl same) = ap (λ b. b || is_among (map full_of (flat inside ++ flat others)) name) ((bytes_eq-Decides name m.full).1 same)
-named name (Grown m inside others) (inr names) = or_right (bytes_eq name m.full) (is_among (map full_of (flat inside ++ flat others)) name)
-    (ap (λ ns. is_among ns name) (map-append full_of (flat inside) (flat others))
-    ∙ (list_any-append (bytes_eq name) (map full_of (flat inside)) (map full_of (flat others)) ∙ either names (named name inside) (named name others)))
-  where
-    or_right : (a b : Bool) → b ≡ true → (a || b) ≡ true
-    or_right true b is = refl
-    or_right false b is = is
-
-    either : Names name inside ⊎ Names name others → (Names name inside → is_among (map full_of (flat inside)) name ≡ true)
-        → (Names name others → is_among (map full_of (flat others)) name ≡ true)
-        → (is_among (map full_of (flat inside)) name || is_among (map full_of (flat others)) name) ≡ true
-    either (inl is) first second = ap (λ b. b || is_among (map full_of (flat others)) name) (first is)
-    either (inr is) first second = or_right (is_among (map full_of (flat inside)) name) (is_among (map full_of (flat others)) name) (second is)
+named name (Grown m inside others) (inr names) = search (rules, flat, map-append, list_any-append, named name inside, named name others)
 
 named_apart : (f : Trees) → are_distinct (map full_of (flat f)) ≡ true → NamedApart f
 named_apart Bare once = tt

@@ -1,5 +1,5 @@
 -- Enums of files that keep to the rules.
-use Rattle.std.proofs.Common.{◌≡◌, ◌∙◌, ℕ, zero, suc, ◌+◌, ◌-◌, ◌^◌, ◌<◌, ◌≤◌, ℤ, pos, neg_ℤ, Bool, true, false, cond, not, ◌&&◌, ◌||◌, nat_lt, nat_le, nat_eq, List, [], ◌∷◌, ◌++◌, map, flat_map, Some, None, codes, string_bytes, arith, sym, ap, refl}
+use Rattle.std.proofs.Common.{◌≡◌, ◌∙◌, ℕ, ◌+◌, ◌-◌, ◌^◌, ◌<◌, ℤ, pos, neg_ℤ, Bool, true, false, cond, not, ◌&&◌, ◌||◌, nat_lt, nat_le, nat_eq, List, [], ◌∷◌, ◌++◌, map, flat_map, Some, None, codes, string_bytes, arith, sym, ap, refl, rules}
 use Rattle.std.specs.List.{list_all}
 use Rattle.std.specs.Str.{bytes_eq}
 use Rattle.std.proofs.lemmas.Bool.{false≢true}
@@ -16,6 +16,7 @@ use Rattle.pg_schema.specs.rules.Fields.{stated_or}
 use Rattle.pg_schema.specs.rules.Pairs.{all_pairs}
 use Rattle.pg_schema.specs.rules.TextSets.{is_among}
 use Rattle.pg_schema.specs.rules.Uses.{are_aliases, are_apart as uses_apart, enum_uses, from_lowest, is_used_once, is_value_range, reserved_values_use, value_use}
+use Rattle.pg_schema.proofs.lemmas.rules.PairLemmas.{and_left, and_right, and_both, bytes_eq-sym}
 use Rattle.pg_check.specs.declared.rules.numbers.Keyed.{Keyed}
 use Rattle.pg_check.specs.declared.rules.numbers.Numbers.{Numbers}
 use Rattle.pg_check.specs.rules.Enums as enums
@@ -28,8 +29,6 @@ use Rattle.pg_check.specs.rules.Names.{Named, is_same as is_same_name}
 use Rattle.pg_check.specs.rules.Numbers.{highest_value, is_same, is_within, lowest_value, rank}
 use Rattle.pg_check.specs.rules.Options.{is_alone, is_word, name_of}
 use Rattle.pg_check.proofs.lemmas.parts.Moved.{all_weaker, pairs_of_map, pairs_weaker}
-use Rattle.pg_check.proofs.lemmas.rules.NoneLaws.{and_both, and_left, and_right}
-use Rattle.pg_check.proofs.lemmas.rules.TextSets.{bytes_eq-sym}
 use Rattle.pg_check.proofs.lemmas.parts.UsesApart.{all_uses, is_outside, items_apart, keys_apart, keys_free, or_first, ranges_apart, two_apart}
 use Rattle.pg_syntax.specs.declared.tree as tree
 use Rattle.pg_syntax.specs.declared.tree.EnumPart.TheVariants as parts
@@ -50,22 +49,10 @@ abbrev counted : ℕ → ℕ
 counted r = from_lowest (value_number r)
 
 behind_zero : (d : ℕ) → 0 < d → from_lowest (neg_ℤ (pos d)) ≡ 2 ^ 31 - d
-behind_zero zero h = absurd (omega (arith, h))
-behind_zero (suc d) h = refl
+behind_zero d h = grind arith
 
 of_rank_counts : (r : ℕ) → is_within lowest_value highest_value r ≡ true → from_lowest (of_rank r) + lowest_value ≡ r
-of_rank_counts r h = by (nat_le (rank false 0) r) refl
-  where
-    low : is_within lowest_value highest_value r ≡ true → lowest_value ≤ r
-    low h = grind (arith, nat_tests)
-
-    by : (b : Bool) → nat_le (rank false 0) r ≡ b → from_lowest (cond b (pos (r - rank false 0)) (neg_ℤ (pos (rank false 0 - r)))) + lowest_value ≡ r
-    by true e = let le : 2 ^ 64 ≤ r = grind (arith, nat_tests) in omega (arith, le)
-    by false e =
-        let lt : r < 2 ^ 64 = grind (arith, nat_tests) in
-        let up : lowest_value ≤ r = low h in
-        let d : from_lowest (neg_ℤ (pos (rank false 0 - r))) ≡ 2 ^ 31 - (rank false 0 - r) = behind_zero (rank false 0 - r) (omega (arith, lt)) in
-        omega (arith, d, lt, up)
+of_rank_counts r h = search (rules, nat_tests, behind_zero)
 
 counts : (r : ℕ) → is_within lowest_value highest_value r ≡ true → counted r + lowest_value ≡ r
 counts r h = ap (λ b. from_lowest (cond b (of_rank r) (pos 0)) + lowest_value) h ∙ of_rank_counts r h
@@ -80,11 +67,7 @@ head_is x y xs ys h = cc (h)
 
 zero_first : (vs : List schema.EnumValue) (ks : List Keyed) → map (λ (v : schema.EnumValue). v.number) vs ≡ map (λ (k : Keyed). value_number k.key) ks → has_some ks ≡ true → begins_with_zero ks ≡ true
     → rules.begins_with_zero vs ≡ true
-zero_first vs [] same some zeroth = absurd (false≢true some)
-zero_first [] (k ∷ ks) same some zeroth = absurd (cc (same))
-zero_first (v ∷ vs) (k ∷ ks) same some zeroth =
-    let is : v.number ≡ value_number k.key = head_is _ _ _ _ same in
-    ap rules.is_zero (is ∙ ap value_number (first_is_zero k.key zeroth))
+zero_first vs ks same some zeroth = grind (arith, false≢true, head_is, first_is_zero)
 
 -- ---- reserved items
 
@@ -93,28 +76,19 @@ rises_on a b s t e f h = grind (arith, nat_tests)
 
 value_ranges : (items : List Numbers) → list_all (lies_within lowest_value highest_value) items ≡ true → list_all rises items ≡ true → list_all is_value_range (map value_range items) ≡ true
 value_ranges [] ws us = refl
-value_ranges (r ∷ rs) ws us =
-    let w = and_left (lies_within lowest_value highest_value r) (list_all (lies_within lowest_value highest_value) rs) ws in
-    and_both _ _ (rises_on r.first r.last (counted r.first) (counted r.last) (counts r.first (and_left _ _ w)) (counts r.last (and_right (is_within lowest_value highest_value r.first) _ w)) (and_left _ _ us))
-    (value_ranges rs (and_right (lies_within lowest_value highest_value r) _ ws) (and_right (rises r) _ us))
+value_ranges (r ∷ rs) ws us = search (rules, and_left, and_both, rises_on, counts, and_right, value_ranges rs (and_right (lies_within lowest_value highest_value r) _ ws) (and_right (rises r) _ us))
 
 -- ---- names
 
 none_same : (r : List ℕ) (ns : List (List ℕ)) → list_all (λ n. not (bytes_eq n r)) ns ≡ true → not (is_among ns r) ≡ true
 none_same r [] h = refl
-none_same r (n ∷ ns) h = by (bytes_eq n r) (bytes_eq-sym r n) (and_left _ _ h) (none_same r ns (and_right (not (bytes_eq n r)) _ h))
-  where
-    by : (b : Bool) → bytes_eq r n ≡ b → not b ≡ true → not (is_among ns r) ≡ true → not (bytes_eq r n || is_among ns r) ≡ true
-    by true e k others = absurd (false≢true k)
-    by false e k others = ap (λ c. not (c || is_among ns r)) e ∙ others
+none_same r (n ∷ ns) h = search (rules, bytes_eq-sym, and_left, and_right, false≢true, none_same r ns (and_right (not (bytes_eq n r)) _ h))
 
 not_first : (a b : Bool) → not (a || b) ≡ true → not a ≡ true
-not_first true b h = absurd (false≢true h)
-not_first false b h = refl
+not_first a b h = grind (arith, false≢true)
 
 not_others : (a b : Bool) → not (a || b) ≡ true → not b ≡ true
-not_others true b h = absurd (false≢true h)
-not_others false b h = h
+not_others a b h = grind (arith, false≢true)
 
 -- none of the ones is among the others
 pub free_of_each_other : (ns rs : List (List ℕ)) → list_all (λ n. not (is_among rs n)) ns ≡ true → list_all (λ r. not (is_among ns r)) rs ≡ true
@@ -132,13 +106,10 @@ word_is : (word : List ℕ) (d : tree.Dotted.Dotted) → is_word word d ≡ true
 word_is word d h = (bytes_eq-Decides (string_bytes d.first.text) word).0 (and_right (is_alone d.more.items) _ h)
 
 true_flag : (v : tree.Value.Value) → enums.is_true v ≡ true → flag_value v ≡ Some true
-true_flag (values.Name d) h = ap (λ b. cond b (Some true) (cond (is_word (codes "false") d) (Some false) None)) h
-true_flag (values.Text t) h = absurd (false≢true h)
-true_flag (values.Number n) h = absurd (false≢true h)
+true_flag v h = grind (arith, codes, false≢true)
 
 or_true : (a b : Bool) → (a || b) ≡ true → (a ≡ true → ⊥) → b ≡ true
-or_true true b h k = absurd (k refl)
-or_true false b h k = h
+or_true a b h k = grind arith
 
 -- no later option of the same name
 none_later : (x : Named) (body : List enums.Part) → x.text ≡ alias_word → list_all (λ y. not (is_same_name y x)) (map name_of (enums.lines body)) ≡ true → enums.has_aliases body ≡ true → ⊥
@@ -172,8 +143,7 @@ alias_stated (parts.Option o ∷ ps) h there =
 -- ---- numbers
 
 or_last : (a : Bool) → (a || true) ≡ true
-or_last true = refl
-or_last false = refl
+or_last a = grind arith
 
 abbrev span_of : ReservedValues → ℕ × ℕ
 span_of r = (from_lowest r.first, from_lowest r.last)
@@ -192,9 +162,7 @@ aliases_fit (v ∷ vs) = and_both _ _ (all_aliases v vs) (aliases_fit vs)
 values_fit : (al : Bool) (vs : List schema.EnumValue) → (al ≡ false → all_pairs two_apart (map counted_value vs) ≡ true)
     → all_pairs (λ v w. uses_apart (value_use v) (value_use w) || are_aliases al (value_use v) (value_use w)) vs ≡ true
 values_fit true vs h = aliases_fit vs
-values_fit false vs h =
-    pairs_weaker (λ v w. two_apart (counted_value v) (counted_value w)) (λ v w. uses_apart (value_use v) (value_use w) || are_aliases false (value_use v) (value_use w))
-    (λ v w k. or_first (uses_apart (value_use v) (value_use w)) _ k) vs (sym (pairs_of_map two_apart counted_value vs) ∙ h refl)
+values_fit false vs h = search (rules, pairs_weaker, two_apart, or_first, pairs_of_map)
 
 enum_once : (al : Bool) (vs : List schema.EnumValue) (rs : List ReservedValues) → (al ≡ false → all_pairs two_apart (map counted_value vs) ≡ true) → all_pairs ranges_apart (map span_of rs) ≡ true
     → list_all (λ n. list_all (is_outside n) (map span_of rs)) (map counted_value vs) ≡ true → is_used_once al (enum_uses vs rs) ≡ true

@@ -1,5 +1,5 @@
 -- Fields of messages that keep to the rules, each by itself.
-use Rattle.std.proofs.Common.{◌≡◌, ◌∙◌, ℕ, ◌+◌, ◌-◌, ◌^◌, ◌<◌, ◌≤◌, Bool, true, false, cond, not, ◌&&◌, ◌||◌, nat_lt, List, [], ◌∷◌, map, Option, Some, None, is_some, codes, arith, ap, refl}
+use Rattle.std.proofs.Common.{◌≡◌, ◌∙◌, ℕ, ◌+◌, ◌^◌, ◌<◌, ◌≤◌, Bool, true, false, not, ◌&&◌, ◌||◌, nat_lt, List, [], ◌∷◌, map, Option, Some, None, is_some, codes, arith, refl, rules}
 use Rattle.std.specs.List.{list_all}
 use Rattle.std.specs.Option.{option_map}
 use Rattle.std.proofs.lemmas.Bool.{false≢true}
@@ -12,25 +12,22 @@ use Rattle.pg_schema.specs.rules.Fields as rules
 use Rattle.pg_schema.specs.rules.Fields.{is_key}
 use Rattle.pg_schema.specs.Shape.{is_packable}
 use Rattle.pg_link.specs.declared.uses.target.Target.{Target}
-use Rattle.pg_link.specs.declared.uses.target.Target.TheVariants as targets_of
+use Rattle.pg_schema.proofs.lemmas.rules.PairLemmas.{and_left, and_right, and_both}
 use Rattle.pg_check.specs.rules.Enums.{is_true}
 use Rattle.pg_check.specs.rules.KeepsRules.{has_field_number, has_key, is_packed_rightly, may_be_member}
 use Rattle.pg_check.specs.parts.MadeFields.{MadeField, element, element_of, is_optional, key_or, labelled, made_field, oneof_of}
 use Rattle.pg_check.specs.parts.MadeNumbers.{field_number, index_of}
-use Rattle.pg_check.specs.parts.MadeOptions.{flag_in, flag_of, flag_value, or_flag}
-use Rattle.pg_check.specs.rules.Members.{DeclaredField, Plain, Mapped, key_of, members_from, members_in, number_of, oneof_members, oneofs_in, settings}
+use Rattle.pg_check.specs.parts.MadeOptions.{flag_in, flag_of, flag_value}
+use Rattle.pg_check.specs.rules.Members.{DeclaredField, Plain, Mapped, key_of, members_from, members_in, oneof_members, oneofs_in, settings}
 use Rattle.pg_check.specs.rules.Messages as messages
 use Rattle.pg_check.specs.rules.Numbers as numbers
-use Rattle.pg_check.specs.rules.Options.{is_word}
 use Rattle.pg_check.specs.rules.Types as types
-use Rattle.pg_check.proofs.lemmas.rules.NoneLaws.{and_both, and_left, and_right}
 use Rattle.pg_syntax.specs.declared.tree as tree
 use Rattle.pg_syntax.specs.declared.tree.OneofPart.TheVariants as oneof_parts
 use Rattle.pg_syntax.specs.declared.tree.Part.{Part}
 use Rattle.pg_syntax.specs.declared.tree.Part.TheVariants as parts
 use Rattle.pg_syntax.specs.declared.tree.Label.{Label}
 use Rattle.pg_syntax.specs.declared.tree.Label.TheVariants as labels
-use Rattle.pg_syntax.specs.declared.tree.Value.TheVariants as values
 
 -- ---- numbers
 
@@ -38,12 +35,7 @@ in_bounds : (r : ℕ) → numbers.is_field_number r ≡ true → numbers.is_with
 in_bounds r h = and_left _ _ h
 
 pub field_counts : (r : ℕ) → numbers.is_within numbers.lowest_field numbers.highest_field r ≡ true → field_number r + 2 ^ 64 ≡ r
-field_counts r h =
-    let up : numbers.rank false 1 ≤ r = low r h in
-    ap (λ b. cond b (r - numbers.rank false 0) 0 + 2 ^ 64) h ∙ omega (arith, up)
-  where
-    low : (r : ℕ) → numbers.is_within numbers.lowest_field numbers.highest_field r ≡ true → numbers.rank false 1 ≤ r
-    low r h = grind (arith, nat_tests)
+field_counts r h = search (rules, nat_tests)
 
 counted_fits : (r n : ℕ) → n + 2 ^ 64 ≡ r → numbers.is_field_number r ≡ true → rules.is_field_number n ≡ true
 counted_fits r n e h = grind (arith, nat_tests)
@@ -57,80 +49,37 @@ abbrev packed_word : List ℕ
 packed_word = codes "packed"
 
 not_true : (v : tree.Value.Value) → not (is_true v) ≡ true → flag_value v ≡ Some true → ⊥
-not_true (values.Name d) h e = by (is_word (codes "true") d) (is_word (codes "false") d) h e
-  where
-    by : (b c : Bool) → not b ≡ true → cond b (Some true) (cond c (Some false) None) ≡ Some true → ⊥
-    by true c k f = false≢true k
-    by false true k f = absurd (cc (f))
-    by false false k f = absurd (cc (f))
-not_true (values.Text t) h e = absurd (cc (e))
-not_true (values.Number n) h e = absurd (cc (e))
+not_true v h e = grind (arith, codes, false≢true)
 
 not_stated : (s : tree.Setting.Setting) → not (messages.states_packed s) ≡ true → flag_in packed_word s ≡ Some true → ⊥
-not_stated s h e = by (is_word packed_word s.name) h e
-  where
-    by : (b : Bool) → not (b && is_true s.value) ≡ true → cond b (flag_value s.value) None ≡ Some true → ⊥
-    by true k f = not_true s.value k f
-    by false k f = absurd (cc (f))
+not_stated s h e = search (rules, not_true)
 
 unpacked : (list : List tree.Setting.Setting) → list_all (λ s. not (messages.states_packed s)) list ≡ true → flag_of packed_word list ≡ Some true → ⊥
 unpacked [] h e = absurd (cc (e))
-unpacked (s ∷ ss) h e = by (flag_in packed_word s) (not_stated s (and_left _ _ h)) e (unpacked ss (and_right (not (messages.states_packed s)) _ h))
-  where
-    by : (f : Option Bool) → (f ≡ Some true → ⊥) → or_flag f (flag_of packed_word ss) ≡ Some true → (flag_of packed_word ss ≡ Some true → ⊥) → ⊥
-    by None first is others = others is
-    by (Some b) first is others = first is
+unpacked (s ∷ ss) h e = search (rules, not_stated, and_left, and_right, unpacked ss (and_right (not (messages.states_packed s)) _ h))
 
 not_packed : (stated : Option Bool) → (stated ≡ Some true → ⊥) → not (rules.stated_or stated false) ≡ true
-not_packed None h = refl
-not_packed (Some true) h = absurd (h refl)
-not_packed (Some false) h = refl
+not_packed stated h = grind arith
 
 -- the element may be packed where the type name says so
 element_packable : (s : Option Scalar) (target : Option Target) → types.is_packable s target ≡ true → is_packable (element_of s target) ≡ true
-element_packable (Some s) target h = h
-element_packable None None h = absurd (false≢true h)
-element_packable None (Some (targets_of.Message n)) h = absurd (false≢true h)
-element_packable None (Some (targets_of.Enum n)) h = refl
+element_packable s target h = grind (arith, false≢true)
 
 list_packed : (e : Element) (stated : Option Bool) → (stated ≡ Some true → is_packable e ≡ true)
     → rules.is_packed (presences.Repeated (rules.stated_or stated (is_packable e))) e stated ≡ true
-list_packed e None h = by (is_packable e)
-  where
-    by : (b : Bool) → ((cond b b (not b)) && (not b || b)) ≡ true
-    by true = refl
-    by false = refl
-list_packed e (Some true) h = h refl
-list_packed e (Some false) h = refl
+list_packed e stated h = grind arith
 
 -- ---- presence
 
 abbrev Right : MadeField → Type 0
 Right f = (rules.has_presence f.presence f.element (is_some f.oneof) f.states_optional ≡ true) × (rules.is_packed f.presence f.element f.options.packed ≡ true)
 
-placed : Option ℕ → Option ℕ
-placed oneof = option_map index_of oneof
-
 single : (e : Element) (oneof : Option ℕ) (stated : Option Bool) → (stated ≡ Some true → ⊥)
     → (rules.has_presence (labelled None (is_some oneof) e stated) e (is_some (option_map index_of oneof)) false ≡ true) × (rules.is_packed (labelled None (is_some oneof) e stated) e stated ≡ true)
-single e (Some place) stated h = (by (rules.is_message e), not_packed stated h)
-  where
-    by : (b : Bool) → ((b || true || false) && not (true && false)) ≡ true
-    by true = refl
-    by false = refl
-single e None stated h = by (rules.is_message e) refl
-  where
-    by : (b : Bool) → rules.is_message e ≡ b
-        → (rules.has_presence (cond b presences.Explicit presences.Implicit) e false false ≡ true) × (rules.is_packed (cond b presences.Explicit presences.Implicit) e stated ≡ true)
-    by true is = (ap (λ b. (b || false || false) && not (false && false)) is, not_packed stated h)
-    by false is = (ap (λ b. not (b || false || false)) is, not_packed stated h)
+single e oneof stated h = grind (arith, not_packed)
 
 optional : (e : Element) (stated : Option Bool) → (stated ≡ Some true → ⊥) → (rules.has_presence presences.Explicit e false true ≡ true) × (rules.is_packed presences.Explicit e stated ≡ true)
-optional e stated h = (by (rules.is_message e), not_packed stated h)
-  where
-    by : (b : Bool) → ((b || false || true) && not (false && true)) ≡ true
-    by true = refl
-    by false = refl
+optional e stated h = search (rules, not_packed)
 
 bare_repeated : (e : Element) (stated : Option Bool) → (stated ≡ Some true → is_packable e ≡ true)
     → (rules.has_presence (presences.Repeated (rules.stated_or stated (is_packable e))) e false false ≡ true) × (rules.is_packed (presences.Repeated (rules.stated_or stated (is_packable e))) e stated ≡ true)
@@ -138,8 +87,7 @@ bare_repeated e stated h = (refl, list_packed e stated h)
 
 -- `packed = true` is only where the element may be packed
 rightly : (b : Bool) (list : List tree.Setting.Setting) → (b || list_all (λ s. not (messages.states_packed s)) list) ≡ true → flag_of packed_word list ≡ Some true → b ≡ true
-rightly true list h e = refl
-rightly false list h e = absurd (unpacked list h e)
+rightly b list h e = grind (arith, unpacked)
 
 plain_right : (e : Element) (label : Option Label) (oneof : Option ℕ) (list : List tree.Setting.Setting) (packable : Bool) → (packable ≡ true → is_packable e ≡ true)
     → not (is_some oneof && is_some label) ≡ true → ((messages.is_repeated label && packable) || list_all (λ s. not (messages.states_packed s)) list) ≡ true
@@ -152,17 +100,11 @@ plain_right e (Some labels.Optional) None list packable f inside packed = option
 plain_right e (Some labels.Optional) (Some place) list packable f inside packed = absurd (false≢true inside)
 
 key_right : (s : Option Scalar) → not (not (types.is_key_scalar s)) ≡ true → is_key (key_or s) ≡ true
-key_right None h = absurd (false≢true h)
-key_right (Some s) h = by (is_key s) h
-  where
-    by : (b : Bool) → not (not b) ≡ true → b ≡ true
-    by true k = refl
-    by false k = k
+key_right s h = grind (arith, false≢true)
 
 map_right : (key : Scalar) (e : Element) (oneof : Option ℕ) (list : List tree.Setting.Setting) → is_key key ≡ true → not (is_some oneof) ≡ true → list_all (λ s. not (messages.states_packed s)) list ≡ true
     → (rules.has_presence (presences.Map key) e (is_some (option_map index_of oneof)) false ≡ true) × (rules.is_packed (presences.Map key) e (flag_of packed_word list) ≡ true)
-map_right key e None list is inside packed = (is, not_packed (flag_of packed_word list) (λ f. unpacked list packed f))
-map_right key e (Some place) list is inside packed = absurd (false≢true inside)
+map_right key e oneof list is inside packed = grind (arith, not_packed, unpacked, false≢true)
 
 member_right : (targets : ℕ → Option Target) (m : DeclaredField) → has_key m ≡ true → may_be_member m ≡ true → is_packed_rightly targets m ≡ true → Right (made_field targets m)
 member_right targets (Plain f oneof) key inside packed =
@@ -177,11 +119,7 @@ abbrev pub in_oneofs : ℕ → DeclaredField → Bool
 in_oneofs oneofs m = rules.is_oneof oneofs (option_map index_of (oneof_of m))
 
 place_below : (place n : ℕ) → place < n → nat_lt (index_of place) n ≡ true
-place_below place n lt = by (nat_lt place (2 ^ 32))
-  where
-    by : (b : Bool) → nat_lt (cond b place 0) n ≡ true
-    by true = grind (arith, nat_tests)
-    by false = grind (arith, nat_tests)
+place_below place n lt = search (rules, nat_lt, nat_tests)
 
 parts_in : (place n : ℕ) → place < n → (body : List tree.OneofPart.OneofPart) → list_all (in_oneofs n) (oneof_members place body) ≡ true
 parts_in place n lt [] = refl
@@ -219,13 +157,4 @@ is_kept oneofs f =
 pub fields_kept : (targets : ℕ → Option Target) (n : ℕ) (ms : List DeclaredField) → list_all has_field_number (map key_of ms) ≡ true → list_all has_key ms ≡ true → list_all may_be_member ms ≡ true
     → list_all (is_packed_rightly targets) ms ≡ true → list_all (in_oneofs n) ms ≡ true → list_all (is_kept n) (map (made_field targets) ms) ≡ true
 fields_kept targets n [] a b c d e = refl
-fields_kept targets n (m ∷ ms) a b c d e =
-    let right = member_right targets m (and_left _ _ b) (and_left _ _ c) (and_left _ _ d) in
-    let f = made_field targets m in
-    let number : rules.is_field_number f.number ≡ true = number_fits (numbers.rank false (number_of m)) (and_left _ _ a) in
-    let one : is_kept n f ≡ true =
-    and_both (rules.is_field_number f.number && rules.has_presence f.presence f.element (is_some f.oneof) f.states_optional && rules.is_packed f.presence f.element f.options.packed) (rules.is_oneof n f.oneof)
-    (and_both (rules.is_field_number f.number && rules.has_presence f.presence f.element (is_some f.oneof) f.states_optional) (rules.is_packed f.presence f.element f.options.packed)
-    (and_both (rules.is_field_number f.number) (rules.has_presence f.presence f.element (is_some f.oneof) f.states_optional) number right.0) right.1) (and_left _ _ e) in
-    and_both (is_kept n f) (list_all (is_kept n) (map (made_field targets) ms)) one
-    (fields_kept targets n ms (and_right (has_field_number (key_of m)) _ a) (and_right (has_key m) _ b) (and_right (may_be_member m) _ c) (and_right (is_packed_rightly targets m) _ d) (and_right (in_oneofs n m) _ e))
+fields_kept targets n (m ∷ ms) a b c d e = search (rules, member_right, and_left, number_fits, and_both, is_some, and_right, fields_kept targets n ms (and_right (has_field_number (key_of m)) _ a) (and_right (has_key m) _ b) (and_right (may_be_member m) _ c) (and_right (is_packed_rightly targets m) _ d) (and_right (in_oneofs n m) _ e))

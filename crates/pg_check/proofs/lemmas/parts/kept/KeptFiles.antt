@@ -1,5 +1,5 @@
 -- The parts of files that keep to the rules.
-use Rattle.std.proofs.Common.{◌≡◌, ◌∙◌, ℕ, ◌+◌, ◌≤◌, List, [], ◌∷◌, ◌++◌, length, map, flat_map, Option, sym, ap, arith, length-append, append_assoc}
+use Rattle.std.proofs.Common.{◌≡◌, ◌∙◌, ℕ, ◌+◌, ◌≤◌, List, [], ◌∷◌, ◌++◌, length, map, flat_map, Option, sym, arith, length-append, append_assoc, rules}
 use Rattle.std.specs.List.{AllByRecursion}
 use Rattle.std.proofs.lemmas.List.{append-nil, length-map, map-append}
 use Rattle.pg_schema.specs.declared.parts.enum_type.EnumType.{EnumType}
@@ -59,14 +59,10 @@ FoundKeeps e = EnumKeeps e.tree.parts.items
 
 pub enums_are : (d : Declared) (ss : List Source) → (with_files d ss).enums ≡ d.enums ++ map made_enum (flat_map source_enums ss)
 enums_are d [] = sym (append-nil d.enums)
-enums_are d (s ∷ ss) =
-    enums_are (with_file d s) ss
-    ∙ (append_assoc d.enums (map made_enum (scoped_enums s.tree)) (map made_enum (flat_map source_enums ss))
-    ∙ ap (λ es. d.enums ++ es) (sym (map-append made_enum (scoped_enums s.tree) (flat_map source_enums ss))))
+enums_are d (s ∷ ss) = search (rules, append_assoc, flat_map, map-append, enums_are (with_file d s) ss)
 
 all_enums_keep : (ss : List Source) → AllByRecursion FileKeeps ss → AllByRecursion FoundKeeps (flat_map source_enums ss)
-all_enums_keep ss h =
-    each_flat FoundKeeps source_enums ss (each_weaker FileKeeps (λ s. AllByRecursion FoundKeeps (source_enums s)) (λ s k. k.enums) ss h)
+all_enums_keep ss h = search (rules, each_flat, each_weaker)
 
 kept_enums : (es : List EnumType) (found : List Enum) → map enumeration es ≡ map made_enum found → AllByRecursion FoundKeeps found → AllByRecursion KeptEnum es
 kept_enums = same_all enumeration made_enum FoundKeeps KeptEnum (λ e m is h. kept_enum e m.full m.tree.parts.items is h)

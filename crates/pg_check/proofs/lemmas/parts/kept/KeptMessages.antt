@@ -1,5 +1,5 @@
 -- Message types of files that keep to the rules.
-use Rattle.std.proofs.Common.{◌≡◌, ◌∙◌, ℕ, ◌+◌, ◌^◌, ◌<◌, ◌≤◌, Bool, true, false, not, ◌&&◌, ◌||◌, nat_lt, nat_le, nat_eq, List, [], ◌∷◌, length, map, Option, string_bytes, arith, sym, ap, refl}
+use Rattle.std.proofs.Common.{◌≡◌, ◌∙◌, ℕ, ◌+◌, ◌^◌, ◌<◌, ◌≤◌, Bool, true, false, not, ◌&&◌, ◌||◌, nat_lt, nat_le, nat_eq, List, [], ◌∷◌, length, map, Option, string_bytes, arith, sym, ap, refl, rules}
 use Rattle.std.specs.List.{list_all, list_any}
 use Rattle.std.specs.List.Sorted.{IsPermutation}
 use Rattle.std.proofs.lemmas.Bool.Decides.{nat_tests}
@@ -17,6 +17,7 @@ use Rattle.pg_schema.specs.rules.Pairs.{all_pairs, are_distinct, differ, is_risi
 use Rattle.pg_schema.specs.rules.TextSets.{is_among}
 use Rattle.pg_schema.specs.rules.Uses.{are_aliases, are_apart as uses_apart, field_use, is_reserved_range, is_used_once, message_uses, reserved_use}
 use Rattle.pg_link.specs.declared.uses.target.Target.{Target}
+use Rattle.pg_schema.proofs.lemmas.rules.PairLemmas.{and_left, and_right, and_both, bytes_eq-sym}
 use Rattle.pg_check.specs.declared.rules.numbers.Keyed.{Keyed}
 use Rattle.pg_check.specs.declared.rules.numbers.Numbers.{Numbers}
 use Rattle.pg_check.specs.rules.KeepsRules.{MessageKeeps, has_field_number, lies_within, rises}
@@ -24,7 +25,7 @@ use Rattle.pg_check.proofs.lemmas.parts.kept.KeptParts.{KeptMessage, is_kept_fie
 use Rattle.pg_check.specs.parts.MadeFields.{MadeField, field, made_field, made_number}
 use Rattle.pg_check.specs.parts.MadeMessages.{AreFields, IsMessage, made_fields, oneofs}
 use Rattle.pg_check.specs.parts.MadeNumbers.{field_number, field_range}
-use Rattle.pg_check.specs.rules.Members.{DeclaredField, json_name, json_named, key_of, members, named}
+use Rattle.pg_check.specs.rules.Members.{DeclaredField, json_name, key_of, members, named}
 use Rattle.pg_check.specs.rules.Messages as messages
 use Rattle.pg_check.specs.rules.Names as names
 use Rattle.pg_check.specs.rules.Numbers.{highest_field, is_within, lowest_field}
@@ -32,9 +33,7 @@ use Rattle.pg_check.proofs.lemmas.parts.kept.KeptEnums.{free_of_each_other}
 use Rattle.pg_check.proofs.lemmas.parts.kept.KeptFields.{all_in_oneofs, field_counts, fields_kept, is_kept, oneof_count}
 use Rattle.pg_check.proofs.lemmas.parts.Moved.{IsSymmetric, all_moved, all_weaker, pairs_moved, pairs_of_map, pairs_weaker}
 use Rattle.pg_check.proofs.lemmas.parts.kept.KeptOneofs.{fewer_oneofs, oneofs_have_members, rising_short}
-use Rattle.pg_check.proofs.lemmas.rules.NoneLaws.{and_both, and_left, and_right}
 use Rattle.pg_check.proofs.lemmas.parts.Rising.{rising_from, two_symmetric}
-use Rattle.pg_check.proofs.lemmas.rules.TextSets.{bytes_eq-sym}
 use Rattle.pg_check.proofs.lemmas.parts.UsesApart.{all_uses, is_outside, items_apart, keys_apart, keys_free, or_first, ranges_apart, two_apart}
 use Rattle.pg_syntax.specs.declared.tree.Part.{Part}
 use Rattle.pg_syntax.specs.declared.tree.Part.TheVariants as parts
@@ -67,14 +66,11 @@ same_number : (n : ℕ) → nat_eq n n ≡ true
 same_number n = grind (arith, nat_tests)
 
 or_later : (a b : Bool) → b ≡ true → (a || b) ≡ true
-or_later true b h = refl
-or_later false b h = h
+or_later a b h = grind arith
 
 all_there : (ns : List ℕ) → list_all (λ n. list_any (nat_eq n) ns) ns ≡ true
 all_there [] = refl
-all_there (n ∷ ns) =
-    and_both _ _ (or_first (nat_eq n n) (list_any (nat_eq n) ns) (same_number n))
-    (all_weaker (λ m. list_any (nat_eq m) ns) (λ m. nat_eq m n || list_any (nat_eq m) ns) (λ m h. or_later (nat_eq m n) (list_any (nat_eq m) ns) h) ns (all_there ns))
+all_there (n ∷ ns) = search (rules, and_both, or_first, same_number, all_weaker, or_later, all_there ns)
 
 -- ---- reserved items
 
@@ -84,12 +80,7 @@ range_fits a b s t e f g h k = grind (arith, nat_tests)
 
 field_ranges : (items : List Numbers) → list_all (lies_within lowest_field highest_field) items ≡ true → list_all rises items ≡ true → list_all is_reserved_range (map field_range items) ≡ true
 field_ranges [] ws us = refl
-field_ranges (r ∷ rs) ws us =
-    let w = and_left (lies_within lowest_field highest_field r) (list_all (lies_within lowest_field highest_field) rs) ws in
-    let first = and_left (is_within lowest_field highest_field r.first) (is_within lowest_field highest_field r.last) w in
-    let last = and_right (is_within lowest_field highest_field r.first) (is_within lowest_field highest_field r.last) w in
-    and_both _ _ (range_fits r.first r.last (field_number r.first) (field_number r.last) (field_counts r.first first) (field_counts r.last last) first last (and_left _ _ us))
-    (field_ranges rs (and_right (lies_within lowest_field highest_field r) _ ws) (and_right (rises r) _ us))
+field_ranges (r ∷ rs) ws us = search (rules, and_left, and_right, and_both, range_fits, field_counts, field_ranges rs (and_right (lies_within lowest_field highest_field r) _ ws) (and_right (rises r) _ us))
 
 abbrev span_of : ReservedFields → ℕ × ℕ
 span_of r = (r.first, r.last)
@@ -141,10 +132,7 @@ module _ (targets : ℕ → Option Target) (body : List Part) (t : MessageType) 
       (ap (all_pairs two_apart) numbers_are ∙ keys_apart lowest_field highest_field (2 ^ 64) field_number field_counts keys (in_bounds keys keep.fields.numbers_fit) keep.fields.numbers_once)
 
   pub in_order : list_all (is_kept_field (oneof_count body)) t.fields.items ≡ true → is_rising (0 ∷ rules.numbers t.fields.items) ≡ true
-  in_order all =
-      and_both (list_all (nat_lt 0) (rules.numbers t.fields.items)) (is_rising (rules.numbers t.fields.items))
-      (list_all-map (nat_lt 0) number_of_field t.fields.items ∙ all_weaker (is_kept_field (oneof_count body)) (λ f. nat_lt 0 f.number) (λ f h. not_zero (oneof_count body) f h) t.fields.items all)
-      (rising_from number_of_field t.fields.items fields.by_number numbers_apart)
+  in_order all = search (rules, and_both, nat_lt, list_all-map, all_weaker, is_kept_field, oneof_count, not_zero, rising_from, numbers_apart)
 
   pub declared_there : list_all (λ (f : Field). list_any (nat_eq f.number) (map made_number ms)) t.fields.items ≡ true
   declared_there =
@@ -153,13 +141,10 @@ module _ (targets : ℕ → Option Target) (body : List Part) (t : MessageType) 
       ∙ (sym (list_all-map (λ n. list_any (nat_eq n) (map made_number ms)) made_number ms) ∙ all_there (map made_number ms)))
 
   as_many : length (map made_number ms) ≡ length t.fields.items
-  as_many =
-      length-map ms made_number
-      ∙ (sym (length-map ms (made_field targets)) ∙ (sym (length_permutation list (map field t.fields.items) fields.same) ∙ length-map t.fields.items field))
+  as_many = search (rules, length-map, length_permutation)
 
   pub is_declared_so : rules.is_declared (map made_number ms) t.fields.items ≡ true
-  is_declared_so =
-      and_both (nat_eq (length (map made_number ms)) (length t.fields.items)) _ (ap (λ n. nat_eq (length (map made_number ms)) n) (sym as_many) ∙ same_number (length (map made_number ms))) declared_there
+  is_declared_so = search (rules, and_both, as_many, same_number, declared_there)
 
   pub spans : (rs : List ReservedFields) → rs ≡ map field_range (messages.items body) → map span_of rs ≡ map (λ (r : Numbers). (field_number r.first, field_number r.last)) (messages.items body)
   spans rs is = ap (map span_of) is ∙ map-map span_of field_range (messages.items body)
@@ -198,11 +183,7 @@ module _ (targets : ℕ → Option Target) (body : List Part) (t : MessageType) 
       oneofs_have_members targets body t.fields.items fields.same keep.oneofs (omega (arith, short, fields_are, declared_are, members_are, fewer))
 
   json_apart : all_pairs differ (map (λ (f : MadeField). f.json_name) list) ≡ true
-  json_apart =
-      ap (all_pairs differ) (map-map (λ (f : MadeField). f.json_name) (made_field targets) ms)
-      ∙ (pairs_of_map differ json_name ms
-      ∙ pairs_weaker (λ m n. not (names.is_same (json_named n) (json_named m))) (λ m n. differ (json_name m) (json_name n)) (λ m n h. differ_symmetric (json_name n) (json_name m) h) ms
-      (sym (pairs_of_map (λ a b. not (names.is_same b a)) json_named ms) ∙ keep.fields.json_names_once))
+  json_apart = search (rules, map-map, pairs_of_map, pairs_weaker, differ_symmetric)
 
   pub json_names_once : are_distinct (rules.json_names t.fields.items) ≡ true
   json_names_once = moved_pairs (λ (f : MadeField). f.json_name) differ differ_symmetric list t.fields.items fields.same json_apart

@@ -11,25 +11,23 @@ use Rattle.pg_schema.specs.declared.parts.field.Field.{Field}
 use Rattle.pg_schema.specs.rules.Messages.{have_members, is_member, is_place}
 use Rattle.pg_schema.specs.rules.Pairs.{is_rising}
 use Rattle.pg_link.specs.declared.uses.target.Target.{Target}
+use Rattle.pg_schema.proofs.lemmas.rules.PairLemmas.{and_left, and_right, and_both}
 use Rattle.pg_check.specs.rules.KeepsRules.{is_no_option, oneof_keeps}
 use Rattle.pg_check.specs.parts.MadeFields.{MadeField, field, made_field, oneof_of}
 use Rattle.pg_check.specs.parts.MadeNumbers.{index_of}
 use Rattle.pg_check.specs.rules.Members.{DeclaredField, members_from, members_in, oneof_in, oneof_members, oneofs_in}
 use Rattle.pg_check.specs.rules.Messages.{has_member, oneofs}
 use Rattle.pg_check.proofs.lemmas.parts.kept.KeptFields.{oneof_count}
-use Rattle.pg_check.proofs.lemmas.rules.NoneLaws.{and_both, and_left, and_right}
 use Rattle.pg_syntax.specs.declared.tree as tree
 use Rattle.pg_syntax.specs.declared.tree.OneofPart.TheVariants as oneof_parts
 use Rattle.pg_syntax.specs.declared.tree.Part.{Part}
 use Rattle.pg_syntax.specs.declared.tree.Part.TheVariants as parts
 
 or_first : (a b : Bool) → a ≡ true → (a || b) ≡ true
-or_first true b h = refl
-or_first false b h = absurd (false≢true h)
+or_first a b h = grind (arith, false≢true)
 
 or_later : (a b : Bool) → b ≡ true → (a || b) ≡ true
-or_later true b h = refl
-or_later false b h = h
+or_later a b h = grind arith
 
 -- ---- how many there are
 

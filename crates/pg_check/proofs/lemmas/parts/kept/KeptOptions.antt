@@ -1,5 +1,5 @@
 -- Options of files that keep to the rules: each of its kind, by rising numbers.
-use Rattle.std.proofs.Common.{◌≡◌, ◌∙◌, ℕ, Bool, true, false, cond, not, ◌&&◌, ◌||◌, nat_lt, nat_eq, List, [], ◌∷◌, ◌++◌, find, map, flat_map, option_map, Option, Some, None, codes, string_bytes, arith, sym, ap, subst, refl}
+use Rattle.std.proofs.Common.{◌≡◌, ◌∙◌, ℕ, Bool, true, false, cond, not, ◌&&◌, ◌||◌, nat_lt, nat_eq, List, [], ◌∷◌, ◌++◌, find, map, flat_map, option_map, Option, Some, None, codes, string_bytes, arith, sym, ap, refl, rules}
 use Rattle.std.specs.List.{list_all, list_any}
 use Rattle.std.specs.Str.{bytes_eq}
 use Rattle.std.proofs.lemmas.Bool.{false≢true}
@@ -11,10 +11,10 @@ use Rattle.std.proofs.lemmas.Simd.{map-map}
 use Rattle.std.proofs.lemmas.Slice.Eq.{bytes_eq-Decides}
 use Rattle.pg_schema.specs.declared.parts.options.FileOption as options
 use Rattle.pg_schema.specs.declared.parts.options.OptionValue.{OptionValue}
-use Rattle.pg_schema.specs.declared.parts.options.OptionValue.TheVariants as schema_values
 use Rattle.pg_schema.specs.declared.parts.options.OptimizeMode.TheVariants as modes
 use Rattle.pg_schema.specs.rules.Files.{flag_options, is_file_option, is_of_kind, option_numbers, text_options}
 use Rattle.pg_schema.specs.rules.Pairs.{all_pairs, is_rising}
+use Rattle.pg_schema.proofs.lemmas.rules.PairLemmas.{and_left, and_right, and_both}
 use Rattle.pg_check.specs.declared.rules.options.Kind.{Kind}
 use Rattle.pg_check.specs.declared.rules.options.Kind.TheVariants as kinds
 use Rattle.pg_check.specs.declared.rules.options.Known.{Known}
@@ -27,7 +27,6 @@ use Rattle.pg_check.specs.rules.Options as rules
 use Rattle.pg_check.specs.rules.Options.{Entry, known_among, known_by, name_of, option_named, options_of}
 use Rattle.pg_check.specs.rules.Outline.{statements_behind}
 use Rattle.pg_check.proofs.lemmas.parts.Moved.{all_moved, all_weaker}
-use Rattle.pg_check.proofs.lemmas.rules.NoneLaws.{and_both, and_left, and_right}
 use Rattle.pg_check.proofs.lemmas.parts.Rising.{moved_numbers, rising_from}
 use Rattle.pg_check.proofs.lemmas.parts.UsesApart.{two_apart}
 use Rattle.pg_syntax.specs.declared.tree as tree
@@ -47,11 +46,7 @@ known_or b e es name = option_map (λ (o : Entry). o.known) (cond b (Some e) (fi
 
 known_has : (p : Known → Bool) (es : List Entry) (name : List ℕ) (k : Known) → list_all (λ (e : Entry). p e.known) es ≡ true → known_among es name ≡ Some k → p k ≡ true
 known_has p [] name k h is = absurd (cc (is))
-known_has p (e ∷ es) name k h is = by (bytes_eq name e.name) is (known_has p es name k (and_right (p e.known) _ h))
-  where
-    by : (b : Bool) → known_or b e es name ≡ Some k → (known_among es name ≡ Some k → p k ≡ true) → p k ≡ true
-    by true i others = subst (λ q. p q ≡ true) (same_Some e.known k i) (and_left _ _ h)
-    by false i others = others i
+known_has p (e ∷ es) name k h is = search (rules, and_right, same_Some, and_left, known_has p es name k (and_right (p e.known) _ h))
 
 abbrev apart_entries : Entry → Entry → Bool
 apart_entries d e = not (nat_eq e.known.number d.known.number)
@@ -92,14 +87,10 @@ abbrev made_fits : MadeOption → Bool
 made_fits o = value_fits o.number o.value
 
 is_of_its_kind : (n : ℕ) (v : OptionValue) → value_fits n (option_value v) ≡ true → is_of_kind n v ≡ true
-is_of_its_kind n (schema_values.Flag flag) h = and_left _ _ h
-is_of_its_kind n (schema_values.Mode mode) h = and_left _ _ h
-is_of_its_kind n (schema_values.Text text) h = and_left _ _ h
+is_of_its_kind n v h = grind (arith, and_left)
 
 is_positive : (n : ℕ) (v : MadeValue) → value_fits n v ≡ true → nat_lt 0 n ≡ true
-is_positive n (Flag flag) h = and_right (list_any (nat_eq n) flag_options) _ h
-is_positive n (Mode mode) h = and_right (nat_eq n 9) _ h
-is_positive n (Text text) h = and_right (list_any (nat_eq n) text_options) _ h
+is_positive n v h = grind (arith, and_right)
 
 -- a value of the kind, as a schema has it
 pub record IsMade (kind : Kind) (value : tree.Value.Value) : Type 0 where
@@ -181,11 +172,7 @@ all_fit (statements.Option o ∷ ss) h =
     ap (λ os. list_all made_fits (os ++ flat_map option_in ss)) one.is ∙ and_both (value_fits one.known.number one.value) _ one.holds (all_fit ss (and_right (rules.is_right owners.File o.setting) _ h))
 
 two_numbers : (m n : ℕ) → (m ≡ n → ⊥) → two_apart m n ≡ true
-two_numbers m n h = by (nat_eq m n) refl
-  where
-    by : (b : Bool) → nat_eq m n ≡ b → two_apart m n ≡ true
-    by true e = absurd (h (grind (arith, nat_tests)))
-    by false e = grind (arith, nat_tests)
+two_numbers m n h = search (rules, two_apart, nat_tests)
 
 abbrev number : MadeOption → ℕ
 number o = o.number

@@ -1,5 +1,5 @@
 -- What names of a file count, by what declares them: message types, enums and services, each with what is in it.
-use Rattle.std.proofs.Common.{◌≡◌, ◌∙◌, ℕ, ◌+◌, true, List, [], ◌∷◌, ◌++◌, map, flat_map, Option, Some, None, string_bytes, sym, ap, refl, arith, append_assoc}
+use Rattle.std.proofs.Common.{◌≡◌, ◌∙◌, ℕ, ◌+◌, true, List, [], ◌∷◌, ◌++◌, map, flat_map, Option, string_bytes, sym, ap, refl, arith, append_assoc, rules}
 use Rattle.std.specs.List.{AllByRecursion}
 use Rattle.std.proofs.lemmas.Bool.{false≢true}
 use Rattle.std.proofs.lemmas.List.{append-nil}
@@ -34,13 +34,10 @@ behind_dot [] = []
 behind_dot (b ∷ bs) = 46 ∷ b ∷ bs
 
 pub within_is : (scope w : List ℕ) → linked_within (behind_dot scope) w ≡ 46 ∷ within scope w
-within_is [] w = ap (λ t. 46 ∷ t) (append-nil w)
-within_is (b ∷ bs) w = ap (λ t. (46 ∷ b ∷ bs) ++ 46 ∷ t) (append-nil w)
+within_is scope w = grind (arith, append-nil)
 
 pub dot_within : (scope w : List ℕ) → is_word w ≡ true → behind_dot (within scope w) ≡ 46 ∷ within scope w
-dot_within [] [] h = absurd (false≢true h)
-dot_within [] (c ∷ cs) h = refl
-dot_within (b ∷ bs) w h = refl
+dot_within scope w h = grind (arith, false≢true)
 
 pub scope_is : (scope w : List ℕ) → is_word w ≡ true → linked_within (behind_dot scope) w ≡ behind_dot (within scope w)
 scope_is scope w h = within_is scope w ∙ sym (dot_within scope w h)
@@ -104,61 +101,32 @@ module _ (f : Text → ℕ) where
   values_are scope (enum_parts.Empty span ∷ ps) = values_are scope ps
   values_are scope (enum_parts.Option o ∷ ps) = values_are scope ps
   values_are scope (enum_parts.Reserved r ∷ ps) = values_are scope ps
-  values_are scope (enum_parts.Value v ∷ ps) =
-      ap (λ n. n + all (names_in (behind_dot scope) (all_of of_enum_part ps Done))) (name_is scope (string_bytes v.name.text))
-      ∙ ap (λ n. inside scope (string_bytes v.name.text) + n) (values_are scope ps)
+  values_are scope (enum_parts.Value v ∷ ps) = search (rules, name_is, string_bytes, values_are scope ps)
 
   oneof_parts_are : (scope : List ℕ) (ps : List tree.OneofPart.OneofPart) → all (names_in (behind_dot scope) (all_of of_oneof_part ps Done)) ≡ total (inside scope) (flat_map oneof_part_names ps)
   oneof_parts_are scope [] = refl
   oneof_parts_are scope (oneof_parts.Empty span ∷ ps) = oneof_parts_are scope ps
   oneof_parts_are scope (oneof_parts.Option o ∷ ps) = oneof_parts_are scope ps
-  oneof_parts_are scope (oneof_parts.Map m ∷ ps) =
-      let name : f (linked_within (behind_dot scope) (string_bytes m.name.text)) ≡ inside scope (string_bytes m.name.text) = name_is scope (string_bytes m.name.text) in
-      let entry : f (linked_within (behind_dot scope) (entry_name (string_bytes m.name.text))) ≡ inside scope (entry_name (string_bytes m.name.text)) = name_is scope (entry_name (string_bytes m.name.text)) in
-      let rest = oneof_parts_are scope ps in
-      omega (arith, name, entry, rest)
-  oneof_parts_are scope (oneof_parts.Field d ∷ ps) =
-      let name : f (linked_within (behind_dot scope) (string_bytes d.name.text)) ≡ inside scope (string_bytes d.name.text) = name_is scope (string_bytes d.name.text) in
-      let rest = oneof_parts_are scope ps in
-      omega (arith, name, rest)
+  oneof_parts_are scope (oneof_parts.Map m ∷ ps) = search (rules, name_is, oneof_parts_are scope ps)
+  oneof_parts_are scope (oneof_parts.Field d ∷ ps) = search (rules, name_is, oneof_parts_are scope ps)
 
   methods_are : (targets : ℕ → Option Target) (full : List ℕ) (ps : List tree.ServicePart.ServicePart) → all (names_in (behind_dot full) (all_of of_service_part ps Done)) ≡ total (method_counts full) (made_methods targets ps)
   methods_are targets full [] = refl
   methods_are targets full (service_parts.Empty span ∷ ps) = methods_are targets full ps
   methods_are targets full (service_parts.Option o ∷ ps) = methods_are targets full ps
-  methods_are targets full (service_parts.Rpc r ∷ ps) =
-      let name : f (linked_within (behind_dot full) (string_bytes r.name.text)) ≡ inside full (string_bytes r.name.text) = name_is full (string_bytes r.name.text) in
-      let rest = methods_are targets full ps in
-      omega (arith, name, rest)
+  methods_are targets full (service_parts.Rpc r ∷ ps) = search (rules, name_is, methods_are targets full ps)
 
   enum_is : (scope : List ℕ) (e : tree.Enum.Enum) (rest : Declarations)
       → all (names_in (behind_dot scope) (of_enum e rest)) ≡ of_enum_type (record { scope = scope; full = full_name scope e.name; tree = e }) + all (names_in (behind_dot scope) rest)
-  enum_is scope e rest =
-      let values = names_in (behind_dot scope) (all_of of_enum_part e.parts.items Done) in
-      let name : f (linked_within (behind_dot scope) (string_bytes e.name.text)) ≡ inside scope (string_bytes e.name.text) = name_is scope (string_bytes e.name.text) in
-      let of_values : all values ≡ total (inside scope) (value_texts e.parts.items) = values_are scope e.parts.items in
-      let both : all (values ++ names_in (behind_dot scope) rest) ≡ all values + all (names_in (behind_dot scope) rest) = total_joined (weight f) values (names_in (behind_dot scope) rest) in
-      omega (arith, name, of_values, both)
+  enum_is scope e rest = search (rules, name_is, values_are, total_joined, weight)
 
   oneof_is : (scope : List ℕ) (o : tree.Oneof.Oneof) (rest : Declarations)
       → all (names_in (behind_dot scope) (of_oneof o rest)) ≡ (inside scope (string_bytes o.name.text) + total (inside scope) (flat_map oneof_part_names o.parts.items)) + all (names_in (behind_dot scope) rest)
-  oneof_is scope o rest =
-      let members = names_in (behind_dot scope) (all_of of_oneof_part o.parts.items Done) in
-      let name : f (linked_within (behind_dot scope) (string_bytes o.name.text)) ≡ inside scope (string_bytes o.name.text) = name_is scope (string_bytes o.name.text) in
-      let of_members : all members ≡ total (inside scope) (flat_map oneof_part_names o.parts.items) = oneof_parts_are scope o.parts.items in
-      let both : all (members ++ names_in (behind_dot scope) rest) ≡ all members + all (names_in (behind_dot scope) rest) = total_joined (weight f) members (names_in (behind_dot scope) rest) in
-      omega (arith, name, of_members, both)
+  oneof_is scope o rest = search (rules, name_is, oneof_parts_are, total_joined, weight)
 
   service_is : (targets : ℕ → Option Target) (scope : List ℕ) (s : tree.Service.Service) (rest : Declarations) → is_word (string_bytes s.name.text) ≡ true
       → all (names_in (behind_dot scope) (of_service s rest)) ≡ of_made_service (made_service targets scope s) + all (names_in (behind_dot scope) rest)
-  service_is targets scope s rest h =
-      let full = full_name scope s.name in
-      let methods = names_in (linked_within (behind_dot scope) (string_bytes s.name.text)) (all_of of_service_part s.parts.items Done) in
-      let name : f (linked_within (behind_dot scope) (string_bytes s.name.text)) ≡ counts full = name_is scope (string_bytes s.name.text) in
-      let of_methods : all methods ≡ total (method_counts full) (made_methods targets s.parts.items) =
-      ap (λ t. all (names_in t (all_of of_service_part s.parts.items Done))) (scope_is scope (string_bytes s.name.text) h) ∙ methods_are targets full s.parts.items in
-      let both : all (methods ++ names_in (behind_dot scope) rest) ≡ all methods + all (names_in (behind_dot scope) rest) = total_joined (weight f) methods (names_in (behind_dot scope) rest) in
-      omega (arith, name, of_methods, both)
+  service_is targets scope s rest h = search (rules, name_is, scope_is, methods_are, total_joined, weight)
 
   mutual
     part_is : (scope : List ℕ) (p : Part) (rest : Declarations) → IsGoodPart p
@@ -226,13 +194,7 @@ module _ (f : Text → ℕ) where
   statements_are : (targets : ℕ → Option Target) (scope : List ℕ) (ss : List tree.Statement.Statement) → AllByRecursion IsGoodStatement ss
       → all (names_in (behind_dot scope) (all_of of_statement ss Done)) ≡ (total of_whole (all_messages scope ss) + total of_enum_type (flat_map (enum_stated scope) ss)) + total of_made_service (made_services targets scope ss)
   statements_are targets scope [] h = refl
-  statements_are targets scope (s ∷ ss) h =
-      let one = statement_is targets scope s (all_of of_statement ss Done) h.0 in
-      let others = statements_are targets scope ss h.1 in
-      let messages : total of_whole (statement_messages scope s ++ all_messages scope ss) ≡ total of_whole (statement_messages scope s) + total of_whole (all_messages scope ss) = total_joined of_whole (statement_messages scope s) (all_messages scope ss) in
-      let enum_types : total of_enum_type (enum_stated scope s ++ flat_map (enum_stated scope) ss) ≡ total of_enum_type (enum_stated scope s) + total of_enum_type (flat_map (enum_stated scope) ss) = total_joined of_enum_type (enum_stated scope s) (flat_map (enum_stated scope) ss) in
-      let services : total of_made_service (service_in targets scope s ++ made_services targets scope ss) ≡ total of_made_service (service_in targets scope s) + total of_made_service (made_services targets scope ss) = total_joined of_made_service (service_in targets scope s) (made_services targets scope ss) in
-      omega (arith, one, others, messages, enum_types, services)
+  statements_are targets scope (s ∷ ss) h = search (rules, statement_is, total_joined, statements_are targets scope ss h.1)
 
   packages_none : (scope : Text) (ws : List Word) → all (package_names scope ws) ≡ 0
   packages_none scope [] = refl
@@ -242,22 +204,17 @@ module _ (f : Text → ℕ) where
 
 pub more_dotted : (text : List ℕ) (ns : List tree.Name.Name) → 46 ∷ dotted_more text ns ≡ (46 ∷ text) ++ called (map (λ (w : Word). w.text) (map word ns))
 more_dotted text [] = sym (append-nil (46 ∷ text))
-more_dotted text (n ∷ ns) =
-    more_dotted (text ++ 46 ∷ string_bytes n.text) ns ∙ append_assoc (46 ∷ text) (46 ∷ string_bytes n.text) (called (map (λ (w : Word). w.text) (map word ns)))
+more_dotted text (n ∷ ns) = search (rules, string_bytes, append_assoc, more_dotted (text ++ 46 ∷ string_bytes n.text) ns)
 
 some_dotted : (b : ℕ) (bs : List ℕ) (ns : List tree.Name.Name) → behind_dot (dotted_more (b ∷ bs) ns) ≡ 46 ∷ dotted_more (b ∷ bs) ns
 some_dotted b bs [] = refl
 some_dotted b bs (n ∷ ns) = some_dotted b (bs ++ 46 ∷ string_bytes n.text) ns
 
 pub first_dotted : (text : List ℕ) (ns : List tree.Name.Name) → is_word text ≡ true → behind_dot (dotted_more text ns) ≡ 46 ∷ dotted_more text ns
-first_dotted [] ns h = absurd (false≢true h)
-first_dotted (b ∷ bs) ns h = some_dotted b bs ns
+first_dotted text ns h = grind (arith, false≢true, some_dotted)
 
 pub package_scope_is : (p : Option tree.Packaged.Packaged) → IsGood (view.perhaps view.packaged p) → package_scope (package_words p) ≡ behind_dot (package_in p)
-package_scope_is None h = refl
-package_scope_is (Some p) h =
-    let first = string_bytes p.package.name.first.text in
-    sym (first_dotted first p.package.name.more.items h.0.1.0.0 ∙ more_dotted first p.package.name.more.items)
+package_scope_is p h = grind (arith, string_bytes, first_dotted, more_dotted)
 
 -- ---- files
 

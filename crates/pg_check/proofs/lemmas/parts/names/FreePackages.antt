@@ -1,5 +1,5 @@
 -- No full name of the parts of linked files is a part of a package.
-use Rattle.std.proofs.Common.{◌≡◌, ◌∙◌, ℕ, ◌+◌, ◌≤◌, Bool, true, false, not, ◌&&◌, List, [], ◌∷◌, ◌++◌, length, map, flat_map, Option, Some, None, string_bytes, sym, ap, subst, refl, arith}
+use Rattle.std.proofs.Common.{◌≡◌, ◌∙◌, ℕ, ◌≤◌, Bool, true, false, not, ◌&&◌, List, [], ◌∷◌, length, map, flat_map, Option, Some, None, string_bytes, sym, ap, refl, arith, rules}
 use Rattle.std.specs.List.{list_all, AllByRecursion}
 use Rattle.std.proofs.lemmas.Bool.{false≢true}
 use Rattle.pg_schema.specs.declared.parts.file.File.{File}
@@ -8,20 +8,20 @@ use Rattle.pg_schema.specs.rules.DeclaredNames.{declared_names, within}
 use Rattle.pg_schema.specs.rules.Packages.{are_free_of, is_free_of, is_front}
 use Rattle.pg_link.specs.names.Files.{Declared as Name}
 use Rattle.pg_link.specs.Linked.{IsLinkedUp, LinkedFiles}
-use Rattle.pg_link.specs.names.Outline.{file_names, word}
+use Rattle.pg_link.specs.names.Outline.{file_names}
 use Rattle.pg_link.specs.uses.Targets.{all_declared}
 use Rattle.pg_link.specs.walk.Walk.{Entry}
+use Rattle.pg_schema.proofs.lemmas.rules.PairLemmas.{and_both}
 use Rattle.pg_check.specs.rules.Enums as enums
 use Rattle.pg_check.specs.rules.KeepsRules.{source_messages}
 use Rattle.pg_check.specs.parts.MadeParts.{ArePartsOf, EachIs, FileShape, IsFileOf, Source, nothing, with_files}
 use Rattle.pg_check.specs.parts.MadeServices.{MadeMethod, MadeService}
 use Rattle.pg_check.specs.rules.Outline.{Enum, Message, scoped_enums, file_messages, package_in, package_of}
 use Rattle.pg_check.specs.parts.Sources.{linked_source, linked_sources}
-use Rattle.pg_check.proofs.lemmas.parts.names.DeclaredTotals.{inside, method_counts, of_enum_type, of_made_service, of_message_type, part_names, value_texts}
+use Rattle.pg_check.proofs.lemmas.parts.names.DeclaredTotals.{inside, method_counts, of_enum_type, of_made_service, of_message_type, value_texts}
 use Rattle.pg_check.proofs.lemmas.parts.Eachs.{each_weaker, joined_all}
 use Rattle.pg_check.proofs.lemmas.parts.kept.KeptFiles.{each_shape, source_enums}
 use Rattle.pg_check.proofs.lemmas.parts.names.NamedOnce.{none_of, once_named, part, weight}
-use Rattle.pg_check.proofs.lemmas.rules.NoneLaws.{and_both}
 use Rattle.pg_check.proofs.lemmas.parts.places.PartPlaces.{IsSettledSource, ServiceUnder, all_services_under, scoped_services}
 use Rattle.pg_check.proofs.lemmas.parts.names.PlacedNames.{in_all, names_counted, names_in_files, settled_files}
 use Rattle.pg_check.proofs.lemmas.parts.places.ScopesOnce.{package_front}
@@ -33,12 +33,10 @@ use Rattle.pg_syntax.specs.declared.tree.EnumPart.TheVariants as enum_parts
 -- ---- no full name is empty
 
 one_none : (x : List ℕ) → 1 ≤ length x → one [] x ≡ 0
-one_none [] h = absurd (omega (arith, h))
-one_none (b ∷ bs) h = refl
+one_none x h = grind arith
 
 long_within : (scope x : List ℕ) → 1 ≤ length scope → 1 ≤ length (within scope x)
-long_within [] x h = absurd (omega (arith, h))
-long_within (b ∷ bs) x h = omega arith
+long_within scope x h = grind arith
 
 none_inside : (scope : List ℕ) (xs : List (List ℕ)) → 1 ≤ length scope → total (inside (one (46 ∷ [])) scope) xs ≡ 0
 none_inside scope [] h = refl
@@ -49,39 +47,22 @@ none_methods scope ms h = sym (total_map (inside (one (46 ∷ [])) scope) (λ (m
 
 no_message : (ms : List Message) → AllByRecursion IsGoodMessage ms → total (of_message_type (one (46 ∷ []))) ms ≡ 0
 no_message [] h = refl
-no_message (m ∷ ms) h =
-    let rest = no_message ms h.1 in
-    let name : one [] m.full ≡ 0 = one_none m.full h.0.some in
-    let inner : total (inside (one (46 ∷ [])) m.full) (flat_map part_names m.body) ≡ 0 = none_inside m.full (flat_map part_names m.body) h.0.some in
-    omega (arith, rest, name, inner)
+no_message (m ∷ ms) h = search (rules, one_none, none_inside, no_message ms h.1)
 
 no_value : (scope : List ℕ) (ps : List enums.Part) → AllByRecursion IsGoodEnumPart ps → total (inside (one (46 ∷ [])) scope) (value_texts ps) ≡ 0
 no_value scope [] h = refl
 no_value scope (enum_parts.Empty span ∷ ps) h = no_value scope ps h.1
 no_value scope (enum_parts.Option o ∷ ps) h = no_value scope ps h.1
 no_value scope (enum_parts.Reserved r ∷ ps) h = no_value scope ps h.1
-no_value scope (enum_parts.Value v ∷ ps) h =
-    let rest = no_value scope ps h.1 in
-    let name : one [] (within scope (string_bytes v.name.text)) ≡ 0 = one_none (within scope (string_bytes v.name.text)) (some_within scope (string_bytes v.name.text) h.0.0) in
-    omega (arith, rest, name)
+no_value scope (enum_parts.Value v ∷ ps) h = search (rules, one_none, some_within, no_value scope ps h.1)
 
 no_enum : (es : List Enum) → AllByRecursion IsGoodEnum es → total (of_enum_type (one (46 ∷ []))) es ≡ 0
 no_enum [] h = refl
-no_enum (e ∷ es) h =
-    let rest = no_enum es h.1 in
-    let long : 1 ≤ length e.full = subst (λ n. 1 ≤ length n) (sym h.0.is_full) (some_within e.scope (string_bytes e.tree.name.text) h.0.name) in
-    let name : one [] e.full ≡ 0 = one_none e.full long in
-    let inner : total (inside (one (46 ∷ [])) e.scope) (value_texts e.tree.parts.items) ≡ 0 = no_value e.scope e.tree.parts.items h.0.body in
-    omega (arith, rest, name, inner)
+no_enum (e ∷ es) h = search (rules, some_within, string_bytes, one_none, no_value, no_enum es h.1)
 
 no_service : (xs : List (List ℕ × MadeService)) → AllByRecursion ServiceUnder xs → total (of_made_service (one (46 ∷ []))) (map (λ (s : List ℕ × MadeService). s.1) xs) ≡ 0
 no_service [] h = refl
-no_service (x ∷ xs) h =
-    let rest = no_service xs h.1 in
-    let long : 1 ≤ length x.1.name = subst (λ n. 1 ≤ length n) (sym h.0.is) (some_within x.0 h.0.word h.0.is_a_word) in
-    let name : one [] x.1.name ≡ 0 = one_none x.1.name long in
-    let inner : total (method_counts (one (46 ∷ [])) x.1.name) x.1.methods ≡ 0 = none_methods x.1.name x.1.methods long in
-    omega (arith, rest, name, inner)
+no_service (x ∷ xs) h = search (rules, some_within, one_none, none_methods, no_service xs h.1)
 
 all_good_messages : (ss : List Source) → AllByRecursion IsSettledSource ss → AllByRecursion IsGoodMessage (flat_map source_messages ss)
 all_good_messages [] h = tt
@@ -92,11 +73,7 @@ all_good_enums [] h = tt
 all_good_enums (s ∷ ss) h = joined_all IsGoodEnum (scoped_enums s.tree) (flat_map source_enums ss) h.0.good.enums (all_good_enums ss h.1)
 
 none_empty : (ss : List Source) → AllByRecursion IsSettledSource ss → in_all [] ss ≡ 0
-none_empty ss h =
-    let messages = no_message (flat_map source_messages ss) (all_good_messages ss h) in
-    let enum_types = no_enum (flat_map source_enums ss) (all_good_enums ss h) in
-    let services = no_service (flat_map scoped_services ss) (all_services_under ss h) in
-    omega (arith, messages, enum_types, services)
+none_empty ss h = search (rules, no_message, flat_map, all_good_messages, no_enum, source_enums, all_good_enums, no_service, scoped_services, all_services_under)
 
 -- ---- all packages
 
@@ -112,12 +89,7 @@ none_fails test (x ∷ xs) h = by (test x) refl (none_fails test xs (λ y k. let
 -- of what is summed up over files
 below_all : (g : Name → ℕ) (files : List Entry) → AllByRecursion (λ (e : Entry). total g (file_names e.1.tree) ≤ total g (all_declared files)) files
 below_all g [] = tt
-below_all g (e ∷ es) =
-    let both : total g (file_names e.1.tree ++ all_declared es) ≡ total g (file_names e.1.tree) + total g (all_declared es) = total_joined g (file_names e.1.tree) (all_declared es) in (
-      omega (arith, both),
-      each_weaker (λ (x : Entry). total g (file_names x.1.tree) ≤ total g (all_declared es)) (λ (x : Entry). total g (file_names x.1.tree) ≤ total g (all_declared (e ∷ es)))
-          (λ x here. omega (arith, here, both)) es (below_all g es),
-    )
+below_all g (e ∷ es) = search (rules, total_joined, each_weaker, below_all g es)
 
 module _ (l : LinkedFiles) (up : IsLinkedUp l) (parts : Parts) (are : ArePartsOf (linked_sources l.files) parts) where
   abbrev counted : (y : List ℕ) → times y (declared_names parts) ≡ total (weight (one (46 ∷ y))) (all_declared l.files)
@@ -152,8 +124,7 @@ module _ (l : LinkedFiles) (up : IsLinkedUp l) (parts : Parts) (are : ArePartsOf
   files_free [] [] is h = refl
   files_free [] (x ∷ fs) is h = absurd is
   files_free (w ∷ ws) [] is h = absurd is
-  files_free (w ∷ ws) (x ∷ fs) is h =
-      and_both (is_free_of (declared_names parts) (string_bytes x.package)) (are_free_of (declared_names parts) fs) (ap (is_free_of (declared_names parts)) is.0.in_package ∙ h.0) (files_free ws fs is.1 h.1)
+  files_free (w ∷ ws) (x ∷ fs) is h = search (rules, and_both, string_bytes, files_free ws fs is.1 h.1)
 
   below : (es : List Entry) → ((y : List ℕ) → AllByRecursion (λ (e : Entry). total (part (one (46 ∷ y))) (file_names e.1.tree) ≤ total (part (one (46 ∷ y))) (all_declared l.files)) es) → AllByRecursion BelowAll es
   below [] h = tt

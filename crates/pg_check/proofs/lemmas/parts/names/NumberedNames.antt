@@ -1,5 +1,5 @@
 -- Linking numbers what files declare by its names, in order of declaration.
-use Rattle.std.proofs.Common.{◌≡◌, ◌∙◌, ℕ, zero, suc, ◌+◌, ◌≤◌, Bool, true, false, cond, List, [], ◌∷◌, ◌++◌, length, map, flat_map, filter, get_or, slice_get, option_map, Some, string_bytes, sym, ap, ap₂, subst, refl, arith, append_assoc}
+use Rattle.std.proofs.Common.{◌≡◌, ◌∙◌, ℕ, zero, suc, ◌+◌, ◌≤◌, Bool, true, false, cond, List, [], ◌∷◌, ◌++◌, length, map, flat_map, get_or, slice_get, option_map, Some, string_bytes, sym, ap, ap₂, subst, refl, arith, append_assoc, rules}
 use Rattle.std.specs.List.{AllByRecursion, position_from}
 use Rattle.std.specs.Option.{unwrap_or}
 use Rattle.std.specs.Str.{bytes_eq}
@@ -15,7 +15,7 @@ use Rattle.pg_link.specs.names.Files.{Declared}
 use Rattle.pg_link.specs.Linked.{IsLinkedUp, LinkedFiles}
 use Rattle.pg_link.specs.names.Names.{Text, without_dot}
 use Rattle.pg_link.specs.names.Outline.{all_of, file_names, of_enum, of_enum_part, of_oneof_part, of_part, of_row, of_service_part, of_statement, package_words, word}
-use Rattle.pg_link.specs.uses.Targets.{all_declared, enum_names, is_enum, is_message, message_names, names_of}
+use Rattle.pg_link.specs.uses.Targets.{all_declared, enum_names, message_names, names_of}
 use Rattle.pg_link.specs.walk.Walk.{Entry, IsParsed}
 use Rattle.pg_schema.specs.rules.Words.{is_word}
 use Rattle.pg_check.proofs.lemmas.parts.Numbering.{AreNumbered, declared_messages, message_full}
@@ -47,13 +47,7 @@ dotted_joined (m ∷ ms) ns = ap (λ xs. dot m.full ∷ xs) (dotted_joined ms ns
 
 names_joined : (test : Kind → Bool) (xs ys : List Declared) → names_of test (xs ++ ys) ≡ names_of test xs ++ names_of test ys
 names_joined test [] ys = refl
-names_joined test (x ∷ xs) ys = by (test x.kind) (names_joined test xs ys)
-  where
-    by : (b : Bool) → names_of test (xs ++ ys) ≡ names_of test xs ++ names_of test ys
-        → map (λ (d : Declared). d.name) (cond b (x ∷ filter (λ (d : Declared). test d.kind) (xs ++ ys)) (filter (λ (d : Declared). test d.kind) (xs ++ ys)))
-        ≡ map (λ (d : Declared). d.name) (cond b (x ∷ filter (λ (d : Declared). test d.kind) xs) (filter (λ (d : Declared). test d.kind) xs)) ++ names_of test ys
-    by true h = ap (λ ns. x.name ∷ ns) h
-    by false h = h
+names_joined test (x ∷ xs) ys = search (rules, names_joined test xs ys)
 
 -- ---- message types and enums
 
@@ -73,26 +67,11 @@ nothing_more : (all : List Declared) → Lists all [] [] all
 nothing_more all = (refl, λ x. omega arith)
 
 before : (xs ys : List Declared) (ms : List Message) (es : List Enum) → Lists xs ms es [] → Lists (xs ++ ys) ms es ys
-before xs ys ms es h = (
-  names_joined is_message xs ys ∙ ap (λ ns. ns ++ message_names ys) (h.0 ∙ append-nil (dotted_messages ms)),
-  λ x.
-      let front = h.1 x in
-      let both : times x (enum_names (xs ++ ys)) ≡ times x (enum_names xs) + times x (enum_names ys) = ap (times x) (names_joined is_enum xs ys) ∙ total_joined (one x) (enum_names xs) (enum_names ys) in
-      omega (arith, front, both),
-)
+before xs ys ms es h = search (rules, names_joined, append-nil, total_joined, one)
 
 further : (all behind rest : List Declared) (ms ns : List Message) (es fs : List Enum) → Lists all ms es behind → Lists behind ns fs rest
     → Lists all (ms ++ ns) (es ++ fs) rest
-further all behind rest ms ns es fs h k = (
-  h.0 ∙ (ap (λ xs. dotted_messages ms ++ xs) k.0
-      ∙ (sym (append_assoc (dotted_messages ms) (dotted_messages ns) (message_names rest)) ∙ ap (λ xs. xs ++ message_names rest) (sym (dotted_joined ms ns)))),
-  λ x.
-      let front = h.1 x in
-      let others = k.1 x in
-      let messages : total (own_named x) (ms ++ ns) ≡ total (own_named x) ms + total (own_named x) ns = total_joined (own_named x) ms ns in
-      let enums : total (named x) (es ++ fs) ≡ total (named x) es + total (named x) fs = total_joined (named x) es fs in
-      omega (arith, front, others, messages, enums),
-)
+further all behind rest ms ns es fs h k = search (rules, append_assoc, dotted_joined, total_joined)
 
 values_none : (scope : Text) (ps : List tree.EnumPart.EnumPart) → Lists (names_in scope (all_of of_enum_part ps Done)) [] [] []
 values_none scope [] = nothing_more []
@@ -173,22 +152,14 @@ statement_lists : (scope : List ℕ) (s : tree.Statement.Statement) (rest : Decl
 statement_lists scope (statements.Empty span) rest h = nothing_more (names_in (behind_dot scope) rest)
 statement_lists scope (statements.Import i) rest h = nothing_more (names_in (behind_dot scope) rest)
 statement_lists scope (statements.Option o) rest h = nothing_more (names_in (behind_dot scope) rest)
-statement_lists scope (statements.Message m) rest h =
-    let full = full_name scope m.name in
-    message_lists scope m.name m.parts.items (all_of of_part m.parts.items Done) rest (flat_map (messages_in full) m.parts.items)
-    h.1.0 (body_lists full m.parts.items (runs_good view.part m.parts.items h.1.1.1.0))
+statement_lists scope (statements.Message m) rest h = search (rules, message_lists, body_lists, runs_good)
 statement_lists scope (statements.Enum e) rest h = enum_lists scope e rest
-statement_lists scope (statements.Service s) rest h =
-    let full = linked_within (behind_dot scope) (string_bytes s.name.text) in
-    before (names_in full (all_of of_service_part s.parts.items Done)) (names_in (behind_dot scope) rest) [] [] (methods_none full s.parts.items)
+statement_lists scope (statements.Service s) rest h = search (rules, before, methods_none)
 
 statements_list : (scope : List ℕ) (ss : List tree.Statement.Statement) → AllByRecursion IsGoodStatement ss
     → Lists (names_in (behind_dot scope) (all_of of_statement ss Done)) (all_messages scope ss) (flat_map (enum_stated scope) ss) []
 statements_list scope [] h = nothing_more []
-statements_list scope (s ∷ ss) h =
-    let rest = all_of of_statement ss Done in
-    further (names_in (behind_dot scope) (of_statement s rest)) (names_in (behind_dot scope) rest) [] (statement_messages scope s)
-    (all_messages scope ss) (enum_stated scope s) (flat_map (enum_stated scope) ss) (statement_lists scope s rest h.0) (statements_list scope ss h.1)
+statements_list scope (s ∷ ss) h = search (rules, further, statement_lists, statements_list scope ss h.1)
 
 -- ---- files
 
@@ -266,10 +237,7 @@ found_in x i front (y ∷ ys) long some =
     by : (b : Bool) → bytes_eq x y ≡ b → (1 ≤ times x ys → Found x (i + 1) (front ++ y ∷ []) ys)
         → slice_get (front ++ y ∷ ys) (unwrap_or (cond b (Some i) (position_from (bytes_eq x) (i + 1) ys)) 0) ≡ Some x
     by true is further = subst (λ n. slice_get (front ++ y ∷ ys) n ≡ Some x) long (at_end front y ys ∙ ap (λ z. Some z) (sym ((bytes_eq-Decides x y).0 is)))
-    by false is further =
-        let none : one x y ≡ 0 = differs x y is in
-        let others : 1 ≤ times x ys = omega (arith, none, some) in
-        subst (λ zs. slice_get zs (unwrap_or (position_from (bytes_eq x) (i + 1) ys) 0) ≡ Some x) (one_further front y ys) (further others)
+    by false is further = search (rules, differs, slice_get, one_further, further)
 
 some_there : (x : Text) (xs : List Text) (i : ℕ) → slice_get xs i ≡ Some x → 1 ≤ times x xs
 some_there x [] i is = absurd (cc (is))
@@ -279,15 +247,7 @@ some_there x (y ∷ ys) (suc i) is = let rest : 1 ≤ times x ys = some_there x 
 -- what is among names with a dot in front is one of the names with a dot in front
 dotted_there : (x : Text) (names : List (List ℕ)) → 1 ≤ times x (map dot names) → (name : List ℕ) × (x ≡ dot name) × (1 ≤ times name names)
 dotted_there x [] some = absurd (omega (arith, some))
-dotted_there x (y ∷ ys) some = by (bytes_eq x (dot y)) refl (dotted_there x ys)
-  where
-    by : (b : Bool) → bytes_eq x (dot y) ≡ b → (1 ≤ times x (map dot ys) → (name : List ℕ) × (x ≡ dot name) × (1 ≤ times name ys)) → (name : List ℕ) × (x ≡ dot name) × (1 ≤ times name (y ∷ ys))
-    by true is rest = let here : one y y ≡ 1 = same_one y in (y, (bytes_eq-Decides x (dot y)).0 is, omega (arith, here))
-    by false is rest =
-        let none : one x (dot y) ≡ 0 = differs x (dot y) is in
-        let others = rest (omega (arith, none, some)) in
-        let few = others.2 in
-        (others.0, others.1, omega (arith, few))
+dotted_there x (y ∷ ys) some = search (rules, times, same_one, bytes_eq-Decides, differs, dotted_there x ys)
 
 pub are_numbered : (l : LinkedFiles) → IsLinkedUp l → AreNumbered l.files
 are_numbered l up =

@@ -1,32 +1,28 @@
 -- Full names of the parts of linked files differ, and none is a part of a package.
-use Rattle.std.proofs.Common.{◌≡◌, ◌∙◌, ℕ, zero, suc, ◌+◌, Bool, true, false, cond, List, [], ◌∷◌, ◌++◌, map, flat_map, codes, Option, Some, None, slice_get, is_some, string_bytes, sym, ap, refl, arith}
+use Rattle.std.proofs.Common.{◌≡◌, ◌∙◌, ℕ, zero, suc, ◌+◌, Bool, false, cond, List, [], ◌∷◌, ◌++◌, map, flat_map, codes, Option, Some, slice_get, is_some, string_bytes, ap, refl, arith, rules}
 use Rattle.std.proofs.lemmas.Option.{same_Some}
 use Rattle.pg_schema.specs.declared.parts.enum_type.EnumType.{EnumType}
 use Rattle.pg_schema.specs.declared.parts.enum_type.EnumValue as schema_values
 use Rattle.pg_schema.specs.declared.parts.field.Element.{Element}
 use Rattle.pg_schema.specs.declared.parts.field.EnumId.{EnumId}
 use Rattle.pg_schema.specs.declared.parts.field.Field.{Field}
-use Rattle.pg_schema.specs.declared.parts.field.Presence.TheVariants as presences
 use Rattle.pg_schema.specs.declared.parts.file.File.{File}
 use Rattle.pg_schema.specs.declared.parts.message_type.MessageType.{MessageType}
-use Rattle.pg_schema.specs.declared.parts.service.Method as schema_methods
 use Rattle.pg_schema.specs.declared.parts.service.Service as schema_services
 use Rattle.pg_schema.specs.rules.DeclaredNames as names
-use Rattle.pg_schema.specs.rules.DeclaredNames.{entry_names, entry_of, method_names, service_names, type_names, values_at, values_of, within}
+use Rattle.pg_schema.specs.rules.DeclaredNames.{entry_names, service_names, type_names, values_of}
 use Rattle.pg_schema.specs.rules.Enums.{value_names}
-use Rattle.pg_schema.specs.rules.Fields.{is_message}
 use Rattle.pg_schema.specs.rules.Messages.{field_names}
 use Rattle.pg_schema.specs.Shape.{is_map}
 use Rattle.pg_link.specs.declared.uses.target.Target.{Target}
 use Rattle.pg_link.specs.names.Names.{Text}
 use Rattle.pg_check.specs.rules.Enums as enums
-use Rattle.pg_check.specs.parts.MadeEnums.{MadeEnum, MadeValue, enumeration, made_enum, made_values, value}
-use Rattle.pg_check.specs.parts.MadeFields.{MadeField, element, field, labelled, made_field}
-use Rattle.pg_check.specs.parts.MadeOptions.{flag_of}
+use Rattle.pg_check.specs.parts.MadeEnums.{MadeValue, enumeration, made_enum, made_values, value}
+use Rattle.pg_check.specs.parts.MadeFields.{MadeField, field, labelled, made_field}
 use Rattle.pg_check.specs.parts.MadeMessages.{AreFields, made_fields, oneof_in, oneofs}
-use Rattle.pg_check.specs.parts.MadeServices.{method, service}
+use Rattle.pg_check.specs.parts.MadeServices.{service}
 use Rattle.pg_check.specs.parts.MadeParts.{IsTypeOf, TypeTree}
-use Rattle.pg_check.specs.rules.Members.{Mapped, DeclaredField, Plain, members, members_from, members_in, name_of, oneof_members, oneofs_in, settings}
+use Rattle.pg_check.specs.rules.Members.{Mapped, DeclaredField, Plain, members, members_from, members_in, name_of, oneof_members, oneofs_in}
 use Rattle.pg_check.specs.rules.Outline.{Enum}
 use Rattle.pg_check.proofs.lemmas.parts.names.DeclaredTotals.{counts, inside, method_counts, of_made_service, oneof_part_names, part_names, value_texts}
 use Rattle.pg_check.proofs.lemmas.parts.Totals.{one, times, total, total_flat, total_joined, total_map, total_moved, total_same}
@@ -34,7 +30,6 @@ use Rattle.pg_check.proofs.lemmas.parts.places.Regrouped.{everywhere}
 use Rattle.pg_syntax.specs.declared.tree as tree
 use Rattle.pg_syntax.specs.declared.tree.EnumPart.TheVariants as enum_parts
 use Rattle.pg_syntax.specs.declared.tree.Label.{Label}
-use Rattle.pg_syntax.specs.declared.tree.Label.TheVariants as labels
 use Rattle.pg_syntax.specs.declared.tree.OneofPart.TheVariants as oneof_parts
 use Rattle.pg_syntax.specs.declared.tree.Part.{Part}
 use Rattle.pg_syntax.specs.declared.tree.Part.TheVariants as parts
@@ -87,23 +82,10 @@ module _ (g : List ℕ → ℕ) where
   made_counts f = g f.name + total g (made_entries f)
 
   no_map : (l : Option Label) (b : Bool) (e : Element) (stated : Option Bool) → is_map (labelled l b e stated) ≡ false
-  no_map (Some labels.Repeated) b e stated = refl
-  no_map (Some labels.Optional) b e stated = refl
-  no_map None true e stated = refl
-  no_map None false e stated = by_element e
-    where
-      by_element : (x : Element) → is_map (labelled None false x stated) ≡ false
-      by_element x = by (is_message x)
-        where
-          by : (c : Bool) → is_map (cond c presences.Explicit presences.Implicit) ≡ false
-          by true = refl
-          by false = refl
+  no_map l b e stated = grind arith
 
   one_made : (targets : ℕ → Option Target) (m : DeclaredField) → made_counts (made_field targets m) ≡ member_counts m
-  one_made targets (Plain f oneof) =
-      ap (λ b. g (string_bytes f.name.text) + total g (cond b (names.entry_name (string_bytes f.name.text) ∷ []) []))
-      (no_map f.label (is_some oneof) (element targets f.type_name) (flag_of (codes "packed") (settings f.settings)))
-  one_made targets (Mapped m oneof) = omega arith
+  one_made targets m = grind (arith, string_bytes, total, no_map, is_some, codes)
 
   fields_are : (targets : ℕ → Option Target) (body : List Part) (fields : List Field) → AreFields (made_fields targets body) fields
       → total g (field_names fields) + total g (entry_names fields) ≡ total member_counts (members body)
@@ -116,10 +98,7 @@ module _ (g : List ℕ → ℕ) where
     where
       both : (fs : List Field) → total g (field_names fs) + total g (entry_names fs) ≡ total made_counts (map field fs)
       both [] = refl
-      both (f ∷ fs) =
-          let rest : total g (field_names fs) + total g (entry_names fs) ≡ total made_counts (map field fs) = both fs in
-          let entries : total g (entry_of f ++ entry_names fs) ≡ total g (entry_of f) + total g (entry_names fs) = total_joined g (entry_of f) (entry_names fs) in
-          omega (arith, rest, entries)
+      both (f ∷ fs) = search (rules, total_joined, both fs)
 
 -- ---- one message type
 
@@ -149,35 +128,17 @@ module _ (y : List ℕ) where
   values_count es scope i = total (inside f scope) (values_of (slice_get es i))
 
   pub type_is : (es : List EnumType) (t : MessageType) → times y (type_names es t) ≡ own_counts t + total (λ (id : EnumId). values_count es (string_bytes t.name) id.index) t.nested_enums.items
-  type_is es t =
-      let n = string_bytes t.name in
-      let g = inside f n in
-      let fields = field_names t.fields.items in
-      let others = map string_bytes t.oneofs.items in
-      let entries = entry_names t.fields.items in
-      let values = values_at es t.nested_enums.items in
-      let mapped : times y (map (within n) (fields ++ others ++ entries ++ values)) ≡ total g (fields ++ others ++ entries ++ values) = total_map (one y) (within n) (fields ++ others ++ entries ++ values) in
-      let first : total g (fields ++ others ++ entries ++ values) ≡ total g (fields ++ others ++ entries) + total g values = total_joined g (fields ++ others ++ entries) values in
-      let second : total g (fields ++ others ++ entries) ≡ total g (fields ++ others) + total g entries = total_joined g (fields ++ others) entries in
-      let third : total g (fields ++ others) ≡ total g fields + total g others = total_joined g fields others in
-      let of_values : total g values ≡ total (λ (id : EnumId). values_count es n id.index) t.nested_enums.items = total_flat g (λ (id : EnumId). values_of (slice_get es id.index)) t.nested_enums.items in
-      omega (arith, mapped, first, second, third, of_values)
+  type_is es t = search (rules, string_bytes, inside, total_map, one, total_joined, total_flat, slice_get)
 
   pub file_is_so : (es : List EnumType) (d : File) → times y (names.file_names es d) ≡ total (λ (id : EnumId). values_count es (string_bytes d.package) id.index) d.enums.items
-  file_is_so es d =
-      total_map (one y) (within (string_bytes d.package)) (values_at es d.enums.items) ∙ total_flat (inside f (string_bytes d.package)) (λ (id : EnumId). values_of (slice_get es id.index)) d.enums.items
+  file_is_so es d = search (rules, total_map, one, string_bytes, total_flat, inside, slice_get)
 
   pub service_is_so : (s : schema_services.Service) → times y (service_names s) ≡ of_made_service f (service s)
-  service_is_so s =
-      let n = string_bytes s.name in
-      ap (λ k. one y n + k)
-      (total_map (one y) (within n) (method_names s.methods.items)
-      ∙ (total_map (inside f n) (λ (m : schema_methods.Method). string_bytes m.name) s.methods.items ∙ sym (total_map (method_counts f n) method s.methods.items)))
+  service_is_so s = search (rules, string_bytes, one, total_map, inside, method_counts)
 
   -- the values of an enum, as it is made
   pub enum_values_are : (e : EnumType) (m : Enum) → enumeration e ≡ made_enum m → value_names e.values.items ≡ value_texts m.tree.parts.items
-  enum_values_are e m is =
-      sym (again e.values.items) ∙ (ap (λ (x : MadeEnum). map (λ (v : MadeValue). v.name) x.values) is ∙ texts m.tree.parts.items)
+  enum_values_are e m is = search (rules, again, texts)
     where
       again : (vs : List schema_values.EnumValue) → map (λ (v : MadeValue). v.name) (map value vs) ≡ value_names vs
       again [] = refl
@@ -191,16 +152,11 @@ module _ (y : List ℕ) where
       texts (enum_parts.Value v ∷ ps) = ap (λ ns. string_bytes v.name.text ∷ ns) (texts ps)
 
   pub values_looked : (es : List EnumType) (ms : List Enum) → map enumeration es ≡ map made_enum ms → (i : ℕ) (m : Enum) → slice_get ms i ≡ Some m → values_count es m.scope (0 + i) ≡ total (inside f m.scope) (value_texts m.tree.parts.items)
-  values_looked es ms same i m at =
-      let none : 0 + i ≡ i = omega arith in
-      ap (values_count es m.scope) none ∙ ap (total (inside f m.scope)) (found es ms same i at)
+  values_looked es ms same i m at = search (rules, total, inside, found)
     where
       found : (xs : List EnumType) (ys : List Enum) → map enumeration xs ≡ map made_enum ys → (k : ℕ) → slice_get ys k ≡ Some m → values_of (slice_get xs k) ≡ value_texts m.tree.parts.items
       found [] [] is k here = absurd (cc (here))
       found [] (w ∷ ys) is k here = absurd (cc (is))
       found (x ∷ xs) [] is k here = absurd (cc (is))
-      found (x ∷ xs) (w ∷ ys) is zero here =
-          let one_is : enumeration x ≡ made_enum w = cc (is) in
-          let same_m : w ≡ m = same_Some w m here in
-          enum_values_are x m (one_is ∙ ap made_enum same_m)
+      found (x ∷ xs) (w ∷ ys) is zero here = search (rules, same_Some, enum_values_are)
       found (x ∷ xs) (w ∷ ys) is (suc k) here = let others : map enumeration xs ≡ map made_enum ys = cc (is) in found xs ys others k here

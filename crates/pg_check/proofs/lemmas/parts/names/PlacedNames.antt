@@ -1,5 +1,5 @@
 -- All full names of the parts of linked files, counted in the files.
-use Rattle.std.proofs.Common.{◌≡◌, ◌∙◌, ℕ, ◌+◌, ◌≤◌, true, List, [], ◌∷◌, ◌++◌, length, map, flat_map, string_bytes, sym, ap, refl, arith}
+use Rattle.std.proofs.Common.{◌≡◌, ◌∙◌, ℕ, ◌+◌, ◌≤◌, true, List, [], ◌∷◌, ◌++◌, length, map, flat_map, string_bytes, sym, ap, refl, arith, rules}
 use Rattle.std.specs.List.{AllByRecursion}
 use Rattle.std.proofs.lemmas.List.{map-append}
 use Rattle.std.proofs.lemmas.List.Elements.{recursion_from_All}
@@ -17,9 +17,9 @@ use Rattle.pg_link.specs.walk.Walk.{Entry, IsParsed}
 use Rattle.pg_check.specs.parts.ByScope.{Placed, placed_from}
 use Rattle.pg_check.specs.rules.KeepsRules.{source_messages}
 use Rattle.pg_check.specs.parts.MadeEnums.{enumeration, made_enum}
-use Rattle.pg_check.specs.parts.MadeParts.{ArePartsOf, Declared, IsTypeOf, Source, file_services, nothing, placed_enums, placed_messages, type_tree, type_trees, with_file, with_files}
+use Rattle.pg_check.specs.parts.MadeParts.{ArePartsOf, Declared, IsTypeOf, Source, nothing, placed_enums, placed_messages, type_tree, type_trees, with_file, with_files}
 use Rattle.pg_check.specs.parts.MadeServices.{service}
-use Rattle.pg_check.specs.rules.Outline.{Enum, enum_scope, scoped_enums, file_messages, package_of}
+use Rattle.pg_check.specs.rules.Outline.{Enum, enum_scope, file_messages}
 use Rattle.pg_check.proofs.lemmas.parts.places.PlacedParts.{HasValuesOnce}
 use Rattle.pg_check.specs.parts.Sources.{linked_source, linked_sources}
 use Rattle.pg_check.proofs.lemmas.parts.places.DeclaredPlaces.{looked_up}
@@ -34,16 +34,14 @@ use Rattle.pg_check.proofs.lemmas.parts.places.Regrouped.{everywhere}
 use Rattle.pg_check.proofs.lemmas.parts.places.ScopesOnce.{NamesOnce, each_file_once, file_scoped}
 use Rattle.pg_check.proofs.lemmas.parts.Totals.{distinct_from_times, one, times, total, total_both, total_flat, total_joined, total_map, total_same}
 use Rattle.pg_check.proofs.lemmas.parts.names.WordTrees.{file_good}
-use Rattle.pg_check.proofs.lemmas.parts.names.WordedFiles.{IsGoodFile, good_file}
+use Rattle.pg_check.proofs.lemmas.parts.names.WordedFiles.{good_file}
 
 -- ---- the files
 
 settled_from : (all files : List Entry) → AllByRecursion (λ (e : Entry). IsParsed e.1.bytes.items e.1.tree) files → AllByRecursion (λ (e : Entry). NamesOnce (file_names e.1.tree)) files
     → AllByRecursion IsSettledSource (map (linked_source all) files)
 settled_from all [] parsed once = tt
-settled_from all (e ∷ es) parsed once =
-    let good : IsGoodFile e.1.tree = good_file e.1.tree (file_good e.1.bytes.items e.1.tree parsed.0) in
-    (record { good = good; scoped = file_scoped e.1.tree good once.0 }, settled_from all es parsed.1 once.1)
+settled_from all (e ∷ es) parsed once = search (rules, good_file, file_good, file_scoped, settled_from all es parsed.1 once.1)
 
 pub settled_files : (l : LinkedFiles) → IsLinkedUp l → AllByRecursion IsSettledSource (linked_sources l.files)
 settled_files l up = settled_from l.files l.files (recursion_from_All (λ (e : Entry). IsParsed e.1.bytes.items e.1.tree) l.files up.parsed) (each_file_once l.files (once_named l.files up.once))
@@ -57,18 +55,7 @@ module _ (y : List ℕ) where
 
   files_counted : (all files : List Entry) → AllByRecursion IsSettledSource (map (linked_source all) files) → total (weight f) (all_declared files) ≡ in_all (map (linked_source all) files)
   files_counted all [] h = refl
-  files_counted all (e ∷ es) h =
-      let s = linked_source all e in
-      let ss = map (linked_source all) es in
-      let here : total (weight f) (file_names e.1.tree) ≡ (total (of_message_type f) (file_messages e.1.tree) + total (of_enum_type f) (scoped_enums e.1.tree)) + total (of_made_service f) (file_services s) = file_is f s.targets e.1.tree h.0.good in
-      let rest : total (weight f) (all_declared es) ≡ in_all ss = files_counted all es h.1 in
-      let both : total (weight f) (file_names e.1.tree ++ all_declared es) ≡ total (weight f) (file_names e.1.tree) + total (weight f) (all_declared es) = total_joined (weight f) (file_names e.1.tree) (all_declared es) in
-      let messages : total (of_message_type f) (file_messages e.1.tree ++ flat_map source_messages ss) ≡ total (of_message_type f) (file_messages e.1.tree) + total (of_message_type f) (flat_map source_messages ss) = total_joined (of_message_type f) (file_messages e.1.tree) (flat_map source_messages ss) in
-      let enum_types : total (of_enum_type f) (scoped_enums e.1.tree ++ flat_map source_enums ss) ≡ total (of_enum_type f) (scoped_enums e.1.tree) + total (of_enum_type f) (flat_map source_enums ss) = total_joined (of_enum_type f) (scoped_enums e.1.tree) (flat_map source_enums ss) in
-      let services : total (of_made_service f) (map made_in (scoped_services s ++ flat_map scoped_services ss)) ≡ total (of_made_service f) (file_services s) + total (of_made_service f) (map made_in (flat_map scoped_services ss)) =
-      ap (total (of_made_service f)) (map-append made_in (scoped_services s) (flat_map scoped_services ss) ∙ ap (λ xs. xs ++ map made_in (flat_map scoped_services ss)) (services_back (package_of s.tree) (file_services s)))
-      ∙ total_joined (of_made_service f) (file_services s) (map made_in (flat_map scoped_services ss)) in
-      omega (arith, here, rest, both, messages, enum_types, services)
+  files_counted all (e ∷ es) h = search (rules, file_is, total_joined, made_in, scoped_services, map-append, services_back, files_counted all es h.1)
 
   trees_counted : (d : Declared) (ss : List Source) → total (tree_counts y) (with_files d ss).types ≡ total (tree_counts y) d.types + total (of_message_type f) (flat_map source_messages ss)
   trees_counted d [] = omega arith
@@ -131,20 +118,7 @@ module _ (l : LinkedFiles) (up : IsLinkedUp l) (parts : Parts) (are : ArePartsOf
   files_count y = total_flat (one y) (names.file_names enums) parts.files.items ∙ total_same _ _ parts.files.items (everywhere _ parts.files.items (file_is_so y enums))
 
   pub names_counted : (y : List ℕ) → times y (declared_names parts) ≡ total (weight (one (46 ∷ y))) (all_declared l.files)
-  names_counted y =
-      let a = flat_map (type_names enums) parts.types.items in
-      let b = map (λ (e : EnumType). string_bytes e.name) enums in
-      let c = flat_map service_names parts.services.items in
-      let d = flat_map (names.file_names enums) parts.files.items in
-      let first : times y (a ++ b ++ c ++ d) ≡ times y (a ++ b ++ c) + times y d = total_joined (one y) (a ++ b ++ c) d in
-      let next : times y (a ++ b ++ c) ≡ times y (a ++ b) + times y c = total_joined (one y) (a ++ b) c in
-      let last : times y (a ++ b) ≡ times y a + times y b = total_joined (one y) a b in
-      let of_types = types_count y in
-      let of_enums = enums_count y in
-      let of_services = services_count y in
-      let of_files = files_count y in
-      let whole = names_in_files y in
-      omega (arith, first, next, last, of_types, of_enums, of_services, of_files, whole)
+  names_counted y = search (rules, flat_map, string_bytes, total_joined, one, types_count, enums_count, services_count, files_count, names_in_files)
 
   pub names_differ : are_distinct (declared_names parts) ≡ true
   names_differ = distinct_from_times (declared_names parts) (λ y. let same = names_counted y in let few = (once_named l.files up.once (46 ∷ y)).few in omega (arith, same, few))

@@ -1,5 +1,5 @@
 -- The words of a scope are the parts of its full name.
-use Rattle.std.proofs.Common.{◌≡◌, ◌∙◌, ℕ, true, List, [], ◌∷◌, ◌++◌, map, Option, Some, None, refl, sym, ap, ap₂, append_assoc}
+use Rattle.std.proofs.Common.{◌≡◌, ◌∙◌, ℕ, true, List, [], ◌∷◌, ◌++◌, map, Option, refl, sym, ap, ap₂, append_assoc, arith, rules}
 use Rattle.std.specs.List.{AllByRecursion}
 use Rattle.std.proofs.lemmas.List.{append-nil}
 use Rattle.pg_schema.specs.rules.DeclaredNames.{within}
@@ -31,10 +31,7 @@ called_joined (x ∷ xs) ys = ap (λ t. 46 ∷ (x ++ t)) (called_joined xs ys) �
 
 -- the scope of a word in it
 pub fits_in : (scope : List Text) (full w : List ℕ) → Fits scope full → IsWord w → Fits (scope ++ w ∷ []) (within full w)
-fits_in scope full w fits good = record {
-  is_called = called_joined scope (w ∷ []) ∙ (ap (λ t. t ++ called (w ∷ [])) fits.is_called ∙ scope_is full w good);
-  words = joined_all IsWord scope (w ∷ []) fits.words (good, tt);
-}
+fits_in scope full w fits good = search (rules, called_joined, scope_is, joined_all)
 
 at_dots : (w : List ℕ) (ws : List Text) → IsWord w → AllByRecursion IsWord ws → parts_at_dots (w ++ called ws) ≡ w ∷ ws
 at_dots w [] good all = ap parts_at_dots (append-nil w) ∙ bytes_alone w (word_bytes w good)
@@ -56,8 +53,7 @@ more_words [] h = tt
 more_words (n ∷ ns) h = (h.0.1, more_words ns h.1)
 
 package_is_words : (p : Option tree.Packaged.Packaged) → IsGood (view.perhaps view.packaged p) → AllByRecursion IsWord (map (λ (w : Word). w.text) (package_words p))
-package_is_words None h = tt
-package_is_words (Some p) h = (h.0.1.0.0, more_words p.package.name.more.items (rows_good view.dot_name p.package.name.more.items h.0.1.0.1))
+package_is_words p h = grind (arith, more_words, rows_good)
 
 pub file_fits : (file : tree.FileTree.FileTree) → IsGoodFile file → Fits (file_scope file) (package_of file)
 file_fits file good = record { is_called = package_scope_is file.packaged good.package_good; words = package_is_words file.packaged good.package_good }

@@ -1,15 +1,15 @@
 -- The names in a tree that is at the tokens of a source file are words.
-use Rattle.std.proofs.Common.{◌≡◌, ◌⊎◌, inl, inr, ℕ, Bool, true, false, ◌&&◌, ◌||◌, ◌==◌, nat_le, List, [], ◌∷◌, ◌++◌, Option, Some, None, string_bytes, subst, refl}
+use Rattle.std.proofs.Common.{◌≡◌, ℕ, Bool, true, ◌&&◌, ◌||◌, ◌==◌, nat_le, List, [], ◌∷◌, ◌++◌, Option, string_bytes, subst, arith, rules}
 use Rattle.std.specs.List.{list_all, AllByRecursion}
 use Rattle.std.proofs.lemmas.Bool.{false≢true}
 use Rattle.pg_lex.specs.Bytes as lexical
-use Rattle.pg_lex.specs.Lexes.{Spells, byte_order_mark, lexes, IsLexeme}
+use Rattle.pg_lex.specs.Lexes.{Spells, lexes, IsLexeme}
 use Rattle.pg_lex.specs.Symbol.{Placed, Symbol, Word, Whole, Text, Mark}
 use Rattle.pg_schema.specs.rules.Words.{is_digit, is_letter, is_word, is_word_byte}
 use Rattle.pg_link.specs.walk.Walk.{IsParsed}
+use Rattle.pg_schema.proofs.lemmas.rules.PairLemmas.{and_both}
 use Rattle.pg_check.proofs.lemmas.parts.Eachs.{back_of, front_of}
 use Rattle.pg_check.proofs.lemmas.parts.Moved.{all_weaker}
-use Rattle.pg_check.proofs.lemmas.rules.NoneLaws.{and_both}
 use Rattle.pg_syntax.specs.declared.tree as tree
 use Rattle.pg_syntax.specs.declared.tree.Label.{Label}
 use Rattle.pg_syntax.specs.Tree.{Tree, Empty, Leaf, Both, At, Stands}
@@ -27,49 +27,32 @@ abbrev pub IsGoodToken : Placed → Type 0
 IsGoodToken t = IsGoodSymbol t.symbol
 
 or_again : (a b c d : Bool) → (a || (b || c)) ≡ true → ((a || b) || c) ≡ true
-or_again true b c d h = h
-or_again false b c d h = h
+or_again a b c d h = grind arith
 
 letter_is : (b : ℕ) → lexical.is_letter b ≡ true → is_letter b ≡ true
 letter_is b h = or_again (nat_le 65 b && nat_le b 90) (nat_le 97 b && nat_le b 122) (b == 95) true h
 
 or_weaker : (a b c : Bool) → (a ≡ true → b ≡ true) → (a || c) ≡ true → (b || c) ≡ true
-or_weaker true true c f h = h
-or_weaker true false c f h = absurd (false≢true (f refl))
-or_weaker false true c f h = refl
-or_weaker false false c f h = h
+or_weaker a b c f h = grind (arith, false≢true)
 
 word_byte_is : (b : ℕ) → lexical.is_word_byte b ≡ true → is_word_byte b ≡ true
 word_byte_is b h = or_weaker (lexical.is_letter b) (is_letter b) (is_digit b) (letter_is b) h
 
 tail_of : (p : ℕ → Bool) (b : ℕ) (bs : List ℕ) → list_all p (b ∷ bs) ≡ true → list_all p bs ≡ true
-tail_of p b bs h = by (p b) h
-  where
-    by : (c : Bool) → (c && list_all p bs) ≡ true → list_all p bs ≡ true
-    by true h = h
-    by false h = absurd (false≢true h)
+tail_of p b bs h = search (rules, false≢true)
 
 word_is : (w : List ℕ) → lexical.begins lexical.is_letter w ≡ true → list_all lexical.is_word_byte w ≡ true → is_word w ≡ true
-word_is [] first others = absurd (false≢true first)
-word_is (b ∷ bs) first others =
-    and_both (is_letter b) (list_all is_word_byte bs) (letter_is b first) (all_weaker lexical.is_word_byte is_word_byte word_byte_is bs (tail_of lexical.is_word_byte b bs others))
+word_is w first others = grind (arith, false≢true, and_both, letter_is, all_weaker, word_byte_is, tail_of)
 
 lexeme_good : (s : Symbol) (bytes rest : List ℕ) → IsLexeme bytes s rest → IsGoodSymbol s
-lexeme_good (Word w) bytes rest h = word_is w h.1 h.2
-lexeme_good (Whole n) bytes rest h = tt
-lexeme_good (Text t) bytes rest h = tt
-lexeme_good (Mark m) bytes rest h = tt
+lexeme_good s bytes rest h = grind (arith, word_is)
 
 spelled_good : (at : ℕ) (bytes : List ℕ) (ts : List Placed) → Spells at bytes ts → AllByRecursion IsGoodToken ts
 spelled_good at bytes [] h = tt
 spelled_good at bytes (t ∷ ts) h = (lexeme_good t.symbol h.1 h.2 h.5, spelled_good t.to h.2 ts h.8)
 
 tokens_good : (text : List ℕ) (ts : List Placed) → lexes text ts → AllByRecursion IsGoodToken ts
-tokens_good text ts h = by h.1
-  where
-    by : (Spells 0 text ts) ⊎ ((rest : List ℕ) × (text ≡ byte_order_mark ++ rest) × Spells 3 rest ts) → AllByRecursion IsGoodToken ts
-    by (inl k) = spelled_good 0 text ts k
-    by (inr k) = spelled_good 3 k.0 ts k.2
+tokens_good text ts h = search (rules, spelled_good)
 
 -- ---- trees
 
@@ -112,8 +95,7 @@ runs_good to_tree [] h = tt
 runs_good to_tree (x ∷ xs) h = let both = nodes_good (to_tree x) (view.all_nodes to_tree xs) h in (both.0, runs_good to_tree xs both.1)
 
 labelled_good : (l : Option Label) (t : Tree) → IsGood (view.labelled l t) → IsGood t
-labelled_good None t h = h
-labelled_good (Some l) t h = h.1
+labelled_good l t h = grind arith
 
 pub field_name_good : (f : tree.Field.Field) → IsGood (view.field f) → IsGoodName f.name
 field_name_good f h = (labelled_good f.label _ h).0.1

@@ -1,16 +1,16 @@
 -- The names of what files declare are words, and packages are words with dots between.
-use Rattle.std.proofs.Common.{◌≡◌, ◌∙◌, ℕ, ◌+◌, ◌≤◌, Bool, true, false, cond, ◌||◌, ◌==◌, List, [], ◌∷◌, ◌++◌, length, flat_map, Option, Some, None, string_bytes, sym, ap, refl, arith}
+use Rattle.std.proofs.Common.{◌≡◌, ◌∙◌, ℕ, ◌+◌, ◌≤◌, Bool, true, false, ◌||◌, ◌==◌, List, [], ◌∷◌, ◌++◌, length, flat_map, Option, Some, None, string_bytes, ap, refl, arith, rules}
 use Rattle.std.specs.List.{list_all, AllByRecursion}
 use Rattle.std.proofs.lemmas.Bool.{false≢true}
 use Rattle.std.proofs.lemmas.Bool.Decides.{nat_tests}
 use Rattle.std.proofs.lemmas.List.Folds.{list_all-append}
 use Rattle.pg_schema.specs.rules.DeclaredNames.{within}
 use Rattle.pg_schema.specs.rules.Words.{before_first, is_package, is_word, is_word_byte, parts_at_dots}
-use Rattle.pg_check.specs.parts.MadeMessages.{oneof_in, oneofs}
+use Rattle.pg_schema.proofs.lemmas.rules.PairLemmas.{and_left, and_right, and_both}
+use Rattle.pg_check.specs.parts.MadeMessages.{oneofs}
 use Rattle.pg_check.specs.rules.Members.{DeclaredField, members_from, members_in, name_of, oneof_members, oneofs_in}
-use Rattle.pg_check.specs.rules.Outline.{Enum, Message, all_messages, an_enum, dotted, dotted_more, enum_stated, file_messages, full_name, messages_in, own_enums, package_enums, package_in, package_of, row_list, row_messages, scoped_enums, statement_messages, statements_behind}
+use Rattle.pg_check.specs.rules.Outline.{Enum, Message, all_messages, an_enum, dotted_more, enum_stated, file_messages, full_name, messages_in, own_enums, package_enums, package_in, package_of, row_list, row_messages, scoped_enums, statement_messages, statements_behind}
 use Rattle.pg_check.proofs.lemmas.parts.Eachs.{each_flat, each_weaker, joined_all}
-use Rattle.pg_check.proofs.lemmas.rules.NoneLaws.{and_both, and_left, and_right}
 use Rattle.pg_check.proofs.lemmas.parts.places.ScopedEnums.{own_all, stated_all}
 use Rattle.pg_check.proofs.lemmas.parts.names.WordTrees.{IsGood, IsGoodName, field_name_good, map_name_good, nodes_good, rows_good, runs_good}
 use Rattle.pg_syntax.specs.declared.tree as tree
@@ -49,9 +49,7 @@ oneof_members_worded place (oneof_parts.Field f ∷ ps) h = and_both (is_word (s
 
 pub members_worded : (place : ℕ) (ps : List Part) → AllByRecursion IsGoodPart ps → list_all is_word_member (members_from place ps) ≡ true
 members_worded place [] h = refl
-members_worded place (p ∷ ps) h =
-    list_all-append is_word_member (members_in place p) (members_from (place + oneofs_in p) ps)
-    ∙ and_both (list_all is_word_member (members_in place p)) (list_all is_word_member (members_from (place + oneofs_in p) ps)) (one p h.0) (members_worded (place + oneofs_in p) ps h.1)
+members_worded place (p ∷ ps) h = search (rules, list_all-append, and_both, one, members_worded (place + oneofs_in p) ps h.1)
   where
     one : (q : Part) → IsGoodPart q → list_all is_word_member (members_in place q) ≡ true
     one (parts.Empty span) k = refl
@@ -65,19 +63,7 @@ members_worded place (p ∷ ps) h =
 
 pub oneofs_worded : (ps : List Part) → AllByRecursion IsGoodPart ps → list_all is_word (oneofs ps) ≡ true
 oneofs_worded [] h = refl
-oneofs_worded (p ∷ ps) h =
-    list_all-append is_word (oneof_in p) (oneofs ps)
-    ∙ and_both (list_all is_word (oneof_in p)) (list_all is_word (oneofs ps)) (one p h.0) (oneofs_worded ps h.1)
-  where
-    one : (q : Part) → IsGoodPart q → list_all is_word (oneof_in q) ≡ true
-    one (parts.Empty span) k = refl
-    one (parts.Message' name shape row span) k = refl
-    one (parts.Enum e) k = refl
-    one (parts.Oneof o) k = and_both (is_word (string_bytes o.name.text)) true k.1.0 refl
-    one (parts.Option o) k = refl
-    one (parts.Reserved r) k = refl
-    one (parts.Map m) k = refl
-    one (parts.Field f) k = refl
+oneofs_worded (p ∷ ps) h = search (rules, list_all-append, and_both, string_bytes, oneofs_worded ps h.1)
 
 -- ---- message types
 
@@ -88,9 +74,7 @@ pub record IsGoodMessage (m : Message) : Type 0 where
   pub body : AllByRecursion IsGoodPart m.body
 
 pub some_within : (scope w : List ℕ) → is_word w ≡ true → 1 ≤ length (within scope w)
-some_within [] [] h = absurd (false≢true h)
-some_within [] (c ∷ cs) h = omega arith
-some_within (b ∷ bs) w h = omega arith
+some_within scope w h = grind (arith, false≢true)
 
 row_good : {m : _} (row : Row_of-Part m) → IsGood (view.row (view.part_nodes row)) → AllByRecursion IsGoodPart (row_list row)
 row_good end_of-Part h = tt
@@ -119,14 +103,7 @@ body_messages_good scope [] h = tt
 body_messages_good scope (p ∷ ps) h = joined_all IsGoodMessage (messages_in scope p) (flat_map (messages_in scope) ps) (part_messages_good scope p h.0) (body_messages_good scope ps h.1)
 
 messages_good : (scope : List ℕ) (s : tree.Statement.Statement) → IsGoodStatement s → AllByRecursion IsGoodMessage (statement_messages scope s)
-messages_good scope (statements.Empty span) h = tt
-messages_good scope (statements.Import i) h = tt
-messages_good scope (statements.Option o) h = tt
-messages_good scope (statements.Message m) h =
-    let body : AllByRecursion IsGoodPart m.parts.items = runs_good view.part m.parts.items h.1.1.1.0 in
-    (record { name = h.1.0; some = some_within scope (string_bytes m.name.text) h.1.0; is_full = refl; body = body }, body_messages_good (full_name scope m.name) m.parts.items body)
-messages_good scope (statements.Enum e) h = tt
-messages_good scope (statements.Service s) h = tt
+messages_good scope s h = grind (arith, runs_good, some_within, string_bytes, body_messages_good)
 
 all_messages_good : (scope : List ℕ) (ss : List tree.Statement.Statement) → AllByRecursion IsGoodStatement ss → AllByRecursion IsGoodMessage (all_messages scope ss)
 all_messages_good scope [] h = tt
@@ -154,51 +131,34 @@ pub record HasFirst (ps : List (List ℕ)) : Type 0 where
 
 has_first : (text : List ℕ) → HasFirst (parts_at_dots text)
 has_first [] = record { first = []; others = []; is = refl }
-has_first (b ∷ bs) = by (b == 46) (has_first bs)
-  where
-    by : (c : Bool) → HasFirst (parts_at_dots bs) → HasFirst (cond c ([] ∷ parts_at_dots bs) (before_first b (parts_at_dots bs)))
-    by true h = record { first = []; others = parts_at_dots bs; is = refl }
-    by false h = record { first = b ∷ h.first; others = h.others; is = ap (before_first b) h.is }
+has_first (b ∷ bs) = search (rules, has_first bs)
 
 before_joined : (b : ℕ) (ps qs : List (List ℕ)) → HasFirst ps → before_first b (ps ++ qs) ≡ before_first b ps ++ qs
-before_joined b ps qs h =
-    ap (λ rs. before_first b (rs ++ qs)) h.is ∙ sym (ap (λ rs. before_first b rs ++ qs) h.is)
+before_joined b ps qs h = search rules
 
 -- a dot parts what is before it from what is after it
 pub parted : (a b : List ℕ) → parts_at_dots (a ++ 46 ∷ b) ≡ parts_at_dots a ++ parts_at_dots b
 parted [] b = refl
-parted (x ∷ xs) b = by (x == 46) (parted xs b)
-  where
-    by : (c : Bool) → parts_at_dots (xs ++ 46 ∷ b) ≡ parts_at_dots xs ++ parts_at_dots b
-        → cond c ([] ∷ parts_at_dots (xs ++ 46 ∷ b)) (before_first x (parts_at_dots (xs ++ 46 ∷ b))) ≡ cond c ([] ∷ parts_at_dots xs) (before_first x (parts_at_dots xs)) ++ parts_at_dots b
-    by true h = ap (λ ps. [] ∷ ps) h
-    by false h = ap (before_first x) h ∙ before_joined x (parts_at_dots xs) (parts_at_dots b) (has_first xs)
+parted (x ∷ xs) b = search (rules, before_joined, has_first, parted xs b)
 
 no_dot : (x : ℕ) → is_word_byte x ≡ true → (x == 46) ≡ false
 no_dot x h = grind (arith, nat_tests)
 
 pub bytes_alone : (xs : List ℕ) → list_all is_word_byte xs ≡ true → parts_at_dots xs ≡ xs ∷ []
 bytes_alone [] h = refl
-bytes_alone (x ∷ xs) h =
-    ap (λ c. cond c ([] ∷ parts_at_dots xs) (before_first x (parts_at_dots xs))) (no_dot x (and_left (is_word_byte x) (list_all is_word_byte xs) h))
-    ∙ ap (before_first x) (bytes_alone xs (and_right (is_word_byte x) (list_all is_word_byte xs) h))
+bytes_alone (x ∷ xs) h = search (rules, no_dot, and_left, and_right, bytes_alone xs (and_right (is_word_byte x) (list_all is_word_byte xs) h))
 
 or_first : (a b : Bool) → a ≡ true → (a || b) ≡ true
-or_first true b h = refl
-or_first false b h = absurd (false≢true h)
+or_first a b h = grind (arith, false≢true)
 
 pub word_bytes : (w : List ℕ) → is_word w ≡ true → list_all is_word_byte w ≡ true
-word_bytes [] h = refl
-word_bytes (x ∷ xs) h = and_both (is_word_byte x) (list_all is_word_byte xs) (or_first _ _ (and_left _ (list_all is_word_byte xs) h)) (and_right _ (list_all is_word_byte xs) h)
+word_bytes w h = grind (arith, and_both, or_first, and_left, and_right)
 
 word_alone : (w : List ℕ) → is_word w ≡ true → are_words w ≡ true
 word_alone w h = ap (list_all is_word) (bytes_alone w (word_bytes w h)) ∙ and_both (is_word w) true h refl
 
 one_word_more : (text w : List ℕ) → are_words text ≡ true → is_word w ≡ true → are_words (text ++ 46 ∷ w) ≡ true
-one_word_more text w h k =
-    ap (list_all is_word) (parted text w)
-    ∙ (list_all-append is_word (parts_at_dots text) (parts_at_dots w)
-    ∙ and_both (are_words text) (are_words w) h (word_alone w k))
+one_word_more text w h k = search (rules, parted, list_all-append, and_both, word_alone)
 
 abbrev pub IsGoodDotted : tree.Name.Name → Type 0
 IsGoodDotted n = IsGood (view.dot_name n)
@@ -208,14 +168,10 @@ more_words text [] h k = h
 more_words text (n ∷ ns) h k = more_words (text ++ 46 ∷ string_bytes n.text) ns (one_word_more text (string_bytes n.text) h k.0.1) k.1
 
 is_package_so : (text : List ℕ) → are_words text ≡ true → is_package text ≡ true
-is_package_so [] h = refl
-is_package_so (b ∷ bs) h = h
+is_package_so text h = grind arith
 
 package_good : (p : Option tree.Packaged.Packaged) → IsGood (view.perhaps view.packaged p) → is_package (package_in p) ≡ true
-package_good None h = refl
-package_good (Some p) h =
-    let d = p.package.name in
-    is_package_so (dotted d) (more_words (string_bytes d.first.text) d.more.items (word_alone (string_bytes d.first.text) h.0.1.0.0) (rows_good view.dot_name d.more.items h.0.1.0.1))
+package_good p h = grind (arith, is_package_so, more_words, string_bytes, word_alone, rows_good)
 
 behind_good : (p : Option tree.Packaged.Packaged) → IsGood (view.perhaps view.packaged p) → AllByRecursion IsGoodStatement (statements_behind p)
 behind_good None h = tt

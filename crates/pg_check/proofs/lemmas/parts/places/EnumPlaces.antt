@@ -1,5 +1,5 @@
 -- The names of enums, file by file.
-use Rattle.std.proofs.Common.{◌≡◌, ◌∙◌, ◌+◌, ◌++◌, ◌∷◌, ℕ, Bool, true, false, cond, List, [], Some, drop, flat_map, length, map, slice_get, string_bytes, String, take, ap, ap₂, refl, sym, length-append}
+use Rattle.std.proofs.Common.{◌≡◌, ◌∙◌, ◌+◌, ◌++◌, ◌∷◌, ℕ, cond, List, [], Some, drop, flat_map, length, map, slice_get, string_bytes, String, take, ap, ap₂, refl, sym, length-append}
 use Rattle.std.specs.BTreeMap.{BTreeMap, UpdatesBy, get_by_text}
 use Rattle.std.specs.List.{position_from}
 use Rattle.std.specs.Ordering.{nat_cmp}
@@ -7,12 +7,11 @@ use Rattle.std.specs.Cmp.Lexicographic.{slice_cmp}
 use Rattle.std.specs.Str.{bytes_eq}
 use Rattle.std.specs.String.{string_cmp}
 use Rattle.std.specs.declared.alloc.Global.{Global}
-use Rattle.std.proofs.lemmas.Bool.{false≢true}
 use Rattle.std.proofs.lemmas.Grind.{flat_map-append}
 use Rattle.std.proofs.lemmas.List.{append-nil}
 use Rattle.std.proofs.lemmas.Map.Text.{btree_map_updates_text}
-use Rattle.std.proofs.lemmas.Slice.Eq.{bytes_eq-Decides}
 use Rattle.pg_link.specs.walk.Walk.{Entry}
+use Rattle.pg_schema.proofs.lemmas.rules.PairLemmas.{bytes_eq-sym}
 use Rattle.pg_check.proofs.lemmas.parts.Linking.{take_next}
 
 -- those of one file more
@@ -35,15 +34,6 @@ last_off (n ∷ new) x (y ∷ all) is =
     let rest = last_off new x all others in
     (ap₂ (λ z zs. z ∷ zs) same rest.0, rest.1)
 
-turned : (a b : List ℕ) → bytes_eq a b ≡ bytes_eq b a
-turned a b = by (bytes_eq a b) (bytes_eq b a) refl refl
-  where
-    by : (c d : Bool) → bytes_eq a b ≡ c → bytes_eq b a ≡ d → c ≡ d
-    by true true is other = refl
-    by false false is other = refl
-    by true false is other = absurd (false≢true (sym other ∙ (bytes_eq-Decides b a).1 (sym ((bytes_eq-Decides a b).0 is))))
-    by false true is other = absurd (false≢true (sym is ∙ (bytes_eq-Decides a b).1 (sym ((bytes_eq-Decides b a).0 other))))
-
 -- the names from an index on have their indexes, each its first one
 pub record HavePlaces (all left : List (String Global)) (places : BTreeMap (String Global) ℕ) : Type 0 where
   pub left_of : left ≡ take (length left) all
@@ -59,7 +49,7 @@ one_placed all old new x before after place have last is updates =
       there = λ name.
           btree_map_updates_text (string_bytes x) before after (Some place) updates name
           ∙ (ap (λ n. cond (bytes_eq (string_bytes x) name) (Some n) (get_by_text before name)) is
-          ∙ (ap (λ b. cond b (Some (length new)) (get_by_text before name)) (turned (string_bytes x) name)
+          ∙ (ap (λ b. cond b (Some (length new)) (get_by_text before name)) (bytes_eq-sym (string_bytes x) name)
           ∙ (ap (λ o. cond (bytes_eq name (string_bytes x)) (Some (length new)) o)
           (have.there name ∙ (ap (λ xs. position_from (bytes_eq name) (length xs) (map string_bytes (drop (length xs) all))) last
           ∙ ap (λ n. position_from (bytes_eq name) n (map string_bytes (drop (length (new ++ x ∷ [])) all))) long))

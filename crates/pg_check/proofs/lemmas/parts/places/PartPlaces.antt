@@ -1,8 +1,7 @@
 -- Each message type, enum and service of linked files has one index, and is in its scope.
-use Rattle.std.proofs.Common.{◌≡◌, ◌∙◌, ℕ, zero, suc, ◌+◌, ◌^◌, ◌≤◌, Bool, true, false, not, ◌&&◌, List, [], ◌∷◌, ◌++◌, length, take, drop, map, flat_map, Option, Some, slice_get, option_map, string_bytes, sym, ap, ap₂, subst, refl, arith, append_assoc}
+use Rattle.std.proofs.Common.{◌≡◌, ◌∙◌, ℕ, zero, suc, ◌+◌, ◌^◌, ◌≤◌, Bool, true, false, not, ◌&&◌, List, [], ◌∷◌, ◌++◌, length, map, flat_map, Option, Some, slice_get, option_map, string_bytes, sym, ap, ap₂, subst, refl, arith, append_assoc, rules}
 use Rattle.std.proofs.Math.Seq.{drop-append_seam, take-append_seam}
 use Rattle.std.specs.List.{list_all, AllByRecursion}
-use Rattle.std.specs.Str.{bytes_eq}
 use Rattle.std.proofs.lemmas.Bool.{false≢true}
 use Rattle.std.proofs.lemmas.List.{append-nil, length-map, map-append}
 use Rattle.std.proofs.lemmas.Option.{slice_get-map}
@@ -17,23 +16,23 @@ use Rattle.pg_schema.specs.declared.parts.Parts.{Parts}
 use Rattle.pg_schema.specs.declared.parts.service.Service as schema_services
 use Rattle.pg_schema.specs.declared.parts.service.ServiceId.{ServiceId}
 use Rattle.pg_schema.specs.rules.DeclaredNames.{within}
-use Rattle.pg_schema.specs.rules.Scopes.{are_declared_once, are_each_once, are_enums_in, are_services_in, are_types_in, declared_enums, declared_services, declared_types, enum_name, is_dot_and_word, is_file_scope, is_in, is_named_in, is_type_scope, service_name, type_name}
+use Rattle.pg_schema.specs.rules.Scopes.{are_declared_once, are_enums_in, are_services_in, are_types_in, declared_enums, declared_services, declared_types, enum_name, is_file_scope, is_in, is_named_in, is_type_scope, service_name, type_name}
 use Rattle.pg_schema.specs.rules.Words.{is_word}
 use Rattle.pg_link.specs.declared.uses.target.Target.{Target}
+use Rattle.pg_schema.proofs.lemmas.rules.PairLemmas.{and_both}
 use Rattle.pg_check.specs.parts.ByScope.{Placed, placed_from}
 use Rattle.pg_check.specs.rules.KeepsRules.{source_messages}
 use Rattle.pg_check.specs.parts.MadeEnums.{MadeEnum, enumeration, made_enum}
-use Rattle.pg_check.specs.parts.MadeParts.{ArePartsOf, Declared, EachIs, FileShape, IsFileOf, IsTypeOf, Source, TypeTree, file_services, nothing, placed_enums, placed_messages, type_tree, type_trees, with_file, with_files}
+use Rattle.pg_check.specs.parts.MadeParts.{ArePartsOf, Declared, EachIs, FileShape, IsFileOf, IsTypeOf, Source, TypeTree, file_services, nothing, with_file, with_files}
 use Rattle.pg_check.specs.parts.MadeServices.{MadeService, made_services, service}
-use Rattle.pg_check.specs.rules.Outline.{Enum, Message, enum_scope, file_messages, message_scope, package_of, statements_behind}
+use Rattle.pg_check.specs.rules.Outline.{Enum, Message, enum_scope, message_scope, package_of}
 use Rattle.pg_check.proofs.lemmas.parts.places.DeclaredPlaces.{all_enum_places, all_kept, all_service_places, all_types, enums_of_file, enums_of_tree, looked_up, service_scopes, services_of_file, types_of_file, types_of_tree}
 use Rattle.pg_check.proofs.lemmas.parts.Eachs.{each_flat, each_weaker, joined_all}
 use Rattle.pg_check.proofs.lemmas.parts.kept.KeptFiles.{enums_are, source_enums}
-use Rattle.pg_check.proofs.lemmas.rules.NoneLaws.{and_both}
 use Rattle.pg_check.proofs.lemmas.parts.places.Regrouped.{count_from, each_once, placed_total}
 use Rattle.pg_check.proofs.lemmas.parts.places.ScopesOnce.{IsScoped, full_of}
 use Rattle.pg_check.proofs.lemmas.parts.Totals.{as_one, total, total_joined, total_map, total_none}
-use Rattle.pg_check.proofs.lemmas.parts.names.WordedFiles.{IsGoodEnum, IsGoodFile, IsGoodMessage, IsGoodStatement}
+use Rattle.pg_check.proofs.lemmas.parts.names.WordedFiles.{IsGoodFile, IsGoodStatement}
 use Rattle.pg_syntax.specs.declared.tree as tree
 use Rattle.pg_syntax.specs.declared.tree.Statement.TheVariants as statements
 
@@ -111,12 +110,7 @@ module _ (h : List ℕ → ℕ → ℕ) where
 -- ---- names in their scopes
 
 pub in_scope : (scope w : List ℕ) → is_word w ≡ true → is_in scope (within scope w) ≡ true
-in_scope [] w h = h
-in_scope (b ∷ bs) w h =
-    let front : take (length (b ∷ bs)) ((b ∷ bs) ++ 46 ∷ w) ≡ b ∷ bs = take-append_seam (b ∷ bs) (46 ∷ w) in
-    let back : drop (length (b ∷ bs)) ((b ∷ bs) ++ 46 ∷ w) ≡ 46 ∷ w = drop-append_seam (b ∷ bs) (46 ∷ w) in
-    and_both (bytes_eq (take (length (b ∷ bs)) ((b ∷ bs) ++ 46 ∷ w)) (b ∷ bs)) (is_dot_and_word (drop (length (b ∷ bs)) ((b ∷ bs) ++ 46 ∷ w)))
-    ((bytes_eq-Decides (take (length (b ∷ bs)) ((b ∷ bs) ++ 46 ∷ w)) (b ∷ bs)).1 front) (ap is_dot_and_word back ∙ h)
+in_scope scope w h = grind (arith, take-append_seam, drop-append_seam, and_both, bytes_eq-Decides)
 
 -- a name that is there under its scope
 pub record IsUnder (scope full : List ℕ) : Type 0 where
@@ -129,15 +123,7 @@ named_under scope full o at u = ap (is_named_in scope) (at ∙ ap (λ (t : List 
 
 tree_names : (d : Declared) (ss : List Source) → map (λ (w : TypeTree). w.full) (with_files d ss).types ≡ map (λ (w : TypeTree). w.full) d.types ++ map full_of (flat_map source_messages ss)
 tree_names d [] = sym (append-nil (map (λ (w : TypeTree). w.full) d.types))
-tree_names d (s ∷ ss) =
-    let of = λ (w : TypeTree). w.full in
-    let trees = type_trees (length d.types) (length d.enums) s in
-    let fulls : map of trees ≡ map full_of (file_messages s.tree) =
-    map-map of (type_tree s.targets (placed_messages (length d.types) s.tree) (placed_enums (length d.enums) s.tree)) (file_messages s.tree) in
-    tree_names (with_file d s) ss
-    ∙ (ap (λ xs. xs ++ map full_of (flat_map source_messages ss)) (map-append of d.types trees ∙ ap (λ xs. map of d.types ++ xs) fulls)
-    ∙ (append_assoc (map of d.types) (map full_of (file_messages s.tree)) (map full_of (flat_map source_messages ss))
-    ∙ ap (λ xs. map of d.types ++ xs) (sym (map-append full_of (file_messages s.tree) (flat_map source_messages ss)))))
+tree_names d (s ∷ ss) = search (rules, full_of, map-map, flat_map, map-append, append_assoc, tree_names (with_file d s) ss)
 
 each_name : (ws : List TypeTree) (ts : List MessageType) → EachIs IsTypeOf ws ts → map (λ (t : MessageType). string_bytes t.name) ts ≡ map (λ (w : TypeTree). w.full) ws
 each_name [] [] h = refl
@@ -178,12 +164,7 @@ all_pass_in test of (y ∷ ys) h =
 
 pub both_pass : {X : Type 0} (p q : X → Bool) (xs : List X) → list_all p xs ≡ true → list_all q xs ≡ true → list_all (λ x. p x && q x) xs ≡ true
 both_pass p q [] h k = refl
-both_pass p q (x ∷ xs) h k = by (p x) (q x) h k (both_pass p q xs)
-  where
-    by : (a b : Bool) → (a && list_all p xs) ≡ true → (b && list_all q xs) ≡ true → (list_all p xs ≡ true → list_all q xs ≡ true → list_all (λ y. p y && q y) xs ≡ true) → ((a && b) && list_all (λ y. p y && q y) xs) ≡ true
-    by true true u v next = next u v
-    by true false u v next = absurd (false≢true v)
-    by false b u v next = absurd (false≢true u)
+both_pass p q (x ∷ xs) h k = search (rules, false≢true, both_pass p q xs)
 
 -- ---- the facts
 
@@ -205,14 +186,10 @@ abbrev pub ServiceUnder : List ℕ × MadeService → Type 0
 ServiceUnder s = IsUnder s.0 s.1.name
 
 pub all_messages_under : (ss : List Source) → AllByRecursion IsSettledSource ss → AllByRecursion MessageUnder (flat_map source_messages ss)
-all_messages_under ss h =
-    each_flat MessageUnder source_messages ss (each_weaker IsSettledSource (λ s. AllByRecursion MessageUnder (source_messages s)) (λ s k.
-    each_weaker IsGoodMessage MessageUnder (λ m g. record { word = string_bytes m.name.text; is_a_word = g.name; is = g.is_full }) (source_messages s) k.good.messages) ss h)
+all_messages_under ss h = search (rules, each_flat, each_weaker, string_bytes)
 
 pub all_enums_under : (ss : List Source) → AllByRecursion IsSettledSource ss → AllByRecursion EnumUnder (flat_map source_enums ss)
-all_enums_under ss h =
-    each_flat EnumUnder source_enums ss (each_weaker IsSettledSource (λ s. AllByRecursion EnumUnder (source_enums s)) (λ s k.
-    each_weaker IsGoodEnum EnumUnder (λ e g. record { word = string_bytes e.tree.name.text; is_a_word = g.name; is = g.is_full }) (source_enums s) k.good.enums) ss h)
+all_enums_under ss h = search (rules, each_flat, source_enums, each_weaker, string_bytes)
 
 -- each service beside its scope
 abbrev pub beside : List ℕ → MadeService → List ℕ × MadeService
@@ -235,20 +212,11 @@ services_under targets scope (statements.Service s ∷ xs) h = (record { word = 
 
 pub all_services_under : (ss : List Source) → AllByRecursion IsSettledSource ss → AllByRecursion ServiceUnder (flat_map scoped_services ss)
 all_services_under [] h = tt
-all_services_under (s ∷ ss) h =
-    let scope = package_of s.tree in
-    let front = made_services s.targets scope s.tree.statements.items in
-    let behind = made_services s.targets scope (statements_behind s.tree.packaged) in
-    let here : AllByRecursion ServiceUnder (map (beside scope) (front ++ behind)) =
-    subst (AllByRecursion ServiceUnder) (sym (map-append (beside scope) front behind))
-    (joined_all ServiceUnder (map (beside scope) front) (map (beside scope) behind) (services_under s.targets scope s.tree.statements.items h.0.good.front) (services_under s.targets scope (statements_behind s.tree.packaged) h.0.good.behind)) in
-    joined_all ServiceUnder (scoped_services s) (flat_map scoped_services ss) here (all_services_under ss h.1)
+all_services_under (s ∷ ss) h = search (rules, map-append, joined_all, services_under, all_services_under ss h.1)
 
 service_scopes_are : (ss : List Source) → flat_map service_scopes ss ≡ map service_scope (flat_map scoped_services ss)
 service_scopes_are [] = refl
-service_scopes_are (s ∷ ss) =
-    ap (λ xs. xs ++ flat_map service_scopes ss) (sym (map-map service_scope (beside (package_of s.tree)) (file_services s)))
-    ∙ (ap (λ xs. map service_scope (scoped_services s) ++ xs) (service_scopes_are ss) ∙ sym (map-append service_scope (scoped_services s) (flat_map scoped_services ss)))
+service_scopes_are (s ∷ ss) = search (rules, flat_map, service_scopes, map-map, map-append, service_scopes_are ss)
 
 abbrev pub made_in : List ℕ × MadeService → MadeService
 made_in s = s.1
@@ -259,11 +227,7 @@ services_back scope (x ∷ xs) = ap (λ ys. x ∷ ys) (services_back scope xs)
 
 pub services_are : (d : Declared) (ss : List Source) → (with_files d ss).services ≡ d.services ++ map made_in (flat_map scoped_services ss)
 services_are d [] = sym (append-nil d.services)
-services_are d (s ∷ ss) =
-    services_are (with_file d s) ss
-    ∙ (append_assoc d.services (file_services s) (map made_in (flat_map scoped_services ss))
-    ∙ ap (λ xs. d.services ++ xs) (ap (λ xs. xs ++ map made_in (flat_map scoped_services ss)) (sym (services_back (package_of s.tree) (file_services s)))
-    ∙ sym (map-append made_in (scoped_services s) (flat_map scoped_services ss))))
+services_are d (s ∷ ss) = search (rules, append_assoc, flat_map, services_back, map-append, services_are (with_file d s) ss)
 
 -- ---- one kind of what is declared
 
@@ -273,10 +237,7 @@ places_come : {I : Type 0} (index : I → ℕ) (in_file : File → List I) (in_t
     → total (λ (f : File). total (λ id. g (index id)) (in_file f)) files + total (λ (t : MessageType). total (λ id. g (index id)) (in_type t)) types
     ≡ total (λ (p : Placed). g p.index) (placed_from 0 scopes)
     → total g (flat_map (λ (f : File). map index (in_file f)) files ++ flat_map (λ (t : MessageType). map index (in_type t)) types) ≡ total g (count_from 0 count)
-places_come {I} index in_file in_type files types g scopes count long summed =
-    total_joined g (flat_map (λ (f : File). map index (in_file f)) files) (flat_map (λ (t : MessageType). map index (in_type t)) types)
-    ∙ (ap₂ (λ m n. m + n) (each in_file files) (each in_type types)
-    ∙ (summed ∙ (placed_total g 0 scopes ∙ ap (λ n. total g (count_from 0 n)) long)))
+places_come {I} index in_file in_type files types g scopes count long summed = search (rules, total_joined, flat_map, each, placed_total, total, count_from)
   where
     each : {X : Type 0} (ids : X → List I) (xs : List X) → total g (flat_map (λ x. map index (ids x)) xs) ≡ total (λ x. total (λ id. g (index id)) (ids x)) xs
     each ids [] = refl
@@ -364,12 +325,7 @@ module _ (ss : List Source) (parts : Parts) (are : ArePartsOf ss parts) (settled
       service_scope_count (omega (arith, summed))
 
   pub declared_once : length types ≤ 2 ^ 32 → are_declared_once parts.files.items types (length enums) (length parts.services.items) ≡ true
-  declared_once few =
-      let of_types : are_each_once (length types) (declared_types parts.files.items types) ≡ true = each_once (length types) (declared_types parts.files.items types) (types_placed few) in
-      let of_enums : are_each_once (length enums) (declared_enums parts.files.items types) ≡ true = each_once (length enums) (declared_enums parts.files.items types) enums_placed in
-      let of_services : are_each_once (length parts.services.items) (declared_services parts.files.items) ≡ true = each_once (length parts.services.items) (declared_services parts.files.items) services_placed in
-      and_both (are_each_once (length types) (declared_types parts.files.items types) && are_each_once (length enums) (declared_enums parts.files.items types)) (are_each_once (length parts.services.items) (declared_services parts.files.items))
-      (and_both (are_each_once (length types) (declared_types parts.files.items types)) (are_each_once (length enums) (declared_enums parts.files.items types)) of_types of_enums) of_services
+  declared_once few = search (rules, each_once, types_placed, enums_placed, services_placed, and_both)
 
   -- scopes
 

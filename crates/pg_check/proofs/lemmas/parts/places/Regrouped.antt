@@ -1,12 +1,12 @@
 -- What scopes declare, scope by scope, is what is declared, one by one.
-use Rattle.std.proofs.Common.{◌≡◌, ◌∙◌, ℕ, zero, suc, ◌+◌, ◌<◌, ◌≤◌, Bool, true, false, cond, not, nat_eq, nat_lt, ◌&&◌, List, [], ◌∷◌, length, map, sym, ap, refl, arith}
-use Rattle.std.specs.List.{list_all, filter, AllByRecursion}
+use Rattle.std.proofs.Common.{◌≡◌, ◌∙◌, ℕ, zero, suc, ◌+◌, ◌<◌, ◌≤◌, Bool, true, false, cond, not, nat_eq, nat_lt, ◌&&◌, List, [], ◌∷◌, length, sym, ap, refl, arith, rules}
+use Rattle.std.specs.List.{list_all, AllByRecursion}
 use Rattle.std.specs.Str.{bytes_eq}
 use Rattle.std.proofs.lemmas.Bool.Decides.{nat_tests}
 use Rattle.pg_schema.specs.rules.Pairs.{all_pairs}
 use Rattle.pg_schema.specs.rules.Scopes.{are_each_once}
+use Rattle.pg_schema.proofs.lemmas.rules.PairLemmas.{and_both}
 use Rattle.pg_check.specs.parts.ByScope.{Placed, placed_from, places_in}
-use Rattle.pg_check.proofs.lemmas.rules.NoneLaws.{and_both}
 use Rattle.pg_check.proofs.lemmas.parts.Totals.{once_there, times, total, total_same, total_turned}
 
 pub everywhere : {X : Type 0} (P : X → Type 0) (xs : List X) → ((x : X) → P x) → AllByRecursion P xs
@@ -15,13 +15,7 @@ everywhere P (x ∷ xs) h = (h x, everywhere P xs h)
 
 places_total : (g : ℕ → ℕ) (s : List ℕ) (ps : List Placed) → total g (places_in s ps) ≡ total (λ (p : Placed). cond (bytes_eq s p.scope) (g p.index) 0) ps
 places_total g s [] = refl
-places_total g s (p ∷ ps) = by (bytes_eq s p.scope) (places_total g s ps)
-  where
-    by : (b : Bool) → total g (places_in s ps) ≡ total (λ (q : Placed). cond (bytes_eq s q.scope) (g q.index) 0) ps
-        → total g (map (λ (q : Placed). q.index) (cond b (p ∷ filter (λ (q : Placed). bytes_eq s q.scope) ps) (filter (λ (q : Placed). bytes_eq s q.scope) ps)))
-        ≡ cond b (g p.index) 0 + total (λ (q : Placed). cond (bytes_eq s q.scope) (g q.index) 0) ps
-    by true h = ap (λ n. g p.index + n) h
-    by false h = omega (arith, h)
+places_total g s (p ∷ ps) = search (rules, total, places_total g s ps)
 
 all_once : (h : List ℕ → ℕ → ℕ) (ss : List (List ℕ)) (ps : List Placed) → AllByRecursion (λ (p : Placed). times p.scope ss ≡ 1) ps
     → AllByRecursion (λ (p : Placed). total (λ s. cond (bytes_eq s p.scope) (h s p.index) 0) ss ≡ h p.scope p.index) ps
@@ -76,10 +70,7 @@ none_beyond count before (suc n) h =
     omega (arith, rest, first)
   where
     within : (a b : ℕ) → a < b → as_one (not (nat_lt a b)) ≡ 0
-    within a b lt = ap (λ t. as_one (not t)) (less a b lt)
-      where
-        less : (a b : ℕ) → a < b → nat_lt a b ≡ true
-        less a b lt = grind (arith, nat_tests)
+    within a b lt = search (rules, nat_lt, nat_tests)
 
 above_none : (k before n : ℕ) → k < before → total (here k) (count_from before n) ≡ 0
 above_none k before zero h = refl
@@ -99,10 +90,7 @@ at_most_one k before (suc n) = by (nat_eq before k) refl (at_most_one k (before 
     same a b is = grind (arith, nat_tests)
 
     by : (b : Bool) → nat_eq before k ≡ b → total (here k) (count_from (before + 1) n) ≤ 1 → total (here k) (count_from before (suc n)) ≤ 1
-    by true is rest =
-        let first : here k before ≡ 1 = ap as_one is in
-        let none : total (here k) (count_from (before + 1) n) ≡ 0 = above_none k (before + 1) n (same before k is) in
-        omega (arith, first, none)
+    by true is rest = search (rules, above_none, same)
     by false is rest = let first : here k before ≡ 0 = ap as_one is in omega (arith, first, rest)
 
 all_below : (count : ℕ) (places : List ℕ) → total (beyond count) places ≡ 0 → list_all (λ place. nat_lt place count) places ≡ true

@@ -1,5 +1,5 @@
 -- Each message type and enum of a file is in one scope: the file's package, or one of its message types.
-use Rattle.std.proofs.Common.{◌≡◌, ◌∙◌, ◌⊎◌, inl, inr, ℕ, ◌+◌, ◌≤◌, Bool, true, false, ◌&&◌, nat_eq, List, [], ◌∷◌, ◌++◌, length, map, flat_map, Option, Some, None, string_bytes, sym, ap, subst, refl, arith, append_assoc}
+use Rattle.std.proofs.Common.{◌≡◌, ◌∙◌, ◌⊎◌, ℕ, ◌+◌, ◌≤◌, Bool, true, false, nat_eq, List, [], ◌∷◌, ◌++◌, map, flat_map, Option, Some, None, string_bytes, sym, ap, subst, refl, arith, append_assoc, rules}
 use Rattle.std.specs.List.{list_all, AllByRecursion}
 use Rattle.std.specs.Str.{bytes_eq}
 use Rattle.std.proofs.lemmas.Bool.{false≢true}
@@ -15,11 +15,11 @@ use Rattle.pg_link.specs.names.Names.{Text, called}
 use Rattle.pg_link.specs.names.Outline.{all_of, file_names, of_statement, package_words, word}
 use Rattle.pg_link.specs.uses.Targets.{all_declared}
 use Rattle.pg_link.specs.walk.Walk.{Entry}
-use Rattle.pg_check.specs.rules.Outline.{Enum, Message, all_messages, dotted_more, enum_stated, file_messages, full_name, messages_in, own_enums, package_enums, package_in, package_of, row_list, row_messages, scoped_enums, statement_messages, statements_behind}
+use Rattle.pg_schema.proofs.lemmas.rules.PairLemmas.{and_left, and_right}
+use Rattle.pg_check.specs.rules.Outline.{Enum, Message, all_messages, dotted_more, enum_stated, file_messages, full_name, messages_in, own_enums, package_in, package_of, row_list, row_messages, scoped_enums, statement_messages, statements_behind}
 use Rattle.pg_check.proofs.lemmas.parts.names.DeclaredTotals.{file_is, more_dotted, of_message_type}
 use Rattle.pg_check.proofs.lemmas.parts.Eachs.{joined_all}
 use Rattle.pg_check.proofs.lemmas.parts.names.NamedOnce.{IsOnce, none_of, part, weight}
-use Rattle.pg_check.proofs.lemmas.rules.NoneLaws.{and_left, and_right}
 use Rattle.pg_check.proofs.lemmas.parts.places.Regrouped.{everywhere}
 use Rattle.pg_check.proofs.lemmas.parts.places.ScopedEnums.{own_all, stated_all}
 use Rattle.pg_check.proofs.lemmas.standing.UniqueNames.{whole_front}
@@ -99,11 +99,7 @@ module _ (ss : List (List ℕ)) where
   statement_there scope (statements.Empty span) h k = tt
   statement_there scope (statements.Import i) h k = tt
   statement_there scope (statements.Option o) h k = tt
-  statement_there scope (statements.Message d) h k =
-      let full = full_name scope d.name in
-      let m : Message = record { scope = scope; full = full; name = d.name; body = d.parts.items } in
-      let messages = flat_map (messages_in full) d.parts.items in
-      (h, body_there full d.parts.items (first_there m messages k) (others_there m messages k))
+  statement_there scope (statements.Message d) h k = search (rules, body_there, first_there, others_there)
   statement_there scope (statements.Enum e) h k = tt
   statement_there scope (statements.Service s) h k = tt
 
@@ -136,19 +132,10 @@ module _ (file : tree.FileTree.FileTree) where
   fulls_there y = let is : times y (map full_of (file_messages file)) ≡ total (full_is y) (file_messages file) = total_map (one y) full_of (file_messages file) in omega (arith, is)
 
   messages_there : AllByRecursion (MessageThere (scopes_of file)) (file_messages file)
-  messages_there =
-      let scope = package_of file in
-      let ss = scopes_of file in
-      joined ss front behind (all_there ss scope file.statements.items package_there) (all_there ss scope (statements_behind file.packaged) package_there) fulls_there
+  messages_there = search (rules, joined, all_there, package_there, fulls_there)
 
   enums_there : AllByRecursion (EnumThere (scopes_of file)) (scoped_enums file)
-  enums_there =
-      let scope = package_of file in
-      let ss = scopes_of file in
-      joined_all (EnumThere ss) (package_enums file) (flat_map own_enums (file_messages file))
-      (joined_all (EnumThere ss) (flat_map (enum_stated scope) file.statements.items) (flat_map (enum_stated scope) (statements_behind file.packaged))
-      (stated_there ss scope file.statements.items package_there) (stated_there ss scope (statements_behind file.packaged) package_there))
-      (own_there ss (file_messages file) fulls_there)
+  enums_there = search (rules, joined_all, stated_there, package_there, own_there, fulls_there)
 
 -- ---- the front of a package is one of its parts
 
@@ -167,10 +154,7 @@ record GoesOn (y w rest : List ℕ) : Type 0 where
 goes_on : (w rest y : List ℕ) → list_all is_word_byte w ≡ true → is_front y (w ++ rest) ≡ true → GoesOn y w rest
 goes_on [] rest y h k = record { later = y; is = refl; is_front_of = k }
 goes_on (b ∷ bs) rest [] h k = absurd (no_dot b (and_left (is_word_byte b) (list_all is_word_byte bs) h) k)
-goes_on (b ∷ bs) rest (c ∷ cs) h k =
-    let more = goes_on bs rest cs (and_right (is_word_byte b) (list_all is_word_byte bs) h) (and_right (nat_eq c b) (is_front cs (bs ++ rest)) k) in
-    let first : c ≡ b = same_byte c b (and_left (nat_eq c b) (is_front cs (bs ++ rest)) k) in
-    record { later = more.later; is = ap (λ n. n ∷ cs) first ∙ ap (λ ns. b ∷ ns) more.is; is_front_of = more.is_front_of }
+goes_on (b ∷ bs) rest (c ∷ cs) h k = search (rules, and_right, same_byte, and_left, goes_on bs rest cs (and_right (is_word_byte b) (list_all is_word_byte bs) h) (and_right (nat_eq c b) (is_front cs (bs ++ rest)) k))
 
 abbrev text : Word → Text
 text w = w.text
@@ -245,12 +229,10 @@ abbrev pub NamesOnce : List Declared → Type 0
 NamesOnce ds = (x : Text) → IsOnce (weight (one x)) (part (one x)) ds
 
 left_none : (a b c d e f : ℕ) → (a ≡ 0) ⊎ (b ≡ 0) → a ≡ c + d → b ≡ e + f → (c ≡ 0) ⊎ (e ≡ 0)
-left_none a b c d e f (inl n) m k = inl (omega (arith, n, m))
-left_none a b c d e f (inr n) m k = inr (omega (arith, n, k))
+left_none a b c d e f h7 m k = grind arith
 
 right_none : (a b c d e f : ℕ) → (a ≡ 0) ⊎ (b ≡ 0) → a ≡ c + d → b ≡ e + f → (d ≡ 0) ⊎ (f ≡ 0)
-right_none a b c d e f (inl n) m k = inl (omega (arith, n, m))
-right_none a b c d e f (inr n) m k = inr (omega (arith, n, k))
+right_none a b c d e f h7 m k = grind arith
 
 first_once : (xs ys : List Declared) → NamesOnce (xs ++ ys) → NamesOnce xs
 first_once xs ys h x =
@@ -276,10 +258,7 @@ each_file_once (e ∷ es) h = (first_once (file_names e.1.tree) (all_declared es
 
 fulls_below : (y : List ℕ) (ms : List Message) → total (full_is y) ms ≤ total (of_message_type (one (46 ∷ y))) ms
 fulls_below y [] = omega arith
-fulls_below y (m ∷ ms) =
-    let rest : total (full_is y) ms ≤ total (of_message_type (one (46 ∷ y))) ms = fulls_below y ms in
-    let here : one (46 ∷ y) (46 ∷ m.full) ≡ one y m.full = one_behind y m.full in
-    omega (arith, rest, here)
+fulls_below y (m ∷ ms) = search (rules, one_behind, fulls_below y ms)
 
 no_targets : ℕ → Option Target
 no_targets at = None
@@ -292,11 +271,7 @@ fulls_few file y good =
 
 none_empty : (ms : List Message) → AllByRecursion IsGoodMessage ms → total (full_is []) ms ≡ 0
 none_empty [] h = refl
-none_empty (m ∷ ms) h =
-    let rest : total (full_is []) ms ≡ 0 = none_empty ms h.1 in
-    let some = h.0.some in
-    let first : one [] m.full ≡ 0 = one_from [] m.full (λ e. let none : 0 ≡ length m.full = ap length e in omega (arith, some, none)) in
-    omega (arith, rest, first)
+none_empty (m ∷ ms) h = search (rules, one_from, none_empty ms h.1)
 
 -- no message type has the package's name
 pub package_free : (file : tree.FileTree.FileTree) → IsGoodFile file → NamesOnce (file_names file) → total (full_is (package_of file)) (file_messages file) ≡ 0
@@ -314,12 +289,7 @@ scopes_few : (file : tree.FileTree.FileTree) → IsGoodFile file → NamesOnce (
 scopes_few file good once y = by (bytes_eq y (package_of file)) refl
   where
     by : (b : Bool) → bytes_eq y (package_of file) ≡ b → times y (scopes_of file) ≤ 1
-    by true is =
-        let here : one y (package_of file) ≡ 1 = ap as_one is in
-        let same : y ≡ package_of file = (bytes_eq-Decides y (package_of file)).0 is in
-        let none : total (full_is y) (file_messages file) ≡ 0 = ap (λ z. total (full_is z) (file_messages file)) same ∙ package_free file good once in
-        let fulls : times y (map full_of (file_messages file)) ≡ total (full_is y) (file_messages file) = total_map (one y) full_of (file_messages file) in
-        omega (arith, here, none, fulls)
+    by true is = search (rules, as_one, bytes_eq-Decides, package_free, total_map)
     by false is =
         let here : one y (package_of file) ≡ 0 = ap as_one is in
         let few : total (full_is y) (file_messages file) ≤ total (weight (one (46 ∷ y))) (file_names file) = fulls_few file y good in
@@ -336,7 +306,4 @@ each_is scope_of ss [] few h = tt
 each_is scope_of ss (x ∷ xs) few h = let at_most : times (scope_of x) ss ≤ 1 = few (scope_of x) in let some = h.0 in (omega (arith, at_most, some), each_is scope_of ss xs few h.1)
 
 pub file_scoped : (file : tree.FileTree.FileTree) → IsGoodFile file → NamesOnce (file_names file) → IsScoped file
-file_scoped file good once = record {
-  messages = each_is (λ (m : Message). m.scope) (scopes_of file) (file_messages file) (scopes_few file good once) (messages_there file);
-  enums = each_is (λ (e : Enum). e.scope) (scopes_of file) (scoped_enums file) (scopes_few file good once) (enums_there file);
-}
+file_scoped file good once = search (rules, each_is, scopes_few, messages_there, enums_there)

@@ -1,5 +1,5 @@
 -- What a type name of linked files resolves to is what the parts have under its number.
-use Rattle.std.proofs.Common.{◌≡◌, ◌∙◌, ℕ, ◌^◌, ◌<◌, ◌≤◌, Bool, true, false, cond, not, ◌&&◌, is_some, List, [], ◌∷◌, length, map, get_or, slice_get, Option, Some, None, option_map, string_bytes, sym, ap, subst, refl, arith}
+use Rattle.std.proofs.Common.{◌≡◌, ◌∙◌, ℕ, ◌^◌, ◌≤◌, Bool, true, false, cond, not, ◌&&◌, is_some, List, [], ◌∷◌, length, map, get_or, slice_get, Option, Some, None, option_map, string_bytes, sym, ap, subst, refl, arith, rules}
 use Rattle.std.specs.List.{AllByRecursion}
 use Rattle.std.specs.Option.{option_and_then}
 use Rattle.std.specs.Str.{bytes_eq}
@@ -9,7 +9,6 @@ use Rattle.std.proofs.lemmas.Option.{slice_get-get_or, slice_get-map, slice_get_
 use Rattle.std.proofs.lemmas.Slice.Eq.{bytes_eq-Decides}
 use Rattle.pg_schema.specs.declared.parts.enum_type.EnumType.{EnumType}
 use Rattle.pg_schema.specs.declared.parts.field.Element.{Element}
-use Rattle.pg_schema.specs.declared.parts.field.Scalar.{Scalar}
 use Rattle.pg_schema.specs.declared.parts.message_type.MessageType.{MessageType}
 use Rattle.pg_schema.specs.declared.parts.Parts.{Parts}
 use Rattle.pg_schema.specs.ScalarWords.{scalar_of}
@@ -47,11 +46,7 @@ pub record HasNumber (names : List (List ℕ)) (full : Text) (number : ℕ) : Ty
   pub is_there : slice_get names number ≡ Some name
 
 behind_dots : (names : List (List ℕ)) (full : Text) (number : ℕ) → slice_get (map dot names) number ≡ Some full → HasNumber names full number
-behind_dots names full number there = by (slice_get names number) refl (sym there ∙ slice_get-map dot names number)
-  where
-    by : (o : Option (List ℕ)) → slice_get names number ≡ o → Some full ≡ option_map dot o → HasNumber names full number
-    by None is none = absurd (cc (none))
-    by (Some name) is some = let dotted_is : full ≡ 46 ∷ name = cc (some) in record { name = name; is_dotted = dotted_is; is_there = is }
+behind_dots names full number there = search (rules, slice_get, slice_get-map)
 
 -- the name at the number that a target has
 numbered_as : (make : ℕ → Target) (dotted : List Text) (full : Text) (t : Target) → option_map make (number_in dotted full) ≡ Some t → (n : ℕ) × (make n ≡ t) × (slice_get dotted n ≡ Some full)
@@ -76,9 +71,7 @@ pub record IsMet (files : List Entry) (parts : Parts) : Type 0 where
 
 -- what is no scalar type here is no scalar word there
 not_scalar : (b : Bool) (w : Text) (more : List tree.Name.Name) → cond (not b && is_alone more) (scalar_of w) None ≡ None → cond b false (is_scalar_alone w (part_words more)) ≡ false
-not_scalar true w more h = refl
-not_scalar false w [] h = ap is_some h
-not_scalar false w (x ∷ xs) h = refl
+not_scalar b w more h = grind (arith, is_some)
 
 pub no_scalar : (name : tree.TypeName.TypeName) → scalar_named name ≡ None → is_scalar (reference name) ≡ false
 no_scalar name is = not_scalar name.is_full (string_bytes name.path.first.text) name.path.more.items is
@@ -156,12 +149,7 @@ module _ (files : List Entry) (parts : Parts) (met : IsMet files parts) where
   enum_name e = string_bytes e.name
 
   type_there : (n : ℕ) (name : List ℕ) → slice_get (declared_messages files) n ≡ Some name → option_map type_name (slice_get parts.types.items (index_of n)) ≡ Some name
-  type_there n name is =
-      let few = met.few_types in
-      let within : n < length (declared_messages files) = slice_get_within (declared_messages files) n name is in
-      let long : length parts.types.items ≡ length (declared_messages files) = sym (length-map parts.types.items type_name) ∙ ap length met.types_are in
-      ap (λ i. option_map type_name (slice_get parts.types.items i)) (index_is n (omega (arith, within, long, few)))
-      ∙ (sym (slice_get-map type_name parts.types.items n) ∙ (ap (λ xs. slice_get xs n) met.types_are ∙ is))
+  type_there n name is = search (rules, slice_get_within, length-map, slice_get, index_is, slice_get-map)
 
   enum_there : (i : ℕ) (name : List ℕ) → slice_get (scoped_names files) i ≡ Some name → option_map enum_name (slice_get parts.enums.items i) ≡ Some name
   enum_there i name is = sym (slice_get-map enum_name parts.enums.items i) ∙ (ap (λ xs. slice_get xs i) met.enums_are ∙ is)
@@ -176,42 +164,26 @@ module _ (files : List Entry) (parts : Parts) (met : IsMet files parts) where
     pub has_name : full_name_of parts element ≡ Some name
 
   target_full : (takes : Bool) (full : Text) (t : Target) → HasName takes full t → HasFull full (of_target t)
-  target_full takes full (targets.Message n) h = record { name = h.name; is_dotted = h.is_dotted; has_name = type_there n h.name h.is_there }
-  target_full true full (targets.Enum n) h = record { name = h.name; is_dotted = h.is_dotted; has_name = enum_there (get_or (enum_places files) n 0) h.name h.is_there }
-  target_full false full (targets.Enum n) h = absurd h
+  target_full takes full t h = grind (arith, type_there, enum_there)
 
   -- an rpc's type
   method_full : (full : Text) (t : Target) → HasName false full t → HasFull full (elements.Message (message_at (Some (by_scope (enum_places files) t))))
-  method_full full (targets.Message n) h = record { name = h.name; is_dotted = h.is_dotted; has_name = type_there n h.name h.is_there }
-  method_full full (targets.Enum n) h = absurd h
+  method_full full t h = grind (arith, type_there)
 
   resolves_to : (e : Entry) (scope : List ℕ) (name : tree.TypeName.TypeName) (full : Text) (element : Element) → Resolves (visible_names (outlines files) (path_of e)) (words_of scope) (reference name) full
       → HasFull full element → ResolvesTo files parts e scope name element
-  resolves_to e scope name full element h k = record {
-    full = k.name;
-    resolves = subst (Resolves (visible_names (outlines files) (path_of e)) (words_of scope) (reference name)) k.is_dotted h;
-    has_name = k.has_name;
-  }
+  resolves_to e scope name full element h k = search rules
 
   abbrev targets_of : Entry → ℕ → Option Target
   targets_of e at = option_map (by_scope (enum_places files)) (target_at files e at)
 
   field_resolves : (e : Entry) (scope : List ℕ) (name : tree.TypeName.TypeName) → Here e (in_field (words_of scope) name) → ResolvesTo files parts e scope name (element_of None (targets_of e name.span.from))
-  field_resolves e scope name h =
-      subst (λ (o : Option Target). ResolvesTo files parts e scope name (element_of None (option_map (by_scope (enum_places files)) o))) (sym h.at)
-      (resolves_to e scope name h.full (of_target h.target) h.resolves (target_full true h.full h.target h.has_name))
+  field_resolves e scope name h = search (rules, resolves_to, target_full)
 
   pub method_resolves : (e : Entry) (scope : List ℕ) (name : tree.TypeName.TypeName) → Here e (in_rpc (words_of scope) name) → ResolvesTo files parts e scope name (elements.Message (message_at (targets_of e name.span.from)))
-  method_resolves e scope name h =
-      subst (λ (o : Option Target). ResolvesTo files parts e scope name (elements.Message (message_at (option_map (by_scope (enum_places files)) o)))) (sym h.at)
-      (resolves_to e scope name h.full (elements.Message (message_at (Some (by_scope (enum_places files) h.target)))) h.resolves (method_full h.full h.target h.has_name))
+  method_resolves e scope name h = search (rules, resolves_to, method_full)
 
   -- the element that is made for a type name
   pub element_named : (e : Entry) (scope : List ℕ) (name : tree.TypeName.TypeName) → AllByRecursion (Here e) (field_uses (words_of scope) name)
       → IsScalarOr (ResolvesTo files parts e scope name (element_of (scalar_named name) (targets_of e name.span.from))) (scalar_named name) (element_of (scalar_named name) (targets_of e name.span.from))
-  element_named e scope name h = by (scalar_named name) refl
-    where
-      by : (o : Option Scalar) → scalar_named name ≡ o → IsScalarOr (ResolvesTo files parts e scope name (element_of o (targets_of e name.span.from))) o (element_of o (targets_of e name.span.from))
-      by (Some s) is = refl
-      by None is =
-          field_resolves e scope name (subst (λ b. AllByRecursion (Here e) (cond b [] (in_field (words_of scope) name ∷ []))) (no_scalar name is) h).0
+  element_named e scope name h = search (rules, field_resolves, no_scalar)

@@ -1,5 +1,5 @@
 -- In the parts of linked files each type name names what it resolves to.
-use Rattle.std.proofs.Common.{◌≡◌, ◌∙◌, ℕ, List, [], ◌∷◌, ◌++◌, length, map, flat_map, Option, Some, None, string_bytes, sym, ap, ap₂, subst, refl, arith, append_assoc}
+use Rattle.std.proofs.Common.{◌≡◌, ◌∙◌, ℕ, List, [], ◌∷◌, ◌++◌, length, map, flat_map, Option, Some, string_bytes, sym, ap, ap₂, subst, refl, arith, append_assoc, rules}
 use Rattle.std.specs.List.{AllByRecursion, IsAmong}
 use Rattle.std.specs.List.Sorted.{IsPermutation}
 use Rattle.std.proofs.lemmas.List.{append-nil, map-append}
@@ -16,10 +16,8 @@ use Rattle.pg_schema.specs.declared.parts.Parts.{Parts}
 use Rattle.pg_schema.specs.declared.parts.service.Method.{Method}
 use Rattle.pg_schema.specs.declared.parts.service.Service.{Service}
 use Rattle.pg_link.specs.declared.uses.target.Target.{Target}
-use Rattle.pg_link.specs.declared.names.Kind.{Kind}
 use Rattle.pg_link.specs.names.Files.{visible_names}
 use Rattle.pg_link.specs.Linked.{IsLinkedUp, LinkedFiles}
-use Rattle.pg_link.specs.names.Names.{Text}
 use Rattle.pg_link.specs.uses.Targets.{all_declared, file_targets, target_in}
 use Rattle.pg_link.specs.uses.Uses.{Use, file_uses}
 use Rattle.pg_link.specs.walk.Walk.{Entry, IsParsed, outlines, path_of}
@@ -30,13 +28,12 @@ use Rattle.pg_check.proofs.lemmas.parts.Numbering.{declared_messages}
 use Rattle.pg_check.specs.parts.EnumPlaces.{enum_full, scoped_names}
 use Rattle.pg_check.specs.parts.MadeEnums.{MadeEnum, enumeration, made_enum}
 use Rattle.pg_check.specs.parts.MadeFields.{MadeField, element_in, field, made_field}
-use Rattle.pg_check.specs.parts.MadeMessages.{made_fields}
 use Rattle.pg_check.specs.parts.MadeParts.{Declared, EachIs, IsTypeOf, Source, TypeTree, file_services as made_file_services, nothing, placed_enums, placed_messages, type_tree, type_trees, with_file, with_files}
 use Rattle.pg_check.specs.parts.MadeServices.{MadeMethod, MadeService, made_method, made_methods, made_service, made_services, method, rpc_in, service, stated_service}
 use Rattle.pg_check.specs.parts.ResolvedTypes.{AreResolved, HasField, IsNamed, IsResolvedMethod, IsResolvedService, IsResolvedType, ResolvesTo, file_services, full_name_of, messages_of, services_of, type_name_of, words_of}
 use Rattle.pg_check.specs.parts.Sources.{linked_source, linked_sources}
-use Rattle.pg_check.specs.rules.Members.{DeclaredField, Mapped, Plain, members}
-use Rattle.pg_check.specs.rules.Outline.{Enum, Message, file_messages, full_name, package_of, scoped_enums, statements_behind}
+use Rattle.pg_check.specs.rules.Members.{DeclaredField}
+use Rattle.pg_check.specs.rules.Outline.{Enum, Message, file_messages, package_of, statements_behind}
 use Rattle.pg_check.proofs.lemmas.parts.Eachs.{each-append, each_mapped, each_weaker, joined_all}
 use Rattle.pg_check.proofs.lemmas.parts.kept.KeptFiles.{enums_are, kept_parts, source_enums}
 use Rattle.pg_check.proofs.lemmas.parts.uses.NamedUses.{Here, IsMet, all_found, element_named, method_resolves}
@@ -118,17 +115,14 @@ module _ (files : List Entry) where
 
   fulls_are : (es : List Entry) → map (λ (x : Entry × Message). x.1.full) (messages_of es) ≡ declared_messages es
   fulls_are [] = refl
-  fulls_are (e ∷ es) =
-      let own : List (Entry × Message) = map (λ (m : Message). (e, m)) (file_messages e.1.tree) in
-      map-append (λ (x : Entry × Message). x.1.full) own (messages_of es) ∙ ap₂ (λ xs ys. xs ++ ys) (map-map (λ (x : Entry × Message). x.1.full) (λ (m : Message). (e, m)) (file_messages e.1.tree)) (fulls_are es)
+  fulls_are (e ∷ es) = search (rules, map-append, map-map, fulls_are es)
 
   enums_named : (xs : List EnumType) (ys : List Enum) → map enumeration xs ≡ map made_enum ys → map (λ (e : EnumType). string_bytes e.name) xs ≡ map enum_full ys
   enums_named xs ys is = sym (map-map (λ (e : MadeEnum). e.name) enumeration xs) ∙ (ap (map (λ (e : MadeEnum). e.name)) is ∙ map-map (λ (e : MadeEnum). e.name) made_enum ys)
 
   scoped_are : (es : List Entry) → map enum_full (flat_map source_enums (map (linked_source files) es)) ≡ scoped_names es
   scoped_are [] = refl
-  scoped_are (e ∷ es) =
-      map-append enum_full (scoped_enums e.1.tree) (flat_map source_enums (map (linked_source files) es)) ∙ ap (λ ns. map enum_full (scoped_enums e.1.tree) ++ ns) (scoped_are es)
+  scoped_are (e ∷ es) = search (rules, map-append, flat_map, source_enums, scoped_are es)
 
   -- ---- what holds of the uses of each file
 
@@ -140,8 +134,7 @@ module _ (files : List Entry) where
         → AllByRecursion (λ (e : Entry). AllByRecursion (λ (u : Use). (t : Target) × (target_in (all_declared files) (visible_names (outlines files) (path_of e)) u ≡ Some t)) (file_uses e.1.tree)) es
         → AllByRecursion IsResolvedFile es
     files_found [] parsed resolved = tt
-    files_found (e ∷ es) parsed resolved =
-        ((good_file e.1.tree (file_good e.1.bytes.items e.1.tree parsed.0), all_found files parts met e (file_uses e.1.tree) resolved.0 (uses_found e.1.bytes.items e.1.tree parsed.0)), files_found es parsed.1 resolved.1)
+    files_found (e ∷ es) parsed resolved = search (rules, good_file, file_good, all_found, uses_found, files_found es parsed.1 resolved.1)
 
     abbrev pub IsHeld : Entry × Message → Type 0
     IsHeld x = MessageHolds (Here files parts met x.0) x.1
@@ -164,8 +157,7 @@ module _ (files : List Entry) where
     -- ---- what the parts have
 
     pub member_named : (e : Entry) (full : List ℕ) (m : DeclaredField) → MemberHolds (Here files parts met e) (words_of full) m → IsNamed files parts e full (type_name_of m) (element_in (targets_of e) m)
-    member_named e full (Plain f oneof) h = element_named files parts met e full f.type_name h
-    member_named e full (Mapped f oneof) h = element_named files parts met e full f.value h
+    member_named e full m h = grind (arith, element_named)
 
     -- one of the fields is made so
     abbrev IsMade : List Field → MadeField → Type 0
@@ -193,12 +185,7 @@ module _ (files : List Entry) where
         )
 
     type_resolved : (x : Entry × Message) (w : TypeTree) (t : MessageType) → IsTreeOf x w → IsTypeOf w t → IsHeld x → IsResolvedType files parts x t
-    type_resolved x w t tied typed held =
-        let is : IsTypeOf (type_tree (targets_of x.0) tied.types tied.enums x.1) t = subst (λ v. IsTypeOf v t) tied.is typed in
-        record {
-          name = is.name;
-          fields = members_have x.0 x.1.full t.fields.items (members x.1.body) (fields_made t.fields.items (made_fields (targets_of x.0) x.1.body) is.fields.same) held;
-        }
+    type_resolved x w t tied typed held = search (rules, members_have, fields_made)
 
     types_resolved : (xs : List (Entry × Message)) (ws : List TypeTree) (ts : List MessageType) → EachIs IsTreeOf xs ws → EachIs IsTypeOf ws ts → AllByRecursion IsHeld xs → EachIs (IsResolvedType files parts) xs ts
     types_resolved [] [] [] tied typed held = tt
@@ -239,16 +226,7 @@ module _ (files : List Entry) where
     IsMadeOf x made = made ≡ made_service (targets_of x.0) (package_of x.0.1.tree) x.1
 
     service_resolved : (x : Entry × tree.Service.Service) (made : MadeService) (s : Service) → IsMadeOf x made → service s ≡ made → IsHeldService x → IsResolvedService files parts x s
-    service_resolved x made s tied is held =
-        let same : service s ≡ made_service (targets_of x.0) (package_of x.0.1.tree) x.1 = is ∙ tied in
-        let name : string_bytes s.name ≡ full_name (package_of x.0.1.tree) x.1.name = ap (λ (y : MadeService). y.name) same in
-        let full = full_name (package_of x.0.1.tree) x.1.name in
-        let methods : map method s.methods.items ≡ map (made_method (targets_of x.0)) (flat_map rpc_in x.1.parts.items) = ap (λ (y : MadeService). y.methods) same ∙ rpcs_are (targets_of x.0) x.1.parts.items in
-        record {
-          name = name;
-          methods = subst (λ (n : List ℕ). EachIs (IsResolvedMethod files parts x.0 n) (flat_map rpc_in x.1.parts.items) s.methods.items) (sym name)
-              (methods_resolved x.0 full (flat_map rpc_in x.1.parts.items) s.methods.items methods held);
-        }
+    service_resolved x made s tied is held = search (rules, rpcs_are, methods_resolved)
 
     services_resolved_all : (xs : List (Entry × tree.Service.Service)) (made : List MadeService) (ss : List Service) → EachIs IsMadeOf xs made → map service ss ≡ made → AllByRecursion IsHeldService xs
         → EachIs (IsResolvedService files parts) xs ss
@@ -306,8 +284,7 @@ linked_meet l parts up h =
     }
 
 pub linked_found : (l : LinkedFiles) (parts : Parts) (met : IsMet l.files parts) → IsLinkedUp l → AllByRecursion (IsResolvedFile l.files parts met) l.files
-linked_found l parts met up =
-    files_found l.files parts met l.files (recursion_from_All (λ (e : Entry). IsParsed e.1.bytes.items e.1.tree) l.files up.parsed) (files_resolve l.files l.files l.targets up.resolved)
+linked_found l parts met up = search (rules, files_found, recursion_from_All, files_resolve)
 
 pub resolved_types : (l : LinkedFiles) (parts : Parts) → IsLinkedUp l → Declares (linked_sources l.files) parts → AreResolved l.files parts
 resolved_types l parts up h =
@@ -320,18 +297,7 @@ resolved_types l parts up h =
       services = services_resolved_all files parts met (services_of files) d.services parts.services.items (services_are files parts met nothing [] files tt) h.has_parts.services (services_held files parts met files found);
     }
 
-abbrev after_dot : List ℕ → List ℕ
-after_dot [] = []
-after_dot (byte ∷ bytes) = bytes
-
--- the full name that is found, without its dot
-abbrev name_found : Option (Text × Kind) → List ℕ
-name_found None = []
-name_found (Some f) = after_dot f.0
-
 -- what a type name resolves to in a scope of a file is one full name
 pub resolved_alone : (files : List Entry) (parts : Parts) (file : Entry) (scope : List ℕ) (name : tree.TypeName.TypeName) (one other : Element)
     → ResolvesTo files parts file scope name one → ResolvesTo files parts file scope name other → full_name_of parts one ≡ full_name_of parts other
-resolved_alone files parts file scope name one other h k =
-    let same : h.full ≡ k.full = ap name_found (sym h.resolves.is_found ∙ k.resolves.is_found) in
-    h.has_name ∙ (ap (λ n. Some n) same ∙ sym k.has_name)
+resolved_alone files parts file scope name one other h k = search rules

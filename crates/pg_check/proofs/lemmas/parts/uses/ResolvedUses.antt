@@ -1,12 +1,12 @@
 -- What holds of each type name that a file uses holds of the type names of its messages and services.
-use Rattle.std.proofs.Common.{◌≡◌, ℕ, ◌+◌, List, [], ◌∷◌, ◌++◌, flat_map, string_bytes, sym, ap, subst, refl}
+use Rattle.std.proofs.Common.{◌≡◌, ℕ, ◌+◌, List, [], ◌∷◌, ◌++◌, flat_map, string_bytes, sym, ap, subst, refl, rules}
 use Rattle.std.specs.List.{AllByRecursion}
 use Rattle.pg_link.specs.names.Names.{Text}
-use Rattle.pg_link.specs.uses.Uses.{Use, field_uses, file_scope, file_uses, in_rpc, map_uses, oneof_part_uses, part_uses, row_uses, service_part_uses, statement_uses}
+use Rattle.pg_link.specs.uses.Uses.{Use, field_uses, file_uses, in_rpc, map_uses, oneof_part_uses, part_uses, row_uses, service_part_uses, statement_uses}
 use Rattle.pg_check.specs.parts.MadeServices.{rpc_in, stated_service}
 use Rattle.pg_check.specs.parts.ResolvedTypes.{file_services, type_name_of, words_of}
 use Rattle.pg_check.specs.rules.Members.{DeclaredField, members, members_from, members_in, oneof_members, oneofs_in}
-use Rattle.pg_check.specs.rules.Outline.{Message, all_messages, file_messages, full_name, messages_in, package_of, row_list, row_messages, statement_messages, statements_behind}
+use Rattle.pg_check.specs.rules.Outline.{Message, all_messages, file_messages, full_name, messages_in, package_of, row_list, row_messages, statement_messages}
 use Rattle.pg_check.proofs.lemmas.parts.Eachs.{back_of, front_of, joined_all}
 use Rattle.pg_check.proofs.lemmas.parts.names.ScopeWords.{Fits, file_fits, fits_in, words_are}
 use Rattle.pg_check.proofs.lemmas.parts.names.WordTrees.{IsGood, nodes_good, runs_good}
@@ -100,12 +100,7 @@ module _ (P : Use → Type 0) where
   statement_messages_hold scope place (statements.Empty span) fits good h = tt
   statement_messages_hold scope place (statements.Import i) fits good h = tt
   statement_messages_hold scope place (statements.Option o) fits good h = tt
-  statement_messages_hold scope place (statements.Message m) fits good h =
-      let inner = scope ++ string_bytes m.name.text ∷ [] in
-      let full = full_name place m.name in
-      let own : Fits inner full = fits_in scope place (string_bytes m.name.text) fits good.1.0 in
-      let body : AllByRecursion IsGoodPart m.parts.items = runs_good view.part m.parts.items good.1.1.1.0 in
-      (message_holds inner (record { scope = place; full = full; name = m.name; body = m.parts.items }) own h, body_messages_hold inner full m.parts.items own body h)
+  statement_messages_hold scope place (statements.Message m) fits good h = search (rules, string_bytes, fits_in, runs_good, message_holds, body_messages_hold)
   statement_messages_hold scope place (statements.Enum e) fits good h = tt
   statement_messages_hold scope place (statements.Service s) fits good h = tt
 
@@ -135,8 +130,7 @@ module _ (P : Use → Type 0) where
   all_services_hold scope place (statements.Empty span ∷ ss) fits good h = all_services_hold scope place ss fits good.1 h
   all_services_hold scope place (statements.Import i ∷ ss) fits good h = all_services_hold scope place ss fits good.1 h
   all_services_hold scope place (statements.Option o ∷ ss) fits good h = all_services_hold scope place ss fits good.1 h
-  all_services_hold scope place (statements.Message m ∷ ss) fits good h =
-      all_services_hold scope place ss fits good.1 (back_of P (statement_uses scope (statements.Message m)) (flat_map (statement_uses scope) ss) h)
+  all_services_hold scope place (statements.Message m ∷ ss) fits good h = search (rules, all_services_hold scope place ss fits good.1 (back_of P (statement_uses scope (statements.Message m)) (flat_map (statement_uses scope) ss) h))
   all_services_hold scope place (statements.Enum e ∷ ss) fits good h = all_services_hold scope place ss fits good.1 h
   all_services_hold scope place (statements.Service s ∷ ss) fits good h =
       let inner = scope ++ string_bytes s.name.text ∷ [] in
@@ -151,22 +145,8 @@ module _ (P : Use → Type 0) where
   -- ---- files
 
   module _ (file : tree.FileTree.FileTree) (good : IsGoodFile file) (h : AllByRecursion P (file_uses file)) where
-    abbrev front : List Use
-    front = flat_map (statement_uses (file_scope file)) file.statements.items
-
-    abbrev behind : List Use
-    behind = flat_map (statement_uses (file_scope file)) (statements_behind file.packaged)
-
     pub messages_resolved : AllByRecursion MessageHolds (file_messages file)
-    messages_resolved =
-        let fits : Fits (file_scope file) (package_of file) = file_fits file good in
-        joined_all MessageHolds (all_messages (package_of file) file.statements.items) (all_messages (package_of file) (statements_behind file.packaged))
-        (all_messages_hold (file_scope file) (package_of file) file.statements.items fits good.front (front_of P front behind h))
-        (all_messages_hold (file_scope file) (package_of file) (statements_behind file.packaged) fits good.behind (back_of P front behind h))
+    messages_resolved = search (rules, file_fits, joined_all, all_messages_hold, front_of, back_of)
 
     pub services_resolved : AllByRecursion (ServiceHolds (package_of file)) (file_services file)
-    services_resolved =
-        let fits : Fits (file_scope file) (package_of file) = file_fits file good in
-        joined_all (ServiceHolds (package_of file)) (flat_map stated_service file.statements.items) (flat_map stated_service (statements_behind file.packaged))
-        (all_services_hold (file_scope file) (package_of file) file.statements.items fits good.front (front_of P front behind h))
-        (all_services_hold (file_scope file) (package_of file) (statements_behind file.packaged) fits good.behind (back_of P front behind h))
+    services_resolved = search (rules, file_fits, joined_all, all_services_hold, front_of, back_of)

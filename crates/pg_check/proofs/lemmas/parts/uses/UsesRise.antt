@@ -1,5 +1,5 @@
 -- The type names that a source file uses begin one after the other, so that no two of them begin at one byte.
-use Rattle.std.proofs.Common.{◌≡◌, ◌∙◌, ℕ, suc, ◌<◌, ◌≤◌, Bool, true, false, cond, ◌==◌, List, [], ◌∷◌, ◌++◌, flat_map, map, nat_lt, slice_get, codes, Option, Some, None, string_bytes, sym, ap, subst, refl, arith, append_assoc}
+use Rattle.std.proofs.Common.{◌≡◌, ◌∙◌, ℕ, suc, ◌<◌, ◌≤◌, Bool, true, false, cond, ◌==◌, List, [], ◌∷◌, ◌++◌, flat_map, map, nat_lt, slice_get, codes, Option, Some, None, string_bytes, sym, ap, subst, refl, arith, append_assoc, rules}
 use Rattle.std.specs.List.{AllByRecursion, list_all}
 use Rattle.std.proofs.lemmas.Bool.Decides.{nat_tests}
 use Rattle.std.proofs.lemmas.Option.{get_or_from_slice_get, slice_get_within}
@@ -14,9 +14,8 @@ use Rattle.pg_link.specs.uses.Uses.{Use, field_uses, file_scope, file_uses, in_f
 use Rattle.pg_link.specs.Linked.{IsLinkedUp, LinkedFiles}
 use Rattle.pg_link.specs.walk.Walk.{Entry, IsParsed}
 use Rattle.pg_schema.specs.rules.Pairs.{is_rising}
-use Rattle.pg_check.proofs.lemmas.rules.NoneLaws.{and_both}
+use Rattle.pg_schema.proofs.lemmas.rules.PairLemmas.{and_both}
 use Rattle.pg_syntax.specs.declared.tree as tree
-use Rattle.pg_syntax.specs.declared.tree.OneofPart.TheVariants as oneof_parts
 use Rattle.pg_syntax.specs.declared.tree.Part.{Part, Row_of-Part, end_of-Part, more_of-Part}
 use Rattle.pg_syntax.specs.declared.tree.Part.TheVariants as parts
 use Rattle.pg_syntax.specs.declared.tree.ServicePart.TheVariants as service_parts
@@ -71,22 +70,10 @@ carries_none : (t : Tree) → Carries t []
 carries_none t at ts rises stands = end_after at ts rises
 
 carries_both : (t u : Tree) (us vs : List Use) → Carries t us → Carries u vs → Carries (Both t u) (us ++ vs)
-carries_both t u us vs h k at ts rises stands =
-    let front = stands.0 in
-    let back = stands.1 in
-    let all : Rises at (front ++ back) = subst (Rises at) stands.2 rises in
-    let joined : Lie at (end_of (end_of at front) back) (us ++ vs) =
-    lie_joined at (end_of at front) (end_of (end_of at front) back) us vs (h at front (rises_front at front back all) stands.3) (k (end_of at front) back (rises_back at front back all) stands.4) in
-    subst (λ n. Lie at n (us ++ vs)) (sym (ap (end_of at) stands.2 ∙ end_joined at front back)) joined
+carries_both t u us vs h k at ts rises stands = search (rules, lie_joined, rises_front, rises_back, end_joined)
 
 carries_front : (t u : Tree) (us : List Use) → Carries t us → Carries (Both t u) us
-carries_front t u us h at ts rises stands =
-    let front = stands.0 in
-    let back = stands.1 in
-    let all : Rises at (front ++ back) = subst (Rises at) stands.2 rises in
-    let end : end_of at ts ≡ end_of (end_of at front) back = ap (end_of at) stands.2 ∙ end_joined at front back in
-    let less : end_of at front ≤ end_of (end_of at front) back = end_after (end_of at front) back (rises_back at front back all) in
-    subst (λ n. Lie at n us) (sym end) (lie_longer at (end_of at front) (end_of (end_of at front) back) us less (h at front (rises_front at front back all) stands.3))
+carries_front t u us h at ts rises stands = search (rules, end_joined, end_after, rises_back, lie_longer, rises_front)
 
 carries_back : (t u : Tree) (us : List Use) → Carries u us → Carries (Both t u) us
 carries_back t u us h = carries_both t u [] us (carries_none t) h
@@ -96,13 +83,7 @@ carries_at span t us h at ts rises stands = h at ts rises stands.1
 
 -- the use of a type name, which begins where the name does
 carries_name : (n : tree.TypeName.TypeName) (u : Use) → u.at ≡ n.span.from → Carries (view.type_name n) (u ∷ [])
-carries_name n u is at [] rises stands = absurd stands.0
-carries_name n u is at (t ∷ ts) rises stands =
-    let here : n.span.from ≡ t.from = stands.0.0 in
-    let first : at ≤ t.from = rises.0 in
-    let second : t.from < t.to = rises.1 in
-    let rest : t.to ≤ end_of t.to ts = end_after t.to ts rises.2 in
-    (omega (arith, is, here, first), omega (arith, is, here, second, rest))
+carries_name n u is at h5 rises stands = grind (arith, end_after)
 
 -- the nodes of a tree, before others, have the tokens of the tree
 regrouped : (t : Tree) (more : List Tree) (ts : List Placed) → Stands (view.row (view.nodes t ++ more)) ts → Stands (Both t (view.row more)) ts
@@ -121,9 +102,7 @@ carries_runs to_tree uses each [] = carries_none Empty
 carries_runs to_tree uses each (x ∷ xs) = carries_nodes (to_tree x) (view.all_nodes to_tree xs) (uses x) (flat_map uses xs) (each x) (carries_runs to_tree uses each xs)
 
 carries_block : {X : Type 0} (to_tree : X → Tree) (uses : X → List Use) → ((x : X) → Carries (to_tree x) (uses x)) → (xs : List X) → Carries (view.block to_tree xs) (flat_map uses xs)
-carries_block to_tree uses each xs =
-    carries_back (view.mark 123) (Both (view.runs to_tree xs) (view.mark 125)) (flat_map uses xs)
-    (carries_front (view.runs to_tree xs) (view.mark 125) (flat_map uses xs) (carries_runs to_tree uses each xs))
+carries_block to_tree uses each xs = search (rules, carries_back, carries_front, carries_runs)
 
 -- ---- fields and maps
 
@@ -139,13 +118,7 @@ label_carries None t us h = h
 label_carries (Some l) t us h = carries_back (view.label l) t us h
 
 field_carries : (scope : List Text) (f : tree.Field.Field) → Carries (view.field f) (field_uses scope f.type_name)
-field_carries scope f =
-    let us = field_uses scope f.type_name in
-    let typed = view.typed_name (f.type_name, f.name) in
-    carries_at f.span (view.labelled f.label (Both typed (view.field_end (f.number, f.settings)))) us
-    (label_carries f.label (Both typed (view.field_end (f.number, f.settings))) us
-    (carries_front typed (view.field_end (f.number, f.settings)) us
-    (carries_front (view.type_name f.type_name) (view.name f.name) us (name_carries scope f.type_name))))
+field_carries scope f = search (rules, carries_at, label_carries, carries_front, name_carries)
 
 map_carries : (scope : List Text) (f : tree.MapField.MapField) → Carries (view.map_field f) (map_uses scope f)
 map_carries scope f =
@@ -162,20 +135,14 @@ map_carries scope f =
     (carries_front value last of_value (carries_front (view.type_name f.value) (view.mark 62) of_value (name_carries scope f.value))))))
 
 oneof_part_carries : (scope : List Text) (p : tree.OneofPart.OneofPart) → Carries (view.oneof_part p) (oneof_part_uses scope p)
-oneof_part_carries scope (oneof_parts.Empty span) = carries_none (view.empties span)
-oneof_part_carries scope (oneof_parts.Option o) = carries_none (view.option o)
-oneof_part_carries scope (oneof_parts.Map m) = map_carries scope m
-oneof_part_carries scope (oneof_parts.Field f) = field_carries scope f
+oneof_part_carries scope p = grind (arith, carries_none, map_carries, field_carries)
 
 -- what follows a word and a name in a node
 headed : (span : _) (w : List ℕ) (n : tree.Name.Name) (t : Tree) (us : List Use) → Carries t us → Carries (At span (Both (view.word w) (Both (view.name n) t))) us
-headed span w n t us h =
-    carries_at span (Both (view.word w) (Both (view.name n) t)) us
-    (carries_back (view.word w) (Both (view.name n) t) us (carries_back (view.name n) t us h))
+headed span w n t us h = search (rules, carries_at, carries_back)
 
 oneof_carries : (scope : List Text) (o : tree.Oneof.Oneof) → Carries (view.oneof o) (oneof_uses scope o)
-oneof_carries scope o =
-    headed o.span (codes "oneof") o.name (view.block view.oneof_part o.parts.items) (oneof_uses scope o) (carries_block view.oneof_part (oneof_part_uses scope) (oneof_part_carries scope) o.parts.items)
+oneof_carries scope o = search (rules, headed, carries_block, oneof_part_carries)
 
 -- ---- messages
 
@@ -210,9 +177,7 @@ closed_carries false n u is = carries_front (view.type_name n) (view.mark 41) (u
 closed_carries true n u is = carries_back (view.word (codes "stream")) (view.type_before 41 n) (u ∷ []) (carries_front (view.type_name n) (view.mark 41) (u ∷ []) (carries_name n u is))
 
 argument_carries : (a : tree.Argument.Argument) (u : Use) → u.at ≡ a.type_name.span.from → Carries (view.argument a) (u ∷ [])
-argument_carries a u is =
-    carries_at a.span (Both (view.mark 40) (view.closed_type a.is_stream a.type_name)) (u ∷ [])
-    (carries_back (view.mark 40) (view.closed_type a.is_stream a.type_name) (u ∷ []) (closed_carries a.is_stream a.type_name u is))
+argument_carries a u is = search (rules, carries_at, carries_back, closed_carries)
 
 rpc_carries : (scope : List Text) (r : tree.Rpc.Rpc) → Carries (view.rpc r) (rpc_uses scope r)
 rpc_carries scope r =
@@ -230,9 +195,7 @@ service_part_carries scope (service_parts.Option o) = carries_none (view.option 
 service_part_carries scope (service_parts.Rpc r) = rpc_carries scope r
 
 service_carries : (scope : List Text) (s : tree.Service.Service) → Carries (view.service s) (service_uses scope s)
-service_carries scope s =
-    let inner = scope ++ string_bytes s.name.text ∷ [] in
-    headed s.span (codes "service") s.name (view.block view.service_part s.parts.items) (service_uses scope s) (carries_block view.service_part (service_part_uses inner) (service_part_carries inner) s.parts.items)
+service_carries scope s = search (rules, headed, carries_block, service_part_carries)
 
 -- ---- files
 
@@ -246,9 +209,7 @@ statement_carries scope (statements.Service s) = service_carries scope s
 
 behind_carries : (scope : List Text) (p : Option tree.Packaged.Packaged) → Carries (view.perhaps view.packaged p) (flat_map (statement_uses scope) (statements_behind p))
 behind_carries scope None = carries_none Empty
-behind_carries scope (Some p) =
-    carries_back (view.package_line p.package) (view.runs view.statement p.statements.items) (flat_map (statement_uses scope) p.statements.items)
-    (carries_runs view.statement (statement_uses scope) (statement_carries scope) p.statements.items)
+behind_carries scope (Some p) = search (rules, carries_back, carries_runs, statement_carries)
 
 file_carries : (file : tree.FileTree.FileTree) → Carries (view.file file) (file_uses file)
 file_carries file =
@@ -303,8 +264,7 @@ all_later m from to (u ∷ us) less h =
 
 rising : (from to : ℕ) (us : List Use) → Lie from to us → is_rising (map (λ (u : Use). u.at) us) ≡ true
 rising from to [] h = refl
-rising from to (u ∷ us) h =
-    and_both (list_all (nat_lt u.at) (map (λ (v : Use). v.at) us)) (is_rising (map (λ (v : Use). v.at) us)) (all_later u.at (suc u.at) to us (omega arith) h.1) (rising (suc u.at) to us h.1)
+rising from to (u ∷ us) h = search (rules, and_both, nat_lt, all_later, rising (suc u.at) to us h.1)
 
 pub places_rise : (l : LinkedFiles) → IsLinkedUp l → (number : ℕ) (e : Entry) → slice_get l.files number ≡ Some e → is_rising (file_places e) ≡ true
 places_rise l up number e at =

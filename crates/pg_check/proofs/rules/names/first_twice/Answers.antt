@@ -1,8 +1,9 @@
 use Rattle.std.proofs.Common.{◌≡◌, true, false, map, take, sym, ◌∙◌, ap, subst}
 use Rattle.pg_schema.specs.rules.TextSets.{is_among}
+use Rattle.pg_schema.proofs.lemmas.rules.TextSetLemmas.{lent_more}
 use Rattle.pg_check.specs.inner.NameFaults.{text_of, titled}
 use Rattle.pg_check.proofs.lemmas.rules.FirstLaws.{was_new, was_old}
-use Rattle.pg_check.proofs.lemmas.rules.TextSets.{IsLentSetOf, lent_more}
+use Rattle.pg_check.proofs.lemmas.rules.TextSets.{IsLentSetOf}
 use Rattle.pg_check.proofs.lemmas.rules.Titles.{title_found, title_left, titles_step}
 use Rattle.pg_check.proofs.rules.names.first_twice.Goals as goal
 
