@@ -18,7 +18,8 @@ pub record IsEntryCopy (lent : EntryRef) (copy : Value × Value) : Type 0 where
 
 pub record AreEntryCopies (lent : List EntryRef) (copies : List (Value × Value)) : Type 0 where
   pub parts : (number : ℕ) → map (entry_part number) copies ≡ map (borrowed.entry_part number) lent
-  pub keys : AllByRecursion (λ (e : EntryRef). borrowed.IsMapKey e.key) lent → AllByRecursion (λ (e : Value × Value). IsMapKey e.0) copies
+  pub keys : AllByRecursion (λ (e : EntryRef). borrowed.IsMapKey e.key) lent
+      → AllByRecursion (λ (e : Value × Value). IsMapKey e.0) copies
 
 pub record IsContentCopy (lent : ContentRef) (copy : Content) : Type 0 where
   pub parts : (number : ℕ) → content_seen number copy ≡ borrowed.content_seen number lent

@@ -1,5 +1,5 @@
--- What a test of contents reports: nothing, or of what is wrong the error of the lowest code. A key that is there twice is found by a test
--- of its own, since two contents of one oneof are reported before it.
+-- What a test of contents reports: nothing, or of what is wrong the error of the lowest code. A key that is there twice
+-- is found by a test of its own, since two contents of one oneof are reported before it.
 use Rattle.std.specs.Prelude.{◌≡◌, ℕ, ◌<◌, ⊤, Bool, true, false, length, nat_eq, Some, Result, Ok, Err}
 use Rattle.pg_schema.specs.declared.parts.field.TypeId.{TypeId}
 use Rattle.pg_schema.specs.declared.parts.field.Scalar.{Scalar}
@@ -32,7 +32,8 @@ reported_code (Ok t) = 1000
 reported_code (Err e) = code_of e
 
 abbrev pub EntryFault : Shape → Scalar → Element → Value × Value → DynError → Type 0
-EntryFault shape key element e error = FirstOfTwo (ElementFault shape (elements.Scalar key) e.0) (ElementFault shape element e.1) error
+EntryFault shape key element e error =
+    FirstOfTwo (ElementFault shape (elements.Scalar key) e.0) (ElementFault shape element e.1) error
 
 -- the content is one of the field of its number, but for keys twice
 pub record IsTaken (shape : Shape) (type : TypeId) (number : ℕ) (content : Content) (f : FieldShape) : Type 0 where
